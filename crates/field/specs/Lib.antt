@@ -1,0 +1,4 @@
+pub mod Ring
+pub mod Characteristic
+pub mod Sums
+pub mod Polynomial

@@ -1,0 +1,18 @@
+-- Polynomials as coefficient lists, lowest power first, and tuples combined by a challenge.
+use Rattle.std.specs.Prelude.{◌≡◌, List, [], ◌∷◌, reverse}
+use Rattle.field.specs.Ring.{Ring}
+
+-- the value at x of the polynomial with these coefficients
+abbrev pub value_at : {A : Type 0} → Ring A → List A → A → A
+value_at R [] x = R.zero
+value_at R (c ∷ cs) x = R.add c (R.mul x (value_at R cs x))
+
+-- x is a root: the value there is zero
+abbrev pub IsRoot : {A : Type 0} → Ring A → List A → A → Type 0
+IsRoot R cs x = value_at R cs x ≡ R.zero
+
+-- A tuple combined by beta: the value at beta of the polynomial whose coefficients, lowest power
+-- first, are the tuple read backwards. So the last element carries beta^0 (LogUp, eprint 2022/1530,
+-- with the powers in the order of Horner's rule).
+abbrev pub combined : {A : Type 0} → Ring A → List A → A → A
+combined R tuple beta = value_at R (reverse tuple) beta

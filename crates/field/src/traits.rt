@@ -1,0 +1,181 @@
+//! The traits: rings of prime characteristic, domains, fields and their extensions.
+ghost use Rattle.std.specs.Prelude.{◌≡◌, ◌≢◌, ◌≤◌, ◌<◌, ◌^◌, ◌↔◌, ℕ, List, IsTrue, IfOk, MatchOption, refl};
+ghost use Rattle.std.specs.String.{string_bytes};
+ghost use Rattle.field.specs.Characteristic.{HasCharacteristic, IsPrime};
+ghost use Rattle.field.specs.Ring.{Ring, IsCommutativeRing, IsDomain, IsEmbedding, IsInverse, of_bool, of_int, of_nat, power, sub_in};
+
+use std::alloc::{AllocError, Global};
+use std::hash::Hash;
+use std::ops::{Add, Mul, Neg, Sub};
+
+/// A commutative ring whose characteristic is a prime below 2^128.
+///
+/// The operators may be called on any two elements, and mean those of `ring`; `==` is true exactly
+/// for the same element.
+pub trait PrimeCharacteristicRing:
+    Copy
+    + Eq
+    + Hash
+    + Add<Self, Output = Self>
+    + Sub<Self, Output = Self>
+    + Mul<Self, Output = Self>
+    + Neg<Output = Self>
+{
+    ghost ring: { Ring Self };
+
+    ghost lawful: { IsCommutativeRing ring };
+
+    ghost ZERO: { Self };
+    /// The neutral element of addition.
+    const ZERO: Self;
+
+    ghost ONE: { Self };
+    /// The neutral element of multiplication.
+    const ONE: Self;
+
+    ghost CHARACTERISTIC: { ℕ };
+    /// The least positive number of ones whose sum is zero, a prime.
+    const CHARACTERISTIC: u128;
+
+    /// One for `true` and zero for `false`.
+    fn from_bool(b: bool) -> Self
+        ensures { result ≡ of_bool ring b }
+    {
+        if b { Self::ONE } else { Self::ZERO }
+    }
+
+    /// `n` times one.
+    fn from_u32(n: u32) -> Self
+        ensures { result ≡ of_nat ring n };
+
+    /// `n` times one, and for a negative number the negative of `-n` times one.
+    fn from_i32(n: i32) -> Self
+        ensures { result ≡ of_int ring n }
+    {
+        if n >= 0 {
+            Self::from_u32(n as u32)
+        } else {
+            -Self::from_u32(n.unsigned_abs())
+        }
+    }
+
+    /// The product of `n` factors `self`, one for `n = 0`, by squaring and multiplying.
+    fn exp_u64(self, n: u64) -> Self
+        ensures { result ≡ power ring self n }
+    {
+        let mut product = Self::ONE;
+        let mut base = self;
+        let mut left = n;
+        while left > 0 {
+            if left % 2 == 1 {
+                product = product * base;
+            }
+            base = base * base;
+            left /= 2;
+        }
+        product
+    }
+
+    ghost zero_is: { ZERO ≡ ring.zero };
+
+    ghost one_is: { ONE ≡ ring.one };
+
+    ghost eq_is: { (a b : Self) → IsTrue (Self.eq a b) ↔ (a ≡ b) };
+
+    ghost may_add: { (a b : Self) → Self.can_add a b };
+
+    ghost add_is: { (a b r : Self) → Self.add_gives a b r → r ≡ ring.add a b };
+
+    ghost may_sub: { (a b : Self) → Self.can_sub a b };
+
+    ghost sub_is: { (a b r : Self) → Self.sub_gives a b r → r ≡ sub_in ring a b };
+
+    ghost may_mul: { (a b : Self) → Self.can_mul a b };
+
+    ghost mul_is: { (a b r : Self) → Self.mul_gives a b r → r ≡ ring.mul a b };
+
+    ghost may_neg: { (a : Self) → Self.can_neg a };
+
+    ghost neg_is: { (a r : Self) → Self.neg_gives a r → r ≡ ring.neg a };
+
+    ghost characteristic: { HasCharacteristic ring CHARACTERISTIC };
+
+    ghost prime: { IsPrime CHARACTERISTIC };
+
+    ghost characteristic_fits: { CHARACTERISTIC < 2 ^ 128 };
+}
+
+/// A ring in which zero differs from one and a product is zero only where a factor is. It has no
+/// call that inverts.
+pub trait Domain: PrimeCharacteristicRing {
+    /// Whether `self` is zero.
+    fn is_zero(self) -> bool
+        ensures { IsTrue result ↔ (self ≡ Self.ring.zero) }
+    {
+        self == Self::ZERO
+    }
+
+    ghost domain: { IsDomain Self.ring };
+}
+
+/// A field: a domain in which each element but zero has an inverse.
+pub trait Field: Domain {
+    ghost inverse: { Self → Self };
+
+    ghost text: { Self → List ℕ };
+
+    /// The inverse of `self`, and `None` exactly at zero.
+    fn try_inverse(self) -> Option<Self>
+        ensures inverts { MatchOption result (self ≡ Self.ring.zero) (λ v. IsInverse Self.ring self v) }
+        ensures value { MatchOption result (self ≡ Self.ring.zero) (λ v. v ≡ inverse self) };
+
+    /// The inverse of `self`, which is not zero.
+    fn inverse(self) -> Self
+        requires { self ≢ Self.ring.zero }
+        ensures inverts { IsInverse Self.ring self result }
+        ensures value { result ≡ inverse self }
+    {
+        match self.try_inverse() {
+            Some(v) => v,
+            None => unreachable!(),
+        }
+    }
+
+    /// The element as text, or the refusal where memory runs out.
+    fn text(self, alloc: Global) -> Result<String, AllocError>
+        ensures { IfOk result (λ s. string_bytes s ≡ text self) };
+
+    ghost inverse_is: { (a : Self) → a ≢ Self.ring.zero → IsInverse Self.ring a (inverse a) };
+}
+
+/// A domain that extends the field `F`: `embed` keeps zero, one, sums and products, and is
+/// injective.
+pub trait ExtensionDomain<F: Field>: Domain {
+    ghost embed: { F → Self };
+
+    /// The element `x` of `F` in the extension.
+    fn embed(x: F) -> Self
+        ensures { result ≡ embed x };
+
+    ghost embeds: { IsEmbedding F.ring Self.ring embed };
+
+    ghost same_characteristic: { F.CHARACTERISTIC ≡ Self.CHARACTERISTIC };
+}
+
+/// A field that extends the field `F`.
+pub trait ExtensionField<F: Field>: ExtensionDomain<F> + Field {}
+
+/// Every field extends itself by the identity.
+impl<F: Field> ExtensionDomain<F> for F {
+    ghost embed = { λ x. x };
+
+    ghost embeds = { record { zero = refl; one = refl; add = λ a b. refl; mul = λ a b. refl; injective = λ a b e. e } };
+
+    ghost same_characteristic = { refl };
+
+    fn embed(x: F) -> F {
+        x
+    }
+}
+
+impl<F: Field> ExtensionField<F> for F {}
