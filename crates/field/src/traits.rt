@@ -12,15 +12,13 @@ use std::ops::{Add, Mul, Neg, Sub};
 ///
 /// The operators may be called on any two elements, and mean those of `ring`; `==` is true exactly
 /// for the same element.
-pub trait PrimeCharacteristicRing:
-    Copy
+pub trait PrimeCharacteristicRing: Copy
     + Eq
     + Hash
     + Add<Self, Output = Self>
     + Sub<Self, Output = Self>
     + Mul<Self, Output = Self>
-    + Neg<Output = Self>
-{
+    + Neg<Output = Self> {
     ghost ring: { Ring Self };
 
     ghost lawful: { IsCommutativeRing ring };
