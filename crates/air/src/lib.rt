@@ -1,13 +1,12 @@
-// A library with one function.
+//! Constraints over traces: expressions, the builders that record or check them, and windows.
 #![tactic(auto)]
 
-ghost use Rattle.std.specs.Prelude.{◌≡◌};
-ghost use Rattle.air.specs.Echo.{echo_of};
+mod error;
+mod expression;
+mod layout;
+mod symbolic;
 
-// The `ensures` clause is the contract: what `echo` returns is `echo_of` of its argument, a definition
-// in `specs/Echo.antt`, which a caller's clause can cite too.
-pub fn echo(x: usize) -> usize
-    ensures { result ≡ echo_of x }
-{
-    x
-}
+pub use error::{AirError, LayoutPart};
+pub use expression::Expression;
+pub use layout::AirLayout;
+pub use symbolic::{BaseEntry, BaseLeaf, Seen, SymbolicExpression, SymbolicVariable};

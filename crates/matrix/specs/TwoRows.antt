@@ -1,6 +1,6 @@
 -- Matrices of two rows.
 use Rattle.std.specs.Prelude.{◌≡◌, ◌*◌, length}
-use Rattle.std.proofs.Common.{arith, rules}
+use Rattle.std.proofs.Common.{arith}
 use Rattle.std.proofs.lemmas.Grind.{common_steps}
 use Rattle.matrix.specs.Matrix.{Matrix, row}
 

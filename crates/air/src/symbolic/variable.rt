@@ -1,0 +1,45 @@
+//! The variables of base expressions.
+ghost use Rattle.std.specs.Prelude.{◌≡◌};
+
+use std::marker::PhantomData;
+
+/// Where a variable is read.
+#[derive(Clone, Copy, Debug, PartialEq, Eq, Hash)]
+pub enum BaseEntry {
+    /// A cell of the preprocessed trace, in the current row at offset 0 and the next one at 1.
+    Preprocessed {
+        /// 0 for the current row, 1 for the next one.
+        offset: usize,
+    },
+    /// A cell of the main trace, in the current row at offset 0 and the next one at 1.
+    Main {
+        /// 0 for the current row, 1 for the next one.
+        offset: usize,
+    },
+    /// A public value.
+    Public,
+}
+
+/// A cell of a window or a public value.
+#[derive(Clone, Copy, Debug)]
+pub struct SymbolicVariable<F> {
+    /// Where it is read.
+    pub entry: BaseEntry,
+    /// The column, or the place among the public values.
+    pub index: usize,
+    field: PhantomData<F>,
+}
+
+impl<F> SymbolicVariable<F> {
+    /// The variable at `index` of `entry`.
+    pub fn new(entry: BaseEntry, index: usize) -> Self
+        ensures entry { result.entry ≡ entry }
+        ensures index { result.index ≡ index }
+    {
+        SymbolicVariable {
+            entry,
+            index,
+            field: PhantomData,
+        }
+    }
+}
