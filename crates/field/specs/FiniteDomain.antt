@@ -1,12 +1,12 @@
 -- Fermat's little theorem, for any domain whose nonzero elements stand in a list.
-use Rattle.std.specs.Prelude.{◌≡◌, ◌≢◌, ◌⊎◌, ℕ, zero, suc, List, [], ◌∷◌, map, length, refl}
+use Rattle.std.specs.Prelude.{◌≡◌, ◌≢◌, suc, List, [], ◌∷◌, map, length, refl}
 use Rattle.std.specs.List.{AllByRecursion}
-use Rattle.std.proofs.Common.{sym, ap, ◌∙◌, inl, inr, arith}
+use Rattle.std.proofs.Common.{sym, ap, ◌∙◌, inl, inr}
 use Rattle.std.proofs.lemmas.List.{length-map}
 use Rattle.field.specs.Ring.{Ring, IsCommutativeRing, IsDomain, power}
 use Rattle.field.specs.Sums.{product_in}
-use Rattle.field.specs.Distinct.{IsDistinct, IsAmong, from_among, all_both, all_map, distinct_map}
-use Rattle.field.specs.RingFacts.{one_mul, mul_swap, domain_cancel, product_nonzero}
+use Rattle.field.specs.Distinct.{IsDistinct, IsAmong, all_both, all_map, distinct_map}
+use Rattle.field.specs.RingFacts.{mul_swap, domain_cancel, product_nonzero}
 
 module _ {A : Type 0} {R : Ring A} (laws : IsCommutativeRing R) where
   -- the list ys without one x: the others stay, and the product of ys is x times theirs

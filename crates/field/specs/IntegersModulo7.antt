@@ -1,11 +1,11 @@
 -- The field of the integers modulo 7.
-use Rattle.std.specs.Prelude.{◌≡◌, ◌<◌, ℕ, List, refl}
+use Rattle.std.specs.Prelude.{◌<◌, ℕ, refl}
 use Rattle.std.proofs.Common.{arith}
-use Rattle.field.specs.Ring.{Ring, IsCommutativeRing, IsDomain, IsInverse}
-use Rattle.field.specs.Characteristic.{HasCharacteristic, IsPrime}
+use Rattle.field.specs.Ring.{Ring}
+use Rattle.field.specs.Characteristic.{IsPrime}
 use Rattle.field.specs.Primes.{prime_by_trial}
 use Rattle.field.specs.Residue.{Residue, residue_of}
-use Rattle.field.specs.ResidueRing.{residue_ring, residue_inverse}
+use Rattle.field.specs.ResidueRing.{residue_ring}
 
 -- 7 is above 0.
 pub f7_positive : 0 < 7

@@ -1,12 +1,12 @@
 -- The residues modulo a prime are a field.
-use Rattle.std.specs.Prelude.{◌≡◌, ◌≢◌, ◌<◌, ◌≤◌, ◌⊎◌, ◌+◌, ◌-◌, ◌*◌, ◌/◌, ◌%◌, ℕ, zero, suc, List, [], ◌∷◌, length, refl}
+use Rattle.std.specs.Prelude.{◌≡◌, ◌≢◌, ◌<◌, ◌≤◌, ◌+◌, ◌-◌, ◌*◌, ◌/◌, ◌%◌, ℕ, zero, suc, List, [], ◌∷◌, length, refl}
 use Rattle.std.specs.List.{AllByRecursion}
 use Rattle.std.proofs.Common.{sym, ap, ◌∙◌, inl, inr, arith}
-use Rattle.std.proofs.lemmas.Bool.{cases_eq, cases_lt}
+use Rattle.std.proofs.lemmas.Bool.{cases_eq}
 use Rattle.std.proofs.lemmas.Nat.{mod_below, mul-mod_second}
 use Rattle.std.proofs.lemmas.Nat.Gcd.{dvd_of_mod-eq-zero}
 use native.Mathlib.Nat.{mul_comm, mod-eq_of_lt, add-mul-mod_self_left}
-use Rattle.field.specs.Ring.{Ring, IsCommutativeRing, IsDomain, IsInverse, power}
+use Rattle.field.specs.Ring.{Ring, IsDomain, IsInverse, power}
 use Rattle.field.specs.Characteristic.{IsPrime}
 use Rattle.field.specs.Distinct.{IsDistinct, IsAmong, all_weaker}
 use Rattle.field.specs.FiniteDomain.{fermat}

@@ -1,8 +1,7 @@
 -- The ring of the residues modulo p: sums and products of whole numbers, reduced.
-use Rattle.std.specs.Prelude.{◌≡◌, ◌<◌, ◌≤◌, ◌+◌, ◌-◌, ◌*◌, ◌%◌, ◌↔◌, ℕ, zero, suc, refl}
-use Rattle.std.specs.Int.{◌∣◌}
+use Rattle.std.specs.Prelude.{◌≡◌, ◌<◌, ◌+◌, ◌-◌, ◌*◌, ◌%◌, ℕ, zero, suc, refl}
 use Rattle.std.proofs.Common.{sym, ap, ◌∙◌, arith}
-use Rattle.std.proofs.lemmas.Nat.{mul-mod_first, mul-mod_second, mod_below}
+use Rattle.std.proofs.lemmas.Nat.{mul-mod_first, mul-mod_second}
 use native.Mathlib.Nat.{mod-eq_of_lt, mod-add-mod, add-mod-mod, mod-mod, mod_self, dvd_of_mod-eq-zero, mod-eq-zero_of_dvd}
 use Rattle.field.specs.Ring.{Ring, IsCommutativeRing, of_nat, power}
 use Rattle.field.specs.Characteristic.{HasCharacteristic}

@@ -1,7 +1,7 @@
 -- Elementary facts of commutative rings and domains.
-use Rattle.std.specs.Prelude.{◌≡◌, ◌≢◌, ◌⊎◌, ◌+◌, ◌*◌, ℕ, zero, suc, refl}
-use Rattle.std.proofs.Common.{sym, ap, ◌∙◌, inl, inr, arith}
-use Rattle.field.specs.Ring.{Ring, IsCommutativeRing, IsDomain, IsInverse, of_nat, power}
+use Rattle.std.specs.Prelude.{◌≡◌, ◌≢◌}
+use Rattle.std.proofs.Common.{sym, ap, ◌∙◌, inl, inr}
+use Rattle.field.specs.Ring.{Ring, IsCommutativeRing, IsDomain, IsInverse}
 
 module _ {A : Type 0} {R : Ring A} (laws : IsCommutativeRing R) where
   -- Zero is neutral on the left.

@@ -47,9 +47,11 @@ fn operators_follow_the_tables(rt: HostRuntime) {
 fn inverses_follow_the_table(rt: HostRuntime) {
     assert_eq!(rt; F7::new(0).try_inverse(), None);
     for (a, inverse) in [(1, 1), (2, 4), (3, 5), (4, 2), (5, 3), (6, 6)] {
-        assert_eq!(rt; F7::new(a).try_inverse(), Some(F7::new(inverse)), "1 / {a}");
+        let x = F7::new(a);
+        assert_eq!(rt; x.try_inverse(), Some(F7::new(inverse)), "1 / {a}");
+        assert!(rt; !x.is_zero(), "{a} is not zero");
+        assert_eq!(rt; x.inverse(), F7::new(inverse), "1 / {a}");
     }
-    assert_eq!(rt; F7::ONE.inverse(), F7::ONE);
 }
 
 #[test]
