@@ -1,1 +1,2 @@
 pub mod Exponents
+pub mod Tests
