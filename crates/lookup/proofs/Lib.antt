@@ -1,0 +1,5 @@
+pub mod RecordLaws
+pub mod Regrouping
+pub mod SumLaws
+pub mod Nets
+pub mod Prefixes

@@ -1,0 +1,42 @@
+-- Sums of lists of ring elements.
+use Rattle.std.proofs.Common.{◌≡◌, Bool, true, false, cond, not, List, [], ◌∷◌, ◌++◌, map, refl, sym, ap, ◌∙◌}
+use Rattle.std.specs.List.{filter, flat_map, AllByRecursion}
+use Rattle.field.specs.Ring.{Ring, IsCommutativeRing}
+use Rattle.field.specs.Sums.{sum_in}
+
+module _ {K : Type 0} {S : Ring K} (laws : IsCommutativeRing S) where
+  pub zero_add : (a : K) → S.add S.zero a ≡ a
+  zero_add a = laws.add_comm S.zero a ∙ laws.add_zero a
+
+  -- (a + b) + (c + d) = (a + c) + (b + d)
+  pub add_swap : (a b c d : K) → S.add (S.add a b) (S.add c d) ≡ S.add (S.add a c) (S.add b d)
+  add_swap a b c d =
+      laws.add_assoc a b (S.add c d) ∙ ap (S.add a) (sym (laws.add_assoc b c d) ∙ ap (λ t. S.add t d) (laws.add_comm b c) ∙ laws.add_assoc c b d) ∙ sym (laws.add_assoc a c (S.add b d))
+
+  pub sum_in-append : (xs ys : List K) → sum_in S (xs ++ ys) ≡ S.add (sum_in S xs) (sum_in S ys)
+  sum_in-append [] ys = sym (zero_add (sum_in S ys))
+  sum_in-append (x ∷ xs) ys = ap (S.add x) (sum_in-append xs ys) ∙ sym (laws.add_assoc x (sum_in S xs) (sum_in S ys))
+
+  -- one more item at the end
+  pub sum_in-push : (xs : List K) (y : K) → sum_in S (xs ++ y ∷ []) ≡ S.add (sum_in S xs) y
+  sum_in-push xs y = sum_in-append xs (y ∷ []) ∙ ap (S.add (sum_in S xs)) (laws.add_zero y)
+
+  module _ {X : Type 0} where
+    -- a sum of zeros
+    pub sum_in-zeros : (f : X → K) (xs : List X) → AllByRecursion (λ x. f x ≡ S.zero) xs → sum_in S (map f xs) ≡ S.zero
+    sum_in-zeros f [] h = refl
+    sum_in-zeros f (x ∷ xs) h = (λ i. S.add (h.0 i) (sum_in-zeros f xs h.1 i)) ∙ laws.add_zero S.zero
+
+    -- a sum of sums
+    pub sum_in-map-add : (f g : X → K) (xs : List X) → sum_in S (map (λ x. S.add (f x) (g x)) xs) ≡ S.add (sum_in S (map f xs)) (sum_in S (map g xs))
+    sum_in-map-add f g [] = sym (laws.add_zero S.zero)
+    sum_in-map-add f g (x ∷ xs) = ap (S.add (S.add (f x) (g x))) (sum_in-map-add f g xs) ∙ add_swap (f x) (g x) (sum_in S (map f xs)) (sum_in S (map g xs))
+
+    -- items whose value is zero may be left out
+    pub sum_in-filter : (f : X → K) (p : X → Bool) → ((x : X) → p x ≡ false → f x ≡ S.zero) → (xs : List X) → sum_in S (map f (filter p xs)) ≡ sum_in S (map f xs)
+    sum_in-filter f p drops [] = refl
+    sum_in-filter f p drops (x ∷ xs) = by_test (p x) refl (sum_in-filter f p drops xs)
+      where
+        by_test : (b : Bool) → p x ≡ b → sum_in S (map f (filter p xs)) ≡ sum_in S (map f xs) → sum_in S (map f (cond b (x ∷ filter p xs) (filter p xs))) ≡ S.add (f x) (sum_in S (map f xs))
+        by_test true e rest = ap (S.add (f x)) rest
+        by_test false e rest = rest ∙ sym (zero_add (sum_in S (map f xs))) ∙ ap (λ t. S.add t (sum_in S (map f xs))) (sym (drops x e))

@@ -1,0 +1,10 @@
+pub mod Challenges
+pub mod Extension
+pub mod Fault
+pub mod Lookups
+pub mod Message
+pub mod Net
+pub mod Plain
+pub mod Records
+pub mod Refusal
+pub mod Sent

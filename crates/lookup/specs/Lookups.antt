@@ -1,0 +1,8 @@
+-- What is seen of the lookups of one AIR.
+use Rattle.std.specs.Prelude.{List}
+use Rattle.lookup.specs.declared.types.Lookup.{Lookup}
+use Rattle.lookup.specs.declared.lookups.Lookups.{Lookups}
+
+-- the lookups in the order of their columns
+abbrev pub lookups_of : {F : Type 0} → Lookups F → List (Lookup F)
+lookups_of set = set.lookups.items

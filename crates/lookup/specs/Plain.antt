@@ -1,0 +1,41 @@
+-- The plain result of generation (LogUp, eprint 2022/1530): plain quotients and their sums, and a
+-- terminal from the nets of the keys. The rows of a trace are lists of what its lookups send.
+use Rattle.std.specs.Prelude.{ℕ, List, ◌∷◌, length, map, not, take, slice_index_or, []}
+use Rattle.std.specs.List.{filter, flat_map, range_with_len}
+use Rattle.field.specs.Ring.{Ring}
+use Rattle.field.specs.Sums.{sum_in}
+use Rattle.lookup.specs.Extension.{Extension}
+use Rattle.lookup.specs.Message.{Key, Message}
+use Rattle.lookup.specs.Net.{net, unbalanced_keys}
+use Rattle.lookup.specs.Sent.{Sent}
+
+-- all messages of a trace, row by row and lookup by lookup
+abbrev pub trace_messages : {F : Type 0} → List (List (Sent F)) → List (Message F)
+trace_messages rows = flat_map (λ row. flat_map (λ sent. sent.messages) row) rows
+
+module _ {F K : Type 0} (E : Extension F K) (denominator : Key F → K) where
+  -- a multiplicity over the denominator of its key
+  abbrev pub quotient : F → Key F → K
+  quotient multiplicity key = E.ring.mul (E.embed multiplicity) (E.inverse (denominator key))
+
+  -- the fraction of a lookup on a row: the sum of the quotients of its messages of nonzero multiplicity
+  abbrev pub plain_fraction : Sent F → K
+  plain_fraction sent = sum_in E.ring (map (λ m. quotient m.multiplicity m.key) (filter (λ m. not (E.base_eq m.multiplicity E.base.zero)) sent.messages))
+
+  -- the accumulator of row r: the sum of all fractions of the rows before it
+  abbrev pub plain_accumulator : List (List (Sent F)) → ℕ → K
+  plain_accumulator rows r = sum_in E.ring (flat_map (λ row. map plain_fraction row) (take r rows))
+
+  -- row r of the auxiliary trace: its accumulator, and then the fraction of each lookup
+  abbrev pub plain_row : List (List (Sent F)) → ℕ → List K
+  plain_row rows r = plain_accumulator rows r ∷ map plain_fraction (slice_index_or rows r [])
+
+  -- the cells of the auxiliary trace, row after row
+  abbrev pub plain_cells : List (List (Sent F)) → List K
+  plain_cells rows = flat_map (plain_row rows) (range_with_len 0 (length rows))
+
+  -- the terminal: the sum of net over denominator, over the keys whose net is not zero
+  abbrev pub plain_terminal : List (List (Sent F)) → K
+  plain_terminal rows =
+      let messages = trace_messages rows in
+      sum_in E.ring (map (λ key. quotient (net E.base E.base_eq messages key) key) (unbalanced_keys E.base E.base_eq messages))

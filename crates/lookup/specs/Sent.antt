@@ -1,0 +1,38 @@
+-- What a lookup sends on a row.
+use Rattle.std.specs.Prelude.{ℕ, Bool, List, Option, None, Some, map}
+use Rattle.std.specs.List.{filter, zip}
+use Rattle.std.specs.Option.{option_map}
+use Rattle.field.specs.Ring.{Ring}
+use Rattle.air.specs.declared.symbolic.expression.SymbolicExpression.{SymbolicExpression}
+use Rattle.air.specs.Meaning.{value_of}
+use Rattle.air.specs.Tree.{tree_of}
+use Rattle.air.specs.Window.{Window}
+use Rattle.lookup.specs.Message.{Key, Message}
+use Rattle.lookup.specs.declared.types.Lookup.{Lookup}
+
+-- the messages of a row and, where the lookup is exclusive, the values of its flags
+pub record Sent (F : Type 0) : Type 0 where
+  pub flags : Option (List F)
+  pub messages : List (Message F)
+
+-- the value of an expression at a window
+abbrev pub value : {F : Type 0} → Ring F → Window F → SymbolicExpression F → F
+value R w e = value_of R w (tree_of e)
+
+-- the values of a list of expressions
+abbrev pub values : {F : Type 0} → Ring F → Window F → List (SymbolicExpression F) → List F
+values R w es = map (value R w) es
+
+-- What a row sends of its branches: all of them without flags, and with flags those whose flag is set.
+abbrev pub sent : {F : Type 0} → Ring F → (F → F → Bool) → Option (List F) → List (Message F) → Sent F
+sent R eq None branches = record { flags = None; messages = branches }
+sent R eq (Some flags) branches = record { flags = Some flags; messages = map (λ b. b.1) (filter (λ b. eq b.0 R.one) (zip flags branches)) }
+
+module _ {F : Type 0} (R : Ring F) where
+  -- every tuple of a lookup with its multiplicity, under an id
+  abbrev pub branches_at : Window F → ℕ → Lookup F → List (Message F)
+  branches_at w id lookup = map (λ b. record { key = record { id = id; tuple = values R w b.0.items }; multiplicity = value R w b.1 }) (zip lookup.elements.items lookup.multiplicities.items)
+
+  -- what a lookup sends at a window, under an id
+  abbrev pub sent_at : (F → F → Bool) → Window F → ℕ → Lookup F → Sent F
+  sent_at eq w id lookup = sent R eq (option_map (λ flags. values R w flags.items) lookup.flags) (branches_at w id lookup)

@@ -1,0 +1,14 @@
+//! The LogUp lookup argument: lookups, their challenges and auxiliary traces.
+#![tactic(auto)]
+
+mod challenges;
+mod error;
+mod fitting;
+mod lookups;
+mod types;
+
+pub use challenges::Challenges;
+pub use error::LookupError;
+pub use fitting::fits;
+pub use lookups::Lookups;
+pub use types::{Kind, Lookup, LookupTerminal};

@@ -1,0 +1,59 @@
+//! The lookups of one AIR.
+ghost use Rattle.std.specs.Prelude.{◌≡◌, ◌↔◌, ℕ, IsTrue, MatchResult};
+ghost use Rattle.std.specs.List.{sum_by};
+ghost use Rattle.lookup.specs.Records.{AreRecords, DoFit, IsFirstMalformed};
+
+use crate::error::LookupError;
+use crate::fitting;
+use crate::types::Lookup;
+use air::AirLayout;
+use field::Field;
+
+/// The lookups of one AIR: each has as many multiplicities, and flags where it has flags, as
+/// tuples, and their columns are 0, 1, 2 and on.
+#[derive(Debug, Drop)]
+pub struct Lookups<F> {
+    lookups: Vec<Lookup<F>>,
+    pub ghost records: { AreRecords lookups.items },
+}
+
+impl<F: Field> Lookups<F> {
+    ghost use Rattle.lookup.specs.Lookups.{lookups_of};
+
+    /// The set of these lookups, as they are given.
+    ///
+    /// Refuses `BadRecord` at the first lookup whose lists have different lengths or whose column
+    /// is not its place; the lookups are then dropped.
+    pub fn from_records(records: Vec<Lookup<F>>) -> Result<Self, LookupError>
+        ensures { MatchResult result
+            (λ lookups. lookups_of lookups ≡ records.items)
+            (λ e. (i : ℕ) × (e ≡ LookupError.BadRecord i) × IsFirstMalformed records.items i) }
+    {
+        match fitting::first_malformed(&records) {
+            Some(lookup) => Err(LookupError::BadRecord { lookup }),
+            None => Ok(Lookups { lookups: records }),
+        }
+    }
+
+    /// The lookups in the order of their columns.
+    pub fn as_slice(&self) -> &[Lookup<F>]
+        ensures lookups { result.now ≡ lookups_of self.now }
+        ensures records { AreRecords (lookups_of self.now) }
+    {
+        self.lookups.as_slice()
+    }
+
+    /// The sum of the weights of all lookups.
+    pub fn total_count_weight(&self) -> u128
+        ensures { result ≡ sum_by (λ lookup. lookup.count_weight) (lookups_of self.now) }
+    {
+        self.lookups.iter().map(|lookup| u128::from(lookup.count_weight)).sum()
+    }
+
+    /// Whether the lookups fit an AIR of this layout, as [`fits`](crate::fits) says of a slice.
+    pub fn fits(&self, layout: &AirLayout) -> bool
+        ensures { IsTrue result ↔ DoFit layout.now (lookups_of self.now) }
+    {
+        fitting::fits(self.as_slice(), layout)
+    }
+}
