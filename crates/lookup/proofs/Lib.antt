@@ -1,5 +1,9 @@
-pub mod RecordLaws
-pub mod Regrouping
-pub mod SumLaws
+pub mod Fractions
+pub mod KeyLaws
 pub mod Nets
 pub mod Prefixes
+pub mod RecordLaws
+pub mod Regrouping
+pub mod Rows
+pub mod SumLaws
+pub mod Terminals

@@ -1,4 +1,5 @@
 pub mod Challenges
+pub mod Denominators
 pub mod Extension
 pub mod Fault
 pub mod Lookups
@@ -8,3 +9,4 @@ pub mod Plain
 pub mod Records
 pub mod Refusal
 pub mod Sent
+pub mod Trace
