@@ -5,44 +5,42 @@ ghost use Rattle.field.specs.Ring.{Ring, sub_in};
 use field::Field;
 use std::alloc::{AllocError, Global};
 
-/// A value that constraints are built from: an element of a field, or an expression tree.
+/// A value that constraints are built from: an element of the field `F`, or an expression tree
+/// with constants in `F`.
 ///
 /// A contract sees of it the value at each `Seen`, which is the window for a tree, and nothing for
 /// an element, and the degree where the transition selector has degree `t`.
-pub trait Expression: Drop {
-    /// The field of the constants.
-    type F: Field;
-
+pub trait Expression<F: Field>: Drop {
     /// What values of the type are looked at with.
     type Seen;
 
-    ghost value: { Self → Self.Seen → Self.F };
+    ghost value: { Self → Self.Seen → F };
 
     ghost degree: { Self → ℕ → ℕ };
 
     /// The expression whose value is `x` everywhere.
-    fn constant(x: Self::F) -> Self
+    fn constant(x: F) -> Self
         ensures means { (w : Self.Seen) → value result w ≡ x }
         ensures degree { (t : ℕ) → degree result t ≡ 0 };
 
     /// The sum `self + other`.
     fn add(self, alloc: Global, other: Self) -> Result<Self, AllocError>
-        ensures means { IfOk result (λ r. (w : Self.Seen) → value r w ≡ Self.F.ring.add (value self w) (value other w)) }
+        ensures means { IfOk result (λ r. (w : Self.Seen) → value r w ≡ F.ring.add (value self w) (value other w)) }
         ensures degree { IfOk result (λ r. (t : ℕ) → degree r t ≡ max (degree self t) (degree other t)) };
 
     /// The difference `self - other`.
     fn sub(self, alloc: Global, other: Self) -> Result<Self, AllocError>
-        ensures means { IfOk result (λ r. (w : Self.Seen) → value r w ≡ sub_in Self.F.ring (value self w) (value other w)) }
+        ensures means { IfOk result (λ r. (w : Self.Seen) → value r w ≡ sub_in F.ring (value self w) (value other w)) }
         ensures degree { IfOk result (λ r. (t : ℕ) → degree r t ≡ max (degree self t) (degree other t)) };
 
     /// The product `self * other`.
     fn mul(self, alloc: Global, other: Self) -> Result<Self, AllocError>
-        ensures means { IfOk result (λ r. (w : Self.Seen) → value r w ≡ Self.F.ring.mul (value self w) (value other w)) }
+        ensures means { IfOk result (λ r. (w : Self.Seen) → value r w ≡ F.ring.mul (value self w) (value other w)) }
         ensures degree { IfOk result (λ r. (t : ℕ) → degree r t ≡ degree self t + degree other t) };
 
     /// The negation `-self`.
     fn neg(self, alloc: Global) -> Result<Self, AllocError>
-        ensures means { IfOk result (λ r. (w : Self.Seen) → value r w ≡ Self.F.ring.neg (value self w)) }
+        ensures means { IfOk result (λ r. (w : Self.Seen) → value r w ≡ F.ring.neg (value self w)) }
         ensures degree { IfOk result (λ r. (t : ℕ) → degree r t ≡ degree self t) };
 
     /// The same expression again.
@@ -52,9 +50,7 @@ pub trait Expression: Drop {
 }
 
 /// Elements of a field are their own values, of degree 0; no call is refused.
-impl<F: Field> Expression for F {
-    type F = F;
-
+impl<F: Field> Expression<F> for F {
     type Seen = ();
 
     ghost value = { λ x _. x };

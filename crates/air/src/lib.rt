@@ -1,12 +1,16 @@
 //! Constraints over traces: expressions, the builders that record or check them, and windows.
 #![tactic(auto)]
 
+mod builder;
 mod error;
 mod expression;
+mod filtered;
 mod layout;
 mod symbolic;
 
+pub use builder::AirBuilder;
 pub use error::{AirError, LayoutPart};
 pub use expression::Expression;
+pub use filtered::FilteredAirBuilder;
 pub use layout::AirLayout;
 pub use symbolic::{BaseEntry, BaseLeaf, Seen, SymbolicExpression, SymbolicVariable};

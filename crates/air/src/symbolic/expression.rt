@@ -49,13 +49,11 @@ impl<F> Model for Seen<F> {
     ghost view = { λ _. empty_window };
 }
 
-impl<F: Field> Expression for SymbolicExpression<F> {
+impl<F: Field> Expression<F> for SymbolicExpression<F> {
     ghost use Rattle.air.specs.Degree.{degree_of};
     ghost use Rattle.air.specs.Meaning.{value_of};
     ghost use Rattle.air.specs.Tree.{tree_of, leaf, add, sub, mul, neg};
     ghost use Rattle.air.specs.Window.{Window};
-
-    type F = F;
 
     type Seen = Seen<F>;
 
