@@ -10,3 +10,4 @@ pub mod Records
 pub mod Refusal
 pub mod Sent
 pub mod Trace
+pub mod TraceBuilder

@@ -5,10 +5,12 @@ mod challenges;
 mod error;
 mod fitting;
 mod lookups;
+mod trace_builder;
 mod types;
 
 pub use challenges::Challenges;
 pub use error::LookupError;
 pub use fitting::fits;
 pub use lookups::Lookups;
+pub use trace_builder::LookupTraceBuilder;
 pub use types::{Kind, Lookup, LookupTerminal};
