@@ -1,1 +1,2 @@
 pub mod Assertions
+pub mod Cells

@@ -13,4 +13,4 @@ pub use error::{AirError, LayoutPart};
 pub use expression::Expression;
 pub use filtered::FilteredAirBuilder;
 pub use layout::AirLayout;
-pub use symbolic::{BaseEntry, BaseLeaf, Seen, SymbolicExpression, SymbolicVariable};
+pub use symbolic::{BaseEntry, BaseLeaf, Seen, SymbolicExpression, SymbolicVariable, resolve_over};

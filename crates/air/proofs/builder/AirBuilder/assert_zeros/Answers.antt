@@ -10,4 +10,4 @@ pub returns-in_err-assert_zero : goal.returns-in_err-assert_zero
 returns-in_err-assert_zero g c =
     let p = err_from_is_err_and c.from_residual.result c.from_residual.ensures.1 in
     rw (p.1, p.2) (refuses_after _ _ _ _ _ _ _ _ _ _ c.loop-x.invariant.0 c.in_err-assert_zero.ensures
-      (split_here _ _ _ _ _ c.loop-x.invariant.1 c.in-Some.ensures.steps.0))
+    (split_here _ _ _ _ _ c.loop-x.invariant.1 c.in-Some.ensures.steps.0))
