@@ -7,8 +7,9 @@ use Rattle.std.specs.List.{filter, list_any}
 use Rattle.field.specs.Sums.{sum_in}
 use Rattle.lookup.specs.Extension.{Extension, IsLawful}
 use Rattle.lookup.specs.Fault.{vanishes}
+use Rattle.lookup.specs.Fraction.{quotient_of, IsFractionOf}
 use Rattle.lookup.specs.Message.{Key, Message}
-use Rattle.lookup.specs.Plain.{quotient}
+use Rattle.lookup.specs.Plain.{counted}
 use Rattle.lookup.proofs.SumLaws.{sum_in-push}
 
 -- the items of two lists that pass a test
@@ -20,35 +21,22 @@ filter-append p (x ∷ xs) ys = by_test (p x) (filter-append p xs ys)
     by_test true e = ap (λ t. x ∷ t) e
     by_test false e = e
 
-module _ {F K : Type 0} (E : Extension F K) (denominator : Key F → K) where
-  -- the messages of nonzero multiplicity
-  abbrev pub counted : List (Message F) → List (Message F)
-  counted ms = filter (λ m. not (E.base_eq m.multiplicity E.base.zero)) ms
-
-  abbrev pub quotient_of : Message F → K
-  quotient_of m = quotient E denominator m.multiplicity m.key
-
-  -- f is the sum of the quotients of the counted messages, of which no denominator vanishes
-  pub record IsFractionOf (ms : List (Message F)) (f : K) : Type 0 where
-    pub value : f ≡ sum_in E.ring (map quotient_of (counted ms))
-    pub divides : vanishes E denominator (counted ms) ≡ false
-
 module _ {F K : Type 0} {E : Extension F K} (laws : IsLawful E) (denominator : Key F → K) where
   -- no message gives zero
   pub fraction_of_none : (f : K) → f ≡ E.ring.zero → IsFractionOf E denominator [] f
   fraction_of_none f e = record { value = e; divides = refl }
 
-  counted_zero : (ms : List (Message F)) (m : Message F) → m.multiplicity ≡ E.base.zero → counted E denominator (ms ++ m ∷ []) ≡ counted E denominator ms
+  counted_zero : (ms : List (Message F)) (m : Message F) → m.multiplicity ≡ E.base.zero → counted E (ms ++ m ∷ []) ≡ counted E ms
   counted_zero ms m e = filter-append (λ n. not (E.base_eq n.multiplicity E.base.zero)) ms (m ∷ []) ∙ by_test (E.base_eq m.multiplicity E.base.zero) ((laws.base_eq m.multiplicity E.base.zero).1 e)
     where
-      by_test : (b : Bool) → b ≡ true → counted E denominator ms ++ cond (not b) (m ∷ []) [] ≡ counted E denominator ms
-      by_test true f = append-nil (counted E denominator ms)
+      by_test : (b : Bool) → b ≡ true → counted E ms ++ cond (not b) (m ∷ []) [] ≡ counted E ms
+      by_test true f = append-nil (counted E ms)
       by_test false f = absurd (true≢false (sym f))
 
-  counted_nonzero : (ms : List (Message F)) (m : Message F) → m.multiplicity ≢ E.base.zero → counted E denominator (ms ++ m ∷ []) ≡ counted E denominator ms ++ m ∷ []
+  counted_nonzero : (ms : List (Message F)) (m : Message F) → m.multiplicity ≢ E.base.zero → counted E (ms ++ m ∷ []) ≡ counted E ms ++ m ∷ []
   counted_nonzero ms m ne = filter-append (λ n. not (E.base_eq n.multiplicity E.base.zero)) ms (m ∷ []) ∙ by_test (E.base_eq m.multiplicity E.base.zero) refl
     where
-      by_test : (b : Bool) → E.base_eq m.multiplicity E.base.zero ≡ b → counted E denominator ms ++ cond (not b) (m ∷ []) [] ≡ counted E denominator ms ++ m ∷ []
+      by_test : (b : Bool) → E.base_eq m.multiplicity E.base.zero ≡ b → counted E ms ++ cond (not b) (m ∷ []) [] ≡ counted E ms ++ m ∷ []
       by_test true f = absurd (ne ((laws.base_eq m.multiplicity E.base.zero).0 f))
       by_test false f = refl
 
@@ -68,12 +56,12 @@ module _ {F K : Type 0} {E : Extension F K} (laws : IsLawful E) (denominator : K
       record {
         value =
             next_is ∙ ap (λ t. E.ring.add t (quotient_of E denominator m)) so_far.value
-              ∙ sym (sum_in-push laws.ring (map (quotient_of E denominator) (counted E denominator ms)) (quotient_of E denominator m))
-              ∙ ap (sum_in E.ring) (sym (map_push (quotient_of E denominator) (counted E denominator ms) m))
+              ∙ sym (sum_in-push laws.ring (map (quotient_of E denominator) (counted E ms)) (quotient_of E denominator m))
+              ∙ ap (sum_in E.ring) (sym (map_push (quotient_of E denominator) (counted E ms) m))
               ∙ ap (λ ns. sum_in E.ring (map (quotient_of E denominator) ns)) (sym same);
         divides =
             ap (vanishes E denominator) same
-              ∙ list_any-append (λ n. E.eq (denominator n.key) E.ring.zero) (counted E denominator ms) (m ∷ [])
+              ∙ list_any-append (λ n. E.eq (denominator n.key) E.ring.zero) (counted E ms) (m ∷ [])
               ∙ (λ i. so_far.divides i || (not_zero i || false));
       }
     where
@@ -81,14 +69,14 @@ module _ {F K : Type 0} {E : Extension F K} (laws : IsLawful E) (denominator : K
       not_zero = false_from_ne_true (E.eq (denominator m.key) E.ring.zero) (λ e. divides ((laws.eq (denominator m.key) E.ring.zero).0 e))
 
   -- a message that counts and whose denominator is zero makes the lookup vanish
-  pub vanishes_at : (ms rest : List (Message F)) (m : Message F) → m.multiplicity ≢ E.base.zero → denominator m.key ≡ E.ring.zero → vanishes E denominator (counted E denominator ((ms ++ m ∷ []) ++ rest)) ≡ true
+  pub vanishes_at : (ms rest : List (Message F)) (m : Message F) → m.multiplicity ≢ E.base.zero → denominator m.key ≡ E.ring.zero → vanishes E denominator (counted E ((ms ++ m ∷ []) ++ rest)) ≡ true
   vanishes_at ms rest m counts e =
       let is_zero = λ (n : Message F). E.eq (denominator n.key) E.ring.zero in
-      let front = counted E denominator (ms ++ m ∷ []) in
+      let front = counted E (ms ++ m ∷ []) in
       let found : list_any is_zero front ≡ true =
           ap (list_any is_zero) (counted_nonzero ms m counts)
-            ∙ list_any-append is_zero (counted E denominator ms) (m ∷ [])
-            ∙ or_right (list_any is_zero (counted E denominator ms)) (is_zero m || false) (or_left (is_zero m) false ((laws.eq (denominator m.key) E.ring.zero).1 e)) in
+            ∙ list_any-append is_zero (counted E ms) (m ∷ [])
+            ∙ or_right (list_any is_zero (counted E ms)) (is_zero m || false) (or_left (is_zero m) false ((laws.eq (denominator m.key) E.ring.zero).1 e)) in
       ap (list_any is_zero) (filter-append (λ n. not (E.base_eq n.multiplicity E.base.zero)) (ms ++ m ∷ []) rest)
-        ∙ list_any-append is_zero front (counted E denominator rest)
-        ∙ or_left (list_any is_zero front) (list_any is_zero (counted E denominator rest)) found
+        ∙ list_any-append is_zero front (counted E rest)
+        ∙ or_left (list_any is_zero front) (list_any is_zero (counted E rest)) found

@@ -1,6 +1,9 @@
+pub mod Branches
 pub mod Fractions
+pub mod HornerRule
 pub mod KeyLaws
 pub mod Nets
+pub mod OwnWindow
 pub mod Prefixes
 pub mod RecordLaws
 pub mod Regrouping

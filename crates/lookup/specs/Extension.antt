@@ -11,6 +11,10 @@ pub record Extension (F K : Type 0) : Type 0 where
   pub embed : F → K
   pub inverse : K → K
 
+-- the extension of these operations and tests
+abbrev pub extension : {F K : Type 0} → Ring F → (F → F → Bool) → Ring K → (K → K → Bool) → (F → K) → (K → K) → Extension F K
+extension base base_eq ring eq embed inverse = record { base = base; base_eq = base_eq; ring = ring; eq = eq; embed = embed; inverse = inverse }
+
 -- both are fields, the embedding keeps their operations, and the tests and the inverse are right
 pub record IsLawful {F K : Type 0} (E : Extension F K) : Type 0 where
   pub base : IsCommutativeRing E.base

@@ -1,8 +1,9 @@
 -- The faults that generation can meet, in the order row, lookup.
 use Rattle.std.specs.Prelude.{ℕ, ◌<◌, Bool, List, Option, None, Some, if◌then◌else◌, not, ◌||◌, nat_lt, count_by}
-use Rattle.std.specs.List.{enumerate_from, filter, filter_map, flat_map, list_all, list_any}
+use Rattle.std.specs.List.{enumerate_from, filter_map, flat_map, list_all, list_any}
 use Rattle.lookup.specs.Extension.{Extension}
 use Rattle.lookup.specs.Message.{Key, Message}
+use Rattle.lookup.specs.Plain.{counted}
 use Rattle.lookup.specs.Sent.{Sent}
 use Rattle.lookup.specs.declared.error.LookupError.{LookupError}
 use Rattle.lookup.specs.declared.error.LookupError.TheVariants.{VanishingDenominator, FlagNotBoolean, FlagsNotExclusive}
@@ -19,7 +20,7 @@ module _ {F K : Type 0} (E : Extension F K) (denominator : Key F → K) where
   fault_of row lookup sent = by_flags sent.flags
     where
       by_flags : Option (List F) → Option LookupError
-      by_flags None = if vanishes (filter (λ m. not (E.base_eq m.multiplicity E.base.zero)) sent.messages) then Some (VanishingDenominator row lookup) else None
+      by_flags None = if vanishes (counted E sent.messages) then Some (VanishingDenominator row lookup) else None
       by_flags (Some flags) =
           if not (list_all (λ f. E.base_eq f E.base.zero || E.base_eq f E.base.one) flags) then Some (FlagNotBoolean row lookup)
           else (if nat_lt 1 (count_by (λ f. E.base_eq f E.base.one) flags) then Some (FlagsNotExclusive row lookup)

@@ -2,6 +2,7 @@ pub mod Challenges
 pub mod Denominators
 pub mod Extension
 pub mod Fault
+pub mod Fraction
 pub mod Lookups
 pub mod Message
 pub mod Net

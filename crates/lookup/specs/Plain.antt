@@ -13,6 +13,10 @@ use Rattle.lookup.specs.Sent.{Sent}
 abbrev pub trace_messages : {F : Type 0} → List (List (Sent F)) → List (Message F)
 trace_messages rows = flat_map (λ row. flat_map (λ sent. sent.messages) row) rows
 
+-- the messages whose multiplicity is not zero
+abbrev pub counted : {F K : Type 0} → Extension F K → List (Message F) → List (Message F)
+counted E messages = filter (λ m. not (E.base_eq m.multiplicity E.base.zero)) messages
+
 module _ {F K : Type 0} (E : Extension F K) (denominator : Key F → K) where
   -- a multiplicity over the denominator of its key
   abbrev pub quotient : F → Key F → K
@@ -20,7 +24,7 @@ module _ {F K : Type 0} (E : Extension F K) (denominator : Key F → K) where
 
   -- the fraction of a lookup on a row: the sum of the quotients of its messages of nonzero multiplicity
   abbrev pub plain_fraction : Sent F → K
-  plain_fraction sent = sum_in E.ring (map (λ m. quotient m.multiplicity m.key) (filter (λ m. not (E.base_eq m.multiplicity E.base.zero)) sent.messages))
+  plain_fraction sent = sum_in E.ring (map (λ m. quotient m.multiplicity m.key) (counted E sent.messages))
 
   -- the accumulator of row r: the sum of all fractions of the rows before it
   abbrev pub plain_accumulator : List (List (Sent F)) → ℕ → K

@@ -29,10 +29,18 @@ sent R eq None branches = record { flags = None; messages = branches }
 sent R eq (Some flags) branches = record { flags = Some flags; messages = map (λ b. b.1) (filter (λ b. eq b.0 R.one) (zip flags branches)) }
 
 module _ {F : Type 0} (R : Ring F) where
-  -- every tuple of a lookup with its multiplicity, under an id
+  -- a tuple with its multiplicity at a window, under an id
+  abbrev pub branch_at : Window F → ℕ → List (SymbolicExpression F) → SymbolicExpression F → Message F
+  branch_at w id tuple multiplicity = record { key = record { id = id; tuple = values R w tuple }; multiplicity = value R w multiplicity }
+
+  -- every tuple of a lookup with its multiplicity
   abbrev pub branches_at : Window F → ℕ → Lookup F → List (Message F)
-  branches_at w id lookup = map (λ b. record { key = record { id = id; tuple = values R w b.0.items }; multiplicity = value R w b.1 }) (zip lookup.elements.items lookup.multiplicities.items)
+  branches_at w id lookup = map (λ b. branch_at w id b.0.items b.1) (zip lookup.elements.items lookup.multiplicities.items)
+
+  -- the values of the flags of an exclusive lookup
+  abbrev pub flags_at : Window F → Lookup F → Option (List F)
+  flags_at w lookup = option_map (λ flags. values R w flags.items) lookup.flags
 
   -- what a lookup sends at a window, under an id
   abbrev pub sent_at : (F → F → Bool) → Window F → ℕ → Lookup F → Sent F
-  sent_at eq w id lookup = sent R eq (option_map (λ flags. values R w flags.items) lookup.flags) (branches_at w id lookup)
+  sent_at eq w id lookup = sent R eq (flags_at w lookup) (branches_at w id lookup)

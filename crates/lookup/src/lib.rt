@@ -4,6 +4,7 @@
 mod challenges;
 mod error;
 mod fitting;
+mod fraction;
 mod lookups;
 mod trace_builder;
 mod types;

@@ -67,6 +67,13 @@ impl<'a, F, EF> LookupTraceBuilder<'a, F, EF> {
         }
     }
 
+    /// The row that the builder stands for.
+    pub(crate) fn row(&self) -> usize
+        ensures { result ≡ self.now.row }
+    {
+        self.row
+    }
+
     /// Whether `row` is the first one.
     pub(crate) fn is_first(&self) -> bool
         ensures { result ≡ (builder_window self.now).is_first }
@@ -79,6 +86,20 @@ impl<'a, F, EF> LookupTraceBuilder<'a, F, EF> {
         ensures { result ≡ (builder_window self.now).is_last }
     {
         self.row + 1 == self.height
+    }
+}
+
+impl<F, EF: Field> LookupTraceBuilder<'_, F, EF> {
+    ghost use Rattle.std.specs.Prelude.{◌*◌, slice_index_or};
+
+    /// The challenges of a column: its alpha and its beta.
+    pub(crate) fn column_challenges(&self, column: usize) -> (EF, EF)
+        requires { 2 * column + 1 < length self.now.permutation_challenges.now }
+        ensures alpha { result.0 ≡ slice_index_or self.now.permutation_challenges.now (2 * column) EF.ring.zero }
+        ensures beta { result.1 ≡ slice_index_or self.now.permutation_challenges.now (2 * column + 1) EF.ring.zero }
+    {
+        let challenges = self.permutation_challenges;
+        (challenges[2 * column], challenges[2 * column + 1])
     }
 }
 

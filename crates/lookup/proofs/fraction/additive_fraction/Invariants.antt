@@ -1,0 +1,12 @@
+use Rattle.std.proofs.Common.{take}
+use Rattle.lookup.specs.Denominators.{column_denominator}
+use Rattle.lookup.specs.Extension.{extension}
+use Rattle.lookup.specs.Fraction.{IsFractionOf}
+use Rattle.lookup.specs.Sent.{branches_at}
+use Rattle.lookup.specs.TraceBuilder.{builder_window}
+use Rattle.lookup.proofs.fraction.additive_fraction.Given as goal
+
+abbrev pub invariant-loop-branch : goal.invariant-loop-branch
+invariant-loop-branch g l =
+    let E = extension g.F.PrimeCharacteristicRing.ring g.F.PartialEq.eq g.EF.PrimeCharacteristicRing.ring g.EF.PartialEq.eq g.EF.ExtensionDomain.embed g.EF.Field.inverse in
+    IsFractionOf E (column_denominator E l.builder.permutation_challenges.now) (take l.branch (branches_at E.base (builder_window l.builder) l.lookup.column l.lookup)) l.fraction

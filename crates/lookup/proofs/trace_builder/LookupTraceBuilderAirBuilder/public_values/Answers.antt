@@ -1,0 +1,7 @@
+use Rattle.std.proofs.Common.{refl}
+use Rattle.lookup.specs.TraceBuilder.{builder_window}
+use Rattle.lookup.proofs.OwnWindow.{means_itself}
+use Rattle.lookup.proofs.trace_builder.LookupTraceBuilderAirBuilder.public_values.Goals as goal
+
+pub returns : goal.returns
+returns g c = means_itself (builder_window c.args.self.now) (λ w. w.public_values) _ refl

@@ -1,0 +1,17 @@
+-- The fraction of a lookup while its messages are gone through.
+use Rattle.std.specs.Prelude.{◌≡◌, false, List, map}
+use Rattle.field.specs.Sums.{sum_in}
+use Rattle.lookup.specs.Extension.{Extension}
+use Rattle.lookup.specs.Fault.{vanishes}
+use Rattle.lookup.specs.Message.{Key, Message}
+use Rattle.lookup.specs.Plain.{counted, quotient}
+
+module _ {F K : Type 0} (E : Extension F K) (denominator : Key F → K) where
+  -- the quotient of a message
+  abbrev pub quotient_of : Message F → K
+  quotient_of m = quotient E denominator m.multiplicity m.key
+
+  -- f is the sum of the quotients of the counted messages, of which no denominator vanishes
+  pub record IsFractionOf (ms : List (Message F)) (f : K) : Type 0 where
+    pub value : f ≡ sum_in E.ring (map quotient_of (counted E ms))
+    pub divides : vanishes E denominator (counted E ms) ≡ false
