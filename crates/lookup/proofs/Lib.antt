@@ -2,11 +2,14 @@ pub mod Branches
 pub mod Fractions
 pub mod HornerRule
 pub mod KeyLaws
+pub mod LookupFaults
 pub mod Nets
 pub mod OwnWindow
 pub mod Prefixes
+pub mod ProgressLaws
 pub mod RecordLaws
 pub mod Regrouping
 pub mod Rows
+pub mod SentRows
 pub mod SumLaws
 pub mod Terminals

@@ -7,6 +7,7 @@ pub mod Lookups
 pub mod Message
 pub mod Net
 pub mod Plain
+pub mod Progress
 pub mod Records
 pub mod Refusal
 pub mod Sent

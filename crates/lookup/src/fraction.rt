@@ -118,3 +118,24 @@ fn additive_fraction<F: Field, EF: ExtensionField<F>>(alloc: Global, lookup: &Lo
     }
     Ok(fraction)
 }
+
+/// The fraction of a lookup on the builder's row.
+///
+/// Refuses the fault of the lookup on that row, where it has one.
+pub(crate) fn fraction<F: Field, EF: ExtensionField<F>>(alloc: Global, lookup: &Lookup<F>, builder: &LookupTraceBuilder<'_, F, EF>) -> Result<EF, LookupError>
+    requires additive { lookup.now.flags ≡ None }
+    requires lengths { HasEqualLengths lookup.now }
+    requires within { IsWithin (builder_layout builder.now) lookup.now }
+    requires challenges { 2 * lookup.now.column + 1 < length builder.now.permutation_challenges.now }
+    ensures { MatchResult result
+        (λ f. let E = extension F.ring F.eq EF.ring EF.eq EF.embed EF.inverse in
+            let denominator = column_denominator E builder.now.permutation_challenges.now in
+            let sent = sent_at F.ring F.eq (builder_window builder.now) lookup.now.column lookup.now in
+            (f ≡ plain_fraction E denominator sent) × (fault_of E denominator builder.now.row lookup.now.column sent ≡ None))
+        (λ e. let E = extension F.ring F.eq EF.ring EF.eq EF.embed EF.inverse in
+            let denominator = column_denominator E builder.now.permutation_challenges.now in
+            let sent = sent_at F.ring F.eq (builder_window builder.now) lookup.now.column lookup.now in
+            (e ≡ LookupError.Memory) ⊎ (fault_of E denominator builder.now.row lookup.now.column sent ≡ Some e)) }
+{
+    additive_fraction(alloc, lookup, builder)
+}

@@ -5,6 +5,7 @@ mod challenges;
 mod error;
 mod fitting;
 mod fraction;
+mod generation;
 mod lookups;
 mod trace_builder;
 mod types;

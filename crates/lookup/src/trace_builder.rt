@@ -56,6 +56,8 @@ impl<'a, F, EF> LookupTraceBuilder<'a, F, EF> {
             num_permutation_challenges = length permutation_challenges.now;
             num_permutation_values = 0
         } }
+        ensures challenges { result.permutation_challenges.now ≡ permutation_challenges.now }
+        ensures row { result.row ≡ row }
     {
         LookupTraceBuilder {
             main: RowWindow::from_two_rows(main.top, main.bottom),
