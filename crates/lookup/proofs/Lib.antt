@@ -2,6 +2,7 @@ pub mod Branches
 pub mod Fractions
 pub mod HornerRule
 pub mod KeyLaws
+pub mod Layouts
 pub mod LookupFaults
 pub mod Nets
 pub mod OwnWindow

@@ -1,12 +1,14 @@
 -- What a row sends, lookup by lookup.
-use Rattle.std.proofs.Common.{◌≡◌, ℕ, ◌+◌, ◌<◌, Bool, Some, List, [], ◌∷◌, ◌++◌, length, map, take, drop, get_or, min, sym, ap, ◌∙◌, arith}
+use Rattle.std.proofs.Common.{◌≡◌, ℕ, ◌+◌, ◌<◌, Bool, Option, Some, List, [], ◌∷◌, ◌++◌, length, map, take, drop, get_or, min, sym, ap, ◌∙◌, arith}
 use Rattle.std.proofs.lemmas.List.{get_or-map, length-map, length-take, take_more}
+use Rattle.std.proofs.lemmas.List.FromFn.{get_or-map-range_with_len, length-map-range_with_len}
 use Rattle.std.proofs.lemmas.Option.{slice_get_read}
 use Rattle.field.specs.Ring.{Ring}
-use Rattle.air.specs.Window.{Window}
+use Rattle.air.specs.Window.{Window, window_at}
 use Rattle.lookup.specs.Records.{AreRecords}
 use Rattle.lookup.specs.Sent.{sent_at}
-use Rattle.lookup.specs.Trace.{sent_row}
+use Rattle.matrix.specs.Matrix.{Matrix, height}
+use Rattle.lookup.specs.Trace.{sent_row, sent_rows}
 use Rattle.lookup.specs.declared.types.Lookup.{Lookup}
 use Rattle.lookup.proofs.Rows.{split_at}
 
@@ -31,3 +33,15 @@ module _ {F : Type 0} (R : Ring F) (eq : F → F → Bool) (w : Window F) (looku
 
   pub length-take-sent_row : length (take i (sent_row R eq w lookups)) ≡ i
   length-take-sent_row = omega (arith, length-take i (sent_row R eq w lookups), within)
+
+-- row r is what the window of row r sends
+pub sent_rows-at : {F : Type 0} (R : Ring F) (eq : F → F → Bool) (main : Matrix F) (preprocessed : Option (Matrix F)) (public_values : List F) (lookups : List (Lookup F)) (r : ℕ) → r < height main
+    → let row = sent_row R eq (window_at main preprocessed public_values (height main) r) lookups in row ≡ get_or (sent_rows R eq main preprocessed public_values lookups) r row
+sent_rows-at R eq main preprocessed public_values lookups r lt =
+    let f = λ (k : ℕ). sent_row R eq (window_at main preprocessed public_values (height main) k) lookups in
+    sym (get_or-map-range_with_len f 0 (height main) r r (f r) lt (omega arith))
+
+-- there are as many rows as the trace is high
+pub length-sent_rows : {F : Type 0} (R : Ring F) (eq : F → F → Bool) (main : Matrix F) (preprocessed : Option (Matrix F)) (public_values : List F) (lookups : List (Lookup F)) → length (sent_rows R eq main preprocessed public_values lookups) ≡ height main
+length-sent_rows R eq main preprocessed public_values lookups =
+    length-map-range_with_len (λ k. sent_row R eq (window_at main preprocessed public_values (height main) k) lookups) 0 (height main)

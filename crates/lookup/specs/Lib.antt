@@ -3,6 +3,7 @@ pub mod Denominators
 pub mod Extension
 pub mod Fault
 pub mod Fraction
+pub mod Generated
 pub mod Lookups
 pub mod Message
 pub mod Net

@@ -67,3 +67,37 @@ fn row_builder<'a, F: Field, EF: Field>(main: &'a RowMajorMatrix<F>, preprocesse
     };
     LookupTraceBuilder::new(main, preprocessed, public_values, challenges, height, row)
 }
+
+/// The cells of the auxiliary trace, row after row, and the sum of all fractions.
+///
+/// Refuses the first fault in the order row, lookup.
+pub(crate) fn generate<F: Field, EF: ExtensionField<F>>(
+    alloc: Global,
+    main: &RowMajorMatrix<F>,
+    preprocessed: Option<&RowMajorMatrix<F>>,
+    public_values: &[F],
+    lookups: &[Lookup<F>],
+    challenges: &[EF],
+) -> Result<(Vec<EF>, EF), LookupError>
+    requires additive { All (λ lookup. lookup.flags ≡ None) lookups.now }
+    requires heights { ForSome (option_copied preprocessed) (λ m. height m ≡ height main.now) }
+    requires fit { DoFit (layout_of_traces main.now (option_copied preprocessed) public_values.now) lookups.now }
+    requires challenges { 2 * length lookups.now ≤ length challenges.now }
+    ensures { MatchResult result
+        (λ r. let E = extension F.ring F.eq EF.ring EF.eq EF.embed EF.inverse in
+            HasRows E (column_denominator E challenges.now) (sent_rows F.ring F.eq main.now (option_copied preprocessed.entry) public_values.now lookups.now)
+                (height main.now) r.0.items r.1)
+        (λ e. let E = extension F.ring F.eq EF.ring EF.eq EF.embed EF.inverse in
+            (e ≡ LookupError.Memory) ⊎ (slice_get (trace_faults E (column_denominator E challenges.now)
+                (sent_rows F.ring F.eq main.now (option_copied preprocessed.entry) public_values.now lookups.now)) 0 ≡ Some e)) }
+{
+    let height = main.height();
+    let size = height.checked_mul(lookups.len() + 1).ok_or(LookupError::Memory)?;
+    let mut cells = Vec::with_capacity(alloc, size)?;
+    let mut accumulator = EF::ZERO;
+    for row in 0..height {
+        let builder = row_builder(main, preprocessed, public_values, challenges, row);
+        accumulator = push_row(alloc, &mut cells, lookups, &builder, accumulator)?;
+    }
+    Ok((cells, accumulator))
+}

@@ -11,6 +11,7 @@ use std::alloc::Global;
 ///
 /// It resolves expressions to elements. Its permutation window is empty, since the auxiliary trace
 /// is what is being made; an assertion of anything but zero is refused by the name of the row.
+#[derive(Drop)]
 pub struct LookupTraceBuilder<'a, F, EF> {
     main: RowWindow<'a, F>,
     preprocessed: RowWindow<'a, F>,
