@@ -6,6 +6,7 @@ pub mod Layouts
 pub mod LookupFaults
 pub mod Nets
 pub mod OwnWindow
+pub mod PlainResults
 pub mod Prefixes
 pub mod ProgressLaws
 pub mod RecordLaws
@@ -14,3 +15,4 @@ pub mod Rows
 pub mod SentRows
 pub mod SumLaws
 pub mod Terminals
+pub mod TerminalSums

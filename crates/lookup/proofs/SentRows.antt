@@ -45,3 +45,9 @@ sent_rows-at R eq main preprocessed public_values lookups r lt =
 pub length-sent_rows : {F : Type 0} (R : Ring F) (eq : F → F → Bool) (main : Matrix F) (preprocessed : Option (Matrix F)) (public_values : List F) (lookups : List (Lookup F)) → length (sent_rows R eq main preprocessed public_values lookups) ≡ height main
 length-sent_rows R eq main preprocessed public_values lookups =
     length-map-range_with_len (λ k. sent_row R eq (window_at main preprocessed public_values (height main) k) lookups) 0 (height main)
+
+-- each of them is as long as there are lookups
+pub length-sent_rows-at : {F : Type 0} (R : Ring F) (eq : F → F → Bool) (main : Matrix F) (preprocessed : Option (Matrix F)) (public_values : List F) (lookups : List (Lookup F)) (r : ℕ) → r < height main → length (get_or (sent_rows R eq main preprocessed public_values lookups) r []) ≡ length lookups
+length-sent_rows-at R eq main preprocessed public_values lookups r lt =
+    let f = λ (k : ℕ). sent_row R eq (window_at main preprocessed public_values (height main) k) lookups in
+    ap length (get_or-map-range_with_len f 0 (height main) r r [] lt (omega arith)) ∙ length-map lookups (λ l. sent_at R eq (window_at main preprocessed public_values (height main) r) l.column l)

@@ -12,5 +12,6 @@ pub mod Progress
 pub mod Records
 pub mod Refusal
 pub mod Sent
+pub mod Terminals
 pub mod Trace
 pub mod TraceBuilder

@@ -1,0 +1,62 @@
+-- The rows that were made are the plain result.
+use Rattle.std.proofs.Common.{◌≡◌, ℕ, zero, suc, ◌≤◌, ◌+◌, ◌*◌, ◌/◌, ◌<◌, ◌==◌, Bool, Option, None, Some, List, [], ◌∷◌, ◌++◌, length, map, take, get_or, refl, sym, ap, subst, ◌∙◌, arith, cond}
+use Rattle.std.proofs.lemmas.Bool.{ne_eqb}
+use Rattle.std.proofs.lemmas.List.{length-append, length-map, take_all, get_or_default}
+use Rattle.std.proofs.lemmas.Nat.{div-mul-add}
+use Rattle.std.specs.List.{enumerate_from, flat_map, range_with_len}
+use Rattle.field.specs.Sums.{sum_in}
+use Rattle.matrix.specs.Matrix.{Matrix, IsShaped}
+use Rattle.lookup.specs.Extension.{Extension, IsLawful}
+use Rattle.lookup.specs.Fault.{row_faults, trace_faults}
+use Rattle.lookup.specs.Generated.{plain_matrix, plain_terminal_of}
+use Rattle.lookup.specs.Message.{Key}
+use Rattle.lookup.specs.Plain.{plain_cells, plain_fraction, plain_row, plain_terminal}
+use Rattle.lookup.specs.Progress.{HasRows}
+use Rattle.lookup.specs.Sent.{Sent}
+use Rattle.lookup.specs.declared.types.Lookup.{Lookup}
+use Rattle.lookup.specs.declared.types.LookupTerminal.{LookupTerminal}
+use Rattle.lookup.proofs.Terminals.{plain_terminal-sum}
+use Rattle.lookup.proofs.Terminals.{plain_terminal-sum}
+
+-- as many values as rows of this width make a matrix
+pub IsShaped-product : {T : Type 0} (values : List T) (rows width : ℕ) → length values ≡ rows * (width + 1) → IsShaped (record { values = values; width = width + 1 })
+IsShaped-product values rows width e =
+    let w = width + 1 in
+    let whole : length values / w ≡ rows = ap (λ n. n / w) (e ∙ omega arith) ∙ div-mul-add rows w 0 (omega arith) in
+    let test : (w == 0) ≡ _ = ne_eqb w 0 (λ z. absurd (omega (arith, z))) in
+    e ∙ ap (λ n. n * w) (sym whole ∙ ap (λ b. cond b 0 (length values / w)) (sym test))
+
+module _ {F K : Type 0} (E : Extension F K) (denominator : Key F → K) where
+  -- rows without lookups have no fault
+  pub faultless_rows : (n : ℕ) (rs : List ℕ) → flat_map (λ p. row_faults E denominator p.0 p.1) (enumerate_from n (map (λ r. []) rs)) ≡ []
+  faultless_rows n [] = refl
+  faultless_rows n (r ∷ rs) = faultless_rows (n + 1) rs
+
+  -- the result with lookups
+  pub plain_matrix-some : (lookups : List (Lookup F)) (rows : List (List (Sent F))) → 0 < length lookups → plain_matrix E denominator lookups rows ≡ record { values = plain_cells E denominator rows; width = length lookups + 1 }
+  plain_matrix-some [] rows some = absurd (omega arith)
+  plain_matrix-some (l ∷ ls) rows some = refl
+
+  pub plain_terminal_of-some : (lookups : List (Lookup F)) (rows : List (List (Sent F))) → 0 < length lookups → plain_terminal_of E denominator lookups rows ≡ Some (record { 0 = plain_terminal E denominator rows })
+  plain_terminal_of-some [] rows some = absurd (omega arith)
+  plain_terminal_of-some (l ∷ ls) rows some = refl
+
+  -- rows of one length each give a cell more than that
+  pub length-plain_rows : (rows : List (List (Sent F))) (n : ℕ) → ((k : ℕ) → k < length rows → length (get_or rows k []) ≡ n) → (a m : ℕ) → a + m ≤ length rows → length (flat_map (plain_row E denominator rows) (range_with_len a m)) ≡ m * (n + 1)
+  length-plain_rows rows n each a zero within = omega arith
+  length-plain_rows rows n each a (suc m) within =
+      let rest = flat_map (plain_row E denominator rows) (range_with_len (a + 1) m) in
+      length-append (plain_row E denominator rows a) rest
+        ∙ omega (arith, length-plain_rows rows n each (a + 1) m (omega arith), length-map (get_or rows a []) (plain_fraction E denominator), each a (omega arith))
+
+module _ {F K : Type 0} {E : Extension F K} (laws : IsLawful E) (denominator : Key F → K) (rows : List (List (Sent F))) (h : ℕ) (cells : List K) (accumulator : K) (high : length rows ≡ h) (has : HasRows E denominator rows h cells accumulator) where
+  pub cells_plain : cells ≡ plain_cells E denominator rows
+  cells_plain = has.cells_are ∙ ap (λ n. flat_map (plain_row E denominator rows) (range_with_len 0 n)) (sym high)
+
+  pub accumulator_plain : accumulator ≡ plain_terminal E denominator rows
+  accumulator_plain =
+      has.accumulator_is ∙ ap (λ t. sum_in E.ring (flat_map (λ row. map (plain_fraction E denominator) row) t)) (take_all h rows (omega arith))
+        ∙ sym (plain_terminal-sum laws denominator rows)
+
+  pub faultless_trace : trace_faults E denominator rows ≡ []
+  faultless_trace = ap (trace_faults E denominator) (sym (take_all h rows (omega arith))) ∙ has.faultless

@@ -1,0 +1,73 @@
+//! The LogUp gadget (eprint 2022/1530).
+ghost use Rattle.std.specs.Prelude.{◌≡◌};
+ghost use Rattle.lookup.specs.Terminals.{terminal_sum, terminal_value};
+
+use crate::error::LookupError;
+use crate::generation;
+use crate::protocol::LookupProtocol;
+use crate::types::{Lookup, LookupTerminal};
+use field::{ExtensionField, Field};
+use matrix::RowMajorMatrix;
+use std::alloc::Global;
+
+/// The lookup argument by logarithmic derivatives: the messages of all AIRs cancel where the sum of
+/// `multiplicity / (alpha - tuple)` over them is zero.
+#[derive(Clone, Debug, Default, Drop)]
+pub struct LogUpGadget;
+
+impl LogUpGadget {
+    /// The gadget, which has no parts.
+    pub fn new() -> Self {
+        LogUpGadget
+    }
+}
+
+impl LookupProtocol for LogUpGadget {
+    fn num_challenges(&self) -> usize {
+        2
+    }
+
+    fn generate_permutation<F: Field, EF: ExtensionField<F>>(
+        &self,
+        alloc: Global,
+        main: &RowMajorMatrix<F>,
+        preprocessed: Option<&RowMajorMatrix<F>>,
+        public_values: &[F],
+        lookups: &[Lookup<F>],
+        challenges: &[EF],
+    ) -> Result<(RowMajorMatrix<EF>, Option<LookupTerminal<EF>>), LookupError> {
+        if lookups.is_empty() {
+            return Ok((RowMajorMatrix::new(Vec::new(alloc), 0), None));
+        }
+        let (cells, terminal) = generation::generate(alloc, main, preprocessed, public_values, lookups, challenges)?;
+        Ok((RowMajorMatrix::new(cells, lookups.len() + 1), Some(LookupTerminal(terminal))))
+    }
+
+    fn verify_terminal_sum<EF: Field>(&self, terminals: &[Option<LookupTerminal<EF>>]) -> Result<(), LookupError> {
+        if sum_of_terminals(terminals).is_zero() {
+            Ok(())
+        } else {
+            Err(LookupError::TerminalSumNonZero)
+        }
+    }
+}
+
+/// The sum of the terminals that are present.
+fn sum_of_terminals<EF: Field>(terminals: &[Option<LookupTerminal<EF>>]) -> EF
+    ensures { result ≡ terminal_sum EF.ring terminals.now }
+{
+    let mut sum = EF::ZERO;
+    for terminal in terminals {
+        sum = sum + value_of_terminal(*terminal);
+    }
+    sum
+}
+
+fn value_of_terminal<EF: Field>(terminal: Option<LookupTerminal<EF>>) -> EF
+    ensures { result ≡ terminal_value EF.ring terminal }
+{
+    match terminal {
+        Some(LookupTerminal(value)) => value,
+        None => EF::ZERO,
+    }
+}
