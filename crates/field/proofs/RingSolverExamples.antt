@@ -1,7 +1,7 @@
 -- Calls of the ring solver, as docs/RING_SOLVER.md shows them.
 use Rattle.std.specs.Prelude.{◌≡◌, [], ◌∷◌, refl}
 use Rattle.field.specs.Ring.{Ring, IsCommutativeRing, sub_in}
-use Rattle.field.proofs.RingSolver.{var, con, ◌:+◌, ◌:-◌, ◌:*◌, ring_law, ring_given}
+use Rattle.field.specs.RingSolver.{var, con, ◌:+◌, ◌:-◌, ◌:*◌, ring_law, ring_given}
 
 module _ {A : Type 0} {R : Ring A} (laws : IsCommutativeRing R) where
   -- The product of a difference and a sum is the difference of the squares.

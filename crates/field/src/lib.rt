@@ -4,8 +4,12 @@
 //! every lawful field.
 #![tactic(auto)]
 
+mod baby_bear;
+mod integers_modulo_2;
 mod integers_modulo_7;
 mod traits;
 
+pub use baby_bear::BabyBear;
+pub use integers_modulo_2::F2;
 pub use integers_modulo_7::F7;
 pub use traits::{Domain, ExtensionDomain, ExtensionField, Field, PrimeCharacteristicRing};
