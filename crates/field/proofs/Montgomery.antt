@@ -1,5 +1,5 @@
 -- How the stored form of an element modulo 2013265921 follows its operations.
-use Rattle.std.proofs.Common.{◌≡◌, ℕ, ◌+◌, ◌-◌, ◌*◌, ◌/◌, ◌%◌, ◌<◌, ◌≤◌, [], ◌∷◌, refl, sym, ap, ◌∙◌, arith}
+use Rattle.std.proofs.Common.{◌≡◌, ℕ, ◌+◌, ◌-◌, ◌*◌, ◌/◌, ◌%◌, ◌<◌, ◌≤◌, [], ◌∷◌, refl, sym, ap, ap₂, ◌∙◌, arith}
 use Rattle.std.proofs.lemmas.Nat.{mul-mod_first, mul-mod_second}
 use native.Mathlib.Nat.{mod-eq_of_lt, add-mul-mod_self_right}
 use Rattle.field.specs.BabyBear.{baby_bear_of, baby_bear_positive, baby_bear_ring, from_stored}
@@ -142,6 +142,19 @@ reduced_stored x r a e f =
     ring_given laws (from_stored r ∷ a ∷ baby_bear_of r ∷ radix_inverse ∷ radix ∷ [])
     ((con 1, var 0, var 2 :* var 3) ∷ (var 3, var 2, var 4 :* var 1) ∷ (var 1, var 4 :* var 3, con 1) ∷ [])
     (var 0) (var 1) (from_stored_is r, (e ∙ f, (radix-inverse, tt))) refl
+
+-- The sum of four products, reduced once.
+pub four_products : (m n k l r : ℕ) (a b c d : Residue 2013265921) → baby_bear_of r ≡ from_stored ((m + n) + (k + l))
+    → from_stored m ≡ baby_bear_ring.mul radix a → from_stored n ≡ baby_bear_ring.mul radix b → from_stored k ≡ baby_bear_ring.mul radix c → from_stored l ≡ baby_bear_ring.mul radix d
+    → from_stored r ≡ baby_bear_ring.add (baby_bear_ring.add a b) (baby_bear_ring.add c d)
+four_products m n k l r a b c d e f g h j =
+    let x = var 8 in
+    let summed = ring_given laws (from_stored m ∷ from_stored n ∷ from_stored k ∷ from_stored l ∷ a ∷ b ∷ c ∷ d ∷ radix ∷ [])
+    ((con 1, var 0, x :* var 4) ∷ (con 1, var 1, x :* var 5) ∷ (con 1, var 2, x :* var 6) ∷ (con 1, var 3, x :* var 7) ∷ [])
+    (var 0 :+ var 1 :+ (var 2 :+ var 3)) (x :* (var 4 :+ var 5 :+ (var 6 :+ var 7))) (f, (g, (h, (j, tt)))) refl in
+    let parts = add_stored (m + n) (k + l) ((m + n) + (k + l)) refl
+    ∙ ap₂ (λ (y z : Residue 2013265921). baby_bear_ring.add y z) (add_stored m n (m + n) refl) (add_stored k l (k + l) refl) in
+    reduced_stored ((m + n) + (k + l)) r (baby_bear_ring.add (baby_bear_ring.add a b) (baby_bear_ring.add c d)) e (parts ∙ summed)
 
 -- What is reduced from 2^64 times a number is the stored form of the number.
 pub number_stored : (n r : ℕ) → baby_bear_of r ≡ from_stored (n * 1172168163) → from_stored r ≡ baby_bear_of n

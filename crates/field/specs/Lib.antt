@@ -15,3 +15,4 @@ pub mod IntegersModulo7
 pub mod Quartic
 pub mod QuarticField
 pub mod BabyBear
+pub mod BabyBear4

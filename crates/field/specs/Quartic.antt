@@ -57,15 +57,18 @@ module _ {A : Type 0} (R : Ring A) (w : A) where
   abbrev pub quartic_norm : Quartic A → A
   quartic_norm a = sub_in R (R.mul (norm_low a) (norm_low a)) (R.mul w (R.mul (norm_high a) (norm_high a)))
 
-  -- the inverse, by the conjugates of both norms and the inverse of the second norm
-  abbrev pub quartic_inverse : (A → A) → Quartic A → Quartic A
-  quartic_inverse inverse a =
+  -- the cofactor of the second norm, times d: with the conjugates of both norms
+  abbrev pub quartic_cofactor : A → Quartic A → Quartic A
+  quartic_cofactor d a =
       let u = norm_low a in
       let v = norm_high a in
-      let d = inverse (quartic_norm a) in
       record {
         c0 = R.mul d (sub_in R (R.mul a.c0 u) (R.mul w (R.mul a.c2 v)));
         c1 = R.mul d (sub_in R (R.mul w (R.mul a.c3 v)) (R.mul a.c1 u));
         c2 = R.mul d (sub_in R (R.mul a.c2 u) (R.mul a.c0 v));
         c3 = R.mul d (sub_in R (R.mul a.c1 v) (R.mul a.c3 u));
       }
+
+  -- the inverse: the cofactor times the inverse of the second norm
+  abbrev pub quartic_inverse : (A → A) → Quartic A → Quartic A
+  quartic_inverse inverse a = quartic_cofactor (inverse (quartic_norm a)) a

@@ -125,7 +125,7 @@ module _ {A : Type 0} {R : Ring A} (laws : IsCommutativeRing R) (w : A) where
       (λ e. (characteristic n).0 (ap (λ a. a.c0) (same ∙ e)), λ d. sym same ∙ ap (quartic_embed R) ((characteristic n).1 d))
 
   -- Where the norm has an inverse, the polynomial has one.
-  quartic_inverse_is : (inverse : A → A) (a : Quartic A) → IsInverse R (quartic_norm R w a) (inverse (quartic_norm R w a)) → IsInverse Q a (quartic_inverse R w inverse a)
+  pub quartic_inverse_is : (inverse : A → A) (a : Quartic A) → IsInverse R (quartic_norm R w a) (inverse (quartic_norm R w a)) → IsInverse Q a (quartic_inverse R w inverse a)
   quartic_inverse_is inverse a e =
       let env : List A = w ∷ a.c0 ∷ a.c1 ∷ a.c2 ∷ a.c3 ∷ inverse (quartic_norm R w a) ∷ [] in
       let x = unknown 1 2 3 4 in
@@ -151,7 +151,7 @@ module _ {A : Type 0} {R : Ring A} (laws : IsCommutativeRing R) (domain : IsDoma
       (zero_from_square u (squares ∙ (ap (λ x. R.mul w (R.mul x v)) second ∙ (ap (R.mul w) (zero_mul laws v) ∙ mul_zero laws w))), second)
 
   -- The norm is zero at zero alone.
-  norm_zero : (a : Quartic A) → quartic_norm R w a ≡ R.zero → a ≡ (quartic_ring R w).zero
+  pub norm_zero : (a : Quartic A) → quartic_norm R w a ≡ R.zero → a ≡ (quartic_ring R w).zero
   norm_zero a e =
       let (low, high) = both_zero (norm_low R w a) (norm_high R w a) e in
       let env : List A = w ∷ a.c0 ∷ a.c1 ∷ a.c2 ∷ a.c3 ∷ i ∷ [] in

@@ -32,6 +32,11 @@ pub struct BabyBear {
     value: u32,
 }
 
+/// Zero and one, for the constants of the extension.
+pub(crate) const ZERO: BabyBear = BabyBear { value: 0 };
+
+pub(crate) const ONE: BabyBear = BabyBear { value: 268_435_454 };
+
 impl Model for BabyBear {
     ghost use Rattle.std.specs.Prelude.{◌<◌};
     ghost use Rattle.field.specs.BabyBear.{from_stored, stored_of, stored_again};
@@ -135,6 +140,32 @@ impl BabyBear {
     }
 }
 
+impl BabyBear {
+    /// 11 times `self`.
+    #[inline]
+    pub(crate) fn times_eleven(self) -> Self
+        ensures { result ≡ baby_bear_ring.mul (baby_bear_of 11) self }
+    {
+        BabyBear::from_stored(939_524_073) * self
+    }
+
+    /// The sum of four products, reduced once.
+    #[inline]
+    pub(crate) fn sum_of_products(
+        x: (BabyBear, BabyBear),
+        y: (BabyBear, BabyBear),
+        z: (BabyBear, BabyBear),
+        w: (BabyBear, BabyBear),
+    ) -> Self
+        ensures { result ≡ baby_bear_ring.add (baby_bear_ring.add (baby_bear_ring.mul x.0 x.1) (baby_bear_ring.mul y.0 y.1))
+            (baby_bear_ring.add (baby_bear_ring.mul z.0 z.1) (baby_bear_ring.mul w.0 w.1)) }
+    {
+        let front = x.0.stored_product(x.1) + y.0.stored_product(y.1);
+        let back = z.0.stored_product(z.1) + w.0.stored_product(w.1);
+        BabyBear::from_stored(reduce_wide(front + back))
+    }
+}
+
 impl Add for BabyBear {
     type Output = BabyBear;
 
@@ -192,11 +223,11 @@ impl PrimeCharacteristicRing for BabyBear {
 
     ghost ZERO = { baby_bear_of 0 };
 
-    const ZERO: BabyBear = BabyBear { value: 0 };
+    const ZERO: BabyBear = ZERO;
 
     ghost ONE = { baby_bear_of 1 };
 
-    const ONE: BabyBear = BabyBear { value: 268_435_454 };
+    const ONE: BabyBear = ONE;
 
     ghost CHARACTERISTIC = { 2013265921 };
 
