@@ -47,17 +47,17 @@ module _ {A : Type 0} {R : Ring A} (laws : IsCommutativeRing R) where
       ap (R.mul x) (same_product xs rest distinct.1 kept fewer) ∙ sym less.product
 
   -- The product of a list times a, element by element.
-  product-scaled : (a : A) (xs : List A) → product_in R (map (R.mul a) xs) ≡ R.mul (power R a (length xs)) (product_in R xs)
+  product_in-scaled : (a : A) (xs : List A) → product_in R (map (R.mul a) xs) ≡ R.mul (power R a (length xs)) (product_in R xs)
   unfolding power
-  product-scaled a [] = sym (laws.mul_one R.one)
-  product-scaled a (x ∷ xs) =
-      ap (R.mul (R.mul a x)) (product-scaled a xs) ∙ mul_swap laws a x (power R a (length xs)) (product_in R xs)
+  product_in-scaled a [] = sym (laws.mul_one R.one)
+  product_in-scaled a (x ∷ xs) =
+      ap (R.mul (R.mul a x)) (product_in-scaled a xs) ∙ mul_swap laws a x (power R a (length xs)) (product_in R xs)
 
   -- A product of nonzero elements of a domain is not zero.
-  product_of_nonzero : IsDomain R → (xs : List A) → AllByRecursion (λ x. x ≢ R.zero) xs → product_in R xs ≢ R.zero
-  product_of_nonzero domain [] all e = domain.zero_is_not_one (sym e)
-  product_of_nonzero domain (x ∷ xs) all e =
-      product_nonzero laws domain x (product_in R xs) all.0 (product_of_nonzero domain xs all.1) e
+  pub product_in-nonzero : IsDomain R → (xs : List A) → AllByRecursion (λ x. x ≢ R.zero) xs → product_in R xs ≢ R.zero
+  product_in-nonzero domain [] all e = domain.zero_is_not_one (sym e)
+  product_in-nonzero domain (x ∷ xs) all e =
+      product_nonzero laws domain x (product_in R xs) all.0 (product_in-nonzero domain xs all.1) e
 
   -- Fermat's little theorem: a nonzero element to the number of nonzero elements is one.
   pub fermat : IsDomain R → (row : List A) → IsDistinct row → AllByRecursion (λ x. x ≢ R.zero) row → ((x : A) → x ≢ R.zero → IsAmong x row) → (a : A) → a ≢ R.zero → power R a (length row) ≡ R.one
@@ -65,5 +65,5 @@ module _ {A : Type 0} {R : Ring A} (laws : IsCommutativeRing R) where
       let scaled = distinct_map (R.mul a) (λ x y. domain_cancel laws domain a x y n) row distinct in
       let kept = all_map (R.mul a) (λ x. x ≢ R.zero) (λ z. IsAmong z row) (λ x m. whole (R.mul a x) (product_nonzero laws domain a x n m)) row nonzero in
       let same : product_in R (map (R.mul a) row) ≡ product_in R row = same_product (map (R.mul a) row) row scaled kept (length-map row (R.mul a)) in
-      domain_cancel laws domain (product_in R row) _ _ (product_of_nonzero domain row nonzero)
-      (laws.mul_comm (product_in R row) (power R a (length row)) ∙ (sym (product-scaled a row) ∙ (same ∙ sym (laws.mul_one (product_in R row)))))
+      domain_cancel laws domain (product_in R row) _ _ (product_in-nonzero domain row nonzero)
+      (laws.mul_comm (product_in R row) (power R a (length row)) ∙ (sym (product_in-scaled a row) ∙ (same ∙ sym (laws.mul_one (product_in R row)))))

@@ -1,5 +1,5 @@
 -- The residues modulo a prime are a field.
-use Rattle.std.specs.Prelude.{◌≡◌, ◌≢◌, ◌<◌, ◌≤◌, ◌+◌, ◌-◌, ◌*◌, ◌/◌, ◌%◌, ℕ, zero, suc, List, [], ◌∷◌, length, refl}
+use Rattle.std.specs.Prelude.{◌⊎◌, ◌≡◌, ◌≢◌, ◌<◌, ◌≤◌, ◌+◌, ◌-◌, ◌*◌, ◌/◌, ◌%◌, ℕ, zero, suc, List, [], ◌∷◌, length, refl}
 use Rattle.std.specs.List.{AllByRecursion}
 use Rattle.std.proofs.Common.{sym, ap, ◌∙◌, inl, inr, arith}
 use Rattle.std.proofs.lemmas.Bool.{cases_eq}
@@ -50,6 +50,13 @@ invertible p prime (suc fuel) n fits positive below =
           let (t, e) = invertible p prime fuel (p % n) (omega arith) (omega arith) (omega arith) in
           ((p - p / n) * t, step p n t positive ∙ (ap (λ x. x % p) (mul_comm (p % n) t) ∙ e))
     ]
+
+-- A residue is zero or not.
+pub residue_decide : (p : ℕ) (positive : 0 < p) (a : Residue p) → (a ≡ (residue_ring p positive).zero) ⊎ (a ≢ (residue_ring p positive).zero)
+residue_decide p positive a = elim (cases_eq a.value 0) [
+  | inl z ↦ inl (residue_same a _ (z ∙ sym (mod-eq_of_lt positive)))
+  | inr n ↦ inr (λ e. n (ap (λ (x : Residue p). x.value) e ∙ mod-eq_of_lt positive))
+]
 
 module _ (p : ℕ) (positive : 0 < p) (prime : IsPrime p) where
   -- the ring at hand
