@@ -2,6 +2,7 @@
 #![tactic(auto)]
 
 mod builder;
+mod debug;
 mod error;
 mod expression;
 mod filtered;
@@ -9,6 +10,7 @@ mod layout;
 mod symbolic;
 
 pub use builder::AirBuilder;
+pub use debug::{DebugConstraintBuilder, RowInputs};
 pub use error::{AirError, LayoutPart};
 pub use expression::Expression;
 pub use filtered::FilteredAirBuilder;
