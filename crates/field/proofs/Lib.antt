@@ -1,1 +1,5 @@
 pub mod Exponents
+pub mod RingSolver
+pub mod RingSolverExamples
+pub mod SumFacts
+pub mod Tests

@@ -2,3 +2,11 @@ pub mod Ring
 pub mod Characteristic
 pub mod Sums
 pub mod Polynomial
+pub mod Distinct
+pub mod RingFacts
+pub mod FiniteDomain
+pub mod Residue
+pub mod ResidueRing
+pub mod Primes
+pub mod PrimeResidues
+pub mod IntegersModulo7

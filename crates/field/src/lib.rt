@@ -4,6 +4,8 @@
 //! every lawful field.
 #![tactic(auto)]
 
+mod integers_modulo_7;
 mod traits;
 
+pub use integers_modulo_7::F7;
 pub use traits::{Domain, ExtensionDomain, ExtensionField, Field, PrimeCharacteristicRing};
