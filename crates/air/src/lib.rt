@@ -15,4 +15,7 @@ pub use error::{AirError, LayoutPart};
 pub use expression::Expression;
 pub use filtered::FilteredAirBuilder;
 pub use layout::AirLayout;
-pub use symbolic::{BaseEntry, BaseLeaf, Seen, SymbolicExpression, SymbolicVariable, resolve_over};
+pub use symbolic::{
+    BaseEntry, BaseLeaf, ExtEntry, ExtLeaf, Seen, SeenExt, SymbolicExpression,
+    SymbolicExpressionExt, SymbolicVariable, SymbolicVariableExt, resolve_over,
+};

@@ -1,9 +1,11 @@
 //! Expressions as trees over the cells of a window.
 
 mod expression;
+mod expression_ext;
 mod resolve;
 mod variable;
 
 pub use expression::{BaseLeaf, Seen, SymbolicExpression};
+pub use expression_ext::{ExtLeaf, SeenExt, SymbolicExpressionExt};
 pub use resolve::resolve_over;
-pub use variable::{BaseEntry, SymbolicVariable};
+pub use variable::{BaseEntry, ExtEntry, SymbolicVariable, SymbolicVariableExt};
