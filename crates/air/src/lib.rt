@@ -5,6 +5,7 @@ mod builder;
 mod debug;
 mod error;
 mod expression;
+mod extension;
 mod filtered;
 mod layout;
 mod symbolic;
@@ -13,6 +14,7 @@ pub use builder::AirBuilder;
 pub use debug::{DebugConstraintBuilder, RowInputs};
 pub use error::{AirError, LayoutPart};
 pub use expression::Expression;
+pub use extension::{ExtensionBuilder, PermutationAirBuilder};
 pub use filtered::FilteredAirBuilder;
 pub use layout::AirLayout;
 pub use symbolic::{

@@ -1,5 +1,6 @@
 //! Expressions as trees over the cells of a window.
 
+mod degree;
 mod expression;
 mod expression_ext;
 mod resolve;
