@@ -1,5 +1,5 @@
 -- The value of an extension expression at a window, by recursion on its tree.
-use Rattle.std.specs.Prelude.{ℕ, List, slice_index_or}
+use Rattle.std.specs.Prelude.{List, slice_index_or}
 use Rattle.field.specs.Ring.{Ring, sub_in}
 use Rattle.air.specs.ExtTree.{ExtTree, base, variable, constant, add, sub, mul, neg}
 use Rattle.air.specs.Meaning.{row_at, value_of}

@@ -1,7 +1,7 @@
 //! Builders over an extension of their field, and over the permutation trace of an argument.
-ghost use Rattle.std.specs.Prelude.{◌≡◌, ℕ, ◌≤◌, ◌↔◌, IfOk, IfErr, MatchResult};
+ghost use Rattle.std.specs.Prelude.{◌≡◌, ℕ, ◌≤◌, ◌↔◌, IfOk, IfErr, MatchResult, Some, slice_get};
 ghost use Rattle.air.specs.Builder.{MeansRow};
-ghost use Rattle.air.specs.Window.{ExtWindow};
+ghost use Rattle.air.specs.Window.{ExtWindow, Window};
 ghost use Rattle.air.specs.declared.error.AirError.{AirError};
 
 use crate::builder::AirBuilder;
@@ -61,6 +61,9 @@ pub trait ExtensionBuilder: AirBuilder {
 
     ghost base_keeps_ext: { (b : Self) (x : Self.Expr) (c : Self) (w : ExtWindow Self.F Self.EF)
         → Self.accepts b x c → stands_for_ext b w ↔ stands_for_ext c w };
+
+    ghost ext_keeps_base: { (b : Self) (x : Self.ExprEF) (c : Self) (w : Window Self.F)
+        → accepts_ext b x c → Self.stands_for b w ↔ Self.stands_for c w };
 }
 
 /// A builder that also hands out the permutation trace of an argument, its challenges and its
@@ -90,23 +93,21 @@ pub trait PermutationAirBuilder: ExtensionBuilder {
 
     /// The challenges.
     fn permutation_randomness(&self) -> &[Self::RandomVar]
-        ensures { MeansRow (Self.stands_for_ext self.now) challenge
-            (Self.layout self.now).num_permutation_challenges (λ w. w.challenges) result.now };
+        ensures means { MeansRow (Self.stands_for_ext self.now) challenge
+            (Self.layout self.now).num_permutation_challenges (λ w. w.challenges) result.now }
+        ensures degree { (i t : ℕ) (v : Self.RandomVar) (e : Self.ExprEF) → slice_get result.now i ≡ Some v
+            → Self.RandomVar.converts v e → Self.ExprEF.degree e t ≡ 0 };
 
     /// The values of the permutation argument.
     fn permutation_values(&self) -> &[Self::PermutationVar]
-        ensures { MeansRow (Self.stands_for_ext self.now) permutation_value
-            (Self.layout self.now).num_permutation_values (λ w. w.permutation_values) result.now };
+        ensures means { MeansRow (Self.stands_for_ext self.now) permutation_value
+            (Self.layout self.now).num_permutation_values (λ w. w.permutation_values) result.now }
+        ensures degree { (i t : ℕ) (v : Self.PermutationVar) (e : Self.ExprEF) → slice_get result.now i ≡ Some v
+            → Self.PermutationVar.converts v e → Self.ExprEF.degree e t ≡ 0 };
 
     ghost challenge_converts: { (v : Self.RandomVar) (e : Self.ExprEF) (w : ExtWindow Self.F Self.EF)
         → Self.RandomVar.converts v e → Self.ExprEF.value e (Self.seen_ext w) ≡ challenge v w };
 
-    ghost challenge_degree: { (v : Self.RandomVar) (e : Self.ExprEF) (t : ℕ) → Self.RandomVar.converts v e
-        → Self.ExprEF.degree e t ≡ 0 };
-
     ghost permutation_value_converts: { (v : Self.PermutationVar) (e : Self.ExprEF) (w : ExtWindow Self.F Self.EF)
         → Self.PermutationVar.converts v e → Self.ExprEF.value e (Self.seen_ext w) ≡ permutation_value v w };
-
-    ghost permutation_value_degree: { (v : Self.PermutationVar) (e : Self.ExprEF) (t : ℕ)
-        → Self.PermutationVar.converts v e → Self.ExprEF.degree e t ≡ 0 };
 }

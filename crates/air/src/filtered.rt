@@ -70,8 +70,6 @@ impl<'a, AB: AirBuilder> AirBuilder for FilteredAirBuilder<'a, AB> {
 
     ghost public_converts = { AB.public_converts };
 
-    ghost public_degree = { AB.public_degree };
-
     ghost keeps = { λ b x c w h. AB.keeps b.inner.now h.2.0 c.inner.now w h.2.2 };
 
     ghost keeps_layout = { λ b x c h. AB.keeps_layout b.inner.now h.2.0 c.inner.now h.2.2 };
@@ -146,6 +144,8 @@ impl<'a, AB: ExtensionBuilder> ExtensionBuilder for FilteredAirBuilder<'a, AB> {
     ghost keeps_ext_layout = { λ b x c h. AB.keeps_ext_layout b.inner.now h.2.0 c.inner.now h.2.2 };
 
     ghost base_keeps_ext = { λ b x c w h. AB.base_keeps_ext b.inner.now h.2.0 c.inner.now w h.2.2 };
+
+    ghost ext_keeps_base = { λ b x c w h. AB.ext_keeps_base b.inner.now h.2.0 c.inner.now w h.2.2 };
 
     fn lift(x: AB::Expr) -> AB::ExprEF {
         AB::lift(x)

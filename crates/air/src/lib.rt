@@ -1,6 +1,7 @@
 //! Constraints over traces: expressions, the builders that record or check them, and windows.
 #![tactic(auto)]
 
+mod air;
 mod builder;
 mod debug;
 mod error;
@@ -10,8 +11,9 @@ mod filtered;
 mod layout;
 mod symbolic;
 
+pub use air::{Air, BaseAir};
 pub use builder::AirBuilder;
-pub use debug::{DebugConstraintBuilder, RowInputs};
+pub use debug::{DebugConstraintBuilder, RowInputs, check_rows};
 pub use error::{AirError, LayoutPart};
 pub use expression::Expression;
 pub use extension::{ExtensionBuilder, PermutationAirBuilder};

@@ -1,6 +1,6 @@
 //! A builder that checks assertions on one row.
 ghost use Rattle.std.specs.Prelude.{◌≡◌, ◌≢◌, ◌+◌, ◌<◌, ◌⊎◌, IfSome, refl};
-ghost use Rattle.std.proofs.Common.{rules};
+ghost use Rattle.std.proofs.Common.{ap, rules};
 ghost use Rattle.std.specs.Option.{option_copied};
 ghost use Rattle.matrix.specs.Matrix.{height, row};
 ghost use Rattle.air.specs.Window.{row_of_option};
@@ -9,6 +9,7 @@ ghost use Rattle.air.specs.declared.error.AirError.TheVariants.{Assertion};
 use crate::builder::AirBuilder;
 use crate::debug::inputs::RowInputs;
 use crate::error::AirError;
+use crate::extension::{ExtensionBuilder, PermutationAirBuilder};
 use field::{ExtensionField, Field};
 use matrix::{RowMajorMatrix, RowWindow};
 use std::alloc::{AllocError, Global};
@@ -43,15 +44,14 @@ impl<F: Copy, EF: Copy> Clone for DebugConstraintBuilder<'_, F, EF> {
 }
 
 impl<'a, F: Field, EF: ExtensionField<F>> DebugConstraintBuilder<'a, F, EF> {
-    ghost use Rattle.air.specs.Row.{HeightFits, OptionHeightFits, input_window, row_window};
+    ghost use Rattle.air.specs.Row.{HeightFits, OptionHeightFits, IsRow};
 
     /// The builder for one row of the inputs.
     pub fn new(inputs: &'a RowInputs<'a, F, EF>, row: usize) -> Self
         requires row { row < height inputs.now.main.now }
         requires preprocessed { OptionHeightFits (height inputs.now.main.now) (option_copied inputs.now.preprocessed) }
         requires permutation { HeightFits (height inputs.now.main.now) inputs.now.permutation.now }
-        ensures window { row_window result ≡ input_window inputs.now row }
-        ensures row { result.row ≡ row }
+        ensures { IsRow inputs.now row result }
     {
         let height = inputs.main.height();
         let next = (row + 1) % height;
@@ -134,8 +134,6 @@ impl<'a, F: Field, EF: ExtensionField<F>> AirBuilder for DebugConstraintBuilder<
 
     ghost public_converts = { λ v x w h. h };
 
-    ghost public_degree = { λ v x t h. refl };
-
     ghost keeps = { Prim.search rules };
 
     ghost keeps_layout = { Prim.search rules };
@@ -170,5 +168,80 @@ impl<'a, F: Field, EF: ExtensionField<F>> AirBuilder for DebugConstraintBuilder<
         } else {
             Err(AirError::Assertion { row: self.row })
         }
+    }
+}
+
+impl<'a, F: Field, EF: ExtensionField<F>> ExtensionBuilder for DebugConstraintBuilder<'a, F, EF> {
+    ghost use Rattle.air.specs.Row.{ext_row_window};
+
+    type EF = EF;
+
+    type ExprEF = EF;
+
+    type VarEF = EF;
+
+    ghost stands_for_ext = { λ b w. w ≡ ext_row_window b };
+
+    ghost seen_ext = { λ _. tt };
+
+    ghost variable_ext = { λ v _. v };
+
+    ghost accepts_ext = { λ b x c. (c ≡ b) × (x ≡ EF.ring.zero) };
+
+    ghost refuses_ext = { λ b x e c. (c ≡ b) × (x ≢ EF.ring.zero) × (e ≡ Assertion b.row) };
+
+    ghost base_window = { λ b w h. ap (λ v. v.base) h };
+
+    ghost variable_ext_converts = { λ v x w h. h };
+
+    ghost variable_ext_degree = { Prim.search rules };
+
+    ghost keeps_ext = { Prim.search rules };
+
+    ghost keeps_ext_layout = { Prim.search rules };
+
+    ghost base_keeps_ext = { Prim.search rules };
+
+    ghost ext_keeps_base = { Prim.search rules };
+
+    fn lift(x: F) -> EF {
+        EF::embed(x)
+    }
+
+    fn assert_zero_ext(&mut self, _alloc: Global, x: EF) -> Result<(), AirError> {
+        if x.is_zero() {
+            Ok(())
+        } else {
+            Err(AirError::Assertion { row: self.row })
+        }
+    }
+}
+
+impl<'a, F: Field, EF: ExtensionField<F>> PermutationAirBuilder
+    for DebugConstraintBuilder<'a, F, EF> {
+    type MP = RowWindow<'a, EF>;
+
+    type RandomVar = EF;
+
+    type PermutationVar = EF;
+
+    ghost challenge = { λ v _. v };
+
+    ghost permutation_value = { λ v _. v };
+
+    ghost challenge_converts = { λ v x w h. h };
+
+    ghost permutation_value_converts = { λ v x w h. h };
+
+    fn permutation(&self, _alloc: Global) -> Result<RowWindow<'a, EF>, AirError> {
+        Ok(self.permutation)
+    }
+
+    fn permutation_randomness(&self) -> &[EF] {
+        self.challenges
+    }
+
+    fn permutation_values(&self) -> &[EF] {
+        self.permutation_values
     }
 }
