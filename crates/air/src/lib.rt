@@ -20,6 +20,6 @@ pub use extension::{ExtensionBuilder, PermutationAirBuilder};
 pub use filtered::FilteredAirBuilder;
 pub use layout::AirLayout;
 pub use symbolic::{
-    BaseEntry, BaseLeaf, ExtEntry, ExtLeaf, Seen, SeenExt, SymbolicExpression,
-    SymbolicExpressionExt, SymbolicVariable, SymbolicVariableExt, resolve_over,
+    BaseEntry, BaseLeaf, ConstraintLayout, ExtEntry, ExtLeaf, Seen, SeenExt, SymbolicAirBuilder,
+    SymbolicExpression, SymbolicExpressionExt, SymbolicVariable, SymbolicVariableExt, resolve_over,
 };

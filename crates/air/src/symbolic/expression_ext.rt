@@ -61,6 +61,18 @@ impl<F, EF> Model for SeenExt<F, EF> {
     ghost view = { λ _. empty_ext_window };
 }
 
+/// A variable is the leaf that holds it.
+impl<F, EF> From<SymbolicVariableExt<F, EF>> for SymbolicExpressionExt<F, EF> {
+    ghost use Rattle.std.specs.Prelude.{◌≡◌};
+    ghost use Rattle.air.specs.ExtTree.{ext_tree_of, variable};
+
+    ghost from_gives = { λ v e. ext_tree_of e ≡ variable v };
+
+    fn from(variable: SymbolicVariableExt<F, EF>) -> Self {
+        SymbolicExpressionExt::Leaf(ExtLeaf::Variable(variable))
+    }
+}
+
 impl<F: Field, EF: ExtensionField<F>> Expression<EF> for SymbolicExpressionExt<F, EF> {
     ghost use Rattle.air.specs.ExtDegree.{ext_degree_of};
     ghost use Rattle.air.specs.ExtMeaning.{ext_value_of};
