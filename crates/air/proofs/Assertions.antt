@@ -1,5 +1,5 @@
 -- Chains of assertions, one expression at a time.
-use Rattle.std.proofs.Common.{◌≡◌, List, [], ◌∷◌, ◌++◌, ◌⊎◌, inl, inr, refl, subst, sym, ap, ◌∙◌, append_assoc}
+use Rattle.std.proofs.Common.{◌≡◌, List, [], ◌∷◌, ◌++◌, inl, inr, refl, subst, sym, ap, ◌∙◌, append_assoc}
 use Rattle.air.specs.Builder.{AcceptsAll, RefusesOne}
 use Rattle.air.specs.declared.error.AirError.{AirError}
 

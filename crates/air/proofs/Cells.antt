@@ -1,5 +1,6 @@
 -- The cells that variables mean.
-use Rattle.std.proofs.Common.{◌≡◌, List, [], ◌∷◌, map, ℕ, zero, suc, Some, slice_get, slice_index_or, refl, ap, subst, sym}
+use Rattle.std.proofs.Common.{◌≡◌, List, ℕ, Some, slice_get, slice_index_or, refl, ap, sym, length, ◌∙◌}
+use Rattle.std.proofs.lemmas.List.{map-id}
 use Rattle.std.proofs.lemmas.Option.{get_or_from_slice_get, slice_get-map}
 use Rattle.air.specs.Builder.{MeansRow}
 
@@ -10,3 +11,10 @@ reads_at {V} {W} {A} stands_for meaning width cells variables i v w none row fou
   where
     read : slice_get (cells w) i ≡ Some (meaning v w)
     read = rw (← row.reads w stands, slice_get-map, found) refl
+
+-- where only one window is stood for, the values of a row in it mean themselves
+pub means_itself : {W A : Type 0} (window : W) (width : ℕ) (cells : W → List A) (values : List A) → length values ≡ width → values ≡ cells window → MeansRow (λ w. w ≡ window) (λ v _. v) width cells values
+means_itself window width cells values len same = record {
+  len = len;
+  reads = λ w e. map-id values ∙ same ∙ ap cells (sym e);
+}

@@ -1,2 +1,4 @@
 pub mod Assertions
 pub mod Cells
+pub mod Places
+pub mod Recording

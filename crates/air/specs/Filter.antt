@@ -1,7 +1,8 @@
 -- Assertions under a condition.
 use Rattle.std.specs.Prelude.{◌≡◌, ℕ, ◌+◌}
 
--- an expression is the product of two others: at each window by value, and in its degree
-pub record IsProduct {X S A : Type 0} (value : X → S → A) (degree : X → ℕ → ℕ) (mul : A → A → A) (product left right : X) : Type 0 where
-  pub means : (s : S) → value product s ≡ mul (value left s) (value right s)
-  pub degree_is : (t : ℕ) → degree product t ≡ degree left t + degree right t
+-- The first of three values is the product of the others at each window, and the first of three
+-- degrees is the sum of the others.
+pub record IsProduct {W A : Type 0} (mul : A → A → A) (product left right : W → A) (product_degree left_degree right_degree : ℕ → ℕ) : Type 0 where
+  pub means : (w : W) → product w ≡ mul (left w) (right w)
+  pub degree_is : (t : ℕ) → product_degree t ≡ left_degree t + right_degree t

@@ -15,6 +15,15 @@ pub record Window (F : Type 0) : Type 0 where
   pub is_last : Bool
   pub is_transition : Bool
 
+-- A window with the current row and the next one of the permutation trace, the challenges, and the
+-- values of the permutation argument, all in an extension of the field.
+pub record ExtWindow (F EF : Type 0) : Type 0 where
+  pub base : Window F
+  pub permutation : List EF
+  pub permutation_next : List EF
+  pub challenges : List EF
+  pub permutation_values : List EF
+
 -- the window of no row, without any cell
 abbrev pub empty_window : {F : Type 0} → Window F
 empty_window = record {
@@ -26,6 +35,16 @@ empty_window = record {
   is_first = false;
   is_last = false;
   is_transition = false;
+}
+
+-- the same with nothing of a permutation argument
+abbrev pub empty_ext_window : {F EF : Type 0} → ExtWindow F EF
+empty_ext_window = record {
+  base = empty_window;
+  permutation = [];
+  permutation_next = [];
+  challenges = [];
+  permutation_values = [];
 }
 
 -- row r of a trace that may be absent, whose rows are then empty

@@ -1,5 +1,5 @@
 //! Builders: what constraints are handed to.
-ghost use Rattle.std.specs.Prelude.{◌≡◌, ℕ, ◌≤◌, ◌↔◌, IfOk, IfErr, MatchResult};
+ghost use Rattle.std.specs.Prelude.{◌≡◌, ℕ, ◌≤◌, ◌↔◌, IfOk, IfErr, MatchResult, Some, slice_get};
 ghost use Rattle.field.specs.Ring.{of_bool};
 ghost use Rattle.air.specs.Builder.{MeansRow, AcceptsAll, RefusesOne};
 ghost use Rattle.air.specs.Window.{Window};
@@ -73,8 +73,10 @@ pub trait AirBuilder: Sized {
 
     /// The public values.
     fn public_values(&self) -> &[Self::PublicVar]
-        ensures { MeansRow (stands_for self.now) public_value
-            (layout self.now).num_public_values (λ w. w.public_values) result.now };
+        ensures means { MeansRow (stands_for self.now) public_value
+            (layout self.now).num_public_values (λ w. w.public_values) result.now }
+        ensures degree { (i t : ℕ) (v : Self.PublicVar) (e : Self.Expr) → slice_get result.now i ≡ Some v
+            → Self.PublicVar.converts v e → Self.Expr.degree e t ≡ 0 };
 
     /// The selector of the first row.
     fn is_first_row(&self) -> Self::Expr
@@ -161,9 +163,6 @@ pub trait AirBuilder: Sized {
 
     ghost public_converts: { (v : Self.PublicVar) (e : Self.Expr) (w : Window Self.F) → Self.PublicVar.converts v e
         → Self.Expr.value e (seen w) ≡ public_value v w };
-
-    ghost public_degree: { (v : Self.PublicVar) (e : Self.Expr) (t : ℕ) → Self.PublicVar.converts v e
-        → Self.Expr.degree e t ≡ 0 };
 
     ghost keeps: { (b : Self) (x : Self.Expr) (c : Self) (w : Window Self.F) → accepts b x c
         → stands_for b w ↔ stands_for c w };

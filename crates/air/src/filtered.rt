@@ -6,6 +6,7 @@ ghost use Rattle.air.specs.declared.error.AirError.TheVariants.{Memory};
 use crate::builder::AirBuilder;
 use crate::error::AirError;
 use crate::expression::Expression;
+use crate::extension::ExtensionBuilder;
 use std::alloc::Global;
 
 /// A builder that asserts, on the builder it borrows, its condition times each expression.
@@ -51,12 +52,14 @@ impl<'a, AB: AirBuilder> AirBuilder for FilteredAirBuilder<'a, AB> {
     ghost public_value = { AB.public_value };
 
     ghost accepts = { λ b x c. (c.inner.ghost_name ≡ b.inner.ghost_name) × (c.condition ≡ b.condition)
-        × ((product : AB.Expr) × IsProduct AB.Expr.value AB.Expr.degree AB.F.ring.mul product b.condition x
+        × ((product : AB.Expr) × IsProduct AB.F.ring.mul (AB.Expr.value product) (AB.Expr.value b.condition) (AB.Expr.value x)
+        (AB.Expr.degree product) (AB.Expr.degree b.condition) (AB.Expr.degree x)
         × AB.accepts b.inner.now product c.inner.now) };
 
     ghost refuses = { λ b x e c. (c.inner.ghost_name ≡ b.inner.ghost_name) × (c.condition ≡ b.condition)
         × (((e ≡ Memory) × (c.inner.now ≡ b.inner.now))
-        ⊎ ((product : AB.Expr) × IsProduct AB.Expr.value AB.Expr.degree AB.F.ring.mul product b.condition x
+        ⊎ ((product : AB.Expr) × IsProduct AB.F.ring.mul (AB.Expr.value product) (AB.Expr.value b.condition) (AB.Expr.value x)
+        (AB.Expr.degree product) (AB.Expr.degree b.condition) (AB.Expr.degree x)
         × AB.refuses b.inner.now product e c.inner.now)) };
 
     ghost window_refuses = { λ b. AB.window_refuses b.inner.now };
@@ -66,8 +69,6 @@ impl<'a, AB: AirBuilder> AirBuilder for FilteredAirBuilder<'a, AB> {
     ghost variable_degree = { AB.variable_degree };
 
     ghost public_converts = { AB.public_converts };
-
-    ghost public_degree = { AB.public_degree };
 
     ghost keeps = { λ b x c w h. AB.keeps b.inner.now h.2.0 c.inner.now w h.2.2 };
 
@@ -101,5 +102,58 @@ impl<'a, AB: AirBuilder> AirBuilder for FilteredAirBuilder<'a, AB> {
         let condition = self.condition.copy(alloc)?;
         let product = condition.mul(alloc, x)?;
         self.inner.assert_zero(alloc, product)
+    }
+}
+
+impl<'a, AB: ExtensionBuilder> ExtensionBuilder for FilteredAirBuilder<'a, AB> {
+    type EF = AB::EF;
+
+    type ExprEF = AB::ExprEF;
+
+    type VarEF = AB::VarEF;
+
+    ghost stands_for_ext = { λ b. AB.stands_for_ext b.inner.now };
+
+    ghost seen_ext = { AB.seen_ext };
+
+    ghost variable_ext = { AB.variable_ext };
+
+    ghost accepts_ext = { λ b x c. (c.inner.ghost_name ≡ b.inner.ghost_name) × (c.condition ≡ b.condition)
+        × ((product : AB.ExprEF) × IsProduct AB.EF.ring.mul (λ w. AB.ExprEF.value product (AB.seen_ext w))
+        (λ w. AB.EF.embed (AB.Expr.value b.condition (AB.seen w.base)))
+        (λ w. AB.ExprEF.value x (AB.seen_ext w))
+        (AB.ExprEF.degree product) (AB.Expr.degree b.condition) (AB.ExprEF.degree x)
+        × AB.accepts_ext b.inner.now product c.inner.now) };
+
+    ghost refuses_ext = { λ b x e c. (c.inner.ghost_name ≡ b.inner.ghost_name) × (c.condition ≡ b.condition)
+        × (((e ≡ Memory) × (c.inner.now ≡ b.inner.now))
+        ⊎ ((product : AB.ExprEF) × IsProduct AB.EF.ring.mul (λ w. AB.ExprEF.value product (AB.seen_ext w))
+        (λ w. AB.EF.embed (AB.Expr.value b.condition (AB.seen w.base)))
+        (λ w. AB.ExprEF.value x (AB.seen_ext w))
+        (AB.ExprEF.degree product) (AB.Expr.degree b.condition) (AB.ExprEF.degree x)
+        × AB.refuses_ext b.inner.now product e c.inner.now)) };
+
+    ghost base_window = { λ b. AB.base_window b.inner.now };
+
+    ghost variable_ext_converts = { AB.variable_ext_converts };
+
+    ghost variable_ext_degree = { AB.variable_ext_degree };
+
+    ghost keeps_ext = { λ b x c w h. AB.keeps_ext b.inner.now h.2.0 c.inner.now w h.2.2 };
+
+    ghost keeps_ext_layout = { λ b x c h. AB.keeps_ext_layout b.inner.now h.2.0 c.inner.now h.2.2 };
+
+    ghost base_keeps_ext = { λ b x c w h. AB.base_keeps_ext b.inner.now h.2.0 c.inner.now w h.2.2 };
+
+    ghost ext_keeps_base = { λ b x c w h. AB.ext_keeps_base b.inner.now h.2.0 c.inner.now w h.2.2 };
+
+    fn lift(x: AB::Expr) -> AB::ExprEF {
+        AB::lift(x)
+    }
+
+    fn assert_zero_ext(&mut self, alloc: Global, x: AB::ExprEF) -> Result<(), AirError> {
+        let condition = self.condition.copy(alloc)?;
+        let product = AB::lift(condition).mul(alloc, x)?;
+        self.inner.assert_zero_ext(alloc, product)
     }
 }

@@ -1,7 +1,9 @@
 //! The widths that a builder works with.
-ghost use Rattle.std.specs.Prelude.{◌≡◌, length};
+ghost use Rattle.std.specs.Prelude.{◌≡◌, ◌≢◌, MatchResult, None, Some};
 ghost use Rattle.std.specs.Option.{option_copied};
 
+use crate::air::BaseAir;
+use crate::error::{AirError, LayoutPart};
 use matrix::RowMajorMatrix;
 
 /// The widths and numbers of everything that an AIR's constraints can read.
@@ -22,7 +24,41 @@ pub struct AirLayout {
 }
 
 impl AirLayout {
-    ghost use Rattle.air.specs.Layout.{layout_of_traces};
+    ghost use Rattle.air.specs.Layout.{first_mismatch, layout_of_traces, layout_of_widths};
+
+    /// The layout of an AIR's traces, with nothing of a permutation argument.
+    pub fn from_air<F, A: BaseAir<F>>(air: &A) -> Self
+        ensures { result ≡ layout_of_widths (A.width air.now) (A.preprocessed_width air.now) (A.num_public_values air.now) }
+    {
+        AirLayout {
+            preprocessed_width: air.preprocessed_width(),
+            main_width: air.width(),
+            num_public_values: air.num_public_values(),
+            permutation_width: 0,
+            num_permutation_challenges: 0,
+            num_permutation_values: 0,
+        }
+    }
+
+    /// Whether the layout has the AIR's main width, preprocessed width and number of public
+    /// values; the first of them that differs is answered, with the AIR's number as expected.
+    pub fn validate_against_air<F, A: BaseAir<F>>(&self, air: &A) -> Result<(), AirError>
+        ensures { MatchResult result
+            (λ _. first_mismatch (A.width air.now) (A.preprocessed_width air.now) (A.num_public_values air.now) self.now ≡ None)
+            (λ e. first_mismatch (A.width air.now) (A.preprocessed_width air.now) (A.num_public_values air.now) self.now ≡ Some e) }
+    {
+        compare(LayoutPart::Main, air.width(), self.main_width)?;
+        compare(
+            LayoutPart::Preprocessed,
+            air.preprocessed_width(),
+            self.preprocessed_width,
+        )?;
+        compare(
+            LayoutPart::PublicValues,
+            air.num_public_values(),
+            self.num_public_values,
+        )
+    }
 
     /// The layout of these traces, with nothing of a permutation argument.
     pub fn of_traces<T>(
@@ -40,5 +76,20 @@ impl AirLayout {
             num_permutation_challenges: 0,
             num_permutation_values: 0,
         }
+    }
+}
+
+fn compare(part: LayoutPart, expected: usize, actual: usize) -> Result<(), AirError>
+    ensures { MatchResult result (λ _. expected ≡ actual)
+        (λ e. (expected ≢ actual) × (e ≡ AirError.LayoutMismatch part expected actual)) }
+{
+    if expected == actual {
+        Ok(())
+    } else {
+        Err(AirError::LayoutMismatch {
+            part,
+            expected,
+            actual,
+        })
     }
 }

@@ -49,6 +49,19 @@ impl<F> Model for Seen<F> {
     ghost view = { λ _. empty_window };
 }
 
+/// A variable is the leaf that holds it.
+impl<F> From<SymbolicVariable<F>> for SymbolicExpression<F> {
+    ghost use Rattle.std.specs.Prelude.{◌≡◌};
+    ghost use Rattle.air.specs.Tree.{tree_of, leaf};
+    ghost use Rattle.air.specs.declared.symbolic.expression.BaseLeaf.TheVariants.{Variable};
+
+    ghost from_gives = { λ v e. tree_of e ≡ leaf (Variable v) };
+
+    fn from(variable: SymbolicVariable<F>) -> Self {
+        SymbolicExpression::Leaf(BaseLeaf::Variable(variable))
+    }
+}
+
 impl<F: Field> Expression<F> for SymbolicExpression<F> {
     ghost use Rattle.air.specs.Degree.{degree_of};
     ghost use Rattle.air.specs.Meaning.{value_of};

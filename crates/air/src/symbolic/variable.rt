@@ -1,4 +1,4 @@
-//! The variables of base expressions.
+//! The variables of expressions.
 ghost use Rattle.std.specs.Prelude.{◌≡◌};
 
 use std::marker::PhantomData;
@@ -40,6 +40,44 @@ impl<F> SymbolicVariable<F> {
             entry,
             index,
             field: PhantomData,
+        }
+    }
+}
+
+/// Where a variable of an extension is read.
+#[derive(Clone, Copy, Debug, PartialEq, Eq, Hash)]
+pub enum ExtEntry {
+    /// A cell of the permutation trace, in the current row at offset 0 and the next one at 1.
+    Permutation {
+        /// 0 for the current row, 1 for the next one.
+        offset: usize,
+    },
+    /// A challenge.
+    Challenge,
+    /// A value of the permutation argument.
+    PermutationValue,
+}
+
+/// A cell of the permutation trace, a challenge or a value of the permutation argument.
+#[derive(Clone, Copy, Debug)]
+pub struct SymbolicVariableExt<F, EF> {
+    /// Where it is read.
+    pub entry: ExtEntry,
+    /// The column, or the place among the challenges or the values.
+    pub index: usize,
+    fields: PhantomData<(F, EF)>,
+}
+
+impl<F, EF> SymbolicVariableExt<F, EF> {
+    /// The variable at `index` of `entry`.
+    pub fn new(entry: ExtEntry, index: usize) -> Self
+        ensures entry { result.entry ≡ entry }
+        ensures index { result.index ≡ index }
+    {
+        SymbolicVariableExt {
+            entry,
+            index,
+            fields: PhantomData,
         }
     }
 }

@@ -1,0 +1,41 @@
+-- Facts of single variables and of layouts that stay, for builders that record.
+use Rattle.std.specs.Prelude.{◌≡◌, ℕ, ◌≤◌, ◌↔◌}
+use Rattle.std.proofs.Common.{lit≤, subst, sym}
+use Rattle.air.specs.Degree.{degree_of, entry_degree}
+use Rattle.air.specs.ExtDegree.{ext_degree_of, ext_entry_degree}
+use Rattle.air.specs.ExtTree.{ExtTree, variable}
+use Rattle.air.specs.Tree.{Tree, leaf}
+use Rattle.air.specs.declared.layout.AirLayout.{AirLayout}
+use Rattle.air.specs.declared.symbolic.expression.BaseLeaf.TheVariants.{Variable}
+use Rattle.air.specs.declared.symbolic.variable.BaseEntry.{BaseEntry}
+use Rattle.air.specs.declared.symbolic.variable.BaseEntry.TheVariants.{Preprocessed, Main, Public}
+use Rattle.air.specs.declared.symbolic.variable.ExtEntry.{ExtEntry}
+use Rattle.air.specs.declared.symbolic.variable.ExtEntry.TheVariants.{Permutation, Challenge, PermutationValue}
+use Rattle.air.specs.declared.symbolic.variable.SymbolicVariable.{SymbolicVariable}
+use Rattle.air.specs.declared.symbolic.variable.SymbolicVariableExt.{SymbolicVariableExt}
+
+-- an entry has degree 1 at most
+pub entry_degree-le : (entry : BaseEntry) → entry_degree entry ≤ 1
+entry_degree-le (Preprocessed offset) = lit≤ tt
+entry_degree-le (Main offset) = lit≤ tt
+entry_degree-le Public = lit≤ tt
+
+-- so has an entry of the extension
+pub ext_entry_degree-le : (entry : ExtEntry) → ext_entry_degree entry ≤ 1
+ext_entry_degree-le (Permutation offset) = lit≤ tt
+ext_entry_degree-le Challenge = lit≤ tt
+ext_entry_degree-le PermutationValue = lit≤ tt
+
+-- the tree of a variable has degree 1 at most
+pub variable_degree-le : {F : Type 0} (v : SymbolicVariable F) (e : Tree F) (t : ℕ) → e ≡ leaf (Variable v) → degree_of t e ≤ 1
+variable_degree-le {F} v e t same =
+    let P : Tree F → Type 0 = λ x. degree_of t x ≤ 1 in subst P (sym same) (entry_degree-le v.entry)
+
+-- so has the tree of a variable of the extension
+pub ext_variable_degree-le : {F EF : Type 0} (v : SymbolicVariableExt F EF) (e : ExtTree F EF) (t : ℕ) → e ≡ variable v → ext_degree_of t e ≤ 1
+ext_variable_degree-le {F} {EF} v e t same =
+    let P : ExtTree F EF → Type 0 = λ x. ext_degree_of t x ≤ 1 in subst P (sym same) (ext_entry_degree-le v.entry)
+
+-- what holds at a layout holds at one that is the same, and the other way round
+pub iff_along : (P : AirLayout → Type 0) (a b : AirLayout) → b ≡ a → P a ↔ P b
+iff_along P a b same = (subst P (sym same), subst P same)

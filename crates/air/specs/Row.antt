@@ -1,0 +1,72 @@
+-- Rows of given traces, as constraints see them.
+use Rattle.std.specs.Prelude.{◌≡◌, ℕ, ◌+◌, ◌%◌, ◌==◌, not, ◌⊎◌, length, Option, None, Some, Result}
+use Rattle.std.specs.Option.{option_copied}
+use Rattle.matrix.specs.Matrix.{Matrix, height, row}
+use Rattle.air.specs.Window.{ExtWindow, Window, window_at}
+use Rattle.air.specs.declared.debug.builder.DebugConstraintBuilder.{DebugConstraintBuilder}
+use Rattle.air.specs.declared.debug.inputs.RowInputs.{RowInputs}
+use Rattle.air.specs.declared.error.AirError.{AirError}
+use Rattle.air.specs.declared.layout.AirLayout.{AirLayout}
+
+-- a matrix that stands beside a trace of height h: of that height, or of width 0
+abbrev pub HeightFits : {T : Type 0} → ℕ → Matrix T → Type 0
+HeightFits h m = (m.width ≡ 0) ⊎ (height m ≡ h)
+
+-- the same of a matrix that may be absent
+abbrev pub OptionHeightFits : {T : Type 0} → ℕ → Option (Matrix T) → Type 0
+OptionHeightFits h None = Unit {0}
+OptionHeightFits h (Some m) = HeightFits h m
+
+-- the window of the row on which a builder checks
+abbrev pub row_window : {F EF : Type 0} → DebugConstraintBuilder F EF → Window F
+row_window b = record {
+  main = b.main.current.now;
+  main_next = b.main.next.now;
+  preprocessed = b.preprocessed.current.now;
+  preprocessed_next = b.preprocessed.next.now;
+  public_values = b.public_values.now;
+  is_first = b.row == 0;
+  is_last = b.row + 1 == b.height;
+  is_transition = not (b.row + 1 == b.height);
+}
+
+-- the same with the rows of the permutation trace, the challenges and the permutation values
+abbrev pub ext_row_window : {F EF : Type 0} → DebugConstraintBuilder F EF → ExtWindow F EF
+ext_row_window b = record {
+  base = row_window b;
+  permutation = b.permutation.current.now;
+  permutation_next = b.permutation.next.now;
+  challenges = b.challenges.now;
+  permutation_values = b.permutation_values.now;
+}
+
+-- the widths of that window
+abbrev pub row_layout : {F EF : Type 0} → DebugConstraintBuilder F EF → AirLayout
+row_layout b = record {
+  preprocessed_width = length b.preprocessed.current.now;
+  main_width = length b.main.current.now;
+  num_public_values = length b.public_values.now;
+  permutation_width = length b.permutation.current.now;
+  num_permutation_challenges = length b.challenges.now;
+  num_permutation_values = length b.permutation_values.now;
+}
+
+-- the window of row r of the inputs, the last row being seen with the first one
+abbrev pub input_window : {F EF : Type 0} → RowInputs F EF → ℕ → ExtWindow F EF
+input_window x r = record {
+  base = window_at x.main.now (option_copied x.preprocessed) x.public_values.now (height x.main.now) r;
+  permutation = row x.permutation.now r;
+  permutation_next = row x.permutation.now ((r + 1) % height x.main.now);
+  challenges = x.challenges.now;
+  permutation_values = x.permutation_values.now;
+}
+
+-- a builder checks on row r of the inputs
+pub record IsRow {F EF : Type 0} (x : RowInputs F EF) (r : ℕ) (b : DebugConstraintBuilder F EF) : Type 0 where
+  pub window : ext_row_window b ≡ input_window x r
+  pub row_is : b.row ≡ r
+
+-- an evaluation can give the answer on row r of the inputs
+unfoldable pub RowAnswers : {A F EF : Type 0} → (A → DebugConstraintBuilder F EF → Result (Unit {0}) AirError → DebugConstraintBuilder F EF → Type 0) → A → RowInputs F EF → ℕ → Result (Unit {0}) AirError → Type 0
+RowAnswers {A} {F} {EF} evaluates air x r answer =
+    (before : DebugConstraintBuilder F EF) × (after : DebugConstraintBuilder F EF) × IsRow x r before × evaluates air before answer after

@@ -1,0 +1,9 @@
+//! Rows of given traces, checked against constraints.
+
+mod builder;
+mod check;
+mod inputs;
+
+pub use builder::DebugConstraintBuilder;
+pub use check::check_rows;
+pub use inputs::RowInputs;

@@ -1,0 +1,47 @@
+//! All rows of given traces.
+ghost use Rattle.std.specs.Prelude.{◌<◌, ℕ, MatchResult, Ok, Err};
+ghost use Rattle.std.specs.Option.{option_copied};
+ghost use Rattle.matrix.specs.Matrix.{height};
+ghost use Rattle.air.specs.Row.{HeightFits, OptionHeightFits, RowAnswers};
+
+use crate::air::Air;
+use crate::debug::builder::DebugConstraintBuilder;
+use crate::debug::inputs::RowInputs;
+use crate::error::AirError;
+use field::{ExtensionField, Field};
+use std::alloc::Global;
+
+/// Evaluates the AIR on every row, in order; the first refusal is answered.
+pub fn check_rows<'a, F: Field, EF: ExtensionField<F>, A: Air<DebugConstraintBuilder<'a, F, EF>>>(
+    air: &A,
+    alloc: Global,
+    inputs: &'a RowInputs<'a, F, EF>,
+) -> Result<(), AirError>
+    requires preprocessed { OptionHeightFits (height inputs.now.main.now) (option_copied inputs.now.preprocessed) }
+    requires permutation { HeightFits (height inputs.now.main.now) inputs.now.permutation.now }
+    ensures { MatchResult result
+        (λ _. (r : ℕ) → r < height inputs.now.main.now → RowAnswers A.evaluates air.now inputs.now r (Ok tt))
+        (λ e. (r : ℕ) × (r < height inputs.now.main.now) × RowAnswers A.evaluates air.now inputs.now r (Err e)
+        × ((q : ℕ) → q < r → RowAnswers A.evaluates air.now inputs.now q (Ok tt))) }
+{
+    for row in 0..inputs.main.height() {
+        check_row(air, alloc, inputs, row)?;
+    }
+    Ok(())
+}
+
+#[tactic(auto, unfolding(crate::specs::Row::RowAnswers))]
+fn check_row<'a, F: Field, EF: ExtensionField<F>, A: Air<DebugConstraintBuilder<'a, F, EF>>>(
+    air: &A,
+    alloc: Global,
+    inputs: &'a RowInputs<'a, F, EF>,
+    row: usize,
+) -> Result<(), AirError>
+    requires row { row < height inputs.now.main.now }
+    requires preprocessed { OptionHeightFits (height inputs.now.main.now) (option_copied inputs.now.preprocessed) }
+    requires permutation { HeightFits (height inputs.now.main.now) inputs.now.permutation.now }
+    ensures { RowAnswers A.evaluates air.now inputs.now row result }
+{
+    let mut builder = DebugConstraintBuilder::new(inputs, row);
+    air.eval(alloc, &mut builder)
+}
