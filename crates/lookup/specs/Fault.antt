@@ -1,12 +1,20 @@
 -- The faults that generation can meet, in the order row, lookup.
-use Rattle.std.specs.Prelude.{ℕ, ◌<◌, Bool, List, Option, None, Some, if◌then◌else◌, not, ◌||◌, nat_lt, count_by}
-use Rattle.std.specs.List.{enumerate_from, filter_map, flat_map, list_all, list_any}
+use Rattle.std.specs.Prelude.{ℕ, ◌<◌, Bool, List, Option, None, Some, if◌then◌else◌, not, ◌||◌, nat_lt, length, map}
+use Rattle.std.specs.List.{enumerate_from, filter, filter_map, flat_map, list_all, list_any}
 use Rattle.lookup.specs.Extension.{Extension}
 use Rattle.lookup.specs.Message.{Key, Message}
 use Rattle.lookup.specs.Plain.{counted}
 use Rattle.lookup.specs.Sent.{Sent}
 use Rattle.lookup.specs.declared.error.LookupError.{LookupError}
 use Rattle.lookup.specs.declared.error.LookupError.TheVariants.{VanishingDenominator, FlagNotBoolean, FlagsNotExclusive}
+
+-- whether each flag is zero or one
+abbrev pub are_boolean : {F K : Type 0} → Extension F K → List F → Bool
+are_boolean E flags = list_all (λ f. E.base_eq f E.base.zero || E.base_eq f E.base.one) flags
+
+-- the places of the set flags, where the first flag has place n
+abbrev pub set_places : {F K : Type 0} → Extension F K → ℕ → List F → List ℕ
+set_places E n flags = map (λ p. p.0) (filter (λ p. E.base_eq p.1 E.base.one) (enumerate_from n flags))
 
 module _ {F K : Type 0} (E : Extension F K) (denominator : Key F → K) where
   -- whether the denominator of one of the messages is zero
@@ -22,8 +30,8 @@ module _ {F K : Type 0} (E : Extension F K) (denominator : Key F → K) where
       by_flags : Option (List F) → Option LookupError
       by_flags None = if vanishes (counted E sent.messages) then Some (VanishingDenominator row lookup) else None
       by_flags (Some flags) =
-          if not (list_all (λ f. E.base_eq f E.base.zero || E.base_eq f E.base.one) flags) then Some (FlagNotBoolean row lookup)
-          else (if nat_lt 1 (count_by (λ f. E.base_eq f E.base.one) flags) then Some (FlagsNotExclusive row lookup)
+          if not (are_boolean E flags) then Some (FlagNotBoolean row lookup)
+          else (if nat_lt 1 (length (set_places E 0 flags)) then Some (FlagsNotExclusive row lookup)
           else (if vanishes sent.messages then Some (VanishingDenominator row lookup) else None))
 
   -- the faults of one row, in the order of its lookups

@@ -141,8 +141,6 @@ impl<'a, F: Field, EF: Field> AirBuilder for LookupTraceBuilder<'a, F, EF> {
 
     ghost public_converts = { λ v e w h. h };
 
-    ghost public_degree = { λ v e t h. refl };
-
     ghost keeps = { λ b x c w h. (λ e. e ∙ ap builder_window (sym h.0), λ e. e ∙ ap builder_window h.0) };
 
     ghost keeps_layout = { λ b x c h. ap builder_layout h.0 };
