@@ -61,9 +61,9 @@ impl AirLayout {
     }
 
     /// The layout of these traces, with nothing of a permutation argument.
-    pub fn of_traces<T>(
-        main: &RowMajorMatrix<T>,
-        preprocessed: Option<&RowMajorMatrix<T>>,
+    pub fn of_traces<'a, T>(
+        main: &'a RowMajorMatrix<T>,
+        preprocessed: Option<&'a RowMajorMatrix<T>>,
         public_values: &[T],
     ) -> Self
         ensures { result ≡ layout_of_traces main.now (option_copied preprocessed.entry) public_values.now }

@@ -14,6 +14,7 @@ use std::boxed::BoxedSlice;
 /// The denominator of a message on bus `i` is `bus_prefix[i]` less its combined tuple, and
 /// `bus_prefix[i] = alpha + (i + 1) * beta^W`, where `W` is at least the width of each tuple: one
 /// power above every element of a tuple.
+#[derive(Drop)]
 pub struct Challenges<EF> {
     /// The randomness that all buses share.
     pub alpha: EF,

@@ -27,11 +27,11 @@ impl LookupProtocol for LogUpGadget {
         2
     }
 
-    fn generate_permutation<F: Field, EF: ExtensionField<F>>(
+    fn generate_permutation<'a, F: Field, EF: ExtensionField<F>>(
         &self,
         alloc: Global,
-        main: &RowMajorMatrix<F>,
-        preprocessed: Option<&RowMajorMatrix<F>>,
+        main: &'a RowMajorMatrix<F>,
+        preprocessed: Option<&'a RowMajorMatrix<F>>,
         public_values: &[F],
         lookups: &[Lookup<F>],
         challenges: &[EF],

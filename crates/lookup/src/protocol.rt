@@ -37,11 +37,11 @@ pub trait LookupProtocol {
     /// Refuses the first fault in the order row, lookup: a denominator that vanishes under a
     /// multiplicity that is not zero. Want of memory is refused by its own name. A refused call
     /// hands out nothing of the trace.
-    fn generate_permutation<F: Field, EF: ExtensionField<F>>(
+    fn generate_permutation<'a, F: Field, EF: ExtensionField<F>>(
         &self,
         alloc: Global,
-        main: &RowMajorMatrix<F>,
-        preprocessed: Option<&RowMajorMatrix<F>>,
+        main: &'a RowMajorMatrix<F>,
+        preprocessed: Option<&'a RowMajorMatrix<F>>,
         public_values: &[F],
         lookups: &[Lookup<F>],
         challenges: &[EF],

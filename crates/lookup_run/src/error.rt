@@ -1,0 +1,61 @@
+//! Why a run was refused.
+use lookup::LookupError;
+use std::alloc::{AllocError, AllocFailed};
+use thiserror::Error;
+
+/// A refusal of the program, whose text stands behind `error: `.
+#[derive(Debug, Drop, Error)]
+pub enum RunError {
+    /// There are not four words.
+    #[error("usage: lookup-run MACHINE FIELD ALPHA BETA")]
+    Usage,
+    /// The first word names no machine.
+    #[error("unknown machine: {0}")]
+    UnknownMachine(String),
+    /// The second word names no field.
+    #[error("unknown field: {0}")]
+    UnknownField(String),
+    /// A challenge is not an element of the field.
+    #[error("bad challenge: {0}")]
+    BadChallenge(String),
+    /// Standard input cannot be read.
+    #[error("cannot read input")]
+    CannotReadInput,
+    /// A line has not as many words as the machine has columns.
+    #[error("line {line}: expected {columns} numbers")]
+    WrongCount { line: usize, columns: usize },
+    /// A word of a line is not a number below the characteristic.
+    #[error("line {line}: bad number")]
+    BadNumber { line: usize },
+    /// The input has no row.
+    #[error("no rows")]
+    NoRows,
+    /// The auxiliary trace of an AIR cannot be made.
+    #[error("air {air}: {error}")]
+    Air { air: usize, error: LookupError },
+    /// A request for memory was refused.
+    #[error("out of memory")]
+    Memory,
+}
+
+impl RunError {
+    /// A refusal of the lookup layer for one AIR; want of memory keeps its name.
+    pub fn of_air(air: usize, error: LookupError) -> RunError {
+        match error {
+            LookupError::Memory => RunError::Memory,
+            error => RunError::Air { air, error },
+        }
+    }
+}
+
+impl From<AllocError> for RunError {
+    fn from(_error: AllocError) -> RunError {
+        RunError::Memory
+    }
+}
+
+impl<T: Drop> From<AllocFailed<T>> for RunError {
+    fn from(_error: AllocFailed<T>) -> RunError {
+        RunError::Memory
+    }
+}
