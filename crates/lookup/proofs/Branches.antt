@@ -17,7 +17,7 @@ module _ {F : Type 0} (R : Ring F) (w : Window F) (id : ℕ) (lookup : Lookup F)
   pub length-branches_at : length (branches_at R w id lookup) ≡ length lookup.elements.items
   length-branches_at =
       length-map (zip lookup.elements.items lookup.multiplicities.items) (λ b. branch_at R w id b.0.items b.1)
-        ∙ length-zip lookup.elements.items lookup.multiplicities.items ∙ omega (arith, lengths.multiplicities)
+      ∙ length-zip lookup.elements.items lookup.multiplicities.items ∙ omega (arith, lengths.multiplicities)
 
   -- one more branch
   pub branches_more : (i : ℕ) (tuple : Vec (SymbolicExpression F) Global) (multiplicity : SymbolicExpression F) → i < length lookup.elements.items → tuple ≡ get_or lookup.elements.items i tuple → multiplicity ≡ get_or lookup.multiplicities.items i multiplicity
@@ -29,8 +29,8 @@ module _ {F : Type 0} (R : Ring F) (w : Window F) (id : ℕ) (lookup : Lookup F)
       let d = branch_at R w id tuple.items multiplicity in
       let within : i < length pairs = omega (arith, length-zip lookup.elements.items lookup.multiplicities.items, lengths.multiplicities) in
       let there : get_or branches i d ≡ d =
-          get_or-map f pairs i (tuple, multiplicity) d within
-            ∙ ap f (get_or-zip lookup.elements.items lookup.multiplicities.items i (tuple, multiplicity) lt (omega (arith, lengths.multiplicities)) ∙ (λ k. (sym tuple_is k, sym multiplicity_is k))) in
+      get_or-map f pairs i (tuple, multiplicity) d within
+      ∙ ap f (get_or-zip lookup.elements.items lookup.multiplicities.items i (tuple, multiplicity) lt (omega (arith, lengths.multiplicities)) ∙ (λ k. (sym tuple_is k, sym multiplicity_is k))) in
       take_more branches i d (omega (arith, length-branches_at)) ∙ ap (λ t. take i branches ++ t ∷ []) there
 
   -- the branches up to one, that one, and the rest

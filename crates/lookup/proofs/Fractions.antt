@@ -56,13 +56,13 @@ module _ {F K : Type 0} {E : Extension F K} (laws : IsLawful E) (denominator : K
       record {
         value =
             next_is ∙ ap (λ t. E.ring.add t (quotient_of E denominator m)) so_far.value
-              ∙ sym (sum_in-push laws.ring (map (quotient_of E denominator) (counted E ms)) (quotient_of E denominator m))
-              ∙ ap (sum_in E.ring) (sym (map_push (quotient_of E denominator) (counted E ms) m))
-              ∙ ap (λ ns. sum_in E.ring (map (quotient_of E denominator) ns)) (sym same);
+            ∙ sym (sum_in-push laws.ring (map (quotient_of E denominator) (counted E ms)) (quotient_of E denominator m))
+            ∙ ap (sum_in E.ring) (sym (map_push (quotient_of E denominator) (counted E ms) m))
+            ∙ ap (λ ns. sum_in E.ring (map (quotient_of E denominator) ns)) (sym same);
         divides =
             ap (vanishes E denominator) same
-              ∙ list_any-append (λ n. E.eq (denominator n.key) E.ring.zero) (counted E ms) (m ∷ [])
-              ∙ (λ i. so_far.divides i || (not_zero i || false));
+            ∙ list_any-append (λ n. E.eq (denominator n.key) E.ring.zero) (counted E ms) (m ∷ [])
+            ∙ (λ i. so_far.divides i || (not_zero i || false));
       }
     where
       not_zero : E.eq (denominator m.key) E.ring.zero ≡ false
@@ -74,9 +74,9 @@ module _ {F K : Type 0} {E : Extension F K} (laws : IsLawful E) (denominator : K
       let is_zero = λ (n : Message F). E.eq (denominator n.key) E.ring.zero in
       let front = counted E (ms ++ m ∷ []) in
       let found : list_any is_zero front ≡ true =
-          ap (list_any is_zero) (counted_nonzero ms m counts)
-            ∙ list_any-append is_zero (counted E ms) (m ∷ [])
-            ∙ or_right (list_any is_zero (counted E ms)) (is_zero m || false) (or_left (is_zero m) false ((laws.eq (denominator m.key) E.ring.zero).1 e)) in
+      ap (list_any is_zero) (counted_nonzero ms m counts)
+      ∙ list_any-append is_zero (counted E ms) (m ∷ [])
+      ∙ or_right (list_any is_zero (counted E ms)) (is_zero m || false) (or_left (is_zero m) false ((laws.eq (denominator m.key) E.ring.zero).1 e)) in
       ap (list_any is_zero) (filter-append (λ n. not (E.base_eq n.multiplicity E.base.zero)) (ms ++ m ∷ []) rest)
-        ∙ list_any-append is_zero front (counted E rest)
-        ∙ or_left (list_any is_zero front) (list_any is_zero (counted E rest)) found
+      ∙ list_any-append is_zero front (counted E rest)
+      ∙ or_left (list_any is_zero front) (list_any is_zero (counted E rest)) found

@@ -12,9 +12,9 @@ combined-push S tuple x beta = ap (λ cs. value_at S cs beta) (reverse-append tu
 pub combined_more : {A K : Type 0} (S : Ring K) (f : A → K) (es : List A) (i : ℕ) (e : A) (beta sum next : K) → i < length es → e ≡ get_or es i e → sum ≡ combined S (map f (take i es)) beta → next ≡ S.add (f e) (S.mul beta sum) → next ≡ combined S (map f (take (i + 1) es)) beta
 combined_more S f es i e beta sum next lt is so_far next_is =
     next_is
-      ∙ ap (λ t. S.add (f e) (S.mul beta t)) so_far
-      ∙ sym (combined-push S (map f (take i es)) (f e) beta)
-      ∙ ap (λ tuple. combined S tuple beta) (sym (map_push f (take i es) e) ∙ ap (map f) (ap (λ t. take i es ++ t ∷ []) is ∙ sym (take_more es i e lt)))
+    ∙ ap (λ t. S.add (f e) (S.mul beta t)) so_far
+    ∙ sym (combined-push S (map f (take i es)) (f e) beta)
+    ∙ ap (λ tuple. combined S tuple beta) (sym (map_push f (take i es) e) ∙ ap (map f) (ap (λ t. take i es ++ t ∷ []) is ∙ sym (take_more es i e lt)))
 
 -- a map of a map
 pub map-map : {A B C : Type 0} (g : B → C) (f : A → B) (xs : List A) → map g (map f xs) ≡ map (λ x. g (f x)) xs

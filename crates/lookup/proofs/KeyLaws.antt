@@ -10,6 +10,7 @@ use Rattle.lookup.specs.Message.{Key, same_key}
 pub same_key-Decides : {F : Type 0} (eq : F → F → Bool) → ((a b : F) → Decides (eq a b) (a ≡ b)) → (a b : Key F) → Decides (same_key eq a b) (a ≡ b)
 same_key-Decides eq decides a b =
     let ids = Decides-eqb a.id b.id in
-    let tuples = slice_eq-Decides decides a.tuple b.tuple (pointwise eq a.tuple b.tuple) refl in
-    (λ e. let parts = and_parts (nat_eq a.id b.id) (pointwise eq a.tuple b.tuple) e in λ i. record { id = ids.0 parts.0 i; tuple = tuples.0 parts.1 i },
-     λ p. and_from (nat_eq a.id b.id) (pointwise eq a.tuple b.tuple) (ids.1 (λ i. (p i).id)) (tuples.1 (λ i. (p i).tuple)))
+    let tuples = slice_eq-Decides decides a.tuple b.tuple (pointwise eq a.tuple b.tuple) refl in (
+      λ e. let parts = and_parts (nat_eq a.id b.id) (pointwise eq a.tuple b.tuple) e in λ i. record { id = ids.0 parts.0 i; tuple = tuples.0 parts.1 i },
+      λ p. and_from (nat_eq a.id b.id) (pointwise eq a.tuple b.tuple) (ids.1 (λ i. (p i).id)) (tuples.1 (λ i. (p i).tuple)),
+    )

@@ -47,7 +47,7 @@ module _ {F K : Type 0} (E : Extension F K) (denominator : Key F → K) where
   length-plain_rows rows n each a (suc m) within =
       let rest = flat_map (plain_row E denominator rows) (range_with_len (a + 1) m) in
       length-append (plain_row E denominator rows a) rest
-        ∙ omega (arith, length-plain_rows rows n each (a + 1) m (omega arith), length-map (get_or rows a []) (plain_fraction E denominator), each a (omega arith))
+      ∙ omega (arith, length-plain_rows rows n each (a + 1) m (omega arith), length-map (get_or rows a []) (plain_fraction E denominator), each a (omega arith))
 
 module _ {F K : Type 0} {E : Extension F K} (laws : IsLawful E) (denominator : Key F → K) (rows : List (List (Sent F))) (h : ℕ) (cells : List K) (accumulator : K) (high : length rows ≡ h) (has : HasRows E denominator rows h cells accumulator) where
   pub cells_plain : cells ≡ plain_cells E denominator rows
@@ -56,7 +56,7 @@ module _ {F K : Type 0} {E : Extension F K} (laws : IsLawful E) (denominator : K
   pub accumulator_plain : accumulator ≡ plain_terminal E denominator rows
   accumulator_plain =
       has.accumulator_is ∙ ap (λ t. sum_in E.ring (flat_map (λ row. map (plain_fraction E denominator) row) t)) (take_all h rows (omega arith))
-        ∙ sym (plain_terminal-sum laws denominator rows)
+      ∙ sym (plain_terminal-sum laws denominator rows)
 
   pub faultless_trace : trace_faults E denominator rows ≡ []
   faultless_trace = ap (trace_faults E denominator) (sym (take_all h rows (omega arith))) ∙ has.faultless

@@ -36,7 +36,7 @@ module _ {F K : Type 0} {E : Extension F K} (laws : IsLawful E) (denominator : K
         cells = longer_is ∙ ap (λ t. t ++ f ∷ []) so_far.cells ∙ append_assoc before (accumulator ∷ fs) (f ∷ []) ∙ ap (λ t. before ++ accumulator ∷ t) (sym fractions);
         total =
             sum_is ∙ ap (λ t. E.ring.add t f) so_far.total ∙ laws.ring.add_assoc accumulator (sum_in E.ring fs) f
-              ∙ ap (E.ring.add accumulator) (sym (sum_in-push laws.ring fs f) ∙ ap (sum_in E.ring) (sym fractions));
+            ∙ ap (E.ring.add accumulator) (sym (sum_in-push laws.ring fs f) ∙ ap (sum_in E.ring) (sym fractions));
         faultless = row_faults-none E denominator row column sents sent at none so_far.faultless;
       }
 
@@ -56,13 +56,13 @@ module _ {F K : Type 0} {E : Extension F K} (laws : IsLawful E) (denominator : K
       record {
         cells_are =
             row.cells ∙ (λ i. so_far.cells_are i ++ this i)
-              ∙ ap (λ t. flat_map (plain_row E denominator rows) (range_with_len 0 r) ++ t) (sym (append-nil (plain_row E denominator rows r)))
-              ∙ sym (flat_map-append (plain_row E denominator rows) (range_with_len 0 r) (r ∷ []))
-              ∙ ap (flat_map (plain_row E denominator rows)) (sym (range-more 0 r ∙ ap (λ n. range_with_len 0 r ++ n ∷ []) (omega arith)));
+            ∙ ap (λ t. flat_map (plain_row E denominator rows) (range_with_len 0 r) ++ t) (sym (append-nil (plain_row E denominator rows r)))
+            ∙ sym (flat_map-append (plain_row E denominator rows) (range_with_len 0 r) (r ∷ []))
+            ∙ ap (flat_map (plain_row E denominator rows)) (sym (range-more 0 r ∙ ap (λ n. range_with_len 0 r ++ n ∷ []) (omega arith)));
         accumulator_is = row.total ∙ ap (λ t. E.ring.add t (sum_in E.ring fs)) so_far.accumulator_is ∙ sym (plain_accumulator-more E denominator laws rows r sents lt is);
         faultless =
             ap (trace_faults E denominator) (take_more rows r sents lt ∙ ap (λ t. take r rows ++ t ∷ []) (sym is))
-              ∙ trace_faults-none E denominator r (take r rows) sents (length_take rows r lt) row.faultless so_far.faultless;
+            ∙ trace_faults-none E denominator r (take r rows) sents (length_take rows r lt) row.faultless so_far.faultless;
       }
 
   -- where a row has a fault, the first one of it is the first one of the trace
@@ -70,4 +70,4 @@ module _ {F K : Type 0} {E : Extension F K} (laws : IsLawful E) (denominator : K
       → HasRows E denominator rows r cells accumulator → slice_get (trace_faults E denominator rows) 0 ≡ Some e
   HasRows-fault rows r sents cells accumulator e lt is fault so_far =
       ap (λ t. slice_get (trace_faults E denominator t) 0) (split_at rows r sents lt is)
-        ∙ trace_faults-first E denominator r (take r rows) (drop (r + 1) rows) sents e (length_take rows r lt) fault so_far.faultless
+      ∙ trace_faults-first E denominator r (take r rows) (drop (r + 1) rows) sents e (length_take rows r lt) fault so_far.faultless

@@ -80,6 +80,7 @@ module _ {A : Type 0} (same : A → A → Bool) (decides : (a b : A) → Decides
     where
       rest : List A
       rest = filter (λ (w : A). not (same x w)) ys
+
       by_test : (b : Bool) → same x y ≡ b → (d : Bool) → same y z ≡ d → (Holds same ys z → Holds same rest z) → Holds same (cond (not b) (y ∷ rest) rest) z
       by_test true e true f keep = absurd (true≢false (sym ((decides x z).1 ((decides x y).0 e ∙ (decides y z).0 f)) ∙ apart))
       by_test true e false f keep = keep (sym (ap (λ t. t || list_any (λ w. same w z) ys) f) ∙ h)

@@ -40,16 +40,16 @@ module _ {F K : Type 0} (E : Extension F K) (denominator : Key F → K) where
   pub row_faults-none : (row column : ℕ) (xs : List (Sent F)) (x : Sent F) → length xs ≡ column → fault_of E denominator row column x ≡ None → row_faults E denominator row xs ≡ [] → row_faults E denominator row (xs ++ x ∷ []) ≡ []
   row_faults-none row column xs x at none so_far =
       row_faults-append row xs (x ∷ [])
-        ∙ (λ i. so_far i ++ cons_option (fault_of E denominator row (at i) x) [])
-        ∙ ap (λ o. cons_option o []) none
+      ∙ (λ i. so_far i ++ cons_option (fault_of E denominator row (at i) x) [])
+      ∙ ap (λ o. cons_option o []) none
 
   -- the first lookup with a fault decides
   pub row_faults-first : (row column : ℕ) (xs rest : List (Sent F)) (x : Sent F) (e : LookupError) → length xs ≡ column → fault_of E denominator row column x ≡ Some e → row_faults E denominator row xs ≡ [] → slice_get (row_faults E denominator row ((xs ++ x ∷ []) ++ rest)) 0 ≡ Some e
   row_faults-first row column xs rest x e at fault so_far =
       ap (λ t. slice_get t 0) (row_faults-append row (xs ++ x ∷ []) rest
-        ∙ ap (λ t. t ++ filter_map (λ p. fault_of E denominator row p.0 p.1) (enumerate_from (length (xs ++ x ∷ [])) rest)) (row_faults-append row xs (x ∷ [])
-            ∙ (λ i. so_far i ++ cons_option (fault_of E denominator row (at i) x) [])
-            ∙ ap (λ o. cons_option o []) fault))
+      ∙ ap (λ t. t ++ filter_map (λ p. fault_of E denominator row p.0 p.1) (enumerate_from (length (xs ++ x ∷ [])) rest)) (row_faults-append row xs (x ∷ [])
+      ∙ (λ i. so_far i ++ cons_option (fault_of E denominator row (at i) x) [])
+      ∙ ap (λ o. cons_option o []) fault))
 
   -- the faults of a trace that goes on
   pub trace_faults-append : (xs ys : List (List (Sent F))) → trace_faults E denominator (xs ++ ys) ≡ trace_faults E denominator xs ++ flat_map (λ p. row_faults E denominator p.0 p.1) (enumerate_from (length xs) ys)
@@ -61,23 +61,22 @@ module _ {F K : Type 0} (E : Extension F K) (denominator : Key F → K) where
   pub trace_faults-none : (row : ℕ) (xs : List (List (Sent F))) (x : List (Sent F)) → length xs ≡ row → row_faults E denominator row x ≡ [] → trace_faults E denominator xs ≡ [] → trace_faults E denominator (xs ++ x ∷ []) ≡ []
   trace_faults-none row xs x at none so_far =
       trace_faults-append xs (x ∷ [])
-        ∙ (λ i. so_far i ++ (row_faults E denominator (at i) x ++ []))
-        ∙ ap (λ t. t ++ []) none
+      ∙ (λ i. so_far i ++ (row_faults E denominator (at i) x ++ []))
+      ∙ ap (λ t. t ++ []) none
 
   -- the first row with a fault decides
   pub trace_faults-first : (row : ℕ) (xs rest : List (List (Sent F))) (x : List (Sent F)) (e : LookupError) → length xs ≡ row → slice_get (row_faults E denominator row x) 0 ≡ Some e → trace_faults E denominator xs ≡ [] → slice_get (trace_faults E denominator ((xs ++ x ∷ []) ++ rest)) 0 ≡ Some e
   trace_faults-first row xs rest x e at fault so_far =
       let f = λ (p : ℕ × List (Sent F)). row_faults E denominator p.0 p.1 in
       let here : trace_faults E denominator (xs ++ x ∷ []) ≡ row_faults E denominator row x ++ [] =
-          trace_faults-append xs (x ∷ []) ∙ (λ i. so_far i ++ (row_faults E denominator (at i) x ++ [])) in
+      trace_faults-append xs (x ∷ []) ∙ (λ i. so_far i ++ (row_faults E denominator (at i) x ++ [])) in
       ap (λ t. slice_get t 0) (trace_faults-append (xs ++ x ∷ []) rest ∙ ap (λ t. t ++ flat_map f (enumerate_from (length (xs ++ x ∷ [])) rest)) here)
-        ∙ slice_get-first (row_faults E denominator row x ++ []) (flat_map f (enumerate_from (length (xs ++ x ∷ [])) rest)) e (slice_get-first (row_faults E denominator row x) [] e fault)
-
+      ∙ slice_get-first (row_faults E denominator row x ++ []) (flat_map f (enumerate_from (length (xs ++ x ∷ [])) rest)) e (slice_get-first (row_faults E denominator row x) [] e fault)
 
   -- the accumulator of the next row
   pub plain_accumulator-more : IsLawful E → (rows : List (List (Sent F))) (r : ℕ) (x : List (Sent F)) → r < length rows → x ≡ get_or rows r x → plain_accumulator E denominator rows (r + 1) ≡ E.ring.add (plain_accumulator E denominator rows r) (sum_in E.ring (map (plain_fraction E denominator) x))
   plain_accumulator-more laws rows r x lt is =
       let f = λ (row : List (Sent F)). map (plain_fraction E denominator) row in
       ap (λ t. sum_in E.ring (flat_map f t)) (take_more rows r x lt ∙ ap (λ t. take r rows ++ t ∷ []) (sym is))
-        ∙ ap (sum_in E.ring) (flat_map-append f (take r rows) (x ∷ []) ∙ ap (λ t. flat_map f (take r rows) ++ t) (append-nil (f x)))
-        ∙ sum_in-append laws.ring (flat_map f (take r rows)) (f x)
+      ∙ ap (sum_in E.ring) (flat_map-append f (take r rows) (x ∷ []) ∙ ap (λ t. flat_map f (take r rows) ++ t) (append-nil (f x)))
+      ∙ sum_in-append laws.ring (flat_map f (take r rows)) (f x)

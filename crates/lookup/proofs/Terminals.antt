@@ -41,17 +41,17 @@ module _ {F K : Type 0} {E : Extension F K} (laws : IsLawful E) (denominator : K
   row_sum [] = refl
   row_sum (sent ∷ row) =
       (λ i. E.ring.add (plain_fraction-all sent i) (row_sum row i))
-        ∙ sym (sum_in-append laws.ring (map of_message sent.messages) (map of_message (flat_map (λ s. s.messages) row)))
-        ∙ ap (sum_in E.ring) (sym (map-append of_message sent.messages (flat_map (λ s. s.messages) row)))
+      ∙ sym (sum_in-append laws.ring (map of_message sent.messages) (map of_message (flat_map (λ s. s.messages) row)))
+      ∙ ap (sum_in E.ring) (sym (map-append of_message sent.messages (flat_map (λ s. s.messages) row)))
 
   -- the fractions of a trace are the quotients of its messages
   trace_sum : (rows : List (List (Sent F))) → sum_in E.ring (flat_map (λ row. map (plain_fraction E denominator) row) rows) ≡ sum_in E.ring (map of_message (trace_messages rows))
   trace_sum [] = refl
   trace_sum (row ∷ rows) =
       sum_in-append laws.ring (map (plain_fraction E denominator) row) (flat_map (λ r. map (plain_fraction E denominator) r) rows)
-        ∙ (λ i. E.ring.add (row_sum row i) (trace_sum rows i))
-        ∙ sym (sum_in-append laws.ring (map of_message (flat_map (λ s. s.messages) row)) (map of_message (trace_messages rows)))
-        ∙ ap (sum_in E.ring) (sym (map-append of_message (flat_map (λ s. s.messages) row) (trace_messages rows)))
+      ∙ (λ i. E.ring.add (row_sum row i) (trace_sum rows i))
+      ∙ sym (sum_in-append laws.ring (map of_message (flat_map (λ s. s.messages) row)) (map of_message (trace_messages rows)))
+      ∙ ap (sum_in E.ring) (sym (map-append of_message (flat_map (λ s. s.messages) row) (trace_messages rows)))
 
   -- every message's key is among the keys
   held : (ks : List (Key F)) (ms : List (Message F)) → AllByRecursion (Holds (same_key E.base_eq) ks) (map (λ m. m.key) ms) → AllByRecursion (λ m. Holds (same_key E.base_eq) ks m.key) ms
@@ -67,5 +67,5 @@ module _ {F K : Type 0} {E : Extension F K} (laws : IsLawful E) (denominator : K
       let ks = keys E.base_eq messages in
       let net_quotient = λ (key : Key F). quotient E denominator (net E.base E.base_eq messages key) key in
       sum_in-filter laws.ring net_quotient (λ key. not (E.base_eq (net E.base E.base_eq messages key) E.base.zero)) (λ key e. dropped key (net E.base E.base_eq messages key) e) ks
-        ∙ regrouped E.base laws.ring same decides (λ m. m.key) (λ m. m.multiplicity) (λ key a. quotient E denominator a key) quotient-add quotient-zero ks (first_seen_separate same (map (λ m. m.key) messages)) messages (held ks messages (first_seen_holds same decides (map (λ m. m.key) messages)))
-        ∙ sym (trace_sum rows)
+      ∙ regrouped E.base laws.ring same decides (λ m. m.key) (λ m. m.multiplicity) (λ key a. quotient E denominator a key) quotient-add quotient-zero ks (first_seen_separate same (map (λ m. m.key) messages)) messages (held ks messages (first_seen_holds same decides (map (λ m. m.key) messages)))
+      ∙ sym (trace_sum rows)

@@ -28,7 +28,13 @@ impl<EF: Field> Challenges<EF> {
     /// The table of `num_bus_ids` prefixes for tuples of at most `max_message_width` elements.
     ///
     /// The one refusal is want of memory.
-    pub fn new(alloc: Global, alpha: EF, beta: EF, max_message_width: usize, num_bus_ids: usize) -> Result<Self, AllocError>
+    pub fn new(
+        alloc: Global,
+        alpha: EF,
+        beta: EF,
+        max_message_width: usize,
+        num_bus_ids: usize,
+    ) -> Result<Self, AllocError>
         requires { 0 < max_message_width }
         ensures alpha { IfOk result (λ c. c.alpha ≡ alpha) }
         ensures beta { IfOk result (λ c. c.beta ≡ beta) }
@@ -42,7 +48,11 @@ impl<EF: Field> Challenges<EF> {
             prefix = prefix + gamma;
             prefixes.push(prefix)?;
         }
-        Ok(Challenges { alpha, beta, bus_prefix: prefixes.into_boxed_slice() })
+        Ok(Challenges {
+            alpha,
+            beta,
+            bus_prefix: prefixes.into_boxed_slice(),
+        })
     }
 
     /// The challenges of the columns of one AIR, whose lookups have these bus ids in order: for

@@ -55,7 +55,9 @@ fn are_within<F>(lookups: &[Lookup<F>], layout: &AirLayout) -> bool
 fn is_within<F>(lookup: &Lookup<F>, layout: &AirLayout) -> bool
     ensures { IsTrue result ↔ IsWithin layout.now lookup.now }
 {
-    elements_fit(&lookup.elements, layout) && all_fit(&lookup.multiplicities, layout) && flags_fit(&lookup.flags, layout)
+    elements_fit(&lookup.elements, layout)
+        && all_fit(&lookup.multiplicities, layout)
+        && flags_fit(&lookup.flags, layout)
 }
 
 fn elements_fit<F>(elements: &[Vec<SymbolicExpression<F>>], layout: &AirLayout) -> bool
@@ -77,16 +79,24 @@ fn flags_fit<F>(flags: &Option<Vec<SymbolicExpression<F>>>, layout: &AirLayout) 
 fn all_fit<F>(expressions: &[SymbolicExpression<F>], layout: &AirLayout) -> bool
     ensures { IsTrue result ↔ AllFit layout.now expressions.now }
 {
-    expressions.iter().all(|expression| expression_fits(expression, layout))
+    expressions
+        .iter()
+        .all(|expression| expression_fits(expression, layout))
 }
 
 fn expression_fits<F>(expression: &SymbolicExpression<F>, layout: &AirLayout) -> bool
     ensures { IsTrue result ↔ Fits layout.now (tree_of expression.now) }
 {
     match expression {
-        SymbolicExpression::Leaf(BaseLeaf::Variable(variable)) => entry_fits(variable.entry, variable.index, layout),
+        SymbolicExpression::Leaf(BaseLeaf::Variable(variable)) => entry_fits(
+            variable.entry,
+            variable.index,
+            layout,
+        ),
         SymbolicExpression::Leaf(_) => true,
-        SymbolicExpression::Add(a, b) | SymbolicExpression::Sub(a, b) | SymbolicExpression::Mul(a, b) => {
+        SymbolicExpression::Add(a, b)
+        | SymbolicExpression::Sub(a, b)
+        | SymbolicExpression::Mul(a, b) => {
             expression_fits(a, layout) && expression_fits(b, layout)
         }
         SymbolicExpression::Neg(a) => expression_fits(a, layout),

@@ -21,7 +21,11 @@ use field::{ExtensionField, Field};
 use std::alloc::Global;
 
 /// The value of an expression on the builder's row.
-pub(crate) fn resolved<F: Field, EF: Field>(alloc: Global, expression: &SymbolicExpression<F>, builder: &LookupTraceBuilder<'_, F, EF>) -> Result<F, LookupError>
+pub(crate) fn resolved<F: Field, EF: Field>(
+    alloc: Global,
+    expression: &SymbolicExpression<F>,
+    builder: &LookupTraceBuilder<'_, F, EF>,
+) -> Result<F, LookupError>
     requires { Fits (builder_layout builder.now) (tree_of expression.now) }
     ensures { MatchResult result
         (λ v. v ≡ value F.ring (builder_window builder.now) expression.now)
@@ -31,7 +35,12 @@ pub(crate) fn resolved<F: Field, EF: Field>(alloc: Global, expression: &Symbolic
 }
 
 /// The combined tuple on the builder's row, by Horner's rule.
-fn combined_tuple<F: Field, EF: ExtensionField<F>>(alloc: Global, tuple: &[SymbolicExpression<F>], builder: &LookupTraceBuilder<'_, F, EF>, beta: EF) -> Result<EF, LookupError>
+fn combined_tuple<F: Field, EF: ExtensionField<F>>(
+    alloc: Global,
+    tuple: &[SymbolicExpression<F>],
+    builder: &LookupTraceBuilder<'_, F, EF>,
+    beta: EF,
+) -> Result<EF, LookupError>
     requires { AllFit (builder_layout builder.now) tuple.now }
     ensures { MatchResult result
         (λ c. c ≡ combined EF.ring (map EF.embed (values F.ring (builder_window builder.now) tuple.now)) beta)
@@ -45,7 +54,13 @@ fn combined_tuple<F: Field, EF: ExtensionField<F>>(alloc: Global, tuple: &[Symbo
 }
 
 /// The denominator of a tuple on the builder's row.
-fn denominator_of<F: Field, EF: ExtensionField<F>>(alloc: Global, tuple: &[SymbolicExpression<F>], builder: &LookupTraceBuilder<'_, F, EF>, alpha: EF, beta: EF) -> Result<EF, LookupError>
+fn denominator_of<F: Field, EF: ExtensionField<F>>(
+    alloc: Global,
+    tuple: &[SymbolicExpression<F>],
+    builder: &LookupTraceBuilder<'_, F, EF>,
+    alpha: EF,
+    beta: EF,
+) -> Result<EF, LookupError>
     requires { AllFit (builder_layout builder.now) tuple.now }
     ensures { MatchResult result
         (λ d. d ≡ tuple_denominator (extension F.ring F.eq EF.ring EF.eq EF.embed EF.inverse) alpha beta (values F.ring (builder_window builder.now) tuple.now))
@@ -68,7 +83,14 @@ fn quotient_of<F: Field, EF: ExtensionField<F>>(multiplicity: F, denominator: EF
 }
 
 /// The fraction so far and, where its multiplicity is not zero, the quotient of one more tuple.
-fn with_branch<F: Field, EF: ExtensionField<F>>(alloc: Global, fraction: EF, tuple: &[SymbolicExpression<F>], multiplicity: &SymbolicExpression<F>, builder: &LookupTraceBuilder<'_, F, EF>, column: usize) -> Result<EF, LookupError>
+fn with_branch<F: Field, EF: ExtensionField<F>>(
+    alloc: Global,
+    fraction: EF,
+    tuple: &[SymbolicExpression<F>],
+    multiplicity: &SymbolicExpression<F>,
+    builder: &LookupTraceBuilder<'_, F, EF>,
+    column: usize,
+) -> Result<EF, LookupError>
     requires tuple_fits { AllFit (builder_layout builder.now) tuple.now }
     requires multiplicity_fits { Fits (builder_layout builder.now) (tree_of multiplicity.now) }
     requires challenges { 2 * column + 1 < length builder.now.permutation_challenges.now }
@@ -76,13 +98,13 @@ fn with_branch<F: Field, EF: ExtensionField<F>>(alloc: Global, fraction: EF, tup
         let E = extension F.ring F.eq EF.ring EF.eq EF.embed EF.inverse in
         let denominator = column_denominator E builder.now.permutation_challenges.now in
         (messages : List (Message F)) → IsFractionOf E denominator messages fraction
-            → IsFractionOf E denominator (messages ++ branch_at F.ring (builder_window builder.now) column tuple.now multiplicity.now ∷ []) next) }
+        → IsFractionOf E denominator (messages ++ branch_at F.ring (builder_window builder.now) column tuple.now multiplicity.now ∷ []) next) }
     ensures refused { IfErr result (λ e.
         let E = extension F.ring F.eq EF.ring EF.eq EF.embed EF.inverse in
         let denominator = column_denominator E builder.now.permutation_challenges.now in
         let message = branch_at F.ring (builder_window builder.now) column tuple.now multiplicity.now in
         (e ≡ LookupError.Memory) ⊎ ((e ≡ LookupError.VanishingDenominator builder.now.row column)
-            × (message.multiplicity ≢ F.ring.zero) × (denominator message.key ≡ EF.ring.zero))) }
+        × (message.multiplicity ≢ F.ring.zero) × (denominator message.key ≡ EF.ring.zero))) }
 {
     let multiplicity = resolved(alloc, multiplicity, builder)?;
     if multiplicity.is_zero() {
@@ -92,23 +114,30 @@ fn with_branch<F: Field, EF: ExtensionField<F>>(alloc: Global, fraction: EF, tup
     let denominator = denominator_of(alloc, tuple, builder, alpha, beta)?;
     match quotient_of(multiplicity, denominator) {
         Some(quotient) => Ok(fraction + quotient),
-        None => Err(LookupError::VanishingDenominator { row: builder.row(), lookup: column }),
+        None => Err(LookupError::VanishingDenominator {
+            row: builder.row(),
+            lookup: column,
+        }),
     }
 }
 
 /// The sum of the quotients of all tuples of a lookup whose multiplicity is not zero.
-fn additive_fraction<F: Field, EF: ExtensionField<F>>(alloc: Global, lookup: &Lookup<F>, builder: &LookupTraceBuilder<'_, F, EF>) -> Result<EF, LookupError>
+fn additive_fraction<F: Field, EF: ExtensionField<F>>(
+    alloc: Global,
+    lookup: &Lookup<F>,
+    builder: &LookupTraceBuilder<'_, F, EF>,
+) -> Result<EF, LookupError>
     requires lengths { HasEqualLengths lookup.now }
     requires within { IsWithin (builder_layout builder.now) lookup.now }
     requires challenges { 2 * lookup.now.column + 1 < length builder.now.permutation_challenges.now }
     ensures { MatchResult result
         (λ f. let E = extension F.ring F.eq EF.ring EF.eq EF.embed EF.inverse in
-            IsFractionOf E (column_denominator E builder.now.permutation_challenges.now)
-                (branches_at F.ring (builder_window builder.now) lookup.now.column lookup.now) f)
+        IsFractionOf E (column_denominator E builder.now.permutation_challenges.now)
+        (branches_at F.ring (builder_window builder.now) lookup.now.column lookup.now) f)
         (λ e. let E = extension F.ring F.eq EF.ring EF.eq EF.embed EF.inverse in
-            (e ≡ LookupError.Memory) ⊎ ((e ≡ LookupError.VanishingDenominator builder.now.row lookup.now.column)
-                × IsTrue (vanishes E (column_denominator E builder.now.permutation_challenges.now)
-                    (counted E (branches_at F.ring (builder_window builder.now) lookup.now.column lookup.now))))) }
+        (e ≡ LookupError.Memory) ⊎ ((e ≡ LookupError.VanishingDenominator builder.now.row lookup.now.column)
+        × IsTrue (vanishes E (column_denominator E builder.now.permutation_challenges.now)
+        (counted E (branches_at F.ring (builder_window builder.now) lookup.now.column lookup.now))))) }
 {
     let mut fraction = EF::ZERO;
     for branch in 0..lookup.elements.len() {
@@ -122,20 +151,24 @@ fn additive_fraction<F: Field, EF: ExtensionField<F>>(alloc: Global, lookup: &Lo
 /// The fraction of a lookup on the builder's row.
 ///
 /// Refuses the fault of the lookup on that row, where it has one.
-pub(crate) fn fraction<F: Field, EF: ExtensionField<F>>(alloc: Global, lookup: &Lookup<F>, builder: &LookupTraceBuilder<'_, F, EF>) -> Result<EF, LookupError>
+pub(crate) fn fraction<F: Field, EF: ExtensionField<F>>(
+    alloc: Global,
+    lookup: &Lookup<F>,
+    builder: &LookupTraceBuilder<'_, F, EF>,
+) -> Result<EF, LookupError>
     requires additive { lookup.now.flags ≡ None }
     requires lengths { HasEqualLengths lookup.now }
     requires within { IsWithin (builder_layout builder.now) lookup.now }
     requires challenges { 2 * lookup.now.column + 1 < length builder.now.permutation_challenges.now }
     ensures { MatchResult result
         (λ f. let E = extension F.ring F.eq EF.ring EF.eq EF.embed EF.inverse in
-            let denominator = column_denominator E builder.now.permutation_challenges.now in
-            let sent = sent_at F.ring F.eq (builder_window builder.now) lookup.now.column lookup.now in
-            (f ≡ plain_fraction E denominator sent) × (fault_of E denominator builder.now.row lookup.now.column sent ≡ None))
+        let denominator = column_denominator E builder.now.permutation_challenges.now in
+        let sent = sent_at F.ring F.eq (builder_window builder.now) lookup.now.column lookup.now in
+        (f ≡ plain_fraction E denominator sent) × (fault_of E denominator builder.now.row lookup.now.column sent ≡ None))
         (λ e. let E = extension F.ring F.eq EF.ring EF.eq EF.embed EF.inverse in
-            let denominator = column_denominator E builder.now.permutation_challenges.now in
-            let sent = sent_at F.ring F.eq (builder_window builder.now) lookup.now.column lookup.now in
-            (e ≡ LookupError.Memory) ⊎ (fault_of E denominator builder.now.row lookup.now.column sent ≡ Some e)) }
+        let denominator = column_denominator E builder.now.permutation_challenges.now in
+        let sent = sent_at F.ring F.eq (builder_window builder.now) lookup.now.column lookup.now in
+        (e ≡ LookupError.Memory) ⊎ (fault_of E denominator builder.now.row lookup.now.column sent ≡ Some e)) }
 {
     additive_fraction(alloc, lookup, builder)
 }

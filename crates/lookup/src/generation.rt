@@ -24,17 +24,23 @@ use std::alloc::Global;
 /// lookup. The answer is the accumulator of the next row.
 ///
 /// Refuses the first fault of the row; `cells` may then hold a part of it.
-fn push_row<F: Field, EF: ExtensionField<F>>(alloc: Global, cells: &mut Vec<EF>, lookups: &[Lookup<F>], builder: &LookupTraceBuilder<'_, F, EF>, accumulator: EF) -> Result<EF, LookupError>
+fn push_row<F: Field, EF: ExtensionField<F>>(
+    alloc: Global,
+    cells: &mut Vec<EF>,
+    lookups: &[Lookup<F>],
+    builder: &LookupTraceBuilder<'_, F, EF>,
+    accumulator: EF,
+) -> Result<EF, LookupError>
     requires additive { All (λ lookup. lookup.flags ≡ None) lookups.now }
     requires fit { DoFit (builder_layout builder.now) lookups.now }
     requires challenges { 2 * length lookups.now ≤ length builder.now.permutation_challenges.now }
     ensures { MatchResult result
         (λ next. let E = extension F.ring F.eq EF.ring EF.eq EF.embed EF.inverse in
-            HasRow E (column_denominator E builder.now.permutation_challenges.now) builder.now.row cells.old.items cells.new.items accumulator next
-                (sent_row F.ring F.eq (builder_window builder.now) lookups.now))
+        HasRow E (column_denominator E builder.now.permutation_challenges.now) builder.now.row cells.old.items cells.new.items accumulator next
+        (sent_row F.ring F.eq (builder_window builder.now) lookups.now))
         (λ e. let E = extension F.ring F.eq EF.ring EF.eq EF.embed EF.inverse in
-            (e ≡ LookupError.Memory) ⊎ (slice_get (row_faults E (column_denominator E builder.now.permutation_challenges.now) builder.now.row
-                (sent_row F.ring F.eq (builder_window builder.now) lookups.now)) 0 ≡ Some e)) }
+        (e ≡ LookupError.Memory) ⊎ (slice_get (row_faults E (column_denominator E builder.now.permutation_challenges.now) builder.now.row
+        (sent_row F.ring F.eq (builder_window builder.now) lookups.now)) 0 ≡ Some e)) }
 {
     cells.push(accumulator)?;
     let mut next = accumulator;
@@ -48,22 +54,37 @@ fn push_row<F: Field, EF: ExtensionField<F>>(alloc: Global, cells: &mut Vec<EF>,
 
 /// The builder of one row of the traces of an AIR, which is seen with the next one, and the last
 /// row with the first.
-fn row_builder<'a, F: Field, EF: Field>(main: &'a RowMajorMatrix<F>, preprocessed: Option<&'a RowMajorMatrix<F>>, public_values: &'a [F], challenges: &'a [EF], row: usize) -> LookupTraceBuilder<'a, F, EF>
+fn row_builder<'a, F: Field, EF: Field>(
+    main: &'a RowMajorMatrix<F>,
+    preprocessed: Option<&'a RowMajorMatrix<F>>,
+    public_values: &'a [F],
+    challenges: &'a [EF],
+    row: usize,
+) -> LookupTraceBuilder<'a, F, EF>
     requires row_exists { row < height main.now }
     requires heights { ForSome (option_copied preprocessed) (λ m. height m ≡ height main.now) }
     ensures window { builder_window result ≡ window_at main.now (option_copied preprocessed.entry) public_values.now (height main.now) row }
     ensures layout { builder_layout result ≡ record (layout_of_traces main.now (option_copied preprocessed.entry) public_values.now) {
-        num_permutation_challenges = length challenges.now
+      num_permutation_challenges = length challenges.now;
     } }
     ensures challenges { result.permutation_challenges.now ≡ challenges.now }
     ensures row { result.row ≡ row }
 {
     let height = main.height();
     let next = (row + 1) % height;
-    let main = ViewPair { top: main.row_slice(row), bottom: main.row_slice(next) };
+    let main = ViewPair {
+        top: main.row_slice(row),
+        bottom: main.row_slice(next),
+    };
     let preprocessed = match preprocessed {
-        Some(trace) => ViewPair { top: trace.row_slice(row), bottom: trace.row_slice(next) },
-        None => ViewPair { top: &[], bottom: &[] },
+        Some(trace) => ViewPair {
+            top: trace.row_slice(row),
+            bottom: trace.row_slice(next),
+        },
+        None => ViewPair {
+            top: &[],
+            bottom: &[],
+        },
     };
     LookupTraceBuilder::new(main, preprocessed, public_values, challenges, height, row)
 }
@@ -85,14 +106,16 @@ pub(crate) fn generate<F: Field, EF: ExtensionField<F>>(
     requires challenges { 2 * length lookups.now ≤ length challenges.now }
     ensures { MatchResult result
         (λ r. let E = extension F.ring F.eq EF.ring EF.eq EF.embed EF.inverse in
-            HasRows E (column_denominator E challenges.now) (sent_rows F.ring F.eq main.now (option_copied preprocessed.entry) public_values.now lookups.now)
-                (height main.now) r.0.items r.1)
+        HasRows E (column_denominator E challenges.now) (sent_rows F.ring F.eq main.now (option_copied preprocessed.entry) public_values.now lookups.now)
+        (height main.now) r.0.items r.1)
         (λ e. let E = extension F.ring F.eq EF.ring EF.eq EF.embed EF.inverse in
-            (e ≡ LookupError.Memory) ⊎ (slice_get (trace_faults E (column_denominator E challenges.now)
-                (sent_rows F.ring F.eq main.now (option_copied preprocessed.entry) public_values.now lookups.now)) 0 ≡ Some e)) }
+        (e ≡ LookupError.Memory) ⊎ (slice_get (trace_faults E (column_denominator E challenges.now)
+        (sent_rows F.ring F.eq main.now (option_copied preprocessed.entry) public_values.now lookups.now)) 0 ≡ Some e)) }
 {
     let height = main.height();
-    let size = height.checked_mul(lookups.len() + 1).ok_or(LookupError::Memory)?;
+    let size = height
+        .checked_mul(lookups.len() + 1)
+        .ok_or(LookupError::Memory)?;
     let mut cells = Vec::with_capacity(alloc, size)?;
     let mut accumulator = EF::ZERO;
     for row in 0..height {

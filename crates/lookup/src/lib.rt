@@ -1,4 +1,9 @@
-//! The LogUp lookup argument: lookups, their challenges and auxiliary traces.
+//! The LogUp lookup argument (eprint 2022/1530): lookups, their challenges, and the auxiliary
+//! traces that show that all messages cancel.
+//!
+//! An AIR's lookups are checked by `Lookups::from_records`, `LogUpGadget::generate_permutation`
+//! makes the auxiliary trace of one AIR, and `LogUpGadget::verify_terminal_sum` says whether the
+//! terminals of all AIRs cancel.
 #![tactic(auto)]
 
 mod challenges;
@@ -6,10 +11,13 @@ mod error;
 mod fitting;
 mod fraction;
 mod generation;
-mod logup;
+pub mod logup;
 mod lookups;
-mod protocol;
+pub mod protocol;
+#[cfg(test)]
+mod tests;
 mod trace_builder;
+pub mod traits;
 mod types;
 
 pub use challenges::Challenges;
@@ -18,5 +26,4 @@ pub use fitting::fits;
 pub use logup::LogUpGadget;
 pub use lookups::Lookups;
 pub use protocol::LookupProtocol;
-pub use trace_builder::LookupTraceBuilder;
 pub use types::{Kind, Lookup, LookupTerminal};

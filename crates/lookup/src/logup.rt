@@ -5,10 +5,14 @@ ghost use Rattle.lookup.specs.Terminals.{terminal_sum, terminal_value};
 use crate::error::LookupError;
 use crate::generation;
 use crate::protocol::LookupProtocol;
+use crate::trace_builder::LookupTraceBuilder;
 use crate::types::{Lookup, LookupTerminal};
 use field::{ExtensionField, Field};
 use matrix::RowMajorMatrix;
 use std::alloc::Global;
+
+/// The trace builder by the name of what it is here: what a row's evaluation sees.
+pub type RowEvalContext<'a, F, EF> = LookupTraceBuilder<'a, F, EF>;
 
 /// The lookup argument by logarithmic derivatives: the messages of all AIRs cancel where the sum of
 /// `multiplicity / (alpha - tuple)` over them is zero.
@@ -39,11 +43,24 @@ impl LookupProtocol for LogUpGadget {
         if lookups.is_empty() {
             return Ok((RowMajorMatrix::new(Vec::new(alloc), 0), None));
         }
-        let (cells, terminal) = generation::generate(alloc, main, preprocessed, public_values, lookups, challenges)?;
-        Ok((RowMajorMatrix::new(cells, lookups.len() + 1), Some(LookupTerminal(terminal))))
+        let (cells, terminal) = generation::generate(
+            alloc,
+            main,
+            preprocessed,
+            public_values,
+            lookups,
+            challenges,
+        )?;
+        Ok((
+            RowMajorMatrix::new(cells, lookups.len() + 1),
+            Some(LookupTerminal(terminal)),
+        ))
     }
 
-    fn verify_terminal_sum<EF: Field>(&self, terminals: &[Option<LookupTerminal<EF>>]) -> Result<(), LookupError> {
+    fn verify_terminal_sum<EF: Field>(
+        &self,
+        terminals: &[Option<LookupTerminal<EF>>],
+    ) -> Result<(), LookupError> {
         if sum_of_terminals(terminals).is_zero() {
             Ok(())
         } else {

@@ -47,7 +47,10 @@ impl<F: Field> Lookups<F> {
     pub fn total_count_weight(&self) -> u128
         ensures { result ≡ sum_by (λ lookup. lookup.count_weight) (lookups_of self.now) }
     {
-        self.lookups.iter().map(|lookup| u128::from(lookup.count_weight)).sum()
+        self.lookups
+            .iter()
+            .map(|lookup| u128::from(lookup.count_weight))
+            .sum()
     }
 
     /// Whether the lookups fit an AIR of this layout, as [`fits`](crate::fits) says of a slice.

@@ -52,19 +52,22 @@ pub trait LookupProtocol {
         requires challenges { 2 * length lookups.now ≤ length challenges.now }
         ensures { MatchResult result
             (λ r. let E = extension F.ring F.eq EF.ring EF.eq EF.embed EF.inverse in
-                let denominator = column_denominator E challenges.now in
-                let rows = sent_rows F.ring F.eq main.now (option_copied preprocessed.entry) public_values.now lookups.now in
-                (r.0 ≡ plain_matrix E denominator lookups.now rows)
-                    × (r.1 ≡ plain_terminal_of E denominator lookups.now rows)
-                    × (trace_faults E denominator rows ≡ []))
+            let denominator = column_denominator E challenges.now in
+            let rows = sent_rows F.ring F.eq main.now (option_copied preprocessed.entry) public_values.now lookups.now in
+            (r.0 ≡ plain_matrix E denominator lookups.now rows)
+            × (r.1 ≡ plain_terminal_of E denominator lookups.now rows)
+            × (trace_faults E denominator rows ≡ []))
             (λ e. let E = extension F.ring F.eq EF.ring EF.eq EF.embed EF.inverse in
-                let rows = sent_rows F.ring F.eq main.now (option_copied preprocessed.entry) public_values.now lookups.now in
-                (e ≡ LookupError.Memory) ⊎ (slice_get (trace_faults E (column_denominator E challenges.now) rows) 0 ≡ Some e)) };
+            let rows = sent_rows F.ring F.eq main.now (option_copied preprocessed.entry) public_values.now lookups.now in
+            (e ≡ LookupError.Memory) ⊎ (slice_get (trace_faults E (column_denominator E challenges.now) rows) 0 ≡ Some e)) };
 
     /// Whether the terminals of all AIRs cancel.
     ///
     /// Refuses `TerminalSumNonZero` where those that are present do not sum to zero.
-    fn verify_terminal_sum<EF: Field>(&self, terminals: &[Option<LookupTerminal<EF>>]) -> Result<(), LookupError>
+    fn verify_terminal_sum<EF: Field>(
+        &self,
+        terminals: &[Option<LookupTerminal<EF>>],
+    ) -> Result<(), LookupError>
         ensures { MatchResult result
             (λ _. terminal_sum EF.ring terminals.now ≡ EF.ring.zero)
             (λ e. (e ≡ LookupError.TerminalSumNonZero) × (terminal_sum EF.ring terminals.now ≢ EF.ring.zero)) };

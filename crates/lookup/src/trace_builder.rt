@@ -40,22 +40,22 @@ impl<'a, F, EF> LookupTraceBuilder<'a, F, EF> {
         requires main_pair { length main.bottom.now ≡ length main.top.now }
         requires preprocessed_pair { length preprocessed.bottom.now ≡ length preprocessed.top.now }
         ensures window { builder_window result ≡ record {
-            main = main.entry.top.now;
-            main_next = main.entry.bottom.now;
-            preprocessed = preprocessed.entry.top.now;
-            preprocessed_next = preprocessed.entry.bottom.now;
-            public_values = public_values.now;
-            is_first = row == 0;
-            is_last = row + 1 == height;
-            is_transition = not (row + 1 == height)
+          main = main.entry.top.now;
+          main_next = main.entry.bottom.now;
+          preprocessed = preprocessed.entry.top.now;
+          preprocessed_next = preprocessed.entry.bottom.now;
+          public_values = public_values.now;
+          is_first = row == 0;
+          is_last = row + 1 == height;
+          is_transition = not (row + 1 == height);
         } }
         ensures layout { builder_layout result ≡ record {
-            preprocessed_width = length preprocessed.entry.top.now;
-            main_width = length main.entry.top.now;
-            num_public_values = length public_values.now;
-            permutation_width = 0;
-            num_permutation_challenges = length permutation_challenges.now;
-            num_permutation_values = 0
+          preprocessed_width = length preprocessed.entry.top.now;
+          main_width = length main.entry.top.now;
+          num_public_values = length public_values.now;
+          permutation_width = 0;
+          num_permutation_challenges = length permutation_challenges.now;
+          num_permutation_values = 0;
         } }
         ensures challenges { result.permutation_challenges.now ≡ permutation_challenges.now }
         ensures row { result.row ≡ row }
@@ -113,10 +113,15 @@ impl<'a, F: Field, EF: Field> AirBuilder for LookupTraceBuilder<'a, F, EF> {
     ghost use Rattle.lookup.specs.TraceBuilder.{builder_window, builder_layout};
 
     type F = F;
+
     type Expr = F;
+
     type Var = F;
+
     type PublicVar = F;
+
     type MainWindow = RowWindow<'a, F>;
+
     type PreprocessedWindow = RowWindow<'a, F>;
 
     ghost layout = { builder_layout };

@@ -20,7 +20,12 @@ impl Challenge for F7 {
 impl Challenge for BabyBear4 {
     fn from_word(word: &[u8]) -> Option<BabyBear4> {
         let mut parts = word.split(|byte| *byte == b',').map(element::<BabyBear>);
-        let coefficients = [parts.next()??, parts.next()??, parts.next()??, parts.next()??];
+        let coefficients = [
+            parts.next()??,
+            parts.next()??,
+            parts.next()??,
+            parts.next()??,
+        ];
         match parts.next() {
             None => Some(BabyBear4::new(coefficients)),
             Some(_) => None,
@@ -47,5 +52,9 @@ pub fn number(word: &[u8], bound: u128) -> Option<u32>
         }
         value = value.checked_mul(10)?.checked_add(u32::from(*byte - b'0'))?;
     }
-    if u128::from(value) < bound { Some(value) } else { None }
+    if u128::from(value) < bound {
+        Some(value)
+    } else {
+        None
+    }
 }

@@ -83,7 +83,10 @@ fn answer_over<F: Field, EF: Challenge + ExtensionField<F>, R: Read>(
     beta: &String,
     input: &mut R,
 ) -> Result<Report, RunError> {
-    let challenges = (challenge::<EF>(alloc, alpha.as_str())?, challenge::<EF>(alloc, beta.as_str())?);
+    let challenges = (
+        challenge::<EF>(alloc, alpha.as_str())?,
+        challenge::<EF>(alloc, beta.as_str())?,
+    );
     let mut text = Vec::new(alloc);
     if let Err(error) = input.read_to_end(&mut text) {
         return Err(match error.kind() {

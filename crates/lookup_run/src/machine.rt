@@ -74,5 +74,8 @@ fn single<F: Field>(
 
 /// A cell of the current row.
 fn cell<F: Field>(index: usize) -> SymbolicExpression<F> {
-    SymbolicExpression::Leaf(BaseLeaf::Variable(SymbolicVariable::new(BaseEntry::Main { offset: 0 }, index)))
+    SymbolicExpression::Leaf(BaseLeaf::Variable(SymbolicVariable::new(
+        BaseEntry::Main { offset: 0 },
+        index,
+    )))
 }

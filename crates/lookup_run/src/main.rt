@@ -8,6 +8,8 @@ mod error;
 mod machine;
 mod report;
 mod rows;
+#[cfg(test)]
+mod tests;
 
 use std::process::ExitCode;
 use std::{env, io};
@@ -21,7 +23,13 @@ fn main(rt: HostRuntime) -> ExitCode {
         Err(_) => return command::refuse(alloc, error::RunError::Memory, &mut errors),
     };
     match words {
-        Ok(words) => command::run(alloc, words.as_slice(), &mut input, &mut output, &mut errors),
+        Ok(words) => command::run(
+            alloc,
+            words.as_slice(),
+            &mut input,
+            &mut output,
+            &mut errors,
+        ),
         Err(_) => command::refuse(alloc, error::RunError::Memory, &mut errors),
     }
 }

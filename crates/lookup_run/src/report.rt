@@ -30,8 +30,9 @@ pub fn report_of<F: Field, EF: Challenge + ExtensionField<F>>(
     let (alpha, beta) = challenges;
     let table = Challenges::new(alloc, alpha, beta, 1, 1)?;
     let columns = table.for_columns(alloc, &[0])?;
-    let (trace, terminal) = generated(alloc, &main, &lookups, columns.as_slice())
-        .map_err(|error| RunError::of_air(0, error))?;
+    let (trace, terminal) = generated(alloc, &main, &lookups, columns.as_slice()).map_err(
+        |error| RunError::of_air(0, error),
+    )?;
     let mut terminals = Vec::new(alloc);
     terminals.push(terminal)?;
     let balanced = LogUpGadget::new()
@@ -39,7 +40,11 @@ pub fn report_of<F: Field, EF: Challenge + ExtensionField<F>>(
         .is_ok();
     let mut text = String::new(alloc);
     push_air(alloc, &mut text, 0, &trace, terminal)?;
-    text.push_str(if balanced { "balanced\n" } else { "unbalanced\n" })?;
+    text.push_str(if balanced {
+        "balanced\n"
+    } else {
+        "unbalanced\n"
+    })?;
     Ok(Report { text, balanced })
 }
 
@@ -59,7 +64,14 @@ fn generated<F: Field, EF: ExtensionField<F>>(
     if !additive || !lookup::fits(lookups, &layout) || challenges.len() / 2 < lookups.len() {
         return Err(LookupError::BadRecord { lookup: 0 });
     }
-    LogUpGadget::new().generate_permutation(alloc, main, preprocessed, public_values.as_slice(), lookups, challenges)
+    LogUpGadget::new().generate_permutation(
+        alloc,
+        main,
+        preprocessed,
+        public_values.as_slice(),
+        lookups,
+        challenges,
+    )
 }
 
 /// Appends the lines of one AIR: its number, the rows of its auxiliary trace, and its terminal.

@@ -52,7 +52,7 @@ returns-in_err-fraction g c =
       | inl memory ↦ inl memory
       | inr vanishing ↦
           let zero : denominator m.key ≡ E.ring.zero =
-              ap (λ t. denominator (branch_at E.base w lookup.column t c.index-multiplicity.result.now).key) (sym c.deref.ensures.value) ∙ vanishing.2 in
+          ap (λ t. denominator (branch_at E.base w lookup.column t c.index-multiplicity.result.now).key) (sym c.deref.ensures.value) ∙ vanishing.2 in
           inr (vanishing.0, ap (λ ms. vanishes E denominator (counted E ms)) split ∙ vanishes_at laws denominator (take i branches) (drop (i + 1) branches) m vanishing.1 zero)
     ])
 
@@ -66,8 +66,8 @@ loop-branch-preserved g c =
     let branches = branches_at E.base w lookup.column lookup in
     let more = branches_more E.base w lookup.column lookup c.requires.lengths i c.index-tuple.result.now c.index-multiplicity.result.now (omega arith) c.index-tuple.ensures c.index-multiplicity.ensures in
     subst (λ (ms : List (Message _)). IsFractionOf E denominator ms c.in_ok-fraction.fraction)
-      (ap (λ t. take i branches ++ branch_at E.base w lookup.column t c.index-multiplicity.result.now ∷ []) c.deref.ensures.value ∙ sym more)
-      (c.in_ok-fraction.ensures.next (take i branches) c.loop-branch.invariant)
+    (ap (λ t. take i branches ++ branch_at E.base w lookup.column t c.index-multiplicity.result.now ∷ []) c.deref.ensures.value ∙ sym more)
+    (c.in_ok-fraction.ensures.next (take i branches) c.loop-branch.invariant)
 
 pub returns : goal.returns
 returns g c =

@@ -19,5 +19,5 @@ loop-element-preserved g c =
     let i = c.loop-element.element-index in
     let in_field = λ (n : _). ap (λ t. combined S t c.args.beta) (map-map embed look (take n es)) in
     combined_more S (λ e. embed (look e)) es i c.element-item.result c.args.beta c.loop-element.sum c.add-sum.result c.loop-element-test.true c.element-item.is (c.loop-element.invariant ∙ in_field i)
-        (met.add_is _ _ _ c.add-sum.ensures ∙ (λ k. S.add ((c.embed.ensures ∙ ap embed c.in_ok-resolved.ensures) k) (met.mul_is _ _ _ c.mul.ensures k)))
-      ∙ sym (in_field (i + 1))
+    (met.add_is _ _ _ c.add-sum.ensures ∙ (λ k. S.add ((c.embed.ensures ∙ ap embed c.in_ok-resolved.ensures) k) (met.mul_is _ _ _ c.mul.ensures k)))
+    ∙ sym (in_field (i + 1))

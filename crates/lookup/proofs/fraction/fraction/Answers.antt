@@ -19,11 +19,11 @@ returns g c =
     let w = builder_window c.args.builder.now in
     let branches = branches_at E.base w lookup.column lookup in
     let sent_is : sent E.base E.base_eq None branches ≡ sent_at E.base E.base_eq w lookup.column lookup =
-        ap (λ o. sent E.base E.base_eq (option_map (λ flags. values E.base w flags.items) o) branches) (sym c.requires.additive) in
+    ap (λ o. sent E.base E.base_eq (option_map (λ flags. values E.base w flags.items) o) branches) (sym c.requires.additive) in
     let fault_is = ap (fault_of E denominator row lookup.column) (sym sent_is) in
     MatchResult-weaker c.additive_fraction.result c.additive_fraction.ensures
-      (λ f of. (of.value ∙ ap (plain_fraction E denominator) sent_is, fault_is ∙ additive_faultless E denominator row lookup.column branches of.divides))
-      (λ e refused. elim refused [
-        | inl memory ↦ inl memory
-        | inr vanishing ↦ inr (fault_is ∙ additive_fault E denominator row lookup.column branches vanishing.1 ∙ ap Some (sym vanishing.0))
-      ])
+    (λ f of. (of.value ∙ ap (plain_fraction E denominator) sent_is, fault_is ∙ additive_faultless E denominator row lookup.column branches of.divides))
+    (λ e refused. elim refused [
+      | inl memory ↦ inl memory
+      | inr vanishing ↦ inr (fault_is ∙ additive_fault E denominator row lookup.column branches vanishing.1 ∙ ap Some (sym vanishing.0))
+    ])

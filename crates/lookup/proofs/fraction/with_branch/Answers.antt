@@ -23,6 +23,6 @@ returns-in-Some-clause-next g c =
     let m = branch_at E.base (builder_window c.args.builder.now) c.args.column c.args.tuple.now c.args.multiplicity.now in
     let counts : m.multiplicity ≢ E.base.zero = λ e. true≢false (sym (c.is_zero.ensures.1 (c.in_ok-multiplicity.ensures ∙ e)) ∙ c.if-is_zero.false) in
     let denominator_is : c.in_ok-denominator.denominator ≡ denominator m.key =
-        c.in_ok-denominator.ensures ∙ (λ i. tuple_denominator E (c.column_challenges-alpha.ensures.alpha i) (c.column_challenges-alpha.ensures.beta i) m.key.tuple) in
+    c.in_ok-denominator.ensures ∙ (λ i. tuple_denominator E (c.column_challenges-alpha.ensures.alpha i) (c.column_challenges-alpha.ensures.beta i) m.key.tuple) in
     λ messages so_far. fraction_of_added laws denominator messages m c.args.fraction c.add.result counts (λ e. c.in-Some.ensures.divides (denominator_is ∙ e))
-      (g.met.EF.PrimeCharacteristicRing.add_is _ _ _ c.add.ensures ∙ ap (E.ring.add c.args.fraction) (c.in-Some.ensures.value ∙ (λ i. E.ring.mul (E.embed (c.in_ok-multiplicity.ensures i)) (E.inverse (denominator_is i))))) so_far
+    (g.met.EF.PrimeCharacteristicRing.add_is _ _ _ c.add.ensures ∙ ap (E.ring.add c.args.fraction) (c.in-Some.ensures.value ∙ (λ i. E.ring.mul (E.embed (c.in_ok-multiplicity.ensures i)) (E.inverse (denominator_is i))))) so_far

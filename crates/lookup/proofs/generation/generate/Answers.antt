@@ -46,9 +46,9 @@ returns-in_err-accumulator g c =
       | inl memory ↦ inl memory
       | inr fault ↦
           let here : slice_get (row_faults E (column_denominator E c.args.challenges.now) c.loop-row.row (sent_row E.base E.base_eq w c.args.lookups.now)) 0 ≡ Some _ =
-              (λ i. slice_get (row_faults E (column_denominator E (sym built.challenges i)) (sym built.row i) (sent_row E.base E.base_eq (sym built.window i) c.args.lookups.now)) 0) ∙ fault in
+          (λ i. slice_get (row_faults E (column_denominator E (sym built.challenges i)) (sym built.row i) (sent_row E.base E.base_eq (sym built.window i) c.args.lookups.now)) 0) ∙ fault in
           inr (HasRows-fault laws (column_denominator E c.args.challenges.now) rows c.loop-row.row (sent_row E.base E.base_eq w c.args.lookups.now) c.loop-row.cells.items c.loop-row.accumulator _ lt
-            (sent_rows-at E.base E.base_eq c.args.main.now prep c.args.public_values.now c.args.lookups.now c.loop-row.row (omega (arith, c.loop-row-test.true, c.height-height.ensures.height))) here c.loop-row.invariant)
+          (sent_rows-at E.base E.base_eq c.args.main.now prep c.args.public_values.now c.args.lookups.now c.loop-row.row (omega (arith, c.loop-row-test.true, c.height-height.ensures.height))) here c.loop-row.invariant)
     ])
 
 pub loop-row-preserved : goal.loop-row-preserved
@@ -73,8 +73,8 @@ loop-row-preserved g c =
     let after = c.push_row.new.cells.items in
     let has = λ (cs : List _) (r : ℕ) (v : Window _). HasRow E (column_denominator E cs) r before after c.loop-row.accumulator c.in_ok-accumulator.accumulator (sent_row E.base E.base_eq v c.args.lookups.now) in
     let row : has c.args.challenges.now c.loop-row.row w =
-        subst (λ (cs : List _). has cs c.loop-row.row w) built.challenges
-          (subst (λ (r : ℕ). has b.permutation_challenges.now r w) built.row
-            (subst (λ (v : Window _). has b.permutation_challenges.now b.row v) built.window c.in_ok-accumulator.ensures)) in
+    subst (λ (cs : List _). has cs c.loop-row.row w) built.challenges
+    (subst (λ (r : ℕ). has b.permutation_challenges.now r w) built.row
+    (subst (λ (v : Window _). has b.permutation_challenges.now b.row v) built.window c.in_ok-accumulator.ensures)) in
     HasRows-more laws (column_denominator E c.args.challenges.now) rows c.loop-row.row (sent_row E.base E.base_eq w c.args.lookups.now) before after c.loop-row.accumulator c.in_ok-accumulator.accumulator lt
-      (sent_rows-at E.base E.base_eq c.args.main.now prep c.args.public_values.now c.args.lookups.now c.loop-row.row (omega (arith, c.loop-row-test.true, c.height-height.ensures.height))) row c.loop-row.invariant
+    (sent_rows-at E.base E.base_eq c.args.main.now prep c.args.public_values.now c.args.lookups.now c.loop-row.row (omega (arith, c.loop-row-test.true, c.height-height.ensures.height))) row c.loop-row.invariant

@@ -51,5 +51,5 @@ loop-lookup-preserved g c =
     let at = length-take-sent_row E.base E.base_eq w lookups i lookup c.loop-lookup-test.true c.lookup-item.is ∙ sym (column_is lookups i lookup c.requires.fit.records c.loop-lookup-test.true c.lookup-item.is) in
     let more = sent_row-more E.base E.base_eq w lookups i lookup c.loop-lookup-test.true c.lookup-item.is in
     subst (λ (sents : List (Sent _)). HasRow E denominator c.args.builder.now.row c.args.cells.now.items c.push-in-loop-lookup.new.self.items c.args.accumulator c.add-next.result sents) (sym more)
-      (HasRow-more laws denominator c.args.builder.now.row lookup.column c.args.cells.now.items c.loop-lookup.cells.items c.push-in-loop-lookup.new.self.items c.args.accumulator c.loop-lookup.next c.add-next.result c.in_ok-fraction.fraction (take i row) (sent_at E.base E.base_eq w lookup.column lookup)
-        at c.in_ok-fraction.ensures.0 c.in_ok-fraction.ensures.1 c.in_ok-push-2.ensures.items (g.met.EF.PrimeCharacteristicRing.add_is _ _ _ c.add-next.ensures) c.loop-lookup.invariant)
+    (HasRow-more laws denominator c.args.builder.now.row lookup.column c.args.cells.now.items c.loop-lookup.cells.items c.push-in-loop-lookup.new.self.items c.args.accumulator c.loop-lookup.next c.add-next.result c.in_ok-fraction.fraction (take i row) (sent_at E.base E.base_eq w lookup.column lookup)
+    at c.in_ok-fraction.ensures.0 c.in_ok-fraction.ensures.1 c.in_ok-push-2.ensures.items (g.met.EF.PrimeCharacteristicRing.add_is _ _ _ c.add-next.ensures) c.loop-lookup.invariant)

@@ -7,4 +7,4 @@ pub loop-terminal-preserved : goal.loop-terminal-preserved
 loop-terminal-preserved g c =
     let S = g.EF.PrimeCharacteristicRing.ring in
     sum_in-more g.EF.PrimeCharacteristicRing.lawful (terminal_value S) c.args.terminals.now c.loop-terminal.terminal-index c.terminal-item.result c.loop-terminal.sum c.add-sum.result c.loop-terminal-test.true c.terminal-item.is c.loop-terminal.invariant
-      (g.met.EF.PrimeCharacteristicRing.add_is _ _ _ c.add-sum.ensures ∙ ap (S.add c.loop-terminal.sum) c.value_of_terminal.ensures)
+    (g.met.EF.PrimeCharacteristicRing.add_is _ _ _ c.add-sum.ensures ∙ ap (S.add c.loop-terminal.sum) c.value_of_terminal.ensures)

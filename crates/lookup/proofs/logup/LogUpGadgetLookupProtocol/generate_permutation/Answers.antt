@@ -18,10 +18,11 @@ returns-then-is_empty g c =
     let E = extension g.F.PrimeCharacteristicRing.ring g.F.PartialEq.eq g.EF.PrimeCharacteristicRing.ring g.EF.PartialEq.eq g.EF.ExtensionDomain.embed g.EF.Field.inverse in
     let denominator = column_denominator E c.args.challenges.now in
     let none : c.args.lookups.now ≡ [] = nil_from_length c.args.lookups.now (eqb-true (length c.args.lookups.now) 0 (sym c.is_empty.ensures ∙ c.if-is_empty.true)) in
-    let rows = λ (ls : List _). sent_rows E.base E.base_eq c.args.main.now (option_copied c.args.preprocessed) c.args.public_values.now ls in
-    (c.new-then-is_empty.ensures ∙ (λ i. record { values = c.new.ensures.items i; width = 0 }) ∙ (λ i. plain_matrix E denominator (sym none i) (rows (sym none i))),
-     (λ i. plain_terminal_of E denominator (sym none i) (rows (sym none i))),
-     (λ i. trace_faults E denominator (rows (none i))) ∙ faultless_rows E denominator 0 (range_with_len 0 (height c.args.main.now)))
+    let rows = λ (ls : List _). sent_rows E.base E.base_eq c.args.main.now (option_copied c.args.preprocessed) c.args.public_values.now ls in (
+      c.new-then-is_empty.ensures ∙ (λ i. record { values = c.new.ensures.items i; width = 0 }) ∙ (λ i. plain_matrix E denominator (sym none i) (rows (sym none i))),
+      (λ i. plain_terminal_of E denominator (sym none i) (rows (sym none i))),
+      (λ i. trace_faults E denominator (rows (none i))) ∙ faultless_rows E denominator 0 (range_with_len 0 (height c.args.main.now)),
+    )
 
 pub new-requires-2 : goal.new-requires-2
 new-requires-2 g c =
@@ -33,8 +34,8 @@ new-requires-2 g c =
     let h = height c.args.main.now in
     let high = length-sent_rows E.base E.base_eq c.args.main.now prep c.args.public_values.now c.args.lookups.now in
     IsShaped-product c.in_ok-cells.cells.items h n
-      (ap length c.in_ok-cells.ensures.cells_are
-        ∙ length-plain_rows E denominator rows n (λ k lt. length-sent_rows-at E.base E.base_eq c.args.main.now prep c.args.public_values.now c.args.lookups.now k (omega (arith, high))) 0 h (omega (arith, high)))
+    (ap length c.in_ok-cells.ensures.cells_are
+    ∙ length-plain_rows E denominator rows n (λ k lt. length-sent_rows-at E.base E.base_eq c.args.main.now prep c.args.public_values.now c.args.lookups.now k (omega (arith, high))) 0 h (omega (arith, high)))
 
 pub returns : goal.returns
 returns g c =
@@ -54,7 +55,8 @@ returns g c =
     let h = height c.args.main.now in
     let high = length-sent_rows E.base E.base_eq c.args.main.now prep c.args.public_values.now c.args.lookups.now in
     let filled = eqb-false (length c.args.lookups.now) 0 (sym c.is_empty.ensures ∙ c.if-is_empty.false) in
-    let some : 0 < length c.args.lookups.now = omega (arith, filled) in
-    (c.new-2.ensures ∙ (λ i. record { values = cells_plain laws denominator rows h _ _ high c.in_ok-cells.ensures i; width = length c.args.lookups.now + 1 }) ∙ sym (plain_matrix-some E denominator c.args.lookups.now rows some),
-     (λ i. Some (record { 0 = accumulator_plain laws denominator rows h _ _ high c.in_ok-cells.ensures i })) ∙ sym (plain_terminal_of-some E denominator c.args.lookups.now rows some),
-     faultless_trace laws denominator rows h _ _ high c.in_ok-cells.ensures)
+    let some : 0 < length c.args.lookups.now = omega (arith, filled) in (
+      c.new-2.ensures ∙ (λ i. record { values = cells_plain laws denominator rows h _ _ high c.in_ok-cells.ensures i; width = length c.args.lookups.now + 1 }) ∙ sym (plain_matrix-some E denominator c.args.lookups.now rows some),
+      (λ i. Some (record { 0 = accumulator_plain laws denominator rows h _ _ high c.in_ok-cells.ensures i })) ∙ sym (plain_terminal_of-some E denominator c.args.lookups.now rows some),
+      faultless_trace laws denominator rows h _ _ high c.in_ok-cells.ensures,
+    )
