@@ -1,6 +1,10 @@
+pub mod DotProduct
 pub mod Exponents
 pub mod Montgomery
+pub mod NonzeroModulo7
+pub mod PrefixProducts
 pub mod QuarticProduct
 pub mod RingSolverExamples
+pub mod Roots
 pub mod SumFacts
 pub mod Tests

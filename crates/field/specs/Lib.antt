@@ -16,3 +16,4 @@ pub mod Quartic
 pub mod QuarticField
 pub mod BabyBear
 pub mod BabyBear4
+pub mod Lists

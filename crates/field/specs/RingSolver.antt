@@ -23,13 +23,15 @@ pub data Expr : Type 0 where
 abbrev pub ◌:-◌ : Expr → Expr → Expr
 a :- b = a :+ :neg b
 
--- a product of variables with its coefficient; a sum of such; a sum without signs beside what is taken from it
+-- a product of variables with its coefficient
 abbrev Term : Type 0
 Term = ℕ × List ℕ
 
+-- a sum of terms
 abbrev Terms : Type 0
 Terms = List Term
 
+-- a sum, and what is taken from it
 abbrev Difference : Type 0
 Difference = Terms × Terms
 
@@ -70,10 +72,11 @@ abbrev pub product_of : Terms → Terms → Terms
 product_of [] us = []
 product_of (t ∷ ts) us = sum_of (scaled t us) (product_of ts us)
 
--- the sum and the product of two differences
+-- the sum of two differences
 abbrev pub sum_of_differences : Difference → Difference → Difference
 sum_of_differences a b = (sum_of a.0 b.0, sum_of a.1 b.1)
 
+-- the product of two differences
 abbrev pub product_of_differences : Difference → Difference → Difference
 product_of_differences a b =
     (sum_of (product_of a.0 b.0) (product_of a.1 b.1), sum_of (product_of a.0 b.1) (product_of a.1 b.0))
@@ -131,11 +134,12 @@ value R env (:neg a) = R.neg (value R env a)
 abbrev pub Given : Type 0
 Given = Expr × Expr × Expr
 
--- the sums of the multiplied left sides and of the multiplied right sides
+-- the sum of the multiplied left sides
 abbrev pub lefts : List Given → Expr
 lefts [] = con 0
 lefts (g ∷ gs) = g.0 :* g.1 :+ lefts gs
 
+-- the sum of the multiplied right sides
 abbrev pub rights : List Given → Expr
 rights [] = con 0
 rights (g ∷ gs) = g.0 :* g.2 :+ rights gs
@@ -158,14 +162,16 @@ order_same (v ∷ vs) (w ∷ ws) e = by_order (compare v w) refl e (order_same v
     by_order gt c e rest = absurd (cc e)
 
 module _ {K : Type 0} (R : Ring K) (env : List K) where
-  -- the product of the variables, the value of a term and the value of a sum
+  -- the product of the variables
   abbrev variables : List ℕ → K
   variables [] = R.one
   variables (v ∷ vs) = R.mul (place R env v) (variables vs)
 
+  -- the value of a term
   abbrev term : Term → K
   term t = R.mul (of_nat R t.0) (variables t.1)
 
+  -- the value of a sum
   abbrev terms : Terms → K
   terms [] = R.zero
   terms (t ∷ ts) = R.add (term t) (terms ts)

@@ -1,17 +1,24 @@
 //! Rings, fields and extensions with their laws, and the fields of the lookup layer.
 //!
 //! Each trait carries the laws of the algebra it names, so that generic code is proved once for
-//! every lawful field.
+//! every lawful field. Beside the fields `F2`, `F7`, `BabyBear` and its quartic extension stand
+//! powers, dot products, and inverses of a whole list by one counted inverse.
 #![tactic(auto)]
 
 mod baby_bear;
 mod baby_bear4;
+mod batch_inverse;
 mod integers_modulo_2;
 mod integers_modulo_7;
+mod inverter;
+mod linear;
 mod traits;
 
 pub use baby_bear::BabyBear;
 pub use baby_bear4::BabyBear4;
+pub use batch_inverse::batch_multiplicative_inverse;
 pub use integers_modulo_2::F2;
 pub use integers_modulo_7::F7;
+pub use inverter::{InverseCount, Inverter};
+pub use linear::{dot_product, powers};
 pub use traits::{Domain, ExtensionDomain, ExtensionField, Field, PrimeCharacteristicRing};
