@@ -14,15 +14,6 @@ variables_more entry_of index_of entry i n [] v are at same place = (same, omega
 variables_more entry_of index_of entry i n (u ∷ vs) v are at same place =
     (are.0, are.1, variables_more entry_of index_of entry (i + 1) n vs v are.2 (omega arith) same place)
 
--- values for two rows make a whole number of rows
-pub shaped_by_two : {T : Type 0} (values : List T) (width : ℕ) → length values ≡ width + width → IsShaped (record { values = values; width = width })
-shaped_by_two values zero two = two
-shaped_by_two values (suc k) two =
-    let split : length values ≡ 2 * suc k + 0 = omega arith in
-    let above : 0 < suc k = omega arith in
-    let rows : length values / suc k ≡ 2 = ap (λ n. n / suc k) split ∙ div-mul-add 2 (suc k) 0 above in
-    rw (eqb-suc-zero, rows) (omega (arith, split))
-
 -- two rows of variables, one after the other, are the rows of their matrix
 pub rows_joined : {V E : Type 0} (entry_of : V → E) (index_of : V → ℕ) (current next : E) (width : ℕ) (vs us : List V) → IsVariableRow entry_of index_of current width vs → IsVariableRow entry_of index_of next width us → IsVariableMatrix entry_of index_of current next width (record { values = vs ++ us; width = width })
 rows_joined {V} entry_of index_of current next width vs us above below = record {

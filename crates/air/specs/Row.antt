@@ -2,6 +2,7 @@
 use Rattle.std.specs.Prelude.{◌≡◌, ℕ, ◌+◌, ◌%◌, ◌==◌, not, ◌⊎◌, length, Option, None, Some, Result}
 use Rattle.std.specs.Option.{option_copied}
 use Rattle.matrix.specs.Matrix.{Matrix, height, row}
+use Rattle.air.specs.Layout.{width_of_option}
 use Rattle.air.specs.Window.{ExtWindow, Window, window_at}
 use Rattle.air.specs.declared.debug.builder.DebugConstraintBuilder.{DebugConstraintBuilder}
 use Rattle.air.specs.declared.debug.inputs.RowInputs.{RowInputs}
@@ -61,9 +62,21 @@ input_window x r = record {
   permutation_values = x.permutation_values.now;
 }
 
+-- the widths of the inputs
+abbrev pub input_layout : {F EF : Type 0} → RowInputs F EF → AirLayout
+input_layout x = record {
+  preprocessed_width = width_of_option (option_copied x.preprocessed);
+  main_width = x.main.now.width;
+  num_public_values = length x.public_values.now;
+  permutation_width = x.permutation.now.width;
+  num_permutation_challenges = length x.challenges.now;
+  num_permutation_values = length x.permutation_values.now;
+}
+
 -- a builder checks on row r of the inputs
 pub record IsRow {F EF : Type 0} (x : RowInputs F EF) (r : ℕ) (b : DebugConstraintBuilder F EF) : Type 0 where
   pub window : ext_row_window b ≡ input_window x r
+  pub layout : row_layout b ≡ input_layout x
   pub row_is : b.row ≡ r
 
 -- an evaluation can give the answer on row r of the inputs

@@ -10,6 +10,8 @@ mod extension;
 mod filtered;
 mod layout;
 mod symbolic;
+#[cfg(test)]
+mod tests;
 
 pub use air::{Air, BaseAir};
 pub use builder::AirBuilder;

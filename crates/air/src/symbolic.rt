@@ -4,6 +4,7 @@ mod builder;
 mod degree;
 mod expression;
 mod expression_ext;
+mod fits;
 mod place;
 mod resolve;
 mod variable;

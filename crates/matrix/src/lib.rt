@@ -6,6 +6,8 @@
 
 mod dense;
 mod row_window;
+#[cfg(test)]
+mod tests;
 mod view;
 mod window;
 

@@ -1,8 +1,9 @@
 //! A builder that checks assertions on one row.
-ghost use Rattle.std.specs.Prelude.{◌≡◌, ◌≢◌, ◌+◌, ◌<◌, ◌⊎◌, IfSome, refl};
+ghost use Rattle.std.specs.Prelude.{◌≡◌, ◌≢◌, ◌+◌, ◌<◌, ◌⊎◌, IfSome, length, refl};
 ghost use Rattle.std.proofs.Common.{ap, rules};
 ghost use Rattle.std.specs.Option.{option_copied};
 ghost use Rattle.matrix.specs.Matrix.{height, row};
+ghost use Rattle.air.specs.Layout.{width_of_option};
 ghost use Rattle.air.specs.Window.{row_of_option};
 ghost use Rattle.air.specs.declared.error.AirError.TheVariants.{Assertion};
 
@@ -73,6 +74,7 @@ fn window_of_rows<T>(trace: &RowMajorMatrix<T>, current: usize, next: usize) -> 
     requires { (trace.now.width ≡ 0) ⊎ ((current < height trace.now) × (next < height trace.now)) }
     ensures current { result.current.now ≡ row trace.now current }
     ensures next { result.next.now ≡ row trace.now next }
+    ensures len { length result.current.now ≡ trace.now.width }
 {
     if trace.width() == 0 {
         RowWindow::from_two_rows(&[], &[])
@@ -90,6 +92,7 @@ fn window_of_option<T>(
     requires { IfSome (option_copied trace) (λ m. (m.width ≡ 0) ⊎ ((current < height m) × (next < height m))) }
     ensures current { result.current.now ≡ row_of_option (option_copied trace.entry) current }
     ensures next { result.next.now ≡ row_of_option (option_copied trace.entry) next }
+    ensures len { length result.current.now ≡ width_of_option (option_copied trace.entry) }
 {
     match trace {
         None => RowWindow::from_two_rows(&[], &[]),
