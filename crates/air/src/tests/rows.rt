@@ -26,7 +26,7 @@ fn counted(
         challenges: &[],
         permutation_values: &[],
     };
-    Ok(check_rows(&Counter { on_every_row }, alloc, &inputs))
+    Ok(check_rows(alloc, &Counter { on_every_row }, &inputs))
 }
 
 #[test]
@@ -60,7 +60,7 @@ fn followed(alloc: Global, values: &[u32], last: u32) -> Result<Result<(), AirEr
         challenges: &[],
         permutation_values: &[],
     };
-    Ok(check_rows(&Fibonacci, alloc, &inputs))
+    Ok(check_rows(alloc, &Fibonacci, &inputs))
 }
 
 #[test]
