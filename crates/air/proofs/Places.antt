@@ -1,10 +1,8 @@
 -- Variables at the places of a row.
-use Rattle.std.proofs.Common.{◌≡◌, ℕ, zero, suc, ◌+◌, ◌-◌, ◌*◌, ◌/◌, ◌<◌, List, [], ◌∷◌, ◌++◌, length, map, drop, get_or, ap, sym, ◌∙◌, subst, arith, add-one, drop-cons, length-append}
-use Rattle.std.proofs.Math.Dec.{eqb-suc-zero}
+use Rattle.std.proofs.Common.{◌≡◌, ℕ, ◌+◌, ◌-◌, ◌*◌, ◌<◌, List, [], ◌∷◌, ◌++◌, length, map, drop, get_or, ap, sym, ◌∙◌, subst, arith, add-one, drop-cons, length-append}
 use Rattle.std.proofs.Math.Seq.{drop-append_seam, take-append_seam}
 use Rattle.std.proofs.lemmas.List.{drop_all, take_all}
-use Rattle.std.proofs.lemmas.Nat.{div-mul-add}
-use Rattle.matrix.specs.Matrix.{IsShaped, row}
+use Rattle.matrix.specs.Matrix.{row}
 use Rattle.air.specs.Builder.{MeansRow}
 use Rattle.air.specs.Variables.{AreVariables, IsVariableRow, IsVariableMatrix}
 

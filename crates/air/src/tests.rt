@@ -4,7 +4,7 @@ mod machines;
 mod recording;
 mod rows;
 
-ghost use Rattle.std.specs.Prelude.{◌≡◌, []};
+ghost use Rattle.std.specs.Prelude.{◌≡◌, None, []};
 
 use field::F7;
 use matrix::RowMajorMatrix;
@@ -28,4 +28,11 @@ fn no_trace(alloc: Global) -> RowMajorMatrix<F7>
     ensures { result ≡ record { values = []; width = 0 } }
 {
     RowMajorMatrix::new(Vec::new(alloc), 0)
+}
+
+/// No preprocessed trace beside this one.
+fn no_preprocessed<'a>(_main: &'a RowMajorMatrix<F7>) -> Option<&'a RowMajorMatrix<F7>>
+    ensures { result ≡ None }
+{
+    None
 }

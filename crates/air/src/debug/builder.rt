@@ -1,5 +1,5 @@
 //! A builder that checks assertions on one row.
-ghost use Rattle.std.specs.Prelude.{◌≡◌, ◌≢◌, ◌+◌, ◌<◌, ◌⊎◌, IfSome, length, refl};
+ghost use Rattle.std.specs.Prelude.{◌≡◌, ◌≢◌, ◌+◌, ◌<◌, ◌⊎◌, IfSome, MatchResult, length, refl};
 ghost use Rattle.std.proofs.Common.{ap, rules};
 ghost use Rattle.std.specs.Option.{option_copied};
 ghost use Rattle.matrix.specs.Matrix.{height, row};
@@ -11,7 +11,7 @@ use crate::builder::AirBuilder;
 use crate::debug::inputs::RowInputs;
 use crate::error::AirError;
 use crate::extension::{ExtensionBuilder, PermutationAirBuilder};
-use field::{ExtensionField, Field};
+use field::{Domain, ExtensionField, Field};
 use matrix::{RowMajorMatrix, RowWindow};
 use std::alloc::{AllocError, Global};
 
@@ -100,6 +100,18 @@ fn window_of_option<T>(
     }
 }
 
+/// Whether an assertion on a row holds.
+fn judge<K: Domain>(x: K, row: usize) -> Result<(), AirError>
+    ensures { MatchResult result (λ _. x ≡ K.ring.zero)
+        (λ e. (x ≢ K.ring.zero) × (e ≡ AirError.Assertion row)) }
+{
+    if x.is_zero() {
+        Ok(())
+    } else {
+        Err(AirError::Assertion { row })
+    }
+}
+
 impl<'a, F: Field, EF: ExtensionField<F>> AirBuilder for DebugConstraintBuilder<'a, F, EF> {
     ghost use Rattle.air.specs.Row.{row_layout, row_window};
 
@@ -166,11 +178,7 @@ impl<'a, F: Field, EF: ExtensionField<F>> AirBuilder for DebugConstraintBuilder<
     }
 
     fn assert_zero(&mut self, _alloc: Global, x: F) -> Result<(), AirError> {
-        if x.is_zero() {
-            Ok(())
-        } else {
-            Err(AirError::Assertion { row: self.row })
-        }
+        judge(x, self.row)
     }
 }
 
@@ -212,11 +220,7 @@ impl<'a, F: Field, EF: ExtensionField<F>> ExtensionBuilder for DebugConstraintBu
     }
 
     fn assert_zero_ext(&mut self, _alloc: Global, x: EF) -> Result<(), AirError> {
-        if x.is_zero() {
-            Ok(())
-        } else {
-            Err(AirError::Assertion { row: self.row })
-        }
+        judge(x, self.row)
     }
 }
 

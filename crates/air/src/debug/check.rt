@@ -13,8 +13,8 @@ use std::alloc::Global;
 
 /// Evaluates the AIR on every row, in order; the first refusal is answered.
 pub fn check_rows<'a, F: Field, EF: ExtensionField<F>, A: Air<DebugConstraintBuilder<'a, F, EF>>>(
-    air: &A,
     alloc: Global,
+    air: &A,
     inputs: &'a RowInputs<'a, F, EF>,
 ) -> Result<(), AirError>
     requires preprocessed { OptionHeightFits (height inputs.now.main.now) (option_copied inputs.now.preprocessed) }
@@ -25,15 +25,15 @@ pub fn check_rows<'a, F: Field, EF: ExtensionField<F>, A: Air<DebugConstraintBui
         × ((q : ℕ) → q < r → RowAnswers A.evaluates air.now inputs.now q (Ok tt))) }
 {
     for row in 0..inputs.main.height() {
-        check_row(air, alloc, inputs, row)?;
+        check_row(alloc, air, inputs, row)?;
     }
     Ok(())
 }
 
 #[tactic(auto, unfolding(crate::specs::Row::RowAnswers))]
 fn check_row<'a, F: Field, EF: ExtensionField<F>, A: Air<DebugConstraintBuilder<'a, F, EF>>>(
-    air: &A,
     alloc: Global,
+    air: &A,
     inputs: &'a RowInputs<'a, F, EF>,
     row: usize,
 ) -> Result<(), AirError>

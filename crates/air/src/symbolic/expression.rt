@@ -117,23 +117,23 @@ impl<F: Field> Expression<F> for SymbolicExpression<F> {
         match self {
             SymbolicExpression::Leaf(leaf) => Ok(SymbolicExpression::Leaf(*leaf)),
             SymbolicExpression::Add(a, b) => {
-                let left = Box::new(alloc, a.copy(alloc)?)?;
-                let right = Box::new(alloc, b.copy(alloc)?)?;
-                Ok(SymbolicExpression::Add(left, right))
+                let first = Box::new(alloc, a.copy(alloc)?)?;
+                let second = Box::new(alloc, b.copy(alloc)?)?;
+                Ok(SymbolicExpression::Add(first, second))
             }
             SymbolicExpression::Sub(a, b) => {
-                let left = Box::new(alloc, a.copy(alloc)?)?;
-                let right = Box::new(alloc, b.copy(alloc)?)?;
-                Ok(SymbolicExpression::Sub(left, right))
+                let first = Box::new(alloc, a.copy(alloc)?)?;
+                let second = Box::new(alloc, b.copy(alloc)?)?;
+                Ok(SymbolicExpression::Sub(first, second))
             }
             SymbolicExpression::Mul(a, b) => {
-                let left = Box::new(alloc, a.copy(alloc)?)?;
-                let right = Box::new(alloc, b.copy(alloc)?)?;
-                Ok(SymbolicExpression::Mul(left, right))
+                let first = Box::new(alloc, a.copy(alloc)?)?;
+                let second = Box::new(alloc, b.copy(alloc)?)?;
+                Ok(SymbolicExpression::Mul(first, second))
             }
             SymbolicExpression::Neg(a) => {
-                let inner = Box::new(alloc, a.copy(alloc)?)?;
-                Ok(SymbolicExpression::Neg(inner))
+                let only = Box::new(alloc, a.copy(alloc)?)?;
+                Ok(SymbolicExpression::Neg(only))
             }
         }
     }

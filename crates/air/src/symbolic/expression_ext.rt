@@ -128,23 +128,23 @@ impl<F: Field, EF: ExtensionField<F>> Expression<EF> for SymbolicExpressionExt<F
         match self {
             SymbolicExpressionExt::Leaf(leaf) => Ok(SymbolicExpressionExt::Leaf(leaf.copy(alloc)?)),
             SymbolicExpressionExt::Add(a, b) => {
-                let left = Box::new(alloc, a.copy(alloc)?)?;
-                let right = Box::new(alloc, b.copy(alloc)?)?;
-                Ok(SymbolicExpressionExt::Add(left, right))
+                let first = Box::new(alloc, a.copy(alloc)?)?;
+                let second = Box::new(alloc, b.copy(alloc)?)?;
+                Ok(SymbolicExpressionExt::Add(first, second))
             }
             SymbolicExpressionExt::Sub(a, b) => {
-                let left = Box::new(alloc, a.copy(alloc)?)?;
-                let right = Box::new(alloc, b.copy(alloc)?)?;
-                Ok(SymbolicExpressionExt::Sub(left, right))
+                let first = Box::new(alloc, a.copy(alloc)?)?;
+                let second = Box::new(alloc, b.copy(alloc)?)?;
+                Ok(SymbolicExpressionExt::Sub(first, second))
             }
             SymbolicExpressionExt::Mul(a, b) => {
-                let left = Box::new(alloc, a.copy(alloc)?)?;
-                let right = Box::new(alloc, b.copy(alloc)?)?;
-                Ok(SymbolicExpressionExt::Mul(left, right))
+                let first = Box::new(alloc, a.copy(alloc)?)?;
+                let second = Box::new(alloc, b.copy(alloc)?)?;
+                Ok(SymbolicExpressionExt::Mul(first, second))
             }
             SymbolicExpressionExt::Neg(a) => {
-                let inner = Box::new(alloc, a.copy(alloc)?)?;
-                Ok(SymbolicExpressionExt::Neg(inner))
+                let only = Box::new(alloc, a.copy(alloc)?)?;
+                Ok(SymbolicExpressionExt::Neg(only))
             }
         }
     }

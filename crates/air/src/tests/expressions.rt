@@ -1,4 +1,6 @@
-use crate::tests::{no_trace, trace_of};
+ghost use Rattle.std.specs.Prelude.{◌≡◌, None, []};
+
+use crate::tests::{no_preprocessed, no_trace, trace_of};
 use crate::{
     AirBuilder, AirError, AirLayout, BaseEntry, BaseLeaf, DebugConstraintBuilder, Expression,
     ExtEntry, ExtLeaf, RowInputs, SymbolicAirBuilder, SymbolicExpression, SymbolicExpressionExt,
@@ -101,9 +103,53 @@ fn extension_expressions_have_nodes_and_degrees(rt: HostRuntime) -> Result<(), F
     Ok(())
 }
 
-#[test]
-fn recorded_constraints_resolve_on_cyclic_windows(rt: HostRuntime) -> Result<(), Fail> {
-    let alloc = rt.alloc();
+/// The values of the constraints on a row of inputs without a permutation argument.
+fn values_on_row<'a>(
+    alloc: Global,
+    inputs: &'a RowInputs<'a, F7, F7>,
+    row: usize,
+    constraints: &[Base],
+) -> Result<Vec<F7>, Fail>
+    requires preprocessed { inputs.now.preprocessed ≡ None }
+    requires permutation { inputs.now.permutation.now.width ≡ 0 }
+    requires challenges { inputs.now.challenges.now ≡ [] }
+    requires values { inputs.now.permutation_values.now ≡ [] }
+{
+    if row >= inputs.main.height() {
+        return Err("the trace has no such row".into());
+    }
+    let builder = DebugConstraintBuilder::new(inputs, row);
+    let layout = AirLayout::of_traces(inputs.main, None, inputs.public_values);
+    let mut values = Vec::new(alloc);
+    for constraint in constraints {
+        if !constraint.fits(&layout) {
+            return Err("a constraint reads past the trace".into());
+        }
+        values.push(constraint.resolve(alloc, &builder)?)?;
+    }
+    Ok(values)
+}
+
+/// Asserts products, sums and differences of two cells under the three selectors.
+fn assert_selected<AB: AirBuilder>(
+    alloc: Global,
+    builder: &mut AB,
+    a: &AB::Expr,
+    b: &AB::Expr,
+) -> Result<(), AirError> {
+    let product = a.copy(alloc)?.mul(alloc, b.copy(alloc)?)?;
+    let sum = a.copy(alloc)?.add(alloc, b.copy(alloc)?)?;
+    let first = product.copy(alloc)?.mul(alloc, sum)?;
+    builder.when_first_row().assert_zero(alloc, first)?;
+    let last = product.sub(alloc, a.copy(alloc)?)?;
+    builder.when_last_row().assert_zero(alloc, last)?;
+    let difference = a.copy(alloc)?.sub(alloc, b.copy(alloc)?)?;
+    let step = difference.sub(alloc, a.copy(alloc)?)?;
+    builder.when_transition().assert_zero(alloc, step)
+}
+
+/// Records them of a cell of the current row and one of the next.
+fn record_selected(alloc: Global) -> Result<SymbolicAirBuilder<F7, F7>, Fail> {
     let layout = AirLayout {
         main_width: 2,
         ..AirLayout::default()
@@ -114,37 +160,35 @@ fn recorded_constraints_resolve_on_cyclic_windows(rt: HostRuntime) -> Result<(),
         return Err("two columns were asked for".into());
     };
     let (a, b): (Base, Base) = (a.into(), b.into());
-    let product = a.copy(alloc)?.mul(alloc, b.copy(alloc)?)?;
-    let sum = a.copy(alloc)?.add(alloc, b.copy(alloc)?)?;
-    let difference = a.copy(alloc)?.sub(alloc, b)?;
-    let first = product.copy(alloc)?.mul(alloc, sum)?;
-    recorder.when_first_row().assert_zero(alloc, first)?;
-    let step = difference.sub(alloc, a.copy(alloc)?)?;
-    recorder.when_transition().assert_zero(alloc, step)?;
-    let last = product.sub(alloc, a)?;
-    recorder.when_last_row().assert_zero(alloc, last)?;
+    assert_selected(alloc, &mut recorder, &a, &b)?;
+    Ok(recorder)
+}
 
+#[test]
+fn recorded_constraints_resolve_on_cyclic_windows(rt: HostRuntime) -> Result<(), Fail> {
+    let alloc = rt.alloc();
+    let recorder = record_selected(alloc)?;
     let main = trace_of(alloc, &[1, 2, 3, 4, 5, 6], 2)?;
     let permutation = no_trace(alloc);
+    let preprocessed = no_preprocessed(&main);
     let inputs: RowInputs<'_, F7, F7> = RowInputs {
         main: &main,
-        preprocessed: None,
+        preprocessed,
         public_values: &[],
         permutation: &permutation,
         challenges: &[],
         permutation_values: &[],
     };
     // Row 0: 4 * 5, (1 - 4) - 1. Row 1: (3 - 6) - 3. Row 2, beside row 0: 5 * 2 - 5.
-    let wanted = [[6, 3, 0], [0, 1, 0], [0, 0, 5]];
-    for (row, values) in wanted.iter().enumerate() {
-        if row < inputs.main.height() {
-            let builder = DebugConstraintBuilder::new(&inputs, row);
-            for (constraint, value) in recorder.base_constraints().iter().zip(values.iter()) {
-                assert!(rt; constraint.fits(&layout));
-                let resolved = constraint.resolve(alloc, &builder)?;
-                assert_eq!(rt; resolved, F7::new(*value), "row {row}");
-            }
-        }
+    let wanted = [[6, 0, 3], [0, 0, 1], [0, 5, 0]];
+    for (row, expected) in wanted.iter().enumerate() {
+        let values = values_on_row(alloc, &inputs, row, recorder.base_constraints())?;
+        let numbers = [
+            F7::new(expected[0]),
+            F7::new(expected[1]),
+            F7::new(expected[2]),
+        ];
+        assert_eq!(rt; values.as_slice(), numbers.as_slice(), "row {row}");
     }
     Ok(())
 }

@@ -1,5 +1,5 @@
 use crate::tests::machines::{Counter, Fibonacci, assert_row};
-use crate::tests::{no_trace, trace_of};
+use crate::tests::{no_preprocessed, no_trace, trace_of};
 use crate::{
     AirBuilder, AirError, AirLayout, DebugConstraintBuilder, Expression, ExtensionBuilder,
     LayoutPart, PermutationAirBuilder, RowInputs, check_rows,
@@ -17,15 +17,16 @@ fn counted(
 ) -> Result<Result<(), AirError>, Fail> {
     let main = trace_of(alloc, values, 1)?;
     let permutation = no_trace(alloc);
-    let inputs = RowInputs {
+    let preprocessed = no_preprocessed(&main);
+    let inputs: RowInputs<'_, F7, F7> = RowInputs {
         main: &main,
-        preprocessed: None,
+        preprocessed,
         public_values: &[],
         permutation: &permutation,
         challenges: &[],
         permutation_values: &[],
     };
-    Ok(check_rows(&Counter { on_every_row }, alloc, &inputs))
+    Ok(check_rows(alloc, &Counter { on_every_row }, &inputs))
 }
 
 #[test]
@@ -50,15 +51,16 @@ fn followed(alloc: Global, values: &[u32], last: u32) -> Result<Result<(), AirEr
     let main = trace_of(alloc, values, 2)?;
     let permutation = no_trace(alloc);
     let public_values = [F7::new(last)];
-    let inputs = RowInputs {
+    let preprocessed = no_preprocessed(&main);
+    let inputs: RowInputs<'_, F7, F7> = RowInputs {
         main: &main,
-        preprocessed: None,
+        preprocessed,
         public_values: public_values.as_slice(),
         permutation: &permutation,
         challenges: &[],
         permutation_values: &[],
     };
-    Ok(check_rows(&Fibonacci, alloc, &inputs))
+    Ok(check_rows(alloc, &Fibonacci, &inputs))
 }
 
 #[test]
@@ -98,42 +100,86 @@ fn fibonacci_traces_are_checked_at_each_height(rt: HostRuntime) -> Result<(), Fa
     Ok(())
 }
 
+fn assert_on_last_row<AB: AirBuilder>(
+    alloc: Global,
+    builder: &mut AB,
+    left: AB::F,
+) -> Result<(), AirError> {
+    assert_row(alloc, &mut builder.when_last_row(), left, left)
+}
+
+/// Asserts a row under two selectors, one inside the other.
+fn assert_on_a_lone_row<AB: AirBuilder>(
+    alloc: Global,
+    builder: &mut AB,
+    left: AB::F,
+) -> Result<(), AirError> {
+    assert_on_last_row(alloc, &mut builder.when_first_row(), left)
+}
+
+fn assert_on_first_row_ext<AB: ExtensionBuilder>(
+    alloc: Global,
+    builder: &mut AB,
+    x: AB::ExprEF,
+) -> Result<(), AirError> {
+    builder.when_first_row().assert_zero_ext(alloc, x)
+}
+
+fn assert_on_last_row_ext<AB: ExtensionBuilder>(
+    alloc: Global,
+    builder: &mut AB,
+    x: AB::ExprEF,
+) -> Result<(), AirError> {
+    builder.when_last_row().assert_zero_ext(alloc, x)
+}
+
 #[test]
 fn filters_multiply(rt: HostRuntime) -> Result<(), Fail> {
     let alloc = rt.alloc();
     let main = trace_of(alloc, &[1, 2, 3, 4], 2)?;
     let permutation = no_trace(alloc);
+    let preprocessed = no_preprocessed(&main);
     let inputs: RowInputs<'_, F7, F7> = RowInputs {
         main: &main,
-        preprocessed: None,
+        preprocessed,
         public_values: &[],
         permutation: &permutation,
         challenges: &[],
         permutation_values: &[],
     };
-    // No row is first and last, so nothing is asserted under both selectors.
+    if inputs.main.height() != 2 {
+        return Err("the trace has two rows".into());
+    }
     let mut first = DebugConstraintBuilder::new(&inputs, 0);
-    let both = assert_row(
-        alloc,
-        &mut first.when_first_row().when_last_row(),
-        F7::new(5),
-        F7::new(5),
+    // Of two rows none is both first and last.
+    assert_eq!(rt; assert_on_a_lone_row(alloc, &mut first, F7::new(5)), Ok(()));
+    assert_eq!(rt;
+        assert_on_last_row_ext(alloc, &mut first, F7::new(3)),
+        Ok(())
     );
-    assert_eq!(rt; both, Ok(()));
-    let stepping = assert_row(
-        alloc,
-        &mut first.when_first_row().when_transition(),
-        F7::new(1),
-        F7::new(3),
+    assert_eq!(rt;
+        assert_on_first_row_ext(alloc, &mut first, F7::new(0)),
+        Ok(())
     );
-    assert_eq!(rt; stepping, Err(AirError::Assertion { row: 0 }));
-    let lifted = first.when_first_row().assert_zero_ext(alloc, F7::new(0));
-    assert_eq!(rt; lifted, Ok(()));
     let mut last = DebugConstraintBuilder::new(&inputs, 1);
-    let lifted = last.when_first_row().assert_zero_ext(alloc, F7::new(3));
-    assert_eq!(rt; lifted, Ok(()));
-    let lifted = last.when_last_row().assert_zero_ext(alloc, F7::new(3));
-    assert_eq!(rt; lifted, Err(AirError::Assertion { row: 1 }));
+    assert_eq!(rt;
+        assert_on_first_row_ext(alloc, &mut last, F7::new(3)),
+        Ok(())
+    );
+    let answer = assert_on_last_row_ext(alloc, &mut last, F7::new(3));
+    assert_eq!(rt; answer, Err(AirError::Assertion { row: 1 }));
+
+    let main = trace_of(alloc, &[1, 2], 2)?;
+    let inputs: RowInputs<'_, F7, F7> = RowInputs {
+        main: &main,
+        ..inputs
+    };
+    if inputs.main.height() != 1 {
+        return Err("the trace has one row".into());
+    }
+    let mut lone = DebugConstraintBuilder::new(&inputs, 0);
+    let answer = assert_on_a_lone_row(alloc, &mut lone, F7::new(1));
+    assert_eq!(rt; answer, Err(AirError::Assertion { row: 0 }));
     Ok(())
 }
 
@@ -174,9 +220,13 @@ fn permutation_windows_are_cyclic(rt: HostRuntime) -> Result<(), Fail> {
     let main = trace_of(alloc, &[1, 2, 3], 1)?;
     let permutation = trace_of(alloc, &[5, 6, 1], 1)?;
     let (challenges, permutation_values) = ([F7::new(4)], [F7::new(5)]);
-    let inputs = RowInputs {
+    let preprocessed = Some(&main);
+    if main.height() != 3 || permutation.height() != 3 {
+        return Err("the traces have three rows".into());
+    }
+    let inputs: RowInputs<'_, F7, F7> = RowInputs {
         main: &main,
-        preprocessed: Some(&main),
+        preprocessed,
         public_values: &[],
         permutation: &permutation,
         challenges: challenges.as_slice(),
@@ -189,10 +239,8 @@ fn permutation_windows_are_cyclic(rt: HostRuntime) -> Result<(), Fail> {
         Err(AirError::Assertion { row: 2 }),
     ];
     for (row, answer) in wanted.iter().enumerate() {
-        if row < inputs.main.height() {
-            let mut builder = DebugConstraintBuilder::new(&inputs, row);
-            assert_eq!(rt; assert_permutation(alloc, &mut builder), *answer);
-        }
+        let mut builder = DebugConstraintBuilder::new(&inputs, row);
+        assert_eq!(rt; assert_permutation(alloc, &mut builder), *answer);
     }
     let builder = DebugConstraintBuilder::new(&inputs, 2);
     assert_eq!(rt; builder.preprocessed().current(0), Some(F7::new(3)));
