@@ -1,5 +1,5 @@
 -- The test of keys decides their equality.
-use Rattle.std.proofs.Common.{◌≡◌, Bool, ◌&&◌, nat_eq, refl, Decides, List}
+use Rattle.std.proofs.Common.{◌≡◌, Bool, nat_eq, refl, Decides}
 use Rattle.std.proofs.lemmas.Bool.{and_parts, and_from}
 use Rattle.std.proofs.lemmas.Bool.Decides.{Decides-eqb}
 use Rattle.std.proofs.lemmas.Slice.Eq.{slice_eq-Decides}

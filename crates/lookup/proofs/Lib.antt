@@ -1,4 +1,5 @@
 pub mod Branches
+pub mod FirstSeen
 pub mod Fractions
 pub mod HornerRule
 pub mod KeyLaws
@@ -6,6 +7,7 @@ pub mod Layouts
 pub mod LookupFaults
 pub mod Nets
 pub mod OwnWindow
+pub mod PlainProgramLaws
 pub mod PlainResults
 pub mod Prefixes
 pub mod ProgressLaws

@@ -3,11 +3,9 @@ use Rattle.std.proofs.Common.{◌≡◌, ℕ, true, false, None, Some, ap, List}
 use Rattle.std.specs.Prelude.{if◌then◌else◌}
 use Rattle.lookup.specs.Extension.{Extension}
 use Rattle.lookup.specs.Fault.{fault_of, vanishes}
-use Rattle.lookup.specs.Fraction.{IsFractionOf}
 use Rattle.lookup.specs.Message.{Key, Message}
-use Rattle.lookup.specs.Plain.{counted, plain_fraction}
-use Rattle.lookup.specs.Sent.{Sent, sent}
-use Rattle.lookup.specs.declared.error.LookupError.{LookupError}
+use Rattle.lookup.specs.Plain.{counted}
+use Rattle.lookup.specs.Sent.{sent}
 use Rattle.lookup.specs.declared.error.LookupError.TheVariants.{VanishingDenominator}
 
 module _ {F K : Type 0} (E : Extension F K) (denominator : Key F → K) (row column : ℕ) (branches : List (Message F)) where

@@ -1,5 +1,5 @@
 -- What a builder of values hands out means itself at the builder's own window.
-use Rattle.std.proofs.Common.{◌≡◌, ℕ, List, length, map, sym, ap, ◌∙◌}
+use Rattle.std.proofs.Common.{◌≡◌, ℕ, List, length, sym, ap, ◌∙◌}
 use Rattle.std.proofs.lemmas.List.{map-id}
 use Rattle.air.specs.Builder.{MeansRow}
 

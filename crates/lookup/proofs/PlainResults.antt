@@ -1,11 +1,11 @@
 -- The rows that were made are the plain result.
-use Rattle.std.proofs.Common.{◌≡◌, ℕ, zero, suc, ◌≤◌, ◌+◌, ◌*◌, ◌/◌, ◌<◌, ◌==◌, Bool, Option, None, Some, List, [], ◌∷◌, ◌++◌, length, map, take, get_or, refl, sym, ap, subst, ◌∙◌, arith, cond}
+use Rattle.std.proofs.Common.{◌≡◌, ℕ, zero, suc, ◌≤◌, ◌+◌, ◌*◌, ◌/◌, ◌<◌, ◌==◌, Some, List, [], ◌∷◌, length, map, get_or, refl, sym, ap, ◌∙◌, arith, cond}
 use Rattle.std.proofs.lemmas.Bool.{ne_eqb}
-use Rattle.std.proofs.lemmas.List.{length-append, length-map, take_all, get_or_default}
+use Rattle.std.proofs.lemmas.List.{length-append, length-map, take_all}
 use Rattle.std.proofs.lemmas.Nat.{div-mul-add}
 use Rattle.std.specs.List.{enumerate_from, flat_map, range_with_len}
 use Rattle.field.specs.Sums.{sum_in}
-use Rattle.matrix.specs.Matrix.{Matrix, IsShaped}
+use Rattle.matrix.specs.Matrix.{IsShaped}
 use Rattle.lookup.specs.Extension.{Extension, IsLawful}
 use Rattle.lookup.specs.Fault.{row_faults, trace_faults}
 use Rattle.lookup.specs.Generated.{plain_matrix, plain_terminal_of}
@@ -14,7 +14,6 @@ use Rattle.lookup.specs.Plain.{plain_cells, plain_fraction, plain_row, plain_ter
 use Rattle.lookup.specs.Progress.{HasRows}
 use Rattle.lookup.specs.Sent.{Sent}
 use Rattle.lookup.specs.declared.types.Lookup.{Lookup}
-use Rattle.lookup.specs.declared.types.LookupTerminal.{LookupTerminal}
 use Rattle.lookup.proofs.Terminals.{plain_terminal-sum}
 use Rattle.lookup.proofs.Terminals.{plain_terminal-sum}
 

@@ -1,7 +1,6 @@
 -- The prefixes of the buses, one after another.
-use Rattle.std.proofs.Common.{◌≡◌, ℕ, ◌+◌, suc, add-one, refl, sym, ap, ◌∙◌}
+use Rattle.std.proofs.Common.{◌≡◌, ℕ, ◌+◌, add-one, sym, ap, ◌∙◌}
 use Rattle.field.specs.Ring.{Ring, IsCommutativeRing, of_nat}
-use Rattle.lookup.proofs.SumLaws.{zero_add}
 
 module _ {K : Type 0} {S : Ring K} (laws : IsCommutativeRing S) where
   -- what adds nothing to itself is zero

@@ -1,15 +1,14 @@
 -- An auxiliary trace grows by fractions and rows.
-use Rattle.std.proofs.Common.{◌≡◌, ℕ, ◌+◌, ◌<◌, min, None, Some, List, [], ◌∷◌, ◌++◌, length, map, take, drop, get_or, refl, sym, ap, ◌∙◌, arith, append_assoc}
+use Rattle.std.proofs.Common.{◌≡◌, ℕ, ◌+◌, ◌<◌, None, Some, List, [], ◌∷◌, ◌++◌, length, map, take, drop, get_or, refl, sym, ap, ◌∙◌, arith, append_assoc}
 use Rattle.std.proofs.lemmas.List.{append-nil, get_or_read, length-take, map-id, map_push, take_more}
 use Rattle.std.proofs.lemmas.List.FromFn.{map-range_with_len_more}
 use Rattle.std.proofs.lemmas.Grind.{flat_map-append}
 use Rattle.std.specs.List.{flat_map, range_with_len, slice_get}
-use Rattle.field.specs.Ring.{IsCommutativeRing}
 use Rattle.field.specs.Sums.{sum_in}
 use Rattle.lookup.specs.Extension.{Extension, IsLawful}
 use Rattle.lookup.specs.Fault.{fault_of, row_faults, trace_faults}
 use Rattle.lookup.specs.Message.{Key}
-use Rattle.lookup.specs.Plain.{plain_accumulator, plain_fraction, plain_row}
+use Rattle.lookup.specs.Plain.{plain_fraction, plain_row}
 use Rattle.lookup.specs.Progress.{HasRow, HasRows}
 use Rattle.lookup.specs.Sent.{Sent}
 use Rattle.lookup.specs.declared.error.LookupError.{LookupError}

@@ -1,9 +1,7 @@
 -- A sum over messages is the sum over their distinct keys, each with its net.
-use Rattle.std.proofs.Common.{◌≡◌, Bool, true, false, cond, not, ◌||◌, List, [], ◌∷◌, ◌++◌, map, refl, sym, ap, ◌∙◌, Decides}
+use Rattle.std.proofs.Common.{◌≡◌, Bool, true, false, cond, not, ◌||◌, List, [], ◌∷◌, refl, sym, ap, ◌∙◌, Decides}
 use Rattle.std.proofs.lemmas.Bool.{false≢true, true≢false}
 use Rattle.std.specs.List.{filter, list_any, AllByRecursion}
-use Rattle.field.specs.Ring.{Ring, IsCommutativeRing}
-use Rattle.field.specs.Sums.{sum_in}
 use Rattle.lookup.specs.Net.{first_seen}
 
 -- no item passes the test with one after it

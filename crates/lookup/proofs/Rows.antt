@@ -1,6 +1,6 @@
 -- The auxiliary trace, row by row and lookup by lookup.
-use Rattle.std.proofs.Common.{◌≡◌, ℕ, ◌+◌, ◌<◌, suc, Option, None, Some, List, [], ◌∷◌, ◌++◌, length, map, take, drop, get_or, refl, sym, ap, ◌∙◌, arith, append_assoc, add-one}
-use Rattle.std.proofs.lemmas.List.{append-nil, take_more, take-append-drop, map_push, map-append}
+use Rattle.std.proofs.Common.{◌≡◌, ℕ, ◌+◌, ◌<◌, None, Some, List, [], ◌∷◌, ◌++◌, length, map, take, drop, get_or, sym, ap, ◌∙◌, arith}
+use Rattle.std.proofs.lemmas.List.{append-nil, take_more, take-append-drop}
 use Rattle.std.proofs.lemmas.List.Elements.{filter_map-append}
 use Rattle.std.proofs.lemmas.Grind.{flat_map-append}
 use Rattle.std.specs.List.{enumerate_from, filter_map, cons_option, flat_map, slice_get}
@@ -8,10 +8,10 @@ use Rattle.field.specs.Sums.{sum_in}
 use Rattle.lookup.specs.Extension.{Extension, IsLawful}
 use Rattle.lookup.specs.Fault.{fault_of, row_faults, trace_faults}
 use Rattle.lookup.specs.Message.{Key}
-use Rattle.lookup.specs.Plain.{plain_fraction, plain_accumulator, plain_row}
+use Rattle.lookup.specs.Plain.{plain_fraction, plain_accumulator}
 use Rattle.lookup.specs.Sent.{Sent}
 use Rattle.lookup.specs.declared.error.LookupError.{LookupError}
-use Rattle.lookup.proofs.SumLaws.{sum_in-append, sum_in-push}
+use Rattle.lookup.proofs.SumLaws.{sum_in-append}
 
 module _ {A : Type 0} where
   -- the places of two lists, one after the other

@@ -1,13 +1,12 @@
 -- The terminal by nets is the sum of all fractions.
-use Rattle.std.proofs.Common.{◌≡◌, Bool, true, false, not, List, [], ◌∷◌, ◌++◌, map, refl, sym, ap, ◌∙◌, Decides}
+use Rattle.std.proofs.Common.{◌≡◌, false, not, List, [], ◌∷◌, map, refl, sym, ap, ◌∙◌}
 use Rattle.std.proofs.lemmas.Bool.{not-false}
 use Rattle.std.proofs.lemmas.List.{map-append}
-use Rattle.std.specs.List.{filter, flat_map, AllByRecursion}
-use Rattle.field.specs.Ring.{Ring}
+use Rattle.std.specs.List.{flat_map, AllByRecursion}
 use Rattle.field.specs.Sums.{sum_in}
 use Rattle.lookup.specs.Extension.{Extension, IsLawful}
 use Rattle.lookup.specs.Message.{Key, Message, same_key}
-use Rattle.lookup.specs.Net.{first_seen, keys, net, unbalanced_keys}
+use Rattle.lookup.specs.Net.{keys, net}
 use Rattle.lookup.specs.Plain.{quotient, plain_fraction, plain_terminal, trace_messages}
 use Rattle.lookup.specs.Sent.{Sent}
 use Rattle.lookup.proofs.KeyLaws.{same_key-Decides}

@@ -1,5 +1,5 @@
 -- The denominators of the lookups of one AIR, whose challenges stand in a bare list.
-use Rattle.std.specs.Prelude.{ℕ, ◌+◌, ◌*◌, List, map, slice_index_or}
+use Rattle.std.specs.Prelude.{◌+◌, ◌*◌, List, map, slice_index_or}
 use Rattle.field.specs.Polynomial.{combined}
 use Rattle.field.specs.Ring.{sub_in}
 use Rattle.lookup.specs.Extension.{Extension}

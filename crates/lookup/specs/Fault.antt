@@ -1,5 +1,5 @@
 -- The faults that generation can meet, in the order row, lookup.
-use Rattle.std.specs.Prelude.{ℕ, ◌<◌, Bool, List, Option, None, Some, if◌then◌else◌, not, ◌||◌, nat_lt, length, map}
+use Rattle.std.specs.Prelude.{ℕ, Bool, List, Option, None, Some, if◌then◌else◌, not, ◌||◌, nat_lt, length, map}
 use Rattle.std.specs.List.{enumerate_from, filter, filter_map, flat_map, list_all, list_any}
 use Rattle.lookup.specs.Extension.{Extension}
 use Rattle.lookup.specs.Message.{Key, Message}

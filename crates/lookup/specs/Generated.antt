@@ -1,5 +1,5 @@
 -- What generation gives.
-use Rattle.std.specs.Prelude.{◌≡◌, ◌+◌, List, [], ◌∷◌, Option, None, Some, length}
+use Rattle.std.specs.Prelude.{◌+◌, List, [], ◌∷◌, Option, None, Some, length}
 use Rattle.matrix.specs.Matrix.{Matrix}
 use Rattle.lookup.specs.Extension.{Extension}
 use Rattle.lookup.specs.Message.{Key}

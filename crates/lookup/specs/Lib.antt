@@ -8,6 +8,7 @@ pub mod Lookups
 pub mod Message
 pub mod Net
 pub mod Plain
+pub mod PlainProgram
 pub mod Progress
 pub mod Records
 pub mod Refusal

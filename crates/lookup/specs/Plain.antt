@@ -2,7 +2,6 @@
 -- terminal from the nets of the keys. The rows of a trace are lists of what its lookups send.
 use Rattle.std.specs.Prelude.{ℕ, List, ◌∷◌, length, map, not, take, slice_index_or, []}
 use Rattle.std.specs.List.{filter, flat_map, range_with_len}
-use Rattle.field.specs.Ring.{Ring}
 use Rattle.field.specs.Sums.{sum_in}
 use Rattle.lookup.specs.Extension.{Extension}
 use Rattle.lookup.specs.Message.{Key, Message}
@@ -38,8 +37,10 @@ module _ {F K : Type 0} (E : Extension F K) (denominator : Key F → K) where
   abbrev pub plain_cells : List (List (Sent F)) → List K
   plain_cells rows = flat_map (plain_row rows) (range_with_len 0 (length rows))
 
-  -- the terminal: the sum of net over denominator, over the keys whose net is not zero
+  -- the sum of net over denominator, over the keys of the messages whose net is not zero
+  abbrev pub net_sum : List (Message F) → K
+  net_sum messages = sum_in E.ring (map (λ key. quotient (net E.base E.base_eq messages key) key) (unbalanced_keys E.base E.base_eq messages))
+
+  -- the terminal: the sum of net over denominator, over the keys of the whole trace
   abbrev pub plain_terminal : List (List (Sent F)) → K
-  plain_terminal rows =
-      let messages = trace_messages rows in
-      sum_in E.ring (map (λ key. quotient (net E.base E.base_eq messages key) key) (unbalanced_keys E.base E.base_eq messages))
+  plain_terminal rows = net_sum (trace_messages rows)

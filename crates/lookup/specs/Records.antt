@@ -1,5 +1,5 @@
 -- Which lookups are well formed, and which fit the traces of an AIR.
-use Rattle.std.specs.Prelude.{◌≡◌, ℕ, ◌<◌, List, Option, Some, IfSome, length, slice_get, All}
+use Rattle.std.specs.Prelude.{◌≡◌, ℕ, ◌<◌, List, Some, IfSome, length, slice_get, All}
 use Rattle.std.specs.Option.{ForSome}
 use Rattle.air.specs.declared.layout.AirLayout.{AirLayout}
 use Rattle.air.specs.declared.symbolic.expression.SymbolicExpression.{SymbolicExpression}

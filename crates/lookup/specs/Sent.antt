@@ -7,7 +7,7 @@ use Rattle.air.specs.declared.symbolic.expression.SymbolicExpression.{SymbolicEx
 use Rattle.air.specs.Meaning.{value_of}
 use Rattle.air.specs.Tree.{tree_of}
 use Rattle.air.specs.Window.{Window}
-use Rattle.lookup.specs.Message.{Key, Message}
+use Rattle.lookup.specs.Message.{Message}
 use Rattle.lookup.specs.declared.types.Lookup.{Lookup}
 
 -- the messages of a row and, where the lookup is exclusive, the values of its flags

@@ -1,5 +1,5 @@
 -- What the lookups of an AIR send over its traces.
-use Rattle.std.specs.Prelude.{ℕ, Bool, List, Option, map}
+use Rattle.std.specs.Prelude.{Bool, List, Option, map}
 use Rattle.std.specs.List.{range_with_len}
 use Rattle.field.specs.Ring.{Ring}
 use Rattle.matrix.specs.Matrix.{Matrix, height}

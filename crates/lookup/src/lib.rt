@@ -13,6 +13,7 @@ mod fraction;
 mod generation;
 pub mod logup;
 mod lookups;
+mod plain;
 pub mod protocol;
 #[cfg(test)]
 mod tests;

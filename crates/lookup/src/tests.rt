@@ -1,8 +1,9 @@
 //! Calls over concrete fields.
+use crate::plain::PlainMessage;
 use crate::traits::LookupTraceBuilder;
 use crate::{
     Challenges, Kind, LogUpGadget, Lookup, LookupError, LookupProtocol, LookupTerminal, Lookups,
-    fits,
+    fits, plain,
 };
 use air::{
     AirBuilder, AirError, AirLayout, BaseEntry, BaseLeaf, Expression, SymbolicExpression,
@@ -386,4 +387,135 @@ fn refusals_of_an_air_keep_their_names(rt: HostRuntime) {
         LookupError::from(AirError::Assertion { row: 1 })
             == LookupError::Air(AirError::Assertion { row: 1 })
     );
+}
+
+/// The local lookup of cell 0 with count 1 in cell 1 with count minus cell 2.
+fn range_lookup(alloc: Global) -> Result<Lookup<F7>, Fail> {
+    let mut lookup = single::<F7>(alloc, 1, 0)?;
+    let mut provided = Vec::new(alloc);
+    provided.push(cell(1))?;
+    lookup.elements.push(provided)?;
+    lookup.multiplicities.push(cell(2).neg(alloc)?)?;
+    Ok(lookup)
+}
+
+/// What it sends on a row, appended.
+fn push_messages(
+    messages: &mut Vec<PlainMessage<F7>>,
+    alloc: Global,
+    row: [u32; 3],
+) -> Result<(), Fail> {
+    let mut read = Vec::new(alloc);
+    read.push(F7::new(row[0]))?;
+    messages.push(PlainMessage {
+        id: 0,
+        tuple: read,
+        multiplicity: F7::new(1),
+    })?;
+    let mut provided = Vec::new(alloc);
+    provided.push(F7::new(row[1]))?;
+    messages.push(PlainMessage {
+        id: 0,
+        tuple: provided,
+        multiplicity: -F7::new(row[2]),
+    })?;
+    Ok(())
+}
+
+/// Compares generation with the plain program on these rows.
+fn compare_with_plain(
+    rt: &impl Abort,
+    alloc: Global,
+    lookups: &[Lookup<F7>],
+    rows: &[[u32; 3]],
+    challenges: &[F7],
+) -> Result<(), Fail> {
+    let mut values = Vec::new(alloc);
+    let mut all = Vec::new(alloc);
+    let mut sum = F7::new(0);
+    let mut cells = Vec::new(alloc);
+    let mut vanishing = None;
+    for (index, row) in rows.iter().enumerate() {
+        let mut messages = Vec::new(alloc);
+        push_messages(&mut messages, alloc, *row)?;
+        push_messages(&mut all, alloc, *row)?;
+        for value in *row {
+            values.push(F7::new(value))?;
+        }
+        assert!(rt;
+            messages
+                .iter()
+                .all(|message| message.id < challenges.len() / 2)
+        );
+        cells.push(sum)?;
+        match plain::fraction_of::<F7, F7>(messages.as_slice(), challenges) {
+            Some(fraction) => {
+                cells.push(fraction)?;
+                sum = sum + fraction;
+            }
+            None => vanishing = vanishing.or(Some(index)),
+        }
+    }
+    assert!(rt; values.len() % 3 == 0);
+    assert!(rt; all.iter().all(|message| message.id < challenges.len() / 2));
+    let main = RowMajorMatrix::new(values, 3);
+    match generated::<F7, F7>(rt, alloc, &main, lookups, challenges) {
+        Ok((trace, terminal)) => {
+            assert!(rt; vanishing.is_none());
+            assert!(rt; trace.values() == cells.as_slice());
+            let expected = plain::terminal_of::<F7, F7>(all.as_slice(), challenges);
+            assert!(rt; expected.is_some());
+            assert!(rt; terminal.map(|terminal| terminal.0) == expected);
+        }
+        Err(error) => {
+            let row = vanishing.unwrap_or(rows.len());
+            assert!(rt; error == LookupError::VanishingDenominator { row, lookup: 0 });
+        }
+    }
+    Ok(())
+}
+
+#[test]
+fn one_row_against_the_plain_program(rt: HostRuntime) -> Result<(), Fail> {
+    let alloc = rt.alloc();
+    let mut lookups = Vec::new(alloc);
+    lookups.push(range_lookup(alloc)?)?;
+    for alpha in 0..7 {
+        for beta in 0..7 {
+            for row in 0..343 {
+                let rows = [[row / 49, row / 7 % 7, row % 7]];
+                compare_with_plain(
+                    &rt,
+                    alloc,
+                    lookups.as_slice(),
+                    &rows,
+                    &[F7::new(alpha), F7::new(beta)],
+                )?;
+            }
+        }
+    }
+    Ok(())
+}
+
+#[test]
+fn two_rows_against_the_plain_program(rt: HostRuntime) -> Result<(), Fail> {
+    let alloc = rt.alloc();
+    let mut lookups = Vec::new(alloc);
+    lookups.push(range_lookup(alloc)?)?;
+    for first in 0..343 {
+        for second in 0..343 {
+            let rows = [
+                [first / 49, first / 7 % 7, first % 7],
+                [second / 49, second / 7 % 7, second % 7],
+            ];
+            compare_with_plain(
+                &rt,
+                alloc,
+                lookups.as_slice(),
+                &rows,
+                &[F7::new(0), F7::new(2)],
+            )?;
+        }
+    }
+    Ok(())
 }

@@ -9,16 +9,18 @@ use lookup::{Challenges, LogUpGadget, LookupError, LookupProtocol, LookupTermina
 use matrix::RowMajorMatrix;
 use std::alloc::{AllocError, Global};
 
-/// The text of standard output, and whether the terminals cancel.
+/// What a run that is not refused comes to.
 #[derive(Debug, Drop)]
 pub struct Report {
+    /// What is written to standard output.
     pub text: String,
+    /// Whether the terminals cancel.
     pub balanced: bool,
 }
 
-/// The report of a machine over the rows of `text`, with challenges as they are written.
+/// The report of a machine over the rows of `text`, with its alpha and its beta.
 ///
-/// Refuses a challenge, then a line, then the first fault of the auxiliary trace.
+/// Refuses a faulty line, then an input without rows, then the first fault of the auxiliary trace.
 pub fn report_of<F: Field, EF: Challenge + ExtensionField<F>>(
     alloc: Global,
     machine: Machine,

@@ -1,4 +1,4 @@
-use Rattle.std.proofs.Common.{◌≡◌, inl, inr, refl, sym, ap, subst, ◌∙◌, ◌∷◌, ◌++◌, [], take, drop, ◌+◌, arith, rules, List}
+use Rattle.std.proofs.Common.{◌≡◌, inl, inr, sym, ap, subst, ◌∙◌, ◌∷◌, ◌++◌, [], take, drop, ◌+◌, arith, List}
 use Rattle.std.proofs.lemmas.List.{take_all}
 use Rattle.std.proofs.lemmas.Result.{err_from_is_err_and}
 use Rattle.air.specs.declared.symbolic.expression.SymbolicExpression.{SymbolicExpression}

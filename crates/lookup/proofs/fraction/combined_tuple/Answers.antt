@@ -1,6 +1,6 @@
-use Rattle.std.proofs.Common.{ap, sym, ◌∙◌, map, take, ◌+◌}
+use Rattle.std.proofs.Common.{ap, sym, ◌∙◌, take, ◌+◌}
 use Rattle.field.specs.Polynomial.{combined}
-use Rattle.lookup.specs.Sent.{value, values}
+use Rattle.lookup.specs.Sent.{value}
 use Rattle.lookup.specs.TraceBuilder.{builder_layout, builder_window}
 use Rattle.lookup.proofs.HornerRule.{combined_more, map-map}
 use Rattle.lookup.proofs.RecordLaws.{Fits-at}

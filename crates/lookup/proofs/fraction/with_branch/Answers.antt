@@ -1,10 +1,10 @@
-use Rattle.std.proofs.Common.{◌≡◌, ◌≢◌, true, false, sym, ap, ◌∙◌}
+use Rattle.std.proofs.Common.{◌≡◌, ◌≢◌, sym, ap, ◌∙◌}
 use Rattle.std.proofs.lemmas.Bool.{true≢false}
 use Rattle.lookup.specs.Denominators.{column_denominator, tuple_denominator}
 use Rattle.lookup.specs.Extension.{extension, IsLawful}
 use Rattle.lookup.specs.Sent.{branch_at}
 use Rattle.lookup.specs.TraceBuilder.{builder_window}
-use Rattle.lookup.proofs.Fractions.{fraction_of_added, fraction_of_skipped}
+use Rattle.lookup.proofs.Fractions.{fraction_of_added}
 use Rattle.lookup.proofs.fraction.with_branch.Goals as goal
 
 pub returns-in-Some-clause-next : goal.returns-in-Some-clause-next

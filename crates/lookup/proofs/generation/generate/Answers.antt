@@ -1,4 +1,4 @@
-use Rattle.std.proofs.Common.{◌≡◌, ◌<◌, ℕ, inl, inr, Some, subst, sym, ap, ◌∙◌, length, List, arith}
+use Rattle.std.proofs.Common.{◌≡◌, ◌<◌, ℕ, inl, inr, Some, subst, sym, ◌∙◌, length, List, arith}
 use Rattle.std.proofs.lemmas.Result.{err_from_is_err_and}
 use Rattle.std.specs.List.{slice_get}
 use Rattle.std.specs.Option.{option_copied}
@@ -9,10 +9,9 @@ use Rattle.matrix.specs.Matrix.{height}
 use Rattle.lookup.specs.Denominators.{column_denominator}
 use Rattle.lookup.specs.Extension.{extension, IsLawful}
 use Rattle.lookup.specs.Fault.{row_faults}
-use Rattle.lookup.specs.Progress.{HasRow, HasRows}
+use Rattle.lookup.specs.Progress.{HasRow}
 use Rattle.lookup.specs.Records.{DoFit}
 use Rattle.lookup.specs.Trace.{sent_row, sent_rows}
-use Rattle.lookup.specs.TraceBuilder.{builder_window}
 use Rattle.lookup.proofs.Layouts.{DoFit-with_challenges}
 use Rattle.lookup.proofs.ProgressLaws.{HasRows-more, HasRows-fault}
 use Rattle.lookup.proofs.SentRows.{sent_rows-at, length-sent_rows}

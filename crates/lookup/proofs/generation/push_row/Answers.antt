@@ -1,9 +1,9 @@
-use Rattle.std.proofs.Common.{◌≡◌, inl, inr, Some, subst, sym, ap, ◌∙◌, ◌++◌, ◌∷◌, [], take, drop, ◌+◌, List}
+use Rattle.std.proofs.Common.{inl, inr, subst, sym, ap, ◌∙◌, take, drop, ◌+◌, List}
 use Rattle.std.proofs.lemmas.Result.{err_from_is_err_and}
 use Rattle.std.specs.List.{slice_get}
 use Rattle.lookup.specs.Denominators.{column_denominator}
 use Rattle.lookup.specs.Extension.{extension, IsLawful}
-use Rattle.lookup.specs.Fault.{fault_of, row_faults}
+use Rattle.lookup.specs.Fault.{row_faults}
 use Rattle.lookup.specs.Progress.{HasRow}
 use Rattle.lookup.specs.Sent.{Sent, sent_at}
 use Rattle.lookup.specs.Trace.{sent_row}

@@ -1,4 +1,4 @@
-use Rattle.std.proofs.Common.{◌≡◌, ◌+◌, map}
+use Rattle.std.proofs.Common.{◌≡◌, map}
 use Rattle.std.specs.List.{range_with_len}
 use Rattle.lookup.specs.Challenges.{prefix_of_bus}
 use Rattle.field.specs.Ring.{of_nat}
