@@ -1,5 +1,5 @@
 -- Polynomials as coefficient lists, lowest power first, and tuples combined by a challenge.
-use Rattle.std.specs.Prelude.{◌≡◌, List, [], ◌∷◌, reverse}
+use Rattle.std.specs.Prelude.{◌≡◌, ◌≢◌, ◌⊎◌, List, [], ◌∷◌, reverse}
 use Rattle.std.specs.List.{AllByRecursion}
 use Rattle.field.specs.Ring.{Ring}
 
@@ -15,6 +15,11 @@ IsRoot R cs x = value_at R cs x ≡ R.zero
 -- the polynomial is zero: all its coefficients are
 abbrev pub IsZeroPolynomial : {A : Type 0} → Ring A → List A → Type 0
 IsZeroPolynomial R cs = AllByRecursion (λ c. c ≡ R.zero) cs
+
+-- the polynomial is nonzero: one of its coefficients is
+abbrev pub IsNonzeroPolynomial : {A : Type 0} → Ring A → List A → Type 0
+IsNonzeroPolynomial R [] = ⊥
+IsNonzeroPolynomial R (c ∷ cs) = (c ≢ R.zero) ⊎ IsNonzeroPolynomial R cs
 
 -- each element of the list is a root
 abbrev pub AreRoots : {A : Type 0} → Ring A → List A → List A → Type 0
