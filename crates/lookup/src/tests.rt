@@ -202,6 +202,7 @@ fn terminals_that_cancel(rt: HostRuntime) -> Result<(), Fail> {
         refused_terminals(alloc, &[Some(5), Some(3)])? == Some(LookupError::TerminalSumNonZero)
     );
     assert!(rt; refused_terminals(alloc, &[])? == None);
+    assert!(rt; LookupTerminal::<F7>::default().0 == F7::new(0));
     Ok(())
 }
 

@@ -1,5 +1,8 @@
 //! Lookups and their parts.
+ghost use Rattle.std.specs.Prelude.{◌≡◌};
+
 use air::SymbolicExpression;
+use field::PrimeCharacteristicRing;
 
 /// Whether a lookup stands by itself or is sent on a bus.
 #[derive(Debug, Drop, PartialEq, Eq)]
@@ -33,3 +36,12 @@ pub struct Lookup<F> {
 /// The sum of all fractions of one AIR, which its prover hands over.
 #[derive(Clone, Copy, Debug)]
 pub struct LookupTerminal<F>(pub F);
+
+/// Zero, the terminal of an AIR that sends nothing.
+impl<F: PrimeCharacteristicRing> Default for LookupTerminal<F> {
+    ghost is_default = { λ terminal. terminal.0 ≡ F.ring.zero };
+
+    fn default() -> LookupTerminal<F> {
+        LookupTerminal(F::ZERO)
+    }
+}
