@@ -1,4 +1,9 @@
+pub mod Accumulators
+pub mod Asserting
 pub mod Branches
+pub mod Cells
+pub mod DegreeBounds
+pub mod Evaluations
 pub mod FirstSeen
 pub mod Fractions
 pub mod HornerRule
@@ -16,5 +21,6 @@ pub mod Regrouping
 pub mod Rows
 pub mod SentRows
 pub mod SumLaws
+pub mod TakenOut
 pub mod Terminals
 pub mod TerminalSums

@@ -25,9 +25,13 @@ module _ {A : Type 0} where
   slice_get-first [] ys x e = absurd (cc e)
   slice_get-first (y ∷ xs) ys x e = e
 
+  -- a list up to a place and the item there
+  pub take_item : (xs : List A) (i : ℕ) (x : A) → i < length xs → x ≡ get_or xs i x → take (i + 1) xs ≡ take i xs ++ x ∷ []
+  take_item xs i x lt is = take_more xs i x lt ∙ ap (λ t. take i xs ++ t ∷ []) (sym is)
+
   -- a list up to a place, the item there, and the rest
   pub split_at : (xs : List A) (i : ℕ) (x : A) → i < length xs → x ≡ get_or xs i x → xs ≡ (take i xs ++ x ∷ []) ++ drop (i + 1) xs
-  split_at xs i x lt is = sym (take-append-drop (i + 1) xs) ∙ ap (λ t. t ++ drop (i + 1) xs) (take_more xs i x lt ∙ ap (λ t. take i xs ++ t ∷ []) (sym is))
+  split_at xs i x lt is = sym (take-append-drop (i + 1) xs) ∙ ap (λ t. t ++ drop (i + 1) xs) (take_item xs i x lt is)
 
 module _ {F K : Type 0} (E : Extension F K) (denominator : Key F → K) where
   -- the faults of a row that goes on

@@ -1,9 +1,12 @@
+pub mod Asserted
 pub mod Challenges
+pub mod Constraints
 pub mod Denominators
 pub mod Extension
 pub mod Fault
 pub mod Fraction
 pub mod Generated
+pub mod LookupDegree
 pub mod Lookups
 pub mod Message
 pub mod Net

@@ -8,6 +8,7 @@
 
 mod challenges;
 mod error;
+mod evaluation;
 mod fitting;
 mod fraction;
 mod generation;

@@ -3,10 +3,11 @@ ghost use Rattle.std.specs.Prelude.{◌≡◌};
 ghost use Rattle.lookup.specs.Terminals.{terminal_sum, terminal_value};
 
 use crate::error::LookupError;
-use crate::generation;
 use crate::protocol::LookupProtocol;
 use crate::trace_builder::LookupTraceBuilder;
 use crate::types::{Lookup, LookupTerminal};
+use crate::{evaluation, generation};
+use air::{AirBuilder, AirError, ExtensionBuilder, PermutationAirBuilder};
 use field::{ExtensionField, Field};
 use matrix::RowMajorMatrix;
 use std::alloc::Global;
@@ -29,6 +30,25 @@ impl LogUpGadget {
 impl LookupProtocol for LogUpGadget {
     fn num_challenges(&self) -> usize {
         2
+    }
+
+    fn eval_fraction<AB: PermutationAirBuilder>(
+        &self,
+        alloc: Global,
+        builder: &mut AB,
+        lookup: &Lookup<AB::F>,
+    ) -> Result<(), AirError> {
+        evaluation::eval_fraction(alloc, builder, lookup)
+    }
+
+    fn eval_accumulator<AB: PermutationAirBuilder>(
+        &self,
+        alloc: Global,
+        builder: &mut AB,
+        lookups: &[Lookup<AB::F>],
+        terminal: AB::ExprEF,
+    ) -> Result<(), AirError> {
+        evaluation::eval_accumulator(alloc, builder, lookups, terminal)
     }
 
     fn generate_permutation<'a, F: Field, EF: ExtensionField<F>>(

@@ -1,18 +1,22 @@
 //! The calls of a lookup argument.
-ghost use Rattle.std.specs.Prelude.{◌≡◌, ◌≢◌, ◌*◌, ◌≤◌, ◌⊎◌, [], All, MatchResult, None, Some, length, slice_get};
+ghost use Rattle.std.specs.Prelude.{◌≡◌, ◌≢◌, ◌+◌, ◌*◌, ◌≤◌, ◌<◌, ◌⊎◌, [], ◌∷◌, All, MatchResult, None, Some, length, slice_get};
 ghost use Rattle.std.specs.Option.{ForSome, option_copied};
 ghost use Rattle.air.specs.Layout.{layout_of_traces};
+ghost use Rattle.lookup.specs.Asserted.{Evaluates, IsConstraint};
+ghost use Rattle.lookup.specs.Constraints.{accumulator_constraints, fraction_constraint, lookup_constraints};
 ghost use Rattle.lookup.specs.Denominators.{column_denominator};
 ghost use Rattle.lookup.specs.Extension.{extension};
 ghost use Rattle.lookup.specs.Fault.{trace_faults};
 ghost use Rattle.lookup.specs.Generated.{plain_matrix, plain_terminal_of};
-ghost use Rattle.lookup.specs.Records.{DoFit};
+ghost use Rattle.lookup.specs.Records.{DoFit, HasEqualLengths, IsWithin};
 ghost use Rattle.lookup.specs.Terminals.{terminal_sum};
 ghost use Rattle.lookup.specs.Trace.{sent_rows};
 ghost use Rattle.matrix.specs.Matrix.{height};
 
 use crate::error::LookupError;
+use crate::evaluation::{eval_fractions, eval_terminal};
 use crate::types::{Lookup, LookupTerminal};
+use air::{AirBuilder, AirError, ExtensionBuilder, PermutationAirBuilder};
 use field::{ExtensionField, Field};
 use matrix::RowMajorMatrix;
 use std::alloc::Global;
@@ -22,10 +26,80 @@ use std::alloc::Global;
 /// Column 0 of the auxiliary trace is the accumulator, and column `c + 1` has the fractions of
 /// lookup `c`. The lookup in column `c` takes challenge `2c` as its alpha, from which its combined
 /// tuples are taken, and challenge `2c + 1` as its beta, which combines them.
-pub trait LookupProtocol {
+pub trait LookupProtocol: Sized {
     /// How many challenges a lookup takes: its alpha and its beta.
     fn num_challenges(&self) -> usize
         ensures { result ≡ 2 };
+
+    /// Asserts the equation of a lookup's fraction `f`, on every row: `U * f - V = 0`, where `U` is
+    /// the product of the denominators of all tuples and `V` the sum over the tuples of the
+    /// multiplicity times the product of the other denominators; with flags `D * f - N = 0`, where
+    /// `D` is the sum of flag times denominator, and one less the sum of the flags, and `N` the sum
+    /// of flag times multiplicity.
+    ///
+    /// The fraction is the cell `column + 1` of the auxiliary row, and the challenges `2 * column`
+    /// and `2 * column + 1` are the alpha and the beta. A refusal is want of memory, or what the
+    /// builder answers for its window or for this assertion.
+    fn eval_fraction<AB: PermutationAirBuilder>(
+        &self,
+        alloc: Global,
+        builder: &mut AB,
+        lookup: &Lookup<AB::F>,
+    ) -> Result<(), AirError>
+        requires lengths { HasEqualLengths lookup.now }
+        requires fits { IsWithin (AB.layout builder.old) lookup.now }
+        requires challenges { 2 * lookup.now.column + 1 < (AB.layout builder.old).num_permutation_challenges }
+        requires cell { lookup.now.column + 1 < (AB.layout builder.old).permutation_width }
+        ensures { let E = extension AB.F.ring AB.F.eq AB.EF.ring AB.EF.eq AB.EF.embed AB.EF.inverse in
+            Evaluates AB.accepts_ext AB.refuses_ext (λ b e. (e ≡ AirError.Memory) ⊎ AB.window_refuses b e)
+            (IsConstraint (λ x w. AB.ExprEF.value x (AB.seen_ext w)) AB.ExprEF.degree (AB.stands_for_ext builder.old))
+            builder.old (fraction_constraint E lookup.now ∷ []) result builder.new };
+
+    /// Asserts that the accumulator, which is cell 0 of the auxiliary row, is zero on the first row;
+    /// that on every row but the last the next one is this one and the fractions of the row; and
+    /// that on the last row `terminal` is that sum. Nothing is asserted without lookups.
+    ///
+    /// A refusal is want of memory, or what the builder answers for its window or for the assertion
+    /// at which it came; what was asserted before stays.
+    fn eval_accumulator<AB: PermutationAirBuilder>(
+        &self,
+        alloc: Global,
+        builder: &mut AB,
+        lookups: &[Lookup<AB::F>],
+        terminal: AB::ExprEF,
+    ) -> Result<(), AirError>
+        requires cells { All (λ lookup. lookup.column + 1 < (AB.layout builder.old).permutation_width) lookups.now }
+        ensures { let E = extension AB.F.ring AB.F.eq AB.EF.ring AB.EF.eq AB.EF.embed AB.EF.inverse in
+            Evaluates AB.accepts_ext AB.refuses_ext (λ b e. (e ≡ AirError.Memory) ⊎ AB.window_refuses b e)
+            (IsConstraint (λ x w. AB.ExprEF.value x (AB.seen_ext w)) AB.ExprEF.degree (AB.stands_for_ext builder.old))
+            builder.old (accumulator_constraints E lookups.now (λ w. AB.ExprEF.value terminal (AB.seen_ext w)) (AB.ExprEF.degree terminal)) result builder.new };
+
+    /// Asserts the equation of each lookup in order, and then the accumulator's three, with the
+    /// first permutation value as the terminal; nothing without lookups.
+    ///
+    /// A refusal is want of memory, or what the builder answers for its window or for the assertion
+    /// at which it came; what was asserted before stays.
+    final fn eval_all<AB: PermutationAirBuilder>(
+        &self,
+        alloc: Global,
+        builder: &mut AB,
+        lookups: &[Lookup<AB::F>],
+    ) -> Result<(), AirError>
+        requires fit { DoFit (AB.layout builder.old) lookups.now }
+        requires challenges { 2 * length lookups.now ≤ (AB.layout builder.old).num_permutation_challenges }
+        requires cells { 0 < length lookups.now → length lookups.now < (AB.layout builder.old).permutation_width }
+        requires terminal { 0 < length lookups.now → 0 < (AB.layout builder.old).num_permutation_values }
+        ensures { let E = extension AB.F.ring AB.F.eq AB.EF.ring AB.EF.eq AB.EF.embed AB.EF.inverse in
+            Evaluates AB.accepts_ext AB.refuses_ext (λ b e. (e ≡ AirError.Memory) ⊎ AB.window_refuses b e)
+            (IsConstraint (λ x w. AB.ExprEF.value x (AB.seen_ext w)) AB.ExprEF.degree (AB.stands_for_ext builder.old))
+            builder.old (lookup_constraints E lookups.now) result builder.new }
+    {
+        if lookups.is_empty() {
+            return Ok(());
+        }
+        eval_fractions(self, alloc, builder, lookups)?;
+        eval_terminal(self, alloc, builder, lookups)
+    }
 
     /// The auxiliary trace of one AIR and its terminal.
     ///
