@@ -1,5 +1,5 @@
 //! A builder that checks assertions on one row.
-ghost use Rattle.std.specs.Prelude.{◌≡◌, ◌≢◌, ◌+◌, ◌<◌, ◌⊎◌, IfSome, MatchResult, length, refl};
+ghost use Rattle.std.specs.Prelude.{◌≡◌, ◌≢◌, ◌+◌, ◌<◌, ◌⊎◌, IfSome, MatchResult, length, refl, ⊤};
 ghost use Rattle.std.proofs.Common.{ap, rules};
 ghost use Rattle.std.specs.Option.{option_copied};
 ghost use Rattle.matrix.specs.Matrix.{height, row};
@@ -37,6 +37,10 @@ pub struct DebugConstraintBuilder<'a, F, EF> {
 }
 
 impl<F: Copy, EF: Copy> Clone for DebugConstraintBuilder<'_, F, EF> {
+    ghost is_clone = { λ x y. y ≡ x };
+
+    ghost is_infallible = { λ _. ⊤ };
+
     fn clone(&self) -> Result<Self, AllocError> {
         Ok(*self)
     }
