@@ -1,16 +1,7 @@
--- The cells that variables mean.
-use Rattle.std.proofs.Common.{◌≡◌, List, ℕ, Some, slice_get, slice_index_or, refl, ap, sym, length, ◌∙◌}
+-- The cells that the values of one row mean.
+use Rattle.std.proofs.Common.{◌≡◌, List, ℕ, ap, sym, length, ◌∙◌}
 use Rattle.std.proofs.lemmas.List.{map-id}
-use Rattle.std.proofs.lemmas.Option.{get_or_from_slice_get, slice_get-map}
-use Rattle.air.specs.Builder.{MeansRow}
-
--- a variable of a row means, at each window that is stood for, the cell at its place
-pub reads_at : {V W A : Type 0} (stands_for : W → Type 0) (meaning : V → W → A) (width : ℕ) (cells : W → List A) (variables : List V) (i : ℕ) (v : V) (w : W) (none : A) → MeansRow stands_for meaning width cells variables → slice_get variables i ≡ Some v → stands_for w → meaning v w ≡ slice_index_or (cells w) i none
-reads_at {V} {W} {A} stands_for meaning width cells variables i v w none row found stands =
-    sym (get_or_from_slice_get (cells w) i (meaning v w) none read)
-  where
-    read : slice_get (cells w) i ≡ Some (meaning v w)
-    read = rw (← row.reads w stands, slice_get-map, found) refl
+use Rattle.symbolic.specs.Builder.{MeansRow}
 
 -- where only one window is stood for, the values of a row in it mean themselves
 pub means_itself : {W A : Type 0} (window : W) (width : ℕ) (cells : W → List A) (values : List A) → length values ≡ width → values ≡ cells window → MeansRow (λ w. w ≡ window) (λ v _. v) width cells values

@@ -1,4 +1,3 @@
-pub mod Assertions
 pub mod Cells
 pub mod Places
-pub mod Recording
+pub mod RecordedRows

@@ -1,8 +1,8 @@
 -- The variables that are kept for a layout.
 use Rattle.air.specs.Variables.{IsVariableMatrix, IsVariableRow}
-use Rattle.air.specs.declared.symbolic.variable.BaseEntry.TheVariants.{Main, Preprocessed, Public}
-use Rattle.air.specs.declared.symbolic.variable.ExtEntry.TheVariants.{Challenge, Permutation, PermutationValue}
-use Rattle.air.specs.declared.symbolic.variables.LayoutVariables.TheInside.{Inside}
+use Rattle.symbolic.specs.declared.variable.BaseEntry.TheVariants.{Main, Preprocessed, Public}
+use Rattle.symbolic.specs.declared.variable.ExtEntry.TheVariants.{Challenge, Permutation, PermutationValue}
+use Rattle.air.specs.declared.recording.variables.LayoutVariables.TheInside.{Inside}
 
 -- the variables are those of the layout, each at its place
 pub record IsStored {F EF : Type 0} (s : Inside F EF) : Type 0 where

@@ -1,27 +1,16 @@
-//! Constraints over traces: expressions, the builders that record or check them, and windows.
+//! The builders that record constraints or check them on given rows, and all of `symbolic`.
 #![tactic(auto)]
 
-mod air;
-mod builder;
 mod debug;
-mod error;
-mod expression;
-mod extension;
-mod filtered;
-mod layout;
-mod symbolic;
+mod recording;
 #[cfg(test)]
 mod tests;
 
-pub use air::{Air, BaseAir};
-pub use builder::AirBuilder;
 pub use debug::{DebugConstraintBuilder, RowInputs, check_rows};
-pub use error::{AirError, LayoutPart};
-pub use expression::Expression;
-pub use extension::{ExtensionBuilder, PermutationAirBuilder};
-pub use filtered::FilteredAirBuilder;
-pub use layout::AirLayout;
+pub use recording::{ConstraintLayout, SymbolicAirBuilder};
 pub use symbolic::{
-    BaseEntry, BaseLeaf, ConstraintLayout, ExtEntry, ExtLeaf, Seen, SeenExt, SymbolicAirBuilder,
-    SymbolicExpression, SymbolicExpressionExt, SymbolicVariable, SymbolicVariableExt, resolve_over,
+    Air, AirBuilder, AirError, AirLayout, BaseAir, BaseEntry, BaseLeaf, Expression, ExtEntry,
+    ExtLeaf, ExtensionBuilder, FilteredAirBuilder, LayoutPart, PermutationAirBuilder, Seen,
+    SeenExt, SymbolicExpression, SymbolicExpressionExt, SymbolicVariable, SymbolicVariableExt,
+    resolve_over,
 };

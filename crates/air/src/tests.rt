@@ -1,26 +1,31 @@
-mod errors;
-mod expressions;
+mod filters;
 mod machines;
+mod permutations;
 mod recording;
+mod resolving;
 mod rows;
 
 ghost use Rattle.std.specs.Prelude.{◌≡◌, None, []};
 
 use field::F7;
 use matrix::RowMajorMatrix;
-use std::alloc::Global;
-use std::test::Fail;
+use std::alloc::{AllocError, Global};
 
-/// A trace of these values, whose number is a multiple of the width.
-fn trace_of(alloc: Global, values: &[u32], width: usize) -> Result<RowMajorMatrix<F7>, Fail> {
-    let mut elements = Vec::new(alloc);
+fn elements(alloc: Global, values: &[u32]) -> Result<Vec<F7>, AllocError> {
+    let mut all = Vec::new(alloc);
     for value in values {
-        elements.push(F7::new(*value))?;
+        all.push(F7::new(*value))?;
     }
-    if width == 0 || elements.len() % width != 0 {
-        return Err("the values do not make whole rows".into());
+    Ok(all)
+}
+
+/// A trace of these values, where they make whole rows.
+fn trace_of(alloc: Global, values: &[u32], width: usize) -> Option<RowMajorMatrix<F7>> {
+    let all = elements(alloc, values).ok()?;
+    if width == 0 || all.len() % width != 0 {
+        return None;
     }
-    Ok(RowMajorMatrix::new(elements, width))
+    Some(RowMajorMatrix::new(all, width))
 }
 
 /// A trace without columns.

@@ -1,7 +1,7 @@
 -- The accumulator's constraints, one after the other.
 use Rattle.std.proofs.Common.{◌≡◌, ℕ, ◌+◌, ◌≤◌, ◌<◌, Bool, true, false, All, List, [], ◌∷◌, length, refl, ◌∙◌, arith}
 use Rattle.field.specs.Ring.{IsEmbedding, of_bool}
-use Rattle.air.specs.Window.{ExtWindow}
+use Rattle.symbolic.specs.Window.{ExtWindow}
 use Rattle.lookup.specs.Asserted.{IsConstraint}
 use Rattle.lookup.specs.Constraints.{accumulator_constraints, first_constraint, last_constraint, selected, transition_constraint}
 use Rattle.lookup.specs.Extension.{Extension}

@@ -1,7 +1,7 @@
 -- Constraints asserted one after the other.
 use Rattle.std.proofs.Common.{◌≡◌, ◌⊎◌, ℕ, List, [], ◌∷◌, ◌++◌, Result, Ok, Err, MatchResult, refl, sym, inl, inr, subst}
-use Rattle.air.specs.Window.{ExtWindow}
-use Rattle.air.specs.declared.error.AirError.{AirError}
+use Rattle.symbolic.specs.Window.{ExtWindow}
+use Rattle.symbolic.specs.declared.error.AirError.{AirError}
 use Rattle.std.specs.List.{AllZip}
 use Rattle.std.specs.Result.{IfErr, IfOk}
 use Rattle.lookup.specs.Asserted.{Asserts, Evaluates, Fails, IsConstraint}

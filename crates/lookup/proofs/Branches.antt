@@ -6,8 +6,8 @@ use Rattle.std.specs.List.{zip}
 use Rattle.std.specs.declared.alloc.Global.{Global}
 use Rattle.std.specs.declared.vec.Vec.{Vec}
 use Rattle.field.specs.Ring.{Ring}
-use Rattle.air.specs.Window.{Window}
-use Rattle.air.specs.declared.symbolic.expression.SymbolicExpression.{SymbolicExpression}
+use Rattle.symbolic.specs.Window.{Window}
+use Rattle.symbolic.specs.declared.base_expression.SymbolicExpression.{SymbolicExpression}
 use Rattle.lookup.specs.LookupDegree.{branch_degrees, lookup_branch_degrees}
 use Rattle.lookup.specs.Records.{HasEqualLengths}
 use Rattle.lookup.specs.Sent.{branch_at, branches_at}

@@ -1,8 +1,8 @@
 -- What an evaluation keeps of a builder.
 use Rattle.std.proofs.Common.{◌≡◌, ◌↔◌, ℕ, List, [], ◌∷◌, refl, ap, ◌∙◌, arith}
 use Rattle.field.specs.Ring.{of_bool, sub_in}
-use Rattle.air.specs.Window.{ExtWindow}
-use Rattle.air.specs.declared.layout.AirLayout.{AirLayout}
+use Rattle.symbolic.specs.Window.{ExtWindow}
+use Rattle.symbolic.specs.declared.layout.AirLayout.{AirLayout}
 use Rattle.lookup.specs.Asserted.{Asserts, IsConstraint}
 use Rattle.lookup.specs.Constraints.{Constraint, accumulator_at, accumulator_constraints, fractions_at}
 use Rattle.lookup.specs.Extension.{Extension}

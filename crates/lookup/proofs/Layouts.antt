@@ -2,14 +2,14 @@
 use Rattle.std.proofs.Common.{ℕ, Option, None, Some, IfSome, List, get_or}
 use Rattle.std.specs.declared.alloc.Global.{Global}
 use Rattle.std.specs.declared.vec.Vec.{Vec}
-use Rattle.air.specs.declared.layout.AirLayout.{AirLayout}
-use Rattle.air.specs.declared.symbolic.expression.BaseLeaf.{BaseLeaf}
-use Rattle.air.specs.declared.symbolic.expression.BaseLeaf.TheVariants.{Variable, IsFirstRow, IsLastRow, IsTransition, Constant}
-use Rattle.air.specs.declared.symbolic.expression.SymbolicExpression.{SymbolicExpression}
-use Rattle.air.specs.declared.symbolic.variable.BaseEntry.{BaseEntry}
-use Rattle.air.specs.declared.symbolic.variable.BaseEntry.TheVariants.{Preprocessed, Main, Public}
-use Rattle.air.specs.Layout.{EntryFits, LeafFits, Fits}
-use Rattle.air.specs.Tree.{Tree, tree_of, leaf, add, sub, mul, neg}
+use Rattle.symbolic.specs.declared.layout.AirLayout.{AirLayout}
+use Rattle.symbolic.specs.declared.base_expression.BaseLeaf.{BaseLeaf}
+use Rattle.symbolic.specs.declared.base_expression.BaseLeaf.TheVariants.{Variable, IsFirstRow, IsLastRow, IsTransition, Constant}
+use Rattle.symbolic.specs.declared.base_expression.SymbolicExpression.{SymbolicExpression}
+use Rattle.symbolic.specs.declared.variable.BaseEntry.{BaseEntry}
+use Rattle.symbolic.specs.declared.variable.BaseEntry.TheVariants.{Preprocessed, Main, Public}
+use Rattle.symbolic.specs.Layout.{EntryFits, LeafFits, Fits}
+use Rattle.symbolic.specs.Tree.{Tree, tree_of, leaf, add, sub, mul, neg}
 use Rattle.lookup.specs.Records.{AllFit, DoFit, IsWithin}
 use Rattle.lookup.specs.declared.types.Lookup.{Lookup}
 

@@ -2,10 +2,10 @@
 use Rattle.std.proofs.Common.{◌≡◌, ◌⊎◌, ℕ, ◌+◌, ◌<◌, ◌≤◌, List, length, get_or, All, Some, inl, inr, arith, subst, sym, ◌∙◌}
 use Rattle.std.proofs.lemmas.Bool.{cases_lt}
 use Rattle.std.specs.List.{slice_get}
-use Rattle.air.specs.declared.layout.AirLayout.{AirLayout}
-use Rattle.air.specs.declared.symbolic.expression.SymbolicExpression.{SymbolicExpression}
-use Rattle.air.specs.Layout.{Fits}
-use Rattle.air.specs.Tree.{tree_of}
+use Rattle.symbolic.specs.declared.layout.AirLayout.{AirLayout}
+use Rattle.symbolic.specs.declared.base_expression.SymbolicExpression.{SymbolicExpression}
+use Rattle.symbolic.specs.Layout.{Fits}
+use Rattle.symbolic.specs.Tree.{tree_of}
 use Rattle.lookup.specs.Records.{AllFit, AreRecordsBelow, IsRecordAt}
 use Rattle.lookup.specs.declared.types.Lookup.{Lookup}
 

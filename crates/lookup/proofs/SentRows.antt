@@ -4,7 +4,7 @@ use Rattle.std.proofs.lemmas.List.{get_or-map, length-map, length-take, take_mor
 use Rattle.std.proofs.lemmas.List.FromFn.{get_or-map-range_with_len, length-map-range_with_len}
 use Rattle.std.proofs.lemmas.Option.{slice_get_read}
 use Rattle.field.specs.Ring.{Ring}
-use Rattle.air.specs.Window.{Window, window_at}
+use Rattle.symbolic.specs.Window.{Window, window_at}
 use Rattle.lookup.specs.Records.{AreRecords}
 use Rattle.lookup.specs.Sent.{sent_at}
 use Rattle.matrix.specs.Matrix.{Matrix, height}

@@ -1,7 +1,7 @@
 -- What an evaluation does to a builder: constraints asserted one after the other.
 use Rattle.std.specs.Prelude.{◌≡◌, ℕ, ◌≤◌, ◌⊎◌, List, [], ◌∷◌, Result, MatchResult}
-use Rattle.air.specs.Window.{ExtWindow}
-use Rattle.air.specs.declared.error.AirError.{AirError}
+use Rattle.symbolic.specs.Window.{ExtWindow}
+use Rattle.symbolic.specs.declared.error.AirError.{AirError}
 use Rattle.lookup.specs.Constraints.{Constraint}
 
 -- An expression of a builder means a constraint at the windows that are stood for, and has at most

@@ -4,7 +4,7 @@ use Rattle.std.specs.Prelude.{ℕ, Bool, ◌+◌, ◌*◌, max, List, [], ◌∷
 use Rattle.std.specs.List.{zip}
 use Rattle.field.specs.Ring.{of_bool, sub_in}
 use Rattle.field.specs.Sums.{sum_in, product_in, taken_out}
-use Rattle.air.specs.Window.{ExtWindow}
+use Rattle.symbolic.specs.Window.{ExtWindow}
 use Rattle.lookup.specs.Denominators.{tuple_denominator}
 use Rattle.lookup.specs.Extension.{Extension}
 use Rattle.lookup.specs.LookupDegree.{lookup_degree}

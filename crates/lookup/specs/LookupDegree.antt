@@ -3,9 +3,9 @@ use Rattle.std.specs.Prelude.{ℕ, ◌+◌, max, List, [], ◌∷◌, Option, No
 use Rattle.std.specs.List.{zip}
 use Rattle.std.specs.Option.{option_map}
 use Rattle.field.specs.Sums.{taken_out}
-use Rattle.air.specs.Degree.{degree_of}
-use Rattle.air.specs.Tree.{tree_of}
-use Rattle.air.specs.declared.symbolic.expression.SymbolicExpression.{SymbolicExpression}
+use Rattle.symbolic.specs.Degree.{degree_of}
+use Rattle.symbolic.specs.Tree.{tree_of}
+use Rattle.symbolic.specs.declared.base_expression.SymbolicExpression.{SymbolicExpression}
 use Rattle.lookup.specs.declared.types.Lookup.{Lookup}
 
 -- the greatest of a list, 0 for the empty one

@@ -1,10 +1,10 @@
 -- Which lookups are well formed, and which fit the traces of an AIR.
 use Rattle.std.specs.Prelude.{◌≡◌, ℕ, ◌<◌, List, Some, IfSome, length, slice_get, All}
 use Rattle.std.specs.Option.{ForSome}
-use Rattle.air.specs.declared.layout.AirLayout.{AirLayout}
-use Rattle.air.specs.declared.symbolic.expression.SymbolicExpression.{SymbolicExpression}
-use Rattle.air.specs.Layout.{Fits}
-use Rattle.air.specs.Tree.{tree_of}
+use Rattle.symbolic.specs.declared.layout.AirLayout.{AirLayout}
+use Rattle.symbolic.specs.declared.base_expression.SymbolicExpression.{SymbolicExpression}
+use Rattle.symbolic.specs.Layout.{Fits}
+use Rattle.symbolic.specs.Tree.{tree_of}
 use Rattle.lookup.specs.declared.types.Lookup.{Lookup}
 
 module _ {F : Type 0} where

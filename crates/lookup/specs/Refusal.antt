@@ -1,6 +1,6 @@
 -- How refusals of an AIR are handed on.
-use Rattle.air.specs.declared.error.AirError.{AirError}
-use Rattle.air.specs.declared.error.AirError.TheVariants as air
+use Rattle.symbolic.specs.declared.error.AirError.{AirError}
+use Rattle.symbolic.specs.declared.error.AirError.TheVariants as air
 use Rattle.lookup.specs.declared.error.LookupError.{LookupError}
 use Rattle.lookup.specs.declared.error.LookupError.TheVariants.{Memory, DegreeOverflow, Air}
 

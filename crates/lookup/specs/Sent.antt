@@ -3,10 +3,10 @@ use Rattle.std.specs.Prelude.{ℕ, Bool, List, Option, None, Some, map}
 use Rattle.std.specs.List.{filter, zip}
 use Rattle.std.specs.Option.{option_map}
 use Rattle.field.specs.Ring.{Ring}
-use Rattle.air.specs.declared.symbolic.expression.SymbolicExpression.{SymbolicExpression}
-use Rattle.air.specs.Meaning.{value_of}
-use Rattle.air.specs.Tree.{tree_of}
-use Rattle.air.specs.Window.{Window}
+use Rattle.symbolic.specs.declared.base_expression.SymbolicExpression.{SymbolicExpression}
+use Rattle.symbolic.specs.Meaning.{value_of}
+use Rattle.symbolic.specs.Tree.{tree_of}
+use Rattle.symbolic.specs.Window.{Window}
 use Rattle.lookup.specs.Message.{Message}
 use Rattle.lookup.specs.declared.types.Lookup.{Lookup}
 

@@ -3,7 +3,7 @@ use Rattle.std.specs.Prelude.{Bool, List, Option, map}
 use Rattle.std.specs.List.{range_with_len}
 use Rattle.field.specs.Ring.{Ring}
 use Rattle.matrix.specs.Matrix.{Matrix, height}
-use Rattle.air.specs.Window.{Window, window_at}
+use Rattle.symbolic.specs.Window.{Window, window_at}
 use Rattle.lookup.specs.Sent.{Sent, sent_at}
 use Rattle.lookup.specs.declared.types.Lookup.{Lookup}
 

@@ -1,7 +1,7 @@
 -- The one window that a trace builder stands for.
 use Rattle.std.specs.Prelude.{◌+◌, ◌==◌, not, length}
-use Rattle.air.specs.Window.{Window}
-use Rattle.air.specs.declared.layout.AirLayout.{AirLayout}
+use Rattle.symbolic.specs.Window.{Window}
+use Rattle.symbolic.specs.declared.layout.AirLayout.{AirLayout}
 use Rattle.lookup.specs.declared.trace_builder.LookupTraceBuilder.{LookupTraceBuilder}
 
 module _ {F EF : Type 0} where

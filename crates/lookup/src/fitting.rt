@@ -1,7 +1,7 @@
 //! Which lookups fit the traces of an AIR.
 ghost use Rattle.std.specs.Prelude.{◌↔◌, All, IsTrue, IfSome, MatchOption};
-ghost use Rattle.air.specs.Layout.{EntryFits, Fits};
-ghost use Rattle.air.specs.Tree.{tree_of};
+ghost use Rattle.symbolic.specs.Layout.{EntryFits, Fits};
+ghost use Rattle.symbolic.specs.Tree.{tree_of};
 ghost use Rattle.lookup.specs.Records.{AllFit, AreRecords, DoFit, HasEqualLengths, IsFirstMalformed, IsRecordAt, IsWithin};
 
 use crate::types::Lookup;

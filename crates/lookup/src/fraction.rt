@@ -1,8 +1,8 @@
 //! The fraction of one lookup on one row, by plain divisions.
 ghost use Rattle.std.specs.Prelude.{◌≡◌, ◌≢◌, ◌+◌, ◌*◌, ◌<◌, ◌⊎◌, None, Some, IfNone, IfSome, OnSome, IfOk, IfErr, IsTrue, List, [], ◌∷◌, ◌++◌, length, map, slice_index_or, MatchOption, MatchResult};
 ghost use Rattle.field.specs.Polynomial.{combined};
-ghost use Rattle.air.specs.Layout.{Fits};
-ghost use Rattle.air.specs.Tree.{tree_of};
+ghost use Rattle.symbolic.specs.Layout.{Fits};
+ghost use Rattle.symbolic.specs.Tree.{tree_of};
 ghost use Rattle.lookup.specs.Denominators.{column_denominator, tuple_denominator};
 ghost use Rattle.lookup.specs.Extension.{extension};
 ghost use Rattle.lookup.specs.Fault.{fault_of, vanishes};

@@ -1,8 +1,8 @@
 //! Generation of the auxiliary trace, row by row.
 ghost use Rattle.std.specs.Prelude.{◌≡◌, ◌+◌, ◌*◌, ◌<◌, ◌≤◌, ◌⊎◌, All, None, Some, MatchResult, length, slice_get};
 ghost use Rattle.std.specs.Option.{ForSome, option_copied};
-ghost use Rattle.air.specs.Layout.{layout_of_traces};
-ghost use Rattle.air.specs.Window.{window_at};
+ghost use Rattle.symbolic.specs.Layout.{layout_of_traces};
+ghost use Rattle.symbolic.specs.Window.{window_at};
 ghost use Rattle.lookup.specs.Denominators.{column_denominator};
 ghost use Rattle.lookup.specs.Extension.{extension};
 ghost use Rattle.lookup.specs.Fault.{row_faults, trace_faults};

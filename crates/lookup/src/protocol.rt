@@ -1,7 +1,7 @@
 //! The calls of a lookup argument.
 ghost use Rattle.std.specs.Prelude.{◌≡◌, ◌≢◌, ◌+◌, ◌*◌, ◌≤◌, ◌<◌, ◌⊎◌, [], ◌∷◌, All, MatchResult, None, Some, length, slice_get};
 ghost use Rattle.std.specs.Option.{ForSome, option_copied};
-ghost use Rattle.air.specs.Layout.{layout_of_traces};
+ghost use Rattle.symbolic.specs.Layout.{layout_of_traces};
 ghost use Rattle.lookup.specs.Asserted.{Evaluates, IsConstraint};
 ghost use Rattle.lookup.specs.Constraints.{accumulator_constraints, fraction_constraint, lookup_constraints};
 ghost use Rattle.lookup.specs.Denominators.{column_denominator};

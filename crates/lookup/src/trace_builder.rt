@@ -109,7 +109,7 @@ impl<F, EF: Field> LookupTraceBuilder<'_, F, EF> {
 impl<'a, F: Field, EF: Field> AirBuilder for LookupTraceBuilder<'a, F, EF> {
     ghost use Rattle.std.specs.Prelude.{◌≢◌, ◌≡◌, refl};
     ghost use Rattle.std.proofs.Common.{rules, ap, sym, ◌∙◌};
-    ghost use Rattle.air.specs.declared.error.AirError.TheVariants.{Assertion};
+    ghost use Rattle.symbolic.specs.declared.error.AirError.TheVariants.{Assertion};
     ghost use Rattle.lookup.specs.TraceBuilder.{builder_window, builder_layout};
 
     type F = F;

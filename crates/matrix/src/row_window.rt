@@ -1,5 +1,5 @@
 //! Windows of two borrowed rows.
-ghost use Rattle.std.specs.Prelude.{◌≡◌, length, refl};
+ghost use Rattle.std.specs.Prelude.{◌≡◌, length, refl, ⊤};
 
 use crate::window::WindowAccess;
 use std::alloc::AllocError;
@@ -15,6 +15,10 @@ pub struct RowWindow<'a, T> {
 }
 
 impl<T: Copy> Clone for RowWindow<'_, T> {
+    ghost is_clone = { λ x y. y ≡ x };
+
+    ghost is_infallible = { λ _. ⊤ };
+
     fn clone(&self) -> Result<Self, AllocError> {
         Ok(*self)
     }

@@ -1,19 +1,17 @@
 //! A builder that checks assertions on one row.
-ghost use Rattle.std.specs.Prelude.{◌≡◌, ◌≢◌, ◌+◌, ◌<◌, ◌⊎◌, IfSome, MatchResult, length, refl};
+ghost use Rattle.std.specs.Prelude.{◌≡◌, ◌≢◌, ◌+◌, ◌<◌, ◌⊎◌, IfSome, MatchResult, length, refl, ⊤};
 ghost use Rattle.std.proofs.Common.{ap, rules};
 ghost use Rattle.std.specs.Option.{option_copied};
 ghost use Rattle.matrix.specs.Matrix.{height, row};
-ghost use Rattle.air.specs.Layout.{width_of_option};
-ghost use Rattle.air.specs.Window.{row_of_option};
-ghost use Rattle.air.specs.declared.error.AirError.TheVariants.{Assertion};
+ghost use Rattle.symbolic.specs.Layout.{width_of_option};
+ghost use Rattle.symbolic.specs.Window.{row_of_option};
+ghost use Rattle.symbolic.specs.declared.error.AirError.TheVariants.{Assertion};
 
-use crate::builder::AirBuilder;
 use crate::debug::inputs::RowInputs;
-use crate::error::AirError;
-use crate::extension::{ExtensionBuilder, PermutationAirBuilder};
 use field::{Domain, ExtensionField, Field};
 use matrix::{RowMajorMatrix, RowWindow};
 use std::alloc::{AllocError, Global};
+use symbolic::{AirBuilder, AirError, ExtensionBuilder, PermutationAirBuilder};
 
 /// A builder that checks assertions on one row: its variables are the values at the row's cyclic
 /// window, and an assertion that is not zero is `AirError::Assertion` at the row.
@@ -39,6 +37,10 @@ pub struct DebugConstraintBuilder<'a, F, EF> {
 }
 
 impl<F: Copy, EF: Copy> Clone for DebugConstraintBuilder<'_, F, EF> {
+    ghost is_clone = { λ x y. y ≡ x };
+
+    ghost is_infallible = { λ _. ⊤ };
+
     fn clone(&self) -> Result<Self, AllocError> {
         Ok(*self)
     }

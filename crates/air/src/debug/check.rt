@@ -4,12 +4,11 @@ ghost use Rattle.std.specs.Option.{option_copied};
 ghost use Rattle.matrix.specs.Matrix.{height};
 ghost use Rattle.air.specs.Row.{HeightFits, OptionHeightFits, RowAnswers};
 
-use crate::air::Air;
 use crate::debug::builder::DebugConstraintBuilder;
 use crate::debug::inputs::RowInputs;
-use crate::error::AirError;
 use field::{ExtensionField, Field};
 use std::alloc::Global;
+use symbolic::{Air, AirError};
 
 /// Evaluates the AIR on every row, in order; the first refusal is answered.
 pub fn check_rows<'a, F: Field, EF: ExtensionField<F>, A: Air<DebugConstraintBuilder<'a, F, EF>>>(

@@ -84,6 +84,27 @@ impl<F> BaseAir<F> for Fibonacci {
     }
 }
 
+/// The first two cells of the current row.
+fn cells<AB: AirBuilder>(alloc: Global, builder: &AB) -> Result<(AB::Expr, AB::Expr), AirError> {
+    let main = builder.main(alloc)?;
+    let (Some(first), Some(second)) = (main.current(0), main.current(1)) else {
+        return Err(too_narrow(2));
+    };
+    Ok((first.into(), second.into()))
+}
+
+/// The first two cells of the next row.
+fn next_cells<AB: AirBuilder>(
+    alloc: Global,
+    builder: &AB,
+) -> Result<(AB::Expr, AB::Expr), AirError> {
+    let main = builder.main(alloc)?;
+    let (Some(first), Some(second)) = (main.next(0), main.next(1)) else {
+        return Err(too_narrow(2));
+    };
+    Ok((first.into(), second.into()))
+}
+
 /// Asserts that the first cell of the row is `left` and the second one `right`.
 pub fn assert_row<AB: AirBuilder>(
     alloc: Global,
@@ -91,49 +112,44 @@ pub fn assert_row<AB: AirBuilder>(
     left: AB::F,
     right: AB::F,
 ) -> Result<(), AirError> {
-    let main = builder.main(alloc)?;
-    let (Some(first), Some(second)) = (main.current(0), main.current(1)) else {
-        return Err(too_narrow(2));
-    };
-    let first: AB::Expr = first.into();
-    let second: AB::Expr = second.into();
+    let (first, second) = cells(alloc, &*builder)?;
     let mut constraints = Vec::new(alloc);
     constraints.push(first.sub(alloc, AB::Expr::constant(left))?)?;
     constraints.push(second.sub(alloc, AB::Expr::constant(right))?)?;
     builder.assert_zeros(alloc, constraints)
 }
 
-fn assert_step<AB: AirBuilder>(alloc: Global, builder: &mut AB) -> Result<(), AirError> {
-    let main = builder.main(alloc)?;
-    let (Some(a), Some(b)) = (main.current(0), main.current(1)) else {
-        return Err(too_narrow(2));
-    };
-    let (Some(c), Some(d)) = (main.next(0), main.next(1)) else {
-        return Err(too_narrow(2));
-    };
-    let (a, b): (AB::Expr, AB::Expr) = (a.into(), b.into());
-    let (c, d): (AB::Expr, AB::Expr) = (c.into(), d.into());
-    let moved = c.sub(alloc, b.copy(alloc)?)?;
-    builder.assert_zero(alloc, moved)?;
-    let sum = a.add(alloc, b)?;
-    builder.assert_zero(alloc, d.sub(alloc, sum)?)
+/// Asserts that the next row's first cell is this row's second one.
+fn assert_moved<AB: AirBuilder>(alloc: Global, builder: &mut AB) -> Result<(), AirError> {
+    let (_, second) = cells(alloc, &*builder)?;
+    let (next_first, _) = next_cells(alloc, &*builder)?;
+    builder.assert_zero(alloc, next_first.sub(alloc, second)?)
 }
 
-fn assert_result<AB: AirBuilder>(alloc: Global, builder: &mut AB) -> Result<(), AirError> {
-    let main = builder.main(alloc)?;
-    let Some(last) = main.current(1) else {
-        return Err(too_narrow(2));
-    };
-    let Some(wanted) = builder.public_values().first().copied() else {
-        return Err(AirError::LayoutMismatch {
+/// Asserts that the next row's second cell is the sum of this row's cells.
+fn assert_added<AB: AirBuilder>(alloc: Global, builder: &mut AB) -> Result<(), AirError> {
+    let (first, second) = cells(alloc, &*builder)?;
+    let (_, next_second) = next_cells(alloc, &*builder)?;
+    let sum = first.add(alloc, second)?;
+    builder.assert_zero(alloc, next_second.sub(alloc, sum)?)
+}
+
+fn result_of<AB: AirBuilder>(builder: &AB) -> Result<AB::Expr, AirError> {
+    match builder.public_values().first() {
+        Some(wanted) => Ok((*wanted).into()),
+        None => Err(AirError::LayoutMismatch {
             part: LayoutPart::PublicValues,
             expected: 1,
             actual: 0,
-        });
-    };
-    let last: AB::Expr = last.into();
-    let difference = last.sub(alloc, wanted.into())?;
-    builder.assert_zero(alloc, difference)
+        }),
+    }
+}
+
+/// Asserts that the second cell of the row is the public value.
+fn assert_result<AB: AirBuilder>(alloc: Global, builder: &mut AB) -> Result<(), AirError> {
+    let (_, last) = cells(alloc, &*builder)?;
+    let wanted = result_of(&*builder)?;
+    builder.assert_zero(alloc, last.sub(alloc, wanted)?)
 }
 
 impl<AB: AirBuilder> Air<AB> for Fibonacci {
@@ -146,7 +162,8 @@ impl<AB: AirBuilder> Air<AB> for Fibonacci {
             AB::F::ZERO,
             AB::F::ONE,
         )?;
-        assert_step(alloc, &mut builder.when_transition())?;
+        assert_moved(alloc, &mut builder.when_transition())?;
+        assert_added(alloc, &mut builder.when_transition())?;
         assert_result(alloc, &mut builder.when_last_row())
     }
 }

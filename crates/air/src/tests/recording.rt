@@ -1,7 +1,7 @@
 use crate::tests::machines::Fibonacci;
 use crate::{
-    Air, AirBuilder, AirLayout, Expression, ExtensionBuilder, PermutationAirBuilder,
-    SymbolicAirBuilder, SymbolicExpression, SymbolicExpressionExt,
+    Air, AirBuilder, AirError, AirLayout, Expression, ExtensionBuilder, LayoutPart,
+    PermutationAirBuilder, SymbolicAirBuilder, SymbolicExpression, SymbolicExpressionExt,
 };
 use field::F7;
 use matrix::WindowAccess;
@@ -10,25 +10,97 @@ use std::test::Fail;
 
 type Recorder = SymbolicAirBuilder<F7, F7>;
 
-#[test]
-fn an_air_is_recorded_in_order(rt: HostRuntime) -> Result<(), Fail> {
-    let alloc = rt.alloc();
-    let mut recorder = Recorder::new(alloc, AirLayout::from_air::<F7, Fibonacci>(&Fibonacci))?;
+fn record_fibonacci(alloc: Global) -> Result<Recorder, AirError> {
+    let layout = AirLayout::from_air::<F7, Fibonacci>(&Fibonacci);
+    let mut recorder = Recorder::new(alloc, layout)?;
     Fibonacci.eval(alloc, &mut recorder)?;
-    assert_eq!(rt; recorder.base_constraints().len(), 5);
-    for constraint in recorder.base_constraints() {
-        assert!(rt; matches!(constraint, SymbolicExpression::Mul(_, _)));
-        assert_eq!(rt; constraint.degree_multiple_with_transition(1), Ok(2));
-    }
-    let places = recorder.constraint_layout().base_indices.as_slice();
-    assert_eq!(rt; places, [0, 1, 2, 3, 4].as_slice());
-    assert_eq!(rt; recorder.extension_constraints().len(), 0);
-    Ok(())
+    Ok(recorder)
+}
+
+/// Whether a constraint is a product of degree 2.
+fn is_filtered(constraint: &SymbolicExpression<F7>) -> bool {
+    let is_product = matches!(constraint, SymbolicExpression::Mul(_, _));
+    is_product && constraint.degree_multiple_with_transition(1) == Ok(2)
+}
+
+/// Whether constraints were recorded at these places of the one order, and no others.
+fn has_places(recorder: &Recorder, base: &[usize], extension: &[usize]) -> bool {
+    let places = recorder.constraint_layout();
+    places.base_indices.as_slice() == base && places.ext_indices.as_slice() == extension
 }
 
 #[test]
-fn both_kinds_of_constraints_share_one_order(rt: HostRuntime) -> Result<(), Fail> {
-    let alloc = rt.alloc();
+fn an_air_is_recorded_in_order(rt: HostRuntime) -> Result<(), Fail> {
+    let recorder = record_fibonacci(rt.alloc())?;
+    assert!(rt; has_places(&recorder, &[0, 1, 2, 3, 4], &[]));
+    assert!(rt; recorder.base_constraints().len() == 5);
+    assert!(rt; recorder.base_constraints().iter().all(is_filtered));
+    assert!(rt; recorder.extension_constraints().is_empty());
+    Ok(())
+}
+
+fn too_narrow() -> AirError {
+    AirError::LayoutMismatch {
+        part: LayoutPart::Preprocessed,
+        expected: 1,
+        actual: 0,
+    }
+}
+
+/// Asserts the second cell of the next row of the permutation trace.
+fn assert_cell<AB: PermutationAirBuilder>(alloc: Global, builder: &mut AB) -> Result<(), AirError> {
+    let rows = builder.permutation(alloc)?;
+    match rows.next(1) {
+        Some(cell) => builder.assert_zero_ext(alloc, cell.into()),
+        None => Err(too_narrow()),
+    }
+}
+
+/// Asserts the first cell of the preprocessed trace.
+fn assert_fixed<AB: AirBuilder>(alloc: Global, builder: &mut AB) -> Result<(), AirError> {
+    match builder.preprocessed().current(0) {
+        Some(cell) => builder.assert_zero(alloc, cell.into()),
+        None => Err(too_narrow()),
+    }
+}
+
+/// Asserts the first permutation value on the last row.
+fn assert_value<AB: PermutationAirBuilder>(
+    alloc: Global,
+    builder: &mut AB,
+) -> Result<(), AirError> {
+    match builder.permutation_values().first().copied() {
+        Some(value) => builder.when_last_row().assert_zero_ext(alloc, value.into()),
+        None => Err(too_narrow()),
+    }
+}
+
+/// Asserts the selector of the first row, embedded, times the second challenge.
+fn assert_challenge<AB: PermutationAirBuilder>(
+    alloc: Global,
+    builder: &mut AB,
+) -> Result<(), AirError> {
+    match builder.permutation_randomness().get(1).copied() {
+        Some(challenge) => {
+            let lifted = AB::lift(builder.is_first_row());
+            let product = lifted.mul(alloc, challenge.into())?;
+            builder.assert_zero_ext(alloc, product)
+        }
+        None => Err(too_narrow()),
+    }
+}
+
+fn assert_both_kinds<AB: PermutationAirBuilder>(
+    alloc: Global,
+    builder: &mut AB,
+) -> Result<(), AirError> {
+    assert_cell(alloc, builder)?;
+    assert_fixed(alloc, builder)?;
+    assert_value(alloc, builder)?;
+    assert_challenge(alloc, builder)
+}
+
+fn record_both_kinds(alloc: Global) -> Result<Recorder, AirError> {
     let layout = AirLayout {
         preprocessed_width: 1,
         permutation_width: 2,
@@ -37,36 +109,17 @@ fn both_kinds_of_constraints_share_one_order(rt: HostRuntime) -> Result<(), Fail
         ..AirLayout::default()
     };
     let mut recorder = Recorder::new(alloc, layout)?;
-    let rows = recorder.permutation(alloc)?;
-    let (Some(cell), Some(challenge), Some(value), Some(fixed)) = (
-        rows.next(1),
-        recorder.permutation_randomness().get(1).copied(),
-        recorder.permutation_values().first().copied(),
-        recorder.preprocessed().current(0),
-    ) else {
-        return Err("the layout has these".into());
-    };
-    assert_eq!(rt; (cell.index, challenge.index, value.index), (1, 1, 0));
-    recorder.assert_zero_ext(alloc, cell.into())?;
-    recorder.assert_zero(alloc, fixed.into())?;
-    let under = recorder
-        .when_last_row()
-        .assert_zero_ext(alloc, value.into());
-    under?;
-    let lifted = Recorder::lift(recorder.is_first_row());
-    let product = lifted.mul(alloc, challenge.into())?;
-    recorder.assert_zero_ext(alloc, product)?;
-    assert_eq!(rt;
-        recorder.constraint_layout().base_indices.as_slice(),
-        [1].as_slice()
-    );
-    assert_eq!(rt;
-        recorder.constraint_layout().ext_indices.as_slice(),
-        [0, 2, 3].as_slice()
-    );
-    let Some(first) = recorder.extension_constraints().first() else {
-        return Err("three were recorded".into());
-    };
-    assert!(rt; matches!(first, SymbolicExpressionExt::Leaf(_)));
+    assert_both_kinds(alloc, &mut recorder)?;
+    Ok(recorder)
+}
+
+#[test]
+fn both_kinds_of_constraints_share_one_order(rt: HostRuntime) -> Result<(), Fail> {
+    let recorder = record_both_kinds(rt.alloc())?;
+    assert!(rt; has_places(&recorder, &[1], &[0, 2, 3]));
+    let first = recorder.extension_constraints().first();
+    assert!(rt; matches!(first, Some(SymbolicExpressionExt::Leaf(_))));
+    let second = recorder.extension_constraints().get(1);
+    assert!(rt; matches!(second, Some(SymbolicExpressionExt::Mul(_, _))));
     Ok(())
 }

@@ -1,8 +1,8 @@
 //! The constraints of the accumulator.
 ghost use Rattle.std.specs.Prelude.{◌≡◌, ◌≢◌, ◌+◌, ◌<◌, ◌≤◌, ◌⊎◌, ℕ, max, [], ◌∷◌, All, IfOk, IfErr, length};
 ghost use Rattle.field.specs.Ring.{of_bool, sub_in};
-ghost use Rattle.air.specs.Builder.{MeansRow};
-ghost use Rattle.air.specs.Window.{ExtWindow};
+ghost use Rattle.symbolic.specs.Builder.{MeansRow};
+ghost use Rattle.symbolic.specs.Window.{ExtWindow};
 ghost use Rattle.lookup.specs.Asserted.{Evaluates, IsConstraint};
 ghost use Rattle.lookup.specs.Constraints.{accumulator_at, accumulator_constraints, fractions_at, next_accumulator_at};
 ghost use Rattle.lookup.specs.Extension.{extension};

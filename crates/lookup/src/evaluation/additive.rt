@@ -1,9 +1,9 @@
 //! The numerator and the denominator of an additive lookup.
 ghost use Rattle.std.specs.Prelude.{◌≡◌, ◌+◌, ◌≤◌, ℕ, max, IfOk};
-ghost use Rattle.air.specs.Builder.{MeansRow};
-ghost use Rattle.air.specs.Layout.{Fits};
-ghost use Rattle.air.specs.Tree.{tree_of};
-ghost use Rattle.air.specs.Window.{ExtWindow};
+ghost use Rattle.symbolic.specs.Builder.{MeansRow};
+ghost use Rattle.symbolic.specs.Layout.{Fits};
+ghost use Rattle.symbolic.specs.Tree.{tree_of};
+ghost use Rattle.symbolic.specs.Window.{ExtWindow};
 ghost use Rattle.lookup.specs.Constraints.{additive_denominator, additive_numerator};
 ghost use Rattle.lookup.specs.Denominators.{tuple_denominator};
 ghost use Rattle.lookup.specs.Extension.{extension};

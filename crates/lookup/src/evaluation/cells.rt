@@ -1,7 +1,7 @@
 //! What a builder hands out for lookups: challenges, cells of the auxiliary trace and the terminal.
 ghost use Rattle.std.specs.Prelude.{◌≡◌, ◌+◌, ◌*◌, ◌≤◌, ◌<◌, ℕ, slice_index_or};
-ghost use Rattle.air.specs.Builder.{MeansRow};
-ghost use Rattle.air.specs.Window.{ExtWindow};
+ghost use Rattle.symbolic.specs.Builder.{MeansRow};
+ghost use Rattle.symbolic.specs.Window.{ExtWindow};
 
 use air::PermutationAirBuilder;
 use matrix::WindowAccess;

@@ -2,10 +2,10 @@
 ghost use Rattle.std.specs.Prelude.{◌≡◌, ◌≤◌, ℕ, IfOk, map};
 ghost use Rattle.field.specs.Polynomial.{combined};
 ghost use Rattle.field.specs.Ring.{sub_in};
-ghost use Rattle.air.specs.Builder.{MeansRow};
-ghost use Rattle.air.specs.Layout.{Fits};
-ghost use Rattle.air.specs.Tree.{tree_of};
-ghost use Rattle.air.specs.Window.{ExtWindow};
+ghost use Rattle.symbolic.specs.Builder.{MeansRow};
+ghost use Rattle.symbolic.specs.Layout.{Fits};
+ghost use Rattle.symbolic.specs.Tree.{tree_of};
+ghost use Rattle.symbolic.specs.Window.{ExtWindow};
 ghost use Rattle.lookup.specs.LookupDegree.{expression_degree, tuple_degree};
 ghost use Rattle.lookup.specs.Records.{AllFit};
 ghost use Rattle.lookup.specs.Sent.{value, values};

@@ -2,10 +2,10 @@
 ghost use Rattle.std.specs.Prelude.{◌≡◌, ◌+◌, ◌≤◌, ℕ, Some, max, IfOk, length, map};
 ghost use Rattle.field.specs.Ring.{sub_in};
 ghost use Rattle.field.specs.Sums.{sum_in};
-ghost use Rattle.air.specs.Builder.{MeansRow};
-ghost use Rattle.air.specs.Layout.{Fits};
-ghost use Rattle.air.specs.Tree.{tree_of};
-ghost use Rattle.air.specs.Window.{ExtWindow};
+ghost use Rattle.symbolic.specs.Builder.{MeansRow};
+ghost use Rattle.symbolic.specs.Layout.{Fits};
+ghost use Rattle.symbolic.specs.Tree.{tree_of};
+ghost use Rattle.symbolic.specs.Window.{ExtWindow};
 ghost use Rattle.lookup.specs.Constraints.{exclusive_denominator, exclusive_numerator, flagged_denominators};
 ghost use Rattle.lookup.specs.Denominators.{tuple_denominator};
 ghost use Rattle.lookup.specs.Extension.{extension};

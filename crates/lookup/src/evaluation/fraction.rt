@@ -1,7 +1,7 @@
 //! The constraint of one lookup's fraction.
 ghost use Rattle.std.specs.Prelude.{◌≡◌, ◌+◌, ◌*◌, ◌<◌, ◌≤◌, ◌⊎◌, ℕ, max, [], ◌∷◌, IfOk, IfErr};
-ghost use Rattle.air.specs.Builder.{MeansRow};
-ghost use Rattle.air.specs.Window.{ExtWindow};
+ghost use Rattle.symbolic.specs.Builder.{MeansRow};
+ghost use Rattle.symbolic.specs.Window.{ExtWindow};
 ghost use Rattle.lookup.specs.Asserted.{Evaluates, IsConstraint};
 ghost use Rattle.lookup.specs.Constraints.{denominator_at, fraction_constraint, fraction_denominator, fraction_numerator};
 ghost use Rattle.lookup.specs.Extension.{extension};

@@ -1,7 +1,7 @@
 use Rattle.std.proofs.Common.{◌≡◌, inl, inr, sym, ap, subst, ◌∙◌, ◌∷◌, ◌++◌, [], take, drop, ◌+◌, arith, List}
 use Rattle.std.proofs.lemmas.List.{take_all}
 use Rattle.std.proofs.lemmas.Result.{err_from_is_err_and}
-use Rattle.air.specs.declared.symbolic.expression.SymbolicExpression.{SymbolicExpression}
+use Rattle.symbolic.specs.declared.base_expression.SymbolicExpression.{SymbolicExpression}
 use Rattle.lookup.specs.Denominators.{column_denominator}
 use Rattle.lookup.specs.Extension.{extension, IsLawful}
 use Rattle.lookup.specs.Fault.{vanishes}

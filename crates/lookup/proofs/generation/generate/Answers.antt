@@ -2,9 +2,9 @@ use Rattle.std.proofs.Common.{◌≡◌, ◌<◌, ℕ, inl, inr, Some, subst, sy
 use Rattle.std.proofs.lemmas.Result.{err_from_is_err_and}
 use Rattle.std.specs.List.{slice_get}
 use Rattle.std.specs.Option.{option_copied}
-use Rattle.air.specs.declared.layout.AirLayout.{AirLayout}
-use Rattle.air.specs.Layout.{layout_of_traces}
-use Rattle.air.specs.Window.{Window, window_at}
+use Rattle.symbolic.specs.declared.layout.AirLayout.{AirLayout}
+use Rattle.symbolic.specs.Layout.{layout_of_traces}
+use Rattle.symbolic.specs.Window.{Window, window_at}
 use Rattle.matrix.specs.Matrix.{height}
 use Rattle.lookup.specs.Denominators.{column_denominator}
 use Rattle.lookup.specs.Extension.{extension, IsLawful}

@@ -2,7 +2,7 @@ use Rattle.std.proofs.Common.{◌≡◌, ◌<◌, [], length, List, max, sym, �
 use Rattle.std.proofs.lemmas.Bool.{eqb-true, eqb-false}
 use Rattle.std.proofs.lemmas.List.{nil_from_length}
 use Rattle.std.proofs.lemmas.Result.{err_from_is_err_and, IfErr-weaker, IfOk-weaker}
-use Rattle.air.specs.Window.{ExtWindow}
+use Rattle.symbolic.specs.Window.{ExtWindow}
 use Rattle.lookup.specs.Asserted.{Asserts, IsConstraint}
 use Rattle.lookup.specs.Constraints.{accumulator_at, accumulator_constraints, first_constraint, fractions_at, last_constraint, next_accumulator_at, transition_constraint}
 use Rattle.lookup.specs.Extension.{extension}

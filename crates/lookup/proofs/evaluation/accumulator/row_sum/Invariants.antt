@@ -1,5 +1,5 @@
 use Rattle.std.proofs.Common.{◌≡◌, ◌≤◌, ℕ, take}
-use Rattle.air.specs.Window.{ExtWindow}
+use Rattle.symbolic.specs.Window.{ExtWindow}
 use Rattle.lookup.specs.Constraints.{fractions_at}
 use Rattle.lookup.specs.Extension.{extension}
 use Rattle.lookup.proofs.evaluation.accumulator.row_sum.Given as goal

@@ -1,6 +1,6 @@
 use Rattle.std.proofs.Common.{◌≡◌, ◌≤◌, List, max, take, ap, sym, ◌∙◌, arith, subst}
 use Rattle.std.proofs.lemmas.List.{take_all}
-use Rattle.air.specs.declared.symbolic.expression.SymbolicExpression.{SymbolicExpression}
+use Rattle.symbolic.specs.declared.base_expression.SymbolicExpression.{SymbolicExpression}
 use Rattle.lookup.specs.Constraints.{additive_denominator, additive_numerator}
 use Rattle.lookup.specs.Denominators.{tuple_denominator}
 use Rattle.lookup.specs.Extension.{extension}

@@ -1,5 +1,5 @@
 use Rattle.std.proofs.Common.{◌≡◌, ◌≤◌, ℕ, max, take}
-use Rattle.air.specs.Window.{ExtWindow}
+use Rattle.symbolic.specs.Window.{ExtWindow}
 use Rattle.lookup.specs.Constraints.{additive_denominator, additive_numerator}
 use Rattle.lookup.specs.Denominators.{tuple_denominator}
 use Rattle.lookup.specs.Extension.{extension}

@@ -2,8 +2,8 @@ use Rattle.std.proofs.Common.{◌≡◌, ◌+◌, ◌++◌, ◌∷◌, [], List,
 use Rattle.std.proofs.lemmas.List.{map-append, take_all}
 use Rattle.std.proofs.lemmas.Option.{slice_get_read}
 use Rattle.std.proofs.lemmas.Result.{err_from_is_err_and}
-use Rattle.air.specs.Window.{ExtWindow}
-use Rattle.air.specs.declared.layout.AirLayout.{AirLayout}
+use Rattle.symbolic.specs.Window.{ExtWindow}
+use Rattle.symbolic.specs.declared.layout.AirLayout.{AirLayout}
 use Rattle.lookup.specs.Asserted.{Asserts, IsConstraint}
 use Rattle.lookup.specs.Constraints.{Constraint, fraction_constraint}
 use Rattle.lookup.specs.Extension.{extension}

@@ -1,5 +1,5 @@
 use Rattle.std.proofs.Common.{map, take}
-use Rattle.air.specs.Window.{ExtWindow}
+use Rattle.symbolic.specs.Window.{ExtWindow}
 use Rattle.lookup.specs.Asserted.{Asserts, IsConstraint}
 use Rattle.lookup.specs.Constraints.{fraction_constraint}
 use Rattle.lookup.specs.Extension.{extension}

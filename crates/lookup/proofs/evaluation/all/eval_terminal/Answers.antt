@@ -1,4 +1,4 @@
-use Rattle.air.specs.Window.{ExtWindow}
+use Rattle.symbolic.specs.Window.{ExtWindow}
 use Rattle.lookup.specs.Asserted.{IsConstraint}
 use Rattle.lookup.specs.Constraints.{accumulator_constraints, terminal_at}
 use Rattle.lookup.specs.Extension.{extension}

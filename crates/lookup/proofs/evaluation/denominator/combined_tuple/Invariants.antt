@@ -1,6 +1,6 @@
 use Rattle.std.proofs.Common.{◌≡◌, ◌≤◌, ℕ, map, take}
 use Rattle.field.specs.Polynomial.{combined}
-use Rattle.air.specs.Window.{ExtWindow}
+use Rattle.symbolic.specs.Window.{ExtWindow}
 use Rattle.lookup.specs.LookupDegree.{tuple_degree}
 use Rattle.lookup.specs.Sent.{values}
 use Rattle.lookup.proofs.evaluation.denominator.combined_tuple.Given as goal

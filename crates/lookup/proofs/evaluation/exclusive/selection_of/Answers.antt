@@ -2,7 +2,7 @@ use Rattle.std.proofs.Common.{◌≡◌, ◌≤◌, ◌<◌, ◌+◌, ℕ, List,
 use Rattle.std.proofs.lemmas.List.{length-map, take_all}
 use Rattle.std.specs.List.{zip}
 use Rattle.field.specs.Sums.{sum_in}
-use Rattle.air.specs.declared.symbolic.expression.SymbolicExpression.{SymbolicExpression}
+use Rattle.symbolic.specs.declared.base_expression.SymbolicExpression.{SymbolicExpression}
 use Rattle.lookup.specs.Denominators.{tuple_denominator}
 use Rattle.lookup.specs.Extension.{extension}
 use Rattle.lookup.specs.LookupDegree.{BranchDegrees, branch_degrees, expression_degree, greatest, lookup_branch_degrees}

@@ -1,7 +1,7 @@
 use Rattle.std.proofs.Common.{◌≡◌, ◌≤◌, ◌+◌, ℕ, max, map, take}
 use Rattle.std.specs.List.{zip}
 use Rattle.field.specs.Sums.{sum_in}
-use Rattle.air.specs.Window.{ExtWindow}
+use Rattle.symbolic.specs.Window.{ExtWindow}
 use Rattle.lookup.specs.Denominators.{tuple_denominator}
 use Rattle.lookup.specs.Extension.{extension}
 use Rattle.lookup.specs.LookupDegree.{expression_degree, greatest, lookup_branch_degrees}

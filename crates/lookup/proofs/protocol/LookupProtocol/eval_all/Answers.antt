@@ -3,7 +3,7 @@ use Rattle.std.proofs.lemmas.Bool.{eqb-true, eqb-false}
 use Rattle.std.proofs.lemmas.List.{nil_from_length}
 use Rattle.std.proofs.lemmas.Option.{slice_get-get_or}
 use Rattle.std.proofs.lemmas.Result.{err_from_is_err_and}
-use Rattle.air.specs.Window.{ExtWindow}
+use Rattle.symbolic.specs.Window.{ExtWindow}
 use Rattle.lookup.specs.Asserted.{Asserts, IsConstraint}
 use Rattle.lookup.specs.Constraints.{accumulator_constraints, fraction_constraint, lookup_constraints, terminal_at}
 use Rattle.lookup.specs.Extension.{extension}

@@ -1,0 +1,12 @@
+use Rattle.std.proofs.Common.{refl}
+use Rattle.air.proofs.RecordedRows.{base_row_means}
+use Rattle.symbolic.specs.declared.variable.BaseEntry.TheVariants.{Main}
+use Rattle.air.proofs.recording.builder.SymbolicAirBuilderAirBuilder.main.Goals as goal
+
+pub returns-clause-current : goal.returns-clause-current
+returns-clause-current g c = rw c.in_ok-copy_rows.ensures
+    (base_row_means g.F.PrimeCharacteristicRing.ring _ (Main 0) _ _ _ c.main.ensures.current_row (λ w. refl) (λ w h. h.main))
+
+pub returns-clause-next : goal.returns-clause-next
+returns-clause-next g c = rw c.in_ok-copy_rows.ensures
+    (base_row_means g.F.PrimeCharacteristicRing.ring _ (Main 1) _ _ _ c.main.ensures.next_row (λ w. refl) (λ w h. h.main_next))

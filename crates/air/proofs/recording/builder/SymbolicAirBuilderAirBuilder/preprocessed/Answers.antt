@@ -1,0 +1,12 @@
+use Rattle.std.proofs.Common.{refl}
+use Rattle.air.proofs.RecordedRows.{base_row_means}
+use Rattle.symbolic.specs.declared.variable.BaseEntry.TheVariants.{Preprocessed}
+use Rattle.air.proofs.recording.builder.SymbolicAirBuilderAirBuilder.preprocessed.Goals as goal
+
+pub returns-clause-current : goal.returns-clause-current
+returns-clause-current g c =
+    base_row_means g.F.PrimeCharacteristicRing.ring _ (Preprocessed 0) _ _ _ c.preprocessed.ensures.current_row (λ w. refl) (λ w h. h.preprocessed)
+
+pub returns-clause-next : goal.returns-clause-next
+returns-clause-next g c =
+    base_row_means g.F.PrimeCharacteristicRing.ring _ (Preprocessed 1) _ _ _ c.preprocessed.ensures.next_row (λ w. refl) (λ w h. h.preprocessed_next)

@@ -1,0 +1,10 @@
+use Rattle.std.proofs.Common.{refl}
+use Rattle.air.proofs.RecordedRows.{ext_row_degree, ext_row_means}
+use Rattle.symbolic.specs.declared.variable.ExtEntry.TheVariants.{Challenge}
+use Rattle.air.proofs.recording.builder.SymbolicAirBuilderPermutationAirBuilder.permutation_randomness.Goals as goal
+
+pub returns-clause-means : goal.returns-clause-means
+returns-clause-means g c = ext_row_means g.EF.PrimeCharacteristicRing.ring _ Challenge _ _ _ c.challenges.ensures (λ w. refl) (λ w h. h.challenges)
+
+pub returns-clause-degree : goal.returns-clause-degree
+returns-clause-degree g c i t v e found same = ext_row_degree Challenge _ _ i t v _ c.challenges.ensures found same

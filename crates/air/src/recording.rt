@@ -1,0 +1,7 @@
+//! Constraints, recorded over all windows of a layout.
+
+mod builder;
+mod place;
+mod variables;
+
+pub use builder::{ConstraintLayout, SymbolicAirBuilder};

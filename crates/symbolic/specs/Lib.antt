@@ -1,0 +1,10 @@
+pub mod Builder
+pub mod Degree
+pub mod ExtDegree
+pub mod ExtMeaning
+pub mod ExtTree
+pub mod Filter
+pub mod Layout
+pub mod Meaning
+pub mod Tree
+pub mod Window

@@ -1,0 +1,32 @@
+//! What constraints are written with: expressions over the cells of a window, and the traits of the
+//! builders that they are handed to.
+#![tactic(auto)]
+
+mod air;
+mod base_expression;
+mod builder;
+mod degree;
+mod error;
+mod expression;
+mod ext_degree;
+mod ext_expression;
+mod extension;
+mod filtered;
+mod fits;
+mod layout;
+mod resolve;
+#[cfg(test)]
+mod tests;
+mod variable;
+
+pub use air::{Air, BaseAir};
+pub use base_expression::{BaseLeaf, Seen, SymbolicExpression};
+pub use builder::AirBuilder;
+pub use error::{AirError, LayoutPart};
+pub use expression::Expression;
+pub use ext_expression::{ExtLeaf, SeenExt, SymbolicExpressionExt};
+pub use extension::{ExtensionBuilder, PermutationAirBuilder};
+pub use filtered::FilteredAirBuilder;
+pub use layout::AirLayout;
+pub use resolve::resolve_over;
+pub use variable::{BaseEntry, ExtEntry, SymbolicVariable, SymbolicVariableExt};

@@ -1,0 +1,4 @@
+mod errors;
+mod expressions;
+mod ext_expressions;
+mod layouts;
