@@ -1,5 +1,3 @@
-ghost use Rattle.std.specs.Prelude.{◌≡◌};
-
 use crate::tests::machines::assert_row;
 use crate::tests::{no_preprocessed, no_trace, trace_of};
 use crate::{AirBuilder, AirError, DebugConstraintBuilder, ExtensionBuilder, RowInputs};

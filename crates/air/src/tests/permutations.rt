@@ -1,5 +1,3 @@
-ghost use Rattle.std.specs.Prelude.{◌≡◌};
-
 use crate::tests::trace_of;
 use crate::{
     AirBuilder, AirError, DebugConstraintBuilder, Expression, ExtensionBuilder, LayoutPart,
