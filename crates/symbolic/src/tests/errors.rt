@@ -3,7 +3,7 @@ use std::alloc::{AllocError, Global};
 use std::test::Fail;
 
 /// Whether an error is printed as this text.
-fn prints(alloc: Global, error: AirError, text: &str) -> Result<bool, AllocError> {
+pub fn prints(alloc: Global, error: AirError, text: &str) -> Result<bool, AllocError> {
     let printed = format!(in alloc; "{error}")?;
     Ok(printed.as_str() == text)
 }

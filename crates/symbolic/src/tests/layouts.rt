@@ -1,3 +1,4 @@
+use crate::tests::errors::prints;
 use crate::{
     AirError, AirLayout, BaseAir, BaseEntry, BaseLeaf, LayoutPart, SymbolicExpression,
     SymbolicVariable,
@@ -27,6 +28,29 @@ impl BaseAir<F7> for Pairs {
 
     fn num_public_values(&self) -> usize {
         1
+    }
+}
+
+/// So many columns.
+struct Columns(usize);
+
+impl<F> BaseAir<F> for Columns {
+    ghost width = { λ a. a.0 };
+
+    ghost preprocessed_width = { λ _. 0 };
+
+    ghost num_public_values = { λ _. 0 };
+
+    fn width(&self) -> usize {
+        self.0
+    }
+
+    fn preprocessed_width(&self) -> usize {
+        0
+    }
+
+    fn num_public_values(&self) -> usize {
+        0
     }
 }
 
@@ -66,6 +90,22 @@ fn layouts_are_compared_with_airs(rt: HostRuntime) {
     assert!(rt; amiss(layout_of(1, 1, 0)) == Err(mismatch(LayoutPart::Main, 2, 1)));
     assert!(rt; amiss(layout_of(2, 1, 0)) == Err(mismatch(LayoutPart::Preprocessed, 0, 1)));
     assert!(rt; amiss(layout_of(2, 0, 0)) == Err(mismatch(LayoutPart::PublicValues, 1, 0)));
+}
+
+/// What is amiss in a layout of two columns for an AIR of three.
+fn narrow() -> Result<(), AirError> {
+    layout_of(2, 0, 0).validate_against_air::<F7, Columns>(&Columns(3))
+}
+
+#[test]
+fn a_narrow_layout_is_named(rt: HostRuntime) -> Result<(), Fail> {
+    let alloc = rt.alloc();
+    let Err(error) = narrow() else {
+        return Err("a narrow layout was accepted".into());
+    };
+    assert!(rt; error == mismatch(LayoutPart::Main, 3, 2));
+    assert!(rt; prints(alloc, error, "main width: layout says 2, the AIR has 3")?);
+    Ok(())
 }
 
 fn layout_of_pairs(alloc: Global) -> Result<AirLayout, AllocError> {
