@@ -78,6 +78,7 @@ pub record IsRow {F EF : Type 0} (x : RowInputs F EF) (r : ℕ) (b : DebugConstr
   pub window : ext_row_window b ≡ input_window x r
   pub layout : row_layout b ≡ input_layout x
   pub row_is : b.row ≡ r
+  pub height_is : b.height ≡ height x.main.now
 
 -- an evaluation can give the answer on row r of the inputs
 unfoldable pub RowAnswers : {A F EF : Type 0} → (A → DebugConstraintBuilder F EF → Result (Unit {0}) AirError → DebugConstraintBuilder F EF → Type 0) → A → RowInputs F EF → ℕ → Result (Unit {0}) AirError → Type 0
