@@ -1,3 +1,4 @@
+mod embedding;
 mod filters;
 mod machines;
 mod permutations;

@@ -7,7 +7,7 @@ use field::{F7, PrimeCharacteristicRing};
 use matrix::{RowMajorMatrix, WindowAccess};
 use std::alloc::Global;
 
-fn missing() -> AirError {
+pub fn missing() -> AirError {
     AirError::LayoutMismatch {
         part: LayoutPart::Main,
         expected: 1,
@@ -44,7 +44,7 @@ fn sum_of_arguments<AB: PermutationAirBuilder>(
 }
 
 /// The first main cell, embedded.
-fn lifted_cell<AB: PermutationAirBuilder>(
+pub fn lifted_cell<AB: PermutationAirBuilder>(
     alloc: Global,
     builder: &AB,
 ) -> Result<AB::ExprEF, AirError> {

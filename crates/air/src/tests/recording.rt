@@ -1,6 +1,6 @@
 use crate::tests::machines::Fibonacci;
 use crate::{
-    Air, AirBuilder, AirError, AirLayout, Expression, ExtensionBuilder, LayoutPart,
+    Air, AirBuilder, AirError, AirLayout, BaseLeaf, Expression, ExtensionBuilder, LayoutPart,
     PermutationAirBuilder, SymbolicAirBuilder, SymbolicExpression, SymbolicExpressionExt,
 };
 use field::F7;
@@ -23,6 +23,22 @@ fn is_filtered(constraint: &SymbolicExpression<F7>) -> bool {
     is_product && constraint.degree_multiple_with_transition(1) == Ok(2)
 }
 
+/// The selector that a constraint is multiplied by.
+fn selector_of(constraint: &SymbolicExpression<F7>) -> Option<BaseLeaf<F7>> {
+    match constraint {
+        SymbolicExpression::Mul(selector, _) => match &**selector {
+            SymbolicExpression::Leaf(leaf) => Some(*leaf),
+            _ => None,
+        },
+        _ => None,
+    }
+}
+
+/// The selector of the constraint at this place.
+fn selector_at(recorder: &Recorder, place: usize) -> Option<BaseLeaf<F7>> {
+    selector_of(recorder.base_constraints().get(place)?)
+}
+
 /// Whether constraints were recorded at these places of the one order, and no others.
 fn has_places(recorder: &Recorder, base: &[usize], extension: &[usize]) -> bool {
     let places = recorder.constraint_layout();
@@ -36,6 +52,15 @@ fn an_air_is_recorded_in_order(rt: HostRuntime) -> Result<(), Fail> {
     assert!(rt; recorder.base_constraints().len() == 5);
     assert!(rt; recorder.base_constraints().iter().all(is_filtered));
     assert!(rt; recorder.extension_constraints().is_empty());
+    Ok(())
+}
+
+#[test]
+fn filters_put_the_selector_first(rt: HostRuntime) -> Result<(), Fail> {
+    let recorder = record_fibonacci(rt.alloc())?;
+    assert!(rt; matches!(selector_at(&recorder, 1), Some(BaseLeaf::IsFirstRow)));
+    assert!(rt; matches!(selector_at(&recorder, 2), Some(BaseLeaf::IsTransition)));
+    assert!(rt; matches!(selector_at(&recorder, 4), Some(BaseLeaf::IsLastRow)));
     Ok(())
 }
 
