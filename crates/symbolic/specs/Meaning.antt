@@ -1,5 +1,5 @@
 -- The value of an expression at a window, by recursion on its tree.
-use Rattle.std.specs.Prelude.{ℕ, zero, suc, List, slice_index_or}
+use Rattle.std.specs.Prelude.{ℕ, zero, suc, List, [], slice_index_or}
 use Rattle.field.specs.Ring.{Ring, of_bool, sub_in}
 use Rattle.symbolic.specs.declared.base_expression.BaseLeaf.{BaseLeaf}
 use Rattle.symbolic.specs.declared.base_expression.BaseLeaf.TheVariants.{Variable, IsFirstRow, IsLastRow, IsTransition, Constant}
@@ -9,10 +9,11 @@ use Rattle.symbolic.specs.declared.variable.SymbolicVariable.{SymbolicVariable}
 use Rattle.symbolic.specs.Tree.{Tree, leaf, add, sub, mul, neg}
 use Rattle.symbolic.specs.Window.{Window}
 
--- the current row at offset 0, else the next one
+-- the current row at offset 0, the next one at offset 1, and no cells past them
 abbrev pub row_at : {F : Type 0} → ℕ → List F → List F → List F
 row_at zero current next = current
-row_at (suc _) current next = next
+row_at (suc zero) current next = next
+row_at (suc (suc _)) current next = []
 
 -- the list in which an entry is looked up
 abbrev pub cells_of : {F : Type 0} → Window F → BaseEntry → List F
