@@ -74,6 +74,10 @@ impl<F: Field> Expression<F> for SymbolicExpression<F> {
 
     ghost degree = { λ e t. degree_of t (tree_of e) };
 
+    ghost same = { λ a b. tree_of b ≡ tree_of a };
+
+    ghost is_product = { λ a b r. tree_of r ≡ mul (tree_of a) (tree_of b) };
+
     fn constant(x: F) -> Self
         ensures { tree_of result ≡ leaf (BaseLeaf.Constant x) }
     {

@@ -9,7 +9,8 @@ use std::alloc::{AllocError, Global};
 /// with constants in `F`.
 ///
 /// A contract sees of it the value at each `Seen`, which is the window for a tree, and nothing for
-/// an element, and the degree where the transition selector has degree `t`.
+/// an element, and the degree where the transition selector has degree `t`. It also knows copies
+/// (`same`) and products (`is_product`) by their nodes.
 pub trait Expression<F: Field>: Drop {
     /// What values of the type are looked at with.
     type Seen;
@@ -17,6 +18,10 @@ pub trait Expression<F: Field>: Drop {
     ghost value: { Self → Self.Seen → F };
 
     ghost degree: { Self → ℕ → ℕ };
+
+    ghost same: { Self → Self → Type 0 };
+
+    ghost is_product: { Self → Self → Self → Type 0 };
 
     /// The expression whose value is `x` everywhere.
     fn constant(x: F) -> Self
@@ -36,7 +41,8 @@ pub trait Expression<F: Field>: Drop {
     /// The product `self * other`.
     fn mul(self, alloc: Global, other: Self) -> Result<Self, AllocError>
         ensures means { IfOk result (λ r. (w : Self.Seen) → value r w ≡ F.ring.mul (value self w) (value other w)) }
-        ensures degree { IfOk result (λ r. (t : ℕ) → degree r t ≡ degree self t + degree other t) };
+        ensures degree { IfOk result (λ r. (t : ℕ) → degree r t ≡ degree self t + degree other t) }
+        ensures node { IfOk result (λ r. is_product self other r) };
 
     /// The negation `-self`.
     fn neg(self, alloc: Global) -> Result<Self, AllocError>
@@ -46,7 +52,8 @@ pub trait Expression<F: Field>: Drop {
     /// The same expression again.
     fn copy(&self, alloc: Global) -> Result<Self, AllocError>
         ensures means { IfOk result (λ r. (w : Self.Seen) → value r w ≡ value self.now w) }
-        ensures degree { IfOk result (λ r. (t : ℕ) → degree r t ≡ degree self.now t) };
+        ensures degree { IfOk result (λ r. (t : ℕ) → degree r t ≡ degree self.now t) }
+        ensures same { IfOk result (λ r. same self.now r) };
 }
 
 /// Elements of a field are their own values, of degree 0; no call is refused.
@@ -56,6 +63,10 @@ impl<F: Field> Expression<F> for F {
     ghost value = { λ x _. x };
 
     ghost degree = { λ _ _. 0 };
+
+    ghost same = { λ x y. y ≡ x };
+
+    ghost is_product = { λ x y r. r ≡ F.ring.mul x y };
 
     fn constant(x: F) -> F {
         x

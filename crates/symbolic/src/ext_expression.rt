@@ -85,6 +85,10 @@ impl<F: Field, EF: ExtensionField<F>> Expression<EF> for SymbolicExpressionExt<F
 
     ghost degree = { λ e t. ext_degree_of t (ext_tree_of e) };
 
+    ghost same = { λ a b. ext_tree_of b ≡ ext_tree_of a };
+
+    ghost is_product = { λ a b r. ext_tree_of r ≡ mul (ext_tree_of a) (ext_tree_of b) };
+
     fn constant(x: EF) -> Self
         ensures { ext_tree_of result ≡ constant x }
     {
