@@ -1,5 +1,5 @@
 //! Constraints of lookups, on witnesses and as expressions.
-ghost use Rattle.std.specs.Prelude.{◌≡◌, IfOk};
+ghost use Rattle.std.specs.Prelude.{◌≡◌, IfOk, ⊤};
 
 use super::{cell, generated, local, single};
 use crate::{LogUpGadget, Lookup, LookupProtocol, fits};
