@@ -1,5 +1,5 @@
 //! Constraints of lookups, on witnesses and as expressions.
-ghost use Rattle.std.specs.Prelude.{◌≡◌, IfOk, ⊤};
+ghost use Rattle.std.specs.Prelude.{◌≡◌, IfOk, None, ⊤};
 
 use super::{cell, generated, local, single};
 use crate::{LogUpGadget, Lookup, LookupProtocol, fits};
@@ -129,21 +129,28 @@ fn range<F: field::Field>(alloc: Global, column: usize) -> Result<Lookup<F>, Fai
     Ok(local(elements, multiplicities, column))
 }
 
+/// No preprocessed trace beside this one.
+fn no_preprocessed<'a, F>(_main: &'a RowMajorMatrix<F>) -> Option<&'a RowMajorMatrix<F>>
+    ensures { result ≡ None }
+{
+    None
+}
+
 /// Whether every row of a witness over F7 is accepted; else the row that is not.
-fn refusal(
-    rt: &impl Abort,
+fn refusal<'a, R: Abort>(
+    rt: &'a R,
     alloc: Global,
-    main: &RowMajorMatrix<F7>,
-    lookups: &[Lookup<F7>],
-    challenges: &[F7],
-    auxiliary: &RowMajorMatrix<F7>,
+    main: &'a RowMajorMatrix<F7>,
+    lookups: &'a [Lookup<F7>],
+    challenges: &'a [F7],
+    auxiliary: &'a RowMajorMatrix<F7>,
     terminal: F7,
 ) -> Option<AirError> {
     assert!(rt; auxiliary.height() == main.height());
     let terminals = [terminal];
     let inputs = RowInputs {
         main,
-        preprocessed: None,
+        preprocessed: no_preprocessed(main),
         public_values: &[],
         permutation: auxiliary,
         challenges,
@@ -185,41 +192,35 @@ fn a_balanced_witness_is_accepted(rt: HostRuntime) -> Result<(), Fail> {
     Ok(())
 }
 
-/// How many of the six other values of a place of the balanced witness are refused: place 0 to 3
-/// is a cell, place 4 the terminal.
-fn refused_values(rt: &impl Abort, alloc: Global, place: usize) -> Result<usize, Fail> {
+/// Whether the balanced witness is refused with this value in a place: place 0 to 3 is a cell,
+/// place 4 the terminal.
+fn is_refused(rt: &impl Abort, alloc: Global, place: usize, value: u32) -> Result<bool, Fail> {
     let main = swapped_rows(rt, alloc)?;
     let lookups = [range(alloc, 0)?];
     let challenges = [F7::new(0), F7::new(2)];
-    let right = [0, 4, 4, 3, 0];
-    let mut refused = 0;
-    for value in 0..7 {
-        let mut witness = right;
-        if place < 5 && value != right[place] {
-            witness[place] = value;
-            let auxiliary = trace(rt, alloc, &witness[0..4], 2)?;
-            let answer = refusal(
-                rt,
-                alloc,
-                &main,
-                lookups.as_slice(),
-                challenges.as_slice(),
-                &auxiliary,
-                F7::from_u32(witness[4]),
-            );
-            if answer.is_some() {
-                refused += 1;
-            }
-        }
-    }
-    Ok(refused)
+    let mut witness = [0, 4, 4, 3, 0];
+    assert!(rt; place < 5);
+    witness[place] = value;
+    let auxiliary = trace(rt, alloc, &witness[0..4], 2)?;
+    let refused = refusal(
+        rt,
+        alloc,
+        &main,
+        lookups.as_slice(),
+        challenges.as_slice(),
+        &auxiliary,
+        F7::from_u32(witness[4]),
+    );
+    Ok(refused.is_some())
 }
 
 #[test]
 fn every_other_cell_is_refused(rt: HostRuntime) -> Result<(), Fail> {
     let alloc = rt.alloc();
-    for place in 0..5 {
-        assert_eq!(rt; refused_values(&rt, alloc, place)?, 6);
+    for (place, right) in [0, 4, 4, 3, 0].iter().enumerate() {
+        for value in 0..7 {
+            assert!(rt; is_refused(&rt, alloc, place, value)? == (value != *right));
+        }
     }
     Ok(())
 }
@@ -255,20 +256,20 @@ fn a_zero_multiplicity_on_a_point_frees_the_fraction(rt: HostRuntime) -> Result<
 }
 
 /// Whether a witness over the quartic extension is accepted, for two lookups of three cells.
-fn refusal_in_extension(
-    rt: &impl Abort,
+fn refusal_in_extension<'a, R: Abort>(
+    rt: &'a R,
     alloc: Global,
-    main: &RowMajorMatrix<BabyBear>,
-    lookups: &[Lookup<BabyBear>],
-    challenges: &[BabyBear4],
-    auxiliary: &RowMajorMatrix<BabyBear4>,
+    main: &'a RowMajorMatrix<BabyBear>,
+    lookups: &'a [Lookup<BabyBear>],
+    challenges: &'a [BabyBear4],
+    auxiliary: &'a RowMajorMatrix<BabyBear4>,
     terminal: BabyBear4,
 ) -> Option<AirError> {
     assert!(rt; auxiliary.height() == main.height());
     let terminals = [terminal];
     let inputs = RowInputs {
         main,
-        preprocessed: None,
+        preprocessed: no_preprocessed(main),
         public_values: &[],
         permutation: auxiliary,
         challenges,
