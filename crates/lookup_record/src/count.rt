@@ -109,9 +109,8 @@ impl<F: Field> Count<SymbolicExpression<F>> {
         ensures tree { IfOk result (λ c. tree_of c.expression ≡ tree_of self.now.expression) }
         ensures weight { IfOk result (λ c. c.weight ≡ self.now.weight) }
     {
-        let expression = self.expression.copy(alloc)?;
         Ok(Count {
-            expression,
+            expression: self.expression.copy(alloc)?,
             weight: self.weight,
         })
     }

@@ -30,33 +30,33 @@ impl<'a, F: Field, EF: ExtensionField<F>> InteractionBuilder for DebugConstraint
         &mut self,
         _alloc: Global,
         _bus_name: &str,
-        _fields: Vec<F>,
-        _count: Count<F>,
+        fields: Vec<F>,
+        count: Count<F>,
     ) -> Result<(), AirError>
         ensures { MatchResult result (λ _. self.new ≡ self.old) (λ _. ⊥) }
     {
-        Ok(())
+        ignored((fields, count))
     }
 
     fn push_local_interaction(
         &mut self,
         _alloc: Global,
-        _tuples: Vec<(Vec<F>, Count<F>)>,
+        tuples: Vec<(Vec<F>, Count<F>)>,
     ) -> Result<(), AirError>
         ensures { MatchResult result (λ _. self.new ≡ self.old) (λ _. ⊥) }
     {
-        Ok(())
+        ignored(tuples)
     }
 
     fn push_exclusive_interaction(
         &mut self,
         _alloc: Global,
         _bus_name: &str,
-        _branches: Vec<(F, Count<F>, Vec<F>)>,
+        branches: Vec<(F, Count<F>, Vec<F>)>,
     ) -> Result<(), AirError>
         ensures { MatchResult result (λ _. self.new ≡ self.old) (λ _. ⊥) }
     {
-        Ok(())
+        ignored(branches)
     }
 
     fn num_global_interactions(&self) -> usize {
@@ -93,9 +93,9 @@ impl<'a, F: Field, EF: ExtensionField<F>> IndexedLookupBuilder
         _alloc: Global,
         _table: &str,
         _position: usize,
-        _payload: Vec<usize>,
+        payload: Vec<usize>,
     ) -> Result<(), AirError> {
-        Ok(())
+        ignored(payload)
     }
 
     fn push_indexed_table(
@@ -103,9 +103,9 @@ impl<'a, F: Field, EF: ExtensionField<F>> IndexedLookupBuilder
         _alloc: Global,
         _name: &str,
         _window: TraceWindow,
-        _columns: Vec<usize>,
+        columns: Vec<usize>,
     ) -> Result<(), AirError> {
-        Ok(())
+        ignored(columns)
     }
 
     fn num_indexed_reads(&self) -> usize {
@@ -115,4 +115,11 @@ impl<'a, F: Field, EF: ExtensionField<F>> IndexedLookupBuilder
     fn num_indexed_tables(&self) -> usize {
         0
     }
+}
+
+/// Drops what is pushed.
+fn ignored<T: Drop>(_pushed: T) -> Result<(), AirError>
+    ensures { result ≡ Ok tt }
+{
+    Ok(())
 }

@@ -6,21 +6,23 @@
 #![tactic(auto)]
 
 mod builder;
-mod bus;
 mod count;
 mod debug;
 pub mod indexed;
 mod interaction;
+mod lookup_bus;
+mod permutation_bus;
 pub mod symbolic;
 #[cfg(test)]
 mod tests;
 
 pub use builder::{IndexedLookupBuilder, InteractionBuilder};
-pub use bus::{LookupBus, PermutationCheckBus};
 pub use count::Count;
 pub use indexed::{IndexedRead, IndexedTable, TraceWindow};
 pub use interaction::{
     LocalTuple, SymbolicExclusiveBranch, SymbolicExclusiveInteraction, SymbolicInteraction,
     SymbolicLocalInteraction,
 };
+pub use lookup_bus::LookupBus;
+pub use permutation_bus::PermutationCheckBus;
 pub use symbolic::InteractionSymbolicBuilder;

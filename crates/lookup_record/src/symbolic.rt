@@ -368,12 +368,12 @@ impl<F: Field, EF: ExtensionField<F>> InteractionBuilder for InteractionSymbolic
             (λ e. (recorded_air self.new ≡ recorded_air self.old) × (e ≡ Memory)) }
     {
         let bus_name = String::from_str(alloc, bus_name)?;
-        let (count, count_weight) = count.into_parts();
+        let (expression, weight) = count.into_parts();
         self.global_interactions.push(SymbolicInteraction {
             bus_name,
             fields,
-            count,
-            count_weight,
+            count: expression,
+            count_weight: weight,
         })?;
         Ok(())
     }

@@ -2,7 +2,7 @@ use Rattle.std.proofs.Common.{◌≡◌, ◌++◌, map, All}
 use Rattle.std.specs.Vec.Iter.{into_iter_items}
 use Rattle.lookup_record.specs.Messages.{IsUnitQuery, flag_and_fields, flag_and_key}
 use Rattle.lookup_record.specs.Pushed.{pushed_branch}
-use Rattle.lookup_record.proofs.bus.unit_queries.Given as goal
+use Rattle.lookup_record.proofs.lookup_bus.unit_queries.Given as goal
 
 abbrev pub invariant-loop-flag : goal.invariant-loop-flag
 invariant-loop-flag g l =
