@@ -8,7 +8,8 @@ use std::test::Fail;
 
 /// Negating twice gives the same count.
 fn negated_twice<F: Field>(count: Count<F>) -> Count<F>
-    ensures { result ≡ count }
+    ensures expression { result.expression ≡ count.expression }
+    ensures weight { result.weight ≡ count.weight }
 {
     -(-count)
 }

@@ -1,6 +1,9 @@
-use crate::tests::{constant, constants, once, recorder, value};
+use crate::tests::{Recorder, constant, constants, once, recorder, value};
 use crate::{Count, IndexedLookupBuilder, InteractionBuilder, LookupBus, TraceWindow};
-use air::{AirBuilder, ExtensionBuilder, PermutationAirBuilder, SymbolicExpressionExt};
+use air::{
+    AirBuilder, AirLayout, BaseEntry, ExtLeaf, ExtensionBuilder, PermutationAirBuilder,
+    SymbolicExpressionExt,
+};
 use field::F7;
 use matrix::WindowAccess;
 use std::test::Fail;
@@ -140,5 +143,29 @@ fn constraints_are_recorded_beside(rt: HostRuntime) -> Result<(), Fail> {
     let places = recorder.constraint_layout(alloc)?;
     assert_eq!(rt; places.base_indices.as_slice(), [1].as_slice());
     assert_eq!(rt; places.ext_indices.as_slice(), [0, 2, 3].as_slice());
+    Ok(())
+}
+
+#[test]
+fn variables_are_handed_out(rt: HostRuntime) -> Result<(), Fail> {
+    let alloc = rt.alloc();
+    let layout = AirLayout {
+        preprocessed_width: 2,
+        num_public_values: 3,
+        ..AirLayout::default()
+    };
+    let recorder = Recorder::new(alloc, layout)?;
+    let fixed = recorder
+        .preprocessed()
+        .next(1)
+        .map(|variable| variable.entry);
+    assert_eq!(rt; fixed, Some(BaseEntry::Preprocessed { offset: 1 }));
+    let public = recorder
+        .public_values()
+        .get(2)
+        .map(|variable| variable.index);
+    assert_eq!(rt; public, Some(2));
+    let last = Recorder::lift(recorder.is_last_row());
+    assert!(rt; matches!(last, SymbolicExpressionExt::Leaf(ExtLeaf::Base(_))));
     Ok(())
 }
