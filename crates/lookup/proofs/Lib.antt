@@ -19,6 +19,8 @@ pub mod ProgressLaws
 pub mod RecordLaws
 pub mod Regrouping
 pub mod Rows
+pub mod SatisfiedFractions
+pub mod SatisfiedRows
 pub mod SentRows
 pub mod SumLaws
 pub mod TakenOut

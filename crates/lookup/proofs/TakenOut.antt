@@ -42,13 +42,13 @@ module _ {K : Type 0} {S : Ring K} (laws : IsCommutativeRing S) where
 
   module _ {X : Type 0} (p d : X → K) where
     -- the product of all factors, and the sum of each item times the other factors
-    abbrev product_of : List X → K
+    abbrev pub product_of : List X → K
     product_of xs = product_in S (map d xs)
 
-    abbrev item_of : X × List X → K
+    abbrev pub item_of : X × List X → K
     item_of t = S.mul (p t.0) (product_of t.1)
 
-    abbrev sum_of : List X → K
+    abbrev pub sum_of : List X → K
     sum_of xs = sum_in S (map item_of (taken_out xs))
 
     pub product_of-push : (xs : List X) (x : X) → product_in S (map d (xs ++ x ∷ [])) ≡ S.mul (product_in S (map d xs)) (d x)

@@ -19,3 +19,4 @@ pub mod Sent
 pub mod Terminals
 pub mod Trace
 pub mod TraceBuilder
+pub mod Witness

@@ -11,6 +11,7 @@ ghost use Rattle.lookup.specs.Generated.{plain_matrix, plain_terminal_of};
 ghost use Rattle.lookup.specs.Records.{DoFit, HasEqualLengths, IsWithin};
 ghost use Rattle.lookup.specs.Terminals.{terminal_sum};
 ghost use Rattle.lookup.specs.Trace.{sent_rows};
+ghost use Rattle.lookup.specs.Witness.{IsSatisfied};
 ghost use Rattle.matrix.specs.Matrix.{height};
 
 use crate::error::LookupError;
@@ -130,7 +131,8 @@ pub trait LookupProtocol: Sized {
             let rows = sent_rows F.ring F.eq main.now (option_copied preprocessed.entry) public_values.now lookups.now in
             (r.0 ≡ plain_matrix E denominator lookups.now rows)
             × (r.1 ≡ plain_terminal_of E denominator lookups.now rows)
-            × (trace_faults E denominator rows ≡ []))
+            × (trace_faults E denominator rows ≡ [])
+            × IsSatisfied E main.now (option_copied preprocessed.entry) public_values.now lookups.now challenges.now r.0 r.1)
             (λ e. let E = extension F.ring F.eq EF.ring EF.eq EF.embed EF.inverse in
             let rows = sent_rows F.ring F.eq main.now (option_copied preprocessed.entry) public_values.now lookups.now in
             (e ≡ LookupError.Memory) ⊎ (slice_get (trace_faults E (column_denominator E challenges.now) rows) 0 ≡ Some e)) };

@@ -1,4 +1,7 @@
 //! Calls over concrete fields.
+mod evaluation;
+mod windows;
+
 use crate::plain::PlainMessage;
 use crate::traits::LookupTraceBuilder;
 use crate::{
@@ -52,7 +55,34 @@ fn single<F: Field>(alloc: Global, width: usize, column: usize) -> Result<Lookup
     Ok(local(elements, multiplicities, column))
 }
 
-/// The auxiliary trace of additive lookups over a main trace that they have to fit.
+/// The auxiliary trace of additive lookups over traces that they have to fit.
+fn generated_over<'a, F: Field, EF: ExtensionField<F>>(
+    rt: &impl Abort,
+    alloc: Global,
+    main: &'a RowMajorMatrix<F>,
+    preprocessed: Option<&'a RowMajorMatrix<F>>,
+    public_values: &[F],
+    lookups: &[Lookup<F>],
+    challenges: &[EF],
+) -> Result<(RowMajorMatrix<EF>, Option<LookupTerminal<EF>>), LookupError> {
+    if let Some(trace) = preprocessed {
+        assert!(rt; trace.height() == main.height());
+    }
+    let layout = AirLayout::of_traces(main, preprocessed, public_values);
+    assert!(rt; fits(lookups, &layout));
+    assert!(rt; lookups.iter().all(|lookup| lookup.flags.is_none()));
+    assert!(rt; lookups.len() <= challenges.len() / 2);
+    LogUpGadget::new().generate_permutation(
+        alloc,
+        main,
+        preprocessed,
+        public_values,
+        lookups,
+        challenges,
+    )
+}
+
+/// The same over a main trace alone.
 fn generated<F: Field, EF: ExtensionField<F>>(
     rt: &impl Abort,
     alloc: Global,
@@ -60,16 +90,12 @@ fn generated<F: Field, EF: ExtensionField<F>>(
     lookups: &[Lookup<F>],
     challenges: &[EF],
 ) -> Result<(RowMajorMatrix<EF>, Option<LookupTerminal<EF>>), LookupError> {
-    let no_trace: Option<&RowMajorMatrix<F>> = None;
     let no_values: Vec<F> = Vec::new(alloc);
-    let layout = AirLayout::of_traces(main, no_trace, no_values.as_slice());
-    assert!(rt; fits(lookups, &layout));
-    assert!(rt; lookups.iter().all(|lookup| lookup.flags.is_none()));
-    assert!(rt; lookups.len() <= challenges.len() / 2);
-    LogUpGadget::new().generate_permutation(
+    generated_over(
+        rt,
         alloc,
         main,
-        no_trace,
+        None,
         no_values.as_slice(),
         lookups,
         challenges,

@@ -1,4 +1,4 @@
-use Rattle.std.proofs.Common.{◌≡◌, ◌<◌, ◌+◌, List, [], Some, length, sym, ap, ◌∙◌, arith}
+use Rattle.std.proofs.Common.{◌≡◌, ◌<◌, ◌+◌, List, [], Some, length, sym, ap, subst₂, ◌∙◌, arith}
 use Rattle.std.proofs.lemmas.Bool.{eqb-true, eqb-false}
 use Rattle.std.proofs.lemmas.List.{nil_from_length}
 use Rattle.std.specs.List.{range_with_len}
@@ -9,7 +9,9 @@ use Rattle.lookup.specs.Extension.{extension, IsLawful}
 use Rattle.lookup.specs.Fault.{trace_faults}
 use Rattle.lookup.specs.Generated.{plain_matrix, plain_terminal_of}
 use Rattle.lookup.specs.Trace.{sent_rows}
+use Rattle.lookup.specs.Witness.{IsSatisfied}
 use Rattle.lookup.proofs.PlainResults.{IsShaped-product, faultless_rows, plain_matrix-some, plain_terminal_of-some, length-plain_rows, cells_plain, accumulator_plain, faultless_trace}
+use Rattle.lookup.proofs.SatisfiedRows.{none_satisfied, plain_satisfied}
 use Rattle.lookup.proofs.SentRows.{length-sent_rows, length-sent_rows-at}
 use Rattle.lookup.proofs.logup.LogUpGadgetLookupProtocol.generate_permutation.Goals as goal
 
@@ -22,6 +24,7 @@ returns-then-is_empty g c =
       c.new-then-is_empty.ensures ∙ (λ i. record { values = c.new.ensures.items i; width = 0 }) ∙ (λ i. plain_matrix E denominator (sym none i) (rows (sym none i))),
       (λ i. plain_terminal_of E denominator (sym none i) (rows (sym none i))),
       (λ i. trace_faults E denominator (rows (none i))) ∙ faultless_rows E denominator 0 (range_with_len 0 (height c.args.main.now)),
+      none_satisfied E c.args.main.now (option_copied c.args.preprocessed) c.args.public_values.now c.args.challenges.now c.args.lookups.now _ none (c.new-then-is_empty.ensures ∙ (λ i. record { values = c.new.ensures.items i; width = 0 })),
     )
 
 pub new-requires-2 : goal.new-requires-2
@@ -59,4 +62,8 @@ returns g c =
       c.new-2.ensures ∙ (λ i. record { values = cells_plain laws denominator rows h _ _ high c.in_ok-cells.ensures i; width = length c.args.lookups.now + 1 }) ∙ sym (plain_matrix-some E denominator c.args.lookups.now rows some),
       (λ i. Some (record { 0 = accumulator_plain laws denominator rows h _ _ high c.in_ok-cells.ensures i })) ∙ sym (plain_terminal_of-some E denominator c.args.lookups.now rows some),
       faultless_trace laws denominator rows h _ _ high c.in_ok-cells.ensures,
+      subst₂ (IsSatisfied E c.args.main.now prep c.args.public_values.now c.args.lookups.now c.args.challenges.now)
+          (sym (c.new-2.ensures ∙ (λ i. record { values = cells_plain laws denominator rows h _ _ high c.in_ok-cells.ensures i; width = length c.args.lookups.now + 1 })))
+          (λ i. Some (record { 0 = sym (accumulator_plain laws denominator rows h _ _ high c.in_ok-cells.ensures) i }))
+          (plain_satisfied laws c.args.challenges.now c.args.main.now prep c.args.public_values.now c.args.lookups.now c.requires.fit.records some (faultless_trace laws denominator rows h _ _ high c.in_ok-cells.ensures) c.requires.additive),
     )

@@ -1,0 +1,7 @@
+pub mod Declaration
+pub mod Interaction
+pub mod Messages
+pub mod Negation
+pub mod Pushed
+pub mod RecordedAir
+pub mod Records

@@ -1,0 +1,111 @@
+//! The bus between queries and a table.
+ghost use Rattle.std.specs.Prelude.{◌≡◌, All, IfOk, MatchResult, map};
+ghost use Rattle.lookup_record.specs.Messages.{IsExclusiveQuery, IsNegatedMessage, IsUnitQuery, PushesOne, flag_and_fields, flag_and_key};
+ghost use Rattle.lookup_record.specs.Pushed.{pushed_branch, pushed_global};
+
+use crate::builder::InteractionBuilder;
+use crate::count::Count;
+use air::{AirError, Expression};
+use field::{Field, PrimeCharacteristicRing};
+use std::alloc::{AllocError, Global};
+
+/// A bus between queries and a table: that every query is an entry shows where all messages cancel.
+#[derive(Clone, Debug, Drop)]
+pub struct LookupBus<'a> {
+    name: &'a str,
+}
+
+impl<'a> LookupBus<'a> {
+    /// The bus of this name.
+    pub fn new(name: &'a str) -> Self
+        ensures { result.name ≡ name.entry }
+    {
+        LookupBus { name }
+    }
+
+    /// The name of the bus.
+    pub fn name(&self) -> &str
+        ensures { result.now ≡ self.now.name.now }
+    {
+        self.name
+    }
+
+    /// Queries `key` in the table, `count` times on each row.
+    ///
+    /// The answer is the builder's own.
+    pub fn lookup_key<AB: InteractionBuilder>(
+        &self,
+        alloc: Global,
+        builder: &mut AB,
+        key: Vec<AB::Expr>,
+        count: Count<AB::Expr>,
+    ) -> Result<(), AirError>
+        ensures { MatchResult result
+            (λ _. AB.pushes builder.old (pushed_global self.now.name.now key.items count) builder.new)
+            (λ e. AB.refuses_push builder.old (pushed_global self.now.name.now key.items count) e builder.new) }
+    {
+        builder.push_interaction(alloc, self.name, key, count)
+    }
+
+    /// Provides `key` as an entry of the table, which is taken `num_lookups` times on each row: the
+    /// message counts down that often, with weight 0.
+    ///
+    /// The answer is the builder's own, or want of memory with nothing pushed.
+    pub fn table_entry<AB: InteractionBuilder>(
+        &self,
+        alloc: Global,
+        builder: &mut AB,
+        key: Vec<AB::Expr>,
+        num_lookups: AB::Expr,
+    ) -> Result<(), AirError>
+        ensures { PushesOne AB.pushes AB.refuses_push
+            (IsNegatedMessage AB.F.ring.neg AB.Expr.value AB.Expr.degree self.now.name.now key.items num_lookups 0)
+            builder.old result builder.new }
+    {
+        let taken = num_lookups.neg(alloc)?;
+        builder.push_interaction(alloc, self.name, key, Count::provided(taken))
+    }
+
+    /// Queries one of several keys: on each row that of the set flag, once, or none. Each branch is
+    /// a flag with its key.
+    ///
+    /// That each flag is 0 or 1 and at most one is set on each row is for the AIR to enforce. The
+    /// answer is the builder's own, or want of memory with nothing pushed.
+    pub fn lookup_key_exclusive<AB: InteractionBuilder>(
+        &self,
+        alloc: Global,
+        builder: &mut AB,
+        branches: Vec<(AB::Expr, Vec<AB::Expr>)>,
+    ) -> Result<(), AirError>
+        ensures { PushesOne AB.pushes AB.refuses_push
+            (IsExclusiveQuery AB.F.ring.one AB.Expr.value AB.Expr.degree self.now.name.now branches.items)
+            builder.old result builder.new }
+    {
+        let queries = unit_queries::<AB::F, AB::Expr>(alloc, branches)?;
+        builder.push_exclusive_interaction(alloc, self.name, queries)
+    }
+}
+
+/// Each branch with the count 1.
+fn unit_queries<F: Field, E: Expression<F>>(
+    alloc: Global,
+    branches: Vec<(E, Vec<E>)>,
+) -> Result<Vec<(E, Count<E>, Vec<E>)>, AllocError>
+    ensures flags_and_fields { IfOk result (λ v. map flag_and_fields (map pushed_branch v.items) ≡ map flag_and_key branches.items) }
+    ensures queries { IfOk result (λ v. All (IsUnitQuery F.ring.one E.value E.degree) (map pushed_branch v.items)) }
+{
+    let mut queries = Vec::new(alloc);
+    for (flag, key) in branches {
+        queries.push(unit_query::<F, E>(flag, key))?;
+    }
+    Ok(queries)
+}
+
+/// The branch of this flag and this key with the count 1.
+fn unit_query<F: Field, E: Expression<F>>(flag: E, key: Vec<E>) -> (E, Count<E>, Vec<E>)
+    ensures flag_and_fields { flag_and_fields (pushed_branch result) ≡ (flag, key.items) }
+    ensures query { IsUnitQuery F.ring.one E.value E.degree (pushed_branch result) }
+{
+    let one = E::constant(F::ONE);
+    (flag, Count::bounded(one, 1), key)
+}

@@ -1,0 +1,68 @@
+//! The bus between senders and receivers.
+ghost use Rattle.std.specs.Prelude.{◌≡◌, MatchResult};
+ghost use Rattle.lookup_record.specs.Messages.{IsNegatedMessage, PushesOne};
+ghost use Rattle.lookup_record.specs.Pushed.{pushed_global};
+
+use crate::builder::InteractionBuilder;
+use crate::count::Count;
+use air::AirError;
+use std::alloc::Global;
+
+/// A bus between senders and receivers: that what is sent is what is received shows where all
+/// messages cancel.
+#[derive(Clone, Debug, Drop)]
+pub struct PermutationCheckBus<'a> {
+    name: &'a str,
+}
+
+impl<'a> PermutationCheckBus<'a> {
+    /// The bus of this name.
+    pub fn new(name: &'a str) -> Self
+        ensures { result.name ≡ name.entry }
+    {
+        PermutationCheckBus { name }
+    }
+
+    /// The name of the bus.
+    pub fn name(&self) -> &str
+        ensures { result.now ≡ self.now.name.now }
+    {
+        self.name
+    }
+
+    /// Sends the message `fields`, `count` times on each row.
+    ///
+    /// The answer is the builder's own.
+    pub fn send<AB: InteractionBuilder>(
+        &self,
+        alloc: Global,
+        builder: &mut AB,
+        fields: Vec<AB::Expr>,
+        count: Count<AB::Expr>,
+    ) -> Result<(), AirError>
+        ensures { MatchResult result
+            (λ _. AB.pushes builder.old (pushed_global self.now.name.now fields.items count) builder.new)
+            (λ e. AB.refuses_push builder.old (pushed_global self.now.name.now fields.items count) e builder.new) }
+    {
+        builder.push_interaction(alloc, self.name, fields, count)
+    }
+
+    /// Receives the message `fields`, `count` times on each row: it counts down that often, with
+    /// the count's own weight.
+    ///
+    /// The answer is the builder's own, or want of memory with nothing pushed.
+    pub fn receive<AB: InteractionBuilder>(
+        &self,
+        alloc: Global,
+        builder: &mut AB,
+        fields: Vec<AB::Expr>,
+        count: Count<AB::Expr>,
+    ) -> Result<(), AirError>
+        ensures { PushesOne AB.pushes AB.refuses_push
+            (IsNegatedMessage AB.F.ring.neg AB.Expr.value AB.Expr.degree self.now.name.now fields.items count.expression count.weight)
+            builder.old result builder.new }
+    {
+        let received = count.negate(alloc)?;
+        builder.push_interaction(alloc, self.name, fields, received)
+    }
+}
