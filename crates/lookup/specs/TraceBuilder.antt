@@ -1,6 +1,6 @@
 -- The one window that a trace builder stands for.
-use Rattle.std.specs.Prelude.{◌+◌, ◌==◌, not, length}
-use Rattle.symbolic.specs.Window.{Window}
+use Rattle.std.specs.Prelude.{◌+◌, ◌==◌, not, length, []}
+use Rattle.symbolic.specs.Window.{ExtWindow, Window}
 use Rattle.symbolic.specs.declared.layout.AirLayout.{AirLayout}
 use Rattle.lookup.specs.declared.trace_builder.LookupTraceBuilder.{LookupTraceBuilder}
 
@@ -27,4 +27,14 @@ module _ {F EF : Type 0} where
     permutation_width = 0;
     num_permutation_challenges = length b.permutation_challenges.now;
     num_permutation_values = 0;
+  }
+
+  -- the same with the challenges, and nothing of an auxiliary trace
+  abbrev pub ext_builder_window : LookupTraceBuilder F EF → ExtWindow F EF
+  ext_builder_window b = record {
+    base = builder_window b;
+    permutation = [];
+    permutation_next = [];
+    challenges = b.permutation_challenges.now;
+    permutation_values = [];
   }

@@ -9,8 +9,8 @@ use crate::{
     fits, plain,
 };
 use air::{
-    AirBuilder, AirError, AirLayout, BaseEntry, BaseLeaf, Expression, SymbolicExpression,
-    SymbolicVariable,
+    AirBuilder, AirError, AirLayout, BaseEntry, BaseLeaf, Expression, ExtensionBuilder,
+    PermutationAirBuilder, SymbolicExpression, SymbolicVariable,
 };
 use field::{BabyBear, BabyBear4, ExtensionField, F7, Field, PrimeCharacteristicRing};
 use matrix::{RowMajorMatrix, ViewPair, WindowAccess};
@@ -305,6 +305,40 @@ fn a_row_with_its_next_row(rt: HostRuntime) -> Result<(), Fail> {
         Ok(()) => assert!(rt; false, "3 is not zero"),
         Err(error) => assert!(rt; error == AirError::Assertion { row: 1 }),
     }
+    Ok(())
+}
+
+/// The embedded value, and the answers of a builder to it and to its zero.
+fn lifted_on<AB: PermutationAirBuilder>(
+    alloc: Global,
+    builder: &mut AB,
+    x: AB::Expr,
+    zero: AB::Expr,
+) -> (Result<(), AirError>, Result<(), AirError>) {
+    let nonzero = builder.assert_zero_ext(alloc, AB::lift(x));
+    (nonzero, builder.assert_zero_ext(alloc, AB::lift(zero)))
+}
+
+#[test]
+fn a_row_without_an_auxiliary_row(rt: HostRuntime) -> Result<(), Fail> {
+    let alloc = rt.alloc();
+    let row = [BabyBear::new(2)];
+    let main = ViewPair {
+        top: row.as_slice(),
+        bottom: row.as_slice(),
+    };
+    let nothing = ViewPair {
+        top: &[],
+        bottom: &[],
+    };
+    let challenges = [BabyBear4::ONE, BabyBear4::ZERO];
+    let mut builder = LookupTraceBuilder::new(main, nothing, &[], challenges.as_slice(), 3, 2);
+    assert!(rt; builder.permutation(alloc)?.current_slice().is_empty());
+    assert!(rt; builder.permutation_randomness() == challenges.as_slice());
+    assert!(rt; builder.permutation_values().is_empty());
+    let (nonzero, zero) = lifted_on(alloc, &mut builder, BabyBear::new(5), BabyBear::new(0));
+    assert!(rt; nonzero == Err(AirError::Assertion { row: 2 }));
+    assert!(rt; zero == Ok(()));
     Ok(())
 }
 

@@ -1,8 +1,8 @@
 //! The builder that evaluates lookups on one row of a trace.
-ghost use Rattle.std.specs.Prelude.{◌≡◌, ◌+◌, ◌<◌, length};
+ghost use Rattle.std.specs.Prelude.{◌≡◌, ◌≢◌, ◌+◌, ◌<◌, length, MatchResult};
 
-use air::{AirBuilder, AirError};
-use field::Field;
+use air::{AirBuilder, AirError, ExtensionBuilder, PermutationAirBuilder};
+use field::{Domain, ExtensionDomain, ExtensionField, Field};
 use matrix::{RowWindow, ViewPair};
 use std::alloc::Global;
 
@@ -106,6 +106,17 @@ impl<F, EF: Field> LookupTraceBuilder<'_, F, EF> {
     }
 }
 
+/// Zero is accepted, anything else refused by the name of the row.
+fn judge<K: Domain>(x: K, row: usize) -> Result<(), AirError>
+    ensures { MatchResult result (λ _. x ≡ K.ring.zero) (λ e. (x ≢ K.ring.zero) × (e ≡ AirError.Assertion row)) }
+{
+    if x.is_zero() {
+        Ok(())
+    } else {
+        Err(AirError::Assertion { row })
+    }
+}
+
 impl<'a, F: Field, EF: Field> AirBuilder for LookupTraceBuilder<'a, F, EF> {
     ghost use Rattle.std.specs.Prelude.{◌≢◌, ◌≡◌, refl};
     ghost use Rattle.std.proofs.Common.{rules, ap, sym, ◌∙◌};
@@ -175,10 +186,79 @@ impl<'a, F: Field, EF: Field> AirBuilder for LookupTraceBuilder<'a, F, EF> {
     }
 
     fn assert_zero(&mut self, _alloc: Global, x: F) -> Result<(), AirError> {
-        if x.is_zero() {
-            Ok(())
-        } else {
-            Err(AirError::Assertion { row: self.row })
-        }
+        judge(x, self.row)
+    }
+}
+
+impl<'a, F: Field, EF: ExtensionField<F>> ExtensionBuilder for LookupTraceBuilder<'a, F, EF> {
+    ghost use Rattle.std.specs.Prelude.{◌≢◌, ◌≡◌};
+    ghost use Rattle.std.proofs.Common.{rules, ap};
+    ghost use Rattle.symbolic.specs.declared.error.AirError.TheVariants.{Assertion};
+    ghost use Rattle.lookup.specs.TraceBuilder.{ext_builder_window};
+
+    type EF = EF;
+
+    type ExprEF = EF;
+
+    type VarEF = EF;
+
+    ghost stands_for_ext = { λ b w. w ≡ ext_builder_window b };
+
+    ghost seen_ext = { λ _. tt };
+
+    ghost variable_ext = { λ v _. v };
+
+    ghost accepts_ext = { λ b x c. (c ≡ b) × (x ≡ EF.ring.zero) };
+
+    ghost refuses_ext = { λ b x e c. (c ≡ b) × (x ≢ EF.ring.zero) × (e ≡ Assertion b.row) };
+
+    ghost base_window = { λ b w h. ap (λ v. v.base) h };
+
+    ghost variable_ext_converts = { λ v x w h. h };
+
+    ghost variable_ext_degree = { Prim.search rules };
+
+    ghost keeps_ext = { Prim.search rules };
+
+    ghost keeps_ext_layout = { Prim.search rules };
+
+    ghost base_keeps_ext = { Prim.search rules };
+
+    ghost ext_keeps_base = { Prim.search rules };
+
+    fn lift(x: F) -> EF {
+        EF::embed(x)
+    }
+
+    fn assert_zero_ext(&mut self, _alloc: Global, x: EF) -> Result<(), AirError> {
+        judge(x, self.row)
+    }
+}
+
+impl<'a, F: Field, EF: ExtensionField<F>> PermutationAirBuilder for LookupTraceBuilder<'a, F, EF> {
+    type MP = RowWindow<'a, EF>;
+
+    type RandomVar = EF;
+
+    type PermutationVar = EF;
+
+    ghost challenge = { λ v _. v };
+
+    ghost permutation_value = { λ v _. v };
+
+    ghost challenge_converts = { λ v x w h. h };
+
+    ghost permutation_value_converts = { λ v x w h. h };
+
+    fn permutation(&self, _alloc: Global) -> Result<RowWindow<'a, EF>, AirError> {
+        Ok(RowWindow::from_two_rows(&[], &[]))
+    }
+
+    fn permutation_randomness(&self) -> &[EF] {
+        self.permutation_challenges
+    }
+
+    fn permutation_values(&self) -> &[EF] {
+        &[]
     }
 }
