@@ -8,7 +8,7 @@ use Rattle.symbolic.specs.declared.base_expression.SymbolicExpression.{SymbolicE
 use Rattle.lookup_record.specs.Declaration.{Read, Table, Declaration, read, table, read_of, table_of}
 use Rattle.lookup_record.specs.Interaction.{Tuple, GlobalInteraction, ExclusiveInteraction, Interaction, global, local, exclusive}
 use Rattle.lookup_record.specs.Records.{global_of, local_of, exclusive_of}
-use Rattle.lookup_record.specs.declared.symbolic.InteractionSymbolicBuilder.{InteractionSymbolicBuilder}
+use Rattle.lookup_record.specs.declared.symbolic_builder.InteractionSymbolicBuilder.{InteractionSymbolicBuilder}
 
 -- The constraints with their layout, the messages on buses, the local lookups, the groups, and the
 -- indexed declarations, each in the order in which they were pushed.

@@ -2,7 +2,7 @@ use Rattle.std.proofs.Common.{◌≡◌, ◌++◌, map}
 use Rattle.std.specs.Vec.Iter.{into_iter_items}
 use Rattle.lookup_record.specs.Pushed.{pushed_branch}
 use Rattle.lookup_record.specs.Records.{branch_of}
-use Rattle.lookup_record.proofs.symbolic.branch_records.Given as goal
+use Rattle.lookup_record.proofs.symbolic_builder.branch_records.Given as goal
 
 abbrev pub invariant-loop-flag : goal.invariant-loop-flag
 invariant-loop-flag g l =
