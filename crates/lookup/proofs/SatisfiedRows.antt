@@ -29,7 +29,7 @@ use Rattle.lookup.specs.declared.types.LookupTerminal.{LookupTerminal}
 use Rattle.lookup.proofs.Accumulators.{accumulator_constraints-some}
 use Rattle.lookup.proofs.Branches.{mapped_at}
 use Rattle.lookup.proofs.HornerRule.{map-map}
-use Rattle.lookup.proofs.PlainResults.{length-plain_rows}
+use Rattle.lookup.proofs.PlainResults.{IsShaped-product, length-plain_rows}
 use Rattle.lookup.proofs.Prefixes.{mul_zero, zero_mul}
 use Rattle.lookup.proofs.Rows.{plain_accumulator-more, row_faults-append, split_at, trace_faults-append}
 use Rattle.lookup.proofs.SatisfiedFractions.{additive_satisfied}
@@ -256,7 +256,7 @@ module _ {F K : Type 0} {E : Extension F K} (laws : IsLawful E) (challenges : Li
 
         shape : (ls : List (Lookup F)) → 0 < length ls → length ls ≡ length lookups → HasShape ls (height main) auxiliary terminal
         shape [] nonempty same = absurd (omega (arith, nonempty))
-        shape (l ∷ ls) nonempty same = (ap (λ n. n + 1) (sym same), height_of (plain_cells E den rows) (height main) (length lookups) long, (record { 0 = plain_terminal E den rows }, refl))
+        shape (l ∷ ls) nonempty same = (ap (λ n. n + 1) (sym same), IsShaped-product (plain_cells E den rows) (height main) (length lookups) long, height_of (plain_cells E den rows) (height main) (length lookups) long, (record { 0 = plain_terminal E den rows }, refl))
 
 -- without lookups no cell and no terminal are a satisfied witness
 pub none_satisfied : {F K : Type 0} (E : Extension F K) (main : Matrix F) (preprocessed : Option (Matrix F)) (public_values : List F) (challenges : List K) (lookups : List (Lookup F)) (auxiliary : Matrix K) → lookups ≡ [] → auxiliary ≡ record { values = []; width = 0 } → IsSatisfied E main preprocessed public_values lookups challenges auxiliary None

@@ -15,7 +15,8 @@ pub record Extension (F K : Type 0) : Type 0 where
 abbrev pub extension : {F K : Type 0} → Ring F → (F → F → Bool) → Ring K → (K → K → Bool) → (F → K) → (K → K) → Extension F K
 extension base base_eq ring eq embed inverse = record { base = base; base_eq = base_eq; ring = ring; eq = eq; embed = embed; inverse = inverse }
 
--- both are fields, the embedding keeps their operations, and the tests and the inverse are right
+-- both are commutative rings, the extension is a domain with inverses, the embedding keeps the
+-- operations, and the tests are right
 pub record IsLawful {F K : Type 0} (E : Extension F K) : Type 0 where
   pub base : IsCommutativeRing E.base
   pub base_eq : (a b : F) → IsTrue (E.base_eq a b) ↔ (a ≡ b)

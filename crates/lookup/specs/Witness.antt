@@ -2,7 +2,7 @@
 -- satisfied (LogUp, eprint 2022/1530; the windows are those of the constraints).
 use Rattle.std.specs.Prelude.{◌≡◌, ℕ, ◌+◌, ◌<◌, ◌%◌, List, [], ◌∷◌, Option, None, Some, length}
 use Rattle.std.specs.List.{AllByRecursion}
-use Rattle.matrix.specs.Matrix.{Matrix, height, row}
+use Rattle.matrix.specs.Matrix.{IsShaped, Matrix, height, row}
 use Rattle.symbolic.specs.Window.{ExtWindow, window_at}
 use Rattle.lookup.specs.Constraints.{lookup_constraints}
 use Rattle.lookup.specs.Extension.{Extension}
@@ -26,12 +26,12 @@ module _ {F K : Type 0} where
   }
 
   -- An auxiliary trace and a terminal have the shape that lookups ask for: one column more than
-  -- there are lookups, the height of the main trace, and a terminal; without lookups no cell and no
+  -- there are lookups, whole rows, as many as the main trace has, and a terminal; without lookups no cell and no
   -- terminal.
   abbrev pub HasShape : List (Lookup F) → ℕ → Matrix K → Option (LookupTerminal K) → Type 0
   HasShape [] h auxiliary terminal = (auxiliary.width ≡ 0) × (auxiliary.values ≡ []) × (terminal ≡ None)
   HasShape (l ∷ ls) h auxiliary terminal =
-      (auxiliary.width ≡ length (l ∷ ls) + 1) × (height auxiliary ≡ h) × ((t : LookupTerminal K) × (terminal ≡ Some t))
+      (auxiliary.width ≡ length (l ∷ ls) + 1) × IsShaped auxiliary × (height auxiliary ≡ h) × ((t : LookupTerminal K) × (terminal ≡ Some t))
 
   -- A witness is satisfied: it has the shape, and every constraint is zero on every row.
   pub record IsSatisfied (E : Extension F K) (main : Matrix F) (preprocessed : Option (Matrix F)) (public_values : List F) (lookups : List (Lookup F)) (challenges : List K) (auxiliary : Matrix K) (terminal : Option (LookupTerminal K)) : Type 0 where

@@ -107,7 +107,7 @@ pub trait LookupProtocol: Sized {
     /// The trace has the height of `main` and one column more than there are lookups; without
     /// lookups it has width 0, and there is no terminal. The preprocessed trace, where there is
     /// one, is as high as `main`. `challenges` are an alpha and a beta for each lookup, in the
-    /// order of their columns.
+    /// order of their columns. No lookup has flags: exclusive lookups are not generated yet.
     ///
     /// Refuses the first fault in the order row, lookup: a denominator that vanishes under a
     /// multiplicity that is not zero. Want of memory is refused by its own name. A refused call
