@@ -2,20 +2,20 @@
 use Rattle.std.proofs.Common.{◌≡◌, ℕ, zero, suc, ◌+◌, List, [], ◌∷◌, length, get_or, Some, slice_get, ap, ◌∙◌, sym}
 use Rattle.field.specs.Ring.{Ring}
 use Rattle.air.proofs.Places.{means_cells}
-use Rattle.symbolic.specs.Builder.{MeansRow}
-use Rattle.symbolic.specs.Degree.{degree_of, entry_degree}
-use Rattle.symbolic.specs.ExtDegree.{ext_degree_of, ext_entry_degree}
-use Rattle.symbolic.specs.ExtMeaning.{ext_cells_of, ext_variable_value}
-use Rattle.symbolic.specs.ExtTree.{ExtTree, variable}
-use Rattle.symbolic.specs.Meaning.{cells_of, variable_value}
-use Rattle.symbolic.specs.Tree.{Tree, leaf}
+use Rattle.expressions.specs.Builder.{MeansRow}
+use Rattle.expressions.specs.Degree.{degree_of, entry_degree}
+use Rattle.expressions.specs.ExtDegree.{ext_degree_of, ext_entry_degree}
+use Rattle.expressions.specs.ExtMeaning.{ext_cells_of, ext_variable_value}
+use Rattle.expressions.specs.ExtTree.{ExtTree, variable}
+use Rattle.expressions.specs.Meaning.{cells_of, variable_value}
+use Rattle.expressions.specs.Tree.{Tree, leaf}
 use Rattle.air.specs.Variables.{AreVariables, IsVariableRow}
-use Rattle.symbolic.specs.Window.{ExtWindow, Window}
-use Rattle.symbolic.specs.declared.base_expression.BaseLeaf.TheVariants.{Variable}
-use Rattle.symbolic.specs.declared.variable.BaseEntry.{BaseEntry}
-use Rattle.symbolic.specs.declared.variable.ExtEntry.{ExtEntry}
-use Rattle.symbolic.specs.declared.variable.SymbolicVariable.{SymbolicVariable}
-use Rattle.symbolic.specs.declared.variable.SymbolicVariableExt.{SymbolicVariableExt}
+use Rattle.expressions.specs.Window.{ExtWindow, Window}
+use Rattle.expressions.specs.declared.base_expression.BaseLeaf.TheVariants.{Variable}
+use Rattle.expressions.specs.declared.variable.BaseEntry.{BaseEntry}
+use Rattle.expressions.specs.declared.variable.ExtEntry.{ExtEntry}
+use Rattle.expressions.specs.declared.variable.SymbolicVariable.{SymbolicVariable}
+use Rattle.expressions.specs.declared.variable.SymbolicVariableExt.{SymbolicVariableExt}
 
 -- a row of base variables means the cells that their entry is looked up in
 pub base_row_means : {F : Type 0} (R : Ring F) (stands_for : Window F → Type 0) (entry : BaseEntry) (width : ℕ) (cells : Window F → List F) (vs : List (SymbolicVariable F)) → IsVariableRow (λ v. v.entry) (λ v. v.index) entry width vs → ((w : Window F) → cells_of w entry ≡ cells w) → ((w : Window F) → stands_for w → length (cells w) ≡ width) → MeansRow stands_for (λ v w. variable_value R w v) width cells vs

@@ -1,18 +1,18 @@
 -- Facts of single variables and of layouts that stay, for builders that record.
 use Rattle.std.specs.Prelude.{◌≡◌, ℕ, ◌≤◌, ◌↔◌}
 use Rattle.std.proofs.Common.{lit≤, subst, sym}
-use Rattle.symbolic.specs.Degree.{degree_of, entry_degree}
-use Rattle.symbolic.specs.ExtDegree.{ext_degree_of, ext_entry_degree}
-use Rattle.symbolic.specs.ExtTree.{ExtTree, variable}
-use Rattle.symbolic.specs.Tree.{Tree, leaf}
-use Rattle.symbolic.specs.declared.layout.AirLayout.{AirLayout}
-use Rattle.symbolic.specs.declared.base_expression.BaseLeaf.TheVariants.{Variable}
-use Rattle.symbolic.specs.declared.variable.BaseEntry.{BaseEntry}
-use Rattle.symbolic.specs.declared.variable.BaseEntry.TheVariants.{Preprocessed, Main, Public}
-use Rattle.symbolic.specs.declared.variable.ExtEntry.{ExtEntry}
-use Rattle.symbolic.specs.declared.variable.ExtEntry.TheVariants.{Permutation, Challenge, PermutationValue}
-use Rattle.symbolic.specs.declared.variable.SymbolicVariable.{SymbolicVariable}
-use Rattle.symbolic.specs.declared.variable.SymbolicVariableExt.{SymbolicVariableExt}
+use Rattle.expressions.specs.Degree.{degree_of, entry_degree}
+use Rattle.expressions.specs.ExtDegree.{ext_degree_of, ext_entry_degree}
+use Rattle.expressions.specs.ExtTree.{ExtTree, variable}
+use Rattle.expressions.specs.Tree.{Tree, leaf}
+use Rattle.expressions.specs.declared.layout.AirLayout.{AirLayout}
+use Rattle.expressions.specs.declared.base_expression.BaseLeaf.TheVariants.{Variable}
+use Rattle.expressions.specs.declared.variable.BaseEntry.{BaseEntry}
+use Rattle.expressions.specs.declared.variable.BaseEntry.TheVariants.{Preprocessed, Main, Public}
+use Rattle.expressions.specs.declared.variable.ExtEntry.{ExtEntry}
+use Rattle.expressions.specs.declared.variable.ExtEntry.TheVariants.{Permutation, Challenge, PermutationValue}
+use Rattle.expressions.specs.declared.variable.SymbolicVariable.{SymbolicVariable}
+use Rattle.expressions.specs.declared.variable.SymbolicVariableExt.{SymbolicVariableExt}
 
 -- an entry has degree 1 at most
 pub entry_degree-le : (entry : BaseEntry) → entry_degree entry ≤ 1

@@ -2,12 +2,12 @@
 use Rattle.std.specs.Prelude.{◌≡◌, ℕ, ◌+◌, ◌%◌, ◌==◌, not, ◌⊎◌, length, Option, None, Some, Result}
 use Rattle.std.specs.Option.{option_copied}
 use Rattle.matrix.specs.Matrix.{Matrix, height, row}
-use Rattle.symbolic.specs.Layout.{width_of_option}
-use Rattle.symbolic.specs.Window.{ExtWindow, Window, window_at}
+use Rattle.expressions.specs.Layout.{width_of_option}
+use Rattle.expressions.specs.Window.{ExtWindow, Window, window_at}
 use Rattle.air.specs.declared.debug.builder.DebugConstraintBuilder.{DebugConstraintBuilder}
 use Rattle.air.specs.declared.debug.inputs.RowInputs.{RowInputs}
-use Rattle.symbolic.specs.declared.error.AirError.{AirError}
-use Rattle.symbolic.specs.declared.layout.AirLayout.{AirLayout}
+use Rattle.expressions.specs.declared.error.AirError.{AirError}
+use Rattle.expressions.specs.declared.layout.AirLayout.{AirLayout}
 
 -- a matrix that stands beside a trace of height h: of that height, or of width 0
 abbrev pub HeightFits : {T : Type 0} → ℕ → Matrix T → Type 0

@@ -1,4 +1,4 @@
-//! The builders that record constraints or check them on given rows, and all of `symbolic`.
+//! The builders that record constraints or check them on given rows, and all of `expressions`.
 #![tactic(auto)]
 
 mod debug;
@@ -7,10 +7,10 @@ mod recording;
 mod tests;
 
 pub use debug::{DebugConstraintBuilder, RowInputs, check_rows};
-pub use recording::{ConstraintLayout, SymbolicAirBuilder};
-pub use symbolic::{
+pub use expressions::{
     Air, AirBuilder, AirError, AirLayout, BaseAir, BaseEntry, BaseLeaf, Expression, ExtEntry,
     ExtLeaf, ExtensionBuilder, FilteredAirBuilder, LayoutPart, PermutationAirBuilder, Seen,
     SeenExt, SymbolicExpression, SymbolicExpressionExt, SymbolicVariable, SymbolicVariableExt,
     resolve_over,
 };
+pub use recording::{ConstraintLayout, SymbolicAirBuilder};

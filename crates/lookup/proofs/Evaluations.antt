@@ -1,13 +1,13 @@
 -- What an evaluation keeps of a builder.
 use Rattle.std.proofs.Common.{◌≡◌, ◌↔◌, ℕ, List, [], ◌∷◌, refl, ap, ◌∙◌, arith}
 use Rattle.field.specs.Ring.{of_bool, sub_in}
-use Rattle.symbolic.specs.Window.{ExtWindow}
-use Rattle.symbolic.specs.declared.layout.AirLayout.{AirLayout}
-use Rattle.lookup.specs.Asserted.{Asserts, IsConstraint}
-use Rattle.lookup.specs.Constraints.{Constraint, accumulator_at, accumulator_constraints, fractions_at}
-use Rattle.lookup.specs.Extension.{Extension}
-use Rattle.lookup.specs.declared.types.Lookup.{Lookup}
-use Rattle.lookup.proofs.Asserting.{Reads, asserts_keep, fewer_windows}
+use Rattle.expressions.specs.Window.{ExtWindow}
+use Rattle.expressions.specs.declared.layout.AirLayout.{AirLayout}
+use Rattle.lookup_evaluation.specs.Asserted.{Asserts, IsConstraint}
+use Rattle.lookup_model.specs.Constraints.{Constraint, accumulator_at, accumulator_constraints, fractions_at}
+use Rattle.lookup_model.specs.Extension.{Extension}
+use Rattle.lookup_model.specs.declared.types.Lookup.{Lookup}
+use Rattle.lookup_evaluation.specs.AssertedLaws.{Reads, asserts_keep, fewer_windows}
 
 module _ {B X C : Type 0} (accepts : B → X → B → Type 0) (is : C → X → Type 0) where
   -- the layout stays where each assertion keeps it

@@ -5,12 +5,12 @@ use Rattle.std.proofs.lemmas.List.{append-nil, map_push}
 use Rattle.std.proofs.lemmas.List.Folds.{list_any-append}
 use Rattle.std.specs.List.{filter, list_any}
 use Rattle.field.specs.Sums.{sum_in}
-use Rattle.lookup.specs.Extension.{Extension, IsLawful}
-use Rattle.lookup.specs.Fault.{vanishes}
+use Rattle.lookup_model.specs.Extension.{Extension, IsLawful}
+use Rattle.lookup_model.specs.Fault.{vanishes}
 use Rattle.lookup.specs.Fraction.{quotient_of, IsFractionOf}
-use Rattle.lookup.specs.Message.{Key, Message}
-use Rattle.lookup.specs.Plain.{counted}
-use Rattle.lookup.proofs.SumLaws.{sum_in-push}
+use Rattle.lookup_model.specs.Message.{Key, Message}
+use Rattle.lookup_model.specs.Plain.{counted}
+use Rattle.lookup_model.specs.SumLaws.{sum_in-push}
 
 -- the items of two lists that pass a test
 pub filter-append : {A : Type 0} (p : A → Bool) (xs ys : List A) → filter p (xs ++ ys) ≡ filter p xs ++ filter p ys

@@ -4,7 +4,7 @@ use Rattle.std.proofs.lemmas.Bool.{and_parts, and_from}
 use Rattle.std.proofs.lemmas.Bool.Decides.{Decides-eqb}
 use Rattle.std.proofs.lemmas.Slice.Eq.{slice_eq-Decides}
 use Rattle.std.specs.Cmp.Lexicographic.{pointwise}
-use Rattle.lookup.specs.Message.{Key, same_key}
+use Rattle.lookup_model.specs.Message.{Key, same_key}
 
 -- two keys are one where the test of elements decides their equality
 pub same_key-Decides : {F : Type 0} (eq : F → F → Bool) → ((a b : F) → Decides (eq a b) (a ≡ b)) → (a b : Key F) → Decides (same_key eq a b) (a ≡ b)

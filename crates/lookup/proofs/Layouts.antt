@@ -2,16 +2,16 @@
 use Rattle.std.proofs.Common.{ℕ, Option, None, Some, IfSome, List, get_or}
 use Rattle.std.specs.declared.alloc.Global.{Global}
 use Rattle.std.specs.declared.vec.Vec.{Vec}
-use Rattle.symbolic.specs.declared.layout.AirLayout.{AirLayout}
-use Rattle.symbolic.specs.declared.base_expression.BaseLeaf.{BaseLeaf}
-use Rattle.symbolic.specs.declared.base_expression.BaseLeaf.TheVariants.{Variable, IsFirstRow, IsLastRow, IsTransition, Constant}
-use Rattle.symbolic.specs.declared.base_expression.SymbolicExpression.{SymbolicExpression}
-use Rattle.symbolic.specs.declared.variable.BaseEntry.{BaseEntry}
-use Rattle.symbolic.specs.declared.variable.BaseEntry.TheVariants.{Preprocessed, Main, Public}
-use Rattle.symbolic.specs.Layout.{EntryFits, LeafFits, Fits}
-use Rattle.symbolic.specs.Tree.{Tree, tree_of, leaf, add, sub, mul, neg}
-use Rattle.lookup.specs.Records.{AllFit, DoFit, IsWithin}
-use Rattle.lookup.specs.declared.types.Lookup.{Lookup}
+use Rattle.expressions.specs.declared.layout.AirLayout.{AirLayout}
+use Rattle.expressions.specs.declared.base_expression.BaseLeaf.{BaseLeaf}
+use Rattle.expressions.specs.declared.base_expression.BaseLeaf.TheVariants.{Variable, IsFirstRow, IsLastRow, IsTransition, Constant}
+use Rattle.expressions.specs.declared.base_expression.SymbolicExpression.{SymbolicExpression}
+use Rattle.expressions.specs.declared.variable.BaseEntry.{BaseEntry}
+use Rattle.expressions.specs.declared.variable.BaseEntry.TheVariants.{Preprocessed, Main, Public}
+use Rattle.expressions.specs.Layout.{EntryFits, LeafFits, Fits}
+use Rattle.expressions.specs.Tree.{Tree, tree_of, leaf, add, sub, mul, neg}
+use Rattle.lookup_model.specs.Records.{AllFit, DoFit, IsWithin}
+use Rattle.lookup_model.specs.declared.types.Lookup.{Lookup}
 
 -- the layout with another number of challenges
 abbrev pub with_challenges : AirLayout → ℕ → AirLayout

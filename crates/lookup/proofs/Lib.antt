@@ -1,12 +1,6 @@
-pub mod Accumulators
-pub mod Asserting
-pub mod Branches
-pub mod Cells
-pub mod DegreeBounds
 pub mod Evaluations
 pub mod FirstSeen
 pub mod Fractions
-pub mod HornerRule
 pub mod KeyLaws
 pub mod Layouts
 pub mod LookupFaults
@@ -16,13 +10,8 @@ pub mod PlainProgramLaws
 pub mod PlainResults
 pub mod Prefixes
 pub mod ProgressLaws
-pub mod RecordLaws
 pub mod Regrouping
-pub mod Rows
 pub mod SatisfiedFractions
 pub mod SatisfiedRows
-pub mod SentRows
-pub mod SumLaws
-pub mod TakenOut
-pub mod Terminals
 pub mod TerminalSums
+pub mod Terminals

@@ -1,12 +1,12 @@
 -- The fault and the fraction of what a lookup sends.
 use Rattle.std.proofs.Common.{◌≡◌, ℕ, true, false, None, Some, ap, List}
 use Rattle.std.specs.Prelude.{if◌then◌else◌}
-use Rattle.lookup.specs.Extension.{Extension}
-use Rattle.lookup.specs.Fault.{fault_of, vanishes}
-use Rattle.lookup.specs.Message.{Key, Message}
-use Rattle.lookup.specs.Plain.{counted}
-use Rattle.lookup.specs.Sent.{sent}
-use Rattle.lookup.specs.declared.error.LookupError.TheVariants.{VanishingDenominator}
+use Rattle.lookup_model.specs.Extension.{Extension}
+use Rattle.lookup_model.specs.Fault.{fault_of, vanishes}
+use Rattle.lookup_model.specs.Message.{Key, Message}
+use Rattle.lookup_model.specs.Plain.{counted}
+use Rattle.lookup_model.specs.Sent.{sent}
+use Rattle.lookup_model.specs.declared.error.LookupError.TheVariants.{VanishingDenominator}
 
 module _ {F K : Type 0} (E : Extension F K) (denominator : Key F → K) (row column : ℕ) (branches : List (Message F)) where
   -- an additive lookup has no fault where no denominator that counts vanishes

@@ -4,9 +4,10 @@ use Rattle.std.proofs.Common.{◌≡◌, Bool, true, false, cond, ◌||◌, List
 use Rattle.std.proofs.lemmas.Bool.{false≢true, true≢false}
 use Rattle.std.specs.List.{filter, list_any, AllByRecursion}
 use Rattle.field.specs.Ring.{Ring, IsCommutativeRing}
+use Rattle.field.specs.RingFacts.{zero_add}
 use Rattle.field.specs.Sums.{sum_in}
 use Rattle.lookup.proofs.Regrouping.{IsSeparate, Holds, All-map}
-use Rattle.lookup.proofs.SumLaws.{zero_add, sum_in-zeros, sum_in-map-add}
+use Rattle.lookup_model.specs.SumLaws.{sum_in-zeros, sum_in-map-add}
 
 -- the sum of the multiplicities of the items that have a key
 abbrev pub net_by : {M X F : Type 0} → Ring F → (X → X → Bool) → (M → X) → (M → F) → List M → X → F

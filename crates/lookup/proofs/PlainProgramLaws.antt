@@ -5,17 +5,17 @@ use Rattle.std.proofs.lemmas.List.{append-nil, map-append, map_more}
 use Rattle.std.specs.List.{filter, list_any}
 use Rattle.field.specs.Ring.{Ring, IsCommutativeRing}
 use Rattle.field.specs.Sums.{sum_in}
-use Rattle.lookup.specs.Extension.{Extension, IsLawful}
-use Rattle.lookup.specs.Message.{Key, Message, same_key}
-use Rattle.lookup.specs.Net.{first_seen, keys, net}
-use Rattle.lookup.specs.Plain.{net_sum, plain_fraction, quotient}
+use Rattle.lookup_model.specs.Extension.{Extension, IsLawful}
+use Rattle.lookup_model.specs.Message.{Key, Message, same_key}
+use Rattle.lookup_model.specs.Net.{first_seen, keys, net}
+use Rattle.lookup_model.specs.Plain.{net_sum, plain_fraction, quotient}
 use Rattle.lookup.specs.PlainProgram.{message_of, messages_of, sent_of}
 use Rattle.lookup.specs.declared.plain.PlainMessage.{PlainMessage}
 use Rattle.lookup.proofs.FirstSeen.{first_seen-push}
 use Rattle.lookup.proofs.Fractions.{filter-append}
-use Rattle.lookup.proofs.HornerRule.{map-map}
+use Rattle.lookup_model.specs.HornerRule.{map-map}
 use Rattle.lookup.proofs.KeyLaws.{same_key-Decides}
-use Rattle.lookup.proofs.SumLaws.{sum_in-filter, sum_in-push}
+use Rattle.lookup_model.specs.SumLaws.{sum_in-filter, sum_in-push}
 use Rattle.lookup.proofs.Terminals.{plain_fraction-all, quotient-zero}
 
 -- the messages up to one and that one

@@ -5,25 +5,27 @@ use Rattle.std.proofs.lemmas.List.{length-append, length-map, take_all}
 use Rattle.std.proofs.lemmas.Nat.{div-mul-add}
 use Rattle.std.specs.List.{enumerate_from, flat_map, range_with_len}
 use Rattle.field.specs.Sums.{sum_in}
-use Rattle.matrix.specs.Matrix.{IsShaped}
-use Rattle.lookup.specs.Extension.{Extension, IsLawful}
-use Rattle.lookup.specs.Fault.{row_faults, trace_faults}
-use Rattle.lookup.specs.Generated.{plain_matrix, plain_terminal_of}
-use Rattle.lookup.specs.Message.{Key}
-use Rattle.lookup.specs.Plain.{plain_cells, plain_fraction, plain_row, plain_terminal}
+use Rattle.matrix.specs.Matrix.{IsShaped, height}
+use Rattle.lookup_model.specs.Extension.{Extension, IsLawful}
+use Rattle.lookup_model.specs.Fault.{row_faults, trace_faults}
+use Rattle.lookup_model.specs.Generated.{plain_matrix, plain_terminal_of}
+use Rattle.lookup_model.specs.Message.{Key}
+use Rattle.lookup_model.specs.Plain.{plain_cells, plain_fraction, plain_row, plain_terminal}
 use Rattle.lookup.specs.Progress.{HasRows}
-use Rattle.lookup.specs.Sent.{Sent}
-use Rattle.lookup.specs.declared.types.Lookup.{Lookup}
+use Rattle.lookup_model.specs.Sent.{Sent}
+use Rattle.lookup_model.specs.declared.types.Lookup.{Lookup}
 use Rattle.lookup.proofs.Terminals.{plain_terminal-sum}
-use Rattle.lookup.proofs.Terminals.{plain_terminal-sum}
+
+-- the height of as many rows of this width
+pub height_of : {T : Type 0} (values : List T) (rows width : ℕ) → length values ≡ rows * (width + 1) → height (record { values = values; width = width + 1 }) ≡ rows
+height_of values rows width e =
+    let w = width + 1 in
+    let test : (w == 0) ≡ _ = ne_eqb w 0 (λ z. absurd (omega (arith, z))) in
+    ap (λ b. cond b 0 (length values / w)) test ∙ ap (λ n. n / w) (e ∙ omega arith) ∙ div-mul-add rows w 0 (omega arith)
 
 -- as many values as rows of this width make a matrix
 pub IsShaped-product : {T : Type 0} (values : List T) (rows width : ℕ) → length values ≡ rows * (width + 1) → IsShaped (record { values = values; width = width + 1 })
-IsShaped-product values rows width e =
-    let w = width + 1 in
-    let whole : length values / w ≡ rows = ap (λ n. n / w) (e ∙ omega arith) ∙ div-mul-add rows w 0 (omega arith) in
-    let test : (w == 0) ≡ _ = ne_eqb w 0 (λ z. absurd (omega (arith, z))) in
-    e ∙ ap (λ n. n * w) (sym whole ∙ ap (λ b. cond b 0 (length values / w)) (sym test))
+IsShaped-product values rows width e = e ∙ ap (λ n. n * (width + 1)) (sym (height_of values rows width e))
 
 module _ {F K : Type 0} (E : Extension F K) (denominator : Key F → K) where
   -- rows without lookups have no fault

@@ -5,15 +5,15 @@ use Rattle.std.proofs.lemmas.List.FromFn.{map-range_with_len_more}
 use Rattle.std.proofs.lemmas.Grind.{flat_map-append}
 use Rattle.std.specs.List.{flat_map, range_with_len, slice_get}
 use Rattle.field.specs.Sums.{sum_in}
-use Rattle.lookup.specs.Extension.{Extension, IsLawful}
-use Rattle.lookup.specs.Fault.{fault_of, row_faults, trace_faults}
-use Rattle.lookup.specs.Message.{Key}
-use Rattle.lookup.specs.Plain.{plain_fraction, plain_row}
+use Rattle.lookup_model.specs.Extension.{Extension, IsLawful}
+use Rattle.lookup_model.specs.Fault.{fault_of, row_faults, trace_faults}
+use Rattle.lookup_model.specs.Message.{Key}
+use Rattle.lookup_model.specs.Plain.{plain_fraction, plain_row}
 use Rattle.lookup.specs.Progress.{HasRow, HasRows}
-use Rattle.lookup.specs.Sent.{Sent}
-use Rattle.lookup.specs.declared.error.LookupError.{LookupError}
-use Rattle.lookup.proofs.Rows.{plain_accumulator-more, row_faults-none, split_at, trace_faults-first, trace_faults-none}
-use Rattle.lookup.proofs.SumLaws.{sum_in-push}
+use Rattle.lookup_model.specs.Sent.{Sent}
+use Rattle.lookup_model.specs.declared.error.LookupError.{LookupError}
+use Rattle.lookup_model.specs.Rows.{plain_accumulator-more, row_faults-none, split_at, trace_faults-first, trace_faults-none}
+use Rattle.lookup_model.specs.SumLaws.{sum_in-push}
 
 -- a range goes on
 range-more : (a n : ℕ) → range_with_len a (n + 1) ≡ range_with_len a n ++ (a + n) ∷ []

@@ -2,7 +2,7 @@
 use Rattle.std.proofs.Common.{◌≡◌, Bool, true, false, cond, not, ◌||◌, List, [], ◌∷◌, refl, sym, ap, ◌∙◌, Decides}
 use Rattle.std.proofs.lemmas.Bool.{false≢true, true≢false}
 use Rattle.std.specs.List.{filter, list_any, AllByRecursion}
-use Rattle.lookup.specs.Net.{first_seen}
+use Rattle.lookup_model.specs.Net.{first_seen}
 
 -- no item passes the test with one after it
 abbrev pub IsSeparate : {A : Type 0} → (A → A → Bool) → List A → Type 0

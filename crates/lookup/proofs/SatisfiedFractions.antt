@@ -5,21 +5,21 @@ use Rattle.std.specs.List.{AllByRecursion}
 use Rattle.std.specs.declared.alloc.Global.{Global}
 use Rattle.std.specs.declared.vec.Vec.{Vec}
 use Rattle.field.specs.Ring.{Ring, IsCommutativeRing, sub_in}
+use Rattle.field.specs.RingFacts.{mul_zero}
 use Rattle.field.specs.RingSolver.{var, con, ◌:*◌, ◌:+◌, ring_given}
 use Rattle.field.specs.Sums.{product_in, sum_in, taken_out}
-use Rattle.symbolic.specs.Window.{Window}
-use Rattle.symbolic.specs.declared.base_expression.SymbolicExpression.{SymbolicExpression}
-use Rattle.lookup.specs.Constraints.{fraction_left}
-use Rattle.lookup.specs.Denominators.{column_denominator, tuple_denominator}
-use Rattle.lookup.specs.Extension.{Extension, IsLawful}
-use Rattle.lookup.specs.Fault.{vanishes}
+use Rattle.expressions.specs.Window.{Window}
+use Rattle.expressions.specs.declared.base_expression.SymbolicExpression.{SymbolicExpression}
+use Rattle.lookup_model.specs.Constraints.{fraction_left}
+use Rattle.lookup_model.specs.Denominators.{column_denominator, tuple_denominator}
+use Rattle.lookup_model.specs.Extension.{Extension, IsLawful}
+use Rattle.lookup_model.specs.Fault.{vanishes}
 use Rattle.lookup.specs.Fraction.{quotient_of}
-use Rattle.lookup.specs.Message.{Key, Message}
-use Rattle.lookup.specs.Plain.{counted, plain_fraction, quotient}
-use Rattle.lookup.specs.Sent.{branch_at}
-use Rattle.lookup.proofs.HornerRule.{map-map}
-use Rattle.lookup.proofs.Prefixes.{mul_zero}
-use Rattle.lookup.proofs.TakenOut.{item_of, product_of, sum_in-same, sum_in-scaled, sum_of}
+use Rattle.lookup_model.specs.Message.{Key, Message}
+use Rattle.lookup_model.specs.Plain.{counted, plain_fraction, quotient}
+use Rattle.lookup_model.specs.Sent.{branch_at}
+use Rattle.lookup_model.specs.HornerRule.{map-map}
+use Rattle.lookup_model.specs.TakenOut.{item_of, product_of, sum_in-same, sum_in-scaled, sum_of}
 use Rattle.lookup.proofs.Terminals.{plain_fraction-all, quotient-zero}
 
 module _ {K : Type 0} {S : Ring K} (laws : IsCommutativeRing S) {X : Type 0} (p d q : X → K) where

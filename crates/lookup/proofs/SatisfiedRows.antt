@@ -1,39 +1,38 @@
 -- The plain result is a satisfied witness.
-use Rattle.std.proofs.Common.{◌≡◌, ℕ, zero, suc, ◌+◌, ◌*◌, ◌-◌, ◌/◌, ◌%◌, ◌<◌, ◌≤◌, ◌==◌, Bool, true, false, cond, not, Option, None, Some, All, List, [], ◌∷◌, ◌++◌, length, map, take, drop, get_or, slice_index_or, refl, sym, ap, subst, ◌∙◌, arith}
+use Rattle.std.proofs.Common.{◌≡◌, ℕ, zero, suc, ◌+◌, ◌*◌, ◌-◌, ◌%◌, ◌<◌, ◌≤◌, ◌==◌, Bool, true, false, cond, not, Option, None, Some, All, List, [], ◌∷◌, ◌++◌, length, map, take, drop, get_or, slice_index_or, refl, sym, ap, subst, ◌∙◌, arith}
 use Rattle.std.proofs.Math.Nat.{mod-eq_of_lt}
 use Rattle.std.proofs.Math.Seq.{drop-append-add, take-append_seam}
-use Rattle.std.proofs.lemmas.Bool.{eqb-true, eqb-false, ne_eqb, not-true}
+use Rattle.std.proofs.lemmas.Bool.{eqb-true, eqb-false, not-true}
 use Rattle.std.proofs.lemmas.List.{get_or_default, length-map, length-take, take_all}
-use Rattle.std.proofs.lemmas.Nat.{div-mul-add}
 use Rattle.std.specs.List.{AllByRecursion, cons_option, flat_map, range_with_len, slice_range, zip}
 use Rattle.std.specs.Option.{option_map}
 use Rattle.field.specs.Distinct.{all_map}
 use Rattle.field.specs.Ring.{of_bool, sub_in}
+use Rattle.field.specs.RingFacts.{mul_zero, zero_mul}
 use Rattle.field.specs.RingSolver.{var, con, ◌:+◌, :neg, ring_law}
 use Rattle.field.specs.Sums.{sum_in}
 use Rattle.matrix.specs.Matrix.{Matrix, height, row}
-use Rattle.symbolic.specs.Window.{ExtWindow, Window, window_at}
-use Rattle.lookup.specs.Constraints.{Constraint, accumulator_at, accumulator_constraints, fraction_at, fraction_constraint, fraction_left, fractions_at, denominator_at, terminal_at}
-use Rattle.lookup.specs.Denominators.{column_denominator}
-use Rattle.lookup.specs.Extension.{Extension, IsLawful}
-use Rattle.lookup.specs.Fault.{fault_of, row_faults, trace_faults, vanishes}
-use Rattle.lookup.specs.Message.{Key, Message}
-use Rattle.lookup.specs.Plain.{counted, plain_accumulator, plain_cells, plain_fraction, plain_row, plain_terminal}
-use Rattle.lookup.specs.Records.{AreRecords}
-use Rattle.lookup.specs.Sent.{Sent, branches_at, sent, sent_at, values}
-use Rattle.lookup.specs.Trace.{sent_row, sent_rows}
-use Rattle.lookup.specs.Witness.{HasShape, IsSatisfied, witness_window}
-use Rattle.lookup.specs.declared.error.LookupError.TheVariants.{VanishingDenominator}
-use Rattle.lookup.specs.declared.types.Lookup.{Lookup}
-use Rattle.lookup.specs.declared.types.LookupTerminal.{LookupTerminal}
-use Rattle.lookup.proofs.Accumulators.{accumulator_constraints-some}
-use Rattle.lookup.proofs.Branches.{mapped_at}
-use Rattle.lookup.proofs.HornerRule.{map-map}
-use Rattle.lookup.proofs.PlainResults.{IsShaped-product, length-plain_rows}
-use Rattle.lookup.proofs.Prefixes.{mul_zero, zero_mul}
-use Rattle.lookup.proofs.Rows.{plain_accumulator-more, row_faults-append, split_at, trace_faults-append}
+use Rattle.expressions.specs.Window.{ExtWindow, Window, window_at}
+use Rattle.lookup_model.specs.Constraints.{Constraint, accumulator_at, accumulator_constraints, fraction_at, fraction_constraint, fraction_left, fractions_at, denominator_at, terminal_at}
+use Rattle.lookup_model.specs.Denominators.{column_denominator}
+use Rattle.lookup_model.specs.Extension.{Extension, IsLawful}
+use Rattle.lookup_model.specs.Fault.{fault_of, row_faults, trace_faults, vanishes}
+use Rattle.lookup_model.specs.Message.{Key, Message}
+use Rattle.lookup_model.specs.Plain.{counted, plain_accumulator, plain_cells, plain_fraction, plain_row, plain_terminal}
+use Rattle.lookup_model.specs.Records.{AreRecords}
+use Rattle.lookup_model.specs.Sent.{Sent, branches_at, sent, sent_at, values}
+use Rattle.lookup_model.specs.Trace.{sent_row, sent_rows}
+use Rattle.lookup_model.specs.Witness.{HasShape, IsSatisfied, witness_window}
+use Rattle.lookup_model.specs.declared.error.LookupError.TheVariants.{VanishingDenominator}
+use Rattle.lookup_model.specs.declared.types.Lookup.{Lookup}
+use Rattle.lookup_model.specs.declared.types.LookupTerminal.{LookupTerminal}
+use Rattle.lookup_model.specs.ConstraintLaws.{accumulator_constraints-some}
+use Rattle.lookup_model.specs.Branches.{mapped_at}
+use Rattle.lookup_model.specs.HornerRule.{map-map}
+use Rattle.lookup.proofs.PlainResults.{IsShaped-product, height_of, length-plain_rows}
+use Rattle.lookup_model.specs.Rows.{plain_accumulator-more, row_faults-append, split_at, trace_faults-append}
 use Rattle.lookup.proofs.SatisfiedFractions.{additive_satisfied}
-use Rattle.lookup.proofs.SentRows.{column_is, length-sent_rows, length-sent_rows-at, sent_rows-at}
+use Rattle.lookup_model.specs.SentRows.{column_is, length-sent_rows, length-sent_rows-at, sent_rows-at}
 use Rattle.lookup.proofs.Terminals.{plain_terminal-sum}
 
 module _ {A : Type 0} where
@@ -88,13 +87,6 @@ module _ {A : Type 0} where
 map_same : {A B : Type 0} (f g : A → B) (xs : List A) → AllByRecursion (λ x. f x ≡ g x) xs → map f xs ≡ map g xs
 map_same f g [] each = refl
 map_same f g (x ∷ xs) each = λ i. each.0 i ∷ map_same f g xs each.1 i
-
--- the height of as many rows of this width
-pub height_of : {T : Type 0} (values : List T) (rows width : ℕ) → length values ≡ rows * (width + 1) → height (record { values = values; width = width + 1 }) ≡ rows
-height_of values rows width e =
-    let w = width + 1 in
-    let test : (w == 0) ≡ _ = ne_eqb w 0 (λ z. absurd (omega (arith, z))) in
-    ap (λ b. cond b 0 (length values / w)) test ∙ ap (λ n. n / w) (e ∙ omega arith) ∙ div-mul-add rows w 0 (omega arith)
 
 module _ {F K : Type 0} (E : Extension F K) (denominator : Key F → K) where
   -- no fault in a trace is none on a row

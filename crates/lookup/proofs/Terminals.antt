@@ -3,17 +3,17 @@ use Rattle.std.proofs.Common.{◌≡◌, false, not, List, [], ◌∷◌, map, r
 use Rattle.std.proofs.lemmas.Bool.{not-false}
 use Rattle.std.proofs.lemmas.List.{map-append}
 use Rattle.std.specs.List.{flat_map, AllByRecursion}
+use Rattle.field.specs.RingFacts.{zero_mul, add_mul}
 use Rattle.field.specs.Sums.{sum_in}
-use Rattle.lookup.specs.Extension.{Extension, IsLawful}
-use Rattle.lookup.specs.Message.{Key, Message, same_key}
-use Rattle.lookup.specs.Net.{keys, net}
-use Rattle.lookup.specs.Plain.{quotient, plain_fraction, plain_terminal, trace_messages}
-use Rattle.lookup.specs.Sent.{Sent}
+use Rattle.lookup_model.specs.Extension.{Extension, IsLawful}
+use Rattle.lookup_model.specs.Message.{Key, Message, same_key}
+use Rattle.lookup_model.specs.Net.{keys, net}
+use Rattle.lookup_model.specs.Plain.{quotient, plain_fraction, plain_terminal, trace_messages}
+use Rattle.lookup_model.specs.Sent.{Sent}
 use Rattle.lookup.proofs.KeyLaws.{same_key-Decides}
 use Rattle.lookup.proofs.Nets.{regrouped}
-use Rattle.lookup.proofs.Prefixes.{zero_mul, add_mul}
 use Rattle.lookup.proofs.Regrouping.{Holds, first_seen_separate, first_seen_holds}
-use Rattle.lookup.proofs.SumLaws.{sum_in-append, sum_in-filter}
+use Rattle.lookup_model.specs.SumLaws.{sum_in-append, sum_in-filter}
 
 module _ {F K : Type 0} {E : Extension F K} (laws : IsLawful E) (denominator : Key F → K) where
   -- quotients add up in the multiplicity

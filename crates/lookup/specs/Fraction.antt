@@ -1,10 +1,10 @@
 -- The fraction of a lookup while its messages are gone through.
 use Rattle.std.specs.Prelude.{◌≡◌, false, List, map}
 use Rattle.field.specs.Sums.{sum_in}
-use Rattle.lookup.specs.Extension.{Extension}
-use Rattle.lookup.specs.Fault.{vanishes}
-use Rattle.lookup.specs.Message.{Key, Message}
-use Rattle.lookup.specs.Plain.{counted, quotient}
+use Rattle.lookup_model.specs.Extension.{Extension}
+use Rattle.lookup_model.specs.Fault.{vanishes}
+use Rattle.lookup_model.specs.Message.{Key, Message}
+use Rattle.lookup_model.specs.Plain.{counted, quotient}
 
 module _ {F K : Type 0} (E : Extension F K) (denominator : Key F → K) where
   -- the quotient of a message

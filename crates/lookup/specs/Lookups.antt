@@ -1,6 +1,6 @@
 -- What is seen of the lookups of one AIR.
 use Rattle.std.specs.Prelude.{List}
-use Rattle.lookup.specs.declared.types.Lookup.{Lookup}
+use Rattle.lookup_model.specs.declared.types.Lookup.{Lookup}
 use Rattle.lookup.specs.declared.lookups.Lookups.{Lookups}
 
 -- the lookups in the order of their columns

@@ -1,7 +1,7 @@
 -- What the plain program's messages mean.
 use Rattle.std.specs.Prelude.{List, None, map}
-use Rattle.lookup.specs.Message.{Message}
-use Rattle.lookup.specs.Sent.{Sent}
+use Rattle.lookup_model.specs.Message.{Message}
+use Rattle.lookup_model.specs.Sent.{Sent}
 use Rattle.lookup.specs.declared.plain.PlainMessage.{PlainMessage}
 
 -- a message of the program

@@ -2,11 +2,11 @@
 use Rattle.std.specs.Prelude.{◌≡◌, ℕ, List, [], ◌∷◌, ◌++◌, map, take}
 use Rattle.std.specs.List.{flat_map, range_with_len}
 use Rattle.field.specs.Sums.{sum_in}
-use Rattle.lookup.specs.Extension.{Extension}
-use Rattle.lookup.specs.Fault.{row_faults, trace_faults}
-use Rattle.lookup.specs.Message.{Key}
-use Rattle.lookup.specs.Plain.{plain_accumulator, plain_fraction, plain_row}
-use Rattle.lookup.specs.Sent.{Sent}
+use Rattle.lookup_model.specs.Extension.{Extension}
+use Rattle.lookup_model.specs.Fault.{row_faults, trace_faults}
+use Rattle.lookup_model.specs.Message.{Key}
+use Rattle.lookup_model.specs.Plain.{plain_accumulator, plain_fraction, plain_row}
+use Rattle.lookup_model.specs.Sent.{Sent}
 
 module _ {F K : Type 0} (E : Extension F K) (denominator : Key F → K) where
   -- Behind the cells before it stand the accumulator and the fractions of these lookups of a row,

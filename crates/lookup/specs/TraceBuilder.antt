@@ -1,7 +1,7 @@
 -- The one window that a trace builder stands for.
 use Rattle.std.specs.Prelude.{◌+◌, ◌==◌, not, length, []}
-use Rattle.symbolic.specs.Window.{ExtWindow, Window}
-use Rattle.symbolic.specs.declared.layout.AirLayout.{AirLayout}
+use Rattle.expressions.specs.Window.{ExtWindow, Window}
+use Rattle.expressions.specs.declared.layout.AirLayout.{AirLayout}
 use Rattle.lookup.specs.declared.trace_builder.LookupTraceBuilder.{LookupTraceBuilder}
 
 module _ {F EF : Type 0} where

@@ -1,13 +1,51 @@
-//! Evaluation: the constraints of lookups, as expressions of a builder.
-mod accumulator;
-mod additive;
-mod all;
-mod cells;
-mod denominator;
-mod exclusive;
-mod fraction;
-mod quotient;
+//! Evaluation of all lookups of an AIR, by the calls of a protocol.
+ghost use Rattle.std.specs.Prelude.{◌≡◌, ◌+◌, ◌*◌, ◌<◌, ◌≤◌, ◌⊎◌, All, length, map};
+ghost use Rattle.lookup_evaluation.specs.Asserted.{Evaluates, IsConstraint};
+ghost use Rattle.lookup_model.specs.Constraints.{accumulator_constraints, fraction_constraint, terminal_at};
+ghost use Rattle.lookup_model.specs.Extension.{extension};
+ghost use Rattle.lookup_model.specs.Records.{DoFit};
 
-pub(crate) use accumulator::eval_accumulator;
-pub(crate) use all::{eval_fractions, eval_terminal};
-pub(crate) use fraction::eval_fraction;
+use crate::protocol::LookupProtocol;
+use air::{AirBuilder, AirError, ExtensionBuilder, PermutationAirBuilder};
+use lookup_evaluation::terminal;
+use lookup_model::Lookup;
+use std::alloc::Global;
+
+/// Asserts the equation of each lookup, in order.
+pub(crate) fn eval_fractions<P: LookupProtocol, AB: PermutationAirBuilder>(
+    protocol: &P,
+    alloc: Global,
+    builder: &mut AB,
+    lookups: &[Lookup<AB::F>],
+) -> Result<(), AirError>
+    requires fit { DoFit (AB.layout builder.old) lookups.now }
+    requires challenges { 2 * length lookups.now ≤ (AB.layout builder.old).num_permutation_challenges }
+    requires cells { length lookups.now < (AB.layout builder.old).permutation_width }
+    ensures { let E = extension AB.F.ring AB.F.eq AB.EF.ring AB.EF.eq AB.EF.embed AB.EF.inverse in
+        Evaluates AB.accepts_ext AB.refuses_ext (λ b e. (e ≡ AirError.Memory) ⊎ AB.window_refuses b e)
+        (IsConstraint (λ x w. AB.ExprEF.value x (AB.seen_ext w)) AB.ExprEF.degree (AB.stands_for_ext builder.old))
+        builder.old (map (fraction_constraint E) lookups.now) result builder.new }
+{
+    for lookup in lookups {
+        protocol.eval_fraction(alloc, builder, lookup)?;
+    }
+    Ok(())
+}
+
+/// Asserts the accumulator's equations, with the first permutation value as the terminal.
+pub(crate) fn eval_terminal<P: LookupProtocol, AB: PermutationAirBuilder>(
+    protocol: &P,
+    alloc: Global,
+    builder: &mut AB,
+    lookups: &[Lookup<AB::F>],
+) -> Result<(), AirError>
+    requires cells { All (λ lookup. lookup.column + 1 < (AB.layout builder.old).permutation_width) lookups.now }
+    requires terminal { 0 < (AB.layout builder.old).num_permutation_values }
+    ensures { let E = extension AB.F.ring AB.F.eq AB.EF.ring AB.EF.eq AB.EF.embed AB.EF.inverse in
+        Evaluates AB.accepts_ext AB.refuses_ext (λ b e. (e ≡ AirError.Memory) ⊎ AB.window_refuses b e)
+        (IsConstraint (λ x w. AB.ExprEF.value x (AB.seen_ext w)) AB.ExprEF.degree (AB.stands_for_ext builder.old))
+        builder.old (accumulator_constraints E lookups.now (terminal_at E) (λ t. 0)) result builder.new }
+{
+    let terminal = terminal(&*builder);
+    protocol.eval_accumulator(alloc, builder, lookups, terminal)
+}

@@ -1,23 +1,22 @@
 //! The fraction of one lookup on one row, by plain divisions.
 ghost use Rattle.std.specs.Prelude.{◌≡◌, ◌≢◌, ◌+◌, ◌*◌, ◌<◌, ◌⊎◌, None, Some, IfNone, IfSome, OnSome, IfOk, IfErr, IsTrue, List, [], ◌∷◌, ◌++◌, length, map, slice_index_or, MatchOption, MatchResult};
 ghost use Rattle.field.specs.Polynomial.{combined};
-ghost use Rattle.symbolic.specs.Layout.{Fits};
-ghost use Rattle.symbolic.specs.Tree.{tree_of};
-ghost use Rattle.lookup.specs.Denominators.{column_denominator, tuple_denominator};
-ghost use Rattle.lookup.specs.Extension.{extension};
-ghost use Rattle.lookup.specs.Fault.{fault_of, vanishes};
+ghost use Rattle.expressions.specs.Layout.{Fits};
+ghost use Rattle.expressions.specs.Tree.{tree_of};
+ghost use Rattle.lookup_model.specs.Denominators.{column_denominator, tuple_denominator};
+ghost use Rattle.lookup_model.specs.Extension.{extension};
+ghost use Rattle.lookup_model.specs.Fault.{fault_of, vanishes};
 ghost use Rattle.lookup.specs.Fraction.{IsFractionOf};
-ghost use Rattle.lookup.specs.Message.{Message};
-ghost use Rattle.lookup.specs.Plain.{counted, plain_fraction};
-ghost use Rattle.lookup.specs.Records.{AllFit, HasEqualLengths, IsWithin};
-ghost use Rattle.lookup.specs.Sent.{branch_at, branches_at, sent_at, value, values};
+ghost use Rattle.lookup_model.specs.Message.{Message};
+ghost use Rattle.lookup_model.specs.Plain.{counted, plain_fraction};
+ghost use Rattle.lookup_model.specs.Records.{AllFit, HasEqualLengths, IsWithin};
+ghost use Rattle.lookup_model.specs.Sent.{branch_at, branches_at, sent_at, value, values};
 ghost use Rattle.lookup.specs.TraceBuilder.{builder_layout, builder_window};
 
-use crate::error::LookupError;
 use crate::trace_builder::LookupTraceBuilder;
-use crate::types::Lookup;
 use air::SymbolicExpression;
 use field::{ExtensionField, Field};
+use lookup_model::{Lookup, LookupError};
 use std::alloc::Global;
 
 /// The value of an expression on the builder's row.

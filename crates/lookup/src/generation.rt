@@ -1,22 +1,21 @@
 //! Generation of the auxiliary trace, row by row.
 ghost use Rattle.std.specs.Prelude.{◌≡◌, ◌+◌, ◌*◌, ◌<◌, ◌≤◌, ◌⊎◌, All, None, Some, MatchResult, length, slice_get};
 ghost use Rattle.std.specs.Option.{ForSome, option_copied};
-ghost use Rattle.symbolic.specs.Layout.{layout_of_traces};
-ghost use Rattle.symbolic.specs.Window.{window_at};
-ghost use Rattle.lookup.specs.Denominators.{column_denominator};
-ghost use Rattle.lookup.specs.Extension.{extension};
-ghost use Rattle.lookup.specs.Fault.{row_faults, trace_faults};
+ghost use Rattle.expressions.specs.Layout.{layout_of_traces};
+ghost use Rattle.expressions.specs.Window.{window_at};
+ghost use Rattle.lookup_model.specs.Denominators.{column_denominator};
+ghost use Rattle.lookup_model.specs.Extension.{extension};
+ghost use Rattle.lookup_model.specs.Fault.{row_faults, trace_faults};
 ghost use Rattle.lookup.specs.Progress.{HasRow, HasRows};
-ghost use Rattle.lookup.specs.Records.{DoFit};
-ghost use Rattle.lookup.specs.Trace.{sent_row, sent_rows};
+ghost use Rattle.lookup_model.specs.Records.{DoFit};
+ghost use Rattle.lookup_model.specs.Trace.{sent_row, sent_rows};
 ghost use Rattle.lookup.specs.TraceBuilder.{builder_layout, builder_window};
 ghost use Rattle.matrix.specs.Matrix.{height};
 
-use crate::error::LookupError;
 use crate::fraction::fraction;
 use crate::trace_builder::LookupTraceBuilder;
-use crate::types::Lookup;
 use field::{ExtensionField, Field};
+use lookup_model::{Lookup, LookupError};
 use matrix::{RowMajorMatrix, ViewPair};
 use std::alloc::Global;
 

@@ -7,9 +7,7 @@
 #![tactic(auto)]
 
 mod challenges;
-mod error;
 mod evaluation;
-mod fitting;
 mod fraction;
 mod generation;
 pub mod logup;
@@ -20,12 +18,9 @@ pub mod protocol;
 mod tests;
 mod trace_builder;
 pub mod traits;
-mod types;
 
 pub use challenges::Challenges;
-pub use error::LookupError;
-pub use fitting::fits;
 pub use logup::LogUpGadget;
+pub use lookup_model::{Kind, Lookup, LookupError, LookupTerminal, fits};
 pub use lookups::Lookups;
 pub use protocol::LookupProtocol;
-pub use types::{Kind, Lookup, LookupTerminal};

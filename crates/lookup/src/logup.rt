@@ -1,14 +1,13 @@
 //! The LogUp gadget (eprint 2022/1530).
 ghost use Rattle.std.specs.Prelude.{◌≡◌};
-ghost use Rattle.lookup.specs.Terminals.{terminal_sum, terminal_value};
+ghost use Rattle.lookup_model.specs.Terminals.{terminal_sum, terminal_value};
 
-use crate::error::LookupError;
+use crate::generation;
 use crate::protocol::LookupProtocol;
 use crate::trace_builder::LookupTraceBuilder;
-use crate::types::{Lookup, LookupTerminal};
-use crate::{evaluation, generation};
 use air::{AirBuilder, AirError, ExtensionBuilder, PermutationAirBuilder};
 use field::{ExtensionField, Field};
+use lookup_model::{Lookup, LookupError, LookupTerminal};
 use matrix::RowMajorMatrix;
 use std::alloc::Global;
 
@@ -38,7 +37,7 @@ impl LookupProtocol for LogUpGadget {
         builder: &mut AB,
         lookup: &Lookup<AB::F>,
     ) -> Result<(), AirError> {
-        evaluation::eval_fraction(alloc, builder, lookup)
+        lookup_evaluation::eval_fraction(alloc, builder, lookup)
     }
 
     fn eval_accumulator<AB: PermutationAirBuilder>(
@@ -48,7 +47,7 @@ impl LookupProtocol for LogUpGadget {
         lookups: &[Lookup<AB::F>],
         terminal: AB::ExprEF,
     ) -> Result<(), AirError> {
-        evaluation::eval_accumulator(alloc, builder, lookups, terminal)
+        lookup_evaluation::eval_accumulator(alloc, builder, lookups, terminal)
     }
 
     fn generate_permutation<'a, F: Field, EF: ExtensionField<F>>(

@@ -1,13 +1,11 @@
 //! The lookups of one AIR.
 ghost use Rattle.std.specs.Prelude.{◌≡◌, ◌↔◌, ℕ, IsTrue, MatchResult};
 ghost use Rattle.std.specs.List.{sum_by};
-ghost use Rattle.lookup.specs.Records.{AreRecords, DoFit, IsFirstMalformed};
+ghost use Rattle.lookup_model.specs.Records.{AreRecords, DoFit, IsFirstMalformed};
 
-use crate::error::LookupError;
-use crate::fitting;
-use crate::types::Lookup;
 use air::AirLayout;
 use field::Field;
+use lookup_model::{Lookup, LookupError};
 
 /// The lookups of one AIR: each has as many multiplicities, and flags where it has flags, as
 /// tuples, and their columns are 0, 1, 2 and on.
@@ -29,7 +27,7 @@ impl<F: Field> Lookups<F> {
             (λ lookups. lookups_of lookups ≡ records.items)
             (λ e. (i : ℕ) × (e ≡ LookupError.BadRecord i) × IsFirstMalformed records.items i) }
     {
-        match fitting::first_malformed(&records) {
+        match lookup_model::first_malformed(&records) {
             Some(lookup) => Err(LookupError::BadRecord { lookup }),
             None => Ok(Lookups { lookups: records }),
         }
@@ -57,6 +55,6 @@ impl<F: Field> Lookups<F> {
     pub fn fits(&self, layout: &AirLayout) -> bool
         ensures { IsTrue result ↔ DoFit layout.now (lookups_of self.now) }
     {
-        fitting::fits(self.as_slice(), layout)
+        lookup_model::fits(self.as_slice(), layout)
     }
 }

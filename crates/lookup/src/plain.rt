@@ -3,11 +3,11 @@
 ghost use Rattle.std.specs.Prelude.{◌≡◌, ◌+◌, ◌*◌, ◌<◌, All, IfSome, length, map};
 ghost use Rattle.std.specs.List.{list_any};
 ghost use Rattle.field.specs.Polynomial.{combined};
-ghost use Rattle.lookup.specs.Denominators.{column_denominator};
-ghost use Rattle.lookup.specs.Extension.{extension};
-ghost use Rattle.lookup.specs.Message.{same_key};
-ghost use Rattle.lookup.specs.Net.{net};
-ghost use Rattle.lookup.specs.Plain.{net_sum, plain_fraction, quotient};
+ghost use Rattle.lookup_model.specs.Denominators.{column_denominator};
+ghost use Rattle.lookup_model.specs.Extension.{extension};
+ghost use Rattle.lookup_model.specs.Message.{same_key};
+ghost use Rattle.lookup_model.specs.Net.{net};
+ghost use Rattle.lookup_model.specs.Plain.{net_sum, plain_fraction, quotient};
 ghost use Rattle.lookup.specs.PlainProgram.{message_of, messages_of, sent_of};
 
 use field::{ExtensionField, Field};

@@ -1,24 +1,23 @@
 //! The calls of a lookup argument.
 ghost use Rattle.std.specs.Prelude.{◌≡◌, ◌≢◌, ◌+◌, ◌*◌, ◌≤◌, ◌<◌, ◌⊎◌, [], ◌∷◌, All, MatchResult, None, Some, length, slice_get};
 ghost use Rattle.std.specs.Option.{ForSome, option_copied};
-ghost use Rattle.symbolic.specs.Layout.{layout_of_traces};
-ghost use Rattle.lookup.specs.Asserted.{Evaluates, IsConstraint};
-ghost use Rattle.lookup.specs.Constraints.{accumulator_constraints, fraction_constraint, lookup_constraints};
-ghost use Rattle.lookup.specs.Denominators.{column_denominator};
-ghost use Rattle.lookup.specs.Extension.{extension};
-ghost use Rattle.lookup.specs.Fault.{trace_faults};
-ghost use Rattle.lookup.specs.Generated.{plain_matrix, plain_terminal_of};
-ghost use Rattle.lookup.specs.Records.{DoFit, HasEqualLengths, IsWithin};
-ghost use Rattle.lookup.specs.Terminals.{terminal_sum};
-ghost use Rattle.lookup.specs.Trace.{sent_rows};
-ghost use Rattle.lookup.specs.Witness.{IsSatisfied};
+ghost use Rattle.expressions.specs.Layout.{layout_of_traces};
+ghost use Rattle.lookup_evaluation.specs.Asserted.{Evaluates, IsConstraint};
+ghost use Rattle.lookup_model.specs.Constraints.{accumulator_constraints, fraction_constraint, lookup_constraints};
+ghost use Rattle.lookup_model.specs.Denominators.{column_denominator};
+ghost use Rattle.lookup_model.specs.Extension.{extension};
+ghost use Rattle.lookup_model.specs.Fault.{trace_faults};
+ghost use Rattle.lookup_model.specs.Generated.{plain_matrix, plain_terminal_of};
+ghost use Rattle.lookup_model.specs.Records.{DoFit, HasEqualLengths, IsWithin};
+ghost use Rattle.lookup_model.specs.Terminals.{terminal_sum};
+ghost use Rattle.lookup_model.specs.Trace.{sent_rows};
+ghost use Rattle.lookup_model.specs.Witness.{IsSatisfied};
 ghost use Rattle.matrix.specs.Matrix.{height};
 
-use crate::error::LookupError;
 use crate::evaluation::{eval_fractions, eval_terminal};
-use crate::types::{Lookup, LookupTerminal};
 use air::{AirBuilder, AirError, ExtensionBuilder, PermutationAirBuilder};
 use field::{ExtensionField, Field};
+use lookup_model::{Lookup, LookupError, LookupTerminal};
 use matrix::RowMajorMatrix;
 use std::alloc::Global;
 

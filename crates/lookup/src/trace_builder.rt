@@ -120,7 +120,7 @@ fn judge<K: Domain>(x: K, row: usize) -> Result<(), AirError>
 impl<'a, F: Field, EF: Field> AirBuilder for LookupTraceBuilder<'a, F, EF> {
     ghost use Rattle.std.specs.Prelude.{◌≢◌, ◌≡◌, refl};
     ghost use Rattle.std.proofs.Common.{rules, ap, sym, ◌∙◌};
-    ghost use Rattle.symbolic.specs.declared.error.AirError.TheVariants.{Assertion};
+    ghost use Rattle.expressions.specs.declared.error.AirError.TheVariants.{Assertion};
     ghost use Rattle.lookup.specs.TraceBuilder.{builder_window, builder_layout};
 
     type F = F;
@@ -193,7 +193,7 @@ impl<'a, F: Field, EF: Field> AirBuilder for LookupTraceBuilder<'a, F, EF> {
 impl<'a, F: Field, EF: ExtensionField<F>> ExtensionBuilder for LookupTraceBuilder<'a, F, EF> {
     ghost use Rattle.std.specs.Prelude.{◌≢◌, ◌≡◌};
     ghost use Rattle.std.proofs.Common.{rules, ap};
-    ghost use Rattle.symbolic.specs.declared.error.AirError.TheVariants.{Assertion};
+    ghost use Rattle.expressions.specs.declared.error.AirError.TheVariants.{Assertion};
     ghost use Rattle.lookup.specs.TraceBuilder.{ext_builder_window};
 
     type EF = EF;

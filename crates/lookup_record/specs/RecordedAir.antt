@@ -1,14 +1,14 @@
 -- What a builder that records a whole AIR holds.
 use Rattle.std.specs.Prelude.{◌≡◌, ◌⊎◌, List, [], ◌∷◌, ◌++◌, map, refl, Result, Ok, Err, MatchResult}
 use Rattle.air.specs.Recorded.{Recorded, recorded, nothing_recorded}
-use Rattle.symbolic.specs.declared.error.AirError.{AirError}
-use Rattle.symbolic.specs.declared.error.AirError.TheVariants.{Memory}
-use Rattle.symbolic.specs.declared.layout.AirLayout.{AirLayout}
-use Rattle.symbolic.specs.declared.base_expression.SymbolicExpression.{SymbolicExpression}
+use Rattle.expressions.specs.declared.error.AirError.{AirError}
+use Rattle.expressions.specs.declared.error.AirError.TheVariants.{Memory}
+use Rattle.expressions.specs.declared.layout.AirLayout.{AirLayout}
+use Rattle.expressions.specs.declared.base_expression.SymbolicExpression.{SymbolicExpression}
 use Rattle.lookup_record.specs.Declaration.{Read, Table, Declaration, read, table, read_of, table_of}
 use Rattle.lookup_record.specs.Interaction.{Tuple, GlobalInteraction, ExclusiveInteraction, Interaction, global, local, exclusive}
 use Rattle.lookup_record.specs.Records.{global_of, local_of, exclusive_of}
-use Rattle.lookup_record.specs.declared.symbolic_builder.InteractionSymbolicBuilder.{InteractionSymbolicBuilder}
+use Rattle.lookup_record.specs.declared.symbolic.InteractionSymbolicBuilder.{InteractionSymbolicBuilder}
 
 -- The constraints with their layout, the messages on buses, the local lookups, the groups, and the
 -- indexed declarations, each in the order in which they were pushed.

@@ -1,6 +1,6 @@
 //! Signed counts of messages.
 ghost use Rattle.std.specs.Prelude.{◌≡◌, ℕ, IfOk, unsigned_abs};
-ghost use Rattle.symbolic.specs.Tree.{tree_of};
+ghost use Rattle.expressions.specs.Tree.{tree_of};
 ghost use Rattle.field.specs.Ring.{of_int};
 ghost use Rattle.lookup_record.specs.Negation.{IsNegation};
 

@@ -12,7 +12,7 @@ pub mod indexed;
 mod interaction;
 mod lookup_bus;
 mod permutation_bus;
-pub mod symbolic_builder;
+pub mod symbolic;
 #[cfg(test)]
 mod tests;
 
@@ -25,4 +25,4 @@ pub use interaction::{
 };
 pub use lookup_bus::LookupBus;
 pub use permutation_bus::PermutationCheckBus;
-pub use symbolic_builder::InteractionSymbolicBuilder;
+pub use symbolic::InteractionSymbolicBuilder;

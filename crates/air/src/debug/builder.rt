@@ -3,15 +3,15 @@ ghost use Rattle.std.specs.Prelude.{◌≡◌, ◌≢◌, ◌+◌, ◌<◌, ◌�
 ghost use Rattle.std.proofs.Common.{ap, rules};
 ghost use Rattle.std.specs.Option.{option_copied};
 ghost use Rattle.matrix.specs.Matrix.{height, row};
-ghost use Rattle.symbolic.specs.Layout.{width_of_option};
-ghost use Rattle.symbolic.specs.Window.{row_of_option};
-ghost use Rattle.symbolic.specs.declared.error.AirError.TheVariants.{Assertion};
+ghost use Rattle.expressions.specs.Layout.{width_of_option};
+ghost use Rattle.expressions.specs.Window.{row_of_option};
+ghost use Rattle.expressions.specs.declared.error.AirError.TheVariants.{Assertion};
 
 use crate::debug::inputs::RowInputs;
+use expressions::{AirBuilder, AirError, ExtensionBuilder, PermutationAirBuilder};
 use field::{Domain, ExtensionField, Field};
 use matrix::{RowMajorMatrix, RowWindow};
 use std::alloc::{AllocError, Global};
-use symbolic::{AirBuilder, AirError, ExtensionBuilder, PermutationAirBuilder};
 
 /// A builder that checks assertions on one row: its variables are the values at the row's cyclic
 /// window, and an assertion that is not zero is `AirError::Assertion` at the row.

@@ -6,9 +6,9 @@ ghost use Rattle.air.specs.Row.{HeightFits, OptionHeightFits, RowAnswers};
 
 use crate::debug::builder::DebugConstraintBuilder;
 use crate::debug::inputs::RowInputs;
+use expressions::{Air, AirError};
 use field::{ExtensionField, Field};
 use std::alloc::Global;
-use symbolic::{Air, AirError};
 
 /// Evaluates the AIR on every row, in order; the first refusal is answered.
 pub fn check_rows<'a, F: Field, EF: ExtensionField<F>, A: Air<DebugConstraintBuilder<'a, F, EF>>>(

@@ -1,16 +1,16 @@
 //! A builder that records constraints.
-ghost use Rattle.symbolic.specs.declared.error.AirError.TheVariants.{Memory};
+ghost use Rattle.expressions.specs.declared.error.AirError.TheVariants.{Memory};
 ghost use Rattle.std.proofs.Common.{ap};
 ghost use Rattle.std.specs.Prelude.{◌≡◌, ◌+◌, length, [], ◌∷◌, ◌++◌, IfOk, IfErr, OnOk, OnErr};
 
 use crate::recording::variables::LayoutVariables;
-use field::{ExtensionField, Field};
-use matrix::RowMajorMatrix;
-use std::alloc::{AllocError, Global};
-use symbolic::{
+use expressions::{
     AirBuilder, AirError, AirLayout, BaseLeaf, ExtLeaf, ExtensionBuilder, PermutationAirBuilder,
     SymbolicExpression, SymbolicExpressionExt, SymbolicVariable, SymbolicVariableExt,
 };
+use field::{ExtensionField, Field};
+use matrix::RowMajorMatrix;
+use std::alloc::{AllocError, Global};
 
 /// The places of recorded constraints in the one order of all assertions.
 #[derive(Debug, Drop)]
@@ -109,7 +109,7 @@ fn copy_rows<V: Copy>(
 
 impl<F: Field, EF: ExtensionField<F>> AirBuilder for SymbolicAirBuilder<F, EF> {
     ghost use Rattle.air.specs.Leaves.{iff_along, variable_degree-le};
-    ghost use Rattle.symbolic.specs.Meaning.{value_of, variable_value};
+    ghost use Rattle.expressions.specs.Meaning.{value_of, variable_value};
     ghost use Rattle.air.specs.Recorded.{HasWidths, recorded, with_base};
 
     type F = F;
@@ -190,7 +190,7 @@ impl<F: Field, EF: ExtensionField<F>> AirBuilder for SymbolicAirBuilder<F, EF> {
 }
 
 impl<F: Field, EF: ExtensionField<F>> ExtensionBuilder for SymbolicAirBuilder<F, EF> {
-    ghost use Rattle.symbolic.specs.ExtMeaning.{ext_value_of, ext_variable_value};
+    ghost use Rattle.expressions.specs.ExtMeaning.{ext_value_of, ext_variable_value};
     ghost use Rattle.air.specs.Leaves.{iff_along, ext_variable_degree-le};
     ghost use Rattle.air.specs.Recorded.{HasExtWidths, HasWidths, recorded, with_extension};
 
@@ -248,7 +248,7 @@ impl<F: Field, EF: ExtensionField<F>> ExtensionBuilder for SymbolicAirBuilder<F,
 }
 
 impl<F: Field, EF: ExtensionField<F>> PermutationAirBuilder for SymbolicAirBuilder<F, EF> {
-    ghost use Rattle.symbolic.specs.ExtMeaning.{ext_value_of, ext_variable_value};
+    ghost use Rattle.expressions.specs.ExtMeaning.{ext_value_of, ext_variable_value};
 
     type MP = RowMajorMatrix<SymbolicVariableExt<F, EF>>;
 

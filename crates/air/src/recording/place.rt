@@ -2,9 +2,9 @@
 ghost use Rattle.std.specs.Prelude.{◌≡◌, ℕ, IfOk};
 ghost use Rattle.air.specs.Variables.{IsVariableRow, IsVariableMatrix};
 
+use expressions::{BaseEntry, ExtEntry, SymbolicVariable, SymbolicVariableExt};
 use matrix::RowMajorMatrix;
 use std::alloc::{AllocError, Global};
-use symbolic::{BaseEntry, ExtEntry, SymbolicVariable, SymbolicVariableExt};
 
 /// A variable that is known by its entry and its index.
 pub trait Place: Copy {

@@ -1,14 +1,14 @@
 //! The variables of a layout.
 ghost use Rattle.std.specs.Prelude.{◌≡◌, IfOk};
 ghost use Rattle.air.specs.Variables.{IsVariableMatrix, IsVariableRow};
-ghost use Rattle.symbolic.specs.declared.variable.BaseEntry.TheVariants.{Main, Preprocessed, Public};
-ghost use Rattle.symbolic.specs.declared.variable.ExtEntry.TheVariants.{Challenge, Permutation, PermutationValue};
+ghost use Rattle.expressions.specs.declared.variable.BaseEntry.TheVariants.{Main, Preprocessed, Public};
+ghost use Rattle.expressions.specs.declared.variable.ExtEntry.TheVariants.{Challenge, Permutation, PermutationValue};
 
 use crate::recording::place::{variable_rows, variables};
+use expressions::{AirLayout, BaseEntry, ExtEntry, SymbolicVariable, SymbolicVariableExt};
 use matrix::RowMajorMatrix;
 use std::alloc::{AllocError, Global};
 use std::marker::Model;
-use symbolic::{AirLayout, BaseEntry, ExtEntry, SymbolicVariable, SymbolicVariableExt};
 
 /// All variables of a layout, each at its place.
 #[derive(Debug, Drop)]
@@ -23,7 +23,7 @@ pub struct LayoutVariables<F, EF> {
 }
 
 impl<F, EF> Model for LayoutVariables<F, EF> {
-    ghost use Rattle.symbolic.specs.declared.layout.AirLayout.{AirLayout};
+    ghost use Rattle.expressions.specs.declared.layout.AirLayout.{AirLayout};
 
     ghost Value = { AirLayout };
 

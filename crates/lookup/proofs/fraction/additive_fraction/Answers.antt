@@ -1,19 +1,19 @@
 use Rattle.std.proofs.Common.{◌≡◌, inl, inr, sym, ap, subst, ◌∙◌, ◌∷◌, ◌++◌, [], take, drop, ◌+◌, arith, List}
 use Rattle.std.proofs.lemmas.List.{take_all}
 use Rattle.std.proofs.lemmas.Result.{err_from_is_err_and}
-use Rattle.symbolic.specs.declared.base_expression.SymbolicExpression.{SymbolicExpression}
-use Rattle.lookup.specs.Denominators.{column_denominator}
-use Rattle.lookup.specs.Extension.{extension, IsLawful}
-use Rattle.lookup.specs.Fault.{vanishes}
+use Rattle.expressions.specs.declared.base_expression.SymbolicExpression.{SymbolicExpression}
+use Rattle.lookup_model.specs.Denominators.{column_denominator}
+use Rattle.lookup_model.specs.Extension.{extension, IsLawful}
+use Rattle.lookup_model.specs.Fault.{vanishes}
 use Rattle.lookup.specs.Fraction.{IsFractionOf}
-use Rattle.lookup.specs.Message.{Message}
-use Rattle.lookup.specs.Plain.{counted}
-use Rattle.lookup.specs.Records.{AllFit, IsWithin}
-use Rattle.lookup.specs.Sent.{branch_at, branches_at}
+use Rattle.lookup_model.specs.Message.{Message}
+use Rattle.lookup_model.specs.Plain.{counted}
+use Rattle.lookup_model.specs.Records.{AllFit, IsWithin}
+use Rattle.lookup_model.specs.Sent.{branch_at, branches_at}
 use Rattle.lookup.specs.TraceBuilder.{builder_layout, builder_window}
-use Rattle.lookup.proofs.Branches.{branches_more, branches_split, length-branches_at}
+use Rattle.lookup_model.specs.Branches.{branches_more, branches_split, length-branches_at}
 use Rattle.lookup.proofs.Fractions.{vanishes_at}
-use Rattle.lookup.proofs.RecordLaws.{All-at, Fits-at}
+use Rattle.lookup_model.specs.RecordLaws.{All-at, Fits-at}
 use Rattle.lookup.proofs.fraction.additive_fraction.Goals as goal
 
 pub with_branch-requires-clause-tuple_fits : goal.with_branch-requires-clause-tuple_fits

@@ -1,8 +1,8 @@
 use Rattle.std.proofs.Common.{take}
-use Rattle.lookup.specs.Denominators.{column_denominator}
-use Rattle.lookup.specs.Extension.{extension}
+use Rattle.lookup_model.specs.Denominators.{column_denominator}
+use Rattle.lookup_model.specs.Extension.{extension}
 use Rattle.lookup.specs.Fraction.{IsFractionOf}
-use Rattle.lookup.specs.Sent.{branches_at}
+use Rattle.lookup_model.specs.Sent.{branches_at}
 use Rattle.lookup.specs.TraceBuilder.{builder_window}
 use Rattle.lookup.proofs.fraction.additive_fraction.Given as goal
 

@@ -1,9 +1,9 @@
 use Rattle.std.proofs.Common.{ap, sym, ◌∙◌, take, ◌+◌}
 use Rattle.field.specs.Polynomial.{combined}
-use Rattle.lookup.specs.Sent.{value}
+use Rattle.lookup_model.specs.Sent.{value}
 use Rattle.lookup.specs.TraceBuilder.{builder_layout, builder_window}
-use Rattle.lookup.proofs.HornerRule.{combined_more, map-map}
-use Rattle.lookup.proofs.RecordLaws.{Fits-at}
+use Rattle.lookup_model.specs.HornerRule.{combined_more, map-map}
+use Rattle.lookup_model.specs.RecordLaws.{Fits-at}
 use Rattle.lookup.proofs.fraction.combined_tuple.Goals as goal
 
 pub resolved-requires : goal.resolved-requires

@@ -1,6 +1,6 @@
 use Rattle.std.proofs.Common.{◌≡◌, map, take}
 use Rattle.field.specs.Polynomial.{combined}
-use Rattle.lookup.specs.Sent.{values}
+use Rattle.lookup_model.specs.Sent.{values}
 use Rattle.lookup.specs.TraceBuilder.{builder_window}
 use Rattle.lookup.proofs.fraction.combined_tuple.Given as goal
 

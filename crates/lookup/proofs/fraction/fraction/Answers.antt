@@ -1,11 +1,11 @@
 use Rattle.std.proofs.Common.{◌≡◌, inl, inr, None, Some, ap, sym, ◌∙◌}
 use Rattle.std.proofs.lemmas.Result.{MatchResult-weaker}
 use Rattle.std.specs.Option.{option_map}
-use Rattle.lookup.specs.Denominators.{column_denominator}
-use Rattle.lookup.specs.Extension.{extension}
-use Rattle.lookup.specs.Fault.{fault_of}
-use Rattle.lookup.specs.Plain.{plain_fraction}
-use Rattle.lookup.specs.Sent.{branches_at, sent, sent_at, values}
+use Rattle.lookup_model.specs.Denominators.{column_denominator}
+use Rattle.lookup_model.specs.Extension.{extension}
+use Rattle.lookup_model.specs.Fault.{fault_of}
+use Rattle.lookup_model.specs.Plain.{plain_fraction}
+use Rattle.lookup_model.specs.Sent.{branches_at, sent, sent_at, values}
 use Rattle.lookup.specs.TraceBuilder.{builder_window}
 use Rattle.lookup.proofs.LookupFaults.{additive_faultless, additive_fault}
 use Rattle.lookup.proofs.fraction.fraction.Goals as goal

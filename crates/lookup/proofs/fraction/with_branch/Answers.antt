@@ -1,8 +1,8 @@
 use Rattle.std.proofs.Common.{◌≡◌, ◌≢◌, sym, ap, ◌∙◌}
 use Rattle.std.proofs.lemmas.Bool.{true≢false}
-use Rattle.lookup.specs.Denominators.{column_denominator, tuple_denominator}
-use Rattle.lookup.specs.Extension.{extension, IsLawful}
-use Rattle.lookup.specs.Sent.{branch_at}
+use Rattle.lookup_model.specs.Denominators.{column_denominator, tuple_denominator}
+use Rattle.lookup_model.specs.Extension.{extension, IsLawful}
+use Rattle.lookup_model.specs.Sent.{branch_at}
 use Rattle.lookup.specs.TraceBuilder.{builder_window}
 use Rattle.lookup.proofs.Fractions.{fraction_of_added}
 use Rattle.lookup.proofs.fraction.with_branch.Goals as goal

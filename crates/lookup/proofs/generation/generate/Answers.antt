@@ -2,19 +2,19 @@ use Rattle.std.proofs.Common.{◌≡◌, ◌<◌, ℕ, inl, inr, Some, subst, sy
 use Rattle.std.proofs.lemmas.Result.{err_from_is_err_and}
 use Rattle.std.specs.List.{slice_get}
 use Rattle.std.specs.Option.{option_copied}
-use Rattle.symbolic.specs.declared.layout.AirLayout.{AirLayout}
-use Rattle.symbolic.specs.Layout.{layout_of_traces}
-use Rattle.symbolic.specs.Window.{Window, window_at}
+use Rattle.expressions.specs.declared.layout.AirLayout.{AirLayout}
+use Rattle.expressions.specs.Layout.{layout_of_traces}
+use Rattle.expressions.specs.Window.{Window, window_at}
 use Rattle.matrix.specs.Matrix.{height}
-use Rattle.lookup.specs.Denominators.{column_denominator}
-use Rattle.lookup.specs.Extension.{extension, IsLawful}
-use Rattle.lookup.specs.Fault.{row_faults}
+use Rattle.lookup_model.specs.Denominators.{column_denominator}
+use Rattle.lookup_model.specs.Extension.{extension, IsLawful}
+use Rattle.lookup_model.specs.Fault.{row_faults}
 use Rattle.lookup.specs.Progress.{HasRow}
-use Rattle.lookup.specs.Records.{DoFit}
-use Rattle.lookup.specs.Trace.{sent_row, sent_rows}
+use Rattle.lookup_model.specs.Records.{DoFit}
+use Rattle.lookup_model.specs.Trace.{sent_row, sent_rows}
 use Rattle.lookup.proofs.Layouts.{DoFit-with_challenges}
 use Rattle.lookup.proofs.ProgressLaws.{HasRows-more, HasRows-fault}
-use Rattle.lookup.proofs.SentRows.{sent_rows-at, length-sent_rows}
+use Rattle.lookup_model.specs.SentRows.{sent_rows-at, length-sent_rows}
 use Rattle.lookup.proofs.generation.generate.Goals as goal
 
 pub push_row-requires-clause-fit : goal.push_row-requires-clause-fit

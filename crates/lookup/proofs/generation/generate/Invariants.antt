@@ -1,8 +1,8 @@
 use Rattle.std.specs.Option.{option_copied}
-use Rattle.lookup.specs.Denominators.{column_denominator}
-use Rattle.lookup.specs.Extension.{extension}
+use Rattle.lookup_model.specs.Denominators.{column_denominator}
+use Rattle.lookup_model.specs.Extension.{extension}
 use Rattle.lookup.specs.Progress.{HasRows}
-use Rattle.lookup.specs.Trace.{sent_rows}
+use Rattle.lookup_model.specs.Trace.{sent_rows}
 use Rattle.lookup.proofs.generation.generate.Given as goal
 
 abbrev pub invariant-loop-row : goal.invariant-loop-row

@@ -1,16 +1,16 @@
 use Rattle.std.proofs.Common.{inl, inr, subst, sym, ap, ◌∙◌, take, drop, ◌+◌, List}
 use Rattle.std.proofs.lemmas.Result.{err_from_is_err_and}
 use Rattle.std.specs.List.{slice_get}
-use Rattle.lookup.specs.Denominators.{column_denominator}
-use Rattle.lookup.specs.Extension.{extension, IsLawful}
-use Rattle.lookup.specs.Fault.{row_faults}
+use Rattle.lookup_model.specs.Denominators.{column_denominator}
+use Rattle.lookup_model.specs.Extension.{extension, IsLawful}
+use Rattle.lookup_model.specs.Fault.{row_faults}
 use Rattle.lookup.specs.Progress.{HasRow}
-use Rattle.lookup.specs.Sent.{Sent, sent_at}
-use Rattle.lookup.specs.Trace.{sent_row}
+use Rattle.lookup_model.specs.Sent.{Sent, sent_at}
+use Rattle.lookup_model.specs.Trace.{sent_row}
 use Rattle.lookup.specs.TraceBuilder.{builder_window}
 use Rattle.lookup.proofs.ProgressLaws.{HasRow-more}
-use Rattle.lookup.proofs.Rows.{row_faults-first}
-use Rattle.lookup.proofs.SentRows.{column_is, sent_row-more, sent_row-split, length-take-sent_row}
+use Rattle.lookup_model.specs.Rows.{row_faults-first}
+use Rattle.lookup_model.specs.SentRows.{column_is, sent_row-more, sent_row-split, length-take-sent_row}
 use Rattle.lookup.proofs.generation.push_row.Goals as goal
 
 pub returns-in_err-fraction : goal.returns-in_err-fraction

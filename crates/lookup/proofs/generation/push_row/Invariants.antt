@@ -1,8 +1,8 @@
 use Rattle.std.proofs.Common.{take}
-use Rattle.lookup.specs.Denominators.{column_denominator}
-use Rattle.lookup.specs.Extension.{extension}
+use Rattle.lookup_model.specs.Denominators.{column_denominator}
+use Rattle.lookup_model.specs.Extension.{extension}
 use Rattle.lookup.specs.Progress.{HasRow}
-use Rattle.lookup.specs.Trace.{sent_row}
+use Rattle.lookup_model.specs.Trace.{sent_row}
 use Rattle.lookup.specs.TraceBuilder.{builder_window}
 use Rattle.lookup.proofs.generation.push_row.Given as goal
 

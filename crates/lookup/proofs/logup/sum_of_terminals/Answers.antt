@@ -1,5 +1,5 @@
 use Rattle.std.proofs.Common.{◌∙◌, ap}
-use Rattle.lookup.specs.Terminals.{terminal_value}
+use Rattle.lookup_model.specs.Terminals.{terminal_value}
 use Rattle.lookup.proofs.TerminalSums.{sum_in-more}
 use Rattle.lookup.proofs.logup.sum_of_terminals.Goals as goal
 

@@ -1,5 +1,5 @@
 use Rattle.std.proofs.Common.{◌≡◌, take}
-use Rattle.lookup.specs.Terminals.{terminal_sum}
+use Rattle.lookup_model.specs.Terminals.{terminal_sum}
 use Rattle.lookup.proofs.logup.sum_of_terminals.Given as goal
 
 abbrev pub invariant-loop-terminal : goal.invariant-loop-terminal

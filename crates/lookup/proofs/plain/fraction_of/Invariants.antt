@@ -1,8 +1,8 @@
 use Rattle.std.proofs.Common.{◌≡◌, map, take}
 use Rattle.field.specs.Sums.{sum_in}
-use Rattle.lookup.specs.Denominators.{column_denominator}
-use Rattle.lookup.specs.Extension.{extension}
-use Rattle.lookup.specs.Plain.{quotient}
+use Rattle.lookup_model.specs.Denominators.{column_denominator}
+use Rattle.lookup_model.specs.Extension.{extension}
+use Rattle.lookup_model.specs.Plain.{quotient}
 use Rattle.lookup.specs.PlainProgram.{message_of}
 use Rattle.lookup.proofs.plain.fraction_of.Given as goal
 

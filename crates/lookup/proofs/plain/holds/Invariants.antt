@@ -1,6 +1,6 @@
 use Rattle.std.proofs.Common.{◌≡◌, false, take}
 use Rattle.std.specs.List.{list_any}
-use Rattle.lookup.specs.Message.{same_key}
+use Rattle.lookup_model.specs.Message.{same_key}
 use Rattle.lookup.specs.PlainProgram.{message_of}
 use Rattle.lookup.proofs.plain.holds.Given as goal
 

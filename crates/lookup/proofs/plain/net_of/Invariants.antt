@@ -1,5 +1,5 @@
 use Rattle.std.proofs.Common.{◌≡◌, take}
-use Rattle.lookup.specs.Net.{net}
+use Rattle.lookup_model.specs.Net.{net}
 use Rattle.lookup.specs.PlainProgram.{message_of, messages_of}
 use Rattle.lookup.proofs.plain.net_of.Given as goal
 

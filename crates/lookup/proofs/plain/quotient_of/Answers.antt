@@ -1,7 +1,7 @@
 use Rattle.std.proofs.Common.{sym, ap, ◌∙◌}
-use Rattle.lookup.specs.Denominators.{column_denominator}
-use Rattle.lookup.specs.Extension.{extension, IsLawful}
-use Rattle.lookup.specs.Plain.{quotient}
+use Rattle.lookup_model.specs.Denominators.{column_denominator}
+use Rattle.lookup_model.specs.Extension.{extension, IsLawful}
+use Rattle.lookup_model.specs.Plain.{quotient}
 use Rattle.lookup.specs.PlainProgram.{message_of}
 use Rattle.lookup.proofs.Terminals.{quotient-zero}
 use Rattle.lookup.proofs.plain.quotient_of.Goals as goal

@@ -1,9 +1,9 @@
 use Rattle.std.proofs.Common.{sym, ap, ◌∙◌, map, arith}
 use Rattle.std.proofs.lemmas.List.{take_all}
 use Rattle.field.specs.Sums.{sum_in}
-use Rattle.lookup.specs.Denominators.{column_denominator}
-use Rattle.lookup.specs.Extension.{extension, IsLawful}
-use Rattle.lookup.specs.Plain.{quotient}
+use Rattle.lookup_model.specs.Denominators.{column_denominator}
+use Rattle.lookup_model.specs.Extension.{extension, IsLawful}
+use Rattle.lookup_model.specs.Plain.{quotient}
 use Rattle.lookup.specs.PlainProgram.{message_of}
 use Rattle.lookup.proofs.PlainProgramLaws.{keys-all, keys-seen, keys-new, of_key, keys_of}
 use Rattle.lookup.proofs.plain.terminal_of.Goals.{then-not-holds+in_ok-quotient_of, else-not-holds}

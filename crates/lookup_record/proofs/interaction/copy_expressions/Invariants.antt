@@ -1,5 +1,5 @@
 use Rattle.std.proofs.Common.{◌≡◌, map, take}
-use Rattle.symbolic.specs.Tree.{tree_of}
+use Rattle.expressions.specs.Tree.{tree_of}
 use Rattle.lookup_record.proofs.interaction.copy_expressions.Given as goal
 
 abbrev pub invariant-loop-expression : goal.invariant-loop-expression

@@ -4,15 +4,15 @@ use Rattle.std.proofs.lemmas.List.{nil_from_length}
 use Rattle.std.specs.List.{range_with_len}
 use Rattle.std.specs.Option.{option_copied}
 use Rattle.matrix.specs.Matrix.{height}
-use Rattle.lookup.specs.Denominators.{column_denominator}
-use Rattle.lookup.specs.Extension.{extension, IsLawful}
-use Rattle.lookup.specs.Fault.{trace_faults}
-use Rattle.lookup.specs.Generated.{plain_matrix, plain_terminal_of}
-use Rattle.lookup.specs.Trace.{sent_rows}
-use Rattle.lookup.specs.Witness.{IsSatisfied}
+use Rattle.lookup_model.specs.Denominators.{column_denominator}
+use Rattle.lookup_model.specs.Extension.{extension, IsLawful}
+use Rattle.lookup_model.specs.Fault.{trace_faults}
+use Rattle.lookup_model.specs.Generated.{plain_matrix, plain_terminal_of}
+use Rattle.lookup_model.specs.Trace.{sent_rows}
+use Rattle.lookup_model.specs.Witness.{IsSatisfied}
 use Rattle.lookup.proofs.PlainResults.{IsShaped-product, faultless_rows, plain_matrix-some, plain_terminal_of-some, length-plain_rows, cells_plain, accumulator_plain, faultless_trace}
 use Rattle.lookup.proofs.SatisfiedRows.{none_satisfied, plain_satisfied}
-use Rattle.lookup.proofs.SentRows.{length-sent_rows, length-sent_rows-at}
+use Rattle.lookup_model.specs.SentRows.{length-sent_rows, length-sent_rows-at}
 use Rattle.lookup.proofs.logup.LogUpGadgetLookupProtocol.generate_permutation.Goals as goal
 
 pub returns-then-is_empty : goal.returns-then-is_empty

@@ -3,12 +3,12 @@ use Rattle.std.proofs.lemmas.Bool.{eqb-true, eqb-false}
 use Rattle.std.proofs.lemmas.List.{nil_from_length}
 use Rattle.std.proofs.lemmas.Option.{slice_get-get_or}
 use Rattle.std.proofs.lemmas.Result.{err_from_is_err_and}
-use Rattle.symbolic.specs.Window.{ExtWindow}
-use Rattle.lookup.specs.Asserted.{Asserts, IsConstraint}
-use Rattle.lookup.specs.Constraints.{accumulator_constraints, fraction_constraint, lookup_constraints, terminal_at}
-use Rattle.lookup.specs.Extension.{extension}
-use Rattle.lookup.specs.declared.types.Lookup.{Lookup}
-use Rattle.lookup.proofs.Asserting.{evaluates_read, evaluates_then, fails_early}
+use Rattle.expressions.specs.Window.{ExtWindow}
+use Rattle.lookup_evaluation.specs.Asserted.{Asserts, IsConstraint}
+use Rattle.lookup_model.specs.Constraints.{accumulator_constraints, fraction_constraint, lookup_constraints, terminal_at}
+use Rattle.lookup_model.specs.Extension.{extension}
+use Rattle.lookup_model.specs.declared.types.Lookup.{Lookup}
+use Rattle.lookup_evaluation.specs.AssertedLaws.{evaluates_read, evaluates_then, fails_early}
 use Rattle.lookup.proofs.Evaluations.{later_reads, layout_kept, windows_kept}
 use Rattle.lookup.proofs.protocol.LookupProtocol.eval_all.Goals as goal
 

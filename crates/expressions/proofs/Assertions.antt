@@ -1,0 +1,27 @@
+-- Chains of assertions, one expression at a time.
+use Rattle.std.proofs.Common.{◌≡◌, List, [], ◌∷◌, ◌++◌, inl, inr, refl, subst, sym, ap, ◌∙◌, append_assoc}
+use Rattle.expressions.specs.Builder.{AcceptsAll, RefusesOne}
+use Rattle.expressions.specs.declared.error.AirError.{AirError}
+
+-- one more accepted expression makes the chain longer
+pub accepts_more : {B X : Type 0} (accepts : B → X → B → Type 0) (xs : List X) (x : X) (b c d : B) → AcceptsAll accepts b xs c → accepts c x d → AcceptsAll accepts b (xs ++ x ∷ []) d
+accepts_more accepts [] x b c d same last =
+    let P : _ → Type 0 = λ s. accepts s x d in (d, subst P same last, refl)
+accepts_more accepts (y ∷ ys) x b c d chain last = (chain.0, chain.1, accepts_more accepts ys x chain.0 c d chain.2 last)
+
+-- a refusal after a chain of accepted expressions is the refusal of one of them all
+pub refuses_after : {B X : Type 0} (accepts : B → X → B → Type 0) (refuses : B → X → AirError → B → Type 0) (all xs ys : List X) (x : X) (b c d : B) (e : AirError) → AcceptsAll accepts b xs c → refuses c x e d → all ≡ xs ++ x ∷ ys → RefusesOne accepts refuses b all e d
+refuses_after {B} {X} accepts refuses all xs ys x b c d e chain last whole =
+    let P : List X → Type 0 = λ l. RefusesOne accepts refuses b l e d in subst P (sym whole) (split xs b chain)
+  where
+    split : (xs : List X) (b : B) → AcceptsAll accepts b xs c → RefusesOne accepts refuses b (xs ++ x ∷ ys) e d
+    split [] b same = let P : B → Type 0 = λ s. refuses s x e d in inl (subst P same last)
+    split (y ∷ more) b chain = inr (chain.0, chain.1, split more chain.0 chain.2)
+
+-- of a list that is handed out from the front: what came before, the next item, and what is left
+pub split_here : {X : Type 0} (all done left later : List X) (x : X) → all ≡ done ++ left → left ≡ x ∷ later → all ≡ done ++ x ∷ later
+split_here all done left later x whole next = whole ∙ ap (λ l. done ++ l) next
+
+-- the next item joins what came before
+pub split_more : {X : Type 0} (all done left later : List X) (x : X) → all ≡ done ++ left → left ≡ x ∷ later → all ≡ (done ++ x ∷ []) ++ later
+split_more all done left later x whole next = rw append_assoc (split_here all done left later x whole next)

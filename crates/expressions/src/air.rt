@@ -1,0 +1,40 @@
+//! What an AIR is: a set of constraints over a trace of a given width.
+ghost use Rattle.std.specs.Prelude.{◌≡◌, ℕ, Result};
+ghost use Rattle.expressions.specs.declared.error.AirError.{AirError};
+
+use crate::builder::AirBuilder;
+use crate::error::AirError;
+use std::alloc::Global;
+
+/// The widths and numbers that an AIR is made for.
+pub trait BaseAir<F> {
+    ghost width: { Self → ℕ };
+
+    ghost preprocessed_width: { Self → ℕ };
+
+    ghost num_public_values: { Self → ℕ };
+
+    /// The columns of the main trace.
+    fn width(&self) -> usize
+        ensures { result ≡ width self.now };
+
+    /// The columns of the preprocessed trace.
+    fn preprocessed_width(&self) -> usize
+        ensures { result ≡ preprocessed_width self.now };
+
+    /// The public values.
+    fn num_public_values(&self) -> usize
+        ensures { result ≡ num_public_values self.now };
+}
+
+/// An AIR that can hand its constraints to the builder `AB`.
+///
+/// An implementation names, as `evaluates`, how the builder before, the answer and the builder
+/// after belong together: by it "what the evaluation left" and "its refusal" are meant.
+pub trait Air<AB: AirBuilder>: BaseAir<AB::F> {
+    ghost evaluates: { Self → AB → Result (Unit {0}) AirError → AB → Type 0 };
+
+    /// Asserts the constraints on the builder; the first refusal is answered.
+    fn eval(&self, alloc: Global, builder: &mut AB) -> Result<(), AirError>
+        ensures { evaluates self.now builder.old result builder.new };
+}

@@ -1,0 +1,144 @@
+//! Base expressions.
+ghost use Rattle.std.specs.Prelude.{◌≡◌, ℕ, ◌+◌, max, IfOk};
+ghost use Rattle.field.specs.Ring.{sub_in};
+
+use crate::expression::Expression;
+use crate::variable::SymbolicVariable;
+use field::Field;
+use std::alloc::{AllocError, Global};
+use std::marker::{Model, PhantomData};
+
+/// A base expression without operations.
+#[derive(Clone, Copy, Debug)]
+pub enum BaseLeaf<F> {
+    /// A cell of the window or a public value.
+    Variable(SymbolicVariable<F>),
+    /// One on the first row, else zero.
+    IsFirstRow,
+    /// One on the last row, else zero.
+    IsLastRow,
+    /// One on every row but the last, else zero.
+    IsTransition,
+    /// An element.
+    Constant(F),
+}
+
+/// A base expression: a tree of sums, differences, products and negations over leaves.
+#[derive(Debug, Drop)]
+pub enum SymbolicExpression<F> {
+    /// A leaf.
+    Leaf(BaseLeaf<F>),
+    /// A sum.
+    Add(Box<SymbolicExpression<F>>, Box<SymbolicExpression<F>>),
+    /// A difference.
+    Sub(Box<SymbolicExpression<F>>, Box<SymbolicExpression<F>>),
+    /// A product.
+    Mul(Box<SymbolicExpression<F>>, Box<SymbolicExpression<F>>),
+    /// A negation.
+    Neg(Box<SymbolicExpression<F>>),
+}
+
+/// What base expressions are looked at with: to a contract it is a window. No code makes one.
+pub struct Seen<F>(PhantomData<F>);
+
+impl<F> Model for Seen<F> {
+    ghost use Rattle.expressions.specs.Window.{Window, empty_window};
+
+    ghost Value = { Window F };
+
+    ghost view = { λ _. empty_window };
+}
+
+/// A variable is the leaf that holds it.
+impl<F> From<SymbolicVariable<F>> for SymbolicExpression<F> {
+    ghost use Rattle.std.specs.Prelude.{◌≡◌};
+    ghost use Rattle.expressions.specs.Tree.{tree_of, leaf};
+    ghost use Rattle.expressions.specs.declared.base_expression.BaseLeaf.TheVariants.{Variable};
+
+    ghost from_gives = { λ v e. tree_of e ≡ leaf (Variable v) };
+
+    fn from(variable: SymbolicVariable<F>) -> Self {
+        SymbolicExpression::Leaf(BaseLeaf::Variable(variable))
+    }
+}
+
+impl<F: Field> Expression<F> for SymbolicExpression<F> {
+    ghost use Rattle.expressions.specs.Degree.{degree_of};
+    ghost use Rattle.expressions.specs.Meaning.{value_of};
+    ghost use Rattle.expressions.specs.Tree.{tree_of, leaf, add, sub, mul, neg};
+    ghost use Rattle.expressions.specs.Window.{Window};
+
+    type Seen = Seen<F>;
+
+    ghost value = { λ e w. value_of F.ring w (tree_of e) };
+
+    ghost degree = { λ e t. degree_of t (tree_of e) };
+
+    ghost same = { λ a b. tree_of b ≡ tree_of a };
+
+    ghost is_product = { λ a b r. tree_of r ≡ mul (tree_of a) (tree_of b) };
+
+    fn constant(x: F) -> Self
+        ensures { tree_of result ≡ leaf (BaseLeaf.Constant x) }
+    {
+        SymbolicExpression::Leaf(BaseLeaf::Constant(x))
+    }
+
+    fn add(self, alloc: Global, other: Self) -> Result<Self, AllocError>
+        ensures { IfOk result (λ r. tree_of r ≡ add (tree_of self) (tree_of other)) }
+    {
+        let left = Box::new(alloc, self)?;
+        let right = Box::new(alloc, other)?;
+        Ok(SymbolicExpression::Add(left, right))
+    }
+
+    fn sub(self, alloc: Global, other: Self) -> Result<Self, AllocError>
+        ensures { IfOk result (λ r. tree_of r ≡ sub (tree_of self) (tree_of other)) }
+    {
+        let left = Box::new(alloc, self)?;
+        let right = Box::new(alloc, other)?;
+        Ok(SymbolicExpression::Sub(left, right))
+    }
+
+    fn mul(self, alloc: Global, other: Self) -> Result<Self, AllocError>
+        ensures { IfOk result (λ r. tree_of r ≡ mul (tree_of self) (tree_of other)) }
+    {
+        let left = Box::new(alloc, self)?;
+        let right = Box::new(alloc, other)?;
+        Ok(SymbolicExpression::Mul(left, right))
+    }
+
+    fn neg(self, alloc: Global) -> Result<Self, AllocError>
+        ensures { IfOk result (λ r. tree_of r ≡ neg (tree_of self)) }
+    {
+        let inner = Box::new(alloc, self)?;
+        Ok(SymbolicExpression::Neg(inner))
+    }
+
+    fn copy(&self, alloc: Global) -> Result<Self, AllocError>
+        ensures { IfOk result (λ r. tree_of r ≡ tree_of self.now) }
+    {
+        match self {
+            SymbolicExpression::Leaf(leaf) => Ok(SymbolicExpression::Leaf(*leaf)),
+            SymbolicExpression::Add(a, b) => {
+                let first = Box::new(alloc, a.copy(alloc)?)?;
+                let second = Box::new(alloc, b.copy(alloc)?)?;
+                Ok(SymbolicExpression::Add(first, second))
+            }
+            SymbolicExpression::Sub(a, b) => {
+                let first = Box::new(alloc, a.copy(alloc)?)?;
+                let second = Box::new(alloc, b.copy(alloc)?)?;
+                Ok(SymbolicExpression::Sub(first, second))
+            }
+            SymbolicExpression::Mul(a, b) => {
+                let first = Box::new(alloc, a.copy(alloc)?)?;
+                let second = Box::new(alloc, b.copy(alloc)?)?;
+                Ok(SymbolicExpression::Mul(first, second))
+            }
+            SymbolicExpression::Neg(a) => {
+                let only = Box::new(alloc, a.copy(alloc)?)?;
+                Ok(SymbolicExpression::Neg(only))
+            }
+        }
+    }
+}

@@ -1,0 +1,171 @@
+//! Builders: what constraints are handed to.
+ghost use Rattle.std.specs.Prelude.{◌≡◌, ℕ, ◌≤◌, ◌↔◌, IfOk, IfErr, MatchResult, Some, slice_get};
+ghost use Rattle.field.specs.Ring.{of_bool};
+ghost use Rattle.expressions.specs.Builder.{MeansRow, AcceptsAll, RefusesOne};
+ghost use Rattle.expressions.specs.Window.{Window};
+ghost use Rattle.expressions.specs.declared.error.AirError.{AirError};
+ghost use Rattle.expressions.specs.declared.layout.AirLayout.{AirLayout};
+
+use crate::error::AirError;
+use crate::expression::Expression;
+use crate::filtered::FilteredAirBuilder;
+use field::Field;
+use matrix::WindowAccess;
+use std::alloc::Global;
+
+/// A builder hands out the variables of a window and takes assertions over them.
+///
+/// It stands for one window, where it checks a row, or for all windows of its layout, where it
+/// records constraints. Its variables, selectors and public values mean the cells of each window
+/// that it stands for. An assertion is accepted or refused; what an accepted one leaves stands for
+/// the same windows.
+pub trait AirBuilder: Sized {
+    /// The field of the traces.
+    type F: Field;
+
+    /// What assertions are made of.
+    type Expr: Expression<Self::F>;
+
+    /// A cell of the main or the preprocessed trace.
+    type Var: Copy + Into<Self::Expr>;
+
+    /// A public value.
+    type PublicVar: Copy + Into<Self::Expr>;
+
+    /// The rows of the main trace.
+    type MainWindow: WindowAccess<Self::Var> + Drop;
+
+    /// The rows of the preprocessed trace.
+    type PreprocessedWindow: WindowAccess<Self::Var>;
+
+    ghost layout: { Self → AirLayout };
+
+    ghost stands_for: { Self → Window Self.F → Type 0 };
+
+    ghost seen: { Window Self.F → Self.Expr.Seen };
+
+    ghost variable: { Self.Var → Window Self.F → Self.F };
+
+    ghost public_value: { Self.PublicVar → Window Self.F → Self.F };
+
+    ghost accepts: { Self → Self.Expr → Self → Type 0 };
+
+    ghost refuses: { Self → Self.Expr → AirError → Self → Type 0 };
+
+    ghost window_refuses: { Self → AirError → Type 0 };
+
+    /// The current row and the next one of the main trace.
+    fn main(&self, alloc: Global) -> Result<Self::MainWindow, AirError>
+        ensures readable { IfOk result (λ m. Self.MainWindow.readable m) }
+        ensures current { IfOk result (λ m. MeansRow (stands_for self.now) variable
+            (layout self.now).main_width (λ w. w.main) (Self.MainWindow.current m)) }
+        ensures next { IfOk result (λ m. MeansRow (stands_for self.now) variable
+            (layout self.now).main_width (λ w. w.main_next) (Self.MainWindow.next m)) }
+        ensures refused { IfErr result (window_refuses self.now) };
+
+    /// The current row and the next one of the preprocessed trace, of width 0 where there is none.
+    fn preprocessed(&self) -> &Self::PreprocessedWindow
+        ensures readable { Self.PreprocessedWindow.readable result.now }
+        ensures current { MeansRow (stands_for self.now) variable
+            (layout self.now).preprocessed_width (λ w. w.preprocessed) (Self.PreprocessedWindow.current result.now) }
+        ensures next { MeansRow (stands_for self.now) variable
+            (layout self.now).preprocessed_width (λ w. w.preprocessed_next) (Self.PreprocessedWindow.next result.now) };
+
+    /// The public values.
+    fn public_values(&self) -> &[Self::PublicVar]
+        ensures means { MeansRow (stands_for self.now) public_value
+            (layout self.now).num_public_values (λ w. w.public_values) result.now }
+        ensures degree { (i t : ℕ) (v : Self.PublicVar) (e : Self.Expr) → slice_get result.now i ≡ Some v
+            → Self.PublicVar.converts v e → Self.Expr.degree e t ≡ 0 };
+
+    /// The selector of the first row.
+    fn is_first_row(&self) -> Self::Expr
+        ensures means { (w : Window Self.F) → stands_for self.now w
+            → Self.Expr.value result (seen w) ≡ of_bool Self.F.ring w.is_first }
+        ensures degree { (t : ℕ) → Self.Expr.degree result t ≤ 1 };
+
+    /// The selector of the last row.
+    fn is_last_row(&self) -> Self::Expr
+        ensures means { (w : Window Self.F) → stands_for self.now w
+            → Self.Expr.value result (seen w) ≡ of_bool Self.F.ring w.is_last }
+        ensures degree { (t : ℕ) → Self.Expr.degree result t ≤ 1 };
+
+    /// The selector of all rows but the last.
+    fn is_transition(&self) -> Self::Expr
+        ensures means { (w : Window Self.F) → stands_for self.now w
+            → Self.Expr.value result (seen w) ≡ of_bool Self.F.ring w.is_transition }
+        ensures degree { (t : ℕ) → Self.Expr.degree result t ≤ t };
+
+    /// Asserts that `x` is zero.
+    fn assert_zero(&mut self, alloc: Global, x: Self::Expr) -> Result<(), AirError>
+        ensures { MatchResult result (λ _. accepts self.old x self.new) (λ e. refuses self.old x e self.new) };
+
+    /// Asserts that each of `xs` is zero, in order; the first refusal is answered.
+    final fn assert_zeros(&mut self, alloc: Global, xs: Vec<Self::Expr>) -> Result<(), AirError>
+        ensures { MatchResult result (λ _. AcceptsAll accepts self.old xs.items self.new)
+            (λ e. RefusesOne accepts refuses self.old xs.items e self.new) }
+    {
+        for x in xs {
+            self.assert_zero(alloc, x)?;
+        }
+        Ok(())
+    }
+
+    /// A builder whose assertions are made on the first row alone.
+    fn when_first_row(&mut self) -> FilteredAirBuilder<'_, Self>
+        ensures same_reference { result.inner.ghost_name ≡ self.entry.ghost_name }
+        ensures unchanged { result.inner.now ≡ self.old }
+        ensures condition { (w : Window Self.F) → stands_for self.old w
+            → Self.Expr.value result.condition (seen w) ≡ of_bool Self.F.ring w.is_first }
+        ensures degree { (t : ℕ) → Self.Expr.degree result.condition t ≤ 1 }
+    {
+        let condition = self.is_first_row();
+        FilteredAirBuilder {
+            inner: self,
+            condition,
+        }
+    }
+
+    /// A builder whose assertions are made on the last row alone.
+    fn when_last_row(&mut self) -> FilteredAirBuilder<'_, Self>
+        ensures same_reference { result.inner.ghost_name ≡ self.entry.ghost_name }
+        ensures unchanged { result.inner.now ≡ self.old }
+        ensures condition { (w : Window Self.F) → stands_for self.old w
+            → Self.Expr.value result.condition (seen w) ≡ of_bool Self.F.ring w.is_last }
+        ensures degree { (t : ℕ) → Self.Expr.degree result.condition t ≤ 1 }
+    {
+        let condition = self.is_last_row();
+        FilteredAirBuilder {
+            inner: self,
+            condition,
+        }
+    }
+
+    /// A builder whose assertions are made on every row but the last.
+    fn when_transition(&mut self) -> FilteredAirBuilder<'_, Self>
+        ensures same_reference { result.inner.ghost_name ≡ self.entry.ghost_name }
+        ensures unchanged { result.inner.now ≡ self.old }
+        ensures condition { (w : Window Self.F) → stands_for self.old w
+            → Self.Expr.value result.condition (seen w) ≡ of_bool Self.F.ring w.is_transition }
+        ensures degree { (t : ℕ) → Self.Expr.degree result.condition t ≤ t }
+    {
+        let condition = self.is_transition();
+        FilteredAirBuilder {
+            inner: self,
+            condition,
+        }
+    }
+
+    ghost variable_converts: { (v : Self.Var) (e : Self.Expr) (w : Window Self.F) → Self.Var.converts v e
+        → Self.Expr.value e (seen w) ≡ variable v w };
+
+    ghost variable_degree: { (v : Self.Var) (e : Self.Expr) (t : ℕ) → Self.Var.converts v e → Self.Expr.degree e t ≤ 1 };
+
+    ghost public_converts: { (v : Self.PublicVar) (e : Self.Expr) (w : Window Self.F) → Self.PublicVar.converts v e
+        → Self.Expr.value e (seen w) ≡ public_value v w };
+
+    ghost keeps: { (b : Self) (x : Self.Expr) (c : Self) (w : Window Self.F) → accepts b x c
+        → stands_for b w ↔ stands_for c w };
+
+    ghost keeps_layout: { (b : Self) (x : Self.Expr) (c : Self) → accepts b x c → layout c ≡ layout b };
+}

@@ -1,0 +1,113 @@
+//! Builders over an extension of their field, and over the permutation trace of an argument.
+ghost use Rattle.std.specs.Prelude.{◌≡◌, ℕ, ◌≤◌, ◌↔◌, IfOk, IfErr, MatchResult, Some, slice_get};
+ghost use Rattle.expressions.specs.Builder.{MeansRow};
+ghost use Rattle.expressions.specs.Window.{ExtWindow, Window};
+ghost use Rattle.expressions.specs.declared.error.AirError.{AirError};
+
+use crate::builder::AirBuilder;
+use crate::error::AirError;
+use crate::expression::Expression;
+use field::ExtensionField;
+use matrix::WindowAccess;
+use std::alloc::Global;
+
+/// A builder that also takes assertions over an extension of its field.
+///
+/// It stands for windows with the rows of a permutation trace, challenges and permutation values,
+/// over the base windows that it stands for.
+pub trait ExtensionBuilder: AirBuilder {
+    /// The extension.
+    type EF: ExtensionField<Self::F>;
+
+    /// What assertions over the extension are made of.
+    type ExprEF: Expression<Self::EF>;
+
+    /// A cell of the permutation trace.
+    type VarEF: Copy + Into<Self::ExprEF>;
+
+    ghost stands_for_ext: { Self → ExtWindow Self.F Self.EF → Type 0 };
+
+    ghost seen_ext: { ExtWindow Self.F Self.EF → Self.ExprEF.Seen };
+
+    ghost variable_ext: { Self.VarEF → ExtWindow Self.F Self.EF → Self.EF };
+
+    ghost accepts_ext: { Self → Self.ExprEF → Self → Type 0 };
+
+    ghost refuses_ext: { Self → Self.ExprEF → AirError → Self → Type 0 };
+
+    /// The base expression `x`, embedded.
+    fn lift(x: Self::Expr) -> Self::ExprEF
+        ensures means { (w : ExtWindow Self.F Self.EF)
+            → Self.ExprEF.value result (seen_ext w) ≡ Self.EF.embed (Self.Expr.value x (Self.seen w.base)) }
+        ensures degree { (t : ℕ) → Self.ExprEF.degree result t ≡ Self.Expr.degree x t };
+
+    /// Asserts that `x` is zero.
+    fn assert_zero_ext(&mut self, alloc: Global, x: Self::ExprEF) -> Result<(), AirError>
+        ensures { MatchResult result (λ _. accepts_ext self.old x self.new) (λ e. refuses_ext self.old x e self.new) };
+
+    ghost base_window: { (b : Self) (w : ExtWindow Self.F Self.EF) → stands_for_ext b w → Self.stands_for b w.base };
+
+    ghost variable_ext_converts: { (v : Self.VarEF) (e : Self.ExprEF) (w : ExtWindow Self.F Self.EF)
+        → Self.VarEF.converts v e → Self.ExprEF.value e (seen_ext w) ≡ variable_ext v w };
+
+    ghost variable_ext_degree: { (v : Self.VarEF) (e : Self.ExprEF) (t : ℕ) → Self.VarEF.converts v e
+        → Self.ExprEF.degree e t ≤ 1 };
+
+    ghost keeps_ext: { (b : Self) (x : Self.ExprEF) (c : Self) (w : ExtWindow Self.F Self.EF)
+        → accepts_ext b x c → stands_for_ext b w ↔ stands_for_ext c w };
+
+    ghost keeps_ext_layout: { (b : Self) (x : Self.ExprEF) (c : Self) → accepts_ext b x c
+        → Self.layout c ≡ Self.layout b };
+
+    ghost base_keeps_ext: { (b : Self) (x : Self.Expr) (c : Self) (w : ExtWindow Self.F Self.EF)
+        → Self.accepts b x c → stands_for_ext b w ↔ stands_for_ext c w };
+
+    ghost ext_keeps_base: { (b : Self) (x : Self.ExprEF) (c : Self) (w : Window Self.F)
+        → accepts_ext b x c → Self.stands_for b w ↔ Self.stands_for c w };
+}
+
+/// A builder that also hands out the permutation trace of an argument, its challenges and its
+/// values.
+pub trait PermutationAirBuilder: ExtensionBuilder {
+    /// The rows of the permutation trace.
+    type MP: WindowAccess<Self::VarEF> + Drop;
+
+    /// A challenge.
+    type RandomVar: Copy + Into<Self::ExprEF>;
+
+    /// A value of the permutation argument.
+    type PermutationVar: Copy + Into<Self::ExprEF>;
+
+    ghost challenge: { Self.RandomVar → ExtWindow Self.F Self.EF → Self.EF };
+
+    ghost permutation_value: { Self.PermutationVar → ExtWindow Self.F Self.EF → Self.EF };
+
+    /// The current row and the next one of the permutation trace.
+    fn permutation(&self, alloc: Global) -> Result<Self::MP, AirError>
+        ensures readable { IfOk result (λ m. Self.MP.readable m) }
+        ensures current { IfOk result (λ m. MeansRow (Self.stands_for_ext self.now) Self.variable_ext
+            (Self.layout self.now).permutation_width (λ w. w.permutation) (Self.MP.current m)) }
+        ensures next { IfOk result (λ m. MeansRow (Self.stands_for_ext self.now) Self.variable_ext
+            (Self.layout self.now).permutation_width (λ w. w.permutation_next) (Self.MP.next m)) }
+        ensures refused { IfErr result (Self.window_refuses self.now) };
+
+    /// The challenges.
+    fn permutation_randomness(&self) -> &[Self::RandomVar]
+        ensures means { MeansRow (Self.stands_for_ext self.now) challenge
+            (Self.layout self.now).num_permutation_challenges (λ w. w.challenges) result.now }
+        ensures degree { (i t : ℕ) (v : Self.RandomVar) (e : Self.ExprEF) → slice_get result.now i ≡ Some v
+            → Self.RandomVar.converts v e → Self.ExprEF.degree e t ≡ 0 };
+
+    /// The values of the permutation argument.
+    fn permutation_values(&self) -> &[Self::PermutationVar]
+        ensures means { MeansRow (Self.stands_for_ext self.now) permutation_value
+            (Self.layout self.now).num_permutation_values (λ w. w.permutation_values) result.now }
+        ensures degree { (i t : ℕ) (v : Self.PermutationVar) (e : Self.ExprEF) → slice_get result.now i ≡ Some v
+            → Self.PermutationVar.converts v e → Self.ExprEF.degree e t ≡ 0 };
+
+    ghost challenge_converts: { (v : Self.RandomVar) (e : Self.ExprEF) (w : ExtWindow Self.F Self.EF)
+        → Self.RandomVar.converts v e → Self.ExprEF.value e (Self.seen_ext w) ≡ challenge v w };
+
+    ghost permutation_value_converts: { (v : Self.PermutationVar) (e : Self.ExprEF) (w : ExtWindow Self.F Self.EF)
+        → Self.PermutationVar.converts v e → Self.ExprEF.value e (Self.seen_ext w) ≡ permutation_value v w };
+}

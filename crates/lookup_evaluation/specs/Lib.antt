@@ -1,0 +1,2 @@
+pub mod Asserted
+pub mod AssertedLaws

@@ -1,0 +1,89 @@
+//! The constraint of one lookup's fraction.
+ghost use Rattle.std.specs.Prelude.{◌≡◌, ◌+◌, ◌*◌, ◌<◌, ◌≤◌, ◌⊎◌, ℕ, max, [], ◌∷◌, IfOk, IfErr};
+ghost use Rattle.expressions.specs.Builder.{MeansRow};
+ghost use Rattle.expressions.specs.Window.{ExtWindow};
+ghost use Rattle.lookup_evaluation.specs.Asserted.{Evaluates, IsConstraint};
+ghost use Rattle.lookup_model.specs.Constraints.{denominator_at, fraction_constraint, fraction_denominator, fraction_numerator};
+ghost use Rattle.lookup_model.specs.Extension.{extension};
+ghost use Rattle.lookup_model.specs.LookupDegree.{lookup_degree};
+ghost use Rattle.lookup_model.specs.Records.{HasEqualLengths, IsWithin};
+ghost use Rattle.lookup_model.specs.Sent.{branches_at, flags_at};
+
+use crate::additive::additive_quotient;
+use crate::cells::{column_challenges, fraction_cell};
+use crate::exclusive::exclusive_quotient;
+use crate::quotient::{Quotient, pinned};
+use expressions::{AirBuilder, AirError, ExtensionBuilder, PermutationAirBuilder};
+use lookup_model::Lookup;
+use std::alloc::{AllocError, Global};
+
+/// The quotient of a lookup, over the challenges of its column.
+fn quotient_of<AB: PermutationAirBuilder>(
+    alloc: Global,
+    builder: &AB,
+    main: &AB::MainWindow,
+    lookup: &Lookup<AB::F>,
+) -> Result<Quotient<AB::ExprEF>, AllocError>
+    requires lengths { HasEqualLengths lookup.now }
+    requires fits { IsWithin (AB.layout builder.now) lookup.now }
+    requires challenges { 2 * lookup.now.column + 1 < (AB.layout builder.now).num_permutation_challenges }
+    requires readable { AB.MainWindow.readable main.now }
+    requires current { MeansRow (AB.stands_for builder.now) AB.variable
+        (AB.layout builder.now).main_width (λ w. w.main) (AB.MainWindow.current main.now) }
+    requires next { MeansRow (AB.stands_for builder.now) AB.variable
+        (AB.layout builder.now).main_width (λ w. w.main_next) (AB.MainWindow.next main.now) }
+    ensures numerator { IfOk result (λ r. (w : ExtWindow AB.F AB.EF) → AB.stands_for_ext builder.now w
+        → let E = extension AB.F.ring AB.F.eq AB.EF.ring AB.EF.eq AB.EF.embed AB.EF.inverse in
+        AB.ExprEF.value r.numerator (AB.seen_ext w) ≡ fraction_numerator E (denominator_at E lookup.now.column w) (flags_at AB.F.ring w.base lookup.now) (branches_at AB.F.ring w.base lookup.now.column lookup.now)) }
+    ensures denominator { IfOk result (λ r. (w : ExtWindow AB.F AB.EF) → AB.stands_for_ext builder.now w
+        → let E = extension AB.F.ring AB.F.eq AB.EF.ring AB.EF.eq AB.EF.embed AB.EF.inverse in
+        AB.ExprEF.value r.denominator (AB.seen_ext w) ≡ fraction_denominator E (denominator_at E lookup.now.column w) (flags_at AB.F.ring w.base lookup.now) (branches_at AB.F.ring w.base lookup.now.column lookup.now)) }
+    ensures degree { IfOk result (λ r. (t : ℕ) → max (1 + AB.ExprEF.degree r.denominator t) (AB.ExprEF.degree r.numerator t) ≤ lookup_degree t lookup.now) }
+{
+    let (alpha, beta) = column_challenges(builder, lookup.column);
+    match &lookup.flags {
+        None => additive_quotient(alloc, builder, main, lookup, &alpha, &beta),
+        Some(flags) => exclusive_quotient(alloc, builder, main, lookup, flags, &alpha, &beta),
+    }
+}
+
+/// The left side of the lookup's equation.
+fn fraction_expression<AB: PermutationAirBuilder>(
+    alloc: Global,
+    builder: &AB,
+    lookup: &Lookup<AB::F>,
+) -> Result<AB::ExprEF, AirError>
+    requires lengths { HasEqualLengths lookup.now }
+    requires fits { IsWithin (AB.layout builder.now) lookup.now }
+    requires challenges { 2 * lookup.now.column + 1 < (AB.layout builder.now).num_permutation_challenges }
+    requires cell { lookup.now.column + 1 < (AB.layout builder.now).permutation_width }
+    ensures means { IfOk result (λ r.
+        let E = extension AB.F.ring AB.F.eq AB.EF.ring AB.EF.eq AB.EF.embed AB.EF.inverse in
+        IsConstraint (λ x w. AB.ExprEF.value x (AB.seen_ext w)) AB.ExprEF.degree (AB.stands_for_ext builder.now) (fraction_constraint E lookup.now) r) }
+    ensures refused { IfErr result (λ e. (e ≡ AirError.Memory) ⊎ AB.window_refuses builder.now e) }
+{
+    let main = builder.main(alloc)?;
+    let permutation = builder.permutation(alloc)?;
+    let quotient = quotient_of(alloc, builder, &main, lookup)?;
+    let fraction = fraction_cell(builder, &permutation, lookup.column);
+    Ok(pinned(alloc, quotient, fraction)?)
+}
+
+/// Asserts the lookup's equation.
+pub fn eval_fraction<AB: PermutationAirBuilder>(
+    alloc: Global,
+    builder: &mut AB,
+    lookup: &Lookup<AB::F>,
+) -> Result<(), AirError>
+    requires lengths { HasEqualLengths lookup.now }
+    requires fits { IsWithin (AB.layout builder.old) lookup.now }
+    requires challenges { 2 * lookup.now.column + 1 < (AB.layout builder.old).num_permutation_challenges }
+    requires cell { lookup.now.column + 1 < (AB.layout builder.old).permutation_width }
+    ensures { let E = extension AB.F.ring AB.F.eq AB.EF.ring AB.EF.eq AB.EF.embed AB.EF.inverse in
+        Evaluates AB.accepts_ext AB.refuses_ext (λ b e. (e ≡ AirError.Memory) ⊎ AB.window_refuses b e)
+        (IsConstraint (λ x w. AB.ExprEF.value x (AB.seen_ext w)) AB.ExprEF.degree (AB.stands_for_ext builder.old))
+        builder.old (fraction_constraint E lookup.now ∷ []) result builder.new }
+{
+    let constraint = fraction_expression(alloc, &*builder, lookup)?;
+    builder.assert_zero_ext(alloc, constraint)
+}

@@ -1,0 +1,32 @@
+-- Records that are well formed and expressions that fit, one after another.
+use Rattle.std.proofs.Common.{◌≡◌, ◌⊎◌, ℕ, ◌+◌, ◌<◌, ◌≤◌, List, length, get_or, All, Some, inl, inr, arith, subst, sym, ◌∙◌}
+use Rattle.std.proofs.lemmas.Bool.{cases_lt}
+use Rattle.std.specs.List.{slice_get}
+use Rattle.expressions.specs.declared.layout.AirLayout.{AirLayout}
+use Rattle.expressions.specs.declared.base_expression.SymbolicExpression.{SymbolicExpression}
+use Rattle.expressions.specs.Layout.{Fits}
+use Rattle.expressions.specs.Tree.{tree_of}
+use Rattle.lookup_model.specs.Records.{AllFit, AreRecordsBelow, IsRecordAt}
+use Rattle.lookup_model.specs.declared.types.Lookup.{Lookup}
+
+-- one more well formed record
+pub AreRecordsBelow-more : {F : Type 0} (lookups : List (Lookup F)) (i : ℕ) (lookup : Lookup F) → AreRecordsBelow i lookups → slice_get lookups i ≡ Some lookup → IsRecordAt i lookup → AreRecordsBelow (i + 1) lookups
+AreRecordsBelow-more {F} lookups i lookup below is_there is k other k_below k_is = by_place (cases_lt k i)
+  where
+    by_place : (k < i) ⊎ (i ≤ k) → IsRecordAt k other
+    by_place (inl lt) = below k other lt k_is
+    by_place (inr le) =
+        let e : k ≡ i = omega arith in
+        let same : slice_get lookups i ≡ Some other = subst (λ (n : ℕ). slice_get lookups n ≡ Some other) e k_is in
+        let other_is : lookup ≡ other = cc (sym is_there ∙ same) in
+        subst (λ (n : ℕ). IsRecordAt n other) (sym e) (subst (λ (l : Lookup F). IsRecordAt i l) other_is is)
+
+module _ {A : Type 0} where
+  -- what holds of every item holds of the one at a place
+  pub All-at : (P : A → Type 0) (xs : List A) (i : ℕ) (x : A) → All P xs → i < length xs → x ≡ get_or xs i x → P x
+  All-at P xs i x all lt is = subst P (sym is) (all i x lt)
+
+-- an expression of a list that fits
+pub Fits-at : {F : Type 0} (layout : AirLayout) (es : List (SymbolicExpression F)) (i : ℕ) (e : SymbolicExpression F) → AllFit layout es → i < length es → e ≡ get_or es i e → Fits layout (tree_of e)
+unfolding AllFit
+Fits-at layout es i e all lt is = All-at (λ x. Fits layout (tree_of x)) es i e all lt is

@@ -1,0 +1,12 @@
+//! What lookups are and what they mean: their types, their refusals, which of them fit an AIR, and,
+//! in `specs/`, the messages that they send, the plain result of generation and the equations of a
+//! satisfied witness (LogUp, eprint 2022/1530).
+#![tactic(auto)]
+
+mod error;
+mod fitting;
+mod types;
+
+pub use error::LookupError;
+pub use fitting::{first_malformed, fits};
+pub use types::{Kind, Lookup, LookupTerminal};

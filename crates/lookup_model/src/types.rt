@@ -1,0 +1,47 @@
+//! Lookups and their parts.
+ghost use Rattle.std.specs.Prelude.{◌≡◌};
+
+use expressions::SymbolicExpression;
+use field::PrimeCharacteristicRing;
+
+/// Whether a lookup stands by itself or is sent on a bus.
+#[derive(Debug, Drop, PartialEq, Eq)]
+pub enum Kind {
+    /// A lookup inside one AIR.
+    Local,
+    /// A lookup on the bus of this name, which other AIRs share.
+    Global(String),
+}
+
+/// One lookup: on each row its tuples, each with a multiplicity.
+///
+/// Without `flags` (additive) a row sends every tuple with its multiplicity. With `flags`
+/// (exclusive), one for each tuple, a row sends the tuple and the multiplicity whose flag is set.
+#[derive(Debug, Drop)]
+pub struct Lookup<F> {
+    /// Local, or global on a named bus.
+    pub kind: Kind,
+    /// The tuples, each a list of expressions.
+    pub elements: Vec<Vec<SymbolicExpression<F>>>,
+    /// One signed multiplicity for each tuple.
+    pub multiplicities: Vec<SymbolicExpression<F>>,
+    /// How much the queries of one row add to a count at most, in absolute value.
+    pub count_weight: u32,
+    /// The place of the lookup in its AIR: its fractions stand in auxiliary column `column + 1`.
+    pub column: usize,
+    /// One flag for each tuple, where the lookup is exclusive.
+    pub flags: Option<Vec<SymbolicExpression<F>>>,
+}
+
+/// The sum of all fractions of one AIR, which its prover hands over.
+#[derive(Clone, Copy, Debug)]
+pub struct LookupTerminal<F>(pub F);
+
+/// Zero, the terminal of an AIR that sends nothing.
+impl<F: PrimeCharacteristicRing> Default for LookupTerminal<F> {
+    ghost is_default = { λ terminal. terminal.0 ≡ F.ring.zero };
+
+    fn default() -> LookupTerminal<F> {
+        LookupTerminal(F::ZERO)
+    }
+}

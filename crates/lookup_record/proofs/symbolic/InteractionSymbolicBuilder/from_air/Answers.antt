@@ -1,0 +1,8 @@
+use Rattle.std.proofs.Common.{inr}
+use Rattle.std.proofs.lemmas.Result.{err_from_is_err_and}
+use Rattle.lookup_record.proofs.symbolic.InteractionSymbolicBuilder.from_air.Goals as goal
+
+pub returns-in_err-eval-clause-evaluates : goal.returns-in_err-eval-clause-evaluates
+returns-in_err-eval-clause-evaluates g c same =
+    let p = err_from_is_err_and c.from_residual-in_err-eval.result c.from_residual-in_err-eval.ensures.1 in
+    rw (p.1, p.2) (inr (c.in_ok-builder.builder, c.eval.new.builder, c.in_ok-builder.ensures.new, c.in_err-eval.ensures))
