@@ -1,4 +1,5 @@
 pub mod Evaluations
+pub mod ExtractionLaws
 pub mod FirstSeen
 pub mod Fractions
 pub mod KeyLaws

@@ -1,4 +1,5 @@
 pub mod Challenges
+pub mod Extraction
 pub mod Fraction
 pub mod Lookups
 pub mod PlainProgram

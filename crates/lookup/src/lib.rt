@@ -8,6 +8,7 @@
 
 mod challenges;
 mod evaluation;
+mod extraction;
 mod fraction;
 mod generation;
 pub mod logup;
@@ -18,9 +19,11 @@ pub mod protocol;
 mod tests;
 mod trace_builder;
 pub mod traits;
+mod widths;
 
 pub use challenges::Challenges;
 pub use logup::LogUpGadget;
 pub use lookup_model::{Kind, Lookup, LookupError, LookupTerminal, fits};
 pub use lookups::Lookups;
 pub use protocol::LookupProtocol;
+pub use widths::assert_uniform_tuple_width;

@@ -1,11 +1,15 @@
 //! The lookups of one AIR.
 ghost use Rattle.std.specs.Prelude.{◌≡◌, ◌↔◌, ℕ, IsTrue, MatchResult};
 ghost use Rattle.std.specs.List.{sum_by};
+ghost use Rattle.expressions.specs.Layout.{layout_of_widths};
 ghost use Rattle.lookup_model.specs.Records.{AreRecords, DoFit, IsFirstMalformed};
 
-use air::AirLayout;
-use field::Field;
+use crate::extraction;
+use air::{Air, AirLayout};
+use field::{ExtensionField, Field};
 use lookup_model::{Lookup, LookupError};
+use lookup_record::InteractionSymbolicBuilder;
+use std::alloc::Global;
 
 /// The lookups of one AIR: each has as many multiplicities, and flags where it has flags, as
 /// tuples, and their columns are 0, 1, 2 and on.
@@ -16,7 +20,28 @@ pub struct Lookups<F> {
 }
 
 impl<F: Field> Lookups<F> {
+    ghost use Rattle.lookup.specs.Extraction.{Extracts};
     ghost use Rattle.lookup.specs.Lookups.{lookups_of};
+
+    /// The lookups that an AIR records in a new builder with its own layout: local ones, then those
+    /// on buses, then groups, each in the order of their pushes, in the columns 0, 1, 2 and on.
+    ///
+    /// The weight of a local lookup is the sum over its tuples, that of a group the greatest of its
+    /// branches, 0 without branches. Refuses what the AIR refuses; then, at the first local lookup
+    /// with a fault, `CountWeightOverflow` where its weights do not fit, or `TupleWidths` where its
+    /// tuples have two widths; and want of memory by its own name.
+    pub fn from_air<EF: ExtensionField<F>, A: Air<InteractionSymbolicBuilder<F, EF>>>(
+        alloc: Global,
+        air: &A,
+    ) -> Result<Self, LookupError>
+        ensures { Extracts A.evaluates air.now (layout_of_widths (A.width air.now) (A.preprocessed_width air.now) (A.num_public_values air.now)) result }
+    {
+        let layout = AirLayout::from_air(air);
+        let builder = InteractionSymbolicBuilder::from_air(alloc, air, layout)?;
+        let (locals, globals, exclusives) = builder.into_interactions();
+        let lookups = extraction::extracted(alloc, locals, globals, exclusives)?;
+        Ok(Lookups { lookups })
+    }
 
     /// The set of these lookups, as they are given.
     ///

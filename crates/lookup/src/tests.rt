@@ -1,6 +1,7 @@
 //! Calls over concrete fields.
 mod evaluation;
 mod windows;
+mod witnesses;
 
 use crate::plain::PlainMessage;
 use crate::traits::LookupTraceBuilder;

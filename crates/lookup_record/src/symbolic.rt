@@ -101,6 +101,26 @@ impl<F: Field, EF: ExtensionField<F>> InteractionSymbolicBuilder<F, EF> {
         self.exclusive_interactions.as_slice()
     }
 
+    /// The local lookups, the messages on buses and the groups, each in the order in which they were
+    /// pushed. The constraints and the indexed declarations are dropped.
+    pub fn into_interactions(
+        self,
+    ) -> (
+        Vec<SymbolicLocalInteraction<F>>,
+        Vec<SymbolicInteraction<F>>,
+        Vec<SymbolicExclusiveInteraction<F>>,
+    )
+        ensures locals { map local_of result.0.items ≡ (recorded_air self).locals }
+        ensures globals { map global_of result.1.items ≡ (recorded_air self).globals }
+        ensures exclusives { map exclusive_of result.2.items ≡ (recorded_air self).exclusives }
+    {
+        (
+            self.local_interactions,
+            self.global_interactions,
+            self.exclusive_interactions,
+        )
+    }
+
     /// The readers, in the order in which they were declared.
     pub fn indexed_reads(&self) -> &[IndexedRead]
         ensures { map read_of result.now ≡ (recorded_air self.now).reads }

@@ -7,7 +7,7 @@ use air::{
     Air, AirError, AirLayout, BaseAir, DebugConstraintBuilder, Expression, PermutationAirBuilder,
     RowInputs, SymbolicAirBuilder, SymbolicExpression, check_rows,
 };
-use field::{BabyBear, BabyBear4, F7, PrimeCharacteristicRing};
+use field::{F7, Field, PrimeCharacteristicRing};
 use matrix::{RowMajorMatrix, WindowAccess};
 use std::alloc::Global;
 use std::process::Abort;
@@ -30,7 +30,7 @@ fn layout_of<AB: PermutationAirBuilder>(alloc: Global, builder: &AB) -> Result<A
 }
 
 /// Evaluates lookups, for which the builder has to have room.
-fn evaluated<AB: PermutationAirBuilder>(
+pub(super) fn evaluated<AB: PermutationAirBuilder>(
     rt: &impl Abort,
     alloc: Global,
     builder: &mut AB,
@@ -46,10 +46,10 @@ fn evaluated<AB: PermutationAirBuilder>(
 
 /// An AIR whose constraints are those of its lookups.
 #[derive(Drop)]
-struct LookupsAir<'a, R, F> {
-    rt: &'a R,
-    lookups: &'a [Lookup<F>],
-    width: usize,
+pub(super) struct LookupsAir<'a, R, F> {
+    pub(super) rt: &'a R,
+    pub(super) lookups: &'a [Lookup<F>],
+    pub(super) width: usize,
 }
 
 impl<R, F> BaseAir<F> for LookupsAir<'_, R, F> {
@@ -84,21 +84,8 @@ impl<'b, R: Abort> Air<DebugConstraintBuilder<'b, F7, F7>> for LookupsAir<'_, R,
     }
 }
 
-impl<'b, R: Abort> Air<DebugConstraintBuilder<'b, BabyBear, BabyBear4>>
-    for LookupsAir<'_, R, BabyBear> {
-    ghost evaluates = { λ _ _ _ _. ⊤ };
-
-    fn eval(
-        &self,
-        alloc: Global,
-        builder: &mut DebugConstraintBuilder<'b, BabyBear, BabyBear4>,
-    ) -> Result<(), AirError> {
-        evaluated(self.rt, alloc, builder, self.lookups)
-    }
-}
-
 /// A matrix of these numbers, row after row.
-fn trace<F: PrimeCharacteristicRing>(
+pub(super) fn trace<F: PrimeCharacteristicRing>(
     rt: &impl Abort,
     alloc: Global,
     numbers: &[u32],
@@ -115,7 +102,7 @@ fn trace<F: PrimeCharacteristicRing>(
 
 /// The lookup of the range machine: cell 0 with count 1, and cell 1 with the count of cell 2 taken
 /// away.
-fn range<F: field::Field>(alloc: Global, column: usize) -> Result<Lookup<F>, Fail> {
+pub(super) fn range<F: Field>(alloc: Global, column: usize) -> Result<Lookup<F>, Fail> {
     let mut read = Vec::new(alloc);
     read.push(cell(0))?;
     let mut provide = Vec::new(alloc);
@@ -130,7 +117,7 @@ fn range<F: field::Field>(alloc: Global, column: usize) -> Result<Lookup<F>, Fai
 }
 
 /// No preprocessed trace beside this one.
-fn no_preprocessed<'a, F>(_main: &'a RowMajorMatrix<F>) -> Option<&'a RowMajorMatrix<F>>
+pub(super) fn no_preprocessed<'a, F>(_main: &'a RowMajorMatrix<F>) -> Option<&'a RowMajorMatrix<F>>
     ensures { result ≡ None }
 {
     None
@@ -252,75 +239,6 @@ fn a_zero_multiplicity_on_a_point_frees_the_fraction(rt: HostRuntime) -> Result<
     assert!(rt; is_accepted(&rt, alloc, &[0, 0], 0)?);
     assert!(rt; !is_accepted(&rt, alloc, &[0, 0], 6)?);
     assert!(rt; !is_accepted(&rt, alloc, &[1, 0], 1)?);
-    Ok(())
-}
-
-/// Whether a witness over the quartic extension is accepted, for two lookups of three cells.
-fn refusal_in_extension<'a, R: Abort>(
-    rt: &'a R,
-    alloc: Global,
-    main: &'a RowMajorMatrix<BabyBear>,
-    lookups: &'a [Lookup<BabyBear>],
-    challenges: &'a [BabyBear4],
-    auxiliary: &'a RowMajorMatrix<BabyBear4>,
-    terminal: BabyBear4,
-) -> Option<AirError> {
-    assert!(rt; auxiliary.height() == main.height());
-    let terminals = [terminal];
-    let inputs = RowInputs {
-        main,
-        preprocessed: no_preprocessed(main),
-        public_values: &[],
-        permutation: auxiliary,
-        challenges,
-        permutation_values: terminals.as_slice(),
-    };
-    let air = LookupsAir {
-        rt,
-        lookups,
-        width: main.width(),
-    };
-    check_rows(alloc, &air, &inputs).err()
-}
-
-#[test]
-fn generated_traces_of_two_lookups_are_accepted(rt: HostRuntime) -> Result<(), Fail> {
-    let alloc = rt.alloc();
-    let numbers = [3, 9, 2, 9, 3, 0, 7, 7, 1, 9, 2, 0];
-    let main = trace(&rt, alloc, &numbers, 3)?;
-    let lookups = [range(alloc, 0)?, single(alloc, 3, 1)?];
-    let number = BabyBear::new;
-    let alpha = BabyBear4::new([number(5), number(1), number(0), number(2)]);
-    let beta = BabyBear4::new([number(11), number(0), number(4), number(3)]);
-    let challenges = [alpha, beta, beta, alpha];
-    let (auxiliary, terminal) = generated(
-        &rt,
-        alloc,
-        &main,
-        lookups.as_slice(),
-        challenges.as_slice(),
-    )?;
-    let terminal = terminal.map_or(BabyBear4::ZERO, |terminal| terminal.0);
-    let refused = refusal_in_extension(
-        &rt,
-        alloc,
-        &main,
-        lookups.as_slice(),
-        challenges.as_slice(),
-        &auxiliary,
-        terminal,
-    );
-    assert!(rt; refused == None);
-    let refused = refusal_in_extension(
-        &rt,
-        alloc,
-        &main,
-        lookups.as_slice(),
-        challenges.as_slice(),
-        &auxiliary,
-        terminal + BabyBear4::ONE,
-    );
-    assert!(rt; refused == Some(AirError::Assertion { row: 3 }));
     Ok(())
 }
 

@@ -1,0 +1,181 @@
+-- Lookups that are extracted one after another.
+use Rattle.std.proofs.Common.{◌≡◌, ◌≢◌, ◌⊎◌, Result, ℕ, suc, Option, None, ◌+◌, ◌<◌, ◌≤◌, List, [], ◌∷◌, ◌++◌, length, map, get_or, All, Some, inl, inr, arith, refl, ap, subst, sym, ◌∙◌}
+use Rattle.std.proofs.Math.ListN.{get_or-append}
+use Rattle.std.proofs.Math.Seq.{get_or-append_seam}
+use Rattle.std.proofs.lemmas.Bool.{cases_lt, eq-eqb}
+use Rattle.std.proofs.lemmas.List.{append_assoc, append-nil, length-append, length-map, map_push}
+use Rattle.std.proofs.lemmas.List.Elements.{All-cons}
+use Rattle.std.proofs.lemmas.List.FromFn.{length-enumerate_from}
+use Rattle.std.proofs.lemmas.Option.{get_or_from_slice_get, slice_get-get_or, slice_get-map}
+use Rattle.std.specs.List.{enumerate_from, slice_get}
+use Rattle.std.specs.Option.{option_map}
+use Rattle.expressions.specs.Layout.{first_mismatch, layout_of_widths}
+use Rattle.lookup_model.specs.HornerRule.{map-map}
+use Rattle.lookup_model.specs.Records.{AreRecords, IsRecordAt}
+use Rattle.lookup_model.specs.declared.error.LookupError.{LookupError}
+use Rattle.lookup_model.specs.declared.types.Lookup.{Lookup}
+use Rattle.expressions.specs.declared.error.AirError.{AirError}
+use Rattle.expressions.specs.declared.layout.AirLayout.{AirLayout}
+use Rattle.lookup_record.specs.RecordedAir.{EvaluatesNew}
+use Rattle.lookup_record.specs.declared.symbolic.InteractionSymbolicBuilder.{InteractionSymbolicBuilder}
+use Rattle.lookup_record.specs.Interaction.{Tuple, GlobalInteraction, ExclusiveInteraction}
+use Rattle.lookup.specs.Extraction.{SeenLookup, exclusive_at, extraction, global_at, in_columns, local_at, tuple_widths, HasOtherWidth, IsFaultless, IsFirstLocalRefusal, IsLocalRefusal}
+
+-- a list is one longer with one more item
+length_push : {A : Type 0} (xs : List A) (x : A) → length (xs ++ x ∷ []) ≡ length xs + 1
+length_push xs x = length-append xs (x ∷ [])
+
+-- one more lookup, in the next column
+pub next_column : {L M E : Type 0} (seen : L → SeenLookup E) (lookup_at : ℕ → M → SeenLookup E) (lookups : List L) (l : L) (m : M) (rest : List M) → seen l ≡ lookup_at (length lookups) m
+    → map seen (lookups ++ l ∷ []) ++ in_columns lookup_at (length (lookups ++ l ∷ [])) rest ≡ map seen lookups ++ in_columns lookup_at (length lookups) (m ∷ rest)
+next_column seen lookup_at lookups l m rest is =
+    (λ i. map_push seen lookups l i ++ in_columns lookup_at (length_push lookups l i) rest)
+    ∙ append_assoc (map seen lookups) (seen l ∷ []) (in_columns lookup_at (length lookups + 1) rest)
+    ∙ ap (λ s. map seen lookups ++ s ∷ in_columns lookup_at (length lookups + 1) rest) is
+
+-- one more well formed record
+pub AreRecords-push : {F : Type 0} (lookups : List (Lookup F)) (l : Lookup F) → AreRecords lookups → IsRecordAt (length lookups) l → AreRecords (lookups ++ l ∷ [])
+AreRecords-push {F} lookups l records record_at i lookup lt there = by_place (cases_lt i (length lookups))
+  where
+    found : get_or (lookups ++ l ∷ []) i lookup ≡ lookup
+    found = get_or_from_slice_get (lookups ++ l ∷ []) i lookup lookup there
+
+    by_place : (i < length lookups) ⊎ (length lookups ≤ i) → IsRecordAt i lookup
+    by_place (inl below) =
+        records i lookup below (slice_get-get_or lookups i lookup below ∙ ap Some (sym (get_or-append lookups (l ∷ []) lookup i below) ∙ found))
+    by_place (inr above) =
+        let last : i ≡ length lookups = omega (arith, lt, above, length_push lookups l) in
+        let same : l ≡ lookup = sym (get_or-append_seam lookups l [] lookup) ∙ ap (λ n. get_or (lookups ++ l ∷ []) n lookup) (sym last) ∙ found in
+        subst (λ (n : ℕ). IsRecordAt n lookup) (sym last) (subst (λ (x : Lookup F). IsRecordAt (length lookups) x) same record_at)
+
+module _ {E : Type 0} where
+  -- the first refusal after a local interaction without a fault
+  pub refused_later : (tuples : List (Tuple E)) (rest : List (List (Tuple E))) (e : LookupError) → IsFaultless tuples → IsFirstLocalRefusal rest e → IsFirstLocalRefusal (tuples ∷ rest) e
+  refused_later tuples rest e faultless first = record {
+    before = tuples ∷ first.before;
+    tuples = first.tuples;
+    after = first.after;
+    split = ap (λ t. tuples ∷ t) first.split;
+    faultless = All-cons IsFaultless tuples first.before faultless first.faultless;
+    refusal = first.refusal;
+  }
+
+  -- the refusal of the first one
+  pub refused_first : (tuples : List (Tuple E)) (rest : List (List (Tuple E))) (e : LookupError) → IsLocalRefusal tuples e → IsFirstLocalRefusal (tuples ∷ rest) e
+  refused_first tuples rest e refusal = record {
+    before = [];
+    tuples = tuples;
+    after = rest;
+    split = refl;
+    faultless = λ i d lt. absurd (omega (arith, lt));
+    refusal = refusal;
+  }
+
+module _ {L M R E : Type 0} (seen : L → SeenLookup E) (lookup_at : ℕ → M → SeenLookup E) (seen_interaction : R → M) where
+  -- what is seen of the lookups so far and of the interactions that are left stays the same
+  pub next_seen : (before after : List L) (l : L) (left later : List R) (x : R) (column : ℕ) → after ≡ before ++ l ∷ [] → left ≡ x ∷ later → column ≡ length before → seen l ≡ lookup_at column (seen_interaction x)
+      → map seen after ++ in_columns lookup_at (length after) (map seen_interaction later) ≡ map seen before ++ in_columns lookup_at (length before) (map seen_interaction left)
+  next_seen before after l left later x column pushed next at is =
+      (λ i. map seen (pushed i) ++ in_columns lookup_at (length (pushed i)) (map seen_interaction later))
+      ∙ next_column seen lookup_at before l (seen_interaction x) (map seen_interaction later) (is ∙ ap (λ n. lookup_at n (seen_interaction x)) at)
+      ∙ ap (λ t. map seen before ++ in_columns lookup_at (length before) (map seen_interaction t)) (sym next)
+
+-- the lookups with one more are well formed
+pub next_records : {F : Type 0} (before after : List (Lookup F)) (l : Lookup F) (column : ℕ) → after ≡ before ++ l ∷ [] → column ≡ length before → AreRecords before → IsRecordAt column l → AreRecords after
+next_records {F} before after l column pushed at records record_at =
+    subst (λ (t : List (Lookup F)). AreRecords t) (sym pushed) (AreRecords-push before l records (subst (λ (n : ℕ). IsRecordAt n l) at record_at))
+
+-- as many lookups as interactions
+length-in_columns : {M E : Type 0} (lookup_at : ℕ → M → SeenLookup E) (n : ℕ) (interactions : List M) → length (in_columns lookup_at n interactions) ≡ length interactions
+length-in_columns lookup_at n interactions =
+    length-map (enumerate_from n interactions) (λ p. lookup_at p.0 p.1) ∙ length-enumerate_from n interactions
+
+module _ {L E : Type 0} (seen : L → SeenLookup E) where
+  length-seen : (lookups : List L) (list : List (SeenLookup E)) → map seen lookups ≡ list → length lookups ≡ length list
+  length-seen lookups list e = sym (length-map lookups seen) ∙ ap length e
+
+  -- the three kinds one after another are the extraction
+  pub extraction_of_three : (one two three : List L) (locals : List (List (Tuple E))) (globals : List (GlobalInteraction E)) (exclusives : List (ExclusiveInteraction E))
+      → map seen one ≡ in_columns local_at 0 locals → map seen two ≡ map seen one ++ in_columns global_at (length one) globals → map seen three ≡ map seen two ++ in_columns exclusive_at (length two) exclusives
+      → map seen three ≡ extraction locals globals exclusives
+  extraction_of_three one two three locals globals exclusives first second third =
+      let length_one : length one ≡ length locals = length-seen one (in_columns local_at 0 locals) first ∙ length-in_columns local_at 0 locals in
+      let both : map seen two ≡ in_columns local_at 0 locals ++ in_columns global_at (length locals) globals =
+      second ∙ (λ i. first i ++ in_columns global_at (length_one i) globals) in
+      let length_two : length two ≡ length locals + length globals =
+      length-seen two (in_columns local_at 0 locals ++ in_columns global_at (length locals) globals) both
+      ∙ length-append (in_columns local_at 0 locals) (in_columns global_at (length locals) globals)
+      ∙ (λ i. length-in_columns local_at 0 locals i + length-in_columns global_at (length locals) globals i) in
+      third ∙ (λ i. both i ++ in_columns exclusive_at (length_two i) exclusives)
+
+-- where nothing is left, what is there is the whole
+pub whole_list : {A B : Type 0} (f : A → B) (xs ys : List B) (rest : List A) → rest ≡ [] → xs ++ map f rest ≡ ys → xs ≡ ys
+whole_list f xs ys rest none e =
+    sym (append-nil xs) ∙ ap (λ r. xs ++ map f r) (sym none) ∙ e
+
+-- likewise of lookups
+pub all_seen : {L M E : Type 0} (seen : L → SeenLookup E) (lookup_at : ℕ → M → SeenLookup E) (lookups : List L) (rest : List M) (list : List (SeenLookup E)) → rest ≡ [] → map seen lookups ++ in_columns lookup_at (length lookups) rest ≡ list → map seen lookups ≡ list
+all_seen seen lookup_at lookups rest list none e =
+    sym (append-nil (map seen lookups)) ∙ ap (λ r. map seen lookups ++ in_columns lookup_at (length lookups) r) (sym none) ∙ e
+
+module _ {A E : Type 0} (items : A → List E) where
+  -- lists of one width, as the fields of tuples
+  pub widths_of_tuples : (vs : List A) (tuples : List (Tuple E)) (width : ℕ) → map items vs ≡ map (λ t. t.fields) tuples → All (λ v. length (items v) ≡ width) vs → All (λ t. length t.fields ≡ width) tuples
+  widths_of_tuples [] [] width e all = λ k d lt. absurd (omega (arith, lt))
+  widths_of_tuples [] (t ∷ ts) width e all = absurd (cc e)
+  widths_of_tuples (v ∷ vs) [] width e all = absurd (cc e)
+  widths_of_tuples (v ∷ vs) (t ∷ ts) width e all =
+      let head : items v ≡ t.fields = cc e in
+      let tail : map items vs ≡ map (λ s. s.fields) ts = cc e in
+      All-cons (λ s. length s.fields ≡ width) t ts (sym (ap length head) ∙ all 0 v (omega arith)) (widths_of_tuples vs ts width tail (λ k d lt. all (suc k) d (omega (arith, lt))))
+
+  -- their widths are those of the tuples
+  pub same_widths : (vs : List A) (tuples : List (Tuple E)) → map items vs ≡ map (λ t. t.fields) tuples → map (λ v. length (items v)) vs ≡ tuple_widths tuples
+  same_widths vs tuples e =
+      sym (map-map length items vs) ∙ ap (map length) e ∙ map-map length (λ t. t.fields) tuples
+
+-- the first list whose length differs from that of the first one
+pub other_width : {A : Type 0} (f : A → ℕ) (xs : List A) (i : ℕ) (first x : A) (width other : ℕ) → slice_get xs 0 ≡ Some first → f first ≡ width → slice_get xs i ≡ Some x → f x ≡ other → other ≢ width
+    → ((j : ℕ) (t : A) → j < i → slice_get xs j ≡ Some t → f t ≡ width) → HasOtherWidth (map f xs) width other
+other_width {A} f xs i first x width other at_first first_is at_x x_is differs below = record {
+  place = i;
+  first = slice_get-map f xs 0 ∙ ap (option_map f) at_first ∙ ap Some first_is;
+  differs = differs;
+  found = slice_get-map f xs i ∙ ap (option_map f) at_x ∙ ap Some x_is;
+  before = λ j v lt there. by_item j v lt (slice_get xs j) refl (sym (slice_get-map f xs j) ∙ there);
+}
+  where
+    by_item : (j v : ℕ) → j < i → (o : Option A) → slice_get xs j ≡ o → option_map f o ≡ Some v → v ≡ width
+    by_item j v lt None is there = absurd (cc there)
+    by_item j v lt (Some t) is there =
+        let value : f t ≡ v = cc there in sym value ∙ below j t lt is
+
+-- two lists that read off one list are equally long
+pub same_lengths : {A B C T : Type 0} (items : A → B) (f : T → B) (g : T → C) (vs : List A) (ms : List C) (ts : List T) → map items vs ≡ map f ts → ms ≡ map g ts → length ms ≡ length vs
+same_lengths items f g vs ms ts vs_are ms_are =
+    ap length ms_are ∙ length-map ts g ∙ sym (length-map ts f) ∙ sym (ap length vs_are) ∙ length-map vs items
+
+-- what holds of the items below a place and of the one there
+pub holds_below : {A : Type 0} (P : A → Type 0) (xs : List A) (n : ℕ) (x : A) → n < length xs → x ≡ get_or xs n x → P x → ((i : ℕ) (t : A) → i < n → slice_get xs i ≡ Some t → P t)
+    → (i : ℕ) (t : A) → i < n + 1 → slice_get xs i ≡ Some t → P t
+holds_below {A} P xs n x lt is here below i t next there = by_place (cases_lt i n)
+  where
+    by_place : (i < n) ⊎ (n ≤ i) → P t
+    by_place (inl less) = below i t less there
+    by_place (inr least) =
+        let same : i ≡ n = omega arith in
+        let found : slice_get xs n ≡ Some t = subst (λ (m : ℕ). slice_get xs m ≡ Some t) same there in
+        let equal : x ≡ t = cc (ap Some is ∙ sym (slice_get-get_or xs n x lt) ∙ found) in
+        subst P equal here
+
+-- the layout of an AIR's own widths has them
+pub no_mismatch : (main preprocessed public_values : ℕ) → first_mismatch main preprocessed public_values (layout_of_widths main preprocessed public_values) ≡ None
+no_mismatch main preprocessed public_values =
+    rw (eq-eqb main main refl, eq-eqb preprocessed preprocessed refl, eq-eqb public_values public_values refl) refl
+
+-- an evaluation for a layout that is the AIR's own
+pub evaluated_as : {A F EF : Type 0} (evaluates : A → InteractionSymbolicBuilder F EF → Result (Unit {0}) AirError → InteractionSymbolicBuilder F EF → Type 0) (air : A) (main preprocessed public_values : ℕ) (layout : AirLayout) (answer : Result (InteractionSymbolicBuilder F EF) AirError)
+    → layout ≡ layout_of_widths main preprocessed public_values → (first_mismatch main preprocessed public_values layout ≡ None → EvaluatesNew evaluates air layout answer)
+    → EvaluatesNew evaluates air (layout_of_widths main preprocessed public_values) answer
+evaluated_as evaluates air main preprocessed public_values layout answer is given =
+    subst (λ (l : AirLayout). EvaluatesNew evaluates air l answer) is (given (ap (first_mismatch main preprocessed public_values) is ∙ no_mismatch main preprocessed public_values))

@@ -1,0 +1,12 @@
+use Rattle.std.proofs.Common.{◌≡◌, length, ◌∙◌, arith}
+use Rattle.lookup_record.specs.Records.{exclusive_of}
+use Rattle.lookup.specs.Extraction.{exclusive_at, seen_lookup}
+use Rattle.lookup.proofs.ExtractionLaws.{next_records, next_seen}
+use Rattle.lookup.proofs.extraction.with_exclusives.Goals as goal
+
+pub loop-interaction-preserved : goal.loop-interaction-preserved
+loop-interaction-preserved g c =
+    let made = c.in_ok-exclusive_lookup.ensures in
+    let pushed = c.in_ok-push.ensures.items in
+    let column : c.len-column.result ≡ length c.loop-interaction.lookups.items = omega (arith, c.len-column.ensures, c.loop-interaction.lookups.ok.0) in
+    (next_seen seen_lookup exclusive_at exclusive_of _ _ _ _ _ _ _ pushed c.in-Some.ensures.steps.0 column made.0 ∙ c.loop-interaction.invariant.0, next_records _ _ _ _ pushed column c.loop-interaction.invariant.1 made.1)

@@ -1,0 +1,30 @@
+use Rattle.std.proofs.Common.{Ok, Err, List, All, inl, inr, refl, subst, ◌∙◌}
+use Rattle.std.proofs.lemmas.Result.{err_from_is_err_and}
+use Rattle.lookup_record.specs.Interaction.{Tuple}
+use Rattle.lookup.specs.Extraction.{IsFaultless, IsFirstLocalRefusal, extraction}
+use Rattle.lookup.proofs.ExtractionLaws.{evaluated_as}
+use Rattle.lookup.proofs.lookups.Lookups.from_air.Goals as goal
+
+pub returns-in_err-builder : goal.returns-in_err-builder
+returns-in_err-builder g c =
+    let refusal = c.in_err-builder.field-0.0 in
+    let evaluated = evaluated_as g.A.Air.evaluates c.args.air.now _ _ _ c.from_air-layout.result (Err refusal) c.from_air-layout.ensures c.in_err-builder.ensures.evaluates in
+    let p = err_from_is_err_and c.from_residual.result c.from_residual.ensures.1 in
+    rw (p.1, p.2) (inr (inl (refusal, evaluated, refl)))
+
+pub returns-in_err-lookups : goal.returns-in_err-lookups
+returns-in_err-lookups g c =
+    let builder = c.in_ok-builder.builder in
+    let evaluated = evaluated_as g.A.Air.evaluates c.args.air.now _ _ _ c.from_air-layout.result (Ok builder) c.from_air-layout.ensures c.in_ok-builder.ensures.evaluates in
+    let p = err_from_is_err_and c.from_residual-in_err-lookups.result c.from_residual-in_err-lookups.ensures.1 in
+    rw (p.1, p.2) (elim c.in_err-lookups.ensures [
+      | inl memory ↦ inl memory
+      | inr refusal ↦ inr (inr (builder, evaluated, subst (λ (t : List (List (Tuple _))). IsFirstLocalRefusal t c.in_err-lookups.field-0.0) c.into_interactions-locals.ensures.locals refusal))
+    ])
+
+pub returns : goal.returns
+returns g c =
+    let builder = c.in_ok-builder.builder in
+    let evaluated = evaluated_as g.A.Air.evaluates c.args.air.now _ _ _ c.from_air-layout.result (Ok builder) c.from_air-layout.ensures c.in_ok-builder.ensures.evaluates in
+    let parts = c.into_interactions-locals.ensures in
+    (builder, evaluated, c.in_ok-lookups.ensures.0 ∙ (λ i. extraction (parts.locals i) (parts.globals i) (parts.exclusives i)), subst (λ (t : List (List (Tuple _))). All IsFaultless t) parts.locals c.in_ok-lookups.ensures.1)

@@ -1,0 +1,148 @@
+-- The lookups that are extracted from the records of an AIR.
+use Rattle.std.specs.Prelude.{◌≡◌, ◌≢◌, ◌+◌, ◌<◌, ◌≤◌, ◌⊎◌, ℕ, List, [], ◌∷◌, ◌++◌, length, map, Option, None, Some, slice_get, All, Result, Ok, Err, MatchResult}
+use Rattle.std.specs.List.{enumerate_from, sum_by}
+use Rattle.std.specs.Option.{option_map}
+use Rattle.std.specs.String.{string_bytes}
+use Rattle.std.specs.declared.alloc.Global.{Global}
+use Rattle.std.specs.declared.string.String.{String}
+use Rattle.expressions.specs.declared.base_expression.SymbolicExpression.{SymbolicExpression}
+use Rattle.expressions.specs.declared.error.AirError.{AirError}
+use Rattle.expressions.specs.declared.layout.AirLayout.{AirLayout}
+use Rattle.lookup_model.specs.LookupDegree.{greatest}
+use Rattle.lookup_model.specs.Refusal.{from_air}
+use Rattle.lookup_model.specs.declared.error.LookupError.{LookupError}
+use Rattle.lookup_model.specs.declared.error.LookupError.TheVariants.{Memory, CountWeightOverflow, TupleWidths}
+use Rattle.lookup_model.specs.declared.types.Kind.{Kind}
+use Rattle.lookup_model.specs.declared.types.Kind.TheVariants as kind
+use Rattle.lookup_model.specs.declared.types.Lookup.{Lookup}
+use Rattle.lookup_record.specs.Interaction.{Tuple, GlobalInteraction, ExclusiveInteraction}
+use Rattle.lookup_record.specs.RecordedAir.{EvaluatesNew, recorded_air}
+use Rattle.lookup_record.specs.declared.symbolic.InteractionSymbolicBuilder.{InteractionSymbolicBuilder}
+use Rattle.lookup.specs.Lookups.{lookups_of}
+use Rattle.lookup.specs.declared.lookups.Lookups.{Lookups}
+
+-- a lookup as it is seen: a text as its bytes, a vector as a list, and no bus for a local one
+pub record SeenLookup (E : Type 0) : Type 0 where
+  pub bus : Option (List ℕ)
+  pub elements : List (List E)
+  pub multiplicities : List E
+  pub count_weight : ℕ
+  pub column : ℕ
+  pub flags : Option (List E)
+
+-- the bus of a kind
+abbrev pub bus_of : Kind → Option (List ℕ)
+bus_of kind.Local = None
+bus_of (kind.Global name) = Some (string_bytes name)
+
+-- what is seen of a lookup
+abbrev pub seen_lookup : {F : Type 0} → Lookup F → SeenLookup (SymbolicExpression F)
+seen_lookup l = record {
+  bus = bus_of l.kind;
+  elements = map (λ tuple. tuple.items) l.elements.items;
+  multiplicities = l.multiplicities.items;
+  count_weight = l.count_weight;
+  column = l.column;
+  flags = option_map (λ flags. flags.items) l.flags;
+}
+
+module _ {E : Type 0} where
+  -- the lookup of a local interaction, whose weight is the sum over its tuples
+  abbrev pub local_at : ℕ → List (Tuple E) → SeenLookup E
+  local_at column tuples = record {
+    bus = None;
+    elements = map (λ t. t.fields) tuples;
+    multiplicities = map (λ t. t.count) tuples;
+    count_weight = sum_by (λ t. t.weight) tuples;
+    column = column;
+    flags = None;
+  }
+
+  -- the lookup of a message on a bus, of one tuple
+  abbrev pub global_at : ℕ → GlobalInteraction E → SeenLookup E
+  global_at column m = record {
+    bus = Some m.bus_name;
+    elements = m.fields ∷ [];
+    multiplicities = m.count ∷ [];
+    count_weight = m.weight;
+    column = column;
+    flags = None;
+  }
+
+  -- the lookup of a group, whose weight is the greatest of its branches
+  abbrev pub exclusive_at : ℕ → ExclusiveInteraction E → SeenLookup E
+  exclusive_at column m = record {
+    bus = Some m.bus_name;
+    elements = map (λ b. b.fields) m.branches;
+    multiplicities = map (λ b. b.count) m.branches;
+    count_weight = greatest (map (λ b. b.weight) m.branches);
+    column = column;
+    flags = Some (map (λ b. b.flag) m.branches);
+  }
+
+  -- the lookups that a list of interactions makes, in the columns from n on
+  abbrev pub in_columns : {M : Type 0} → (ℕ → M → SeenLookup E) → ℕ → List M → List (SeenLookup E)
+  in_columns lookup_at n interactions =
+      map (λ p. lookup_at p.0 p.1) (enumerate_from n interactions)
+
+  -- local lookups, then messages on buses, then groups, in the columns 0, 1, 2 and on
+  abbrev pub extraction : List (List (Tuple E)) → List (GlobalInteraction E) → List (ExclusiveInteraction E) → List (SeenLookup E)
+  extraction locals globals exclusives =
+      (in_columns local_at 0 locals ++ in_columns global_at (length locals) globals)
+      ++ in_columns exclusive_at (length locals + length globals) exclusives
+
+-- the first of some widths, and the first of them that differs from it
+pub record HasOtherWidth (widths : List ℕ) (width other : ℕ) : Type 0 where
+  pub place : ℕ
+  pub first : slice_get widths 0 ≡ Some width
+  pub differs : other ≢ width
+  pub found : slice_get widths place ≡ Some other
+  pub before : (i v : ℕ) → i < place → slice_get widths i ≡ Some v → v ≡ width
+
+-- the refusal of two widths under a context
+pub record IsTupleWidths (context : List ℕ) (width other : ℕ) (e : LookupError) : Type 0 where
+  pub text : String Global
+  pub text_is : string_bytes text ≡ context
+  pub error_is : e ≡ TupleWidths text width other
+
+-- the bytes of `local lookup`
+abbrev pub local_context : List ℕ
+local_context = 108 ∷ 111 ∷ 99 ∷ 97 ∷ 108 ∷ 32 ∷ 108 ∷ 111 ∷ 111 ∷ 107 ∷ 117 ∷ 112 ∷ []
+
+module _ {E : Type 0} where
+  -- the widths of a local interaction's tuples
+  abbrev pub tuple_widths : List (Tuple E) → List ℕ
+  tuple_widths tuples = map (λ t. length t.fields) tuples
+
+  -- the weights of a local interaction have a sum that fits, and its tuples have one width
+  pub record IsFaultless (tuples : List (Tuple E)) : Type 0 where
+    pub weight : sum_by (λ t. t.weight) tuples < 4294967296
+    pub width : ℕ
+    pub widths : All (λ t. length t.fields ≡ width) tuples
+
+  -- the refusal of a local interaction: its weight comes before its widths
+  abbrev pub IsLocalRefusal : List (Tuple E) → LookupError → Type 0
+  IsLocalRefusal tuples e =
+      ((4294967296 ≤ sum_by (λ t. t.weight) tuples) × (e ≡ CountWeightOverflow))
+      ⊎ ((sum_by (λ t. t.weight) tuples < 4294967296)
+      × ((width : ℕ) × (other : ℕ) × HasOtherWidth (tuple_widths tuples) width other × IsTupleWidths local_context width other e))
+
+  -- the refusal of the first local interaction that has a fault
+  pub record IsFirstLocalRefusal (locals : List (List (Tuple E))) (e : LookupError) : Type 0 where
+    pub before : List (List (Tuple E))
+    pub tuples : List (Tuple E)
+    pub after : List (List (Tuple E))
+    pub split : locals ≡ before ++ tuples ∷ after
+    pub faultless : All IsFaultless before
+    pub refusal : IsLocalRefusal tuples e
+
+-- The answer is the extraction from what an evaluation of the AIR left in a new builder, or the
+-- first refusal: want of memory, that of the AIR, or that of the first local interaction with a fault.
+abbrev pub Extracts : {A F EF : Type 0} → (A → InteractionSymbolicBuilder F EF → Result (Unit {0}) AirError → InteractionSymbolicBuilder F EF → Type 0) → A → AirLayout → Result (Lookups F) LookupError → Type 0
+Extracts {A} {F} {EF} evaluates air layout answer = MatchResult answer
+    (λ set. (b : InteractionSymbolicBuilder F EF) × EvaluatesNew evaluates air layout (Ok b)
+    × (map seen_lookup (lookups_of set) ≡ extraction (recorded_air b).locals (recorded_air b).globals (recorded_air b).exclusives)
+    × All IsFaultless (recorded_air b).locals)
+    (λ e. (e ≡ Memory)
+    ⊎ (((refusal : AirError) × EvaluatesNew evaluates air layout (Err refusal) × (e ≡ from_air refusal))
+    ⊎ ((b : InteractionSymbolicBuilder F EF) × EvaluatesNew evaluates air layout (Ok b) × IsFirstLocalRefusal (recorded_air b).locals e)))
