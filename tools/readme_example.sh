@@ -1,11 +1,20 @@
 #!/usr/bin/env bash
-# The lines of the README's example stand, in their order, in the program's machine.
+# Each block of the README's example stands, line by line, in the test that runs it.
 set -eu
 cd "$(dirname "${BASH_SOURCE[0]}")/.."
-example=$(sed -n '/^```rust$/,/^```$/p' README.md | sed '1d;$d' | tr -d ' \n')
-source=$(tr -d ' \n' <crates/lookup_run/src/machine.rt)
-if [ -z "$example" ] || [ "${source#*"$example"}" = "$source" ]; then
-  echo "the README's example is not in crates/lookup_run/src/machine.rt" >&2
-  exit 1
-fi
-echo "the README's example is the program's own code"
+test=crates/lookup/src/tests/example.rt
+source=$(tr -d ' \n' <"$test")
+blocks=$(mktemp -d)
+trap 'rm -r "$blocks"' EXIT
+awk -v folder="$blocks" '/^```rust$/ { n++; on = 1; next } /^```$/ { on = 0 } on { print > (folder "/" n) }' README.md
+count=0
+for block in "$blocks"/*; do
+  example=$(tr -d ' \n' <"$block")
+  if [ -z "$example" ] || [ "${source#*"$example"}" = "$source" ]; then
+    echo "a block of the README's example is not in $test" >&2
+    exit 1
+  fi
+  count=$((count + 1))
+done
+[ "$count" -eq 2 ] || { echo "the README has $count blocks of its example, and not 2" >&2; exit 1; }
+echo "the README's example is what $test runs"

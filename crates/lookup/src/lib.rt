@@ -1,9 +1,9 @@
 //! The LogUp lookup argument (eprint 2022/1530): lookups, their challenges, and the auxiliary
 //! traces that show that all messages cancel.
 //!
-//! An AIR's lookups are checked by `Lookups::from_records`, `LogUpGadget::generate_permutation`
-//! makes the auxiliary trace of one AIR, and `LogUpGadget::verify_terminal_sum` says whether the
-//! terminals of all AIRs cancel.
+//! An AIR says on buses what its rows look up, and `Lookups::from_air` extracts it.
+//! `LogUpGadget::generate_permutation` makes the auxiliary trace of one AIR, `eval_all` asserts its
+//! constraints, and `verify_terminal_sum` says whether the terminals of all AIRs cancel.
 #![tactic(auto)]
 
 mod challenges;
@@ -15,6 +15,7 @@ pub mod logup;
 mod lookups;
 mod plain;
 pub mod protocol;
+pub mod symbolic;
 #[cfg(test)]
 mod tests;
 mod trace_builder;
@@ -24,6 +25,12 @@ mod widths;
 pub use challenges::Challenges;
 pub use logup::LogUpGadget;
 pub use lookup_model::{Kind, Lookup, LookupError, LookupTerminal, fits};
+pub use lookup_record::{
+    Count, IndexedLookupBuilder, IndexedRead, IndexedTable, InteractionBuilder,
+    InteractionSymbolicBuilder, LocalTuple, LookupBus, PermutationCheckBus,
+    SymbolicExclusiveBranch, SymbolicExclusiveInteraction, SymbolicInteraction,
+    SymbolicLocalInteraction, TraceWindow,
+};
 pub use lookups::Lookups;
 pub use protocol::LookupProtocol;
 pub use widths::assert_uniform_tuple_width;

@@ -1,5 +1,7 @@
 //! Calls over concrete fields.
 mod evaluation;
+mod example;
+mod extraction;
 mod windows;
 mod witnesses;
 

@@ -2,6 +2,7 @@
 //! traces and terminals of its AIRs and whether their messages balance.
 #![tactic(auto)]
 
+mod airs;
 mod challenge;
 mod command;
 mod error;

@@ -28,7 +28,7 @@ pub fn report_of<F: Field, EF: Challenge + ExtensionField<F>>(
     text: &[u8],
 ) -> Result<Report, RunError> {
     let main = read_rows::<F>(alloc, text, machine.columns())?;
-    let lookups = machine.lookups::<F>(alloc)?;
+    let lookups = machine.lookups::<F, EF>(alloc)?;
     let (alpha, beta) = challenges;
     let table = Challenges::new(alloc, alpha, beta, 1, 1)?;
     let columns = table.for_columns(alloc, &[0])?;

@@ -124,7 +124,7 @@ pub(super) fn no_preprocessed<'a, F>(_main: &'a RowMajorMatrix<F>) -> Option<&'a
 }
 
 /// Whether every row of a witness over F7 is accepted; else the row that is not.
-fn refusal<'a, R: Abort>(
+pub(super) fn refusal<'a, R: Abort>(
     rt: &'a R,
     alloc: Global,
     main: &'a RowMajorMatrix<F7>,

@@ -1,0 +1,2 @@
+//! The builder that records a whole AIR.
+pub use lookup_record::InteractionSymbolicBuilder;
