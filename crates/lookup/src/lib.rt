@@ -8,6 +8,7 @@
 
 mod challenges;
 mod evaluation;
+mod exclusive;
 mod fraction;
 mod generation;
 pub mod logup;

@@ -106,11 +106,13 @@ pub trait LookupProtocol: Sized {
     /// The trace has the height of `main` and one column more than there are lookups; without
     /// lookups it has width 0, and there is no terminal. The preprocessed trace, where there is
     /// one, is as high as `main`. `challenges` are an alpha and a beta for each lookup, in the
-    /// order of their columns. No lookup has flags: exclusive lookups are not generated yet.
+    /// order of their columns.
     ///
-    /// Refuses the first fault in the order row, lookup: a denominator that vanishes under a
-    /// multiplicity that is not zero. Want of memory is refused by its own name. A refused call
-    /// hands out nothing of the trace.
+    /// Refuses the first fault in the order row, lookup. Without flags it is a denominator that
+    /// vanishes under a multiplicity that is not zero. With flags it is a flag that is neither zero
+    /// nor one, then more than one set flag, counted in whole numbers, and then a denominator of the
+    /// set flag's tuple that vanishes, whatever its multiplicity. Want of memory is refused by its
+    /// own name. A refused call hands out nothing of the trace.
     fn generate_permutation<'a, F: Field, EF: ExtensionField<F>>(
         &self,
         alloc: Global,
@@ -120,7 +122,6 @@ pub trait LookupProtocol: Sized {
         lookups: &[Lookup<F>],
         challenges: &[EF],
     ) -> Result<(RowMajorMatrix<EF>, Option<LookupTerminal<EF>>), LookupError>
-        requires additive { All (λ lookup. lookup.flags ≡ None) lookups.now }
         requires heights { ForSome (option_copied preprocessed) (λ m. height m ≡ height main.now) }
         requires fit { DoFit (layout_of_traces main.now (option_copied preprocessed) public_values.now) lookups.now }
         requires challenges { 2 * length lookups.now ≤ length challenges.now }
