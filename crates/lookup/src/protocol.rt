@@ -8,6 +8,7 @@ ghost use Rattle.lookup_model.specs.Denominators.{column_denominator};
 ghost use Rattle.lookup_model.specs.Extension.{extension};
 ghost use Rattle.lookup_model.specs.Fault.{trace_faults};
 ghost use Rattle.lookup_model.specs.Generated.{plain_matrix, plain_terminal_of};
+ghost use Rattle.lookup_model.specs.LookupDegree.{IsDegree, lookup_degree};
 ghost use Rattle.lookup_model.specs.Records.{DoFit, HasEqualLengths, IsWithin};
 ghost use Rattle.lookup_model.specs.Terminals.{terminal_sum};
 ghost use Rattle.lookup_model.specs.Trace.{sent_rows};
@@ -100,6 +101,17 @@ pub trait LookupProtocol: Sized {
         eval_fractions(self, alloc, builder, lookups)?;
         eval_terminal(self, alloc, builder, lookups)
     }
+
+    /// The degree of the equation of a lookup's fraction, where the transition selector has
+    /// degree 0: that of a fraction with its denominator, or of its numerator, whichever is greater.
+    /// Variables of a trace and the selectors of the first and the last row have degree 1, public
+    /// values, constants, challenges and terminals 0; a sum has the greater degree of its two sides,
+    /// a product the sum of both.
+    ///
+    /// Refuses `DegreeOverflow` where a sum of degrees does not fit `usize`. Memory is not asked for.
+    fn constraint_degree<F>(&self, lookup: &Lookup<F>) -> Result<usize, LookupError>
+        requires { HasEqualLengths lookup.now }
+        ensures { IsDegree result (lookup_degree 0 lookup.now) };
 
     /// The auxiliary trace of one AIR and its terminal.
     ///
