@@ -13,6 +13,10 @@ pub mod Prefixes
 pub mod ProgressLaws
 pub mod Regrouping
 pub mod SatisfiedFractions
+pub mod SatisfiedLookups
 pub mod SatisfiedRows
+pub mod SatisfiedSelections
+pub mod SelectedFractions
+pub mod Selections
 pub mod TerminalSums
 pub mod Terminals

@@ -44,7 +44,7 @@ module _ {K : Type 0} {S : Ring K} (laws : IsCommutativeRing S) {X : Type 0} (p 
 
 module _ {F K : Type 0} {E : Extension F K} (laws : IsLawful E) (denominator : Key F → K) where
   -- the quotient of a message times its denominator is its multiplicity, also where that is zero
-  divides_one : (m : Message F) → denominator m.key ≢ E.ring.zero → E.ring.mul (denominator m.key) (quotient_of E denominator m) ≡ E.embed m.multiplicity
+  pub divides_one : (m : Message F) → denominator m.key ≢ E.ring.zero → E.ring.mul (denominator m.key) (quotient_of E denominator m) ≡ E.embed m.multiplicity
   divides_one m ne =
       ring_given laws.ring (denominator m.key ∷ E.embed m.multiplicity ∷ E.inverse (denominator m.key) ∷ [])
       ((var 1, var 0 :* var 2, con 1) ∷ []) (var 0 :* (var 1 :* var 2)) (var 1) (laws.inverse (denominator m.key) ne, tt) refl

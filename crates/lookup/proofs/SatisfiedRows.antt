@@ -1,11 +1,10 @@
 -- The plain result is a satisfied witness.
-use Rattle.std.proofs.Common.{◌≡◌, ℕ, zero, suc, ◌+◌, ◌*◌, ◌-◌, ◌%◌, ◌<◌, ◌≤◌, ◌==◌, Bool, true, false, cond, not, Option, None, Some, All, List, [], ◌∷◌, ◌++◌, length, map, take, drop, get_or, slice_index_or, refl, sym, ap, subst, ◌∙◌, arith}
+use Rattle.std.proofs.Common.{◌≡◌, ℕ, zero, suc, ◌+◌, ◌*◌, ◌-◌, ◌%◌, ◌<◌, ◌≤◌, ◌==◌, Bool, true, false, not, Option, None, Some, List, [], ◌∷◌, ◌++◌, length, map, take, drop, get_or, slice_index_or, refl, sym, ap, subst, ◌∙◌, arith}
 use Rattle.std.proofs.Math.Nat.{mod-eq_of_lt}
 use Rattle.std.proofs.Math.Seq.{drop-append-add, take-append_seam}
 use Rattle.std.proofs.lemmas.Bool.{eqb-true, eqb-false, not-true}
 use Rattle.std.proofs.lemmas.List.{get_or_default, length-map, length-take, take_all}
-use Rattle.std.specs.List.{AllByRecursion, cons_option, flat_map, range_with_len, slice_range, zip}
-use Rattle.std.specs.Option.{option_map}
+use Rattle.std.specs.List.{AllByRecursion, cons_option, flat_map, range_with_len, slice_range}
 use Rattle.field.specs.Distinct.{all_map}
 use Rattle.field.specs.Ring.{of_bool, sub_in}
 use Rattle.field.specs.RingFacts.{mul_zero, zero_mul}
@@ -13,17 +12,16 @@ use Rattle.field.specs.RingSolver.{var, con, ◌:+◌, :neg, ring_law}
 use Rattle.field.specs.Sums.{sum_in}
 use Rattle.matrix.specs.Matrix.{Matrix, height, row}
 use Rattle.expressions.specs.Window.{ExtWindow, Window, window_at}
-use Rattle.lookup_model.specs.Constraints.{Constraint, accumulator_at, accumulator_constraints, fraction_at, fraction_constraint, fraction_left, fractions_at, denominator_at, terminal_at}
+use Rattle.lookup_model.specs.Constraints.{Constraint, accumulator_at, accumulator_constraints, fraction_at, fraction_constraint, fractions_at, terminal_at}
 use Rattle.lookup_model.specs.Denominators.{column_denominator}
 use Rattle.lookup_model.specs.Extension.{Extension, IsLawful}
-use Rattle.lookup_model.specs.Fault.{fault_of, row_faults, trace_faults, vanishes}
-use Rattle.lookup_model.specs.Message.{Key, Message}
-use Rattle.lookup_model.specs.Plain.{counted, plain_accumulator, plain_cells, plain_fraction, plain_row, plain_terminal}
+use Rattle.lookup_model.specs.Fault.{fault_of, row_faults, trace_faults}
+use Rattle.lookup_model.specs.Message.{Key}
+use Rattle.lookup_model.specs.Plain.{plain_accumulator, plain_cells, plain_fraction, plain_row, plain_terminal}
 use Rattle.lookup_model.specs.Records.{AreRecords}
-use Rattle.lookup_model.specs.Sent.{Sent, branches_at, sent, sent_at, values}
+use Rattle.lookup_model.specs.Sent.{Sent, sent_at}
 use Rattle.lookup_model.specs.Trace.{sent_row, sent_rows}
 use Rattle.lookup_model.specs.Witness.{HasShape, IsSatisfied, witness_window}
-use Rattle.lookup_model.specs.declared.error.LookupError.TheVariants.{VanishingDenominator}
 use Rattle.lookup_model.specs.declared.types.Lookup.{Lookup}
 use Rattle.lookup_model.specs.declared.types.LookupTerminal.{LookupTerminal}
 use Rattle.lookup_model.specs.ConstraintLaws.{accumulator_constraints-some}
@@ -31,8 +29,8 @@ use Rattle.lookup_model.specs.Branches.{mapped_at}
 use Rattle.lookup_model.specs.HornerRule.{map-map}
 use Rattle.lookup.proofs.PlainResults.{IsShaped-product, height_of, length-plain_rows}
 use Rattle.lookup_model.specs.Rows.{plain_accumulator-more, row_faults-append, split_at, trace_faults-append}
-use Rattle.lookup.proofs.SatisfiedFractions.{additive_satisfied}
-use Rattle.lookup_model.specs.SentRows.{column_is, length-sent_rows, length-sent_rows-at, sent_rows-at}
+use Rattle.lookup.proofs.SatisfiedLookups.{lookup_satisfied}
+use Rattle.lookup_model.specs.SentRows.{column_is, equal_lengths, length-sent_rows, length-sent_rows-at, sent_rows-at}
 use Rattle.lookup.proofs.Terminals.{plain_terminal-sum}
 
 module _ {A : Type 0} where
@@ -110,14 +108,6 @@ module _ {F K : Type 0} (E : Extension F K) (denominator : Key F → K) where
       nothing_before (row_faults E denominator r (front ++ s ∷ [])) _ (sym (row_faults-append E denominator r (front ++ s ∷ []) back) ∙ ap (row_faults E denominator r) (sym (split_at sents k s lt is)) ∙ none) in
       let last : cons_option (fault_of E denominator r (length front) s) [] ≡ [] = nothing_after (row_faults E denominator r front) _ (sym (row_faults-append E denominator r front (s ∷ [])) ∙ upto) in
       ap (λ n. fault_of E denominator r n s) (sym at) ∙ no_option (fault_of E denominator r (length front) s) [] last
-
-  -- an additive lookup without a fault has no denominator that vanishes
-  no_vanishing : (r k : ℕ) (ms : List (Message F)) → fault_of E denominator r k (record { flags = None; messages = ms }) ≡ None → vanishes E denominator (counted E ms) ≡ false
-  no_vanishing r k ms none = by_test (vanishes E denominator (counted E ms)) none
-    where
-      by_test : (b : Bool) → cond b (Some (VanishingDenominator r k)) None ≡ None → b ≡ false
-      by_test true bad = absurd (cc bad)
-      by_test false e = refl
 
 module _ {F K : Type 0} {E : Extension F K} (laws : IsLawful E) (challenges : List K) (main : Matrix F) (preprocessed : Option (Matrix F)) (public_values : List F) (lookups : List (Lookup F)) (records : AreRecords lookups) (some : 0 < length lookups) where
   abbrev den : Key F → K
@@ -199,19 +189,15 @@ module _ {F K : Type 0} {E : Extension F K} (laws : IsLawful E) (challenges : Li
   selected_zero true left on = ap (E.ring.mul E.ring.one) (on refl) ∙ mul_zero laws.ring E.ring.one
   selected_zero false left on = zero_mul laws.ring left
 
-  module _ (faultless : trace_faults E den rows ≡ []) (additive : All (λ l. l.flags ≡ None) lookups) where
+  module _ (faultless : trace_faults E den rows ≡ []) where
     -- each lookup's constraint
     fraction_zero : (r : ℕ) → r < height main → (k : ℕ) (lookup : Lookup F) → k < length lookups → lookup ≡ get_or lookups k lookup → (fraction_constraint E lookup).meaning (window_of r) ≡ E.ring.zero
     fraction_zero r lt k lookup below is =
-        let branches = branches_at E.base (base_window r) lookup.column lookup in
-        let no_flags : lookup.flags ≡ None = subst (λ (l : Lookup F). l.flags ≡ None) (sym is) (additive k lookup below) in
-        let plainly : sent_of r lookup ≡ record { flags = None; messages = branches } = ap (λ o. sent E.base E.base_eq (option_map (λ fs. values E.base (base_window r) fs.items) o) branches) no_flags in
         let there : sent_of r lookup ≡ get_or (sents_of r) k (sent_of r lookup) = mapped_at (sent_of r) lookups k lookup below is in
         let row_none = no_row_fault E den rows r (sents_of r) (omega (arith, high, lt)) (sent_rows-at E.base E.base_eq main preprocessed public_values lookups r lt) faultless in
         let none = no_lookup_fault E den r (sents_of r) k (sent_of r lookup) (omega (arith, length-map lookups (sent_of r), below)) there row_none in
-        ap (λ o. fraction_left E (denominator_at E lookup.column (window_of r)) (option_map (λ fs. values E.base (base_window r) fs.items) o) branches (fraction_at E lookup.column (window_of r))) no_flags
-        ∙ additive_satisfied laws challenges lookup.column (base_window r) (zip lookup.elements.items lookup.multiplicities.items) (fraction_at E lookup.column (window_of r)) (fraction_is r lt k lookup below is ∙ ap pf plainly)
-        (no_vanishing E den r k branches (ap (fault_of E den r k) (sym plainly) ∙ none))
+        lookup_satisfied laws challenges lookup.column r (base_window r) lookup (fraction_at E lookup.column (window_of r)) (equal_lengths lookups k lookup records below is) (fraction_is r lt k lookup below is)
+        (ap (λ c. fault_of E den r c (sent_of r lookup)) (column_is lookups k lookup records below is) ∙ none)
 
     first_zero : (r : ℕ) → r < height main → E.ring.mul (of_bool E.ring (r == 0)) (accumulator_at E (window_of r)) ≡ E.ring.zero
     first_zero r lt =

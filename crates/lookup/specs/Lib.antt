@@ -4,4 +4,5 @@ pub mod Fraction
 pub mod Lookups
 pub mod PlainProgram
 pub mod Progress
+pub mod Selection
 pub mod TraceBuilder

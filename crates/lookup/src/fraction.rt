@@ -6,13 +6,14 @@ ghost use Rattle.expressions.specs.Tree.{tree_of};
 ghost use Rattle.lookup_model.specs.Denominators.{column_denominator, tuple_denominator};
 ghost use Rattle.lookup_model.specs.Extension.{extension};
 ghost use Rattle.lookup_model.specs.Fault.{fault_of, vanishes};
-ghost use Rattle.lookup.specs.Fraction.{IsFractionOf};
+ghost use Rattle.lookup.specs.Fraction.{IsFractionOf, key_at};
 ghost use Rattle.lookup_model.specs.Message.{Message};
-ghost use Rattle.lookup_model.specs.Plain.{counted, plain_fraction};
+ghost use Rattle.lookup_model.specs.Plain.{counted, plain_fraction, quotient};
 ghost use Rattle.lookup_model.specs.Records.{AllFit, HasEqualLengths, IsWithin};
 ghost use Rattle.lookup_model.specs.Sent.{branch_at, branches_at, sent_at, value, values};
 ghost use Rattle.lookup.specs.TraceBuilder.{builder_layout, builder_window};
 
+use crate::exclusive::exclusive_fraction;
 use crate::trace_builder::LookupTraceBuilder;
 use air::SymbolicExpression;
 use field::{ExtensionField, Field};
@@ -68,16 +69,36 @@ fn denominator_of<F: Field, EF: ExtensionField<F>>(
     Ok(alpha - combined_tuple(alloc, tuple, builder, beta)?)
 }
 
-/// A multiplicity over a denominator, and `None` where the denominator is zero.
-fn quotient_of<F: Field, EF: ExtensionField<F>>(multiplicity: F, denominator: EF) -> Option<EF>
-    ensures zero { IfNone result (denominator ≡ EF.ring.zero) }
-    ensures divides { OnSome result (denominator ≢ EF.ring.zero) }
-    ensures value { IfSome result (λ q. q ≡ EF.ring.mul (EF.embed multiplicity) (EF.inverse denominator)) }
+/// A multiplicity over the denominator of a tuple on the builder's row.
+///
+/// Refuses a denominator that is zero.
+pub(crate) fn quotient_over<F: Field, EF: ExtensionField<F>>(
+    alloc: Global,
+    multiplicity: F,
+    tuple: &[SymbolicExpression<F>],
+    builder: &LookupTraceBuilder<'_, F, EF>,
+    column: usize,
+) -> Result<EF, LookupError>
+    requires tuple_fits { AllFit (builder_layout builder.now) tuple.now }
+    requires challenges { 2 * column + 1 < length builder.now.permutation_challenges.now }
+    ensures { MatchResult result
+        (λ q. let E = extension F.ring F.eq EF.ring EF.eq EF.embed EF.inverse in
+        let denominator = column_denominator E builder.now.permutation_challenges.now in
+        let key = key_at F.ring (builder_window builder.now) column tuple.now in
+        (denominator key ≢ EF.ring.zero) × (q ≡ quotient E denominator multiplicity key))
+        (λ e. let E = extension F.ring F.eq EF.ring EF.eq EF.embed EF.inverse in
+        (e ≡ LookupError.Memory) ⊎ ((e ≡ LookupError.VanishingDenominator builder.now.row column)
+        × (column_denominator E builder.now.permutation_challenges.now (key_at F.ring (builder_window builder.now) column tuple.now) ≡ EF.ring.zero))) }
 {
+    let (alpha, beta) = builder.column_challenges(column);
+    let denominator = denominator_of(alloc, tuple, builder, alpha, beta)?;
     if denominator.is_zero() {
-        None
+        Err(LookupError::VanishingDenominator {
+            row: builder.row(),
+            lookup: column,
+        })
     } else {
-        Some(EF::embed(multiplicity) * denominator.inverse())
+        Ok(EF::embed(multiplicity) * denominator.inverse())
     }
 }
 
@@ -109,15 +130,7 @@ fn with_branch<F: Field, EF: ExtensionField<F>>(
     if multiplicity.is_zero() {
         return Ok(fraction);
     }
-    let (alpha, beta) = builder.column_challenges(column);
-    let denominator = denominator_of(alloc, tuple, builder, alpha, beta)?;
-    match quotient_of(multiplicity, denominator) {
-        Some(quotient) => Ok(fraction + quotient),
-        None => Err(LookupError::VanishingDenominator {
-            row: builder.row(),
-            lookup: column,
-        }),
-    }
+    Ok(fraction + quotient_over(alloc, multiplicity, tuple, builder, column)?)
 }
 
 /// The sum of the quotients of all tuples of a lookup whose multiplicity is not zero.
@@ -155,7 +168,6 @@ pub(crate) fn fraction<F: Field, EF: ExtensionField<F>>(
     lookup: &Lookup<F>,
     builder: &LookupTraceBuilder<'_, F, EF>,
 ) -> Result<EF, LookupError>
-    requires additive { lookup.now.flags ≡ None }
     requires lengths { HasEqualLengths lookup.now }
     requires within { IsWithin (builder_layout builder.now) lookup.now }
     requires challenges { 2 * lookup.now.column + 1 < length builder.now.permutation_challenges.now }
@@ -169,5 +181,8 @@ pub(crate) fn fraction<F: Field, EF: ExtensionField<F>>(
         let sent = sent_at F.ring F.eq (builder_window builder.now) lookup.now.column lookup.now in
         (e ≡ LookupError.Memory) ⊎ (fault_of E denominator builder.now.row lookup.now.column sent ≡ Some e)) }
 {
-    additive_fraction(alloc, lookup, builder)
+    match &lookup.flags {
+        None => additive_fraction(alloc, lookup, builder),
+        Some(flags) => exclusive_fraction(alloc, lookup, flags, builder),
+    }
 }

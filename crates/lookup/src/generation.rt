@@ -30,7 +30,6 @@ fn push_row<F: Field, EF: ExtensionField<F>>(
     builder: &LookupTraceBuilder<'_, F, EF>,
     accumulator: EF,
 ) -> Result<EF, LookupError>
-    requires additive { All (λ lookup. lookup.flags ≡ None) lookups.now }
     requires fit { DoFit (builder_layout builder.now) lookups.now }
     requires challenges { 2 * length lookups.now ≤ length builder.now.permutation_challenges.now }
     ensures { MatchResult result
@@ -99,7 +98,6 @@ pub(crate) fn generate<F: Field, EF: ExtensionField<F>>(
     lookups: &[Lookup<F>],
     challenges: &[EF],
 ) -> Result<(Vec<EF>, EF), LookupError>
-    requires additive { All (λ lookup. lookup.flags ≡ None) lookups.now }
     requires heights { ForSome (option_copied preprocessed) (λ m. height m ≡ height main.now) }
     requires fit { DoFit (layout_of_traces main.now (option_copied preprocessed) public_values.now) lookups.now }
     requires challenges { 2 * length lookups.now ≤ length challenges.now }

@@ -8,6 +8,7 @@
 
 mod challenges;
 mod evaluation;
+mod exclusive;
 mod extraction;
 mod fraction;
 mod generation;

@@ -1,5 +1,7 @@
 //! The LogUp gadget (eprint 2022/1530).
 ghost use Rattle.std.specs.Prelude.{◌≡◌};
+ghost use Rattle.lookup_model.specs.LookupDegree.{IsDegree, lookup_degree};
+ghost use Rattle.lookup_model.specs.Records.{HasEqualLengths};
 ghost use Rattle.lookup_model.specs.Terminals.{terminal_sum, terminal_value};
 
 use crate::generation;
@@ -23,6 +25,21 @@ impl LogUpGadget {
     /// The gadget, which has no parts.
     pub fn new() -> Self {
         LogUpGadget
+    }
+
+    /// The degree of the equation of a lookup's fraction, where the transition selector has degree
+    /// `transition`. The constraint that `eval_fraction` asserts has at most this degree.
+    ///
+    /// Refuses `DegreeOverflow` where a sum of degrees does not fit `usize`. Memory is not asked for.
+    pub fn constraint_degree_with_transition<F>(
+        &self,
+        lookup: &Lookup<F>,
+        transition: usize,
+    ) -> Result<usize, LookupError>
+        requires { HasEqualLengths lookup.now }
+        ensures { IsDegree result (lookup_degree transition lookup.now) }
+    {
+        lookup_model::constraint_degree(lookup, transition)
     }
 }
 
@@ -48,6 +65,10 @@ impl LookupProtocol for LogUpGadget {
         terminal: AB::ExprEF,
     ) -> Result<(), AirError> {
         lookup_evaluation::eval_accumulator(alloc, builder, lookups, terminal)
+    }
+
+    fn constraint_degree<F>(&self, lookup: &Lookup<F>) -> Result<usize, LookupError> {
+        self.constraint_degree_with_transition(lookup, 0)
     }
 
     fn generate_permutation<'a, F: Field, EF: ExtensionField<F>>(

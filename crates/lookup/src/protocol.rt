@@ -8,6 +8,7 @@ ghost use Rattle.lookup_model.specs.Denominators.{column_denominator};
 ghost use Rattle.lookup_model.specs.Extension.{extension};
 ghost use Rattle.lookup_model.specs.Fault.{trace_faults};
 ghost use Rattle.lookup_model.specs.Generated.{plain_matrix, plain_terminal_of};
+ghost use Rattle.lookup_model.specs.LookupDegree.{IsDegree, lookup_degree};
 ghost use Rattle.lookup_model.specs.Records.{DoFit, HasEqualLengths, IsWithin};
 ghost use Rattle.lookup_model.specs.Terminals.{terminal_sum};
 ghost use Rattle.lookup_model.specs.Trace.{sent_rows};
@@ -101,16 +102,29 @@ pub trait LookupProtocol: Sized {
         eval_terminal(self, alloc, builder, lookups)
     }
 
+    /// The degree of the equation of a lookup's fraction, where the transition selector has
+    /// degree 0: that of a fraction with its denominator, or of its numerator, whichever is greater.
+    /// Variables of a trace and the selectors of the first and the last row have degree 1, public
+    /// values, constants, challenges and terminals 0; a sum has the greater degree of its two sides,
+    /// a product the sum of both.
+    ///
+    /// Refuses `DegreeOverflow` where a sum of degrees does not fit `usize`. Memory is not asked for.
+    fn constraint_degree<F>(&self, lookup: &Lookup<F>) -> Result<usize, LookupError>
+        requires { HasEqualLengths lookup.now }
+        ensures { IsDegree result (lookup_degree 0 lookup.now) };
+
     /// The auxiliary trace of one AIR and its terminal.
     ///
     /// The trace has the height of `main` and one column more than there are lookups; without
     /// lookups it has width 0, and there is no terminal. The preprocessed trace, where there is
     /// one, is as high as `main`. `challenges` are an alpha and a beta for each lookup, in the
-    /// order of their columns. No lookup has flags: exclusive lookups are not generated yet.
+    /// order of their columns.
     ///
-    /// Refuses the first fault in the order row, lookup: a denominator that vanishes under a
-    /// multiplicity that is not zero. Want of memory is refused by its own name. A refused call
-    /// hands out nothing of the trace.
+    /// Refuses the first fault in the order row, lookup. Without flags it is a denominator that
+    /// vanishes under a multiplicity that is not zero. With flags it is a flag that is neither zero
+    /// nor one, then more than one set flag, counted in whole numbers, and then a denominator of the
+    /// set flag's tuple that vanishes, whatever its multiplicity. Want of memory is refused by its
+    /// own name. A refused call hands out nothing of the trace.
     fn generate_permutation<'a, F: Field, EF: ExtensionField<F>>(
         &self,
         alloc: Global,
@@ -120,7 +134,6 @@ pub trait LookupProtocol: Sized {
         lookups: &[Lookup<F>],
         challenges: &[EF],
     ) -> Result<(RowMajorMatrix<EF>, Option<LookupTerminal<EF>>), LookupError>
-        requires additive { All (λ lookup. lookup.flags ≡ None) lookups.now }
         requires heights { ForSome (option_copied preprocessed) (λ m. height m ≡ height main.now) }
         requires fit { DoFit (layout_of_traces main.now (option_copied preprocessed) public_values.now) lookups.now }
         requires challenges { 2 * length lookups.now ≤ length challenges.now }

@@ -58,7 +58,7 @@ fn single<F: Field>(alloc: Global, width: usize, column: usize) -> Result<Lookup
     Ok(local(elements, multiplicities, column))
 }
 
-/// The auxiliary trace of additive lookups over traces that they have to fit.
+/// The auxiliary trace of lookups over traces that they have to fit.
 fn generated_over<'a, F: Field, EF: ExtensionField<F>>(
     rt: &impl Abort,
     alloc: Global,
@@ -73,7 +73,6 @@ fn generated_over<'a, F: Field, EF: ExtensionField<F>>(
     }
     let layout = AirLayout::of_traces(main, preprocessed, public_values);
     assert!(rt; fits(lookups, &layout));
-    assert!(rt; lookups.iter().all(|lookup| lookup.flags.is_none()));
     assert!(rt; lookups.len() <= challenges.len() / 2);
     LogUpGadget::new().generate_permutation(
         alloc,

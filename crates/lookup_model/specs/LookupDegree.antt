@@ -1,11 +1,13 @@
 -- The degree of the fraction constraint of a lookup, in whole numbers.
-use Rattle.std.specs.Prelude.{ℕ, ◌+◌, max, List, [], ◌∷◌, Option, None, Some, map}
+use Rattle.std.specs.Prelude.{◌≡◌, ℕ, ◌+◌, ◌^◌, ◌≤◌, max, List, [], ◌∷◌, Option, None, Some, Result, MatchResult, map}
 use Rattle.std.specs.List.{zip}
 use Rattle.std.specs.Option.{option_map}
 use Rattle.field.specs.Sums.{taken_out}
 use Rattle.expressions.specs.Degree.{degree_of}
 use Rattle.expressions.specs.Tree.{tree_of}
 use Rattle.expressions.specs.declared.base_expression.SymbolicExpression.{SymbolicExpression}
+use Rattle.lookup_model.specs.declared.error.LookupError.{LookupError}
+use Rattle.lookup_model.specs.declared.error.LookupError.TheVariants.{DegreeOverflow}
 use Rattle.lookup_model.specs.declared.types.Lookup.{Lookup}
 
 -- the greatest of a list, 0 for the empty one
@@ -66,3 +68,9 @@ constraint_degree_of (Some flags) bs = max (1 + exclusive_denominator_degree fla
 abbrev pub lookup_degree : {F : Type 0} → ℕ → Lookup F → ℕ
 lookup_degree t lookup =
     constraint_degree_of (option_map (λ flags. map (expression_degree t) flags.items) lookup.flags) (lookup_branch_degrees t lookup)
+
+-- The answer of a call for a degree: the degree where it fits 64 bits, else the refusal. Every sum
+-- of degrees that a degree is made of is at most that degree, so one of them does not fit exactly
+-- where the degree does not.
+abbrev pub IsDegree : Result ℕ LookupError → ℕ → Type 0
+IsDegree result degree = MatchResult result (λ d. d ≡ degree) (λ e. (e ≡ DegreeOverflow) × (2 ^ 64 ≤ degree))

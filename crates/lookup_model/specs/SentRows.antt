@@ -5,7 +5,7 @@ use Rattle.std.proofs.lemmas.List.FromFn.{get_or-map-range_with_len, length-map-
 use Rattle.std.proofs.lemmas.Option.{slice_get_read}
 use Rattle.field.specs.Ring.{Ring}
 use Rattle.expressions.specs.Window.{Window, window_at}
-use Rattle.lookup_model.specs.Records.{AreRecords}
+use Rattle.lookup_model.specs.Records.{AreRecords, HasEqualLengths}
 use Rattle.lookup_model.specs.Sent.{sent_at}
 use Rattle.matrix.specs.Matrix.{Matrix, height}
 use Rattle.lookup_model.specs.Trace.{sent_row, sent_rows}
@@ -15,6 +15,10 @@ use Rattle.lookup_model.specs.Rows.{split_at}
 -- the column of a well formed record is its place
 pub column_is : {F : Type 0} (lookups : List (Lookup F)) (i : ℕ) (lookup : Lookup F) → AreRecords lookups → i < length lookups → lookup ≡ get_or lookups i lookup → lookup.column ≡ i
 column_is lookups i lookup records lt is = (records i lookup lt (slice_get_read lookups (length lookups) i lookup (λ _. length lookups) lt is)).0
+
+-- and its lists have equal lengths
+pub equal_lengths : {F : Type 0} (lookups : List (Lookup F)) (i : ℕ) (lookup : Lookup F) → AreRecords lookups → i < length lookups → lookup ≡ get_or lookups i lookup → HasEqualLengths lookup
+equal_lengths lookups i lookup records lt is = (records i lookup lt (slice_get_read lookups (length lookups) i lookup (λ _. length lookups) lt is)).1
 
 module _ {F : Type 0} (R : Ring F) (eq : F → F → Bool) (w : Window F) (lookups : List (Lookup F)) (i : ℕ) (lookup : Lookup F) (lt : i < length lookups) (is : lookup ≡ get_or lookups i lookup) where
   within : i < length (sent_row R eq w lookups)

@@ -3,10 +3,12 @@
 //! satisfied witness (LogUp, eprint 2022/1530).
 #![tactic(auto)]
 
+mod degree;
 mod error;
 mod fitting;
 mod types;
 
+pub use degree::constraint_degree;
 pub use error::LookupError;
 pub use fitting::{first_malformed, fits};
 pub use types::{Kind, Lookup, LookupTerminal};

@@ -1,14 +1,15 @@
-use Rattle.std.proofs.Common.{◌≡◌, ◌≢◌, sym, ap, ◌∙◌}
+use Rattle.std.proofs.Common.{◌≢◌, sym, ap, ◌∙◌}
 use Rattle.std.proofs.lemmas.Bool.{true≢false}
-use Rattle.lookup_model.specs.Denominators.{column_denominator, tuple_denominator}
+use Rattle.lookup_model.specs.Denominators.{column_denominator}
 use Rattle.lookup_model.specs.Extension.{extension, IsLawful}
+use Rattle.lookup_model.specs.Plain.{quotient}
 use Rattle.lookup_model.specs.Sent.{branch_at}
 use Rattle.lookup.specs.TraceBuilder.{builder_window}
 use Rattle.lookup.proofs.Fractions.{fraction_of_added}
 use Rattle.lookup.proofs.fraction.with_branch.Goals as goal
 
-pub returns-in-Some-clause-next : goal.returns-in-Some-clause-next
-returns-in-Some-clause-next g c =
+pub returns-clause-next : goal.returns-clause-next
+returns-clause-next g c =
     let E = extension g.F.PrimeCharacteristicRing.ring g.F.PartialEq.eq g.EF.PrimeCharacteristicRing.ring g.EF.PartialEq.eq g.EF.ExtensionDomain.embed g.EF.Field.inverse in
     let laws : IsLawful E = record {
       base = g.F.PrimeCharacteristicRing.lawful;
@@ -22,7 +23,5 @@ returns-in-Some-clause-next g c =
     let denominator = column_denominator E c.args.builder.now.permutation_challenges.now in
     let m = branch_at E.base (builder_window c.args.builder.now) c.args.column c.args.tuple.now c.args.multiplicity.now in
     let counts : m.multiplicity ≢ E.base.zero = λ e. true≢false (sym (c.is_zero.ensures.1 (c.in_ok-multiplicity.ensures ∙ e)) ∙ c.if-is_zero.false) in
-    let denominator_is : c.in_ok-denominator.denominator ≡ denominator m.key =
-    c.in_ok-denominator.ensures ∙ (λ i. tuple_denominator E (c.column_challenges-alpha.ensures.alpha i) (c.column_challenges-alpha.ensures.beta i) m.key.tuple) in
-    λ messages so_far. fraction_of_added laws denominator messages m c.args.fraction c.add.result counts (λ e. c.in-Some.ensures.divides (denominator_is ∙ e))
-    (g.met.EF.PrimeCharacteristicRing.add_is _ _ _ c.add.ensures ∙ ap (E.ring.add c.args.fraction) (c.in-Some.ensures.value ∙ (λ i. E.ring.mul (E.embed (c.in_ok-multiplicity.ensures i)) (E.inverse (denominator_is i))))) so_far
+    λ messages so_far. fraction_of_added laws denominator messages m c.args.fraction c.add.result counts c.in_ok-quotient_over.ensures.0
+    (g.met.EF.PrimeCharacteristicRing.add_is _ _ _ c.add.ensures ∙ ap (E.ring.add c.args.fraction) (c.in_ok-quotient_over.ensures.1 ∙ ap (λ t. quotient E denominator t m.key) c.in_ok-multiplicity.ensures)) so_far

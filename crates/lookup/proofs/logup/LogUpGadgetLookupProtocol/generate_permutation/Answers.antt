@@ -65,5 +65,5 @@ returns g c =
       subst₂ (IsSatisfied E c.args.main.now prep c.args.public_values.now c.args.lookups.now c.args.challenges.now)
           (sym (c.new-2.ensures ∙ (λ i. record { values = cells_plain laws denominator rows h _ _ high c.in_ok-cells.ensures i; width = length c.args.lookups.now + 1 })))
           (λ i. Some (record { 0 = sym (accumulator_plain laws denominator rows h _ _ high c.in_ok-cells.ensures) i }))
-          (plain_satisfied laws c.args.challenges.now c.args.main.now prep c.args.public_values.now c.args.lookups.now c.requires.fit.records some (faultless_trace laws denominator rows h _ _ high c.in_ok-cells.ensures) c.requires.additive),
+          (plain_satisfied laws c.args.challenges.now c.args.main.now prep c.args.public_values.now c.args.lookups.now c.requires.fit.records some (faultless_trace laws denominator rows h _ _ high c.in_ok-cells.ensures)),
     )

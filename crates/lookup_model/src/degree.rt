@@ -1,0 +1,136 @@
+//! The degrees of the constraints of lookups.
+ghost use Rattle.std.specs.Prelude.{◌≡◌, ◌+◌, ◌-◌, ◌≤◌, None, Some, length, map, max};
+ghost use Rattle.lookup_model.specs.LookupDegree.{IsDegree, additive_denominator_degree, constraint_degree_of, expression_degree, lookup_branch_degrees, lookup_degree, total, tuple_degree};
+ghost use Rattle.lookup_model.specs.Records.{HasEqualLengths};
+
+use crate::error::LookupError;
+use crate::types::Lookup;
+use expressions::SymbolicExpression;
+
+/// The degree of the constraint of a lookup's fraction, where the transition selector has degree
+/// `transition`.
+///
+/// With `D_j` the greatest degree of an element of tuple `j`, `m_j` the degree of its multiplicity
+/// and `g_j` that of its flag, it is without flags
+/// `max(1 + sum of D_j, max over i of (m_i + sum of D_j over the other j))`, and with flags
+/// `max(1 + max over j of (g_j + D_j, g_j), max over j of (g_j + m_j))`. The greatest of nothing
+/// is 0.
+///
+/// Refuses `DegreeOverflow` where one of these sums does not fit `usize`, as it is exactly where
+/// the degree does not: each of them is at most the degree.
+pub fn constraint_degree<F>(lookup: &Lookup<F>, transition: usize) -> Result<usize, LookupError>
+    requires { HasEqualLengths lookup.now }
+    ensures { IsDegree result (lookup_degree transition lookup.now) }
+{
+    match &lookup.flags {
+        None => additive_degree(lookup, transition),
+        Some(flags) => exclusive_degree(lookup, flags, transition),
+    }
+}
+
+/// The degree without flags, in time linear in the size of the lookup.
+fn additive_degree<F>(lookup: &Lookup<F>, transition: usize) -> Result<usize, LookupError>
+    requires { HasEqualLengths lookup.now }
+    ensures { IsDegree result (constraint_degree_of None (lookup_branch_degrees transition lookup.now)) }
+{
+    let product = product_degree(&lookup.elements, transition)?;
+    let mut degree = sum_of_degrees(1, product)?;
+    for branch in 0..lookup.elements.len() {
+        let tuple = &lookup.elements[branch];
+        let multiplicity = &lookup.multiplicities[branch];
+        degree = degree.max(term_degree(tuple, multiplicity, product, transition)?);
+    }
+    Ok(degree)
+}
+
+/// The degree of a multiplicity times all denominators but that of its tuple, where the product of
+/// all denominators has degree `product`.
+fn term_degree<F>(
+    tuple: &[SymbolicExpression<F>],
+    multiplicity: &SymbolicExpression<F>,
+    product: usize,
+    transition: usize,
+) -> Result<usize, LookupError>
+    requires { tuple_degree transition tuple.now ≤ product }
+    ensures { IsDegree result (expression_degree transition multiplicity.now + (product - tuple_degree transition tuple.now)) }
+{
+    let others = product - degree_of_tuple(tuple, transition)?;
+    sum_of_degrees(degree_of(multiplicity, transition)?, others)
+}
+
+/// The degree of the product of the denominators of these tuples.
+fn product_degree<F>(
+    elements: &[Vec<SymbolicExpression<F>>],
+    transition: usize,
+) -> Result<usize, LookupError>
+    ensures { IsDegree result (total (map (λ tuple. tuple_degree transition tuple.items) elements.now)) }
+{
+    let mut sum = 0;
+    for tuple in elements {
+        sum = sum_of_degrees(sum, degree_of_tuple(tuple, transition)?)?;
+    }
+    Ok(sum)
+}
+
+/// The degree with flags.
+fn exclusive_degree<F>(
+    lookup: &Lookup<F>,
+    flags: &[SymbolicExpression<F>],
+    transition: usize,
+) -> Result<usize, LookupError>
+    requires lengths { HasEqualLengths lookup.now }
+    requires flag_number { length flags.now ≡ length lookup.now.elements.items }
+    ensures { IsDegree result (constraint_degree_of (Some (map (expression_degree transition) flags.now)) (lookup_branch_degrees transition lookup.now)) }
+{
+    let mut degree = 1;
+    for branch in 0..flags.len() {
+        let flag = &flags[branch];
+        let tuple = &lookup.elements[branch];
+        let multiplicity = &lookup.multiplicities[branch];
+        degree = degree.max(branch_degree(flag, tuple, multiplicity, transition)?);
+    }
+    Ok(degree)
+}
+
+/// The degree of one branch with flags: of its flag with its denominator and the fraction, or of
+/// its flag with its multiplicity.
+fn branch_degree<F>(
+    flag: &SymbolicExpression<F>,
+    tuple: &[SymbolicExpression<F>],
+    multiplicity: &SymbolicExpression<F>,
+    transition: usize,
+) -> Result<usize, LookupError>
+    ensures { let flag = expression_degree transition flag.now in
+        IsDegree result (max (1 + (flag + tuple_degree transition tuple.now)) (flag + expression_degree transition multiplicity.now)) }
+{
+    let flag = degree_of(flag, transition)?;
+    let denominator = sum_of_degrees(flag, degree_of_tuple(tuple, transition)?)?;
+    let numerator = sum_of_degrees(flag, degree_of(multiplicity, transition)?)?;
+    Ok(numerator.max(sum_of_degrees(1, denominator)?))
+}
+
+/// The greatest degree of an element, which is that of the tuple's denominator.
+fn degree_of_tuple<F>(
+    tuple: &[SymbolicExpression<F>],
+    transition: usize,
+) -> Result<usize, LookupError>
+    ensures { IsDegree result (tuple_degree transition tuple.now) }
+{
+    let mut degree = 0;
+    for element in tuple {
+        degree = degree.max(degree_of(element, transition)?);
+    }
+    Ok(degree)
+}
+
+fn degree_of<F>(expression: &SymbolicExpression<F>, transition: usize) -> Result<usize, LookupError>
+    ensures { IsDegree result (expression_degree transition expression.now) }
+{
+    Ok(expression.degree_multiple_with_transition(transition)?)
+}
+
+fn sum_of_degrees(left: usize, right: usize) -> Result<usize, LookupError>
+    ensures { IsDegree result (left + right) }
+{
+    left.checked_add(right).ok_or(LookupError::DegreeOverflow)
+}
