@@ -3,8 +3,10 @@
 //! satisfied witness (LogUp, eprint 2022/1530).
 #![tactic(auto)]
 
+mod copies;
 mod error;
 mod fitting;
+mod reading;
 mod types;
 
 pub use error::LookupError;
