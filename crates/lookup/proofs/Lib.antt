@@ -5,6 +5,7 @@ pub mod KeyLaws
 pub mod Layouts
 pub mod LookupFaults
 pub mod Nets
+pub mod Outlines
 pub mod OwnWindow
 pub mod PlainProgramLaws
 pub mod PlainResults

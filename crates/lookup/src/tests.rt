@@ -1,5 +1,6 @@
 //! Calls over concrete fields.
 mod evaluation;
+mod json;
 mod windows;
 
 use crate::plain::PlainMessage;
