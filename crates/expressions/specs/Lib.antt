@@ -1,5 +1,6 @@
 pub mod Builder
 pub mod Degree
+pub mod Depth
 pub mod ExtDegree
 pub mod ExtMeaning
 pub mod ExtTree

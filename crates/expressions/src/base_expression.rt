@@ -5,11 +5,12 @@ ghost use Rattle.field.specs.Ring.{sub_in};
 use crate::expression::Expression;
 use crate::variable::SymbolicVariable;
 use field::Field;
+use serde::Serialize;
 use std::alloc::{AllocError, Global};
 use std::marker::{Model, PhantomData};
 
 /// A base expression without operations.
-#[derive(Clone, Copy, Debug)]
+#[derive(Clone, Copy, Debug, Serialize)]
 pub enum BaseLeaf<F> {
     /// A cell of the window or a public value.
     Variable(SymbolicVariable<F>),
@@ -24,7 +25,7 @@ pub enum BaseLeaf<F> {
 }
 
 /// A base expression: a tree of sums, differences, products and negations over leaves.
-#[derive(Debug, Drop)]
+#[derive(Debug, Drop, Serialize)]
 pub enum SymbolicExpression<F> {
     /// A leaf.
     Leaf(BaseLeaf<F>),

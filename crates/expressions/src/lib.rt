@@ -14,6 +14,7 @@ mod extension;
 mod filtered;
 mod fits;
 mod layout;
+mod reading;
 mod resolve;
 #[cfg(test)]
 mod tests;

@@ -1,10 +1,11 @@
 //! The variables of expressions.
 ghost use Rattle.std.specs.Prelude.{◌≡◌};
 
+use serde::Serialize;
 use std::marker::PhantomData;
 
 /// Where a variable is read.
-#[derive(Clone, Copy, Debug, PartialEq, Eq, Hash)]
+#[derive(Clone, Copy, Debug, PartialEq, Eq, Hash, Serialize)]
 pub enum BaseEntry {
     /// A cell of the preprocessed trace, in the current row at offset 0 and the next one at 1.
     Preprocessed {
@@ -21,12 +22,13 @@ pub enum BaseEntry {
 }
 
 /// A cell of a window or a public value.
-#[derive(Clone, Copy, Debug)]
+#[derive(Clone, Copy, Debug, Serialize)]
 pub struct SymbolicVariable<F> {
     /// Where it is read.
     pub entry: BaseEntry,
     /// The column, or the place among the public values.
     pub index: usize,
+    #[serde(skip)]
     field: PhantomData<F>,
 }
 

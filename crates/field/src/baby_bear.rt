@@ -1,12 +1,18 @@
 //! The field of the integers modulo 2013265921.
-ghost use Rattle.std.specs.Prelude.{◌≡◌, ◌<◌, ◌≤◌, ◌+◌, ◌-◌, ◌*◌, ◌^◌, ℕ, refl, decimal};
+ghost use Rattle.std.specs.Prelude.{◌≡◌, IfOk, ◌<◌, ◌≤◌, ◌+◌, ◌-◌, ◌*◌, ◌^◌, ℕ, refl, decimal};
 ghost use Rattle.std.proofs.Common.{rules, arith};
 ghost use Rattle.field.specs.BabyBear.{baby_bear_of, baby_bear_positive, baby_bear_prime, baby_bear_ring, from_stored, stored_equality};
 ghost use Rattle.field.specs.PrimeResidues.{residue_domain, residue_inverse_is};
 ghost use Rattle.field.specs.ResidueRing.{residue_characteristic, residue_inverse, residue_ring_lawful};
 ghost use Rattle.field.specs.Ring.{sub_in};
+ghost use Rattle.serde.specs.Event.{Sends, unsigned};
+ghost use Rattle.serde.specs.Steps.{Gives};
 
+use crate::reading::number_below;
 use crate::traits::{Domain, Field, PrimeCharacteristicRing};
+use serde::{
+    Described, Deserialize, DeserializeOwned, Deserializer, Format, Serialize, Serializer,
+};
 use std::alloc::{AllocError, Global};
 use std::fmt;
 use std::marker::Model;
@@ -288,6 +294,42 @@ impl Field for BabyBear {
     }
 
     ghost inverse_is = { residue_inverse_is 2013265921 baby_bear_positive baby_bear_prime };
+}
+
+impl Described for BabyBear {
+    ghost writes = { λ x old new. Sends (unsigned x.value) old new };
+}
+
+/// An element is sent as the one unsigned number below the modulus that it is.
+impl Serialize for BabyBear {
+    fn serialize<S: Serializer>(&self, out: &mut S) -> Result<(), S::Error> {
+        self.number().serialize(out)
+    }
+}
+
+/// Any other number is refused, and so is anything else.
+impl DeserializeOwned for BabyBear {
+    fn deserialize_owned<R: Format>(
+        alloc: Global,
+        from: &mut Deserializer<'_, '_, R>,
+    ) -> Result<BabyBear, R::Error>
+        ensures { IfOk result (λ x. Gives R.gives from.old (unsigned x.value) from.new) }
+    {
+        let number = number_below(alloc, MODULUS, from)?;
+        Ok(BabyBear::new(number))
+    }
+}
+
+/// Any other number is refused, and so is anything else.
+impl<'de> Deserialize<'de> for BabyBear {
+    fn deserialize<R: Format>(
+        alloc: Global,
+        from: &mut Deserializer<'de, '_, R>,
+    ) -> Result<BabyBear, R::Error>
+        ensures { IfOk result (λ x. Gives R.gives from.old (unsigned x.value) from.new) }
+    {
+        BabyBear::deserialize_owned(alloc, from)
+    }
 }
 
 #[cfg(test)]

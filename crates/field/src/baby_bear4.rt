@@ -6,9 +6,13 @@ ghost use Rattle.field.specs.BabyBear.{baby_bear_prime, baby_bear_ring, baby_bea
 ghost use Rattle.field.specs.BabyBear4.{baby_bear4_characteristic, baby_bear4_domain, baby_bear4_embeds, baby_bear4_equality, baby_bear4_inverse, baby_bear4_inverse_is, baby_bear4_lawful, baby_bear4_ring, baby_bear4_text, four_decimals};
 ghost use Rattle.field.specs.Quartic.{coefficients_of, norm_high, norm_low, quartic_cofactor, quartic_embed, quartic_norm};
 ghost use Rattle.field.specs.Ring.{sub_in};
+ghost use Rattle.serde.specs.Event.{Sends, WritesSeq, unsigned};
 
 use crate::baby_bear::{self, BabyBear};
 use crate::traits::{Domain, ExtensionDomain, ExtensionField, Field, PrimeCharacteristicRing};
+use serde::{
+    Described, Deserialize, DeserializeOwned, Deserializer, Format, Serialize, Serializer,
+};
 use std::alloc::{AllocError, Global};
 use std::marker::Model;
 use std::ops::{Add, Mul, Neg, Sub};
@@ -269,6 +273,38 @@ impl ExtensionDomain<BabyBear> for BabyBear4 {
 }
 
 impl ExtensionField<BabyBear> for BabyBear4 {}
+
+impl Described for BabyBear4 {
+    ghost writes = { λ x. WritesSeq (λ c. Sends (unsigned c.value)) (coefficients_of x) };
+}
+
+/// An element is sent as the list of its four coefficients, lowest power first.
+impl Serialize for BabyBear4 {
+    fn serialize<S: Serializer>(&self, out: &mut S) -> Result<(), S::Error> {
+        self.coefficients().serialize(out)
+    }
+}
+
+/// A list of another length is refused, and so is anything else.
+impl DeserializeOwned for BabyBear4 {
+    fn deserialize_owned<R: Format>(
+        alloc: Global,
+        from: &mut Deserializer<'_, '_, R>,
+    ) -> Result<BabyBear4, R::Error> {
+        let (c0, c1, c2, c3) = DeserializeOwned::deserialize_owned(alloc, from)?;
+        Ok(BabyBear4::new([c0, c1, c2, c3]))
+    }
+}
+
+/// A list of another length is refused, and so is anything else.
+impl<'de> Deserialize<'de> for BabyBear4 {
+    fn deserialize<R: Format>(
+        alloc: Global,
+        from: &mut Deserializer<'de, '_, R>,
+    ) -> Result<BabyBear4, R::Error> {
+        BabyBear4::deserialize_owned(alloc, from)
+    }
+}
 
 #[cfg(test)]
 mod tests;

@@ -1,13 +1,19 @@
 //! The field of the integers modulo 7.
-ghost use Rattle.std.specs.Prelude.{◌≡◌, ◌<◌, ◌+◌, ◌-◌, ◌*◌, ℕ, refl, decimal};
+ghost use Rattle.std.specs.Prelude.{◌≡◌, IfOk, ◌<◌, ◌+◌, ◌-◌, ◌*◌, ℕ, refl, decimal};
 ghost use Rattle.std.proofs.Common.{rules, arith};
 ghost use Rattle.field.specs.IntegersModulo7.{f7_of, f7_positive, f7_prime, f7_ring};
 ghost use Rattle.field.specs.PrimeResidues.{residue_domain, residue_inverse_is};
 ghost use Rattle.field.specs.Residue.{Residue, residue_equality};
 ghost use Rattle.field.specs.ResidueRing.{residue_characteristic, residue_inverse, residue_ring_lawful};
 ghost use Rattle.field.specs.Ring.{sub_in};
+ghost use Rattle.serde.specs.Event.{Sends, unsigned};
+ghost use Rattle.serde.specs.Steps.{Gives};
 
+use crate::reading::number_below;
 use crate::traits::{Domain, Field, PrimeCharacteristicRing};
+use serde::{
+    Described, Deserialize, DeserializeOwned, Deserializer, Format, Serialize, Serializer,
+};
 use std::alloc::{AllocError, Global};
 use std::marker::Model;
 use std::ops::{Add, Mul, Neg, Sub};
@@ -45,7 +51,7 @@ impl F7 {
         F7 { value: n % 7 }
     }
 
-    fn number(self) -> u32
+    pub(crate) fn number(self) -> u32
         ensures value { result ≡ self.value }
         ensures below { result < 7 }
     {
@@ -165,6 +171,42 @@ impl Field for F7 {
     }
 
     ghost inverse_is = { residue_inverse_is 7 f7_positive f7_prime };
+}
+
+impl Described for F7 {
+    ghost writes = { λ x old new. Sends (unsigned x.value) old new };
+}
+
+/// An element is sent as the one unsigned number below 7 that it is.
+impl Serialize for F7 {
+    fn serialize<S: Serializer>(&self, out: &mut S) -> Result<(), S::Error> {
+        self.number().serialize(out)
+    }
+}
+
+/// Any other number is refused, and so is anything else.
+impl DeserializeOwned for F7 {
+    fn deserialize_owned<R: Format>(
+        alloc: Global,
+        from: &mut Deserializer<'_, '_, R>,
+    ) -> Result<F7, R::Error>
+        ensures { IfOk result (λ x. Gives R.gives from.old (unsigned x.value) from.new) }
+    {
+        let number = number_below(alloc, 7, from)?;
+        Ok(F7::new(number))
+    }
+}
+
+/// Any other number is refused, and so is anything else.
+impl<'de> Deserialize<'de> for F7 {
+    fn deserialize<R: Format>(
+        alloc: Global,
+        from: &mut Deserializer<'de, '_, R>,
+    ) -> Result<F7, R::Error>
+        ensures { IfOk result (λ x. Gives R.gives from.old (unsigned x.value) from.new) }
+    {
+        F7::deserialize_owned(alloc, from)
+    }
 }
 
 #[cfg(test)]

@@ -12,6 +12,7 @@ mod integers_modulo_2;
 mod integers_modulo_7;
 mod inverter;
 mod linear;
+mod reading;
 mod traits;
 
 pub use baby_bear::BabyBear;

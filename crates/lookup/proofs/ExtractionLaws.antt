@@ -19,14 +19,15 @@ use Rattle.expressions.specs.declared.layout.AirLayout.{AirLayout}
 use Rattle.lookup_record.specs.RecordedAir.{EvaluatesNew}
 use Rattle.lookup_record.specs.declared.symbolic.InteractionSymbolicBuilder.{InteractionSymbolicBuilder}
 use Rattle.lookup_record.specs.Interaction.{Tuple, GlobalInteraction, ExclusiveInteraction}
-use Rattle.lookup.specs.Extraction.{SeenLookup, exclusive_at, extraction, global_at, in_columns, local_at, tuple_widths, HasOtherWidth, IsFaultless, IsFirstLocalRefusal, IsLocalRefusal}
+use Rattle.lookup_model.specs.Outline.{Outline}
+use Rattle.lookup.specs.Extraction.{exclusive_at, extraction, global_at, in_columns, local_at, tuple_widths, HasOtherWidth, IsFaultless, IsFirstLocalRefusal, IsLocalRefusal}
 
 -- a list is one longer with one more item
 length_push : {A : Type 0} (xs : List A) (x : A) → length (xs ++ x ∷ []) ≡ length xs + 1
 length_push xs x = length-append xs (x ∷ [])
 
 -- one more lookup, in the next column
-pub next_column : {L M E : Type 0} (seen : L → SeenLookup E) (lookup_at : ℕ → M → SeenLookup E) (lookups : List L) (l : L) (m : M) (rest : List M) → seen l ≡ lookup_at (length lookups) m
+pub next_column : {L M E : Type 0} (seen : L → Outline E) (lookup_at : ℕ → M → Outline E) (lookups : List L) (l : L) (m : M) (rest : List M) → seen l ≡ lookup_at (length lookups) m
     → map seen (lookups ++ l ∷ []) ++ in_columns lookup_at (length (lookups ++ l ∷ [])) rest ≡ map seen lookups ++ in_columns lookup_at (length lookups) (m ∷ rest)
 next_column seen lookup_at lookups l m rest is =
     (λ i. map_push seen lookups l i ++ in_columns lookup_at (length_push lookups l i) rest)
@@ -71,7 +72,7 @@ module _ {E : Type 0} where
     refusal = refusal;
   }
 
-module _ {L M R E : Type 0} (seen : L → SeenLookup E) (lookup_at : ℕ → M → SeenLookup E) (seen_interaction : R → M) where
+module _ {L M R E : Type 0} (seen : L → Outline E) (lookup_at : ℕ → M → Outline E) (seen_interaction : R → M) where
   -- what is seen of the lookups so far and of the interactions that are left stays the same
   pub next_seen : (before after : List L) (l : L) (left later : List R) (x : R) (column : ℕ) → after ≡ before ++ l ∷ [] → left ≡ x ∷ later → column ≡ length before → seen l ≡ lookup_at column (seen_interaction x)
       → map seen after ++ in_columns lookup_at (length after) (map seen_interaction later) ≡ map seen before ++ in_columns lookup_at (length before) (map seen_interaction left)
@@ -86,12 +87,12 @@ next_records {F} before after l column pushed at records record_at =
     subst (λ (t : List (Lookup F)). AreRecords t) (sym pushed) (AreRecords-push before l records (subst (λ (n : ℕ). IsRecordAt n l) at record_at))
 
 -- as many lookups as interactions
-length-in_columns : {M E : Type 0} (lookup_at : ℕ → M → SeenLookup E) (n : ℕ) (interactions : List M) → length (in_columns lookup_at n interactions) ≡ length interactions
+length-in_columns : {M E : Type 0} (lookup_at : ℕ → M → Outline E) (n : ℕ) (interactions : List M) → length (in_columns lookup_at n interactions) ≡ length interactions
 length-in_columns lookup_at n interactions =
     length-map (enumerate_from n interactions) (λ p. lookup_at p.0 p.1) ∙ length-enumerate_from n interactions
 
-module _ {L E : Type 0} (seen : L → SeenLookup E) where
-  length-seen : (lookups : List L) (list : List (SeenLookup E)) → map seen lookups ≡ list → length lookups ≡ length list
+module _ {L E : Type 0} (seen : L → Outline E) where
+  length-seen : (lookups : List L) (list : List (Outline E)) → map seen lookups ≡ list → length lookups ≡ length list
   length-seen lookups list e = sym (length-map lookups seen) ∙ ap length e
 
   -- the three kinds one after another are the extraction
@@ -114,7 +115,7 @@ whole_list f xs ys rest none e =
     sym (append-nil xs) ∙ ap (λ r. xs ++ map f r) (sym none) ∙ e
 
 -- likewise of lookups
-pub all_seen : {L M E : Type 0} (seen : L → SeenLookup E) (lookup_at : ℕ → M → SeenLookup E) (lookups : List L) (rest : List M) (list : List (SeenLookup E)) → rest ≡ [] → map seen lookups ++ in_columns lookup_at (length lookups) rest ≡ list → map seen lookups ≡ list
+pub all_seen : {L M E : Type 0} (seen : L → Outline E) (lookup_at : ℕ → M → Outline E) (lookups : List L) (rest : List M) (list : List (Outline E)) → rest ≡ [] → map seen lookups ++ in_columns lookup_at (length lookups) rest ≡ list → map seen lookups ≡ list
 all_seen seen lookup_at lookups rest list none e =
     sym (append-nil (map seen lookups)) ∙ ap (λ r. map seen lookups ++ in_columns lookup_at (length lookups) r) (sym none) ∙ e
 

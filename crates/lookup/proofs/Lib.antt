@@ -6,6 +6,7 @@ pub mod KeyLaws
 pub mod Layouts
 pub mod LookupFaults
 pub mod Nets
+pub mod Outlines
 pub mod OwnWindow
 pub mod PlainProgramLaws
 pub mod PlainResults

@@ -1,54 +1,25 @@
 -- The lookups that are extracted from the records of an AIR.
 use Rattle.std.specs.Prelude.{◌≡◌, ◌≢◌, ◌+◌, ◌<◌, ◌≤◌, ◌⊎◌, ℕ, List, [], ◌∷◌, ◌++◌, length, map, Option, None, Some, slice_get, All, Result, Ok, Err, MatchResult}
 use Rattle.std.specs.List.{enumerate_from, sum_by}
-use Rattle.std.specs.Option.{option_map}
 use Rattle.std.specs.String.{string_bytes}
 use Rattle.std.specs.declared.alloc.Global.{Global}
 use Rattle.std.specs.declared.string.String.{String}
-use Rattle.expressions.specs.declared.base_expression.SymbolicExpression.{SymbolicExpression}
 use Rattle.expressions.specs.declared.error.AirError.{AirError}
 use Rattle.expressions.specs.declared.layout.AirLayout.{AirLayout}
 use Rattle.lookup_model.specs.LookupDegree.{greatest}
+use Rattle.lookup_model.specs.Outline.{Outline, fields_of}
 use Rattle.lookup_model.specs.Refusal.{from_air}
 use Rattle.lookup_model.specs.declared.error.LookupError.{LookupError}
 use Rattle.lookup_model.specs.declared.error.LookupError.TheVariants.{Memory, CountWeightOverflow, TupleWidths}
-use Rattle.lookup_model.specs.declared.types.Kind.{Kind}
-use Rattle.lookup_model.specs.declared.types.Kind.TheVariants as kind
-use Rattle.lookup_model.specs.declared.types.Lookup.{Lookup}
 use Rattle.lookup_record.specs.Interaction.{Tuple, GlobalInteraction, ExclusiveInteraction}
 use Rattle.lookup_record.specs.RecordedAir.{EvaluatesNew, recorded_air}
 use Rattle.lookup_record.specs.declared.symbolic.InteractionSymbolicBuilder.{InteractionSymbolicBuilder}
 use Rattle.lookup.specs.Lookups.{lookups_of}
 use Rattle.lookup.specs.declared.lookups.Lookups.{Lookups}
 
--- a lookup as it is seen: a text as its bytes, a vector as a list, and no bus for a local one
-pub record SeenLookup (E : Type 0) : Type 0 where
-  pub bus : Option (List ℕ)
-  pub elements : List (List E)
-  pub multiplicities : List E
-  pub count_weight : ℕ
-  pub column : ℕ
-  pub flags : Option (List E)
-
--- the bus of a kind
-abbrev pub bus_of : Kind → Option (List ℕ)
-bus_of kind.Local = None
-bus_of (kind.Global name) = Some (string_bytes name)
-
--- what is seen of a lookup
-abbrev pub seen_lookup : {F : Type 0} → Lookup F → SeenLookup (SymbolicExpression F)
-seen_lookup l = record {
-  bus = bus_of l.kind;
-  elements = map (λ tuple. tuple.items) l.elements.items;
-  multiplicities = l.multiplicities.items;
-  count_weight = l.count_weight;
-  column = l.column;
-  flags = option_map (λ flags. flags.items) l.flags;
-}
-
 module _ {E : Type 0} where
   -- the lookup of a local interaction, whose weight is the sum over its tuples
-  abbrev pub local_at : ℕ → List (Tuple E) → SeenLookup E
+  abbrev pub local_at : ℕ → List (Tuple E) → Outline E
   local_at column tuples = record {
     bus = None;
     elements = map (λ t. t.fields) tuples;
@@ -59,7 +30,7 @@ module _ {E : Type 0} where
   }
 
   -- the lookup of a message on a bus, of one tuple
-  abbrev pub global_at : ℕ → GlobalInteraction E → SeenLookup E
+  abbrev pub global_at : ℕ → GlobalInteraction E → Outline E
   global_at column m = record {
     bus = Some m.bus_name;
     elements = m.fields ∷ [];
@@ -70,7 +41,7 @@ module _ {E : Type 0} where
   }
 
   -- the lookup of a group, whose weight is the greatest of its branches
-  abbrev pub exclusive_at : ℕ → ExclusiveInteraction E → SeenLookup E
+  abbrev pub exclusive_at : ℕ → ExclusiveInteraction E → Outline E
   exclusive_at column m = record {
     bus = Some m.bus_name;
     elements = map (λ b. b.fields) m.branches;
@@ -81,12 +52,12 @@ module _ {E : Type 0} where
   }
 
   -- the lookups that a list of interactions makes, in the columns from n on
-  abbrev pub in_columns : {M : Type 0} → (ℕ → M → SeenLookup E) → ℕ → List M → List (SeenLookup E)
+  abbrev pub in_columns : {M : Type 0} → (ℕ → M → Outline E) → ℕ → List M → List (Outline E)
   in_columns lookup_at n interactions =
       map (λ p. lookup_at p.0 p.1) (enumerate_from n interactions)
 
   -- local lookups, then messages on buses, then groups, in the columns 0, 1, 2 and on
-  abbrev pub extraction : List (List (Tuple E)) → List (GlobalInteraction E) → List (ExclusiveInteraction E) → List (SeenLookup E)
+  abbrev pub extraction : List (List (Tuple E)) → List (GlobalInteraction E) → List (ExclusiveInteraction E) → List (Outline E)
   extraction locals globals exclusives =
       (in_columns local_at 0 locals ++ in_columns global_at (length locals) globals)
       ++ in_columns exclusive_at (length locals + length globals) exclusives
@@ -141,7 +112,7 @@ module _ {E : Type 0} where
 abbrev pub Extracts : {A F EF : Type 0} → (A → InteractionSymbolicBuilder F EF → Result (Unit {0}) AirError → InteractionSymbolicBuilder F EF → Type 0) → A → AirLayout → Result (Lookups F) LookupError → Type 0
 Extracts {A} {F} {EF} evaluates air layout answer = MatchResult answer
     (λ set. (b : InteractionSymbolicBuilder F EF) × EvaluatesNew evaluates air layout (Ok b)
-    × (map seen_lookup (lookups_of set) ≡ extraction (recorded_air b).locals (recorded_air b).globals (recorded_air b).exclusives)
+    × (map fields_of (lookups_of set) ≡ extraction (recorded_air b).locals (recorded_air b).globals (recorded_air b).exclusives)
     × All IsFaultless (recorded_air b).locals)
     (λ e. (e ≡ Memory)
     ⊎ (((refusal : AirError) × EvaluatesNew evaluates air layout (Err refusal) × (e ≡ from_air refusal))

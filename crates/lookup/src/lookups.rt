@@ -1,7 +1,9 @@
 //! The lookups of one AIR.
-ghost use Rattle.std.specs.Prelude.{◌≡◌, ◌↔◌, ℕ, IsTrue, MatchResult};
+ghost use Rattle.std.specs.Prelude.{◌≡◌, ◌↔◌, ℕ, IfOk, IsTrue, MatchResult, map, ⊤};
 ghost use Rattle.std.specs.List.{sum_by};
 ghost use Rattle.expressions.specs.Layout.{layout_of_widths};
+ghost use Rattle.serde.specs.Event.{WritesSeq};
+ghost use Rattle.lookup_model.specs.Outline.{outline_of};
 ghost use Rattle.lookup_model.specs.Records.{AreRecords, DoFit, IsFirstMalformed};
 
 use crate::extraction;
@@ -9,7 +11,8 @@ use air::{Air, AirLayout};
 use field::{ExtensionField, Field};
 use lookup_model::{Lookup, LookupError};
 use lookup_record::InteractionSymbolicBuilder;
-use std::alloc::Global;
+use serde::{Described, Serialize, Serializer};
+use std::alloc::{AllocError, Global};
 
 /// The lookups of one AIR: each has as many multiplicities, and flags where it has flags, as
 /// tuples, and their columns are 0, 1, 2 and on.
@@ -81,5 +84,43 @@ impl<F: Field> Lookups<F> {
         ensures { IsTrue result ↔ DoFit layout.now (lookups_of self.now) }
     {
         lookup_model::fits(self.as_slice(), layout)
+    }
+
+    /// The same lookups again, their expressions node by node.
+    ///
+    /// The one refusal is want of memory.
+    pub fn copy(&self, alloc: Global) -> Result<Self, AllocError>
+        ensures { IfOk result (λ r. map outline_of (lookups_of r) ≡ map outline_of (lookups_of self.now)) }
+    {
+        let lookups = copy_lookups(alloc, self.as_slice())?;
+        Ok(Lookups { lookups })
+    }
+}
+
+/// The same lookups again.
+fn copy_lookups<F: Field>(
+    alloc: Global,
+    lookups: &[Lookup<F>],
+) -> Result<Vec<Lookup<F>>, AllocError>
+    ensures { IfOk result (λ v. map outline_of v.items ≡ map outline_of lookups.now) }
+{
+    let mut copies = Vec::new(alloc);
+    for lookup in lookups {
+        copies.push(lookup.copy(alloc)?)?;
+    }
+    Ok(copies)
+}
+
+impl<F> Described for Lookups<F> {
+    ghost use Rattle.lookup.specs.Lookups.{lookups_of};
+
+    ghost writes = { λ set. WritesSeq (λ _ _ _. ⊤) (lookups_of set) };
+}
+
+/// A set is sent as the list of its lookups. It is not read as such: a `Vec` of lookups is read,
+/// and goes through [`Lookups::from_records`].
+impl<F: Serialize> Serialize for Lookups<F> {
+    fn serialize<S: Serializer>(&self, out: &mut S) -> Result<(), S::Error> {
+        self.lookups.serialize(out)
     }
 }

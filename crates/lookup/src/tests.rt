@@ -2,6 +2,7 @@
 mod evaluation;
 mod example;
 mod extraction;
+mod json;
 mod windows;
 mod witnesses;
 

@@ -10,6 +10,7 @@ pub mod HornerRule
 pub mod LookupDegree
 pub mod Message
 pub mod Net
+pub mod Outline
 pub mod Plain
 pub mod RecordLaws
 pub mod Records

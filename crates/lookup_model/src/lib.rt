@@ -3,9 +3,11 @@
 //! satisfied witness (LogUp, eprint 2022/1530).
 #![tactic(auto)]
 
+mod copies;
 mod degree;
 mod error;
 mod fitting;
+mod reading;
 mod types;
 
 pub use degree::constraint_degree;

@@ -3,9 +3,10 @@ ghost use Rattle.std.specs.Prelude.{◌≡◌};
 
 use expressions::SymbolicExpression;
 use field::PrimeCharacteristicRing;
+use serde::{Deserialize, Serialize};
 
 /// Whether a lookup stands by itself or is sent on a bus.
-#[derive(Debug, Drop, PartialEq, Eq)]
+#[derive(Debug, Drop, PartialEq, Eq, Serialize, Deserialize)]
 pub enum Kind {
     /// A lookup inside one AIR.
     Local,
@@ -17,7 +18,7 @@ pub enum Kind {
 ///
 /// Without `flags` (additive) a row sends every tuple with its multiplicity. With `flags`
 /// (exclusive), one for each tuple, a row sends the tuple and the multiplicity whose flag is set.
-#[derive(Debug, Drop)]
+#[derive(Debug, Drop, Serialize)]
 pub struct Lookup<F> {
     /// Local, or global on a named bus.
     pub kind: Kind,
@@ -34,7 +35,7 @@ pub struct Lookup<F> {
 }
 
 /// The sum of all fractions of one AIR, which its prover hands over.
-#[derive(Clone, Copy, Debug)]
+#[derive(Clone, Copy, Debug, Serialize, Deserialize)]
 pub struct LookupTerminal<F>(pub F);
 
 /// Zero, the terminal of an AIR that sends nothing.

@@ -1,4 +1,3 @@
-pub mod Declaration
 pub mod Interaction
 pub mod Messages
 pub mod Negation

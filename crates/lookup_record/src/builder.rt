@@ -2,10 +2,10 @@
 ghost use Rattle.std.specs.Prelude.{◌≡◌, ℕ, ◌↔◌, MatchResult};
 ghost use Rattle.expressions.specs.Window.{Window};
 ghost use Rattle.expressions.specs.declared.error.AirError.{AirError};
-ghost use Rattle.lookup_record.specs.Declaration.{Declaration, read, table};
+ghost use Rattle.lookup_declaration.specs.Declaration.{Declaration, read, table};
 ghost use Rattle.lookup_record.specs.Interaction.{Interaction};
 ghost use Rattle.lookup_record.specs.Pushed.{pushed_exclusive, pushed_global, pushed_local};
-ghost use Rattle.lookup_record.specs.declared.indexed.TraceWindow.{TraceWindow};
+ghost use Rattle.lookup_declaration.specs.declared.indexed.TraceWindow.{TraceWindow};
 
 use crate::count::Count;
 use crate::indexed::TraceWindow;

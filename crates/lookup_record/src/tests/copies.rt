@@ -1,7 +1,7 @@
 use crate::tests::{constant, constants, once, value, values};
 use crate::{
-    IndexedRead, IndexedTable, SymbolicExclusiveBranch, SymbolicExclusiveInteraction,
-    SymbolicInteraction, SymbolicLocalInteraction, TraceWindow,
+    SymbolicExclusiveBranch, SymbolicExclusiveInteraction, SymbolicInteraction,
+    SymbolicLocalInteraction,
 };
 use field::F7;
 use std::test::Fail;
@@ -63,24 +63,5 @@ fn groups_are_copied(rt: HostRuntime) -> Result<(), Fail> {
         (value(&again.flag), value(&again.count)),
         (Some(F7::new(1)), Some(F7::new(2)))
     );
-    Ok(())
-}
-
-#[test]
-fn declarations_are_copied(rt: HostRuntime) -> Result<(), Fail> {
-    let alloc = rt.alloc();
-    let read = IndexedRead {
-        table: String::from_str(alloc, "t")?,
-        position: 2,
-        payload: Vec::from_slice(alloc, &[1, 0])?,
-    };
-    let table = IndexedTable {
-        name: String::from_str(alloc, "t")?,
-        window: TraceWindow::default(),
-        columns: Vec::from_slice(alloc, &[3])?,
-    };
-    assert!(rt; read.copy(alloc)? == read);
-    assert!(rt; table.copy(alloc)? == table);
-    assert_eq!(rt; table.window, TraceWindow::Main);
     Ok(())
 }

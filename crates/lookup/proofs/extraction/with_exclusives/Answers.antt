@@ -1,6 +1,7 @@
 use Rattle.std.proofs.Common.{◌≡◌, length, ◌∙◌, arith}
 use Rattle.lookup_record.specs.Records.{exclusive_of}
-use Rattle.lookup.specs.Extraction.{exclusive_at, seen_lookup}
+use Rattle.lookup_model.specs.Outline.{fields_of}
+use Rattle.lookup.specs.Extraction.{exclusive_at}
 use Rattle.lookup.proofs.ExtractionLaws.{next_records, next_seen}
 use Rattle.lookup.proofs.extraction.with_exclusives.Goals as goal
 
@@ -9,4 +10,4 @@ loop-interaction-preserved g c =
     let made = c.in_ok-exclusive_lookup.ensures in
     let pushed = c.in_ok-push.ensures.items in
     let column : c.len-column.result ≡ length c.loop-interaction.lookups.items = omega (arith, c.len-column.ensures, c.loop-interaction.lookups.ok.0) in
-    (next_seen seen_lookup exclusive_at exclusive_of _ _ _ _ _ _ _ pushed c.in-Some.ensures.steps.0 column made.0 ∙ c.loop-interaction.invariant.0, next_records _ _ _ _ pushed column c.loop-interaction.invariant.1 made.1)
+    (next_seen fields_of exclusive_at exclusive_of _ _ _ _ _ _ _ pushed c.in-Some.ensures.steps.0 column made.0 ∙ c.loop-interaction.invariant.0, next_records _ _ _ _ pushed column c.loop-interaction.invariant.1 made.1)

@@ -2,11 +2,12 @@ use Rattle.std.proofs.Common.{◌≡◌, ◌++◌, length, map}
 use Rattle.std.specs.Vec.Iter.{into_iter_items}
 use Rattle.lookup_model.specs.Records.{AreRecords}
 use Rattle.lookup_record.specs.Records.{exclusive_of}
-use Rattle.lookup.specs.Extraction.{in_columns, exclusive_at, seen_lookup}
+use Rattle.lookup_model.specs.Outline.{fields_of}
+use Rattle.lookup.specs.Extraction.{in_columns, exclusive_at}
 use Rattle.lookup.proofs.extraction.with_exclusives.Given as goal
 
 abbrev pub invariant-loop-interaction : goal.invariant-loop-interaction
 invariant-loop-interaction g l =
-    (map seen_lookup l.lookups.items ++ in_columns exclusive_at (length l.lookups.items) (map exclusive_of (into_iter_items l.interaction-iterator))
-    ≡ map seen_lookup l.fn.before.items ++ in_columns exclusive_at (length l.fn.before.items) (map exclusive_of l.fn.exclusives.items))
+    (map fields_of l.lookups.items ++ in_columns exclusive_at (length l.lookups.items) (map exclusive_of (into_iter_items l.interaction-iterator))
+    ≡ map fields_of l.fn.before.items ++ in_columns exclusive_at (length l.fn.before.items) (map exclusive_of l.fn.exclusives.items))
     × AreRecords l.lookups.items

@@ -1,0 +1,69 @@
+//! Indexed lookups, whose readers name the entry that they read.
+ghost use Rattle.std.specs.Prelude.{◌≡◌, IfOk};
+ghost use Rattle.lookup_declaration.specs.Declaration.{read_of, table_of};
+
+use serde::{Deserialize, Serialize};
+use std::alloc::{AllocError, Global};
+
+/// The committed trace of an AIR whose columns a table names.
+#[derive(Clone, Copy, Debug, Default, PartialEq, Eq, Hash, Serialize, Deserialize)]
+pub enum TraceWindow {
+    /// The main trace.
+    #[default]
+    Main,
+    /// The preprocessed trace.
+    Preprocessed,
+}
+
+/// A reader of a table: on each row `i`, `payload[j][i] = columns[j][position[i]]` for each `j`,
+/// where `columns` are those of the table.
+#[derive(Debug, Drop, PartialEq, Eq, Serialize, Deserialize)]
+pub struct IndexedRead {
+    /// The name of the table.
+    pub table: String,
+    /// The column of the main trace that holds the index of the entry each row reads.
+    pub position: usize,
+    /// The columns of the main trace that hold what is read, in the order of the table's columns.
+    pub payload: Vec<usize>,
+}
+
+impl IndexedRead {
+    /// The same declaration again.
+    ///
+    /// The one refusal is want of memory.
+    pub fn copy(&self, alloc: Global) -> Result<Self, AllocError>
+        ensures { IfOk result (λ r. read_of r ≡ read_of self.now) }
+    {
+        Ok(IndexedRead {
+            table: String::from_str(alloc, self.table.as_str())?,
+            position: self.position,
+            payload: Vec::from_slice(alloc, self.payload.as_slice())?,
+        })
+    }
+}
+
+/// A table that is provided once and read by any number of readers.
+#[derive(Debug, Drop, PartialEq, Eq, Serialize, Deserialize)]
+pub struct IndexedTable {
+    /// The name that its readers use.
+    pub name: String,
+    /// The trace that has the columns.
+    pub window: TraceWindow,
+    /// The columns of an entry, in the order in which readers take them.
+    pub columns: Vec<usize>,
+}
+
+impl IndexedTable {
+    /// The same declaration again.
+    ///
+    /// The one refusal is want of memory.
+    pub fn copy(&self, alloc: Global) -> Result<Self, AllocError>
+        ensures { IfOk result (λ t. table_of t ≡ table_of self.now) }
+    {
+        Ok(IndexedTable {
+            name: String::from_str(alloc, self.name.as_str())?,
+            window: self.window,
+            columns: Vec::from_slice(alloc, self.columns.as_slice())?,
+        })
+    }
+}

@@ -1,0 +1,10 @@
+//! What AIRs declare of indexed lookups: the tables, and the readers that name the entry they read.
+//!
+//! Declarations are written to a format, as JSON, and read from one.
+#![tactic(auto)]
+
+mod indexed;
+#[cfg(test)]
+mod tests;
+
+pub use indexed::{IndexedRead, IndexedTable, TraceWindow};

@@ -1,0 +1,122 @@
+//! Reading lookups from a format, as JSON.
+use crate::types::{Kind, Lookup};
+use expressions::SymbolicExpression;
+use serde::{Deserialize, DeserializeOwned, Deserializer, Format, Name};
+use std::alloc::Global;
+
+/// The members of a lookup that were read so far.
+#[derive(Drop)]
+struct Members<F> {
+    kind: Option<Kind>,
+    elements: Option<Vec<Vec<SymbolicExpression<F>>>>,
+    multiplicities: Option<Vec<SymbolicExpression<F>>>,
+    count_weight: Option<u32>,
+    column: Option<usize>,
+    flags: Option<Option<Vec<SymbolicExpression<F>>>>,
+}
+
+impl<F: DeserializeOwned> Members<F> {
+    fn new() -> Self {
+        Members {
+            kind: None,
+            elements: None,
+            multiplicities: None,
+            count_weight: None,
+            column: None,
+            flags: None,
+        }
+    }
+
+    /// Reads the member of this place.
+    fn read<R: Format>(
+        &mut self,
+        alloc: Global,
+        at: usize,
+        from: &mut Deserializer<'_, '_, R>,
+    ) -> Result<(), R::Error> {
+        match at {
+            0 => fill(alloc, "kind", &mut self.kind, from),
+            1 => fill(alloc, "elements", &mut self.elements, from),
+            2 => fill(alloc, "multiplicities", &mut self.multiplicities, from),
+            3 => fill(alloc, "count_weight", &mut self.count_weight, from),
+            4 => fill(alloc, "column", &mut self.column, from),
+            5 => fill(alloc, "flags", &mut self.flags, from),
+            _ => from.skip(),
+        }
+    }
+
+    /// The lookup of these members.
+    fn into_lookup<R: Format>(self, from: &Deserializer<'_, '_, R>) -> Result<Lookup<F>, R::Error> {
+        Ok(Lookup {
+            kind: present("kind", self.kind, from)?,
+            elements: present("elements", self.elements, from)?,
+            multiplicities: present("multiplicities", self.multiplicities, from)?,
+            count_weight: present("count_weight", self.count_weight, from)?,
+            column: present("column", self.column, from)?,
+            flags: self.flags.flatten(),
+        })
+    }
+}
+
+/// Reads the value of a member into its place, which has to be free.
+fn fill<T: DeserializeOwned, R: Format>(
+    alloc: Global,
+    name: &str,
+    place: &mut Option<T>,
+    from: &mut Deserializer<'_, '_, R>,
+) -> Result<(), R::Error> {
+    if place.is_some() {
+        return Err(from.duplicate(name));
+    }
+    *place = Some(T::deserialize_owned(alloc, from)?);
+    Ok(())
+}
+
+/// A member that has to be there.
+fn present<T: Drop, R: Format>(
+    name: &str,
+    member: Option<T>,
+    from: &Deserializer<'_, '_, R>,
+) -> Result<T, R::Error> {
+    match member {
+        Some(value) => Ok(value),
+        None => Err(from.missing(name)),
+    }
+}
+
+/// A lookup is a map of its members. Missing and doubled members are refused, but for `flags`,
+/// which may be missing where there are none; members of other names are passed over.
+impl<F: DeserializeOwned> DeserializeOwned for Lookup<F> {
+    fn deserialize_owned<R: Format>(
+        alloc: Global,
+        from: &mut Deserializer<'_, '_, R>,
+    ) -> Result<Lookup<F>, R::Error> {
+        let names = [
+            Name::exact("kind"),
+            Name::exact("elements"),
+            Name::exact("multiplicities"),
+            Name::exact("count_weight"),
+            Name::exact("column"),
+            Name::exact("flags"),
+        ];
+        let mut members = Members::new();
+        from.begin_map()?;
+        for _ in 0..u64::MAX {
+            match from.next_key(&names)? {
+                Some(at) => members.read(alloc, at, from)?,
+                None => break,
+            }
+        }
+        members.into_lookup(from)
+    }
+}
+
+/// As `DeserializeOwned` reads.
+impl<'de, F: DeserializeOwned> Deserialize<'de> for Lookup<F> {
+    fn deserialize<R: Format>(
+        alloc: Global,
+        from: &mut Deserializer<'de, '_, R>,
+    ) -> Result<Lookup<F>, R::Error> {
+        Lookup::deserialize_owned(alloc, from)
+    }
+}
