@@ -44,6 +44,43 @@ impl<AB: InteractionBuilder> Air<AB> for RangeAir {
     }
 }
 
+/// Columns `flag0 key0 flag1 key1`: a row looks up the key whose flag is set, or none.
+pub struct ExclusiveAir;
+
+impl<F> BaseAir<F> for ExclusiveAir {
+    ghost width = { λ _. 4 };
+
+    ghost preprocessed_width = { λ _. 0 };
+
+    ghost num_public_values = { λ _. 0 };
+
+    fn width(&self) -> usize {
+        4
+    }
+
+    fn preprocessed_width(&self) -> usize {
+        0
+    }
+
+    fn num_public_values(&self) -> usize {
+        0
+    }
+}
+
+/// One group on the bus `rc`, with both keys as branches.
+impl<AB: InteractionBuilder> Air<AB> for ExclusiveAir {
+    ghost evaluates = { λ _ _ _ _. ⊤ };
+
+    fn eval(&self, alloc: Global, builder: &mut AB) -> Result<(), AirError> {
+        let mut branches = Vec::new(alloc);
+        for branch in 0..2 {
+            let flag = cell(alloc, builder, 2 * branch)?;
+            branches.push((flag, tuple(alloc, builder, 2 * branch + 1)?))?;
+        }
+        LookupBus::new("rc").lookup_key_exclusive(alloc, builder, branches)
+    }
+}
+
 /// The expression of a cell of the current row.
 fn cell<AB: AirBuilder>(alloc: Global, builder: &AB, column: usize) -> Result<AB::Expr, AirError> {
     let main = builder.main(alloc)?;

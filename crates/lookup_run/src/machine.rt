@@ -1,7 +1,7 @@
 //! The machines that the program knows.
 ghost use Rattle.std.specs.Prelude.{◌<◌};
 
-use crate::airs::RangeAir;
+use crate::airs::{ExclusiveAir, RangeAir};
 use crate::error::RunError;
 use field::{ExtensionField, Field};
 use lookup::Lookups;
@@ -13,6 +13,9 @@ pub enum Machine {
     /// Columns `read provide mult`, and one AIR with a local lookup: `[read]` with count 1, and
     /// `[provide]` with count `-mult`, which is provided.
     Range,
+    /// Columns `flag0 key0 flag1 key1`, and one AIR with a group on the bus `rc`: of both keys a row
+    /// looks up the one whose flag is set.
+    Exclusive,
 }
 
 impl Machine {
@@ -20,6 +23,7 @@ impl Machine {
     pub fn from_name(name: &str) -> Option<Machine> {
         match name {
             "range" => Some(Machine::Range),
+            "exclusive" => Some(Machine::Exclusive),
             _ => None,
         }
     }
@@ -30,6 +34,7 @@ impl Machine {
     {
         match self {
             Machine::Range => 3,
+            Machine::Exclusive => 4,
         }
     }
 
@@ -40,6 +45,7 @@ impl Machine {
     ) -> Result<Lookups<F>, RunError> {
         let lookups = match self {
             Machine::Range => Lookups::from_air::<EF, RangeAir>(alloc, &RangeAir),
+            Machine::Exclusive => Lookups::from_air::<EF, ExclusiveAir>(alloc, &ExclusiveAir),
         };
         lookups.map_err(|error| RunError::of_air(0, error))
     }

@@ -62,8 +62,7 @@ fn generated<F: Field, EF: ExtensionField<F>>(
     let public_values: Vec<F> = Vec::new(alloc);
     let layout = AirLayout::of_traces(main, preprocessed, public_values.as_slice());
     let lookups = lookups.as_slice();
-    let additive = lookups.iter().all(|lookup| lookup.flags.is_none());
-    if !additive || !lookup::fits(lookups, &layout) || challenges.len() / 2 < lookups.len() {
+    if !lookup::fits(lookups, &layout) || challenges.len() / 2 < lookups.len() {
         return Err(LookupError::BadRecord { lookup: 0 });
     }
     LogUpGadget::new().generate_permutation(

@@ -351,3 +351,54 @@ fn a_failing_write_ends_the_run(rt: HostRuntime) -> Result<(), Fail> {
     assert!(rt; refused.is_empty());
     Ok(())
 }
+
+/// One run of the machine `exclusive` over F7 with beta 2, on one row.
+fn expect_group(
+    rt: &impl Abort,
+    alloc: Global,
+    line: &str,
+    row: &[u8],
+    fraction: &[u8],
+    status: u8,
+) -> Result<(), Fail> {
+    let mut output = Vec::new(alloc);
+    output.extend_from_slice(b"air 0\n0 ")?;
+    output.extend_from_slice(fraction)?;
+    output.extend_from_slice(b"\nterminal ")?;
+    output.extend_from_slice(fraction)?;
+    output.extend_from_slice(if status == 0 {
+        b"\nbalanced\n".as_slice()
+    } else {
+        b"\nunbalanced\n".as_slice()
+    })?;
+    expect_run(rt, alloc, line, row, status, output.as_slice(), b"")
+}
+
+#[test]
+fn the_set_branch_of_a_group_is_looked_up(rt: HostRuntime) -> Result<(), Fail> {
+    let alloc = rt.alloc();
+    expect_group(&rt, alloc, "exclusive f7 5 2", b"1 3 0 5", b"2", 1)?;
+    expect_group(&rt, alloc, "exclusive f7 5 2", b"0 3 1 5", b"4", 1)?;
+    expect_group(&rt, alloc, "exclusive f7 5 2", b"0 3 0 5", b"0", 0)?;
+    expect_group(&rt, alloc, "exclusive f7 1 2", b"0 3 0 5", b"0", 0)
+}
+
+#[test]
+fn faulty_groups_are_refused(rt: HostRuntime) -> Result<(), Fail> {
+    let alloc = rt.alloc();
+    let boolean = b"error: air 0: row 0, lookup 0: exclusive flag must be boolean\n".as_slice();
+    let exclusive =
+        b"error: air 0: row 0, lookup 0: exclusive flags must sum to at most one per row\n".as_slice();
+    let vanishing = b"error: air 0: row 0, lookup 0: vanishing denominator\n".as_slice();
+    let runs = [
+        ("exclusive f7 5 2", b"2 3 0 5".as_slice(), boolean),
+        ("exclusive f7 5 2", b"1 3 2 5".as_slice(), boolean),
+        ("exclusive f7 5 2", b"1 3 1 5".as_slice(), exclusive),
+        ("exclusive f7 1 2", b"1 3 1 5".as_slice(), exclusive),
+        ("exclusive f7 1 2", b"1 3 0 5".as_slice(), vanishing),
+    ];
+    for (line, row, errors) in runs {
+        expect_run(&rt, alloc, line, row, 2, b"", errors)?;
+    }
+    Ok(())
+}
