@@ -12,6 +12,7 @@ mod exclusive;
 mod extraction;
 mod fraction;
 mod generation;
+pub mod indexed;
 pub mod logup;
 mod lookups;
 mod plain;

@@ -49,7 +49,11 @@ impl<AB: InteractionBuilder> Air<AB> for KeysAir {
 }
 
 /// The expression of a cell of the current row.
-fn cell<AB: AirBuilder>(alloc: Global, builder: &AB, column: usize) -> Result<AB::Expr, AirError> {
+pub(super) fn cell<AB: AirBuilder>(
+    alloc: Global,
+    builder: &AB,
+    column: usize,
+) -> Result<AB::Expr, AirError> {
     let main = builder.main(alloc)?;
     match main.current(column) {
         Some(variable) => Ok(variable.into()),
@@ -62,7 +66,7 @@ fn cell<AB: AirBuilder>(alloc: Global, builder: &AB, column: usize) -> Result<AB
 }
 
 /// The tuple of one cell.
-fn tuple<AB: AirBuilder>(
+pub(super) fn tuple<AB: AirBuilder>(
     alloc: Global,
     builder: &AB,
     column: usize,

@@ -1,6 +1,7 @@
 //! Lookups of AIRs that push what a test asks for.
 ghost use Rattle.std.specs.Prelude.{⊤};
 
+use super::example::{cell, tuple};
 use crate::{
     Count, InteractionBuilder, Kind, Lookup, LookupBus, LookupError, Lookups,
     assert_uniform_tuple_width,
@@ -234,7 +235,11 @@ impl<AB: InteractionBuilder> Air<AB> for ThreeRanges {
 
     fn eval(&self, alloc: Global, builder: &mut AB) -> Result<(), AirError> {
         for _ in 0..3 {
-            push_local(alloc, builder, &[(1, 1), (1, 0)])?;
+            let mut tuples = Vec::new(alloc);
+            tuples.push((tuple(alloc, builder, 0)?, Count::from_i32::<AB::F>(1)))?;
+            let provided = Count::provided(cell(alloc, builder, 2)?.neg(alloc)?);
+            tuples.push((tuple(alloc, builder, 1)?, provided))?;
+            builder.push_local_interaction(alloc, tuples)?;
         }
         Ok(())
     }
@@ -252,8 +257,62 @@ fn each_local_lookup_has_a_column(rt: HostRuntime) -> Result<(), Fail> {
     for (column, lookup) in lookups.iter().enumerate() {
         assert!(rt; lookup.column == column && lookup.count_weight == 1);
         assert!(rt; lookup.elements.len() == 2 && lookup.multiplicities.len() == 2);
-        assert!(rt; lookup.flags.is_none());
+        assert!(rt; lookup.flags.is_none() && lookup.kind == Kind::Local);
     }
+    Ok(())
+}
+
+/// Columns `flag0 key0 flag1 key1`: a group of both keys on the bus `rc`.
+struct TwoKeys;
+
+impl<F> BaseAir<F> for TwoKeys {
+    ghost width = { λ _. 4 };
+
+    ghost preprocessed_width = { λ _. 0 };
+
+    ghost num_public_values = { λ _. 0 };
+
+    fn width(&self) -> usize {
+        4
+    }
+
+    fn preprocessed_width(&self) -> usize {
+        0
+    }
+
+    fn num_public_values(&self) -> usize {
+        0
+    }
+}
+
+impl<AB: InteractionBuilder> Air<AB> for TwoKeys {
+    ghost evaluates = { λ _ _ _ _. ⊤ };
+
+    fn eval(&self, alloc: Global, builder: &mut AB) -> Result<(), AirError> {
+        let mut branches = Vec::new(alloc);
+        for branch in 0..2 {
+            let flag = cell(alloc, builder, 2 * branch)?;
+            branches.push((flag, tuple(alloc, builder, 2 * branch + 1)?))?;
+        }
+        LookupBus::new("rc").lookup_key_exclusive(alloc, builder, branches)
+    }
+}
+
+#[test]
+fn a_group_is_one_lookup(rt: HostRuntime) -> Result<(), Fail> {
+    let alloc = rt.alloc();
+    let lookups: Lookups<F7> = Lookups::from_air::<F7, TwoKeys>(alloc, &TwoKeys)?;
+    let lookups = lookups.as_slice();
+    assert!(rt; lookups.len() == 1);
+    assert!(rt; is_at(&lookups[0], 0, "rc"));
+    assert!(rt; lookups[0].count_weight == 1);
+    assert!(rt; lookups[0].elements.len() == 2 && lookups[0].multiplicities.len() == 2);
+    assert!(rt;
+        lookups[0]
+            .flags
+            .as_ref()
+            .is_some_and(|flags| flags.len() == 2)
+    );
     Ok(())
 }
 

@@ -1,0 +1,2 @@
+//! Indexed declarations.
+pub use lookup_record::{IndexedRead, IndexedTable, TraceWindow};
