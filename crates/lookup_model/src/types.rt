@@ -3,7 +3,7 @@ ghost use Rattle.std.specs.Prelude.{◌≡◌};
 
 use expressions::SymbolicExpression;
 use field::PrimeCharacteristicRing;
-use serde::{Deserialize, Serialize};
+use serde::{Described, Deserialize, Serialize, Serializer};
 
 /// Whether a lookup stands by itself or is sent on a bus.
 #[derive(Debug, Drop, PartialEq, Eq, Serialize, Deserialize)]
@@ -35,8 +35,19 @@ pub struct Lookup<F> {
 }
 
 /// The sum of all fractions of one AIR, which its prover hands over.
-#[derive(Clone, Copy, Debug, Serialize, Deserialize)]
+#[derive(Clone, Copy, Debug, Deserialize)]
 pub struct LookupTerminal<F>(pub F);
+
+impl<F: Described> Described for LookupTerminal<F> {
+    ghost writes = { λ terminal. F.writes terminal.0 };
+}
+
+/// A terminal is sent as its element.
+impl<F: Serialize> Serialize for LookupTerminal<F> {
+    fn serialize<S: Serializer>(&self, out: &mut S) -> Result<(), S::Error> {
+        self.0.serialize(out)
+    }
+}
 
 /// Zero, the terminal of an AIR that sends nothing.
 impl<F: PrimeCharacteristicRing> Default for LookupTerminal<F> {
