@@ -1,5 +1,7 @@
 //! Calls over concrete fields.
+mod degrees;
 mod evaluation;
+mod exclusive;
 mod windows;
 
 use crate::plain::PlainMessage;

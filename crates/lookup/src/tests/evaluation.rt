@@ -30,7 +30,7 @@ fn layout_of<AB: PermutationAirBuilder>(alloc: Global, builder: &AB) -> Result<A
 }
 
 /// Evaluates lookups, for which the builder has to have room.
-fn evaluated<AB: PermutationAirBuilder>(
+pub(super) fn evaluated<AB: PermutationAirBuilder>(
     rt: &impl Abort,
     alloc: Global,
     builder: &mut AB,
@@ -98,7 +98,7 @@ impl<'b, R: Abort> Air<DebugConstraintBuilder<'b, BabyBear, BabyBear4>>
 }
 
 /// A matrix of these numbers, row after row.
-fn trace<F: PrimeCharacteristicRing>(
+pub(super) fn trace<F: PrimeCharacteristicRing>(
     rt: &impl Abort,
     alloc: Global,
     numbers: &[u32],
@@ -137,7 +137,7 @@ fn no_preprocessed<'a, F>(_main: &'a RowMajorMatrix<F>) -> Option<&'a RowMajorMa
 }
 
 /// Whether every row of a witness over F7 is accepted; else the row that is not.
-fn refusal<'a, R: Abort>(
+pub(super) fn refusal<'a, R: Abort>(
     rt: &'a R,
     alloc: Global,
     main: &'a RowMajorMatrix<F7>,
@@ -256,7 +256,7 @@ fn a_zero_multiplicity_on_a_point_frees_the_fraction(rt: HostRuntime) -> Result<
 }
 
 /// Whether a witness over the quartic extension is accepted, for two lookups of three cells.
-fn refusal_in_extension<'a, R: Abort>(
+pub(super) fn refusal_in_extension<'a, R: Abort>(
     rt: &'a R,
     alloc: Global,
     main: &'a RowMajorMatrix<BabyBear>,
