@@ -13,15 +13,28 @@ use Rattle.lookup.specs.declared.exclusive.SetFlags.{SetFlags}
 use Rattle.lookup.specs.declared.exclusive.SetFlags.TheVariants.{Nothing}
 use Rattle.lookup.proofs.Fractions.{filter-append}
 
-module _ {F K : Type 0} (E : Extension F K) where
-  -- the places of flags that go on
-  pub set_places-append : (n : ℕ) (xs ys : List F) → set_places E n (xs ++ ys) ≡ set_places E n xs ++ set_places E (n + length xs) ys
-  set_places-append n xs ys =
-      let is_set = λ (p : ℕ × F). E.base_eq p.1 E.base.one in
-      ap (λ t. map (λ (p : ℕ × F). p.0) (filter is_set t)) (enumerate_from-append n xs ys)
-      ∙ ap (map (λ (p : ℕ × F). p.0)) (filter-append is_set (enumerate_from n xs) (enumerate_from (n + length xs) ys))
-      ∙ map-append (λ (p : ℕ × F). p.0) (filter is_set (enumerate_from n xs)) (filter is_set (enumerate_from (n + length xs) ys))
+module _ {F : Type 0} (is_set : F → Bool) where
+  -- the places of the flags that pass a test, where the first flag has place n
+  abbrev pub places_that : ℕ → List F → List ℕ
+  places_that n fs = map (λ (p : ℕ × F). p.0) (filter (λ (p : ℕ × F). is_set p.1) (enumerate_from n fs))
 
+  -- the places of flags that go on
+  places-append : (n : ℕ) (xs ys : List F) → places_that n (xs ++ ys) ≡ places_that n xs ++ places_that (n + length xs) ys
+  places-append n xs ys =
+      let passes = λ (p : ℕ × F). is_set p.1 in
+      ap (λ t. map (λ (p : ℕ × F). p.0) (filter passes t)) (enumerate_from-append n xs ys)
+      ∙ ap (map (λ (p : ℕ × F). p.0)) (filter-append passes (enumerate_from n xs) (enumerate_from (n + length xs) ys))
+      ∙ map-append (λ (p : ℕ × F). p.0) (filter passes (enumerate_from n xs)) (filter passes (enumerate_from (n + length xs) ys))
+
+  -- the places with that of one more flag
+  pub places-more : (fs : List F) (f : F) (t : Bool) → is_set f ≡ t → places_that 0 (fs ++ f ∷ []) ≡ places_that 0 fs ++ map (λ (q : ℕ × F). q.0) (cond t ((length fs, f) ∷ []) [])
+  places-more fs f t e =
+      places-append 0 fs (f ∷ []) ∙ (λ i. places_that 0 fs ++ map (λ (q : ℕ × F). q.0) (cond (e i) ((zero_plus i, f) ∷ []) []))
+    where
+      zero_plus : 0 + length fs ≡ length fs
+      zero_plus = omega arith
+
+module _ {F K : Type 0} (E : Extension F K) where
   -- a place is not before the first one
   places_from : (n : ℕ) (fs : List F) (p : ℕ) (ps : List ℕ) → set_places E n fs ≡ p ∷ ps → n ≤ p
   places_from n [] p ps e = absurd (cc e)
@@ -103,26 +116,21 @@ module _ {F K : Type 0} {E : Extension F K} (laws : IsLawful E) where
       let passes = λ (g : F). E.base_eq g E.base.zero || E.base_eq g E.base.one in
       list_all-append passes fs (f ∷ []) ∙ (λ i. so_far i && (is i && true))
 
-  -- the places with those of one more flag
-  places-more : (fs : List F) (f : F) (t : Bool) → E.base_eq f E.base.one ≡ t → set_places E 0 (fs ++ f ∷ []) ≡ set_places E 0 fs ++ map (λ (q : ℕ × F). q.0) (cond t ((length fs, f) ∷ []) [])
-  places-more fs f t e =
-      set_places-append E 0 fs (f ∷ []) ∙ (λ i. set_places E 0 fs ++ map (λ (q : ℕ × F). q.0) (cond (e i) ((zero_plus i, f) ∷ []) []))
-    where
-      zero_plus : 0 + length fs ≡ length fs
-      zero_plus = omega arith
+  abbrev is_one : F → Bool
+  is_one f = E.base_eq f E.base.one
 
   -- one more flag that is zero
   pub zero_flag : (fs : List F) (f : F) (set : SetFlags) → f ≡ E.base.zero → AreSetFlags E fs set → AreSetFlags E (fs ++ f ∷ []) set
   zero_flag fs f set e so_far = record {
     boolean = boolean-more fs f (or_left (E.base_eq f E.base.zero) (E.base_eq f E.base.one) ((laws.base_eq f E.base.zero).1 e)) so_far.boolean;
-    places = subst (ArePlaces set) (sym (places-more fs f false (zero_is_unset f e) ∙ append-nil (set_places E 0 fs))) so_far.places;
+    places = subst (ArePlaces set) (sym (places-more is_one fs f false (zero_is_unset f e) ∙ append-nil (set_places E 0 fs))) so_far.places;
   }
 
   -- one more that is one
   pub one_flag : (fs : List F) (f : F) (set next : SetFlags) (place : ℕ) → length fs ≡ place → f ≡ E.base.one → ((places : List ℕ) → ArePlaces set places → ArePlaces next (places ++ place ∷ [])) → AreSetFlags E fs set → AreSetFlags E (fs ++ f ∷ []) next
   one_flag fs f set next place at e further so_far = record {
     boolean = boolean-more fs f (or_right (E.base_eq f E.base.zero) (E.base_eq f E.base.one) (set_is_one f e)) so_far.boolean;
-    places = subst (ArePlaces next) (sym (places-more fs f true (set_is_one f e) ∙ (λ i. set_places E 0 fs ++ at i ∷ []))) (further (set_places E 0 fs) so_far.places);
+    places = subst (ArePlaces next) (sym (places-more is_one fs f true (set_is_one f e) ∙ (λ i. set_places E 0 fs ++ at i ∷ []))) (further (set_places E 0 fs) so_far.places);
   }
 
   -- a flag that is neither is found among all of them

@@ -1,6 +1,8 @@
 //! Calls over concrete fields.
+mod degrees;
 mod evaluation;
 mod example;
+mod exclusive;
 mod extraction;
 mod json;
 mod windows;

@@ -34,7 +34,8 @@ fn is_record_at<F>(lookup: &Lookup<F>, column: usize) -> bool
     lookup.column == column && has_equal_lengths(lookup)
 }
 
-fn has_equal_lengths<F>(lookup: &Lookup<F>) -> bool
+/// Whether a lookup has one multiplicity for each tuple and, where it has flags, one flag for each.
+pub fn has_equal_lengths<F>(lookup: &Lookup<F>) -> bool
     ensures { IsTrue result ↔ HasEqualLengths lookup.now }
 {
     let tuples = lookup.elements.len();

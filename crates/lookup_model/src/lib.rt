@@ -12,5 +12,5 @@ mod types;
 
 pub use degree::constraint_degree;
 pub use error::LookupError;
-pub use fitting::{first_malformed, fits};
+pub use fitting::{first_malformed, fits, has_equal_lengths};
 pub use types::{Kind, Lookup, LookupTerminal};

@@ -38,7 +38,7 @@ fn numbers<EF: PrimeCharacteristicRing>(alloc: Global, list: &[u32]) -> Result<V
 }
 
 /// An extension of BabyBear over which the tests check witnesses row by row.
-trait Checked: ExtensionField<BabyBear> {
+pub(super) trait Checked: ExtensionField<BabyBear> {
     /// The refusal of the first row that is not accepted, where there is one.
     fn refusal<'a, R: Abort>(
         rt: &'a R,
