@@ -1,5 +1,8 @@
 //! The AIRs of the machines, which say what each row looks up.
-ghost use Rattle.std.specs.Prelude.{⊤};
+ghost use Rattle.std.specs.Prelude.{◌⊎◌, IfOk};
+ghost use Rattle.lookup_record.specs.Messages.{IsExclusiveQuery, PushesOne};
+ghost use Rattle.lookup_record.specs.Pushed.{pushed_local};
+ghost use Rattle.lookup_run.specs.Machines.{AreTwoKeys, IsCell, IsCellTuple, IsRange, IsRefusedBefore, PushesSuch, group_bus};
 
 use air::{Air, AirBuilder, AirError, BaseAir, Expression, LayoutPart};
 use field::PrimeCharacteristicRing;
@@ -33,15 +36,28 @@ impl<F> BaseAir<F> for RangeAir {
 /// One local lookup: the value that is read with count 1, and the provided one with its count
 /// negated.
 impl<AB: InteractionBuilder> Air<AB> for RangeAir {
-    ghost evaluates = { λ _ _ _ _. ⊤ };
+    ghost evaluates = { λ _ before answer after. PushesSuch AB.pushes AB.refuses_push
+        (IsRange (λ x w. AB.Expr.value x (AB.seen w)) (AB.stands_for before) (λ w. w.main) AB.F.ring) before answer after };
 
     fn eval(&self, alloc: Global, builder: &mut AB) -> Result<(), AirError> {
-        let mut tuples = Vec::new(alloc);
-        tuples.push((tuple(alloc, builder, 0)?, Count::from_i32::<AB::F>(1)))?;
-        let provided = Count::provided(cell(alloc, builder, 2)?.neg(alloc)?);
-        tuples.push((tuple(alloc, builder, 1)?, provided))?;
+        let tuples = range_tuples(alloc, builder)?;
         builder.push_local_interaction(alloc, tuples)
     }
+}
+
+/// The tuples of the machine `range`, each with its count.
+fn range_tuples<AB: InteractionBuilder>(
+    alloc: Global,
+    builder: &AB,
+) -> Result<Vec<(Vec<AB::Expr>, Count<AB::Expr>)>, AirError>
+    ensures { IfOk result (λ tuples. IsRange (λ x w. AB.Expr.value x (AB.seen w)) (AB.stands_for builder.now) (λ w. w.main) AB.F.ring
+        (pushed_local tuples.items)) }
+{
+    let mut tuples = Vec::new(alloc);
+    tuples.push((tuple(alloc, builder, 0)?, Count::from_i32::<AB::F>(1)))?;
+    let provided = Count::provided(cell(alloc, builder, 2)?.neg(alloc)?);
+    tuples.push((tuple(alloc, builder, 1)?, provided))?;
+    Ok(tuples)
 }
 
 /// Columns `flag0 key0 flag1 key1`: a row looks up the key whose flag is set, or none.
@@ -69,20 +85,35 @@ impl<F> BaseAir<F> for ExclusiveAir {
 
 /// One group on the bus `rc`, with both keys as branches.
 impl<AB: InteractionBuilder> Air<AB> for ExclusiveAir {
-    ghost evaluates = { λ _ _ _ _. ⊤ };
+    ghost evaluates = { λ _ before answer after.
+        ((branches : _) × AreTwoKeys (λ x w. AB.Expr.value x (AB.seen w)) (AB.stands_for before) (λ w. w.main) branches
+        × PushesOne AB.pushes AB.refuses_push (IsExclusiveQuery AB.F.ring.one AB.Expr.value AB.Expr.degree group_bus branches) before answer after)
+        ⊎ IsRefusedBefore before answer after };
 
     fn eval(&self, alloc: Global, builder: &mut AB) -> Result<(), AirError> {
-        let mut branches = Vec::new(alloc);
-        for branch in 0..2 {
-            let flag = cell(alloc, builder, 2 * branch)?;
-            branches.push((flag, tuple(alloc, builder, 2 * branch + 1)?))?;
-        }
+        let branches = two_keys(alloc, builder)?;
         LookupBus::new("rc").lookup_key_exclusive(alloc, builder, branches)
     }
 }
 
+/// The branches of the machine `exclusive`, each a flag with its key.
+fn two_keys<AB: InteractionBuilder>(
+    alloc: Global,
+    builder: &AB,
+) -> Result<Vec<(AB::Expr, Vec<AB::Expr>)>, AirError>
+    ensures { IfOk result (λ branches. AreTwoKeys (λ x w. AB.Expr.value x (AB.seen w)) (AB.stands_for builder.now) (λ w. w.main) branches.items) }
+{
+    let mut branches = Vec::new(alloc);
+    branches.push((cell(alloc, builder, 0)?, tuple(alloc, builder, 1)?))?;
+    branches.push((cell(alloc, builder, 2)?, tuple(alloc, builder, 3)?))?;
+    Ok(branches)
+}
+
 /// The expression of a cell of the current row.
-fn cell<AB: AirBuilder>(alloc: Global, builder: &AB, column: usize) -> Result<AB::Expr, AirError> {
+#[tactic(auto, using(crate::proofs::MachineLaws::cell_is))]
+fn cell<AB: AirBuilder>(alloc: Global, builder: &AB, column: usize) -> Result<AB::Expr, AirError>
+    ensures { IfOk result (IsCell (λ x w. AB.Expr.value x (AB.seen w)) (AB.stands_for builder.now) (λ w. w.main) column) }
+{
     let main = builder.main(alloc)?;
     match main.current(column) {
         Some(variable) => Ok(variable.into()),
@@ -99,7 +130,9 @@ fn tuple<AB: AirBuilder>(
     alloc: Global,
     builder: &AB,
     column: usize,
-) -> Result<Vec<AB::Expr>, AirError> {
+) -> Result<Vec<AB::Expr>, AirError>
+    ensures { IfOk result (λ tuple. IsCellTuple (λ x w. AB.Expr.value x (AB.seen w)) (AB.stands_for builder.now) (λ w. w.main) column tuple.items) }
+{
     let mut tuple = Vec::new(alloc);
     tuple.push(cell(alloc, builder, column)?)?;
     Ok(tuple)

@@ -1,0 +1,57 @@
+-- What the AIRs of the machines push.
+use Rattle.std.specs.Prelude.{◌≡◌, ◌⊎◌, ℕ, List, [], ◌∷◌, map, Some, slice_get, Result, Err, MatchResult}
+use Rattle.std.specs.declared.alloc.Global.{Global}
+use Rattle.std.specs.declared.vec.Vec.{Vec}
+use Rattle.field.specs.Ring.{Ring}
+use Rattle.expressions.specs.declared.error.AirError.{AirError}
+use Rattle.lookup_record.specs.Interaction.{Interaction, local}
+use Rattle.lookup_record.specs.Messages.{flag_and_key}
+
+-- there was a refusal, and the builder is as it was
+abbrev pub IsRefusedBefore : {B : Type 0} → B → Result (Unit {0}) AirError → B → Type 0
+IsRefusedBefore before answer after = (e : AirError) × (answer ≡ Err e) × (after ≡ before)
+
+-- one such interaction is pushed, and the answer is the builder's; or there was a refusal before it
+abbrev pub PushesSuch : {B M : Type 0} → (B → M → B → Type 0) → (B → M → AirError → B → Type 0) → (M → Type 0) → B → Result (Unit {0}) AirError → B → Type 0
+PushesSuch {B} {M} pushes refuses IsMeant before answer after =
+    ((m : M) × IsMeant m × MatchResult answer (λ _. pushes before m after) (λ e. refuses before m e after))
+    ⊎ IsRefusedBefore before answer after
+
+module _ {E W F : Type 0} (value : E → W → F) (stands : W → Type 0) (row : W → List F) where
+  -- an expression whose value is this cell of the row, at each window that is stood for
+  abbrev pub IsCell : ℕ → E → Type 0
+  IsCell column x = (w : W) → stands w → slice_get (row w) column ≡ Some (value x w)
+
+  -- the tuple of one such expression
+  abbrev pub IsCellTuple : ℕ → List E → Type 0
+  IsCellTuple column tuple = (x : E) × (tuple ≡ x ∷ []) × IsCell column x
+
+  -- the local lookup of the machine `range`: cell 0 with count 1, and cell 1, which is provided, with
+  -- the negated count of cell 2
+  pub record IsRange (R : Ring F) (m : Interaction E) : Type 0 where
+    pub read : List E
+    pub provided : List E
+    pub once : E
+    pub times : E
+    pub message : m ≡ local (record { fields = read; count = once; weight = 1 } ∷ record { fields = provided; count = times; weight = 0 } ∷ [])
+    pub reads : IsCellTuple 0 read
+    pub provides : IsCellTuple 1 provided
+    pub counts_once : (w : W) → value once w ≡ R.one
+    pub counts_times : (w : W) (v : F) → stands w → slice_get (row w) 2 ≡ Some v → value times w ≡ R.neg v
+
+  -- the branches of the machine `exclusive`: cell 1 under the flag of cell 0, and cell 3 under that of
+  -- cell 2
+  pub record AreTwoKeys (branches : List (E × Vec E Global)) : Type 0 where
+    pub first_flag : E
+    pub first_key : List E
+    pub second_flag : E
+    pub second_key : List E
+    pub branches_are : map flag_and_key branches ≡ (first_flag, first_key) ∷ (second_flag, second_key) ∷ []
+    pub first_flag_is : IsCell 0 first_flag
+    pub first_key_is : IsCellTuple 1 first_key
+    pub second_flag_is : IsCell 2 second_flag
+    pub second_key_is : IsCellTuple 3 second_key
+
+-- the bytes of `rc`
+abbrev pub group_bus : List ℕ
+group_bus = 114 ∷ 99 ∷ []
