@@ -93,6 +93,7 @@ impl<E> Count<E> {
         E: Expression<F>,
         ensures means { IfOk result (λ c. (s : E.Seen) → E.value c.expression s ≡ E.value self.now.expression s) }
         ensures degree { IfOk result (λ c. (t : ℕ) → E.degree c.expression t ≡ E.degree self.now.expression t) }
+        ensures same { IfOk result (λ c. E.same self.now.expression c.expression) }
         ensures weight { IfOk result (λ c. c.weight ≡ self.now.weight) }
     {
         let expression = self.expression.copy(alloc)?;

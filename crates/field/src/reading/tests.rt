@@ -64,7 +64,7 @@ fn other_values_are_refused(rt: HostRuntime) {
     for text in ["2", "-1", "1.5", "\"1\"", "null", "[1]"] {
         assert!(rt; is_refused::<F2>(alloc, text), "{text}");
     }
-    for text in ["7", "-1", "1.5", "\"1\"", "4294967296"] {
+    for text in ["7", "-1", "1.5", "\"1\"", "4294967296", "1.0", "1e0", "-0"] {
         assert!(rt; is_refused::<F7>(alloc, text), "{text}");
     }
     for text in ["2013265921", "4294967296", "-1", "1.5", "\"1\""] {

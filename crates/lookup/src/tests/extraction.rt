@@ -316,6 +316,55 @@ fn a_group_is_one_lookup(rt: HostRuntime) -> Result<(), Fail> {
     Ok(())
 }
 
+/// An AIR of one column whose evaluation is refused.
+#[derive(Clone, Copy)]
+struct Refusing {
+    overflows: bool,
+}
+
+impl<F> BaseAir<F> for Refusing {
+    ghost width = { λ _. 1 };
+
+    ghost preprocessed_width = { λ _. 0 };
+
+    ghost num_public_values = { λ _. 0 };
+
+    fn width(&self) -> usize {
+        1
+    }
+
+    fn preprocessed_width(&self) -> usize {
+        0
+    }
+
+    fn num_public_values(&self) -> usize {
+        0
+    }
+}
+
+impl<AB: InteractionBuilder> Air<AB> for Refusing {
+    ghost evaluates = { λ _ _ _ _. ⊤ };
+
+    fn eval(&self, _alloc: Global, _builder: &mut AB) -> Result<(), AirError> {
+        if self.overflows {
+            Err(AirError::DegreeOverflow)
+        } else {
+            Err(AirError::Assertion { row: 3 })
+        }
+    }
+}
+
+#[test]
+fn a_refusal_of_an_air_is_handed_on(rt: HostRuntime) {
+    let alloc = rt.alloc();
+    let air = Refusing { overflows: true };
+    let refused: Result<Lookups<F7>, LookupError> = Lookups::from_air::<F7, Refusing>(alloc, &air);
+    assert!(rt; refused.err() == Some(LookupError::DegreeOverflow));
+    let air = Refusing { overflows: false };
+    let refused: Result<Lookups<F7>, LookupError> = Lookups::from_air::<F7, Refusing>(alloc, &air);
+    assert!(rt; refused.err() == Some(LookupError::Air(AirError::Assertion { row: 3 })));
+}
+
 /// The common width of tuples of these widths, or the refusal's two.
 fn widths_of(alloc: Global, widths: &[usize]) -> Result<Result<usize, (usize, usize)>, Fail> {
     let mut tuples: Vec<Vec<SymbolicExpression<F7>>> = Vec::new(alloc);

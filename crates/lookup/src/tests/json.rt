@@ -136,6 +136,15 @@ fn what_is_no_lookup_is_refused(rt: HostRuntime) -> Result<(), Fail> {
         (r#"{"offset":0}"#, "{}"),
         (r#""index":1"#, r#""index":-1"#),
         (r#""Local""#, r#""Global""#),
+        (r#""kind":"Local","#, ""),
+        (r#""kind":"Local""#, r#""kind":"Local","kind":"Local""#),
+        (r#","flags":null"#, r#","flags":null,"flags":null"#),
+        (r#""column":0,"#, ""),
+        (r#""entry":{"Main":{"offset":0}},"#, ""),
+        (r#","index":1"#, ""),
+        (r#""index":1"#, r#""index":1,"index":1"#),
+        (r#""offset":0"#, r#""offset":0,"offset":0"#),
+        (r#""Main""#, r#""Permutation""#),
     ];
     for (old, new) in changes {
         let text = LOOKUPS.replace(alloc, old, new)?;
@@ -152,6 +161,39 @@ fn what_is_no_lookup_is_refused(rt: HostRuntime) -> Result<(), Fail> {
         let text = LOOKUPS.replace(alloc, old, new)?;
         assert_eq!(rt; refusal(alloc, text.as_str()), None, "{new}");
     }
+    Ok(())
+}
+
+#[test]
+fn what_is_no_expression_is_refused(rt: HostRuntime) -> Result<(), Fail> {
+    let alloc = rt.alloc();
+    for (old, new) in [
+        (r#",{"Leaf":"IsLastRow"}"#, ""),
+        (
+            r#",{"Leaf":"IsLastRow"}"#,
+            r#",{"Leaf":"IsLastRow"},{"Leaf":"IsLastRow"}"#,
+        ),
+        (r#""IsTransition""#, r#""IsEveryRow""#),
+        (r#""Public""#, r#""Main""#),
+        (r#"{"Leaf":{"Constant":6}}"#, r#"{"Constant":6}"#),
+    ] {
+        let text = EXPRESSIONS.replace(alloc, old, new)?;
+        let read = serde_json::from_str::<Vec<SymbolicExpression<F7>>>(alloc, text.as_str());
+        assert!(rt; read.is_err(), "{new}");
+    }
+    Ok(())
+}
+
+#[test]
+fn members_come_in_any_order(rt: HostRuntime) -> Result<(), Fail> {
+    let alloc = rt.alloc();
+    let turned =
+        r#"[{"flags":[{"Leaf":{"Constant":2}}],"column":0,"count_weight":3,"multiplicities":[{"Leaf":{"Constant":4}}],"elements":[[{"Leaf":{"Variable":{"index":5,"entry":"Public"}}}]],"kind":"Local"}]"#;
+    let read = serde_json::from_str::<Vec<Lookup<F7>>>(alloc, turned)?;
+    assert_eq!(rt;
+        serde_json::to_string(alloc, &read)?.as_str(),
+        r#"[{"kind":"Local","elements":[[{"Leaf":{"Variable":{"entry":"Public","index":5}}}]],"multiplicities":[{"Leaf":{"Constant":4}}],"count_weight":3,"column":0,"flags":[{"Leaf":{"Constant":2}}]}]"#
+    );
     Ok(())
 }
 
