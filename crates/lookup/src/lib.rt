@@ -26,7 +26,7 @@ mod widths;
 
 pub use challenges::Challenges;
 pub use logup::LogUpGadget;
-pub use lookup_model::{Kind, Lookup, LookupError, LookupTerminal, fits};
+pub use lookup_model::{Kind, Lookup, LookupError, LookupTerminal, fits, has_equal_lengths};
 pub use lookup_record::{
     Count, IndexedLookupBuilder, IndexedRead, IndexedTable, InteractionBuilder,
     InteractionSymbolicBuilder, LocalTuple, LookupBus, PermutationCheckBus,

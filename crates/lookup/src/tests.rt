@@ -12,7 +12,7 @@ use crate::plain::PlainMessage;
 use crate::traits::LookupTraceBuilder;
 use crate::{
     Challenges, Kind, LogUpGadget, Lookup, LookupError, LookupProtocol, LookupTerminal, Lookups,
-    fits, plain,
+    TraceWindow, fits, indexed, logup, plain, protocol, symbolic, traits,
 };
 use air::{
     AirBuilder, AirError, AirLayout, BaseEntry, BaseLeaf, Expression, ExtensionBuilder,
@@ -583,5 +583,17 @@ fn two_rows_against_the_plain_program(rt: HostRuntime) -> Result<(), Fail> {
             )?;
         }
     }
+    Ok(())
+}
+
+#[test]
+fn items_are_reached_through_their_modules(rt: HostRuntime) -> Result<(), Fail> {
+    let alloc = rt.alloc();
+    let gadget = logup::LogUpGadget::new();
+    assert!(rt; protocol::LookupProtocol::num_challenges(&gadget) == 2);
+    assert!(rt; indexed::TraceWindow::default() == TraceWindow::Main);
+    let builder = symbolic::InteractionSymbolicBuilder::<F7, F7>::new(alloc, AirLayout::default())?;
+    assert!(rt; builder.global_interactions().is_empty());
+    assert!(rt; traits::LookupTerminal(F7::new(3)).0 == F7::new(3));
     Ok(())
 }

@@ -1,10 +1,9 @@
 //! Degrees of the constraints of lookups.
 use super::evaluation::evaluated;
 use super::{cell, local};
-use crate::{LogUpGadget, Lookup, LookupError, LookupProtocol};
+use crate::{LogUpGadget, Lookup, LookupError, LookupProtocol, has_equal_lengths};
 use air::{AirLayout, BaseLeaf, Expression, SymbolicAirBuilder, SymbolicExpression};
 use field::{F7, PrimeCharacteristicRing};
-use lookup_model::has_equal_lengths;
 use std::alloc::{AllocError, Global};
 use std::process::Abort;
 use std::test::Fail;
