@@ -1,7 +1,7 @@
 -- The fraction of a lookup, message by message.
 use Rattle.std.proofs.Common.{◌≡◌, ◌≢◌, Bool, true, false, cond, not, ◌||◌, List, [], ◌∷◌, ◌++◌, map, refl, sym, ap, ◌∙◌}
-use Rattle.std.proofs.lemmas.Bool.{true≢false, false_from_ne_true, or_left, or_right}
-use Rattle.std.proofs.lemmas.List.{append-nil, map_push}
+use Rattle.std.proofs.lemmas.Bool.{false_from_ne_true, or_left, or_right}
+use Rattle.std.proofs.lemmas.List.{map_push}
 use Rattle.std.proofs.lemmas.List.Folds.{list_any-append}
 use Rattle.std.specs.List.{filter, list_any}
 use Rattle.field.specs.Sums.{sum_in}
@@ -22,17 +22,6 @@ filter-append p (x ∷ xs) ys = by_test (p x) (filter-append p xs ys)
     by_test false e = e
 
 module _ {F K : Type 0} {E : Extension F K} (laws : IsLawful E) (denominator : Key F → K) where
-  -- no message gives zero
-  pub fraction_of_none : (f : K) → f ≡ E.ring.zero → IsFractionOf E denominator [] f
-  fraction_of_none f e = record { value = e; divides = refl }
-
-  counted_zero : (ms : List (Message F)) (m : Message F) → m.multiplicity ≡ E.base.zero → counted E (ms ++ m ∷ []) ≡ counted E ms
-  counted_zero ms m e = filter-append (λ n. not (E.base_eq n.multiplicity E.base.zero)) ms (m ∷ []) ∙ by_test (E.base_eq m.multiplicity E.base.zero) ((laws.base_eq m.multiplicity E.base.zero).1 e)
-    where
-      by_test : (b : Bool) → b ≡ true → counted E ms ++ cond (not b) (m ∷ []) [] ≡ counted E ms
-      by_test true f = append-nil (counted E ms)
-      by_test false f = absurd (true≢false (sym f))
-
   counted_nonzero : (ms : List (Message F)) (m : Message F) → m.multiplicity ≢ E.base.zero → counted E (ms ++ m ∷ []) ≡ counted E ms ++ m ∷ []
   counted_nonzero ms m ne = filter-append (λ n. not (E.base_eq n.multiplicity E.base.zero)) ms (m ∷ []) ∙ by_test (E.base_eq m.multiplicity E.base.zero) refl
     where
@@ -40,16 +29,7 @@ module _ {F K : Type 0} {E : Extension F K} (laws : IsLawful E) (denominator : K
       by_test true f = absurd (ne ((laws.base_eq m.multiplicity E.base.zero).0 f))
       by_test false f = refl
 
-  -- a message of multiplicity zero changes nothing
-  pub fraction_of_skipped : (ms : List (Message F)) (m : Message F) (f : K) → m.multiplicity ≡ E.base.zero → IsFractionOf E denominator ms f → IsFractionOf E denominator (ms ++ m ∷ []) f
-  fraction_of_skipped ms m f e so_far =
-      let same = sym (counted_zero ms m e) in
-      record {
-        value = so_far.value ∙ ap (λ ns. sum_in E.ring (map (quotient_of E denominator) ns)) same;
-        divides = ap (vanishes E denominator) (sym same) ∙ so_far.divides;
-      }
-
-  -- another one adds its quotient, where its denominator is not zero
+  -- a message that counts adds its quotient, where its denominator is not zero
   pub fraction_of_added : (ms : List (Message F)) (m : Message F) (f next : K) → m.multiplicity ≢ E.base.zero → denominator m.key ≢ E.ring.zero → next ≡ E.ring.add f (quotient_of E denominator m) → IsFractionOf E denominator ms f → IsFractionOf E denominator (ms ++ m ∷ []) next
   fraction_of_added ms m f next counts divides next_is so_far =
       let same = counted_nonzero ms m counts in

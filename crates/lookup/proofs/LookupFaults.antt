@@ -1,6 +1,6 @@
 -- The fault of what a lookup sends.
 use Rattle.std.proofs.Common.{◌≡◌, ◌≤◌, ◌<◌, ℕ, Bool, true, false, cond, not, nat_lt, None, Some, Option, refl, ap, List, length}
-use Rattle.std.proofs.lemmas.Bool.{lt-ltb, le-ltb, ltb-false}
+use Rattle.std.proofs.lemmas.Bool.{le-ltb, ltb-false}
 use Rattle.std.specs.Prelude.{if◌then◌else◌}
 use Rattle.lookup_model.specs.Extension.{Extension}
 use Rattle.lookup_model.specs.Fault.{are_boolean, fault_of, set_places, vanishes}
@@ -46,16 +46,7 @@ module _ {F K : Type 0} (E : Extension F K) (denominator : Key F → K) (row col
   abbrev exclusive : Sent F
   exclusive = record { flags = Some flags; messages = messages }
 
-  -- a flag that is neither zero nor one is the fault, whatever the others are
-  pub not_boolean_fault : are_boolean E flags ≡ false → fault_of E denominator row column exclusive ≡ Some (FlagNotBoolean row column)
-  not_boolean_fault e =
-      ap (λ b. by_tests row column b (nat_lt 1 (length (set_places E 0 flags))) (vanishes E denominator messages)) e
-
-  -- then more than one set flag
-  pub several_fault : are_boolean E flags ≡ true → 1 < length (set_places E 0 flags) → fault_of E denominator row column exclusive ≡ Some (FlagsNotExclusive row column)
-  several_fault e more = λ i. by_tests row column (e i) (lt-ltb 1 (length (set_places E 0 flags)) more i) (vanishes E denominator messages)
-
-  -- and then the denominator that is selected
+  -- where the flags are lawful, the denominator that is selected is the fault
   pub vanishing_fault : are_boolean E flags ≡ true → length (set_places E 0 flags) ≤ 1 → vanishes E denominator messages ≡ true → fault_of E denominator row column exclusive ≡ Some (VanishingDenominator row column)
   vanishing_fault e few vanishing = λ i. by_tests row column (e i) (le-ltb 1 (length (set_places E 0 flags)) few i) (vanishing i)
 

@@ -21,11 +21,7 @@ range-more a n =
     sym (map-id (range_with_len a (n + 1))) ∙ map-range_with_len_more (λ x. x) a n (a + n) refl ∙ ap (λ t. t ++ (a + n) ∷ []) (map-id (range_with_len a n))
 
 module _ {F K : Type 0} {E : Extension F K} (laws : IsLawful E) (denominator : Key F → K) where
-  -- a row begins with its accumulator
-  pub HasRow-none : (row : ℕ) (before after : List K) (accumulator : K) → after ≡ before ++ accumulator ∷ [] → HasRow E denominator row before after accumulator accumulator []
-  HasRow-none row before after accumulator e = record { cells = e; total = sym (laws.ring.add_zero accumulator); faultless = refl }
-
-  -- and goes on by a fraction
+  -- a row goes on by a fraction
   pub HasRow-more : (row column : ℕ) (before after longer : List K) (accumulator next sum f : K) (sents : List (Sent F)) (sent : Sent F) → length sents ≡ column → f ≡ plain_fraction E denominator sent → fault_of E denominator row column sent ≡ None → longer ≡ after ++ f ∷ [] → sum ≡ E.ring.add next f
       → HasRow E denominator row before after accumulator next sents → HasRow E denominator row before longer accumulator sum (sents ++ sent ∷ [])
   HasRow-more row column before after longer accumulator next sum f sents sent at f_is none longer_is sum_is so_far =
@@ -39,14 +35,10 @@ module _ {F K : Type 0} {E : Extension F K} (laws : IsLawful E) (denominator : K
         faultless = row_faults-none E denominator row column sents sent at none so_far.faultless;
       }
 
-  -- a trace begins with no cells and the accumulator zero
-  pub HasRows-none : (rows : List (List (Sent F))) (cells : List K) (accumulator : K) → cells ≡ [] → accumulator ≡ E.ring.zero → HasRows E denominator rows 0 cells accumulator
-  HasRows-none rows cells accumulator e z = record { cells_are = e; accumulator_is = z; faultless = refl }
-
   length_take : (rows : List (List (Sent F))) (r : ℕ) → r < length rows → length (take r rows) ≡ r
   length_take rows r lt = omega (arith, length-take r rows)
 
-  -- and goes on by a row
+  -- a trace goes on by a row
   pub HasRows-more : (rows : List (List (Sent F))) (r : ℕ) (sents : List (Sent F)) (before after : List K) (accumulator next : K) → r < length rows → sents ≡ get_or rows r sents → HasRow E denominator r before after accumulator next sents
       → HasRows E denominator rows r before accumulator → HasRows E denominator rows (r + 1) after next
   HasRows-more rows r sents before after accumulator next lt is row so_far =

@@ -1,4 +1,4 @@
-//! What a call of this crate can refuse.
+//! What a call of the lookup layer can refuse.
 ghost use Rattle.std.specs.Prelude.{◌≡◌};
 ghost use Rattle.lookup_model.specs.declared.error.LookupError.TheVariants.{Memory};
 

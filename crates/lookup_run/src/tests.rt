@@ -6,6 +6,15 @@ use std::io::{Read, Write};
 use std::process::{Abort, ExitCode};
 use std::test::Fail;
 
+/// The words of a line, which single spaces part.
+fn words_of(alloc: Global, line: &str) -> Result<Vec<String>, Fail> {
+    let mut words = Vec::new(alloc);
+    for word in line.split(' ') {
+        words.push(String::from_str(alloc, word)?)?;
+    }
+    Ok(words)
+}
+
 /// Runs the words of a line over an input, and compares status, output and errors.
 fn expect_run(
     rt: &impl Abort,
@@ -16,10 +25,7 @@ fn expect_run(
     output: &[u8],
     errors: &[u8],
 ) -> Result<(), Fail> {
-    let mut words = Vec::new(alloc);
-    for word in line.split(' ') {
-        words.push(String::from_str(alloc, word)?)?;
-    }
+    let words = words_of(alloc, line)?;
     let mut reader = input;
     let mut written = Vec::new(alloc);
     let mut refused = Vec::new(alloc);
@@ -151,7 +157,13 @@ fn words_are_refused_before_the_input(rt: HostRuntime) -> Result<(), Fail> {
             b"error: usage: lookup-run MACHINE FIELD ALPHA BETA\n".as_slice(),
         ),
         ("bus f7 5 2", b"error: unknown machine: bus\n".as_slice()),
+        (
+            "Range f11 9 9",
+            b"error: unknown machine: Range\n".as_slice(),
+        ),
         ("range f11 5 2", b"error: unknown field: f11\n".as_slice()),
+        ("range f11 9 9", b"error: unknown field: f11\n".as_slice()),
+        ("range f7 8 9", b"error: bad challenge: 8\n".as_slice()),
         ("range f7 7 2", b"error: bad challenge: 7\n".as_slice()),
         ("range f7 5 007", b"error: bad challenge: 007\n".as_slice()),
         ("range f7  2", b"error: bad challenge: \n".as_slice()),
@@ -179,12 +191,10 @@ fn words_are_refused_before_the_input(rt: HostRuntime) -> Result<(), Fail> {
     ] {
         let mut input = FailingReader {
             calls: 0,
+            fails_at: 1,
             inner: b"",
         };
-        let mut words = Vec::new(alloc);
-        for word in line.split(' ') {
-            words.push(String::from_str(alloc, word)?)?;
-        }
+        let words = words_of(alloc, line)?;
         let mut written = Vec::new(alloc);
         let mut refused = Vec::new(alloc);
         let code = run(
@@ -260,6 +270,22 @@ fn faulty_lines_are_refused(rt: HostRuntime) -> Result<(), Fail> {
             b"error: line 1: bad number\n".as_slice(),
         ),
         (
+            b"3\x00 4 1".as_slice(),
+            b"error: line 1: bad number\n".as_slice(),
+        ),
+        (
+            b"3\x0b4 1".as_slice(),
+            b"error: line 1: expected 3 numbers\n".as_slice(),
+        ),
+        (
+            b"4294967299 4 1".as_slice(),
+            b"error: line 1: bad number\n".as_slice(),
+        ),
+        (
+            b"3 4 1\r3 4 1".as_slice(),
+            b"error: line 1: expected 3 numbers\n".as_slice(),
+        ),
+        (
             b"3 4 1\n\n3 4 1 5".as_slice(),
             b"error: line 3: expected 3 numbers\n".as_slice(),
         ),
@@ -273,17 +299,18 @@ fn faulty_lines_are_refused(rt: HostRuntime) -> Result<(), Fail> {
     Ok(())
 }
 
-/// A reader that fails at its second call, and counts its calls.
+/// A reader that fails from one of its calls on, and counts them.
 #[derive(Drop)]
 struct FailingReader<'a> {
     calls: u32,
+    fails_at: u32,
     inner: &'a [u8],
 }
 
 impl Read for FailingReader<'_> {
     fn read(&mut self, buf: &mut [u8]) -> io::Result<usize> {
         self.calls = self.calls.saturating_add(1);
-        if self.calls >= 2 {
+        if self.calls >= self.fails_at {
             return Err(io::Error::from(io::ErrorKind::Other));
         }
         self.inner.read(buf)
@@ -293,62 +320,89 @@ impl Read for FailingReader<'_> {
 #[test]
 fn a_failing_read_is_refused(rt: HostRuntime) -> Result<(), Fail> {
     let alloc = rt.alloc();
-    let mut words = Vec::new(alloc);
-    for word in "range f7 5 2".split(' ') {
-        words.push(String::from_str(alloc, word)?)?;
+    let words = words_of(alloc, "range f7 5 2")?;
+    for fails_at in 1..3 {
+        let mut input = FailingReader {
+            calls: 0,
+            fails_at,
+            inner: b"3 4 1\n",
+        };
+        let mut written = Vec::new(alloc);
+        let mut refused = Vec::new(alloc);
+        let code = run(
+            alloc,
+            words.as_slice(),
+            &mut input,
+            &mut written,
+            &mut refused,
+        );
+        assert!(rt; code == ExitCode::from(2));
+        assert!(rt; written.is_empty());
+        assert!(rt; refused.as_slice() == b"error: cannot read input\n".as_slice());
+        assert_eq!(rt; input.calls, fails_at);
     }
-    let mut input = FailingReader {
-        calls: 0,
-        inner: b"3 4 1\n",
-    };
-    let mut written = Vec::new(alloc);
-    let mut refused = Vec::new(alloc);
-    let code = run(
-        alloc,
-        words.as_slice(),
-        &mut input,
-        &mut written,
-        &mut refused,
-    );
-    assert!(rt; code == ExitCode::from(2));
-    assert!(rt; written.is_empty());
-    assert!(rt; refused.as_slice() == b"error: cannot read input\n".as_slice());
     Ok(())
 }
 
-/// A writer that takes nothing.
+/// A writer that takes one byte a call, and fails where it has no room left or is flushed.
 #[derive(Drop)]
-struct ClosedWriter;
+struct FullWriter {
+    room: usize,
+}
 
-impl Write for ClosedWriter {
-    fn write(&mut self, _bytes: &[u8]) -> io::Result<usize> {
-        Err(io::Error::from(io::ErrorKind::BrokenPipe))
+impl Write for FullWriter {
+    fn write(&mut self, bytes: &[u8]) -> io::Result<usize> {
+        if self.room == 0 || bytes.is_empty() {
+            return Err(io::Error::from(io::ErrorKind::BrokenPipe));
+        }
+        self.room -= 1;
+        Ok(1)
     }
 
     fn flush(&mut self) -> io::Result<()> {
-        Ok(())
+        Err(io::Error::from(io::ErrorKind::BrokenPipe))
     }
 }
 
 #[test]
 fn a_failing_write_ends_the_run(rt: HostRuntime) -> Result<(), Fail> {
     let alloc = rt.alloc();
-    let mut words = Vec::new(alloc);
-    for word in "range f7 5 2".split(' ') {
-        words.push(String::from_str(alloc, word)?)?;
+    let words = words_of(alloc, "range f7 5 2")?;
+    for room in [0usize, 1, 6, 1000] {
+        let mut input = b"3 4 1\n".as_slice();
+        let mut output = FullWriter { room };
+        let mut refused = Vec::new(alloc);
+        let code = run(
+            alloc,
+            words.as_slice(),
+            &mut input,
+            &mut output,
+            &mut refused,
+        );
+        assert!(rt; code == ExitCode::from(2));
+        assert!(rt; refused.is_empty());
     }
-    let mut input = b"3 4 1\n".as_slice();
-    let mut output = ClosedWriter;
-    let mut refused = Vec::new(alloc);
-    let code = run(
-        alloc,
-        words.as_slice(),
-        &mut input,
-        &mut output,
-        &mut refused,
-    );
-    assert!(rt; code == ExitCode::from(2));
-    assert!(rt; refused.is_empty());
+    Ok(())
+}
+
+#[test]
+fn a_refusal_that_cannot_be_written_keeps_its_status(rt: HostRuntime) -> Result<(), Fail> {
+    let alloc = rt.alloc();
+    let words = words_of(alloc, "range f7 5 2")?;
+    for room in [0usize, 5] {
+        let mut input = b"3 4\n".as_slice();
+        let mut written = Vec::new(alloc);
+        let mut errors = FullWriter { room };
+        let code = run(
+            alloc,
+            words.as_slice(),
+            &mut input,
+            &mut written,
+            &mut errors,
+        );
+        assert!(rt; code == ExitCode::from(2));
+        assert!(rt; written.is_empty());
+    }
     Ok(())
 }
 
@@ -396,6 +450,21 @@ fn faulty_groups_are_refused(rt: HostRuntime) -> Result<(), Fail> {
         ("exclusive f7 5 2", b"1 3 1 5".as_slice(), exclusive),
         ("exclusive f7 1 2", b"1 3 1 5".as_slice(), exclusive),
         ("exclusive f7 1 2", b"1 3 0 5".as_slice(), vanishing),
+        (
+            "exclusive f7 1 2",
+            b"0 3 0 5\n1 3 0 5\n2 3 0 5".as_slice(),
+            b"error: air 0: row 1, lookup 0: vanishing denominator\n".as_slice(),
+        ),
+        (
+            "exclusive babybear4 0,1,0,0 0,0,0,0",
+            b"2013265920 3 0 5".as_slice(),
+            boolean,
+        ),
+        (
+            "exclusive f7 5 2",
+            b"1 3 0".as_slice(),
+            b"error: line 1: expected 4 numbers\n".as_slice(),
+        ),
     ];
     for (line, row, errors) in runs {
         expect_run(&rt, alloc, line, row, 2, b"", errors)?;
