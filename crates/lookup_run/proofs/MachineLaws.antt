@@ -1,6 +1,6 @@
 -- The cells that the AIRs of the machines ask for.
-use Rattle.std.proofs.Common.{◌≡◌, List, ℕ, Some, slice_get, ap, refl, sym, ◌∙◌}
-use Rattle.std.proofs.lemmas.Option.{slice_get-map}
+use Rattle.std.proofs.Common.{◌≡◌, ◌<◌, ◌+◌, List, ℕ, None, Some, slice_get, ap, inl, inr, arith, refl, sym, ◌∙◌}
+use Rattle.std.proofs.lemmas.Option.{slice_get_cases, slice_get-map}
 use Rattle.expressions.specs.Builder.{MeansRow}
 use Rattle.field.specs.Ring.{Ring, IsCommutativeRing, of_nat}
 
@@ -17,3 +17,11 @@ cell_is {V} {W} {A} stands meaning width cells variables i v x value row found i
 pub of_nat-one : {A : Type 0} {R : Ring A} → IsCommutativeRing R → of_nat R 1 ≡ R.one
 unfolding of_nat
 of_nat-one {R = R} laws = laws.add_zero R.one
+
+-- where a row of variables has none at a place, the row is not longer
+pub no_cell : {V W A : Type 0} (stands : W → Type 0) (meaning : V → W → A) (width : ℕ) (cells : W → List A) (variables : List V) (i : ℕ) → MeansRow stands meaning width cells variables → slice_get variables i ≡ None → width < i + 1
+no_cell stands meaning width cells variables i row none =
+    elim (slice_get_cases variables i).1 [
+      | inl found ↦ absurd (cc (sym none ∙ found.2))
+      | inr past ↦ omega (arith, past.0, row.len)
+    ]

@@ -1,21 +1,29 @@
 -- What the AIRs of the machines push.
-use Rattle.std.specs.Prelude.{◌≡◌, ◌⊎◌, ℕ, List, [], ◌∷◌, map, Some, slice_get, Result, Err, MatchResult}
+use Rattle.std.specs.Prelude.{◌≡◌, ◌⊎◌, ◌<◌, ℕ, List, [], ◌∷◌, map, Some, slice_get, Result, Err, MatchResult}
 use Rattle.std.specs.declared.alloc.Global.{Global}
 use Rattle.std.specs.declared.vec.Vec.{Vec}
 use Rattle.field.specs.Ring.{Ring}
 use Rattle.expressions.specs.declared.error.AirError.{AirError}
+use Rattle.expressions.specs.declared.error.AirError.TheVariants.{Memory}
+use Rattle.expressions.specs.declared.layout.AirLayout.{AirLayout}
 use Rattle.lookup_record.specs.Interaction.{Interaction, local}
 use Rattle.lookup_record.specs.Messages.{flag_and_key}
 
--- there was a refusal, and the builder is as it was
-abbrev pub IsRefusedBefore : {B : Type 0} → B → Result (Unit {0}) AirError → B → Type 0
-IsRefusedBefore before answer after = (e : AirError) × (answer ≡ Err e) × (after ≡ before)
+-- the refusal of a cell: want of memory, the builder's own for its window, or a row that has not these
+-- columns
+abbrev pub IsCellRefusal : {B : Type 0} → (B → AirError → Type 0) → (B → AirLayout) → ℕ → B → AirError → Type 0
+IsCellRefusal window_refuses layout columns builder e =
+    (e ≡ Memory) ⊎ (window_refuses builder e ⊎ ((layout builder).main_width < columns))
 
--- one such interaction is pushed, and the answer is the builder's; or there was a refusal before it
+-- there was such a refusal, and the builder is as it was
+abbrev pub IsRefusedBefore : {B : Type 0} → (B → AirError → Type 0) → (B → AirLayout) → ℕ → B → Result (Unit {0}) AirError → B → Type 0
+IsRefusedBefore window_refuses layout columns before answer after =
+    (e : AirError) × (answer ≡ Err e) × (after ≡ before) × IsCellRefusal window_refuses layout columns before e
+
+-- one such interaction is pushed, and the answer is the builder's
 abbrev pub PushesSuch : {B M : Type 0} → (B → M → B → Type 0) → (B → M → AirError → B → Type 0) → (M → Type 0) → B → Result (Unit {0}) AirError → B → Type 0
 PushesSuch {B} {M} pushes refuses IsMeant before answer after =
-    ((m : M) × IsMeant m × MatchResult answer (λ _. pushes before m after) (λ e. refuses before m e after))
-    ⊎ IsRefusedBefore before answer after
+    (m : M) × IsMeant m × MatchResult answer (λ _. pushes before m after) (λ e. refuses before m e after)
 
 module _ {E W F : Type 0} (value : E → W → F) (stands : W → Type 0) (row : W → List F) where
   -- an expression whose value is this cell of the row, at each window that is stood for

@@ -1,8 +1,8 @@
 //! The AIRs of the machines, which say what each row looks up.
-ghost use Rattle.std.specs.Prelude.{◌⊎◌, IfOk};
+ghost use Rattle.std.specs.Prelude.{◌⊎◌, ◌+◌, IfErr, IfOk};
 ghost use Rattle.lookup_record.specs.Messages.{IsExclusiveQuery, PushesOne};
 ghost use Rattle.lookup_record.specs.Pushed.{pushed_local};
-ghost use Rattle.lookup_run.specs.Machines.{AreTwoKeys, IsCell, IsCellTuple, IsRange, IsRefusedBefore, PushesSuch, group_bus};
+ghost use Rattle.lookup_run.specs.Machines.{AreTwoKeys, IsCell, IsCellRefusal, IsCellTuple, IsRange, IsRefusedBefore, PushesSuch, group_bus};
 
 use air::{Air, AirBuilder, AirError, BaseAir, Expression, LayoutPart};
 use field::PrimeCharacteristicRing;
@@ -37,7 +37,8 @@ impl<F> BaseAir<F> for RangeAir {
 /// negated.
 impl<AB: InteractionBuilder> Air<AB> for RangeAir {
     ghost evaluates = { λ _ before answer after. PushesSuch AB.pushes AB.refuses_push
-        (IsRange (λ x w. AB.Expr.value x (AB.seen w)) (AB.stands_for before) (λ w. w.main) AB.F.ring) before answer after };
+        (IsRange (λ x w. AB.Expr.value x (AB.seen w)) (AB.stands_for before) (λ w. w.main) AB.F.ring) before answer after
+        ⊎ IsRefusedBefore AB.window_refuses AB.layout 3 before answer after };
 
     fn eval(&self, alloc: Global, builder: &mut AB) -> Result<(), AirError> {
         let tuples = range_tuples(alloc, builder)?;
@@ -50,7 +51,8 @@ fn range_tuples<AB: InteractionBuilder>(
     alloc: Global,
     builder: &AB,
 ) -> Result<Vec<(Vec<AB::Expr>, Count<AB::Expr>)>, AirError>
-    ensures { IfOk result (λ tuples. IsRange (λ x w. AB.Expr.value x (AB.seen w)) (AB.stands_for builder.now) (λ w. w.main) AB.F.ring
+    ensures refused { IfErr result (IsCellRefusal AB.window_refuses AB.layout 3 builder.now) }
+    ensures range { IfOk result (λ tuples. IsRange (λ x w. AB.Expr.value x (AB.seen w)) (AB.stands_for builder.now) (λ w. w.main) AB.F.ring
         (pushed_local tuples.items)) }
 {
     let mut tuples = Vec::new(alloc);
@@ -88,7 +90,7 @@ impl<AB: InteractionBuilder> Air<AB> for ExclusiveAir {
     ghost evaluates = { λ _ before answer after.
         ((branches : _) × AreTwoKeys (λ x w. AB.Expr.value x (AB.seen w)) (AB.stands_for before) (λ w. w.main) branches
         × PushesOne AB.pushes AB.refuses_push (IsExclusiveQuery AB.F.ring.one AB.Expr.value AB.Expr.degree group_bus branches) before answer after)
-        ⊎ IsRefusedBefore before answer after };
+        ⊎ IsRefusedBefore AB.window_refuses AB.layout 4 before answer after };
 
     fn eval(&self, alloc: Global, builder: &mut AB) -> Result<(), AirError> {
         let branches = two_keys(alloc, builder)?;
@@ -101,7 +103,8 @@ fn two_keys<AB: InteractionBuilder>(
     alloc: Global,
     builder: &AB,
 ) -> Result<Vec<(AB::Expr, Vec<AB::Expr>)>, AirError>
-    ensures { IfOk result (λ branches. AreTwoKeys (λ x w. AB.Expr.value x (AB.seen w)) (AB.stands_for builder.now) (λ w. w.main) branches.items) }
+    ensures refused { IfErr result (IsCellRefusal AB.window_refuses AB.layout 4 builder.now) }
+    ensures keys { IfOk result (λ branches. AreTwoKeys (λ x w. AB.Expr.value x (AB.seen w)) (AB.stands_for builder.now) (λ w. w.main) branches.items) }
 {
     let mut branches = Vec::new(alloc);
     branches.push((cell(alloc, builder, 0)?, tuple(alloc, builder, 1)?))?;
@@ -110,9 +113,10 @@ fn two_keys<AB: InteractionBuilder>(
 }
 
 /// The expression of a cell of the current row.
-#[tactic(auto, using(crate::proofs::MachineLaws::cell_is))]
+#[tactic(auto, using(crate::proofs::MachineLaws::cell_is, crate::proofs::MachineLaws::no_cell))]
 fn cell<AB: AirBuilder>(alloc: Global, builder: &AB, column: usize) -> Result<AB::Expr, AirError>
-    ensures { IfOk result (IsCell (λ x w. AB.Expr.value x (AB.seen w)) (AB.stands_for builder.now) (λ w. w.main) column) }
+    ensures refused { IfErr result (IsCellRefusal AB.window_refuses AB.layout (column + 1) builder.now) }
+    ensures cell { IfOk result (IsCell (λ x w. AB.Expr.value x (AB.seen w)) (AB.stands_for builder.now) (λ w. w.main) column) }
 {
     let main = builder.main(alloc)?;
     match main.current(column) {
@@ -131,7 +135,8 @@ fn tuple<AB: AirBuilder>(
     builder: &AB,
     column: usize,
 ) -> Result<Vec<AB::Expr>, AirError>
-    ensures { IfOk result (λ tuple. IsCellTuple (λ x w. AB.Expr.value x (AB.seen w)) (AB.stands_for builder.now) (λ w. w.main) column tuple.items) }
+    ensures refused { IfErr result (IsCellRefusal AB.window_refuses AB.layout (column + 1) builder.now) }
+    ensures tuple { IfOk result (λ tuple. IsCellTuple (λ x w. AB.Expr.value x (AB.seen w)) (AB.stands_for builder.now) (λ w. w.main) column tuple.items) }
 {
     let mut tuple = Vec::new(alloc);
     tuple.push(cell(alloc, builder, column)?)?;

@@ -1,5 +1,5 @@
 //! A run of the program, from its words to its status.
-ghost use Rattle.std.specs.Prelude.{◌≡◌, ◌≤◌};
+ghost use Rattle.std.specs.Prelude.{◌≡◌, ◌≤◌, true, false};
 ghost use Rattle.std.specs.Process.{exit_status};
 
 use crate::challenge::Challenge;
@@ -43,8 +43,12 @@ pub fn refuse<E: Write>(alloc: Global, error: RunError, errors: &mut E) -> ExitC
     ExitCode::from(2)
 }
 
+/// Writes a report. The status is 0 where the terminals cancel, 1 where they do not, and 2 where a
+/// write fails.
 fn write_report<W: Write>(report: &Report, output: &mut W) -> ExitCode
-    ensures { exit_status result ≤ 2 }
+    ensures within { exit_status result ≤ 2 }
+    ensures balanced { exit_status result ≡ 0 → report.now.balanced ≡ true }
+    ensures unbalanced { exit_status result ≡ 1 → report.now.balanced ≡ false }
 {
     if write_all(report.text.as_bytes(), output).is_err() {
         ExitCode::from(2)

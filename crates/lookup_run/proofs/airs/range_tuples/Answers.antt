@@ -4,8 +4,8 @@ use Rattle.lookup_record.specs.Pushed.{tuple_of}
 use Rattle.lookup_run.proofs.MachineLaws.{of_nat-one}
 use Rattle.lookup_run.proofs.airs.range_tuples.Goals as goal
 
-pub returns : goal.returns
-returns g c =
+pub returns-clause-range : goal.returns-clause-range
+returns-clause-range g c =
     let count = c.from_i32.result in
     let taken = c.provided-provided.ensures in
     let items = c.in_ok-push-2.ensures.items ∙ ap (λ (l : List _). l ++ (c.in_ok-tuple-2.field-0, c.provided-provided.result) ∷ []) (c.in_ok-push.ensures.items ∙ ap (λ (l : List _). l ++ (c.in_ok-tuple.field-0, count) ∷ []) c.new-tuples.ensures.items) in
@@ -17,10 +17,10 @@ returns g c =
       message =
           ap (λ (l : List _). local (map tuple_of l)) items
           ∙ (λ i. local (record { fields = c.in_ok-tuple.field-0.items; count = count.expression; weight = c.from_i32.ensures.weight i } ∷ record { fields = c.in_ok-tuple-2.field-0.items; count = (taken i).expression; weight = (taken i).weight } ∷ []));
-      reads = c.in_ok-tuple.ensures;
-      provides = c.in_ok-tuple-2.ensures;
+      reads = c.in_ok-tuple.ensures.tuple;
+      provides = c.in_ok-tuple-2.ensures.tuple;
       counts_once = λ w. c.from_i32.ensures.means (g.AB.AirBuilder.seen w) ∙ of_nat-one g.AB.F.PrimeCharacteristicRing.lawful;
       counts_times = λ w v stands there.
-          let same : g.AB.Expr.Expression.value c.in_ok-cell.field-0 (g.AB.AirBuilder.seen w) ≡ v = cc (sym (c.in_ok-cell.ensures w stands) ∙ there) in
+          let same : g.AB.Expr.Expression.value c.in_ok-cell.field-0 (g.AB.AirBuilder.seen w) ≡ v = cc (sym (c.in_ok-cell.ensures.cell w stands) ∙ there) in
           c.in_ok-neg.ensures.means (g.AB.AirBuilder.seen w) ∙ ap g.AB.F.PrimeCharacteristicRing.ring.neg same;
     }

@@ -2,8 +2,8 @@ use Rattle.std.proofs.Common.{◌++◌, ◌∷◌, [], List, map, ap, ◌∙◌}
 use Rattle.lookup_record.specs.Messages.{flag_and_key}
 use Rattle.lookup_run.proofs.airs.two_keys.Goals as goal
 
-pub returns : goal.returns
-returns g c =
+pub returns-clause-keys : goal.returns-clause-keys
+returns-clause-keys g c =
     let items = c.in_ok-push-2.ensures.items ∙ ap (λ (l : List _). l ++ (c.in_ok-cell-2.field-0, c.in_ok-tuple-2.field-0) ∷ []) (c.in_ok-push.ensures.items ∙ ap (λ (l : List _). l ++ (c.in_ok-cell.field-0, c.in_ok-tuple.field-0) ∷ []) c.new-branches.ensures.items) in
     record {
       first_flag = c.in_ok-cell.field-0;
@@ -11,8 +11,8 @@ returns g c =
       second_flag = c.in_ok-cell-2.field-0;
       second_key = c.in_ok-tuple-2.field-0.items;
       branches_are = ap (map flag_and_key) items;
-      first_flag_is = c.in_ok-cell.ensures;
-      first_key_is = c.in_ok-tuple.ensures;
-      second_flag_is = c.in_ok-cell-2.ensures;
-      second_key_is = c.in_ok-tuple-2.ensures;
+      first_flag_is = c.in_ok-cell.ensures.cell;
+      first_key_is = c.in_ok-tuple.ensures.tuple;
+      second_flag_is = c.in_ok-cell-2.ensures.cell;
+      second_key_is = c.in_ok-tuple-2.ensures.tuple;
     }
