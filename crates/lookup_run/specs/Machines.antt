@@ -8,6 +8,8 @@ use Rattle.expressions.specs.declared.error.AirError.TheVariants.{Memory}
 use Rattle.expressions.specs.declared.layout.AirLayout.{AirLayout}
 use Rattle.lookup_record.specs.Interaction.{Interaction, local}
 use Rattle.lookup_record.specs.Messages.{flag_and_key}
+use Rattle.lookup_run.specs.declared.machine.Machine.{Machine}
+use Rattle.lookup_run.specs.declared.machine.Machine.TheVariants.{Range, Exclusive}
 
 -- the refusal of a cell: want of memory, the builder's own for its window, or a row that has not these
 -- columns
@@ -63,3 +65,8 @@ module _ {E W F : Type 0} (value : E → W → F) (stands : W → Type 0) (row :
 -- the bytes of `rc`
 abbrev pub group_bus : List ℕ
 group_bus = 114 ∷ 99 ∷ []
+
+-- how many columns a row of a machine's input has
+abbrev pub columns_of : Machine → ℕ
+columns_of Range = 3
+columns_of Exclusive = 4

@@ -1,5 +1,5 @@
 //! The machines that the program knows.
-ghost use Rattle.std.specs.Prelude.{◌<◌};
+ghost use Rattle.std.specs.Prelude.{◌≡◌, ◌<◌};
 
 use crate::airs::{ExclusiveAir, RangeAir};
 use crate::error::RunError;
@@ -19,6 +19,8 @@ pub enum Machine {
 }
 
 impl Machine {
+    ghost use Rattle.lookup_run.specs.Machines.{columns_of};
+
     /// The machine of a name.
     pub fn from_name(name: &str) -> Option<Machine> {
         match name {
@@ -30,7 +32,8 @@ impl Machine {
 
     /// How many columns a row of the input has.
     pub fn columns(self) -> usize
-        ensures { 0 < result }
+        ensures some { 0 < result }
+        ensures columns { result ≡ columns_of self }
     {
         match self {
             Machine::Range => 3,
