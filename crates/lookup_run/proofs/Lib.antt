@@ -1,1 +1,4 @@
+pub mod InputLaws
 pub mod MachineLaws
+pub mod PartLaws
+pub mod WordLaws

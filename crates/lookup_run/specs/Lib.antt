@@ -1,1 +1,3 @@
 pub mod Machines
+pub mod Words
+pub mod Input

@@ -1,16 +1,23 @@
 //! Numbers and challenges as they are written.
-ghost use Rattle.std.specs.Prelude.{◌<◌, IfSome};
+ghost use Rattle.std.specs.Prelude.{◌≡◌, ℕ, List, min, MatchOption, option_map};
+ghost use Rattle.field.specs.Ring.{of_nat};
+ghost use Rattle.lookup_run.specs.Words.{number_of, WritesQuartic, WritesResidue};
 
 use field::{BabyBear, BabyBear4, F7, Field, PrimeCharacteristicRing};
 
-/// A field whose elements can be given as challenges.
+/// A field whose elements can be given as challenges: `written` says which element a word gives.
 pub trait Challenge: Field {
+    ghost written: { List ℕ → Self → Type 0 };
+
     /// The element that a word gives, and `None` where it gives none.
-    fn from_word(word: &[u8]) -> Option<Self>;
+    fn from_word(word: &[u8]) -> Option<Self>
+        ensures { MatchOption result ((x : Self) → ¬ written word.now x) (λ x. written word.now x) };
 }
 
 /// A number below 7.
 impl Challenge for F7 {
+    ghost written = { λ word x. WritesResidue word x };
+
     fn from_word(word: &[u8]) -> Option<F7> {
         element(word)
     }
@@ -18,14 +25,14 @@ impl Challenge for F7 {
 
 /// Four numbers below the characteristic, joined by commas: the coefficients of `1, X, X^2, X^3`.
 impl Challenge for BabyBear4 {
+    ghost written = { λ word x. WritesQuartic word x };
+
     fn from_word(word: &[u8]) -> Option<BabyBear4> {
-        let mut parts = word.split(|byte| *byte == b',').map(element::<BabyBear>);
-        let coefficients = [
-            parts.next()??,
-            parts.next()??,
-            parts.next()??,
-            parts.next()??,
-        ];
+        let mut parts = word.split(|byte| *byte == b',');
+        let mut coefficients = [BabyBear::ZERO; 4];
+        for coefficient in &mut coefficients {
+            *coefficient = element(parts.next()?)?;
+        }
         match parts.next() {
             None => Some(BabyBear4::new(coefficients)),
             Some(_) => None,
@@ -34,13 +41,16 @@ impl Challenge for BabyBear4 {
 }
 
 /// The element of a prime field that a number below its characteristic gives.
-fn element<F: PrimeCharacteristicRing>(word: &[u8]) -> Option<F> {
+fn element<F: PrimeCharacteristicRing>(word: &[u8]) -> Option<F>
+    ensures { result ≡ option_map (of_nat F.ring) (number_of (min F.CHARACTERISTIC 4294967296) word.now) }
+{
     number(word, F::CHARACTERISTIC).map(|value| F::from_u32(value))
 }
 
-/// The value of one or more decimal digits where it is below `bound`; leading zeros are allowed.
+/// The value of one or more decimal digits where it is below `bound` and fits 32 bits; leading
+/// zeros are allowed.
 pub fn number(word: &[u8], bound: u128) -> Option<u32>
-    ensures { IfSome result (λ n. n < bound) }
+    ensures { result ≡ number_of (min bound 4294967296) word.now }
 {
     if word.is_empty() {
         return None;

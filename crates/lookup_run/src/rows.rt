@@ -1,5 +1,9 @@
 //! The rows of the input.
-ghost use Rattle.std.specs.Prelude.{◌≡◌, ◌+◌, ◌%◌, ◌<◌, ◌≤◌, ◌⊎◌, IfOk, OnOk, length, vec_len};
+ghost use Rattle.std.specs.Prelude.{◌≡◌, ◌+◌, ◌%◌, ◌<◌, ◌++◌, ◌⊎◌, IfOk, MatchResult, OnOk, length, map, min, vec_len};
+ghost use Rattle.std.specs.List.{list_all};
+ghost use Rattle.field.specs.Ring.{of_nat};
+ghost use Rattle.lookup_run.specs.Input.{AreNumbers, IsFirstRefusal, IsInput, IsInputRefusal, line_refusal};
+ghost use Rattle.lookup_run.specs.Words.{is_number, number_of, numbers_or_zeros, words_of};
 
 use crate::challenge::number;
 use crate::error::RunError;
@@ -11,26 +15,29 @@ use std::alloc::{AllocError, Global};
 ///
 /// Lines end at LF or at the end of the input; spaces, tabs and CR separate words, and a line
 /// without words is skipped. Refuses the first line that has not `columns` words or has a word
-/// that is no number below the characteristic, its count of words first; then an input without
-/// rows.
+/// that is no number below the characteristic and 2^32, its count of words first; then an input
+/// without rows.
 pub fn read_rows<F: Field>(
     alloc: Global,
     text: &[u8],
     columns: usize,
 ) -> Result<RowMajorMatrix<F>, RunError>
     requires { 0 < columns }
-    ensures { IfOk result (λ m. m.width ≡ columns) }
+    ensures { let bound = min F.CHARACTERISTIC 4294967296 in MatchResult result
+        (λ m. IsInput F.ring columns bound text.now m)
+        (λ e. (e ≡ RunError.Memory) ⊎ IsInputRefusal columns bound text.now e) }
 {
     let numbers = read_numbers(alloc, text, columns, F::CHARACTERISTIC)?;
     if numbers.is_empty() {
         return Err(RunError::NoRows);
     }
-    Ok(RowMajorMatrix::new(elements(alloc, &numbers)?, columns))
+    let values = elements(alloc, &numbers).map_err(|_| RunError::Memory)?;
+    Ok(RowMajorMatrix::new(values, columns))
 }
 
 /// The elements that numbers give.
 fn elements<F: Field>(alloc: Global, numbers: &[u32]) -> Result<Vec<F>, AllocError>
-    ensures { IfOk result (λ v. vec_len v ≡ length numbers.now) }
+    ensures { IfOk result (λ v. v.items ≡ map (of_nat F.ring) numbers.now) }
 {
     let mut values = Vec::new(alloc);
     for number in numbers {
@@ -47,18 +54,21 @@ fn read_numbers(
     bound: u128,
 ) -> Result<Vec<u32>, RunError>
     requires { 0 < columns }
-    ensures { IfOk result (λ v. vec_len v % columns ≡ 0) }
+    ensures whole_rows { IfOk result (λ v. vec_len v % columns ≡ 0) }
+    ensures cases { let bound = min bound 4294967296 in MatchResult result
+        (λ v. AreNumbers columns bound text.now v.items)
+        (λ e. (e ≡ RunError.Memory) ⊎ IsFirstRefusal columns bound text.now e) }
 {
     let mut numbers = Vec::new(alloc);
     let mut line = 0usize;
     for words in text.split(|byte| *byte == b'\n') {
-        line = line.saturating_add(1);
+        line += 1;
         push_line(&mut numbers, words, line, columns, bound)?;
     }
     Ok(numbers)
 }
 
-/// Appends the numbers of one line, of which there are none or `columns`.
+/// Appends the numbers of the line with this number, of which there are none or `columns`.
 fn push_line(
     numbers: &mut Vec<u32>,
     words: &[u8],
@@ -66,10 +76,14 @@ fn push_line(
     columns: usize,
     bound: u128,
 ) -> Result<(), RunError>
-    ensures { OnOk result ((vec_len numbers.new ≡ vec_len numbers.old) ⊎ (vec_len numbers.new ≡ vec_len numbers.old + columns)) }
+    ensures whole_row { OnOk result ((vec_len numbers.new ≡ vec_len numbers.old) ⊎ (vec_len numbers.new ≡ vec_len numbers.old + columns)) }
+    ensures cases { let bound = min bound 4294967296 in MatchResult result
+        (λ _. (line_refusal columns bound line words.now ≡ None)
+        × (map Some numbers.new.items ≡ map Some numbers.old.items ++ map (number_of bound) (words_of words.now)))
+        (λ e. (e ≡ RunError.Memory) ⊎ (line_refusal columns bound line words.now ≡ Some e)) }
 {
     let start = numbers.len();
-    let good = push_words(numbers, words, bound)?;
+    let good = push_words(numbers, words, bound).map_err(|_| RunError::Memory)?;
     let count = numbers.len() - start;
     if count != 0 && count != columns {
         return Err(RunError::WrongCount { line, columns });
@@ -81,9 +95,11 @@ fn push_line(
     }
 }
 
-/// Appends a number for each word, and answers whether every word is a number below `bound`.
+/// Appends a number for each word, and answers whether every word is a number below `bound`. For
+/// a word that is none it appends 0.
 fn push_words(numbers: &mut Vec<u32>, words: &[u8], bound: u128) -> Result<bool, AllocError>
-    ensures { vec_len numbers.old ≤ vec_len numbers.new }
+    ensures numbers { OnOk result (numbers.new.items ≡ numbers.old.items ++ numbers_or_zeros (min bound 4294967296) (words_of words.now)) }
+    ensures good { IfOk result (λ good. good ≡ list_all (is_number (min bound 4294967296)) (words_of words.now)) }
 {
     let mut good = true;
     for word in words.split(|byte| matches!(*byte, b' ' | b'\t' | b'\r')) {

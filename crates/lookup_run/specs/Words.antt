@@ -1,0 +1,45 @@
+-- The lines of a text, the words of a line, and what words write.
+use Rattle.std.specs.Prelude.{◌≡◌, ◌==◌, ◌&&◌, ◌||◌, ℕ, Bool, List, Option, Some, None, filter, is_some, length, map, nat_lt, unwrap_or, if◌then◌else◌}
+use Rattle.std.specs.List.{slice_split}
+use Rattle.std.specs.Str.{all_ascii_digits}
+use Rattle.std.specs.Str.Parse.{digits_value}
+use Rattle.field.specs.Residue.{Residue}
+use Rattle.field.specs.Quartic.{Quartic, coefficients_of}
+
+-- the lines of a text: its parts between LFs, of which there is one more than LFs
+unfoldable pub lines_of : List ℕ → List (List ℕ)
+lines_of text = slice_split (λ byte. byte == 10) text
+
+-- space, tab and CR
+abbrev pub separates_words : ℕ → Bool
+separates_words byte = (byte == 32) || (byte == 9) || (byte == 13)
+
+-- whether a part is not empty
+abbrev pub has_bytes : List ℕ → Bool
+has_bytes part = nat_lt 0 (length part)
+
+-- the words of a line: its parts between spaces, tabs and CRs, without the empty ones
+unfoldable pub words_of : List ℕ → List (List ℕ)
+words_of line = filter has_bytes (slice_split separates_words line)
+
+-- the number that a word writes: the value of one or more decimal digits, where it is below the bound
+unfoldable pub number_of : ℕ → List ℕ → Option ℕ
+number_of bound word =
+    if nat_lt 0 (length word) && all_ascii_digits word && nat_lt (digits_value 10 word) bound then Some (digits_value 10 word) else None
+
+-- whether a word writes a number below the bound
+abbrev pub is_number : ℕ → List ℕ → Bool
+is_number bound word = is_some (number_of bound word)
+
+-- the number of each word, and 0 for a word that writes none
+abbrev pub numbers_or_zeros : ℕ → List (List ℕ) → List ℕ
+numbers_or_zeros bound words = map (λ word. unwrap_or (number_of bound word) 0) words
+
+-- the word is a number below p, and the residue is that number
+abbrev pub WritesResidue : {p : ℕ} → List ℕ → Residue p → Type 0
+WritesResidue {p} word x = number_of p word ≡ Some x.value
+
+-- the word is numbers below p with commas between them, and these are the four coefficients, lowest power first
+abbrev pub WritesQuartic : {p : ℕ} → List ℕ → Quartic (Residue p) → Type 0
+WritesQuartic {p} word x =
+    map (number_of p) (slice_split (λ byte. byte == 44) word) ≡ map (λ c. Some c.value) (coefficients_of x)
