@@ -1,11 +1,10 @@
 -- Why a line is refused, and what the words of the others write.
-use Rattle.std.proofs.Common.{◌≡◌, ◌≢◌, ◌≤◌, ◌+◌, ◌⊎◌, ◌==◌, ◌&&◌, ℕ, Bool, true, false, cond, List, [], ◌∷◌, ◌++◌, Option, Some, None, Result, Ok, Err, MatchResult, IsErrAnd, is_some, length, map, refl, ap, inl, inr, arith, sym, ◌∙◌, eq-eqb, ne_eqb, unwrap_or, below_more, slice_get}
+use Rattle.std.proofs.Common.{◌≡◌, ◌≢◌, ◌≤◌, ◌+◌, ◌⊎◌, ◌==◌, ◌&&◌, ℕ, Bool, true, false, cond, List, [], ◌∷◌, ◌++◌, Option, Some, None, is_some, length, map, refl, ap, inl, inr, arith, sym, ◌∙◌, eq-eqb, ne_eqb, unwrap_or, below_more, slice_get}
 use Rattle.std.specs.List.{flat_map, list_all}
 use Rattle.std.proofs.lemmas.Grind.{flat_map-append}
 use Rattle.std.proofs.lemmas.List.{append-nil, map-append, nil_from_length}
 use Rattle.std.proofs.lemmas.List.Splits.{length-slice_split}
 use Rattle.std.proofs.lemmas.List.Sums.{count_by-le-length}
-use Rattle.std.proofs.lemmas.Result.{err_from_is_err_and}
 use Rattle.std.proofs.lemmas.Option.{same_Some}
 use Rattle.lookup_run.specs.Input.{NoneRefusedOf, line_refusal}
 use Rattle.lookup_run.specs.Words.{is_number, lines_of, number_of, numbers_or_zeros, words_of}
@@ -70,8 +69,3 @@ module _ (columns bound n : ℕ) (line : List ℕ) where
       let some : length (words_of line) ≢ 0 = λ empty. let e : true ≡ false = ap (list_all (is_number bound)) (sym (nil_from_length (words_of line) empty)) ∙ bad in cc in
       let same : length (words_of line) ≡ columns = elim count [ inl empty ↦ absurd (some empty) | inr same ↦ same ] in
       rw (ne_eqb (length (words_of line)) 0 some, eq-eqb (length (words_of line)) columns same, bad)
-
--- `map_err` keeps an `Ok`
-pub ok-from_map_err : {T E D : Type 0} (Q : E → D → Type 0) (r : Result T E) (s : Result T D) (x : T) → MatchResult r (λ y. s ≡ Ok y) (λ e. IsErrAnd s (Q e)) → s ≡ Ok x → r ≡ Ok x
-ok-from_map_err Q (Ok y) s x mapped was = let e : s ≡ Ok y = mapped in cc
-ok-from_map_err Q (Err d) s x mapped was = let e = err_from_is_err_and s mapped in let f : s ≡ Err e.0 = e.1 in cc

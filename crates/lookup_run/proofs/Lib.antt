@@ -1,4 +1,10 @@
+pub mod AnswerLaws
+pub mod ExtractedLaws
+pub mod GeneratedLaws
 pub mod InputLaws
 pub mod MachineLaws
 pub mod PartLaws
+pub mod ReportLaws
+pub mod SentLaws
+pub mod VerdictLaws
 pub mod WordLaws

@@ -1,11 +1,18 @@
 -- What the AIRs of the machines push.
-use Rattle.std.specs.Prelude.{◌≡◌, ◌⊎◌, ◌<◌, ℕ, List, [], ◌∷◌, map, Some, slice_get, Result, Err, MatchResult}
+use Rattle.std.specs.Prelude.{◌≡◌, ◌⊎◌, ◌<◌, ℕ, Bool, List, [], ◌∷◌, codes, length, map, Some, None, slice_get, slice_index_or, Result, Err, MatchResult}
 use Rattle.std.specs.declared.alloc.Global.{Global}
 use Rattle.std.specs.declared.vec.Vec.{Vec}
 use Rattle.field.specs.Ring.{Ring}
 use Rattle.expressions.specs.declared.error.AirError.{AirError}
 use Rattle.expressions.specs.declared.error.AirError.TheVariants.{Memory}
 use Rattle.expressions.specs.declared.layout.AirLayout.{AirLayout}
+use Rattle.expressions.specs.Window.{Window}
+use Rattle.expressions.specs.Layout.{layout_of_widths}
+use Rattle.air.specs.Recorded.{HasWidths}
+use Rattle.lookup_model.specs.Message.{Message}
+use Rattle.lookup_model.specs.Sent.{Sent, sent}
+use Rattle.lookup_model.specs.Trace.{sent_row}
+use Rattle.lookup_model.specs.declared.types.Lookup.{Lookup}
 use Rattle.lookup_record.specs.Interaction.{Interaction, local}
 use Rattle.lookup_record.specs.Messages.{flag_and_key}
 use Rattle.lookup_run.specs.declared.machine.Machine.{Machine}
@@ -70,3 +77,31 @@ group_bus = 114 ∷ 99 ∷ []
 abbrev pub columns_of : Machine → ℕ
 columns_of Range = 3
 columns_of Exclusive = 4
+
+-- the name of a machine
+abbrev pub name_of : Machine → List ℕ
+name_of Range = codes "range"
+name_of Exclusive = codes "exclusive"
+
+-- a message about one value, under id 0
+abbrev pub message_of : {F : Type 0} → F → F → Message F
+message_of value multiplicity = record { key = record { id = 0; tuple = value ∷ [] }; multiplicity = multiplicity }
+
+module _ {F : Type 0} (R : Ring F) (eq : F → F → Bool) where
+  -- What the lookup of a machine sends on a row of its input. The machine `range` reads cell 0 once and
+  -- provides cell 1 as often as cell 2 says; `exclusive` looks up cell 1 where the flag in cell 0 is
+  -- set, and cell 3 where the one in cell 2 is.
+  abbrev pub machine_sends : Machine → List F → Sent F
+  machine_sends machine row = by_name machine
+    where
+      cell : ℕ → F
+      cell column = slice_index_or row column R.zero
+
+      by_name : Machine → Sent F
+      by_name Range = sent R eq None (message_of (cell 0) R.one ∷ message_of (cell 1) (R.neg (cell 2)) ∷ [])
+      by_name Exclusive = sent R eq (Some (cell 0 ∷ cell 2 ∷ [])) (message_of (cell 1) R.one ∷ message_of (cell 3) R.one ∷ [])
+
+  -- the lookups of a machine: one, which on each row sends what the machine says
+  pub record AreLookupsOf (machine : Machine) (lookups : List (Lookup F)) : Type 0 where
+    pub one : length lookups ≡ 1
+    pub sends : (w : Window F) → HasWidths (layout_of_widths (columns_of machine) 0 0) w → sent_row R eq w lookups ≡ machine_sends machine w.main ∷ []

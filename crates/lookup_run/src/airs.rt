@@ -123,7 +123,7 @@ fn cell<AB: AirBuilder>(alloc: Global, builder: &AB, column: usize) -> Result<AB
         Some(variable) => Ok(variable.into()),
         None => Err(AirError::LayoutMismatch {
             part: LayoutPart::Main,
-            expected: column,
+            expected: column.saturating_add(1),
             actual: main.current_slice().len(),
         }),
     }

@@ -1,13 +1,19 @@
 //! Numbers and challenges as they are written.
 ghost use Rattle.std.specs.Prelude.{◌≡◌, ℕ, List, min, MatchOption, option_map};
 ghost use Rattle.field.specs.Ring.{of_nat};
+ghost use Rattle.lookup_run.specs.Fields.{Fields, run_fields};
 ghost use Rattle.lookup_run.specs.Words.{number_of, WritesQuartic, WritesResidue};
 
-use field::{BabyBear, BabyBear4, F7, Field, PrimeCharacteristicRing};
+use field::{
+    BabyBear, BabyBear4, ExtensionDomain, ExtensionField, F7, Field, PrimeCharacteristicRing,
+};
 
-/// A field whose elements can be given as challenges: `written` says which element a word gives.
-pub trait Challenge: Field {
+/// A field whose elements can be given as challenges for rows over the field `F`: `written` says
+/// which element a word gives, and `fields` what a run over the two works with.
+pub trait Challenge<F: Field>: ExtensionField<F> {
     ghost written: { List ℕ → Self → Type 0 };
+
+    ghost fields: { Fields F Self };
 
     /// The element that a word gives, and `None` where it gives none.
     fn from_word(word: &[u8]) -> Option<Self>
@@ -15,8 +21,11 @@ pub trait Challenge: Field {
 }
 
 /// A number below 7.
-impl Challenge for F7 {
+impl Challenge<F7> for F7 {
     ghost written = { λ word x. WritesResidue word x };
+
+    ghost fields = { run_fields ⟦<F7 as PrimeCharacteristicRing>⟧.ring ⟦<F7 as PartialEq>⟧.eq 7 ⟦<F7 as PrimeCharacteristicRing>⟧.ring ⟦<F7 as PartialEq>⟧.eq
+        ⟦<F7 as ExtensionDomain<F7>>⟧.embed ⟦<F7 as Field>⟧.inverse (λ word x. WritesResidue word x) ⟦<F7 as Field>⟧.text };
 
     fn from_word(word: &[u8]) -> Option<F7> {
         element(word)
@@ -24,8 +33,11 @@ impl Challenge for F7 {
 }
 
 /// Four numbers below the characteristic, joined by commas: the coefficients of `1, X, X^2, X^3`.
-impl Challenge for BabyBear4 {
+impl Challenge<BabyBear> for BabyBear4 {
     ghost written = { λ word x. WritesQuartic word x };
+
+    ghost fields = { run_fields ⟦<BabyBear as PrimeCharacteristicRing>⟧.ring ⟦<BabyBear as PartialEq>⟧.eq 2013265921 ⟦<BabyBear4 as PrimeCharacteristicRing>⟧.ring ⟦<BabyBear4 as PartialEq>⟧.eq
+        ⟦<BabyBear4 as ExtensionDomain<BabyBear>>⟧.embed ⟦<BabyBear4 as Field>⟧.inverse (λ word x. WritesQuartic word x) ⟦<BabyBear4 as Field>⟧.text };
 
     fn from_word(word: &[u8]) -> Option<BabyBear4> {
         let mut parts = word.split(|byte| *byte == b',');

@@ -1,12 +1,15 @@
 //! A run of the program, from its words to its status.
-ghost use Rattle.std.specs.Prelude.{◌≡◌, ◌≤◌, true, false};
+ghost use Rattle.std.specs.Prelude.{◌≡◌, ◌⊎◌, ℕ, List, IfSome, MatchResult, OnOk, Result, cond, map, string_bytes};
+ghost use Rattle.std.specs.Io.KnownBytes.{Appends};
 ghost use Rattle.std.specs.Process.{exit_status};
+ghost use Rattle.lookup_run.specs.Fields.{run_fields};
+ghost use Rattle.lookup_run.specs.Program.{Answers, AnswersOver, Ends, IsBadChallenge};
 
 use crate::challenge::Challenge;
 use crate::error::RunError;
 use crate::machine::Machine;
 use crate::report::{Report, report_of};
-use field::{BabyBear, BabyBear4, ExtensionField, F7, Field};
+use field::{BabyBear, BabyBear4, F7, Field};
 use std::alloc::Global;
 use std::io;
 use std::io::{Read, Write};
@@ -24,7 +27,9 @@ pub fn run<R: Read, W: Write, E: Write>(
     output: &mut W,
     errors: &mut E,
 ) -> ExitCode
-    ensures { exit_status result ≤ 2 }
+    ensures { (bytes : List ℕ) × (answer : Result Report RunError) × IfSome (R.remaining input.old) (λ known. bytes ≡ known)
+        × Answers ⟦<F7 as Challenge<F7>>⟧.fields ⟦<BabyBear4 as Challenge<BabyBear>>⟧.fields (map string_bytes words.now) bytes answer
+        × Ends W.contents answer (exit_status result) output.old output.new errors.old errors.new }
 {
     match answer(alloc, words, input) {
         Ok(report) => write_report(&report, output),
@@ -46,9 +51,8 @@ pub fn refuse<E: Write>(alloc: Global, error: RunError, errors: &mut E) -> ExitC
 /// Writes a report. The status is 0 where the terminals cancel, 1 where they do not, and 2 where a
 /// write fails.
 fn write_report<W: Write>(report: &Report, output: &mut W) -> ExitCode
-    ensures within { exit_status result ≤ 2 }
-    ensures balanced { exit_status result ≡ 0 → report.now.balanced ≡ true }
-    ensures unbalanced { exit_status result ≡ 1 → report.now.balanced ≡ false }
+    ensures { ((exit_status result ≡ cond report.now.balanced 0 1) × Appends (W.contents output.old) (W.contents output.new) (string_bytes report.now.text))
+        ⊎ (exit_status result ≡ 2) }
 {
     if write_all(report.text.as_bytes(), output).is_err() {
         ExitCode::from(2)
@@ -59,13 +63,18 @@ fn write_report<W: Write>(report: &Report, output: &mut W) -> ExitCode
     }
 }
 
-fn write_all<W: Write>(bytes: &[u8], output: &mut W) -> io::Result<()> {
+fn write_all<W: Write>(bytes: &[u8], output: &mut W) -> io::Result<()>
+    ensures { OnOk result (Appends (W.contents output.old) (W.contents output.new) bytes.now) }
+{
     output.write_all(bytes)?;
     output.flush()
 }
 
 /// The report of the words, or the first refusal in the order of the checks.
-fn answer<R: Read>(alloc: Global, words: &[String], input: &mut R) -> Result<Report, RunError> {
+fn answer<R: Read>(alloc: Global, words: &[String], input: &mut R) -> Result<Report, RunError>
+    ensures { (bytes : List ℕ) × IfSome (R.remaining input.old) (λ known. bytes ≡ known)
+        × Answers ⟦<F7 as Challenge<F7>>⟧.fields ⟦<BabyBear4 as Challenge<BabyBear>>⟧.fields (map string_bytes words.now) bytes result }
+{
     let [machine, field, alpha, beta] = words else {
         return Err(RunError::Usage);
     };
@@ -80,16 +89,19 @@ fn answer<R: Read>(alloc: Global, words: &[String], input: &mut R) -> Result<Rep
 }
 
 /// The report over one pair of fields.
-fn answer_over<F: Field, EF: Challenge + ExtensionField<F>, R: Read>(
+fn answer_over<F: Field, EF: Challenge<F>, R: Read>(
     alloc: Global,
     machine: Machine,
     alpha: &String,
     beta: &String,
     input: &mut R,
-) -> Result<Report, RunError> {
+) -> Result<Report, RunError>
+    ensures { (bytes : List ℕ) × IfSome (R.remaining input.old) (λ known. bytes ≡ known)
+        × AnswersOver (run_fields F.ring F.eq F.CHARACTERISTIC EF.ring EF.eq EF.embed EF.inverse EF.written EF.text) machine (string_bytes alpha.now) (string_bytes beta.now) bytes result }
+{
     let challenges = (
-        challenge::<EF>(alloc, alpha.as_str())?,
-        challenge::<EF>(alloc, beta.as_str())?,
+        challenge::<F, EF>(alloc, alpha.as_str())?,
+        challenge::<F, EF>(alloc, beta.as_str())?,
     );
     let mut text = Vec::new(alloc);
     if let Err(error) = input.read_to_end(&mut text) {
@@ -101,7 +113,12 @@ fn answer_over<F: Field, EF: Challenge + ExtensionField<F>, R: Read>(
     report_of::<F, EF>(alloc, machine, challenges, text.as_slice())
 }
 
-fn challenge<EF: Challenge>(alloc: Global, word: &str) -> Result<EF, RunError> {
+/// The challenge that a word gives.
+fn challenge<F: Field, EF: Challenge<F>>(alloc: Global, word: &str) -> Result<EF, RunError>
+    ensures { MatchResult result
+        (λ x. EF.written word.now x)
+        (λ e. (e ≡ RunError.Memory) ⊎ IsBadChallenge EF.written word.now e) }
+{
     match EF::from_word(word.as_bytes()) {
         Some(challenge) => Ok(challenge),
         None => Err(RunError::BadChallenge(String::from_str(alloc, word)?)),

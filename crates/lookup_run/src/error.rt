@@ -1,4 +1,7 @@
 //! Why a run was refused.
+ghost use Rattle.std.specs.Prelude.{◌≡◌};
+ghost use Rattle.lookup_run.specs.declared.error.RunError.TheVariants.{Memory};
+
 use lookup::LookupError;
 use std::alloc::{AllocError, AllocFailed};
 use thiserror::Error;
@@ -39,8 +42,12 @@ pub enum RunError {
 }
 
 impl RunError {
+    ghost use Rattle.lookup_run.specs.Refusal.{of_air};
+
     /// A refusal of the lookup layer for one AIR; want of memory keeps its name.
-    pub fn of_air(air: usize, error: LookupError) -> RunError {
+    pub fn of_air(air: usize, error: LookupError) -> RunError
+        ensures { result ≡ of_air air error }
+    {
         match error {
             LookupError::Memory => RunError::Memory,
             error => RunError::Air { air, error },
@@ -49,12 +56,16 @@ impl RunError {
 }
 
 impl From<AllocError> for RunError {
+    ghost from_gives = { λ _ e. e ≡ Memory };
+
     fn from(_error: AllocError) -> RunError {
         RunError::Memory
     }
 }
 
 impl<T: Drop> From<AllocFailed<T>> for RunError {
+    ghost from_gives = { λ _ e. e ≡ Memory };
+
     fn from(_error: AllocFailed<T>) -> RunError {
         RunError::Memory
     }

@@ -1,10 +1,10 @@
 //! The machines that the program knows.
-ghost use Rattle.std.specs.Prelude.{◌≡◌, ◌<◌};
+ghost use Rattle.std.specs.Prelude.{◌≡◌, ◌≢◌, ◌<◌, MatchOption, MatchResult};
+ghost use Rattle.lookup.specs.Lookups.{lookups_of};
 
 use crate::airs::{ExclusiveAir, RangeAir};
-use crate::error::RunError;
 use field::{ExtensionField, Field};
-use lookup::Lookups;
+use lookup::{LookupError, Lookups};
 use std::alloc::Global;
 
 /// A machine: the columns of its input, and the AIRs with their lookups.
@@ -19,10 +19,12 @@ pub enum Machine {
 }
 
 impl Machine {
-    ghost use Rattle.lookup_run.specs.Machines.{columns_of};
+    ghost use Rattle.lookup_run.specs.Machines.{AreLookupsOf, columns_of, name_of};
 
     /// The machine of a name.
-    pub fn from_name(name: &str) -> Option<Machine> {
+    pub fn from_name(name: &str) -> Option<Machine>
+        ensures { MatchOption result ((machine : Self) → name.now ≢ name_of machine) (λ machine. name.now ≡ name_of machine) }
+    {
         match name {
             "range" => Some(Machine::Range),
             "exclusive" => Some(Machine::Exclusive),
@@ -42,14 +44,19 @@ impl Machine {
     }
 
     /// The lookups that its AIR records.
+    ///
+    /// The one refusal is want of memory.
     pub fn lookups<F: Field, EF: ExtensionField<F>>(
         self,
         alloc: Global,
-    ) -> Result<Lookups<F>, RunError> {
-        let lookups = match self {
+    ) -> Result<Lookups<F>, LookupError>
+        ensures { MatchResult result
+            (λ lookups. AreLookupsOf F.ring F.eq self (lookups_of lookups))
+            (λ e. e ≡ LookupError.Memory) }
+    {
+        match self {
             Machine::Range => Lookups::from_air::<EF, RangeAir>(alloc, &RangeAir),
             Machine::Exclusive => Lookups::from_air::<EF, ExclusiveAir>(alloc, &ExclusiveAir),
-        };
-        lookups.map_err(|error| RunError::of_air(0, error))
+        }
     }
 }

@@ -1,11 +1,19 @@
 //! What a run prints.
+ghost use Rattle.std.specs.Prelude.{◌≡◌, ◌++◌, ◌⊎◌, [], MatchResult, OnOk, Some, codes, string_bytes};
+ghost use Rattle.std.specs.List.{flat_map};
+ghost use Rattle.lookup_model.specs.Extension.{extension};
+ghost use Rattle.lookup_run.specs.Fields.{run_fields};
+ghost use Rattle.lookup_run.specs.Machines.{columns_of};
+ghost use Rattle.lookup_run.specs.Program.{IsAirRefusal, IsReport, IsReportRefusal, machine_faults, machine_terminal, machine_trace};
+ghost use Rattle.lookup_run.specs.Report.{air_lines, row_line};
+
 use crate::challenge::Challenge;
 use crate::error::RunError;
 use crate::machine::Machine;
 use crate::rows::read_rows;
 use air::AirLayout;
 use field::{ExtensionField, Field};
-use lookup::{Challenges, LogUpGadget, LookupError, LookupProtocol, LookupTerminal, Lookups};
+use lookup::{Challenges, LogUpGadget, LookupError, LookupProtocol, LookupTerminal};
 use matrix::RowMajorMatrix;
 use std::alloc::{AllocError, Global};
 
@@ -21,20 +29,21 @@ pub struct Report {
 /// The report of a machine over the rows of `text`, with its alpha and its beta.
 ///
 /// Refuses a faulty line, then an input without rows, then the first fault of the auxiliary trace.
-pub fn report_of<F: Field, EF: Challenge + ExtensionField<F>>(
+pub fn report_of<F: Field, EF: Challenge<F>>(
     alloc: Global,
     machine: Machine,
     challenges: (EF, EF),
     text: &[u8],
-) -> Result<Report, RunError> {
+) -> Result<Report, RunError>
+    ensures { let fields = run_fields F.ring F.eq F.CHARACTERISTIC EF.ring EF.eq EF.embed EF.inverse EF.written EF.text in MatchResult result
+        (λ report. IsReport fields machine challenges.0 challenges.1 text.now report)
+        (λ e. (e ≡ RunError.Memory) ⊎ IsReportRefusal fields machine challenges.0 challenges.1 text.now e) }
+{
     let main = read_rows::<F>(alloc, text, machine.columns())?;
-    let lookups = machine.lookups::<F, EF>(alloc)?;
-    let (alpha, beta) = challenges;
-    let table = Challenges::new(alloc, alpha, beta, 1, 1)?;
-    let columns = table.for_columns(alloc, &[0])?;
-    let (trace, terminal) = generated(alloc, &main, &lookups, columns.as_slice()).map_err(
-        |error| RunError::of_air(0, error),
-    )?;
+    let (trace, terminal) = match generated::<F, EF>(alloc, machine, challenges, &main) {
+        Ok(generated) => generated,
+        Err(error) => return Err(RunError::of_air(0, error)),
+    };
     let mut terminals = Vec::new(alloc);
     terminals.push(terminal)?;
     let balanced = LogUpGadget::new()
@@ -50,28 +59,40 @@ pub fn report_of<F: Field, EF: Challenge + ExtensionField<F>>(
     Ok(Report { text, balanced })
 }
 
-/// The auxiliary trace and the terminal of one AIR, whose lookups have to fit its trace and its
-/// challenges.
+/// The auxiliary trace of a machine's AIR over its rows, and its terminal.
+///
+/// Lookups that do not fit the rows are refused as a malformed record.
 fn generated<F: Field, EF: ExtensionField<F>>(
     alloc: Global,
+    machine: Machine,
+    challenges: (EF, EF),
     main: &RowMajorMatrix<F>,
-    lookups: &Lookups<F>,
-    challenges: &[EF],
-) -> Result<(RowMajorMatrix<EF>, Option<LookupTerminal<EF>>), LookupError> {
+) -> Result<(RowMajorMatrix<EF>, Option<LookupTerminal<EF>>), LookupError>
+    requires { main.now.width ≡ columns_of machine }
+    ensures { let E = extension F.ring F.eq EF.ring EF.eq EF.embed EF.inverse in
+        let alpha = challenges.0 in let beta = challenges.1 in MatchResult result
+        (λ r. (r.0 ≡ machine_trace E machine alpha beta main.now)
+        × (r.1 ≡ Some (record { 0 = machine_terminal E machine alpha beta main.now }))
+        × (machine_faults E machine alpha beta main.now ≡ []))
+        (λ e. (e ≡ LookupError.Memory) ⊎ IsAirRefusal E machine alpha beta main.now e) }
+{
+    let lookups = machine.lookups::<F, EF>(alloc)?;
     let preprocessed: Option<&RowMajorMatrix<F>> = None;
     let public_values: Vec<F> = Vec::new(alloc);
     let layout = AirLayout::of_traces(main, preprocessed, public_values.as_slice());
-    let lookups = lookups.as_slice();
-    if !lookup::fits(lookups, &layout) || challenges.len() / 2 < lookups.len() {
+    if !lookups.fits(&layout) {
         return Err(LookupError::BadRecord { lookup: 0 });
     }
+    let (alpha, beta) = challenges;
+    let table = Challenges::new(alloc, alpha, beta, 1, 1)?;
+    let columns = table.for_columns(alloc, &[0])?;
     LogUpGadget::new().generate_permutation(
         alloc,
         main,
         preprocessed,
         public_values.as_slice(),
-        lookups,
-        challenges,
+        lookups.as_slice(),
+        columns.as_slice(),
     )
 }
 
@@ -82,7 +103,9 @@ fn push_air<EF: Field>(
     air: usize,
     trace: &RowMajorMatrix<EF>,
     terminal: Option<LookupTerminal<EF>>,
-) -> Result<(), RunError> {
+) -> Result<(), AllocError>
+    ensures { OnOk result (string_bytes text.new ≡ string_bytes text.old ++ air_lines EF.text air trace.now terminal) }
+{
     text.push_str(format!(in alloc; "air {air}\n")?.as_str())?;
     for row in 0..trace.height() {
         push_row(alloc, text, trace.row_slice(row))?;
@@ -96,12 +119,23 @@ fn push_air<EF: Field>(
 }
 
 /// Appends the cells of a row, joined by one space.
-fn push_row<EF: Field>(alloc: Global, text: &mut String, cells: &[EF]) -> Result<(), AllocError> {
-    for (column, cell) in cells.iter().enumerate() {
-        if column > 0 {
-            text.push_str(" ")?;
-        }
-        text.push_str(cell.text(alloc)?.as_str())?;
+fn push_row<EF: Field>(alloc: Global, text: &mut String, cells: &[EF]) -> Result<(), AllocError>
+    ensures { OnOk result (string_bytes text.new ≡ string_bytes text.old ++ row_line EF.text cells.now) }
+{
+    if let Some((first, rest)) = cells.split_first() {
+        text.push_str(first.text(alloc)?.as_str())?;
+        push_rest(alloc, text, rest)?;
     }
     text.push_str("\n")
+}
+
+/// Appends the other cells of a row, each behind one space.
+fn push_rest<EF: Field>(alloc: Global, text: &mut String, cells: &[EF]) -> Result<(), AllocError>
+    ensures { OnOk result (string_bytes text.new ≡ string_bytes text.old ++ flat_map (λ cell. codes " " ++ EF.text cell) cells.now) }
+{
+    for cell in cells {
+        text.push_str(" ")?;
+        text.push_str(cell.text(alloc)?.as_str())?;
+    }
+    Ok(())
 }

@@ -31,8 +31,7 @@ pub fn read_rows<F: Field>(
     if numbers.is_empty() {
         return Err(RunError::NoRows);
     }
-    let values = elements(alloc, &numbers).map_err(|_| RunError::Memory)?;
-    Ok(RowMajorMatrix::new(values, columns))
+    Ok(RowMajorMatrix::new(elements(alloc, &numbers)?, columns))
 }
 
 /// The elements that numbers give.
@@ -83,7 +82,7 @@ fn push_line(
         (λ e. (e ≡ RunError.Memory) ⊎ (line_refusal columns bound line words.now ≡ Some e)) }
 {
     let start = numbers.len();
-    let good = push_words(numbers, words, bound).map_err(|_| RunError::Memory)?;
+    let good = push_words(numbers, words, bound)?;
     let count = numbers.len() - start;
     if count != 0 && count != columns {
         return Err(RunError::WrongCount { line, columns });

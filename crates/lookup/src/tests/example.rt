@@ -59,7 +59,7 @@ pub(super) fn cell<AB: AirBuilder>(
         Some(variable) => Ok(variable.into()),
         None => Err(AirError::LayoutMismatch {
             part: LayoutPart::Main,
-            expected: column,
+            expected: column.saturating_add(1),
             actual: main.current_slice().len(),
         }),
     }

@@ -9,7 +9,7 @@ use Rattle.field.specs.Residue.{Residue}
 use Rattle.lookup_run.specs.Words.{number_of}
 use Rattle.lookup_run.proofs.PartLaws.{Gives-end, Gives-more, Gives-start}
 use Rattle.lookup_run.proofs.WordLaws.{residue-cases}
-use Rattle.lookup_run.proofs.challenge.BabyBear4Challenge.from_word.Goals as goal
+use Rattle.lookup_run.proofs.challenge.BabyBear4ChallengeBabyBear.from_word.Goals as goal
 
 -- a part that is no number writes no coefficient
 no_value : (bound : ℕ) (came rest : List (List ℕ)) (part : List ℕ) (numbers : List ℕ) → number_of bound part ≡ None → map (number_of bound) (came ++ part ∷ rest) ≡ map Some numbers → ⊥

@@ -2,7 +2,7 @@ use Rattle.std.proofs.Common.{◌≡◌, ◌==◌, length, List, ℕ, map, take,
 use Rattle.std.specs.List.{slice_split}
 use Rattle.lookup_run.specs.Words.{number_of}
 use Rattle.lookup_run.proofs.PartLaws.{Gives}
-use Rattle.lookup_run.proofs.challenge.BabyBear4Challenge.from_word.Given as goal
+use Rattle.lookup_run.proofs.challenge.BabyBear4ChallengeBabyBear.from_word.Given as goal
 
 abbrev pub invariant-loop-coefficient : goal.invariant-loop-coefficient
 invariant-loop-coefficient l =

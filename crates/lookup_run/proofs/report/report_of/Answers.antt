@@ -1,0 +1,20 @@
+use Rattle.std.proofs.Common.{◌≡◌, ℕ, subst, sym, ap, ◌∙◌}
+use Rattle.lookup_run.specs.Input.{IsInput}
+use Rattle.lookup_run.specs.Fields.{run_fields}
+use Rattle.lookup_run.specs.Report.{verdict_line}
+use Rattle.lookup_run.proofs.VerdictLaws.{after_nothing, report_is}
+use Rattle.lookup_run.proofs.report.report_of.Goals.{then-balanced, else-balanced}
+use Rattle.lookup_run.proofs.report.report_of.Goals as goal
+
+pub returns : goal.returns
+returns g c =
+    let fields = run_fields g.F.PrimeCharacteristicRing.ring g.F.PartialEq.eq g.F.PrimeCharacteristicRing.CHARACTERISTIC g.EF.PrimeCharacteristicRing.ring g.EF.PartialEq.eq g.EF.ExtensionDomain.embed g.EF.Field.inverse g.EF.Challenge.written g.EF.Field.text in
+    let verdict : c.if-balanced.push_str.now ≡ verdict_line c.is_ok-balanced.result =
+    elim c.if-balanced.branch [
+      | then-balanced w ↦ ap (λ s. s.now) w.push_str-is ∙ ap verdict_line (sym w.if-balanced.true)
+      | else-balanced w ↦ ap (λ s. s.now) w.push_str-is ∙ ap verdict_line (sym w.if-balanced.false)
+    ] in
+    let read = subst (λ (columns : ℕ). IsInput fields.extension.base columns fields.bound c.args.text.now c.in_ok-main.main) c.columns.ensures.columns c.in_ok-main.ensures in
+    let terminals = c.as_slice.ensures.value ∙ after_nothing _ _ _ c.in_ok-push.ensures.items c.new-terminals.ensures.items in
+    let lines = after_nothing _ _ _ c.in_ok-push_air.ensures c.new-text.ensures.bytes in
+    report_is fields c.args.machine c.args.challenges.0 c.args.challenges.1 c.args.text.now _ _ _ _ _ _ _ _ c.push_str.new.self g.EF.PrimeCharacteristicRing.lawful read c.in-Ok.ensures terminals c.verify_terminal_sum.ensures c.is_ok-balanced.ensures.value lines verdict c.in_ok-push_str.ensures.bytes
