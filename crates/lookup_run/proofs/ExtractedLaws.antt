@@ -124,6 +124,7 @@ module _ (F EF : Type 0) (R : Ring F) (eq : F → F → Bool) where
           let meant = subst (λ (n : Interaction (SymbolicExpression F)). IsRange (λ x w. value R w x) (stands_for before) (λ w. w.main) R n) range.message range in
           record {
             one = ap length one.1;
+            records = set.records;
             sends = λ w widths.
                 let here : stands_for before w = subst (λ (l : AirLayout). HasWidths l w) (sym (ap (λ r. r.constraints.layout) empty)) widths in
                 ap (sent_row R eq w) one.1 ∙ ap (λ s. s ∷ []) (range_sends R eq w (stands_for before) tuples one.0 here widths.main meant one.2);
@@ -173,6 +174,7 @@ module _ (F EF : Type 0) (R : Ring F) (eq : F → F → Bool) where
       let meant = subst (λ (n : Interaction (SymbolicExpression F)). IsExclusiveQuery R.one (λ x w. value R w x) (λ x t. degree_of t (tree_of x)) group_bus branches n) query.message query in
       record {
         one = ap length one.1;
+        records = set.records;
         sends = λ w widths.
             let here : stands_for before w = subst (λ (l : AirLayout). HasWidths l w) (sym (ap (λ r. r.constraints.layout) empty)) widths in
             ap (sent_row R eq w) one.1 ∙ ap (λ s. s ∷ []) (group_sends R eq w (stands_for before) (λ x t. degree_of t (tree_of x)) branches group one.0 here keys meant one.2);

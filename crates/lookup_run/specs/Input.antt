@@ -7,8 +7,8 @@ use Rattle.lookup_run.specs.Words.{lines_of, words_of, number_of, is_number}
 use Rattle.lookup_run.specs.declared.error.RunError.{RunError}
 use Rattle.lookup_run.specs.declared.error.RunError.TheVariants.{WrongCount, BadNumber, NoRows}
 
--- why a line of this number, from 1, is refused: it has words, but not one a column, or has one a column
--- of which some is no number below the bound
+-- why the line of this number, counted from 1, is refused: it has words, but not one for each column; or
+-- one of its words is no number below the bound
 unfoldable pub line_refusal : ℕ → ℕ → ℕ → List ℕ → Option RunError
 line_refusal columns bound n line =
     if length (words_of line) == 0 then None

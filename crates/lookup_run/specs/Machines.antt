@@ -10,6 +10,7 @@ use Rattle.expressions.specs.Window.{Window}
 use Rattle.expressions.specs.Layout.{layout_of_widths}
 use Rattle.air.specs.Recorded.{HasWidths}
 use Rattle.lookup_model.specs.Message.{Message}
+use Rattle.lookup_model.specs.Records.{AreRecords}
 use Rattle.lookup_model.specs.Sent.{Sent, sent}
 use Rattle.lookup_model.specs.Trace.{sent_row}
 use Rattle.lookup_model.specs.declared.types.Lookup.{Lookup}
@@ -71,7 +72,7 @@ module _ {E W F : Type 0} (value : E → W → F) (stands : W → Type 0) (row :
 
 -- the bytes of `rc`
 abbrev pub group_bus : List ℕ
-group_bus = 114 ∷ 99 ∷ []
+group_bus = codes "rc"
 
 -- how many columns a row of a machine's input has
 abbrev pub columns_of : Machine → ℕ
@@ -101,7 +102,8 @@ module _ {F : Type 0} (R : Ring F) (eq : F → F → Bool) where
       by_name Range = sent R eq None (message_of (cell 0) R.one ∷ message_of (cell 1) (R.neg (cell 2)) ∷ [])
       by_name Exclusive = sent R eq (Some (cell 0 ∷ cell 2 ∷ [])) (message_of (cell 1) R.one ∷ message_of (cell 3) R.one ∷ [])
 
-  -- the lookups of a machine: one, which on each row sends what the machine says
+  -- the lookups of a machine: one, well formed, which on each row sends what the machine says
   pub record AreLookupsOf (machine : Machine) (lookups : List (Lookup F)) : Type 0 where
     pub one : length lookups ≡ 1
+    pub records : AreRecords lookups
     pub sends : (w : Window F) → HasWidths (layout_of_widths (columns_of machine) 0 0) w → sent_row R eq w lookups ≡ machine_sends machine w.main ∷ []

@@ -46,8 +46,9 @@ module _ {F K : Type 0} (E : Extension F K) (machine : Machine) (alpha beta : K)
   abbrev pub machine_faults : List LookupError
   machine_faults = trace_faults E bus_denominator machine_rows
 
-  -- why there is no auxiliary trace: the first fault; or the lookups of the AIR do not fit the rows, which
-  -- is looked at before any row
+  -- Why there is no auxiliary trace: the first fault; or, before any row is looked at, that lookups which
+  -- send what the machine says have variables outside the rows. An AIR of the program has no such
+  -- variables, which its contract does not say.
   abbrev pub IsAirRefusal : LookupError → Type 0
   IsAirRefusal e =
       (slice_get machine_faults 0 ≡ Some e)
@@ -77,7 +78,7 @@ module _ {F K : Type 0} (fields : Fields F K) (machine : Machine) where
       × IsAirRefusal fields.extension machine alpha beta trace refusal × (e ≡ of_air 0 refusal))
 
   -- The answer to the words of two challenges and the bytes of an input: alpha is looked at before beta,
-  -- and both before the input is read. Want of memory may come before any of it.
+  -- and both before the input is read. Want of memory may come at any point.
   unfoldable pub AnswersOver : List ℕ → List ℕ → List ℕ → Result Report RunError → Type 0
   AnswersOver alpha_word beta_word input answer = MatchResult answer
       (λ report. (alpha : K) × (beta : K) × fields.written alpha_word alpha × fields.written beta_word beta
@@ -108,9 +109,9 @@ module _ {F K F' K' : Type 0} (f7 : Fields F K) (babybear4 : Fields F' K') where
       × AnswersFour name field alpha beta input answer)
 
 -- The status of a run, and what becomes of its two outputs. A report is written whole, with status 0
--- where the terminals cancel and 1 where they do not; or a fault in writing ends the run with status 2.
--- A refusal has status 2 and leaves the output as it was; a report leaves the errors as they were.
+-- where the terminals cancel and 1 where they do not; or the status is 2, and nothing is said of the
+-- output. A report leaves the errors as they were. A refusal has status 2 and leaves the output as it was.
 abbrev pub Ends : {W E : Type 0} → (W → Option (List ℕ)) → Result Report RunError → ℕ → W → W → E → E → Type 0
-Ends contents answer status output written errors refused = MatchResult answer
-    (λ report. (((status ≡ cond report.balanced 0 1) × Appends (contents output) (contents written) (string_bytes report.text)) ⊎ (status ≡ 2)) × (refused ≡ errors))
-    (λ e. (status ≡ 2) × (written ≡ output))
+Ends contents answer status output output_after errors errors_after = MatchResult answer
+    (λ report. (((status ≡ cond report.balanced 0 1) × Appends (contents output) (contents output_after) (string_bytes report.text)) ⊎ (status ≡ 2)) × (errors_after ≡ errors))
+    (λ e. (status ≡ 2) × (output_after ≡ output))

@@ -37,7 +37,8 @@ pub fn run<R: Read, W: Write, E: Write>(
     }
 }
 
-/// Writes the line of a refusal to `errors`. The status is 2.
+/// Writes the line of a refusal to `errors`, and where memory runs out the line of that. The status
+/// is 2, whether it could be written or not.
 pub fn refuse<E: Write>(alloc: Global, error: RunError, errors: &mut E) -> ExitCode
     ensures { exit_status result ≡ 2 }
 {
@@ -54,7 +55,7 @@ fn write_report<W: Write>(report: &Report, output: &mut W) -> ExitCode
     ensures { ((exit_status result ≡ cond report.now.balanced 0 1) × Appends (W.contents output.old) (W.contents output.new) (string_bytes report.now.text))
         ⊎ (exit_status result ≡ 2) }
 {
-    if write_all(report.text.as_bytes(), output).is_err() {
+    if write_and_flush(report.text.as_bytes(), output).is_err() {
         ExitCode::from(2)
     } else if report.balanced {
         ExitCode::SUCCESS
@@ -63,7 +64,7 @@ fn write_report<W: Write>(report: &Report, output: &mut W) -> ExitCode
     }
 }
 
-fn write_all<W: Write>(bytes: &[u8], output: &mut W) -> io::Result<()>
+fn write_and_flush<W: Write>(bytes: &[u8], output: &mut W) -> io::Result<()>
     ensures { OnOk result (Appends (W.contents output.old) (W.contents output.new) bytes.now) }
 {
     output.write_all(bytes)?;

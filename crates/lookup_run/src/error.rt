@@ -18,13 +18,13 @@ pub enum RunError {
     /// The second word names no field.
     #[error("unknown field: {0}")]
     UnknownField(String),
-    /// A challenge is not an element of the field.
+    /// A word gives no challenge.
     #[error("bad challenge: {0}")]
     BadChallenge(String),
     /// Standard input cannot be read.
     #[error("cannot read input")]
     CannotReadInput,
-    /// A line has not as many words as the machine has columns.
+    /// A line has words, but not one for each column.
     #[error("line {line}: expected {columns} numbers")]
     WrongCount { line: usize, columns: usize },
     /// A word of a line is not a number below the characteristic.

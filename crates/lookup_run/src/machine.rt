@@ -14,7 +14,7 @@ pub enum Machine {
     /// `[provide]` with count `-mult`, which is provided.
     Range,
     /// Columns `flag0 key0 flag1 key1`, and one AIR with a group on the bus `rc`: of both keys a row
-    /// looks up the one whose flag is set.
+    /// looks up the one whose flag is set, or none.
     Exclusive,
 }
 

@@ -26,20 +26,20 @@ pub struct Report {
     pub balanced: bool,
 }
 
-/// The report of a machine over the rows of `text`, with its alpha and its beta.
+/// The report of a machine over the rows of `input`, with its alpha and its beta.
 ///
 /// Refuses a faulty line, then an input without rows, then the first fault of the auxiliary trace.
 pub fn report_of<F: Field, EF: Challenge<F>>(
     alloc: Global,
     machine: Machine,
     challenges: (EF, EF),
-    text: &[u8],
+    input: &[u8],
 ) -> Result<Report, RunError>
     ensures { let fields = run_fields F.ring F.eq F.CHARACTERISTIC EF.ring EF.eq EF.embed EF.inverse EF.written EF.text in MatchResult result
-        (λ report. IsReport fields machine challenges.0 challenges.1 text.now report)
-        (λ e. (e ≡ RunError.Memory) ⊎ IsReportRefusal fields machine challenges.0 challenges.1 text.now e) }
+        (λ report. IsReport fields machine challenges.0 challenges.1 input.now report)
+        (λ e. (e ≡ RunError.Memory) ⊎ IsReportRefusal fields machine challenges.0 challenges.1 input.now e) }
 {
-    let main = read_rows::<F>(alloc, text, machine.columns())?;
+    let main = read_rows::<F>(alloc, input, machine.columns())?;
     let (trace, terminal) = match generated::<F, EF>(alloc, machine, challenges, &main) {
         Ok(generated) => generated,
         Err(error) => return Err(RunError::of_air(0, error)),

@@ -14,9 +14,9 @@ use std::alloc::{AllocError, Global};
 /// The rows of the input as a matrix of `columns` columns.
 ///
 /// Lines end at LF or at the end of the input; spaces, tabs and CR separate words, and a line
-/// without words is skipped. Refuses the first line that has not `columns` words or has a word
-/// that is no number below the characteristic and 2^32, its count of words first; then an input
-/// without rows.
+/// without words is skipped. Refuses the first line that has words, but not `columns` of them, or
+/// one of whose words is no number below the characteristic and 2^32, its count of words first; then
+/// an input without rows.
 pub fn read_rows<F: Field>(
     alloc: Global,
     text: &[u8],
