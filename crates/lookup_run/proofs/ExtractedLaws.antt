@@ -1,5 +1,5 @@
 -- The lookups that are extracted from the AIRs of the machines.
-use Rattle.std.proofs.Common.{◌≡◌, ◌⊎◌, ◌<◌, ◌++◌, ℕ, zero, suc, Bool, List, [], ◌∷◌, length, map, slice_get, Some, Result, Ok, Err, MatchResult, inl, inr, refl, subst, sym, ap, ap₂, arith, ◌∙◌}
+use Rattle.std.proofs.Common.{◌≡◌, ◌⊎◌, ◌++◌, ℕ, zero, suc, Bool, List, [], ◌∷◌, length, map, slice_get, Some, Result, Ok, Err, MatchResult, inl, inr, refl, subst, sym, ap, ap₂, arith, ◌∙◌}
 use Rattle.std.specs.List.{sum_by}
 use Rattle.std.specs.declared.alloc.Global.{Global}
 use Rattle.std.specs.declared.vec.Vec.{Vec}
@@ -26,7 +26,7 @@ use Rattle.lookup_record.specs.declared.symbolic.InteractionSymbolicBuilder.{Int
 use Rattle.lookup.specs.Extraction.{Extracts, IsFirstLocalRefusal, IsLocalRefusal, extraction, tuple_widths, local_at, exclusive_at}
 use Rattle.lookup.specs.Lookups.{lookups_of}
 use Rattle.lookup.specs.declared.lookups.Lookups.{Lookups}
-use Rattle.lookup_run.specs.Machines.{AreLookupsOf, AreTwoKeys, IsRange, IsRefusedBefore, PushesSuch, group_bus}
+use Rattle.lookup_run.specs.Machines.{AreLookupsOf, AreTwoKeys, IsCellRefusal, IsRange, IsRefusedBefore, PushesSuch, group_bus}
 use Rattle.lookup_run.specs.declared.machine.Machine.TheVariants.{Range, Exclusive}
 use Rattle.lookup_run.proofs.SentLaws.{group_sends, one_item, range_sends}
 
@@ -93,10 +93,10 @@ module _ (F EF : Type 0) (R : Ring F) (eq : F → F → Bool) where
       wide : (recorded before.inner).layout.main_width ≡ columns
       wide = ap (λ r. r.constraints.layout.main_width) empty
 
-      by_refusal : (f ≡ AirMemory) ⊎ ((f ≡ AirMemory) ⊎ ((recorded before.inner).layout.main_width < columns)) → e ≡ AirMemory
+      by_refusal : IsCellRefusal (λ b e. e ≡ AirMemory) (λ b. (recorded b.inner).layout) columns before f → e ≡ AirMemory
       by_refusal (inl memory) = same ∙ memory
       by_refusal (inr (inl memory)) = same ∙ memory
-      by_refusal (inr (inr narrow)) = absurd (omega (arith, wide, narrow))
+      by_refusal (inr (inr (narrow, other))) = absurd (omega (arith, wide, narrow))
 
   -- how the AIR of the machine `range` is evaluated
   abbrev range_evaluates : Builder → Result (Unit {0}) AirError → Builder → Type 0

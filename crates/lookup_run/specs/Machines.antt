@@ -4,7 +4,8 @@ use Rattle.std.specs.declared.alloc.Global.{Global}
 use Rattle.std.specs.declared.vec.Vec.{Vec}
 use Rattle.field.specs.Ring.{Ring}
 use Rattle.expressions.specs.declared.error.AirError.{AirError}
-use Rattle.expressions.specs.declared.error.AirError.TheVariants.{Memory}
+use Rattle.expressions.specs.declared.error.AirError.TheVariants.{LayoutMismatch, Memory}
+use Rattle.expressions.specs.declared.error.LayoutPart.TheVariants.{Main}
 use Rattle.expressions.specs.declared.layout.AirLayout.{AirLayout}
 use Rattle.expressions.specs.Window.{Window}
 use Rattle.expressions.specs.Layout.{layout_of_widths}
@@ -19,11 +20,13 @@ use Rattle.lookup_record.specs.Messages.{flag_and_key}
 use Rattle.lookup_run.specs.declared.machine.Machine.{Machine}
 use Rattle.lookup_run.specs.declared.machine.Machine.TheVariants.{Range, Exclusive}
 
--- the refusal of a cell: want of memory, the builder's own for its window, or a row that has not these
--- columns
+-- the refusal of a cell: want of memory, the builder's own for its window, or the layout of a row that
+-- has not these columns
 abbrev pub IsCellRefusal : {B : Type 0} → (B → AirError → Type 0) → (B → AirLayout) → ℕ → B → AirError → Type 0
 IsCellRefusal window_refuses layout columns builder e =
-    (e ≡ Memory) ⊎ (window_refuses builder e ⊎ ((layout builder).main_width < columns))
+    (e ≡ Memory)
+    ⊎ (window_refuses builder e
+    ⊎ (((layout builder).main_width < columns) × ((expected : ℕ) × (actual : ℕ) × (e ≡ LayoutMismatch Main expected actual))))
 
 -- there was such a refusal, and the builder is as it was
 abbrev pub IsRefusedBefore : {B : Type 0} → (B → AirError → Type 0) → (B → AirLayout) → ℕ → B → Result (Unit {0}) AirError → B → Type 0
