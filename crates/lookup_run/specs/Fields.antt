@@ -1,7 +1,8 @@
 -- The fields that a run works over.
-use Rattle.std.specs.Prelude.{ℕ, Bool, List, min}
+use Rattle.std.specs.Prelude.{ℕ, Bool, List}
 use Rattle.field.specs.Ring.{Ring}
 use Rattle.lookup_model.specs.Extension.{Extension, extension}
+use Rattle.lookup_run.specs.Words.{number_bound}
 
 -- The fields of a run: the one of the rows and the one of the challenges, what the numbers of a row are
 -- below, which words are challenges, and how cells are printed.
@@ -15,7 +16,7 @@ pub record Fields (F K : Type 0) : Type 1 where
 abbrev pub run_fields : {F K : Type 0} → Ring F → (F → F → Bool) → ℕ → Ring K → (K → K → Bool) → (F → K) → (K → K) → (List ℕ → K → Type 0) → (K → List ℕ) → Fields F K
 run_fields base base_eq characteristic ring eq embed inverse written text = record {
   extension = extension base base_eq ring eq embed inverse;
-  bound = min characteristic 4294967296;
+  bound = number_bound characteristic;
   written = written;
   text = text;
 }

@@ -1,5 +1,5 @@
 -- The lines of a text, the words of a line, and what words write.
-use Rattle.std.specs.Prelude.{◌≡◌, ◌==◌, ◌&&◌, ◌||◌, ℕ, Bool, List, Option, Some, None, filter, is_some, length, map, nat_lt, unwrap_or, if◌then◌else◌}
+use Rattle.std.specs.Prelude.{◌≡◌, ◌==◌, ◌&&◌, ◌||◌, ℕ, Bool, List, Option, Some, None, filter, is_some, length, map, min, nat_lt, unwrap_or, if◌then◌else◌}
 use Rattle.std.specs.List.{slice_split}
 use Rattle.std.specs.Str.{all_ascii_digits}
 use Rattle.std.specs.Str.Parse.{digits_value}
@@ -21,6 +21,10 @@ has_bytes part = nat_lt 0 (length part)
 -- the words of a line: its parts between spaces, tabs and CRs, without the empty ones
 unfoldable pub words_of : List ℕ → List (List ℕ)
 words_of line = filter has_bytes (slice_split separates_words line)
+
+-- what the numbers of words are below: this bound, and 2^32
+abbrev pub number_bound : ℕ → ℕ
+number_bound bound = min bound 4294967296
 
 -- the number that a word writes: the value of one or more decimal digits, where it is below the bound
 unfoldable pub number_of : ℕ → List ℕ → Option ℕ

@@ -1,8 +1,8 @@
 //! Numbers and challenges as they are written.
-ghost use Rattle.std.specs.Prelude.{◌≡◌, ℕ, List, min, MatchOption, option_map};
+ghost use Rattle.std.specs.Prelude.{◌≡◌, ℕ, List, MatchOption, option_map};
 ghost use Rattle.field.specs.Ring.{of_nat};
 ghost use Rattle.lookup_run.specs.Fields.{Fields, run_fields};
-ghost use Rattle.lookup_run.specs.Words.{number_of, WritesQuartic, WritesResidue};
+ghost use Rattle.lookup_run.specs.Words.{number_bound, number_of, WritesQuartic, WritesResidue};
 
 use field::{
     BabyBear, BabyBear4, ExtensionDomain, ExtensionField, F7, Field, PrimeCharacteristicRing,
@@ -54,7 +54,7 @@ impl Challenge<BabyBear> for BabyBear4 {
 
 /// The element of a prime field that a number below its characteristic gives.
 fn element<F: PrimeCharacteristicRing>(word: &[u8]) -> Option<F>
-    ensures { result ≡ option_map (of_nat F.ring) (number_of (min F.CHARACTERISTIC 4294967296) word.now) }
+    ensures { result ≡ option_map (of_nat F.ring) (number_of (number_bound F.CHARACTERISTIC) word.now) }
 {
     number(word, F::CHARACTERISTIC).map(|value| F::from_u32(value))
 }
@@ -62,7 +62,7 @@ fn element<F: PrimeCharacteristicRing>(word: &[u8]) -> Option<F>
 /// The value of one or more decimal digits where it is below `bound` and fits 32 bits; leading
 /// zeros are allowed.
 pub fn number(word: &[u8], bound: u128) -> Option<u32>
-    ensures { result ≡ number_of (min bound 4294967296) word.now }
+    ensures { result ≡ number_of (number_bound bound) word.now }
 {
     if word.is_empty() {
         return None;

@@ -1,9 +1,9 @@
 //! The rows of the input.
-ghost use Rattle.std.specs.Prelude.{◌≡◌, ◌+◌, ◌%◌, ◌<◌, ◌++◌, ◌⊎◌, IfOk, MatchResult, OnOk, length, map, min, vec_len};
+ghost use Rattle.std.specs.Prelude.{◌≡◌, ◌+◌, ◌%◌, ◌<◌, ◌++◌, ◌⊎◌, IfOk, MatchResult, OnOk, length, map, vec_len};
 ghost use Rattle.std.specs.List.{list_all};
 ghost use Rattle.field.specs.Ring.{of_nat};
 ghost use Rattle.lookup_run.specs.Input.{AreNumbers, IsFirstRefusal, IsInput, IsInputRefusal, line_refusal};
-ghost use Rattle.lookup_run.specs.Words.{is_number, number_of, numbers_or_zeros, words_of};
+ghost use Rattle.lookup_run.specs.Words.{is_number, number_bound, number_of, numbers_or_zeros, words_of};
 
 use crate::challenge::number;
 use crate::error::RunError;
@@ -23,7 +23,7 @@ pub fn read_rows<F: Field>(
     columns: usize,
 ) -> Result<RowMajorMatrix<F>, RunError>
     requires { 0 < columns }
-    ensures { let bound = min F.CHARACTERISTIC 4294967296 in MatchResult result
+    ensures { let bound = number_bound F.CHARACTERISTIC in MatchResult result
         (λ m. IsInput F.ring columns bound text.now m)
         (λ e. (e ≡ RunError.Memory) ⊎ IsInputRefusal columns bound text.now e) }
 {
@@ -54,7 +54,7 @@ fn read_numbers(
 ) -> Result<Vec<u32>, RunError>
     requires { 0 < columns }
     ensures whole_rows { IfOk result (λ v. vec_len v % columns ≡ 0) }
-    ensures cases { let bound = min bound 4294967296 in MatchResult result
+    ensures cases { let bound = number_bound bound in MatchResult result
         (λ v. AreNumbers columns bound text.now v.items)
         (λ e. (e ≡ RunError.Memory) ⊎ IsFirstRefusal columns bound text.now e) }
 {
@@ -76,7 +76,7 @@ fn push_line(
     bound: u128,
 ) -> Result<(), RunError>
     ensures whole_row { OnOk result ((vec_len numbers.new ≡ vec_len numbers.old) ⊎ (vec_len numbers.new ≡ vec_len numbers.old + columns)) }
-    ensures cases { let bound = min bound 4294967296 in MatchResult result
+    ensures cases { let bound = number_bound bound in MatchResult result
         (λ _. (line_refusal columns bound line words.now ≡ None)
         × (map Some numbers.new.items ≡ map Some numbers.old.items ++ map (number_of bound) (words_of words.now)))
         (λ e. (e ≡ RunError.Memory) ⊎ (line_refusal columns bound line words.now ≡ Some e)) }
@@ -97,8 +97,8 @@ fn push_line(
 /// Appends a number for each word, and answers whether every word is a number below `bound`. For
 /// a word that is none it appends 0.
 fn push_words(numbers: &mut Vec<u32>, words: &[u8], bound: u128) -> Result<bool, AllocError>
-    ensures numbers { OnOk result (numbers.new.items ≡ numbers.old.items ++ numbers_or_zeros (min bound 4294967296) (words_of words.now)) }
-    ensures good { IfOk result (λ good. good ≡ list_all (is_number (min bound 4294967296)) (words_of words.now)) }
+    ensures numbers { OnOk result (numbers.new.items ≡ numbers.old.items ++ numbers_or_zeros (number_bound bound) (words_of words.now)) }
+    ensures good { IfOk result (λ good. good ≡ list_all (is_number (number_bound bound)) (words_of words.now)) }
 {
     let mut good = true;
     for word in words.split(|byte| matches!(*byte, b' ' | b'\t' | b'\r')) {

@@ -1,7 +1,7 @@
-use Rattle.std.proofs.Common.{◌≡◌, ◌-◌, ◌⊎◌, ◌++◌, ℕ, List, true, Some, map, length, min, inl, inr, arith, sym, ◌∙◌, ap, Option, unwrap_or}
+use Rattle.std.proofs.Common.{◌≡◌, ◌-◌, ◌⊎◌, ◌++◌, ℕ, List, true, Some, map, length, inl, inr, arith, sym, ◌∙◌, ap, Option, unwrap_or}
 use Rattle.std.specs.List.{list_all}
 use Rattle.std.proofs.lemmas.List.{length-append, length-map, map-append}
-use Rattle.lookup_run.specs.Words.{is_number, number_of, numbers_or_zeros, words_of}
+use Rattle.lookup_run.specs.Words.{number_bound, is_number, number_of, numbers_or_zeros, words_of}
 use Rattle.lookup_run.proofs.InputLaws.{numbers-written, refusal-bad_number, refusal-none, refusal-wrong_count}
 use Rattle.lookup_run.proofs.rows.push_line.Goals as goal
 
@@ -17,7 +17,7 @@ all_written old new bound words is all =
 pub returns-then-count-columns-clause-cases : goal.returns-then-count-columns-clause-cases
 returns-then-count-columns-clause-cases c =
     let count = added _ _ _ _ c.in_ok-good.ensures.numbers in
-    inr (refusal-wrong_count c.args.columns (min c.args.bound 4294967296) c.args.line c.args.words.now (λ none. c.if-count-ne0.true (omega arith)) (λ same. c.if-count-columns.true (omega arith)))
+    inr (refusal-wrong_count c.args.columns (number_bound c.args.bound) c.args.line c.args.words.now (λ none. c.if-count-ne0.true (omega arith)) (λ same. c.if-count-columns.true (omega arith)))
 
 pub returns-then-good-clause-cases : goal.returns-then-good-clause-cases
 returns-then-good-clause-cases c =
@@ -25,10 +25,10 @@ returns-then-good-clause-cases c =
     let all = sym c.in_ok-good.ensures.good ∙ c.if-good.true in
     let count = added _ _ _ _ numbers in
     let size : (length (words_of c.args.words.now) ≡ 0) ⊎ (length (words_of c.args.words.now) ≡ c.args.columns) = elim c.else-count-ne0.either [ inl w ↦ inr (omega arith) | inr w ↦ inl (omega arith) ] in
-    (refusal-none c.args.columns (min c.args.bound 4294967296) c.args.line c.args.words.now size all, all_written _ _ _ _ numbers all)
+    (refusal-none c.args.columns (number_bound c.args.bound) c.args.line c.args.words.now size all, all_written _ _ _ _ numbers all)
 
 pub returns-else-good-clause-cases : goal.returns-else-good-clause-cases
 returns-else-good-clause-cases c =
     let count = added _ _ _ _ c.in_ok-good.ensures.numbers in
     let size : (length (words_of c.args.words.now) ≡ 0) ⊎ (length (words_of c.args.words.now) ≡ c.args.columns) = elim c.else-count-ne0.either [ inl w ↦ inr (omega arith) | inr w ↦ inl (omega arith) ] in
-    inr (refusal-bad_number c.args.columns (min c.args.bound 4294967296) c.args.line c.args.words.now size (sym c.in_ok-good.ensures.good ∙ c.if-good.false))
+    inr (refusal-bad_number c.args.columns (number_bound c.args.bound) c.args.line c.args.words.now size (sym c.in_ok-good.ensures.good ∙ c.if-good.false))

@@ -1,8 +1,8 @@
-use Rattle.std.proofs.Common.{◌≡◌, ◌++◌, filter, map, min, refl, rules, sym, tests, ◌∙◌, ap}
+use Rattle.std.proofs.Common.{◌≡◌, ◌++◌, filter, map, refl, rules, sym, tests, ◌∙◌, ap}
 use Rattle.std.specs.List.{list_all}
 use Rattle.std.proofs.lemmas.Iterator.Consumers.{YieldsList-end}
 use Rattle.std.proofs.lemmas.List.{append-nil}
-use Rattle.lookup_run.specs.Words.{has_bytes, is_number, numbers_or_zeros, separates_words, words_of}
+use Rattle.lookup_run.specs.Words.{number_bound, has_bytes, is_number, numbers_or_zeros, separates_words, words_of}
 use Rattle.lookup_run.proofs.PartLaws.{split-parts}
 use Rattle.lookup_run.proofs.rows.push_words.Goals as goal
 
@@ -22,7 +22,7 @@ came c = ap (filter has_bytes) (YieldsList-end c.loop-word.invariant.parts c.loo
 
 pub returns-clause-numbers : goal.returns-clause-numbers
 returns-clause-numbers c =
-    c.loop-word.invariant.numbers ∙ ap (λ words. c.args.numbers.now.items ++ numbers_or_zeros (min c.args.bound 4294967296) words) (came c)
+    c.loop-word.invariant.numbers ∙ ap (λ words. c.args.numbers.now.items ++ numbers_or_zeros (number_bound c.args.bound) words) (came c)
 
 pub returns-clause-good : goal.returns-clause-good
-returns-clause-good c = c.loop-word.invariant.good ∙ ap (list_all (is_number (min c.args.bound 4294967296))) (came c)
+returns-clause-good c = c.loop-word.invariant.good ∙ ap (list_all (is_number (number_bound c.args.bound))) (came c)

@@ -1,4 +1,4 @@
-use Rattle.std.proofs.Common.{◌≡◌, ◌<◌, ◌+◌, ◌%◌, ◌⊎◌, ◌==◌, ℕ, List, Some, None, length, map, min, get_or, slice_get, inl, inr, ap, arith, refl, rules, subst, sym, tests, ◌∙◌}
+use Rattle.std.proofs.Common.{◌≡◌, ◌<◌, ◌+◌, ◌%◌, ◌⊎◌, ◌==◌, ℕ, List, Some, None, length, map, get_or, slice_get, inl, inr, ap, arith, refl, rules, subst, sym, tests, ◌∙◌}
 use Rattle.std.specs.List.{flat_map}
 use Rattle.std.proofs.Math.Nat.{add-mod_right}
 use Rattle.std.proofs.lemmas.Iterator.Consumers.{YieldsList-end, YieldsList-turn}
@@ -6,7 +6,7 @@ use Rattle.std.proofs.lemmas.List.{length-map, length_push, map_push}
 use Rattle.std.proofs.lemmas.Option.{slice_get_read}
 use Rattle.std.proofs.lemmas.Result.{err_from_is_err_and}
 use Rattle.lookup_run.specs.Input.{NoneRefusedOf, line_refusal}
-use Rattle.lookup_run.specs.Words.{lines_of, number_of, words_of}
+use Rattle.lookup_run.specs.Words.{number_bound, lines_of, number_of, words_of}
 use Rattle.lookup_run.proofs.InputLaws.{NoneRefusedOf-more, length-lines_of, written-more}
 use Rattle.lookup_run.proofs.PartLaws.{split-parts}
 use Rattle.lookup_run.proofs.rows.read_numbers.Goals as goal
@@ -41,7 +41,7 @@ overflow_add-line c =
 
 pub loop-words-preserved : goal.loop-words-preserved
 loop-words-preserved c =
-    let bound : ℕ = min c.args.bound 4294967296 in
+    let bound : ℕ = number_bound c.args.bound in
     let lines = c.loop-words.yielded in
     let turn = stands _ _ _ (YieldsList-turn c.loop-words.invariant.lines lines _ c.loop-words.yielded_by _ _ c.in-Some.words c.in-Some.is c.next.ensures.steps) in
     let added = c.in_ok-push_line.ensures.cases in
@@ -57,7 +57,7 @@ loop-words-preserved c =
 pub returns-in_err-push_line-clause-cases : goal.returns-in_err-push_line-clause-cases
 returns-in_err-push_line-clause-cases c =
     let p = err_from_is_err_and c.from_residual.result c.from_residual.ensures.1 in
-    let bound : ℕ = min c.args.bound 4294967296 in
+    let bound : ℕ = number_bound c.args.bound in
     rw (p.1, p.2)
     (elim c.in_err-push_line.ensures.cases [
       | inl memory ↦ inl memory
@@ -73,7 +73,7 @@ returns-in_err-push_line-clause-cases c =
 
 pub returns-clause-cases : goal.returns-clause-cases
 returns-clause-cases c =
-    let bound : ℕ = min c.args.bound 4294967296 in
+    let bound : ℕ = number_bound c.args.bound in
     let all = (YieldsList-end c.loop-words.invariant.lines c.loop-words.yielded _ c.loop-words.yielded_by _ _ c.in-None.is c.next.ensures.steps).0 in
     record {
       none_refused = subst (NoneRefusedOf c.args.columns bound c.args.text.now) (sym (length-map c.loop-words.yielded (λ line. line.now)) ∙ ap length all) c.loop-words.invariant.none_refused;
