@@ -1,0 +1,75 @@
+#!/usr/bin/env bash
+# Tries the launcher ./lookup-run as a user meets it: unbuilt and built, from another folder, through
+# a link, with a space in its path, two at once, with input from a pipe, after a file was touched,
+# after a source changed, and where nothing can be written.
+set -eu
+top=$(cd "$(dirname "${BASH_SOURCE[0]}")/.." && pwd)
+room=$(mktemp -d)
+trap 'chmod -R u+w "$room"; rm -rf "$room"' EXIT
+folder="$room/a clone"
+mkdir "$folder"
+(cd "$top" && git ls-files -z | xargs -0 tar cf - --exclude=out) | tar xf - -C "$folder"
+printf 'air 0\n0 4\n4 3\nterminal 0\nbalanced\n' >"$room/balanced"
+printf 'error: no rows\n' >"$room/no rows"
+unproved='lookup-run: this run is not proved: ./prove proves the program and builds it'
+
+fail() {
+  echo "launcher: $1" >&2
+  exit 1
+}
+
+# Runs the launcher $2 on the first rows, and wants the report and the lines $3 on standard error.
+expect() {
+  local what=$1 launcher=$2 errors=$3 status=0
+  printf '3 4 1\n4 3 1\n' | timeout 120 "$launcher" range f7 5 2 >"$room/$what.out" 2>"$room/$what.err" || status=$?
+  [ "$status" = 0 ] || fail "$what: status $status"
+  cmp -s "$room/$what.out" "$room/balanced" || fail "$what: another output"
+  [ "$(cat "$room/$what.err")" = "$errors" ] || fail "$what: $(cat "$room/$what.err")"
+}
+
+cd /
+ln -s "$folder/lookup-run" "$room/link"
+expect "unbuilt, through a link" "$room/link" "$unproved" &
+first=$!
+expect "unbuilt, the second of two" "$folder/lookup-run" "$unproved" &
+second=$!
+wait "$first"
+wait "$second"
+status=0
+timeout 120 "$folder/lookup-run" range f7 5 2 </dev/null >"$room/out" 2>"$room/err" || status=$?
+[ "$status" = 2 ] && [ ! -s "$room/out" ] || fail "unbuilt, no rows: status $status"
+[ "$(tail -n +2 "$room/err")" = "error: no rows" ] || fail "unbuilt, no rows: $(cat "$room/err")"
+
+# as ./prove leaves it
+mkdir -p "$folder/crates/lookup_run/out"
+cp "$top/crates/lookup_run/out/lookup_run" "$folder/crates/lookup_run/out/"
+"$folder/tools/sources-sum" >"$folder/crates/lookup_run/out/lookup_run.sum"
+expect "built" "$folder/lookup-run" ""
+expect "built, through a link" "$room/link" "" &
+first=$!
+expect "built, the second of two" "$folder/lookup-run" "" &
+wait "$first"
+wait "$!"
+touch "$folder/crates/field/src/lib.rt"
+expect "built, a file touched" "$folder/lookup-run" ""
+[ "$("$folder/prove")" = "The program is proved and built: ./lookup-run starts it." ] || fail "built: ./prove proves again"
+chmod -R a-w "$folder"
+expect "built, read only" "$folder/lookup-run" ""
+chmod -R u+w "$folder"
+echo '// changed' >>"$folder/crates/field/src/lib.rt"
+expect "a source changed" "$folder/lookup-run" "$unproved"
+rm -r "$folder/crates/lookup_run/out"
+if [ "$(id -u)" = 0 ]; then
+  # root may write anywhere: the run as another user sees what it may not
+  chmod 755 "$room"
+  as=(setpriv --reuid=65534 --regid=65534 --clear-groups)
+else
+  chmod -R a-w "$folder"
+  as=()
+fi
+status=0
+"${as[@]}" "$folder/lookup-run" range f7 5 2 </dev/null >"$room/out" 2>"$room/err" || status=$?
+[ "$status" = 2 ] && [ ! -s "$room/out" ] || fail "unbuilt, read only: status $status"
+[ "$(cat "$room/err")" = "lookup-run: the program is not built, and this folder cannot be written: run ./prove in a copy that can" ] ||
+  fail "unbuilt, read only: $(cat "$room/err")"
+echo "launcher: all runs as they have to be"
