@@ -5,7 +5,7 @@ ghost use Rattle.field.specs.Ring.{sub_in};
 use crate::expression::Expression;
 use crate::variable::SymbolicVariable;
 use field::Field;
-use serde::Serialize;
+use serde::{Case, Described, Serialize, Serializer};
 use std::alloc::{AllocError, Global};
 use std::marker::{Model, PhantomData};
 
@@ -25,7 +25,7 @@ pub enum BaseLeaf<F> {
 }
 
 /// A base expression: a tree of sums, differences, products and negations over leaves.
-#[derive(Debug, Drop, Serialize)]
+#[derive(Debug, Drop)]
 pub enum SymbolicExpression<F> {
     /// A leaf.
     Leaf(BaseLeaf<F>),
@@ -142,4 +142,60 @@ impl<F: Field> Expression<F> for SymbolicExpression<F> {
             }
         }
     }
+}
+
+impl<F> Described for SymbolicExpression<F> {}
+
+/// A node is sent as a map of one member, named for it: its leaf, its operand, or the list of both.
+impl<F: Serialize> Serialize for SymbolicExpression<F> {
+    fn serialize<S: Serializer>(&self, out: &mut S) -> Result<(), S::Error> {
+        match self {
+            SymbolicExpression::Leaf(leaf) => {
+                begin_node("Leaf", out)?;
+                leaf.serialize(out)?;
+                out.end_map()
+            }
+            SymbolicExpression::Add(left, right) => {
+                begin_pair("Add", out)?;
+                (**left).serialize(out)?;
+                (**right).serialize(out)?;
+                end_pair(out)
+            }
+            SymbolicExpression::Sub(left, right) => {
+                begin_pair("Sub", out)?;
+                (**left).serialize(out)?;
+                (**right).serialize(out)?;
+                end_pair(out)
+            }
+            SymbolicExpression::Mul(left, right) => {
+                begin_pair("Mul", out)?;
+                (**left).serialize(out)?;
+                (**right).serialize(out)?;
+                end_pair(out)
+            }
+            SymbolicExpression::Neg(inner) => {
+                begin_node("Neg", out)?;
+                (**inner).serialize(out)?;
+                out.end_map()
+            }
+        }
+    }
+}
+
+/// The start of a node, before what it holds.
+fn begin_node<S: Serializer>(name: &str, out: &mut S) -> Result<(), S::Error> {
+    out.begin_map(Some(1))?;
+    out.variant_key(name, Case::AsIs)
+}
+
+/// The start of a node with two operands.
+fn begin_pair<S: Serializer>(name: &str, out: &mut S) -> Result<(), S::Error> {
+    begin_node(name, out)?;
+    out.begin_seq(Some(2))
+}
+
+/// The end of a node with two operands.
+fn end_pair<S: Serializer>(out: &mut S) -> Result<(), S::Error> {
+    out.end_seq()?;
+    out.end_map()
 }

@@ -38,7 +38,10 @@ fn read_offset<R: Format>(
             None => break,
         }
     }
-    offset.ok_or_else(|| from.missing("offset"))
+    match offset {
+        Some(offset) => Ok(offset),
+        None => Err(from.missing("offset")),
+    }
 }
 
 impl DeserializeOwned for BaseEntry {

@@ -2,17 +2,42 @@
 ghost use Rattle.std.specs.Prelude.{◌≡◌, IfOk};
 ghost use Rattle.lookup_declaration.specs.Declaration.{read_of, table_of};
 
-use serde::{Deserialize, Serialize};
+use serde::{Deserialize, DeserializeOwned, Deserializer, Format, Name, Serialize};
 use std::alloc::{AllocError, Global};
 
 /// The committed trace of an AIR whose columns a table names.
-#[derive(Clone, Copy, Debug, Default, PartialEq, Eq, Hash, Serialize, Deserialize)]
+#[derive(Clone, Copy, Debug, Default, PartialEq, Eq, Hash, Serialize)]
 pub enum TraceWindow {
     /// The main trace.
     #[default]
     Main,
     /// The preprocessed trace.
     Preprocessed,
+}
+
+/// A window is read by its name.
+impl DeserializeOwned for TraceWindow {
+    fn deserialize_owned<R: Format>(
+        _alloc: Global,
+        from: &mut Deserializer<'_, '_, R>,
+    ) -> Result<TraceWindow, R::Error> {
+        let names = [Name::exact("Main"), Name::exact("Preprocessed")];
+        match from.variant(&names)? {
+            0 => Ok(TraceWindow::Main),
+            1 => Ok(TraceWindow::Preprocessed),
+            _ => Err(from.unknown_variant()),
+        }
+    }
+}
+
+/// As `DeserializeOwned` reads.
+impl<'de> Deserialize<'de> for TraceWindow {
+    fn deserialize<R: Format>(
+        alloc: Global,
+        from: &mut Deserializer<'de, '_, R>,
+    ) -> Result<TraceWindow, R::Error> {
+        TraceWindow::deserialize_owned(alloc, from)
+    }
 }
 
 /// A reader of a table: on each row `i`, `payload[j][i] = columns[j][position[i]]` for each `j`,

@@ -4,6 +4,41 @@ use expressions::SymbolicExpression;
 use serde::{Deserialize, DeserializeOwned, Deserializer, Format, Name};
 use std::alloc::Global;
 
+/// A local kind is read by its name, a global one as a map of one member, its bus.
+impl DeserializeOwned for Kind {
+    fn deserialize_owned<R: Format>(
+        alloc: Global,
+        from: &mut Deserializer<'_, '_, R>,
+    ) -> Result<Kind, R::Error> {
+        if let serde::Kind::Str = from.peek()? {
+            return match from.variant(&[Name::exact("Local")])? {
+                0 => Ok(Kind::Local),
+                _ => Err(from.unknown_variant()),
+            };
+        }
+        from.begin_map()?;
+        let bus = match from.next_key(&[Name::exact("Global")])? {
+            Some(0) => from.string(alloc)?,
+            Some(_) => return Err(from.unknown_variant()),
+            None => return Err(from.invalid()),
+        };
+        match from.next_key(&[])? {
+            Some(_) => Err(from.invalid()),
+            None => Ok(Kind::Global(bus)),
+        }
+    }
+}
+
+/// As `DeserializeOwned` reads.
+impl<'de> Deserialize<'de> for Kind {
+    fn deserialize<R: Format>(
+        alloc: Global,
+        from: &mut Deserializer<'de, '_, R>,
+    ) -> Result<Kind, R::Error> {
+        Kind::deserialize_owned(alloc, from)
+    }
+}
+
 /// The members of a lookup that were read so far.
 #[derive(Drop)]
 struct Members<F> {

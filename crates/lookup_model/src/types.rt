@@ -6,7 +6,7 @@ use field::PrimeCharacteristicRing;
 use serde::{Described, Deserialize, Serialize, Serializer};
 
 /// Whether a lookup stands by itself or is sent on a bus.
-#[derive(Debug, Drop, PartialEq, Eq, Serialize, Deserialize)]
+#[derive(Debug, Drop, PartialEq, Eq, Serialize)]
 pub enum Kind {
     /// A lookup inside one AIR.
     Local,
