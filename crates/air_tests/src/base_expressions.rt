@@ -1,9 +1,9 @@
+use crate::cases::holds;
 use expressions::{
     AirError, BaseEntry, BaseLeaf, Expression, SymbolicExpression, SymbolicVariable,
 };
 use field::{F7, Field};
 use std::alloc::{AllocError, Global};
-use std::test::Fail;
 
 type Base = SymbolicExpression<F7>;
 
@@ -25,12 +25,12 @@ pub fn mixed<F: Field, E: Expression<F>>(alloc: Global, a: &E, b: &E) -> Result<
 }
 
 #[test]
-fn elements_are_expressions(rt: HostRuntime) -> Result<(), Fail> {
+fn elements_are_expressions(rt: HostRuntime) {
     // (3 + 5) * 3 + 5 = 29
-    let value = mixed::<F7, F7>(rt.alloc(), &F7::new(3), &F7::new(5))?;
-    assert!(rt; value == F7::new(1));
-    assert!(rt; <F7 as Expression<F7>>::constant(F7::new(4)) == F7::new(4));
-    Ok(())
+    let value = mixed::<F7, F7>(rt.alloc(), &F7::new(3), &F7::new(5));
+    let constant = <F7 as Expression<F7>>::constant(F7::new(4));
+    holds(&rt, "29", value == Ok(F7::new(1)));
+    holds(&rt, "a constant", constant == F7::new(4));
 }
 
 fn variable(entry: BaseEntry, index: usize) -> Base {
@@ -56,16 +56,18 @@ fn is_mixed(tree: &Base) -> bool {
 }
 
 #[test]
-fn building_calls_make_their_nodes(rt: HostRuntime) -> Result<(), Fail> {
-    let tree = mixed_tree(rt.alloc())?;
-    assert!(rt; is_mixed(&tree));
-    Ok(())
+fn building_calls_make_their_nodes(rt: HostRuntime) {
+    match mixed_tree(rt.alloc()) {
+        Ok(tree) => holds(&rt, "nodes", is_mixed(&tree)),
+        Err(_) => holds(&rt, "there is a tree", false),
+    }
 }
 
 #[test]
 fn constants_are_leaves(rt: HostRuntime) {
     let constant = Base::constant(F7::new(2));
-    assert!(rt; matches!(constant, Base::Leaf(BaseLeaf::Constant(_))));
+    let is_leaf = matches!(constant, Base::Leaf(BaseLeaf::Constant(_)));
+    holds(&rt, "2", is_leaf);
 }
 
 /// The degree of a leaf, where the transition selector has this degree.
@@ -75,36 +77,47 @@ fn leaf_has_degree(leaf: BaseLeaf<F7>, transition: usize, degree: usize) -> bool
 
 #[test]
 fn leaves_have_their_degrees(rt: HostRuntime) {
-    assert!(rt; leaf_has_degree(BaseLeaf::IsTransition, 0, 0));
-    assert!(rt; leaf_has_degree(BaseLeaf::IsTransition, 5, 5));
-    assert!(rt; leaf_has_degree(BaseLeaf::IsFirstRow, 5, 1));
-    assert!(rt; leaf_has_degree(BaseLeaf::IsLastRow, 5, 1));
-    assert!(rt; leaf_has_degree(BaseLeaf::Constant(F7::new(3)), 5, 0));
+    let three = BaseLeaf::Constant(F7::new(3));
+    holds(
+        &rt,
+        "no degree",
+        leaf_has_degree(BaseLeaf::IsTransition, 0, 0),
+    );
+    holds(
+        &rt,
+        "transition",
+        leaf_has_degree(BaseLeaf::IsTransition, 5, 5),
+    );
+    holds(
+        &rt,
+        "first row",
+        leaf_has_degree(BaseLeaf::IsFirstRow, 5, 1),
+    );
+    holds(&rt, "last row", leaf_has_degree(BaseLeaf::IsLastRow, 5, 1));
+    holds(&rt, "constant", leaf_has_degree(three, 5, 0));
 }
 
-fn has_degree(tree: &Base, degree: usize) -> bool {
-    tree.degree_multiple() == Ok(degree)
+fn mixed_degree(alloc: Global) -> Result<usize, AirError> {
+    mixed_tree(alloc)?.degree_multiple()
 }
 
 #[test]
-fn degrees_follow_the_nodes(rt: HostRuntime) -> Result<(), Fail> {
-    let tree = mixed_tree(rt.alloc())?;
-    assert!(rt; has_degree(&tree, 2));
-    assert!(rt; has_degree(&variable(BaseEntry::Public, 0), 0));
-    Ok(())
+fn degrees_follow_the_nodes(rt: HostRuntime) {
+    let public_value = variable(BaseEntry::Public, 0).degree_multiple();
+    holds(&rt, "a product", mixed_degree(rt.alloc()) == Ok(2));
+    holds(&rt, "a public value", public_value == Ok(0));
 }
 
-/// The transition selector times a cell.
-fn step_of_a_cell(alloc: Global) -> Result<Base, AllocError> {
-    Base::Leaf(BaseLeaf::IsTransition).mul(alloc, main_cell(0))
+/// The degree of the transition selector times a cell.
+fn degree_of_a_step(alloc: Global, transition: usize) -> Result<usize, AirError> {
+    let tree = Base::Leaf(BaseLeaf::IsTransition).mul(alloc, main_cell(0))?;
+    tree.degree_multiple_with_transition(transition)
 }
 
 #[test]
-fn degrees_stop_at_the_greatest_number(rt: HostRuntime) -> Result<(), Fail> {
-    let tree = step_of_a_cell(rt.alloc())?;
-    let above = tree.degree_multiple_with_transition(usize::MAX);
-    let greatest = tree.degree_multiple_with_transition(usize::MAX - 1);
-    assert!(rt; above == Err(AirError::DegreeOverflow));
-    assert!(rt; greatest == Ok(usize::MAX));
-    Ok(())
+fn degrees_stop_at_the_greatest_number(rt: HostRuntime) {
+    let above = degree_of_a_step(rt.alloc(), usize::MAX);
+    let greatest = degree_of_a_step(rt.alloc(), usize::MAX - 1);
+    holds(&rt, "above", above == Err(AirError::DegreeOverflow));
+    holds(&rt, "greatest", greatest == Ok(usize::MAX));
 }

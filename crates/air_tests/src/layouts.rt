@@ -1,12 +1,12 @@
-use crate::errors::prints;
+use crate::cases::holds;
+use crate::errors::{mismatch, prints};
+use crate::traces::trace_of;
 use expressions::{
     AirError, AirLayout, BaseAir, BaseEntry, BaseLeaf, LayoutPart, SymbolicExpression,
     SymbolicVariable,
 };
 use field::F7;
-use matrix::RowMajorMatrix;
-use std::alloc::{AllocError, Global};
-use std::test::Fail;
+use std::alloc::Global;
 
 /// Two columns and one public value.
 struct Pairs;
@@ -64,19 +64,11 @@ fn layout_of(main: usize, preprocessed: usize, public_values: usize) -> AirLayou
     }
 }
 
-fn mismatch(part: LayoutPart, expected: usize, actual: usize) -> AirError {
-    AirError::LayoutMismatch {
-        part,
-        expected,
-        actual,
-    }
-}
-
 #[test]
 fn an_air_has_a_layout(rt: HostRuntime) {
     let layout = AirLayout::from_air::<F7, Pairs>(&Pairs);
-    assert!(rt; layout == layout_of(2, 0, 1));
-    assert!(rt; layout.validate_against_air::<F7, Pairs>(&Pairs) == Ok(()));
+    holds(&rt, "its widths", layout == layout_of(2, 0, 1));
+    holds(&rt, "no mismatch", amiss(layout) == Ok(()));
 }
 
 /// What is first amiss in a layout for `Pairs`.
@@ -87,9 +79,20 @@ fn amiss(layout: AirLayout) -> Result<(), AirError> {
 #[test]
 fn layouts_are_compared_with_airs(rt: HostRuntime) {
     // The main width is looked at first, then the preprocessed one.
-    assert!(rt; amiss(layout_of(1, 1, 0)) == Err(mismatch(LayoutPart::Main, 2, 1)));
-    assert!(rt; amiss(layout_of(2, 1, 0)) == Err(mismatch(LayoutPart::Preprocessed, 0, 1)));
-    assert!(rt; amiss(layout_of(2, 0, 0)) == Err(mismatch(LayoutPart::PublicValues, 1, 0)));
+    let main = mismatch(LayoutPart::Main, 2, 1);
+    let preprocessed = mismatch(LayoutPart::Preprocessed, 0, 1);
+    let public_values = mismatch(LayoutPart::PublicValues, 1, 0);
+    holds(&rt, "main", amiss(layout_of(1, 1, 0)) == Err(main));
+    holds(
+        &rt,
+        "preprocessed",
+        amiss(layout_of(2, 1, 0)) == Err(preprocessed),
+    );
+    holds(
+        &rt,
+        "public values",
+        amiss(layout_of(2, 0, 0)) == Err(public_values),
+    );
 }
 
 /// What is amiss in a layout of two columns for an AIR of three.
@@ -98,29 +101,27 @@ fn narrow() -> Result<(), AirError> {
 }
 
 #[test]
-fn a_narrow_layout_is_named(rt: HostRuntime) -> Result<(), Fail> {
-    let alloc = rt.alloc();
+fn a_narrow_layout_is_named(rt: HostRuntime) {
     let Err(error) = narrow() else {
-        return Err("a narrow layout was accepted".into());
+        return holds(&rt, "a narrow layout is refused", false);
     };
-    assert!(rt; error == mismatch(LayoutPart::Main, 3, 2));
-    assert!(rt; prints(alloc, error, "main width: layout says 2, the AIR has 3")?);
-    Ok(())
+    let text = "main width: layout says 2, the AIR has 3";
+    holds(&rt, "main", error == mismatch(LayoutPart::Main, 3, 2));
+    prints(&rt, rt.alloc(), error, text);
 }
 
-fn layout_of_pairs(alloc: Global) -> Result<AirLayout, AllocError> {
-    let values = Vec::from_slice(alloc, [F7::new(1), F7::new(2)].as_slice())?;
-    let pairs = RowMajorMatrix::new(values, 2);
-    Ok(AirLayout::of_traces(&pairs, Some(&pairs), &[F7::new(1)]))
+fn layout_of_pairs(alloc: Global) -> Option<AirLayout> {
+    let pairs = trace_of(alloc, &[1, 2], 2)?;
+    Some(AirLayout::of_traces(&pairs, Some(&pairs), &[F7::new(1)]))
 }
 
 #[test]
-fn traces_have_a_layout(rt: HostRuntime) -> Result<(), Fail> {
-    let layout = layout_of_pairs(rt.alloc())?;
-    assert!(rt; layout == layout_of(2, 2, 1));
-    Ok(())
+fn traces_have_a_layout(rt: HostRuntime) {
+    let layout = layout_of_pairs(rt.alloc());
+    holds(&rt, "its widths", layout == Some(layout_of(2, 2, 1)));
 }
 
+/// Whether a variable is within a layout of two columns and one public value.
 fn fits(entry: BaseEntry, index: usize) -> bool {
     let variable = SymbolicVariable::new(entry, index);
     let expression: SymbolicExpression<F7> = SymbolicExpression::Leaf(BaseLeaf::Variable(variable));
@@ -129,9 +130,17 @@ fn fits(entry: BaseEntry, index: usize) -> bool {
 
 #[test]
 fn expressions_fit_a_layout_or_not(rt: HostRuntime) {
-    assert!(rt; fits(BaseEntry::Main { offset: 1 }, 1));
-    assert!(rt; !fits(BaseEntry::Main { offset: 2 }, 1));
-    assert!(rt; !fits(BaseEntry::Main { offset: 0 }, 2));
-    assert!(rt; !fits(BaseEntry::Preprocessed { offset: 0 }, 0));
-    assert!(rt; fits(BaseEntry::Public, 0));
+    holds(&rt, "next row", fits(BaseEntry::Main { offset: 1 }, 1));
+    holds(
+        &rt,
+        "second next row",
+        !fits(BaseEntry::Main { offset: 2 }, 1),
+    );
+    holds(&rt, "third column", !fits(BaseEntry::Main { offset: 0 }, 2));
+    holds(
+        &rt,
+        "preprocessed",
+        !fits(BaseEntry::Preprocessed { offset: 0 }, 0),
+    );
+    holds(&rt, "public value", fits(BaseEntry::Public, 0));
 }

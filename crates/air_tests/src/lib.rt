@@ -7,6 +7,8 @@
 #[cfg(test)]
 mod base_expressions;
 #[cfg(test)]
+mod cases;
+#[cfg(test)]
 mod embedding;
 #[cfg(test)]
 mod errors;

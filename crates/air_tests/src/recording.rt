@@ -1,20 +1,33 @@
-use crate::machines::Fibonacci;
+use crate::cases::holds;
+use crate::machines::{Claim, Machine};
 use air::{
-    Air, AirBuilder, AirError, AirLayout, BaseLeaf, Expression, ExtensionBuilder, LayoutPart,
-    PermutationAirBuilder, SymbolicAirBuilder, SymbolicExpression, SymbolicExpressionExt,
+    Air, AirError, AirLayout, BaseLeaf, SymbolicAirBuilder, SymbolicExpression,
+    SymbolicExpressionExt,
 };
 use field::F7;
-use matrix::WindowAccess;
 use std::alloc::Global;
-use std::test::Fail;
+use std::process::Abort;
 
-type Recorder = SymbolicAirBuilder<F7, F7>;
+pub type Recorder = SymbolicAirBuilder<F7, F7>;
+
+/// The constraints of a machine over a layout.
+pub fn recorded(alloc: Global, machine: &Machine, layout: AirLayout) -> Result<Recorder, AirError> {
+    let mut recorder = Recorder::new(alloc, layout)?;
+    machine.eval(alloc, &mut recorder)?;
+    Ok(recorder)
+}
 
 fn record_fibonacci(alloc: Global) -> Result<Recorder, AirError> {
-    let layout = AirLayout::from_air::<F7, Fibonacci>(&Fibonacci);
-    let mut recorder = Recorder::new(alloc, layout)?;
-    Fibonacci.eval(alloc, &mut recorder)?;
-    Ok(recorder)
+    let machine = Machine {
+        width: 2,
+        num_public_values: 1,
+        claim: Claim::IsFibonacci,
+    };
+    recorded(
+        alloc,
+        &machine,
+        AirLayout::from_air::<F7, Machine>(&machine),
+    )
 }
 
 /// Whether a constraint is a product of degree 2.
@@ -23,9 +36,9 @@ fn is_filtered(constraint: &SymbolicExpression<F7>) -> bool {
     is_product && constraint.degree_multiple_with_transition(1) == Ok(2)
 }
 
-/// The selector that a constraint is multiplied by.
-fn selector_of(constraint: &SymbolicExpression<F7>) -> Option<BaseLeaf<F7>> {
-    match constraint {
+/// The selector of the constraint at this place, which it is multiplied by.
+fn selector_at(recorder: &Recorder, place: usize) -> Option<BaseLeaf<F7>> {
+    match recorder.base_constraints().get(place)? {
         SymbolicExpression::Mul(selector, _) => match &**selector {
             SymbolicExpression::Leaf(leaf) => Some(*leaf),
             _ => None,
@@ -34,117 +47,88 @@ fn selector_of(constraint: &SymbolicExpression<F7>) -> Option<BaseLeaf<F7>> {
     }
 }
 
-/// The selector of the constraint at this place.
-fn selector_at(recorder: &Recorder, place: usize) -> Option<BaseLeaf<F7>> {
-    selector_of(recorder.base_constraints().get(place)?)
-}
-
 /// Whether constraints were recorded at these places of the one order, and no others.
 fn has_places(recorder: &Recorder, base: &[usize], extension: &[usize]) -> bool {
     let places = recorder.constraint_layout();
     places.base_indices.as_slice() == base && places.ext_indices.as_slice() == extension
 }
 
-#[test]
-fn an_air_is_recorded_in_order(rt: HostRuntime) -> Result<(), Fail> {
-    let recorder = record_fibonacci(rt.alloc())?;
-    assert!(rt; has_places(&recorder, &[0, 1, 2, 3, 4], &[]));
-    assert!(rt; recorder.base_constraints().len() == 5);
-    assert!(rt; recorder.base_constraints().iter().all(is_filtered));
-    assert!(rt; recorder.extension_constraints().is_empty());
-    Ok(())
+/// Ends the test where the Fibonacci numbers are recorded in another order or without filters.
+fn is_in_order(rt: &impl Abort, recorder: &Recorder) {
+    let base = recorder.base_constraints();
+    holds(rt, "places", has_places(recorder, &[0, 1, 2, 3, 4], &[]));
+    holds(rt, "five constraints", base.len() == 5);
+    holds(rt, "filtered", base.iter().all(is_filtered));
+    holds(rt, "no other", recorder.extension_constraints().is_empty());
 }
 
 #[test]
-fn filters_put_the_selector_first(rt: HostRuntime) -> Result<(), Fail> {
-    let recorder = record_fibonacci(rt.alloc())?;
-    assert!(rt; matches!(selector_at(&recorder, 1), Some(BaseLeaf::IsFirstRow)));
-    assert!(rt; matches!(selector_at(&recorder, 2), Some(BaseLeaf::IsTransition)));
-    assert!(rt; matches!(selector_at(&recorder, 4), Some(BaseLeaf::IsLastRow)));
-    Ok(())
-}
-
-fn too_narrow() -> AirError {
-    AirError::LayoutMismatch {
-        part: LayoutPart::Preprocessed,
-        expected: 1,
-        actual: 0,
+fn an_air_is_recorded_in_order(rt: HostRuntime) {
+    match record_fibonacci(rt.alloc()) {
+        Ok(recorder) => is_in_order(&rt, &recorder),
+        Err(_) => holds(&rt, "the machine is recorded", false),
     }
 }
 
-/// Asserts the second cell of the next row of the permutation trace.
-fn assert_cell<AB: PermutationAirBuilder>(alloc: Global, builder: &mut AB) -> Result<(), AirError> {
-    let rows = builder.permutation(alloc)?;
-    match rows.next(1) {
-        Some(cell) => builder.assert_zero_ext(alloc, cell.into()),
-        None => Err(too_narrow()),
-    }
+/// Ends the test where a selector of the Fibonacci numbers is another one.
+fn has_selectors(rt: &impl Abort, recorder: &Recorder) {
+    let (first, step) = (selector_at(recorder, 1), selector_at(recorder, 2));
+    let last = selector_at(recorder, 4);
+    holds(rt, "first row", matches!(first, Some(BaseLeaf::IsFirstRow)));
+    holds(
+        rt,
+        "transition",
+        matches!(step, Some(BaseLeaf::IsTransition)),
+    );
+    holds(rt, "last row", matches!(last, Some(BaseLeaf::IsLastRow)));
 }
 
-/// Asserts the first cell of the preprocessed trace.
-fn assert_fixed<AB: AirBuilder>(alloc: Global, builder: &mut AB) -> Result<(), AirError> {
-    match builder.preprocessed().current(0) {
-        Some(cell) => builder.assert_zero(alloc, cell.into()),
-        None => Err(too_narrow()),
+#[test]
+fn filters_put_the_selector_first(rt: HostRuntime) {
+    match record_fibonacci(rt.alloc()) {
+        Ok(recorder) => has_selectors(&rt, &recorder),
+        Err(_) => holds(&rt, "the machine is recorded", false),
     }
-}
-
-/// Asserts the first permutation value on the last row.
-fn assert_value<AB: PermutationAirBuilder>(
-    alloc: Global,
-    builder: &mut AB,
-) -> Result<(), AirError> {
-    match builder.permutation_values().first().copied() {
-        Some(value) => builder.when_last_row().assert_zero_ext(alloc, value.into()),
-        None => Err(too_narrow()),
-    }
-}
-
-/// Asserts the selector of the first row, embedded, times the second challenge.
-fn assert_challenge<AB: PermutationAirBuilder>(
-    alloc: Global,
-    builder: &mut AB,
-) -> Result<(), AirError> {
-    match builder.permutation_randomness().get(1).copied() {
-        Some(challenge) => {
-            let lifted = AB::lift(builder.is_first_row());
-            let product = lifted.mul(alloc, challenge.into())?;
-            builder.assert_zero_ext(alloc, product)
-        }
-        None => Err(too_narrow()),
-    }
-}
-
-fn assert_both_kinds<AB: PermutationAirBuilder>(
-    alloc: Global,
-    builder: &mut AB,
-) -> Result<(), AirError> {
-    assert_cell(alloc, builder)?;
-    assert_fixed(alloc, builder)?;
-    assert_value(alloc, builder)?;
-    assert_challenge(alloc, builder)
 }
 
 fn record_both_kinds(alloc: Global) -> Result<Recorder, AirError> {
+    let machine = Machine {
+        width: 0,
+        num_public_values: 0,
+        claim: Claim::IsOfBothKinds,
+    };
     let layout = AirLayout {
         preprocessed_width: 1,
+        main_width: 0,
+        num_public_values: 0,
         permutation_width: 2,
         num_permutation_challenges: 2,
         num_permutation_values: 1,
-        ..AirLayout::default()
     };
-    let mut recorder = Recorder::new(alloc, layout)?;
-    assert_both_kinds(alloc, &mut recorder)?;
-    Ok(recorder)
+    recorded(alloc, &machine, layout)
+}
+
+/// Ends the test where both kinds of constraints are not recorded in their one order.
+fn has_both_kinds(rt: &impl Abort, recorder: &Recorder) {
+    let constraints = recorder.extension_constraints();
+    let (first, second) = (constraints.first(), constraints.get(1));
+    holds(rt, "places", has_places(recorder, &[1], &[0, 2, 3]));
+    holds(
+        rt,
+        "a cell",
+        matches!(first, Some(SymbolicExpressionExt::Leaf(_))),
+    );
+    holds(
+        rt,
+        "a filter",
+        matches!(second, Some(SymbolicExpressionExt::Mul(_, _))),
+    );
 }
 
 #[test]
-fn both_kinds_of_constraints_share_one_order(rt: HostRuntime) -> Result<(), Fail> {
-    let recorder = record_both_kinds(rt.alloc())?;
-    assert!(rt; has_places(&recorder, &[1], &[0, 2, 3]));
-    let first = recorder.extension_constraints().first();
-    assert!(rt; matches!(first, Some(SymbolicExpressionExt::Leaf(_))));
-    let second = recorder.extension_constraints().get(1);
-    assert!(rt; matches!(second, Some(SymbolicExpressionExt::Mul(_, _))));
-    Ok(())
+fn both_kinds_of_constraints_share_one_order(rt: HostRuntime) {
+    match record_both_kinds(rt.alloc()) {
+        Ok(recorder) => has_both_kinds(&rt, &recorder),
+        Err(_) => holds(&rt, "the machine is recorded", false),
+    }
 }

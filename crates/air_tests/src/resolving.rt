@@ -1,81 +1,16 @@
 ghost use Rattle.std.specs.Prelude.{◌≡◌, ◌<◌, None, []};
 ghost use Rattle.matrix.specs.Matrix.{height};
 
+use crate::cases::holds;
+use crate::machines::{Claim, Machine};
+use crate::recording::{Recorder, recorded};
 use crate::traces::{no_preprocessed, no_trace, trace_of};
-use air::{
-    AirBuilder, AirError, AirLayout, DebugConstraintBuilder, Expression, LayoutPart, RowInputs,
-    SymbolicAirBuilder, SymbolicExpression,
-};
+use air::{AirError, AirLayout, DebugConstraintBuilder, RowInputs, SymbolicExpression};
 use field::F7;
-use matrix::{RowMajorMatrix, WindowAccess};
+use matrix::RowMajorMatrix;
 use std::alloc::Global;
 
 type Base = SymbolicExpression<F7>;
-
-type Recorder = SymbolicAirBuilder<F7, F7>;
-
-/// Asserts the product of the cells on the first row.
-fn assert_product<AB: AirBuilder>(
-    alloc: Global,
-    builder: &mut AB,
-    a: &AB::Expr,
-    b: &AB::Expr,
-) -> Result<(), AirError> {
-    let product = a.copy(alloc)?.mul(alloc, b.copy(alloc)?)?;
-    builder.when_first_row().assert_zero(alloc, product)
-}
-
-/// Asserts the sum of the cells on the last row.
-fn assert_sum<AB: AirBuilder>(
-    alloc: Global,
-    builder: &mut AB,
-    a: &AB::Expr,
-    b: &AB::Expr,
-) -> Result<(), AirError> {
-    let sum = a.copy(alloc)?.add(alloc, b.copy(alloc)?)?;
-    builder.when_last_row().assert_zero(alloc, sum)
-}
-
-/// Asserts the difference of the cells on every row but the last.
-fn assert_difference<AB: AirBuilder>(
-    alloc: Global,
-    builder: &mut AB,
-    a: &AB::Expr,
-    b: &AB::Expr,
-) -> Result<(), AirError> {
-    let difference = a.copy(alloc)?.sub(alloc, b.copy(alloc)?)?;
-    builder.when_transition().assert_zero(alloc, difference)
-}
-
-fn too_narrow() -> AirError {
-    AirError::LayoutMismatch {
-        part: LayoutPart::Main,
-        expected: 2,
-        actual: 0,
-    }
-}
-
-/// Asserts all three of a cell of the current row and one of the next.
-fn assert_selected<AB: AirBuilder>(alloc: Global, builder: &mut AB) -> Result<(), AirError> {
-    let window = builder.main(alloc)?;
-    let (Some(a), Some(b)) = (window.current(0), window.next(1)) else {
-        return Err(too_narrow());
-    };
-    let (a, b): (AB::Expr, AB::Expr) = (a.into(), b.into());
-    assert_product(alloc, builder, &a, &b)?;
-    assert_sum(alloc, builder, &a, &b)?;
-    assert_difference(alloc, builder, &a, &b)
-}
-
-fn record_selected(alloc: Global) -> Result<Recorder, AirError> {
-    let layout = AirLayout {
-        main_width: 2,
-        ..AirLayout::default()
-    };
-    let mut recorder = Recorder::new(alloc, layout)?;
-    assert_selected(alloc, &mut recorder)?;
-    Ok(recorder)
-}
 
 /// The value of a constraint on a row of a trace, where it fits the trace.
 fn value_on<'a>(
@@ -115,22 +50,52 @@ fn value_at(alloc: Global, main: &RowMajorMatrix<F7>, row: usize, constraint: &B
     value_on(alloc, &inputs, row, constraint)
 }
 
-/// Whether the constraint of this place has these values on the rows of a trace of three rows.
-fn is_valued(alloc: Global, place: usize, values: [u32; 3]) -> Option<bool> {
-    let main = trace_of(alloc, &[1, 3, 3, 4, 5, 6], 2)?;
+fn record_selected(alloc: Global) -> Result<Recorder, AirError> {
+    let machine = Machine {
+        width: 2,
+        num_public_values: 0,
+        claim: Claim::IsSelected,
+    };
+    recorded(
+        alloc,
+        &machine,
+        AirLayout::from_air::<F7, Machine>(&machine),
+    )
+}
+
+/// The values of a constraint on the first three rows of a trace.
+fn values_on(alloc: Global, main: &RowMajorMatrix<F7>, constraint: &Base) -> [Option<F7>; 3] {
+    [
+        value_at(alloc, main, 0, constraint),
+        value_at(alloc, main, 1, constraint),
+        value_at(alloc, main, 2, constraint),
+    ]
+}
+
+/// The values of the constraint of this place on the rows of a trace of three rows.
+fn values_of(alloc: Global, place: usize) -> Option<[Option<F7>; 3]> {
     let recorder = record_selected(alloc).ok()?;
+    let main = trace_of(alloc, &[1, 3, 3, 4, 5, 6], 2)?;
     let constraint = recorder.base_constraints().get(place)?;
-    let first = value_at(alloc, &main, 0, constraint) == Some(F7::new(values[0]));
-    let second = value_at(alloc, &main, 1, constraint) == Some(F7::new(values[1]));
-    let third = value_at(alloc, &main, 2, constraint) == Some(F7::new(values[2]));
-    Some(first && second && third)
+    Some(values_on(alloc, &main, constraint))
+}
+
+/// Whether the constraint of this place has these values.
+fn is_valued(alloc: Global, place: usize, values: [u32; 3]) -> bool {
+    let [first, second, third] = values;
+    let wanted = [
+        Some(F7::new(first)),
+        Some(F7::new(second)),
+        Some(F7::new(third)),
+    ];
+    values_of(alloc, place) == Some(wanted)
 }
 
 #[test]
 fn recorded_constraints_resolve_on_cyclic_windows(rt: HostRuntime) {
     let alloc = rt.alloc();
     // Row 0: 1 * 4. Row 2, beside row 0: 5 + 3. Rows 0 and 1: 1 - 4 and 3 - 6.
-    assert!(rt; is_valued(alloc, 0, [4, 0, 0]) == Some(true));
-    assert!(rt; is_valued(alloc, 1, [0, 0, 1]) == Some(true));
-    assert!(rt; is_valued(alloc, 2, [4, 4, 0]) == Some(true));
+    holds(&rt, "product", is_valued(alloc, 0, [4, 0, 0]));
+    holds(&rt, "sum", is_valued(alloc, 1, [0, 0, 1]));
+    holds(&rt, "difference", is_valued(alloc, 2, [4, 4, 0]));
 }
