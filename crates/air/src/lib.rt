@@ -3,8 +3,6 @@
 
 mod debug;
 mod recording;
-#[cfg(test)]
-mod tests;
 
 pub use debug::{DebugConstraintBuilder, RowInputs, check_rows};
 pub use expressions::{

@@ -16,8 +16,6 @@ mod fits;
 mod layout;
 mod reading;
 mod resolve;
-#[cfg(test)]
-mod tests;
 mod variable;
 
 pub use air::{Air, BaseAir};

@@ -1,7 +1,6 @@
 pub mod DotProduct
 pub mod Exponents
 pub mod Montgomery
-pub mod NonzeroModulo7
 pub mod PrefixProducts
 pub mod QuarticProduct
 pub mod RingSolverExamples

@@ -331,6 +331,3 @@ impl<'de> Deserialize<'de> for BabyBear {
         BabyBear::deserialize_owned(alloc, from)
     }
 }
-
-#[cfg(test)]
-mod tests;

@@ -305,6 +305,3 @@ impl<'de> Deserialize<'de> for BabyBear4 {
         BabyBear4::deserialize_owned(alloc, from)
     }
 }
-
-#[cfg(test)]
-mod tests;

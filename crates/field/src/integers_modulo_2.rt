@@ -204,6 +204,3 @@ impl<'de> Deserialize<'de> for F2 {
         F2::deserialize_owned(alloc, from)
     }
 }
-
-#[cfg(test)]
-mod tests;

@@ -208,6 +208,3 @@ impl<'de> Deserialize<'de> for F7 {
         F7::deserialize_owned(alloc, from)
     }
 }
-
-#[cfg(test)]
-mod tests;

@@ -64,27 +64,3 @@ impl<K: Field> Inverter<K> for InverseCount {
         InverseCount::get(self)
     }
 }
-
-#[cfg(test)]
-mod tests {
-    use super::{InverseCount, Inverter};
-    use crate::{BabyBear4, F7, PrimeCharacteristicRing};
-
-    #[test]
-    fn each_call_counts(rt: HostRuntime) {
-        let mut count = InverseCount::new();
-        assert_eq!(rt; count.get(), 0);
-        assert_eq!(rt; count.invert(F7::new(3)), Some(F7::new(5)));
-        assert_eq!(rt; count.invert(F7::new(0)), None);
-        assert_eq!(rt; count.invert(BabyBear4::ONE), Some(BabyBear4::ONE));
-        assert_eq!(rt; count.get(), 3);
-        assert_eq!(rt; Inverter::<F7>::get(&count), 3);
-    }
-
-    #[test]
-    fn the_count_stays_at_its_limit(rt: HostRuntime) {
-        let mut count = InverseCount { calls: u64::MAX };
-        assert_eq!(rt; count.invert(F7::new(2)), Some(F7::new(4)));
-        assert_eq!(rt; count.get(), u64::MAX);
-    }
-}

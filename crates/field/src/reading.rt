@@ -22,6 +22,3 @@ pub(crate) fn number_below<R: Format>(
         Err(from.custom("not below the modulus"))
     }
 }
-
-#[cfg(test)]
-mod tests;

@@ -6,8 +6,6 @@
 
 mod dense;
 mod row_window;
-#[cfg(test)]
-mod tests;
 mod view;
 mod window;
 

@@ -1,0 +1,134 @@
+use crate::cases::holds;
+use crate::machines::{Claim, Machine};
+use air::{
+    Air, AirError, AirLayout, BaseLeaf, SymbolicAirBuilder, SymbolicExpression,
+    SymbolicExpressionExt,
+};
+use field::F7;
+use std::alloc::Global;
+use std::process::Abort;
+
+pub type Recorder = SymbolicAirBuilder<F7, F7>;
+
+/// The constraints of a machine over a layout.
+pub fn recorded(alloc: Global, machine: &Machine, layout: AirLayout) -> Result<Recorder, AirError> {
+    let mut recorder = Recorder::new(alloc, layout)?;
+    machine.eval(alloc, &mut recorder)?;
+    Ok(recorder)
+}
+
+fn record_fibonacci(alloc: Global) -> Result<Recorder, AirError> {
+    let machine = Machine {
+        width: 2,
+        num_public_values: 1,
+        claim: Claim::IsFibonacci,
+    };
+    recorded(
+        alloc,
+        &machine,
+        AirLayout::from_air::<F7, Machine>(&machine),
+    )
+}
+
+/// Whether a constraint is a product of degree 2.
+fn is_filtered(constraint: &SymbolicExpression<F7>) -> bool {
+    let is_product = matches!(constraint, SymbolicExpression::Mul(_, _));
+    is_product && constraint.degree_multiple_with_transition(1) == Ok(2)
+}
+
+/// The selector of the constraint at this place, which it is multiplied by.
+fn selector_at(recorder: &Recorder, place: usize) -> Option<BaseLeaf<F7>> {
+    match recorder.base_constraints().get(place)? {
+        SymbolicExpression::Mul(selector, _) => match &**selector {
+            SymbolicExpression::Leaf(leaf) => Some(*leaf),
+            _ => None,
+        },
+        _ => None,
+    }
+}
+
+/// Whether constraints were recorded at these places of the one order, and no others.
+fn has_places(recorder: &Recorder, base: &[usize], extension: &[usize]) -> bool {
+    let places = recorder.constraint_layout();
+    places.base_indices.as_slice() == base && places.ext_indices.as_slice() == extension
+}
+
+/// Ends the test where the Fibonacci numbers are recorded in another order or without filters.
+fn is_in_order(rt: &impl Abort, recorder: &Recorder) {
+    let base = recorder.base_constraints();
+    holds(rt, "places", has_places(recorder, &[0, 1, 2, 3, 4], &[]));
+    holds(rt, "five constraints", base.len() == 5);
+    holds(rt, "filtered", base.iter().all(is_filtered));
+    holds(rt, "no other", recorder.extension_constraints().is_empty());
+}
+
+#[test]
+fn an_air_is_recorded_in_order(rt: HostRuntime) {
+    match record_fibonacci(rt.alloc()) {
+        Ok(recorder) => is_in_order(&rt, &recorder),
+        Err(_) => holds(&rt, "the machine is recorded", false),
+    }
+}
+
+/// Ends the test where a selector of the Fibonacci numbers is another one.
+fn has_selectors(rt: &impl Abort, recorder: &Recorder) {
+    let (first, step) = (selector_at(recorder, 1), selector_at(recorder, 2));
+    let last = selector_at(recorder, 4);
+    holds(rt, "first row", matches!(first, Some(BaseLeaf::IsFirstRow)));
+    holds(
+        rt,
+        "transition",
+        matches!(step, Some(BaseLeaf::IsTransition)),
+    );
+    holds(rt, "last row", matches!(last, Some(BaseLeaf::IsLastRow)));
+}
+
+#[test]
+fn filters_put_the_selector_first(rt: HostRuntime) {
+    match record_fibonacci(rt.alloc()) {
+        Ok(recorder) => has_selectors(&rt, &recorder),
+        Err(_) => holds(&rt, "the machine is recorded", false),
+    }
+}
+
+fn record_both_kinds(alloc: Global) -> Result<Recorder, AirError> {
+    let machine = Machine {
+        width: 0,
+        num_public_values: 0,
+        claim: Claim::IsOfBothKinds,
+    };
+    let layout = AirLayout {
+        preprocessed_width: 1,
+        main_width: 0,
+        num_public_values: 0,
+        permutation_width: 2,
+        num_permutation_challenges: 2,
+        num_permutation_values: 1,
+    };
+    recorded(alloc, &machine, layout)
+}
+
+/// Ends the test where both kinds of constraints are not recorded in their one order.
+fn has_both_kinds(rt: &impl Abort, recorder: &Recorder) {
+    let constraints = recorder.extension_constraints();
+    let (first, second) = (constraints.first(), constraints.get(1));
+    holds(rt, "places", has_places(recorder, &[1], &[0, 2, 3]));
+    holds(
+        rt,
+        "a cell",
+        matches!(first, Some(SymbolicExpressionExt::Leaf(_))),
+    );
+    holds(
+        rt,
+        "a filter",
+        matches!(second, Some(SymbolicExpressionExt::Mul(_, _))),
+    );
+}
+
+#[test]
+fn both_kinds_of_constraints_share_one_order(rt: HostRuntime) {
+    match record_both_kinds(rt.alloc()) {
+        Ok(recorder) => has_both_kinds(&rt, &recorder),
+        Err(_) => holds(&rt, "the machine is recorded", false),
+    }
+}

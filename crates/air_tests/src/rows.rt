@@ -1,0 +1,105 @@
+ghost use Rattle.std.specs.Option.{option_copied};
+ghost use Rattle.matrix.specs.Matrix.{height};
+ghost use Rattle.air.specs.Row.{HeightFits, OptionHeightFits};
+
+use crate::cases::{Answer, fails_at, passes};
+use crate::machines::{Claim, Machine};
+use crate::traces::{no_preprocessed, no_trace, trace_of};
+use air::{Air, DebugConstraintBuilder, RowInputs, check_rows};
+use field::F7;
+use std::alloc::Global;
+
+/// What a claim answers on a row of the inputs, or on all of them.
+pub fn answer<'a>(
+    alloc: Global,
+    claim: Claim,
+    inputs: &'a RowInputs<'a, F7, F7>,
+    row: Option<usize>,
+) -> Answer
+    requires preprocessed { OptionHeightFits (height inputs.now.main.now) (option_copied inputs.now.preprocessed) }
+    requires permutation { HeightFits (height inputs.now.main.now) inputs.now.permutation.now }
+{
+    let machine = Machine {
+        width: inputs.main.width(),
+        num_public_values: inputs.public_values.len(),
+        claim,
+    };
+    match row {
+        None => Some(check_rows(alloc, &machine, inputs)),
+        Some(row) if row < inputs.main.height() => {
+            let mut builder = DebugConstraintBuilder::new(inputs, row);
+            Some(machine.eval(alloc, &mut builder))
+        }
+        Some(_) => None,
+    }
+}
+
+/// What a claim answers on a row of a trace of this width, or on all of its rows.
+pub fn answered(
+    alloc: Global,
+    claim: Claim,
+    values: &[u32],
+    width: usize,
+    last: u32,
+    row: Option<usize>,
+) -> Answer {
+    let main = trace_of(alloc, values, width)?;
+    let permutation = no_trace(alloc);
+    let inputs: RowInputs<'_, F7, F7> = RowInputs {
+        main: &main,
+        preprocessed: no_preprocessed(&main),
+        public_values: &[F7::new(last)],
+        permutation: &permutation,
+        challenges: &[],
+        permutation_values: &[],
+    };
+    answer(alloc, claim, &inputs, row)
+}
+
+/// What the counter answers on a trace of one column.
+fn counted(alloc: Global, on_every_row: bool, values: &[u32]) -> Answer {
+    answered(alloc, Claim::Counts { on_every_row }, values, 1, 0, None)
+}
+
+#[test]
+fn a_counter_is_checked_row_by_row(rt: HostRuntime) {
+    let alloc = rt.alloc();
+    fails_at(&rt, "a jump", counted(alloc, false, &[0, 1, 3]), 1);
+    fails_at(&rt, "no way back", counted(alloc, true, &[0, 1, 2]), 2);
+    passes(&rt, "a cycle", counted(alloc, true, &[0, 1, 2, 3, 4, 5, 6]));
+    passes(&rt, "three steps", counted(alloc, false, &[0, 1, 2]));
+    passes(&rt, "no row", counted(alloc, false, &[]));
+}
+
+/// What the Fibonacci numbers answer on a trace of two columns with this result.
+fn followed(alloc: Global, values: &[u32], last: u32) -> Answer {
+    answered(alloc, Claim::IsFibonacci, values, 2, last, None)
+}
+
+#[test]
+fn fibonacci_traces_are_checked_at_height_one(rt: HostRuntime) {
+    let alloc = rt.alloc();
+    // The row is first and last and has no step.
+    passes(&rt, "0, 1", followed(alloc, &[0, 1], 1));
+    fails_at(&rt, "1, 1", followed(alloc, &[1, 1], 1), 0);
+    fails_at(&rt, "another result", followed(alloc, &[0, 1], 2), 0);
+}
+
+#[test]
+fn fibonacci_traces_are_checked_at_height_two(rt: HostRuntime) {
+    let alloc = rt.alloc();
+    passes(&rt, "0, 1, 1", followed(alloc, &[0, 1, 1, 1], 1));
+    fails_at(&rt, "a row twice", followed(alloc, &[0, 1, 0, 1], 1), 0);
+    fails_at(&rt, "another result", followed(alloc, &[0, 1, 1, 1], 0), 1);
+}
+
+#[test]
+fn fibonacci_traces_are_checked_at_height_five(rt: HostRuntime) {
+    let alloc = rt.alloc();
+    // 0, 1, 1, 2, 3, 5
+    let numbers = [0, 1, 1, 1, 1, 2, 2, 3, 3, 5];
+    let broken = [0, 1, 1, 1, 1, 2, 2, 4, 4, 6];
+    passes(&rt, "up to 5", followed(alloc, &numbers, 5));
+    fails_at(&rt, "another result", followed(alloc, &numbers, 4), 4);
+    fails_at(&rt, "4 for 3", followed(alloc, &broken, 6), 2);
+}

@@ -1,4 +1,0 @@
-mod errors;
-mod expressions;
-mod ext_expressions;
-mod layouts;

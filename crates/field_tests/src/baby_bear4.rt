@@ -1,0 +1,103 @@
+use crate::cases::{has_text, holds, holds_at, inverts, is, zero_has_no_inverse};
+use field::{
+    BabyBear, BabyBear4, Domain, ExtensionDomain, ExtensionField, Field, PrimeCharacteristicRing,
+};
+
+/// The polynomial with these coefficients, lowest power first.
+fn quartic(c0: u32, c1: u32, c2: u32, c3: u32) -> BabyBear4 {
+    BabyBear4::new([
+        BabyBear::new(c0),
+        BabyBear::new(c1),
+        BabyBear::new(c2),
+        BabyBear::new(c3),
+    ])
+}
+
+#[test]
+fn coefficients_come_back_in_order(rt: HostRuntime) {
+    let x = quartic(1, 2, 3, 2_013_265_920);
+    let [c0, c1, c2, c3] = x.coefficients();
+    is(&rt, "lowest", c0, BabyBear::new(1));
+    is(&rt, "second", c1, BabyBear::new(2));
+    is(&rt, "third", c2, BabyBear::new(3));
+    is(&rt, "highest", c3, BabyBear::from_i32(-1));
+    let text = "1,2,3,2013265920";
+    holds(&rt, text, has_text(rt.alloc(), x, text));
+    let text = "0,1,0,0";
+    holds(&rt, text, has_text(rt.alloc(), quartic(0, 1, 0, 0), text));
+}
+
+#[test]
+fn sums_go_by_coefficients(rt: HostRuntime) {
+    let (x, y) = (quartic(1, 2, 3, 4), quartic(5, 7, 9, 2_013_265_918));
+    let negative = quartic(2_013_265_920, 2_013_265_919, 2_013_265_918, 2_013_265_917);
+    is(&rt, "x + y", x + y, quartic(6, 9, 12, 1));
+    is(&rt, "y - x", y - x, quartic(4, 5, 6, 2_013_265_914));
+    is(&rt, "-x", -x, negative);
+    holds_at(&rt, "coefficient", 0, x != quartic(0, 2, 3, 4));
+    holds_at(&rt, "coefficient", 1, x != quartic(1, 0, 3, 4));
+    holds_at(&rt, "coefficient", 2, x != quartic(1, 2, 0, 4));
+    holds_at(&rt, "coefficient", 3, x != quartic(1, 2, 3, 0));
+}
+
+#[test]
+fn the_fourth_power_is_eleven(rt: HostRuntime) {
+    let (x, eleven) = (quartic(0, 1, 0, 0), quartic(11, 0, 0, 0));
+    let product = quartic(1, 2, 3, 4) * quartic(5, 6, 7, 8);
+    let great = quartic(0, 0, 0, 1_339_858_418);
+    is(&rt, "x * x^3", x * quartic(0, 0, 0, 1), eleven);
+    is(&rt, "a product", product, quartic(676, 588, 386, 60));
+    is(&rt, "x^4", x.exp_u64(4), eleven);
+    is(&rt, "x^0", x.exp_u64(0), BabyBear4::ONE);
+    is(&rt, "x^(2^64 - 1)", x.exp_u64(u64::MAX), great);
+    holds(
+        &rt,
+        "characteristic",
+        BabyBear4::CHARACTERISTIC == 2_013_265_921,
+    );
+}
+
+#[test]
+fn inverses(rt: HostRuntime) {
+    let inverse = quartic(201_326_592, 1_811_939_329, 201_326_592, 1_811_939_329);
+    zero_has_no_inverse(&rt, BabyBear4::ZERO);
+    zero_has_no_inverse(&rt, quartic(0, 0, 0, 0));
+    inverts(&rt, "x", quartic(0, 1, 0, 0), quartic(0, 0, 0, 549_072_524));
+    inverts(&rt, "1 + x", quartic(1, 1, 0, 0), inverse);
+}
+
+#[test]
+fn numbers_are_embedded(rt: HostRuntime) {
+    let (five, minus_one) = (quartic(5, 0, 0, 0), quartic(2_013_265_920, 0, 0, 0));
+    is(&rt, "embedded 5", BabyBear4::embed(BabyBear::new(5)), five);
+    is(
+        &rt,
+        "5 past the modulus",
+        BabyBear4::from_u32(2_013_265_926),
+        five,
+    );
+    is(&rt, "-1", BabyBear4::from_i32(-1), minus_one);
+    is(&rt, "true", BabyBear4::from_bool(true), quartic(1, 0, 0, 0));
+    is(
+        &rt,
+        "false",
+        BabyBear4::from_bool(false),
+        quartic(0, 0, 0, 0),
+    );
+}
+
+fn affine<F: Field, EF: ExtensionField<F>>(x: EF, a: F, b: F) -> EF {
+    x * EF::embed(a) + EF::embed(b)
+}
+
+#[test]
+fn generic_code_runs_over_both(rt: HostRuntime) {
+    let (two, three) = (BabyBear::new(2), BabyBear::new(3));
+    let mixed = affine(quartic(1, 5, 0, 0), two, three);
+    is(&rt, "an extension", mixed, quartic(5, 10, 0, 0));
+    let alone: BabyBear = affine(two, two, three);
+    is(&rt, "a field over itself", alone, BabyBear::new(7));
+    let x = quartic(0, 1, 0, 0);
+    let wide: BabyBear4 = affine(x, x, quartic(2, 0, 0, 0));
+    is(&rt, "an extension over itself", wide, quartic(2, 0, 1, 0));
+}

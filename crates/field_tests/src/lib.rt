@@ -1,0 +1,25 @@
+//! The tests of `field` and `matrix`: values calculated by hand, texts, and JSON.
+//!
+//! They have a crate of their own, so that the crates that they test are proved once and not twice.
+#![tactic(auto)]
+
+#[cfg(test)]
+mod baby_bear;
+#[cfg(test)]
+mod baby_bear4;
+#[cfg(test)]
+mod batch_inverse;
+#[cfg(test)]
+mod cases;
+#[cfg(test)]
+mod integers_modulo_2;
+#[cfg(test)]
+mod integers_modulo_7;
+#[cfg(test)]
+mod inverter;
+#[cfg(test)]
+mod json;
+#[cfg(test)]
+mod linear;
+#[cfg(test)]
+mod matrices;
