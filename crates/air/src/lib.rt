@@ -9,6 +9,6 @@ pub use expressions::{
     Air, AirBuilder, AirError, AirLayout, BaseAir, BaseEntry, BaseLeaf, Expression, ExtEntry,
     ExtLeaf, ExtensionBuilder, FilteredAirBuilder, LayoutPart, PermutationAirBuilder, Seen,
     SeenExt, SymbolicExpression, SymbolicExpressionExt, SymbolicVariable, SymbolicVariableExt,
-    resolve_over,
+    copy_expressions, resolve_over,
 };
 pub use recording::{ConstraintLayout, SymbolicAirBuilder};

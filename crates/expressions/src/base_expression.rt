@@ -1,5 +1,6 @@
 //! Base expressions.
-ghost use Rattle.std.specs.Prelude.{◌≡◌, ℕ, ◌+◌, max, IfOk};
+ghost use Rattle.std.specs.Prelude.{◌≡◌, ℕ, ◌+◌, max, IfOk, map};
+ghost use Rattle.expressions.specs.Tree.{tree_of};
 ghost use Rattle.field.specs.Ring.{sub_in};
 
 use crate::expression::Expression;
@@ -142,6 +143,22 @@ impl<F: Field> Expression<F> for SymbolicExpression<F> {
             }
         }
     }
+}
+
+/// Deep copies of expressions, in order.
+///
+/// Fails only when out of memory.
+pub fn copy_expressions<F: Field>(
+    alloc: Global,
+    expressions: &[SymbolicExpression<F>],
+) -> Result<Vec<SymbolicExpression<F>>, AllocError>
+    ensures { IfOk result (λ v. map tree_of v.items ≡ map tree_of expressions.now) }
+{
+    let mut copies = Vec::with_capacity(alloc, expressions.len())?;
+    for expression in expressions {
+        copies.push(expression.copy(alloc)?)?;
+    }
+    Ok(copies)
 }
 
 impl<F> Described for SymbolicExpression<F> {}

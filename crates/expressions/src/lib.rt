@@ -19,7 +19,7 @@ mod resolve;
 mod variable;
 
 pub use air::{Air, BaseAir};
-pub use base_expression::{BaseLeaf, Seen, SymbolicExpression};
+pub use base_expression::{BaseLeaf, Seen, SymbolicExpression, copy_expressions};
 pub use builder::AirBuilder;
 pub use error::{AirError, LayoutPart};
 pub use expression::Expression;

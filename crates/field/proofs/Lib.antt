@@ -1,5 +1,6 @@
 pub mod DotProduct
 pub mod Exponents
+pub mod Items
 pub mod Montgomery
 pub mod PrefixProducts
 pub mod QuarticProduct

@@ -4,7 +4,7 @@ ghost use Rattle.expressions.specs.Tree.{tree_of};
 ghost use Rattle.lookup_model.specs.Outline.{bus_of, outline_of};
 
 use crate::types::{Kind, Lookup};
-use expressions::{Expression, SymbolicExpression};
+use expressions::{SymbolicExpression, copy_expressions};
 use field::Field;
 use std::alloc::{AllocError, Global};
 
@@ -67,18 +67,4 @@ fn copy_flags<F: Field>(
         Some(flags) => Ok(Some(copy_expressions(alloc, flags.as_slice())?)),
         None => Ok(None),
     }
-}
-
-/// The same expressions again.
-fn copy_expressions<F: Field>(
-    alloc: Global,
-    expressions: &[SymbolicExpression<F>],
-) -> Result<Vec<SymbolicExpression<F>>, AllocError>
-    ensures { IfOk result (λ v. map tree_of v.items ≡ map tree_of expressions.now) }
-{
-    let mut copies = Vec::new(alloc);
-    for expression in expressions {
-        copies.push(expression.copy(alloc)?)?;
-    }
-    Ok(copies)
 }

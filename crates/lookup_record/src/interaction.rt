@@ -6,7 +6,7 @@ ghost use Rattle.lookup_record.specs.Pushed.{tuple_of};
 ghost use Rattle.lookup_record.specs.Records.{branch_of, exclusive_of, global_of, local_of};
 
 use crate::count::Count;
-use air::{Expression, SymbolicExpression};
+use air::{Expression, SymbolicExpression, copy_expressions};
 use field::Field;
 use std::alloc::{AllocError, Global};
 
@@ -127,18 +127,4 @@ fn copy_tuple<F: Field>(alloc: Global, tuple: &LocalTuple<F>) -> Result<LocalTup
     let fields = copy_expressions(alloc, tuple.0.as_slice())?;
     let count = tuple.1.copy_tree(alloc)?;
     Ok((fields, count))
-}
-
-/// The same expressions again.
-pub(crate) fn copy_expressions<F: Field>(
-    alloc: Global,
-    expressions: &[SymbolicExpression<F>],
-) -> Result<Vec<SymbolicExpression<F>>, AllocError>
-    ensures { IfOk result (λ v. map tree_of v.items ≡ map tree_of expressions.now) }
-{
-    let mut copies = Vec::new(alloc);
-    for expression in expressions {
-        copies.push(expression.copy(alloc)?)?;
-    }
-    Ok(copies)
 }

@@ -13,12 +13,12 @@ use crate::count::Count;
 use crate::indexed::{IndexedRead, IndexedTable, TraceWindow};
 use crate::interaction::{
     LocalTuple, SymbolicExclusiveBranch, SymbolicExclusiveInteraction, SymbolicInteraction,
-    SymbolicLocalInteraction, copy_expressions,
+    SymbolicLocalInteraction,
 };
 use air::{
     Air, AirBuilder, AirError, AirLayout, ConstraintLayout, Expression, ExtensionBuilder,
     PermutationAirBuilder, SymbolicAirBuilder, SymbolicExpression, SymbolicExpressionExt,
-    SymbolicVariable, SymbolicVariableExt,
+    SymbolicVariable, SymbolicVariableExt, copy_expressions,
 };
 use field::{ExtensionField, Field};
 use matrix::RowMajorMatrix;

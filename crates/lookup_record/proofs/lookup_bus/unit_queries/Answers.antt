@@ -1,7 +1,7 @@
 use Rattle.std.proofs.lemmas.List.Elements.{All-map, All-push}
 use Rattle.std.proofs.lemmas.Simd.{map-map}
 use Rattle.std.specs.Vec.Iter.{into_iter_items}
-use Rattle.lookup_record.proofs.Items.{moved_over}
+use Rattle.field.proofs.Items.{moved_over}
 use Rattle.lookup_record.specs.Messages.{IsUnitQuery, flag_and_fields, flag_and_key}
 use Rattle.lookup_record.specs.Pushed.{pushed_branch}
 use Rattle.lookup_record.proofs.lookup_bus.unit_queries.Goals as goal

@@ -1,7 +1,7 @@
 use Rattle.std.proofs.Common.{◌∙◌, ap, arith, map}
 use Rattle.std.proofs.lemmas.List.{take_all}
 use Rattle.expressions.specs.ExtTree.{ext_tree_of}
-use Rattle.lookup_record.proofs.Items.{copied_more}
+use Rattle.field.proofs.Items.{copied_more}
 use Rattle.lookup_record.proofs.symbolic.InteractionSymbolicBuilder.extension_constraints.Goals as goal
 
 pub loop-constraint-preserved : goal.loop-constraint-preserved

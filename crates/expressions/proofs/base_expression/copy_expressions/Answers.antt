@@ -1,6 +1,6 @@
 use Rattle.expressions.specs.Tree.{tree_of}
-use Rattle.lookup_record.proofs.Items.{copied_more}
-use Rattle.lookup_record.proofs.interaction.copy_expressions.Goals as goal
+use Rattle.field.proofs.Items.{copied_more}
+use Rattle.expressions.proofs.base_expression.copy_expressions.Goals as goal
 
 pub loop-expression-preserved : goal.loop-expression-preserved
 loop-expression-preserved g c = rw c.in_ok-push.ensures.items
