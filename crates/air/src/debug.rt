@@ -1,4 +1,4 @@
-//! Rows of given traces, checked against constraints.
+//! Checking constraints on the rows of given traces.
 
 mod builder;
 mod check;

@@ -1,4 +1,5 @@
-//! The builders that record constraints or check them on given rows, and all of `expressions`.
+//! The builders that record constraints or check them on given rows. Re-exports all of
+//! `expressions`.
 #![tactic(auto)]
 
 mod debug;

@@ -1,4 +1,4 @@
-//! Constraints, recorded over all windows of a layout.
+//! Recording constraints, over all windows of a layout.
 
 mod builder;
 mod place;

@@ -6,7 +6,7 @@ use crate::builder::AirBuilder;
 use crate::error::AirError;
 use std::alloc::Global;
 
-/// The widths and numbers that an AIR is made for.
+/// The widths and numbers of an AIR.
 pub trait BaseAir<F> {
     ghost width: { Self → ℕ };
 
@@ -14,27 +14,27 @@ pub trait BaseAir<F> {
 
     ghost num_public_values: { Self → ℕ };
 
-    /// The columns of the main trace.
+    /// The number of columns of the main trace.
     fn width(&self) -> usize
         ensures { result ≡ width self.now };
 
-    /// The columns of the preprocessed trace.
+    /// The number of columns of the preprocessed trace.
     fn preprocessed_width(&self) -> usize
         ensures { result ≡ preprocessed_width self.now };
 
-    /// The public values.
+    /// The number of public values.
     fn num_public_values(&self) -> usize
         ensures { result ≡ num_public_values self.now };
 }
 
-/// An AIR that can hand its constraints to the builder `AB`.
+/// An AIR that can assert its constraints on the builder `AB`.
 ///
-/// An implementation names, as `evaluates`, how the builder before, the answer and the builder
-/// after belong together: by it "what the evaluation left" and "its refusal" are meant.
+/// An implementation defines `evaluates`, which relates the builder before, the answer and the
+/// builder after. This says what "what the evaluation left" and "its refusal" mean.
 pub trait Air<AB: AirBuilder>: BaseAir<AB::F> {
     ghost evaluates: { Self → AB → Result (Unit {0}) AirError → AB → Type 0 };
 
-    /// Asserts the constraints on the builder; the first refusal is answered.
+    /// Asserts the constraints on the builder, and returns the first refusal.
     fn eval(&self, alloc: Global, builder: &mut AB) -> Result<(), AirError>
         ensures { evaluates self.now builder.old result builder.new };
 }

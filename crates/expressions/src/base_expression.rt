@@ -15,11 +15,11 @@ use std::marker::{Model, PhantomData};
 pub enum BaseLeaf<F> {
     /// A cell of the window or a public value.
     Variable(SymbolicVariable<F>),
-    /// One on the first row, else zero.
+    /// One on the first row, zero elsewhere.
     IsFirstRow,
-    /// One on the last row, else zero.
+    /// One on the last row, zero elsewhere.
     IsLastRow,
-    /// One on every row but the last, else zero.
+    /// One on every row but the last, zero there.
     IsTransition,
     /// An element.
     Constant(F),
@@ -40,7 +40,7 @@ pub enum SymbolicExpression<F> {
     Neg(Box<SymbolicExpression<F>>),
 }
 
-/// What base expressions are looked at with: to a contract it is a window. No code makes one.
+/// What a base expression is evaluated at; contracts see a window. Never constructed.
 pub struct Seen<F>(PhantomData<F>);
 
 impl<F> Model for Seen<F> {
@@ -163,7 +163,8 @@ pub fn copy_expressions<F: Field>(
 
 impl<F> Described for SymbolicExpression<F> {}
 
-/// A node is sent as a map of one member, named for it: its leaf, its operand, or the list of both.
+/// A node is written as a map with one member, named for the node. It holds the leaf, the operand,
+/// or the list of both operands.
 impl<F: Serialize> Serialize for SymbolicExpression<F> {
     fn serialize<S: Serializer>(&self, out: &mut S) -> Result<(), S::Error> {
         match self {
@@ -199,19 +200,19 @@ impl<F: Serialize> Serialize for SymbolicExpression<F> {
     }
 }
 
-/// The start of a node, before what it holds.
+/// Begins a node, before its contents.
 fn begin_node<S: Serializer>(name: &str, out: &mut S) -> Result<(), S::Error> {
     out.begin_map(Some(1))?;
     out.variant_key(name, Case::AsIs)
 }
 
-/// The start of a node with two operands.
+/// Begins a node with two operands.
 fn begin_pair<S: Serializer>(name: &str, out: &mut S) -> Result<(), S::Error> {
     begin_node(name, out)?;
     out.begin_seq(Some(2))
 }
 
-/// The end of a node with two operands.
+/// Ends a node with two operands.
 fn end_pair<S: Serializer>(out: &mut S) -> Result<(), S::Error> {
     out.end_seq()?;
     out.end_map()

@@ -1,4 +1,4 @@
-//! Builders: what constraints are handed to.
+//! Builders: what AIRs assert their constraints on.
 ghost use Rattle.std.specs.Prelude.{◌≡◌, ℕ, ◌≤◌, ◌↔◌, IfOk, IfErr, MatchResult, Some, slice_get};
 ghost use Rattle.field.specs.Ring.{of_bool};
 ghost use Rattle.expressions.specs.Builder.{MeansRow, AcceptsAll, RefusesOne};
@@ -13,11 +13,11 @@ use field::Field;
 use matrix::WindowAccess;
 use std::alloc::Global;
 
-/// A builder hands out the variables of a window and takes assertions over them.
+/// A builder provides the variables of a window and takes assertions over them.
 ///
-/// It stands for one window, where it checks a row, or for all windows of its layout, where it
-/// records constraints. Its variables, selectors and public values mean the cells of each window
-/// that it stands for. An assertion is accepted or refused; what an accepted one leaves stands for
+/// It stands for one window if it checks a row, or for all windows of its layout if it records
+/// constraints. Its variables, selectors and public values mean the cells of each window that it
+/// stands for. An assertion is accepted or refused; after an accepted one the builder stands for
 /// the same windows.
 pub trait AirBuilder: Sized {
     /// The field of the traces.
@@ -63,7 +63,7 @@ pub trait AirBuilder: Sized {
             (layout self.now).main_width (λ w. w.main_next) (Self.MainWindow.next m)) }
         ensures refused { IfErr result (window_refuses self.now) };
 
-    /// The current row and the next one of the preprocessed trace, of width 0 where there is none.
+    /// The current row and the next one of the preprocessed trace, of width 0 if there is none.
     fn preprocessed(&self) -> &Self::PreprocessedWindow
         ensures readable { Self.PreprocessedWindow.readable result.now }
         ensures current { MeansRow (stands_for self.now) variable
@@ -100,7 +100,7 @@ pub trait AirBuilder: Sized {
     fn assert_zero(&mut self, alloc: Global, x: Self::Expr) -> Result<(), AirError>
         ensures { MatchResult result (λ _. accepts self.old x self.new) (λ e. refuses self.old x e self.new) };
 
-    /// Asserts that each of `xs` is zero, in order; the first refusal is answered.
+    /// Asserts that each of `xs` is zero, in order, and returns the first refusal.
     final fn assert_zeros(&mut self, alloc: Global, xs: Vec<Self::Expr>) -> Result<(), AirError>
         ensures { MatchResult result (λ _. AcceptsAll accepts self.old xs.items self.new)
             (λ e. RefusesOne accepts refuses self.old xs.items e self.new) }
@@ -111,7 +111,7 @@ pub trait AirBuilder: Sized {
         Ok(())
     }
 
-    /// A builder whose assertions are made on the first row alone.
+    /// A builder that asserts on the first row only.
     fn when_first_row(&mut self) -> FilteredAirBuilder<'_, Self>
         ensures same_reference { result.inner.ghost_name ≡ self.entry.ghost_name }
         ensures unchanged { result.inner.now ≡ self.old }
@@ -126,7 +126,7 @@ pub trait AirBuilder: Sized {
         }
     }
 
-    /// A builder whose assertions are made on the last row alone.
+    /// A builder that asserts on the last row only.
     fn when_last_row(&mut self) -> FilteredAirBuilder<'_, Self>
         ensures same_reference { result.inner.ghost_name ≡ self.entry.ghost_name }
         ensures unchanged { result.inner.now ≡ self.old }
@@ -141,7 +141,7 @@ pub trait AirBuilder: Sized {
         }
     }
 
-    /// A builder whose assertions are made on every row but the last.
+    /// A builder that asserts on every row but the last.
     fn when_transition(&mut self) -> FilteredAirBuilder<'_, Self>
         ensures same_reference { result.inner.ghost_name ≡ self.entry.ghost_name }
         ensures unchanged { result.inner.now ≡ self.old }

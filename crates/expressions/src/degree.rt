@@ -8,7 +8,7 @@ use crate::error::AirError;
 use crate::variable::BaseEntry;
 
 impl<F> SymbolicExpression<F> {
-    /// The degree, where the transition selector counts nothing.
+    /// The degree, if the transition selector has degree 0.
     pub fn degree_multiple(&self) -> Result<usize, AirError>
         ensures { MatchResult result (λ d. d ≡ degree_of 0 (tree_of self.now))
             (λ e. (e ≡ AirError.DegreeOverflow) × (2 ^ 64 ≤ degree_of 0 (tree_of self.now))) }
@@ -16,7 +16,7 @@ impl<F> SymbolicExpression<F> {
         self.degree_multiple_with_transition(0)
     }
 
-    /// The degree, where the transition selector has degree `transition`.
+    /// The degree, if the transition selector has degree `transition`.
     pub fn degree_multiple_with_transition(&self, transition: usize) -> Result<usize, AirError>
         ensures { MatchResult result (λ d. d ≡ degree_of transition (tree_of self.now))
             (λ e. (e ≡ AirError.DegreeOverflow) × (2 ^ 64 ≤ degree_of transition (tree_of self.now))) }
@@ -38,7 +38,7 @@ impl<F> SymbolicExpression<F> {
     }
 }
 
-/// The sum of two degrees, where it fits.
+/// The sum of two degrees, if it fits.
 pub(crate) fn sum_of_degrees(left: usize, right: usize) -> Result<usize, AirError>
     ensures { MatchResult result (λ d. d ≡ left + right)
         (λ e. (e ≡ AirError.DegreeOverflow) × (2 ^ 64 ≤ left + right)) }

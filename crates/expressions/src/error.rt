@@ -25,10 +25,10 @@ impl fmt::Display for LayoutPart {
     }
 }
 
-/// Why a call of this layer was refused.
+/// Why a call of this layer failed.
 #[derive(Clone, Copy, Debug, PartialEq, Eq, Error)]
 pub enum AirError {
-    /// A growth was refused.
+    /// Out of memory.
     #[error("out of memory")]
     Memory,
     /// An assertion does not hold on a row.
@@ -40,11 +40,11 @@ pub enum AirError {
     /// A layout disagrees with an AIR.
     #[error("{part}: layout says {actual}, the AIR has {expected}")]
     LayoutMismatch {
-        /// What they disagree on.
+        /// The part that differs.
         part: LayoutPart,
-        /// What the AIR has.
+        /// The AIR's number.
         expected: usize,
-        /// What the layout says.
+        /// The layout's number.
         actual: usize,
     },
     /// A degree is above `usize::MAX`.

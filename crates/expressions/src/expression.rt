@@ -1,4 +1,4 @@
-//! What fields and expression trees have in common: they can be built up from constants.
+//! What field elements and expression trees have in common: both are built up from constants.
 ghost use Rattle.std.specs.Prelude.{◌≡◌, ℕ, ◌+◌, max, IfOk, refl};
 ghost use Rattle.field.specs.Ring.{Ring, sub_in};
 
@@ -8,11 +8,11 @@ use std::alloc::{AllocError, Global};
 /// A value that constraints are built from: an element of the field `F`, or an expression tree
 /// with constants in `F`.
 ///
-/// A contract sees of it the value at each `Seen`, which is the window for a tree, and nothing for
-/// an element, and the degree where the transition selector has degree `t`. It also knows copies
-/// (`same`) and products (`is_product`) by their nodes.
+/// Contracts see two things of it: its value at each `Seen`, which is the window for a tree and
+/// nothing for an element, and its degree if the transition selector has degree `t`. They also know
+/// copies (`same`) and products (`is_product`) by their nodes.
 pub trait Expression<F: Field>: Drop {
-    /// What values of the type are looked at with.
+    /// What values of the type are evaluated at.
     type Seen;
 
     ghost value: { Self → Self.Seen → F };
@@ -49,14 +49,14 @@ pub trait Expression<F: Field>: Drop {
         ensures means { IfOk result (λ r. (w : Self.Seen) → value r w ≡ F.ring.neg (value self w)) }
         ensures degree { IfOk result (λ r. (t : ℕ) → degree r t ≡ degree self t) };
 
-    /// The same expression again.
+    /// A deep copy.
     fn copy(&self, alloc: Global) -> Result<Self, AllocError>
         ensures means { IfOk result (λ r. (w : Self.Seen) → value r w ≡ value self.now w) }
         ensures degree { IfOk result (λ r. (t : ℕ) → degree r t ≡ degree self.now t) }
         ensures same { IfOk result (λ r. same self.now r) };
 }
 
-/// Elements of a field are their own values, of degree 0; no call is refused.
+/// Elements of a field are their own values and have degree 0. No call fails.
 impl<F: Field> Expression<F> for F {
     type Seen = ();
 

@@ -9,7 +9,7 @@ use crate::ext_expression::{ExtLeaf, SymbolicExpressionExt};
 use crate::variable::ExtEntry;
 
 impl<F, EF> SymbolicExpressionExt<F, EF> {
-    /// The degree, where the transition selector counts nothing.
+    /// The degree, if the transition selector has degree 0.
     pub fn degree_multiple(&self) -> Result<usize, AirError>
         ensures { MatchResult result (λ d. d ≡ ext_degree_of 0 (ext_tree_of self.now))
             (λ e. (e ≡ AirError.DegreeOverflow) × (2 ^ 64 ≤ ext_degree_of 0 (ext_tree_of self.now))) }
@@ -17,7 +17,7 @@ impl<F, EF> SymbolicExpressionExt<F, EF> {
         self.degree_multiple_with_transition(0)
     }
 
-    /// The degree, where the transition selector has degree `transition`.
+    /// The degree, if the transition selector has degree `transition`.
     pub fn degree_multiple_with_transition(&self, transition: usize) -> Result<usize, AirError>
         ensures { MatchResult result (λ d. d ≡ ext_degree_of transition (ext_tree_of self.now))
             (λ e. (e ≡ AirError.DegreeOverflow) × (2 ^ 64 ≤ ext_degree_of transition (ext_tree_of self.now))) }

@@ -22,7 +22,7 @@ pub enum ExtLeaf<F, EF> {
 impl<F: Field, EF: ExtensionField<F>> ExtLeaf<F, EF> {
     ghost use Rattle.expressions.specs.ExtTree.{ext_leaf_tree};
 
-    /// The same leaf again.
+    /// A deep copy.
     pub fn copy(&self, alloc: Global) -> Result<Self, AllocError>
         ensures { IfOk result (λ r. ext_leaf_tree r ≡ ext_leaf_tree self.now) }
     {
@@ -49,8 +49,8 @@ pub enum SymbolicExpressionExt<F, EF> {
     Neg(Box<SymbolicExpressionExt<F, EF>>),
 }
 
-/// What extension expressions are looked at with: to a contract it is a window of a permutation
-/// argument. No code makes one.
+/// What an extension expression is evaluated at; contracts see a window of a permutation argument.
+/// Never constructed.
 pub struct SeenExt<F, EF>(PhantomData<(F, EF)>);
 
 impl<F, EF> Model for SeenExt<F, EF> {

@@ -13,8 +13,8 @@ use std::alloc::Global;
 
 /// A builder that also takes assertions over an extension of its field.
 ///
-/// It stands for windows with the rows of a permutation trace, challenges and permutation values,
-/// over the base windows that it stands for.
+/// The windows that it stands for are its base windows, extended with the rows of a permutation
+/// trace, challenges and permutation values.
 pub trait ExtensionBuilder: AirBuilder {
     /// The extension.
     type EF: ExtensionField<Self::F>;
@@ -66,7 +66,7 @@ pub trait ExtensionBuilder: AirBuilder {
         → accepts_ext b x c → Self.stands_for b w ↔ Self.stands_for c w };
 }
 
-/// A builder that also hands out the permutation trace of an argument, its challenges and its
+/// A builder that also provides the permutation trace of an argument, its challenges and its
 /// values.
 pub trait PermutationAirBuilder: ExtensionBuilder {
     /// The rows of the permutation trace.

@@ -9,7 +9,7 @@ use crate::expression::Expression;
 use crate::extension::ExtensionBuilder;
 use std::alloc::Global;
 
-/// A builder that asserts, on the builder it borrows, its condition times each expression.
+/// A builder that asserts, on the builder that it borrows, its condition times each expression.
 pub struct FilteredAirBuilder<'a, AB: AirBuilder> {
     /// The builder that the assertions are made on.
     pub inner: &'a mut AB,

@@ -9,24 +9,24 @@ use matrix::RowMajorMatrix;
 /// The widths and numbers of everything that an AIR's constraints can read.
 #[derive(Clone, Copy, Debug, Default, PartialEq, Eq)]
 pub struct AirLayout {
-    /// The columns of the preprocessed trace.
+    /// The number of columns of the preprocessed trace.
     pub preprocessed_width: usize,
-    /// The columns of the main trace.
+    /// The number of columns of the main trace.
     pub main_width: usize,
-    /// The public values.
+    /// The number of public values.
     pub num_public_values: usize,
-    /// The columns of the permutation trace.
+    /// The number of columns of the permutation trace.
     pub permutation_width: usize,
-    /// The challenges.
+    /// The number of challenges.
     pub num_permutation_challenges: usize,
-    /// The values of the permutation argument, as its terminals.
+    /// The number of values of the permutation argument, such as its terminals.
     pub num_permutation_values: usize,
 }
 
 impl AirLayout {
     ghost use Rattle.expressions.specs.Layout.{first_mismatch, layout_of_traces, layout_of_widths};
 
-    /// The layout of an AIR's traces, with nothing of a permutation argument.
+    /// The layout of an AIR's traces, without a permutation argument.
     pub fn from_air<F, A: BaseAir<F>>(air: &A) -> Self
         ensures { result ≡ layout_of_widths (A.width air.now) (A.preprocessed_width air.now) (A.num_public_values air.now) }
     {
@@ -40,8 +40,8 @@ impl AirLayout {
         }
     }
 
-    /// Whether the layout has the AIR's main width, preprocessed width and number of public
-    /// values; the first of them that differs is answered, with the AIR's number as expected.
+    /// Whether the layout has the AIR's main width, preprocessed width and number of public values.
+    /// Returns the first of them that differs, with the AIR's number as the expected one.
     pub fn validate_against_air<F, A: BaseAir<F>>(&self, air: &A) -> Result<(), AirError>
         ensures { MatchResult result
             (λ _. first_mismatch (A.width air.now) (A.preprocessed_width air.now) (A.num_public_values air.now) self.now ≡ None)
@@ -60,7 +60,7 @@ impl AirLayout {
         )
     }
 
-    /// The layout of these traces, with nothing of a permutation argument.
+    /// The layout of these traces, without a permutation argument.
     pub fn of_traces<'a, T>(
         main: &'a RowMajorMatrix<T>,
         preprocessed: Option<&'a RowMajorMatrix<T>>,

@@ -1,5 +1,5 @@
 //! What constraints are written with: expressions over the cells of a window, and the traits of the
-//! builders that they are handed to.
+//! builders that take them.
 #![tactic(auto)]
 
 mod air;

@@ -1,8 +1,8 @@
 //! Reading base expressions from a format, as JSON.
 //!
-//! A variant with data is a map of one member, named for it; one without data is its name; a
-//! variable is a map of its members. Missing and doubled members are refused, as are names that
-//! stand for no variant; members of other names are passed over.
+//! A variant with data is a map with one member, named for it. A variant without data is its name.
+//! A variable is a map of its members. Missing and duplicate members are refused, as are names that
+//! stand for no variant; members with other names are ignored.
 ghost use Rattle.std.specs.Prelude.{◌≤◌, IfOk};
 ghost use Rattle.expressions.specs.Depth.{depth_of};
 ghost use Rattle.expressions.specs.Tree.{tree_of};
@@ -12,10 +12,10 @@ use crate::variable::{BaseEntry, SymbolicVariable};
 use serde::{Deserialize, DeserializeOwned, Deserializer, Format, Kind, Name};
 use std::alloc::Global;
 
-/// How deep an expression that is read may nest: a leaf at depth 1.
+/// How deep an expression that is read may nest; a leaf has depth 1.
 const DEPTH: u32 = 128;
 
-/// The end of the map in which a variant's data stands.
+/// Reads the end of the map that holds a variant's data.
 fn end_variant<R: Format>(from: &mut Deserializer<'_, '_, R>) -> Result<(), R::Error> {
     match from.next_key(&[])? {
         Some(_) => Err(from.invalid()),
@@ -23,7 +23,7 @@ fn end_variant<R: Format>(from: &mut Deserializer<'_, '_, R>) -> Result<(), R::E
     }
 }
 
-/// The one member of an entry with data.
+/// Reads the one member of an entry with data.
 fn read_offset<R: Format>(
     alloc: Global,
     from: &mut Deserializer<'_, '_, R>,
@@ -126,7 +126,7 @@ impl<F: DeserializeOwned> DeserializeOwned for BaseLeaf<F> {
     }
 }
 
-/// An expression that nests at most `depth` deep.
+/// Reads an expression that nests at most `depth` deep.
 #[cycle(reader)]
 fn read_expression<F: DeserializeOwned, R: Format>(
     alloc: Global,
@@ -168,7 +168,7 @@ fn read_expression<F: DeserializeOwned, R: Format>(
     Ok(expression)
 }
 
-/// The same in a box.
+/// As `read_expression`, in a box.
 #[cycle(reader)]
 fn read_boxed<F: DeserializeOwned, R: Format>(
     alloc: Global,
@@ -184,7 +184,7 @@ fn read_boxed<F: DeserializeOwned, R: Format>(
     }
 }
 
-/// The list of two operands.
+/// Reads the list of two operands.
 #[cycle(reader)]
 fn read_two<F: DeserializeOwned, R: Format>(
     alloc: Global,
@@ -203,8 +203,9 @@ fn read_two<F: DeserializeOwned, R: Format>(
     Ok((left, right))
 }
 
-/// An expression nests at most 128 deep, a leaf at depth 1; what nests deeper is refused. The limit
-/// of a format's own on nesting holds as well: the 127 maps and lists of `serde_json` come first.
+/// An expression nests at most 128 deep, where a leaf has depth 1; deeper ones are refused. A
+/// format's own limit on nesting also holds: that of `serde_json`, 127 maps and lists, is reached
+/// first.
 impl<F: DeserializeOwned> DeserializeOwned for SymbolicExpression<F> {
     fn deserialize_owned<R: Format>(
         alloc: Global,
@@ -216,7 +217,7 @@ impl<F: DeserializeOwned> DeserializeOwned for SymbolicExpression<F> {
     }
 }
 
-/// As `DeserializeOwned` reads.
+/// Reads as `DeserializeOwned` does.
 impl<'de, F: DeserializeOwned> Deserialize<'de> for SymbolicExpression<F> {
     fn deserialize<R: Format>(
         alloc: Global,

@@ -18,8 +18,7 @@ use std::alloc::{AllocError, Global};
 impl<F> SymbolicExpression<F> {
     /// The expression over the builder's own variables and selectors.
     ///
-    /// It refuses by what the builder answers where it can't hand out its window, and for want of
-    /// memory.
+    /// Fails with the builder's own refusal if it can't provide its window, or when out of memory.
     pub fn resolve<AB: AirBuilder<F = F>>(
         &self,
         alloc: Global,
@@ -36,8 +35,8 @@ impl<F> SymbolicExpression<F> {
     }
 }
 
-/// The expression over the builder's variables and selectors, where `main` is the window that the
-/// builder has handed out.
+/// The expression over the builder's variables and selectors, where `main` is the builder's main
+/// window.
 pub fn resolve_over<AB: AirBuilder>(
     alloc: Global,
     expression: &SymbolicExpression<AB::F>,

@@ -26,7 +26,7 @@ pub enum BaseEntry {
 pub struct SymbolicVariable<F> {
     /// Where it is read.
     pub entry: BaseEntry,
-    /// The column, or the place among the public values.
+    /// The column, or the index among the public values.
     pub index: usize,
     #[serde(skip)]
     field: PhantomData<F>,
@@ -65,7 +65,7 @@ pub enum ExtEntry {
 pub struct SymbolicVariableExt<F, EF> {
     /// Where it is read.
     pub entry: ExtEntry,
-    /// The column, or the place among the challenges or the values.
+    /// The column, or the index among the challenges or the values.
     pub index: usize,
     fields: PhantomData<(F, EF)>,
 }

@@ -32,7 +32,7 @@ const MODULUS_TIMES_RADIX: u64 = 8_646_911_288_846_319_616;
 
 /// An integer modulo 2013265921 = 15 * 2^27 + 1.
 ///
-/// It is stored times 2^32, so that a product needs no division.
+/// It is stored multiplied by 2^32, so that a product needs no division.
 #[derive(Clone, Copy, PartialEq, Eq, Hash)]
 pub struct BabyBear {
     value: u32,
@@ -61,7 +61,7 @@ impl Model for BabyBear {
     ghost inverse_ok = { λ a h i. record { value = stored_again a.value h i } };
 }
 
-/// The quotient of `x` by 2^32 modulo the modulus, by Montgomery's reduction.
+/// `x / 2^32` modulo the modulus, by Montgomery reduction.
 #[inline]
 fn reduce(x: u64) -> u32
     requires { x < 8646911288846319616 }
@@ -79,7 +79,7 @@ fn reduce(x: u64) -> u32
     }
 }
 
-/// The same of a number up to twice as large.
+/// As `reduce`, for a number up to twice as large.
 #[inline]
 fn reduce_wide(x: u64) -> u32
     requires { x < 17293822577692639232 }
@@ -93,7 +93,7 @@ fn reduce_wide(x: u64) -> u32
     }
 }
 
-/// `x` less the modulus where it reaches it.
+/// `x`, minus the modulus unless `x` is below it.
 #[inline]
 fn reduce_once(x: u32) -> u32
     requires { x < 4026531842 }
@@ -128,7 +128,7 @@ impl BabyBear {
         self.value
     }
 
-    /// The whole number below the modulus.
+    /// The element's whole number below the modulus.
     pub(crate) fn number(self) -> u32
         ensures value { result ≡ self.value }
         ensures below { result < 2013265921 }
@@ -136,7 +136,7 @@ impl BabyBear {
         reduce(self.stored() as u64)
     }
 
-    /// The product of the stored numbers, not reduced.
+    /// The unreduced product of the stored numbers.
     #[inline]
     fn stored_product(self, rhs: BabyBear) -> u64
         ensures below { result ≤ 4053239664633446400 }
@@ -300,14 +300,14 @@ impl Described for BabyBear {
     ghost writes = { λ x old new. Sends (unsigned x.value) old new };
 }
 
-/// An element is sent as the one unsigned number below the modulus that it is.
+/// An element is written as its own number, unsigned and below the modulus.
 impl Serialize for BabyBear {
     fn serialize<S: Serializer>(&self, out: &mut S) -> Result<(), S::Error> {
         self.number().serialize(out)
     }
 }
 
-/// Any other number is refused, and so is anything else.
+/// Refuses anything but a whole number below the modulus.
 impl DeserializeOwned for BabyBear {
     fn deserialize_owned<R: Format>(
         alloc: Global,
@@ -320,7 +320,7 @@ impl DeserializeOwned for BabyBear {
     }
 }
 
-/// Any other number is refused, and so is anything else.
+/// Refuses anything but a whole number below the modulus.
 impl<'de> Deserialize<'de> for BabyBear {
     fn deserialize<R: Format>(
         alloc: Global,

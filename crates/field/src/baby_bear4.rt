@@ -40,7 +40,7 @@ impl Model for BabyBear4 {
 }
 
 impl BabyBear4 {
-    /// The polynomial of four coefficients, lowest power first.
+    /// The polynomial with these four coefficients, lowest power first.
     pub fn new(coefficients: [BabyBear; 4]) -> Self
         ensures { coefficients_of result ≡ coefficients }
     {
@@ -55,8 +55,8 @@ impl BabyBear4 {
         [self.c0, self.c1, self.c2, self.c3]
     }
 
-    /// With `Y = X^2` the polynomial is `a + b X` for `a` and `b` of degree at most 1 in `Y`: the
-    /// two coefficients of `a^2 - Y b^2`.
+    /// With `Y = X^2` the polynomial is `a + b X`, where `a` and `b` have degree at most 1 in `Y`.
+    /// Returns the two coefficients of `a^2 - Y b^2`.
     #[inline]
     fn norm_parts(self) -> (BabyBear, BabyBear)
         ensures low { result.0 ≡ norm_low baby_bear_ring (baby_bear_of 11) self }
@@ -79,7 +79,7 @@ impl BabyBear4 {
         u * u - (v * v).times_eleven()
     }
 
-    /// The product of the norm's cofactor with `d`: the inverse, where `d` is that of the norm.
+    /// The norm's cofactor times `d`: the inverse, if `d` is the inverse of the norm.
     #[inline]
     fn cofactor_times(self, d: BabyBear) -> Self
         ensures { result ≡ quartic_cofactor baby_bear_ring (baby_bear_of 11) d self }
@@ -94,7 +94,7 @@ impl BabyBear4 {
     }
 }
 
-/// Four numbers in decimal, joined by commas.
+/// Four numbers in decimal, separated by commas.
 fn join_decimals(alloc: Global, c0: u32, c1: u32, c2: u32, c3: u32) -> Result<String, AllocError>
     ensures { IfOk result (λ s. string_bytes s ≡ four_decimals c0 c1 c2 c3) }
 {
@@ -278,14 +278,14 @@ impl Described for BabyBear4 {
     ghost writes = { λ x. WritesSeq (λ c. Sends (unsigned c.value)) (coefficients_of x) };
 }
 
-/// An element is sent as the list of its four coefficients, lowest power first.
+/// An element is written as the list of its four coefficients, lowest power first.
 impl Serialize for BabyBear4 {
     fn serialize<S: Serializer>(&self, out: &mut S) -> Result<(), S::Error> {
         self.coefficients().serialize(out)
     }
 }
 
-/// A list of another length is refused, and so is anything else.
+/// Refuses anything but a list of four elements of [`BabyBear`].
 impl DeserializeOwned for BabyBear4 {
     fn deserialize_owned<R: Format>(
         alloc: Global,
@@ -296,7 +296,7 @@ impl DeserializeOwned for BabyBear4 {
     }
 }
 
-/// A list of another length is refused, and so is anything else.
+/// Refuses anything but a list of four elements of [`BabyBear`].
 impl<'de> Deserialize<'de> for BabyBear4 {
     fn deserialize<R: Format>(
         alloc: Global,

@@ -173,14 +173,14 @@ impl Described for F2 {
     ghost writes = { λ x old new. Sends (unsigned x.value) old new };
 }
 
-/// An element is sent as the one unsigned number below 2 that it is.
+/// An element is written as its own number, unsigned and below 2.
 impl Serialize for F2 {
     fn serialize<S: Serializer>(&self, out: &mut S) -> Result<(), S::Error> {
         self.number().serialize(out)
     }
 }
 
-/// Any other number is refused, and so is anything else.
+/// Refuses anything but a whole number below 2.
 impl DeserializeOwned for F2 {
     fn deserialize_owned<R: Format>(
         alloc: Global,
@@ -193,7 +193,7 @@ impl DeserializeOwned for F2 {
     }
 }
 
-/// Any other number is refused, and so is anything else.
+/// Refuses anything but a whole number below 2.
 impl<'de> Deserialize<'de> for F2 {
     fn deserialize<R: Format>(
         alloc: Global,

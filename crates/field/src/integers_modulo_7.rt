@@ -177,14 +177,14 @@ impl Described for F7 {
     ghost writes = { λ x old new. Sends (unsigned x.value) old new };
 }
 
-/// An element is sent as the one unsigned number below 7 that it is.
+/// An element is written as its own number, unsigned and below 7.
 impl Serialize for F7 {
     fn serialize<S: Serializer>(&self, out: &mut S) -> Result<(), S::Error> {
         self.number().serialize(out)
     }
 }
 
-/// Any other number is refused, and so is anything else.
+/// Refuses anything but a whole number below 7.
 impl DeserializeOwned for F7 {
     fn deserialize_owned<R: Format>(
         alloc: Global,
@@ -197,7 +197,7 @@ impl DeserializeOwned for F7 {
     }
 }
 
-/// Any other number is refused, and so is anything else.
+/// Refuses anything but a whole number below 7.
 impl<'de> Deserialize<'de> for F7 {
     fn deserialize<R: Format>(
         alloc: Global,

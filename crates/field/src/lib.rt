@@ -1,8 +1,8 @@
 //! Rings, fields and extensions with their laws, and the fields of the lookup layer.
 //!
 //! Each trait carries the laws of the algebra it names, so that generic code is proved once for
-//! every lawful field. Beside the fields `F2`, `F7`, `BabyBear` and its quartic extension stand
-//! powers, dot products, and inverses of a whole list by one counted inverse.
+//! every lawful field. The fields are `F2`, `F7`, `BabyBear` and its quartic extension. There are
+//! also powers, dot products, and the inversion of a whole list by one counted inverse.
 #![tactic(auto)]
 
 mod baby_bear;

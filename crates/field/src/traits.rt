@@ -10,8 +10,8 @@ use std::ops::{Add, Mul, Neg, Sub};
 
 /// A commutative ring whose characteristic is a prime below 2^128.
 ///
-/// The operators may be called on any two elements, and mean those of `ring`; `==` is true exactly
-/// for the same element.
+/// The operators accept any two elements and mean those of `ring`. `==` is true exactly for equal
+/// elements.
 pub trait PrimeCharacteristicRing: Copy
     + Eq
     + Hash
@@ -32,7 +32,7 @@ pub trait PrimeCharacteristicRing: Copy
     const ONE: Self;
 
     ghost CHARACTERISTIC: { ℕ };
-    /// The least positive number of ones whose sum is zero, a prime.
+    /// The least positive number of ones that sum to zero, a prime.
     const CHARACTERISTIC: u128;
 
     /// One for `true` and zero for `false`.
@@ -46,7 +46,7 @@ pub trait PrimeCharacteristicRing: Copy
     fn from_u32(n: u32) -> Self
         ensures { result ≡ of_nat ring n };
 
-    /// `n` times one, and for a negative number the negative of `-n` times one.
+    /// `n` times one. For a negative number: the negative of `-n` times one.
     fn from_i32(n: i32) -> Self
         ensures { result ≡ of_int ring n }
     {
@@ -57,7 +57,7 @@ pub trait PrimeCharacteristicRing: Copy
         }
     }
 
-    /// The product of `n` factors `self`, one for `n = 0`, by squaring and multiplying.
+    /// The product of `n` factors `self`, one if `n` is 0, by squaring and multiplying.
     fn exp_u64(self, n: u64) -> Self
         ensures { result ≡ power ring self n }
     {
@@ -103,8 +103,8 @@ pub trait PrimeCharacteristicRing: Copy
     ghost characteristic_fits: { CHARACTERISTIC < 2 ^ 128 };
 }
 
-/// A ring in which zero differs from one and a product is zero only where a factor is. It has no
-/// call that inverts.
+/// A ring in which zero differs from one, and a product is zero only if a factor is. It has no call
+/// that inverts.
 pub trait Domain: PrimeCharacteristicRing {
     /// Whether `self` is zero.
     fn is_zero(self) -> bool
@@ -116,18 +116,18 @@ pub trait Domain: PrimeCharacteristicRing {
     ghost domain: { IsDomain Self.ring };
 }
 
-/// A field: a domain in which each element but zero has an inverse.
+/// A field: a domain in which every nonzero element has an inverse.
 pub trait Field: Domain {
     ghost inverse: { Self → Self };
 
     ghost text: { Self → List ℕ };
 
-    /// The inverse of `self`, and `None` exactly at zero.
+    /// The inverse of `self`, and `None` exactly if `self` is zero.
     fn try_inverse(self) -> Option<Self>
         ensures inverts { MatchOption result (self ≡ Self.ring.zero) (λ v. IsInverse Self.ring self v) }
         ensures value { MatchOption result (self ≡ Self.ring.zero) (λ v. v ≡ inverse self) };
 
-    /// The inverse of `self`, which is not zero.
+    /// The inverse of `self`, which must not be zero.
     fn inverse(self) -> Self
         requires { self ≢ Self.ring.zero }
         ensures inverts { IsInverse Self.ring self result }
@@ -139,19 +139,19 @@ pub trait Field: Domain {
         }
     }
 
-    /// The element as text, or the refusal where memory runs out.
+    /// The element as text. Refused if memory runs out.
     fn text(self, alloc: Global) -> Result<String, AllocError>
         ensures { IfOk result (λ s. string_bytes s ≡ text self) };
 
     ghost inverse_is: { (a : Self) → a ≢ Self.ring.zero → IsInverse Self.ring a (inverse a) };
 }
 
-/// A domain that extends the field `F`: `embed` keeps zero, one, sums and products, and is
-/// injective.
+/// A domain that extends the field `F`: `embed` is injective and preserves zero, one, sums and
+/// products.
 pub trait ExtensionDomain<F: Field>: Domain {
     ghost embed: { F → Self };
 
-    /// The element `x` of `F` in the extension.
+    /// The element `x` of `F`, as an element of the extension.
     fn embed(x: F) -> Self
         ensures { result ≡ embed x };
 

@@ -8,11 +8,12 @@ use field::Field;
 use std::alloc::{AllocError, Global};
 use std::boxed::BoxedSlice;
 
-/// The challenges of a batch: one pair `(alpha, beta)` and, for each bus id, the prefix that its
-/// denominators begin with.
+/// The challenges of a batch: one pair `(alpha, beta)` and, for each bus id, the prefix of its
+/// denominators.
 ///
-/// The denominator of a message on bus `i` is `bus_prefix[i]` less its combined tuple, and
+/// The denominator of a message on bus `i` is `bus_prefix[i]` minus its combined tuple. Here
 /// `bus_prefix[i] = alpha + (i + 1) * beta^W`, where `W` is at least the width of each tuple: one
+/// power above every element of a tuple.
 /// power above every element of a tuple.
 #[derive(Drop)]
 pub struct Challenges<EF> {
@@ -27,7 +28,7 @@ pub struct Challenges<EF> {
 impl<EF: Field> Challenges<EF> {
     /// The table of `num_bus_ids` prefixes for tuples of at most `max_message_width` elements.
     ///
-    /// The one refusal is want of memory.
+    /// Fails only when out of memory.
     pub fn new(
         alloc: Global,
         alpha: EF,
@@ -55,10 +56,10 @@ impl<EF: Field> Challenges<EF> {
         })
     }
 
-    /// The challenges of the columns of one AIR, whose lookups have these bus ids in order: for
+    /// The challenges of the columns of one AIR whose lookups have these bus ids, in order: for
     /// each id its prefix and then `beta`.
     ///
-    /// The one refusal is want of memory.
+    /// Fails only when out of memory.
     pub fn for_columns(&self, alloc: Global, ids: &[usize]) -> Result<Vec<EF>, AllocError>
         requires { All (λ id. id < length (boxed_slice_items self.now.bus_prefix)) ids.now }
         ensures { IfOk result

@@ -1,4 +1,4 @@
-//! Evaluation of all lookups of an AIR, by the calls of a protocol.
+//! Evaluation of all lookups of an AIR, through the calls of a protocol.
 ghost use Rattle.std.specs.Prelude.{◌≡◌, ◌+◌, ◌*◌, ◌<◌, ◌≤◌, ◌⊎◌, All, length, map};
 ghost use Rattle.lookup_evaluation.specs.Asserted.{Evaluates, IsConstraint};
 ghost use Rattle.lookup_model.specs.Constraints.{accumulator_constraints, fraction_constraint, terminal_at};
@@ -32,7 +32,7 @@ pub(crate) fn eval_fractions<P: LookupProtocol, AB: PermutationAirBuilder>(
     Ok(())
 }
 
-/// Asserts the accumulator's equations, with the first permutation value as the terminal.
+/// Asserts the accumulator's equations. The terminal is the first permutation value.
 pub(crate) fn eval_terminal<P: LookupProtocol, AB: PermutationAirBuilder>(
     protocol: &P,
     alloc: Global,

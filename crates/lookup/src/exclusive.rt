@@ -18,7 +18,7 @@ use field::{ExtensionField, Field};
 use lookup_model::{Lookup, LookupError};
 use std::alloc::Global;
 
-/// The places of the flags that are set, counted in whole numbers.
+/// The indices of the set flags, counted in whole numbers.
 #[derive(Clone, Copy)]
 enum SetFlags {
     Nothing,
@@ -26,7 +26,7 @@ enum SetFlags {
     Several,
 }
 
-/// The set flags with one more.
+/// The set flags plus one more.
 fn with_place(set: SetFlags, place: usize) -> SetFlags
     ensures { (places : List ℕ) → ArePlaces set places → ArePlaces result (places ++ place ∷ []) }
 {
@@ -36,7 +36,7 @@ fn with_place(set: SetFlags, place: usize) -> SetFlags
     }
 }
 
-/// The set flags with those of one more flag, which stands at `place`.
+/// The set flags, plus the flag at `place` if it is set.
 fn with_flag<F: Field, EF: ExtensionField<F>>(
     alloc: Global,
     set: SetFlags,
@@ -67,7 +67,7 @@ fn with_flag<F: Field, EF: ExtensionField<F>>(
     }
 }
 
-/// The set flags of the builder's row.
+/// The set flags on the builder's row.
 fn set_flags<F: Field, EF: ExtensionField<F>>(
     alloc: Global,
     flags: &[SymbolicExpression<F>],
@@ -88,7 +88,7 @@ fn set_flags<F: Field, EF: ExtensionField<F>>(
     Ok(set)
 }
 
-/// The quotient of a tuple on the builder's row, also where its multiplicity is zero.
+/// The quotient of a tuple on the builder's row, even if its multiplicity is zero.
 fn branch_quotient<F: Field, EF: ExtensionField<F>>(
     alloc: Global,
     tuple: &[SymbolicExpression<F>],
@@ -114,11 +114,11 @@ fn branch_quotient<F: Field, EF: ExtensionField<F>>(
     quotient_over(alloc, multiplicity, tuple, builder, column)
 }
 
-/// The quotient of the tuple whose flag is set, zero where no flag is.
+/// The quotient of the tuple whose flag is set, zero if no flag is set.
 ///
-/// A flag that is neither zero nor one is refused first, then more than one set flag, and then a
-/// denominator that vanishes, also under a multiplicity that is zero. The denominators of the other
-/// tuples are not looked at.
+/// Refused, in this order: a flag that is neither zero nor one, more than one set flag, and a
+/// denominator that vanishes, even if its multiplicity is zero. The denominators of the other
+/// tuples are ignored.
 pub(crate) fn exclusive_fraction<F: Field, EF: ExtensionField<F>>(
     alloc: Global,
     lookup: &Lookup<F>,

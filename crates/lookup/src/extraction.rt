@@ -1,4 +1,4 @@
-//! Lookups from what an AIR has recorded.
+//! Making lookups from what an AIR has recorded.
 ghost use Rattle.std.specs.Prelude.{◌≡◌, ◌⊎◌, ◌++◌, All, IfOk, MatchResult, length, map};
 ghost use Rattle.lookup_model.specs.Outline.{fields_of};
 ghost use Rattle.lookup.specs.Extraction.{IsFaultless, IsFirstLocalRefusal, IsLocalRefusal, exclusive_at, extraction, global_at, in_columns, local_at};
@@ -13,8 +13,8 @@ use std::alloc::{AllocError, Global};
 
 /// The lookup of a local interaction, with the sum of its tuples' weights.
 ///
-/// Refuses `CountWeightOverflow` where that sum does not fit, then `TupleWidths` where the tuples
-/// have two widths.
+/// Refuses `CountWeightOverflow` if that sum does not fit, then `TupleWidths` if the tuples have
+/// two widths.
 fn local_lookup<F: Field>(
     alloc: Global,
     interaction: SymbolicLocalInteraction<F>,
@@ -97,9 +97,9 @@ fn exclusive_lookup<F: Field>(
     })
 }
 
-/// The lookups of local interactions, in the columns from 0 on.
+/// The lookups of local interactions, in the columns 0, 1, 2, ….
 ///
-/// Refuses what the first of them with a fault is refused for.
+/// Refuses the fault of the first of them that has one.
 fn local_lookups<F: Field>(
     alloc: Global,
     locals: Vec<SymbolicLocalInteraction<F>>,
@@ -117,7 +117,7 @@ fn local_lookups<F: Field>(
     Ok(lookups)
 }
 
-/// These lookups, and after them those of messages on buses, in the next columns.
+/// These lookups, followed by those of messages on buses in the next columns.
 fn with_globals<F: Field>(
     alloc: Global,
     before: Vec<Lookup<F>>,
@@ -135,7 +135,7 @@ fn with_globals<F: Field>(
     Ok(lookups)
 }
 
-/// These lookups, and after them those of groups, in the next columns.
+/// These lookups, followed by those of groups in the next columns.
 fn with_exclusives<F: Field>(
     alloc: Global,
     before: Vec<Lookup<F>>,
@@ -153,10 +153,10 @@ fn with_exclusives<F: Field>(
     Ok(lookups)
 }
 
-/// The lookups of local interactions, then of messages on buses, then of groups, in the columns
-/// 0, 1, 2 and on.
+/// The lookups of local interactions, then of messages on buses, then of groups, in the columns 0,
+/// 1, 2, ….
 ///
-/// Refuses what the first local interaction with a fault is refused for.
+/// Refuses the fault of the first local interaction that has one.
 pub(crate) fn extracted<F: Field>(
     alloc: Global,
     locals: Vec<SymbolicLocalInteraction<F>>,

@@ -71,7 +71,7 @@ fn denominator_of<F: Field, EF: ExtensionField<F>>(
 
 /// A multiplicity over the denominator of a tuple on the builder's row.
 ///
-/// Refuses a denominator that is zero.
+/// Refuses a zero denominator.
 pub(crate) fn quotient_over<F: Field, EF: ExtensionField<F>>(
     alloc: Global,
     multiplicity: F,
@@ -102,7 +102,7 @@ pub(crate) fn quotient_over<F: Field, EF: ExtensionField<F>>(
     }
 }
 
-/// The fraction so far and, where its multiplicity is not zero, the quotient of one more tuple.
+/// The fraction so far plus, if its multiplicity is not zero, the quotient of one more tuple.
 fn with_branch<F: Field, EF: ExtensionField<F>>(
     alloc: Global,
     fraction: EF,
@@ -162,7 +162,7 @@ fn additive_fraction<F: Field, EF: ExtensionField<F>>(
 
 /// The fraction of a lookup on the builder's row.
 ///
-/// Refuses the fault of the lookup on that row, where it has one.
+/// Refuses the lookup's fault on that row, if it has one.
 pub(crate) fn fraction<F: Field, EF: ExtensionField<F>>(
     alloc: Global,
     lookup: &Lookup<F>,

@@ -20,7 +20,7 @@ use matrix::{RowMajorMatrix, ViewPair};
 use std::alloc::Global;
 
 /// Appends one row of the auxiliary trace to `cells`: the accumulator and the fraction of each
-/// lookup. The answer is the accumulator of the next row.
+/// lookup. Returns the accumulator of the next row.
 ///
 /// Refuses the first fault of the row; `cells` may then hold a part of it.
 fn push_row<F: Field, EF: ExtensionField<F>>(
@@ -50,8 +50,8 @@ fn push_row<F: Field, EF: ExtensionField<F>>(
     Ok(next)
 }
 
-/// The builder of one row of the traces of an AIR, which is seen with the next one, and the last
-/// row with the first.
+/// The builder of one row of an AIR's traces together with the next row; the last row comes with
+/// the first one.
 fn row_builder<'a, F: Field, EF: Field>(
     main: &'a RowMajorMatrix<F>,
     preprocessed: Option<&'a RowMajorMatrix<F>>,

@@ -2,8 +2,8 @@
 //! traces that show that all messages cancel.
 //!
 //! An AIR says on buses what its rows look up, and `Lookups::from_air` extracts it.
-//! `LogUpGadget::generate_permutation` makes the auxiliary trace of one AIR, `eval_all` asserts its
-//! constraints, and `verify_terminal_sum` says whether the terminals of all AIRs cancel.
+//! `LogUpGadget::generate_permutation` makes the auxiliary trace of one AIR, and `eval_all` asserts
+//! its constraints. `verify_terminal_sum` says whether the terminals of all AIRs cancel.
 #![tactic(auto)]
 
 mod challenges;

@@ -13,10 +13,10 @@ use lookup_model::{Lookup, LookupError, LookupTerminal};
 use matrix::RowMajorMatrix;
 use std::alloc::Global;
 
-/// The trace builder by the name of what it is here: what a row's evaluation sees.
+/// The trace builder, named for its role here: what the evaluation of a row sees.
 pub type RowEvalContext<'a, F, EF> = LookupTraceBuilder<'a, F, EF>;
 
-/// The lookup argument by logarithmic derivatives: the messages of all AIRs cancel where the sum of
+/// The lookup argument by logarithmic derivatives: the messages of all AIRs cancel if the sum of
 /// `multiplicity / (alpha - tuple)` over them is zero.
 #[derive(Clone, Debug, Default, Drop)]
 pub struct LogUpGadget;
@@ -27,10 +27,10 @@ impl LogUpGadget {
         LogUpGadget
     }
 
-    /// The degree of the equation of a lookup's fraction, where the transition selector has degree
+    /// The degree of the equation of a lookup's fraction, if the transition selector has degree
     /// `transition`. The constraint that `eval_fraction` asserts has at most this degree.
     ///
-    /// Refuses `DegreeOverflow` where a sum of degrees does not fit `usize`. Memory is not asked for.
+    /// Refuses `DegreeOverflow` if a sum of degrees does not fit `usize`. Allocates nothing.
     pub fn constraint_degree_with_transition<F>(
         &self,
         lookup: &Lookup<F>,

@@ -14,8 +14,8 @@ use lookup_record::InteractionSymbolicBuilder;
 use serde::{Described, Serialize, Serializer};
 use std::alloc::{AllocError, Global};
 
-/// The lookups of one AIR: each has as many multiplicities, and flags where it has flags, as
-/// tuples, and their columns are 0, 1, 2 and on.
+/// The lookups of one AIR: each has as many multiplicities as tuples and, if it has flags, as many
+/// flags. Their columns are 0, 1, 2, ….
 #[derive(Debug, Drop)]
 pub struct Lookups<F> {
     lookups: Vec<Lookup<F>>,
@@ -27,12 +27,15 @@ impl<F: Field> Lookups<F> {
     ghost use Rattle.lookup.specs.Lookups.{lookups_of};
 
     /// The lookups that an AIR records in a new builder with its own layout: local ones, then those
-    /// on buses, then groups, each in the order of their pushes, in the columns 0, 1, 2 and on.
+    /// on buses, then groups, each in the order of their pushes, in the columns 0, 1, 2, ….
     ///
-    /// The weight of a local lookup is the sum over its tuples, that of a group the greatest of its
-    /// branches, 0 without branches. Refuses what the AIR refuses; then, at the first local lookup
-    /// with a fault, `CountWeightOverflow` where its weights do not fit, or `TupleWidths` where its
-    /// tuples have two widths; and want of memory by its own name.
+    /// The weight of a local lookup is the sum over its tuples. That of a group is the greatest
+    /// weight of its branches, 0 without branches. Refused are:
+    ///
+    /// - what the AIR refuses;
+    /// - then, at the first local lookup with a fault, `CountWeightOverflow` if its weights do not
+    ///   fit, or `TupleWidths` if its tuples have two widths;
+    /// - out of memory, under its own name.
     pub fn from_air<EF: ExtensionField<F>, A: Air<InteractionSymbolicBuilder<F, EF>>>(
         alloc: Global,
         air: &A,
@@ -46,10 +49,10 @@ impl<F: Field> Lookups<F> {
         Ok(Lookups { lookups })
     }
 
-    /// The set of these lookups, as they are given.
+    /// The set of these lookups, unchanged.
     ///
     /// Refuses `BadRecord` at the first lookup whose lists have different lengths or whose column
-    /// is not its place; the lookups are then dropped.
+    /// is not its index. The lookups are then dropped.
     pub fn from_records(records: Vec<Lookup<F>>) -> Result<Self, LookupError>
         ensures { MatchResult result
             (λ lookups. lookups_of lookups ≡ records.items)
@@ -79,16 +82,16 @@ impl<F: Field> Lookups<F> {
             .sum()
     }
 
-    /// Whether the lookups fit an AIR of this layout, as [`fits`](crate::fits) says of a slice.
+    /// Whether the lookups fit an AIR of this layout; see [`fits`](crate::fits).
     pub fn fits(&self, layout: &AirLayout) -> bool
         ensures { IsTrue result ↔ DoFit layout.now (lookups_of self.now) }
     {
         lookup_model::fits(self.as_slice(), layout)
     }
 
-    /// The same lookups again, their expressions node by node.
+    /// A deep copy: expressions are equal node by node.
     ///
-    /// The one refusal is want of memory.
+    /// Fails only when out of memory.
     pub fn copy(&self, alloc: Global) -> Result<Self, AllocError>
         ensures { IfOk result (λ r. map outline_of (lookups_of r) ≡ map outline_of (lookups_of self.now)) }
     {
@@ -97,7 +100,7 @@ impl<F: Field> Lookups<F> {
     }
 }
 
-/// The same lookups again.
+/// Copies of the lookups.
 fn copy_lookups<F: Field>(
     alloc: Global,
     lookups: &[Lookup<F>],
@@ -117,8 +120,8 @@ impl<F> Described for Lookups<F> {
     ghost writes = { λ set. WritesSeq (λ _ _ _. ⊤) (lookups_of set) };
 }
 
-/// A set is sent as the list of its lookups. It is not read as such: a `Vec` of lookups is read,
-/// and goes through [`Lookups::from_records`].
+/// A set is written as the list of its lookups. It is not read as such: read a `Vec` of lookups and
+/// pass it to [`Lookups::from_records`].
 impl<F: Serialize> Serialize for Lookups<F> {
     fn serialize<S: Serializer>(&self, out: &mut S) -> Result<(), S::Error> {
         self.lookups.serialize(out)

@@ -22,25 +22,26 @@ use lookup_model::{Lookup, LookupError, LookupTerminal};
 use matrix::RowMajorMatrix;
 use std::alloc::Global;
 
-/// The LogUp lookup argument over one accumulator and one terminal for each AIR.
+/// The LogUp lookup argument, with one accumulator and one terminal for each AIR.
 ///
 /// Column 0 of the auxiliary trace is the accumulator, and column `c + 1` has the fractions of
 /// lookup `c`. The lookup in column `c` takes challenge `2c` as its alpha, from which its combined
-/// tuples are taken, and challenge `2c + 1` as its beta, which combines them.
+/// tuples are subtracted, and challenge `2c + 1` as its beta, which combines them.
 pub trait LookupProtocol: Sized {
-    /// How many challenges a lookup takes: its alpha and its beta.
+    /// The number of challenges per lookup: its alpha and its beta.
     fn num_challenges(&self) -> usize
         ensures { result ≡ 2 };
 
-    /// Asserts the equation of a lookup's fraction `f`, on every row: `U * f - V = 0`, where `U` is
-    /// the product of the denominators of all tuples and `V` the sum over the tuples of the
-    /// multiplicity times the product of the other denominators; with flags `D * f - N = 0`, where
-    /// `D` is the sum of flag times denominator, and one less the sum of the flags, and `N` the sum
-    /// of flag times multiplicity.
+    /// Asserts the equation of a lookup's fraction `f` on every row:
     ///
-    /// The fraction is the cell `column + 1` of the auxiliary row, and the challenges `2 * column`
-    /// and `2 * column + 1` are the alpha and the beta. A refusal is want of memory, or what the
-    /// builder answers for its window or for this assertion.
+    /// - without flags `U * f - V = 0`, where `U` is the product of the denominators of all tuples,
+    ///   and `V` the sum of each multiplicity times the other denominators;
+    /// - with flags `D * f - N = 0`, where `D = sum(flag * denominator) + (1 - sum(flag))` and
+    ///   `N = sum(flag * multiplicity)`.
+    ///
+    /// The fraction is cell `column + 1` of the auxiliary row. The challenges `2 * column` and
+    /// `2 * column + 1` are the alpha and the beta. Fails when out of memory, or with the builder's
+    /// own refusal for its window or for this assertion.
     fn eval_fraction<AB: PermutationAirBuilder>(
         &self,
         alloc: Global,
@@ -56,12 +57,15 @@ pub trait LookupProtocol: Sized {
             (IsConstraint (λ x w. AB.ExprEF.value x (AB.seen_ext w)) AB.ExprEF.degree (AB.stands_for_ext builder.old))
             builder.old (fraction_constraint E lookup.now ∷ []) result builder.new };
 
-    /// Asserts that the accumulator, which is cell 0 of the auxiliary row, is zero on the first row;
-    /// that on every row but the last the next one is this one and the fractions of the row; and
-    /// that on the last row `terminal` is that sum. Nothing is asserted without lookups.
+    /// Asserts the accumulator's equations, where the accumulator is cell 0 of the auxiliary row.
+    /// Nothing is asserted without lookups.
     ///
-    /// A refusal is want of memory, or what the builder answers for its window or for the assertion
-    /// at which it came; what was asserted before stays.
+    /// - On the first row it is zero.
+    /// - On every row but the last, the next accumulator is this one plus the fractions of the row.
+    /// - On the last row, `terminal` is that sum.
+    ///
+    /// Fails when out of memory, or with the builder's own refusal for its window or for the
+    /// assertion at which it stopped. What was asserted before stays.
     fn eval_accumulator<AB: PermutationAirBuilder>(
         &self,
         alloc: Global,
@@ -75,11 +79,11 @@ pub trait LookupProtocol: Sized {
             (IsConstraint (λ x w. AB.ExprEF.value x (AB.seen_ext w)) AB.ExprEF.degree (AB.stands_for_ext builder.old))
             builder.old (accumulator_constraints E lookups.now (λ w. AB.ExprEF.value terminal (AB.seen_ext w)) (AB.ExprEF.degree terminal)) result builder.new };
 
-    /// Asserts the equation of each lookup in order, and then the accumulator's three, with the
-    /// first permutation value as the terminal; nothing without lookups.
+    /// Asserts the equation of each lookup in order, and then the accumulator's three. The terminal
+    /// is the first permutation value. Nothing is asserted without lookups.
     ///
-    /// A refusal is want of memory, or what the builder answers for its window or for the assertion
-    /// at which it came; what was asserted before stays.
+    /// Fails when out of memory, or with the builder's own refusal for its window or for the
+    /// assertion at which it stopped. What was asserted before stays.
     final fn eval_all<AB: PermutationAirBuilder>(
         &self,
         alloc: Global,
@@ -102,29 +106,34 @@ pub trait LookupProtocol: Sized {
         eval_terminal(self, alloc, builder, lookups)
     }
 
-    /// The degree of the equation of a lookup's fraction, where the transition selector has
-    /// degree 0: that of a fraction with its denominator, or of its numerator, whichever is greater.
-    /// Variables of a trace and the selectors of the first and the last row have degree 1, public
-    /// values, constants, challenges and terminals 0; a sum has the greater degree of its two sides,
-    /// a product the sum of both.
+    /// The degree of the equation of a lookup's fraction, if the transition selector has degree 0.
+    /// It is the degree of the fraction times its denominator, or of its numerator, whichever is
+    /// greater.
     ///
-    /// Refuses `DegreeOverflow` where a sum of degrees does not fit `usize`. Memory is not asked for.
+    /// Variables of a trace and the selectors of the first and the last row have degree 1. Public
+    /// values, constants, challenges and terminals have degree 0. A sum has the greater degree of
+    /// its two sides, a product the sum of both.
+    ///
+    /// Refuses `DegreeOverflow` if a sum of degrees does not fit `usize`. Allocates nothing.
     fn constraint_degree<F>(&self, lookup: &Lookup<F>) -> Result<usize, LookupError>
         requires { HasEqualLengths lookup.now }
         ensures { IsDegree result (lookup_degree 0 lookup.now) };
 
     /// The auxiliary trace of one AIR and its terminal.
     ///
-    /// The trace has the height of `main` and one column more than there are lookups; without
-    /// lookups it has width 0, and there is no terminal. The preprocessed trace, where there is
-    /// one, is as high as `main`. `challenges` are an alpha and a beta for each lookup, in the
-    /// order of their columns.
+    /// The trace has the height of `main` and one column more than there are lookups. Without
+    /// lookups it has width 0, and there is no terminal. The preprocessed trace, if there is one,
+    /// is as high as `main`. `challenges` are an alpha and a beta for each lookup, in the order of
+    /// their columns.
     ///
-    /// Refuses the first fault in the order row, lookup. Without flags it is a denominator that
-    /// vanishes under a multiplicity that is not zero. With flags it is a flag that is neither zero
-    /// nor one, then more than one set flag, counted in whole numbers, and then a denominator of the
-    /// set flag's tuple that vanishes, whatever its multiplicity. Want of memory is refused by its
-    /// own name. A refused call hands out nothing of the trace.
+    /// Refuses the first fault in the order row, lookup, and returns nothing of the trace:
+    ///
+    /// - Without flags, a denominator that vanishes with a nonzero multiplicity.
+    /// - With flags, a flag that is neither zero nor one; then more than one set flag, counted in
+    ///   whole numbers; then a vanishing denominator of the set flag's tuple, whatever its
+    ///   multiplicity.
+    ///
+    /// Out of memory is refused under its own name, and also returns nothing of the trace.
     fn generate_permutation<'a, F: Field, EF: ExtensionField<F>>(
         &self,
         alloc: Global,
@@ -151,7 +160,7 @@ pub trait LookupProtocol: Sized {
 
     /// Whether the terminals of all AIRs cancel.
     ///
-    /// Refuses `TerminalSumNonZero` where those that are present do not sum to zero.
+    /// Refuses `TerminalSumNonZero` if those that are present do not sum to zero.
     fn verify_terminal_sum<EF: Field>(
         &self,
         terminals: &[Option<LookupTerminal<EF>>],

@@ -6,11 +6,11 @@ use field::{Domain, ExtensionDomain, ExtensionField, Field};
 use matrix::{RowWindow, ViewPair};
 use std::alloc::Global;
 
-/// One row of the traces of an AIR, as the evaluation of its lookups sees it: the row and the next
+/// One row of the traces of an AIR, as the evaluation of its lookups sees it: this row and the next
 /// one of the main and the preprocessed trace, the public values and the challenges.
 ///
 /// It resolves expressions to elements. Its permutation window is empty, since the auxiliary trace
-/// is what is being made; an assertion of anything but zero is refused by the name of the row.
+/// is what is being made. Asserting anything but zero is refused with the row.
 #[derive(Drop)]
 pub struct LookupTraceBuilder<'a, F, EF> {
     main: RowWindow<'a, F>,
@@ -26,7 +26,7 @@ impl<'a, F, EF> LookupTraceBuilder<'a, F, EF> {
     ghost use Rattle.std.specs.Prelude.{◌==◌, not};
     ghost use Rattle.lookup.specs.TraceBuilder.{builder_window, builder_layout};
 
-    /// The builder of `row` of traces of `height` rows: `main` and `preprocessed` hold that row at
+    /// The builder of `row`, in traces of `height` rows. `main` and `preprocessed` hold that row at
     /// the top and the next one at the bottom.
     pub fn new(
         main: ViewPair<'a, F>,
@@ -106,7 +106,7 @@ impl<F, EF: Field> LookupTraceBuilder<'_, F, EF> {
     }
 }
 
-/// Zero is accepted, anything else refused by the name of the row.
+/// Accepts zero and refuses anything else, with the row.
 fn judge<K: Domain>(x: K, row: usize) -> Result<(), AirError>
     ensures { MatchResult result (λ _. x ≡ K.ring.zero) (λ e. (x ≢ K.ring.zero) × (e ≡ AirError.Assertion row)) }
 {

@@ -6,10 +6,10 @@ use air::SymbolicExpression;
 use lookup_model::LookupError;
 use std::alloc::Global;
 
-/// The width that all tuples have, 0 where there are none.
+/// The width that all tuples have, 0 if there are none.
 ///
-/// Refuses `TupleWidths` under this context with the width of the first tuple and the first one
-/// that differs from it, or want of memory for that answer.
+/// Refuses `TupleWidths` with this context, the width of the first tuple and the first width that
+/// differs from it, or fails out of memory while making that refusal.
 pub fn assert_uniform_tuple_width<F>(
     alloc: Global,
     tuples: &[Vec<SymbolicExpression<F>>],
@@ -32,7 +32,7 @@ pub fn assert_uniform_tuple_width<F>(
     Ok(width)
 }
 
-/// The refusal of two widths under a context, or want of memory for its text.
+/// The refusal of two widths with a context, or out of memory for its text.
 fn tuple_widths(alloc: Global, context: &str, width: usize, other: usize) -> LookupError
     ensures { (result ≡ LookupError.Memory) ⊎ IsTupleWidths context.now width other result }
 {

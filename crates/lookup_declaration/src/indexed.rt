@@ -5,7 +5,7 @@ ghost use Rattle.lookup_declaration.specs.Declaration.{read_of, table_of};
 use serde::{Deserialize, DeserializeOwned, Deserializer, Format, Name, Serialize};
 use std::alloc::{AllocError, Global};
 
-/// The committed trace of an AIR whose columns a table names.
+/// The committed trace of an AIR that holds a table's columns.
 #[derive(Clone, Copy, Debug, Default, PartialEq, Eq, Hash, Serialize)]
 pub enum TraceWindow {
     /// The main trace.
@@ -15,7 +15,7 @@ pub enum TraceWindow {
     Preprocessed,
 }
 
-/// A window is read by its name.
+/// A window is read by its name alone.
 impl DeserializeOwned for TraceWindow {
     fn deserialize_owned<R: Format>(
         _alloc: Global,
@@ -30,7 +30,7 @@ impl DeserializeOwned for TraceWindow {
     }
 }
 
-/// As `DeserializeOwned` reads.
+/// Reads as `DeserializeOwned` does.
 impl<'de> Deserialize<'de> for TraceWindow {
     fn deserialize<R: Format>(
         alloc: Global,
@@ -40,22 +40,22 @@ impl<'de> Deserialize<'de> for TraceWindow {
     }
 }
 
-/// A reader of a table: on each row `i`, `payload[j][i] = columns[j][position[i]]` for each `j`,
-/// where `columns` are those of the table.
+/// A reader of a table. On each row `i`, `payload[j][i] = columns[j][position[i]]` for each `j`,
+/// where `columns` are the table's columns.
 #[derive(Debug, Drop, PartialEq, Eq, Serialize, Deserialize)]
 pub struct IndexedRead {
     /// The name of the table.
     pub table: String,
-    /// The column of the main trace that holds the index of the entry each row reads.
+    /// The column of the main trace that holds the index of the entry that each row reads.
     pub position: usize,
     /// The columns of the main trace that hold what is read, in the order of the table's columns.
     pub payload: Vec<usize>,
 }
 
 impl IndexedRead {
-    /// The same declaration again.
+    /// A deep copy.
     ///
-    /// The one refusal is want of memory.
+    /// Fails only when out of memory.
     pub fn copy(&self, alloc: Global) -> Result<Self, AllocError>
         ensures { IfOk result (λ r. read_of r ≡ read_of self.now) }
     {
@@ -74,14 +74,14 @@ pub struct IndexedTable {
     pub name: String,
     /// The trace that has the columns.
     pub window: TraceWindow,
-    /// The columns of an entry, in the order in which readers take them.
+    /// The columns of an entry, in the order in which readers read them.
     pub columns: Vec<usize>,
 }
 
 impl IndexedTable {
-    /// The same declaration again.
+    /// A deep copy.
     ///
-    /// The one refusal is want of memory.
+    /// Fails only when out of memory.
     pub fn copy(&self, alloc: Global) -> Result<Self, AllocError>
         ensures { IfOk result (λ t. table_of t ≡ table_of self.now) }
     {

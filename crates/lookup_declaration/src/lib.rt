@@ -1,6 +1,6 @@
 //! What AIRs declare of indexed lookups: the tables, and the readers that name the entry they read.
 //!
-//! Declarations are written to a format, as JSON, and read from one.
+//! Declarations are written to a format and read from one, as JSON.
 #![tactic(auto)]
 
 mod indexed;

@@ -53,8 +53,8 @@ fn step<K: Field, E: Expression<K>>(
         .sub(alloc, sum.copy(alloc)?)
 }
 
-/// The left sides of the accumulator's constraints, which are selected on the first row, on every
-/// row but the last, and on the last row.
+/// The left sides of the accumulator's constraints: on the first row, on every row but the last,
+/// and on the last row. The selectors are not yet applied.
 #[derive(Drop)]
 struct AccumulatorSides<E> {
     first: E,
@@ -153,8 +153,8 @@ fn assert_last<AB: PermutationAirBuilder>(
     builder.when_last_row().assert_zero_ext(alloc, x)
 }
 
-/// Asserts that the accumulator starts at zero, that each next one is this one with the fractions
-/// of its row, and that `terminal` is what comes after the last row; nothing without lookups.
+/// Asserts that the accumulator starts at zero, that the next one is this one plus the fractions of
+/// the row, and that `terminal` is what comes after the last row. Asserts nothing without lookups.
 pub fn eval_accumulator<AB: PermutationAirBuilder>(
     alloc: Global,
     builder: &mut AB,

@@ -17,7 +17,7 @@ use expressions::{PermutationAirBuilder, SymbolicExpression};
 use lookup_model::Lookup;
 use std::alloc::{AllocError, Global};
 
-/// The quotient with that of one more tuple.
+/// The quotient plus that of one more tuple.
 fn with_tuple<AB: PermutationAirBuilder>(
     alloc: Global,
     builder: &AB,
@@ -58,8 +58,8 @@ fn with_tuple<AB: PermutationAirBuilder>(
     add_quotient(alloc, quotient, numerator, denominator)
 }
 
-/// The product of the denominators of all tuples, below the sum over the tuples of the
-/// multiplicity times the product of all other denominators.
+/// `V / U`: U is the product of all denominators, V the sum of each multiplicity times the other
+/// denominators.
 pub(crate) fn additive_quotient<AB: PermutationAirBuilder>(
     alloc: Global,
     builder: &AB,

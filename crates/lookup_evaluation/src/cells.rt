@@ -1,4 +1,4 @@
-//! What a builder hands out for lookups: challenges, cells of the auxiliary trace and the terminal.
+//! What a builder provides for lookups: challenges, cells of the auxiliary trace and the terminal.
 ghost use Rattle.std.specs.Prelude.{◌≡◌, ◌+◌, ◌*◌, ◌≤◌, ◌<◌, ℕ, slice_index_or};
 ghost use Rattle.expressions.specs.Builder.{MeansRow};
 ghost use Rattle.expressions.specs.Window.{ExtWindow};
@@ -27,7 +27,7 @@ pub(crate) fn column_challenges<AB: PermutationAirBuilder>(
     )
 }
 
-/// The first permutation value, which is the terminal.
+/// The terminal, which is the first permutation value.
 #[tactic(auto, using(crate::proofs::CellLaws::reads_at))]
 pub fn terminal<AB: PermutationAirBuilder>(builder: &AB) -> AB::ExprEF
     requires { 0 < (AB.layout builder.now).num_permutation_values }

@@ -34,7 +34,7 @@ pub(crate) fn lifted<AB: PermutationAirBuilder>(
     Ok(AB::lift(resolve_over(alloc, expression, builder, main)?))
 }
 
-/// The tuple over the builder's variables, combined by beta by Horner's rule.
+/// The tuple over the builder's variables, combined with beta by Horner's rule.
 fn combined_tuple<AB: PermutationAirBuilder>(
     alloc: Global,
     builder: &AB,
@@ -62,7 +62,7 @@ fn combined_tuple<AB: PermutationAirBuilder>(
     Ok(sum)
 }
 
-/// The denominator of the tuple: alpha less the combined tuple.
+/// The denominator of the tuple: `alpha - combined tuple`.
 pub(crate) fn denominator<AB: PermutationAirBuilder>(
     alloc: Global,
     builder: &AB,

@@ -20,7 +20,7 @@ use field::{Field, PrimeCharacteristicRing};
 use lookup_model::Lookup;
 use std::alloc::{AllocError, Global};
 
-/// The sums so far of flag times multiplicity, of flag times denominator, and of the flags.
+/// The sums so far: of flag times multiplicity, of flag times denominator, and of the flags.
 #[derive(Drop)]
 struct Selection<E> {
     numerator: E,
@@ -44,7 +44,7 @@ fn no_selection<K: Field, E: Expression<K>>() -> Selection<E>
     }
 }
 
-/// The selection with one more branch.
+/// The selection plus one more branch.
 fn select<K: Field, E: Expression<K>>(
     alloc: Global,
     selection: Selection<E>,
@@ -72,7 +72,7 @@ fn select<K: Field, E: Expression<K>>(
     })
 }
 
-/// The quotient that is selected: where no flag is set, zero over one.
+/// The selected quotient: zero over one if no flag is set.
 fn selected<K: Field, E: Expression<K>>(
     alloc: Global,
     selection: Selection<E>,
@@ -90,7 +90,7 @@ fn selected<K: Field, E: Expression<K>>(
     })
 }
 
-/// The selection with one more tuple, under its flag.
+/// The selection plus one more tuple, under its flag.
 fn with_branch<AB: PermutationAirBuilder>(
     alloc: Global,
     builder: &AB,
@@ -193,7 +193,7 @@ fn selection_of<AB: PermutationAirBuilder>(
     Ok(selection)
 }
 
-/// The denominator of the tuple whose flag is set below its multiplicity; one below zero where no
+/// The multiplicity over the denominator of the tuple whose flag is set, and zero over one if no
 /// flag is set.
 pub(crate) fn exclusive_quotient<AB: PermutationAirBuilder>(
     alloc: Global,

@@ -26,8 +26,7 @@ pub(crate) fn no_quotient<K: Field, E: Expression<K>>() -> Quotient<E>
     }
 }
 
-/// The sum of a quotient and of `numerator` over `denominator`, over the product of both
-/// denominators.
+/// `quotient + numerator / denominator`, over the product of both denominators.
 pub(crate) fn add_quotient<K: Field, E: Expression<K>>(
     alloc: Global,
     sum: Quotient<E>,

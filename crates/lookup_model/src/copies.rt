@@ -9,9 +9,9 @@ use field::Field;
 use std::alloc::{AllocError, Global};
 
 impl Kind {
-    /// The same kind again.
+    /// A deep copy.
     ///
-    /// The one refusal is want of memory.
+    /// Fails only when out of memory.
     pub fn copy(&self, alloc: Global) -> Result<Self, AllocError>
         ensures { IfOk result (λ r. bus_of r ≡ bus_of self.now) }
     {
@@ -23,9 +23,9 @@ impl Kind {
 }
 
 impl<F: Field> Lookup<F> {
-    /// The same lookup again, its expressions node by node.
+    /// A deep copy: expressions are equal node by node.
     ///
-    /// The one refusal is want of memory.
+    /// Fails only when out of memory.
     pub fn copy(&self, alloc: Global) -> Result<Self, AllocError>
         ensures { IfOk result (λ r. outline_of r ≡ outline_of self.now) }
     {
@@ -40,7 +40,7 @@ impl<F: Field> Lookup<F> {
     }
 }
 
-/// The same tuples again.
+/// Copies of the tuples.
 fn copy_tuples<F: Field>(
     alloc: Global,
     tuples: &[Vec<SymbolicExpression<F>>],
@@ -55,7 +55,7 @@ fn copy_tuples<F: Field>(
     Ok(copies)
 }
 
-/// The same flags again, where there are any.
+/// Copies of the flags, if there are any.
 fn copy_flags<F: Field>(
     alloc: Global,
     flags: &Option<Vec<SymbolicExpression<F>>>,

@@ -7,17 +7,19 @@ use crate::error::LookupError;
 use crate::types::Lookup;
 use expressions::SymbolicExpression;
 
-/// The degree of the constraint of a lookup's fraction, where the transition selector has degree
+/// The degree of the constraint of a lookup's fraction, if the transition selector has degree
 /// `transition`.
 ///
-/// With `D_j` the greatest degree of an element of tuple `j`, `m_j` the degree of its multiplicity
-/// and `g_j` that of its flag, it is without flags
-/// `max(1 + sum of D_j, max over i of (m_i + sum of D_j over the other j))`, and with flags
-/// `max(1 + max over j of (g_j + D_j, g_j), max over j of (g_j + m_j))`. The greatest of nothing
-/// is 0.
+/// Let `D_j` be the greatest degree of an element of tuple `j`, `m_j` the degree of its
+/// multiplicity and `g_j` that of its flag. The degree is
 ///
-/// Refuses `DegreeOverflow` where one of these sums does not fit `usize`, as it is exactly where
-/// the degree does not: each of them is at most the degree.
+/// - without flags: `max(1 + sum of D_j, max over i of (m_i + sum of D_j over the other j))`;
+/// - with flags: `max(1 + max over j of (g_j + D_j, g_j), max over j of (g_j + m_j))`.
+///
+/// The maximum of nothing is 0.
+///
+/// Refuses `DegreeOverflow` if one of these sums does not fit `usize`. That is exactly when the
+/// degree does not fit, since each of the sums is at most the degree.
 pub fn constraint_degree<F>(lookup: &Lookup<F>, transition: usize) -> Result<usize, LookupError>
     requires { HasEqualLengths lookup.now }
     ensures { IsDegree result (lookup_degree transition lookup.now) }
@@ -43,8 +45,8 @@ fn additive_degree<F>(lookup: &Lookup<F>, transition: usize) -> Result<usize, Lo
     Ok(degree)
 }
 
-/// The degree of a multiplicity times all denominators but that of its tuple, where the product of
-/// all denominators has degree `product`.
+/// The degree of a multiplicity times all denominators but that of its tuple, if the product of all
+/// denominators has degree `product`.
 fn term_degree<F>(
     tuple: &[SymbolicExpression<F>],
     multiplicity: &SymbolicExpression<F>,
@@ -92,8 +94,8 @@ fn exclusive_degree<F>(
     Ok(degree)
 }
 
-/// The degree of one branch with flags: of its flag with its denominator and the fraction, or of
-/// its flag with its multiplicity.
+/// The degree of one branch with flags: the greater of the degree of flag times denominator times
+/// fraction and that of flag times multiplicity.
 fn branch_degree<F>(
     flag: &SymbolicExpression<F>,
     tuple: &[SymbolicExpression<F>],

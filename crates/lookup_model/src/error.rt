@@ -1,4 +1,4 @@
-//! What a call of the lookup layer can refuse.
+//! Why a call of the lookup layer fails.
 ghost use Rattle.std.specs.Prelude.{◌≡◌};
 ghost use Rattle.lookup_model.specs.declared.error.LookupError.TheVariants.{Memory};
 
@@ -9,7 +9,7 @@ use thiserror::Error;
 /// A refusal of the lookup layer.
 #[derive(Debug, Drop, PartialEq, Eq, Error)]
 pub enum LookupError {
-    /// Two global lookups of one bus have tuples of different widths.
+    /// Two global lookups on one bus have tuples of different widths.
     #[error("bus {bus}: tuple widths {expected} and {actual} differ")]
     BusWidthMismatch {
         bus: String,
@@ -19,28 +19,28 @@ pub enum LookupError {
     /// The terminals of all AIRs do not cancel.
     #[error("cross-AIR lookup terminal sum is non-zero")]
     TerminalSumNonZero,
-    /// Kept from the Rust crate; no call here answers it.
+    /// Kept from the Rust crate; no call here returns it.
     #[error("lookup commitment presence does not match lookup configuration")]
     CommitmentMismatch,
-    /// An AIR has a terminal and no lookups, or lookups and no terminal.
+    /// An AIR has a terminal but no lookups, or lookups but no terminal.
     #[error("air {air}: lookup terminal presence mismatch: expected_present={expected_present}, got_present={got_present}")]
     TerminalPresenceMismatch {
         air: usize,
         expected_present: bool,
         got_present: bool,
     },
-    /// Kept from the Rust crate; no call here answers it.
+    /// Kept from the Rust crate; no call here returns it.
     #[error("air {air}: permutation local/next length mismatch")]
     PermutationLengthMismatch {
         air: usize,
     },
-    /// An auxiliary trace has not one column more than its AIR has lookups.
+    /// The auxiliary width is not the number of lookups plus one.
     #[error("air {air}: permutation width mismatch: expected {expected}")]
     PermutationWidthMismatch {
         air: usize,
         expected: usize,
     },
-    /// The weights times the heights reach the characteristic.
+    /// The sum of the weights times the heights reaches the characteristic.
     #[error("LogUp multiplicity height-bound exceeded: weighted height sum {weighted_height_sum} reaches the ~2^{field_bits} field characteristic")]
     MultiplicityHeightBoundExceeded {
         weighted_height_sum: u128,
@@ -56,13 +56,13 @@ pub enum LookupError {
     /// The weights of one lookup do not fit their type.
     #[error("count_weight overflow: aggregate lookup weight exceeds u32::MAX")]
     CountWeightOverflow,
-    /// A request for memory was refused.
+    /// Out of memory.
     #[error("out of memory")]
     Memory,
     /// A sum of degrees does not fit `usize`.
     #[error("degree does not fit usize")]
     DegreeOverflow,
-    /// The lists of a lookup have different lengths, or its column is not its place.
+    /// The lists of a lookup have different lengths, or its column is not its index.
     #[error("lookup {lookup}: malformed record")]
     BadRecord {
         lookup: usize,
@@ -85,7 +85,7 @@ pub enum LookupError {
         row: usize,
         lookup: usize,
     },
-    /// An auxiliary trace has not the height of its AIR.
+    /// An auxiliary trace does not have the height of its AIR.
     #[error("air {air}: permutation height mismatch")]
     PermutationHeightMismatch {
         air: usize,
@@ -120,7 +120,7 @@ impl<T: Drop> From<AllocFailed<T>> for LookupError {
     }
 }
 
-/// Want of memory and an overflow of degrees keep their names; any other refusal is handed on.
+/// Out of memory and an overflow of degrees keep their names; any other refusal is passed on.
 impl From<AirError> for LookupError {
     ghost use Rattle.lookup_model.specs.Refusal.{from_air};
 

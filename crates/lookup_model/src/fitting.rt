@@ -7,16 +7,19 @@ ghost use Rattle.lookup_model.specs.Records.{AllFit, AreRecords, DoFit, HasEqual
 use crate::types::Lookup;
 use expressions::{AirLayout, BaseEntry, BaseLeaf, SymbolicExpression};
 
-/// Whether lookups fit an AIR of this layout: each has as many multiplicities, and flags where it
-/// has flags, as tuples; their columns are 0, 1, 2 and on; their variables have offset 0 or 1 and
-/// indices below the widths and the number of public values of the layout.
+/// Whether lookups fit an AIR of this layout:
+///
+/// - each has as many multiplicities as tuples and, if it has flags, as many flags;
+/// - their columns are 0, 1, 2, …;
+/// - their variables have offset 0 or 1, and indices below the layout's widths and number of public
+///   values.
 pub fn fits<F>(lookups: &[Lookup<F>], layout: &AirLayout) -> bool
     ensures { IsTrue result ↔ DoFit layout.now lookups.now }
 {
     first_malformed(lookups).is_none() && are_within(lookups, layout)
 }
 
-/// The first lookup whose lists have different lengths or whose column is not its place.
+/// The first lookup whose lists have different lengths or whose column is not its index.
 pub fn first_malformed<F>(lookups: &[Lookup<F>]) -> Option<usize>
     ensures { MatchOption result (AreRecords lookups.now) (IsFirstMalformed lookups.now) }
 {
@@ -34,7 +37,7 @@ fn is_record_at<F>(lookup: &Lookup<F>, column: usize) -> bool
     lookup.column == column && has_equal_lengths(lookup)
 }
 
-/// Whether a lookup has one multiplicity for each tuple and, where it has flags, one flag for each.
+/// Whether a lookup has one multiplicity for each tuple and, if it has flags, one flag for each.
 pub fn has_equal_lengths<F>(lookup: &Lookup<F>) -> bool
     ensures { IsTrue result ↔ HasEqualLengths lookup.now }
 {

@@ -1,6 +1,6 @@
-//! What lookups are and what they mean: their types, their refusals, which of them fit an AIR, and,
-//! in `specs/`, the messages that they send, the plain result of generation and the equations of a
-//! satisfied witness (LogUp, eprint 2022/1530).
+//! What lookups are and what they mean: their types, their refusals, and which of them fit an AIR.
+//! `specs/` defines the messages that they send, the plain result of generation and the equations
+//! of a satisfied witness (LogUp, eprint 2022/1530).
 #![tactic(auto)]
 
 mod copies;

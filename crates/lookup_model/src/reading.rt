@@ -4,7 +4,7 @@ use expressions::SymbolicExpression;
 use serde::{Deserialize, DeserializeOwned, Deserializer, Format, Name};
 use std::alloc::Global;
 
-/// A local kind is read by its name, a global one as a map of one member, its bus.
+/// A local kind is read by its name alone, a global one as a map with one member, its bus.
 impl DeserializeOwned for Kind {
     fn deserialize_owned<R: Format>(
         alloc: Global,
@@ -29,7 +29,7 @@ impl DeserializeOwned for Kind {
     }
 }
 
-/// As `DeserializeOwned` reads.
+/// Reads as `DeserializeOwned` does.
 impl<'de> Deserialize<'de> for Kind {
     fn deserialize<R: Format>(
         alloc: Global,
@@ -39,7 +39,7 @@ impl<'de> Deserialize<'de> for Kind {
     }
 }
 
-/// The members of a lookup that were read so far.
+/// The members of a lookup that have been read so far.
 #[derive(Drop)]
 struct Members<F> {
     kind: Option<Kind>,
@@ -62,7 +62,7 @@ impl<F: DeserializeOwned> Members<F> {
         }
     }
 
-    /// Reads the member of this place.
+    /// Reads the member with this index.
     fn read<R: Format>(
         &mut self,
         alloc: Global,
@@ -80,7 +80,7 @@ impl<F: DeserializeOwned> Members<F> {
         }
     }
 
-    /// The lookup of these members.
+    /// The lookup with these members.
     fn into_lookup<R: Format>(self, from: &Deserializer<'_, '_, R>) -> Result<Lookup<F>, R::Error> {
         Ok(Lookup {
             kind: present("kind", self.kind, from)?,
@@ -93,7 +93,7 @@ impl<F: DeserializeOwned> Members<F> {
     }
 }
 
-/// Reads the value of a member into its place, which has to be free.
+/// Reads the value of a member into its place, which must be empty.
 fn fill<T: DeserializeOwned, R: Format>(
     alloc: Global,
     name: &str,
@@ -107,7 +107,7 @@ fn fill<T: DeserializeOwned, R: Format>(
     Ok(())
 }
 
-/// A member that has to be there.
+/// A member that must be there.
 fn present<T: Drop, R: Format>(
     name: &str,
     member: Option<T>,
@@ -119,8 +119,8 @@ fn present<T: Drop, R: Format>(
     }
 }
 
-/// A lookup is a map of its members. Missing and doubled members are refused, but for `flags`,
-/// which may be missing where there are none; members of other names are passed over.
+/// A lookup is a map of its members. Missing and duplicate members are refused, except that `flags`
+/// may be missing if there are none. Members with other names are ignored.
 impl<F: DeserializeOwned> DeserializeOwned for Lookup<F> {
     fn deserialize_owned<R: Format>(
         alloc: Global,
@@ -146,7 +146,7 @@ impl<F: DeserializeOwned> DeserializeOwned for Lookup<F> {
     }
 }
 
-/// As `DeserializeOwned` reads.
+/// Reads as `DeserializeOwned` does.
 impl<'de, F: DeserializeOwned> Deserialize<'de> for Lookup<F> {
     fn deserialize<R: Format>(
         alloc: Global,

@@ -5,7 +5,7 @@ use expressions::SymbolicExpression;
 use field::PrimeCharacteristicRing;
 use serde::{Described, Deserialize, Serialize, Serializer};
 
-/// Whether a lookup stands by itself or is sent on a bus.
+/// Whether a lookup is local to one AIR or sent on a bus.
 #[derive(Debug, Drop, PartialEq, Eq, Serialize)]
 pub enum Kind {
     /// A lookup inside one AIR.
@@ -17,7 +17,7 @@ pub enum Kind {
 /// One lookup: on each row its tuples, each with a multiplicity.
 ///
 /// Without `flags` (additive) a row sends every tuple with its multiplicity. With `flags`
-/// (exclusive), one for each tuple, a row sends the tuple and the multiplicity whose flag is set.
+/// (exclusive), one for each tuple, a row sends the tuple whose flag is set, with its multiplicity.
 #[derive(Debug, Drop, Serialize)]
 pub struct Lookup<F> {
     /// Local, or global on a named bus.
@@ -26,15 +26,15 @@ pub struct Lookup<F> {
     pub elements: Vec<Vec<SymbolicExpression<F>>>,
     /// One signed multiplicity for each tuple.
     pub multiplicities: Vec<SymbolicExpression<F>>,
-    /// How much the queries of one row add to a count at most, in absolute value.
+    /// The most that the queries of one row add to a count, in absolute value.
     pub count_weight: u32,
-    /// The place of the lookup in its AIR: its fractions stand in auxiliary column `column + 1`.
+    /// The index of the lookup in its AIR: its fractions are in auxiliary column `column + 1`.
     pub column: usize,
-    /// One flag for each tuple, where the lookup is exclusive.
+    /// One flag for each tuple, if the lookup is exclusive.
     pub flags: Option<Vec<SymbolicExpression<F>>>,
 }
 
-/// The sum of all fractions of one AIR, which its prover hands over.
+/// The sum of all fractions of one AIR, which its prover provides.
 #[derive(Clone, Copy, Debug, Deserialize)]
 pub struct LookupTerminal<F>(pub F);
 
@@ -42,7 +42,7 @@ impl<F: Described> Described for LookupTerminal<F> {
     ghost writes = { λ terminal. F.writes terminal.0 };
 }
 
-/// A terminal is sent as its element.
+/// A terminal is written as its element.
 impl<F: Serialize> Serialize for LookupTerminal<F> {
     fn serialize<S: Serializer>(&self, out: &mut S) -> Result<(), S::Error> {
         self.0.serialize(out)

@@ -1,4 +1,4 @@
-//! Builders that take interactions and indexed declarations beside constraints.
+//! Builders that take interactions and indexed declarations as well as constraints.
 ghost use Rattle.std.specs.Prelude.{◌≡◌, ℕ, ◌↔◌, MatchResult};
 ghost use Rattle.expressions.specs.Window.{Window};
 ghost use Rattle.expressions.specs.declared.error.AirError.{AirError};
@@ -12,11 +12,11 @@ use crate::indexed::TraceWindow;
 use air::{AirBuilder, AirError};
 use std::alloc::Global;
 
-/// A builder that AIRs can hand messages to: on named buses, which all AIRs of one name share, and
-/// in local lookups.
+/// A builder that AIRs push messages to: on named buses, which all AIRs share by name, and in local
+/// lookups.
 ///
-/// A push is accepted or refused. What an accepted one leaves stands for the same windows and has
-/// the same layout.
+/// A push is accepted or refused. After an accepted one the builder stands for the same windows and
+/// has the same layout.
 pub trait InteractionBuilder: AirBuilder {
     ghost pushes: { Self → Interaction Self.Expr → Self → Type 0 };
 
@@ -50,10 +50,10 @@ pub trait InteractionBuilder: AirBuilder {
             (λ _. pushes self.old (pushed_local tuples.items) self.new)
             (λ e. refuses_push self.old (pushed_local tuples.items) e self.new) };
 
-    /// Pushes a group on the bus of this name: of the branches, each a flag, a count and a message,
-    /// a row sends the one whose flag is set, or none.
+    /// Pushes a group on the bus of this name. Each branch is a flag, a count and a message; a row
+    /// sends the branch whose flag is set, or none.
     ///
-    /// That each flag is 0 or 1 and at most one is set on each row is for the AIR to enforce.
+    /// The AIR must enforce that each flag is 0 or 1 and that at most one is set on each row.
     fn push_exclusive_interaction(
         &mut self,
         alloc: Global,
@@ -85,8 +85,8 @@ pub trait InteractionBuilder: AirBuilder {
 
 /// A builder that AIRs can declare indexed lookups to.
 ///
-/// A declaration names committed columns and no expressions. It is accepted or refused, and what an
-/// accepted one leaves stands for the same windows and has the same layout.
+/// A declaration names committed columns and no expressions. It is accepted or refused; after an
+/// accepted one the builder stands for the same windows and has the same layout.
 pub trait IndexedLookupBuilder: AirBuilder {
     ghost declares: { Self → Declaration → Self → Type 0 };
 
@@ -96,8 +96,8 @@ pub trait IndexedLookupBuilder: AirBuilder {
 
     ghost table_count: { Self → ℕ };
 
-    /// Declares that the AIR reads from the table of this name: the column `position` of its main
-    /// trace holds the index of the entry that a row reads, and the columns `payload` hold what is
+    /// Declares that the AIR reads from the table of this name. The column `position` of its main
+    /// trace holds the index of the entry that a row reads. The columns `payload` hold what is
     /// read, in the order of the table's columns.
     fn push_indexed_read(
         &mut self,

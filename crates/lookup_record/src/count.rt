@@ -12,8 +12,8 @@ use std::ops::Neg;
 /// How many times a message is sent on a row, with a bound on that number.
 ///
 /// The expression is signed: what is sent counts up, what is received or provided counts down. The
-/// weight is the most that one row adds in absolute value. That the expression keeps to it on each
-/// row is for the AIR to enforce; here it is only carried along.
+/// weight is the most that one row adds in absolute value. The AIR must enforce that the expression
+/// stays within it on each row; here it is only carried along.
 #[derive(Debug, Drop)]
 pub struct Count<E> {
     expression: E,
@@ -28,7 +28,8 @@ impl<E> Count<E> {
         Count { expression, weight }
     }
 
-    /// This count of a provided entry. Its weight is 0, since it answers queries and makes none.
+    /// The count of a provided entry. Its weight is 0, since an entry answers queries and makes
+    /// none.
     pub fn provided(expression: E) -> Self
         ensures { result ≡ record { expression = expression; weight = 0 } }
     {
@@ -52,7 +53,7 @@ impl<E> Count<E> {
         (self.expression, self.weight)
     }
 
-    /// The whole number `count`, with its absolute value as weight.
+    /// The whole number `count`, with its absolute value as the weight.
     pub fn from_i32<F: Field>(count: i32) -> Self
     where
         E: Expression<F>,
@@ -66,9 +67,9 @@ impl<E> Count<E> {
         }
     }
 
-    /// The negated count, with the same weight. Negated again it has the value it has now.
+    /// The negated count, with the same weight. Negating twice gives the same value.
     ///
-    /// The one refusal is want of memory.
+    /// Fails only when out of memory.
     #[tactic(auto, using(field::specs::RingFacts::neg_neg))]
     pub fn negate<F: Field>(self, alloc: Global) -> Result<Self, AllocError>
     where
@@ -85,9 +86,9 @@ impl<E> Count<E> {
         })
     }
 
-    /// The same count again.
+    /// A deep copy.
     ///
-    /// The one refusal is want of memory.
+    /// Fails only when out of memory.
     pub fn copy<F: Field>(&self, alloc: Global) -> Result<Self, AllocError>
     where
         E: Expression<F>,
@@ -105,7 +106,7 @@ impl<E> Count<E> {
 }
 
 impl<F: Field> Count<SymbolicExpression<F>> {
-    /// The same count again, node by node.
+    /// A deep copy.
     pub(crate) fn copy_tree(&self, alloc: Global) -> Result<Self, AllocError>
         ensures tree { IfOk result (λ c. tree_of c.expression ≡ tree_of self.now.expression) }
         ensures weight { IfOk result (λ c. c.weight ≡ self.now.weight) }
@@ -117,7 +118,7 @@ impl<F: Field> Count<SymbolicExpression<F>> {
     }
 }
 
-/// The whole number `count` in a field, with its absolute value as weight.
+/// The whole number `count` in a field, with its absolute value as the weight.
 impl<F: Field> From<i32> for Count<F> {
     ghost use Rattle.std.specs.Prelude.{◌≡◌, unsigned_abs};
     ghost use Rattle.field.specs.Ring.{of_int};

@@ -1,4 +1,4 @@
-//! The row checker takes interactions and declarations, and records none.
+//! The row checker accepts interactions and declarations, and records none.
 ghost use Rattle.std.specs.Prelude.{◌≡◌, MatchResult};
 ghost use Rattle.std.proofs.Common.{rules};
 
@@ -9,8 +9,8 @@ use air::{AirError, DebugConstraintBuilder};
 use field::{ExtensionField, Field};
 use std::alloc::Global;
 
-/// Every push is accepted and leaves the builder as it was: a message has no equation of its own
-/// on a row.
+/// Accepts every push and leaves the builder as it was: on a single row a message has no equation
+/// of its own.
 impl<'a, F: Field, EF: ExtensionField<F>> InteractionBuilder for DebugConstraintBuilder<'a, F, EF> {
     ghost pushes = { λ b m c. c ≡ b };
 
@@ -72,8 +72,8 @@ impl<'a, F: Field, EF: ExtensionField<F>> InteractionBuilder for DebugConstraint
     }
 }
 
-/// Every declaration is accepted and leaves the builder as it was: what is read is shown against a
-/// commitment, and not on a row.
+/// Accepts every declaration and leaves the builder as it was: what is read is shown against a
+/// commitment, not on a row.
 impl<'a, F: Field, EF: ExtensionField<F>> IndexedLookupBuilder
     for DebugConstraintBuilder<'a, F, EF> {
     ghost declares = { λ b d c. c ≡ b };

@@ -10,14 +10,14 @@ use air::{Expression, SymbolicExpression, copy_expressions};
 use field::Field;
 use std::alloc::{AllocError, Global};
 
-/// One message on a bus: on each row the values of `fields`, sent as often as `count` says.
+/// One message on a bus: on each row the values of `fields`, sent `count` times.
 #[derive(Debug, Drop)]
 pub struct SymbolicInteraction<F> {
     /// The name of the bus, which all AIRs of one batch share.
     pub bus_name: String,
     /// The message, first element first.
     pub fields: Vec<SymbolicExpression<F>>,
-    /// How often it is sent: above zero for a send or a query, below for a receive or an entry.
+    /// How often it is sent: positive for a send or a query, negative for a receive or an entry.
     pub count: SymbolicExpression<F>,
     /// The most that one row adds to the count in absolute value, 0 for a provided entry.
     pub count_weight: u32,
@@ -26,16 +26,16 @@ pub struct SymbolicInteraction<F> {
 /// One tuple of a local lookup with its count.
 pub type LocalTuple<F> = (Vec<SymbolicExpression<F>>, Count<SymbolicExpression<F>>);
 
-/// One lookup inside an AIR, whose tuples have to cancel over the rows of its own trace.
+/// One lookup inside an AIR, whose tuples have to cancel over the rows of the AIR's own trace.
 #[derive(Debug, Drop)]
 pub struct SymbolicLocalInteraction<F> {
     /// The tuples, each with its count.
     pub tuples: Vec<LocalTuple<F>>,
 }
 
-/// A group of messages on one bus, of which a row sends at most one: that of the set flag.
+/// A group of messages on one bus. A row sends at most one of them: the one whose flag is set.
 ///
-/// That each flag is 0 or 1 and at most one is set on each row is for the AIR to enforce.
+/// The AIR must enforce that each flag is 0 or 1 and that at most one is set on each row.
 #[derive(Debug, Drop)]
 pub struct SymbolicExclusiveInteraction<F> {
     /// The name of the bus.
@@ -49,7 +49,7 @@ pub struct SymbolicExclusiveInteraction<F> {
 pub struct SymbolicExclusiveBranch<F> {
     /// 1 on a row that sends this branch, else 0.
     pub flag: SymbolicExpression<F>,
-    /// How often the message is sent where the flag is set.
+    /// How often the message is sent if the flag is set.
     pub count: SymbolicExpression<F>,
     /// The message, first element first.
     pub fields: Vec<SymbolicExpression<F>>,
@@ -58,9 +58,9 @@ pub struct SymbolicExclusiveBranch<F> {
 }
 
 impl<F: Field> SymbolicInteraction<F> {
-    /// The same record again, node by node.
+    /// A deep copy.
     ///
-    /// The one refusal is want of memory.
+    /// Fails only when out of memory.
     pub fn copy(&self, alloc: Global) -> Result<Self, AllocError>
         ensures { IfOk result (λ r. map_global tree_of (global_of r) ≡ map_global tree_of (global_of self.now)) }
     {
@@ -74,9 +74,9 @@ impl<F: Field> SymbolicInteraction<F> {
 }
 
 impl<F: Field> SymbolicLocalInteraction<F> {
-    /// The same record again, node by node.
+    /// A deep copy.
     ///
-    /// The one refusal is want of memory.
+    /// Fails only when out of memory.
     pub fn copy(&self, alloc: Global) -> Result<Self, AllocError>
         ensures { IfOk result (λ r. map (map_tuple tree_of) (local_of r) ≡ map (map_tuple tree_of) (local_of self.now)) }
     {
@@ -89,9 +89,9 @@ impl<F: Field> SymbolicLocalInteraction<F> {
 }
 
 impl<F: Field> SymbolicExclusiveInteraction<F> {
-    /// The same record again, node by node.
+    /// A deep copy.
     ///
-    /// The one refusal is want of memory.
+    /// Fails only when out of memory.
     pub fn copy(&self, alloc: Global) -> Result<Self, AllocError>
         ensures { IfOk result (λ r. map_exclusive tree_of (exclusive_of r) ≡ map_exclusive tree_of (exclusive_of self.now)) }
     {
@@ -105,9 +105,9 @@ impl<F: Field> SymbolicExclusiveInteraction<F> {
 }
 
 impl<F: Field> SymbolicExclusiveBranch<F> {
-    /// The same record again, node by node.
+    /// A deep copy.
     ///
-    /// The one refusal is want of memory.
+    /// Fails only when out of memory.
     pub fn copy(&self, alloc: Global) -> Result<Self, AllocError>
         ensures { IfOk result (λ r. map_branch tree_of (branch_of r) ≡ map_branch tree_of (branch_of self.now)) }
     {
@@ -120,7 +120,7 @@ impl<F: Field> SymbolicExclusiveBranch<F> {
     }
 }
 
-/// The same tuple again.
+/// A copy of the tuple.
 fn copy_tuple<F: Field>(alloc: Global, tuple: &LocalTuple<F>) -> Result<LocalTuple<F>, AllocError>
     ensures { IfOk result (λ t. map_tuple tree_of (tuple_of t) ≡ map_tuple tree_of (tuple_of tuple.now)) }
 {

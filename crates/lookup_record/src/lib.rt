@@ -1,5 +1,5 @@
-//! What AIRs say of lookups while they are evaluated: messages on buses with signed counts, local
-//! lookups and indexed declarations, and the builders that take them.
+//! What AIRs say about lookups while they are evaluated: messages on buses with signed counts,
+//! local lookups and indexed declarations. Also the builders that take them.
 //!
 //! An AIR sends through a `LookupBus` or a `PermutationCheckBus`, or pushes on an
 //! `InteractionBuilder` itself. An `InteractionSymbolicBuilder` records all of it in order.

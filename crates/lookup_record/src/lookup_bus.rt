@@ -9,7 +9,7 @@ use air::{AirError, Expression};
 use field::{Field, PrimeCharacteristicRing};
 use std::alloc::{AllocError, Global};
 
-/// A bus between queries and a table: that every query is an entry shows where all messages cancel.
+/// A bus between queries and a table: if all messages cancel, every query is an entry of the table.
 #[derive(Clone, Debug, Drop)]
 pub struct LookupBus<'a> {
     name: &'a str,
@@ -32,7 +32,7 @@ impl<'a> LookupBus<'a> {
 
     /// Queries `key` in the table, `count` times on each row.
     ///
-    /// The answer is the builder's own.
+    /// Returns what the builder returns.
     pub fn lookup_key<AB: InteractionBuilder>(
         &self,
         alloc: Global,
@@ -47,10 +47,10 @@ impl<'a> LookupBus<'a> {
         builder.push_interaction(alloc, self.name, key, count)
     }
 
-    /// Provides `key` as an entry of the table, which is taken `num_lookups` times on each row: the
-    /// message counts down that often, with weight 0.
+    /// Provides `key` as an entry of the table, used `num_lookups` times on each row. The message
+    /// counts down that often, with weight 0.
     ///
-    /// The answer is the builder's own, or want of memory with nothing pushed.
+    /// Returns what the builder returns, or fails out of memory with nothing pushed.
     pub fn table_entry<AB: InteractionBuilder>(
         &self,
         alloc: Global,
@@ -66,11 +66,11 @@ impl<'a> LookupBus<'a> {
         builder.push_interaction(alloc, self.name, key, Count::provided(taken))
     }
 
-    /// Queries one of several keys: on each row that of the set flag, once, or none. Each branch is
-    /// a flag with its key.
+    /// Queries one of several keys: each row queries, once, the key whose flag is set, or none.
+    /// Each branch is a flag with its key.
     ///
-    /// That each flag is 0 or 1 and at most one is set on each row is for the AIR to enforce. The
-    /// answer is the builder's own, or want of memory with nothing pushed.
+    /// The AIR must enforce that each flag is 0 or 1 and that at most one is set on each row.
+    /// Returns what the builder returns, or fails out of memory with nothing pushed.
     pub fn lookup_key_exclusive<AB: InteractionBuilder>(
         &self,
         alloc: Global,
@@ -101,7 +101,7 @@ fn unit_queries<F: Field, E: Expression<F>>(
     Ok(queries)
 }
 
-/// The branch of this flag and this key with the count 1.
+/// The branch with this flag, this key and the count 1.
 fn unit_query<F: Field, E: Expression<F>>(flag: E, key: Vec<E>) -> (E, Count<E>, Vec<E>)
     ensures flag_and_fields { flag_and_fields (pushed_branch result) ≡ (flag, key.items) }
     ensures query { IsUnitQuery F.ring.one E.value E.degree (pushed_branch result) }

@@ -8,8 +8,7 @@ use crate::count::Count;
 use air::AirError;
 use std::alloc::Global;
 
-/// A bus between senders and receivers: that what is sent is what is received shows where all
-/// messages cancel.
+/// A bus between senders and receivers: if all messages cancel, what is sent is what is received.
 #[derive(Clone, Debug, Drop)]
 pub struct PermutationCheckBus<'a> {
     name: &'a str,
@@ -32,7 +31,7 @@ impl<'a> PermutationCheckBus<'a> {
 
     /// Sends the message `fields`, `count` times on each row.
     ///
-    /// The answer is the builder's own.
+    /// Returns what the builder returns.
     pub fn send<AB: InteractionBuilder>(
         &self,
         alloc: Global,
@@ -47,10 +46,10 @@ impl<'a> PermutationCheckBus<'a> {
         builder.push_interaction(alloc, self.name, fields, count)
     }
 
-    /// Receives the message `fields`, `count` times on each row: it counts down that often, with
-    /// the count's own weight.
+    /// Receives the message `fields`, `count` times on each row. The message counts down that
+    /// often, with the count's own weight.
     ///
-    /// The answer is the builder's own, or want of memory with nothing pushed.
+    /// Returns what the builder returns, or fails out of memory with nothing pushed.
     pub fn receive<AB: InteractionBuilder>(
         &self,
         alloc: Global,

@@ -27,7 +27,7 @@ use std::alloc::{AllocError, Global};
 /// A builder that records constraints, interactions and indexed declarations, each kind in the
 /// order in which it was pushed. It stands for every window with the widths of its layout.
 ///
-/// A push appends one record. After a refusal the builder is what it was before.
+/// A push appends one record. A refusal leaves the builder as it was.
 #[derive(Debug, Drop)]
 pub struct InteractionSymbolicBuilder<F, EF> {
     inner: SymbolicAirBuilder<F, EF>,
@@ -45,7 +45,7 @@ impl<F: Field, EF: ExtensionField<F>> InteractionSymbolicBuilder<F, EF> {
 
     /// The builder for a layout, with nothing recorded.
     ///
-    /// The one refusal is want of memory.
+    /// Fails only when out of memory.
     pub fn new(alloc: Global, layout: AirLayout) -> Result<Self, AirError>
         ensures new { IfOk result (λ b. recorded_air b ≡ no_air_recorded layout) }
         ensures refused { IfErr result (λ e. e ≡ Memory) }
@@ -60,11 +60,14 @@ impl<F: Field, EF: ExtensionField<F>> InteractionSymbolicBuilder<F, EF> {
         })
     }
 
-    /// What the evaluation of an AIR leaves in a new builder for this layout.
+    /// A new builder for this layout, after evaluating the AIR on it.
     ///
-    /// Refuses `LayoutMismatch` where the layout does not have the AIR's main width, preprocessed
-    /// width and number of public values, by the first that differs; then want of memory for the
-    /// new builder, and the AIR's own refusal.
+    /// Refused, in this order:
+    ///
+    /// - `LayoutMismatch` if the layout does not have the AIR's main width, preprocessed width and
+    ///   number of public values; it names the first that differs;
+    /// - out of memory, for the new builder;
+    /// - the AIR's own refusal.
     pub fn from_air<A: Air<Self>>(
         alloc: Global,
         air: &A,
@@ -101,8 +104,8 @@ impl<F: Field, EF: ExtensionField<F>> InteractionSymbolicBuilder<F, EF> {
         self.exclusive_interactions.as_slice()
     }
 
-    /// The local lookups, the messages on buses and the groups, each in the order in which they were
-    /// pushed. The constraints and the indexed declarations are dropped.
+    /// The local lookups, the messages on buses and the groups, each in the order in which they
+    /// were pushed. Drops the constraints and the indexed declarations.
     pub fn into_interactions(
         self,
     ) -> (
@@ -137,7 +140,7 @@ impl<F: Field, EF: ExtensionField<F>> InteractionSymbolicBuilder<F, EF> {
 
     /// A copy of the constraints over the field, in order.
     ///
-    /// The one refusal is want of memory.
+    /// Fails only when out of memory.
     pub fn base_constraints(&self, alloc: Global) -> Result<Vec<SymbolicExpression<F>>, AllocError>
         ensures { IfOk result (λ v. map tree_of v.items ≡ map tree_of (recorded_air self.now).constraints.base) }
     {
@@ -146,7 +149,7 @@ impl<F: Field, EF: ExtensionField<F>> InteractionSymbolicBuilder<F, EF> {
 
     /// A copy of the constraints over the extension, in order.
     ///
-    /// The one refusal is want of memory.
+    /// Fails only when out of memory.
     pub fn extension_constraints(
         &self,
         alloc: Global,
@@ -160,9 +163,9 @@ impl<F: Field, EF: ExtensionField<F>> InteractionSymbolicBuilder<F, EF> {
         Ok(copies)
     }
 
-    /// A copy of the constraints' places in the one order of all assertions.
+    /// A copy of the constraints' positions in the one order of all assertions.
     ///
-    /// The one refusal is want of memory.
+    /// Fails only when out of memory.
     pub fn constraint_layout(&self, alloc: Global) -> Result<ConstraintLayout, AllocError>
         ensures base { IfOk result (λ l. l.base_indices.items ≡ (recorded_air self.now).constraints.base_indices) }
         ensures extension { IfOk result (λ l. l.ext_indices.items ≡ (recorded_air self.now).constraints.ext_indices) }

@@ -33,8 +33,8 @@ impl<F> BaseAir<F> for RangeAir {
     }
 }
 
-/// One local lookup: the value that is read with count 1, and the provided one with its count
-/// negated.
+/// One local lookup: the value that is read with count 1, and the provided one with the negated
+/// count.
 impl<AB: InteractionBuilder> Air<AB> for RangeAir {
     ghost evaluates = { λ _ before answer after. PushesSuch AB.pushes AB.refuses_push
         (IsRange (λ x w. AB.Expr.value x (AB.seen w)) (AB.stands_for before) (λ w. w.main) AB.F.ring) before answer after

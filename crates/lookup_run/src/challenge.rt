@@ -1,4 +1,4 @@
-//! Numbers and challenges as they are written.
+//! Reading numbers and challenges from words.
 ghost use Rattle.std.specs.Prelude.{◌≡◌, ℕ, List, MatchOption, option_map};
 ghost use Rattle.field.specs.Ring.{of_nat};
 ghost use Rattle.lookup_run.specs.Fields.{Fields, run_fields};
@@ -8,14 +8,14 @@ use field::{
     BabyBear, BabyBear4, ExtensionDomain, ExtensionField, F7, Field, PrimeCharacteristicRing,
 };
 
-/// A field whose elements can be given as challenges for rows over the field `F`: `written` says
-/// which element a word gives, and `fields` what a run over the two works with.
+/// A field whose elements can be given as challenges for rows over the field `F`. `written` says
+/// which element a word gives, and `fields` what a run over the two fields works with.
 pub trait Challenge<F: Field>: ExtensionField<F> {
     ghost written: { List ℕ → Self → Type 0 };
 
     ghost fields: { Fields F Self };
 
-    /// The element that a word gives, and `None` where it gives none.
+    /// The element that a word gives, or `None` if it gives none.
     fn from_word(word: &[u8]) -> Option<Self>
         ensures { MatchOption result ((x : Self) → ¬ written word.now x) (λ x. written word.now x) };
 }
@@ -32,7 +32,8 @@ impl Challenge<F7> for F7 {
     }
 }
 
-/// Four numbers below the characteristic, joined by commas: the coefficients of `1, X, X^2, X^3`.
+/// Four numbers below the characteristic, separated by commas: the coefficients of
+/// `1, X, X^2, X^3`.
 impl Challenge<BabyBear> for BabyBear4 {
     ghost written = { λ word x. WritesQuartic word x };
 
@@ -52,15 +53,15 @@ impl Challenge<BabyBear> for BabyBear4 {
     }
 }
 
-/// The element of a prime field that a number below its characteristic gives.
+/// The element of a prime field that is given by a number below its characteristic.
 fn element<F: PrimeCharacteristicRing>(word: &[u8]) -> Option<F>
     ensures { result ≡ option_map (of_nat F.ring) (number_of (number_bound F.CHARACTERISTIC) word.now) }
 {
     number(word, F::CHARACTERISTIC).map(|value| F::from_u32(value))
 }
 
-/// The value of one or more decimal digits where it is below `bound` and fits 32 bits; leading
-/// zeros are allowed.
+/// The value of one or more decimal digits, if it is below `bound` and fits 32 bits. Leading zeros
+/// are allowed.
 pub fn number(word: &[u8], bound: u128) -> Option<u32>
     ensures { result ≡ number_of (number_bound bound) word.now }
 {

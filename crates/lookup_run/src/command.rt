@@ -17,9 +17,9 @@ use std::process::ExitCode;
 
 /// Runs `words`, which are `MACHINE FIELD ALPHA BETA`, over the rows of `input`.
 ///
-/// Writes the report to `output` where nothing is refused, else one line `error: TEXT` to `errors`
-/// and nothing to `output`. All text is made before anything is written. The status is 0 where the
-/// terminals cancel, 1 where they do not, and 2 where the run is refused or a write fails.
+/// Writes the report to `output`. If the run is refused, it writes one line `error: TEXT` to
+/// `errors` and nothing to `output`. All text is made before anything is written. The status is 0
+/// if the terminals cancel, 1 if they do not, and 2 if the run is refused or a write fails.
 pub fn run<R: Read, W: Write, E: Write>(
     alloc: Global,
     words: &[String],
@@ -37,8 +37,8 @@ pub fn run<R: Read, W: Write, E: Write>(
     }
 }
 
-/// Writes the line of a refusal to `errors`, and where memory runs out the line of that. The status
-/// is 2, whether it could be written or not.
+/// Writes the line of a refusal to `errors` or, if memory runs out, the line of that. The status is
+/// 2, whether or not it could be written.
 pub fn refuse<E: Write>(alloc: Global, error: RunError, errors: &mut E) -> ExitCode
     ensures { exit_status result ≡ 2 }
 {
@@ -49,8 +49,8 @@ pub fn refuse<E: Write>(alloc: Global, error: RunError, errors: &mut E) -> ExitC
     ExitCode::from(2)
 }
 
-/// Writes a report. The status is 0 where the terminals cancel, 1 where they do not, and 2 where a
-/// write fails.
+/// Writes a report. The status is 0 if the terminals cancel, 1 if they do not, and 2 if a write
+/// fails.
 fn write_report<W: Write>(report: &Report, output: &mut W) -> ExitCode
     ensures { ((exit_status result ≡ cond report.now.balanced 0 1) × Appends (W.contents output.old) (W.contents output.new) (string_bytes report.now.text))
         ⊎ (exit_status result ≡ 2) }
@@ -71,7 +71,7 @@ fn write_and_flush<W: Write>(bytes: &[u8], output: &mut W) -> io::Result<()>
     output.flush()
 }
 
-/// The report of the words, or the first refusal in the order of the checks.
+/// The report for the words, or the first refusal in the order of the checks.
 fn answer<R: Read>(alloc: Global, words: &[String], input: &mut R) -> Result<Report, RunError>
     ensures { (bytes : List ℕ) × IfSome (R.remaining input.old) (λ known. bytes ≡ known)
         × Answers ⟦<F7 as Challenge<F7>>⟧.fields ⟦<BabyBear4 as Challenge<BabyBear>>⟧.fields (map string_bytes words.now) bytes result }

@@ -1,4 +1,4 @@
-//! Why a run was refused.
+//! Why a run is refused.
 ghost use Rattle.std.specs.Prelude.{◌≡◌};
 ghost use Rattle.lookup_run.specs.declared.error.RunError.TheVariants.{Memory};
 
@@ -6,7 +6,7 @@ use lookup::LookupError;
 use std::alloc::{AllocError, AllocFailed};
 use thiserror::Error;
 
-/// A refusal of the program, whose text stands behind `error: `.
+/// A refusal of the program. Its text follows `error: `.
 #[derive(Debug, Drop, Error)]
 pub enum RunError {
     /// There are not four words.
@@ -36,7 +36,7 @@ pub enum RunError {
     /// The auxiliary trace of an AIR cannot be made.
     #[error("air {air}: {error}")]
     Air { air: usize, error: LookupError },
-    /// A request for memory was refused.
+    /// Out of memory.
     #[error("out of memory")]
     Memory,
 }
@@ -44,7 +44,7 @@ pub enum RunError {
 impl RunError {
     ghost use Rattle.lookup_run.specs.Refusal.{of_air};
 
-    /// A refusal of the lookup layer for one AIR; want of memory keeps its name.
+    /// A refusal of the lookup layer for one AIR; out of memory keeps its name.
     pub fn of_air(air: usize, error: LookupError) -> RunError
         ensures { result ≡ of_air air error }
     {

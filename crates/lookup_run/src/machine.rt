@@ -10,18 +10,18 @@ use std::alloc::Global;
 /// A machine: the columns of its input, and the AIRs with their lookups.
 #[derive(Clone, Copy, Debug, PartialEq, Eq)]
 pub enum Machine {
-    /// Columns `read provide mult`, and one AIR with a local lookup: `[read]` with count 1, and
-    /// `[provide]` with count `-mult`, which is provided.
+    /// Columns `read provide mult`, and one AIR with a local lookup: `[read]` with count 1, and the
+    /// provided `[provide]` with count `-mult`.
     Range,
-    /// Columns `flag0 key0 flag1 key1`, and one AIR with a group on the bus `rc`: of both keys a row
-    /// looks up the one whose flag is set, or none.
+    /// Columns `flag0 key0 flag1 key1`, and one AIR with a group on the bus `rc`: a row looks up
+    /// the one of both keys whose flag is set, or none.
     Exclusive,
 }
 
 impl Machine {
     ghost use Rattle.lookup_run.specs.Machines.{AreLookupsOf, columns_of, name_of};
 
-    /// The machine of a name.
+    /// The machine with this name.
     pub fn from_name(name: &str) -> Option<Machine>
         ensures { MatchOption result ((machine : Self) → name.now ≢ name_of machine) (λ machine. name.now ≡ name_of machine) }
     {
@@ -45,7 +45,7 @@ impl Machine {
 
     /// The lookups that its AIR records.
     ///
-    /// The one refusal is want of memory.
+    /// Fails only when out of memory.
     pub fn lookups<F: Field, EF: ExtensionField<F>>(
         self,
         alloc: Global,

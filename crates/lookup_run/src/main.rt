@@ -1,5 +1,5 @@
-//! `lookup-run MACHINE FIELD ALPHA BETA`: reads the rows of a machine, and prints the auxiliary
-//! traces and terminals of its AIRs and whether the terminals cancel.
+//! `lookup-run MACHINE FIELD ALPHA BETA`: reads the rows of a machine. Prints the auxiliary traces
+//! and terminals of its AIRs, and whether the terminals cancel.
 #![tactic(auto)]
 
 mod airs;

@@ -17,7 +17,7 @@ use lookup::{Challenges, LogUpGadget, LookupError, LookupProtocol, LookupTermina
 use matrix::RowMajorMatrix;
 use std::alloc::{AllocError, Global};
 
-/// What a run that is not refused comes to.
+/// The result of a run that is not refused.
 #[derive(Debug, Drop)]
 pub struct Report {
     /// What is written to standard output.
@@ -118,7 +118,7 @@ fn push_air<EF: Field>(
     Ok(())
 }
 
-/// Appends the cells of a row, joined by one space.
+/// Appends the cells of a row, separated by one space.
 fn push_row<EF: Field>(alloc: Global, text: &mut String, cells: &[EF]) -> Result<(), AllocError>
     ensures { OnOk result (string_bytes text.new ≡ string_bytes text.old ++ row_line EF.text cells.now) }
 {
@@ -129,7 +129,7 @@ fn push_row<EF: Field>(alloc: Global, text: &mut String, cells: &[EF]) -> Result
     text.push_str("\n")
 }
 
-/// Appends the other cells of a row, each behind one space.
+/// Appends the remaining cells of a row, each after one space.
 fn push_rest<EF: Field>(alloc: Global, text: &mut String, cells: &[EF]) -> Result<(), AllocError>
     ensures { OnOk result (string_bytes text.new ≡ string_bytes text.old ++ flat_map (λ cell. codes " " ++ EF.text cell) cells.now) }
 {

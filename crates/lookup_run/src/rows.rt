@@ -11,12 +11,14 @@ use field::Field;
 use matrix::RowMajorMatrix;
 use std::alloc::{AllocError, Global};
 
-/// The rows of the input as a matrix of `columns` columns.
+/// The rows of the input as a matrix with `columns` columns.
 ///
-/// Lines end at LF or at the end of the input; spaces, tabs and CR separate words, and a line
-/// without words is skipped. Refuses the first line that has words, but not `columns` of them, or
-/// one of whose words is no number below the characteristic and 2^32, its count of words first; then
-/// an input without rows.
+/// Lines end at LF or at the end of the input. Spaces, tabs and CR separate words, and a line
+/// without words is skipped.
+///
+/// Refuses the first faulty line: one that has words, but not `columns` of them or, checked next,
+/// one with a word that is not a number below the characteristic and 2^32. Then refuses an input
+/// without rows.
 pub fn read_rows<F: Field>(
     alloc: Global,
     text: &[u8],
@@ -34,7 +36,7 @@ pub fn read_rows<F: Field>(
     Ok(RowMajorMatrix::new(elements(alloc, &numbers)?, columns))
 }
 
-/// The elements that numbers give.
+/// The elements that the numbers give.
 fn elements<F: Field>(alloc: Global, numbers: &[u32]) -> Result<Vec<F>, AllocError>
     ensures { IfOk result (λ v. v.items ≡ map (of_nat F.ring) numbers.now) }
 {
@@ -67,7 +69,7 @@ fn read_numbers(
     Ok(numbers)
 }
 
-/// Appends the numbers of the line with this number, of which there are none or `columns`.
+/// Appends the numbers of the line with this number: `columns` numbers or none.
 fn push_line(
     numbers: &mut Vec<u32>,
     words: &[u8],
@@ -94,8 +96,8 @@ fn push_line(
     }
 }
 
-/// Appends a number for each word, and answers whether every word is a number below `bound`. For
-/// a word that is none it appends 0.
+/// Appends a number for each word, 0 for a word that is not a number below `bound`. Returns whether
+/// every word is one.
 fn push_words(numbers: &mut Vec<u32>, words: &[u8], bound: u128) -> Result<bool, AllocError>
     ensures numbers { OnOk result (numbers.new.items ≡ numbers.old.items ++ numbers_or_zeros (number_bound bound) (words_of words.now)) }
     ensures good { IfOk result (λ good. good ≡ list_all (is_number (number_bound bound)) (words_of words.now)) }

@@ -1,11 +1,11 @@
-//! Matrices whose values lie row after row.
+//! Matrices that store their values row after row.
 ghost use Rattle.std.specs.Prelude.{◌≡◌, ℕ, ◌+◌, ◌*◌, ◌<◌, length, vec_len};
 ghost use Rattle.matrix.specs.Matrix.{IsShaped, Matrix, height, row};
 
 use crate::window::WindowAccess;
 use std::marker::Model;
 
-/// A matrix whose values lie row after row.
+/// A matrix that stores its values row after row.
 #[derive(Debug, Drop)]
 pub struct RowMajorMatrix<T> {
     values: Vec<T>,
@@ -23,7 +23,7 @@ impl<T> Model for RowMajorMatrix<T> {
 }
 
 impl<T> RowMajorMatrix<T> {
-    /// The matrix of these values, row after row, in rows of `width`.
+    /// The matrix with these values, row after row, in rows of `width`.
     pub fn new(values: Vec<T>, width: usize) -> Self
         requires { IsShaped (record { values = values.items; width = width }) }
         ensures { result ≡ record { values = values.items; width = width } }
@@ -40,7 +40,7 @@ impl<T> RowMajorMatrix<T> {
         self.width
     }
 
-    /// How many rows there are, 0 where the width is 0.
+    /// How many rows there are, 0 if the width is 0.
     pub fn height(&self) -> usize
         ensures height { result ≡ height self.now }
         ensures shaped { IsShaped self.now }
@@ -69,7 +69,7 @@ impl<T> RowMajorMatrix<T> {
         self.values.as_slice()
     }
 
-    /// All values, row after row, without the matrix.
+    /// All values, row after row; consumes the matrix.
     pub fn into_values(self) -> Vec<T>
         ensures { result.items ≡ self.values }
     {

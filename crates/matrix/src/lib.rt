@@ -1,7 +1,7 @@
 //! Row-major matrices, and windows of two rows.
 //!
-//! Row `r` of a matrix of width `w` is the values from `r * w` to before `(r + 1) * w`. A window
-//! is what a constraint sees of a trace: the current row and the next one.
+//! Row `r` of a matrix of width `w` holds the values from `r * w` up to, but not including,
+//! `(r + 1) * w`. A window is what a constraint sees of a trace: the current row and the next one.
 #![tactic(auto)]
 
 mod dense;

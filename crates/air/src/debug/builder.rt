@@ -13,8 +13,8 @@ use field::{Domain, ExtensionField, Field};
 use matrix::{RowMajorMatrix, RowWindow};
 use std::alloc::{AllocError, Global};
 
-/// A builder that checks assertions on one row: its variables are the values at the row's cyclic
-/// window, and an assertion that is not zero is `AirError::Assertion` at the row.
+/// A builder that checks assertions on one row. Its variables are the values at the row's cyclic
+/// window. Asserting anything but zero is refused with `AirError::Assertion` at the row.
 #[derive(Copy)]
 pub struct DebugConstraintBuilder<'a, F, EF> {
     /// The current row and the next one of the main trace.
@@ -29,7 +29,7 @@ pub struct DebugConstraintBuilder<'a, F, EF> {
     pub challenges: &'a [EF],
     /// The values of the permutation argument.
     pub permutation_values: &'a [EF],
-    /// The row that is checked.
+    /// The row to check.
     pub row: usize,
     /// The height of the main trace.
     pub height: usize,
@@ -71,7 +71,7 @@ impl<'a, F: Field, EF: ExtensionField<F>> DebugConstraintBuilder<'a, F, EF> {
     }
 }
 
-/// Rows `current` and `next` of a matrix, which are empty where its width is 0.
+/// Rows `current` and `next` of a matrix; both are empty if its width is 0.
 fn window_of_rows<T>(trace: &RowMajorMatrix<T>, current: usize, next: usize) -> RowWindow<'_, T>
     requires { (trace.now.width ≡ 0) ⊎ ((current < height trace.now) × (next < height trace.now)) }
     ensures current { result.current.now ≡ row trace.now current }
@@ -85,7 +85,7 @@ fn window_of_rows<T>(trace: &RowMajorMatrix<T>, current: usize, next: usize) -> 
     }
 }
 
-/// The same of a matrix that may be absent, whose rows are then empty.
+/// As `window_of_rows`, for a matrix that may be absent; both rows are then empty.
 fn window_of_option<T>(
     trace: Option<&RowMajorMatrix<T>>,
     current: usize,

@@ -1,4 +1,4 @@
-//! All rows of given traces.
+//! Checking all rows of given traces.
 ghost use Rattle.std.specs.Prelude.{◌<◌, ℕ, MatchResult, Ok, Err};
 ghost use Rattle.std.specs.Option.{option_copied};
 ghost use Rattle.matrix.specs.Matrix.{height};
@@ -10,7 +10,7 @@ use expressions::{Air, AirError};
 use field::{ExtensionField, Field};
 use std::alloc::Global;
 
-/// Evaluates the AIR on every row, in order; the first refusal is answered.
+/// Evaluates the AIR on every row, in order, and returns the first refusal.
 pub fn check_rows<'a, F: Field, EF: ExtensionField<F>, A: Air<DebugConstraintBuilder<'a, F, EF>>>(
     alloc: Global,
     air: &A,

@@ -12,17 +12,17 @@ use field::{ExtensionField, Field};
 use matrix::RowMajorMatrix;
 use std::alloc::{AllocError, Global};
 
-/// The places of recorded constraints in the one order of all assertions.
+/// The positions of recorded constraints in the one order of all assertions.
 #[derive(Debug, Drop)]
 pub struct ConstraintLayout {
-    /// The places of the constraints over the field.
+    /// The positions of the constraints over the field.
     pub base_indices: Vec<usize>,
-    /// The places of the constraints over the extension.
+    /// The positions of the constraints over the extension.
     pub ext_indices: Vec<usize>,
 }
 
-/// A builder that records constraints in the order of their assertion. It stands for every window
-/// with the widths of its layout.
+/// A builder that records constraints in the order in which they are asserted. It stands for every
+/// window with the widths of its layout.
 #[derive(Debug, Drop)]
 pub struct SymbolicAirBuilder<F, EF> {
     variables: LayoutVariables<F, EF>,
@@ -67,7 +67,7 @@ impl<F: Field, EF: ExtensionField<F>> SymbolicAirBuilder<F, EF> {
         self.extension_constraints.as_slice()
     }
 
-    /// The places of the constraints in the one order of all assertions.
+    /// The positions of the constraints in the one order of all assertions.
     pub fn constraint_layout(&self) -> &ConstraintLayout
         ensures base { result.now.base_indices.items ≡ (recorded self.now).base_indices }
         ensures extension { result.now.ext_indices.items ≡ (recorded self.now).ext_indices }
@@ -76,7 +76,7 @@ impl<F: Field, EF: ExtensionField<F>> SymbolicAirBuilder<F, EF> {
     }
 }
 
-/// Appends a constraint and its place, or neither.
+/// Appends both a constraint and its position, or neither.
 fn append<X: Drop>(
     constraints: &mut Vec<X>,
     places: &mut Vec<usize>,
@@ -95,7 +95,7 @@ fn append<X: Drop>(
     Ok(())
 }
 
-/// The same rows again.
+/// A copy of the rows.
 fn copy_rows<V: Copy>(
     alloc: Global,
     rows: &RowMajorMatrix<V>,

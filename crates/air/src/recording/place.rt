@@ -1,4 +1,4 @@
-//! Variables by their places.
+//! Variables by entry and index.
 ghost use Rattle.std.specs.Prelude.{◌≡◌, ℕ, IfOk};
 ghost use Rattle.air.specs.Variables.{IsVariableRow, IsVariableMatrix};
 
@@ -61,7 +61,7 @@ pub fn variables<V: Place>(
     Ok(all)
 }
 
-/// The first `width` variables of one entry above those of another.
+/// The first `width` variables of one entry, above those of another.
 #[tactic(auto, using(crate::proofs::Places::rows_joined, matrix::proofs::Shapes::shaped_by_two))]
 pub fn variable_rows<V: Place>(
     alloc: Global,

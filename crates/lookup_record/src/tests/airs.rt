@@ -14,8 +14,8 @@ use matrix::{RowMajorMatrix, WindowAccess};
 use std::alloc::Global;
 use std::test::Fail;
 
-/// One column, whose cell is sent on `a`, looked up in itself, queried in the group `b` and
-/// received on `c`.
+/// One column. Its cell is sent on `a`, looked up in itself, queried in the group `b` and received
+/// on `c`.
 struct Speaker;
 
 impl<F> BaseAir<F> for Speaker {
@@ -80,7 +80,7 @@ impl<AB: InteractionBuilder> Air<AB> for Speaker {
     }
 }
 
-/// Three columns, of which the first names an entry and the second holds it; the third is a table.
+/// Three columns: the first names an entry, the second holds it, and the third is a table.
 struct Reader;
 
 impl<F> BaseAir<F> for Reader {
