@@ -6,8 +6,8 @@ use Rattle.air.specs.declared.recording.builder.SymbolicAirBuilder.{SymbolicAirB
 use Rattle.expressions.specs.declared.base_expression.SymbolicExpression.{SymbolicExpression}
 use Rattle.expressions.specs.declared.ext_expression.SymbolicExpressionExt.{SymbolicExpressionExt}
 
--- The layout, the assertions over the field and over the extension, each in order, and the places
--- of both in the one order of all assertions.
+-- The layout, the assertions over the field and over the extension, each in order, and the
+-- positions of both in the one order of all assertions.
 pub record Recorded (F EF : Type 0) : Type 0 where
   pub layout : AirLayout
   pub base : List (SymbolicExpression F)
@@ -34,7 +34,7 @@ nothing_recorded layout =
 abbrev pub num_recorded : {F EF : Type 0} → Recorded F EF → ℕ
 num_recorded b = length b.base + length b.extension
 
--- one more assertion over the field, at the next place of all
+-- one more assertion over the field, at the next position in the order of all assertions
 abbrev pub with_base : {F EF : Type 0} → Recorded F EF → SymbolicExpression F → Recorded F EF
 with_base b x = record {
   layout = b.layout;
@@ -44,7 +44,7 @@ with_base b x = record {
   ext_indices = b.ext_indices;
 }
 
--- one more assertion over the extension, at the next place of all
+-- one more assertion over the extension, at the next position in the order of all assertions
 abbrev pub with_extension : {F EF : Type 0} → Recorded F EF → SymbolicExpressionExt F EF → Recorded F EF
 with_extension b x = record {
   layout = b.layout;

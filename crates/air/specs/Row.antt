@@ -9,11 +9,11 @@ use Rattle.air.specs.declared.debug.inputs.RowInputs.{RowInputs}
 use Rattle.expressions.specs.declared.error.AirError.{AirError}
 use Rattle.expressions.specs.declared.layout.AirLayout.{AirLayout}
 
--- a matrix that stands beside a trace of height h: of that height, or of width 0
+-- a matrix that belongs to a trace of height h: it has that height, or width 0
 abbrev pub HeightFits : {T : Type 0} → ℕ → Matrix T → Type 0
 HeightFits h m = (m.width ≡ 0) ⊎ (height m ≡ h)
 
--- the same of a matrix that may be absent
+-- the same for a matrix that may be absent
 abbrev pub OptionHeightFits : {T : Type 0} → ℕ → Option (Matrix T) → Type 0
 OptionHeightFits h None = Unit {0}
 OptionHeightFits h (Some m) = HeightFits h m
@@ -31,7 +31,7 @@ row_window b = record {
   is_transition = not (b.row + 1 == b.height);
 }
 
--- the same with the rows of the permutation trace, the challenges and the permutation values
+-- that window, with the rows of the permutation trace, the challenges and the permutation values
 abbrev pub ext_row_window : {F EF : Type 0} → DebugConstraintBuilder F EF → ExtWindow F EF
 ext_row_window b = record {
   base = row_window b;
@@ -52,7 +52,7 @@ row_layout b = record {
   num_permutation_values = length b.permutation_values.now;
 }
 
--- the window of row r of the inputs, the last row being seen with the first one
+-- the window of row r of the inputs; the last row comes with the first one
 abbrev pub input_window : {F EF : Type 0} → RowInputs F EF → ℕ → ExtWindow F EF
 input_window x r = record {
   base = window_at x.main.now (option_copied x.preprocessed) x.public_values.now (height x.main.now) r;
@@ -80,7 +80,7 @@ pub record IsRow {F EF : Type 0} (x : RowInputs F EF) (r : ℕ) (b : DebugConstr
   pub row_is : b.row ≡ r
   pub height_is : b.height ≡ height x.main.now
 
--- an evaluation can give the answer on row r of the inputs
+-- an evaluation can return this answer on row r of the inputs
 unfoldable pub RowAnswers : {A F EF : Type 0} → (A → DebugConstraintBuilder F EF → Result (Unit {0}) AirError → DebugConstraintBuilder F EF → Type 0) → A → RowInputs F EF → ℕ → Result (Unit {0}) AirError → Type 0
 RowAnswers {A} {F} {EF} evaluates air x r answer =
     (before : DebugConstraintBuilder F EF) × (after : DebugConstraintBuilder F EF) × IsRow x r before × evaluates air before answer after

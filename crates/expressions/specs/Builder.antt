@@ -1,18 +1,19 @@
--- What builders hand out and what becomes of assertions.
+-- What builders provide and what happens to assertions.
 use Rattle.std.specs.Prelude.{◌≡◌, ℕ, List, [], ◌∷◌, length, map, ◌⊎◌}
 use Rattle.expressions.specs.declared.error.AirError.{AirError}
 
--- As many variables as the width, which at each window that is stood for mean the cells of a row.
+-- As many variables as the width. At each window that the builder stands for, they mean the cells
+-- of a row.
 pub record MeansRow {V W A : Type 0} (stands_for : W → Type 0) (meaning : V → W → A) (width : ℕ) (cells : W → List A) (variables : List V) : Type 0 where
   pub len : length variables ≡ width
   pub reads : (w : W) → stands_for w → map (λ v. meaning v w) variables ≡ cells w
 
--- expressions asserted one after the other, each accepted, lead from one state to another
+-- expressions that are asserted in order, each accepted, lead from one state to another
 abbrev pub AcceptsAll : {B X : Type 0} → (B → X → B → Type 0) → B → List X → B → Type 0
 AcceptsAll {B} accepts b [] c = c ≡ b
 AcceptsAll {B} accepts b (x ∷ xs) c = (d : B) × accepts b x d × AcceptsAll accepts d xs c
 
--- some of the expressions are accepted, and the next one is refused
+-- some of the expressions are accepted in order, and the next one is refused
 abbrev pub RefusesOne : {B X : Type 0} → (B → X → B → Type 0) → (B → X → AirError → B → Type 0) → B → List X → AirError → B → Type 0
 RefusesOne {B} accepts refuses b [] e c = ⊥
 RefusesOne {B} accepts refuses b (x ∷ xs) e c =

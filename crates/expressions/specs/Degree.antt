@@ -12,7 +12,7 @@ entry_degree (Preprocessed offset) = 1
 entry_degree (Main offset) = 1
 entry_degree Public = 0
 
--- the selectors of the first and the last row have degree 1, that of the other rows has degree t
+-- the selectors of the first and the last row have degree 1, the transition selector has degree t
 abbrev pub leaf_degree : {F : Type 0} → ℕ → BaseLeaf F → ℕ
 leaf_degree t (Variable v) = entry_degree v.entry
 leaf_degree t IsFirstRow = 1
@@ -20,8 +20,8 @@ leaf_degree t IsLastRow = 1
 leaf_degree t IsTransition = t
 leaf_degree t (Constant c) = 0
 
--- The degree of a tree where the transition selector has degree t: the greater one of a sum and of
--- a difference, the sum of a product.
+-- The degree of a tree if the transition selector has degree t. A sum and a difference have the
+-- greater degree of both sides, a product the sum.
 abbrev pub degree_of : {F : Type 0} → ℕ → Tree F → ℕ
 degree_of t (leaf l) = leaf_degree t l
 degree_of t (add a b) = max (degree_of t a) (degree_of t b)

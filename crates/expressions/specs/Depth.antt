@@ -2,7 +2,7 @@
 use Rattle.std.specs.Prelude.{ℕ, ◌+◌, max}
 use Rattle.expressions.specs.Tree.{Tree, leaf, add, sub, mul, neg}
 
--- the greatest number of nodes on a way from the root to a leaf, both counted
+-- the greatest number of nodes on a path from the root to a leaf, counting both
 abbrev pub depth_of : {F : Type 0} → Tree F → ℕ
 depth_of (leaf l) = 1
 depth_of (add a b) = 1 + max (depth_of a) (depth_of b)

@@ -11,8 +11,8 @@ ext_entry_degree (Permutation offset) = 1
 ext_entry_degree Challenge = 0
 ext_entry_degree PermutationValue = 0
 
--- The degree of a tree where the transition selector has degree t: the greater one of a sum and of
--- a difference, the sum of a product.
+-- The degree of a tree if the transition selector has degree t. A sum and a difference have the
+-- greater degree of both sides, a product the sum.
 abbrev pub ext_degree_of : {F EF : Type 0} → ℕ → ExtTree F EF → ℕ
 ext_degree_of t (base e) = degree_of t e
 ext_degree_of t (variable v) = ext_entry_degree v.entry

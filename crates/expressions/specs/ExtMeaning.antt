@@ -14,7 +14,7 @@ ext_cells_of w (Permutation offset) = row_at offset w.permutation w.permutation_
 ext_cells_of w Challenge = w.challenges
 ext_cells_of w PermutationValue = w.permutation_values
 
--- the value of a variable: its cell, and zero past the end of the row
+-- the value of a variable: its cell, or zero past the end of the row
 abbrev pub ext_variable_value : {F EF : Type 0} → Ring EF → ExtWindow F EF → SymbolicVariableExt F EF → EF
 ext_variable_value S w v = slice_index_or (ext_cells_of w v.entry) v.index S.zero
 

@@ -5,8 +5,8 @@ use Rattle.expressions.specs.declared.ext_expression.ExtLeaf.TheVariants.{Base, 
 use Rattle.expressions.specs.declared.ext_expression.SymbolicExpressionExt.{SymbolicExpressionExt, Leaf, Add', Sub', Mul', Neg'}
 use Rattle.expressions.specs.declared.variable.SymbolicVariableExt.{SymbolicVariableExt}
 
--- A base expression's tree, a variable or a constant, or the sum, the difference, the product or
--- the negation of trees.
+-- A base expression's tree, a variable or a constant; or the sum, difference, product or negation
+-- of trees.
 pub data ExtTree (F EF : Type 0) : Type 0 where
   base : Tree F → ExtTree F EF
   variable : SymbolicVariableExt F EF → ExtTree F EF

@@ -1,4 +1,4 @@
--- Layouts: the widths that a builder works with, and the expressions that stay within them.
+-- Layouts: the widths that a builder works with, and which expressions stay within them.
 use Rattle.std.specs.Prelude.{ℕ, ◌<◌, ◌≤◌, ◌==◌, not, if◌then◌else◌, List, length, Option, None, Some}
 use Rattle.matrix.specs.Matrix.{Matrix}
 use Rattle.expressions.specs.declared.error.AirError.{AirError}
@@ -11,12 +11,12 @@ use Rattle.expressions.specs.declared.variable.BaseEntry.{BaseEntry}
 use Rattle.expressions.specs.declared.variable.BaseEntry.TheVariants.{Preprocessed, Main, Public}
 use Rattle.expressions.specs.Tree.{Tree, leaf, add, sub, mul, neg}
 
--- the width of a trace that may be absent, 0 where it is
+-- the width of a trace that may be absent, 0 if it is
 abbrev pub width_of_option : {F : Type 0} → Option (Matrix F) → ℕ
 width_of_option None = 0
 width_of_option (Some m) = m.width
 
--- the layout of these widths, with nothing of a permutation argument
+-- the layout of these widths, without a permutation argument
 abbrev pub layout_of_widths : ℕ → ℕ → ℕ → AirLayout
 layout_of_widths main preprocessed public_values = record {
   preprocessed_width = preprocessed;
@@ -27,7 +27,7 @@ layout_of_widths main preprocessed public_values = record {
   num_permutation_values = 0;
 }
 
--- the first of an AIR's widths that a layout does not have: main, preprocessed, public values
+-- the first of an AIR's widths that a layout doesn't match: main, preprocessed, public values
 abbrev pub first_mismatch : ℕ → ℕ → ℕ → AirLayout → Option AirError
 first_mismatch main preprocessed public_values layout =
     if not (main == layout.main_width) then Some (LayoutMismatch Main' main layout.main_width)
@@ -35,18 +35,18 @@ first_mismatch main preprocessed public_values layout =
     else (if not (public_values == layout.num_public_values) then Some (LayoutMismatch PublicValues public_values layout.num_public_values)
     else None))
 
--- the layout of traces and public values, with nothing of a permutation argument
+-- the layout of traces and public values, without a permutation argument
 abbrev pub layout_of_traces : {F : Type 0} → Matrix F → Option (Matrix F) → List F → AirLayout
 layout_of_traces main preprocessed public_values =
     layout_of_widths main.width (width_of_option preprocessed) (length public_values)
 
--- an entry and an index stay within a layout: offset 0 or 1, and the index below the width
+-- an entry and an index are within a layout: the offset is 0 or 1, and the index is below the width
 abbrev pub EntryFits : AirLayout → BaseEntry → ℕ → Type 0
 EntryFits layout (Preprocessed offset) index = (offset ≤ 1) × (index < layout.preprocessed_width)
 EntryFits layout (Main offset) index = (offset ≤ 1) × (index < layout.main_width)
 EntryFits layout Public index = index < layout.num_public_values
 
--- a leaf stays within a layout
+-- a leaf is within a layout
 abbrev pub LeafFits : {F : Type 0} → AirLayout → BaseLeaf F → Type 0
 LeafFits layout (Variable v) = EntryFits layout v.entry v.index
 LeafFits layout IsFirstRow = Unit {0}
@@ -54,7 +54,7 @@ LeafFits layout IsLastRow = Unit {0}
 LeafFits layout IsTransition = Unit {0}
 LeafFits layout (Constant c) = Unit {0}
 
--- every variable of a tree stays within a layout
+-- every variable of a tree is within a layout
 abbrev pub Fits : {F : Type 0} → AirLayout → Tree F → Type 0
 Fits layout (leaf l) = LeafFits layout l
 Fits layout (add a b) = Fits layout a × Fits layout b

@@ -9,7 +9,7 @@ use Rattle.expressions.specs.declared.variable.SymbolicVariable.{SymbolicVariabl
 use Rattle.expressions.specs.Tree.{Tree, leaf, add, sub, mul, neg}
 use Rattle.expressions.specs.Window.{Window}
 
--- the current row at offset 0, the next one at offset 1, and no cells past them
+-- the current row at offset 0, the next one at offset 1, and no cells at other offsets
 abbrev pub row_at : {F : Type 0} → ℕ → List F → List F → List F
 row_at zero current next = current
 row_at (suc zero) current next = next
@@ -21,11 +21,11 @@ cells_of w (Preprocessed offset) = row_at offset w.preprocessed w.preprocessed_n
 cells_of w (Main offset) = row_at offset w.main w.main_next
 cells_of w Public = w.public_values
 
--- the value of a variable: its cell, and zero past the end of the row
+-- the value of a variable: its cell, or zero past the end of the row
 abbrev pub variable_value : {F : Type 0} → Ring F → Window F → SymbolicVariable F → F
 variable_value R w v = slice_index_or (cells_of w v.entry) v.index R.zero
 
--- the value of a leaf; a selector is one where it selects, else zero
+-- the value of a leaf; a selector is one on the rows that it selects, otherwise zero
 abbrev pub leaf_value : {F : Type 0} → Ring F → Window F → BaseLeaf F → F
 leaf_value R w (Variable v) = variable_value R w v
 leaf_value R w IsFirstRow = of_bool R w.is_first

@@ -2,7 +2,7 @@
 use Rattle.expressions.specs.declared.base_expression.BaseLeaf.{BaseLeaf}
 use Rattle.expressions.specs.declared.base_expression.SymbolicExpression.{SymbolicExpression, Leaf, Add', Sub', Mul', Neg'}
 
--- a leaf, or the sum, the difference, the product or the negation of trees
+-- a leaf, or the sum, difference, product or negation of trees
 pub data Tree (F : Type 0) : Type 0 where
   leaf : BaseLeaf F → Tree F
   add : Tree F → Tree F → Tree F

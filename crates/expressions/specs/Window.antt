@@ -3,8 +3,9 @@ use Rattle.std.specs.Prelude.{ℕ, ◌+◌, ◌%◌, ◌==◌, Bool, false, not,
 use Rattle.matrix.specs.Matrix.{Matrix, row}
 
 -- The current row and the next one of the main and the preprocessed trace, the public values, and
--- whether the row is the first, the last, or one with a next row (the window of an algebraic
--- intermediate representation, as in the ethSTARK documentation, eprint 2021/582, section 4).
+-- whether the row is the first, the last, or one with a next row. This is the window of an
+-- algebraic intermediate representation, as in the ethSTARK documentation, eprint 2021/582, section
+-- 4.
 pub record Window (F : Type 0) : Type 0 where
   pub main : List F
   pub main_next : List F
@@ -24,7 +25,7 @@ pub record ExtWindow (F EF : Type 0) : Type 0 where
   pub challenges : List EF
   pub permutation_values : List EF
 
--- the window of no row, without any cell
+-- the empty window, which belongs to no row
 abbrev pub empty_window : {F : Type 0} → Window F
 empty_window = record {
   main = [];
@@ -37,7 +38,7 @@ empty_window = record {
   is_transition = false;
 }
 
--- the same with nothing of a permutation argument
+-- the same, with an empty permutation argument
 abbrev pub empty_ext_window : {F EF : Type 0} → ExtWindow F EF
 empty_ext_window = record {
   base = empty_window;
@@ -47,13 +48,13 @@ empty_ext_window = record {
   permutation_values = [];
 }
 
--- row r of a trace that may be absent, whose rows are then empty
+-- row r of a trace that may be absent; the row is then empty
 abbrev pub row_of_option : {F : Type 0} → Option (Matrix F) → ℕ → List F
 row_of_option None r = []
 row_of_option (Some m) r = row m r
 
--- The window of row r of traces of height h: row r with row r + 1 modulo h, so that the last row
--- is seen with the first one.
+-- The window of row r of traces of height h: row r with row r + 1 modulo h. So the last row comes
+-- with the first one.
 abbrev pub window_at : {F : Type 0} → Matrix F → Option (Matrix F) → List F → ℕ → ℕ → Window F
 window_at main preprocessed public_values h r = record {
   main = row main r;

@@ -1,5 +1,5 @@
--- The field of the integers modulo 2013265921 = 15 * 2^27 + 1, and the form in which its elements
--- are stored (P. L. Montgomery, Modular Multiplication Without Trial Division, 1985).
+-- The field of the integers modulo 2013265921 = 15 * 2^27 + 1, and how its elements are stored (P.
+-- L. Montgomery, Modular Multiplication Without Trial Division, 1985).
 use Rattle.std.specs.Prelude.{◌≡◌, ◌<◌, ◌*◌, ◌%◌, ◌↔◌, ℕ, nat_eq, IsTrue, refl}
 use Rattle.std.proofs.Common.{sym, ap, ◌∙◌, arith}
 use Rattle.std.proofs.lemmas.Bool.{eqb-true, eq-eqb}
@@ -11,11 +11,11 @@ use Rattle.field.specs.Primes.{prime_by_trial}
 use Rattle.field.specs.Residue.{Residue, residue_of, residue_same}
 use Rattle.field.specs.ResidueRing.{residue_ring}
 
--- The modulus is above 0.
+-- The modulus is positive.
 pub baby_bear_positive : 0 < 2013265921
 baby_bear_positive = omega arith
 
--- The modulus is prime: no number up to its square root divides it.
+-- The modulus is prime: no number from 2 up to its square root divides it.
 pub baby_bear_prime : IsPrime 2013265921
 baby_bear_prime = prime_by_trial 44868 2013265921 (omega arith) (omega arith) refl
 
@@ -27,15 +27,15 @@ baby_bear_of = residue_of 2013265921 baby_bear_positive
 abbrev pub baby_bear_ring : Ring (Residue 2013265921)
 baby_bear_ring = residue_ring 2013265921 baby_bear_positive
 
--- the element that is stored as n, n / 2^32: 943718400 is the inverse of 2^32
+-- the element that is stored as n, which is n / 2^32: 943718400 is the inverse of 2^32
 abbrev pub from_stored : ℕ → Residue 2013265921
 from_stored n = baby_bear_of (n * 943718400)
 
--- the number as which an element is stored, 2^32 times it
+-- the number that an element is stored as: the element times 2^32
 abbrev pub stored_of : Residue 2013265921 → ℕ
 stored_of a = a.value * 4294967296 % 2013265921
 
--- The number as which a stored element is stored is the same.
+-- Going from a stored number to its element and back gives the same number.
 pub stored_again : (n : ℕ) → n < 2013265921 → stored_of (from_stored n) ≡ n
 stored_again n below =
     let grouped : n * 943718400 * 4294967296 ≡ n * (943718400 * 4294967296) = omega arith in
@@ -45,7 +45,7 @@ stored_again n below =
     ∙ (sym (mul-mod_second n (943718400 * 4294967296) 2013265921)
     ∙ (ap (λ x. x % 2013265921) whole ∙ mod-eq_of_lt below)))
 
--- The element that is stored as the number of an element is the same.
+-- Going from an element to its stored number and back gives the same element.
 pub element_again : (a : Residue 2013265921) → from_stored (stored_of a) ≡ a
 element_again a =
     let grouped : a.value * 4294967296 * 943718400 ≡ a.value * (4294967296 * 943718400) = omega arith in
@@ -56,7 +56,7 @@ element_again a =
     ∙ (sym (mul-mod_second a.value (4294967296 * 943718400) 2013265921)
     ∙ (ap (λ x. x % 2013265921) whole ∙ mod-eq_of_lt a.below))))
 
--- The test of the stored numbers tells elements apart.
+-- The test of the stored numbers passes exactly for equal elements.
 pub stored_equality : (a b : Residue 2013265921) → IsTrue (nat_eq (stored_of a) (stored_of b)) ↔ (a ≡ b)
 stored_equality a b = (
   λ e. sym (element_again a) ∙ (ap from_stored (eqb-true (stored_of a) (stored_of b) e) ∙ element_again b),

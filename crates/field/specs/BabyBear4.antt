@@ -16,11 +16,11 @@ use Rattle.field.specs.QuarticField.{HasNoSquareRoot, norm_zero, quartic_inverse
 abbrev pub baby_bear4_ring : Ring (Quartic (Residue 2013265921))
 baby_bear4_ring = quartic_ring baby_bear_ring (baby_bear_of 11)
 
--- the inverse, by two norms and an inverse in BabyBear
+-- the inverse, from two norms and an inverse in BabyBear
 abbrev pub baby_bear4_inverse : Quartic (Residue 2013265921) → Quartic (Residue 2013265921)
 baby_bear4_inverse = quartic_inverse baby_bear_ring (baby_bear_of 11) (residue_inverse 2013265921 baby_bear_positive)
 
--- four numbers in decimal, joined by commas
+-- four numbers in decimal, separated by commas
 abbrev pub four_decimals : ℕ → ℕ → ℕ → ℕ → List ℕ
 four_decimals k l m n = decimal k ++ (codes "," ++ (decimal l ++ (codes "," ++ (decimal m ++ (codes "," ++ decimal n)))))
 
@@ -36,12 +36,12 @@ baby_bear_lawful = residue_ring_lawful 2013265921 baby_bear_positive
 baby_bear_domain : IsDomain baby_bear_ring
 baby_bear_domain = residue_domain 2013265921 baby_bear_positive baby_bear_prime
 
--- a squared n times, modulo the modulus
+-- a, squared n times, modulo the modulus
 abbrev squared : ℕ → ℕ → ℕ
 squared zero a = a
 squared (suc n) a = squared n (a * a % 2013265921)
 
--- Squaring n times gives the power at 2^n.
+-- Squaring n times raises to the power 2^n.
 power-squared : (n a : ℕ) → power baby_bear_ring (baby_bear_of a) (2 ^ n) ≡ baby_bear_of (squared n a)
 unfolding power
 power-squared zero a = baby_bear_lawful.mul_one (baby_bear_of a)
@@ -54,18 +54,18 @@ power-squared (suc n) a =
     ∙ (power_of_power baby_bear_lawful (baby_bear_of a) 2 (2 ^ n)
     ∙ (ap (λ x. power baby_bear_ring x (2 ^ n)) square ∙ power-squared n (a * a % 2013265921)))
 
--- The power of 11 at 15.
+-- 11 to the power 15.
 eleven_to_15 : power baby_bear_ring (baby_bear_of 11) 15 ≡ baby_bear_of 1227303670
 unfolding power
 eleven_to_15 = residue_same _ _ refl
 
--- The power of 11 at (p - 1) / 2 is -1, by squaring its power at 15.
+-- 11 to the power (p - 1) / 2 is -1, by squaring its power 15.
 eleven_to_half : power baby_bear_ring (baby_bear_of 11) 1006632960 ≡ baby_bear_of 2013265920
 eleven_to_half =
     power_of_power baby_bear_lawful (baby_bear_of 11) 15 (2 ^ 26)
     ∙ (ap (λ x. power baby_bear_ring x (2 ^ 26)) eleven_to_15 ∙ power-squared 26 1227303670)
 
--- The square of a nonzero element is one to the power (p - 1) / 2.
+-- The square of a nonzero element, to the power (p - 1) / 2, is one.
 square_to_half : (a : Residue 2013265921) → a ≢ baby_bear_ring.zero → power baby_bear_ring (baby_bear_ring.mul a a) 1006632960 ≡ baby_bear_ring.one
 square_to_half a n =
     power-mul baby_bear_lawful a a 1006632960
@@ -77,7 +77,7 @@ eleven_nonzero e =
     let values : (baby_bear_of 11).value ≡ 0 = ap (λ (x : Residue 2013265921). x.value) e in
     absurd (omega arith)
 
--- 11 times a nonzero square is no square: its power at (p - 1) / 2 is -1.
+-- 11 times a nonzero square is no square: to the power (p - 1) / 2 it is -1.
 two_squares : (u v : Residue 2013265921) → baby_bear_ring.mul u u ≡ baby_bear_ring.mul (baby_bear_of 11) (baby_bear_ring.mul v v) → v ≢ baby_bear_ring.zero → ⊥
 two_squares u v e n =
     let right = product_nonzero baby_bear_lawful baby_bear_domain (baby_bear_of 11) (baby_bear_ring.mul v v) eleven_nonzero
@@ -91,7 +91,7 @@ two_squares u v e n =
     let values : (baby_bear_of 1).value ≡ 2013265920 = ap (λ (x : Residue 2013265921). x.value) same in
     omega arith
 
--- 11 is no square in BabyBear, and -1 is one.
+-- 11 is not a square in BabyBear, and -1 is one.
 baby_bear_roots : HasNoSquareRoot baby_bear_ring (baby_bear_of 11) (baby_bear_of 1728404513)
 baby_bear_roots = record {
   no_square = λ u v e. elim (residue_decide 2013265921 baby_bear_positive v) [
@@ -101,7 +101,7 @@ baby_bear_roots = record {
   minus_one = residue_same _ _ refl;
 }
 
--- Every nonzero element of BabyBear has its inverse.
+-- Every nonzero element of BabyBear has an inverse.
 baby_bear_inverts : (x : Residue 2013265921) → x ≢ baby_bear_ring.zero → IsInverse baby_bear_ring x (residue_inverse 2013265921 baby_bear_positive x)
 baby_bear_inverts = residue_inverse_is 2013265921 baby_bear_positive baby_bear_prime
 
@@ -120,11 +120,11 @@ pub baby_bear4_characteristic : HasCharacteristic baby_bear4_ring 2013265921
 baby_bear4_characteristic =
     quartic_characteristic baby_bear_lawful (baby_bear_of 11) 2013265921 (residue_characteristic 2013265921 baby_bear_positive)
 
--- BabyBear stands in them.
+-- BabyBear embeds in them.
 pub baby_bear4_embeds : IsEmbedding baby_bear_ring baby_bear4_ring (quartic_embed baby_bear_ring)
 baby_bear4_embeds = quartic_embeds baby_bear_lawful (baby_bear_of 11)
 
--- Every nonzero polynomial has its inverse.
+-- Every nonzero polynomial has an inverse.
 pub baby_bear4_inverse_is : (a : Quartic (Residue 2013265921)) → a ≢ baby_bear4_ring.zero → IsInverse baby_bear4_ring a (baby_bear4_inverse a)
 baby_bear4_inverse_is =
     quartic_invertible baby_bear_lawful baby_bear_domain (baby_bear_of 11) (baby_bear_of 1728404513) baby_bear_roots
@@ -135,22 +135,22 @@ pub baby_bear4_cofactor : (a : Quartic (Residue 2013265921)) (d : Residue 201326
     → IsInverse baby_bear4_ring a (quartic_cofactor baby_bear_ring (baby_bear_of 11) d a)
 baby_bear4_cofactor a d = quartic_inverse_is baby_bear_lawful (baby_bear_of 11) (λ _. d) a
 
--- A polynomial whose norm is zero is zero.
+-- Only zero has the norm zero.
 pub baby_bear4_norm_zero : (a : Quartic (Residue 2013265921)) → quartic_norm baby_bear_ring (baby_bear_of 11) a ≡ baby_bear_ring.zero → a ≡ baby_bear4_ring.zero
 baby_bear4_norm_zero =
     norm_zero baby_bear_lawful baby_bear_domain (baby_bear_of 11) (baby_bear_of 1728404513) baby_bear_roots
 
--- Two tests that both pass.
+-- If the conjunction of two tests passes, so does each of them.
 both_pass : (x y : Bool) → (x && y) ≡ true → (x ≡ true) × (y ≡ true)
 both_pass true y e = (refl, e)
 both_pass false y e = absurd (cc e)
 
--- Tests that pass, joined.
+-- If two tests pass, so does their conjunction.
 joined_pass : (x y : Bool) → x ≡ true → y ≡ true → (x && y) ≡ true
 joined_pass true y e f = f
 joined_pass false y e f = e
 
--- The tests of the stored coefficients tell polynomials apart.
+-- The tests of the stored coefficients pass exactly for equal polynomials.
 pub baby_bear4_equality : (a b : Quartic (Residue 2013265921))
     → IsTrue (nat_eq (stored_of a.c0) (stored_of b.c0) && (nat_eq (stored_of a.c1) (stored_of b.c1) && (nat_eq (stored_of a.c2) (stored_of b.c2) && nat_eq (stored_of a.c3) (stored_of b.c3)))) ↔ (a ≡ b)
 baby_bear4_equality a b = (

@@ -3,7 +3,7 @@ use Rattle.std.specs.Prelude.{◌≡◌, ◌≢◌, ◌⊎◌, List, [], ◌∷�
 use Rattle.std.specs.List.{AllByRecursion}
 use Rattle.std.proofs.Common.{inl, inr}
 
--- no two elements of the list are the same
+-- no two elements of the list are equal
 abbrev pub IsDistinct : {A : Type 0} → List A → Type 0
 IsDistinct [] = Unit {0}
 IsDistinct (x ∷ xs) = AllByRecursion (λ y. x ≢ y) xs × IsDistinct xs
@@ -13,28 +13,29 @@ abbrev pub IsAmong : {A : Type 0} → A → List A → Type 0
 IsAmong x [] = ⊥
 IsAmong x (y ∷ ys) = (x ≡ y) ⊎ IsAmong x ys
 
--- What holds of each element holds of one among them.
+-- What holds for every element of a list holds for each one among them.
 pub from_among : {A : Type 0} (P : A → Type 0) (xs : List A) (x : A) → AllByRecursion P xs → IsAmong x xs → P x
 from_among P [] x all among = absurd among
 from_among P (y ∷ ys) x all (inl e) = rw e all.0
 from_among P (y ∷ ys) x all (inr among) = from_among P ys x all.1 among
 
--- What follows from a fact of an element holds of each where the fact does.
+-- If P implies S, and P holds for all elements, then so does S.
 pub all_weaker : {A : Type 0} (P S : A → Type 0) → ((x : A) → P x → S x) → (xs : List A) → AllByRecursion P xs → AllByRecursion S xs
 all_weaker P S step [] p = tt
 all_weaker P S step (x ∷ xs) p = (step x p.0, all_weaker P S step xs p.1)
 
--- What follows from two facts of an element holds of each where both do.
+-- If P and Q together imply S, and both hold for all elements, then so does S.
 pub all_both : {A : Type 0} (P Q S : A → Type 0) → ((x : A) → P x → Q x → S x) → (xs : List A) → AllByRecursion P xs → AllByRecursion Q xs → AllByRecursion S xs
 all_both P Q S step [] p q = tt
 all_both P Q S step (x ∷ xs) p q = (step x p.0 q.0, all_both P Q S step xs p.1 q.1)
 
--- What holds of each image holds of each element of the image of a list.
+-- If P x implies Q (f x), and P holds for all elements, then Q holds for all elements of the mapped
+-- list.
 pub all_map : {A B : Type 0} (f : A → B) (P : A → Type 0) (Q : B → Type 0) → ((x : A) → P x → Q (f x)) → (xs : List A) → AllByRecursion P xs → AllByRecursion Q (map f xs)
 all_map f P Q step [] p = tt
 all_map f P Q step (x ∷ xs) p = (step x p.0, all_map f P Q step xs p.1)
 
--- An injective function keeps a list without repeats.
+-- Mapping an injective function over a list without repeats gives a list without repeats.
 pub distinct_map : {A B : Type 0} (f : A → B) → ((x y : A) → f x ≡ f y → x ≡ y) → (xs : List A) → IsDistinct xs → IsDistinct (map f xs)
 distinct_map f injective [] distinct = tt
 distinct_map f injective (x ∷ xs) distinct =

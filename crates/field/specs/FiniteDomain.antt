@@ -1,4 +1,4 @@
--- Fermat's little theorem, for any domain whose nonzero elements stand in a list.
+-- Fermat's little theorem, for any domain whose nonzero elements are given as a list.
 use Rattle.std.specs.Prelude.{◌≡◌, ◌≢◌, suc, List, [], ◌∷◌, map, length, refl}
 use Rattle.std.specs.List.{AllByRecursion}
 use Rattle.std.proofs.Common.{sym, ap, ◌∙◌, inl, inr}
@@ -9,13 +9,14 @@ use Rattle.field.specs.Distinct.{IsDistinct, IsAmong, all_both, all_map, distinc
 use Rattle.field.specs.RingFacts.{mul_swap, domain_cancel, product_nonzero}
 
 module _ {A : Type 0} {R : Ring A} (laws : IsCommutativeRing R) where
-  -- the list ys without one x: the others stay, and the product of ys is x times theirs
+  -- the list ys with one x taken out: all other elements stay, and the product of ys is x times the
+  -- product of the rest
   record IsWithout (x : A) (ys rest : List A) : Type 0 where
     shorter : length ys ≡ suc (length rest)
     product : product_in R ys ≡ R.mul x (product_in R rest)
     others : (z : A) → IsAmong z ys → x ≢ z → IsAmong z rest
 
-  -- An element among ys can be taken out.
+  -- An element that is among ys can be taken out.
   without : (x : A) (ys : List A) → IsAmong x ys → (rest : List A) × IsWithout x ys rest
   without x [] among = absurd among
   without x (y ∷ ys) (inl e) = (
@@ -36,7 +37,8 @@ module _ {A : Type 0} {R : Ring A} (laws : IsCommutativeRing R) where
         },
       )
 
-  -- Two lists of one length have one product where the first has no repeats and each of its elements is in the second.
+  -- Two lists of the same length have the same product if the first has no repeats and each of its
+  -- elements is in the second.
   same_product : (xs ys : List A) → IsDistinct xs → AllByRecursion (λ x. IsAmong x ys) xs → length xs ≡ length ys → product_in R xs ≡ product_in R ys
   same_product [] [] distinct all same = refl
   same_product [] (y ∷ ys) distinct all same = absurd (cc same)
@@ -46,7 +48,7 @@ module _ {A : Type 0} {R : Ring A} (laws : IsCommutativeRing R) where
       let fewer : length xs ≡ length rest = cc (same, less.shorter) in
       ap (R.mul x) (same_product xs rest distinct.1 kept fewer) ∙ sym less.product
 
-  -- The product of a list times a, element by element.
+  -- The product of a list whose elements are all multiplied by a.
   product_in-scaled : (a : A) (xs : List A) → product_in R (map (R.mul a) xs) ≡ R.mul (power R a (length xs)) (product_in R xs)
   unfolding power
   product_in-scaled a [] = sym (laws.mul_one R.one)
@@ -59,7 +61,8 @@ module _ {A : Type 0} {R : Ring A} (laws : IsCommutativeRing R) where
   product_in-nonzero domain (x ∷ xs) all e =
       product_nonzero laws domain x (product_in R xs) all.0 (product_in-nonzero domain xs all.1) e
 
-  -- Fermat's little theorem: a nonzero element to the number of nonzero elements is one.
+  -- Fermat's little theorem: a nonzero element, to the power of the number of nonzero elements, is
+  -- one.
   pub fermat : IsDomain R → (row : List A) → IsDistinct row → AllByRecursion (λ x. x ≢ R.zero) row → ((x : A) → x ≢ R.zero → IsAmong x row) → (a : A) → a ≢ R.zero → power R a (length row) ≡ R.one
   fermat domain row distinct nonzero whole a n =
       let scaled = distinct_map (R.mul a) (λ x y. domain_cancel laws domain a x y n) row distinct in

@@ -7,7 +7,7 @@ use Rattle.field.specs.Primes.{prime_by_trial}
 use Rattle.field.specs.Residue.{Residue, residue_of, residue_same}
 use Rattle.field.specs.ResidueRing.{residue_ring, residue_inverse}
 
--- 2 is above 0.
+-- 2 is positive.
 pub f2_positive : 0 < 2
 f2_positive = omega arith
 
@@ -23,7 +23,7 @@ f2_of = residue_of 2 f2_positive
 abbrev pub f2_ring : Ring (Residue 2)
 f2_ring = residue_ring 2 f2_positive
 
--- An element but zero is its own inverse.
+-- Every nonzero element is its own inverse.
 pub f2_inverse_self : (a : Residue 2) → a ≢ f2_ring.zero → a ≡ residue_inverse 2 f2_positive a
 unfolding power
 f2_inverse_self a n =

@@ -7,7 +7,7 @@ use Rattle.field.specs.Primes.{prime_by_trial}
 use Rattle.field.specs.Residue.{Residue, residue_of}
 use Rattle.field.specs.ResidueRing.{residue_ring}
 
--- 7 is above 0.
+-- 7 is positive.
 pub f7_positive : 0 < 7
 f7_positive = omega arith
 

@@ -14,19 +14,19 @@ use Rattle.field.specs.RingFacts.{zero_from_product}
 use Rattle.field.specs.Residue.{Residue, residue_of, residue_same}
 use Rattle.field.specs.ResidueRing.{residue_ring, residue_ring_lawful, residue_inverse}
 
--- What a step of Euclid's algorithm does to a product.
+-- How a step of Euclid's algorithm changes a product.
 step_whole : (m q k r p : ℕ) → m + q ≡ p → suc k * q + r ≡ p → m * suc k ≡ r + p * k
 step_whole m q k r p e f = omega (arith, ap (λ x. x * suc k) e)
 
--- The same times t.
+-- The same, times t.
 step_times : (m k r p t : ℕ) → m * suc k ≡ r + p * k → m * t * suc k ≡ r * t + p * (k * t)
 step_times m k r p t e = omega (arith, ap (λ x. x * t) e)
 
--- A quotient is not above its dividend.
+-- A quotient is at most its dividend.
 quotient_le : (p k q r : ℕ) → suc k * q + r ≡ p → q ≤ p
 quotient_le p k q r e = omega arith
 
--- One step of Euclid's algorithm: an inverse of the remainder of p gives one of n.
+-- One step of Euclid's algorithm: an inverse of the remainder of p gives an inverse of n.
 step : (p n t : ℕ) → 0 < n → (p - p / n) * t * n % p ≡ p % n * t % p
 step p zero t positive = absurd (omega arith)
 step p (suc k) t positive =
@@ -51,7 +51,7 @@ invertible p prime (suc fuel) n fits positive below =
           ((p - p / n) * t, step p n t positive ∙ (ap (λ x. x % p) (mul_comm (p % n) t) ∙ e))
     ]
 
--- A residue is zero or not.
+-- A residue is zero or not zero.
 pub residue_decide : (p : ℕ) (positive : 0 < p) (a : Residue p) → (a ≡ (residue_ring p positive).zero) ⊎ (a ≢ (residue_ring p positive).zero)
 residue_decide p positive a = elim (cases_eq a.value 0) [
   | inl z ↦ inl (residue_same a _ (z ∙ sym (mod-eq_of_lt positive)))
@@ -59,7 +59,7 @@ residue_decide p positive a = elim (cases_eq a.value 0) [
 ]
 
 module _ (p : ℕ) (positive : 0 < p) (prime : IsPrime p) where
-  -- the ring at hand
+  -- the ring of this module
   abbrev R : Ring (Residue p)
   R = residue_ring p positive
 
@@ -137,7 +137,7 @@ module _ (p : ℕ) (positive : 0 < p) (prime : IsPrime p) where
       λ x m. let under = x.below in row_whole (p - 1) below x (positive_value x m) (omega arith) in
       ap (power R a) (sym (length-row (p - 1))) ∙ fermat (residue_ring_lawful p positive) residue_domain (row (p - 1)) (row_distinct (p - 1) below) nonzero whole a n
 
-  -- The product of a nonzero residue with its inverse is one.
+  -- The product of a nonzero residue and its inverse is one.
   pub residue_inverse_is : (a : Residue p) → a ≢ R.zero → IsInverse R a (residue_inverse p positive a)
   unfolding power
   residue_inverse_is a n =

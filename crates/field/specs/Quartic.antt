@@ -14,11 +14,11 @@ pub record Quartic (A : Type 0) : Type 0 where
 abbrev pub coefficients_of : {A : Type 0} → Quartic A → List A
 coefficients_of a = a.c0 ∷ a.c1 ∷ a.c2 ∷ a.c3 ∷ []
 
--- Polynomials of the same coefficients are the same.
+-- Polynomials with the same coefficients are the same.
 pub quartic_same : {A : Type 0} (a b : Quartic A) → a.c0 ≡ b.c0 → a.c1 ≡ b.c1 → a.c2 ≡ b.c2 → a.c3 ≡ b.c3 → a ≡ b
 quartic_same a b e f g h = λ i. record { c0 = e i; c1 = f i; c2 = g i; c3 = h i }
 
--- the ring of these polynomials: products of powers from X^4 on come back w times lower
+-- the ring of these polynomials: in a product, X^4 becomes w
 abbrev pub quartic_ring : {A : Type 0} → Ring A → A → Ring (Quartic A)
 quartic_ring R w = record {
   zero = record { c0 = R.zero; c1 = R.zero; c2 = R.zero; c3 = R.zero };
@@ -33,18 +33,18 @@ quartic_ring R w = record {
   neg = λ a. record { c0 = R.neg a.c0; c1 = R.neg a.c1; c2 = R.neg a.c2; c3 = R.neg a.c3 };
 }
 
--- an element of the ring of coefficients as a polynomial
+-- an element of the coefficient ring as a polynomial
 abbrev pub quartic_embed : {A : Type 0} → Ring A → A → Quartic A
 quartic_embed R x = record { c0 = x; c1 = R.zero; c2 = R.zero; c3 = R.zero }
 
--- a quartic over a type that is stored is stored as its coefficients
+-- a quartic is stored as its coefficients, if their type can be stored
 abbrev pub quartic_coded : {A : Type 0} → Coded A → Coded (Quartic A)
 quartic_coded {A} code =
     code_by (A × (A × (A × A))) (coded× code (coded× code (coded× code code))) (λ a. (a.c0, (a.c1, (a.c2, a.c3)))) (λ t. record { c0 = t.0; c1 = t.1.0; c2 = t.1.1.0; c3 = t.1.1.1 }) (λ _. refl)
 
 module _ {A : Type 0} (R : Ring A) (w : A) where
-  -- With Y = X^2 a polynomial is low + high X, where low and high are of degree at most 1 in Y. Its
-  -- norm over these, low^2 - Y high^2, is norm_low + norm_high Y.
+  -- With Y = X^2 a polynomial is low + high X, where low and high have degree at most 1 in Y. The
+  -- norm, low^2 - Y high^2, is norm_low + norm_high Y.
   abbrev pub norm_low : Quartic A → A
   norm_low a =
       sub_in R (R.add (R.mul a.c0 a.c0) (R.mul w (R.mul a.c2 a.c2))) (R.mul w (R.add (R.mul a.c1 a.c3) (R.mul a.c1 a.c3)))
@@ -53,11 +53,11 @@ module _ {A : Type 0} (R : Ring A) (w : A) where
   norm_high a =
       sub_in R (R.add (R.mul a.c0 a.c2) (R.mul a.c0 a.c2)) (R.add (R.mul a.c1 a.c1) (R.mul w (R.mul a.c3 a.c3)))
 
-  -- the norm of that norm, in the ring of coefficients
+  -- the norm of that norm, in the coefficient ring
   abbrev pub quartic_norm : Quartic A → A
   quartic_norm a = sub_in R (R.mul (norm_low a) (norm_low a)) (R.mul w (R.mul (norm_high a) (norm_high a)))
 
-  -- the cofactor of the second norm, times d: with the conjugates of both norms
+  -- the cofactor of the second norm, times d: the product with the conjugates of both norms
   abbrev pub quartic_cofactor : A → Quartic A → Quartic A
   quartic_cofactor d a =
       let u = norm_low a in

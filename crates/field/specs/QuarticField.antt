@@ -1,5 +1,5 @@
--- Polynomials modulo X^4 - w are a ring over every commutative ring, and a field over a field in
--- which w is no square and -1 is one.
+-- Polynomials modulo X^4 - w are a ring over every commutative ring. Over a field in which w is no
+-- square and -1 is one, they are a field.
 use Rattle.std.specs.Prelude.{◌≡◌, ◌≢◌, ◌⊎◌, ℕ, List, [], ◌∷◌, refl}
 use Rattle.std.proofs.Common.{sym, ap, ◌∙◌, inl, inr}
 use Rattle.field.specs.Ring.{Ring, IsCommutativeRing, IsDomain, IsEmbedding, IsInverse, sub_in}
@@ -45,11 +45,11 @@ abbrev unknown : ℕ → ℕ → ℕ → ℕ → Quartic Expr
 unknown k l m n = record { c0 = var k; c1 = var l; c2 = var m; c3 = var n }
 
 module _ {A : Type 0} {R : Ring A} (laws : IsCommutativeRing R) (w : A) where
-  -- the ring at hand
+  -- the ring of this module
   abbrev Q : Ring (Quartic A)
   Q = quartic_ring R w
 
-  -- Products may be grouped either way.
+  -- Multiplication is associative.
   quartic_mul_assoc : (a b c : Quartic A) → Q.mul (Q.mul a b) c ≡ Q.mul a (Q.mul b c)
   quartic_mul_assoc a b c =
       let env : List A = w ∷ a.c0 ∷ a.c1 ∷ a.c2 ∷ a.c3 ∷ b.c0 ∷ b.c1 ∷ b.c2 ∷ b.c3 ∷ c.c0 ∷ c.c1 ∷ c.c2 ∷ c.c3 ∷ [] in
@@ -61,7 +61,7 @@ module _ {A : Type 0} {R : Ring A} (laws : IsCommutativeRing R) (w : A) where
       quartic_same _ _ (ring_law laws env left.c0 right.c0 refl) (ring_law laws env left.c1 right.c1 refl)
       (ring_law laws env left.c2 right.c2 refl) (ring_law laws env left.c3 right.c3 refl)
 
-  -- The factors may change places.
+  -- Multiplication is commutative.
   quartic_mul_comm : (a b : Quartic A) → Q.mul a b ≡ Q.mul b a
   quartic_mul_comm a b =
       let env : List A = w ∷ a.c0 ∷ a.c1 ∷ a.c2 ∷ a.c3 ∷ b.c0 ∷ b.c1 ∷ b.c2 ∷ b.c3 ∷ [] in
@@ -78,7 +78,7 @@ module _ {A : Type 0} {R : Ring A} (laws : IsCommutativeRing R) (w : A) where
       quartic_same _ _ (ring_law laws env left.c0 (var 1) refl) (ring_law laws env left.c1 (var 2) refl)
       (ring_law laws env left.c2 (var 3) refl) (ring_law laws env left.c3 (var 4) refl)
 
-  -- Multiplication distributes.
+  -- Multiplication distributes over addition.
   quartic_mul_add : (a b c : Quartic A) → Q.mul a (Q.add b c) ≡ Q.add (Q.mul a b) (Q.mul a c)
   quartic_mul_add a b c =
       let env : List A = w ∷ a.c0 ∷ a.c1 ∷ a.c2 ∷ a.c3 ∷ b.c0 ∷ b.c1 ∷ b.c2 ∷ b.c3 ∷ c.c0 ∷ c.c1 ∷ c.c2 ∷ c.c3 ∷ [] in
@@ -103,7 +103,7 @@ module _ {A : Type 0} {R : Ring A} (laws : IsCommutativeRing R) (w : A) where
     mul_add = quartic_mul_add;
   }
 
-  -- The elements of the ring of coefficients stand in it.
+  -- The coefficient ring embeds in it.
   pub quartic_embeds : IsEmbedding R Q (quartic_embed R)
   quartic_embeds = record {
     zero = refl;
@@ -124,7 +124,7 @@ module _ {A : Type 0} {R : Ring A} (laws : IsCommutativeRing R) (w : A) where
       let same = embed-of_nat quartic_lawful quartic_embeds n in
       (λ e. (characteristic n).0 (ap (λ a. a.c0) (same ∙ e)), λ d. sym same ∙ ap (quartic_embed R) ((characteristic n).1 d))
 
-  -- Where the norm has an inverse, the polynomial has one.
+  -- If the norm has an inverse, the polynomial has one.
   pub quartic_inverse_is : (inverse : A → A) (a : Quartic A) → IsInverse R (quartic_norm R w a) (inverse (quartic_norm R w a)) → IsInverse Q a (quartic_inverse R w inverse a)
   quartic_inverse_is inverse a e =
       let env : List A = w ∷ a.c0 ∷ a.c1 ∷ a.c2 ∷ a.c3 ∷ inverse (quartic_norm R w a) ∷ [] in
@@ -133,24 +133,24 @@ module _ {A : Type 0} {R : Ring A} (laws : IsCommutativeRing R) (w : A) where
       quartic_same _ _ (ring_given laws env ((con 1, norm_of (var 0) x :* var 5, con 1) ∷ []) left.c0 (con 1) (e, tt) refl)
       (ring_law laws env left.c1 (con 0) refl) (ring_law laws env left.c2 (con 0) refl) (ring_law laws env left.c3 (con 0) refl)
 
--- what is asked of a field for the polynomials modulo X^4 - w to be a field
+-- what a field must satisfy for the polynomials modulo X^4 - w to be a field
 pub record HasNoSquareRoot {A : Type 0} (R : Ring A) (w i : A) : Type 0 where
   pub no_square : (u v : A) → R.mul u u ≡ R.mul w (R.mul v v) → v ≡ R.zero
   pub minus_one : R.mul i i ≡ R.neg R.one
 
 module _ {A : Type 0} {R : Ring A} (laws : IsCommutativeRing R) (domain : IsDomain R) (w i : A) (roots : HasNoSquareRoot R w i) where
-  -- What has the square zero is zero.
+  -- If a square is zero, so is the element.
   zero_from_square : (u : A) → R.mul u u ≡ R.zero → u ≡ R.zero
   zero_from_square u e = elim (domain.no_zero_divisors u u e) [ inl z ↦ z | inr z ↦ z ]
 
-  -- A difference u^2 - w v^2 is zero only where u and v are.
+  -- A difference u^2 - w v^2 is zero only if u and v are.
   both_zero : (u v : A) → sub_in R (R.mul u u) (R.mul w (R.mul v v)) ≡ R.zero → (u ≡ R.zero) × (v ≡ R.zero)
   both_zero u v e =
       let squares = same_from_difference laws (R.mul u u) (R.mul w (R.mul v v)) e in
       let second = roots.no_square u v squares in
       (zero_from_square u (squares ∙ (ap (λ x. R.mul w (R.mul x v)) second ∙ (ap (R.mul w) (zero_mul laws v) ∙ mul_zero laws w))), second)
 
-  -- The norm is zero at zero alone.
+  -- Only zero has the norm zero.
   pub norm_zero : (a : Quartic A) → quartic_norm R w a ≡ R.zero → a ≡ (quartic_ring R w).zero
   norm_zero a e =
       let (low, high) = both_zero (norm_low R w a) (norm_high R w a) e in
@@ -173,7 +173,7 @@ module _ {A : Type 0} {R : Ring A} (laws : IsCommutativeRing R) (domain : IsDoma
       let (odd, odd_high) = both_zero a.c1 a.c3 second in
       quartic_same a _ even odd even_high odd_high
 
-  -- Every polynomial but zero has an inverse.
+  -- Every nonzero polynomial has an inverse.
   pub quartic_invertible : (inverse : A → A) → ((x : A) → x ≢ R.zero → IsInverse R x (inverse x)) → (a : Quartic A) → a ≢ (quartic_ring R w).zero → IsInverse (quartic_ring R w) a (quartic_inverse R w inverse a)
   quartic_invertible inverse inverts a n =
       quartic_inverse_is laws w inverse a (inverts (quartic_norm R w a) (λ z. n (norm_zero a z)))

@@ -26,15 +26,15 @@ module _ (p : ℕ) (positive : 0 < p) where
   pub of_value : (a : Residue p) → residue_of p positive a.value ≡ a
   of_value a = residue_same _ a (mod-eq_of_lt a.below)
 
-  -- The residue of a residue is the same.
+  -- Taking the residue of a residue changes nothing.
   pub residue_of_mod : (n : ℕ) → residue_of p positive (n % p) ≡ residue_of p positive n
   residue_of_mod n = residue_same _ _ (mod-mod n p)
 
-  -- The sum of residues is the residue of the sum.
+  -- Adding residues gives the residue of the sum.
   pub residue_of_add : (m n : ℕ) → residue_ring.add (residue_of p positive m) (residue_of p positive n) ≡ residue_of p positive (m + n)
   residue_of_add m n = residue_same _ _ (mod-add-mod m p (n % p) ∙ add-mod-mod m n p)
 
-  -- The product of residues is the residue of the product.
+  -- Multiplying residues gives the residue of the product.
   pub residue_of_mul : (m n : ℕ) → residue_ring.mul (residue_of p positive m) (residue_of p positive n) ≡ residue_of p positive (m * n)
   residue_of_mul m n = residue_same _ _ (mul-mod_first m (n % p) p ∙ mul-mod_second m n p)
 
@@ -53,7 +53,7 @@ module _ (p : ℕ) (positive : 0 < p) where
         mul_add = λ a b c. residue_same _ _ (simp (mod-add-mod, add-mod-mod, mul-mod_second) (reduced _ _ (omega arith)));
       }
 
-  -- The whole number n as an element is the residue of n.
+  -- As an element, the whole number n is the residue of n.
   pub of_nat_is : (n : ℕ) → of_nat residue_ring n ≡ residue_of p positive n
   unfolding of_nat
   of_nat_is zero = refl

@@ -1,4 +1,4 @@
--- Elementary facts of commutative rings and domains.
+-- Elementary facts about commutative rings and domains.
 use Rattle.std.specs.Prelude.{◌≡◌, ◌≢◌, ◌+◌, ◌*◌, ℕ, zero, suc, refl}
 use Rattle.std.proofs.Common.{sym, ap, ap₂, ◌∙◌, inl, inr, arith}
 use Rattle.field.specs.Ring.{Ring, IsCommutativeRing, IsDomain, IsEmbedding, IsInverse, of_nat, power}
@@ -21,22 +21,22 @@ module _ {A : Type 0} {R : Ring A} (laws : IsCommutativeRing R) where
   add_mul a b c =
       rw (laws.mul_comm (R.add a b) c, laws.mul_comm a c, laws.mul_comm b c) (laws.mul_add c a b)
 
-  -- The inner two of four summands change places.
+  -- (a + b) + (c + d): b and c may be swapped.
   pub add_swap : (a b c d : A) → R.add (R.add a b) (R.add c d) ≡ R.add (R.add a c) (R.add b d)
   add_swap a b c d =
       laws.add_assoc a b (R.add c d) ∙ (ap (R.add a) (sym (laws.add_assoc b c d) ∙ (ap (λ x. R.add x d) (laws.add_comm b c) ∙ laws.add_assoc c b d)) ∙ sym (laws.add_assoc a c (R.add b d)))
 
-  -- The first two of three summands change places.
+  -- a + (b + c): a and b may be swapped.
   pub add_left_comm : (a b c : A) → R.add a (R.add b c) ≡ R.add b (R.add a c)
   add_left_comm a b c =
       sym (laws.add_assoc a b c) ∙ (ap (λ x. R.add x c) (laws.add_comm a b) ∙ laws.add_assoc b a c)
 
-  -- The first two of three factors change places.
+  -- a * (b * c): a and b may be swapped.
   pub mul_left_comm : (a b c : A) → R.mul a (R.mul b c) ≡ R.mul b (R.mul a c)
   mul_left_comm a b c =
       sym (laws.mul_assoc a b c) ∙ (ap (λ x. R.mul x c) (laws.mul_comm a b) ∙ laws.mul_assoc b a c)
 
-  -- The inner two of four factors change places.
+  -- (a * b) * (c * d): b and c may be swapped.
   pub mul_swap : (a b c d : A) → R.mul (R.mul a b) (R.mul c d) ≡ R.mul (R.mul a c) (R.mul b d)
   mul_swap a b c d =
       laws.mul_assoc a b (R.mul c d) ∙ (ap (R.mul a) (sym (laws.mul_assoc b c d) ∙ (ap (λ x. R.mul x d) (laws.mul_comm b c) ∙ laws.mul_assoc c b d)) ∙ sym (laws.mul_assoc a c (R.mul b d)))
@@ -61,7 +61,7 @@ module _ {A : Type 0} {R : Ring A} (laws : IsCommutativeRing R) where
   pub zero_mul : (a : A) → R.mul R.zero a ≡ R.zero
   zero_mul a = laws.mul_comm R.zero a ∙ mul_zero a
 
-  -- What adds up to zero with an element is its negative.
+  -- If x + y is zero, y is the negative of x.
   pub neg_unique : (a b : A) → R.add a b ≡ R.zero → b ≡ R.neg a
   neg_unique a b e = add_cancel a _ _ (e ∙ sym (laws.add_neg a))
 
@@ -69,7 +69,7 @@ module _ {A : Type 0} {R : Ring A} (laws : IsCommutativeRing R) where
   pub neg_zero : R.neg R.zero ≡ R.zero
   neg_zero = sym (neg_unique R.zero R.zero (laws.add_zero R.zero))
 
-  -- The negative of the negative is the element.
+  -- Negating twice gives the same element.
   pub neg_neg : (a : A) → R.neg (R.neg a) ≡ a
   neg_neg a = sym (neg_unique (R.neg a) a (neg_add a))
 
@@ -78,16 +78,16 @@ module _ {A : Type 0} {R : Ring A} (laws : IsCommutativeRing R) where
   neg-add a b = neg_unique (R.add a b) _
       (add_swap a b (R.neg a) (R.neg b) ∙ (ap (λ x. R.add x (R.add b (R.neg b))) (laws.add_neg a) ∙ (ap (R.add R.zero) (laws.add_neg b) ∙ laws.add_zero R.zero)))
 
-  -- A sign moves out of a product from its second factor.
+  -- The sign of the second factor moves out of a product.
   pub mul_neg : (a b : A) → R.mul a (R.neg b) ≡ R.neg (R.mul a b)
   mul_neg a b = neg_unique (R.mul a b) _
       (sym (laws.mul_add a b (R.neg b)) ∙ (ap (R.mul a) (laws.add_neg b) ∙ mul_zero a))
 
-  -- A sign moves out of a product from its first factor.
+  -- The sign of the first factor moves out of a product.
   pub neg_mul : (a b : A) → R.mul (R.neg a) b ≡ R.neg (R.mul a b)
   neg_mul a b = laws.mul_comm (R.neg a) b ∙ (mul_neg b a ∙ ap R.neg (laws.mul_comm b a))
 
-  -- Elements whose difference is zero are the same.
+  -- If a difference is zero, both elements are equal.
   pub same_from_difference : (a b : A) → R.add a (R.neg b) ≡ R.zero → a ≡ b
   same_from_difference a b e =
       sym (neg_neg a) ∙ (ap R.neg (sym (neg_unique a (R.neg b) e)) ∙ neg_neg b)
@@ -97,14 +97,14 @@ module _ {A : Type 0} {R : Ring A} (laws : IsCommutativeRing R) where
   inverse_unique a b c e f =
       sym (laws.mul_one b) ∙ (ap (R.mul b) (sym f) ∙ (sym (laws.mul_assoc b a c) ∙ (ap (λ x. R.mul x c) (laws.mul_comm b a ∙ e) ∙ one_mul c)))
 
-  -- An element with an inverse cancels in a product.
+  -- A factor that has an inverse cancels.
   pub mul_cancel : (a i b c : A) → IsInverse R a i → R.mul a b ≡ R.mul a c → b ≡ c
   mul_cancel a i b c e f =
       let undone : (x : A) → R.mul i (R.mul a x) ≡ x =
       λ x. sym (laws.mul_assoc i a x) ∙ (ap (λ y. R.mul y x) (laws.mul_comm i a ∙ e) ∙ one_mul x) in
       sym (undone b) ∙ (ap (R.mul i) f ∙ undone c)
 
-  -- A product with an element that has an inverse is zero only where the other factor is.
+  -- A product with a factor that has an inverse is zero only if the other factor is.
   pub zero_from_product : (a i b : A) → IsInverse R a i → R.mul a b ≡ R.zero → b ≡ R.zero
   zero_from_product a i b e z = mul_cancel a i b R.zero e (z ∙ sym (mul_zero a))
 
@@ -122,7 +122,7 @@ module _ {A : Type 0} {R : Ring A} (laws : IsCommutativeRing R) where
   pub product_nonzero : IsDomain R → (a b : A) → a ≢ R.zero → b ≢ R.zero → R.mul a b ≢ R.zero
   product_nonzero domain a b m n e = elim (domain.no_zero_divisors a b e) [ inl z ↦ m z | inr z ↦ n z ]
 
-  -- A whole number as an element: the sum is the sum of the elements.
+  -- A sum of whole numbers, as an element, is the sum of the elements.
   pub of_nat-add : (m n : ℕ) → of_nat R (m + n) ≡ R.add (of_nat R m) (of_nat R n)
   unfolding of_nat
   of_nat-add zero n =
@@ -132,7 +132,7 @@ module _ {A : Type 0} {R : Ring A} (laws : IsCommutativeRing R) where
       let next : suc m + n ≡ suc (m + n) = omega arith in
       ap (of_nat R) next ∙ (ap (R.add R.one) (of_nat-add m n) ∙ sym (laws.add_assoc R.one (of_nat R m) (of_nat R n)))
 
-  -- A whole number as an element: the product is the product of the elements.
+  -- A product of whole numbers, as an element, is the product of the elements.
   pub of_nat-mul : (m n : ℕ) → of_nat R (m * n) ≡ R.mul (of_nat R m) (of_nat R n)
   unfolding of_nat
   of_nat-mul zero n =
@@ -143,17 +143,17 @@ module _ {A : Type 0} {R : Ring A} (laws : IsCommutativeRing R) where
       ap (of_nat R) next ∙ (of_nat-add n (m * n) ∙ (ap (R.add (of_nat R n)) (of_nat-mul m n)
       ∙ (ap (λ x. R.add x (R.mul (of_nat R m) (of_nat R n))) (sym (one_mul (of_nat R n))) ∙ sym (add_mul R.one (of_nat R m) (of_nat R n)))))
 
-  -- One as an element is one.
+  -- The whole number one, as an element, is one.
   pub of_nat-one : of_nat R 1 ≡ R.one
   unfolding of_nat
   of_nat-one = laws.add_zero R.one
 
-  -- Zero as an element is zero.
+  -- The whole number zero, as an element, is zero.
   pub of_nat-zero : of_nat R 0 ≡ R.zero
   unfolding of_nat
   of_nat-zero = refl
 
-  -- The power at a sum is the product of the powers.
+  -- The power at a sum of exponents is the product of the powers.
   pub power-add : (a : A) (m n : ℕ) → power R a (m + n) ≡ R.mul (power R a m) (power R a n)
   unfolding power
   power-add a zero n =
@@ -169,13 +169,13 @@ module _ {A : Type 0} {R : Ring A} (laws : IsCommutativeRing R) where
   power-mul a b zero = sym (laws.mul_one R.one)
   power-mul a b (suc n) = ap (R.mul (R.mul a b)) (power-mul a b n) ∙ mul_swap a b (power R a n) (power R b n)
 
-  -- A power of one is one.
+  -- Every power of one is one.
   pub power-one : (n : ℕ) → power R R.one n ≡ R.one
   unfolding power
   power-one zero = refl
   power-one (suc n) = ap (R.mul R.one) (power-one n) ∙ laws.mul_one R.one
 
-  -- The power at a product is a power of the power.
+  -- The power at a product of exponents is a power of the power.
   pub power_of_power : (a : A) (m n : ℕ) → power R a (m * n) ≡ power R (power R a m) n
   unfolding power
   power_of_power a m zero = let none : m * 0 ≡ 0 = omega arith in ap (power R a) none
@@ -184,17 +184,17 @@ module _ {A : Type 0} {R : Ring A} (laws : IsCommutativeRing R) where
       ap (power R a) next ∙ (power-add a m (m * n) ∙ ap (R.mul (power R a m)) (power_of_power a m n))
 
 module _ {A B : Type 0} {R : Ring A} {S : Ring B} {embed : A → B} (laws : IsCommutativeRing S) (embeds : IsEmbedding R S embed) where
-  -- An embedding keeps negatives, in a commutative ring.
+  -- An embedding preserves negatives, in a commutative ring.
   pub embed-neg : IsCommutativeRing R → (a : A) → embed (R.neg a) ≡ S.neg (embed a)
   embed-neg inner a = neg_unique laws (embed a) _ (sym (embeds.add a (R.neg a)) ∙ (ap embed (inner.add_neg a) ∙ embeds.zero))
 
-  -- An embedding keeps whole numbers.
+  -- An embedding preserves whole numbers.
   pub embed-of_nat : (n : ℕ) → embed (of_nat R n) ≡ of_nat S n
   unfolding of_nat
   embed-of_nat zero = embeds.zero
   embed-of_nat (suc n) = embeds.add R.one (of_nat R n) ∙ ap₂ (λ (x y : B). S.add x y) embeds.one (embed-of_nat n)
 
-  -- An embedding keeps powers.
+  -- An embedding preserves powers.
   pub embed-power : (a : A) (n : ℕ) → embed (power R a n) ≡ power S (embed a) n
   unfolding power
   embed-power a zero = embeds.one

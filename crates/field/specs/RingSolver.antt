@@ -1,5 +1,6 @@
 -- A solver for equations of commutative rings. It expands both sides to sums of products of
--- variables and compares these, and its soundness is proved once: docs/RING_SOLVER.md shows a call.
+-- variables and compares these. Its soundness is proved once; docs/RING_SOLVER.md shows how to call
+-- it.
 use Prim.Native.Nat.{Ordering, compare}
 use Prim.Native.Nat.Ordering.{lt, eq, gt}
 use Rattle.std.specs.Prelude.{◌≡◌, ◌+◌, ◌*◌, ℕ, zero, suc, Bool, true, false, List, [], ◌∷◌, refl}
@@ -11,7 +12,7 @@ use Rattle.field.specs.RingFacts.{zero_add, neg_add, add_cancel_right, one_mul, 
 
 infixl 60 ◌:+◌ ◌:-◌
 infixl 70 ◌:*◌
--- an expression: variables are places in a list of elements, constants are whole numbers
+-- an expression: variables are indices into a list of elements, constants are whole numbers
 pub data Expr : Type 0 where
   var : ℕ → Expr
   con : ℕ → Expr
@@ -31,11 +32,11 @@ Term = ℕ × List ℕ
 abbrev Terms : Type 0
 Terms = List Term
 
--- a sum, and what is taken from it
+-- a sum, and the sum that is subtracted from it
 abbrev Difference : Type 0
 Difference = Terms × Terms
 
--- the variables with one more, in order
+-- the variables with one more inserted, in order
 abbrev pub with_variable : ℕ → List ℕ → List ℕ
 with_variable v [] = v ∷ []
 with_variable v (w ∷ ws) = elim (compare v w) [ gt ↦ w ∷ with_variable v ws | _ ↦ v ∷ w ∷ ws ]
@@ -45,14 +46,14 @@ abbrev pub with_variables : List ℕ → List ℕ → List ℕ
 with_variables [] ws = ws
 with_variables (v ∷ vs) ws = with_variable v (with_variables vs ws)
 
--- the order of words
+-- the lexicographic order of lists of variables
 abbrev pub order : List ℕ → List ℕ → Ordering
 order [] [] = eq
 order [] (w ∷ ws) = lt
 order (v ∷ vs) [] = gt
 order (v ∷ vs) (w ∷ ws) = elim (compare v w) [ lt ↦ lt | eq ↦ order vs ws | gt ↦ gt ]
 
--- the sum with one more term, in order
+-- the sum with one more term inserted, in order
 abbrev pub with_term : Term → Terms → Terms
 with_term t [] = t ∷ []
 with_term t (u ∷ us) = elim (order t.1 u.1) [ lt ↦ t ∷ u ∷ us | eq ↦ (t.0 + u.0, u.1) ∷ us | gt ↦ u ∷ with_term t us ]
@@ -102,27 +103,27 @@ same_terms (t ∷ ts) [] = false
 same_terms (t ∷ ts) (u ∷ us) =
     elim (eqb t.0 u.0) [ true ↦ elim (order t.1 u.1) [ eq ↦ same_terms ts us | _ ↦ false ] | false ↦ false ]
 
--- whether two differences are the same, once each side has what the other takes away
+-- whether two differences are the same: compares each sum plus what the other subtracts
 abbrev pub same_differences : Difference → Difference → Bool
 same_differences a b = same_terms (sum_of a.0 b.1) (sum_of b.0 a.1)
 
--- whether two expressions have one expansion
+-- whether two expressions have the same expansion
 abbrev pub equal : Expr → Expr → Bool
 equal a b = same_differences (expanded a) (expanded b)
 
--- the element in a place of the list
+-- the element at an index of the list
 abbrev pub place : {K : Type 0} → Ring K → List K → ℕ → K
 place R [] v = R.zero
 place R (x ∷ xs) zero = x
 place R (x ∷ xs) (suc v) = place R xs v
 
--- a whole number as an element, with 0 and 1 as the ring's own
+-- a whole number as an element, where 0 and 1 are the ring's own
 abbrev pub constant : {K : Type 0} → Ring K → ℕ → K
 constant R zero = R.zero
 constant R (suc zero) = R.one
 constant R (suc (suc n)) = of_nat R (suc (suc n))
 
--- the value of an expression where its variables are the places of env
+-- the value of an expression whose variables are indices into env
 abbrev pub value : {K : Type 0} → Ring K → List K → Expr → K
 value R env (var v) = place R env v
 value R env (con n) = constant R n
@@ -144,12 +145,12 @@ abbrev pub rights : List Given → Expr
 rights [] = con 0
 rights (g ∷ gs) = g.0 :* g.2 :+ rights gs
 
--- both sides of each equation have one value
+-- the two sides of each equation have the same value
 abbrev pub AreGiven : {K : Type 0} → Ring K → List K → List Given → Type 0
 AreGiven R env [] = Unit {0}
 AreGiven R env (g ∷ gs) = (value R env g.1 ≡ value R env g.2) × AreGiven R env gs
 
--- Words that are in order alike are one word.
+-- Lists of variables that compare as equal are equal.
 order_same : (vs ws : List ℕ) → order vs ws ≡ eq → vs ≡ ws
 order_same [] [] e = refl
 order_same [] (w ∷ ws) e = absurd (cc e)
@@ -177,7 +178,7 @@ module _ {K : Type 0} (R : Ring K) (env : List K) where
   terms (t ∷ ts) = R.add (term t) (terms ts)
 
 module _ {K : Type 0} {R : Ring K} (laws : IsCommutativeRing R) (env : List K) where
-  -- One variable more is one factor more.
+  -- Inserting one more variable adds one factor.
   variables-with_variable : (v : ℕ) (ws : List ℕ) → variables R env (with_variable v ws) ≡ R.mul (place R env v) (variables R env ws)
   variables-with_variable v [] = refl
   variables-with_variable v (w ∷ ws) = by_order (compare v w) (variables-with_variable v ws)
@@ -188,13 +189,13 @@ module _ {K : Type 0} {R : Ring K} (laws : IsCommutativeRing R) (env : List K) w
       by_order eq rest = refl
       by_order gt rest = ap (R.mul (place R env w)) rest ∙ mul_left_comm laws (place R env w) (place R env v) (variables R env ws)
 
-  -- The variables of both give the product.
+  -- Merging two lists of variables multiplies their products.
   variables-with_variables : (vs ws : List ℕ) → variables R env (with_variables vs ws) ≡ R.mul (variables R env vs) (variables R env ws)
   variables-with_variables [] ws = sym (one_mul laws (variables R env ws))
   variables-with_variables (v ∷ vs) ws =
       variables-with_variable v (with_variables vs ws) ∙ (ap (R.mul (place R env v)) (variables-with_variables vs ws) ∙ sym (laws.mul_assoc (place R env v) (variables R env vs) (variables R env ws)))
 
-  -- Terms of the same variables add up by their coefficients.
+  -- Terms with the same variables add up by adding their coefficients.
   term-add : (m n : ℕ) (vs ws : List ℕ) → vs ≡ ws → term R env (m + n, ws) ≡ R.add (term R env (m, vs)) (term R env (n, ws))
   term-add m n vs ws e = rw e (ap (λ c. R.mul c (variables R env ws)) (of_nat-add laws m n) ∙ add_mul laws (of_nat R m) (of_nat R n) (variables R env ws))
 
@@ -205,7 +206,7 @@ module _ {K : Type 0} {R : Ring K} (laws : IsCommutativeRing R) (env : List K) w
       ∙ (ap (R.mul (R.mul (of_nat R t.0) (of_nat R u.0))) (variables-with_variables t.1 u.1)
       ∙ mul_swap laws (of_nat R t.0) (of_nat R u.0) (variables R env t.1) (variables R env u.1))
 
-  -- One term more is one summand more.
+  -- Inserting one more term adds one summand.
   terms-with_term : (t : Term) (us : Terms) → terms R env (with_term t us) ≡ R.add (term R env t) (terms R env us)
   terms-with_term t [] = refl
   terms-with_term t (u ∷ us) = by_order (order t.1 u.1) refl (terms-with_term t us)
@@ -239,7 +240,7 @@ module _ {K : Type 0} {R : Ring K} (laws : IsCommutativeRing R) (env : List K) w
       ∙ (ap (λ x. R.add x (terms R env (product_of ts us))) (terms-scaled t us)
       ∙ (ap (R.add (R.mul (term R env t) (terms R env us))) (terms-product_of ts us) ∙ sym (add_mul laws (term R env t) (terms R env ts) (terms R env us))))
 
-  -- Sums that are the same term by term have one value.
+  -- Sums that are the same term by term have the same value.
   terms_same : (ts us : Terms) → same_terms ts us ≡ true → terms R env ts ≡ terms R env us
   terms_same [] [] e = refl
   terms_same [] (u ∷ us) e = absurd (cc e)
@@ -255,7 +256,7 @@ module _ {K : Type 0} {R : Ring K} (laws : IsCommutativeRing R) (env : List K) w
       by_test true gt c d e rest = absurd (cc e)
       by_test false o c d e rest = absurd (cc e)
 
-  -- Four summands in another order.
+  -- Four summands, regrouped.
   regrouped : (a b c d : K) → R.add a (R.add (R.add b c) d) ≡ R.add (R.add (R.add a b) d) c
   regrouped a b c d =
       ap (R.add a) (laws.add_assoc b c d ∙ (ap (R.add b) (laws.add_comm c d) ∙ sym (laws.add_assoc b d c)))
@@ -273,7 +274,8 @@ module _ {K : Type 0} {R : Ring K} (laws : IsCommutativeRing R) (env : List K) w
   constant_is (suc zero) = ap (λ c. R.add c R.zero) (sym (laws.mul_one (of_nat R 1) ∙ of_nat-one laws))
   constant_is (suc (suc n)) = ap (λ c. R.add c R.zero) (sym (laws.mul_one (of_nat R (suc (suc n)))))
 
-  -- The value of an expression, with what its expansion takes away, is the rest of the expansion.
+  -- The value of an expression plus what its expansion subtracts is the other part of the
+  -- expansion.
   expanded_is : (a : Expr) → R.add (value R env a) (terms R env (expanded a).1) ≡ terms R env (expanded a).0
   expanded_is (var v) =
       let x = place R env v in
@@ -298,7 +300,7 @@ module _ {K : Type 0} {R : Ring K} (laws : IsCommutativeRing R) (env : List K) w
       let less = terms R env (expanded a).1 in
       ap (R.add (R.neg x)) (sym (expanded_is a)) ∙ (sym (laws.add_assoc (R.neg x) x less) ∙ (ap (λ s. R.add s less) (neg_add laws x) ∙ zero_add laws less))
 
-  -- Expressions with one expansion have one value.
+  -- Expressions with the same expansion have the same value.
   pub ring_law : (a b : Expr) → equal a b ≡ true → value R env a ≡ value R env b
   ring_law a b e =
       let d = expanded a in
@@ -313,13 +315,14 @@ module _ {K : Type 0} {R : Ring K} (laws : IsCommutativeRing R) (env : List K) w
       (sym (laws.add_assoc x m n) ∙ (ap (λ s. R.add s n) (expanded_is a) ∙ (crossed
       ∙ (ap (λ s. R.add s m) (sym (expanded_is b)) ∙ (laws.add_assoc y n m ∙ ap (R.add y) (laws.add_comm n m))))))
 
-  -- The multiplied sides of known equations have one sum.
+  -- The multiplied left sides of known equations have the same sum as the multiplied right sides.
   lefts_are_rights : (gs : List Given) → AreGiven R env gs → value R env (lefts gs) ≡ value R env (rights gs)
   lefts_are_rights [] given = refl
   lefts_are_rights (g ∷ gs) given =
       ap₂ (λ (x y : K). R.add (R.mul (value R env g.0) x) y) given.0 (lefts_are_rights gs given.1)
 
-  -- Expressions have one value where their difference is a sum of multiples of known equations.
+  -- Two expressions have the same value if their difference is a sum of multiples of known
+  -- equations.
   pub ring_given : (gs : List Given) (a b : Expr) → AreGiven R env gs → equal (a :+ rights gs) (b :+ lefts gs) ≡ true → value R env a ≡ value R env b
   ring_given gs a b given e =
       add_cancel_right laws (value R env (rights gs)) (value R env a) (value R env b)

@@ -1,4 +1,4 @@
--- The challenge table of a batch (LogUp, eprint 2022/1530, with one offset for each bus).
+-- The challenge table of a batch (LogUp, eprint 2022/1530, with one offset per bus).
 use Rattle.std.specs.Prelude.{ℕ, ◌+◌}
 use Rattle.field.specs.Ring.{Ring, of_nat, power}
 

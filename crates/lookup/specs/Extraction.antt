@@ -1,4 +1,4 @@
--- The lookups that are extracted from the records of an AIR.
+-- The lookups that are extracted from an AIR's records.
 use Rattle.std.specs.Prelude.{◌≡◌, ◌≢◌, ◌+◌, ◌<◌, ◌≤◌, ◌⊎◌, ℕ, List, [], ◌∷◌, ◌++◌, length, map, Option, None, Some, slice_get, All, Result, Ok, Err, MatchResult}
 use Rattle.std.specs.List.{enumerate_from, sum_by}
 use Rattle.std.specs.String.{string_bytes}
@@ -40,7 +40,7 @@ module _ {E : Type 0} where
     flags = None;
   }
 
-  -- the lookup of a group, whose weight is the greatest of its branches
+  -- the lookup of a group, whose weight is the greatest of its branches' weights
   abbrev pub exclusive_at : ℕ → ExclusiveInteraction E → Outline E
   exclusive_at column m = record {
     bus = Some m.bus_name;
@@ -51,18 +51,18 @@ module _ {E : Type 0} where
     flags = Some (map (λ b. b.flag) m.branches);
   }
 
-  -- the lookups that a list of interactions makes, in the columns from n on
+  -- the lookups that a list of interactions makes, in the columns from n upwards
   abbrev pub in_columns : {M : Type 0} → (ℕ → M → Outline E) → ℕ → List M → List (Outline E)
   in_columns lookup_at n interactions =
       map (λ p. lookup_at p.0 p.1) (enumerate_from n interactions)
 
-  -- local lookups, then messages on buses, then groups, in the columns 0, 1, 2 and on
+  -- local lookups, then messages on buses, then groups, in the columns 0, 1, 2, …
   abbrev pub extraction : List (List (Tuple E)) → List (GlobalInteraction E) → List (ExclusiveInteraction E) → List (Outline E)
   extraction locals globals exclusives =
       (in_columns local_at 0 locals ++ in_columns global_at (length locals) globals)
       ++ in_columns exclusive_at (length locals + length globals) exclusives
 
--- the first of some widths, and the first of them that differs from it
+-- the first width, and the first one that differs from it
 pub record HasOtherWidth (widths : List ℕ) (width other : ℕ) : Type 0 where
   pub place : ℕ
   pub first : slice_get widths 0 ≡ Some width
@@ -70,7 +70,7 @@ pub record HasOtherWidth (widths : List ℕ) (width other : ℕ) : Type 0 where
   pub found : slice_get widths place ≡ Some other
   pub before : (i v : ℕ) → i < place → slice_get widths i ≡ Some v → v ≡ width
 
--- the refusal of two widths under a context
+-- the refusal of two widths, with a context
 pub record IsTupleWidths (context : List ℕ) (width other : ℕ) (e : LookupError) : Type 0 where
   pub text : String Global
   pub text_is : string_bytes text ≡ context
@@ -85,13 +85,13 @@ module _ {E : Type 0} where
   abbrev pub tuple_widths : List (Tuple E) → List ℕ
   tuple_widths tuples = map (λ t. length t.fields) tuples
 
-  -- the weights of a local interaction have a sum that fits, and its tuples have one width
+  -- the weights of a local interaction have a sum that fits, and its tuples have the same width
   pub record IsFaultless (tuples : List (Tuple E)) : Type 0 where
     pub weight : sum_by (λ t. t.weight) tuples < 4294967296
     pub width : ℕ
     pub widths : All (λ t. length t.fields ≡ width) tuples
 
-  -- the refusal of a local interaction: its weight comes before its widths
+  -- the refusal of a local interaction: for its weight first, then for its widths
   abbrev pub IsLocalRefusal : List (Tuple E) → LookupError → Type 0
   IsLocalRefusal tuples e =
       ((4294967296 ≤ sum_by (λ t. t.weight) tuples) × (e ≡ CountWeightOverflow))
@@ -107,8 +107,8 @@ module _ {E : Type 0} where
     pub faultless : All IsFaultless before
     pub refusal : IsLocalRefusal tuples e
 
--- The answer is the extraction from what an evaluation of the AIR left in a new builder, or the
--- first refusal: want of memory, that of the AIR, or that of the first local interaction with a fault.
+-- The answer is the extraction from what evaluating the AIR left in a new builder, or the first
+-- refusal: out of memory, the AIR's own, or that of the first local interaction with a fault.
 abbrev pub Extracts : {A F EF : Type 0} → (A → InteractionSymbolicBuilder F EF → Result (Unit {0}) AirError → InteractionSymbolicBuilder F EF → Type 0) → A → AirLayout → Result (Lookups F) LookupError → Type 0
 Extracts {A} {F} {EF} evaluates air layout answer = MatchResult answer
     (λ set. (b : InteractionSymbolicBuilder F EF) × EvaluatesNew evaluates air layout (Ok b)

@@ -1,4 +1,4 @@
--- The fraction of a lookup while its messages are gone through.
+-- The fraction of a lookup while its messages are processed.
 use Rattle.std.specs.Prelude.{◌≡◌, ℕ, false, List, map}
 use Rattle.field.specs.Ring.{Ring}
 use Rattle.field.specs.Sums.{sum_in}
@@ -19,7 +19,7 @@ module _ {F K : Type 0} (E : Extension F K) (denominator : Key F → K) where
   abbrev pub quotient_of : Message F → K
   quotient_of m = quotient E denominator m.multiplicity m.key
 
-  -- f is the sum of the quotients of the counted messages, of which no denominator vanishes
+  -- f is the sum of the quotients of the counted messages, and none of their denominators vanishes
   pub record IsFractionOf (ms : List (Message F)) (f : K) : Type 0 where
     pub value : f ≡ sum_in E.ring (map quotient_of (counted E ms))
     pub divides : vanishes E denominator (counted E ms) ≡ false

@@ -1,4 +1,4 @@
--- What is seen of the lookups of one AIR.
+-- What contracts see of the lookups of one AIR.
 use Rattle.std.specs.Prelude.{List}
 use Rattle.lookup_model.specs.declared.types.Lookup.{Lookup}
 use Rattle.lookup.specs.declared.lookups.Lookups.{Lookups}

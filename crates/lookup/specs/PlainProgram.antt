@@ -24,10 +24,10 @@ sent_of ms = record { flags = None; messages = messages_of ms }
 abbrev pub net_vanishes : {F K : Type 0} → Extension F K → (Key F → K) → List (Message F) → Bool
 net_vanishes E denominator messages = list_any (λ key. E.eq (denominator key) E.ring.zero) (unbalanced_keys E.base E.base_eq messages)
 
--- the places of the elements that are one
+-- the indices of the elements that are one
 abbrev pub places_of_ones : {F : Type 0} → Ring F → (F → F → Bool) → List F → List ℕ
 places_of_ones R eq xs = map (λ p. p.0) (filter (λ p. eq p.1 R.one) (enumerate_from 0 xs))
 
--- a key with its net as a message
+-- a key with its net, as a message
 abbrev pub net_message : {F : Type 0} → Ring F → (F → F → Bool) → List (Message F) → Key F → Message F
 net_message R eq messages key = record { key = key; multiplicity = net R eq messages key }

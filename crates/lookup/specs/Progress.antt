@@ -1,4 +1,4 @@
--- An auxiliary trace while it is made.
+-- An auxiliary trace while it is being made.
 use Rattle.std.specs.Prelude.{◌≡◌, ℕ, List, [], ◌∷◌, ◌++◌, map, take}
 use Rattle.std.specs.List.{flat_map, range_with_len}
 use Rattle.field.specs.Sums.{sum_in}
@@ -9,14 +9,15 @@ use Rattle.lookup_model.specs.Plain.{plain_accumulator, plain_fraction, plain_ro
 use Rattle.lookup_model.specs.Sent.{Sent}
 
 module _ {F K : Type 0} (E : Extension F K) (denominator : Key F → K) where
-  -- Behind the cells before it stand the accumulator and the fractions of these lookups of a row,
-  -- which has no fault in them; next is the accumulator with the fractions added.
+  -- After the earlier cells come the accumulator and the fractions of these lookups of a row, which
+  -- has no fault in them. next is the accumulator plus these fractions.
   pub record HasRow (row : ℕ) (before after : List K) (accumulator next : K) (sents : List (Sent F)) : Type 0 where
     pub cells : after ≡ before ++ accumulator ∷ map (plain_fraction E denominator) sents
     pub total : next ≡ E.ring.add accumulator (sum_in E.ring (map (plain_fraction E denominator) sents))
     pub faultless : row_faults E denominator row sents ≡ []
 
-  -- The cells are those of the first r rows, which have no fault, and the accumulator is that of row r.
+  -- The cells are those of the first r rows, which have no fault, and the accumulator is that of
+  -- row r.
   pub record HasRows (rows : List (List (Sent F))) (r : ℕ) (cells : List K) (accumulator : K) : Type 0 where
     pub cells_are : cells ≡ flat_map (plain_row E denominator rows) (range_with_len 0 r)
     pub accumulator_is : accumulator ≡ plain_accumulator E denominator rows r

@@ -29,7 +29,7 @@ module _ {F EF : Type 0} where
     num_permutation_values = 0;
   }
 
-  -- the same with the challenges, and nothing of an auxiliary trace
+  -- the same, with the challenges but nothing of an auxiliary trace
   abbrev pub ext_builder_window : LookupTraceBuilder F EF → ExtWindow F EF
   ext_builder_window b = record {
     base = builder_window b;

@@ -97,7 +97,7 @@ fn exclusive_lookup<F: Field>(
     })
 }
 
-/// The lookups of local interactions, in the columns 0, 1, 2, ….
+/// The lookups of local interactions, in the columns 0, 1, 2, …
 ///
 /// Refuses the fault of the first of them that has one.
 fn local_lookups<F: Field>(
@@ -154,7 +154,7 @@ fn with_exclusives<F: Field>(
 }
 
 /// The lookups of local interactions, then of messages on buses, then of groups, in the columns 0,
-/// 1, 2, ….
+/// 1, 2, …
 ///
 /// Refuses the fault of the first local interaction that has one.
 pub(crate) fn extracted<F: Field>(

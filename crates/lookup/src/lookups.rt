@@ -15,7 +15,7 @@ use serde::{Described, Serialize, Serializer};
 use std::alloc::{AllocError, Global};
 
 /// The lookups of one AIR: each has as many multiplicities as tuples and, if it has flags, as many
-/// flags. Their columns are 0, 1, 2, ….
+/// flags. Their columns are 0, 1, 2, …
 #[derive(Debug, Drop)]
 pub struct Lookups<F> {
     lookups: Vec<Lookup<F>>,
@@ -27,7 +27,7 @@ impl<F: Field> Lookups<F> {
     ghost use Rattle.lookup.specs.Lookups.{lookups_of};
 
     /// The lookups that an AIR records in a new builder with its own layout: local ones, then those
-    /// on buses, then groups, each in the order of their pushes, in the columns 0, 1, 2, ….
+    /// on buses, then groups, each in the order of their pushes, in the columns 0, 1, 2, …
     ///
     /// The weight of a local lookup is the sum over its tuples. That of a group is the greatest
     /// weight of its branches, 0 without branches. Refused are:

@@ -11,7 +11,7 @@ pub record Read : Type 0 where
   pub position : ℕ
   pub payload : List ℕ
 
--- a table: the trace that has it, and its columns
+-- a table: the trace that holds it, and its columns
 pub record Table : Type 0 where
   pub name : List ℕ
   pub window : TraceWindow

@@ -7,16 +7,17 @@ use Rattle.std.specs.Result.{IfErr, IfOk}
 use Rattle.lookup_evaluation.specs.Asserted.{Asserts, Evaluates, Fails, IsConstraint}
 use Rattle.lookup_model.specs.Constraints.{Constraint}
 
--- an expression that is a constraint at some windows is one where fewer are stood for
+-- an expression that is a constraint at some windows is one at fewer windows, too
 pub fewer_windows : {X F K : Type 0} (value : X → ExtWindow F K → K) (degree : X → ℕ → ℕ) (more fewer : ExtWindow F K → Type 0) → ((w : ExtWindow F K) → fewer w → more w) → (k : Constraint F K) (x : X) → IsConstraint value degree more k x → IsConstraint value degree fewer k x
 fewer_windows value degree more fewer within k x is = record { means = λ w stands. is.means w (within w stands); within = is.within }
 
--- Expressions of these constraints are expressions of those, one by one.
+-- An expression of each of these constraints is an expression of the one at the same place in the
+-- other list.
 abbrev pub Reads : {X C : Type 0} → (C → X → Type 0) → (C → X → Type 0) → List C → List C → Type 0
 Reads {X} is also ks ms = AllZip (λ k m. (x : X) → is k x → also m x) ks ms
 
 module _ {B X C : Type 0} (accepts : B → X → B → Type 0) where
-  -- what is asserted of the ones is asserted of the others
+  -- so assertions of the first constraints are assertions of the others
   pub asserts_read : (is also : C → X → Type 0) (ks ms : List C) → Reads is also ks ms → (b c : B) → Asserts accepts is b ks c → Asserts accepts also b ms c
   unfolding Asserts
   asserts_read is also [] [] reads b c done = done
@@ -25,14 +26,14 @@ module _ {B X C : Type 0} (accepts : B → X → B → Type 0) where
   asserts_read is also (k ∷ ks) (m ∷ ms) reads b c (d, x, means, taken, rest) =
       (d, x, reads.0 x means, taken, asserts_read is also ks ms reads.1 d c rest)
 
-  -- the rest of an evaluation goes on from where the first constraints led
+  -- assertions of the remaining constraints continue from where the first ones led
   pub asserts_then : (is : C → X → Type 0) (b : B) (ks ms : List C) (c d : B) → Asserts accepts is b ks c → Asserts accepts is c ms d → Asserts accepts is b (ks ++ ms) d
   unfolding Asserts
   asserts_then is b [] ms c d done rest = subst (λ (s : B). Asserts accepts is s ms d) done rest
   asserts_then is b (k ∷ ks) ms c d (s, x, means, taken, more) rest =
       (s, x, means, taken, asserts_then is s ks ms c d more rest)
 
-  -- what every accepted assertion keeps is kept
+  -- what every accepted assertion keeps is kept by all of them
   pub asserts_keep : (is : C → X → Type 0) (P : B → Type 0) → ((b : B) (x : X) (c : B) → accepts b x c → P b → P c) → (b : B) (ks : List C) (c : B) → Asserts accepts is b ks c → P b → P c
   unfolding Asserts
   asserts_keep is P keeps b [] c done holds = subst P (sym done) holds
@@ -79,7 +80,7 @@ module _ {B X C : Type 0} (accepts : B → X → B → Type 0) (refuses : B → 
   evaluates_then is b ks ms c d (Ok u) so_far rest = asserts_then accepts is b ks ms c d so_far rest
   evaluates_then is b ks ms c d (Err e) so_far rest = fails_then is b ks ms c d e so_far rest
 
-  -- a refusal stays one where more constraints were to come
+  -- a refusal stays a refusal if more constraints were to follow
   pub fails_early : (is : C → X → Type 0) (b : B) (ks ms : List C) (e : AirError) (c : B) → Fails accepts refuses stops is b ks e c → Fails accepts refuses stops is b (ks ++ ms) e c
   unfolding Fails
   fails_early is b [] ms e c none = elim none [ ]
@@ -92,13 +93,13 @@ module _ {B X C : Type 0} (accepts : B → X → B → Type 0) (refuses : B → 
   unfolding Fails
   fails_front is k ks b d c e x means taken rest = inr (inr (d, x, means, taken, rest))
 
-  -- the first constraint is where an evaluation fails: no expression, or one that is refused
+  -- an evaluation fails at its first constraint: there is no expression, or it is refused
   pub fails_here : (is : C → X → Type 0) (k : C) (ks : List C) (b c : B) (e : AirError) → (stops b e × (c ≡ b)) ⊎ ((x : X) × is k x × refuses b x e c) → Fails accepts refuses stops is b (k ∷ ks) e c
   unfolding Fails
   fails_here is k ks b c e (inl (why, same)) = inl (same, why)
   fails_here is k ks b c e (inr why) = inr (inl why)
 
-  -- the answer of the last constraint is that of all
+  -- the answer for the last constraint is the answer for all
   pub answers_here : (is : C → X → Type 0) (k : C) (b c : B) (r : Result (Unit {0}) AirError) → IfOk r (λ _. (x : X) × is k x × accepts b x c) → IfErr r (λ e. (stops b e × (c ≡ b)) ⊎ ((x : X) × is k x × refuses b x e c)) → Evaluates accepts refuses stops is b (k ∷ []) r c
   answers_here is k b c (Ok u) (x, means, taken) failed = asserts_front accepts is k [] b c c x means taken (asserts_none accepts is c)
   answers_here is k b c (Err e) done failed = fails_here is k [] b c e failed

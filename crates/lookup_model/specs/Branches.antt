@@ -14,11 +14,11 @@ use Rattle.lookup_model.specs.Sent.{branch_at, branches_at}
 use Rattle.lookup_model.specs.declared.types.Lookup.{Lookup}
 
 module _ {A B C : Type 0} (f : A × B → C) (xs : List A) (ys : List B) (same : length ys ≡ length xs) where
-  -- what f gives of two lists of one length is as long as they are
+  -- mapping f over the pairs of two lists of the same length keeps that length
   pub length-zipped : length (map f (zip xs ys)) ≡ length xs
   length-zipped = length-map (zip xs ys) f ∙ length-zip xs ys ∙ omega (arith, same)
 
-  -- the pair at a place
+  -- the value of f for the pair at an index
   pub zipped_at : (i : ℕ) (x : A) (y : B) → i < length xs → x ≡ get_or xs i x → y ≡ get_or ys i y → f (x, y) ≡ get_or (map f (zip xs ys)) i (f (x, y))
   zipped_at i x y lt x_is y_is =
       sym (get_or-map f (zip xs ys) i (x, y) (f (x, y)) (omega (arith, length-zip xs ys, same)) ∙ ap f (get_or-zip xs ys i (x, y) lt (omega (arith, same)) ∙ (λ k. (sym x_is k, sym y_is k))))
@@ -29,7 +29,7 @@ module _ {A B C : Type 0} (f : A × B → C) (xs : List A) (ys : List B) (same :
       take_more (map f (zip xs ys)) i (f (x, y)) (omega (arith, length-zipped)) ∙ ap (λ t. take i (map f (zip xs ys)) ++ t ∷ []) (sym (zipped_at i x y lt x_is y_is))
 
 module _ {A B : Type 0} (f : A → B) (xs : List A) where
-  -- what f gives of the item at a place
+  -- the value of f for the item at an index
   pub mapped_at : (i : ℕ) (x : A) → i < length xs → x ≡ get_or xs i x → f x ≡ get_or (map f xs) i (f x)
   mapped_at i x lt x_is = sym (get_or-map f xs i x (f x) lt ∙ ap f (sym x_is))
 
@@ -62,7 +62,7 @@ module _ {F : Type 0} (R : Ring F) (w : Window F) (id : ℕ) (lookup : Lookup F)
   branches_more i tuple multiplicity lt tuple_is multiplicity_is =
       zipped_more (λ b. branch_at R w id b.0.items b.1) lookup.elements.items lookup.multiplicities.items lengths.multiplicities i tuple multiplicity lt tuple_is multiplicity_is
 
-  -- the branches up to one, that one, and the rest
+  -- the branches before one, that one, and the rest
   pub branches_split : (i : ℕ) (tuple : Vec (SymbolicExpression F) Global) (multiplicity : SymbolicExpression F) → i < length lookup.elements.items → tuple ≡ get_or lookup.elements.items i tuple → multiplicity ≡ get_or lookup.multiplicities.items i multiplicity
       → branches_at R w id lookup ≡ (take i (branches_at R w id lookup) ++ branch_at R w id tuple.items multiplicity ∷ []) ++ drop (i + 1) (branches_at R w id lookup)
   branches_split i tuple multiplicity lt tuple_is multiplicity_is =

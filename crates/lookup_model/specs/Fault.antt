@@ -12,7 +12,7 @@ use Rattle.lookup_model.specs.declared.error.LookupError.TheVariants.{VanishingD
 abbrev pub are_boolean : {F K : Type 0} → Extension F K → List F → Bool
 are_boolean E flags = list_all (λ f. E.base_eq f E.base.zero || E.base_eq f E.base.one) flags
 
--- the places of the set flags, where the first flag has place n
+-- the indices of the set flags, counted from n
 abbrev pub set_places : {F K : Type 0} → Extension F K → ℕ → List F → List ℕ
 set_places E n flags = map (λ p. p.0) (filter (λ p. E.base_eq p.1 E.base.one) (enumerate_from n flags))
 
@@ -21,9 +21,9 @@ module _ {F K : Type 0} (E : Extension F K) (denominator : Key F → K) where
   abbrev pub vanishes : List (Message F) → Bool
   vanishes messages = list_any (λ m. E.eq (denominator m.key) E.ring.zero) messages
 
-  -- The fault of a lookup on a row. In an additive one the denominators of zero multiplicities are
-  -- not looked at. In an exclusive one a flag that is neither zero nor one comes first, then more
-  -- than one set flag, then the denominator that is selected.
+  -- The fault of a lookup on a row. An additive lookup ignores the denominators of zero
+  -- multiplicities. For an exclusive one the order is: a flag that is neither zero nor one, more
+  -- than one set flag, the selected denominator.
   abbrev pub fault_of : ℕ → ℕ → Sent F → Option LookupError
   fault_of row lookup sent = by_flags sent.flags
     where
@@ -38,6 +38,6 @@ module _ {F K : Type 0} (E : Extension F K) (denominator : Key F → K) where
   abbrev pub row_faults : ℕ → List (Sent F) → List LookupError
   row_faults row sents = filter_map (λ p. fault_of row p.0 p.1) (enumerate_from 0 sents)
 
-  -- the faults of a trace, in the order of its rows and lookups
+  -- the faults of a trace, in the order of its rows and their lookups
   abbrev pub trace_faults : List (List (Sent F)) → List LookupError
   trace_faults rows = flat_map (λ p. row_faults p.0 p.1) (enumerate_from 0 rows)

@@ -4,11 +4,11 @@ use Rattle.std.proofs.lemmas.List.{reverse-append, map_push, take_more}
 use Rattle.field.specs.Polynomial.{combined, value_at}
 use Rattle.field.specs.Ring.{Ring}
 
--- one more element, which then carries beta^0
+-- one more element, which then has the factor beta^0
 pub combined-push : {K : Type 0} (S : Ring K) (tuple : List K) (x beta : K) → combined S (tuple ++ x ∷ []) beta ≡ S.add x (S.mul beta (combined S tuple beta))
 combined-push S tuple x beta = ap (λ cs. value_at S cs beta) (reverse-append tuple (x ∷ []))
 
--- one more of the elements that f gives of a list
+-- one more of the elements that f gives for a list
 pub combined_more : {A K : Type 0} (S : Ring K) (f : A → K) (es : List A) (i : ℕ) (e : A) (beta sum next : K) → i < length es → e ≡ get_or es i e → sum ≡ combined S (map f (take i es)) beta → next ≡ S.add (f e) (S.mul beta sum) → next ≡ combined S (map f (take (i + 1) es)) beta
 combined_more S f es i e beta sum next lt is so_far next_is =
     next_is

@@ -1,8 +1,9 @@
--- Messages: what the lookups of a trace send (LogUp, eprint 2022/1530: an entry with its multiplicity).
+-- Messages: what the lookups of a trace send (LogUp, eprint 2022/1530: an entry with its
+-- multiplicity).
 use Rattle.std.specs.Prelude.{ℕ, Bool, List, ◌&&◌, nat_eq}
 use Rattle.std.specs.Cmp.Lexicographic.{pointwise}
 
--- what a message is about: the id that it is sent under, and the values of its tuple
+-- what a message is about: the id under which it is sent, and the values of its tuple
 pub record Key (F : Type 0) : Type 0 where
   pub id : ℕ
   pub tuple : List F

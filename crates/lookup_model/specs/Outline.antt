@@ -1,4 +1,4 @@
--- What is seen of a lookup: texts as bytes, vectors as lists.
+-- What contracts see of a lookup: texts as bytes, vectors as lists.
 use Rattle.std.specs.Prelude.{ℕ, List, Option, Some, None, map, option_map}
 use Rattle.std.specs.String.{string_bytes}
 use Rattle.expressions.specs.Tree.{Tree, tree_of}
@@ -7,12 +7,12 @@ use Rattle.lookup_model.specs.declared.types.Kind.{Kind}
 use Rattle.lookup_model.specs.declared.types.Kind.TheVariants.{Local, Global}
 use Rattle.lookup_model.specs.declared.types.Lookup.{Lookup}
 
--- the name of the bus that a lookup is sent on, if it is not local
+-- the name of the bus that a lookup is sent on, unless it is local
 abbrev pub bus_of : Kind → Option (List ℕ)
 bus_of Local = None
 bus_of (Global name) = Some (string_bytes name)
 
--- the fields of a lookup, with something in place of each expression
+-- the fields of a lookup, with any type in place of its expressions
 pub record Outline (E : Type 0) : Type 0 where
   pub bus : Option (List ℕ)
   pub elements : List (List E)
@@ -21,7 +21,7 @@ pub record Outline (E : Type 0) : Type 0 where
   pub column : ℕ
   pub flags : Option (List E)
 
--- those of this lookup, with its expressions
+-- the fields of this lookup, with its expressions
 abbrev pub fields_of : {F : Type 0} → Lookup F → Outline (SymbolicExpression F)
 fields_of lookup = record {
   bus = bus_of lookup.kind;
@@ -32,7 +32,7 @@ fields_of lookup = record {
   flags = option_map (λ flags. flags.items) lookup.flags;
 }
 
--- those of this lookup, with the trees of its expressions
+-- the fields of this lookup, with the trees of its expressions
 abbrev pub outline_of : {F : Type 0} → Lookup F → Outline (Tree F)
 outline_of lookup = record {
   bus = bus_of lookup.kind;

@@ -1,5 +1,5 @@
 -- The plain result of generation (LogUp, eprint 2022/1530): plain quotients and their sums, and a
--- terminal from the nets of the keys. The rows of a trace are lists of what its lookups send.
+-- terminal from the nets of the keys. A row of a trace is the list of what its lookups send.
 use Rattle.std.specs.Prelude.{ℕ, List, ◌∷◌, length, map, not, take, slice_index_or, []}
 use Rattle.std.specs.List.{filter, flat_map, range_with_len}
 use Rattle.field.specs.Sums.{sum_in}
@@ -21,7 +21,8 @@ module _ {F K : Type 0} (E : Extension F K) (denominator : Key F → K) where
   abbrev pub quotient : F → Key F → K
   quotient multiplicity key = E.ring.mul (E.embed multiplicity) (E.inverse (denominator key))
 
-  -- the fraction of a lookup on a row: the sum of the quotients of its messages of nonzero multiplicity
+  -- the fraction of a lookup on a row: the sum of the quotients of its messages with nonzero
+  -- multiplicity
   abbrev pub plain_fraction : Sent F → K
   plain_fraction sent = sum_in E.ring (map (λ m. quotient m.multiplicity m.key) (counted E sent.messages))
 
@@ -29,7 +30,7 @@ module _ {F K : Type 0} (E : Extension F K) (denominator : Key F → K) where
   abbrev pub plain_accumulator : List (List (Sent F)) → ℕ → K
   plain_accumulator rows r = sum_in E.ring (flat_map (λ row. map plain_fraction row) (take r rows))
 
-  -- row r of the auxiliary trace: its accumulator, and then the fraction of each lookup
+  -- row r of the auxiliary trace: its accumulator, then the fraction of each lookup
   abbrev pub plain_row : List (List (Sent F)) → ℕ → List K
   plain_row rows r = plain_accumulator rows r ∷ map plain_fraction (slice_index_or rows r [])
 

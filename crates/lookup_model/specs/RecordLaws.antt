@@ -1,4 +1,4 @@
--- Records that are well formed and expressions that fit, one after another.
+-- Well formed records and fitting expressions, one after another.
 use Rattle.std.proofs.Common.{◌≡◌, ◌⊎◌, ℕ, ◌+◌, ◌<◌, ◌≤◌, List, length, get_or, All, Some, inl, inr, arith, subst, sym, ◌∙◌}
 use Rattle.std.proofs.lemmas.Bool.{cases_lt}
 use Rattle.std.specs.List.{slice_get}
@@ -22,7 +22,7 @@ AreRecordsBelow-more {F} lookups i lookup below is_there is k other k_below k_is
         subst (λ (n : ℕ). IsRecordAt n other) (sym e) (subst (λ (l : Lookup F). IsRecordAt i l) other_is is)
 
 module _ {A : Type 0} where
-  -- what holds of every item holds of the one at a place
+  -- what holds for every item holds for the one at an index
   pub All-at : (P : A → Type 0) (xs : List A) (i : ℕ) (x : A) → All P xs → i < length xs → x ≡ get_or xs i x → P x
   All-at P xs i x all lt is = subst P (sym is) (all i x lt)
 

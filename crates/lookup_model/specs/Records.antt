@@ -8,7 +8,7 @@ use Rattle.expressions.specs.Tree.{tree_of}
 use Rattle.lookup_model.specs.declared.types.Lookup.{Lookup}
 
 module _ {F : Type 0} where
-  -- one multiplicity for each tuple and, where there are flags, one flag for each
+  -- one multiplicity for each tuple and, if there are flags, one flag for each
   pub record HasEqualLengths (lookup : Lookup F) : Type 0 where
     pub multiplicities : length lookup.multiplicities.items ≡ length lookup.elements.items
     pub flags : ForSome lookup.flags (λ flags. length flags.items ≡ length lookup.elements.items)
@@ -17,7 +17,7 @@ module _ {F : Type 0} where
   abbrev pub IsRecordAt : ℕ → Lookup F → Type 0
   IsRecordAt column lookup = (lookup.column ≡ column) × HasEqualLengths lookup
 
-  -- the first n lookups have equal lengths, and the columns 0, 1, 2 and on
+  -- the first n lookups have equal lengths, and the columns 0, 1, 2, …
   abbrev pub AreRecordsBelow : ℕ → List (Lookup F) → Type 0
   AreRecordsBelow n lookups = (i : ℕ) (lookup : Lookup F) → i < n → slice_get lookups i ≡ Some lookup → IsRecordAt i lookup
 
@@ -25,7 +25,7 @@ module _ {F : Type 0} where
   abbrev pub AreRecords : List (Lookup F) → Type 0
   AreRecords lookups = AreRecordsBelow (length lookups) lookups
 
-  -- lookup i does not, and all before it do
+  -- lookup i does not, and all those before it do
   pub record IsFirstMalformed (lookups : List (Lookup F)) (i : ℕ) : Type 0 where
     pub lookup : Lookup F
     pub is_there : slice_get lookups i ≡ Some lookup
@@ -36,7 +36,7 @@ module _ {F : Type 0} where
   unfoldable pub AllFit : AirLayout → List (SymbolicExpression F) → Type 0
   AllFit layout es = All (λ e. Fits layout (tree_of e)) es
 
-  -- all variables of a lookup, in its tuples, its multiplicities and its flags, are within the layout
+  -- all variables of a lookup, in its tuples, multiplicities and flags, are within the layout
   unfoldable pub IsWithin : AirLayout → Lookup F → Type 0
   IsWithin layout lookup =
       All (λ tuple. AllFit layout tuple.items) lookup.elements.items × AllFit layout lookup.multiplicities.items × IfSome lookup.flags (λ flags. AllFit layout flags.items)

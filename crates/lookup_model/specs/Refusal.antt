@@ -1,10 +1,10 @@
--- How refusals of an AIR are handed on.
+-- How refusals of an AIR are passed on.
 use Rattle.expressions.specs.declared.error.AirError.{AirError}
 use Rattle.expressions.specs.declared.error.AirError.TheVariants as air
 use Rattle.lookup_model.specs.declared.error.LookupError.{LookupError}
 use Rattle.lookup_model.specs.declared.error.LookupError.TheVariants.{Memory, DegreeOverflow, Air}
 
--- want of memory and an overflow of degrees keep their names
+-- out of memory and an overflow of degrees keep their names
 abbrev pub from_air : AirError → LookupError
 from_air air.Memory = Memory
 from_air air.DegreeOverflow = DegreeOverflow

@@ -14,27 +14,27 @@ use Rattle.lookup_model.specs.declared.error.LookupError.{LookupError}
 use Rattle.lookup_model.specs.SumLaws.{sum_in-append}
 
 module _ {A : Type 0} where
-  -- the places of two lists, one after the other
+  -- the numbered items of two lists, one after the other
   pub enumerate_from-append : (n : ℕ) (xs ys : List A) → enumerate_from n (xs ++ ys) ≡ enumerate_from n xs ++ enumerate_from (n + length xs) ys
   enumerate_from-append n [] ys = ap (λ k. enumerate_from k ys) (omega arith)
   enumerate_from-append n (x ∷ xs) ys =
       ap (λ t. (n, x) ∷ t) (enumerate_from-append (n + 1) xs ys ∙ ap (λ k. enumerate_from (n + 1) xs ++ enumerate_from k ys) (omega arith))
 
-  -- what follows the first item does not change it
+  -- appending does not change the first item
   slice_get-first : (xs ys : List A) (x : A) → slice_get xs 0 ≡ Some x → slice_get (xs ++ ys) 0 ≡ Some x
   slice_get-first [] ys x e = absurd (cc e)
   slice_get-first (y ∷ xs) ys x e = e
 
-  -- a list up to a place and the item there
+  -- a list up to an index and the item there
   pub take_item : (xs : List A) (i : ℕ) (x : A) → i < length xs → x ≡ get_or xs i x → take (i + 1) xs ≡ take i xs ++ x ∷ []
   take_item xs i x lt is = take_more xs i x lt ∙ ap (λ t. take i xs ++ t ∷ []) (sym is)
 
-  -- a list up to a place, the item there, and the rest
+  -- a list before an index, the item there, and the rest
   pub split_at : (xs : List A) (i : ℕ) (x : A) → i < length xs → x ≡ get_or xs i x → xs ≡ (take i xs ++ x ∷ []) ++ drop (i + 1) xs
   split_at xs i x lt is = sym (take-append-drop (i + 1) xs) ∙ ap (λ t. t ++ drop (i + 1) xs) (take_item xs i x lt is)
 
 module _ {F K : Type 0} (E : Extension F K) (denominator : Key F → K) where
-  -- the faults of a row that goes on
+  -- the faults of a longer row
   pub row_faults-append : (row : ℕ) (xs ys : List (Sent F)) → row_faults E denominator row (xs ++ ys) ≡ row_faults E denominator row xs ++ filter_map (λ p. fault_of E denominator row p.0 p.1) (enumerate_from (length xs) ys)
   row_faults-append row xs ys =
       let f = λ (p : ℕ × Sent F). fault_of E denominator row p.0 p.1 in
@@ -55,7 +55,7 @@ module _ {F K : Type 0} (E : Extension F K) (denominator : Key F → K) where
       ∙ (λ i. so_far i ++ cons_option (fault_of E denominator row (at i) x) [])
       ∙ ap (λ o. cons_option o []) fault))
 
-  -- the faults of a trace that goes on
+  -- the faults of a longer trace
   pub trace_faults-append : (xs ys : List (List (Sent F))) → trace_faults E denominator (xs ++ ys) ≡ trace_faults E denominator xs ++ flat_map (λ p. row_faults E denominator p.0 p.1) (enumerate_from (length xs) ys)
   trace_faults-append xs ys =
       let f = λ (p : ℕ × List (Sent F)). row_faults E denominator p.0 p.1 in

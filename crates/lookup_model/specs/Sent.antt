@@ -10,7 +10,7 @@ use Rattle.expressions.specs.Window.{Window}
 use Rattle.lookup_model.specs.Message.{Message}
 use Rattle.lookup_model.specs.declared.types.Lookup.{Lookup}
 
--- the messages of a row and, where the lookup is exclusive, the values of its flags
+-- the messages of a row and, if the lookup is exclusive, the values of its flags
 pub record Sent (F : Type 0) : Type 0 where
   pub flags : Option (List F)
   pub messages : List (Message F)
@@ -27,7 +27,8 @@ values R w es = map (value R w) es
 abbrev pub chosen : {F X : Type 0} → Ring F → (F → F → Bool) → List F → List X → List X
 chosen R eq flags branches = map (λ b. b.1) (filter (λ b. eq b.0 R.one) (zip flags branches))
 
--- What a row sends of its branches: all of them without flags, and with flags those whose flag is set.
+-- What a row sends of its branches: all of them without flags, and with flags those whose flag is
+-- set.
 abbrev pub sent : {F : Type 0} → Ring F → (F → F → Bool) → Option (List F) → List (Message F) → Sent F
 sent R eq None branches = record { flags = None; messages = branches }
 sent R eq (Some flags) branches = record { flags = Some flags; messages = chosen R eq flags branches }

@@ -12,7 +12,7 @@ use Rattle.lookup_model.specs.Trace.{sent_row, sent_rows}
 use Rattle.lookup_model.specs.declared.types.Lookup.{Lookup}
 use Rattle.lookup_model.specs.Rows.{split_at}
 
--- the column of a well formed record is its place
+-- the column of a well formed record is its index
 pub column_is : {F : Type 0} (lookups : List (Lookup F)) (i : ℕ) (lookup : Lookup F) → AreRecords lookups → i < length lookups → lookup ≡ get_or lookups i lookup → lookup.column ≡ i
 column_is lookups i lookup records lt is = (records i lookup lt (slice_get_read lookups (length lookups) i lookup (λ _. length lookups) lt is)).0
 
@@ -31,7 +31,7 @@ module _ {F : Type 0} (R : Ring F) (eq : F → F → Bool) (w : Window F) (looku
   pub sent_row-more : take (i + 1) (sent_row R eq w lookups) ≡ take i (sent_row R eq w lookups) ++ sent_at R eq w lookup.column lookup ∷ []
   sent_row-more = take_more (sent_row R eq w lookups) i (sent_at R eq w lookup.column lookup) within ∙ ap (λ t. take i (sent_row R eq w lookups) ++ t ∷ []) there
 
-  -- the lookups up to one, that one, and the rest
+  -- the lookups before one, that one, and the rest
   pub sent_row-split : sent_row R eq w lookups ≡ (take i (sent_row R eq w lookups) ++ sent_at R eq w lookup.column lookup ∷ []) ++ drop (i + 1) (sent_row R eq w lookups)
   sent_row-split = split_at (sent_row R eq w lookups) i (sent_at R eq w lookup.column lookup) within (sym there)
 
@@ -45,12 +45,12 @@ sent_rows-at R eq main preprocessed public_values lookups r lt =
     let f = λ (k : ℕ). sent_row R eq (window_at main preprocessed public_values (height main) k) lookups in
     sym (get_or-map-range_with_len f 0 (height main) r r (f r) lt (omega arith))
 
--- there are as many rows as the trace is high
+-- the number of rows is the height of the trace
 pub length-sent_rows : {F : Type 0} (R : Ring F) (eq : F → F → Bool) (main : Matrix F) (preprocessed : Option (Matrix F)) (public_values : List F) (lookups : List (Lookup F)) → length (sent_rows R eq main preprocessed public_values lookups) ≡ height main
 length-sent_rows R eq main preprocessed public_values lookups =
     length-map-range_with_len (λ k. sent_row R eq (window_at main preprocessed public_values (height main) k) lookups) 0 (height main)
 
--- each of them is as long as there are lookups
+-- the length of each row is the number of lookups
 pub length-sent_rows-at : {F : Type 0} (R : Ring F) (eq : F → F → Bool) (main : Matrix F) (preprocessed : Option (Matrix F)) (public_values : List F) (lookups : List (Lookup F)) (r : ℕ) → r < height main → length (get_or (sent_rows R eq main preprocessed public_values lookups) r []) ≡ length lookups
 length-sent_rows-at R eq main preprocessed public_values lookups r lt =
     let f = λ (k : ℕ). sent_row R eq (window_at main preprocessed public_values (height main) k) lookups in

@@ -15,12 +15,12 @@ module _ {K : Type 0} {S : Ring K} (laws : IsCommutativeRing S) where
   pub sum_in-push : (xs : List K) (y : K) → sum_in S (xs ++ y ∷ []) ≡ S.add (sum_in S xs) y
   sum_in-push xs y = sum_in-append xs (y ∷ []) ∙ ap (S.add (sum_in S xs)) (laws.add_zero y)
 
-  -- the sum of a beginning that is one item longer
+  -- the sum of a prefix that is one item longer
   pub sum_next : (xs : List K) (i : ℕ) (x sum next : K) → take (i + 1) xs ≡ take i xs ++ x ∷ [] → sum ≡ sum_in S (take i xs) → next ≡ S.add sum x → next ≡ sum_in S (take (i + 1) xs)
   sum_next xs i x sum next longer so_far next_is =
       next_is ∙ ap (λ s. S.add s x) so_far ∙ sym (sum_in-push (take i xs) x) ∙ ap (sum_in S) (sym longer)
 
-  -- the sum of what f gives of a beginning that is one item longer
+  -- the sum of what f gives for a prefix that is one item longer
   pub sum_mapped_next : {X : Type 0} (f : X → K) (xs : List X) (i : ℕ) (x : X) (sum next : K) → i < length xs → x ≡ get_or xs i x → sum ≡ sum_in S (map f (take i xs)) → next ≡ S.add sum (f x) → next ≡ sum_in S (map f (take (i + 1) xs))
   sum_mapped_next f xs i x sum next lt is so_far next_is =
       next_is ∙ ap (λ s. S.add s (f x)) so_far ∙ sym (sum_in-push (map f (take i xs)) (f x))

@@ -1,4 +1,4 @@
--- Lists whose items are taken out one by one.
+-- Lists from which each item is taken out in turn.
 use Rattle.std.proofs.Common.{◌≡◌, ℕ, ◌+◌, ◌≤◌, max, List, [], ◌∷◌, ◌++◌, map, refl, ap, sym, subst, ◌∙◌, arith}
 use Rattle.std.proofs.lemmas.List.{map-append, map_push}
 use Rattle.field.specs.Ring.{Ring, IsCommutativeRing}
@@ -10,7 +10,8 @@ use Rattle.lookup_model.specs.HornerRule.{map-map}
 use Rattle.lookup_model.specs.SumLaws.{sum_in-push}
 
 module _ {X : Type 0} where
-  -- one more item: it stays beside each other one, and stands beside all of them
+  -- One more item is appended to the others of each earlier item, and has all earlier items as its
+  -- others.
   pub taken_out-push : (xs : List X) (x : X) → taken_out (xs ++ x ∷ []) ≡ map (λ t. (t.0, t.1 ++ x ∷ [])) (taken_out xs) ++ (x, xs) ∷ []
   taken_out-push [] x = refl
   taken_out-push (y ∷ ys) x =
@@ -35,7 +36,7 @@ module _ {K : Type 0} {S : Ring K} (laws : IsCommutativeRing S) where
     sum_in-scaled f c (x ∷ xs) =
         ap (S.add (S.mul (f x) c)) (sum_in-scaled f c xs) ∙ sym (add_mul laws (f x) (sum_in S (map f xs)) c)
 
-    -- equal items have equal sums
+    -- equal values have equal sums
     pub sum_in-same : (f g : Y → K) → ((x : Y) → f x ≡ g x) → (xs : List Y) → sum_in S (map f xs) ≡ sum_in S (map g xs)
     sum_in-same f g same [] = refl
     sum_in-same f g same (x ∷ xs) = λ i. S.add (same x i) (sum_in-same f g same xs i)
@@ -64,13 +65,13 @@ module _ {K : Type 0} {S : Ring K} (laws : IsCommutativeRing S) where
         ∙ sum_in-push laws (map item_of (map with_last (taken_out xs))) (item_of (x, xs))
         ∙ ap (λ s. S.add s (item_of (x, xs))) (ap (sum_in S) (map-map item_of with_last (taken_out xs)) ∙ sum_in-same (λ t. item_of (with_last t)) (λ t. S.mul (item_of t) (d x)) raised (taken_out xs) ∙ sum_in-scaled item_of (d x) (taken_out xs))
 
--- a sum of whole numbers with one more
+-- a sum of whole numbers with one more number
 pub total-push : (ns : List ℕ) (n : ℕ) → total (ns ++ n ∷ []) ≡ total ns + n
 total-push [] n = omega arith
 total-push (m ∷ ns) n = omega (arith, total-push ns n)
 
 module _ {Y : Type 0} where
-  -- the greatest of a list whose items all grow by as much
+  -- the greatest number of a list whose items all grow by the same amount
   greatest_shift : (f g : Y → ℕ) (c : ℕ) → ((x : Y) → g x ≡ f x + c) → (xs : List Y) → greatest (map f xs) + c ≤ max c (greatest (map g xs))
   greatest_shift f g c grows [] = omega arith
   greatest_shift f g c grows (x ∷ xs) = omega (arith, grows x, greatest_shift f g c grows xs)
@@ -89,7 +90,7 @@ module _ {X : Type 0} (m d : X → ℕ) where
   pub product_degree-push : (xs : List X) (x : X) → total (map d (xs ++ x ∷ [])) ≡ total (map d xs) + d x
   product_degree-push xs x = ap total (map_push d xs x) ∙ total-push (map d xs) (d x)
 
-  -- with one more item, the degree so far and that of the item are those of the longer list at most
+  -- with one more item, the degree so far and that of the item are at most those of the longer list
   pub degrees_push : (xs : List X) (x : X) (numerator denominator next : ℕ) → numerator ≤ max (product_degree xs) (sum_degree xs) → denominator ≤ product_degree xs → next ≤ max (numerator + d x) (m x + denominator) → next ≤ max (product_degree (xs ++ x ∷ [])) (sum_degree (xs ++ x ∷ []))
   degrees_push xs x numerator denominator next above below step =
       let with_last : X × List X → X × List X = λ t. (t.0, t.1 ++ x ∷ []) in

@@ -4,7 +4,7 @@ use Rattle.field.specs.Ring.{Ring}
 use Rattle.field.specs.Sums.{sum_in}
 use Rattle.lookup_model.specs.declared.types.LookupTerminal.{LookupTerminal}
 
--- the value of a terminal, zero where an AIR has none
+-- the value of a terminal, zero if an AIR has none
 abbrev pub terminal_value : {K : Type 0} → Ring K → Option (LookupTerminal K) → K
 terminal_value S None = S.zero
 terminal_value S (Some terminal) = terminal.0

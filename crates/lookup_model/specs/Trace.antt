@@ -12,7 +12,8 @@ module _ {F : Type 0} (R : Ring F) (eq : F → F → Bool) where
   abbrev pub sent_row : Window F → List (Lookup F) → List (Sent F)
   sent_row w lookups = map (λ lookup. sent_at R eq w lookup.column lookup) lookups
 
-  -- what they send on each row of a main trace, a preprocessed trace of its height and public values
+  -- what they send on each row of a main trace, a preprocessed trace of the same height and public
+  -- values
   abbrev pub sent_rows : Matrix F → Option (Matrix F) → List F → List (Lookup F) → List (List (Sent F))
   sent_rows main preprocessed public_values lookups =
       map (λ r. sent_row (window_at main preprocessed public_values (height main) r) lookups) (range_with_len 0 (height main))

@@ -42,7 +42,7 @@ no_air_recorded layout = record {
   tables = [];
 }
 
--- the same with these constraints
+-- the same record, with these constraints
 abbrev pub with_constraints : {F EF : Type 0} → RecordedAir F EF → Recorded F EF → RecordedAir F EF
 with_constraints b constraints = record b { constraints = constraints }
 
@@ -57,7 +57,7 @@ abbrev pub with_declaration : {F EF : Type 0} → RecordedAir F EF → Declarati
 with_declaration b (read r) = record b { reads = b.reads ++ r ∷ [] }
 with_declaration b (table t) = record b { tables = b.tables ++ t ∷ [] }
 
--- interactions leave the layout as it is
+-- interactions leave the layout unchanged
 pub with_interaction-layout : {F EF : Type 0} (b : RecordedAir F EF) (m : Interaction (SymbolicExpression F)) → (with_interaction b m).constraints.layout ≡ b.constraints.layout
 with_interaction-layout b (global m) = refl
 with_interaction-layout b (local tuples) = refl
@@ -68,8 +68,8 @@ pub with_declaration-layout : {F EF : Type 0} (b : RecordedAir F EF) (d : Declar
 with_declaration-layout b (read r) = refl
 with_declaration-layout b (table t) = refl
 
--- an evaluation of an AIR in a new builder for a layout gives the answer, and leaves what is
--- answered; or memory runs out before it
+-- evaluating an AIR in a new builder for a layout leaves this builder or gives this refusal; or
+-- memory runs out before the evaluation
 abbrev pub EvaluatesNew : {A F EF : Type 0} → (A → InteractionSymbolicBuilder F EF → Result (Unit {0}) AirError → InteractionSymbolicBuilder F EF → Type 0) → A → AirLayout → Result (InteractionSymbolicBuilder F EF) AirError → Type 0
 EvaluatesNew {A} {F} {EF} evaluates air layout answer = MatchResult answer
     (λ after. (before : InteractionSymbolicBuilder F EF) × (recorded_air before ≡ no_air_recorded layout) × evaluates air before (Ok tt) after)

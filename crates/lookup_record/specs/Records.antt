@@ -1,4 +1,4 @@
--- What is seen of the records of a symbolic evaluation: texts as bytes, vectors as lists.
+-- What contracts see of the records of a symbolic evaluation: texts as bytes, vectors as lists.
 use Rattle.std.specs.Prelude.{List, map}
 use Rattle.std.specs.String.{string_bytes}
 use Rattle.expressions.specs.declared.base_expression.SymbolicExpression.{SymbolicExpression}

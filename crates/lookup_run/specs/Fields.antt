@@ -4,8 +4,8 @@ use Rattle.field.specs.Ring.{Ring}
 use Rattle.lookup_model.specs.Extension.{Extension, extension}
 use Rattle.lookup_run.specs.Words.{number_bound}
 
--- The fields of a run: the one of the rows and the one of the challenges, what the numbers of a row are
--- below, which words are challenges, and how cells are printed.
+-- The fields of a run: the field of the rows and the field of the challenges, the bound of the
+-- numbers in a row, which words are challenges, and how cells are printed.
 pub record Fields (F K : Type 0) : Type 1 where
   pub extension : Extension F K
   pub bound : ℕ

@@ -1,4 +1,5 @@
--- Which texts are inputs of so many columns, the numbers that they give, and why others are refused.
+-- Which texts are inputs with this many columns, the numbers that they give, and why others are
+-- refused.
 use Rattle.std.specs.Prelude.{◌≡◌, ◌+◌, ◌<◌, ◌==◌, ◌⊎◌, ℕ, List, [], Option, Some, None, length, map, slice_get, if◌then◌else◌}
 use Rattle.std.specs.List.{flat_map, list_all}
 use Rattle.field.specs.Ring.{Ring, of_nat}
@@ -7,8 +8,8 @@ use Rattle.lookup_run.specs.Words.{lines_of, words_of, number_of, is_number}
 use Rattle.lookup_run.specs.declared.error.RunError.{RunError}
 use Rattle.lookup_run.specs.declared.error.RunError.TheVariants.{WrongCount, BadNumber, NoRows}
 
--- why the line of this number, counted from 1, is refused: it has words, but not one for each column; or
--- one of its words is no number below the bound
+-- why the line with this number, counted from 1, is refused: it has words, but not one for each
+-- column; or one of its words is not a number below the bound
 unfoldable pub line_refusal : ℕ → ℕ → ℕ → List ℕ → Option RunError
 line_refusal columns bound n line =
     if length (words_of line) == 0 then None
@@ -30,7 +31,7 @@ module _ (columns bound : ℕ) (text : List ℕ) where
   abbrev pub NoneRefused : Type 0
   NoneRefused = NoneRefusedOf (length (lines_of text))
 
-  -- the first line that is refused, `before` lines into the text, is refused for this
+  -- this is why the first refused line, which has `before` lines in front of it, is refused
   pub record IsFirstRefusal (e : RunError) : Type 0 where
     pub before : ℕ
     pub line : List ℕ
@@ -38,7 +39,7 @@ module _ (columns bound : ℕ) (text : List ℕ) where
     pub refused : line_refusal columns bound (before + 1) line ≡ Some e
     pub first : NoneRefusedOf before
 
-  -- the text is refused for this: for its first line that is refused, or for having no words
+  -- this is why the text is refused: because of its first refused line, or because it has no words
   abbrev pub IsInputRefusal : RunError → Type 0
   IsInputRefusal e = IsFirstRefusal e ⊎ (NoneRefused × (all_words text ≡ []) × (e ≡ NoRows))
 
@@ -47,8 +48,8 @@ module _ (columns bound : ℕ) (text : List ℕ) where
     pub none_refused : NoneRefused
     pub written : map (number_of bound) (all_words text) ≡ map Some numbers
 
--- the matrix of the numbers of a text that has words, and none of whose lines is refused: each number as
--- an element, in rows of so many columns
+-- the matrix of the numbers of a text that has words and no refused line: each number as an
+-- element, in rows of this many columns
 pub record IsInput {F : Type 0} (R : Ring F) (columns bound : ℕ) (text : List ℕ) (m : Matrix F) : Type 0 where
   pub numbers : List ℕ
   pub are_numbers : AreNumbers columns bound text numbers

@@ -20,15 +20,15 @@ use Rattle.lookup_record.specs.Messages.{flag_and_key}
 use Rattle.lookup_run.specs.declared.machine.Machine.{Machine}
 use Rattle.lookup_run.specs.declared.machine.Machine.TheVariants.{Range, Exclusive}
 
--- the refusal of a cell: want of memory, the builder's own for its window, or the layout of a row that
--- has not these columns
+-- the refusal of a cell: out of memory, the builder's own for its window, or the layout of a row
+-- that doesn't have these columns
 abbrev pub IsCellRefusal : {B : Type 0} → (B → AirError → Type 0) → (B → AirLayout) → ℕ → B → AirError → Type 0
 IsCellRefusal window_refuses layout columns builder e =
     (e ≡ Memory)
     ⊎ (window_refuses builder e
     ⊎ (((layout builder).main_width < columns) × ((expected : ℕ) × (actual : ℕ) × (e ≡ LayoutMismatch Main expected actual))))
 
--- there was such a refusal, and the builder is as it was
+-- there was such a refusal, and the builder is unchanged
 abbrev pub IsRefusedBefore : {B : Type 0} → (B → AirError → Type 0) → (B → AirLayout) → ℕ → B → Result (Unit {0}) AirError → B → Type 0
 IsRefusedBefore window_refuses layout columns before answer after =
     (e : AirError) × (answer ≡ Err e) × (after ≡ before) × IsCellRefusal window_refuses layout columns before e
@@ -39,7 +39,7 @@ PushesSuch {B} {M} pushes refuses IsMeant before answer after =
     (m : M) × IsMeant m × MatchResult answer (λ _. pushes before m after) (λ e. refuses before m e after)
 
 module _ {E W F : Type 0} (value : E → W → F) (stands : W → Type 0) (row : W → List F) where
-  -- an expression whose value is this cell of the row, at each window that is stood for
+  -- an expression whose value is this cell of the row, at each window that the builder stands for
   abbrev pub IsCell : ℕ → E → Type 0
   IsCell column x = (w : W) → stands w → slice_get (row w) column ≡ Some (value x w)
 
@@ -47,8 +47,8 @@ module _ {E W F : Type 0} (value : E → W → F) (stands : W → Type 0) (row :
   abbrev pub IsCellTuple : ℕ → List E → Type 0
   IsCellTuple column tuple = (x : E) × (tuple ≡ x ∷ []) × IsCell column x
 
-  -- the local lookup of the machine `range`: cell 0 with count 1, and cell 1, which is provided, with
-  -- the negated count of cell 2
+  -- the local lookup of the machine `range`: cell 0 with count 1; and cell 1, which is provided,
+  -- with the negated count of cell 2
   pub record IsRange (R : Ring F) (m : Interaction E) : Type 0 where
     pub read : List E
     pub provided : List E
@@ -60,8 +60,8 @@ module _ {E W F : Type 0} (value : E → W → F) (stands : W → Type 0) (row :
     pub counts_once : (w : W) → value once w ≡ R.one
     pub counts_times : (w : W) (v : F) → stands w → slice_get (row w) 2 ≡ Some v → value times w ≡ R.neg v
 
-  -- the branches of the machine `exclusive`: cell 1 under the flag of cell 0, and cell 3 under that of
-  -- cell 2
+  -- the branches of the machine `exclusive`: cell 1 with the flag in cell 0, and cell 3 with the
+  -- flag in cell 2
   pub record AreTwoKeys (branches : List (E × Vec E Global)) : Type 0 where
     pub first_flag : E
     pub first_key : List E
@@ -77,7 +77,7 @@ module _ {E W F : Type 0} (value : E → W → F) (stands : W → Type 0) (row :
 abbrev pub group_bus : List ℕ
 group_bus = codes "rc"
 
--- how many columns a row of a machine's input has
+-- the number of columns of a machine's input
 abbrev pub columns_of : Machine → ℕ
 columns_of Range = 3
 columns_of Exclusive = 4
@@ -92,9 +92,9 @@ abbrev pub message_of : {F : Type 0} → F → F → Message F
 message_of value multiplicity = record { key = record { id = 0; tuple = value ∷ [] }; multiplicity = multiplicity }
 
 module _ {F : Type 0} (R : Ring F) (eq : F → F → Bool) where
-  -- What the lookup of a machine sends on a row of its input. The machine `range` reads cell 0 once and
-  -- provides cell 1 as often as cell 2 says; `exclusive` looks up cell 1 where the flag in cell 0 is
-  -- set, and cell 3 where the one in cell 2 is.
+  -- What the lookup of a machine sends on a row of its input. The machine `range` reads cell 0 once
+  -- and provides cell 1 as often as cell 2 says. The machine `exclusive` looks up cell 1 if the
+  -- flag in cell 0 is set, and cell 3 if the flag in cell 2 is set.
   abbrev pub machine_sends : Machine → List F → Sent F
   machine_sends machine row = by_name machine
     where

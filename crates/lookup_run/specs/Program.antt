@@ -1,4 +1,4 @@
--- What a run comes to: a report, or the first refusal in the order of the checks.
+-- The result of a run: a report, or the first refusal in the order of the checks.
 use Rattle.std.specs.Prelude.{◌≡◌, ◌≢◌, ◌⊎◌, ◌↔◌, ◌++◌, ℕ, IsTrue, List, [], ◌∷◌, Option, Some, codes, cond, length, map, slice_get, string_bytes, Result, Err, MatchResult}
 use Rattle.std.specs.Io.KnownBytes.{Appends}
 use Rattle.std.specs.List.{range_with_len}
@@ -46,9 +46,9 @@ module _ {F K : Type 0} (E : Extension F K) (machine : Machine) (alpha beta : K)
   abbrev pub machine_faults : List LookupError
   machine_faults = trace_faults E bus_denominator machine_rows
 
-  -- Why there is no auxiliary trace: the first fault; or, before any row is looked at, that lookups which
-  -- send what the machine says have variables outside the rows. An AIR of the program has no such
-  -- variables, which its contract does not say.
+  -- Why there is no auxiliary trace: the first fault; or, before any row is evaluated, that lookups
+  -- which send what the machine says have variables outside the rows. An AIR of the program has no
+  -- such variables, but its contract does not say so.
   abbrev pub IsAirRefusal : LookupError → Type 0
   IsAirRefusal e =
       (slice_get machine_faults 0 ≡ Some e)
@@ -59,8 +59,8 @@ abbrev pub IsBadChallenge : {K : Type 0} → (List ℕ → K → Type 0) → Lis
 IsBadChallenge {K} written word e = ((x : K) → ¬ written word x) × ShowsWord BadChallenge word e
 
 module _ {F K : Type 0} (fields : Fields F K) (machine : Machine) where
-  -- The report of an input at a pair of challenges: the lines of the auxiliary trace that the rows of the
-  -- input have, and whether its terminal is zero. No row has a fault.
+  -- The report of an input at a pair of challenges: the lines of the auxiliary trace of the input's
+  -- rows, and whether its terminal is zero. No row has a fault.
   pub record IsReport (alpha beta : K) (input : List ℕ) (report : Report) : Type 0 where
     pub trace : Matrix F
     pub read : IsInput fields.extension.base (columns_of machine) fields.bound input trace
@@ -77,8 +77,8 @@ module _ {F K : Type 0} (fields : Fields F K) (machine : Machine) where
       ⊎ ((trace : Matrix F) × (refusal : LookupError) × IsInput fields.extension.base (columns_of machine) fields.bound input trace
       × IsAirRefusal fields.extension machine alpha beta trace refusal × (e ≡ of_air 0 refusal))
 
-  -- The answer to the words of two challenges and the bytes of an input: alpha is looked at before beta,
-  -- and both before the input is read. Want of memory may come at any point.
+  -- The answer to the words of two challenges and the bytes of an input. Alpha is checked before
+  -- beta, and both before the input is read. Out of memory may come at any point.
   unfoldable pub AnswersOver : List ℕ → List ℕ → List ℕ → Result Report RunError → Type 0
   AnswersOver alpha_word beta_word input answer = MatchResult answer
       (λ report. (alpha : K) × (beta : K) × fields.written alpha_word alpha × fields.written beta_word beta
@@ -91,7 +91,7 @@ module _ {F K : Type 0} (fields : Fields F K) (machine : Machine) where
       × ((e ≡ CannotReadInput) ⊎ IsReportRefusal alpha beta input e))))))
 
 module _ {F K F' K' : Type 0} (f7 : Fields F K) (babybear4 : Fields F' K') where
-  -- the answer to four words and an input: the machine is looked at before the field
+  -- the answer to four words and an input: the machine is checked before the field
   abbrev pub AnswersFour : List ℕ → List ℕ → List ℕ → List ℕ → List ℕ → Result Report RunError → Type 0
   AnswersFour name field alpha beta input answer =
       (answer ≡ Err Memory)
@@ -101,16 +101,17 @@ module _ {F K F' K' : Type 0} (f7 : Fields F K) (babybear4 : Fields F' K') where
       ⊎ (((field ≡ codes "babybear4") × AnswersOver babybear4 machine alpha beta input answer)
       ⊎ ((field ≢ codes "f7") × (field ≢ codes "babybear4") × ((e : RunError) × ShowsWord UnknownField field e × (answer ≡ Err e)))))))
 
-  -- the answer to words and an input: words that are not four are refused
+  -- the answer to words and an input: anything but four words is refused
   unfoldable pub Answers : List (List ℕ) → List ℕ → Result Report RunError → Type 0
   Answers words input answer =
       ((length words ≢ 4) × (answer ≡ Err Usage))
       ⊎ ((name : List ℕ) × (field : List ℕ) × (alpha : List ℕ) × (beta : List ℕ) × (words ≡ name ∷ field ∷ alpha ∷ beta ∷ [])
       × AnswersFour name field alpha beta input answer)
 
--- The status of a run, and what becomes of its two outputs. A report is written whole, with status 0
--- where the terminals cancel and 1 where they do not; or the status is 2, and nothing is said of the
--- output. A report leaves the errors as they were. A refusal has status 2 and leaves the output as it was.
+-- The status of a run, and what becomes of its two outputs. A report is written whole, with status
+-- 0 if the terminals cancel and 1 if they do not; or the status is 2, and nothing is said of the
+-- output. A report leaves the errors as they were. A refusal has status 2 and leaves the output as
+-- it was.
 abbrev pub Ends : {W E : Type 0} → (W → Option (List ℕ)) → Result Report RunError → ℕ → W → W → E → E → Type 0
 Ends contents answer status output output_after errors errors_after = MatchResult answer
     (λ report. (((status ≡ cond report.balanced 0 1) × Appends (contents output) (contents output_after) (string_bytes report.text)) ⊎ (status ≡ 2)) × (errors_after ≡ errors))

@@ -7,7 +7,7 @@ use Rattle.lookup_model.specs.declared.error.LookupError.TheVariants.{Memory as 
 use Rattle.lookup_run.specs.declared.error.RunError.{RunError}
 use Rattle.lookup_run.specs.declared.error.RunError.TheVariants.{Air, Memory}
 
--- the refusal of the lookup layer for an AIR: want of memory keeps its name
+-- the refusal of the lookup layer for an AIR: out of memory keeps its name
 abbrev pub of_air : ℕ → LookupError → RunError
 of_air air LookupMemory = Memory
 of_air air e = Air air e

@@ -5,11 +5,11 @@ use Rattle.matrix.specs.Matrix.{Matrix, height, row}
 use Rattle.lookup_model.specs.declared.types.LookupTerminal.{LookupTerminal}
 
 module _ {K : Type 0} (text : K → List ℕ) where
-  -- the line of a row: its cells, joined by one space
+  -- the line of a row: its cells, separated by one space
   abbrev pub row_line : List K → List ℕ
   row_line cells = join_by text (codes " ") cells ++ codes "\n"
 
-  -- the line of a terminal, where there is one
+  -- the line of a terminal, if there is one
   abbrev pub terminal_line : Option (LookupTerminal K) → List ℕ
   terminal_line None = []
   terminal_line (Some terminal) = codes "terminal " ++ (text terminal.0 ++ codes "\n")

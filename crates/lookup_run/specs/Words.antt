@@ -6,7 +6,7 @@ use Rattle.std.specs.Str.Parse.{digits_value}
 use Rattle.field.specs.Residue.{Residue}
 use Rattle.field.specs.Quartic.{Quartic, coefficients_of}
 
--- the lines of a text: its parts between LFs, of which there is one more than LFs
+-- the lines of a text: its parts between LFs, one more than there are LFs
 unfoldable pub lines_of : List ℕ → List (List ℕ)
 lines_of text = slice_split (λ byte. byte == 10) text
 
@@ -18,15 +18,15 @@ separates_words byte = (byte == 32) || (byte == 9) || (byte == 13)
 abbrev pub has_bytes : List ℕ → Bool
 has_bytes part = nat_lt 0 (length part)
 
--- the words of a line: its parts between spaces, tabs and CRs, without the empty ones
+-- the words of a line: its nonempty parts between spaces, tabs and CRs
 unfoldable pub words_of : List ℕ → List (List ℕ)
 words_of line = filter has_bytes (slice_split separates_words line)
 
--- what the numbers of words are below: this bound, and 2^32
+-- the bound of the numbers of words: the lesser of this bound and 2^32
 abbrev pub number_bound : ℕ → ℕ
 number_bound bound = min bound 4294967296
 
--- the number that a word writes: the value of one or more decimal digits, where it is below the bound
+-- the number that a word writes: the value of one or more decimal digits, if it is below the bound
 unfoldable pub number_of : ℕ → List ℕ → Option ℕ
 number_of bound word =
     if nat_lt 0 (length word) && all_ascii_digits word && nat_lt (digits_value 10 word) bound then Some (digits_value 10 word) else None
@@ -43,7 +43,7 @@ numbers_or_zeros bound words = map (λ word. unwrap_or (number_of bound word) 0)
 abbrev pub WritesResidue : {p : ℕ} → List ℕ → Residue p → Type 0
 WritesResidue {p} word x = number_of p word ≡ Some x.value
 
--- the word is numbers below p with commas between them, and these are the four coefficients, lowest power first
+-- the word is four numbers below p separated by commas: these four coefficients, lowest power first
 abbrev pub WritesQuartic : {p : ℕ} → List ℕ → Quartic (Residue p) → Type 0
 WritesQuartic {p} word x =
     map (number_of p) (slice_split (λ byte. byte == 44) word) ≡ map (λ c. Some c.value) (coefficients_of x)
