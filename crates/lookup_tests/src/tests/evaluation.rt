@@ -1,17 +1,16 @@
 //! Constraints of lookups, on witnesses and as expressions.
 ghost use Rattle.std.specs.Prelude.{◌≡◌, IfOk, None, ⊤};
 
-use super::{cell, generated, local, single};
+use super::{alone, are_numbers, generated, group, holds, range, single, trace};
 use air::{
-    Air, AirError, AirLayout, BaseAir, DebugConstraintBuilder, Expression, PermutationAirBuilder,
-    RowInputs, SymbolicAirBuilder, SymbolicExpression, check_rows,
+    Air, AirError, AirLayout, BaseAir, DebugConstraintBuilder, PermutationAirBuilder, RowInputs,
+    SymbolicAirBuilder, check_rows,
 };
-use field::{F7, Field, PrimeCharacteristicRing};
+use field::{ExtensionField, F7, Field, PrimeCharacteristicRing};
 use lookup::{LogUpGadget, Lookup, LookupProtocol, fits};
 use matrix::{RowMajorMatrix, WindowAccess};
 use std::alloc::Global;
 use std::process::Abort;
-use std::test::Fail;
 
 /// The widths that a builder works with.
 fn layout_of<AB: PermutationAirBuilder>(alloc: Global, builder: &AB) -> Result<AirLayout, AirError>
@@ -46,10 +45,10 @@ pub(super) fn evaluated<AB: PermutationAirBuilder>(
 
 /// An AIR whose constraints are those of its lookups.
 #[derive(Drop)]
-pub(super) struct LookupsAir<'a, R, F> {
-    pub(super) rt: &'a R,
-    pub(super) lookups: &'a [Lookup<F>],
-    pub(super) width: usize,
+struct LookupsAir<'a, R, F> {
+    rt: &'a R,
+    lookups: &'a [Lookup<F>],
+    width: usize,
 }
 
 impl<R, F> BaseAir<F> for LookupsAir<'_, R, F> {
@@ -72,48 +71,17 @@ impl<R, F> BaseAir<F> for LookupsAir<'_, R, F> {
     }
 }
 
-impl<'b, R: Abort> Air<DebugConstraintBuilder<'b, F7, F7>> for LookupsAir<'_, R, F7> {
+impl<'b, R: Abort, F: Field, EF: ExtensionField<F>> Air<DebugConstraintBuilder<'b, F, EF>>
+    for LookupsAir<'_, R, F> {
     ghost evaluates = { λ _ _ _ _. ⊤ };
 
     fn eval(
         &self,
         alloc: Global,
-        builder: &mut DebugConstraintBuilder<'b, F7, F7>,
+        builder: &mut DebugConstraintBuilder<'b, F, EF>,
     ) -> Result<(), AirError> {
         evaluated(self.rt, alloc, builder, self.lookups)
     }
-}
-
-/// A matrix of these numbers, row after row.
-pub(super) fn trace<F: PrimeCharacteristicRing>(
-    rt: &impl Abort,
-    alloc: Global,
-    numbers: &[u32],
-    width: usize,
-) -> Result<RowMajorMatrix<F>, Fail> {
-    let mut values = Vec::new(alloc);
-    for number in numbers {
-        values.push(F::from_u32(*number))?;
-    }
-    assert!(rt; width > 0 && numbers.len() % width == 0);
-    assert!(rt; values.len() % width == 0);
-    Ok(RowMajorMatrix::new(values, width))
-}
-
-/// The lookup of the range machine: cell 0 with count 1, and cell 1 with the count of cell 2 taken
-/// away.
-pub(super) fn range<F: Field>(alloc: Global, column: usize) -> Result<Lookup<F>, Fail> {
-    let mut read = Vec::new(alloc);
-    read.push(cell(0))?;
-    let mut provide = Vec::new(alloc);
-    provide.push(cell(1))?;
-    let mut elements = Vec::new(alloc);
-    elements.push(read)?;
-    elements.push(provide)?;
-    let mut multiplicities = Vec::new(alloc);
-    multiplicities.push(SymbolicExpression::constant(F::ONE))?;
-    multiplicities.push(cell::<F>(2).neg(alloc)?)?;
-    Ok(local(elements, multiplicities, column))
 }
 
 /// No preprocessed trace beside this one.
@@ -123,18 +91,18 @@ pub(super) fn no_preprocessed<'a, F>(_main: &'a RowMajorMatrix<F>) -> Option<&'a
     None
 }
 
-/// Whether every row of a witness over F7 is accepted; else the row that is not.
-pub(super) fn refusal<'a, R: Abort>(
+/// The refusal of the first row of a witness that is not accepted, where there is one.
+pub(super) fn refusal<'a, R: Abort, F: Field + 'static, EF: ExtensionField<F> + 'static>(
     rt: &'a R,
     alloc: Global,
-    main: &'a RowMajorMatrix<F7>,
-    lookups: &'a [Lookup<F7>],
-    challenges: &'a [F7],
-    auxiliary: &'a RowMajorMatrix<F7>,
-    terminal: F7,
+    main: &'a RowMajorMatrix<F>,
+    lookups: &'a [Lookup<F>],
+    challenges: &'a [EF],
+    auxiliary: &'a RowMajorMatrix<EF>,
+    terminal: EF,
 ) -> Option<AirError> {
     assert!(rt; auxiliary.height() == main.height());
-    let terminals = [terminal];
+    let terminals = alone(rt, alloc, terminal);
     let inputs = RowInputs {
         main,
         preprocessed: no_preprocessed(main),
@@ -151,184 +119,208 @@ pub(super) fn refusal<'a, R: Abort>(
     check_rows(alloc, &air, &inputs).err()
 }
 
-/// The rows `3 4 1` and `4 3 1`, of which each reads what the other provides.
-fn swapped_rows(rt: &impl Abort, alloc: Global) -> Result<RowMajorMatrix<F7>, Fail> {
-    trace(rt, alloc, &[3, 4, 1, 4, 3, 1], 3)
+/// Whether a witness is refused, and at this row.
+pub(super) fn is_refused_at(refusal: Option<AirError>, row: usize) -> bool {
+    refusal == Some(AirError::Assertion { row })
 }
 
-#[test]
-fn a_balanced_witness_is_accepted(rt: HostRuntime) -> Result<(), Fail> {
-    let alloc = rt.alloc();
-    let main = swapped_rows(&rt, alloc)?;
-    let lookups = [range(alloc, 0)?];
-    let challenges = [F7::new(0), F7::new(2)];
-    let (made, terminal) = generated(&rt, alloc, &main, lookups.as_slice(), challenges.as_slice())?;
-    let auxiliary = trace::<F7>(&rt, alloc, &[0, 4, 4, 3], 2)?;
-    assert!(rt; made.values() == auxiliary.values());
-    assert!(rt; terminal.map(|terminal| terminal.0) == Some(F7::new(0)));
-    let refused = refusal(
-        &rt,
+/// The refusal of a witness of one lookup over F7, at a prefix and beta 2: the cells of the main
+/// trace, and those of the auxiliary one, row after row, and the terminal.
+pub(super) fn refusal_at(
+    rt: &impl Abort,
+    alloc: Global,
+    main: &RowMajorMatrix<F7>,
+    lookup: Lookup<F7>,
+    prefix: u32,
+    cells: &[u32],
+    terminal: u32,
+) -> Option<AirError> {
+    let lookups = [lookup];
+    let challenges = [F7::from_u32(prefix), F7::new(2)];
+    let auxiliary = trace::<F7>(rt, alloc, cells, 2);
+    let terminal = F7::from_u32(terminal);
+    let (lookups, challenges) = (lookups.as_slice(), challenges.as_slice());
+    refusal(rt, alloc, main, lookups, challenges, &auxiliary, terminal)
+}
+
+/// The same of the range lookup.
+fn range_refusal(
+    rt: &impl Abort,
+    alloc: Global,
+    rows: &[u32],
+    prefix: u32,
+    cells: &[u32],
+    terminal: u32,
+) -> Option<AirError> {
+    let main = trace::<F7>(rt, alloc, rows, 3);
+    refusal_at(
+        rt,
         alloc,
         &main,
-        lookups.as_slice(),
-        challenges.as_slice(),
-        &auxiliary,
-        F7::new(0),
+        range(rt, alloc, 0),
+        prefix,
+        cells,
+        terminal,
+    )
+}
+
+/// The rows `3 4 1` and `4 3 1`, of which each reads what the other provides.
+const SWAPPED: [u32; 6] = [3, 4, 1, 4, 3, 1];
+
+#[test]
+fn a_balanced_witness_is_accepted(rt: HostRuntime) {
+    let alloc = rt.alloc();
+    let main = trace::<F7>(&rt, alloc, SWAPPED.as_slice(), 3);
+    let lookups = [range(&rt, alloc, 0)];
+    let challenges = [F7::new(0), F7::new(2)];
+    let made = generated(&rt, alloc, &main, lookups.as_slice(), challenges.as_slice());
+    let made = made.expect(&rt, "no fault");
+    holds(
+        &rt,
+        "the cells",
+        are_numbers(made.auxiliary.values(), &[0, 4, 4, 3]),
     );
-    assert!(rt; refused == None);
-    Ok(())
+    holds(&rt, "the terminal", made.terminal == Some(F7::new(0)));
+    let refused = range_refusal(&rt, alloc, SWAPPED.as_slice(), 0, &[0, 4, 4, 3], 0);
+    holds(&rt, "the witness", refused.is_none());
 }
 
 /// Whether the balanced witness is refused with this value in a place: place 0 to 3 is a cell,
 /// place 4 the terminal.
-fn is_refused(rt: &impl Abort, alloc: Global, place: usize, value: u32) -> Result<bool, Fail> {
-    let main = swapped_rows(rt, alloc)?;
-    let lookups = [range(alloc, 0)?];
-    let challenges = [F7::new(0), F7::new(2)];
+fn is_refused(rt: &impl Abort, alloc: Global, place: usize, value: u32) -> bool {
     let mut witness = [0, 4, 4, 3, 0];
     assert!(rt; place < 5);
     witness[place] = value;
-    let auxiliary = trace(rt, alloc, &witness[0..4], 2)?;
-    let refused = refusal(
-        rt,
-        alloc,
-        &main,
-        lookups.as_slice(),
-        challenges.as_slice(),
-        &auxiliary,
-        F7::from_u32(witness[4]),
-    );
-    Ok(refused.is_some())
+    let terminal = witness[4];
+    range_refusal(rt, alloc, SWAPPED.as_slice(), 0, &witness[0..4], terminal).is_some()
 }
 
 #[test]
-fn every_other_cell_is_refused(rt: HostRuntime) -> Result<(), Fail> {
-    let alloc = rt.alloc();
-    for (place, right) in [0, 4, 4, 3, 0].iter().enumerate() {
+fn every_other_cell_is_refused(rt: HostRuntime) {
+    for (place, what, right) in [
+        (0, "the first accumulator", 0),
+        (1, "the first fraction", 4),
+        (2, "the second accumulator", 4),
+        (3, "the second fraction", 3),
+        (4, "the terminal", 0),
+    ] {
         for value in 0..7 {
-            assert!(rt; is_refused(&rt, alloc, place, value)? == (value != *right));
+            holds(
+                &rt,
+                what,
+                is_refused(&rt, rt.alloc(), place, value) == (value != right),
+            );
         }
     }
-    Ok(())
-}
-
-/// Whether an auxiliary row and a terminal are accepted for the row `4 3 0` at a prefix on the
-/// provided value, whose multiplicity is zero.
-fn is_accepted(rt: &impl Abort, alloc: Global, row: &[u32], terminal: u32) -> Result<bool, Fail> {
-    let main = trace(rt, alloc, &[4, 3, 0], 3)?;
-    let lookups = [range(alloc, 0)?];
-    let challenges = [F7::new(3), F7::new(2)];
-    assert!(rt; row.len() == 2);
-    let auxiliary = trace(rt, alloc, row, 2)?;
-    let refused = refusal(
-        rt,
-        alloc,
-        &main,
-        lookups.as_slice(),
-        challenges.as_slice(),
-        &auxiliary,
-        F7::from_u32(terminal),
-    );
-    Ok(refused.is_none())
 }
 
 #[test]
-fn a_zero_multiplicity_on_a_point_frees_the_fraction(rt: HostRuntime) -> Result<(), Fail> {
-    let alloc = rt.alloc();
-    assert!(rt; is_accepted(&rt, alloc, &[0, 6], 6)?);
-    assert!(rt; is_accepted(&rt, alloc, &[0, 0], 0)?);
-    assert!(rt; !is_accepted(&rt, alloc, &[0, 0], 6)?);
-    assert!(rt; !is_accepted(&rt, alloc, &[1, 0], 1)?);
-    Ok(())
+fn a_zero_multiplicity_on_a_point_frees_the_fraction(rt: HostRuntime) {
+    for (what, cells, terminal, is_accepted) in [
+        ("a fraction of 6", [0, 6], 6, true),
+        ("a fraction of 0", [0, 0], 0, true),
+        ("another terminal", [0, 0], 6, false),
+        ("another first accumulator", [1, 0], 1, false),
+    ] {
+        let refused = range_refusal(&rt, rt.alloc(), &[4, 3, 0], 3, cells.as_slice(), terminal);
+        holds(&rt, what, refused.is_none() == is_accepted);
+    }
 }
 
-/// The constraints of two range lookups as a symbolic builder records them.
-fn recorded(rt: &impl Abort, alloc: Global) -> Result<SymbolicAirBuilder<F7, F7>, Fail> {
+#[test]
+fn an_exclusive_lookup_takes_the_set_branch(rt: HostRuntime) {
+    let alloc = rt.alloc();
+    for (what, row, fraction, is_accepted) in [
+        ("the first branch", [1, 3, 0, 5], 2, true),
+        (
+            "the first branch with the second's fraction",
+            [1, 3, 0, 5],
+            4,
+            false,
+        ),
+        ("the second branch", [0, 3, 1, 5], 4, true),
+        ("no branch", [0, 3, 0, 5], 0, true),
+        ("no branch with a fraction", [0, 3, 0, 5], 2, false),
+    ] {
+        let main = trace::<F7>(&rt, alloc, row.as_slice(), 4);
+        let lookup = group(&rt, alloc, 2, 0);
+        let refused = refusal_at(&rt, alloc, &main, lookup, 0, &[0, fraction], fraction);
+        holds(&rt, what, refused.is_none() == is_accepted);
+    }
+}
+
+/// The constraints of lookups as a symbolic builder records them, over a main trace of this width.
+pub(super) fn recorded(
+    rt: &impl Abort,
+    alloc: Global,
+    width: usize,
+    lookups: &[Lookup<F7>],
+) -> SymbolicAirBuilder<F7, F7> {
     let layout = AirLayout {
         preprocessed_width: 0,
-        main_width: 3,
+        main_width: width,
         num_public_values: 0,
         permutation_width: 3,
         num_permutation_challenges: 4,
         num_permutation_values: 1,
     };
-    let mut builder = SymbolicAirBuilder::new(alloc, layout)?;
-    let lookups = [range(alloc, 0)?, single(alloc, 1, 1)?];
-    evaluated(rt, alloc, &mut builder, lookups.as_slice())?;
-    Ok(builder)
+    let mut builder = SymbolicAirBuilder::new(alloc, layout).expect(rt, "memory");
+    evaluated(rt, alloc, &mut builder, lookups).expect(rt, "memory");
+    builder
+}
+
+/// The constraints of two lookups, of which the first is a range lookup.
+fn two_recorded(rt: &impl Abort, alloc: Global) -> SymbolicAirBuilder<F7, F7> {
+    let lookups = [range(rt, alloc, 0), single(rt, alloc, 1, 1)];
+    recorded(rt, alloc, 3, lookups.as_slice())
 }
 
 #[test]
-fn constraints_are_recorded_in_order(rt: HostRuntime) -> Result<(), Fail> {
-    let alloc = rt.alloc();
-    let builder = recorded(&rt, alloc)?;
-    assert!(rt; builder.base_constraints().is_empty());
-    let layout = builder.constraint_layout();
-    assert!(rt; layout.ext_indices.as_slice() == [0, 1, 2, 3, 4].as_slice());
-    Ok(())
-}
-
-/// The degrees of the recorded constraints, where the transition selector has this degree.
-fn recorded_degrees(rt: &impl Abort, alloc: Global, transition: usize) -> Result<Vec<usize>, Fail> {
-    let builder = recorded(rt, alloc)?;
-    let mut degrees = Vec::new(alloc);
-    for constraint in builder.extension_constraints() {
-        degrees.push(constraint.degree_multiple_with_transition(transition)?)?;
-    }
-    Ok(degrees)
-}
-
-#[test]
-fn constraints_have_the_degrees_of_their_formula(rt: HostRuntime) -> Result<(), Fail> {
-    let alloc = rt.alloc();
-    assert!(rt; recorded_degrees(&rt, alloc, 0)?.as_slice() == [3, 2, 2, 1, 2].as_slice());
-    assert!(rt; recorded_degrees(&rt, alloc, 1)?.as_slice() == [3, 2, 2, 2, 2].as_slice());
-    Ok(())
-}
-
-/// Two branches: cell 1 under the flag of cell 0, and cell 3 under that of cell 2, each with count 1.
-fn exclusive(alloc: Global) -> Result<Lookup<F7>, Fail> {
-    let mut elements = Vec::new(alloc);
-    let mut multiplicities = Vec::new(alloc);
-    let mut flags = Vec::new(alloc);
-    for branch in 0..2 {
-        let mut tuple = Vec::new(alloc);
-        tuple.push(cell(2 * branch + 1))?;
-        elements.push(tuple)?;
-        multiplicities.push(SymbolicExpression::constant(F7::ONE))?;
-        flags.push(cell(2 * branch))?;
-    }
-    let mut lookup = local(elements, multiplicities, 0);
-    lookup.flags = Some(flags);
-    Ok(lookup)
-}
-
-/// Whether a fraction on the one row of flags and keys is accepted, at the prefix 0.
-fn is_selected(rt: &impl Abort, alloc: Global, row: &[u32], fraction: u32) -> Result<bool, Fail> {
-    assert!(rt; row.len() == 4);
-    let main = trace(rt, alloc, row, 4)?;
-    let lookups = [exclusive(alloc)?];
-    let challenges = [F7::new(0), F7::new(2)];
-    let auxiliary = trace(rt, alloc, &[0, fraction], 2)?;
-    let refused = refusal(
-        rt,
-        alloc,
-        &main,
-        lookups.as_slice(),
-        challenges.as_slice(),
-        &auxiliary,
-        F7::from_u32(fraction),
+fn constraints_are_recorded_in_order(rt: HostRuntime) {
+    let builder = two_recorded(&rt, rt.alloc());
+    holds(
+        &rt,
+        "no base constraints",
+        builder.base_constraints().is_empty(),
     );
-    Ok(refused.is_none())
+    let places = builder.constraint_layout().ext_indices.as_slice();
+    holds(
+        &rt,
+        "extension constraints",
+        places == [0, 1, 2, 3, 4].as_slice(),
+    );
+}
+
+/// Whether recorded constraints have these degrees, where the transition selector has this one.
+pub(super) fn have_degrees(
+    rt: &impl Abort,
+    builder: &SymbolicAirBuilder<F7, F7>,
+    transition: usize,
+    degrees: &[usize],
+) -> bool {
+    let constraints = builder.extension_constraints();
+    for (constraint, degree) in constraints.iter().zip(degrees) {
+        let own = constraint
+            .degree_multiple_with_transition(transition)
+            .expect(rt, "a degree");
+        if own != *degree {
+            return false;
+        }
+    }
+    constraints.len() == degrees.len()
 }
 
 #[test]
-fn an_exclusive_lookup_takes_the_set_branch(rt: HostRuntime) -> Result<(), Fail> {
-    let alloc = rt.alloc();
-    assert!(rt; is_selected(&rt, alloc, &[1, 3, 0, 5], 2)?);
-    assert!(rt; !is_selected(&rt, alloc, &[1, 3, 0, 5], 4)?);
-    assert!(rt; is_selected(&rt, alloc, &[0, 3, 1, 5], 4)?);
-    assert!(rt; is_selected(&rt, alloc, &[0, 3, 0, 5], 0)?);
-    assert!(rt; !is_selected(&rt, alloc, &[0, 3, 0, 5], 2)?);
-    Ok(())
+fn constraints_have_the_degrees_of_their_formula(rt: HostRuntime) {
+    let builder = two_recorded(&rt, rt.alloc());
+    holds(
+        &rt,
+        "at 0",
+        have_degrees(&rt, &builder, 0, &[3, 2, 2, 1, 2]),
+    );
+    holds(
+        &rt,
+        "at 1",
+        have_degrees(&rt, &builder, 1, &[3, 2, 2, 2, 2]),
+    );
 }

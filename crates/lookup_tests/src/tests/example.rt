@@ -1,7 +1,8 @@
 //! The example of the README: an AIR on a bus, from its evaluation to the check of its terminal.
 ghost use Rattle.std.specs.Prelude.{⊤};
 
-use super::evaluation::{refusal, trace};
+use super::evaluation::refusal;
+use super::{are_numbers, holds, trace};
 use air::{Air, AirBuilder, AirError, AirLayout, BaseAir, LayoutPart};
 use field::F7;
 use lookup::{
@@ -103,24 +104,33 @@ fn auxiliary_trace(
     Ok(auxiliary)
 }
 
+/// The refusal of a witness of the AIR's lookups, both at the prefix 0 and beta 2.
+fn refused(
+    rt: &impl Abort,
+    alloc: Global,
+    main: &RowMajorMatrix<F7>,
+    auxiliary: &RowMajorMatrix<F7>,
+) -> Option<AirError> {
+    let lookups = Lookups::from_air::<F7, KeysAir>(alloc, &KeysAir).expect(rt, "lookups");
+    let challenges = [F7::new(0), F7::new(2), F7::new(0), F7::new(2)];
+    let (lookups, challenges) = (lookups.as_slice(), challenges.as_slice());
+    refusal(rt, alloc, main, lookups, challenges, auxiliary, F7::new(0))
+}
+
 #[test]
 fn keys_are_found_in_the_entries(rt: HostRuntime) -> Result<(), Fail> {
     let alloc = rt.alloc();
-    let main = trace::<F7>(&rt, alloc, &[3, 4, 1, 4, 3, 1], 3)?;
+    let main = trace::<F7>(&rt, alloc, &[3, 4, 1, 4, 3, 1], 3);
     let auxiliary = auxiliary_trace(&rt, alloc, &main)?;
-    let expected = trace::<F7>(&rt, alloc, &[0, 2, 2, 4, 5, 5], 3)?;
-    assert!(rt; auxiliary.values() == expected.values());
-    let lookups = Lookups::from_air::<F7, KeysAir>(alloc, &KeysAir)?;
-    let challenges = [F7::new(0), F7::new(2), F7::new(0), F7::new(2)];
-    let refused = refusal(
+    holds(
         &rt,
-        alloc,
-        &main,
-        lookups.as_slice(),
-        challenges.as_slice(),
-        &auxiliary,
-        F7::new(0),
+        "the cells",
+        are_numbers(auxiliary.values(), &[0, 2, 2, 4, 5, 5]),
     );
-    assert!(rt; refused == None);
+    holds(
+        &rt,
+        "the constraints",
+        refused(&rt, alloc, &main, &auxiliary).is_none(),
+    );
     Ok(())
 }

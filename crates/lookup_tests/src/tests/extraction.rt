@@ -2,40 +2,51 @@
 ghost use Rattle.std.specs.Prelude.{⊤};
 
 use super::example::{cell, tuple};
+use super::{holds, list, one};
 use air::{Air, AirBuilder, AirError, BaseAir, Expression, SymbolicExpression};
-use field::{BabyBear, BabyBear4, F7, PrimeCharacteristicRing};
+use field::{BabyBear, BabyBear4, ExtensionField, F7, Field, PrimeCharacteristicRing};
 use lookup::{
     Count, InteractionBuilder, Kind, Lookup, LookupBus, LookupError, Lookups,
     assert_uniform_tuple_width,
 };
 use std::alloc::Global;
 use std::process::Abort;
-use std::test::Fail;
 
-/// One push: tuples of a local lookup, each a width and a weight; a message on a bus; or a group on
-/// a bus with the weights of its branches.
+/// What an AIR does in its evaluation.
 #[derive(Clone, Copy)]
-enum Push<'a> {
+enum Step<'a> {
+    /// Pushes a local lookup of tuples of ones, each a width and a weight.
     Local(&'a [(usize, u32)]),
+    /// Pushes the local lookup of cell 0 and of cell 1, which is provided as often as cell 2 says.
+    Range,
+    /// Queries the tuple of 1 on a bus.
     Global(&'a str),
+    /// Pushes a group on a bus, whose branches have these weights.
     Exclusive(&'a str, &'a [u32]),
+    /// Queries, on a bus, cell 1 under the flag of cell 0, or cell 3 under that of cell 2.
+    Keys(&'a str),
+    /// Refuses an assertion on this row.
+    Assertion(usize),
+    /// Refuses a degree.
+    Overflow,
 }
 
-/// An AIR of one column that pushes these, in order.
+/// An AIR of so many columns that does these, in order.
 #[derive(Clone, Copy)]
-struct Pushes<'a> {
-    pushes: &'a [Push<'a>],
+struct Steps<'a> {
+    width: usize,
+    steps: &'a [Step<'a>],
 }
 
-impl<F> BaseAir<F> for Pushes<'_> {
-    ghost width = { λ _. 1 };
+impl<F> BaseAir<F> for Steps<'_> {
+    ghost width = { λ air. air.width };
 
     ghost preprocessed_width = { λ _. 0 };
 
     ghost num_public_values = { λ _. 0 };
 
     fn width(&self) -> usize {
-        1
+        self.width
     }
 
     fn preprocessed_width(&self) -> usize {
@@ -69,6 +80,14 @@ fn push_local<AB: InteractionBuilder>(
     builder.push_local_interaction(alloc, tuples)
 }
 
+fn push_range<AB: InteractionBuilder>(alloc: Global, builder: &mut AB) -> Result<(), AirError> {
+    let mut tuples = Vec::new(alloc);
+    tuples.push((tuple(alloc, builder, 0)?, Count::from_i32::<AB::F>(1)))?;
+    let provided = Count::provided(cell(alloc, builder, 2)?.neg(alloc)?);
+    tuples.push((tuple(alloc, builder, 1)?, provided))?;
+    builder.push_local_interaction(alloc, tuples)
+}
+
 fn push_exclusive<AB: InteractionBuilder>(
     alloc: Global,
     builder: &mut AB,
@@ -83,79 +102,130 @@ fn push_exclusive<AB: InteractionBuilder>(
     builder.push_exclusive_interaction(alloc, name, branches)
 }
 
-impl<AB: InteractionBuilder> Air<AB> for Pushes<'_> {
+fn query_keys<AB: InteractionBuilder>(
+    alloc: Global,
+    builder: &mut AB,
+    name: &str,
+) -> Result<(), AirError> {
+    let mut branches = Vec::new(alloc);
+    for branch in 0..2 {
+        let flag = cell(alloc, builder, 2 * branch)?;
+        branches.push((flag, tuple(alloc, builder, 2 * branch + 1)?))?;
+    }
+    LookupBus::new(name).lookup_key_exclusive(alloc, builder, branches)
+}
+
+fn query_one<AB: InteractionBuilder>(
+    alloc: Global,
+    builder: &mut AB,
+    name: &str,
+) -> Result<(), AirError> {
+    let key = ones::<AB>(alloc, 1)?;
+    LookupBus::new(name).lookup_key(alloc, builder, key, Count::from_i32::<AB::F>(1))
+}
+
+fn take_step<AB: InteractionBuilder>(
+    alloc: Global,
+    builder: &mut AB,
+    step: &Step<'_>,
+) -> Result<(), AirError> {
+    match step {
+        Step::Local(shapes) => push_local(alloc, builder, shapes),
+        Step::Range => push_range(alloc, builder),
+        Step::Global(name) => query_one(alloc, builder, name),
+        Step::Exclusive(name, weights) => push_exclusive(alloc, builder, name, weights),
+        Step::Keys(name) => query_keys(alloc, builder, name),
+        Step::Assertion(row) => Err(AirError::Assertion { row: *row }),
+        Step::Overflow => Err(AirError::DegreeOverflow),
+    }
+}
+
+impl<AB: InteractionBuilder> Air<AB> for Steps<'_> {
     ghost evaluates = { λ _ _ _ _. ⊤ };
 
     fn eval(&self, alloc: Global, builder: &mut AB) -> Result<(), AirError> {
-        for push in self.pushes {
-            match push {
-                Push::Local(shapes) => push_local(alloc, builder, shapes)?,
-                Push::Global(name) => LookupBus::new(name).lookup_key(
-                    alloc,
-                    builder,
-                    ones::<AB>(alloc, 1)?,
-                    Count::from_i32::<AB::F>(1),
-                )?,
-                Push::Exclusive(name, weights) => push_exclusive(alloc, builder, name, weights)?,
-            }
+        for step in self.steps {
+            take_step(alloc, builder, step)?;
         }
         Ok(())
     }
 }
 
-/// The lookups of an AIR that pushes these.
-fn extracted(alloc: Global, pushes: &[Push<'_>]) -> Result<Lookups<F7>, LookupError> {
-    Lookups::from_air::<F7, Pushes<'_>>(alloc, &Pushes { pushes })
+/// The lookups of an AIR of four columns that does these.
+fn extracted<F: Field, EF: ExtensionField<F>>(
+    alloc: Global,
+    steps: &[Step<'_>],
+) -> Result<Lookups<F>, LookupError> {
+    Lookups::from_air::<EF, Steps<'_>>(alloc, &Steps { width: 4, steps })
 }
 
-/// Whether a lookup stands in this column, on this bus, or is local where there is none.
-fn is_at(lookup: &Lookup<F7>, column: usize, bus: &str) -> bool {
+/// The same over F7, where none of the steps is refused.
+fn lookups_of(rt: &impl Abort, alloc: Global, steps: &[Step<'_>]) -> Lookups<F7> {
+    extracted::<F7, F7>(alloc, steps).expect(rt, "lookups")
+}
+
+/// Whether the lookup in a column stands on this bus, or is local where that is empty, and has this
+/// weight and as many tuples, each with a multiplicity, and with a flag if it is exclusive.
+fn is_lookup<F>(
+    lookups: &[Lookup<F>],
+    column: usize,
+    bus: &str,
+    weight: u32,
+    tuples: usize,
+    is_exclusive: bool,
+) -> bool {
+    let Some(lookup) = lookups.get(column) else {
+        return false;
+    };
     let has_bus = match &lookup.kind {
         Kind::Local => bus.is_empty(),
         Kind::Global(name) => name.as_str() == bus,
     };
-    lookup.column == column && has_bus
-}
-
-#[test]
-fn locals_come_first_and_groups_last(rt: HostRuntime) -> Result<(), Fail> {
-    let alloc = rt.alloc();
-    let pushes = [
-        Push::Global("a"),
-        Push::Local(&[(1, 1)]),
-        Push::Exclusive("b", &[2, 5]),
-        Push::Global("c"),
-    ];
-    let lookups = extracted(alloc, pushes.as_slice())?;
-    let lookups = lookups.as_slice();
-    assert!(rt; lookups.len() == 4);
-    assert!(rt; is_at(&lookups[0], 0, ""));
-    assert!(rt; is_at(&lookups[1], 1, "a"));
-    assert!(rt; is_at(&lookups[2], 2, "c"));
-    assert!(rt; is_at(&lookups[3], 3, "b"));
-    assert!(rt; lookups[3].count_weight == 5);
-    Ok(())
-}
-
-#[test]
-fn a_group_without_branches_has_no_weight(rt: HostRuntime) -> Result<(), Fail> {
-    let alloc = rt.alloc();
-    let pushes = [Push::Exclusive("b", &[])];
-    let lookups = extracted(alloc, pushes.as_slice())?;
-    let lookups = lookups.as_slice();
-    assert!(rt; lookups.len() == 1);
-    assert!(rt; lookups[0].count_weight == 0);
-    assert!(rt; lookups[0].elements.is_empty());
-    let Some(flags) = &lookups[0].flags else {
-        return Err(Fail::new("a group has flags"));
+    let has_flags = match &lookup.flags {
+        Some(flags) => is_exclusive && flags.len() == tuples,
+        None => !is_exclusive,
     };
-    assert!(rt; flags.is_empty());
-    Ok(())
+    let has_tuples = lookup.elements.len() == tuples && lookup.multiplicities.len() == tuples;
+    has_bus && has_flags && has_tuples && lookup.column == column && lookup.count_weight == weight
 }
 
-/// Whether these pushes are refused for their tuples' widths, 1 and then 2.
-fn has_two_widths(alloc: Global, pushes: &[Push<'_>]) -> bool {
-    match extracted(alloc, pushes) {
+#[test]
+fn locals_come_first_and_groups_last(rt: HostRuntime) {
+    let steps = [
+        Step::Global("a"),
+        Step::Local(&[(1, 1)]),
+        Step::Exclusive("b", &[2, 5]),
+        Step::Global("c"),
+    ];
+    let lookups = lookups_of(&rt, rt.alloc(), steps.as_slice());
+    let lookups = lookups.as_slice();
+    holds(&rt, "four lookups", lookups.len() == 4);
+    holds(&rt, "the local one", is_lookup(lookups, 0, "", 1, 1, false));
+    holds(
+        &rt,
+        "the first on a bus",
+        is_lookup(lookups, 1, "a", 1, 1, false),
+    );
+    holds(
+        &rt,
+        "the second on a bus",
+        is_lookup(lookups, 2, "c", 1, 1, false),
+    );
+    holds(&rt, "the group", is_lookup(lookups, 3, "b", 5, 2, true));
+}
+
+#[test]
+fn a_group_without_branches_has_no_weight(rt: HostRuntime) {
+    let steps = [Step::Exclusive("b", &[])];
+    let lookups = lookups_of(&rt, rt.alloc(), steps.as_slice());
+    let lookups = lookups.as_slice();
+    holds(&rt, "one lookup", lookups.len() == 1);
+    holds(&rt, "the group", is_lookup(lookups, 0, "b", 0, 0, true));
+}
+
+/// Whether these steps are refused for their tuples' widths, 1 and then 2.
+fn has_two_widths(alloc: Global, steps: &[Step<'_>]) -> bool {
+    match extracted::<F7, F7>(alloc, steps) {
         Err(
             LookupError::TupleWidths {
                 context,
@@ -167,238 +237,135 @@ fn has_two_widths(alloc: Global, pushes: &[Push<'_>]) -> bool {
     }
 }
 
-/// Whether these pushes are refused for their weights.
-fn overflows(alloc: Global, pushes: &[Push<'_>]) -> bool {
+/// Whether these steps are refused for their weights.
+fn overflows(alloc: Global, steps: &[Step<'_>]) -> bool {
     matches!(
-        extracted(alloc, pushes),
+        extracted::<F7, F7>(alloc, steps),
         Err(LookupError::CountWeightOverflow)
     )
 }
 
 #[test]
-fn the_first_local_lookup_with_a_fault_decides(rt: HostRuntime) -> Result<(), Fail> {
+fn the_first_local_lookup_with_a_fault_decides(rt: HostRuntime) {
     let alloc = rt.alloc();
-    let weights = [Push::Local(&[(1, 4294967295), (1, 1)])];
-    assert!(rt; overflows(alloc, weights.as_slice()));
-    let widths = [Push::Local(&[(1, 1), (2, 1)])];
-    assert!(rt; has_two_widths(alloc, widths.as_slice()));
-    let both = [Push::Local(&[(1, 4294967295), (2, 1)])];
-    assert!(rt; overflows(alloc, both.as_slice()));
-    let one_each = [
-        Push::Local(&[(1, 1), (2, 1)]),
-        Push::Local(&[(1, 4294967295), (1, 1)]),
-    ];
-    assert!(rt; has_two_widths(alloc, one_each.as_slice()));
-    Ok(())
-}
-
-#[test]
-fn weights_of_a_local_lookup_are_summed(rt: HostRuntime) -> Result<(), Fail> {
-    let alloc = rt.alloc();
-    let pushes = [Push::Local(&[(2, 3), (2, 4294967292)]), Push::Global("a")];
-    let lookups = extracted(alloc, pushes.as_slice())?;
-    assert!(rt; lookups.total_count_weight() == 4294967296);
-    let lookups = lookups.as_slice();
-    assert!(rt; lookups.len() == 2);
-    assert!(rt; lookups[0].count_weight == 4294967295);
-    assert!(rt; lookups[0].elements.len() == 2 && lookups[0].multiplicities.len() == 2);
-    assert!(rt; lookups[1].count_weight == 1);
-    Ok(())
-}
-
-/// Columns `read provide mult`: three times the local lookup of the value that is read and of the
-/// one that is provided.
-struct ThreeRanges;
-
-impl<F> BaseAir<F> for ThreeRanges {
-    ghost width = { λ _. 3 };
-
-    ghost preprocessed_width = { λ _. 0 };
-
-    ghost num_public_values = { λ _. 0 };
-
-    fn width(&self) -> usize {
-        3
-    }
-
-    fn preprocessed_width(&self) -> usize {
-        0
-    }
-
-    fn num_public_values(&self) -> usize {
-        0
-    }
-}
-
-impl<AB: InteractionBuilder> Air<AB> for ThreeRanges {
-    ghost evaluates = { λ _ _ _ _. ⊤ };
-
-    fn eval(&self, alloc: Global, builder: &mut AB) -> Result<(), AirError> {
-        for _ in 0..3 {
-            let mut tuples = Vec::new(alloc);
-            tuples.push((tuple(alloc, builder, 0)?, Count::from_i32::<AB::F>(1)))?;
-            let provided = Count::provided(cell(alloc, builder, 2)?.neg(alloc)?);
-            tuples.push((tuple(alloc, builder, 1)?, provided))?;
-            builder.push_local_interaction(alloc, tuples)?;
-        }
-        Ok(())
-    }
-}
-
-#[test]
-fn each_local_lookup_has_a_column(rt: HostRuntime) -> Result<(), Fail> {
-    let alloc = rt.alloc();
-    let lookups: Lookups<BabyBear> = Lookups::from_air::<BabyBear4, ThreeRanges>(
-        alloc,
-        &ThreeRanges,
-    )?;
-    let lookups = lookups.as_slice();
-    assert!(rt; lookups.len() == 3);
-    for (column, lookup) in lookups.iter().enumerate() {
-        assert!(rt; lookup.column == column && lookup.count_weight == 1);
-        assert!(rt; lookup.elements.len() == 2 && lookup.multiplicities.len() == 2);
-        assert!(rt; lookup.flags.is_none() && lookup.kind == Kind::Local);
-    }
-    Ok(())
-}
-
-/// Columns `flag0 key0 flag1 key1`: a group of both keys on the bus `rc`.
-struct TwoKeys;
-
-impl<F> BaseAir<F> for TwoKeys {
-    ghost width = { λ _. 4 };
-
-    ghost preprocessed_width = { λ _. 0 };
-
-    ghost num_public_values = { λ _. 0 };
-
-    fn width(&self) -> usize {
-        4
-    }
-
-    fn preprocessed_width(&self) -> usize {
-        0
-    }
-
-    fn num_public_values(&self) -> usize {
-        0
-    }
-}
-
-impl<AB: InteractionBuilder> Air<AB> for TwoKeys {
-    ghost evaluates = { λ _ _ _ _. ⊤ };
-
-    fn eval(&self, alloc: Global, builder: &mut AB) -> Result<(), AirError> {
-        let mut branches = Vec::new(alloc);
-        for branch in 0..2 {
-            let flag = cell(alloc, builder, 2 * branch)?;
-            branches.push((flag, tuple(alloc, builder, 2 * branch + 1)?))?;
-        }
-        LookupBus::new("rc").lookup_key_exclusive(alloc, builder, branches)
-    }
-}
-
-#[test]
-fn a_group_is_one_lookup(rt: HostRuntime) -> Result<(), Fail> {
-    let alloc = rt.alloc();
-    let lookups: Lookups<F7> = Lookups::from_air::<F7, TwoKeys>(alloc, &TwoKeys)?;
-    let lookups = lookups.as_slice();
-    assert!(rt; lookups.len() == 1);
-    assert!(rt; is_at(&lookups[0], 0, "rc"));
-    assert!(rt; lookups[0].count_weight == 1);
-    assert!(rt; lookups[0].elements.len() == 2 && lookups[0].multiplicities.len() == 2);
-    assert!(rt;
-        lookups[0]
-            .flags
-            .as_ref()
-            .is_some_and(|flags| flags.len() == 2)
+    let weights = [Step::Local(&[(1, 4294967295), (1, 1)])];
+    holds(&rt, "weights", overflows(alloc, weights.as_slice()));
+    let widths = [Step::Local(&[(1, 1), (2, 1)])];
+    holds(&rt, "widths", has_two_widths(alloc, widths.as_slice()));
+    let both = [Step::Local(&[(1, 4294967295), (2, 1)])];
+    holds(
+        &rt,
+        "weights before widths",
+        overflows(alloc, both.as_slice()),
     );
-    Ok(())
+    let one_each = [
+        Step::Local(&[(1, 1), (2, 1)]),
+        Step::Local(&[(1, 4294967295), (1, 1)]),
+    ];
+    holds(
+        &rt,
+        "the first lookup",
+        has_two_widths(alloc, one_each.as_slice()),
+    );
 }
 
-/// An AIR of one column whose evaluation is refused.
-#[derive(Clone, Copy)]
-struct Refusing {
-    overflows: bool,
+#[test]
+fn weights_of_a_local_lookup_are_summed(rt: HostRuntime) {
+    let steps = [Step::Local(&[(2, 3), (2, 4294967292)]), Step::Global("a")];
+    let lookups = lookups_of(&rt, rt.alloc(), steps.as_slice());
+    holds(
+        &rt,
+        "the weight of both",
+        lookups.total_count_weight() == 4294967296,
+    );
+    let lookups = lookups.as_slice();
+    holds(&rt, "two lookups", lookups.len() == 2);
+    holds(
+        &rt,
+        "the local one",
+        is_lookup(lookups, 0, "", 4294967295, 2, false),
+    );
+    holds(
+        &rt,
+        "the one on a bus",
+        is_lookup(lookups, 1, "a", 1, 1, false),
+    );
 }
 
-impl<F> BaseAir<F> for Refusing {
-    ghost width = { λ _. 1 };
-
-    ghost preprocessed_width = { λ _. 0 };
-
-    ghost num_public_values = { λ _. 0 };
-
-    fn width(&self) -> usize {
-        1
-    }
-
-    fn preprocessed_width(&self) -> usize {
-        0
-    }
-
-    fn num_public_values(&self) -> usize {
-        0
+#[test]
+fn each_local_lookup_has_a_column(rt: HostRuntime) {
+    let steps = [Step::Range, Step::Range, Step::Range];
+    let lookups = extracted::<BabyBear, BabyBear4>(rt.alloc(), steps.as_slice());
+    let lookups = lookups.expect(&rt, "lookups");
+    let lookups = lookups.as_slice();
+    holds(&rt, "three lookups", lookups.len() == 3);
+    for column in 0..3 {
+        holds(
+            &rt,
+            "a range lookup",
+            is_lookup(lookups, column, "", 1, 2, false),
+        );
     }
 }
 
-impl<AB: InteractionBuilder> Air<AB> for Refusing {
-    ghost evaluates = { λ _ _ _ _. ⊤ };
+#[test]
+fn a_group_is_one_lookup(rt: HostRuntime) {
+    let steps = [Step::Keys("rc")];
+    let lookups = lookups_of(&rt, rt.alloc(), steps.as_slice());
+    let lookups = lookups.as_slice();
+    holds(&rt, "one lookup", lookups.len() == 1);
+    holds(&rt, "the group", is_lookup(lookups, 0, "rc", 1, 2, true));
+}
 
-    fn eval(&self, _alloc: Global, _builder: &mut AB) -> Result<(), AirError> {
-        if self.overflows {
-            Err(AirError::DegreeOverflow)
-        } else {
-            Err(AirError::Assertion { row: 3 })
-        }
-    }
+/// The refusal of an AIR that does these.
+fn refused(alloc: Global, steps: &[Step<'_>]) -> Option<LookupError> {
+    extracted::<F7, F7>(alloc, steps).err()
 }
 
 #[test]
 fn a_refusal_of_an_air_is_handed_on(rt: HostRuntime) {
-    let alloc = rt.alloc();
-    let air = Refusing { overflows: true };
-    let refused: Result<Lookups<F7>, LookupError> = Lookups::from_air::<F7, Refusing>(alloc, &air);
-    assert!(rt; refused.err() == Some(LookupError::DegreeOverflow));
-    let air = Refusing { overflows: false };
-    let refused: Result<Lookups<F7>, LookupError> = Lookups::from_air::<F7, Refusing>(alloc, &air);
-    assert!(rt; refused.err() == Some(LookupError::Air(AirError::Assertion { row: 3 })));
+    let overflow = refused(rt.alloc(), &[Step::Overflow]);
+    holds(
+        &rt,
+        "a degree",
+        overflow == Some(LookupError::DegreeOverflow),
+    );
+    let assertion = refused(rt.alloc(), &[Step::Assertion(3)]);
+    let wanted = LookupError::Air(AirError::Assertion { row: 3 });
+    holds(&rt, "an assertion", assertion == Some(wanted));
 }
 
-/// The common width of tuples of these widths, or the refusal's two.
-fn widths_of(alloc: Global, widths: &[usize]) -> Result<Result<usize, (usize, usize)>, Fail> {
+/// The common width of tuples of these widths, or the refusal.
+fn common_width(rt: &impl Abort, alloc: Global, widths: &[usize]) -> Result<usize, LookupError> {
     let mut tuples: Vec<Vec<SymbolicExpression<F7>>> = Vec::new(alloc);
     for width in widths {
         let mut tuple = Vec::new(alloc);
         for _ in 0..*width {
-            tuple.push(SymbolicExpression::constant(F7::ONE))?;
+            tuple.push(one()).expect(rt, "memory");
         }
-        tuples.push(tuple)?;
+        tuples.push(tuple).expect(rt, "memory");
     }
-    match assert_uniform_tuple_width(alloc, tuples.as_slice(), "here") {
-        Ok(width) => Ok(Ok(width)),
-        Err(
-            LookupError::TupleWidths {
-                context,
-                width,
-                other,
-            },
-        ) => {
-            if context.as_str() == "here" {
-                Ok(Err((width, other)))
-            } else {
-                Err(Fail::new("another context"))
-            }
-        }
-        Err(_) => Err(Fail::new("another refusal")),
-    }
+    assert_uniform_tuple_width(alloc, tuples.as_slice(), "here")
 }
 
 #[test]
-fn tuples_of_one_width(rt: HostRuntime) -> Result<(), Fail> {
+fn tuples_of_one_width(rt: HostRuntime) {
     let alloc = rt.alloc();
-    assert!(rt; widths_of(alloc, &[])? == Ok(0));
-    assert!(rt; widths_of(alloc, &[2, 2, 2])? == Ok(2));
-    assert!(rt; widths_of(alloc, &[2, 2, 1, 3])? == Err((2, 1)));
-    Ok(())
+    holds(&rt, "no tuples", common_width(&rt, alloc, &[]) == Ok(0));
+    holds(
+        &rt,
+        "three tuples",
+        common_width(&rt, alloc, &[2, 2, 2]) == Ok(2),
+    );
+    let context = String::from_str(alloc, "here").expect(&rt, "memory");
+    let refusal = LookupError::TupleWidths {
+        context,
+        width: 2,
+        other: 1,
+    };
+    holds(
+        &rt,
+        "the third differs",
+        common_width(&rt, alloc, &[2, 2, 1, 3]) == Err(refusal),
+    );
 }

@@ -1,16 +1,24 @@
 //! Lookups written as JSON, read and copied. The texts are those of serde's rules: a struct is an
 //! object of its fields, a variant without data its name, one with data an object of one member.
-use super::{cell, single};
+use super::{cell, holds, list, single};
 use air::{Expression, SymbolicExpression};
 use field::{BabyBear, F7};
 use lookup::{Kind, Lookup, LookupTerminal, Lookups};
 use serde_json::error::Category;
-use std::alloc::{AllocError, Global};
-use std::test::Fail;
+use std::alloc::Global;
+use std::process::Abort;
 
 /// A local lookup of weight 1, and two on `bus` of weights 1 and 0.
 const LOOKUPS: &str =
     r#"[{"kind":"Local","elements":[[{"Leaf":{"Variable":{"entry":{"Main":{"offset":0}},"index":0}}}]],"multiplicities":[{"Leaf":{"Constant":1}}],"count_weight":1,"column":0,"flags":null},{"kind":{"Global":"bus"},"elements":[[{"Leaf":{"Variable":{"entry":{"Main":{"offset":0}},"index":0}}}]],"multiplicities":[{"Leaf":{"Constant":1}}],"count_weight":1,"column":1,"flags":null},{"kind":{"Global":"bus"},"elements":[[{"Leaf":{"Variable":{"entry":{"Main":{"offset":0}},"index":0}}}]],"multiplicities":[{"Neg":{"Leaf":{"Variable":{"entry":{"Main":{"offset":0}},"index":1}}}}],"count_weight":0,"column":2,"flags":null}]"#;
+
+/// A lookup whose members come in another order.
+const TURNED: &str =
+    r#"[{"flags":[{"Leaf":{"Constant":2}}],"column":0,"count_weight":3,"multiplicities":[{"Leaf":{"Constant":4}}],"elements":[[{"Leaf":{"Variable":{"index":5,"entry":"Public"}}}]],"kind":"Local"}]"#;
+
+/// The same lookup as it is written.
+const ORDERED: &str =
+    r#"[{"kind":"Local","elements":[[{"Leaf":{"Variable":{"entry":"Public","index":5}}}]],"multiplicities":[{"Leaf":{"Constant":4}}],"count_weight":3,"column":0,"flags":[{"Leaf":{"Constant":2}}]}]"#;
 
 /// An exclusive lookup of two branches.
 const EXCLUSIVE: &str =
@@ -21,112 +29,142 @@ const EXPRESSIONS: &str =
     r#"[{"Add":[{"Leaf":"IsFirstRow"},{"Leaf":"IsLastRow"}]},{"Sub":[{"Leaf":"IsTransition"},{"Leaf":{"Constant":6}}]},{"Mul":[{"Leaf":{"Variable":{"entry":"Public","index":3}}},{"Neg":{"Leaf":{"Variable":{"entry":{"Preprocessed":{"offset":1}},"index":18446744073709551615}}}}]}]"#;
 
 /// The lookups of the first text.
-fn lookups(alloc: Global) -> Result<Vec<Lookup<F7>>, Fail> {
-    let query = single(alloc, 1, 0)?;
-    let mut sent = single(alloc, 1, 1)?;
-    sent.kind = Kind::Global(String::from_str(alloc, "bus")?);
-    let mut received = single(alloc, 1, 2)?;
-    received.kind = Kind::Global(String::from_str(alloc, "bus")?);
-    received.multiplicities.clear();
-    received.multiplicities.push(cell(1).neg(alloc)?)?;
+fn lookups(rt: &impl Abort, alloc: Global) -> Vec<Lookup<F7>> {
+    let query = single(rt, alloc, 1, 0);
+    let mut sent = single(rt, alloc, 1, 1);
+    sent.kind = Kind::Global(bus(rt, alloc));
+    let mut received = single(rt, alloc, 1, 2);
+    received.kind = Kind::Global(bus(rt, alloc));
+    received.multiplicities = list(rt, alloc, [cell(1).neg(alloc).expect(rt, "memory")]);
     received.count_weight = 0;
-    let mut lookups = Vec::new(alloc);
-    lookups.push(query)?;
-    lookups.push(sent)?;
-    lookups.push(received)?;
-    Ok(lookups)
+    list(rt, alloc, [query, sent, received])
 }
 
-/// What a text of lookups over F7 is refused for, if it is.
+/// The name of their bus.
+fn bus(rt: &impl Abort, alloc: Global) -> String {
+    String::from_str(alloc, "bus").expect(rt, "memory")
+}
+
+/// The lookups of a text.
+fn read(rt: &impl Abort, alloc: Global, text: &str) -> Vec<Lookup<F7>> {
+    serde_json::from_str(alloc, text).expect(rt, text)
+}
+
+/// What a text of lookups is refused for, if it is.
 fn refusal(alloc: Global, text: &str) -> Option<Category> {
     serde_json::from_str::<Vec<Lookup<F7>>>(alloc, text)
         .err()
         .map(|error| error.classify())
 }
 
-/// The text of a number of negations of a selector.
-fn negations(alloc: Global, count: usize) -> Result<String, AllocError> {
-    let mut text = String::new(alloc);
-    for _ in 0..count {
-        text.push_str(r#"{"Neg":"#)?;
+/// The set of lookups of a text.
+fn read_set(rt: &impl Abort, alloc: Global, text: &str) -> Lookups<F7> {
+    Lookups::from_records(read(rt, alloc, text)).expect(rt, text)
+}
+
+/// Whether lookups are written as this text.
+fn are_written(rt: &impl Abort, alloc: Global, lookups: &Vec<Lookup<F7>>, text: &str) -> bool {
+    serde_json::to_string(alloc, lookups)
+        .expect(rt, text)
+        .as_str()
+        == text
+}
+
+/// Whether a set of lookups is written as this text.
+fn is_written(rt: &impl Abort, alloc: Global, lookups: &Lookups<F7>, text: &str) -> bool {
+    serde_json::to_string(alloc, lookups)
+        .expect(rt, text)
+        .as_str()
+        == text
+}
+
+/// Whether lookups have the columns from 0 on.
+fn are_in_order(lookups: &[Lookup<F7>]) -> bool {
+    for (column, lookup) in lookups.iter().enumerate() {
+        if lookup.column != column {
+            return false;
+        }
     }
-    text.push_str(r#"{"Leaf":"IsFirstRow"}"#)?;
-    for _ in 0..count {
-        text.push_str("}")?;
-    }
-    Ok(text)
-}
-
-/// Whether an expression of this many negations is read.
-fn is_read(alloc: Global, count: usize) -> Result<bool, AllocError> {
-    let text = negations(alloc, count)?;
-    Ok(serde_json::from_str::<SymbolicExpression<F7>>(alloc, text.as_str()).is_ok())
+    true
 }
 
 #[test]
-fn lookups_go_round_through_their_check(rt: HostRuntime) -> Result<(), Fail> {
+fn lookups_go_round_through_their_check(rt: HostRuntime) {
     let alloc = rt.alloc();
-    let built = lookups(alloc)?;
-    assert_eq!(rt; serde_json::to_string(alloc, &built)?.as_str(), LOOKUPS);
-    let read = Lookups::from_records(serde_json::from_str::<Vec<Lookup<F7>>>(alloc, LOOKUPS)?)?;
-    assert_eq!(rt; serde_json::to_string(alloc, &read)?.as_str(), LOOKUPS);
-    let columns: Vec<usize> = read
-        .as_slice()
-        .iter()
-        .map(|lookup| lookup.column)
-        .collect(alloc)?;
-    assert_eq!(rt; columns.as_slice(), [0, 1, 2].as_slice());
-    assert_eq!(rt; read.total_count_weight(), 2);
-    Ok(())
+    holds(
+        &rt,
+        "lookups",
+        are_written(&rt, alloc, &lookups(&rt, alloc), LOOKUPS),
+    );
+    let set = read_set(&rt, alloc, LOOKUPS);
+    holds(&rt, "a set", is_written(&rt, alloc, &set, LOOKUPS));
+    holds(&rt, "three lookups", set.as_slice().len() == 3);
+    holds(&rt, "their columns", are_in_order(set.as_slice()));
+    holds(&rt, "their weight", set.total_count_weight() == 2);
+}
+
+/// Whether the copy of a text's set is written as the text.
+fn is_copied(rt: &impl Abort, alloc: Global, text: &str) -> bool {
+    let copy = read_set(rt, alloc, text).copy(alloc).expect(rt, "memory");
+    is_written(rt, alloc, &copy, text)
 }
 
 #[test]
-fn copies_have_the_same_text(rt: HostRuntime) -> Result<(), Fail> {
+fn copies_have_the_same_text(rt: HostRuntime) {
     let alloc = rt.alloc();
-    for text in [LOOKUPS, EXCLUSIVE] {
-        let set = Lookups::from_records(serde_json::from_str::<Vec<Lookup<F7>>>(alloc, text)?)?;
-        let copy = set.copy(alloc)?;
-        drop(set);
-        assert_eq!(rt; serde_json::to_string(alloc, &copy)?.as_str(), text);
-    }
-    let kind = Kind::Global(String::from_str(alloc, "bus")?);
-    assert_eq!(rt; kind.copy(alloc)?, kind);
-    assert_eq!(rt; Kind::Local.copy(alloc)?, Kind::Local);
-    Ok(())
+    holds(&rt, "three lookups", is_copied(&rt, alloc, LOOKUPS));
+    holds(&rt, "an exclusive lookup", is_copied(&rt, alloc, EXCLUSIVE));
+    let kind = Kind::Global(bus(&rt, alloc));
+    holds(&rt, "a bus", kind.copy(alloc).expect(&rt, "memory") == kind);
+    holds(
+        &rt,
+        "no bus",
+        Kind::Local.copy(alloc).expect(&rt, "memory") == Kind::Local,
+    );
 }
 
 #[test]
-fn every_node_goes_round(rt: HostRuntime) -> Result<(), Fail> {
+fn every_node_goes_round(rt: HostRuntime) {
     let alloc = rt.alloc();
-    let read: Vec<SymbolicExpression<F7>> = serde_json::from_str(alloc, EXPRESSIONS)?;
-    assert_eq!(rt; serde_json::to_string(alloc, &read)?.as_str(), EXPRESSIONS);
-    Ok(())
+    let read = serde_json::from_str::<Vec<SymbolicExpression<F7>>>(alloc, EXPRESSIONS);
+    let text = serde_json::to_string(alloc, &read.expect(&rt, "expressions"));
+    holds(
+        &rt,
+        "the text",
+        text.expect(&rt, "memory").as_str() == EXPRESSIONS,
+    );
 }
 
 #[test]
-fn a_terminal_is_its_element(rt: HostRuntime) -> Result<(), Fail> {
+fn a_terminal_is_its_element(rt: HostRuntime) {
     let alloc = rt.alloc();
-    let text = serde_json::to_string(alloc, &LookupTerminal(BabyBear::new(123)))?;
-    assert_eq!(rt; text.as_str(), "123");
-    let read: LookupTerminal<BabyBear> = serde_json::from_str(alloc, text.as_str())?;
-    assert_eq!(rt; read.0, BabyBear::new(123));
-    Ok(())
+    let text = serde_json::to_string(alloc, &LookupTerminal(BabyBear::new(123)));
+    holds(
+        &rt,
+        "the text",
+        text.expect(&rt, "memory").as_str() == "123",
+    );
+    let read = serde_json::from_str::<LookupTerminal<BabyBear>>(alloc, "123");
+    holds(
+        &rt,
+        "the element",
+        read.expect(&rt, "a terminal").0 == BabyBear::new(123),
+    );
 }
 
 #[test]
 fn a_cut_text_is_refused(rt: HostRuntime) {
-    let alloc = rt.alloc();
     let bytes = LOOKUPS.as_bytes();
     for end in 0..bytes.len() {
-        let read = serde_json::from_slice::<Vec<Lookup<F7>>>(alloc, &bytes[..end]);
+        let read = serde_json::from_slice::<Vec<Lookup<F7>>>(rt.alloc(), &bytes[..end]);
         assert!(rt; read.is_err(), "{end}");
     }
 }
 
 #[test]
-fn what_is_no_lookup_is_refused(rt: HostRuntime) -> Result<(), Fail> {
+fn what_is_no_lookup_is_refused(rt: HostRuntime) {
     let alloc = rt.alloc();
-    let changes = [
+    for (old, new) in [
         (r#""count_weight":1"#, r#""count_weight":4294967296"#),
         (r#""count_weight":1,"#, ""),
         (r#""column":0"#, r#""column":0,"column":0"#),
@@ -145,27 +183,25 @@ fn what_is_no_lookup_is_refused(rt: HostRuntime) -> Result<(), Fail> {
         (r#""index":1"#, r#""index":1,"index":1"#),
         (r#""offset":0"#, r#""offset":0,"offset":0"#),
         (r#""Main""#, r#""Permutation""#),
-    ];
-    for (old, new) in changes {
-        let text = LOOKUPS.replace(alloc, old, new)?;
-        assert_eq!(rt;
-            refusal(alloc, text.as_str()),
-            Some(Category::Data),
-            "{new}"
+    ] {
+        let text = LOOKUPS.replace(alloc, old, new).expect(&rt, "memory");
+        holds(
+            &rt,
+            new,
+            refusal(alloc, text.as_str()) == Some(Category::Data),
         );
     }
     for (old, new) in [
         (r#","flags":null"#, ""),
         (r#""column":0"#, r#""column":0,"other":[{}]"#),
     ] {
-        let text = LOOKUPS.replace(alloc, old, new)?;
-        assert_eq!(rt; refusal(alloc, text.as_str()), None, "{new}");
+        let text = LOOKUPS.replace(alloc, old, new).expect(&rt, "memory");
+        holds(&rt, new, refusal(alloc, text.as_str()).is_none());
     }
-    Ok(())
 }
 
 #[test]
-fn what_is_no_expression_is_refused(rt: HostRuntime) -> Result<(), Fail> {
+fn what_is_no_expression_is_refused(rt: HostRuntime) {
     let alloc = rt.alloc();
     for (old, new) in [
         (r#",{"Leaf":"IsLastRow"}"#, ""),
@@ -177,33 +213,45 @@ fn what_is_no_expression_is_refused(rt: HostRuntime) -> Result<(), Fail> {
         (r#""Public""#, r#""Main""#),
         (r#"{"Leaf":{"Constant":6}}"#, r#"{"Constant":6}"#),
     ] {
-        let text = EXPRESSIONS.replace(alloc, old, new)?;
+        let text = EXPRESSIONS.replace(alloc, old, new).expect(&rt, "memory");
         let read = serde_json::from_str::<Vec<SymbolicExpression<F7>>>(alloc, text.as_str());
-        assert!(rt; read.is_err(), "{new}");
+        holds(&rt, new, read.is_err());
     }
-    Ok(())
 }
 
 #[test]
-fn members_come_in_any_order(rt: HostRuntime) -> Result<(), Fail> {
+fn members_come_in_any_order(rt: HostRuntime) {
     let alloc = rt.alloc();
-    let turned =
-        r#"[{"flags":[{"Leaf":{"Constant":2}}],"column":0,"count_weight":3,"multiplicities":[{"Leaf":{"Constant":4}}],"elements":[[{"Leaf":{"Variable":{"index":5,"entry":"Public"}}}]],"kind":"Local"}]"#;
-    let read = serde_json::from_str::<Vec<Lookup<F7>>>(alloc, turned)?;
-    assert_eq!(rt;
-        serde_json::to_string(alloc, &read)?.as_str(),
-        r#"[{"kind":"Local","elements":[[{"Leaf":{"Variable":{"entry":"Public","index":5}}}]],"multiplicities":[{"Leaf":{"Constant":4}}],"count_weight":3,"column":0,"flags":[{"Leaf":{"Constant":2}}]}]"#
-    );
-    Ok(())
+    let lookups = read(&rt, alloc, TURNED);
+    holds(&rt, "the text", are_written(&rt, alloc, &lookups, ORDERED));
+}
+
+/// The text of a number of negations of a selector.
+fn negations(rt: &impl Abort, alloc: Global, count: usize) -> String {
+    let mut text = String::new(alloc);
+    for _ in 0..count {
+        text.push_str(r#"{"Neg":"#).expect(rt, "memory");
+    }
+    text.push_str(r#"{"Leaf":"IsFirstRow"}"#)
+        .expect(rt, "memory");
+    for _ in 0..count {
+        text.push_str("}").expect(rt, "memory");
+    }
+    text
+}
+
+/// Whether an expression of this many negations is read.
+fn is_read(rt: &impl Abort, alloc: Global, count: usize) -> bool {
+    let text = negations(rt, alloc, count);
+    serde_json::from_str::<SymbolicExpression<F7>>(alloc, text.as_str()).is_ok()
 }
 
 #[test]
-fn deep_expressions_are_refused(rt: HostRuntime) -> Result<(), Fail> {
+fn deep_expressions_are_refused(rt: HostRuntime) {
     let alloc = rt.alloc();
-    assert!(rt; is_read(alloc, 126)?);
-    assert!(rt; !is_read(alloc, 127)?);
-    assert!(rt; !is_read(alloc, 100_000)?);
-    Ok(())
+    holds(&rt, "126", is_read(&rt, alloc, 126));
+    holds(&rt, "127", !is_read(&rt, alloc, 127));
+    holds(&rt, "100000", !is_read(&rt, alloc, 100_000));
 }
 
 #[test]
@@ -217,7 +265,7 @@ fn texts_whose_memory_may_run_out(rt: HostRuntime) {
         }
     };
     match serde_json::to_string(alloc, &lookups) {
-        Ok(text) => assert_eq!(rt; text.as_str(), EXCLUSIVE),
-        Err(error) => assert!(rt; error.is_memory()),
+        Ok(text) => holds(&rt, "the text", text.as_str() == EXCLUSIVE),
+        Err(error) => holds(&rt, "memory", error.is_memory()),
     }
 }
