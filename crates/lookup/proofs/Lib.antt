@@ -1,6 +1,5 @@
 pub mod Evaluations
 pub mod ExtractionLaws
-pub mod FirstSeen
 pub mod Fractions
 pub mod KeyLaws
 pub mod Layouts
@@ -8,7 +7,6 @@ pub mod LookupFaults
 pub mod Nets
 pub mod Outlines
 pub mod OwnWindow
-pub mod PlainProgramLaws
 pub mod PlainResults
 pub mod Prefixes
 pub mod ProgressLaws

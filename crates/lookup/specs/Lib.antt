@@ -2,7 +2,6 @@ pub mod Challenges
 pub mod Extraction
 pub mod Fraction
 pub mod Lookups
-pub mod PlainProgram
 pub mod Progress
 pub mod Selection
 pub mod TraceBuilder

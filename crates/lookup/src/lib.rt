@@ -15,11 +15,8 @@ mod generation;
 pub mod indexed;
 pub mod logup;
 mod lookups;
-mod plain;
 pub mod protocol;
 pub mod symbolic;
-#[cfg(test)]
-mod tests;
 mod trace_builder;
 pub mod traits;
 mod widths;

@@ -4,7 +4,5 @@
 #![tactic(auto)]
 
 mod indexed;
-#[cfg(test)]
-mod tests;
 
 pub use indexed::{IndexedRead, IndexedTable, TraceWindow};

@@ -13,8 +13,6 @@ mod interaction;
 mod lookup_bus;
 mod permutation_bus;
 pub mod symbolic;
-#[cfg(test)]
-mod tests;
 
 pub use builder::{IndexedLookupBuilder, InteractionBuilder};
 pub use count::Count;

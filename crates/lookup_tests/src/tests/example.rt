@@ -1,0 +1,136 @@
+//! The example of the README: an AIR on a bus, from its evaluation to the check of its terminal.
+ghost use Rattle.std.specs.Prelude.{⊤};
+
+use super::evaluation::refusal;
+use super::{are_numbers, holds, trace};
+use air::{Air, AirBuilder, AirError, AirLayout, BaseAir, LayoutPart};
+use field::F7;
+use lookup::{
+    Challenges, Count, InteractionBuilder, LogUpGadget, LookupBus, LookupProtocol, Lookups,
+};
+use matrix::{RowMajorMatrix, WindowAccess};
+use std::alloc::Global;
+use std::process::Abort;
+use std::test::Fail;
+
+/// Columns `key entry mult`: a row looks up its key, and provides its entry `mult` times.
+struct KeysAir;
+
+impl<F> BaseAir<F> for KeysAir {
+    ghost width = { λ _. 3 };
+
+    ghost preprocessed_width = { λ _. 0 };
+
+    ghost num_public_values = { λ _. 0 };
+
+    fn width(&self) -> usize {
+        3
+    }
+
+    fn preprocessed_width(&self) -> usize {
+        0
+    }
+
+    fn num_public_values(&self) -> usize {
+        0
+    }
+}
+
+impl<AB: InteractionBuilder> Air<AB> for KeysAir {
+    ghost evaluates = { λ _ _ _ _. ⊤ };
+
+    fn eval(&self, alloc: Global, builder: &mut AB) -> Result<(), AirError> {
+        let bus = LookupBus::new("keys");
+        let key = tuple(alloc, builder, 0)?;
+        bus.lookup_key(alloc, builder, key, Count::from_i32::<AB::F>(1))?;
+        let entry = tuple(alloc, builder, 1)?;
+        let multiplicity = cell(alloc, builder, 2)?;
+        bus.table_entry(alloc, builder, entry, multiplicity)
+    }
+}
+
+/// The expression of a cell of the current row.
+pub(super) fn cell<AB: AirBuilder>(
+    alloc: Global,
+    builder: &AB,
+    column: usize,
+) -> Result<AB::Expr, AirError> {
+    let main = builder.main(alloc)?;
+    match main.current(column) {
+        Some(variable) => Ok(variable.into()),
+        None => Err(AirError::LayoutMismatch {
+            part: LayoutPart::Main,
+            expected: column.saturating_add(1),
+            actual: main.current_slice().len(),
+        }),
+    }
+}
+
+/// The tuple of one cell.
+pub(super) fn tuple<AB: AirBuilder>(
+    alloc: Global,
+    builder: &AB,
+    column: usize,
+) -> Result<Vec<AB::Expr>, AirError> {
+    let mut tuple = Vec::new(alloc);
+    tuple.push(cell(alloc, builder, column)?)?;
+    Ok(tuple)
+}
+
+/// The auxiliary trace of a main trace of keys and entries, whose terminal has to be zero.
+fn auxiliary_trace(
+    rt: &impl Abort,
+    alloc: Global,
+    main: &RowMajorMatrix<F7>,
+) -> Result<RowMajorMatrix<F7>, Fail> {
+    let gadget = LogUpGadget::new();
+    let lookups = Lookups::from_air::<F7, KeysAir>(alloc, &KeysAir)?;
+    let challenges = Challenges::new(alloc, F7::new(5), F7::new(2), 1, 1)?;
+    let columns = challenges.for_columns(alloc, &[0, 0])?;
+    let preprocessed: Option<&RowMajorMatrix<F7>> = None;
+    let layout = AirLayout::of_traces(main, preprocessed, &[]);
+    assert!(rt; lookups.fits(&layout));
+    assert!(rt; lookups.as_slice().len() == 2 && columns.len() == 4);
+    let (auxiliary, terminal) = gadget.generate_permutation(
+        alloc,
+        main,
+        preprocessed,
+        &[],
+        lookups.as_slice(),
+        columns.as_slice(),
+    )?;
+    let terminals = [terminal];
+    gadget.verify_terminal_sum(terminals.as_slice())?;
+    Ok(auxiliary)
+}
+
+/// The refusal of a witness of the AIR's lookups, both at the prefix 0 and beta 2.
+fn refused(
+    rt: &impl Abort,
+    alloc: Global,
+    main: &RowMajorMatrix<F7>,
+    auxiliary: &RowMajorMatrix<F7>,
+) -> Option<AirError> {
+    let lookups = Lookups::from_air::<F7, KeysAir>(alloc, &KeysAir).expect(rt, "lookups");
+    let challenges = [F7::new(0), F7::new(2), F7::new(0), F7::new(2)];
+    let (lookups, challenges) = (lookups.as_slice(), challenges.as_slice());
+    refusal(rt, alloc, main, lookups, challenges, auxiliary, F7::new(0))
+}
+
+#[test]
+fn keys_are_found_in_the_entries(rt: HostRuntime) -> Result<(), Fail> {
+    let alloc = rt.alloc();
+    let main = trace::<F7>(&rt, alloc, &[3, 4, 1, 4, 3, 1], 3);
+    let auxiliary = auxiliary_trace(&rt, alloc, &main)?;
+    holds(
+        &rt,
+        "the cells",
+        are_numbers(auxiliary.values(), &[0, 2, 2, 4, 5, 5]),
+    );
+    holds(
+        &rt,
+        "the constraints",
+        refused(&rt, alloc, &main, &auxiliary).is_none(),
+    );
+    Ok(())
+}

@@ -1,0 +1,173 @@
+//! An AIR that speaks on buses.
+ghost use Rattle.std.specs.Prelude.{◌≡◌, []};
+
+use super::super::evaluation::no_preprocessed;
+use super::super::example::tuple;
+use super::super::{holds, list};
+use super::{Recorder, declared_counts, recorded_counts};
+use air::{
+    Air, AirError, AirLayout, BaseAir, DebugConstraintBuilder, Expression, LayoutPart, RowInputs,
+};
+use field::{F7, PrimeCharacteristicRing};
+use lookup_record::{
+    Count, IndexedLookupBuilder, InteractionBuilder, LookupBus, PermutationCheckBus, TraceWindow,
+};
+use matrix::RowMajorMatrix;
+use std::alloc::Global;
+use std::process::Abort;
+
+/// Three columns. The cell of the first is sent on `a`, looked up in itself, queried in the group
+/// `b` and received on `c`. It also names the entry that the second holds, of the table `t` that
+/// the third is.
+struct Speaker;
+
+impl<F> BaseAir<F> for Speaker {
+    ghost width = { λ _. 3 };
+
+    ghost preprocessed_width = { λ _. 0 };
+
+    ghost num_public_values = { λ _. 0 };
+
+    fn width(&self) -> usize {
+        3
+    }
+
+    fn preprocessed_width(&self) -> usize {
+        0
+    }
+
+    fn num_public_values(&self) -> usize {
+        0
+    }
+}
+
+fn look_up_itself<AB: InteractionBuilder>(alloc: Global, builder: &mut AB) -> Result<(), AirError> {
+    let mut tuples = Vec::new(alloc);
+    tuples.push((tuple(alloc, builder, 0)?, Count::from_i32::<AB::F>(1)))?;
+    let provided = Count::provided(AB::Expr::constant(AB::F::ONE));
+    tuples.push((tuple(alloc, builder, 0)?, provided.negate::<AB::F>(alloc)?))?;
+    builder.push_local_interaction(alloc, tuples)
+}
+
+fn query_one<AB: InteractionBuilder>(alloc: Global, builder: &mut AB) -> Result<(), AirError> {
+    let mut branches = Vec::new(alloc);
+    branches.push((builder.is_first_row(), tuple(alloc, builder, 0)?))?;
+    LookupBus::new("b").lookup_key_exclusive(alloc, builder, branches)
+}
+
+fn speak<AB: InteractionBuilder>(alloc: Global, builder: &mut AB) -> Result<(), AirError> {
+    let sent = tuple(alloc, builder, 0)?;
+    PermutationCheckBus::new("a").send(alloc, builder, sent, Count::from_i32::<AB::F>(1))?;
+    look_up_itself(alloc, builder)?;
+    query_one(alloc, builder)?;
+    let received = tuple(alloc, builder, 0)?;
+    PermutationCheckBus::new("c").receive(alloc, builder, received, Count::from_i32::<AB::F>(1))
+}
+
+fn declare<AB: IndexedLookupBuilder>(alloc: Global, builder: &mut AB) -> Result<(), AirError> {
+    builder.push_indexed_read(alloc, "t", 0, Vec::from_slice(alloc, &[1])?)?;
+    builder.push_indexed_table(alloc, "t", TraceWindow::Main, Vec::from_slice(alloc, &[2])?)
+}
+
+impl<AB: InteractionBuilder + IndexedLookupBuilder> Air<AB> for Speaker {
+    ghost evaluates = { λ _ _ _ _. Unit {0} };
+
+    fn eval(&self, alloc: Global, builder: &mut AB) -> Result<(), AirError> {
+        speak(alloc, builder)?;
+        declare(alloc, builder)
+    }
+}
+
+/// What the AIR leaves in a new recorder for a layout of this main width.
+fn recorded(alloc: Global, main_width: usize) -> Result<Recorder, AirError> {
+    let layout = AirLayout {
+        main_width,
+        ..AirLayout::default()
+    };
+    Recorder::from_air(alloc, &Speaker, layout)
+}
+
+/// Whether the two messages of a recorder are on these buses.
+fn are_on(recorder: &Recorder, first: &str, second: &str) -> bool {
+    match recorder.global_interactions() {
+        [a, c] => a.bus_name.as_str() == first && c.bus_name.as_str() == second,
+        _ => false,
+    }
+}
+
+#[test]
+fn an_air_is_recorded(rt: HostRuntime) {
+    holds(
+        &rt,
+        "its width",
+        AirLayout::from_air::<F7, Speaker>(&Speaker).main_width == 3,
+    );
+    let recorder = recorded(rt.alloc(), 3).expect(&rt, "a recorder");
+    holds(&rt, "the messages", are_on(&recorder, "a", "c"));
+    holds(
+        &rt,
+        "the interactions",
+        recorded_counts(&recorder) == [2, 1, 1],
+    );
+    holds(
+        &rt,
+        "the declarations",
+        declared_counts(&recorder) == [1, 1],
+    );
+}
+
+#[test]
+fn a_layout_of_another_width_is_refused(rt: HostRuntime) {
+    let mismatch = AirError::LayoutMismatch {
+        part: LayoutPart::Main,
+        expected: 3,
+        actual: 2,
+    };
+    holds(
+        &rt,
+        "two columns for three",
+        recorded(rt.alloc(), 2).err() == Some(mismatch),
+    );
+}
+
+/// A trace without columns.
+fn no_trace(alloc: Global) -> RowMajorMatrix<F7>
+    ensures { result ≡ record { values = []; width = 0 } }
+{
+    RowMajorMatrix::new(Vec::new(alloc), 0)
+}
+
+/// What the row checker counts after it has evaluated the AIR on a row.
+fn checked_counts(
+    rt: &impl Abort,
+    alloc: Global,
+    builder: &mut DebugConstraintBuilder<'_, F7, F7>,
+) -> [usize; 5] {
+    Speaker.eval(alloc, builder).expect(rt, "memory");
+    [
+        builder.num_global_interactions(),
+        builder.num_local_interactions(),
+        builder.num_exclusive_interactions(),
+        builder.num_indexed_reads(),
+        builder.num_indexed_tables(),
+    ]
+}
+
+#[test]
+fn the_row_checker_records_nothing(rt: HostRuntime) {
+    let alloc = rt.alloc();
+    let main = RowMajorMatrix::new(list(&rt, alloc, [F7::new(3)]), 1);
+    assert!(rt; main.height() == 1);
+    let permutation = no_trace(alloc);
+    let inputs: RowInputs<'_, F7, F7> = RowInputs {
+        main: &main,
+        preprocessed: no_preprocessed(&main),
+        public_values: &[],
+        permutation: &permutation,
+        challenges: &[],
+        permutation_values: &[],
+    };
+    let mut builder = DebugConstraintBuilder::new(&inputs, 0);
+    let counts = checked_counts(&rt, alloc, &mut builder);
+    holds(&rt, "all counts", counts == [0, 0, 0, 0, 0]);
+}
