@@ -42,15 +42,8 @@ impl<F: Field> Expected<F> {
         }
     }
 
-    /// The terminal of all messages.
-    fn terminal(&self, rt: &impl Abort, challenges: &[F]) -> F {
-        let sent = self.sent.as_slice();
-        assert!(rt; sent.iter().all(|message| message.id < challenges.len() / 2));
-        plain::terminal_of::<F, F>(sent, challenges).expect(rt, "a terminal")
-    }
-
-    /// Fails unless generation makes the same of these rows.
-    fn compare(&self, rt: &impl Abort, made: Result<Made<F>, LookupError>, challenges: &[F]) {
+    /// Fails unless generation makes the same of these rows, whose plain terminal is this one.
+    fn compare(&self, rt: &impl Abort, made: Result<Made<F>, LookupError>, terminal: Option<F>) {
         match made {
             Ok(made) => {
                 holds(rt, "no fault", self.fault.is_none());
@@ -59,8 +52,8 @@ impl<F: Field> Expected<F> {
                     "the cells",
                     made.auxiliary.values() == self.cells.as_slice(),
                 );
-                let terminal = self.terminal(rt, challenges);
-                holds(rt, "the terminal", made.terminal == Some(terminal));
+                holds(rt, "a plain terminal", terminal.is_some());
+                holds(rt, "the terminal", made.terminal == terminal);
             }
             Err(fault) => holds(rt, "the fault", self.fault == Some(fault)),
         }
@@ -97,6 +90,12 @@ fn additive_answer(
         Some(fraction) => Ok(fraction),
         None => Err(LookupError::VanishingDenominator { row, lookup: 0 }),
     }
+}
+
+/// The plain terminal of the messages of range lookups.
+fn additive_terminal(rt: &impl Abort, sent: &[PlainMessage<F7>], challenges: &[F7]) -> Option<F7> {
+    assert!(rt; sent.iter().all(|message| message.id < challenges.len() / 2));
+    plain::terminal_of::<F7, F7>(sent, challenges)
 }
 
 /// One more row of the range lookup.
@@ -137,11 +136,9 @@ fn compare_ranges(
         push_range_row(rt, alloc, &mut expected, index, *row, challenges);
     }
     let main = trace::<F7>(rt, alloc, numbers.as_slice(), 3);
-    expected.compare(
-        rt,
-        generated(rt, alloc, &main, lookups, challenges),
-        challenges,
-    );
+    let made = generated(rt, alloc, &main, lookups, challenges);
+    let terminal = additive_terminal(rt, expected.sent.as_slice(), challenges);
+    expected.compare(rt, made, terminal);
 }
 
 /// The row of this code, which is below 343.
@@ -207,6 +204,12 @@ fn exclusive_answer(
     plain::exclusive_fraction_of::<F2, F2>(alloc, row, 0, flags, messages, challenges)
 }
 
+/// The plain terminal of the messages that exclusive lookups send.
+fn exclusive_terminal(rt: &impl Abort, sent: &[PlainMessage<F2>], challenges: &[F2]) -> Option<F2> {
+    assert!(rt; sent.iter().all(|message| message.id < challenges.len() / 2));
+    plain::terminal_of::<F2, F2>(sent, challenges)
+}
+
 /// One more row of the exclusive lookup.
 fn push_exclusive_row(
     rt: &impl Abort,
@@ -244,7 +247,8 @@ fn compare_groups(
     let main = trace::<F2>(rt, alloc, numbers, width);
     let lookups = [group(rt, alloc, branches, 0)];
     let made = generated(rt, alloc, &main, lookups.as_slice(), challenges);
-    expected.compare(rt, made, challenges);
+    let terminal = exclusive_terminal(rt, expected.sent.as_slice(), challenges);
+    expected.compare(rt, made, terminal);
 }
 
 /// The lowest binary digits of a code.

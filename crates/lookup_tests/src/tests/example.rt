@@ -77,12 +77,13 @@ pub(super) fn tuple<AB: AirBuilder>(
     Ok(tuple)
 }
 
-/// The auxiliary trace of a main trace of keys and entries, whose terminal has to be zero.
+/// The lookups of the AIR, and the auxiliary trace of a main trace of keys and entries, whose
+/// terminal has to be zero.
 fn auxiliary_trace(
     rt: &impl Abort,
     alloc: Global,
     main: &RowMajorMatrix<F7>,
-) -> Result<RowMajorMatrix<F7>, Fail> {
+) -> Result<(Lookups<F7>, RowMajorMatrix<F7>), Fail> {
     let gadget = LogUpGadget::new();
     let lookups = Lookups::from_air::<F7, KeysAir>(alloc, &KeysAir)?;
     let challenges = Challenges::new(alloc, F7::new(5), F7::new(2), 1, 1)?;
@@ -101,36 +102,30 @@ fn auxiliary_trace(
     )?;
     let terminals = [terminal];
     gadget.verify_terminal_sum(terminals.as_slice())?;
-    Ok(auxiliary)
-}
-
-/// The refusal of a witness of the AIR's lookups, both at the prefix 0 and beta 2.
-fn refused(
-    rt: &impl Abort,
-    alloc: Global,
-    main: &RowMajorMatrix<F7>,
-    auxiliary: &RowMajorMatrix<F7>,
-) -> Option<AirError> {
-    let lookups = Lookups::from_air::<F7, KeysAir>(alloc, &KeysAir).expect(rt, "lookups");
-    let challenges = [F7::new(0), F7::new(2), F7::new(0), F7::new(2)];
-    let (lookups, challenges) = (lookups.as_slice(), challenges.as_slice());
-    refusal(rt, alloc, main, lookups, challenges, auxiliary, F7::new(0))
+    Ok((lookups, auxiliary))
 }
 
 #[test]
 fn keys_are_found_in_the_entries(rt: HostRuntime) -> Result<(), Fail> {
     let alloc = rt.alloc();
     let main = trace::<F7>(&rt, alloc, &[3, 4, 1, 4, 3, 1], 3);
-    let auxiliary = auxiliary_trace(&rt, alloc, &main)?;
+    let (lookups, auxiliary) = auxiliary_trace(&rt, alloc, &main)?;
     holds(
         &rt,
         "the cells",
         are_numbers(auxiliary.values(), &[0, 2, 2, 4, 5, 5]),
     );
-    holds(
+    let challenges = [F7::new(0), F7::new(2), F7::new(0), F7::new(2)];
+    let (lookups, challenges) = (lookups.as_slice(), challenges.as_slice());
+    let refused = refusal(
         &rt,
-        "the constraints",
-        refused(&rt, alloc, &main, &auxiliary).is_none(),
+        alloc,
+        &main,
+        lookups,
+        challenges,
+        &auxiliary,
+        F7::new(0),
     );
+    holds(&rt, "the constraints", refused.is_none());
     Ok(())
 }

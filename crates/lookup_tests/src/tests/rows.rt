@@ -5,6 +5,37 @@ use field::{BabyBear, BabyBear4, F7, PrimeCharacteristicRing};
 use lookup::traits::LookupTraceBuilder;
 use matrix::{ViewPair, WindowAccess};
 use std::alloc::Global;
+use std::process::Abort;
+
+type SmallBuilder<'a> = LookupTraceBuilder<'a, F7, F7>;
+
+type QuarticBuilder<'a> = LookupTraceBuilder<'a, BabyBear, BabyBear4>;
+
+/// Whether the main trace has these rows.
+fn has_rows(
+    rt: &impl Abort,
+    alloc: Global,
+    builder: &SmallBuilder<'_>,
+    current: &[F7],
+    next: &[F7],
+) -> bool {
+    let window = builder.main(alloc).expect(rt, "memory");
+    window.current_slice() == current && window.next_slice() == next
+}
+
+/// The selectors of the first row, the last row and a transition.
+fn selectors(builder: &SmallBuilder<'_>) -> [F7; 3] {
+    [
+        builder.is_first_row(),
+        builder.is_last_row(),
+        builder.is_transition(),
+    ]
+}
+
+/// The refusal of a value that is asserted to be zero.
+fn refusal(alloc: Global, builder: &mut SmallBuilder<'_>, x: F7) -> Option<AirError> {
+    builder.assert_zero(alloc, x).err()
+}
 
 #[test]
 fn a_row_with_its_next_row(rt: HostRuntime) {
@@ -20,26 +51,20 @@ fn a_row_with_its_next_row(rt: HostRuntime) {
     };
     let challenges = [F7::new(1)];
     let mut builder = LookupTraceBuilder::new(main, nothing, &[], challenges.as_slice(), 2, 1);
-    let window = builder.main(alloc).expect(&rt, "memory");
+    let has_rows = has_rows(&rt, alloc, &builder, top.as_slice(), bottom.as_slice());
+    holds(&rt, "the rows", has_rows);
+    let last = [F7::new(0), F7::new(1), F7::new(0)];
     holds(
         &rt,
-        "the current row",
-        window.current_slice() == top.as_slice(),
+        "the selectors of the last row",
+        selectors(&builder) == last,
     );
     holds(
         &rt,
-        "the next row",
-        window.next_slice() == bottom.as_slice(),
+        "zero",
+        refusal(alloc, &mut builder, F7::new(0)).is_none(),
     );
-    holds(&rt, "the last row", builder.is_last_row() == F7::new(1));
-    holds(
-        &rt,
-        "not the first row",
-        builder.is_first_row() == F7::new(0),
-    );
-    holds(&rt, "no transition", builder.is_transition() == F7::new(0));
-    holds(&rt, "zero", builder.assert_zero(alloc, F7::new(0)).is_ok());
-    let refused = builder.assert_zero(alloc, F7::new(3)).err();
+    let refused = refusal(alloc, &mut builder, F7::new(3));
     holds(
         &rt,
         "3 is not zero",
@@ -47,13 +72,21 @@ fn a_row_with_its_next_row(rt: HostRuntime) {
     );
 }
 
-/// The answer of a builder to an embedded value.
-fn lifted_on<AB: PermutationAirBuilder>(
+/// The refusal of a base element that is asserted to be zero in the extension.
+fn lifted_refusal(
     alloc: Global,
-    builder: &mut AB,
-    x: AB::Expr,
+    builder: &mut QuarticBuilder<'_>,
+    x: BabyBear,
 ) -> Option<AirError> {
-    builder.assert_zero_ext(alloc, AB::lift(x)).err()
+    builder
+        .assert_zero_ext(alloc, QuarticBuilder::lift(x))
+        .err()
+}
+
+/// Whether there is no auxiliary row, and no permutation value.
+fn has_no_auxiliary_row(rt: &impl Abort, alloc: Global, builder: &QuarticBuilder<'_>) -> bool {
+    let window = builder.permutation(alloc).expect(rt, "memory");
+    window.current_slice().is_empty() && builder.permutation_values().is_empty()
 }
 
 #[test]
@@ -70,15 +103,17 @@ fn a_row_without_an_auxiliary_row(rt: HostRuntime) {
     };
     let challenges = [BabyBear4::ONE, BabyBear4::ZERO];
     let mut builder = LookupTraceBuilder::new(main, nothing, &[], challenges.as_slice(), 3, 2);
-    let window = builder.permutation(alloc).expect(&rt, "memory");
-    holds(&rt, "no auxiliary row", window.current_slice().is_empty());
+    holds(
+        &rt,
+        "no auxiliary row",
+        has_no_auxiliary_row(&rt, alloc, &builder),
+    );
     holds(
         &rt,
         "the challenges",
         builder.permutation_randomness() == challenges.as_slice(),
     );
-    holds(&rt, "no terminals", builder.permutation_values().is_empty());
-    let refused = lifted_on(alloc, &mut builder, BabyBear::new(5));
+    let refused = lifted_refusal(alloc, &mut builder, BabyBear::new(5));
     holds(
         &rt,
         "5 is not zero",
@@ -87,6 +122,6 @@ fn a_row_without_an_auxiliary_row(rt: HostRuntime) {
     holds(
         &rt,
         "zero",
-        lifted_on(alloc, &mut builder, BabyBear::new(0)).is_none(),
+        lifted_refusal(alloc, &mut builder, BabyBear::new(0)).is_none(),
     );
 }

@@ -100,8 +100,8 @@ fn triple(rt: &impl Abort, alloc: Global, cells: [usize; 3]) -> Vec<SymbolicExpr
     list(rt, alloc, cells.map(cell))
 }
 
-/// A row reads the tuple of its first three cells once, and provides that of the next three as often
-/// as its last cell says.
+/// A row reads the tuple of its first three cells once, and provides that of the next three as
+/// often as its last cell says.
 fn additions(rt: &impl Abort, alloc: Global) -> Lookup<BabyBear> {
     let read = triple(rt, alloc, [0, 1, 2]);
     let provided = triple(rt, alloc, [3, 4, 5]);

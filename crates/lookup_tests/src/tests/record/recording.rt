@@ -189,35 +189,41 @@ fn declarations_are_recorded_in_order(rt: HostRuntime) {
     );
 }
 
-/// Asserts a cell of the permutation trace, then `base` where the transition selector is set, then
-/// a challenge and a permutation value.
-fn assert_in_turn<AB: PermutationAirBuilder>(
-    rt: &impl Abort,
-    alloc: Global,
-    builder: &mut AB,
-    base: AB::Expr,
-) {
-    let rows = builder.permutation(alloc).expect(rt, "memory");
+/// Asserts the first cell of the permutation trace.
+fn assert_cell(rt: &impl Abort, alloc: Global, recorder: &mut Recorder) {
+    let rows = recorder.permutation(alloc).expect(rt, "memory");
     let cell = rows.current(0).expect(rt, "a cell");
-    builder
+    recorder
         .assert_zero_ext(alloc, cell.into())
         .expect(rt, "memory");
-    builder
+}
+
+/// Asserts a base expression where the transition selector is set.
+fn assert_on_transitions(rt: &impl Abort, alloc: Global, recorder: &mut Recorder, base: Tree) {
+    recorder
         .when_transition()
         .assert_zero(alloc, base)
         .expect(rt, "memory");
-    let challenge = *builder
+}
+
+/// Asserts the first challenge.
+fn assert_challenge(rt: &impl Abort, alloc: Global, recorder: &mut Recorder) {
+    let challenge = *recorder
         .permutation_randomness()
         .first()
         .expect(rt, "a challenge");
-    builder
+    recorder
         .assert_zero_ext(alloc, challenge.into())
         .expect(rt, "memory");
-    let terminal = *builder
+}
+
+/// Asserts the first permutation value.
+fn assert_terminal(rt: &impl Abort, alloc: Global, recorder: &mut Recorder) {
+    let terminal = *recorder
         .permutation_values()
         .first()
         .expect(rt, "a permutation value");
-    builder
+    recorder
         .assert_zero_ext(alloc, terminal.into())
         .expect(rt, "memory");
 }
@@ -247,7 +253,10 @@ fn has_places(
 fn constraints_are_recorded_beside(rt: HostRuntime) {
     let alloc = rt.alloc();
     let mut recorder = recorder(&rt, alloc);
-    assert_in_turn(&rt, alloc, &mut recorder, constant(2));
+    assert_cell(&rt, alloc, &mut recorder);
+    assert_on_transitions(&rt, alloc, &mut recorder, constant(2));
+    assert_challenge(&rt, alloc, &mut recorder);
+    assert_terminal(&rt, alloc, &mut recorder);
     holds(
         &rt,
         "the constraints",
