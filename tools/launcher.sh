@@ -1,7 +1,7 @@
 #!/usr/bin/env bash
 # Tries the launcher ./lookup-run as a user meets it: unbuilt and built, from another folder, through
-# a link, with a space in its path, two at once, with input from a pipe, after a file was touched,
-# after a source changed, and where nothing can be written.
+# a link, with a space in its path, two at once, with input from a pipe and from one that pauses, after
+# a file was touched, after a source or the program changed, and where nothing can be written.
 set -eu
 top=$(cd "$(dirname "${BASH_SOURCE[0]}")/.." && pwd)
 room=$(mktemp -d)
@@ -36,11 +36,19 @@ timeout 120 "$folder/lookup-run" range f7 5 2 </dev/null >"$room/out" 2>"$room/e
 [ "$status" = 2 ] && [ ! -s "$room/out" ] || fail "unbuilt, no rows: status $status"
 [ "$(cat "$room/err")" = "$unproved"$'\n'"error: no rows" ] || fail "unbuilt, no rows: $(cat "$room/err")"
 wait "$first"
+# rows that pause are not answered by half
+status=0
+(printf '3 4 1\n' && sleep 3 && printf '4 3 1\n') |
+  timeout 120 "$folder/lookup-run" range f7 5 2 >"$room/out" 2>"$room/err" || status=$?
+[ "$status" = 2 ] && [ ! -s "$room/out" ] || fail "unbuilt, slow rows: status $status"
+grep -q '^lookup-run: the rows came too slowly' "$room/err" || fail "unbuilt, slow rows: $(cat "$room/err")"
 
 # as ./prove leaves it
 mkdir -p "$folder/crates/lookup_run/out"
 cp "$top/crates/lookup_run/out/lookup_run" "$folder/crates/lookup_run/out/"
-"$folder/tools/sources-sum" >"$folder/crates/lookup_run/out/lookup_run.sum"
+if "$folder/tools/built"; then fail "a program that no proof names"; fi
+if "$folder/tools/built" --record other 2>"$room/err"; then fail "sources that changed are recorded"; fi
+"$folder/tools/built" --record "$("$folder/tools/sources-sum")"
 expect "built" "$folder/lookup-run" ""
 expect "built, through a link" "$room/link" "" &
 first=$!
@@ -56,6 +64,10 @@ chmod -R u+w "$folder"
 echo '// changed' >>"$folder/crates/field/src/lib.rt"
 timeout 3 "$folder/lookup-run" range f7 5 2 </dev/null >"$room/out" 2>"$room/err" || true
 [ "$(head -n 1 "$room/err")" = "$unproved" ] || fail "a source changed: $(cat "$room/err")"
+cp "$top/crates/field/src/lib.rt" "$folder/crates/field/src/lib.rt"
+"$folder/tools/built" || fail "a source changed back"
+cp /bin/true "$folder/crates/lookup_run/out/lookup_run"
+if "$folder/tools/built"; then fail "another program in its place"; fi
 rm -r "$folder/crates/lookup_run/out"
 if [ "$(id -u)" = 0 ]; then
   # root may write anywhere: the run as another user sees what it may not

@@ -73,12 +73,16 @@ fn what_is_no_declaration_is_refused(rt: HostRuntime) {
             serde_json::from_str::<IndexedRead>(alloc, text).is_err(),
         );
     }
-    let text = r#"{"name":"t","window":"Auxiliary","columns":[3,0]}"#;
-    holds(
-        &rt,
-        text,
-        serde_json::from_str::<IndexedTable>(alloc, text).is_err(),
-    );
+    for text in [
+        r#"{"name":"t","window":"Auxiliary","columns":[3,0]}"#,
+        r#"{"name":"t","window":{"Main":null},"columns":[3,0]}"#,
+    ] {
+        holds(
+            &rt,
+            text,
+            serde_json::from_str::<IndexedTable>(alloc, text).is_err(),
+        );
+    }
 }
 
 #[test]

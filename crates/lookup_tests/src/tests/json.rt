@@ -174,6 +174,7 @@ fn what_is_no_lookup_is_refused(rt: HostRuntime) {
         (r#"{"offset":0}"#, "{}"),
         (r#""index":1"#, r#""index":-1"#),
         (r#""Local""#, r#""Global""#),
+        (r#""Local""#, r#"{"Local":null}"#),
         (r#""kind":"Local","#, ""),
         (r#""kind":"Local""#, r#""kind":"Local","kind":"Local""#),
         (r#","flags":null"#, r#","flags":null,"flags":null"#),
