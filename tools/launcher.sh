@@ -1,7 +1,7 @@
 #!/usr/bin/env bash
 # Tries the launcher ./lookup-run as a user meets it: unbuilt and built, from another folder, through
-# a link, with a space in its path, two at once, with input from a pipe and from one that pauses, after
-# a file was touched, after a source or the program changed, and where nothing can be written.
+# a link, with a space in its path, two at once, with input from a pipe and from one that stays open,
+# after a file was touched, after a source or the program changed, and where nothing can be written.
 set -eu
 top=$(cd "$(dirname "${BASH_SOURCE[0]}")/.." && pwd)
 room=$(mktemp -d)
@@ -36,12 +36,15 @@ timeout 120 "$folder/lookup-run" range f7 5 2 </dev/null >"$room/out" 2>"$room/e
 [ "$status" = 2 ] && [ ! -s "$room/out" ] || fail "unbuilt, no rows: status $status"
 [ "$(cat "$room/err")" = "$unproved"$'\n'"error: no rows" ] || fail "unbuilt, no rows: $(cat "$room/err")"
 wait "$first"
-# rows that pause are not answered by half
+# rows that do not end are not answered by half
+mkfifo "$room/rows"
+(printf '3 4 1\n' && exec sleep 120) >"$room/rows" &
+writer=$!
 status=0
-(printf '3 4 1\n' && sleep 3 && printf '4 3 1\n') |
-  timeout 120 "$folder/lookup-run" range f7 5 2 >"$room/out" 2>"$room/err" || status=$?
-[ "$status" = 2 ] && [ ! -s "$room/out" ] || fail "unbuilt, slow rows: status $status"
-grep -q '^lookup-run: the rows came too slowly' "$room/err" || fail "unbuilt, slow rows: $(cat "$room/err")"
+timeout 120 "$folder/lookup-run" range f7 5 2 <"$room/rows" >"$room/out" 2>"$room/err" || status=$?
+kill "$writer"
+[ "$status" = 2 ] && [ ! -s "$room/out" ] || fail "unbuilt, rows without end: status $status"
+grep -q '^lookup-run: the rows came too slowly' "$room/err" || fail "unbuilt, rows without end: $(cat "$room/err")"
 
 # as ./prove leaves it
 mkdir -p "$folder/crates/lookup_run/out"
