@@ -1,15 +1,14 @@
 //! The fraction of an exclusive lookup on one row.
-ghost use Rattle.std.specs.Prelude.{◌≡◌, ◌≢◌, ◌+◌, ◌*◌, ◌<◌, ◌⊎◌, IfErr, IfOk, List, ℕ, [], ◌∷◌, ◌++◌, MatchResult, Some, false, length};
+ghost use Rattle.std.specs.Prelude.{◌≡◌, ◌≢◌, ◌+◌, ◌*◌, ◌<◌, ◌⊎◌, IfErr, IfOk, List, ℕ, [], ◌∷◌, ◌++◌, length};
 ghost use Rattle.expressions.specs.Layout.{Fits};
 ghost use Rattle.expressions.specs.Tree.{tree_of};
 ghost use Rattle.lookup_generation.specs.Selection.{ArePlaces, AreSetFlags};
 ghost use Rattle.lookup_generation.specs.TraceBuilder.{builder_layout, builder_window};
-ghost use Rattle.lookup_model.specs.Denominators.{column_denominator};
+ghost use Rattle.lookup_generation.specs.RowAnswers.{AnswersExclusive, AnswersFlags, AnswersQuotient, branch_on, values_on};
 ghost use Rattle.lookup_model.specs.Extension.{extension};
-ghost use Rattle.lookup_model.specs.Fault.{are_boolean, fault_of};
-ghost use Rattle.lookup_model.specs.Plain.{plain_fraction, quotient};
+ghost use Rattle.lookup_model.specs.Plain.{quotient};
 ghost use Rattle.lookup_model.specs.Records.{AllFit, HasEqualLengths, IsWithin};
-ghost use Rattle.lookup_model.specs.Sent.{branch_at, branches_at, sent, value, values};
+ghost use Rattle.lookup_model.specs.Sent.{value};
 
 use crate::fraction::{quotient_over, resolved};
 use crate::trace_builder::LookupTraceBuilder;
@@ -75,11 +74,8 @@ fn set_flags<F: Field, EF: ExtensionField<F>>(
     column: usize,
 ) -> Result<SetFlags, LookupError>
     requires { AllFit (builder_layout builder.now) flags.now }
-    ensures { let flags = values F.ring (builder_window builder.now) flags.now in
-        MatchResult result
-        (λ set. AreSetFlags (extension F.ring F.eq EF.ring EF.eq EF.embed EF.inverse) flags set)
-        (λ e. (e ≡ LookupError.Memory) ⊎ ((e ≡ LookupError.FlagNotBoolean builder.now.row column)
-        × (are_boolean (extension F.ring F.eq EF.ring EF.eq EF.embed EF.inverse) flags ≡ false))) }
+    ensures { let E = extension F.ring F.eq EF.ring EF.eq EF.embed EF.inverse in
+        AnswersFlags E builder.now column (values_on E builder.now flags.now) result }
 {
     let mut set = SetFlags::Nothing;
     for place in 0..flags.len() {
@@ -99,16 +95,9 @@ fn branch_quotient<F: Field, EF: ExtensionField<F>>(
     requires tuple_fits { AllFit (builder_layout builder.now) tuple.now }
     requires multiplicity_fits { Fits (builder_layout builder.now) (tree_of multiplicity.now) }
     requires challenges { 2 * column + 1 < length builder.now.permutation_challenges.now }
-    ensures { MatchResult result
-        (λ q. let E = extension F.ring F.eq EF.ring EF.eq EF.embed EF.inverse in
-        let denominator = column_denominator E builder.now.permutation_challenges.now in
-        let message = branch_at F.ring (builder_window builder.now) column tuple.now multiplicity.now in
-        (denominator message.key ≢ EF.ring.zero) × (q ≡ quotient E denominator message.multiplicity message.key))
-        (λ e. let E = extension F.ring F.eq EF.ring EF.eq EF.embed EF.inverse in
-        let denominator = column_denominator E builder.now.permutation_challenges.now in
-        let message = branch_at F.ring (builder_window builder.now) column tuple.now multiplicity.now in
-        (e ≡ LookupError.Memory) ⊎ ((e ≡ LookupError.VanishingDenominator builder.now.row column)
-        × (denominator message.key ≡ EF.ring.zero))) }
+    ensures { let E = extension F.ring F.eq EF.ring EF.eq EF.embed EF.inverse in
+        AnswersQuotient E builder.now column
+        (branch_on E builder.now column tuple.now multiplicity.now) result }
 {
     let multiplicity = resolved(alloc, multiplicity, builder)?;
     quotient_over(alloc, multiplicity, tuple, builder, column)
@@ -130,15 +119,8 @@ pub(crate) fn exclusive_fraction<F: Field, EF: ExtensionField<F>>(
     requires within { IsWithin (builder_layout builder.now) lookup.now }
     requires flags_fit { AllFit (builder_layout builder.now) flags.now }
     requires challenges { 2 * lookup.now.column + 1 < length builder.now.permutation_challenges.now }
-    ensures { MatchResult result
-        (λ f. let E = extension F.ring F.eq EF.ring EF.eq EF.embed EF.inverse in
-        let denominator = column_denominator E builder.now.permutation_challenges.now in
-        let sent = sent F.ring F.eq (Some (values F.ring (builder_window builder.now) flags.now)) (branches_at F.ring (builder_window builder.now) lookup.now.column lookup.now) in
-        (f ≡ plain_fraction E denominator sent) × (fault_of E denominator builder.now.row lookup.now.column sent ≡ None))
-        (λ e. let E = extension F.ring F.eq EF.ring EF.eq EF.embed EF.inverse in
-        let denominator = column_denominator E builder.now.permutation_challenges.now in
-        let sent = sent F.ring F.eq (Some (values F.ring (builder_window builder.now) flags.now)) (branches_at F.ring (builder_window builder.now) lookup.now.column lookup.now) in
-        (e ≡ LookupError.Memory) ⊎ (fault_of E denominator builder.now.row lookup.now.column sent ≡ Some e)) }
+    ensures { let E = extension F.ring F.eq EF.ring EF.eq EF.embed EF.inverse in
+        AnswersExclusive E builder.now lookup.now flags.now result }
 {
     let column = lookup.column;
     match set_flags(alloc, flags, builder, column)? {

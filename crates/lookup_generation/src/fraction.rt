@@ -1,16 +1,16 @@
 //! The fraction of one lookup on one row, by plain divisions.
-ghost use Rattle.std.specs.Prelude.{◌≡◌, ◌≢◌, ◌+◌, ◌*◌, ◌<◌, ◌⊎◌, None, Some, IfNone, IfSome, OnSome, IfOk, IfErr, IsTrue, List, [], ◌∷◌, ◌++◌, length, map, slice_index_or, MatchOption, MatchResult};
+ghost use Rattle.std.specs.Prelude.{◌≡◌, ◌≢◌, ◌+◌, ◌*◌, ◌<◌, None, Some, IfOk, IfErr, List, [], ◌∷◌, ◌++◌, length, map, MatchResult};
 ghost use Rattle.field.specs.Polynomial.{combined};
 ghost use Rattle.expressions.specs.Layout.{Fits};
 ghost use Rattle.expressions.specs.Tree.{tree_of};
-ghost use Rattle.lookup_model.specs.Denominators.{column_denominator, tuple_denominator};
+ghost use Rattle.lookup_generation.specs.RowAnswers.{AnswersAdditive, AnswersFraction, AnswersQuotient, IsVanishing, branch_on, denominator_on};
+ghost use Rattle.lookup_model.specs.Denominators.{tuple_denominator};
 ghost use Rattle.lookup_model.specs.Extension.{extension};
-ghost use Rattle.lookup_model.specs.Fault.{fault_of, vanishes};
 ghost use Rattle.lookup_generation.specs.Fraction.{IsFractionOf, key_at};
 ghost use Rattle.lookup_model.specs.Message.{Message};
-ghost use Rattle.lookup_model.specs.Plain.{counted, plain_fraction, quotient};
+ghost use Rattle.lookup_model.specs.Plain.{quotient};
 ghost use Rattle.lookup_model.specs.Records.{AllFit, HasEqualLengths, IsWithin};
-ghost use Rattle.lookup_model.specs.Sent.{branch_at, branches_at, sent_at, value, values};
+ghost use Rattle.lookup_model.specs.Sent.{value, values};
 ghost use Rattle.lookup_generation.specs.TraceBuilder.{builder_layout, builder_window};
 
 use crate::exclusive::exclusive_fraction;
@@ -81,14 +81,9 @@ pub(crate) fn quotient_over<F: Field, EF: ExtensionField<F>>(
 ) -> Result<EF, LookupError>
     requires tuple_fits { AllFit (builder_layout builder.now) tuple.now }
     requires challenges { 2 * column + 1 < length builder.now.permutation_challenges.now }
-    ensures { MatchResult result
-        (λ q. let E = extension F.ring F.eq EF.ring EF.eq EF.embed EF.inverse in
-        let denominator = column_denominator E builder.now.permutation_challenges.now in
+    ensures { let E = extension F.ring F.eq EF.ring EF.eq EF.embed EF.inverse in
         let key = key_at F.ring (builder_window builder.now) column tuple.now in
-        (denominator key ≢ EF.ring.zero) × (q ≡ quotient E denominator multiplicity key))
-        (λ e. let E = extension F.ring F.eq EF.ring EF.eq EF.embed EF.inverse in
-        (e ≡ LookupError.Memory) ⊎ ((e ≡ LookupError.VanishingDenominator builder.now.row column)
-        × (column_denominator E builder.now.permutation_challenges.now (key_at F.ring (builder_window builder.now) column tuple.now) ≡ EF.ring.zero))) }
+        AnswersQuotient E builder.now column (record { key = key; multiplicity = multiplicity }) result }
 {
     let (alpha, beta) = builder.column_challenges(column);
     let denominator = denominator_of(alloc, tuple, builder, alpha, beta)?;
@@ -114,17 +109,15 @@ fn with_branch<F: Field, EF: ExtensionField<F>>(
     requires tuple_fits { AllFit (builder_layout builder.now) tuple.now }
     requires multiplicity_fits { Fits (builder_layout builder.now) (tree_of multiplicity.now) }
     requires challenges { 2 * column + 1 < length builder.now.permutation_challenges.now }
-    ensures next { IfOk result (λ next.
-        let E = extension F.ring F.eq EF.ring EF.eq EF.embed EF.inverse in
-        let denominator = column_denominator E builder.now.permutation_challenges.now in
-        (messages : List (Message F)) → IsFractionOf E denominator messages fraction
-        → IsFractionOf E denominator (messages ++ branch_at F.ring (builder_window builder.now) column tuple.now multiplicity.now ∷ []) next) }
-    ensures refused { IfErr result (λ e.
-        let E = extension F.ring F.eq EF.ring EF.eq EF.embed EF.inverse in
-        let denominator = column_denominator E builder.now.permutation_challenges.now in
-        let message = branch_at F.ring (builder_window builder.now) column tuple.now multiplicity.now in
-        (e ≡ LookupError.Memory) ⊎ ((e ≡ LookupError.VanishingDenominator builder.now.row column)
-        × (message.multiplicity ≢ F.ring.zero) × (denominator message.key ≡ EF.ring.zero))) }
+    ensures next { let E = extension F.ring F.eq EF.ring EF.eq EF.embed EF.inverse in
+        let denominator = denominator_on E builder.now in
+        let message = branch_on E builder.now column tuple.now multiplicity.now in
+        IfOk result (λ next. (messages : List (Message F)) → IsFractionOf E denominator messages fraction
+        → IsFractionOf E denominator (messages ++ message ∷ []) next) }
+    ensures refused { let E = extension F.ring F.eq EF.ring EF.eq EF.embed EF.inverse in
+        let message = branch_on E builder.now column tuple.now multiplicity.now in
+        IfErr result (IsVanishing E builder.now column
+        ((message.multiplicity ≢ F.ring.zero) × (denominator_on E builder.now message.key ≡ EF.ring.zero))) }
 {
     let multiplicity = resolved(alloc, multiplicity, builder)?;
     if multiplicity.is_zero() {
@@ -142,14 +135,8 @@ fn additive_fraction<F: Field, EF: ExtensionField<F>>(
     requires lengths { HasEqualLengths lookup.now }
     requires within { IsWithin (builder_layout builder.now) lookup.now }
     requires challenges { 2 * lookup.now.column + 1 < length builder.now.permutation_challenges.now }
-    ensures { MatchResult result
-        (λ f. let E = extension F.ring F.eq EF.ring EF.eq EF.embed EF.inverse in
-        IsFractionOf E (column_denominator E builder.now.permutation_challenges.now)
-        (branches_at F.ring (builder_window builder.now) lookup.now.column lookup.now) f)
-        (λ e. let E = extension F.ring F.eq EF.ring EF.eq EF.embed EF.inverse in
-        (e ≡ LookupError.Memory) ⊎ ((e ≡ LookupError.VanishingDenominator builder.now.row lookup.now.column)
-        × IsTrue (vanishes E (column_denominator E builder.now.permutation_challenges.now)
-        (counted E (branches_at F.ring (builder_window builder.now) lookup.now.column lookup.now))))) }
+    ensures { let E = extension F.ring F.eq EF.ring EF.eq EF.embed EF.inverse in
+        AnswersAdditive E builder.now lookup.now result }
 {
     let mut fraction = EF::ZERO;
     for branch in 0..lookup.elements.len() {
@@ -171,15 +158,8 @@ pub(crate) fn fraction<F: Field, EF: ExtensionField<F>>(
     requires lengths { HasEqualLengths lookup.now }
     requires within { IsWithin (builder_layout builder.now) lookup.now }
     requires challenges { 2 * lookup.now.column + 1 < length builder.now.permutation_challenges.now }
-    ensures { MatchResult result
-        (λ f. let E = extension F.ring F.eq EF.ring EF.eq EF.embed EF.inverse in
-        let denominator = column_denominator E builder.now.permutation_challenges.now in
-        let sent = sent_at F.ring F.eq (builder_window builder.now) lookup.now.column lookup.now in
-        (f ≡ plain_fraction E denominator sent) × (fault_of E denominator builder.now.row lookup.now.column sent ≡ None))
-        (λ e. let E = extension F.ring F.eq EF.ring EF.eq EF.embed EF.inverse in
-        let denominator = column_denominator E builder.now.permutation_challenges.now in
-        let sent = sent_at F.ring F.eq (builder_window builder.now) lookup.now.column lookup.now in
-        (e ≡ LookupError.Memory) ⊎ (fault_of E denominator builder.now.row lookup.now.column sent ≡ Some e)) }
+    ensures { let E = extension F.ring F.eq EF.ring EF.eq EF.embed EF.inverse in
+        AnswersFraction E builder.now lookup.now result }
 {
     match &lookup.flags {
         None => additive_fraction(alloc, lookup, builder),

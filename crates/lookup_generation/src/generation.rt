@@ -1,12 +1,12 @@
 //! Generation of the auxiliary trace, row by row.
-ghost use Rattle.std.specs.Prelude.{◌≡◌, ◌+◌, ◌*◌, ◌<◌, ◌≤◌, ◌⊎◌, All, None, Some, MatchResult, length, slice_get};
+ghost use Rattle.std.specs.Prelude.{◌≡◌, ◌+◌, ◌*◌, ◌<◌, ◌≤◌, None, Some, MatchResult, length};
 ghost use Rattle.std.specs.Option.{ForSome, option_copied};
 ghost use Rattle.expressions.specs.Layout.{layout_of_traces};
 ghost use Rattle.expressions.specs.Window.{window_at};
 ghost use Rattle.lookup_model.specs.Denominators.{column_denominator};
 ghost use Rattle.lookup_model.specs.Extension.{extension};
-ghost use Rattle.lookup_model.specs.Fault.{row_faults, trace_faults};
-ghost use Rattle.lookup_generation.specs.Progress.{HasRow, HasRows};
+ghost use Rattle.lookup_model.specs.Fault.{trace_faults};
+ghost use Rattle.lookup_generation.specs.Progress.{AnswersRow, HasRows, IsFirstOf};
 ghost use Rattle.lookup_model.specs.Records.{DoFit};
 ghost use Rattle.lookup_model.specs.Generation.{AnswersGeneration};
 ghost use Rattle.lookup_model.specs.Trace.{sent_row, sent_rows};
@@ -33,13 +33,10 @@ fn push_row<F: Field, EF: ExtensionField<F>>(
 ) -> Result<EF, LookupError>
     requires fit { DoFit (builder_layout builder.now) lookups.now }
     requires challenges { 2 * length lookups.now ≤ length builder.now.permutation_challenges.now }
-    ensures { MatchResult result
-        (λ next. let E = extension F.ring F.eq EF.ring EF.eq EF.embed EF.inverse in
-        HasRow E (column_denominator E builder.now.permutation_challenges.now) builder.now.row cells.old.items cells.new.items accumulator next
-        (sent_row F.ring F.eq (builder_window builder.now) lookups.now))
-        (λ e. let E = extension F.ring F.eq EF.ring EF.eq EF.embed EF.inverse in
-        (e ≡ LookupError.Memory) ⊎ (slice_get (row_faults E (column_denominator E builder.now.permutation_challenges.now) builder.now.row
-        (sent_row F.ring F.eq (builder_window builder.now) lookups.now)) 0 ≡ Some e)) }
+    ensures { let E = extension F.ring F.eq EF.ring EF.eq EF.embed EF.inverse in
+        AnswersRow E (column_denominator E builder.now.permutation_challenges.now) builder.now.row
+        cells.old.items cells.new.items accumulator
+        (sent_row F.ring F.eq (builder_window builder.now) lookups.now) result }
 {
     cells.push(accumulator)?;
     let mut next = accumulator;
@@ -102,13 +99,12 @@ fn generate<F: Field, EF: ExtensionField<F>>(
     requires heights { ForSome (option_copied preprocessed) (λ m. height m ≡ height main.now) }
     requires fit { DoFit (layout_of_traces main.now (option_copied preprocessed) public_values.now) lookups.now }
     requires challenges { 2 * length lookups.now ≤ length challenges.now }
-    ensures { MatchResult result
-        (λ r. let E = extension F.ring F.eq EF.ring EF.eq EF.embed EF.inverse in
-        HasRows E (column_denominator E challenges.now) (sent_rows F.ring F.eq main.now (option_copied preprocessed.entry) public_values.now lookups.now)
-        (height main.now) r.0.items r.1)
-        (λ e. let E = extension F.ring F.eq EF.ring EF.eq EF.embed EF.inverse in
-        (e ≡ LookupError.Memory) ⊎ (slice_get (trace_faults E (column_denominator E challenges.now)
-        (sent_rows F.ring F.eq main.now (option_copied preprocessed.entry) public_values.now lookups.now)) 0 ≡ Some e)) }
+    ensures { let E = extension F.ring F.eq EF.ring EF.eq EF.embed EF.inverse in
+        let denominator = column_denominator E challenges.now in
+        let rows = sent_rows F.ring F.eq main.now (option_copied preprocessed.entry) public_values.now lookups.now in
+        MatchResult result
+        (λ r. HasRows E denominator rows (height main.now) r.0.items r.1)
+        (IsFirstOf (trace_faults E denominator rows)) }
 {
     let height = main.height();
     let size = height

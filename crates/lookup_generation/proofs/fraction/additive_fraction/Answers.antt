@@ -52,8 +52,8 @@ returns-in_err-fraction g c =
       | inl memory ↦ inl memory
       | inr vanishing ↦
           let zero : denominator m.key ≡ E.ring.zero =
-          ap (λ t. denominator (branch_at E.base w lookup.column t c.index-multiplicity.result.now).key) (sym c.deref.ensures.value) ∙ vanishing.2 in
-          inr (vanishing.0, ap (λ ms. vanishes E denominator (counted E ms)) split ∙ vanishes_at laws denominator (take i branches) (drop (i + 1) branches) m vanishing.1 zero)
+          ap (λ t. denominator (branch_at E.base w lookup.column t c.index-multiplicity.result.now).key) (sym c.deref.ensures.value) ∙ vanishing.1.1 in
+          inr (vanishing.0, ap (λ ms. vanishes E denominator (counted E ms)) split ∙ vanishes_at laws denominator (take i branches) (drop (i + 1) branches) m vanishing.1.0 zero)
     ])
 
 pub loop-branch-preserved : goal.loop-branch-preserved
