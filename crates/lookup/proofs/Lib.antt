@@ -19,3 +19,4 @@ pub mod SelectedFractions
 pub mod Selections
 pub mod TerminalSums
 pub mod Terminals
+pub mod Within
