@@ -1,5 +1,6 @@
 -- What the variables of a recording builder mean.
-use Rattle.std.proofs.Common.{◌≡◌, ℕ, zero, suc, ◌+◌, List, [], ◌∷◌, length, get_or, Some, slice_get, ap, ◌∙◌, sym}
+use Rattle.std.proofs.Common.{◌≡◌, ℕ, zero, suc, ◌+◌, ◌<◌, List, [], ◌∷◌, length, get_or, Some, slice_get, ap, ◌∙◌, sym, subst, arith}
+use Rattle.std.proofs.lemmas.Option.{slice_get_within}
 use Rattle.field.specs.Ring.{Ring}
 use Rattle.air.proofs.Places.{means_cells}
 use Rattle.expressions.specs.Builder.{MeansRow}
@@ -7,11 +8,13 @@ use Rattle.expressions.specs.Degree.{degree_of, entry_degree}
 use Rattle.expressions.specs.ExtDegree.{ext_degree_of, ext_entry_degree}
 use Rattle.expressions.specs.ExtMeaning.{ext_cells_of, ext_variable_value}
 use Rattle.expressions.specs.ExtTree.{ExtTree, variable}
+use Rattle.expressions.specs.Layout.{EntryFits, Fits}
 use Rattle.expressions.specs.Meaning.{cells_of, variable_value}
 use Rattle.expressions.specs.Tree.{Tree, leaf}
 use Rattle.air.specs.Variables.{AreVariables, IsVariableRow}
 use Rattle.expressions.specs.Window.{ExtWindow, Window}
 use Rattle.expressions.specs.declared.base_expression.BaseLeaf.TheVariants.{Variable}
+use Rattle.expressions.specs.declared.layout.AirLayout.{AirLayout}
 use Rattle.expressions.specs.declared.variable.BaseEntry.{BaseEntry}
 use Rattle.expressions.specs.declared.variable.ExtEntry.{ExtEntry}
 use Rattle.expressions.specs.declared.variable.SymbolicVariable.{SymbolicVariable}
@@ -47,3 +50,24 @@ base_row_degree entry width vs i t v e row found same =
 pub ext_row_degree : {F EF : Type 0} (entry : ExtEntry) (width : ℕ) (vs : List (SymbolicVariableExt F EF)) (i t : ℕ) (v : SymbolicVariableExt F EF) (e : ExtTree F EF) → IsVariableRow (λ u. u.entry) (λ u. u.index) entry width vs → slice_get vs i ≡ Some v → e ≡ variable v → ext_degree_of t e ≡ ext_entry_degree entry
 ext_row_degree entry width vs i t v e row found same =
     ap (ext_degree_of t) same ∙ ap ext_entry_degree (entry_at (λ u. u.entry) (λ u. u.index) entry 0 vs i v row.places found)
+
+-- each variable of a row has its place as index
+index_at : {V E : Type 0} (entry_of : V → E) (index_of : V → ℕ) (entry : E) (k : ℕ) (vs : List V) (i : ℕ) (v : V) → AreVariables entry_of index_of entry k vs → slice_get vs i ≡ Some v → index_of v ≡ k + i
+index_at entry_of index_of entry k [] i v are found = cc
+index_at entry_of index_of entry k (u ∷ vs) zero v are found =
+    let same : u ≡ v = cc in
+    let first : index_of v ≡ k = ap index_of (sym same) ∙ are.1 in
+    omega (arith, first)
+index_at entry_of index_of entry k (u ∷ vs) (suc i) v are found =
+    let later : index_of v ≡ k + 1 + i = index_at entry_of index_of entry (k + 1) vs i v are.2 found in
+    omega (arith, later)
+
+-- the trees of a row of base variables stay within a layout that has the row's places
+pub base_row_within : {F : Type 0} (layout : AirLayout) (entry : BaseEntry) (width : ℕ) (vs : List (SymbolicVariable F)) (i : ℕ) (v : SymbolicVariable F) (e : Tree F) → IsVariableRow (λ u. u.entry) (λ u. u.index) entry width vs → ((k : ℕ) → k < width → EntryFits layout entry k) → slice_get vs i ≡ Some v → e ≡ leaf (Variable v) → Fits layout e
+base_row_within {F} layout entry width vs i v e row places found same =
+    let within : i < width = omega (arith, row.len, slice_get_within vs i v found) in
+    let index : v.index ≡ i = omega (arith, index_at (λ u. u.entry) (λ u. u.index) entry 0 vs i v row.places found) in
+    let P : Tree F → Type 0 = λ t. Fits layout t in
+    let Q : BaseEntry → Type 0 = λ n. EntryFits layout n v.index in
+    let R : ℕ → Type 0 = λ k. EntryFits layout entry k in
+    subst P (sym same) (subst Q (sym (entry_at (λ u. u.entry) (λ u. u.index) entry 0 vs i v row.places found)) (subst R (sym index) (places i within)))

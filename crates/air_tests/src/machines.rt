@@ -1,4 +1,6 @@
 //! The AIRs of the tests.
+ghost use Rattle.std.specs.Prelude.{◌≡◌, List, OnOk};
+ghost use Rattle.expressions.specs.Builder.{AcceptsAll};
 
 use air::{
     Air, AirBuilder, AirError, BaseAir, Expression, ExtensionBuilder, LayoutPart,
@@ -61,7 +63,7 @@ impl<F> BaseAir<F> for Machine {
 }
 
 impl<AB: PermutationAirBuilder> Air<AB> for Machine {
-    ghost evaluates = { λ _ _ _ _. Unit {0} };
+    ghost evaluates = { λ _ before answer after. OnOk answer (AB.layout after ≡ AB.layout before) };
 
     fn eval(&self, alloc: Global, builder: &mut AB) -> Result<(), AirError> {
         match self.claim {
@@ -76,6 +78,8 @@ impl<AB: PermutationAirBuilder> Air<AB> for Machine {
             Claim::IsOfBothKinds => assert_both_kinds(alloc, builder),
         }
     }
+
+    ghost keeps_layout = { λ air before after h. h };
 }
 
 /// An expression, where there was one to be had.
@@ -122,7 +126,9 @@ fn assert_step<AB: AirBuilder>(
     alloc: Global,
     builder: &mut AB,
     left: Built<AB::Expr>,
-) -> Result<(), AirError> {
+) -> Result<(), AirError>
+    ensures { OnOk result (AB.layout builder.new ≡ AB.layout builder.old) }
+{
     let left = left?;
     builder.when_transition().assert_zero(alloc, left)
 }
@@ -131,7 +137,9 @@ fn assert_counted<AB: AirBuilder>(
     alloc: Global,
     builder: &mut AB,
     on_every_row: bool,
-) -> Result<(), AirError> {
+) -> Result<(), AirError>
+    ensures { OnOk result (AB.layout builder.new ≡ AB.layout builder.old) }
+{
     let (below, above) = (next(alloc, &*builder, 0), current(alloc, &*builder, 0));
     let step = difference::<AB::F, AB::Expr>(alloc, below, above);
     let left = difference(alloc, step, Ok(AB::Expr::constant(AB::F::ONE)));
@@ -167,7 +175,9 @@ fn assert_row<AB: AirBuilder>(
     builder: &mut AB,
     left: AB::F,
     right: AB::F,
-) -> Result<(), AirError> {
+) -> Result<(), AirError>
+    ensures { OnOk result ((xs : List AB.Expr) × AcceptsAll AB.accepts builder.old xs builder.new) }
+{
     let first = without(alloc, &*builder, 0, left);
     let second = without(alloc, &*builder, 1, right);
     let both = pair(alloc, first, second)?;
@@ -175,14 +185,18 @@ fn assert_row<AB: AirBuilder>(
 }
 
 /// Asserts that the next row's first cell is this row's second one.
-fn assert_moved<AB: AirBuilder>(alloc: Global, builder: &mut AB) -> Result<(), AirError> {
+fn assert_moved<AB: AirBuilder>(alloc: Global, builder: &mut AB) -> Result<(), AirError>
+    ensures { OnOk result (AB.layout builder.new ≡ AB.layout builder.old) }
+{
     let (moved, second) = (next(alloc, &*builder, 0), current(alloc, &*builder, 1));
     let left = difference::<AB::F, AB::Expr>(alloc, moved, second);
     assert_step(alloc, builder, left)
 }
 
 /// Asserts that the next row's second cell is the sum of this row's cells.
-fn assert_added<AB: AirBuilder>(alloc: Global, builder: &mut AB) -> Result<(), AirError> {
+fn assert_added<AB: AirBuilder>(alloc: Global, builder: &mut AB) -> Result<(), AirError>
+    ensures { OnOk result (AB.layout builder.new ≡ AB.layout builder.old) }
+{
     let (first, second) = (current(alloc, &*builder, 0), current(alloc, &*builder, 1));
     let sum = sum::<AB::F, AB::Expr>(alloc, first, second);
     let left = difference(alloc, next(alloc, &*builder, 1), sum);
@@ -197,26 +211,47 @@ fn public_value<AB: AirBuilder>(builder: &AB) -> Built<AB::Expr> {
 }
 
 /// Asserts that the second cell of the row is the public value.
-fn assert_result<AB: AirBuilder>(alloc: Global, builder: &mut AB) -> Result<(), AirError> {
+fn assert_result<AB: AirBuilder>(alloc: Global, builder: &mut AB) -> Result<(), AirError>
+    ensures { OnOk result ((x : AB.Expr) × AB.accepts builder.old x builder.new) }
+{
     let (last, wanted) = (current(alloc, &*builder, 1), public_value(&*builder));
     let left = difference::<AB::F, AB::Expr>(alloc, last, wanted)?;
     builder.assert_zero(alloc, left)
 }
 
-fn assert_fibonacci<AB: AirBuilder>(alloc: Global, builder: &mut AB) -> Result<(), AirError> {
-    let (zero, one) = (AB::F::ZERO, AB::F::ONE);
-    assert_row(alloc, &mut builder.when_first_row(), zero, one)?;
-    assert_moved(alloc, builder)?;
-    assert_added(alloc, builder)?;
+/// Asserts the result, on the last row.
+fn assert_end<AB: AirBuilder>(alloc: Global, builder: &mut AB) -> Result<(), AirError>
+    ensures { OnOk result (AB.layout builder.new ≡ AB.layout builder.old) }
+{
     assert_result(alloc, &mut builder.when_last_row())
 }
 
-/// Asserts that both cells are this, on the last row.
-fn assert_last_row<AB: AirBuilder>(
+/// Asserts that the cells of the first row are these.
+fn assert_first_row<AB: AirBuilder>(
     alloc: Global,
     builder: &mut AB,
-    n: u32,
-) -> Result<(), AirError> {
+    left: AB::F,
+    right: AB::F,
+) -> Result<(), AirError>
+    ensures { OnOk result (AB.layout builder.new ≡ AB.layout builder.old) }
+{
+    assert_row(alloc, &mut builder.when_first_row(), left, right)
+}
+
+fn assert_fibonacci<AB: AirBuilder>(alloc: Global, builder: &mut AB) -> Result<(), AirError>
+    ensures { OnOk result (AB.layout builder.new ≡ AB.layout builder.old) }
+{
+    let (zero, one) = (AB::F::ZERO, AB::F::ONE);
+    assert_first_row(alloc, builder, zero, one)?;
+    assert_moved(alloc, builder)?;
+    assert_added(alloc, builder)?;
+    assert_end(alloc, builder)
+}
+
+/// Asserts that both cells are this, on the last row.
+fn assert_last_row<AB: AirBuilder>(alloc: Global, builder: &mut AB, n: u32) -> Result<(), AirError>
+    ensures { OnOk result ((xs : List AB.Expr) × AcceptsAll AB.accepts builder.old xs builder.new) }
+{
     let wanted = AB::F::from_u32(n);
     assert_row(alloc, &mut builder.when_last_row(), wanted, wanted)
 }
@@ -226,7 +261,9 @@ fn assert_on_a_lone_row<AB: AirBuilder>(
     alloc: Global,
     builder: &mut AB,
     n: u32,
-) -> Result<(), AirError> {
+) -> Result<(), AirError>
+    ensures { OnOk result (AB.layout builder.new ≡ AB.layout builder.old) }
+{
     assert_last_row(alloc, &mut builder.when_first_row(), n)
 }
 
@@ -238,7 +275,9 @@ fn assert_on_first_row<AB: ExtensionBuilder>(
     alloc: Global,
     builder: &mut AB,
     left: AB::ExprEF,
-) -> Result<(), AirError> {
+) -> Result<(), AirError>
+    ensures { OnOk result (AB.layout builder.new ≡ AB.layout builder.old) }
+{
     builder.when_first_row().assert_zero_ext(alloc, left)
 }
 
@@ -246,32 +285,42 @@ fn assert_on_last_row<AB: ExtensionBuilder>(
     alloc: Global,
     builder: &mut AB,
     left: AB::ExprEF,
-) -> Result<(), AirError> {
+) -> Result<(), AirError>
+    ensures { OnOk result (AB.layout builder.new ≡ AB.layout builder.old) }
+{
     builder.when_last_row().assert_zero_ext(alloc, left)
 }
 
 /// Asserts the product of a cell and one of the next row, on the first row.
-fn assert_product<AB: AirBuilder>(alloc: Global, builder: &mut AB) -> Result<(), AirError> {
+fn assert_product<AB: AirBuilder>(alloc: Global, builder: &mut AB) -> Result<(), AirError>
+    ensures { OnOk result (AB.layout builder.new ≡ AB.layout builder.old) }
+{
     let (a, b) = (current(alloc, &*builder, 0), next(alloc, &*builder, 1));
     let left = product::<AB::F, AB::Expr>(alloc, a, b)?;
     builder.when_first_row().assert_zero(alloc, left)
 }
 
 /// Asserts their sum, on the last row.
-fn assert_sum<AB: AirBuilder>(alloc: Global, builder: &mut AB) -> Result<(), AirError> {
+fn assert_sum<AB: AirBuilder>(alloc: Global, builder: &mut AB) -> Result<(), AirError>
+    ensures { OnOk result (AB.layout builder.new ≡ AB.layout builder.old) }
+{
     let (a, b) = (current(alloc, &*builder, 0), next(alloc, &*builder, 1));
     let left = sum::<AB::F, AB::Expr>(alloc, a, b)?;
     builder.when_last_row().assert_zero(alloc, left)
 }
 
 /// Asserts their difference, on every row but the last.
-fn assert_difference<AB: AirBuilder>(alloc: Global, builder: &mut AB) -> Result<(), AirError> {
+fn assert_difference<AB: AirBuilder>(alloc: Global, builder: &mut AB) -> Result<(), AirError>
+    ensures { OnOk result (AB.layout builder.new ≡ AB.layout builder.old) }
+{
     let (a, b) = (current(alloc, &*builder, 0), next(alloc, &*builder, 1));
     let left = difference::<AB::F, AB::Expr>(alloc, a, b);
     assert_step(alloc, builder, left)
 }
 
-fn assert_selected<AB: AirBuilder>(alloc: Global, builder: &mut AB) -> Result<(), AirError> {
+fn assert_selected<AB: AirBuilder>(alloc: Global, builder: &mut AB) -> Result<(), AirError>
+    ensures { OnOk result (AB.layout builder.new ≡ AB.layout builder.old) }
+{
     assert_product(alloc, builder)?;
     assert_sum(alloc, builder)?;
     assert_difference(alloc, builder)
@@ -324,7 +373,9 @@ fn lifted_cell<AB: PermutationAirBuilder>(alloc: Global, builder: &AB) -> Built<
 fn assert_sum_of_all<AB: PermutationAirBuilder>(
     alloc: Global,
     builder: &mut AB,
-) -> Result<(), AirError> {
+) -> Result<(), AirError>
+    ensures { OnOk result (AB.layout builder.new ≡ AB.layout builder.old) }
+{
     let above = permutation_current(alloc, &*builder, 0);
     let below = permutation_next(alloc, &*builder, 0);
     let cells = sum::<AB::EF, AB::ExprEF>(alloc, above, below);
@@ -338,7 +389,9 @@ fn assert_sum_of_all<AB: PermutationAirBuilder>(
 fn assert_repeated<AB: PermutationAirBuilder>(
     alloc: Global,
     builder: &mut AB,
-) -> Result<(), AirError> {
+) -> Result<(), AirError>
+    ensures { OnOk result (AB.layout builder.new ≡ AB.layout builder.old) }
+{
     let repeated = permutation_current(alloc, &*builder, 0);
     let cell = lifted_cell(alloc, &*builder);
     let left = difference::<AB::EF, AB::ExprEF>(alloc, repeated, cell)?;
@@ -346,7 +399,9 @@ fn assert_repeated<AB: PermutationAirBuilder>(
 }
 
 /// Asserts the first cell of the preprocessed trace.
-fn assert_fixed<AB: AirBuilder>(alloc: Global, builder: &mut AB) -> Result<(), AirError> {
+fn assert_fixed<AB: AirBuilder>(alloc: Global, builder: &mut AB) -> Result<(), AirError>
+    ensures { OnOk result (AB.layout builder.new ≡ AB.layout builder.old) }
+{
     match builder.preprocessed().current(0) {
         Some(cell) => builder.assert_zero(alloc, cell.into()),
         None => Err(too_narrow()),
@@ -359,7 +414,9 @@ fn assert_fixed<AB: AirBuilder>(alloc: Global, builder: &mut AB) -> Result<(), A
 fn assert_both_kinds<AB: PermutationAirBuilder>(
     alloc: Global,
     builder: &mut AB,
-) -> Result<(), AirError> {
+) -> Result<(), AirError>
+    ensures { OnOk result (AB.layout builder.new ≡ AB.layout builder.old) }
+{
     let cell = permutation_next(alloc, &*builder, 1)?;
     builder.assert_zero_ext(alloc, cell)?;
     assert_fixed(alloc, builder)?;

@@ -1,5 +1,5 @@
 -- What builders provide and what happens to assertions.
-use Rattle.std.specs.Prelude.{◌≡◌, ℕ, List, [], ◌∷◌, length, map, ◌⊎◌}
+use Rattle.std.specs.Prelude.{◌≡◌, ℕ, List, [], ◌∷◌, length, map, ◌⊎◌, Some, slice_get}
 use Rattle.expressions.specs.declared.error.AirError.{AirError}
 
 -- As many variables as the width. At each window that the builder stands for, they mean the cells
@@ -7,6 +7,11 @@ use Rattle.expressions.specs.declared.error.AirError.{AirError}
 pub record MeansRow {V W A : Type 0} (stands_for : W → Type 0) (meaning : V → W → A) (width : ℕ) (cells : W → List A) (variables : List V) : Type 0 where
   pub len : length variables ≡ width
   pub reads : (w : W) → stands_for w → map (λ v. meaning v w) variables ≡ cells w
+
+-- each expression that a variable of a row converts into stays within a layout
+abbrev pub RowWithin : {V E L : Type 0} → (V → E → Type 0) → (L → E → Type 0) → L → List V → Type 0
+RowWithin {V} {E} converts within layout variables =
+    (i : ℕ) (v : V) (e : E) → slice_get variables i ≡ Some v → converts v e → within layout e
 
 -- expressions that are asserted in order, each accepted, lead from one state to another
 abbrev pub AcceptsAll : {B X : Type 0} → (B → X → B → Type 0) → B → List X → B → Type 0

@@ -2,6 +2,7 @@ pub mod Builder
 pub mod Degree
 pub mod Depth
 pub mod ExtDegree
+pub mod ExtLayout
 pub mod ExtMeaning
 pub mod ExtTree
 pub mod Filter

@@ -1,5 +1,5 @@
 //! What an AIR is: a set of constraints over a trace of a given width.
-ghost use Rattle.std.specs.Prelude.{◌≡◌, ℕ, Result};
+ghost use Rattle.std.specs.Prelude.{◌≡◌, ℕ, Result, Ok};
 ghost use Rattle.expressions.specs.declared.error.AirError.{AirError};
 
 use crate::builder::AirBuilder;
@@ -30,11 +30,14 @@ pub trait BaseAir<F> {
 /// An AIR that can assert its constraints on the builder `AB`.
 ///
 /// An implementation defines `evaluates`, which relates the builder before, the answer and the
-/// builder after. This says what "what the evaluation left" and "its refusal" mean.
+/// builder after. This says what "what the evaluation left" and "its refusal" mean. By the law
+/// `keeps_layout` an accepted evaluation leaves a builder of the same layout.
 pub trait Air<AB: AirBuilder>: BaseAir<AB::F> {
     ghost evaluates: { Self → AB → Result (Unit {0}) AirError → AB → Type 0 };
 
     /// Asserts the constraints on the builder, and returns the first refusal.
     fn eval(&self, alloc: Global, builder: &mut AB) -> Result<(), AirError>
         ensures { evaluates self.now builder.old result builder.new };
+
+    ghost keeps_layout: { (a : Self) (b c : AB) → evaluates a b (Ok tt) c → AB.layout c ≡ AB.layout b };
 }

@@ -66,6 +66,7 @@ impl<F> From<SymbolicVariable<F>> for SymbolicExpression<F> {
 
 impl<F: Field> Expression<F> for SymbolicExpression<F> {
     ghost use Rattle.expressions.specs.Degree.{degree_of};
+    ghost use Rattle.expressions.specs.Layout.{Fits};
     ghost use Rattle.expressions.specs.Meaning.{value_of};
     ghost use Rattle.expressions.specs.Tree.{tree_of, leaf, add, sub, mul, neg};
     ghost use Rattle.expressions.specs.Window.{Window};
@@ -79,6 +80,8 @@ impl<F: Field> Expression<F> for SymbolicExpression<F> {
     ghost same = { λ a b. tree_of b ≡ tree_of a };
 
     ghost is_product = { λ a b r. tree_of r ≡ mul (tree_of a) (tree_of b) };
+
+    ghost within = { λ l e. Fits l (tree_of e) };
 
     fn constant(x: F) -> Self
         ensures { tree_of result ≡ leaf (BaseLeaf.Constant x) }

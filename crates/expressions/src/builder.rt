@@ -1,7 +1,7 @@
 //! Builders: what AIRs assert their constraints on.
 ghost use Rattle.std.specs.Prelude.{◌≡◌, ℕ, ◌≤◌, ◌↔◌, IfOk, IfErr, MatchResult, Some, slice_get};
 ghost use Rattle.field.specs.Ring.{of_bool};
-ghost use Rattle.expressions.specs.Builder.{MeansRow, AcceptsAll, RefusesOne};
+ghost use Rattle.expressions.specs.Builder.{MeansRow, AcceptsAll, RefusesOne, RowWithin};
 ghost use Rattle.expressions.specs.Window.{Window};
 ghost use Rattle.expressions.specs.declared.error.AirError.{AirError};
 ghost use Rattle.expressions.specs.declared.layout.AirLayout.{AirLayout};
@@ -17,8 +17,11 @@ use std::alloc::Global;
 ///
 /// It stands for one window if it checks a row, or for all windows of its layout if it records
 /// constraints. Its variables, selectors and public values mean the cells of each window that it
-/// stands for. An assertion is accepted or refused; after an accepted one the builder stands for
-/// the same windows.
+/// stands for, and are within its layout. An assertion is accepted or refused; after an accepted one
+/// the builder stands for the same windows and has the same layout.
+///
+/// `pushed_within` says that all expressions that were pushed as lookups are within the layout. It
+/// holds of every builder that keeps none of them, and assertions don't change it.
 pub trait AirBuilder: Sized {
     /// The field of the traces.
     type F: Field;
@@ -54,6 +57,8 @@ pub trait AirBuilder: Sized {
 
     ghost window_refuses: { Self → AirError → Type 0 };
 
+    ghost pushed_within: { Self → Type 0 };
+
     /// The current row and the next one of the main trace.
     fn main(&self, alloc: Global) -> Result<Self::MainWindow, AirError>
         ensures readable { IfOk result (λ m. Self.MainWindow.readable m) }
@@ -61,6 +66,8 @@ pub trait AirBuilder: Sized {
             (layout self.now).main_width (λ w. w.main) (Self.MainWindow.current m)) }
         ensures next { IfOk result (λ m. MeansRow (stands_for self.now) variable
             (layout self.now).main_width (λ w. w.main_next) (Self.MainWindow.next m)) }
+        ensures current_within { IfOk result (λ m. RowWithin Self.Var.converts Self.Expr.within (layout self.now) (Self.MainWindow.current m)) }
+        ensures next_within { IfOk result (λ m. RowWithin Self.Var.converts Self.Expr.within (layout self.now) (Self.MainWindow.next m)) }
         ensures refused { IfErr result (window_refuses self.now) };
 
     /// The current row and the next one of the preprocessed trace, of width 0 if there is none.
@@ -69,32 +76,38 @@ pub trait AirBuilder: Sized {
         ensures current { MeansRow (stands_for self.now) variable
             (layout self.now).preprocessed_width (λ w. w.preprocessed) (Self.PreprocessedWindow.current result.now) }
         ensures next { MeansRow (stands_for self.now) variable
-            (layout self.now).preprocessed_width (λ w. w.preprocessed_next) (Self.PreprocessedWindow.next result.now) };
+            (layout self.now).preprocessed_width (λ w. w.preprocessed_next) (Self.PreprocessedWindow.next result.now) }
+        ensures current_within { RowWithin Self.Var.converts Self.Expr.within (layout self.now) (Self.PreprocessedWindow.current result.now) }
+        ensures next_within { RowWithin Self.Var.converts Self.Expr.within (layout self.now) (Self.PreprocessedWindow.next result.now) };
 
     /// The public values.
     fn public_values(&self) -> &[Self::PublicVar]
         ensures means { MeansRow (stands_for self.now) public_value
             (layout self.now).num_public_values (λ w. w.public_values) result.now }
         ensures degree { (i t : ℕ) (v : Self.PublicVar) (e : Self.Expr) → slice_get result.now i ≡ Some v
-            → Self.PublicVar.converts v e → Self.Expr.degree e t ≡ 0 };
+            → Self.PublicVar.converts v e → Self.Expr.degree e t ≡ 0 }
+        ensures within { RowWithin Self.PublicVar.converts Self.Expr.within (layout self.now) result.now };
 
     /// The selector of the first row.
     fn is_first_row(&self) -> Self::Expr
         ensures means { (w : Window Self.F) → stands_for self.now w
             → Self.Expr.value result (seen w) ≡ of_bool Self.F.ring w.is_first }
-        ensures degree { (t : ℕ) → Self.Expr.degree result t ≤ 1 };
+        ensures degree { (t : ℕ) → Self.Expr.degree result t ≤ 1 }
+        ensures within { Self.Expr.within (layout self.now) result };
 
     /// The selector of the last row.
     fn is_last_row(&self) -> Self::Expr
         ensures means { (w : Window Self.F) → stands_for self.now w
             → Self.Expr.value result (seen w) ≡ of_bool Self.F.ring w.is_last }
-        ensures degree { (t : ℕ) → Self.Expr.degree result t ≤ 1 };
+        ensures degree { (t : ℕ) → Self.Expr.degree result t ≤ 1 }
+        ensures within { Self.Expr.within (layout self.now) result };
 
     /// The selector of all rows but the last.
     fn is_transition(&self) -> Self::Expr
         ensures means { (w : Window Self.F) → stands_for self.now w
             → Self.Expr.value result (seen w) ≡ of_bool Self.F.ring w.is_transition }
-        ensures degree { (t : ℕ) → Self.Expr.degree result t ≤ t };
+        ensures degree { (t : ℕ) → Self.Expr.degree result t ≤ t }
+        ensures within { Self.Expr.within (layout self.now) result };
 
     /// Asserts that `x` is zero.
     fn assert_zero(&mut self, alloc: Global, x: Self::Expr) -> Result<(), AirError>
@@ -168,4 +181,6 @@ pub trait AirBuilder: Sized {
         → stands_for b w ↔ stands_for c w };
 
     ghost keeps_layout: { (b : Self) (x : Self.Expr) (c : Self) → accepts b x c → layout c ≡ layout b };
+
+    ghost keeps_pushed: { (b : Self) (x : Self.Expr) (c : Self) → accepts b x c → pushed_within b → pushed_within c };
 }

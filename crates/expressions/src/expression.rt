@@ -1,6 +1,7 @@
 //! What field elements and expression trees have in common: both are built up from constants.
 ghost use Rattle.std.specs.Prelude.{◌≡◌, ℕ, ◌+◌, max, IfOk, refl};
 ghost use Rattle.field.specs.Ring.{Ring, sub_in};
+ghost use Rattle.expressions.specs.declared.layout.AirLayout.{AirLayout};
 
 use field::Field;
 use std::alloc::{AllocError, Global};
@@ -10,7 +11,8 @@ use std::alloc::{AllocError, Global};
 ///
 /// Contracts see two things of it: its value at each `Seen`, which is the window for a tree and
 /// nothing for an element, and its degree if the transition selector has degree `t`. They also know
-/// copies (`same`) and products (`is_product`) by their nodes.
+/// copies (`same`) and products (`is_product`) by their nodes, and whether all variables of a tree
+/// are `within` a layout; elements have none.
 pub trait Expression<F: Field>: Drop {
     /// What values of the type are evaluated at.
     type Seen;
@@ -23,37 +25,45 @@ pub trait Expression<F: Field>: Drop {
 
     ghost is_product: { Self → Self → Self → Type 0 };
 
+    ghost within: { AirLayout → Self → Type 0 };
+
     /// The expression whose value is `x` everywhere.
     fn constant(x: F) -> Self
         ensures means { (w : Self.Seen) → value result w ≡ x }
-        ensures degree { (t : ℕ) → degree result t ≡ 0 };
+        ensures degree { (t : ℕ) → degree result t ≡ 0 }
+        ensures within { (l : AirLayout) → within l result };
 
     /// The sum `self + other`.
     fn add(self, alloc: Global, other: Self) -> Result<Self, AllocError>
         ensures means { IfOk result (λ r. (w : Self.Seen) → value r w ≡ F.ring.add (value self w) (value other w)) }
-        ensures degree { IfOk result (λ r. (t : ℕ) → degree r t ≡ max (degree self t) (degree other t)) };
+        ensures degree { IfOk result (λ r. (t : ℕ) → degree r t ≡ max (degree self t) (degree other t)) }
+        ensures within { IfOk result (λ r. (l : AirLayout) → within l self → within l other → within l r) };
 
     /// The difference `self - other`.
     fn sub(self, alloc: Global, other: Self) -> Result<Self, AllocError>
         ensures means { IfOk result (λ r. (w : Self.Seen) → value r w ≡ sub_in F.ring (value self w) (value other w)) }
-        ensures degree { IfOk result (λ r. (t : ℕ) → degree r t ≡ max (degree self t) (degree other t)) };
+        ensures degree { IfOk result (λ r. (t : ℕ) → degree r t ≡ max (degree self t) (degree other t)) }
+        ensures within { IfOk result (λ r. (l : AirLayout) → within l self → within l other → within l r) };
 
     /// The product `self * other`.
     fn mul(self, alloc: Global, other: Self) -> Result<Self, AllocError>
         ensures means { IfOk result (λ r. (w : Self.Seen) → value r w ≡ F.ring.mul (value self w) (value other w)) }
         ensures degree { IfOk result (λ r. (t : ℕ) → degree r t ≡ degree self t + degree other t) }
-        ensures node { IfOk result (λ r. is_product self other r) };
+        ensures node { IfOk result (λ r. is_product self other r) }
+        ensures within { IfOk result (λ r. (l : AirLayout) → within l self → within l other → within l r) };
 
     /// The negation `-self`.
     fn neg(self, alloc: Global) -> Result<Self, AllocError>
         ensures means { IfOk result (λ r. (w : Self.Seen) → value r w ≡ F.ring.neg (value self w)) }
-        ensures degree { IfOk result (λ r. (t : ℕ) → degree r t ≡ degree self t) };
+        ensures degree { IfOk result (λ r. (t : ℕ) → degree r t ≡ degree self t) }
+        ensures within { IfOk result (λ r. (l : AirLayout) → within l self → within l r) };
 
     /// A deep copy.
     fn copy(&self, alloc: Global) -> Result<Self, AllocError>
         ensures means { IfOk result (λ r. (w : Self.Seen) → value r w ≡ value self.now w) }
         ensures degree { IfOk result (λ r. (t : ℕ) → degree r t ≡ degree self.now t) }
-        ensures same { IfOk result (λ r. same self.now r) };
+        ensures same { IfOk result (λ r. same self.now r) }
+        ensures within { IfOk result (λ r. (l : AirLayout) → within l self.now → within l r) };
 }
 
 /// Elements of a field are their own values and have degree 0. No call fails.
@@ -67,6 +77,8 @@ impl<F: Field> Expression<F> for F {
     ghost same = { λ x y. y ≡ x };
 
     ghost is_product = { λ x y r. r ≡ F.ring.mul x y };
+
+    ghost within = { λ _ _. Unit {0} };
 
     fn constant(x: F) -> F {
         x

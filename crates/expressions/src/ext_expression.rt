@@ -75,6 +75,7 @@ impl<F, EF> From<SymbolicVariableExt<F, EF>> for SymbolicExpressionExt<F, EF> {
 
 impl<F: Field, EF: ExtensionField<F>> Expression<EF> for SymbolicExpressionExt<F, EF> {
     ghost use Rattle.expressions.specs.ExtDegree.{ext_degree_of};
+    ghost use Rattle.expressions.specs.ExtLayout.{ExtFits};
     ghost use Rattle.expressions.specs.ExtMeaning.{ext_value_of};
     ghost use Rattle.expressions.specs.ExtTree.{ext_tree_of, constant, add, sub, mul, neg};
     ghost use Rattle.expressions.specs.Window.{Window};
@@ -88,6 +89,8 @@ impl<F: Field, EF: ExtensionField<F>> Expression<EF> for SymbolicExpressionExt<F
     ghost same = { λ a b. ext_tree_of b ≡ ext_tree_of a };
 
     ghost is_product = { λ a b r. ext_tree_of r ≡ mul (ext_tree_of a) (ext_tree_of b) };
+
+    ghost within = { λ l e. ExtFits l (ext_tree_of e) };
 
     fn constant(x: EF) -> Self
         ensures { ext_tree_of result ≡ constant x }

@@ -59,6 +59,9 @@ pub trait ExtensionBuilder: AirBuilder {
     ghost keeps_ext_layout: { (b : Self) (x : Self.ExprEF) (c : Self) → accepts_ext b x c
         → Self.layout c ≡ Self.layout b };
 
+    ghost keeps_ext_pushed: { (b : Self) (x : Self.ExprEF) (c : Self) → accepts_ext b x c
+        → Self.pushed_within b → Self.pushed_within c };
+
     ghost base_keeps_ext: { (b : Self) (x : Self.Expr) (c : Self) (w : ExtWindow Self.F Self.EF)
         → Self.accepts b x c → stands_for_ext b w ↔ stands_for_ext c w };
 

@@ -66,6 +66,8 @@ impl<'a, AB: AirBuilder> AirBuilder for FilteredAirBuilder<'a, AB> {
 
     ghost window_refuses = { λ b. AB.window_refuses b.inner.now };
 
+    ghost pushed_within = { λ b. AB.pushed_within b.inner.now };
+
     ghost variable_converts = { AB.variable_converts };
 
     ghost variable_degree = { AB.variable_degree };
@@ -75,6 +77,8 @@ impl<'a, AB: AirBuilder> AirBuilder for FilteredAirBuilder<'a, AB> {
     ghost keeps = { λ b x c w h. AB.keeps b.inner.now h.2.0 c.inner.now w h.2.2 };
 
     ghost keeps_layout = { λ b x c h. AB.keeps_layout b.inner.now h.2.0 c.inner.now h.2.2 };
+
+    ghost keeps_pushed = { λ b x c h. AB.keeps_pushed b.inner.now h.2.0 c.inner.now h.2.2 };
 
     fn main(&self, alloc: Global) -> Result<AB::MainWindow, AirError> {
         self.inner.main(alloc)
@@ -146,6 +150,8 @@ impl<'a, AB: ExtensionBuilder> ExtensionBuilder for FilteredAirBuilder<'a, AB> {
     ghost keeps_ext = { λ b x c w h. AB.keeps_ext b.inner.now h.2.0 c.inner.now w h.2.2 };
 
     ghost keeps_ext_layout = { λ b x c h. AB.keeps_ext_layout b.inner.now h.2.0 c.inner.now h.2.2 };
+
+    ghost keeps_ext_pushed = { λ b x c h. AB.keeps_ext_pushed b.inner.now h.2.0 c.inner.now h.2.2 };
 
     ghost base_keeps_ext = { λ b x c w h. AB.base_keeps_ext b.inner.now h.2.0 c.inner.now w h.2.2 };
 

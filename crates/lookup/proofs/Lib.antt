@@ -3,3 +3,4 @@ pub mod ExtractionLaws
 pub mod Outlines
 pub mod Prefixes
 pub mod TerminalSums
+pub mod Within

@@ -25,6 +25,7 @@ pub struct Lookups<F> {
 impl<F: Field> Lookups<F> {
     ghost use Rattle.lookup.specs.Extraction.{Extracts};
     ghost use Rattle.lookup.specs.Lookups.{lookups_of};
+    ghost use Rattle.lookup_record.specs.Within.{EvaluatesWithin};
 
     /// The lookups that an AIR records in a new builder with its own layout: local ones, then those
     /// on buses, then groups, each in the order of their pushes, in the columns 0, 1, 2, …
@@ -40,7 +41,9 @@ impl<F: Field> Lookups<F> {
         alloc: Global,
         air: &A,
     ) -> Result<Self, LookupError>
-        ensures { Extracts A.evaluates air.now (layout_of_widths (A.width air.now) (A.preprocessed_width air.now) (A.num_public_values air.now)) result }
+        ensures extracts { Extracts A.evaluates air.now (layout_of_widths (A.width air.now) (A.preprocessed_width air.now) (A.num_public_values air.now)) result }
+        ensures within { IfOk result (λ set. EvaluatesWithin A.evaluates air.now
+            → DoFit (layout_of_widths (A.width air.now) (A.preprocessed_width air.now) (A.num_public_values air.now)) (lookups_of set)) }
     {
         let layout = AirLayout::from_air(air);
         let builder = InteractionSymbolicBuilder::from_air(alloc, air, layout)?;

@@ -151,6 +151,8 @@ impl<'a, F: Field, EF: Field> AirBuilder for LookupTraceBuilder<'a, F, EF> {
 
     ghost window_refuses = { λ _ _. ⊥ };
 
+    ghost pushed_within = { λ _. Unit {0} };
+
     ghost variable_converts = { λ v e w h. h };
 
     ghost variable_degree = { λ v e t h. Prim.search rules };
@@ -160,6 +162,8 @@ impl<'a, F: Field, EF: Field> AirBuilder for LookupTraceBuilder<'a, F, EF> {
     ghost keeps = { λ b x c w h. (λ e. e ∙ ap builder_window (sym h.0), λ e. e ∙ ap builder_window h.0) };
 
     ghost keeps_layout = { λ b x c h. ap builder_layout h.0 };
+
+    ghost keeps_pushed = { λ b x c h s. s };
 
     fn main(&self, _alloc: Global) -> Result<RowWindow<'a, F>, AirError> {
         Ok(self.main)
@@ -221,6 +225,8 @@ impl<'a, F: Field, EF: ExtensionField<F>> ExtensionBuilder for LookupTraceBuilde
     ghost keeps_ext = { Prim.search rules };
 
     ghost keeps_ext_layout = { Prim.search rules };
+
+    ghost keeps_ext_pushed = { λ b x c h s. s };
 
     ghost base_keeps_ext = { Prim.search rules };
 

@@ -4,3 +4,4 @@ pub mod Negation
 pub mod Pushed
 pub mod RecordedAir
 pub mod Records
+pub mod Within

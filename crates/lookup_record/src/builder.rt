@@ -5,6 +5,7 @@ ghost use Rattle.expressions.specs.declared.error.AirError.{AirError};
 ghost use Rattle.lookup_declaration.specs.Declaration.{Declaration, read, table};
 ghost use Rattle.lookup_record.specs.Interaction.{Interaction};
 ghost use Rattle.lookup_record.specs.Pushed.{pushed_exclusive, pushed_global, pushed_local};
+ghost use Rattle.lookup_record.specs.Within.{IsWithin};
 ghost use Rattle.lookup_declaration.specs.declared.indexed.TraceWindow.{TraceWindow};
 
 use crate::count::Count;
@@ -81,6 +82,9 @@ pub trait InteractionBuilder: AirBuilder {
 
     ghost push_keeps_layout: { (b : Self) (m : Interaction Self.Expr) (c : Self) → pushes b m c
         → Self.layout c ≡ Self.layout b };
+
+    ghost push_within: { (b : Self) (m : Interaction Self.Expr) (c : Self) → pushes b m c
+        → IsWithin Self.Expr.within (Self.layout b) m → Self.pushed_within b → Self.pushed_within c };
 }
 
 /// A builder that AIRs can declare indexed lookups to.
@@ -135,4 +139,7 @@ pub trait IndexedLookupBuilder: AirBuilder {
 
     ghost declaration_keeps_layout: { (b : Self) (d : Declaration) (c : Self) → declares b d c
         → Self.layout c ≡ Self.layout b };
+
+    ghost declaration_keeps_pushed: { (b : Self) (d : Declaration) (c : Self) → declares b d c
+        → Self.pushed_within b → Self.pushed_within c };
 }

@@ -1,6 +1,7 @@
 //! Signed counts of messages.
 ghost use Rattle.std.specs.Prelude.{◌≡◌, ℕ, IfOk, unsigned_abs};
 ghost use Rattle.expressions.specs.Tree.{tree_of};
+ghost use Rattle.expressions.specs.declared.layout.AirLayout.{AirLayout};
 ghost use Rattle.field.specs.Ring.{of_int};
 ghost use Rattle.lookup_record.specs.Negation.{IsNegation};
 
@@ -60,6 +61,7 @@ impl<E> Count<E> {
         ensures means { (s : E.Seen) → E.value result.expression s ≡ of_int F.ring count }
         ensures degree { (t : ℕ) → E.degree result.expression t ≡ 0 }
         ensures weight { result.weight ≡ unsigned_abs count }
+        ensures within { (l : AirLayout) → E.within l result.expression }
     {
         Count {
             expression: E::constant(F::from_i32(count)),
@@ -78,6 +80,7 @@ impl<E> Count<E> {
             (E.degree c.expression) (E.degree self.expression)) }
         ensures twice { IfOk result (λ c. (s : E.Seen) → F.ring.neg (E.value c.expression s) ≡ E.value self.expression s) }
         ensures weight { IfOk result (λ c. c.weight ≡ self.weight) }
+        ensures within { IfOk result (λ c. (l : AirLayout) → E.within l self.expression → E.within l c.expression) }
     {
         let expression = self.expression.neg(alloc)?;
         Ok(Count {
@@ -96,6 +99,7 @@ impl<E> Count<E> {
         ensures degree { IfOk result (λ c. (t : ℕ) → E.degree c.expression t ≡ E.degree self.now.expression t) }
         ensures same { IfOk result (λ c. E.same self.now.expression c.expression) }
         ensures weight { IfOk result (λ c. c.weight ≡ self.now.weight) }
+        ensures within { IfOk result (λ c. (l : AirLayout) → E.within l self.now.expression → E.within l c.expression) }
     {
         let expression = self.expression.copy(alloc)?;
         Ok(Count {

@@ -26,6 +26,8 @@ impl<'a, F: Field, EF: ExtensionField<F>> InteractionBuilder for DebugConstraint
 
     ghost push_keeps_layout = { Prim.search rules };
 
+    ghost push_within = { λ b m c h i s. s };
+
     fn push_interaction(
         &mut self,
         _alloc: Global,
@@ -87,6 +89,8 @@ impl<'a, F: Field, EF: ExtensionField<F>> IndexedLookupBuilder
     ghost declaration_keeps = { Prim.search rules };
 
     ghost declaration_keeps_layout = { Prim.search rules };
+
+    ghost declaration_keeps_pushed = { λ b d c h s. s };
 
     fn push_indexed_read(
         &mut self,

@@ -1,7 +1,9 @@
 //! The bus between queries and a table.
-ghost use Rattle.std.specs.Prelude.{◌≡◌, All, IfOk, MatchResult, map};
+ghost use Rattle.std.specs.Prelude.{◌≡◌, All, IfOk, MatchResult, OnOk, map};
 ghost use Rattle.lookup_record.specs.Messages.{IsExclusiveQuery, IsNegatedMessage, IsUnitQuery, PushesOne, flag_and_fields, flag_and_key};
 ghost use Rattle.lookup_record.specs.Pushed.{pushed_branch, pushed_global};
+ghost use Rattle.lookup_record.specs.Within.{KeyWithin};
+ghost use Rattle.expressions.specs.declared.layout.AirLayout.{AirLayout};
 
 use crate::builder::InteractionBuilder;
 use crate::count::Count;
@@ -40,9 +42,12 @@ impl<'a> LookupBus<'a> {
         key: Vec<AB::Expr>,
         count: Count<AB::Expr>,
     ) -> Result<(), AirError>
-        ensures { MatchResult result
+        ensures pushed { MatchResult result
             (λ _. AB.pushes builder.old (pushed_global self.now.name.now key.items count) builder.new)
             (λ e. AB.refuses_push builder.old (pushed_global self.now.name.now key.items count) e builder.new) }
+        ensures within { OnOk result (All (AB.Expr.within (AB.layout builder.old)) key.items
+            → AB.Expr.within (AB.layout builder.old) count.expression → AB.pushed_within builder.old → AB.pushed_within builder.new) }
+        ensures layout { OnOk result (AB.layout builder.new ≡ AB.layout builder.old) }
     {
         builder.push_interaction(alloc, self.name, key, count)
     }
@@ -58,9 +63,12 @@ impl<'a> LookupBus<'a> {
         key: Vec<AB::Expr>,
         num_lookups: AB::Expr,
     ) -> Result<(), AirError>
-        ensures { PushesOne AB.pushes AB.refuses_push
+        ensures pushed { PushesOne AB.pushes AB.refuses_push
             (IsNegatedMessage AB.F.ring.neg AB.Expr.value AB.Expr.degree self.now.name.now key.items num_lookups 0)
             builder.old result builder.new }
+        ensures within { OnOk result (All (AB.Expr.within (AB.layout builder.old)) key.items
+            → AB.Expr.within (AB.layout builder.old) num_lookups → AB.pushed_within builder.old → AB.pushed_within builder.new) }
+        ensures layout { OnOk result (AB.layout builder.new ≡ AB.layout builder.old) }
     {
         let taken = num_lookups.neg(alloc)?;
         builder.push_interaction(alloc, self.name, key, Count::provided(taken))
@@ -77,9 +85,12 @@ impl<'a> LookupBus<'a> {
         builder: &mut AB,
         branches: Vec<(AB::Expr, Vec<AB::Expr>)>,
     ) -> Result<(), AirError>
-        ensures { PushesOne AB.pushes AB.refuses_push
+        ensures pushed { PushesOne AB.pushes AB.refuses_push
             (IsExclusiveQuery AB.F.ring.one AB.Expr.value AB.Expr.degree self.now.name.now branches.items)
             builder.old result builder.new }
+        ensures within { OnOk result (All (KeyWithin AB.Expr.within (AB.layout builder.old)) branches.items
+            → AB.pushed_within builder.old → AB.pushed_within builder.new) }
+        ensures layout { OnOk result (AB.layout builder.new ≡ AB.layout builder.old) }
     {
         let queries = unit_queries::<AB::F, AB::Expr>(alloc, branches)?;
         builder.push_exclusive_interaction(alloc, self.name, queries)
@@ -93,6 +104,7 @@ fn unit_queries<F: Field, E: Expression<F>>(
 ) -> Result<Vec<(E, Count<E>, Vec<E>)>, AllocError>
     ensures flags_and_fields { IfOk result (λ v. map flag_and_fields (map pushed_branch v.items) ≡ map flag_and_key branches.items) }
     ensures queries { IfOk result (λ v. All (IsUnitQuery F.ring.one E.value E.degree) (map pushed_branch v.items)) }
+    ensures counts { IfOk result (λ v. (l : AirLayout) → All (λ b. E.within l b.count) (map pushed_branch v.items)) }
 {
     let mut queries = Vec::new(alloc);
     for (flag, key) in branches {
@@ -105,6 +117,7 @@ fn unit_queries<F: Field, E: Expression<F>>(
 fn unit_query<F: Field, E: Expression<F>>(flag: E, key: Vec<E>) -> (E, Count<E>, Vec<E>)
     ensures flag_and_fields { flag_and_fields (pushed_branch result) ≡ (flag, key.items) }
     ensures query { IsUnitQuery F.ring.one E.value E.degree (pushed_branch result) }
+    ensures count { (l : AirLayout) → E.within l (pushed_branch result).count }
 {
     let one = E::constant(F::ONE);
     (flag, Count::bounded(one, 1), key)

@@ -1,5 +1,5 @@
 //! The bus between senders and receivers.
-ghost use Rattle.std.specs.Prelude.{◌≡◌, MatchResult};
+ghost use Rattle.std.specs.Prelude.{◌≡◌, All, MatchResult, OnOk};
 ghost use Rattle.lookup_record.specs.Messages.{IsNegatedMessage, PushesOne};
 ghost use Rattle.lookup_record.specs.Pushed.{pushed_global};
 
@@ -39,9 +39,12 @@ impl<'a> PermutationCheckBus<'a> {
         fields: Vec<AB::Expr>,
         count: Count<AB::Expr>,
     ) -> Result<(), AirError>
-        ensures { MatchResult result
+        ensures pushed { MatchResult result
             (λ _. AB.pushes builder.old (pushed_global self.now.name.now fields.items count) builder.new)
             (λ e. AB.refuses_push builder.old (pushed_global self.now.name.now fields.items count) e builder.new) }
+        ensures within { OnOk result (All (AB.Expr.within (AB.layout builder.old)) fields.items
+            → AB.Expr.within (AB.layout builder.old) count.expression → AB.pushed_within builder.old → AB.pushed_within builder.new) }
+        ensures layout { OnOk result (AB.layout builder.new ≡ AB.layout builder.old) }
     {
         builder.push_interaction(alloc, self.name, fields, count)
     }
@@ -57,9 +60,12 @@ impl<'a> PermutationCheckBus<'a> {
         fields: Vec<AB::Expr>,
         count: Count<AB::Expr>,
     ) -> Result<(), AirError>
-        ensures { PushesOne AB.pushes AB.refuses_push
+        ensures pushed { PushesOne AB.pushes AB.refuses_push
             (IsNegatedMessage AB.F.ring.neg AB.Expr.value AB.Expr.degree self.now.name.now fields.items count.expression count.weight)
             builder.old result builder.new }
+        ensures within { OnOk result (All (AB.Expr.within (AB.layout builder.old)) fields.items
+            → AB.Expr.within (AB.layout builder.old) count.expression → AB.pushed_within builder.old → AB.pushed_within builder.new) }
+        ensures layout { OnOk result (AB.layout builder.new ≡ AB.layout builder.old) }
     {
         let received = count.negate(alloc)?;
         builder.push_interaction(alloc, self.name, fields, received)

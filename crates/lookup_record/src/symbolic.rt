@@ -1,5 +1,5 @@
 //! A builder that records a whole AIR.
-ghost use Rattle.std.proofs.Common.{◌∙◌, ap};
+ghost use Rattle.std.proofs.Common.{◌∙◌, ap, subst, sym};
 ghost use Rattle.std.specs.Prelude.{◌≡◌, ◌⊎◌, IfErr, IfOk, MatchResult, None, Some, Ok, Err, length, map};
 ghost use Rattle.expressions.specs.ExtTree.{ext_tree_of};
 ghost use Rattle.expressions.specs.Layout.{first_mismatch};
@@ -42,6 +42,7 @@ impl<F: Field, EF: ExtensionField<F>> InteractionSymbolicBuilder<F, EF> {
     ghost use Rattle.lookup_declaration.specs.Declaration.{read_of, table_of};
     ghost use Rattle.lookup_record.specs.RecordedAir.{EvaluatesNew, no_air_recorded, recorded_air};
     ghost use Rattle.lookup_record.specs.Records.{exclusive_of, global_of, local_of};
+    ghost use Rattle.lookup_record.specs.Within.{EvaluatesWithin, PushedWithin};
 
     /// The builder for a layout, with nothing recorded.
     ///
@@ -76,6 +77,8 @@ impl<F: Field, EF: ExtensionField<F>> InteractionSymbolicBuilder<F, EF> {
         ensures mismatch { (e : AirError) → first_mismatch (A.width air.now) (A.preprocessed_width air.now) (A.num_public_values air.now) layout ≡ Some e → result ≡ Err e }
         ensures evaluates { first_mismatch (A.width air.now) (A.preprocessed_width air.now) (A.num_public_values air.now) layout ≡ None
             → EvaluatesNew A.evaluates air.now layout result }
+        ensures layout { IfOk result (λ b. (recorded_air b).constraints.layout ≡ layout) }
+        ensures within { IfOk result (λ b. EvaluatesWithin A.evaluates air.now → PushedWithin (recorded_air b)) }
     {
         layout.validate_against_air(air)?;
         let mut builder = InteractionSymbolicBuilder::new(alloc, layout)?;
@@ -183,6 +186,7 @@ impl<F: Field, EF: ExtensionField<F>> AirBuilder for InteractionSymbolicBuilder<
     ghost use Rattle.expressions.specs.Meaning.{value_of, variable_value};
     ghost use Rattle.air.specs.Recorded.{HasWidths, recorded, with_base};
     ghost use Rattle.lookup_record.specs.RecordedAir.{recorded_air, with_constraints};
+    ghost use Rattle.lookup_record.specs.Within.{PushedWithin};
 
     type F = F;
 
@@ -212,6 +216,8 @@ impl<F: Field, EF: ExtensionField<F>> AirBuilder for InteractionSymbolicBuilder<
 
     ghost window_refuses = { λ b e. e ≡ Memory };
 
+    ghost pushed_within = { λ b. PushedWithin (recorded_air b) };
+
     ghost variable_converts = { λ v x w h. ap (value_of F.ring w) h };
 
     ghost variable_degree = { λ v x t h. variable_degree-le v _ t h };
@@ -221,6 +227,8 @@ impl<F: Field, EF: ExtensionField<F>> AirBuilder for InteractionSymbolicBuilder<
     ghost keeps = { λ b x c w h. iff_along (λ l. HasWidths l w) (recorded b.inner).layout (recorded c.inner).layout (ap (λ r. r.constraints.layout) h) };
 
     ghost keeps_layout = { λ b x c h. ap (λ r. r.constraints.layout) h };
+
+    ghost keeps_pushed = { λ b x c h s. subst (λ r. PushedWithin r) (sym h) (record { globals = s.globals; locals = s.locals; exclusives = s.exclusives }) };
 
     fn main(&self, alloc: Global) -> Result<RowMajorMatrix<SymbolicVariable<F>>, AirError> {
         self.inner.main(alloc)
@@ -256,6 +264,7 @@ impl<F: Field, EF: ExtensionField<F>> ExtensionBuilder for InteractionSymbolicBu
     ghost use Rattle.air.specs.Leaves.{iff_along, ext_variable_degree-le};
     ghost use Rattle.air.specs.Recorded.{HasExtWidths, HasWidths, recorded, with_extension};
     ghost use Rattle.lookup_record.specs.RecordedAir.{recorded_air, with_constraints};
+    ghost use Rattle.lookup_record.specs.Within.{PushedWithin};
 
     type EF = EF;
 
@@ -282,6 +291,8 @@ impl<F: Field, EF: ExtensionField<F>> ExtensionBuilder for InteractionSymbolicBu
     ghost keeps_ext = { λ b x c w h. iff_along (λ l. HasExtWidths l w) (recorded b.inner).layout (recorded c.inner).layout (ap (λ r. r.constraints.layout) h) };
 
     ghost keeps_ext_layout = { λ b x c h. ap (λ r. r.constraints.layout) h };
+
+    ghost keeps_ext_pushed = { λ b x c h s. subst (λ r. PushedWithin r) (sym h) (record { globals = s.globals; locals = s.locals; exclusives = s.exclusives }) };
 
     ghost base_keeps_ext = { λ b x c w h. iff_along (λ l. HasExtWidths l w) (recorded b.inner).layout (recorded c.inner).layout (ap (λ r. r.constraints.layout) h) };
 
@@ -363,6 +374,7 @@ impl<F: Field, EF: ExtensionField<F>> InteractionBuilder for InteractionSymbolic
     ghost use Rattle.air.specs.Leaves.{iff_along};
     ghost use Rattle.air.specs.Recorded.{HasWidths, recorded};
     ghost use Rattle.lookup_record.specs.RecordedAir.{recorded_air, with_interaction, with_interaction-layout};
+    ghost use Rattle.lookup_record.specs.Within.{PushedWithin, with_interaction-within};
 
     ghost pushes = { λ b m c. recorded_air c ≡ with_interaction (recorded_air b) m };
 
@@ -378,6 +390,8 @@ impl<F: Field, EF: ExtensionField<F>> InteractionBuilder for InteractionSymbolic
         (ap (λ r. r.constraints.layout) h ∙ with_interaction-layout (recorded_air b) m) };
 
     ghost push_keeps_layout = { λ b m c h. ap (λ r. r.constraints.layout) h ∙ with_interaction-layout (recorded_air b) m };
+
+    ghost push_within = { λ b m c h i s. subst (λ r. PushedWithin r) (sym h) (with_interaction-within (recorded_air b) m i s) };
 
     fn push_interaction(
         &mut self,
@@ -455,6 +469,7 @@ impl<F: Field, EF: ExtensionField<F>> IndexedLookupBuilder for InteractionSymbol
     ghost use Rattle.air.specs.Leaves.{iff_along};
     ghost use Rattle.air.specs.Recorded.{HasWidths, recorded};
     ghost use Rattle.lookup_record.specs.RecordedAir.{recorded_air, with_declaration, with_declaration-layout};
+    ghost use Rattle.lookup_record.specs.Within.{PushedWithin, with_declaration-within};
 
     ghost declares = { λ b d c. recorded_air c ≡ with_declaration (recorded_air b) d };
 
@@ -468,6 +483,8 @@ impl<F: Field, EF: ExtensionField<F>> IndexedLookupBuilder for InteractionSymbol
         (ap (λ r. r.constraints.layout) h ∙ with_declaration-layout (recorded_air b) d) };
 
     ghost declaration_keeps_layout = { λ b d c h. ap (λ r. r.constraints.layout) h ∙ with_declaration-layout (recorded_air b) d };
+
+    ghost declaration_keeps_pushed = { λ b d c h s. subst (λ r. PushedWithin r) (sym h) (with_declaration-within (recorded_air b) d s) };
 
     fn push_indexed_read(
         &mut self,

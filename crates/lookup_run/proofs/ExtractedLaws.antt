@@ -1,5 +1,5 @@
 -- The lookups that are extracted from the AIRs of the machines.
-use Rattle.std.proofs.Common.{◌≡◌, ◌⊎◌, ◌++◌, ℕ, zero, suc, Bool, List, [], ◌∷◌, length, map, slice_get, Some, Result, Ok, Err, MatchResult, inl, inr, refl, subst, sym, ap, ap₂, arith, ◌∙◌}
+use Rattle.std.proofs.Common.{◌≡◌, ◌⊎◌, ◌++◌, ℕ, zero, suc, Bool, List, [], ◌∷◌, length, map, slice_get, Some, Result, Ok, Err, IfOk, OnOk, MatchResult, inl, inr, refl, subst, sym, ap, ap₂, arith, ◌∙◌}
 use Rattle.std.specs.List.{sum_by}
 use Rattle.std.specs.declared.alloc.Global.{Global}
 use Rattle.std.specs.declared.vec.Vec.{Vec}
@@ -21,6 +21,8 @@ use Rattle.lookup_model.specs.declared.error.LookupError.{LookupError}
 use Rattle.lookup_model.specs.declared.error.LookupError.TheVariants.{Memory}
 use Rattle.lookup_record.specs.Interaction.{ExclusiveInteraction, Interaction, Tuple, exclusive, local}
 use Rattle.lookup_record.specs.Messages.{IsExclusiveQuery, PushesOne}
+use Rattle.lookup_model.specs.Records.{DoFit}
+use Rattle.lookup_record.specs.Within.{EvaluatesWithin, PushedWithin}
 use Rattle.lookup_record.specs.RecordedAir.{EvaluatesNew, no_air_recorded, recorded_air, with_interaction}
 use Rattle.lookup_record.specs.declared.symbolic.InteractionSymbolicBuilder.{InteractionSymbolicBuilder}
 use Rattle.lookup.specs.Extraction.{Extracts, IsFirstLocalRefusal, IsLocalRefusal, extraction, tuple_widths, local_at, exclusive_at}
@@ -101,12 +103,13 @@ module _ (F EF : Type 0) (R : Ring F) (eq : F → F → Bool) where
   -- how the AIR of the machine `range` is evaluated
   abbrev range_evaluates : Builder → Result (Unit {0}) AirError → Builder → Type 0
   range_evaluates before answer after =
-      PushesSuch pushes refuses (IsRange (λ x w. value R w x) (stands_for before) (λ w. w.main) R) before answer after ⊎ refused_before 3 before answer after
+      (PushesSuch pushes refuses (IsRange (λ x w. value R w x) (stands_for before) (λ w. w.main) R) before answer after ⊎ refused_before 3 before answer after)
+      × OnOk answer (PushedWithin (recorded_air before) → PushedWithin (recorded_air after))
 
   -- it records one local lookup of the machine
   range_set : (b : Builder) (set : Lookups F) → EvaluatesNew {A = Unit {0}} (λ _. range_evaluates) tt (layout_of_widths 3 0 0) (Ok b)
-      → map fields_of (lookups_of set) ≡ extraction (recorded_air b).locals (recorded_air b).globals (recorded_air b).exclusives → AreLookupsOf R eq Range (lookups_of set)
-  range_set b set new is = by_answer new.2
+      → map fields_of (lookups_of set) ≡ extraction (recorded_air b).locals (recorded_air b).globals (recorded_air b).exclusives → DoFit (layout_of_widths 3 0 0) (lookups_of set) → AreLookupsOf R eq Range (lookups_of set)
+  range_set b set new is fit = by_answer new.2
     where
       before : Builder
       before = new.0
@@ -115,8 +118,8 @@ module _ (F EF : Type 0) (R : Ring F) (eq : F → F → Bool) where
       empty = new.1
 
       by_answer : range_evaluates before (Ok tt) b → AreLookupsOf R eq Range (lookups_of set)
-      by_answer (inr refused) = absurd (cc refused.1)
-      by_answer (inl (m, range, pushed)) =
+      by_answer (inr refused, within) = absurd (cc refused.1)
+      by_answer (inl (m, range, pushed), within) =
           let tuples : List (Tuple (SymbolicExpression F)) = record { fields = range.read; count = range.once; weight = 1 } ∷ record { fields = range.provided; count = range.times; weight = 0 } ∷ [] in
           let seen : recorded_air b ≡ with_interaction (no_air_recorded (layout_of_widths 3 0 0)) (local tuples) = pushed ∙ ap₂ with_interaction empty range.message in
           let fields : map fields_of (lookups_of set) ≡ local_at 0 tuples ∷ [] = is ∙ ap (λ r. extraction r.locals r.globals r.exclusives) seen in
@@ -124,7 +127,7 @@ module _ (F EF : Type 0) (R : Ring F) (eq : F → F → Bool) where
           let meant = subst (λ (n : Interaction (SymbolicExpression F)). IsRange (λ x w. value R w x) (stands_for before) (λ w. w.main) R n) range.message range in
           record {
             one = ap length one.1;
-            records = set.records;
+            fit = fit;
             sends = λ w widths.
                 let here : stands_for before w = subst (λ (l : AirLayout). HasWidths l w) (sym (ap (λ r. r.constraints.layout) empty)) widths in
                 ap (sent_row R eq w) one.1 ∙ ap (λ s. s ∷ []) (range_sends R eq w (stands_for before) tuples one.0 here widths.main meant one.2);
@@ -133,13 +136,13 @@ module _ (F EF : Type 0) (R : Ring F) (eq : F → F → Bool) where
   -- its one refusal is want of memory
   range_refusal : (e : AirError) → EvaluatesNew {A = Unit {0}} (λ _. range_evaluates) tt (layout_of_widths 3 0 0) (Err e) → e ≡ AirMemory
   range_refusal e (inl memory) = memory
-  range_refusal e (inr (before, after, empty, inl (m, range, refused))) = refused.1
-  range_refusal e (inr (before, after, empty, inr refused)) = refused_memory 3 before after e empty refused
+  range_refusal e (inr (before, after, empty, (inl (m, range, refused), within))) = refused.1
+  range_refusal e (inr (before, after, empty, (inr refused, within))) = refused_memory 3 before after e empty refused
 
   -- and its one local lookup has no fault
   range_fault : (b : Builder) (e : LookupError) → EvaluatesNew {A = Unit {0}} (λ _. range_evaluates) tt (layout_of_widths 3 0 0) (Ok b) → ¬ IsFirstLocalRefusal (recorded_air b).locals e
-  range_fault b e (before, empty, inr refused) fault = absurd (cc refused.1)
-  range_fault b e (before, empty, inl (m, range, pushed)) fault =
+  range_fault b e (before, empty, (inr refused, within)) fault = absurd (cc refused.1)
+  range_fault b e (before, empty, (inl (m, range, pushed), within)) fault =
       let tuples : List (Tuple (SymbolicExpression F)) = record { fields = range.read; count = range.once; weight = 1 } ∷ record { fields = range.provided; count = range.times; weight = 0 } ∷ [] in
       let locals : (recorded_air b).locals ≡ tuples ∷ [] = ap (λ r. r.locals) (pushed ∙ ap₂ with_interaction empty range.message) in
       let this : fault.tuples ≡ tuples = only_item fault.before fault.after fault.tuples tuples (sym locals ∙ fault.split) in
@@ -149,24 +152,26 @@ module _ (F EF : Type 0) (R : Ring F) (eq : F → F → Bool) where
 
   -- the lookups of the machine `range`
   pub range_lookups : (answer : Result (Lookups F) LookupError) → Extracts {A = Unit {0}} (λ _. range_evaluates) tt (layout_of_widths 3 0 0) answer
+      → IfOk answer (λ set. EvaluatesWithin {A = Unit {0}} (λ _. range_evaluates) tt → DoFit (layout_of_widths 3 0 0) (lookups_of set))
       → MatchResult answer (λ set. AreLookupsOf R eq Range (lookups_of set)) (λ e. e ≡ Memory)
-  range_lookups (Ok set) (b, new, is, faultless) = range_set b set new is
-  range_lookups (Err e) (inl memory) = memory
-  range_lookups (Err e) (inr (inl (refusal, new, is))) = is ∙ ap from_air (range_refusal refusal new)
-  range_lookups (Err e) (inr (inr (b, new, fault))) = absurd (range_fault b e new fault)
+  range_lookups (Ok set) (b, new, is, faultless) fits = range_set b set new is (fits (λ before after h. h.1))
+  range_lookups (Err e) (inl memory) fits = memory
+  range_lookups (Err e) (inr (inl (refusal, new, is))) fits = is ∙ ap from_air (range_refusal refusal new)
+  range_lookups (Err e) (inr (inr (b, new, fault))) fits = absurd (range_fault b e new fault)
 
   -- how the AIR of the machine `exclusive` is evaluated
   abbrev group_evaluates : Builder → Result (Unit {0}) AirError → Builder → Type 0
   group_evaluates before answer after =
-      ((branches : List (SymbolicExpression F × Vec (SymbolicExpression F) Global)) × AreTwoKeys (λ x w. value R w x) (stands_for before) (λ w. w.main) branches
+      (((branches : List (SymbolicExpression F × Vec (SymbolicExpression F) Global)) × AreTwoKeys (λ x w. value R w x) (stands_for before) (λ w. w.main) branches
       × PushesOne pushes refuses (IsExclusiveQuery R.one (λ x w. value R w x) (λ x t. degree_of t (tree_of x)) group_bus branches) before answer after)
-      ⊎ refused_before 4 before answer after
+      ⊎ refused_before 4 before answer after)
+      × OnOk answer (PushedWithin (recorded_air before) → PushedWithin (recorded_air after))
 
   -- it records one group
   group_set : (b : Builder) (set : Lookups F) → EvaluatesNew {A = Unit {0}} (λ _. group_evaluates) tt (layout_of_widths 4 0 0) (Ok b)
-      → map fields_of (lookups_of set) ≡ extraction (recorded_air b).locals (recorded_air b).globals (recorded_air b).exclusives → AreLookupsOf R eq Exclusive (lookups_of set)
-  group_set b set (before, empty, inr refused) is = absurd (cc refused.1)
-  group_set b set (before, empty, inl (branches, keys, (m, query, pushed))) is =
+      → map fields_of (lookups_of set) ≡ extraction (recorded_air b).locals (recorded_air b).globals (recorded_air b).exclusives → DoFit (layout_of_widths 4 0 0) (lookups_of set) → AreLookupsOf R eq Exclusive (lookups_of set)
+  group_set b set (before, empty, (inr refused, within)) is fit = absurd (cc refused.1)
+  group_set b set (before, empty, (inl (branches, keys, (m, query, pushed)), within)) is fit =
       let group : ExclusiveInteraction (SymbolicExpression F) = record { bus_name = group_bus; branches = query.branches } in
       let seen : recorded_air b ≡ with_interaction (no_air_recorded (layout_of_widths 4 0 0)) (exclusive group) = pushed ∙ ap₂ with_interaction empty query.message in
       let fields : map fields_of (lookups_of set) ≡ exclusive_at 0 group ∷ [] = is ∙ ap (λ r. extraction r.locals r.globals r.exclusives) seen in
@@ -174,7 +179,7 @@ module _ (F EF : Type 0) (R : Ring F) (eq : F → F → Bool) where
       let meant = subst (λ (n : Interaction (SymbolicExpression F)). IsExclusiveQuery R.one (λ x w. value R w x) (λ x t. degree_of t (tree_of x)) group_bus branches n) query.message query in
       record {
         one = ap length one.1;
-        records = set.records;
+        fit = fit;
         sends = λ w widths.
             let here : stands_for before w = subst (λ (l : AirLayout). HasWidths l w) (sym (ap (λ r. r.constraints.layout) empty)) widths in
             ap (sent_row R eq w) one.1 ∙ ap (λ s. s ∷ []) (group_sends R eq w (stands_for before) (λ x t. degree_of t (tree_of x)) branches group one.0 here keys meant one.2);
@@ -183,21 +188,22 @@ module _ (F EF : Type 0) (R : Ring F) (eq : F → F → Bool) where
   -- its one refusal is want of memory
   group_refusal : (e : AirError) → EvaluatesNew {A = Unit {0}} (λ _. group_evaluates) tt (layout_of_widths 4 0 0) (Err e) → e ≡ AirMemory
   group_refusal e (inl memory) = memory
-  group_refusal e (inr (before, after, empty, inl (branches, keys, inl (memory, kept)))) = memory
-  group_refusal e (inr (before, after, empty, inl (branches, keys, inr (m, query, refused)))) = refused.1
-  group_refusal e (inr (before, after, empty, inr refused)) = refused_memory 4 before after e empty refused
+  group_refusal e (inr (before, after, empty, (inl (branches, keys, inl (memory, kept)), within))) = memory
+  group_refusal e (inr (before, after, empty, (inl (branches, keys, inr (m, query, refused)), within))) = refused.1
+  group_refusal e (inr (before, after, empty, (inr refused, within))) = refused_memory 4 before after e empty refused
 
   -- it records no local lookup
   group_fault : (b : Builder) (e : LookupError) → EvaluatesNew {A = Unit {0}} (λ _. group_evaluates) tt (layout_of_widths 4 0 0) (Ok b) → ¬ IsFirstLocalRefusal (recorded_air b).locals e
-  group_fault b e (before, empty, inr refused) fault = absurd (cc refused.1)
-  group_fault b e (before, empty, inl (branches, keys, (m, query, pushed))) fault =
+  group_fault b e (before, empty, (inr refused, within)) fault = absurd (cc refused.1)
+  group_fault b e (before, empty, (inl (branches, keys, (m, query, pushed)), within)) fault =
       let none : (recorded_air b).locals ≡ [] = ap (λ r. r.locals) (pushed ∙ ap₂ with_interaction empty query.message) in
       no_item fault.before fault.after fault.tuples (sym none ∙ fault.split)
 
   -- the lookups of the machine `exclusive`
   pub group_lookups : (answer : Result (Lookups F) LookupError) → Extracts {A = Unit {0}} (λ _. group_evaluates) tt (layout_of_widths 4 0 0) answer
+      → IfOk answer (λ set. EvaluatesWithin {A = Unit {0}} (λ _. group_evaluates) tt → DoFit (layout_of_widths 4 0 0) (lookups_of set))
       → MatchResult answer (λ set. AreLookupsOf R eq Exclusive (lookups_of set)) (λ e. e ≡ Memory)
-  group_lookups (Ok set) (b, new, is, faultless) = group_set b set new is
-  group_lookups (Err e) (inl memory) = memory
-  group_lookups (Err e) (inr (inl (refusal, new, is))) = is ∙ ap from_air (group_refusal refusal new)
-  group_lookups (Err e) (inr (inr (b, new, fault))) = absurd (group_fault b e new fault)
+  group_lookups (Ok set) (b, new, is, faultless) fits = group_set b set new is (fits (λ before after h. h.1))
+  group_lookups (Err e) (inl memory) fits = memory
+  group_lookups (Err e) (inr (inl (refusal, new, is))) fits = is ∙ ap from_air (group_refusal refusal new)
+  group_lookups (Err e) (inr (inr (b, new, fault))) fits = absurd (group_fault b e new fault)

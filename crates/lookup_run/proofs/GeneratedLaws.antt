@@ -104,4 +104,4 @@ module _ {F K : Type 0} (E : Extension F K) (machine : Machine) (alpha beta : K)
       )
       by_result (Err e) (inl memory) = inl memory
       by_result (Err e) (inr first) =
-          inr (inl ((λ i. slice_get (trace_faults E (column_denominator E (sym challenges_are i)) (sym rows_are i)) 0) ∙ first))
+          inr ((λ i. slice_get (trace_faults E (column_denominator E (sym challenges_are i)) (sym rows_are i)) 0) ∙ first)

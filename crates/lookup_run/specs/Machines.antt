@@ -1,5 +1,6 @@
 -- What the AIRs of the machines push.
-use Rattle.std.specs.Prelude.{◌≡◌, ◌⊎◌, ◌<◌, ℕ, Bool, List, [], ◌∷◌, codes, length, map, Some, None, slice_get, slice_index_or, Result, Err, MatchResult}
+use Rattle.std.specs.Prelude.{◌≡◌, ◌⊎◌, ◌<◌, ℕ, Bool, List, [], ◌∷◌, codes, length, map, Some, None, slice_get, slice_index_or, Result, Ok, Err, MatchResult}
+use Rattle.std.proofs.Common.{inl, inr, subst}
 use Rattle.std.specs.declared.alloc.Global.{Global}
 use Rattle.std.specs.declared.vec.Vec.{Vec}
 use Rattle.field.specs.Ring.{Ring}
@@ -11,7 +12,7 @@ use Rattle.expressions.specs.Window.{Window}
 use Rattle.expressions.specs.Layout.{layout_of_widths}
 use Rattle.air.specs.Recorded.{HasWidths}
 use Rattle.lookup_model.specs.Message.{Message}
-use Rattle.lookup_model.specs.Records.{AreRecords}
+use Rattle.lookup_model.specs.Records.{DoFit}
 use Rattle.lookup_model.specs.Sent.{Sent, sent}
 use Rattle.lookup_model.specs.Trace.{sent_row}
 use Rattle.lookup_model.specs.declared.types.Lookup.{Lookup}
@@ -32,6 +33,12 @@ IsCellRefusal window_refuses layout columns builder e =
 abbrev pub IsRefusedBefore : {B : Type 0} → (B → AirError → Type 0) → (B → AirLayout) → ℕ → B → Result (Unit {0}) AirError → B → Type 0
 IsRefusedBefore window_refuses layout columns before answer after =
     (e : AirError) × (answer ≡ Err e) × (after ≡ before) × IsCellRefusal window_refuses layout columns before e
+
+-- what is accepted was not refused before
+pub pushed_if_accepted : {B : Type 0} (Pushed : Type 0) (window_refuses : B → AirError → Type 0) (layout : B → AirLayout) (columns : ℕ) (before after : B) → Pushed ⊎ IsRefusedBefore window_refuses layout columns before (Ok tt) after → Pushed
+pushed_if_accepted Pushed window_refuses layout columns before after (inl pushed) = pushed
+pushed_if_accepted Pushed window_refuses layout columns before after (inr refused) =
+    absurd (subst (λ (answer : Result (Unit {0}) AirError). MatchResult answer (λ _. Unit {0}) (λ _. ⊥)) refused.1 tt)
 
 -- one such interaction is pushed, and the answer is the builder's
 abbrev pub PushesSuch : {B M : Type 0} → (B → M → B → Type 0) → (B → M → AirError → B → Type 0) → (M → Type 0) → B → Result (Unit {0}) AirError → B → Type 0
@@ -105,8 +112,9 @@ module _ {F : Type 0} (R : Ring F) (eq : F → F → Bool) where
       by_name Range = sent R eq None (message_of (cell 0) R.one ∷ message_of (cell 1) (R.neg (cell 2)) ∷ [])
       by_name Exclusive = sent R eq (Some (cell 0 ∷ cell 2 ∷ [])) (message_of (cell 1) R.one ∷ message_of (cell 3) R.one ∷ [])
 
-  -- the lookups of a machine: one, well formed, which on each row sends what the machine says
+  -- the lookups of a machine: one, which fits the rows of its input, and which on each row sends
+  -- what the machine says
   pub record AreLookupsOf (machine : Machine) (lookups : List (Lookup F)) : Type 0 where
     pub one : length lookups ≡ 1
-    pub records : AreRecords lookups
+    pub fit : DoFit (layout_of_widths (columns_of machine) 0 0) lookups
     pub sends : (w : Window F) → HasWidths (layout_of_widths (columns_of machine) 0 0) w → sent_row R eq w lookups ≡ machine_sends machine w.main ∷ []

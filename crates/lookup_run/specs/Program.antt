@@ -3,21 +3,17 @@ use Rattle.std.specs.Prelude.{◌≡◌, ◌≢◌, ◌⊎◌, ◌↔◌, ◌++�
 use Rattle.std.specs.Io.KnownBytes.{Appends}
 use Rattle.std.specs.List.{range_with_len}
 use Rattle.matrix.specs.Matrix.{Matrix, height, row}
-use Rattle.expressions.specs.Layout.{layout_of_widths}
 use Rattle.lookup_model.specs.Denominators.{column_denominator}
 use Rattle.lookup_model.specs.Extension.{Extension}
 use Rattle.lookup_model.specs.Fault.{trace_faults}
 use Rattle.lookup_model.specs.Message.{Key}
 use Rattle.lookup_model.specs.Plain.{plain_cells, plain_terminal}
-use Rattle.lookup_model.specs.Records.{DoFit}
 use Rattle.lookup_model.specs.Sent.{Sent}
 use Rattle.lookup_model.specs.declared.error.LookupError.{LookupError}
-use Rattle.lookup_model.specs.declared.error.LookupError.TheVariants.{BadRecord}
-use Rattle.lookup_model.specs.declared.types.Lookup.{Lookup}
 use Rattle.lookup.specs.Challenges.{prefix_of_bus}
 use Rattle.lookup_run.specs.Fields.{Fields}
 use Rattle.lookup_run.specs.Input.{IsInput, IsInputRefusal}
-use Rattle.lookup_run.specs.Machines.{AreLookupsOf, columns_of, machine_sends, name_of}
+use Rattle.lookup_run.specs.Machines.{columns_of, machine_sends, name_of}
 use Rattle.lookup_run.specs.Refusal.{ShowsWord, of_air}
 use Rattle.lookup_run.specs.Report.{air_lines, verdict_line}
 use Rattle.lookup_run.specs.declared.error.RunError.{RunError}
@@ -46,13 +42,9 @@ module _ {F K : Type 0} (E : Extension F K) (machine : Machine) (alpha beta : K)
   abbrev pub machine_faults : List LookupError
   machine_faults = trace_faults E bus_denominator machine_rows
 
-  -- Why there is no auxiliary trace: the first fault; or, before any row is evaluated, that lookups
-  -- which send what the machine says have variables outside the rows. An AIR of the program has no
-  -- such variables, but its contract does not say so.
+  -- why there is no auxiliary trace: the first fault
   abbrev pub IsAirRefusal : LookupError → Type 0
-  IsAirRefusal e =
-      (slice_get machine_faults 0 ≡ Some e)
-      ⊎ ((lookups : List (Lookup F)) × AreLookupsOf E.base E.base_eq machine lookups × ¬ DoFit (layout_of_widths (columns_of machine) 0 0) lookups × (e ≡ BadRecord 0))
+  IsAirRefusal e = slice_get machine_faults 0 ≡ Some e
 
 -- a word that gives no challenge is refused
 abbrev pub IsBadChallenge : {K : Type 0} → (List ℕ → K → Type 0) → List ℕ → RunError → Type 0

@@ -43,7 +43,7 @@ impl Machine {
         }
     }
 
-    /// The lookups that its AIR records.
+    /// The lookups that its AIR records. They fit the rows of its input.
     ///
     /// Fails only when out of memory.
     pub fn lookups<F: Field, EF: ExtensionField<F>>(

@@ -11,7 +11,6 @@ use crate::challenge::Challenge;
 use crate::error::RunError;
 use crate::machine::Machine;
 use crate::rows::read_rows;
-use air::AirLayout;
 use field::{ExtensionField, Field};
 use lookup::{Challenges, LogUpGadget, LookupError, LookupProtocol, LookupTerminal};
 use matrix::RowMajorMatrix;
@@ -60,8 +59,6 @@ pub fn report_of<F: Field, EF: Challenge<F>>(
 }
 
 /// The auxiliary trace of a machine's AIR over its rows, and its terminal.
-///
-/// Lookups that do not fit the rows are refused as a malformed record.
 fn generated<F: Field, EF: ExtensionField<F>>(
     alloc: Global,
     machine: Machine,
@@ -79,10 +76,6 @@ fn generated<F: Field, EF: ExtensionField<F>>(
     let lookups = machine.lookups::<F, EF>(alloc)?;
     let preprocessed: Option<&RowMajorMatrix<F>> = None;
     let public_values: Vec<F> = Vec::new(alloc);
-    let layout = AirLayout::of_traces(main, preprocessed, public_values.as_slice());
-    if !lookups.fits(&layout) {
-        return Err(LookupError::BadRecord { lookup: 0 });
-    }
     let (alpha, beta) = challenges;
     let table = Challenges::new(alloc, alpha, beta, 1, 1)?;
     let columns = table.for_columns(alloc, &[0])?;

@@ -145,6 +145,8 @@ impl<'a, F: Field, EF: ExtensionField<F>> AirBuilder for DebugConstraintBuilder<
 
     ghost window_refuses = { λ _ _. ⊥ };
 
+    ghost pushed_within = { λ _. Unit {0} };
+
     ghost variable_converts = { λ v x w h. h };
 
     ghost variable_degree = { Prim.search rules };
@@ -154,6 +156,8 @@ impl<'a, F: Field, EF: ExtensionField<F>> AirBuilder for DebugConstraintBuilder<
     ghost keeps = { Prim.search rules };
 
     ghost keeps_layout = { Prim.search rules };
+
+    ghost keeps_pushed = { λ b x c h s. s };
 
     fn main(&self, _alloc: Global) -> Result<RowWindow<'a, F>, AirError> {
         Ok(self.main)
@@ -212,6 +216,8 @@ impl<'a, F: Field, EF: ExtensionField<F>> ExtensionBuilder for DebugConstraintBu
     ghost keeps_ext = { Prim.search rules };
 
     ghost keeps_ext_layout = { Prim.search rules };
+
+    ghost keeps_ext_pushed = { λ b x c h s. s };
 
     ghost base_keeps_ext = { Prim.search rules };
 

@@ -140,6 +140,8 @@ impl<F: Field, EF: ExtensionField<F>> AirBuilder for SymbolicAirBuilder<F, EF> {
 
     ghost window_refuses = { λ b e. e ≡ Memory };
 
+    ghost pushed_within = { λ _. Unit {0} };
+
     ghost variable_converts = { λ v x w h. ap (value_of F.ring w) h };
 
     ghost variable_degree = { λ v x t h. variable_degree-le v _ t h };
@@ -149,6 +151,8 @@ impl<F: Field, EF: ExtensionField<F>> AirBuilder for SymbolicAirBuilder<F, EF> {
     ghost keeps = { λ b x c w h. iff_along (λ l. HasWidths l w) b.variables c.variables (ap (λ r. r.layout) h) };
 
     ghost keeps_layout = { λ b x c h. ap (λ r. r.layout) h };
+
+    ghost keeps_pushed = { λ b x c h s. s };
 
     fn main(&self, alloc: Global) -> Result<RowMajorMatrix<SymbolicVariable<F>>, AirError> {
         Ok(copy_rows(alloc, self.variables.main())?)
@@ -219,6 +223,8 @@ impl<F: Field, EF: ExtensionField<F>> ExtensionBuilder for SymbolicAirBuilder<F,
     ghost keeps_ext = { λ b x c w h. iff_along (λ l. HasExtWidths l w) b.variables c.variables (ap (λ r. r.layout) h) };
 
     ghost keeps_ext_layout = { λ b x c h. ap (λ r. r.layout) h };
+
+    ghost keeps_ext_pushed = { λ b x c h s. s };
 
     ghost base_keeps_ext = { λ b x c w h. iff_along (λ l. HasExtWidths l w) b.variables c.variables (ap (λ r. r.layout) h) };
 

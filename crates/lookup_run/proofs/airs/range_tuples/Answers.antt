@@ -1,6 +1,8 @@
-use Rattle.std.proofs.Common.{◌≡◌, ◌++◌, ◌∷◌, [], List, map, ap, sym, ◌∙◌}
-use Rattle.lookup_record.specs.Interaction.{local}
-use Rattle.lookup_record.specs.Pushed.{tuple_of}
+use Rattle.std.proofs.Common.{◌≡◌, ◌++◌, ◌∷◌, [], List, map, ap, subst, sym, ◌∙◌}
+use Rattle.std.proofs.lemmas.List.Elements.{All-cons, All-nil}
+use Rattle.lookup_record.specs.Interaction.{Tuple, local}
+use Rattle.lookup_record.specs.Pushed.{pushed_local, tuple_of}
+use Rattle.lookup_record.specs.Within.{IsWithin, TupleWithin}
 use Rattle.lookup_run.proofs.MachineLaws.{of_nat-one}
 use Rattle.lookup_run.proofs.airs.range_tuples.Goals as goal
 
@@ -24,3 +26,15 @@ returns-clause-range g c =
           let same : g.AB.Expr.Expression.value c.in_ok-cell.field-0 (g.AB.AirBuilder.seen w) ≡ v = cc (sym (c.in_ok-cell.ensures.cell w stands) ∙ there) in
           c.in_ok-neg.ensures.means (g.AB.AirBuilder.seen w) ∙ ap g.AB.F.PrimeCharacteristicRing.ring.neg same;
     }
+
+pub returns-clause-within : goal.returns-clause-within
+returns-clause-within g c =
+    let count = c.from_i32.result in
+    let items = c.in_ok-push-2.ensures.items ∙ ap (λ (l : List _). l ++ (c.in_ok-tuple-2.field-0, c.provided-provided.result) ∷ []) (c.in_ok-push.ensures.items ∙ ap (λ (l : List _). l ++ (c.in_ok-tuple.field-0, count) ∷ []) c.new-tuples.ensures.items) in
+    let Inside : Tuple _ → Type 0 = TupleWithin g.AB.Expr.Expression.within (g.AB.AirBuilder.layout c.args.builder.now) in
+    let read : Inside (tuple_of (c.in_ok-tuple.field-0, count)) = record { fields = c.in_ok-tuple.ensures.within; count = c.from_i32.ensures.within _ } in
+    let negated = c.in_ok-neg.ensures.within _ c.in_ok-cell.ensures.within in
+    let last : Tuple _ = tuple_of (c.in_ok-tuple-2.field-0, c.provided-provided.result) in
+    let provided : Inside last = record { fields = c.in_ok-tuple-2.ensures.within; count = rw c.provided-provided.ensures negated } in
+    subst (λ (l : List _). IsWithin g.AB.Expr.Expression.within (g.AB.AirBuilder.layout c.args.builder.now) (pushed_local l)) (sym items)
+    (All-cons Inside (tuple_of (c.in_ok-tuple.field-0, count)) (last ∷ []) read (All-cons Inside last [] provided (All-nil Inside)))

@@ -1,8 +1,12 @@
 use Rattle.std.proofs.Common.{inr}
 use Rattle.std.proofs.lemmas.Result.{err_from_is_err_and}
+use Rattle.lookup_record.specs.Within.{nothing-within}
 use Rattle.lookup_record.proofs.symbolic.InteractionSymbolicBuilder.from_air.Goals as goal
 
 pub returns-in_err-eval-clause-evaluates : goal.returns-in_err-eval-clause-evaluates
 returns-in_err-eval-clause-evaluates g c same =
     let p = err_from_is_err_and c.from_residual-in_err-eval.result c.from_residual-in_err-eval.ensures.1 in
     rw (p.1, p.2) (inr (c.in_ok-builder.builder, c.eval.new.builder, c.in_ok-builder.ensures.new, c.in_err-eval.ensures))
+
+pub returns-clause-within : goal.returns-clause-within
+returns-clause-within g c keeps = keeps _ _ c.in_ok-eval.ensures (nothing-within _ _ c.in_ok-builder.ensures.new)
