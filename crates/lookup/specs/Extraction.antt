@@ -11,7 +11,7 @@ use Rattle.lookup_model.specs.Outline.{Outline, fields_of}
 use Rattle.lookup_model.specs.Refusal.{from_air}
 use Rattle.lookup_model.specs.declared.error.LookupError.{LookupError}
 use Rattle.lookup_model.specs.declared.error.LookupError.TheVariants.{Memory, CountWeightOverflow, TupleWidths}
-use Rattle.lookup_record.specs.Interaction.{Tuple, GlobalInteraction, ExclusiveInteraction}
+use Rattle.lookup_builder.specs.Interaction.{Tuple, GlobalInteraction, ExclusiveInteraction}
 use Rattle.lookup_record.specs.RecordedAir.{EvaluatesNew, recorded_air}
 use Rattle.lookup_record.specs.declared.symbolic.InteractionSymbolicBuilder.{InteractionSymbolicBuilder}
 use Rattle.lookup.specs.Lookups.{lookups_of}

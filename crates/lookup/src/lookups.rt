@@ -25,7 +25,7 @@ pub struct Lookups<F> {
 impl<F: Field> Lookups<F> {
     ghost use Rattle.lookup.specs.Extraction.{Extracts};
     ghost use Rattle.lookup.specs.Lookups.{lookups_of};
-    ghost use Rattle.lookup_record.specs.Within.{EvaluatesWithin};
+    ghost use Rattle.lookup_record.specs.RecordedWithin.{EvaluatesWithin};
 
     /// The lookups that an AIR records in a new builder with its own layout: local ones, then those
     /// on buses, then groups, each in the order of their pushes, in the columns 0, 1, 2, …

@@ -1,7 +1,2 @@
-pub mod Interaction
-pub mod Messages
-pub mod Negation
-pub mod Pushed
 pub mod RecordedAir
-pub mod Records
-pub mod Within
+pub mod RecordedWithin

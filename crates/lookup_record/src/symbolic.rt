@@ -5,22 +5,20 @@ ghost use Rattle.expressions.specs.ExtTree.{ext_tree_of};
 ghost use Rattle.expressions.specs.Layout.{first_mismatch};
 ghost use Rattle.expressions.specs.Tree.{tree_of};
 ghost use Rattle.expressions.specs.declared.error.AirError.TheVariants.{Memory};
-ghost use Rattle.lookup_record.specs.Pushed.{pushed_branch, pushed_exclusive, pushed_global, pushed_local};
-ghost use Rattle.lookup_record.specs.Records.{branch_of};
+ghost use Rattle.lookup_builder.specs.Pushed.{pushed_branch, pushed_exclusive, pushed_global, pushed_local};
+ghost use Rattle.lookup_builder.specs.Records.{branch_of};
 
-use crate::builder::{IndexedLookupBuilder, InteractionBuilder};
-use crate::count::Count;
 use crate::indexed::{IndexedRead, IndexedTable, TraceWindow};
-use crate::interaction::{
-    LocalTuple, SymbolicExclusiveBranch, SymbolicExclusiveInteraction, SymbolicInteraction,
-    SymbolicLocalInteraction,
-};
 use air::{
     Air, AirBuilder, AirError, AirLayout, ConstraintLayout, Expression, ExtensionBuilder,
     PermutationAirBuilder, SymbolicAirBuilder, SymbolicExpression, SymbolicExpressionExt,
     SymbolicVariable, SymbolicVariableExt, copy_expressions,
 };
 use field::{ExtensionField, Field};
+use lookup_builder::{
+    Count, IndexedLookupBuilder, InteractionBuilder, LocalTuple, SymbolicExclusiveBranch,
+    SymbolicExclusiveInteraction, SymbolicInteraction, SymbolicLocalInteraction,
+};
 use matrix::RowMajorMatrix;
 use std::alloc::{AllocError, Global};
 
@@ -41,8 +39,8 @@ pub struct InteractionSymbolicBuilder<F, EF> {
 impl<F: Field, EF: ExtensionField<F>> InteractionSymbolicBuilder<F, EF> {
     ghost use Rattle.lookup_declaration.specs.Declaration.{read_of, table_of};
     ghost use Rattle.lookup_record.specs.RecordedAir.{EvaluatesNew, no_air_recorded, recorded_air};
-    ghost use Rattle.lookup_record.specs.Records.{exclusive_of, global_of, local_of};
-    ghost use Rattle.lookup_record.specs.Within.{EvaluatesWithin, PushedWithin};
+    ghost use Rattle.lookup_builder.specs.Records.{exclusive_of, global_of, local_of};
+    ghost use Rattle.lookup_record.specs.RecordedWithin.{EvaluatesWithin, PushedWithin};
 
     /// The builder for a layout, with nothing recorded.
     ///
@@ -186,7 +184,7 @@ impl<F: Field, EF: ExtensionField<F>> AirBuilder for InteractionSymbolicBuilder<
     ghost use Rattle.expressions.specs.Meaning.{value_of, variable_value};
     ghost use Rattle.air.specs.Recorded.{HasWidths, recorded, with_base};
     ghost use Rattle.lookup_record.specs.RecordedAir.{recorded_air, with_constraints};
-    ghost use Rattle.lookup_record.specs.Within.{PushedWithin};
+    ghost use Rattle.lookup_record.specs.RecordedWithin.{PushedWithin};
 
     type F = F;
 
@@ -264,7 +262,7 @@ impl<F: Field, EF: ExtensionField<F>> ExtensionBuilder for InteractionSymbolicBu
     ghost use Rattle.air.specs.Leaves.{iff_along, ext_variable_degree-le};
     ghost use Rattle.air.specs.Recorded.{HasExtWidths, HasWidths, recorded, with_extension};
     ghost use Rattle.lookup_record.specs.RecordedAir.{recorded_air, with_constraints};
-    ghost use Rattle.lookup_record.specs.Within.{PushedWithin};
+    ghost use Rattle.lookup_record.specs.RecordedWithin.{PushedWithin};
 
     type EF = EF;
 
@@ -374,7 +372,7 @@ impl<F: Field, EF: ExtensionField<F>> InteractionBuilder for InteractionSymbolic
     ghost use Rattle.air.specs.Leaves.{iff_along};
     ghost use Rattle.air.specs.Recorded.{HasWidths, recorded};
     ghost use Rattle.lookup_record.specs.RecordedAir.{recorded_air, with_interaction, with_interaction-layout};
-    ghost use Rattle.lookup_record.specs.Within.{PushedWithin, with_interaction-within};
+    ghost use Rattle.lookup_record.specs.RecordedWithin.{PushedWithin, with_interaction-within};
 
     ghost pushes = { λ b m c. recorded_air c ≡ with_interaction (recorded_air b) m };
 
@@ -469,7 +467,7 @@ impl<F: Field, EF: ExtensionField<F>> IndexedLookupBuilder for InteractionSymbol
     ghost use Rattle.air.specs.Leaves.{iff_along};
     ghost use Rattle.air.specs.Recorded.{HasWidths, recorded};
     ghost use Rattle.lookup_record.specs.RecordedAir.{recorded_air, with_declaration, with_declaration-layout};
-    ghost use Rattle.lookup_record.specs.Within.{PushedWithin, with_declaration-within};
+    ghost use Rattle.lookup_record.specs.RecordedWithin.{PushedWithin, with_declaration-within};
 
     ghost declares = { λ b d c. recorded_air c ≡ with_declaration (recorded_air b) d };
 

@@ -19,10 +19,10 @@ use Rattle.lookup_model.specs.Sent.{value}
 use Rattle.lookup_model.specs.Trace.{sent_row}
 use Rattle.lookup_model.specs.declared.error.LookupError.{LookupError}
 use Rattle.lookup_model.specs.declared.error.LookupError.TheVariants.{Memory}
-use Rattle.lookup_record.specs.Interaction.{ExclusiveInteraction, Interaction, Tuple, exclusive, local}
-use Rattle.lookup_record.specs.Messages.{IsExclusiveQuery, PushesOne}
+use Rattle.lookup_builder.specs.Interaction.{ExclusiveInteraction, Interaction, Tuple, exclusive, local}
+use Rattle.lookup_builder.specs.Messages.{IsExclusiveQuery, PushesOne}
 use Rattle.lookup_model.specs.Records.{DoFit}
-use Rattle.lookup_record.specs.Within.{EvaluatesWithin, PushedWithin}
+use Rattle.lookup_record.specs.RecordedWithin.{EvaluatesWithin, PushedWithin}
 use Rattle.lookup_record.specs.RecordedAir.{EvaluatesNew, no_air_recorded, recorded_air, with_interaction}
 use Rattle.lookup_record.specs.declared.symbolic.InteractionSymbolicBuilder.{InteractionSymbolicBuilder}
 use Rattle.lookup.specs.Extraction.{Extracts, IsFirstLocalRefusal, IsLocalRefusal, extraction, tuple_widths, local_at, exclusive_at}

@@ -11,8 +11,8 @@ use Rattle.expressions.specs.declared.base_expression.SymbolicExpression.{Symbol
 use Rattle.lookup_model.specs.Outline.{Outline, fields_of}
 use Rattle.lookup_model.specs.Sent.{Sent, branch_at, sent, sent_at, value, values}
 use Rattle.lookup_model.specs.declared.types.Lookup.{Lookup}
-use Rattle.lookup_record.specs.Interaction.{Tuple, Branch, ExclusiveInteraction, exclusive, local}
-use Rattle.lookup_record.specs.Messages.{IsExclusiveQuery, IsUnitQuery, flag_and_fields}
+use Rattle.lookup_builder.specs.Interaction.{Tuple, Branch, ExclusiveInteraction, exclusive, local}
+use Rattle.lookup_builder.specs.Messages.{IsExclusiveQuery, IsUnitQuery, flag_and_fields}
 use Rattle.lookup.specs.Extraction.{exclusive_at, local_at}
 use Rattle.lookup_run.specs.Machines.{AreTwoKeys, IsCell, IsCellTuple, IsRange, group_bus, machine_sends, message_of}
 use Rattle.lookup_run.specs.declared.machine.Machine.TheVariants.{Range, Exclusive}

@@ -16,8 +16,8 @@ use Rattle.lookup_model.specs.Records.{DoFit}
 use Rattle.lookup_model.specs.Sent.{Sent, sent}
 use Rattle.lookup_model.specs.Trace.{sent_row}
 use Rattle.lookup_model.specs.declared.types.Lookup.{Lookup}
-use Rattle.lookup_record.specs.Interaction.{Interaction, local}
-use Rattle.lookup_record.specs.Messages.{flag_and_key}
+use Rattle.lookup_builder.specs.Interaction.{Interaction, local}
+use Rattle.lookup_builder.specs.Messages.{flag_and_key}
 use Rattle.lookup_run.specs.declared.machine.Machine.{Machine}
 use Rattle.lookup_run.specs.declared.machine.Machine.TheVariants.{Range, Exclusive}
 

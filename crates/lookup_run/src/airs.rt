@@ -1,8 +1,8 @@
 //! The AIRs of the machines, which say what each row looks up.
 ghost use Rattle.std.specs.Prelude.{◌⊎◌, ◌+◌, All, IfErr, IfOk, OnOk};
-ghost use Rattle.lookup_record.specs.Messages.{IsExclusiveQuery, PushesOne};
-ghost use Rattle.lookup_record.specs.Pushed.{pushed_local};
-ghost use Rattle.lookup_record.specs.Within.{IsWithin, KeyWithin};
+ghost use Rattle.lookup_builder.specs.Messages.{IsExclusiveQuery, PushesOne};
+ghost use Rattle.lookup_builder.specs.Pushed.{pushed_local};
+ghost use Rattle.lookup_builder.specs.Within.{IsWithin, KeyWithin};
 ghost use Rattle.lookup_run.specs.Machines.{AreTwoKeys, IsCell, IsCellRefusal, IsCellTuple, IsRange, IsRefusedBefore, PushesSuch, group_bus, pushed_if_accepted};
 
 use air::{Air, AirBuilder, AirError, BaseAir, Expression, LayoutPart};

@@ -1,5 +1,5 @@
 use Rattle.std.proofs.Common.{◌≡◌, length, ◌∙◌, arith}
-use Rattle.lookup_record.specs.Records.{exclusive_of}
+use Rattle.lookup_builder.specs.Records.{exclusive_of}
 use Rattle.lookup_model.specs.Outline.{fields_of}
 use Rattle.lookup.specs.Extraction.{exclusive_at}
 use Rattle.lookup.proofs.ExtractionLaws.{next_records, next_seen}

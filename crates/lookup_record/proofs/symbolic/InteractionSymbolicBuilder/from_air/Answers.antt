@@ -1,6 +1,6 @@
 use Rattle.std.proofs.Common.{inr}
 use Rattle.std.proofs.lemmas.Result.{err_from_is_err_and}
-use Rattle.lookup_record.specs.Within.{nothing-within}
+use Rattle.lookup_record.specs.RecordedWithin.{nothing-within}
 use Rattle.lookup_record.proofs.symbolic.InteractionSymbolicBuilder.from_air.Goals as goal
 
 pub returns-in_err-eval-clause-evaluates : goal.returns-in_err-eval-clause-evaluates

@@ -1,6 +1,6 @@
 use Rattle.std.proofs.Common.{inl}
 use Rattle.expressions.proofs.Assertions.{on_ok}
-use Rattle.lookup_record.specs.Pushed.{pushed_local}
+use Rattle.lookup_builder.specs.Pushed.{pushed_local}
 use Rattle.lookup_run.proofs.airs.RangeAirAir.eval.Goals as goal
 
 pub returns : goal.returns

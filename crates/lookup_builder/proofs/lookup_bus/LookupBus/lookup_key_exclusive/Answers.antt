@@ -1,0 +1,12 @@
+use Rattle.expressions.proofs.Assertions.{on_ok}
+use Rattle.lookup_builder.proofs.Keys.{branches_within}
+use Rattle.lookup_builder.proofs.lookup_bus.LookupBus.lookup_key_exclusive.Goals as goal
+
+pub returns-clause-layout : goal.returns-clause-layout
+returns-clause-layout g c = on_ok c.push_exclusive_interaction.result _ _ _ c.push_exclusive_interaction.ensures
+    (λ pushed. g.met.AB.InteractionBuilder.push_keeps_layout _ _ _ pushed)
+
+pub returns-clause-within : goal.returns-clause-within
+returns-clause-within g c = on_ok c.push_exclusive_interaction.result _ _ _ c.push_exclusive_interaction.ensures
+    (λ pushed keys old. g.met.AB.InteractionBuilder.push_within _ _ _ pushed
+    (branches_within g.AB.Expr.Expression.within _ _ _ c.in_ok-queries.ensures.flags_and_fields keys (c.in_ok-queries.ensures.counts _)) old)

@@ -1,0 +1,6 @@
+pub mod Interaction
+pub mod Messages
+pub mod Negation
+pub mod Pushed
+pub mod Records
+pub mod Within

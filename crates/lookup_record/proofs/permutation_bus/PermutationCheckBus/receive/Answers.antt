@@ -1,6 +1,0 @@
-use Rattle.expressions.proofs.Assertions.{on_ok}
-use Rattle.lookup_record.proofs.permutation_bus.PermutationCheckBus.receive.Goals as goal
-
-pub returns-clause-within : goal.returns-clause-within
-returns-clause-within g c = on_ok c.push_interaction.result _ _ _ c.push_interaction.ensures
-    (λ pushed fields count old. g.met.AB.InteractionBuilder.push_within _ _ _ pushed (record { fields = fields; count = c.in_ok-received.ensures.within _ count }) old)
