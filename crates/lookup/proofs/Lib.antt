@@ -8,7 +8,6 @@ pub mod Nets
 pub mod Outlines
 pub mod OwnWindow
 pub mod PlainResults
-pub mod Prefixes
 pub mod ProgressLaws
 pub mod Regrouping
 pub mod SatisfiedFractions

@@ -1,4 +1,3 @@
-pub mod Challenges
 pub mod Extraction
 pub mod Fraction
 pub mod Lookups

@@ -1,4 +1,5 @@
 pub mod Branches
+pub mod Challenges
 pub mod ConstraintLaws
 pub mod Constraints
 pub mod DegreeBounds
@@ -12,6 +13,7 @@ pub mod Message
 pub mod Net
 pub mod Outline
 pub mod Plain
+pub mod Points
 pub mod RecordLaws
 pub mod Records
 pub mod Refusal

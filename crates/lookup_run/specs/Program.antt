@@ -14,7 +14,7 @@ use Rattle.lookup_model.specs.Sent.{Sent}
 use Rattle.lookup_model.specs.declared.error.LookupError.{LookupError}
 use Rattle.lookup_model.specs.declared.error.LookupError.TheVariants.{BadRecord}
 use Rattle.lookup_model.specs.declared.types.Lookup.{Lookup}
-use Rattle.lookup.specs.Challenges.{prefix_of_bus}
+use Rattle.lookup_model.specs.Challenges.{prefix_of_bus}
 use Rattle.lookup_run.specs.Fields.{Fields}
 use Rattle.lookup_run.specs.Input.{IsInput, IsInputRefusal}
 use Rattle.lookup_run.specs.Machines.{AreLookupsOf, columns_of, machine_sends, name_of}

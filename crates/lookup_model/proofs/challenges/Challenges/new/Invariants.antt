@@ -1,8 +1,8 @@
 use Rattle.std.proofs.Common.{◌≡◌, map}
 use Rattle.std.specs.List.{range_with_len}
-use Rattle.lookup.specs.Challenges.{prefix_of_bus}
+use Rattle.lookup_model.specs.Challenges.{prefix_of_bus}
 use Rattle.field.specs.Ring.{of_nat}
-use Rattle.lookup.proofs.challenges.Challenges.new.Given as goal
+use Rattle.lookup_model.proofs.challenges.Challenges.new.Given as goal
 
 abbrev pub invariant-loop : goal.invariant-loop
 invariant-loop g l =

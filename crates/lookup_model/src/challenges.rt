@@ -1,8 +1,9 @@
 //! The denominators of every bus, from one pair of challenges.
-ghost use Rattle.std.specs.Prelude.{◌≡◌, ◌+◌, ◌<◌, ◌∷◌, [], All, IfOk, length, map, slice_index_or};
+ghost use Rattle.std.specs.Prelude.{◌≡◌, ◌<◌, All, IfOk, length, map};
 ghost use Rattle.std.specs.Box.{boxed_slice_items};
-ghost use Rattle.std.specs.List.{flat_map, range_with_len};
-ghost use Rattle.lookup.specs.Challenges.{prefix_of_bus};
+ghost use Rattle.std.specs.List.{range_with_len};
+ghost use Rattle.lookup_model.specs.Challenges.{column_challenges, prefix_of_bus, table_of};
+ghost use Rattle.lookup_model.specs.Points.{HasPoints};
 
 use field::Field;
 use std::alloc::{AllocError, Global};
@@ -13,7 +14,6 @@ use std::boxed::BoxedSlice;
 ///
 /// The denominator of a message on bus `i` is `bus_prefix[i]` minus its combined tuple. Here
 /// `bus_prefix[i] = alpha + (i + 1) * beta^W`, where `W` is at least the width of each tuple: one
-/// power above every element of a tuple.
 /// power above every element of a tuple.
 #[derive(Drop)]
 pub struct Challenges<EF> {
@@ -41,6 +41,7 @@ impl<EF: Field> Challenges<EF> {
         ensures beta { IfOk result (λ c. c.beta ≡ beta) }
         ensures prefixes { IfOk result
             (λ c. boxed_slice_items c.bus_prefix ≡ map (prefix_of_bus EF.ring alpha beta max_message_width) (range_with_len 0 num_bus_ids)) }
+        ensures points { IfOk result (λ c. HasPoints EF.ring max_message_width alpha beta num_bus_ids (table_of c)) }
     {
         let gamma = beta.exp_u64(max_message_width as u64);
         let mut prefixes = Vec::with_capacity(alloc, num_bus_ids)?;
@@ -62,8 +63,7 @@ impl<EF: Field> Challenges<EF> {
     /// Fails only when out of memory.
     pub fn for_columns(&self, alloc: Global, ids: &[usize]) -> Result<Vec<EF>, AllocError>
         requires { All (λ id. id < length (boxed_slice_items self.now.bus_prefix)) ids.now }
-        ensures { IfOk result
-            (λ v. v.items ≡ flat_map (λ id. slice_index_or (boxed_slice_items self.now.bus_prefix) id self.now.alpha ∷ self.now.beta ∷ []) ids.now) }
+        ensures { IfOk result (λ v. v.items ≡ column_challenges (table_of self.now) ids.now) }
     {
         let mut challenges = Vec::new(alloc);
         for id in ids {
