@@ -31,18 +31,7 @@ module _ {F : Type 0} where
   auxiliary_height [] h = 0
   auxiliary_height (l ∷ ls) h = h
 
-module _ {F K : Type 0} (E : Extension F K) (table : ChallengeTable K) where
-  -- every constraint of an AIR is zero on row r
-  abbrev pub HoldsAt : Instance F → AirResult K → ℕ → Type 0
-  HoldsAt i result r =
-      AllByRecursion (λ constraint. constraint.meaning (witness_window i.main i.preprocessed i.public_values (column_challenges table i.ids) result.0 result.1 r) ≡ E.ring.zero) (lookup_constraints E i.lookups)
-
-  -- row r is the first on which a constraint is not zero
-  pub record IsFirstFailing (i : Instance F) (result : AirResult K) (r : ℕ) : Type 0 where
-    pub within : r < height i.main
-    pub fails : ¬ HoldsAt i result r
-    pub before : (s : ℕ) → s < r → HoldsAt i result s
-
+module _ {F K : Type 0} where
   -- the refusal of the shape of one AIR's result: terminal, width, height
   abbrev pub IsShapeRefusal : ℕ → Instance F → AirResult K → LookupError → Type 0
   IsShapeRefusal air i result e =
@@ -57,6 +46,18 @@ module _ {F K : Type 0} (E : Extension F K) (table : ChallengeTable K) where
     pub presence : has_terminal i.lookups ≡ is_some result.1
     pub width : result.0.width ≡ auxiliary_width i.lookups
     pub high : height result.0 ≡ auxiliary_height i.lookups (height i.main)
+
+module _ {F K : Type 0} (E : Extension F K) (table : ChallengeTable K) where
+  -- every constraint of an AIR is zero on row r
+  abbrev pub HoldsAt : Instance F → AirResult K → ℕ → Type 0
+  HoldsAt i result r =
+      AllByRecursion (λ constraint. constraint.meaning (witness_window i.main i.preprocessed i.public_values (column_challenges table i.ids) result.0 result.1 r) ≡ E.ring.zero) (lookup_constraints E i.lookups)
+
+  -- row r is the first on which a constraint is not zero
+  pub record IsFirstFailing (i : Instance F) (result : AirResult K) (r : ℕ) : Type 0 where
+    pub within : r < height i.main
+    pub fails : ¬ HoldsAt i result r
+    pub before : (s : ℕ) → s < r → HoldsAt i result s
 
   -- the refusal of one AIR's result: for its shape, else at the first row where a constraint fails
   abbrev pub IsAirRefusal : ℕ → Instance F → AirResult K → LookupError → Type 0
