@@ -7,16 +7,12 @@
 #![tactic(auto)]
 
 mod evaluation;
-mod exclusive;
 mod extraction;
-mod fraction;
-mod generation;
 pub mod indexed;
 pub mod logup;
 mod lookups;
 pub mod protocol;
 pub mod symbolic;
-mod trace_builder;
 pub mod traits;
 mod widths;
 

@@ -1,0 +1,4 @@
+pub mod Fraction
+pub mod Progress
+pub mod Selection
+pub mod TraceBuilder
