@@ -4,7 +4,7 @@ use lookup_model::Lookup;
 use matrix::RowMajorMatrix;
 
 /// One AIR of a batch: its lookups, each with the id of its bus, and its traces.
-#[derive(Debug)]
+#[derive(Debug, Drop)]
 pub struct BatchInstance<'a, F> {
     /// The lookups, in the order of their columns.
     pub lookups: &'a [Lookup<F>],
