@@ -1,3 +1,2 @@
-pub mod Challenges
 pub mod Extraction
 pub mod Lookups

@@ -6,7 +6,6 @@
 //! its constraints. `verify_terminal_sum` says whether the terminals of all AIRs cancel.
 #![tactic(auto)]
 
-mod challenges;
 mod evaluation;
 mod extraction;
 pub mod indexed;
@@ -17,9 +16,10 @@ pub mod symbolic;
 pub mod traits;
 mod widths;
 
-pub use challenges::Challenges;
 pub use logup::LogUpGadget;
-pub use lookup_model::{Kind, Lookup, LookupError, LookupTerminal, fits, has_equal_lengths};
+pub use lookup_model::{
+    Challenges, Kind, Lookup, LookupError, LookupTerminal, fits, has_equal_lengths,
+};
 pub use lookup_record::{
     Count, IndexedLookupBuilder, IndexedRead, IndexedTable, InteractionBuilder,
     InteractionSymbolicBuilder, LocalTuple, LookupBus, PermutationCheckBus,

@@ -53,7 +53,7 @@ module _ {F K : Type 0} {E : Extension F K} (laws : IsLawful E) (challenges : Li
       (ap (λ t. E.ring.add t (sub_in E.ring E.ring.one (sum_in E.ring (map E.embed fs)))) (by_column fs zs)) f_is
 
   -- there are as many flags as branches
-  as_many_flags : (flags : Option (Vec (SymbolicExpression F) Global)) (n : ℕ) → ForSome flags (λ fs. length fs.items ≡ n) → IfSome (option_map (λ fs. values E.base w fs.items) flags) (λ fs. length fs ≡ n)
+  pub as_many_flags : (flags : Option (Vec (SymbolicExpression F) Global)) (n : ℕ) → ForSome flags (λ fs. length fs.items ≡ n) → IfSome (option_map (λ fs. values E.base w fs.items) flags) (λ fs. length fs ≡ n)
   as_many_flags None n each = tt
   as_many_flags (Some fs) n each = length-map fs.items (value E.base w) ∙ each fs refl
 

@@ -8,7 +8,7 @@ use Rattle.field.specs.Sums.{sum_in}
 use Rattle.lookup_model.specs.Extension.{Extension, IsLawful}
 use Rattle.lookup_model.specs.Message.{Key, Message, same_key}
 use Rattle.lookup_model.specs.Net.{keys, net}
-use Rattle.lookup_model.specs.Plain.{quotient, plain_fraction, plain_terminal, trace_messages}
+use Rattle.lookup_model.specs.Plain.{net_sum, plain_fraction, plain_terminal, quotient, trace_messages}
 use Rattle.lookup_model.specs.Sent.{Sent}
 use Rattle.lookup_laws.proofs.KeyLaws.{same_key-Decides}
 use Rattle.lookup_laws.proofs.Nets.{regrouped}
@@ -17,7 +17,7 @@ use Rattle.lookup_model.proofs.SumLaws.{sum_in-append, sum_in-filter}
 
 module _ {F K : Type 0} {E : Extension F K} (laws : IsLawful E) (denominator : Key F → K) where
   -- quotients add up in the multiplicity
-  quotient-add : (key : Key F) (a b : F) → quotient E denominator (E.base.add a b) key ≡ E.ring.add (quotient E denominator a key) (quotient E denominator b key)
+  pub quotient-add : (key : Key F) (a b : F) → quotient E denominator (E.base.add a b) key ≡ E.ring.add (quotient E denominator a key) (quotient E denominator b key)
   quotient-add key a b = ap (λ t. E.ring.mul t (E.inverse (denominator key))) (laws.embeds.add a b) ∙ add_mul laws.ring (E.embed a) (E.embed b) (E.inverse (denominator key))
 
   -- a zero multiplicity gives zero, whatever the denominator
@@ -57,14 +57,16 @@ module _ {F K : Type 0} {E : Extension F K} (laws : IsLawful E) (denominator : K
   held ks [] h = tt
   held ks (m ∷ ms) h = (h.0, held ks ms h.1)
 
-  -- the terminal by nets is the sum of all fractions
-  pub plain_terminal-sum : (rows : List (List (Sent F))) → plain_terminal E denominator rows ≡ sum_in E.ring (flat_map (λ row. map (plain_fraction E denominator) row) rows)
-  plain_terminal-sum rows =
-      let messages = trace_messages rows in
+  -- the sum by nets is the sum of the quotients of all messages
+  pub net_sum-messages : (messages : List (Message F)) → net_sum E denominator messages ≡ sum_in E.ring (map of_message messages)
+  net_sum-messages messages =
       let same = same_key E.base_eq in
       let decides = same_key-Decides E.base_eq laws.base_eq in
       let ks = keys E.base_eq messages in
       let net_quotient = λ (key : Key F). quotient E denominator (net E.base E.base_eq messages key) key in
       sum_in-filter laws.ring net_quotient (λ key. not (E.base_eq (net E.base E.base_eq messages key) E.base.zero)) (λ key e. dropped key (net E.base E.base_eq messages key) e) ks
       ∙ regrouped E.base laws.ring same decides (λ m. m.key) (λ m. m.multiplicity) (λ key a. quotient E denominator a key) quotient-add quotient-zero ks (first_seen_separate same (map (λ m. m.key) messages)) messages (held ks messages (first_seen_holds same decides (map (λ m. m.key) messages)))
-      ∙ sym (trace_sum rows)
+
+  -- the terminal by nets is the sum of all fractions
+  pub plain_terminal-sum : (rows : List (List (Sent F))) → plain_terminal E denominator rows ≡ sum_in E.ring (flat_map (λ row. map (plain_fraction E denominator) row) rows)
+  plain_terminal-sum rows = net_sum-messages (trace_messages rows) ∙ sym (trace_sum rows)

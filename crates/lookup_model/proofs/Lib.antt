@@ -3,6 +3,7 @@ pub mod ConstraintLaws
 pub mod DegreeBounds
 pub mod Degrees
 pub mod HornerRule
+pub mod Prefixes
 pub mod RecordLaws
 pub mod SumLaws
 pub mod TakenOut

@@ -1,3 +1,4 @@
+pub mod Challenges
 pub mod Constraints
 pub mod Denominators
 pub mod Extension
@@ -9,6 +10,7 @@ pub mod Message
 pub mod Net
 pub mod Outline
 pub mod Plain
+pub mod Points
 pub mod Records
 pub mod Refusal
 pub mod Sent

@@ -1,8 +1,9 @@
-//! What lookups are and what they mean: their types, their refusals, and which of them fit an AIR.
-//! `specs/` defines the messages that they send, the plain result of generation and the equations
-//! of a satisfied witness (LogUp, eprint 2022/1530).
+//! What lookups are and what they mean: their types, their refusals, their challenges, and which of
+//! them fit an AIR. `specs/` defines the messages that they send, the plain result of generation and
+//! the equations of a satisfied witness (LogUp, eprint 2022/1530).
 #![tactic(auto)]
 
+mod challenges;
 mod copies;
 mod degree;
 mod error;
@@ -10,6 +11,7 @@ mod fitting;
 mod reading;
 mod types;
 
+pub use challenges::Challenges;
 pub use degree::constraint_degree;
 pub use error::LookupError;
 pub use fitting::{first_malformed, fits, has_equal_lengths};

@@ -16,7 +16,7 @@ use Rattle.lookup_model.specs.declared.error.LookupError.{LookupError}
 use Rattle.lookup_model.specs.declared.error.LookupError.TheVariants.{Memory}
 use Rattle.lookup_model.specs.declared.types.Lookup.{Lookup}
 use Rattle.lookup_model.specs.declared.types.LookupTerminal.{LookupTerminal}
-use Rattle.lookup.specs.Challenges.{prefix_of_bus}
+use Rattle.lookup_model.specs.Challenges.{prefix_of_bus}
 use Rattle.lookup_run.specs.Machines.{AreLookupsOf, columns_of, machine_sends}
 use Rattle.lookup_run.specs.Program.{IsAirRefusal, machine_faults, machine_rows, machine_terminal, machine_trace}
 use Rattle.lookup_run.specs.declared.machine.Machine.{Machine}

@@ -10,7 +10,7 @@ use Rattle.lookup_model.specs.Message.{Key}
 use Rattle.lookup_model.specs.Plain.{plain_cells, plain_terminal}
 use Rattle.lookup_model.specs.Sent.{Sent}
 use Rattle.lookup_model.specs.declared.error.LookupError.{LookupError}
-use Rattle.lookup.specs.Challenges.{prefix_of_bus}
+use Rattle.lookup_model.specs.Challenges.{prefix_of_bus}
 use Rattle.lookup_run.specs.Fields.{Fields}
 use Rattle.lookup_run.specs.Input.{IsInput, IsInputRefusal}
 use Rattle.lookup_run.specs.Machines.{columns_of, machine_sends, name_of}

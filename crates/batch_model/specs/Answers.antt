@@ -1,0 +1,48 @@
+-- What the calls over a batch answer.
+use Rattle.std.specs.Prelude.{◌≡◌, ◌⊎◌, List, Result, MatchResult, IfOk, IfErr}
+use Rattle.lookup_model.specs.Challenges.{ChallengeTable}
+use Rattle.lookup_model.specs.Extension.{Extension}
+use Rattle.lookup_model.specs.Net.{IsBalanced}
+use Rattle.lookup_model.specs.declared.error.LookupError.{LookupError}
+use Rattle.lookup_model.specs.declared.error.LookupError.TheVariants.{Memory}
+use Rattle.batch_model.specs.Faults.{IsFirstFault, IsOutOfMemory}
+use Rattle.batch_model.specs.Instances.{Instance}
+use Rattle.batch_model.specs.Messages.{IsRegular, batch_messages}
+use Rattle.batch_model.specs.Refusals.{IsWitnessRefusal}
+use Rattle.batch_model.specs.Witnesses.{AirResult, AreSatisfied, IsAccepted, IsOnlySatisfied, plain_witness, results_of}
+use Rattle.batch_model.specs.declared.fault.BatchFault.{BatchFault}
+use Rattle.batch_model.specs.declared.witness.Witness.{Witness}
+
+module _ {F K : Type 0} (E : Extension F K) (table : ChallengeTable K) (instances : List (Instance F)) where
+  -- generation gives the plain witness, or the fault of the first AIR that has one; or memory runs out
+  abbrev pub GivesPlainWitness : Result (Witness K) BatchFault → Type 0
+  GivesPlainWitness answer = MatchResult answer
+      (λ w. results_of w ≡ plain_witness E table instances)
+      (λ fault. IsOutOfMemory fault ⊎ IsFirstFault E table instances fault)
+
+  -- if the batch is regular, only memory can be lacking
+  abbrev pub SucceedsIfRegular : Result (Witness K) BatchFault → Type 0
+  SucceedsIfRegular answer = IfErr answer (λ fault. IsRegular E table instances → IsOutOfMemory fault)
+
+  -- a witness that is given is satisfied
+  abbrev pub GivesSatisfied : Result (Witness K) BatchFault → Type 0
+  GivesSatisfied answer = IfOk answer (λ w. AreSatisfied E table instances (results_of w))
+
+  -- if the batch is regular, it is the only one
+  abbrev pub GivesOnlySatisfied : Result (Witness K) BatchFault → Type 0
+  GivesOnlySatisfied answer = IfOk answer (λ w. IsRegular E table instances → IsOnlySatisfied E table instances (results_of w))
+
+  -- if the messages balance, it is accepted
+  abbrev pub GivesAcceptedIfBalanced : Result (Witness K) BatchFault → Type 0
+  GivesAcceptedIfBalanced answer =
+      IfOk answer (λ w. IsBalanced E.base E.base_eq (batch_messages E.base E.base_eq instances) → IsAccepted E table instances (results_of w))
+
+  -- the check of a witness answers whether it is accepted, or its first refusal; or memory runs out
+  abbrev pub ChecksWitness : List (AirResult K) → Result (Unit {0}) LookupError → Type 0
+  ChecksWitness witness answer = MatchResult answer
+      (λ _. IsAccepted E table instances witness)
+      (λ e. (e ≡ Memory) ⊎ IsWitnessRefusal E table instances witness e)
+
+  -- if the batch is regular, only the plain witness passes
+  abbrev pub PassesOnlyPlain : List (AirResult K) → Result (Unit {0}) LookupError → Type 0
+  PassesOnlyPlain witness answer = IfOk answer (λ _. IsRegular E table instances → witness ≡ plain_witness E table instances)

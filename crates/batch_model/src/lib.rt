@@ -1,0 +1,15 @@
+//! Batches of AIRs: what a prover and a verifier pass on, and what it means.
+//!
+//! `BatchInstance` is one AIR of a batch, `Witness` what a prover makes of a batch, and `BatchFault`
+//! why it makes none. `specs/` defines what the AIRs send under the ids of their lookups, which
+//! witnesses are satisfied and accepted, the plain witness, and the first refusal of each call
+//! (LogUp, eprint 2022/1530).
+#![tactic(auto)]
+
+mod fault;
+mod instance;
+mod witness;
+
+pub use fault::BatchFault;
+pub use instance::BatchInstance;
+pub use witness::Witness;

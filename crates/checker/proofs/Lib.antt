@@ -1,0 +1,5 @@
+pub mod CheckLaws
+pub mod Layouts
+pub mod ResultLaws
+pub mod RowLaws
+pub mod WitnessLaws

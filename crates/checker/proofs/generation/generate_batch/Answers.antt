@@ -1,0 +1,116 @@
+use Rattle.std.proofs.Common.{◌≡◌, ◌<◌, ◌+◌, ℕ, Some, List, length, inl, inr, map, sym, ap, subst, subst₂, ◌∙◌, arith}
+use Rattle.std.proofs.lemmas.List.{length-map}
+use Rattle.std.proofs.lemmas.Option.{slice_get_read}
+use Rattle.std.specs.List.{slice_get}
+use Rattle.lookup_model.proofs.Branches.{mapped_at}
+use Rattle.lookup_model.specs.Extension.{extension, IsLawful}
+use Rattle.lookup_model.specs.Terminals.{terminal_sum}
+use Rattle.batch_model.specs.Instances.{instance_of, instances_of}
+use Rattle.batch_model.specs.Witnesses.{AirResult}
+use Rattle.checker.specs.Results.{HasResults}
+use Rattle.lookup_model.specs.Challenges.{table_of}
+use Rattle.witness_laws.proofs.OnlyWitness.{only_witness}
+use Rattle.checker.proofs.ResultLaws.{all_results, fitting_all, results_more}
+use Rattle.witness_laws.proofs.Succeeds.{none_faulty}
+use Rattle.witness_laws.proofs.Totals.{balanced_total}
+use Rattle.checker.proofs.generation.generate_batch.Goals as goal
+
+pub returns-in-Err-clause-answer : goal.returns-in-Err-clause-answer
+returns-in-Err-clause-answer g c =
+    let instance = c.index-instances-air.result in
+    let instances = c.args.instances.now in
+    let lt : c.loop-air.air < length instances = c.loop-air-test.true in
+    let here : slice_get (instances_of instances) c.loop-air.air ≡ Some (instance_of instance) =
+    slice_get_read (instances_of instances) (length (instances_of instances)) c.loop-air.air (instance_of instance) (λ _. length (instances_of instances)) (omega (arith, length-map instances instance_of, lt)) (mapped_at instance_of instances c.loop-air.air instance lt c.index-instances-air.is) in
+    elim c.of_air.ensures.1 [
+      | inl memory ↦ inl memory.1
+      | inr other ↦ elim c.in-Err.ensures [
+        | inl memory ↦ absurd (other.0 memory)
+        | inr fault ↦ inr (record {
+          place = c.loop-air.air;
+          instance = instance_of instance;
+          air_is = other.1;
+          is_there = here;
+          is_first = fault ∙ ap Some (sym c.of_air.ensures.0);
+          before = c.loop-air.invariant.faultless;
+        })
+      ]
+    ]
+
+pub loop-air-preserved : goal.loop-air-preserved
+loop-air-preserved g c =
+    let E = extension g.F.PrimeCharacteristicRing.ring g.F.PartialEq.eq g.EF.PrimeCharacteristicRing.ring g.EF.PartialEq.eq g.EF.ExtensionDomain.embed g.EF.Field.inverse in
+    let table = table_of c.args.challenges.now in
+    let instance = c.index-instances-air.result in
+    let instances = c.args.instances.now in
+    let lt : c.loop-air.air < length instances = c.loop-air-test.true in
+    let more = results_more E table (instances_of instances) c.loop-air.air c.loop-air.aux.items c.loop-air.terminals.items (instance_of instance) (c.in-Ok.trace, c.in-Ok.terminal) (omega (arith, length-map instances instance_of, lt))
+    (mapped_at instance_of instances c.loop-air.air instance lt c.index-instances-air.is) c.in-Ok.ensures.0 c.in-Ok.ensures.1 c.in-Ok.ensures.2 c.loop-air.invariant in
+    subst₂ (HasResults E table (instances_of instances) (c.loop-air.air + 1)) (sym c.in_ok-push-in-Ok.ensures.items) (sym c.in_ok-push-in-Ok-2.ensures.items) more
+
+pub returns-clause-only : goal.returns-clause-only
+returns-clause-only g c =
+    let E = extension g.F.PrimeCharacteristicRing.ring g.F.PartialEq.eq g.EF.PrimeCharacteristicRing.ring g.EF.PartialEq.eq g.EF.ExtensionDomain.embed g.EF.Field.inverse in
+    let laws : IsLawful E = record {
+      base = g.F.PrimeCharacteristicRing.lawful;
+      base_eq = g.met.F.PrimeCharacteristicRing.eq_is;
+      ring = g.EF.PrimeCharacteristicRing.lawful;
+      domain = g.met.EF.Domain.domain;
+      eq = g.met.EF.PrimeCharacteristicRing.eq_is;
+      embeds = g.met.EF.ExtensionDomain.embeds;
+      inverse = g.met.EF.Field.inverse_is;
+    } in
+    let table = table_of c.args.challenges.now in
+    let instances = instances_of c.args.instances.now in
+    let done : HasResults E table instances (length instances) c.loop-air.aux.items c.loop-air.terminals.items =
+    subst (λ (n : ℕ). HasResults E table instances n c.loop-air.aux.items c.loop-air.terminals.items) (omega (arith, length-map c.args.instances.now instance_of, c.loop-air-test.false, c.loop-air.auto.air-end)) c.loop-air.invariant in
+    λ regular other satisfied.
+    only_witness laws table instances (fitting_all c.args.instances.now c.requires.fit) regular.flags regular.denominators other satisfied
+    ∙ sym (all_results E table instances c.loop-air.aux.items c.loop-air.terminals.items done).0
+
+pub returns-clause-balanced : goal.returns-clause-balanced
+returns-clause-balanced g c =
+    let E = extension g.F.PrimeCharacteristicRing.ring g.F.PartialEq.eq g.EF.PrimeCharacteristicRing.ring g.EF.PartialEq.eq g.EF.ExtensionDomain.embed g.EF.Field.inverse in
+    let laws : IsLawful E = record {
+      base = g.F.PrimeCharacteristicRing.lawful;
+      base_eq = g.met.F.PrimeCharacteristicRing.eq_is;
+      ring = g.EF.PrimeCharacteristicRing.lawful;
+      domain = g.met.EF.Domain.domain;
+      eq = g.met.EF.PrimeCharacteristicRing.eq_is;
+      embeds = g.met.EF.ExtensionDomain.embeds;
+      inverse = g.met.EF.Field.inverse_is;
+    } in
+    let table = table_of c.args.challenges.now in
+    let instances = instances_of c.args.instances.now in
+    let done : HasResults E table instances (length instances) c.loop-air.aux.items c.loop-air.terminals.items =
+    subst (λ (n : ℕ). HasResults E table instances n c.loop-air.aux.items c.loop-air.terminals.items) (omega (arith, length-map c.args.instances.now instance_of, c.loop-air-test.false, c.loop-air.auto.air-end)) c.loop-air.invariant in
+    let all = all_results E table instances c.loop-air.aux.items c.loop-air.terminals.items done in
+    λ balanced. record {
+      satisfied = all.1;
+      balanced = ap (λ (w : List (AirResult _)). terminal_sum E.ring (map (λ t. t.1) w)) all.0 ∙ balanced_total laws table instances balanced;
+    }
+
+pub returns-in-Err-clause-succeeds : goal.returns-in-Err-clause-succeeds
+returns-in-Err-clause-succeeds g c =
+    let E = extension g.F.PrimeCharacteristicRing.ring g.F.PartialEq.eq g.EF.PrimeCharacteristicRing.ring g.EF.PartialEq.eq g.EF.ExtensionDomain.embed g.EF.Field.inverse in
+    let laws : IsLawful E = record {
+      base = g.F.PrimeCharacteristicRing.lawful;
+      base_eq = g.met.F.PrimeCharacteristicRing.eq_is;
+      ring = g.EF.PrimeCharacteristicRing.lawful;
+      domain = g.met.EF.Domain.domain;
+      eq = g.met.EF.PrimeCharacteristicRing.eq_is;
+      embeds = g.met.EF.ExtensionDomain.embeds;
+      inverse = g.met.EF.Field.inverse_is;
+    } in
+    let instance = c.index-instances-air.result in
+    let instances = c.args.instances.now in
+    let lt : c.loop-air.air < length instances = c.loop-air-test.true in
+    let here : slice_get (instances_of instances) c.loop-air.air ≡ Some (instance_of instance) =
+    slice_get_read (instances_of instances) (length (instances_of instances)) c.loop-air.air (instance_of instance) (λ _. length (instances_of instances)) (omega (arith, length-map instances instance_of, lt)) (mapped_at instance_of instances c.loop-air.air instance lt c.index-instances-air.is) in
+    λ regular. elim c.of_air.ensures.1 [
+      | inl memory ↦ memory.1
+      | inr other ↦ elim c.in-Err.ensures [
+        | inl memory ↦ absurd (other.0 memory)
+        | inr fault ↦ absurd (none_faulty laws (table_of c.args.challenges.now) (instances_of instances) regular.flags regular.denominators c.loop-air.air (instance_of instance) c.in-Err.error here fault)
+      ]
+    ]

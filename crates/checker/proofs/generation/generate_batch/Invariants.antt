@@ -1,0 +1,10 @@
+use Rattle.lookup_model.specs.Extension.{extension}
+use Rattle.batch_model.specs.Instances.{instances_of}
+use Rattle.checker.specs.Results.{HasResults}
+use Rattle.lookup_model.specs.Challenges.{table_of}
+use Rattle.checker.proofs.generation.generate_batch.Given as goal
+
+abbrev pub invariant-loop-air : goal.invariant-loop-air
+invariant-loop-air g l =
+    let E = extension g.F.PrimeCharacteristicRing.ring g.F.PartialEq.eq g.EF.PrimeCharacteristicRing.ring g.EF.PartialEq.eq g.EF.ExtensionDomain.embed g.EF.Field.inverse in
+    HasResults E (table_of l.challenges) (instances_of l.instances) l.air l.aux.items l.terminals.items

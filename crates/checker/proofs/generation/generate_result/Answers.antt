@@ -1,0 +1,27 @@
+use Rattle.std.proofs.Common.{List, length, ap, subst, ◌∙◌, arith}
+use Rattle.lookup_model.specs.Extension.{extension, IsLawful}
+use Rattle.batch_model.specs.Instances.{instance_of}
+use Rattle.lookup_model.specs.Challenges.{table_of}
+use Rattle.witness_laws.proofs.TableResults.{ByColumns, by_table, length-column_challenges}
+use Rattle.checker.proofs.generation.generate_result.Goals as goal
+
+pub generate_permutation-requires-clause-challenges : goal.generate_permutation-requires-clause-challenges
+generate_permutation-requires-clause-challenges g c =
+    omega (arith, ap length (c.as_slice.ensures.value ∙ c.in_ok-columns.ensures), length-column_challenges (table_of c.args.challenges.now) c.args.instance.now.ids.now, c.requires.fit.ids)
+
+pub returns : goal.returns
+returns g c =
+    let E = extension g.F.PrimeCharacteristicRing.ring g.F.PartialEq.eq g.EF.PrimeCharacteristicRing.ring g.EF.PartialEq.eq g.EF.ExtensionDomain.embed g.EF.Field.inverse in
+    let laws : IsLawful E = record {
+      base = g.F.PrimeCharacteristicRing.lawful;
+      base_eq = g.met.F.PrimeCharacteristicRing.eq_is;
+      ring = g.EF.PrimeCharacteristicRing.lawful;
+      domain = g.met.EF.Domain.domain;
+      eq = g.met.EF.PrimeCharacteristicRing.eq_is;
+      embeds = g.met.EF.ExtensionDomain.embeds;
+      inverse = g.met.EF.Field.inverse_is;
+    } in
+    let table = table_of c.args.challenges.now in
+    let instance = instance_of c.args.instance.now in
+    by_table laws table instance c.requires.fit c.generate_permutation.result
+    (subst (λ (challenges : List _). ByColumns laws table instance c.requires.fit challenges c.generate_permutation.result) (c.as_slice.ensures.value ∙ c.in_ok-columns.ensures) c.generate_permutation.ensures)

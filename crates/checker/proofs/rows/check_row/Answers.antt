@@ -1,0 +1,19 @@
+use Rattle.std.proofs.Common.{◌≡◌, ◌⊎◌, ℕ, MatchResult, refl, subst₂}
+use Rattle.std.specs.List.{AllByRecursion}
+use Rattle.expressions.specs.Window.{ExtWindow}
+use Rattle.air.specs.Row.{ext_row_window}
+use Rattle.expressions.specs.declared.error.AirError.TheVariants.{Memory, Assertion}
+use Rattle.lookup_model.specs.Constraints.{lookup_constraints}
+use Rattle.lookup_model.specs.Extension.{extension}
+use Rattle.checker.proofs.RowLaws.{checked}
+use Rattle.checker.proofs.rows.check_row.Goals as goal
+
+pub returns : goal.returns
+returns g c =
+    let E = extension g.F.PrimeCharacteristicRing.ring g.F.PartialEq.eq g.EF.PrimeCharacteristicRing.ring g.EF.PartialEq.eq g.EF.ExtensionDomain.embed g.EF.Field.inverse in
+    let b = c.new-builder.result in
+    let built = c.new-builder.ensures in
+    let ks = lookup_constraints E c.args.lookups.now in
+    subst₂ (λ (w : ExtWindow _ _) (row : ℕ). MatchResult c.eval_all.result (λ _. AllByRecursion (λ k. k.meaning w ≡ E.ring.zero) ks) (λ e. (e ≡ Memory) ⊎ ((e ≡ Assertion row) × (AllByRecursion (λ k. k.meaning w ≡ E.ring.zero) ks → ⊥))))
+    built.window built.row_is
+    (checked E.ring.zero (λ s. s.row) (λ x w. x) (λ x w. refl) (λ x t. 0) (ext_row_window b) b ks c.eval_all.result c.eval_all.new.builder c.eval_all.ensures)

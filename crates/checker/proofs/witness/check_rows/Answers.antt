@@ -1,0 +1,30 @@
+use Rattle.std.proofs.Common.{ap, inr, length, refl, ◌∙◌, arith}
+use Rattle.std.specs.Option.{option_copied}
+use Rattle.expressions.specs.Layout.{layout_of_traces}
+use Rattle.lookup_model.specs.Challenges.{table_of}
+use Rattle.lookup_model.specs.Extension.{extension}
+use Rattle.batch_model.specs.Instances.{instance_of}
+use Rattle.witness_laws.proofs.TableResults.{length-column_challenges}
+use Rattle.checker.proofs.CheckLaws.{fails_from, found_none, found_some, holds_from}
+use Rattle.checker.proofs.Layouts.{DoFit-with_auxiliary}
+use Rattle.checker.proofs.witness.check_rows.Goals as goal
+
+pub first_failing_row-requires-clause-fit : goal.first_failing_row-requires-clause-fit
+first_failing_row-requires-clause-fit g c =
+    let i = c.args.instance.now in
+    DoFit-with_auxiliary (layout_of_traces i.main.now (option_copied i.preprocessed) i.public_values.now) c.args.aux.now.width (length c.as_slice.result.now) (length c.as_slice-2.result.now) i.lookups.now c.requires.fit.fit
+
+pub first_failing_row-requires-clause-challenges : goal.first_failing_row-requires-clause-challenges
+first_failing_row-requires-clause-challenges g c =
+    omega (arith, ap length (c.as_slice.ensures.value ∙ c.in_ok-columns.ensures), length-column_challenges (table_of c.args.challenges.now) c.args.instance.now.ids.now, c.requires.fit.ids)
+
+pub returns-in-Some : goal.returns-in-Some
+returns-in-Some g c =
+    let E = extension g.F.PrimeCharacteristicRing.ring g.F.PartialEq.eq g.EF.PrimeCharacteristicRing.ring g.EF.PartialEq.eq g.EF.ExtensionDomain.embed g.EF.Field.inverse in
+    let failing = found_some _ _ c.in_ok-row.field-0 c.in-Some.row c.in-Some.is c.in_ok-row.ensures in
+    inr (c.in-Some.row, fails_from E (table_of c.args.challenges.now) (instance_of c.args.instance.now) c.args.aux.now c.args.terminal.now c.as_slice.result.now c.as_slice-2.result.now (c.as_slice.ensures.value ∙ c.in_ok-columns.ensures) (c.as_slice-2.ensures.value ∙ c.in_ok-values.ensures) c.in-Some.row failing.within failing.fails failing.before, refl)
+
+pub returns : goal.returns
+returns g c = λ r lt.
+    let E = extension g.F.PrimeCharacteristicRing.ring g.F.PartialEq.eq g.EF.PrimeCharacteristicRing.ring g.EF.PartialEq.eq g.EF.ExtensionDomain.embed g.EF.Field.inverse in
+    holds_from E (table_of c.args.challenges.now) (instance_of c.args.instance.now) c.args.aux.now c.args.terminal.now c.as_slice.result.now c.as_slice-2.result.now (c.as_slice.ensures.value ∙ c.in_ok-columns.ensures) (c.as_slice-2.ensures.value ∙ c.in_ok-values.ensures) r (found_none _ _ c.in_ok-row.field-0 c.in-None.is c.in_ok-row.ensures r lt)

@@ -1,0 +1,80 @@
+use Rattle.std.proofs.Common.{◌≡◌, ◌<◌, Some, inl, inr, length, subst, sym, ◌∙◌, arith}
+use Rattle.std.proofs.lemmas.List.{length-map}
+use Rattle.std.proofs.lemmas.Option.{slice_get_read}
+use Rattle.std.proofs.lemmas.Result.{err_from_is_err_and}
+use Rattle.std.proofs.lemmas.Slice.Zip.{length-zip}
+use Rattle.std.specs.List.{slice_get, zip}
+use Rattle.lookup_model.proofs.Branches.{mapped_at}
+use Rattle.lookup_model.specs.Challenges.{table_of}
+use Rattle.lookup_model.specs.Extension.{extension, IsLawful}
+use Rattle.batch_model.specs.Instances.{instance_of, instances_of}
+use Rattle.batch_model.specs.Witnesses.{AreSatisfied, IsSatisfiedAt}
+use Rattle.checker.proofs.ResultLaws.{fitting_all}
+use Rattle.checker.proofs.WitnessLaws.{HoldsBelow, all_places, holds_more, only_from, pair_at, witness_from}
+use Rattle.checker.proofs.witness.check_witness.Goals as goal
+
+pub returns-in_err-check_result-clause-answer : goal.returns-in_err-check_result-clause-answer
+returns-in_err-check_result-clause-answer g c =
+    let instance = c.index-instances-air.result in
+    let instances = c.args.instances.now in
+    let lt : c.loop-air.air < length instances = c.loop-air-test.true in
+    let here : slice_get (instances_of instances) c.loop-air.air ≡ Some (instance_of instance) =
+    slice_get_read (instances_of instances) (length (instances_of instances)) c.loop-air.air (instance_of instance) (λ _. length (instances_of instances)) (omega (arith, length-map instances instance_of, lt)) (mapped_at instance_of instances c.loop-air.air instance lt c.index-instances-air.is) in
+    let p = err_from_is_err_and c.from_residual.result c.from_residual.ensures.1 in
+    rw (p.1, p.2) (elim c.in_err-check_result.ensures [
+      | inl memory ↦ inl memory
+      | inr refusal ↦ inr (inl (record {
+        air = c.loop-air.air;
+        instance = instance_of instance;
+        result = (c.index-aux-air.result, c.index-terminals-air.result);
+        is_there = here;
+        result_is_there = pair_at c.args.aux.now c.args.terminals.now c.loop-air.air c.index-aux-air.result c.index-terminals-air.result (omega (arith, lt, c.requires.traces)) (omega (arith, lt, c.requires.terminals)) c.index-aux-air.is c.index-terminals-air.is;
+        before = c.loop-air.invariant;
+        refusal = refusal;
+      }))
+    ])
+
+pub loop-air-preserved : goal.loop-air-preserved
+loop-air-preserved g c =
+    let E = extension g.F.PrimeCharacteristicRing.ring g.F.PartialEq.eq g.EF.PrimeCharacteristicRing.ring g.EF.PartialEq.eq g.EF.ExtensionDomain.embed g.EF.Field.inverse in
+    let instance = c.index-instances-air.result in
+    let instances = c.args.instances.now in
+    let lt : c.loop-air.air < length instances = c.loop-air-test.true in
+    let here : slice_get (instances_of instances) c.loop-air.air ≡ Some (instance_of instance) =
+    slice_get_read (instances_of instances) (length (instances_of instances)) c.loop-air.air (instance_of instance) (λ _. length (instances_of instances)) (omega (arith, length-map instances instance_of, lt)) (mapped_at instance_of instances c.loop-air.air instance lt c.index-instances-air.is) in
+    holds_more (IsSatisfiedAt E (table_of c.args.challenges.now)) (instances_of instances) (zip c.args.aux.now c.args.terminals.now) c.loop-air.air (instance_of instance) (c.index-aux-air.result, c.index-terminals-air.result) here
+    (pair_at c.args.aux.now c.args.terminals.now c.loop-air.air c.index-aux-air.result c.index-terminals-air.result (omega (arith, lt, c.requires.traces)) (omega (arith, lt, c.requires.terminals)) c.index-aux-air.is c.index-terminals-air.is)
+    c.in_ok-check_result.ensures c.loop-air.invariant
+
+pub returns-clause-answer : goal.returns-clause-answer
+returns-clause-answer g c =
+    let E = extension g.F.PrimeCharacteristicRing.ring g.F.PartialEq.eq g.EF.PrimeCharacteristicRing.ring g.EF.PartialEq.eq g.EF.ExtensionDomain.embed g.EF.Field.inverse in
+    let table = table_of c.args.challenges.now in
+    let instances = instances_of c.args.instances.now in
+    let witness = zip c.args.aux.now c.args.terminals.now in
+    let below : HoldsBelow (IsSatisfiedAt E table) instances witness (length instances) =
+    subst (HoldsBelow (IsSatisfiedAt E table) instances witness) (omega (arith, length-map c.args.instances.now instance_of, c.loop-air-test.false, c.loop-air.auto.air-end)) c.loop-air.invariant in
+    let as_many : length instances ≡ length witness = omega (arith, length-map c.args.instances.now instance_of, length-zip c.args.aux.now c.args.terminals.now, c.requires.traces, c.requires.terminals) in
+    let satisfied : AreSatisfied E table instances witness = all_places (IsSatisfiedAt E table) instances witness as_many below in
+    witness_from E table instances c.args.aux.now c.args.terminals.now (c.requires.traces ∙ sym c.requires.terminals) satisfied c.verify_terminal_sum.result c.verify_terminal_sum.ensures
+
+pub returns-clause-only : goal.returns-clause-only
+returns-clause-only g c =
+    let E = extension g.F.PrimeCharacteristicRing.ring g.F.PartialEq.eq g.EF.PrimeCharacteristicRing.ring g.EF.PartialEq.eq g.EF.ExtensionDomain.embed g.EF.Field.inverse in
+    let laws : IsLawful E = record {
+      base = g.F.PrimeCharacteristicRing.lawful;
+      base_eq = g.met.F.PrimeCharacteristicRing.eq_is;
+      ring = g.EF.PrimeCharacteristicRing.lawful;
+      domain = g.met.EF.Domain.domain;
+      eq = g.met.EF.PrimeCharacteristicRing.eq_is;
+      embeds = g.met.EF.ExtensionDomain.embeds;
+      inverse = g.met.EF.Field.inverse_is;
+    } in
+    let table = table_of c.args.challenges.now in
+    let instances = instances_of c.args.instances.now in
+    let witness = zip c.args.aux.now c.args.terminals.now in
+    let below : HoldsBelow (IsSatisfiedAt E table) instances witness (length instances) =
+    subst (HoldsBelow (IsSatisfiedAt E table) instances witness) (omega (arith, length-map c.args.instances.now instance_of, c.loop-air-test.false, c.loop-air.auto.air-end)) c.loop-air.invariant in
+    let as_many : length instances ≡ length witness = omega (arith, length-map c.args.instances.now instance_of, length-zip c.args.aux.now c.args.terminals.now, c.requires.traces, c.requires.terminals) in
+    let satisfied : AreSatisfied E table instances witness = all_places (IsSatisfiedAt E table) instances witness as_many below in
+    only_from E table instances c.args.aux.now c.args.terminals.now (c.requires.traces ∙ sym c.requires.terminals) satisfied laws (fitting_all c.args.instances.now c.requires.fit) c.verify_terminal_sum.result

@@ -1,0 +1,66 @@
+//! The constraints of lookups on the rows of given traces.
+ghost use Rattle.std.specs.Prelude.{◌≡◌, ◌*◌, ◌<◌, ◌≤◌, ◌⊎◌, ℕ, MatchOption, MatchResult, length, ⊤};
+ghost use Rattle.std.specs.Option.{option_copied};
+ghost use Rattle.air.specs.Row.{HeightFits, OptionHeightFits, input_layout};
+ghost use Rattle.lookup_model.specs.Extension.{extension};
+ghost use Rattle.lookup_model.specs.Records.{DoFit};
+ghost use Rattle.matrix.specs.Matrix.{height};
+ghost use Rattle.checker.specs.Rows.{HoldsOn, IsFirstFailingOn};
+
+use air::{AirError, DebugConstraintBuilder, RowInputs};
+use field::{ExtensionField, Field};
+use lookup::{LogUpGadget, Lookup, LookupProtocol};
+use std::alloc::{AllocError, Global};
+
+/// The first row on which a constraint of the lookups is not zero.
+///
+/// Fails only when out of memory.
+pub(crate) fn first_failing_row<'a, F: Field, EF: ExtensionField<F>>(
+    alloc: Global,
+    inputs: &'a RowInputs<'a, F, EF>,
+    lookups: &[Lookup<F>],
+) -> Result<Option<usize>, AllocError>
+    requires preprocessed { OptionHeightFits (height inputs.now.main.now) (option_copied inputs.now.preprocessed) }
+    requires permutation { HeightFits (height inputs.now.main.now) inputs.now.permutation.now }
+    requires fit { DoFit (input_layout inputs.now) lookups.now }
+    requires challenges { 2 * length lookups.now ≤ length inputs.now.challenges.now }
+    requires cells { 0 < length lookups.now → length lookups.now < inputs.now.permutation.now.width }
+    requires terminal { 0 < length lookups.now → 0 < length inputs.now.permutation_values.now }
+    ensures { MatchResult result
+        (λ found. MatchOption found
+        ((r : ℕ) → r < height inputs.now.main.now → HoldsOn (extension F.ring F.eq EF.ring EF.eq EF.embed EF.inverse) inputs.now lookups.now r)
+        (λ r. IsFirstFailingOn (extension F.ring F.eq EF.ring EF.eq EF.embed EF.inverse) inputs.now lookups.now r))
+        (λ _. ⊤) }
+{
+    for row in 0..inputs.main.height() {
+        match check_row(alloc, inputs, lookups, row) {
+            Ok(()) => {}
+            Err(AirError::Memory) => return Err(AllocError),
+            Err(_) => return Ok(Some(row)),
+        }
+    }
+    Ok(None)
+}
+
+/// Whether every constraint of the lookups is zero on a row.
+fn check_row<'a, F: Field, EF: ExtensionField<F>>(
+    alloc: Global,
+    inputs: &'a RowInputs<'a, F, EF>,
+    lookups: &[Lookup<F>],
+    row: usize,
+) -> Result<(), AirError>
+    requires row { row < height inputs.now.main.now }
+    requires preprocessed { OptionHeightFits (height inputs.now.main.now) (option_copied inputs.now.preprocessed) }
+    requires permutation { HeightFits (height inputs.now.main.now) inputs.now.permutation.now }
+    requires fit { DoFit (input_layout inputs.now) lookups.now }
+    requires challenges { 2 * length lookups.now ≤ length inputs.now.challenges.now }
+    requires cells { 0 < length lookups.now → length lookups.now < inputs.now.permutation.now.width }
+    requires terminal { 0 < length lookups.now → 0 < length inputs.now.permutation_values.now }
+    ensures { MatchResult result
+        (λ _. HoldsOn (extension F.ring F.eq EF.ring EF.eq EF.embed EF.inverse) inputs.now lookups.now row)
+        (λ e. (e ≡ AirError.Memory) ⊎ ((e ≡ AirError.Assertion row)
+        × (¬ HoldsOn (extension F.ring F.eq EF.ring EF.eq EF.embed EF.inverse) inputs.now lookups.now row))) }
+{
+    let mut builder = DebugConstraintBuilder::new(inputs, row);
+    LogUpGadget::new().eval_all(alloc, &mut builder, lookups)
+}

@@ -1,0 +1,157 @@
+//! Whether a witness of a batch is accepted.
+ghost use Rattle.std.specs.Prelude.{◌≡◌, IfOk, length};
+ghost use Rattle.std.specs.List.{zip};
+ghost use Rattle.lookup_model.specs.Challenges.{table_of};
+ghost use Rattle.lookup_model.specs.Extension.{extension};
+ghost use Rattle.lookup_model.specs.Witness.{values_of_terminal};
+ghost use Rattle.batch_model.specs.Answers.{ChecksWitness, PassesOnlyPlain};
+ghost use Rattle.batch_model.specs.Instances.{DoInstancesFit, HasPrefixes, HavePrefixes, IsFitting, instance_of, instances_of};
+ghost use Rattle.batch_model.specs.Refusals.{IsRightShape};
+ghost use Rattle.checker.specs.Checks.{ChecksResult, ChecksRows, ChecksShape};
+
+use crate::rows::first_failing_row;
+use air::RowInputs;
+use batch_model::BatchInstance;
+use field::{ExtensionField, Field};
+use lookup::{Challenges, LogUpGadget, LookupError, LookupProtocol, LookupTerminal};
+use matrix::RowMajorMatrix;
+use std::alloc::{AllocError, Global};
+
+/// Whether a witness is accepted: it satisfies the constraints of all lookups on every row, and its
+/// terminals sum to zero. If no denominator vanishes, only the witness of `generate_batch` can be.
+///
+/// There is an auxiliary trace and an optional terminal for each instance. Refuses the first of
+/// these, AIR by AIR and then for all:
+///
+/// - `TerminalPresenceMismatch`: there is no terminal although there are lookups, or the other way
+///   round;
+/// - `PermutationWidthMismatch`, `PermutationHeightMismatch`: the auxiliary trace does not have one
+///   column more than there are lookups and the height of the main trace, or is not empty without
+///   lookups;
+/// - `ConstraintFailed`: a constraint is not zero on a row, of which the first is named;
+/// - `TerminalSumNonZero`: the terminals do not sum to zero.
+///
+/// Also fails when out of memory.
+pub fn check_witness<F: Field, EF: ExtensionField<F>>(
+    alloc: Global,
+    instances: &[BatchInstance<'_, F>],
+    challenges: &Challenges<EF>,
+    aux: &[RowMajorMatrix<EF>],
+    terminals: &[Option<LookupTerminal<EF>>],
+) -> Result<(), LookupError>
+    requires fit { DoInstancesFit instances.now }
+    requires ids { HavePrefixes challenges.now instances.now }
+    requires traces { length aux.now ≡ length instances.now }
+    requires terminals { length terminals.now ≡ length instances.now }
+    ensures answer { ChecksWitness (extension F.ring F.eq EF.ring EF.eq EF.embed EF.inverse)
+        (table_of challenges.now) (instances_of instances.now) (zip aux.now terminals.now) result }
+    ensures only { PassesOnlyPlain (extension F.ring F.eq EF.ring EF.eq EF.embed EF.inverse)
+        (table_of challenges.now) (instances_of instances.now) (zip aux.now terminals.now) result }
+{
+    for air in 0..instances.len() {
+        check_result(
+            alloc,
+            air,
+            &instances[air],
+            challenges,
+            &aux[air],
+            &terminals[air],
+        )?;
+    }
+    LogUpGadget::new().verify_terminal_sum(terminals)
+}
+
+/// Whether the result of one AIR satisfies its constraints.
+fn check_result<F: Field, EF: ExtensionField<F>>(
+    alloc: Global,
+    air: usize,
+    instance: &BatchInstance<'_, F>,
+    challenges: &Challenges<EF>,
+    aux: &RowMajorMatrix<EF>,
+    terminal: &Option<LookupTerminal<EF>>,
+) -> Result<(), LookupError>
+    requires fit { IsFitting (instance_of instance.now) }
+    requires ids { HasPrefixes challenges.now instance.now }
+    ensures { ChecksResult (extension F.ring F.eq EF.ring EF.eq EF.embed EF.inverse)
+        (table_of challenges.now) air (instance_of instance.now) (aux.now, terminal.now) result }
+{
+    check_shape(air, instance, aux, terminal)?;
+    check_rows(alloc, air, instance, challenges, aux, terminal)
+}
+
+/// Whether there is a terminal, and an auxiliary trace of the right width and height.
+fn check_shape<F, EF>(
+    air: usize,
+    instance: &BatchInstance<'_, F>,
+    aux: &RowMajorMatrix<EF>,
+    terminal: &Option<LookupTerminal<EF>>,
+) -> Result<(), LookupError>
+    ensures { ChecksShape air (instance_of instance.now) (aux.now, terminal.now) result }
+{
+    let expected_present = !instance.lookups.is_empty();
+    let got_present = terminal.is_some();
+    if got_present != expected_present {
+        return Err(LookupError::TerminalPresenceMismatch {
+            air,
+            expected_present,
+            got_present,
+        });
+    }
+    let (expected, height) = if expected_present {
+        (instance.lookups.len() + 1, instance.main.height())
+    } else {
+        (0, 0)
+    };
+    if aux.width() != expected {
+        return Err(LookupError::PermutationWidthMismatch { air, expected });
+    }
+    if aux.height() != height {
+        return Err(LookupError::PermutationHeightMismatch { air });
+    }
+    Ok(())
+}
+
+/// Whether every constraint of one AIR is zero on each row.
+fn check_rows<F: Field, EF: ExtensionField<F>>(
+    alloc: Global,
+    air: usize,
+    instance: &BatchInstance<'_, F>,
+    challenges: &Challenges<EF>,
+    aux: &RowMajorMatrix<EF>,
+    terminal: &Option<LookupTerminal<EF>>,
+) -> Result<(), LookupError>
+    requires fit { IsFitting (instance_of instance.now) }
+    requires ids { HasPrefixes challenges.now instance.now }
+    requires shape { IsRightShape (instance_of instance.now) (aux.now, terminal.now) }
+    ensures { ChecksRows (extension F.ring F.eq EF.ring EF.eq EF.embed EF.inverse)
+        (table_of challenges.now) air (instance_of instance.now) (aux.now, terminal.now) result }
+{
+    let columns = challenges.for_columns(alloc, instance.ids)?;
+    let values = terminal_values(alloc, terminal)?;
+    let inputs = RowInputs {
+        main: instance.main,
+        preprocessed: instance.preprocessed,
+        public_values: instance.public_values,
+        permutation: aux,
+        challenges: columns.as_slice(),
+        permutation_values: values.as_slice(),
+    };
+    match first_failing_row(alloc, &inputs, instance.lookups)? {
+        Some(row) => Err(LookupError::ConstraintFailed { air, row }),
+        None => Ok(()),
+    }
+}
+
+/// The permutation values of an AIR: its terminal, if it has one.
+fn terminal_values<EF: Field>(
+    alloc: Global,
+    terminal: &Option<LookupTerminal<EF>>,
+) -> Result<Vec<EF>, AllocError>
+    ensures { IfOk result (λ values. values.items ≡ values_of_terminal terminal.now) }
+{
+    let mut values = Vec::new(alloc);
+    if let Some(terminal) = terminal {
+        values.push(terminal.0)?;
+    }
+    Ok(values)
+}

@@ -1,0 +1,10 @@
+pub mod ByTable
+pub mod Lists
+pub mod OnlyFractions
+pub mod OnlyRows
+pub mod OnlyWitness
+pub mod Rekeyed
+pub mod SentFacts
+pub mod Succeeds
+pub mod TableResults
+pub mod Totals
