@@ -7,7 +7,7 @@ use Rattle.lookup_evaluation.specs.Asserted.{Asserts, IsConstraint}
 use Rattle.lookup_model.specs.Constraints.{Constraint, accumulator_at, accumulator_constraints, fractions_at}
 use Rattle.lookup_model.specs.Extension.{Extension}
 use Rattle.lookup_model.specs.declared.types.Lookup.{Lookup}
-use Rattle.lookup_evaluation.specs.AssertedLaws.{Reads, asserts_keep, fewer_windows}
+use Rattle.lookup_evaluation.proofs.AssertedLaws.{Reads, asserts_keep, fewer_windows}
 
 module _ {B X C : Type 0} (accepts : B → X → B → Type 0) (is : C → X → Type 0) where
   -- the layout stays where each assertion keeps it

@@ -3,7 +3,7 @@ use Rattle.std.proofs.Common.{◌≡◌, ℕ, ◌+◌, ◌<◌, List, length, ma
 use Rattle.std.proofs.lemmas.List.{map_more}
 use Rattle.field.specs.Ring.{Ring, IsCommutativeRing}
 use Rattle.field.specs.Sums.{sum_in}
-use Rattle.lookup_model.specs.SumLaws.{sum_in-push}
+use Rattle.lookup_model.proofs.SumLaws.{sum_in-push}
 
 -- one more value
 pub sum_in-more : {X K : Type 0} {S : Ring K} → IsCommutativeRing S → (f : X → K) (xs : List X) (i : ℕ) (x : X) (sum next : K) → i < length xs → x ≡ get_or xs i x → sum ≡ sum_in S (map f (take i xs)) → next ≡ S.add sum (f x) → next ≡ sum_in S (map f (take (i + 1) xs))

@@ -1,7 +1,3 @@
 pub mod Challenges
 pub mod Extraction
-pub mod Fraction
 pub mod Lookups
-pub mod Progress
-pub mod Selection
-pub mod TraceBuilder

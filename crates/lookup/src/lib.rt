@@ -8,16 +8,12 @@
 
 mod challenges;
 mod evaluation;
-mod exclusive;
 mod extraction;
-mod fraction;
-mod generation;
 pub mod indexed;
 pub mod logup;
 mod lookups;
 pub mod protocol;
 pub mod symbolic;
-mod trace_builder;
 pub mod traits;
 mod widths;
 

@@ -4,11 +4,10 @@ ghost use Rattle.lookup_model.specs.LookupDegree.{IsDegree, lookup_degree};
 ghost use Rattle.lookup_model.specs.Records.{HasEqualLengths};
 ghost use Rattle.lookup_model.specs.Terminals.{terminal_sum, terminal_value};
 
-use crate::generation;
 use crate::protocol::LookupProtocol;
-use crate::trace_builder::LookupTraceBuilder;
 use air::{AirBuilder, AirError, ExtensionBuilder, PermutationAirBuilder};
 use field::{ExtensionField, Field};
+use lookup_generation::LookupTraceBuilder;
 use lookup_model::{Lookup, LookupError, LookupTerminal};
 use matrix::RowMajorMatrix;
 use std::alloc::Global;
@@ -80,21 +79,14 @@ impl LookupProtocol for LogUpGadget {
         lookups: &[Lookup<F>],
         challenges: &[EF],
     ) -> Result<(RowMajorMatrix<EF>, Option<LookupTerminal<EF>>), LookupError> {
-        if lookups.is_empty() {
-            return Ok((RowMajorMatrix::new(Vec::new(alloc), 0), None));
-        }
-        let (cells, terminal) = generation::generate(
+        lookup_generation::generate_permutation(
             alloc,
             main,
             preprocessed,
             public_values,
             lookups,
             challenges,
-        )?;
-        Ok((
-            RowMajorMatrix::new(cells, lookups.len() + 1),
-            Some(LookupTerminal(terminal)),
-        ))
+        )
     }
 
     fn verify_terminal_sum<EF: Field>(

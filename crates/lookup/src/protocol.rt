@@ -4,15 +4,11 @@ ghost use Rattle.std.specs.Option.{ForSome, option_copied};
 ghost use Rattle.expressions.specs.Layout.{layout_of_traces};
 ghost use Rattle.lookup_evaluation.specs.Asserted.{Evaluates, IsConstraint};
 ghost use Rattle.lookup_model.specs.Constraints.{accumulator_constraints, fraction_constraint, lookup_constraints};
-ghost use Rattle.lookup_model.specs.Denominators.{column_denominator};
 ghost use Rattle.lookup_model.specs.Extension.{extension};
-ghost use Rattle.lookup_model.specs.Fault.{trace_faults};
-ghost use Rattle.lookup_model.specs.Generated.{plain_matrix, plain_terminal_of};
 ghost use Rattle.lookup_model.specs.LookupDegree.{IsDegree, lookup_degree};
 ghost use Rattle.lookup_model.specs.Records.{DoFit, HasEqualLengths, IsWithin};
 ghost use Rattle.lookup_model.specs.Terminals.{terminal_sum};
-ghost use Rattle.lookup_model.specs.Trace.{sent_rows};
-ghost use Rattle.lookup_model.specs.Witness.{IsSatisfied};
+ghost use Rattle.lookup_model.specs.Generation.{AnswersGeneration};
 ghost use Rattle.matrix.specs.Matrix.{height};
 
 use crate::evaluation::{eval_fractions, eval_terminal};
@@ -146,17 +142,7 @@ pub trait LookupProtocol: Sized {
         requires heights { ForSome (option_copied preprocessed) (λ m. height m ≡ height main.now) }
         requires fit { DoFit (layout_of_traces main.now (option_copied preprocessed) public_values.now) lookups.now }
         requires challenges { 2 * length lookups.now ≤ length challenges.now }
-        ensures { MatchResult result
-            (λ r. let E = extension F.ring F.eq EF.ring EF.eq EF.embed EF.inverse in
-            let denominator = column_denominator E challenges.now in
-            let rows = sent_rows F.ring F.eq main.now (option_copied preprocessed.entry) public_values.now lookups.now in
-            (r.0 ≡ plain_matrix E denominator lookups.now rows)
-            × (r.1 ≡ plain_terminal_of E denominator lookups.now rows)
-            × (trace_faults E denominator rows ≡ [])
-            × IsSatisfied E main.now (option_copied preprocessed.entry) public_values.now lookups.now challenges.now r.0 r.1)
-            (λ e. let E = extension F.ring F.eq EF.ring EF.eq EF.embed EF.inverse in
-            let rows = sent_rows F.ring F.eq main.now (option_copied preprocessed.entry) public_values.now lookups.now in
-            (e ≡ LookupError.Memory) ⊎ (slice_get (trace_faults E (column_denominator E challenges.now) rows) 0 ≡ Some e)) };
+        ensures { AnswersGeneration (extension F.ring F.eq EF.ring EF.eq EF.embed EF.inverse) main.now (option_copied preprocessed.entry) public_values.now lookups.now challenges.now result };
 
     /// Whether the terminals of all AIRs cancel.
     ///

@@ -1,2 +1,3 @@
 pub mod Accumulators
+pub mod AssertedLaws
 pub mod CellLaws

@@ -1,2 +1,1 @@
 pub mod Asserted
-pub mod AssertedLaws

@@ -21,6 +21,10 @@ module _ {F K : Type 0} (E : Extension F K) (denominator : Key F → K) where
   abbrev pub quotient : F → Key F → K
   quotient multiplicity key = E.ring.mul (E.embed multiplicity) (E.inverse (denominator key))
 
+  -- that of a message
+  abbrev pub quotient_of : Message F → K
+  quotient_of m = quotient m.multiplicity m.key
+
   -- the fraction of a lookup on a row: the sum of the quotients of its messages with nonzero
   -- multiplicity
   abbrev pub plain_fraction : Sent F → K

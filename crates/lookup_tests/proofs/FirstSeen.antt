@@ -3,7 +3,7 @@ use Rattle.std.proofs.Common.{◌≡◌, Bool, true, false, cond, not, ◌||◌,
 use Rattle.std.proofs.lemmas.List.{append-nil}
 use Rattle.std.specs.List.{filter, list_any}
 use Rattle.lookup_model.specs.Net.{first_seen}
-use Rattle.lookup.proofs.Fractions.{filter-append}
+use Rattle.std.proofs.lemmas.List.Elements.{filter-append}
 
 module _ {A : Type 0} (same : A → A → Bool) (decides : (a b : A) → Decides (same a b) (a ≡ b)) where
   -- an item that was seen changes nothing, and another one goes last

@@ -12,17 +12,17 @@ use Rattle.lookup_model.specs.Message.{Key, Message, same_key}
 use Rattle.lookup_model.specs.Fault.{vanishes}
 use Rattle.lookup_model.specs.Net.{first_seen, keys, net, unbalanced_keys}
 use Rattle.lookup_model.specs.Plain.{counted, net_sum, quotient}
-use Rattle.lookup.specs.Fraction.{IsFractionOf}
+use Rattle.lookup_generation.specs.Fraction.{IsFractionOf}
 use Rattle.lookup_tests.specs.PlainProgram.{message_of, messages_of, net_message, net_vanishes}
 use Rattle.lookup_tests.specs.declared.plain.PlainMessage.{PlainMessage}
 use Rattle.lookup_tests.proofs.FirstSeen.{first_seen-push}
-use Rattle.lookup.proofs.Fractions.{filter-append}
-use Rattle.lookup_model.specs.HornerRule.{map-map}
-use Rattle.lookup_model.specs.Branches.{mapped_at}
-use Rattle.lookup_model.specs.RecordLaws.{All-at}
-use Rattle.lookup.proofs.Regrouping.{Holds, first_seen_holds}
-use Rattle.lookup.proofs.KeyLaws.{same_key-Decides}
-use Rattle.lookup_model.specs.SumLaws.{sum_in-append, sum_in-push}
+use Rattle.std.proofs.lemmas.List.Elements.{filter-append}
+use Rattle.lookup_model.proofs.HornerRule.{map-map}
+use Rattle.lookup_model.proofs.Branches.{mapped_at}
+use Rattle.lookup_model.proofs.RecordLaws.{All-at}
+use Rattle.lookup_laws.proofs.Regrouping.{Holds, first_seen_holds}
+use Rattle.lookup_laws.proofs.KeyLaws.{same_key-Decides}
+use Rattle.lookup_model.proofs.SumLaws.{sum_in-append, sum_in-push}
 
 -- a list of no more than one item is that item
 pub one_item : (xs : List ℕ) (x : ℕ) → length xs ≤ 1 → length xs ≢ 0 → x ≡ get_or xs 0 x → xs ≡ x ∷ []

@@ -8,11 +8,11 @@ use Rattle.lookup_evaluation.specs.Asserted.{Asserts, IsConstraint}
 use Rattle.lookup_model.specs.Constraints.{Constraint, fraction_constraint}
 use Rattle.lookup_model.specs.Extension.{extension}
 use Rattle.lookup_model.specs.Records.{IsWithin}
-use Rattle.lookup_evaluation.specs.AssertedLaws.{asserts_read, asserts_then, fails_early, fails_read, fails_then}
-use Rattle.lookup_model.specs.Rows.{split_at, take_item}
+use Rattle.lookup_evaluation.proofs.AssertedLaws.{asserts_read, asserts_then, fails_early, fails_read, fails_then}
+use Rattle.lookup_laws.proofs.Rows.{split_at, take_item}
 use Rattle.lookup.proofs.Evaluations.{later_reads, layout_kept, windows_kept}
-use Rattle.lookup_model.specs.RecordLaws.{All-at}
-use Rattle.lookup_model.specs.SentRows.{column_is}
+use Rattle.lookup_model.proofs.RecordLaws.{All-at}
+use Rattle.lookup_laws.proofs.SentRows.{column_is}
 use Rattle.lookup.proofs.evaluation.eval_fractions.Goals as goal
 
 pub loop-lookup-init : goal.loop-lookup-init

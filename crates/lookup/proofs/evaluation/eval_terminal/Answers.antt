@@ -2,7 +2,7 @@ use Rattle.expressions.specs.Window.{ExtWindow}
 use Rattle.lookup_evaluation.specs.Asserted.{IsConstraint}
 use Rattle.lookup_model.specs.Constraints.{accumulator_constraints, terminal_at}
 use Rattle.lookup_model.specs.Extension.{extension}
-use Rattle.lookup_evaluation.specs.AssertedLaws.{evaluates_read}
+use Rattle.lookup_evaluation.proofs.AssertedLaws.{evaluates_read}
 use Rattle.lookup.proofs.Evaluations.{terminal_reads}
 use Rattle.lookup.proofs.evaluation.eval_terminal.Goals as goal
 

@@ -7,9 +7,9 @@ use Rattle.lookup_evaluation.specs.Asserted.{Asserts, IsConstraint}
 use Rattle.lookup_model.specs.Constraints.{accumulator_at, accumulator_constraints, first_constraint, fractions_at, last_constraint, next_accumulator_at, transition_constraint}
 use Rattle.lookup_model.specs.Extension.{extension}
 use Rattle.lookup_model.specs.declared.types.Lookup.{Lookup}
-use Rattle.lookup_model.specs.ConstraintLaws.{accumulator_constraints-some}
+use Rattle.lookup_model.proofs.ConstraintLaws.{accumulator_constraints-some}
 use Rattle.lookup_evaluation.proofs.Accumulators.{is_selected, row_from_cells}
-use Rattle.lookup_evaluation.specs.AssertedLaws.{answers_here, evaluates_front, fails_front, fails_here}
+use Rattle.lookup_evaluation.proofs.AssertedLaws.{answers_here, evaluates_front, fails_front, fails_here}
 use Rattle.lookup_evaluation.proofs.accumulator.eval_accumulator.Goals as goal
 
 pub returns-then-is_empty : goal.returns-then-is_empty

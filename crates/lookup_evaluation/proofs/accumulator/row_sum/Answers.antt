@@ -2,7 +2,7 @@ use Rattle.std.proofs.Common.{ap, ◌∙◌, arith}
 use Rattle.lookup_model.specs.Constraints.{fraction_at}
 use Rattle.lookup_model.specs.Extension.{extension}
 use Rattle.lookup_model.specs.declared.types.Lookup.{Lookup}
-use Rattle.lookup_model.specs.SumLaws.{sum_mapped_next}
+use Rattle.lookup_model.proofs.SumLaws.{sum_mapped_next}
 use Rattle.lookup_evaluation.proofs.accumulator.row_sum.Goals as goal
 
 pub loop-lookup-preserved : goal.loop-lookup-preserved

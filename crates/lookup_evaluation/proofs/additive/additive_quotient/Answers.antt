@@ -8,9 +8,9 @@ use Rattle.lookup_model.specs.LookupDegree.{BranchDegrees, additive_denominator_
 use Rattle.lookup_model.specs.Message.{Message}
 use Rattle.lookup_model.specs.Records.{AllFit, IsWithin}
 use Rattle.lookup_model.specs.Sent.{branch_at, branches_at}
-use Rattle.lookup_model.specs.Branches.{branches_more, degrees_more, length-branches_at, length-degrees}
-use Rattle.lookup_model.specs.RecordLaws.{All-at, Fits-at}
-use Rattle.lookup_model.specs.TakenOut.{degrees_push, product_degree-push, product_of-push, sum_of-push}
+use Rattle.lookup_model.proofs.Branches.{branches_more, degrees_more, length-branches_at, length-degrees}
+use Rattle.lookup_model.proofs.RecordLaws.{All-at, Fits-at}
+use Rattle.lookup_model.proofs.TakenOut.{degrees_push, product_degree-push, product_of-push, sum_of-push}
 use Rattle.lookup_evaluation.proofs.additive.additive_quotient.Goals as goal
 
 pub with_tuple-requires-clause-tuple_fits : goal.with_tuple-requires-clause-tuple_fits

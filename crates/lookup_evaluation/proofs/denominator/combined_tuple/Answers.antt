@@ -3,9 +3,9 @@ use Rattle.std.proofs.lemmas.List.{take_all}
 use Rattle.field.specs.Polynomial.{combined}
 use Rattle.lookup_model.specs.LookupDegree.{expression_degree, greatest, tuple_degree}
 use Rattle.lookup_model.specs.Sent.{value, values}
-use Rattle.lookup_model.specs.DegreeBounds.{greatest_more}
-use Rattle.lookup_model.specs.HornerRule.{combined_more, map-map}
-use Rattle.lookup_model.specs.RecordLaws.{Fits-at}
+use Rattle.lookup_model.proofs.DegreeBounds.{greatest_more}
+use Rattle.lookup_model.proofs.HornerRule.{combined_more, map-map}
+use Rattle.lookup_model.proofs.RecordLaws.{Fits-at}
 use Rattle.lookup_evaluation.proofs.denominator.combined_tuple.Goals as goal
 
 pub loop-element-init : goal.loop-element-init

@@ -9,10 +9,10 @@ use Rattle.lookup_model.specs.LookupDegree.{BranchDegrees, branch_degrees, expre
 use Rattle.lookup_model.specs.Message.{Message}
 use Rattle.lookup_model.specs.Records.{AllFit, IsWithin}
 use Rattle.lookup_model.specs.Sent.{branch_at, branches_at, value}
-use Rattle.lookup_model.specs.Branches.{length-branches_at, length-degrees, length-zipped, mapped_at, mapped_more, zipped_at, zipped_more}
-use Rattle.lookup_model.specs.DegreeBounds.{greatest_next}
-use Rattle.lookup_model.specs.RecordLaws.{All-at, Fits-at}
-use Rattle.lookup_model.specs.SumLaws.{sum_next}
+use Rattle.lookup_model.proofs.Branches.{length-branches_at, length-degrees, length-zipped, mapped_at, mapped_more, zipped_at, zipped_more}
+use Rattle.lookup_model.proofs.DegreeBounds.{greatest_next}
+use Rattle.lookup_model.proofs.RecordLaws.{All-at, Fits-at}
+use Rattle.lookup_model.proofs.SumLaws.{sum_next}
 use Rattle.lookup_evaluation.proofs.exclusive.selection_of.Goals as goal
 
 pub with_branch-requires-clause-flag_fits : goal.with_branch-requires-clause-flag_fits

@@ -4,7 +4,7 @@ use Rattle.std.proofs.lemmas.Result.{err_from_is_err_and}
 use Rattle.std.specs.declared.alloc.Global.{Global}
 use Rattle.std.specs.declared.vec.Vec.{Vec}
 use Rattle.expressions.specs.declared.base_expression.SymbolicExpression.{SymbolicExpression}
-use Rattle.lookup_model.specs.Branches.{length-degrees}
+use Rattle.lookup_model.proofs.Branches.{length-degrees}
 use Rattle.lookup_model.specs.LookupDegree.{BranchDegrees, additive_denominator_degree, greatest, lookup_branch_degrees, total, tuple_degree}
 use Rattle.lookup_model.proofs.Degrees.{branch_next, branch_within, numerator_terms, product_is}
 use Rattle.lookup_model.proofs.degree.additive_degree.Goals as goal

@@ -4,7 +4,7 @@ use Rattle.std.proofs.lemmas.Result.{err_from_is_err_and}
 use Rattle.std.specs.declared.alloc.Global.{Global}
 use Rattle.std.specs.declared.vec.Vec.{Vec}
 use Rattle.expressions.specs.declared.base_expression.SymbolicExpression.{SymbolicExpression}
-use Rattle.lookup_model.specs.Branches.{mapped_at, mapped_more}
+use Rattle.lookup_model.proofs.Branches.{mapped_at, mapped_more}
 use Rattle.lookup_model.specs.LookupDegree.{tuple_degree}
 use Rattle.lookup_model.proofs.Degrees.{item_within, total_longer, total_take}
 use Rattle.lookup_model.proofs.degree.product_degree.Goals as goal

@@ -1,7 +1,7 @@
 use Rattle.std.proofs.Common.{arith, length, rules, sym, ◌∙◌}
 use Rattle.std.proofs.lemmas.Bool.{true≢false}
 use Rattle.std.proofs.lemmas.Option.{slice_get_read}
-use Rattle.lookup_model.specs.RecordLaws.{AreRecordsBelow-more}
+use Rattle.lookup_model.proofs.RecordLaws.{AreRecordsBelow-more}
 use Rattle.lookup_model.proofs.fitting.first_malformed.Goals as goal
 
 pub returns-then-not-is_record_at : goal.returns-then-not-is_record_at

@@ -1,5 +1,5 @@
 use Rattle.std.proofs.Common.{◌∙◌}
-use Rattle.lookup_model.specs.HornerRule.{combined_more}
+use Rattle.lookup_model.proofs.HornerRule.{combined_more}
 use Rattle.lookup_tests.proofs.plain.combined_of.Goals as goal
 
 pub loop-element-preserved : goal.loop-element-preserved

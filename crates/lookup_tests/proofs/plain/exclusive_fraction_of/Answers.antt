@@ -2,14 +2,14 @@ use Rattle.std.proofs.Common.{◌≡◌, ◌≢◌, ◌+◌, ◌*◌, ◌<◌, [
 use Rattle.std.proofs.lemmas.Bool.{eqb-true, eqb-false}
 use Rattle.std.proofs.lemmas.List.{length-map, nil_from_length}
 use Rattle.std.proofs.lemmas.Result.{MatchResult-weaker}
-use Rattle.lookup_model.specs.Branches.{mapped_at}
+use Rattle.lookup_model.proofs.Branches.{mapped_at}
 use Rattle.lookup_model.specs.Denominators.{column_denominator}
 use Rattle.lookup_model.specs.Extension.{extension, IsLawful}
-use Rattle.lookup_model.specs.RecordLaws.{All-at}
+use Rattle.lookup_model.proofs.RecordLaws.{All-at}
 use Rattle.lookup_tests.specs.PlainProgram.{message_of, messages_of}
 use Rattle.lookup_tests.proofs.PlainProgramLaws.{one_item}
-use Rattle.lookup.proofs.SelectedFractions.{none_selected, one_selected, one_vanishing}
-use Rattle.lookup.proofs.Selections.{place_within}
+use Rattle.lookup_generation.proofs.SelectedFractions.{none_selected, one_selected, one_vanishing}
+use Rattle.lookup_laws.proofs.Selections.{place_within}
 use Rattle.lookup_tests.proofs.plain.exclusive_fraction_of.Goals as goal
 
 pub returns-then-is_empty : goal.returns-then-is_empty

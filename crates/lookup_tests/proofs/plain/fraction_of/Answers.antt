@@ -1,13 +1,13 @@
 use Rattle.std.proofs.Common.{List, take, drop, ◌+◌, [], ◌∷◌, ap, sym, ◌∙◌, subst, arith}
 use Rattle.std.proofs.lemmas.List.{length-map, take_all}
-use Rattle.lookup_model.specs.Branches.{mapped_at}
+use Rattle.lookup_model.proofs.Branches.{mapped_at}
 use Rattle.lookup_model.specs.Denominators.{column_denominator}
 use Rattle.lookup_model.specs.Extension.{extension, IsLawful}
 use Rattle.lookup_model.specs.Fault.{vanishes}
 use Rattle.lookup_model.specs.Message.{Message}
 use Rattle.lookup_model.specs.Plain.{counted}
-use Rattle.lookup_model.specs.Rows.{split_at}
-use Rattle.lookup.specs.Fraction.{IsFractionOf}
+use Rattle.lookup_laws.proofs.Rows.{split_at}
+use Rattle.lookup_generation.specs.Fraction.{IsFractionOf}
 use Rattle.lookup_tests.specs.PlainProgram.{message_of, messages_of}
 use Rattle.lookup_tests.proofs.PlainProgramLaws.{fraction_of_both, messages-more, vanishes_among}
 use Rattle.lookup_tests.proofs.plain.fraction_of.Goals as goal

@@ -1,8 +1,8 @@
 use Rattle.std.proofs.Common.{◌≡◌, length, take, ◌++◌, ◌∷◌, [], true, false, ap, sym, ◌∙◌, arith}
 use Rattle.std.proofs.lemmas.List.{append-nil, length-take, take_all}
-use Rattle.lookup_model.specs.Rows.{take_item}
+use Rattle.lookup_laws.proofs.Rows.{take_item}
 use Rattle.lookup_tests.specs.PlainProgram.{places_of_ones}
-use Rattle.lookup.proofs.Selections.{places-more}
+use Rattle.lookup_laws.proofs.Selections.{places-more}
 use Rattle.lookup_tests.proofs.plain.set_places.Goals.{then-eq+in_ok-push, else-eq}
 use Rattle.lookup_tests.proofs.plain.set_places.Goals as goal
 

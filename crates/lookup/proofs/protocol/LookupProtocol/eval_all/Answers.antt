@@ -8,7 +8,7 @@ use Rattle.lookup_evaluation.specs.Asserted.{Asserts, IsConstraint}
 use Rattle.lookup_model.specs.Constraints.{accumulator_constraints, fraction_constraint, lookup_constraints, terminal_at}
 use Rattle.lookup_model.specs.Extension.{extension}
 use Rattle.lookup_model.specs.declared.types.Lookup.{Lookup}
-use Rattle.lookup_evaluation.specs.AssertedLaws.{evaluates_read, evaluates_then, fails_early}
+use Rattle.lookup_evaluation.proofs.AssertedLaws.{evaluates_read, evaluates_then, fails_early}
 use Rattle.lookup.proofs.Evaluations.{later_reads, layout_kept, windows_kept}
 use Rattle.lookup.proofs.protocol.LookupProtocol.eval_all.Goals as goal
 

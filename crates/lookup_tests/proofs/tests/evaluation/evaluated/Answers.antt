@@ -1,6 +1,6 @@
 use Rattle.std.proofs.Common.{◌≡◌, ◌∙◌, refl}
 use Rattle.expressions.proofs.Assertions.{on_ok}
-use Rattle.lookup_evaluation.specs.AssertedLaws.{asserts_keep}
+use Rattle.lookup_evaluation.proofs.AssertedLaws.{asserts_keep}
 use Rattle.lookup_tests.proofs.tests.evaluation.evaluated.Goals as goal
 
 pub returns : goal.returns

@@ -1,0 +1,7 @@
+pub mod Fractions
+pub mod Layouts
+pub mod MadeRows
+pub mod OwnWindow
+pub mod ProgressLaws
+pub mod SelectedFractions
+pub mod SetFlags

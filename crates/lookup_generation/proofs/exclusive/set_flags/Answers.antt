@@ -1,0 +1,59 @@
+use Rattle.std.proofs.Common.{◌<◌, ◌+◌, List, length, take, drop, inl, inr, sym, ap, ◌∙◌, subst, arith}
+use Rattle.std.proofs.lemmas.List.{length-map, length-take, take_all}
+use Rattle.std.proofs.lemmas.Result.{err_from_is_err_and}
+use Rattle.lookup_model.proofs.Branches.{mapped_at, mapped_more}
+use Rattle.lookup_model.specs.Extension.{extension, IsLawful}
+use Rattle.lookup_model.specs.Fault.{are_boolean}
+use Rattle.lookup_model.proofs.RecordLaws.{Fits-at}
+use Rattle.lookup_laws.proofs.Rows.{split_at}
+use Rattle.lookup_model.specs.Sent.{value, values}
+use Rattle.lookup_generation.specs.Selection.{AreSetFlags}
+use Rattle.lookup_generation.specs.TraceBuilder.{builder_layout, builder_window}
+use Rattle.lookup_laws.proofs.Selections.{not_boolean}
+use Rattle.lookup_generation.proofs.exclusive.set_flags.Goals as goal
+
+pub with_flag-requires : goal.with_flag-requires
+with_flag-requires g c = Fits-at (builder_layout c.args.builder.now) c.args.flags.now c.loop-place.place _ c.requires (omega arith) c.index-flags-place.is
+
+pub returns-in_err-set : goal.returns-in_err-set
+returns-in_err-set g c =
+    let E = extension g.F.PrimeCharacteristicRing.ring g.F.PartialEq.eq g.EF.PrimeCharacteristicRing.ring g.EF.PartialEq.eq g.EF.ExtensionDomain.embed g.EF.Field.inverse in
+    let laws : IsLawful E = record {
+      base = g.F.PrimeCharacteristicRing.lawful;
+      base_eq = g.met.F.PrimeCharacteristicRing.eq_is;
+      ring = g.EF.PrimeCharacteristicRing.lawful;
+      domain = g.met.EF.Domain.domain;
+      eq = g.met.EF.PrimeCharacteristicRing.eq_is;
+      embeds = g.met.EF.ExtensionDomain.embeds;
+      inverse = g.met.EF.Field.inverse_is;
+    } in
+    let look = value E.base (builder_window c.args.builder.now) in
+    let flags = c.args.flags.now in
+    let vals = values E.base (builder_window c.args.builder.now) flags in
+    let i = c.loop-place.place in
+    let flag = c.index-flags-place.result in
+    let lt : i < length flags = omega arith in
+    let split = split_at vals i (look flag) (omega (arith, length-map flags look)) (mapped_at look flags i flag lt c.index-flags-place.is) in
+    let p = err_from_is_err_and c.from_residual.result c.from_residual.ensures.1 in
+    rw (p.1, p.2) (elim c.in_err-set.ensures.refused [
+      | inl memory ↦ inl memory
+      | inr why ↦ inr (why.0, ap (are_boolean E) split ∙ not_boolean laws (take i vals) (drop (i + 1) vals) (look flag) why.1 why.2)
+    ])
+
+pub loop-place-preserved : goal.loop-place-preserved
+loop-place-preserved g c =
+    let E = extension g.F.PrimeCharacteristicRing.ring g.F.PartialEq.eq g.EF.PrimeCharacteristicRing.ring g.EF.PartialEq.eq g.EF.ExtensionDomain.embed g.EF.Field.inverse in
+    let look = value E.base (builder_window c.args.builder.now) in
+    let flags = c.args.flags.now in
+    let i = c.loop-place.place in
+    let flag = c.index-flags-place.result in
+    let lt : i < length flags = omega arith in
+    let more = mapped_more look flags i flag lt c.index-flags-place.is in
+    subst (λ (fs : List _). AreSetFlags E fs c.in_ok-set.set) (sym more)
+    (c.in_ok-set.ensures.next (take i (values E.base (builder_window c.args.builder.now) flags)) (omega (arith, length-take i (values E.base (builder_window c.args.builder.now) flags), length-map flags look)) c.loop-place.invariant)
+
+pub returns : goal.returns
+returns g c =
+    let E = extension g.F.PrimeCharacteristicRing.ring g.F.PartialEq.eq g.EF.PrimeCharacteristicRing.ring g.EF.PartialEq.eq g.EF.ExtensionDomain.embed g.EF.Field.inverse in
+    let vals = values E.base (builder_window c.args.builder.now) c.args.flags.now in
+    subst (λ (fs : List _). AreSetFlags E fs c.loop-place.set) (take_all c.loop-place.place vals (omega (arith, c.loop-place-test.false, length-map c.args.flags.now (value E.base (builder_window c.args.builder.now))))) c.loop-place.invariant

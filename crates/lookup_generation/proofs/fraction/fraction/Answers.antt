@@ -1,0 +1,61 @@
+use Rattle.std.proofs.Common.{◌≡◌, inl, inr, List, Option, IfSome, None, Some, length, ap, sym, subst, ◌∙◌}
+use Rattle.std.proofs.lemmas.Result.{MatchResult-weaker}
+use Rattle.std.specs.Option.{option_map}
+use Rattle.expressions.specs.declared.base_expression.SymbolicExpression.{SymbolicExpression}
+use Rattle.lookup_model.specs.Denominators.{column_denominator}
+use Rattle.lookup_model.specs.Extension.{extension}
+use Rattle.lookup_model.specs.Fault.{fault_of}
+use Rattle.lookup_model.specs.Plain.{plain_fraction}
+use Rattle.lookup_model.specs.Records.{AllFit, IsWithin}
+use Rattle.lookup_model.specs.Sent.{branches_at, sent, sent_at, values}
+use Rattle.lookup_generation.specs.TraceBuilder.{builder_layout, builder_window}
+use Rattle.lookup_laws.proofs.LookupFaults.{additive_faultless, additive_fault}
+use Rattle.lookup_generation.proofs.fraction.fraction.Goals as goal
+
+pub returns-in-None : goal.returns-in-None
+returns-in-None g c =
+    let E = extension g.F.PrimeCharacteristicRing.ring g.F.PartialEq.eq g.EF.PrimeCharacteristicRing.ring g.EF.PartialEq.eq g.EF.ExtensionDomain.embed g.EF.Field.inverse in
+    let denominator = column_denominator E c.args.builder.now.permutation_challenges.now in
+    let row = c.args.builder.now.row in
+    let lookup = c.args.lookup.now in
+    let w = builder_window c.args.builder.now in
+    let branches = branches_at E.base w lookup.column lookup in
+    let sent_is : sent E.base E.base_eq None branches ≡ sent_at E.base E.base_eq w lookup.column lookup =
+    ap (λ o. sent E.base E.base_eq (option_map (λ flags. values E.base w flags.items) o) branches) (sym c.in-None.is) in
+    let fault_is = ap (fault_of E denominator row lookup.column) (sym sent_is) in
+    MatchResult-weaker c.additive_fraction.result c.additive_fraction.ensures
+    (λ f of. (of.value ∙ ap (plain_fraction E denominator) sent_is, fault_is ∙ additive_faultless E denominator row lookup.column branches of.divides))
+    (λ e refused. elim refused [
+      | inl memory ↦ inl memory
+      | inr vanishing ↦ inr (fault_is ∙ additive_fault E denominator row lookup.column branches vanishing.1 ∙ ap Some (sym vanishing.0))
+    ])
+
+pub returns-in-Some : goal.returns-in-Some
+returns-in-Some g c =
+    let E = extension g.F.PrimeCharacteristicRing.ring g.F.PartialEq.eq g.EF.PrimeCharacteristicRing.ring g.EF.PartialEq.eq g.EF.ExtensionDomain.embed g.EF.Field.inverse in
+    let denominator = column_denominator E c.args.builder.now.permutation_challenges.now in
+    let row = c.args.builder.now.row in
+    let lookup = c.args.lookup.now in
+    let w = builder_window c.args.builder.now in
+    let branches = branches_at E.base w lookup.column lookup in
+    let sent_is : sent E.base E.base_eq (Some (values E.base w c.deref.result.now)) branches ≡ sent_at E.base E.base_eq w lookup.column lookup =
+    ap (λ t. sent E.base E.base_eq (Some (values E.base w t)) branches) c.deref.ensures.value
+    ∙ ap (λ o. sent E.base E.base_eq (option_map (λ flags. values E.base w flags.items) o) branches) (sym c.in-Some.is) in
+    let fault_is = ap (fault_of E denominator row lookup.column) (sym sent_is) in
+    MatchResult-weaker c.exclusive_fraction.result c.exclusive_fraction.ensures
+    (λ f of. (of.0 ∙ ap (plain_fraction E denominator) sent_is, fault_is ∙ of.1))
+    (λ e refused. elim refused [
+      | inl memory ↦ inl memory
+      | inr fault ↦ inr (fault_is ∙ fault)
+    ])
+
+pub exclusive_fraction-requires-clause-flag_number :
+    goal.exclusive_fraction-requires-clause-flag_number
+exclusive_fraction-requires-clause-flag_number g c = ap length c.deref.ensures.value ∙ c.requires.lengths.flags _ c.in-Some.is
+
+pub exclusive_fraction-requires-clause-flags_fit :
+    goal.exclusive_fraction-requires-clause-flags_fit
+unfolding IsWithin
+exclusive_fraction-requires-clause-flags_fit g c =
+    let layout = builder_layout c.args.builder.now in
+    subst (λ (es : List (SymbolicExpression _)). AllFit layout es) (sym c.deref.ensures.value) (subst (λ (o : Option _). IfSome o (λ flags. AllFit layout flags.items)) c.in-Some.is c.requires.within.2)

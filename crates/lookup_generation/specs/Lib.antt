@@ -1,0 +1,5 @@
+pub mod Fraction
+pub mod Progress
+pub mod RowAnswers
+pub mod Selection
+pub mod TraceBuilder

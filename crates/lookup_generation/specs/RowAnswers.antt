@@ -1,0 +1,77 @@
+-- What the steps of a row answer, over the builder of that row.
+use Rattle.std.specs.Prelude.{◌≡◌, ◌≢◌, ◌⊎◌, ℕ, None, Some, IsTrue, List, Result, MatchResult, false}
+use Rattle.expressions.specs.declared.base_expression.SymbolicExpression.{SymbolicExpression}
+use Rattle.lookup_model.specs.Denominators.{column_denominator}
+use Rattle.lookup_model.specs.Extension.{Extension}
+use Rattle.lookup_model.specs.Fault.{are_boolean, fault_of, vanishes}
+use Rattle.lookup_model.specs.Message.{Key, Message}
+use Rattle.lookup_model.specs.Plain.{counted, plain_fraction, quotient_of}
+use Rattle.lookup_model.specs.Sent.{Sent, branch_at, branches_at, sent, sent_at, values}
+use Rattle.lookup_model.specs.declared.error.LookupError.{LookupError}
+use Rattle.lookup_model.specs.declared.error.LookupError.TheVariants.{FlagNotBoolean, Memory, VanishingDenominator}
+use Rattle.lookup_model.specs.declared.types.Lookup.{Lookup}
+use Rattle.lookup_generation.specs.Fraction.{IsFractionOf}
+use Rattle.lookup_generation.specs.Selection.{AreSetFlags}
+use Rattle.lookup_generation.specs.TraceBuilder.{builder_window}
+use Rattle.lookup_generation.specs.declared.exclusive.SetFlags.{SetFlags}
+use Rattle.lookup_generation.specs.declared.trace_builder.LookupTraceBuilder.{LookupTraceBuilder}
+
+module _ {F K : Type 0} (E : Extension F K) (builder : LookupTraceBuilder F K) where
+  -- the denominator of a key whose id is a column, over the builder's challenges
+  abbrev pub denominator_on : Key F → K
+  denominator_on = column_denominator E builder.permutation_challenges.now
+
+  -- the values of expressions on the row
+  abbrev pub values_on : List (SymbolicExpression F) → List F
+  values_on = values E.base (builder_window builder)
+
+  -- a tuple of a column with its multiplicity
+  abbrev pub branch_on : ℕ → List (SymbolicExpression F) → SymbolicExpression F → Message F
+  branch_on = branch_at E.base (builder_window builder)
+
+  -- the branches of a lookup
+  abbrev pub branches_on : Lookup F → List (Message F)
+  branches_on lookup = branches_at E.base (builder_window builder) lookup.column lookup
+
+  -- out of memory, or the row and the column where a denominator vanishes as this says
+  abbrev pub IsVanishing : ℕ → Type 0 → LookupError → Type 0
+  IsVanishing column such e = (e ≡ Memory) ⊎ ((e ≡ VanishingDenominator builder.row column) × such)
+
+  -- The quotient of a message, whose denominator is not zero. Otherwise it vanishes.
+  abbrev pub AnswersQuotient : ℕ → Message F → Result K LookupError → Type 0
+  AnswersQuotient column message result =
+      MatchResult result
+      (λ q. (denominator_on message.key ≢ E.ring.zero) × (q ≡ quotient_of E denominator_on message))
+      (IsVanishing column (denominator_on message.key ≡ E.ring.zero))
+
+  -- The sum of the quotients of the counted branches. Otherwise a denominator of them vanishes.
+  abbrev pub AnswersAdditive : Lookup F → Result K LookupError → Type 0
+  AnswersAdditive lookup result =
+      MatchResult result
+      (IsFractionOf E denominator_on (branches_on lookup))
+      (IsVanishing lookup.column (IsTrue (vanishes E denominator_on (counted E (branches_on lookup)))))
+
+  -- The set flags among these. Otherwise one is neither zero nor one.
+  abbrev pub AnswersFlags : ℕ → List F → Result SetFlags LookupError → Type 0
+  AnswersFlags column flags result =
+      MatchResult result
+      (AreSetFlags E flags)
+      (λ e. (e ≡ Memory) ⊎ ((e ≡ FlagNotBoolean builder.row column) × (are_boolean E flags ≡ false)))
+
+  -- The plain fraction of what is sent, which has no fault. Otherwise its fault.
+  abbrev pub AnswersSent : ℕ → Sent F → Result K LookupError → Type 0
+  AnswersSent column sent result =
+      MatchResult result
+      (λ f. (f ≡ plain_fraction E denominator_on sent)
+      × (fault_of E denominator_on builder.row column sent ≡ None))
+      (λ e. (e ≡ Memory) ⊎ (fault_of E denominator_on builder.row column sent ≡ Some e))
+
+  -- that of a lookup
+  abbrev pub AnswersFraction : Lookup F → Result K LookupError → Type 0
+  AnswersFraction lookup =
+      AnswersSent lookup.column (sent_at E.base E.base_eq (builder_window builder) lookup.column lookup)
+
+  -- that of a lookup with these flags
+  abbrev pub AnswersExclusive : Lookup F → List (SymbolicExpression F) → Result K LookupError → Type 0
+  AnswersExclusive lookup flags =
+      AnswersSent lookup.column (sent E.base E.base_eq (Some (values_on flags)) (branches_on lookup))

@@ -1,0 +1,17 @@
+-- The set flags of a row, while its flags are processed.
+use Rattle.std.specs.Prelude.{◌≡◌, ◌<◌, ℕ, true, List, [], ◌∷◌, length}
+use Rattle.lookup_model.specs.Extension.{Extension}
+use Rattle.lookup_model.specs.Fault.{are_boolean, set_places}
+use Rattle.lookup_generation.specs.declared.exclusive.SetFlags.{SetFlags}
+use Rattle.lookup_generation.specs.declared.exclusive.SetFlags.TheVariants.{Nothing, One, Several}
+
+-- no index, one index, or more than one
+abbrev pub ArePlaces : SetFlags → List ℕ → Type 0
+ArePlaces Nothing places = places ≡ []
+ArePlaces (One place) places = places ≡ place ∷ []
+ArePlaces Several places = 1 < length places
+
+-- Each flag is zero or one, and these are the indices of the set ones.
+pub record AreSetFlags {F K : Type 0} (E : Extension F K) (flags : List F) (set : SetFlags) : Type 0 where
+  pub boolean : are_boolean E flags ≡ true
+  pub places : ArePlaces set (set_places E 0 flags)

@@ -1,0 +1,13 @@
+pub mod KeyLaws
+pub mod LookupFaults
+pub mod Nets
+pub mod PlainResults
+pub mod Regrouping
+pub mod Rows
+pub mod SatisfiedFractions
+pub mod SatisfiedLookups
+pub mod SatisfiedRows
+pub mod SatisfiedSelections
+pub mod Selections
+pub mod SentRows
+pub mod Terminals

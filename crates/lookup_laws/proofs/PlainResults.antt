@@ -1,0 +1,49 @@
+-- The plain result: its shape, and that without lookups it is empty.
+use Rattle.std.proofs.Common.{◌≡◌, ℕ, zero, suc, ◌≤◌, ◌+◌, ◌*◌, ◌/◌, ◌<◌, ◌==◌, Some, List, [], ◌∷◌, length, map, get_or, refl, sym, ap, ◌∙◌, arith, cond}
+use Rattle.std.proofs.lemmas.Bool.{ne_eqb}
+use Rattle.std.proofs.lemmas.List.{length-append, length-map, take_all}
+use Rattle.std.proofs.lemmas.Nat.{div-mul-add}
+use Rattle.std.specs.List.{enumerate_from, flat_map, range_with_len}
+use Rattle.field.specs.Sums.{sum_in}
+use Rattle.matrix.specs.Matrix.{IsShaped, height}
+use Rattle.lookup_model.specs.Extension.{Extension, IsLawful}
+use Rattle.lookup_model.specs.Fault.{row_faults, trace_faults}
+use Rattle.lookup_model.specs.Generated.{plain_matrix, plain_terminal_of}
+use Rattle.lookup_model.specs.Message.{Key}
+use Rattle.lookup_model.specs.Plain.{plain_cells, plain_fraction, plain_row, plain_terminal}
+use Rattle.lookup_model.specs.Sent.{Sent}
+use Rattle.lookup_model.specs.declared.types.Lookup.{Lookup}
+
+-- the height of as many rows of this width
+pub height_of : {T : Type 0} (values : List T) (rows width : ℕ) → length values ≡ rows * (width + 1) → height (record { values = values; width = width + 1 }) ≡ rows
+height_of values rows width e =
+    let w = width + 1 in
+    let test : (w == 0) ≡ _ = ne_eqb w 0 (λ z. absurd (omega (arith, z))) in
+    ap (λ b. cond b 0 (length values / w)) test ∙ ap (λ n. n / w) (e ∙ omega arith) ∙ div-mul-add rows w 0 (omega arith)
+
+-- as many values as rows of this width make a matrix
+pub IsShaped-product : {T : Type 0} (values : List T) (rows width : ℕ) → length values ≡ rows * (width + 1) → IsShaped (record { values = values; width = width + 1 })
+IsShaped-product values rows width e = e ∙ ap (λ n. n * (width + 1)) (sym (height_of values rows width e))
+
+module _ {F K : Type 0} (E : Extension F K) (denominator : Key F → K) where
+  -- rows without lookups have no fault
+  pub faultless_rows : (n : ℕ) (rs : List ℕ) → flat_map (λ p. row_faults E denominator p.0 p.1) (enumerate_from n (map (λ r. []) rs)) ≡ []
+  faultless_rows n [] = refl
+  faultless_rows n (r ∷ rs) = faultless_rows (n + 1) rs
+
+  -- the result with lookups
+  pub plain_matrix-some : (lookups : List (Lookup F)) (rows : List (List (Sent F))) → 0 < length lookups → plain_matrix E denominator lookups rows ≡ record { values = plain_cells E denominator rows; width = length lookups + 1 }
+  plain_matrix-some [] rows some = absurd (omega arith)
+  plain_matrix-some (l ∷ ls) rows some = refl
+
+  pub plain_terminal_of-some : (lookups : List (Lookup F)) (rows : List (List (Sent F))) → 0 < length lookups → plain_terminal_of E denominator lookups rows ≡ Some (record { 0 = plain_terminal E denominator rows })
+  plain_terminal_of-some [] rows some = absurd (omega arith)
+  plain_terminal_of-some (l ∷ ls) rows some = refl
+
+  -- rows of one length each give a cell more than that
+  pub length-plain_rows : (rows : List (List (Sent F))) (n : ℕ) → ((k : ℕ) → k < length rows → length (get_or rows k []) ≡ n) → (a m : ℕ) → a + m ≤ length rows → length (flat_map (plain_row E denominator rows) (range_with_len a m)) ≡ m * (n + 1)
+  length-plain_rows rows n each a zero within = omega arith
+  length-plain_rows rows n each a (suc m) within =
+      let rest = flat_map (plain_row E denominator rows) (range_with_len (a + 1) m) in
+      length-append (plain_row E denominator rows a) rest
+      ∙ omega (arith, length-plain_rows rows n each (a + 1) m (omega arith), length-map (get_or rows a []) (plain_fraction E denominator), each a (omega arith))
