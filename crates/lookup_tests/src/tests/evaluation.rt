@@ -1,5 +1,6 @@
 //! Constraints of lookups, on witnesses and as expressions.
-ghost use Rattle.std.specs.Prelude.{◌≡◌, IfOk, None, ⊤};
+ghost use Rattle.std.specs.Prelude.{◌≡◌, IfOk, None, OnOk};
+ghost use Rattle.air.specs.Row.{row_layout};
 
 use super::{alone, are_numbers, generated, group, holds, range, single, trace};
 use air::{
@@ -34,7 +35,9 @@ pub(super) fn evaluated<AB: PermutationAirBuilder>(
     alloc: Global,
     builder: &mut AB,
     lookups: &[Lookup<AB::F>],
-) -> Result<(), AirError> {
+) -> Result<(), AirError>
+    ensures { OnOk result (AB.layout builder.new ≡ AB.layout builder.old) }
+{
     let layout = layout_of(alloc, &*builder)?;
     assert!(rt; fits(lookups, &layout));
     assert!(rt; lookups.len() <= layout.num_permutation_challenges / 2);
@@ -73,7 +76,7 @@ impl<R, F> BaseAir<F> for LookupsAir<'_, R, F> {
 
 impl<'b, R: Abort, F: Field, EF: ExtensionField<F>> Air<DebugConstraintBuilder<'b, F, EF>>
     for LookupsAir<'_, R, F> {
-    ghost evaluates = { λ _ _ _ _. ⊤ };
+    ghost evaluates = { λ _ before answer after. OnOk answer (row_layout after ≡ row_layout before) };
 
     fn eval(
         &self,
@@ -82,6 +85,8 @@ impl<'b, R: Abort, F: Field, EF: ExtensionField<F>> Air<DebugConstraintBuilder<'
     ) -> Result<(), AirError> {
         evaluated(self.rt, alloc, builder, self.lookups)
     }
+
+    ghost keeps_layout = { λ air before after h. h };
 }
 
 /// No preprocessed trace beside this one.

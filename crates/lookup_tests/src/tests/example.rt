@@ -1,9 +1,9 @@
 //! The example of the README: an AIR on a bus, from its evaluation to the check of its terminal.
-ghost use Rattle.std.specs.Prelude.{⊤};
+ghost use Rattle.std.specs.Prelude.{◌≡◌, All, IfOk, OnOk};
 
 use super::evaluation::refusal;
 use super::{are_numbers, holds, trace};
-use air::{Air, AirBuilder, AirError, AirLayout, BaseAir, LayoutPart};
+use air::{Air, AirBuilder, AirError, BaseAir, LayoutPart};
 use field::F7;
 use lookup::{
     Challenges, Count, InteractionBuilder, LogUpGadget, LookupBus, LookupProtocol, Lookups,
@@ -37,7 +37,8 @@ impl<F> BaseAir<F> for KeysAir {
 }
 
 impl<AB: InteractionBuilder> Air<AB> for KeysAir {
-    ghost evaluates = { λ _ _ _ _. ⊤ };
+    ghost evaluates = { λ _ before answer after. OnOk answer ((AB.layout after ≡ AB.layout before)
+        × (AB.pushed_within before → AB.pushed_within after)) };
 
     fn eval(&self, alloc: Global, builder: &mut AB) -> Result<(), AirError> {
         let bus = LookupBus::new("keys");
@@ -47,6 +48,8 @@ impl<AB: InteractionBuilder> Air<AB> for KeysAir {
         let multiplicity = cell(alloc, builder, 2)?;
         bus.table_entry(alloc, builder, entry, multiplicity)
     }
+
+    ghost keeps_layout = { λ air before after h. h.0 };
 }
 
 /// The expression of a cell of the current row.
@@ -54,7 +57,9 @@ pub(super) fn cell<AB: AirBuilder>(
     alloc: Global,
     builder: &AB,
     column: usize,
-) -> Result<AB::Expr, AirError> {
+) -> Result<AB::Expr, AirError>
+    ensures { IfOk result (λ x. AB.Expr.within (AB.layout builder.now) x) }
+{
     let main = builder.main(alloc)?;
     match main.current(column) {
         Some(variable) => Ok(variable.into()),
@@ -71,7 +76,9 @@ pub(super) fn tuple<AB: AirBuilder>(
     alloc: Global,
     builder: &AB,
     column: usize,
-) -> Result<Vec<AB::Expr>, AirError> {
+) -> Result<Vec<AB::Expr>, AirError>
+    ensures { IfOk result (λ tuple. All (AB.Expr.within (AB.layout builder.now)) tuple.items) }
+{
     let mut tuple = Vec::new(alloc);
     tuple.push(cell(alloc, builder, column)?)?;
     Ok(tuple)
@@ -84,13 +91,12 @@ fn auxiliary_trace(
     alloc: Global,
     main: &RowMajorMatrix<F7>,
 ) -> Result<(Lookups<F7>, RowMajorMatrix<F7>), Fail> {
+    assert!(rt; main.width() == 3);
     let gadget = LogUpGadget::new();
     let lookups = Lookups::from_air::<F7, KeysAir>(alloc, &KeysAir)?;
     let challenges = Challenges::new(alloc, F7::new(5), F7::new(2), 1, 1)?;
     let columns = challenges.for_columns(alloc, &[0, 0])?;
     let preprocessed: Option<&RowMajorMatrix<F7>> = None;
-    let layout = AirLayout::of_traces(main, preprocessed, &[]);
-    assert!(rt; lookups.fits(&layout));
     assert!(rt; lookups.as_slice().len() == 2 && columns.len() == 4);
     let (auxiliary, terminal) = gadget.generate_permutation(
         alloc,

@@ -1,5 +1,6 @@
 //! Lookups of AIRs that push what a test asks for.
-ghost use Rattle.std.specs.Prelude.{⊤};
+ghost use Rattle.std.specs.Prelude.{◌≡◌, All, IfOk, OnOk};
+ghost use Rattle.expressions.specs.declared.layout.AirLayout.{AirLayout};
 
 use super::example::{cell, tuple};
 use super::{holds, list, one};
@@ -59,7 +60,9 @@ impl<F> BaseAir<F> for Steps<'_> {
 }
 
 /// A tuple of as many ones.
-fn ones<AB: AirBuilder>(alloc: Global, width: usize) -> Result<Vec<AB::Expr>, AirError> {
+fn ones<AB: AirBuilder>(alloc: Global, width: usize) -> Result<Vec<AB::Expr>, AirError>
+    ensures { IfOk result (λ tuple. (layout : AirLayout) → All (AB.Expr.within layout) tuple.items) }
+{
     let mut tuple = Vec::new(alloc);
     for _ in 0..width {
         tuple.push(AB::Expr::constant(AB::F::ONE))?;
@@ -71,7 +74,10 @@ fn push_local<AB: InteractionBuilder>(
     alloc: Global,
     builder: &mut AB,
     shapes: &[(usize, u32)],
-) -> Result<(), AirError> {
+) -> Result<(), AirError>
+    ensures layout { OnOk result (AB.layout builder.new ≡ AB.layout builder.old) }
+    ensures within { OnOk result (AB.pushed_within builder.old → AB.pushed_within builder.new) }
+{
     let mut tuples = Vec::new(alloc);
     for (width, weight) in shapes {
         let count = Count::bounded(AB::Expr::constant(AB::F::ONE), *weight);
@@ -80,7 +86,10 @@ fn push_local<AB: InteractionBuilder>(
     builder.push_local_interaction(alloc, tuples)
 }
 
-fn push_range<AB: InteractionBuilder>(alloc: Global, builder: &mut AB) -> Result<(), AirError> {
+fn push_range<AB: InteractionBuilder>(alloc: Global, builder: &mut AB) -> Result<(), AirError>
+    ensures layout { OnOk result (AB.layout builder.new ≡ AB.layout builder.old) }
+    ensures within { OnOk result (AB.pushed_within builder.old → AB.pushed_within builder.new) }
+{
     let mut tuples = Vec::new(alloc);
     tuples.push((tuple(alloc, builder, 0)?, Count::from_i32::<AB::F>(1)))?;
     let provided = Count::provided(cell(alloc, builder, 2)?.neg(alloc)?);
@@ -93,7 +102,10 @@ fn push_exclusive<AB: InteractionBuilder>(
     builder: &mut AB,
     name: &str,
     weights: &[u32],
-) -> Result<(), AirError> {
+) -> Result<(), AirError>
+    ensures layout { OnOk result (AB.layout builder.new ≡ AB.layout builder.old) }
+    ensures within { OnOk result (AB.pushed_within builder.old → AB.pushed_within builder.new) }
+{
     let mut branches = Vec::new(alloc);
     for weight in weights {
         let count = Count::bounded(AB::Expr::constant(AB::F::ONE), *weight);
@@ -106,7 +118,10 @@ fn query_keys<AB: InteractionBuilder>(
     alloc: Global,
     builder: &mut AB,
     name: &str,
-) -> Result<(), AirError> {
+) -> Result<(), AirError>
+    ensures layout { OnOk result (AB.layout builder.new ≡ AB.layout builder.old) }
+    ensures within { OnOk result (AB.pushed_within builder.old → AB.pushed_within builder.new) }
+{
     let mut branches = Vec::new(alloc);
     for branch in 0..2 {
         let flag = cell(alloc, builder, 2 * branch)?;
@@ -119,7 +134,10 @@ fn query_one<AB: InteractionBuilder>(
     alloc: Global,
     builder: &mut AB,
     name: &str,
-) -> Result<(), AirError> {
+) -> Result<(), AirError>
+    ensures layout { OnOk result (AB.layout builder.new ≡ AB.layout builder.old) }
+    ensures within { OnOk result (AB.pushed_within builder.old → AB.pushed_within builder.new) }
+{
     let key = ones::<AB>(alloc, 1)?;
     LookupBus::new(name).lookup_key(alloc, builder, key, Count::from_i32::<AB::F>(1))
 }
@@ -128,7 +146,10 @@ fn take_step<AB: InteractionBuilder>(
     alloc: Global,
     builder: &mut AB,
     step: &Step<'_>,
-) -> Result<(), AirError> {
+) -> Result<(), AirError>
+    ensures layout { OnOk result (AB.layout builder.new ≡ AB.layout builder.old) }
+    ensures within { OnOk result (AB.pushed_within builder.old → AB.pushed_within builder.new) }
+{
     match step {
         Step::Local(shapes) => push_local(alloc, builder, shapes),
         Step::Range => push_range(alloc, builder),
@@ -141,7 +162,8 @@ fn take_step<AB: InteractionBuilder>(
 }
 
 impl<AB: InteractionBuilder> Air<AB> for Steps<'_> {
-    ghost evaluates = { λ _ _ _ _. ⊤ };
+    ghost evaluates = { λ _ before answer after. OnOk answer ((AB.layout after ≡ AB.layout before)
+        × (AB.pushed_within before → AB.pushed_within after)) };
 
     fn eval(&self, alloc: Global, builder: &mut AB) -> Result<(), AirError> {
         for step in self.steps {
@@ -149,6 +171,8 @@ impl<AB: InteractionBuilder> Air<AB> for Steps<'_> {
         }
         Ok(())
     }
+
+    ghost keeps_layout = { λ air before after h. h.0 };
 }
 
 /// The lookups of an AIR of four columns that does these.

@@ -1,5 +1,5 @@
 //! An AIR that speaks on buses.
-ghost use Rattle.std.specs.Prelude.{◌≡◌, []};
+ghost use Rattle.std.specs.Prelude.{◌≡◌, [], OnOk};
 
 use super::super::evaluation::no_preprocessed;
 use super::super::example::tuple;
@@ -41,7 +41,10 @@ impl<F> BaseAir<F> for Speaker {
     }
 }
 
-fn look_up_itself<AB: InteractionBuilder>(alloc: Global, builder: &mut AB) -> Result<(), AirError> {
+fn look_up_itself<AB: InteractionBuilder>(alloc: Global, builder: &mut AB) -> Result<(), AirError>
+    ensures layout { OnOk result (AB.layout builder.new ≡ AB.layout builder.old) }
+    ensures within { OnOk result (AB.pushed_within builder.old → AB.pushed_within builder.new) }
+{
     let mut tuples = Vec::new(alloc);
     tuples.push((tuple(alloc, builder, 0)?, Count::from_i32::<AB::F>(1)))?;
     let provided = Count::provided(AB::Expr::constant(AB::F::ONE));
@@ -49,13 +52,19 @@ fn look_up_itself<AB: InteractionBuilder>(alloc: Global, builder: &mut AB) -> Re
     builder.push_local_interaction(alloc, tuples)
 }
 
-fn query_one<AB: InteractionBuilder>(alloc: Global, builder: &mut AB) -> Result<(), AirError> {
+fn query_one<AB: InteractionBuilder>(alloc: Global, builder: &mut AB) -> Result<(), AirError>
+    ensures layout { OnOk result (AB.layout builder.new ≡ AB.layout builder.old) }
+    ensures within { OnOk result (AB.pushed_within builder.old → AB.pushed_within builder.new) }
+{
     let mut branches = Vec::new(alloc);
     branches.push((builder.is_first_row(), tuple(alloc, builder, 0)?))?;
     LookupBus::new("b").lookup_key_exclusive(alloc, builder, branches)
 }
 
-fn speak<AB: InteractionBuilder>(alloc: Global, builder: &mut AB) -> Result<(), AirError> {
+fn speak<AB: InteractionBuilder>(alloc: Global, builder: &mut AB) -> Result<(), AirError>
+    ensures layout { OnOk result (AB.layout builder.new ≡ AB.layout builder.old) }
+    ensures within { OnOk result (AB.pushed_within builder.old → AB.pushed_within builder.new) }
+{
     let sent = tuple(alloc, builder, 0)?;
     PermutationCheckBus::new("a").send(alloc, builder, sent, Count::from_i32::<AB::F>(1))?;
     look_up_itself(alloc, builder)?;
@@ -64,18 +73,24 @@ fn speak<AB: InteractionBuilder>(alloc: Global, builder: &mut AB) -> Result<(), 
     PermutationCheckBus::new("c").receive(alloc, builder, received, Count::from_i32::<AB::F>(1))
 }
 
-fn declare<AB: IndexedLookupBuilder>(alloc: Global, builder: &mut AB) -> Result<(), AirError> {
+fn declare<AB: IndexedLookupBuilder>(alloc: Global, builder: &mut AB) -> Result<(), AirError>
+    ensures layout { OnOk result (AB.layout builder.new ≡ AB.layout builder.old) }
+    ensures within { OnOk result (AB.pushed_within builder.old → AB.pushed_within builder.new) }
+{
     builder.push_indexed_read(alloc, "t", 0, Vec::from_slice(alloc, &[1])?)?;
     builder.push_indexed_table(alloc, "t", TraceWindow::Main, Vec::from_slice(alloc, &[2])?)
 }
 
 impl<AB: InteractionBuilder + IndexedLookupBuilder> Air<AB> for Speaker {
-    ghost evaluates = { λ _ _ _ _. Unit {0} };
+    ghost evaluates = { λ _ before answer after. OnOk answer ((AB.layout after ≡ AB.layout before)
+        × (AB.pushed_within before → AB.pushed_within after)) };
 
     fn eval(&self, alloc: Global, builder: &mut AB) -> Result<(), AirError> {
         speak(alloc, builder)?;
         declare(alloc, builder)
     }
+
+    ghost keeps_layout = { λ air before after h. h.0 };
 }
 
 /// What the AIR leaves in a new recorder for a layout of this main width.

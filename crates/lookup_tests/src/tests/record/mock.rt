@@ -90,6 +90,8 @@ impl<'a> AirBuilder for Mock<'a> {
 
     ghost window_refuses = { λ b e. ⊥ };
 
+    ghost pushed_within = { λ _. Unit {0} };
+
     ghost variable_converts = { λ v x w h. h };
 
     ghost variable_degree = { Prim.search rules };
@@ -99,6 +101,8 @@ impl<'a> AirBuilder for Mock<'a> {
     ghost keeps = { λ b x c w h. (λ s. s, λ s. s) };
 
     ghost keeps_layout = { λ b x c h. refl };
+
+    ghost keeps_pushed = { λ b x c h s. s };
 
     fn main(&self, _alloc: Global) -> Result<RowWindow<'a, BabyBear>, AirError> {
         Ok(self.window)
@@ -143,6 +147,8 @@ impl<'a> InteractionBuilder for Mock<'a> {
     ghost push_keeps = { λ b m c w h. (λ s. s, λ s. s) };
 
     ghost push_keeps_layout = { λ b m c h. refl };
+
+    ghost push_within = { λ b m c h i s. s };
 
     fn push_interaction(
         &mut self,
