@@ -2,6 +2,7 @@
 ghost use Rattle.std.specs.Prelude.{◌↔◌, ◌<◌, All, IsTrue};
 
 mod batches;
+mod guards;
 mod ids;
 mod single;
 
