@@ -43,6 +43,10 @@ pub record IsFitting {F : Type 0} (instance : Instance F) : Type 0 where
 abbrev pub DoInstancesFit : {F : Type 0} → List (BatchInstance F) → Type 0
 DoInstancesFit bs = All (λ b. IsFitting (instance_of b)) bs
 
+-- there is an id for each lookup of each AIR
+abbrev pub HaveIds : {F : Type 0} → List (BatchInstance F) → Type 0
+HaveIds bs = All (λ b. length b.ids.now ≡ length b.lookups.now) bs
+
 -- each id of an AIR has a prefix
 abbrev pub HasPrefixes : {F K : Type 0} → Challenges K → BatchInstance F → Type 0
 HasPrefixes challenges b = All (λ id. id < length (boxed_slice_items challenges.bus_prefix)) b.ids.now

@@ -1,4 +1,5 @@
 pub mod CheckLaws
+pub mod IdLaws
 pub mod Layouts
 pub mod ResultLaws
 pub mod RowLaws

@@ -1,3 +1,4 @@
 pub mod Checks
+pub mod Identified
 pub mod Results
 pub mod Rows

@@ -6,11 +6,13 @@
 #![tactic(auto)]
 
 mod generation;
+mod ids;
 mod instances;
 mod rows;
 mod witness;
 
 pub use batch_model::{BatchFault, BatchInstance, Witness};
 pub use generation::generate_batch;
+pub use ids::ids_are_lawful;
 pub use instances::instances_fit;
 pub use witness::check_witness;

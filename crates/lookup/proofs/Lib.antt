@@ -1,5 +1,6 @@
 pub mod Evaluations
 pub mod ExtractionLaws
+pub mod HeightSums
 pub mod Outlines
 pub mod TerminalSums
 pub mod Within
