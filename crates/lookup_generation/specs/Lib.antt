@@ -1,4 +1,5 @@
 pub mod Fraction
 pub mod Progress
 pub mod Selection
+pub mod SentMessages
 pub mod TraceBuilder
