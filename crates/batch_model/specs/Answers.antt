@@ -1,5 +1,5 @@
 -- What the calls over a batch answer.
-use Rattle.std.specs.Prelude.{◌≡◌, ◌⊎◌, ℕ, List, Result, MatchResult, IfOk, IfErr}
+use Rattle.std.specs.Prelude.{◌≡◌, ◌≢◌, ◌⊎◌, ℕ, List, Result, MatchResult, IfOk, IfErr}
 use Rattle.lookup_model.specs.Challenges.{ChallengeTable}
 use Rattle.lookup_model.specs.Extension.{Extension}
 use Rattle.lookup_model.specs.Net.{IsBalanced}
@@ -45,6 +45,10 @@ module _ {F K : Type 0} (E : Extension F K) (table : ChallengeTable K) (instance
   ChecksWitness witness answer = MatchResult answer
       (λ _. IsAccepted E table instances witness)
       (λ e. (e ≡ Memory) ⊎ IsWitnessRefusal E table instances witness e)
+
+  -- unless memory runs out, a refused witness is not accepted
+  abbrev pub RefusesUnaccepted : List (AirResult K) → Result (Unit {0}) LookupError → Type 0
+  RefusesUnaccepted witness answer = IfErr answer (λ e. e ≢ Memory → ¬ IsAccepted E table instances witness)
 
   -- if the batch is regular, only the plain witness passes
   abbrev pub PassesOnlyPlain : List (AirResult K) → Result (Unit {0}) LookupError → Type 0

@@ -1,5 +1,5 @@
 -- Witnesses of a batch: when they are satisfied and accepted, and the plain one.
-use Rattle.std.specs.Prelude.{◌≡◌, List, Option, map}
+use Rattle.std.specs.Prelude.{◌≡◌, List, Option, length, map}
 use Rattle.std.specs.List.{AllZip, zip}
 use Rattle.matrix.specs.Matrix.{Matrix}
 use Rattle.lookup_model.specs.Challenges.{ChallengeTable, column_challenges, table_denominator}
@@ -19,6 +19,11 @@ AirResult K = Matrix K × Option (LookupTerminal K)
 -- the results that a value of the program holds, AIR by AIR
 abbrev pub results_of : {K : Type 0} → Witness K → List (AirResult K)
 results_of w = zip w.aux.items w.terminals.items
+
+-- a value of the program has an auxiliary trace and an optional terminal for each AIR
+abbrev pub HasOneOfEach : {F K : Type 0} → List (Instance F) → Witness K → Type 0
+HasOneOfEach instances w =
+    (length w.aux.items ≡ length instances) × (length w.terminals.items ≡ length instances)
 
 module _ {F K : Type 0} (E : Extension F K) (table : ChallengeTable K) where
   -- the constraints of one AIR hold on all of its rows

@@ -1,8 +1,10 @@
 //! The witness of a batch.
+ghost use Rattle.std.specs.Prelude.{IfOk};
 ghost use Rattle.lookup_model.specs.Challenges.{table_of};
 ghost use Rattle.lookup_model.specs.Extension.{extension};
 ghost use Rattle.batch_model.specs.Answers.{GivesAcceptedIfBalanced, GivesOnlySatisfied, GivesPlainWitness, GivesSatisfied, SucceedsIfRegular};
 ghost use Rattle.batch_model.specs.Instances.{DoInstancesFit, HasPrefixes, HavePrefixes, IsFitting, instance_of, instances_of};
+ghost use Rattle.batch_model.specs.Witnesses.{HasOneOfEach};
 ghost use Rattle.checker.specs.Results.{GivesPlainResult};
 
 use batch_model::{BatchFault, BatchInstance, Witness};
@@ -27,6 +29,7 @@ pub fn generate_batch<F: Field, EF: ExtensionField<F>>(
     requires ids { HavePrefixes challenges.now instances.now }
     ensures answer { GivesPlainWitness (extension F.ring F.eq EF.ring EF.eq EF.embed EF.inverse)
         (table_of challenges.now) (instances_of instances.now) result }
+    ensures complete { IfOk result (λ w. HasOneOfEach (instances_of instances.now) w) }
     ensures succeeds { SucceedsIfRegular (extension F.ring F.eq EF.ring EF.eq EF.embed EF.inverse)
         (table_of challenges.now) (instances_of instances.now) result }
     ensures satisfied { GivesSatisfied (extension F.ring F.eq EF.ring EF.eq EF.embed EF.inverse)

@@ -4,7 +4,7 @@ ghost use Rattle.std.specs.List.{zip};
 ghost use Rattle.lookup_model.specs.Challenges.{table_of};
 ghost use Rattle.lookup_model.specs.Extension.{extension};
 ghost use Rattle.lookup_model.specs.Witness.{values_of_terminal};
-ghost use Rattle.batch_model.specs.Answers.{ChecksWitness, PassesOnlyPlain};
+ghost use Rattle.batch_model.specs.Answers.{ChecksWitness, PassesOnlyPlain, RefusesUnaccepted};
 ghost use Rattle.batch_model.specs.Instances.{DoInstancesFit, HasPrefixes, HavePrefixes, IsFitting, instance_of, instances_of};
 ghost use Rattle.batch_model.specs.Refusals.{IsRightShape};
 ghost use Rattle.checker.specs.Checks.{ChecksResult, ChecksRows, ChecksShape};
@@ -44,6 +44,8 @@ pub fn check_witness<F: Field, EF: ExtensionField<F>>(
     requires traces { length aux.now ≡ length instances.now }
     requires terminals { length terminals.now ≡ length instances.now }
     ensures answer { ChecksWitness (extension F.ring F.eq EF.ring EF.eq EF.embed EF.inverse)
+        (table_of challenges.now) (instances_of instances.now) (zip aux.now terminals.now) result }
+    ensures refusal { RefusesUnaccepted (extension F.ring F.eq EF.ring EF.eq EF.embed EF.inverse)
         (table_of challenges.now) (instances_of instances.now) (zip aux.now terminals.now) result }
     ensures only { PassesOnlyPlain (extension F.ring F.eq EF.ring EF.eq EF.embed EF.inverse)
         (table_of challenges.now) (instances_of instances.now) (zip aux.now terminals.now) result }

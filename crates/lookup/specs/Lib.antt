@@ -1,2 +1,3 @@
 pub mod Extraction
+pub mod Guards
 pub mod Lookups

@@ -8,6 +8,7 @@
 
 mod evaluation;
 mod extraction;
+mod guards;
 pub mod indexed;
 pub mod logup;
 mod lookups;
@@ -16,6 +17,7 @@ pub mod symbolic;
 pub mod traits;
 mod widths;
 
+pub use guards::check_multiplicity_height_bound;
 pub use logup::LogUpGadget;
 pub use lookup_model::{
     Challenges, Kind, Lookup, LookupError, LookupTerminal, fits, has_equal_lengths,

@@ -3,6 +3,7 @@ pub mod Lists
 pub mod OnlyFractions
 pub mod OnlyRows
 pub mod OnlyWitness
+pub mod RefusedWitness
 pub mod Rekeyed
 pub mod SentFacts
 pub mod Succeeds

@@ -114,3 +114,9 @@ returns-in-Err-clause-succeeds g c =
         | inr fault ↦ absurd (none_faulty laws (table_of c.args.challenges.now) (instances_of instances) regular.flags regular.denominators c.loop-air.air (instance_of instance) c.in-Err.error here fault)
       ]
     ]
+
+pub returns-clause-complete : goal.returns-clause-complete
+returns-clause-complete g c =
+    let has = c.loop-air.invariant in
+    let long = length-map c.args.instances.now instance_of in
+    (omega (arith, has.traces, long, c.loop-air-test.false, c.loop-air.auto.air-end), omega (arith, has.as_many, long, c.loop-air-test.false, c.loop-air.auto.air-end))

@@ -9,6 +9,7 @@ use Rattle.lookup_model.specs.Challenges.{table_of}
 use Rattle.lookup_model.specs.Extension.{extension, IsLawful}
 use Rattle.batch_model.specs.Instances.{instance_of, instances_of}
 use Rattle.batch_model.specs.Witnesses.{AreSatisfied, IsSatisfiedAt}
+use Rattle.witness_laws.proofs.RefusedWitness.{refuses_from}
 use Rattle.checker.proofs.ResultLaws.{fitting_all}
 use Rattle.checker.proofs.WitnessLaws.{HoldsBelow, all_places, holds_more, only_from, pair_at, witness_from}
 use Rattle.checker.proofs.witness.check_witness.Goals as goal
@@ -34,6 +35,11 @@ returns-in_err-check_result-clause-answer g c =
       }))
     ])
 
+pub returns-in_err-check_result-clause-refusal : goal.returns-in_err-check_result-clause-refusal
+returns-in_err-check_result-clause-refusal g c =
+    let E = extension g.F.PrimeCharacteristicRing.ring g.F.PartialEq.eq g.EF.PrimeCharacteristicRing.ring g.EF.PartialEq.eq g.EF.ExtensionDomain.embed g.EF.Field.inverse in
+    refuses_from E (table_of c.args.challenges.now) (instances_of c.args.instances.now) (zip c.args.aux.now c.args.terminals.now) c.from_residual.result (returns-in_err-check_result-clause-answer g c)
+
 pub loop-air-preserved : goal.loop-air-preserved
 loop-air-preserved g c =
     let E = extension g.F.PrimeCharacteristicRing.ring g.F.PartialEq.eq g.EF.PrimeCharacteristicRing.ring g.EF.PartialEq.eq g.EF.ExtensionDomain.embed g.EF.Field.inverse in
@@ -57,6 +63,11 @@ returns-clause-answer g c =
     let as_many : length instances ≡ length witness = omega (arith, length-map c.args.instances.now instance_of, length-zip c.args.aux.now c.args.terminals.now, c.requires.traces, c.requires.terminals) in
     let satisfied : AreSatisfied E table instances witness = all_places (IsSatisfiedAt E table) instances witness as_many below in
     witness_from E table instances c.args.aux.now c.args.terminals.now (c.requires.traces ∙ sym c.requires.terminals) satisfied c.verify_terminal_sum.result c.verify_terminal_sum.ensures
+
+pub returns-clause-refusal : goal.returns-clause-refusal
+returns-clause-refusal g c =
+    let E = extension g.F.PrimeCharacteristicRing.ring g.F.PartialEq.eq g.EF.PrimeCharacteristicRing.ring g.EF.PartialEq.eq g.EF.ExtensionDomain.embed g.EF.Field.inverse in
+    refuses_from E (table_of c.args.challenges.now) (instances_of c.args.instances.now) (zip c.args.aux.now c.args.terminals.now) c.verify_terminal_sum.result (returns-clause-answer g c)
 
 pub returns-clause-only : goal.returns-clause-only
 returns-clause-only g c =

@@ -1,0 +1,178 @@
+//! What the tests share: lookups, traces, and the calls over batches that have to fit.
+ghost use Rattle.std.specs.Prelude.{◌↔◌, ◌<◌, All, IsTrue};
+
+mod batches;
+mod guards;
+mod ids;
+mod single;
+
+use air::{BaseEntry, BaseLeaf, Expression, SymbolicExpression, SymbolicVariable};
+use checker::{BatchFault, BatchInstance, Witness, check_witness, generate_batch, instances_fit};
+use field::{F7, PrimeCharacteristicRing};
+use lookup::{Challenges, Kind, Lookup, LookupError, LookupTerminal};
+use matrix::RowMajorMatrix;
+use std::alloc::Global;
+use std::process::Abort;
+
+/// Fails with this text unless the condition holds.
+fn holds(rt: &impl Abort, what: &str, condition: bool) {
+    assert!(rt; condition, "{what}");
+}
+
+/// A list of these values.
+fn list<T: Drop, const N: usize>(rt: &impl Abort, alloc: Global, values: [T; N]) -> Vec<T> {
+    Vec::from_array(alloc, values).expect(rt, "memory")
+}
+
+/// A cell of the current row of the main trace.
+fn cell(index: usize) -> SymbolicExpression<F7> {
+    SymbolicExpression::Leaf(BaseLeaf::Variable(SymbolicVariable::new(
+        BaseEntry::Main { offset: 0 },
+        index,
+    )))
+}
+
+/// A multiplicity: 1, or the negative of a cell.
+fn count(rt: &impl Abort, alloc: Global, taken: Option<usize>) -> SymbolicExpression<F7> {
+    match taken {
+        Some(index) => cell(index).neg(alloc).expect(rt, "memory"),
+        None => SymbolicExpression::constant(F7::ONE),
+    }
+}
+
+/// The lookup in column 0 of the tuples of one cell each, with these multiplicities.
+fn lookup<const N: usize>(
+    rt: &impl Abort,
+    alloc: Global,
+    bus: Option<&str>,
+    branches: [(usize, Option<usize>); N],
+) -> Lookup<F7> {
+    let mut elements = Vec::new(alloc);
+    let mut multiplicities = Vec::new(alloc);
+    for (index, taken) in branches.as_slice() {
+        elements
+            .push(list(rt, alloc, [cell(*index)]))
+            .expect(rt, "memory");
+        multiplicities
+            .push(count(rt, alloc, *taken))
+            .expect(rt, "memory");
+    }
+    let kind = match bus {
+        Some(name) => Kind::Global(String::from_str(alloc, name).expect(rt, "memory")),
+        None => Kind::Local,
+    };
+    Lookup {
+        kind,
+        elements,
+        multiplicities,
+        count_weight: 1,
+        column: 0,
+        flags: None,
+    }
+}
+
+/// The local lookup of cell 0 with count 1, and of cell 1 with the count of cell 2 taken away.
+fn range(rt: &impl Abort, alloc: Global) -> Lookup<F7> {
+    lookup(rt, alloc, None, [(0, None), (1, Some(2))])
+}
+
+/// A matrix of these numbers, row after row.
+fn trace(rt: &impl Abort, alloc: Global, numbers: &[u32], width: usize) -> RowMajorMatrix<F7> {
+    let mut values = Vec::new(alloc);
+    for number in numbers {
+        values.push(F7::from_u32(*number)).expect(rt, "memory");
+    }
+    assert!(rt; width > 0 && values.len() % width == 0);
+    RowMajorMatrix::new(values, width)
+}
+
+/// A matrix without columns.
+fn no_cells(alloc: Global) -> RowMajorMatrix<F7> {
+    RowMajorMatrix::new(Vec::new(alloc), 0)
+}
+
+/// Whether values are these numbers.
+fn are_numbers(values: &[F7], numbers: &[u32]) -> bool {
+    for (value, number) in values.iter().zip(numbers) {
+        if *value != F7::from_u32(*number) {
+            return false;
+        }
+    }
+    values.len() == numbers.len()
+}
+
+/// An AIR of a batch without preprocessed trace or public values.
+fn instance<'a>(
+    lookups: &'a [Lookup<F7>],
+    main: &'a RowMajorMatrix<F7>,
+    ids: &'a [usize],
+) -> BatchInstance<'a, F7> {
+    BatchInstance {
+        lookups,
+        main,
+        preprocessed: None,
+        public_values: &[],
+        ids,
+    }
+}
+
+/// The table of one pair of challenges, for tuples of one element.
+fn table(rt: &impl Abort, alloc: Global, alpha: u32, beta: u32, ids: usize) -> Challenges<F7> {
+    Challenges::new(alloc, F7::from_u32(alpha), F7::from_u32(beta), 1, ids).expect(rt, "memory")
+}
+
+fn are_below(ids: &[usize], count: usize) -> bool
+    ensures { IsTrue result ↔ All (λ id. id < count) ids.now }
+{
+    ids.iter().all(|id| *id < count)
+}
+
+fn have_prefixes(instances: &[BatchInstance<'_, F7>], count: usize) -> bool
+    ensures { IsTrue result ↔ All (λ b. All (λ id. id < count) b.ids.now) instances.now }
+{
+    instances
+        .iter()
+        .all(|instance| are_below(instance.ids, count))
+}
+
+/// What generation makes of a batch, which has to fit.
+fn generated(
+    rt: &impl Abort,
+    alloc: Global,
+    instances: &[BatchInstance<'_, F7>],
+    challenges: &Challenges<F7>,
+) -> Result<Witness<F7>, BatchFault> {
+    assert!(rt; instances_fit(instances));
+    assert!(rt; have_prefixes(instances, challenges.bus_prefix.len()));
+    generate_batch(alloc, instances, challenges)
+}
+
+/// What the check says of a witness of a batch, which has to fit.
+fn checked(
+    rt: &impl Abort,
+    alloc: Global,
+    instances: &[BatchInstance<'_, F7>],
+    challenges: &Challenges<F7>,
+    aux: &[RowMajorMatrix<F7>],
+    terminals: &[Option<LookupTerminal<F7>>],
+) -> Result<(), LookupError> {
+    assert!(rt; instances_fit(instances));
+    assert!(rt; have_prefixes(instances, challenges.bus_prefix.len()));
+    assert!(rt; aux.len() == instances.len() && terminals.len() == instances.len());
+    check_witness(alloc, instances, challenges, aux, terminals)
+}
+
+/// A terminal.
+fn terminal(value: u32) -> Option<LookupTerminal<F7>> {
+    Some(LookupTerminal(F7::from_u32(value)))
+}
+
+/// Whether a witness has this auxiliary trace and this terminal for an AIR.
+fn has_result(witness: &Witness<F7>, air: usize, cells: &[u32], value: u32) -> bool {
+    match (witness.aux.get(air), witness.terminals.get(air)) {
+        (Some(aux), Some(Some(terminal))) => {
+            are_numbers(aux.values(), cells) && terminal.0 == F7::from_u32(value)
+        }
+        _ => false,
+    }
+}

@@ -1,0 +1,52 @@
+//! Guards on the lookups of all AIRs.
+ghost use Rattle.std.specs.Prelude.{◌≡◌, ◌<◌, ◌≤◌, ◌-◌, ◌^◌, ℕ, MatchResult, length, map, min};
+ghost use Rattle.lookup.specs.Guards.{IsBitLength, IsHeightRefusal, weighted_height_sum};
+ghost use Rattle.lookup.specs.Lookups.{lookups_of};
+
+use crate::lookups::Lookups;
+use field::Field;
+use lookup_model::LookupError;
+
+/// Whether the lookups of all AIRs, over traces of these heights, cannot add up to the
+/// characteristic: the sum of each AIR's total weight times its height is below it.
+///
+/// Refuses `MultiplicityHeightBoundExceeded` otherwise, with this sum, or `u128::MAX` if it is
+/// greater, and the number of binary digits of the characteristic. Allocates nothing.
+pub fn check_multiplicity_height_bound<F: Field>(
+    airs: &[Lookups<F>],
+    heights: &[usize],
+) -> Result<(), LookupError>
+    requires { length heights.now ≡ length airs.now }
+    ensures { MatchResult result
+        (λ _. weighted_height_sum (map lookups_of airs.now) heights.now < F.CHARACTERISTIC)
+        (λ e. IsHeightRefusal F.CHARACTERISTIC (weighted_height_sum (map lookups_of airs.now) heights.now) e) }
+{
+    let sum = saturated_height_sum(airs, heights);
+    if sum < F::CHARACTERISTIC {
+        return Ok(());
+    }
+    Err(LookupError::MultiplicityHeightBoundExceeded {
+        weighted_height_sum: sum,
+        field_bits: bit_length(F::CHARACTERISTIC),
+    })
+}
+
+/// The sum of total weight times height, or `u128::MAX` if it is greater.
+fn saturated_height_sum<F: Field>(airs: &[Lookups<F>], heights: &[usize]) -> u128
+    requires { length heights.now ≡ length airs.now }
+    ensures { result ≡ min (weighted_height_sum (map lookups_of airs.now) heights.now) (2 ^ 128 - 1) }
+{
+    let mut sum: u128 = 0;
+    for air in 0..airs.len() {
+        let weight = airs[air].total_count_weight();
+        sum = sum.saturating_add(weight.saturating_mul(heights[air] as u128));
+    }
+    sum
+}
+
+/// The number of binary digits, 0 for 0.
+fn bit_length(number: u128) -> usize
+    ensures { IsBitLength number result }
+{
+    (128 - number.leading_zeros()) as usize
+}
