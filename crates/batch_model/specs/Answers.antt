@@ -1,15 +1,18 @@
 -- What the calls over a batch answer.
-use Rattle.std.specs.Prelude.{◌≡◌, ◌≢◌, ◌⊎◌, List, Result, MatchResult, IfOk, IfErr}
+use Rattle.std.specs.Prelude.{◌≡◌, ◌≢◌, ◌⊎◌, ℕ, List, Result, MatchResult, IfOk, IfErr}
 use Rattle.lookup_model.specs.Challenges.{ChallengeTable}
 use Rattle.lookup_model.specs.Extension.{Extension}
 use Rattle.lookup_model.specs.Net.{IsBalanced}
 use Rattle.lookup_model.specs.declared.error.LookupError.{LookupError}
 use Rattle.lookup_model.specs.declared.error.LookupError.TheVariants.{Memory}
+use Rattle.batch_model.specs.Counts.{AreCounts, IsCountOverflow}
 use Rattle.batch_model.specs.Faults.{IsFirstFault, IsOutOfMemory}
+use Rattle.batch_model.specs.FlagFaults.{IsFirstFlagFault}
 use Rattle.batch_model.specs.Instances.{Instance}
-use Rattle.batch_model.specs.Messages.{IsRegular, batch_messages}
+use Rattle.batch_model.specs.Messages.{AreFlagsLawful, IsRegular, batch_messages}
 use Rattle.batch_model.specs.Refusals.{IsWitnessRefusal}
 use Rattle.batch_model.specs.Witnesses.{AirResult, AreSatisfied, IsAccepted, IsOnlySatisfied, plain_witness, results_of}
+use Rattle.batch_model.specs.declared.count.SoundnessCount.{SoundnessCount}
 use Rattle.batch_model.specs.declared.fault.BatchFault.{BatchFault}
 use Rattle.batch_model.specs.declared.witness.Witness.{Witness}
 
@@ -50,3 +53,11 @@ module _ {F K : Type 0} (E : Extension F K) (table : ChallengeTable K) (instance
   -- if the batch is regular, only the plain witness passes
   abbrev pub PassesOnlyPlain : List (AirResult K) → Result (Unit {0}) LookupError → Type 0
   PassesOnlyPlain witness answer = IfOk answer (λ _. IsRegular E table instances → witness ≡ plain_witness E table instances)
+
+module _ {F K : Type 0} (E : Extension F K) (instances : List (Instance F)) (W : ℕ) where
+  -- Counting gives the counts, over lawful flags. Else it refuses the first fault of flags or, where
+  -- there is none, a bound that does not fit; or memory runs out.
+  abbrev pub GivesCounts : Result SoundnessCount BatchFault → Type 0
+  GivesCounts answer = MatchResult answer
+      (λ count. AreFlagsLawful E instances × AreCounts E instances W count)
+      (λ fault. IsOutOfMemory fault ⊎ (IsFirstFlagFault E instances fault ⊎ (AreFlagsLawful E instances × IsCountOverflow E instances W fault)))

@@ -1,5 +1,7 @@
 pub mod Answers
+pub mod Counts
 pub mod Faults
+pub mod FlagFaults
 pub mod Ids
 pub mod Instances
 pub mod Messages

@@ -1,4 +1,5 @@
 pub mod CheckLaws
+pub mod CountLaws
 pub mod IdLaws
 pub mod Layouts
 pub mod ResultLaws

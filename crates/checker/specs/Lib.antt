@@ -1,4 +1,5 @@
 pub mod Checks
+pub mod Collected
 pub mod Identified
 pub mod Results
 pub mod Rows

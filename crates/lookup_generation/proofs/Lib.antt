@@ -4,4 +4,5 @@ pub mod MadeRows
 pub mod OwnWindow
 pub mod ProgressLaws
 pub mod SelectedFractions
+pub mod SentMessageLaws
 pub mod SetFlags

@@ -2,4 +2,5 @@ pub mod Fraction
 pub mod Progress
 pub mod RowAnswers
 pub mod Selection
+pub mod SentMessages
 pub mod TraceBuilder

@@ -19,7 +19,7 @@ use std::alloc::Global;
 
 /// The indices of the set flags, counted in whole numbers.
 #[derive(Clone, Copy)]
-enum SetFlags {
+pub(crate) enum SetFlags {
     Nothing,
     One(usize),
     Several,
@@ -67,7 +67,7 @@ fn with_flag<F: Field, EF: ExtensionField<F>>(
 }
 
 /// The set flags on the builder's row.
-fn set_flags<F: Field, EF: ExtensionField<F>>(
+pub(crate) fn set_flags<F: Field, EF: ExtensionField<F>>(
     alloc: Global,
     flags: &[SymbolicExpression<F>],
     builder: &LookupTraceBuilder<'_, F, EF>,

@@ -1,4 +1,6 @@
 pub mod Branches
+pub mod Coefficients
+pub mod CollisionLaws
 pub mod ConstraintLaws
 pub mod DegreeBounds
 pub mod Degrees

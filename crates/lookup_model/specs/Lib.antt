@@ -1,8 +1,10 @@
 pub mod Challenges
+pub mod Collisions
 pub mod Constraints
 pub mod Denominators
 pub mod Extension
 pub mod Fault
+pub mod FlagFault
 pub mod Generated
 pub mod Generation
 pub mod LookupDegree

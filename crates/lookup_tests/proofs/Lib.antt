@@ -1,2 +1,1 @@
-pub mod FirstSeen
 pub mod PlainProgramLaws

@@ -15,7 +15,7 @@ use Rattle.lookup_model.specs.Plain.{counted, net_sum, quotient}
 use Rattle.lookup_generation.specs.Fraction.{IsFractionOf}
 use Rattle.lookup_tests.specs.PlainProgram.{message_of, messages_of, net_message, net_vanishes}
 use Rattle.lookup_tests.specs.declared.plain.PlainMessage.{PlainMessage}
-use Rattle.lookup_tests.proofs.FirstSeen.{first_seen-push}
+use Rattle.lookup_nets.proofs.FirstSeen.{first_seen-push}
 use Rattle.std.proofs.lemmas.List.Elements.{filter-append}
 use Rattle.lookup_model.proofs.HornerRule.{map-map}
 use Rattle.lookup_model.proofs.Branches.{mapped_at}

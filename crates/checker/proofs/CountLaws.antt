@@ -1,0 +1,79 @@
+-- The counts of a batch: its messages AIR by AIR, and the bound of bad betas.
+use Rattle.std.proofs.Common.{◌≡◌, ◌⊎◌, ℕ, ◌+◌, ◌-◌, ◌*◌, ◌/◌, ◌^◌, ◌<◌, ◌≤◌, inl, inr, Option, None, Some, Result, Ok, Err, IfOk, List, [], ◌∷◌, ◌++◌, length, take, get_or, refl, sym, ap, subst, ◌∙◌, arith, mul_comm}
+use Rattle.std.proofs.lemmas.Bool.{cases_lt}
+use Rattle.std.proofs.lemmas.Grind.{flat_map-append}
+use Rattle.std.proofs.lemmas.List.{append-nil, take_more, take_all}
+use Rattle.std.proofs.lemmas.Option.{slice_get_read, slice_get_within}
+use Rattle.std.specs.List.{slice_get}
+use Rattle.std.specs.Option.{SomeIff}
+use Rattle.lookup_model.specs.Extension.{Extension}
+use Rattle.lookup_model.specs.Plain.{trace_messages}
+use Rattle.lookup_generation.specs.SentMessages.{HasSentRows, messages_of}
+use Rattle.lookup_generation.specs.declared.messages.SentMessage.{SentMessage}
+use Rattle.batch_model.specs.FlagFaults.{instance_flag_faults}
+use Rattle.batch_model.specs.Instances.{Instance}
+use Rattle.batch_model.specs.Messages.{batch_messages, sent_rows_of}
+use Rattle.counting_laws.proofs.SharingBetas.{half_of, half_product, number_of_pairs}
+use Rattle.checker.specs.Collected.{HasMessages}
+
+module _ {F K : Type 0} (E : Extension F K) (instances : List (Instance F)) where
+  pub no_messages : HasMessages E instances 0 []
+  no_messages = record { messages_are = refl; faultless = λ i other lt is. absurd (omega (arith, lt)) }
+
+  -- one more AIR
+  pub messages_more : (n : ℕ) (before after : List (SentMessage F)) (instance : Instance F) → n < length instances → instance ≡ get_or instances n instance
+      → HasSentRows E before after (sent_rows_of E.base E.base_eq instance) → HasMessages E instances n before → HasMessages E instances (n + 1) after
+  messages_more n before after instance lt is this so_far =
+      let of = λ (i : Instance F). trace_messages (sent_rows_of E.base E.base_eq i) in
+      record {
+        messages_are =
+            this.messages ∙ ap (λ t. t ++ of instance) so_far.messages_are
+            ∙ ap (λ t. batch_messages E.base E.base_eq (take n instances) ++ t) (sym (append-nil (of instance)))
+            ∙ sym (flat_map-append of (take n instances) (instance ∷ []))
+            ∙ ap (batch_messages E.base E.base_eq) (sym (take_more instances n instance lt ∙ ap (λ t. take n instances ++ t ∷ []) (sym is)));
+        faultless = λ i other below there. by_place i other there (cases_lt i n) below;
+      }
+    where
+      by_place : (i : ℕ) (other : Instance F) → slice_get instances i ≡ Some other → (i < n) ⊎ (n ≤ i) → i < n + 1 → instance_flag_faults E other ≡ []
+      by_place i other there (inl earlier) below = so_far.faultless i other earlier there
+      by_place i other there (inr late) below =
+          let at : i ≡ n = omega (arith, late, below) in
+          let same : slice_get instances n ≡ Some other = subst (λ (j : ℕ). slice_get instances j ≡ Some other) at there in
+          let here : slice_get instances n ≡ Some instance = slice_get_read instances (length instances) n instance (λ _. length instances) lt is in
+          let other_is : instance ≡ other = cc (sym here ∙ same) in
+          ap (instance_flag_faults E) (sym other_is) ∙ this.faultless
+
+  -- when all are done
+  pub all_messages : (messages : List (SentMessage F)) → HasMessages E instances (length instances) messages
+      → (messages_of messages ≡ batch_messages E.base E.base_eq instances) × ((i : ℕ) (other : Instance F) → slice_get instances i ≡ Some other → instance_flag_faults E other ≡ [])
+  all_messages messages has = (
+    has.messages_are ∙ ap (batch_messages E.base E.base_eq) (take_all (length instances) instances (omega arith)),
+    λ i other is. has.faultless i other (slice_get_within instances i other is) is,
+  )
+
+-- the bound of bad betas is W for each pair of unbalanced keys
+pub bound_is : (W k : ℕ) → W * k * (k - 1) / 2 ≡ (k * (k - 1) / 2) * W
+bound_is W k =
+    let pairs = number_of_pairs k in
+    half_product W k pairs.0 pairs.1 ∙ mul_comm W pairs.0 ∙ ap (λ q. q * W) (sym (half_of k pairs.0 pairs.1))
+
+-- what a checked product answers, as that bound
+pub bound_fits : (W k s b : ℕ) (P : Type 0) (o : Option ℕ) → o ≡ Some b → s ≡ k - 1 → SomeIff o P ((k * s / 2) * W) → b ≡ W * k * (k - 1) / 2
+bound_fits W k s b P None is less said = absurd (cc is)
+bound_fits W k s b P (Some x) is less said =
+    let same : x ≡ b = cc is in
+    sym same ∙ said.1 ∙ ap (λ t. (k * t / 2) * W) less ∙ sym (bound_is W k)
+
+pub bound_is_large : (W k s : ℕ) (o : Option ℕ) → o ≡ None → s ≡ k - 1 → SomeIff o ((k * s / 2) * W < 2 ^ 128) ((k * s / 2) * W) → 2 ^ 128 ≤ W * k * (k - 1) / 2
+bound_is_large W k s (Some x) is less said = absurd (cc is)
+bound_is_large W k s None is less said =
+    let product : W * k * (k - 1) / 2 ≡ (k * s / 2) * W = bound_is W k ∙ ap (λ t. (k * t / 2) * W) (sym less) in
+    subst (λ (n : ℕ). 2 ^ 128 ≤ n) (sym product) (not_less ((k * s / 2) * W) said)
+  where
+    not_less : (n : ℕ) → ¬ (n < 2 ^ 128) → 2 ^ 128 ≤ n
+    not_less n large = elim (cases_lt n (2 ^ 128)) [ inl small ↦ absurd (large small) | inr le ↦ le ]
+
+-- what holds anyway holds of a success
+pub if_ok : {A B P : Type 0} (r : Result A B) → P → IfOk r (λ _. P)
+if_ok (Ok a) p = p
+if_ok (Err b) p = tt

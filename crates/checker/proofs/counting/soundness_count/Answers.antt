@@ -1,0 +1,86 @@
+use Rattle.std.proofs.Common.{◌≡◌, ℕ, inr, length, subst, subst₂, sym, ap, ◌∙◌}
+use Rattle.std.proofs.lemmas.Result.{MatchResult-weaker}
+use Rattle.field.specs.Characteristic.{HasCharacteristic}
+use Rattle.lookup_model.specs.Extension.{extension, IsLawful}
+use Rattle.lookup_model.specs.Net.{keys, unbalanced_keys}
+use Rattle.lookup_generation.specs.SentMessages.{messages_of}
+use Rattle.batch_model.specs.Counts.{FewAcceptingAlphas, FewBadBetas, FewSharingBetas, message_count, unbalanced_count}
+use Rattle.batch_model.specs.Instances.{instances_of}
+use Rattle.batch_model.specs.Messages.{AreFlagsLawful}
+use Rattle.checker.specs.Collected.{IsCountOf}
+use Rattle.counting_laws.proofs.LawfulFlags.{lawful_flags}
+use Rattle.counting_laws.proofs.Soundness.{few_accepting_alphas, few_bad_betas, few_sharing_betas}
+use Rattle.checker.proofs.CountLaws.{if_ok}
+use Rattle.checker.proofs.ResultLaws.{fitting_all}
+use Rattle.checker.proofs.counting.soundness_count.Goals as goal
+
+pub returns-clause-answer : goal.returns-clause-answer
+returns-clause-answer g c =
+    let E = extension g.F.PrimeCharacteristicRing.ring g.F.PartialEq.eq g.EF.PrimeCharacteristicRing.ring g.EF.PartialEq.eq g.EF.ExtensionDomain.embed g.EF.Field.inverse in
+    let instances = instances_of c.args.instances.now in
+    let is = ap messages_of c.as_slice.ensures.value ∙ c.in_ok-messages.ensures.0 in
+    let lawful : AreFlagsLawful E instances = lawful_flags E instances c.in_ok-messages.ensures.1 in
+    let n : c.in_ok-keys.keys ≡ message_count E instances = c.in_ok-keys.ensures.all ∙ ap (λ ms. length (keys E.base_eq ms)) is in
+    let k : c.in_ok-keys.unbalanced ≡ unbalanced_count E instances = c.in_ok-keys.ensures.unbalanced ∙ ap (λ ms. length (unbalanced_keys E.base E.base_eq ms)) is in
+    let counted : IsCountOf (message_count E instances) (unbalanced_count E instances) c.args.max_message_width c.counted.result =
+    subst₂ (λ (a b : ℕ). IsCountOf a b c.args.max_message_width c.counted.result) n k c.counted.ensures in
+    MatchResult-weaker c.counted.result counted
+    (λ count h. (lawful, record { messages = h.0; unbalanced_is = h.1; bad_betas = h.2; accepting_alphas = h.3 }))
+    (λ fault h. inr (inr (lawful, record { air = h.0; error = h.1; large = h.2 })))
+
+pub returns-clause-few_sharing_betas : goal.returns-clause-few_sharing_betas
+returns-clause-few_sharing_betas g c =
+    let E = extension g.F.PrimeCharacteristicRing.ring g.F.PartialEq.eq g.EF.PrimeCharacteristicRing.ring g.EF.PartialEq.eq g.EF.ExtensionDomain.embed g.EF.Field.inverse in
+    let laws : IsLawful E = record {
+      base = g.F.PrimeCharacteristicRing.lawful;
+      base_eq = g.met.F.PrimeCharacteristicRing.eq_is;
+      ring = g.EF.PrimeCharacteristicRing.lawful;
+      domain = g.met.EF.Domain.domain;
+      eq = g.met.EF.PrimeCharacteristicRing.eq_is;
+      embeds = g.met.EF.ExtensionDomain.embeds;
+      inverse = g.met.EF.Field.inverse_is;
+    } in
+    let char : HasCharacteristic E.ring g.F.PrimeCharacteristicRing.CHARACTERISTIC =
+    subst (HasCharacteristic E.ring) (sym g.met.EF.ExtensionDomain.same_characteristic) g.met.EF.PrimeCharacteristicRing.characteristic in
+    let instances = instances_of c.args.instances.now in
+    let W = c.args.max_message_width in
+    let law : FewSharingBetas E instances W = few_sharing_betas laws W c.requires.ids.0 g.F.PrimeCharacteristicRing.CHARACTERISTIC char instances (fitting_all c.args.instances.now c.requires.fit) c.requires.ids.1 in
+    if_ok c.counted.result law
+
+pub returns-clause-few_accepting_alphas : goal.returns-clause-few_accepting_alphas
+returns-clause-few_accepting_alphas g c =
+    let E = extension g.F.PrimeCharacteristicRing.ring g.F.PartialEq.eq g.EF.PrimeCharacteristicRing.ring g.EF.PartialEq.eq g.EF.ExtensionDomain.embed g.EF.Field.inverse in
+    let laws : IsLawful E = record {
+      base = g.F.PrimeCharacteristicRing.lawful;
+      base_eq = g.met.F.PrimeCharacteristicRing.eq_is;
+      ring = g.EF.PrimeCharacteristicRing.lawful;
+      domain = g.met.EF.Domain.domain;
+      eq = g.met.EF.PrimeCharacteristicRing.eq_is;
+      embeds = g.met.EF.ExtensionDomain.embeds;
+      inverse = g.met.EF.Field.inverse_is;
+    } in
+    let char : HasCharacteristic E.ring g.F.PrimeCharacteristicRing.CHARACTERISTIC =
+    subst (HasCharacteristic E.ring) (sym g.met.EF.ExtensionDomain.same_characteristic) g.met.EF.PrimeCharacteristicRing.characteristic in
+    let instances = instances_of c.args.instances.now in
+    let W = c.args.max_message_width in
+    let law : FewAcceptingAlphas E instances W = few_accepting_alphas laws W c.requires.ids.0 g.F.PrimeCharacteristicRing.CHARACTERISTIC char instances (fitting_all c.args.instances.now c.requires.fit) c.requires.ids.1 (lawful_flags E instances c.in_ok-messages.ensures.1) in
+    if_ok c.counted.result law
+
+pub returns-clause-few_bad_betas : goal.returns-clause-few_bad_betas
+returns-clause-few_bad_betas g c =
+    let E = extension g.F.PrimeCharacteristicRing.ring g.F.PartialEq.eq g.EF.PrimeCharacteristicRing.ring g.EF.PartialEq.eq g.EF.ExtensionDomain.embed g.EF.Field.inverse in
+    let laws : IsLawful E = record {
+      base = g.F.PrimeCharacteristicRing.lawful;
+      base_eq = g.met.F.PrimeCharacteristicRing.eq_is;
+      ring = g.EF.PrimeCharacteristicRing.lawful;
+      domain = g.met.EF.Domain.domain;
+      eq = g.met.EF.PrimeCharacteristicRing.eq_is;
+      embeds = g.met.EF.ExtensionDomain.embeds;
+      inverse = g.met.EF.Field.inverse_is;
+    } in
+    let char : HasCharacteristic E.ring g.F.PrimeCharacteristicRing.CHARACTERISTIC =
+    subst (HasCharacteristic E.ring) (sym g.met.EF.ExtensionDomain.same_characteristic) g.met.EF.PrimeCharacteristicRing.characteristic in
+    let instances = instances_of c.args.instances.now in
+    let W = c.args.max_message_width in
+    let law : FewBadBetas E instances W = few_bad_betas laws W c.requires.ids.0 g.F.PrimeCharacteristicRing.CHARACTERISTIC char instances (fitting_all c.args.instances.now c.requires.fit) c.requires.ids.1 (lawful_flags E instances c.in_ok-messages.ensures.1) in
+    if_ok c.counted.result law

@@ -1,0 +1,108 @@
+//! The counts of a batch.
+ghost use Rattle.std.specs.Prelude.{ℕ, IfOk};
+ghost use Rattle.batch_model.specs.Answers.{GivesCounts};
+ghost use Rattle.batch_model.specs.Counts.{FewAcceptingAlphas, FewBadBetas, FewSharingBetas};
+ghost use Rattle.batch_model.specs.Ids.{AreLawfulIds};
+ghost use Rattle.batch_model.specs.Instances.{DoInstancesFit, IsFitting, instance_of, instances_of};
+ghost use Rattle.checker.specs.Collected.{GivesMessages, IsCountOf, PushesMessages};
+ghost use Rattle.lookup_model.specs.Extension.{extension};
+
+use batch_model::{BatchFault, BatchInstance, SoundnessCount};
+use field::{ExtensionField, Field};
+use lookup::LookupError;
+use lookup_generation::{SentMessage, push_messages};
+use lookup_nets::key_counts;
+use std::alloc::Global;
+
+/// How many messages a batch has, how many of them do not balance, and at how few challenges of `EF`
+/// it can be accepted all the same. The challenges are made for tuples of at most `max_message_width`
+/// elements.
+///
+/// Refuses the first fault of flags of the first AIR that has one, in the order row, lookup: a flag
+/// that is neither zero nor one, then more than one set flag. Refuses `CountOverflow`, of no AIR,
+/// if the bound of bad betas does not fit. Out of memory is refused for no AIR.
+pub fn soundness_count<F: Field, EF: ExtensionField<F>>(
+    alloc: Global,
+    instances: &[BatchInstance<'_, F>],
+    max_message_width: usize,
+) -> Result<SoundnessCount, BatchFault>
+    requires fit { DoInstancesFit instances.now }
+    requires ids { (m : ℕ) × AreLawfulIds max_message_width m F.CHARACTERISTIC (instances_of instances.now) }
+    ensures answer { GivesCounts (extension F.ring F.eq EF.ring EF.eq EF.embed EF.inverse)
+        (instances_of instances.now) max_message_width result }
+    ensures few_sharing_betas { IfOk result (λ _. FewSharingBetas
+        (extension F.ring F.eq EF.ring EF.eq EF.embed EF.inverse) (instances_of instances.now) max_message_width) }
+    ensures few_accepting_alphas { IfOk result (λ _. FewAcceptingAlphas
+        (extension F.ring F.eq EF.ring EF.eq EF.embed EF.inverse) (instances_of instances.now) max_message_width) }
+    ensures few_bad_betas { IfOk result (λ _. FewBadBetas
+        (extension F.ring F.eq EF.ring EF.eq EF.embed EF.inverse) (instances_of instances.now) max_message_width) }
+{
+    let messages = collected::<F, EF>(alloc, instances)?;
+    let (keys, unbalanced) = key_counts(alloc, messages.as_slice())?;
+    counted(keys, unbalanced, max_message_width)
+}
+
+/// All messages of a batch.
+fn collected<F: Field, EF: ExtensionField<F>>(
+    alloc: Global,
+    instances: &[BatchInstance<'_, F>],
+) -> Result<Vec<SentMessage<F>>, BatchFault>
+    requires fit { DoInstancesFit instances.now }
+    ensures { GivesMessages (extension F.ring F.eq EF.ring EF.eq EF.embed EF.inverse) (instances_of instances.now) result }
+{
+    let mut messages = Vec::new(alloc);
+    for air in 0..instances.len() {
+        match push_instance::<F, EF>(alloc, &mut messages, &instances[air]) {
+            Ok(()) => {}
+            Err(error) => return Err(BatchFault::of_air(air, error)),
+        }
+    }
+    Ok(messages)
+}
+
+/// Appends the messages of one AIR.
+fn push_instance<F: Field, EF: ExtensionField<F>>(
+    alloc: Global,
+    messages: &mut Vec<SentMessage<F>>,
+    instance: &BatchInstance<'_, F>,
+) -> Result<(), LookupError>
+    requires { IsFitting (instance_of instance.now) }
+    ensures { PushesMessages (extension F.ring F.eq EF.ring EF.eq EF.embed EF.inverse)
+        (instance_of instance.now) messages.old.items messages.new.items result }
+{
+    push_messages::<F, EF>(
+        alloc,
+        messages,
+        instance.main,
+        instance.preprocessed,
+        instance.public_values,
+        instance.lookups,
+        instance.ids,
+    )
+}
+
+/// The counts from the two numbers of keys.
+fn counted(keys: usize, unbalanced: usize, width: usize) -> Result<SoundnessCount, BatchFault>
+    ensures { IsCountOf keys unbalanced width result }
+{
+    let messages = keys as u128;
+    let unbalanced = unbalanced as u128;
+    let pairs = unbalanced * unbalanced.saturating_sub(1) / 2;
+    let Some(bad_betas) = pairs.checked_mul(width as u128) else {
+        return Err(BatchFault {
+            air: None,
+            error: LookupError::CountOverflow,
+        });
+    };
+    let accepting_alphas = if unbalanced == 0 {
+        None
+    } else {
+        Some(messages + unbalanced - 1)
+    };
+    Ok(SoundnessCount {
+        messages,
+        unbalanced,
+        bad_betas,
+        accepting_alphas,
+    })
+}

@@ -1,0 +1,63 @@
+use Rattle.std.proofs.Common.{◌≡◌, ◌<◌, ℕ, inl, inr, slice_index_or, subst, sym, ◌∙◌, take, Some, List, arith}
+use Rattle.std.proofs.lemmas.List.{take_all}
+use Rattle.std.proofs.lemmas.Result.{err_from_is_err_and}
+use Rattle.std.specs.List.{slice_get}
+use Rattle.std.specs.Option.{option_copied}
+use Rattle.matrix.specs.Matrix.{height}
+use Rattle.expressions.specs.Window.{Window, window_at}
+use Rattle.lookup_model.specs.Extension.{extension}
+use Rattle.lookup_model.specs.FlagFault.{row_flag_faults}
+use Rattle.lookup_model.specs.Sent.{Sent}
+use Rattle.lookup_model.specs.Trace.{sent_row_under, sent_rows_under}
+use Rattle.lookup_model.specs.declared.types.Lookup.{Lookup}
+use Rattle.lookup_generation.specs.SentMessages.{HasSentRow, HasSentRows}
+use Rattle.lookup_generation.proofs.SentMessageLaws.{first_row_fault, length-all_rows, length-take-rows, one_more_row, rows_more}
+use Rattle.lookup_generation.proofs.messages.push_messages.Goals as goal
+
+pub returns-in_err-push_row_messages : goal.returns-in_err-push_row_messages
+returns-in_err-push_row_messages g c =
+    let E = extension g.F.PrimeCharacteristicRing.ring g.F.PartialEq.eq g.EF.PrimeCharacteristicRing.ring g.EF.PartialEq.eq g.EF.ExtensionDomain.embed g.EF.Field.inverse in
+    let prep = option_copied c.args.preprocessed in
+    let main = c.args.main.now in
+    let id : Lookup g.row.F.Denot → ℕ = λ l. slice_index_or c.args.ids.now l.column 0 in
+    let built = c.row_builder-builder.ensures in
+    let r = c.loop-row.row in
+    let lt : r < height main = omega (arith, c.loop-row-test.true, c.height-row-end.ensures.height) in
+    let p = err_from_is_err_and c.from_residual.result c.from_residual.ensures.1 in
+    rw (p.1, p.2) (elim c.in_err-push_row_messages.ensures [
+      | inl memory ↦ inl memory
+      | inr fault ↦
+          let here : slice_get (row_flag_faults E r (sent_row_under E.base E.base_eq id (window_at main prep c.args.public_values.now (height main) r) c.args.lookups.now)) 0 ≡ Some _ =
+          (λ i. slice_get (row_flag_faults E (sym built.row i) (sent_row_under E.base E.base_eq id (sym built.window i) c.args.lookups.now)) 0) ∙ fault in
+          inr (first_row_fault E.base E.base_eq id main prep c.args.public_values.now c.args.lookups.now r lt E _ c.loop-row.invariant.faultless here)
+    ])
+
+pub loop-row-preserved : goal.loop-row-preserved
+loop-row-preserved g c =
+    let E = extension g.F.PrimeCharacteristicRing.ring g.F.PartialEq.eq g.EF.PrimeCharacteristicRing.ring g.EF.PartialEq.eq g.EF.ExtensionDomain.embed g.EF.Field.inverse in
+    let prep = option_copied c.args.preprocessed in
+    let main = c.args.main.now in
+    let id : Lookup g.row.F.Denot → ℕ = λ l. slice_index_or c.args.ids.now l.column 0 in
+    let b = c.row_builder-builder.result in
+    let built = c.row_builder-builder.ensures in
+    let r = c.loop-row.row in
+    let before = c.loop-row.messages.items in
+    let after = c.push_row_messages.new.messages.items in
+    let lt : r < height main = omega (arith, c.loop-row-test.true, c.height-row-end.ensures.height) in
+    let w = window_at main prep c.args.public_values.now (height main) r in
+    let has = λ (k : ℕ) (v : Window _). HasSentRow E k before after (sent_row_under E.base E.base_eq id v c.args.lookups.now) in
+    let this : has r w =
+    subst (λ (k : ℕ). has k w) built.row (subst (λ (v : Window _). has b.row v) built.window c.in_ok-push_row_messages.ensures) in
+    let rows = sent_rows_under E.base E.base_eq id main prep c.args.public_values.now c.args.lookups.now in
+    subst (λ (rs : List (List (Sent _))). HasSentRows E c.args.messages.now.items after rs) (sym (one_more_row E.base E.base_eq id main prep c.args.public_values.now c.args.lookups.now r lt))
+    (rows_more E r c.args.messages.now.items before after (take r rows) (sent_row_under E.base E.base_eq id w c.args.lookups.now)
+    (length-take-rows E.base E.base_eq id main prep c.args.public_values.now c.args.lookups.now r lt) this c.loop-row.invariant)
+
+pub returns : goal.returns
+returns g c =
+    let E = extension g.F.PrimeCharacteristicRing.ring g.F.PartialEq.eq g.EF.PrimeCharacteristicRing.ring g.EF.PartialEq.eq g.EF.ExtensionDomain.embed g.EF.Field.inverse in
+    let prep = option_copied c.args.preprocessed in
+    let id : Lookup g.row.F.Denot → ℕ = λ l. slice_index_or c.args.ids.now l.column 0 in
+    let rows = sent_rows_under E.base E.base_eq id c.args.main.now prep c.args.public_values.now c.args.lookups.now in
+    subst (λ (rs : List (List (Sent _))). HasSentRows E c.args.messages.now.items c.loop-row.messages.items rs)
+    (take_all c.loop-row.row rows (omega (arith, length-all_rows E.base E.base_eq id c.args.main.now prep c.args.public_values.now c.args.lookups.now, c.loop-row-test.false, c.height-row-end.ensures.height))) c.loop-row.invariant

@@ -1,0 +1,66 @@
+use Rattle.std.proofs.Common.{◌≡◌, ◌++◌, inl, inr, List, Option, IfSome, None, Some, length, ap, sym, subst, ◌∙◌}
+use Rattle.std.proofs.lemmas.Result.{MatchResult-weaker}
+use Rattle.std.specs.Option.{option_map}
+use Rattle.expressions.specs.declared.base_expression.SymbolicExpression.{SymbolicExpression}
+use Rattle.lookup_model.specs.Extension.{extension, IsLawful}
+use Rattle.lookup_model.specs.Fault.{fault_of}
+use Rattle.lookup_model.specs.Records.{AllFit, IsWithin}
+use Rattle.lookup_model.specs.Sent.{Sent, branches_at, sent, sent_at, values}
+use Rattle.lookup_generation.specs.SentMessages.{messages_of}
+use Rattle.lookup_generation.specs.TraceBuilder.{builder_layout, builder_window}
+use Rattle.lookup_generation.proofs.SentMessageLaws.{additive_flags}
+use Rattle.lookup_generation.proofs.messages.push_sent.Goals as goal
+
+pub returns-in-None : goal.returns-in-None
+returns-in-None g c =
+    let E = extension g.F.PrimeCharacteristicRing.ring g.F.PartialEq.eq g.EF.PrimeCharacteristicRing.ring g.EF.PartialEq.eq g.EF.ExtensionDomain.embed g.EF.Field.inverse in
+    let laws : IsLawful E = record {
+      base = g.F.PrimeCharacteristicRing.lawful;
+      base_eq = g.met.F.PrimeCharacteristicRing.eq_is;
+      ring = g.EF.PrimeCharacteristicRing.lawful;
+      domain = g.met.EF.Domain.domain;
+      eq = g.met.EF.PrimeCharacteristicRing.eq_is;
+      embeds = g.met.EF.ExtensionDomain.embeds;
+      inverse = g.met.EF.Field.inverse_is;
+    } in
+    let row = c.args.builder.now.row in
+    let lookup = c.args.lookup.now in
+    let w = builder_window c.args.builder.now in
+    let branches = branches_at E.base w c.args.id lookup in
+    let sent_is : sent E.base E.base_eq None branches ≡ sent_at E.base E.base_eq w c.args.id lookup =
+    ap (λ o. sent E.base E.base_eq (option_map (λ flags. values E.base w flags.items) o) branches) (sym c.in-None.is) in
+    MatchResult-weaker c.push_branches.result c.push_branches.ensures
+    (λ _ h. (
+      h ∙ ap (λ (s : Sent _). messages_of c.args.messages.now.items ++ s.messages) sent_is,
+      ap (fault_of E (λ _. E.ring.one) row lookup.column) (sym sent_is) ∙ additive_flags laws row lookup.column branches,
+    ))
+    (λ e memory. inl memory)
+
+pub returns-in-Some : goal.returns-in-Some
+returns-in-Some g c =
+    let E = extension g.F.PrimeCharacteristicRing.ring g.F.PartialEq.eq g.EF.PrimeCharacteristicRing.ring g.EF.PartialEq.eq g.EF.ExtensionDomain.embed g.EF.Field.inverse in
+    let row = c.args.builder.now.row in
+    let lookup = c.args.lookup.now in
+    let w = builder_window c.args.builder.now in
+    let branches = branches_at E.base w c.args.id lookup in
+    let sent_is : sent E.base E.base_eq (Some (values E.base w c.deref.result.now)) branches ≡ sent_at E.base E.base_eq w c.args.id lookup =
+    ap (λ t. sent E.base E.base_eq (Some (values E.base w t)) branches) c.deref.ensures.value
+    ∙ ap (λ o. sent E.base E.base_eq (option_map (λ flags. values E.base w flags.items) o) branches) (sym c.in-Some.is) in
+    let fault_is = ap (fault_of E (λ _. E.ring.one) row lookup.column) (sym sent_is) in
+    MatchResult-weaker c.push_selected.result c.push_selected.ensures
+    (λ _ h. (h.0 ∙ ap (λ (s : Sent _). messages_of c.args.messages.now.items ++ s.messages) sent_is, fault_is ∙ h.1))
+    (λ e refused. elim refused [
+      | inl memory ↦ inl memory
+      | inr fault ↦ inr (fault_is ∙ fault)
+    ])
+
+pub push_selected-requires-clause-flag_number :
+    goal.push_selected-requires-clause-flag_number
+push_selected-requires-clause-flag_number g c = ap length c.deref.ensures.value ∙ c.requires.lengths.flags _ c.in-Some.is
+
+pub push_selected-requires-clause-flags_fit :
+    goal.push_selected-requires-clause-flags_fit
+unfolding IsWithin
+push_selected-requires-clause-flags_fit g c =
+    let layout = builder_layout c.args.builder.now in
+    subst (λ (es : List (SymbolicExpression _)). AllFit layout es) (sym c.deref.ensures.value) (subst (λ (o : Option _). IfSome o (λ flags. AllFit layout flags.items)) c.in-Some.is c.requires.within.2)

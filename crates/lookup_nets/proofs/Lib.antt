@@ -1,0 +1,2 @@
+pub mod FirstSeen
+pub mod NetEntries
