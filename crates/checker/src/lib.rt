@@ -19,5 +19,5 @@ pub use counting::soundness_count;
 pub use generation::generate_batch;
 pub use ids::ids_are_lawful;
 pub use instances::instances_fit;
-pub use soundness::counted_soundness;
+pub use soundness::{accepted_is_accepting, counted_soundness};
 pub use witness::check_witness;
