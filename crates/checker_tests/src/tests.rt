@@ -1,7 +1,8 @@
 //! What the tests share: lookups, traces, and the calls over batches that have to fit.
-ghost use Rattle.std.specs.Prelude.{◌↔◌, ◌<◌, All, IsTrue};
+ghost use Rattle.std.specs.Prelude.{◌≡◌, ◌↔◌, ◌<◌, All, IsTrue, length};
 
 mod batches;
+mod counts;
 mod guards;
 mod ids;
 mod single;
@@ -125,6 +126,15 @@ fn are_below(ids: &[usize], count: usize) -> bool
     ensures { IsTrue result ↔ All (λ id. id < count) ids.now }
 {
     ids.iter().all(|id| *id < count)
+}
+
+/// Whether there is an id for each lookup.
+fn have_ids(instances: &[BatchInstance<'_, F7>]) -> bool
+    ensures { IsTrue result ↔ All (λ b. length b.ids.now ≡ length b.lookups.now) instances.now }
+{
+    instances
+        .iter()
+        .all(|instance| instance.ids.len() == instance.lookups.len())
 }
 
 fn have_prefixes(instances: &[BatchInstance<'_, F7>], count: usize) -> bool

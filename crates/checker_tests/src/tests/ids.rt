@@ -1,20 +1,10 @@
 //! Which ids are lawful.
-ghost use Rattle.std.specs.Prelude.{◌≡◌, ◌↔◌, All, IsTrue, length};
-
-use super::{cell, holds, instance, list, lookup, trace};
+use super::{cell, have_ids, holds, instance, list, lookup, trace};
 use checker::{BatchInstance, ids_are_lawful};
 use field::F7;
 use lookup::Lookup;
 use std::alloc::Global;
 use std::process::Abort;
-
-fn have_ids(instances: &[BatchInstance<'_, F7>]) -> bool
-    ensures { IsTrue result ↔ All (λ b. length b.ids.now ≡ length b.lookups.now) instances.now }
-{
-    instances
-        .iter()
-        .all(|instance| instance.ids.len() == instance.lookups.len())
-}
 
 /// Whether the ids of the lookups of one AIR are lawful for `count` prefixes and tuples of at most
 /// `width` elements.
