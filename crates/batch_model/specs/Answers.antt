@@ -6,7 +6,7 @@ use Rattle.lookup_model.specs.Net.{IsBalanced}
 use Rattle.lookup_model.specs.declared.error.LookupError.{LookupError}
 use Rattle.lookup_model.specs.declared.error.LookupError.TheVariants.{Memory}
 use Rattle.batch_model.specs.Counts.{AreCounts, IsCountOverflow}
-use Rattle.batch_model.specs.Faults.{IsFirstFault, IsOutOfMemory}
+use Rattle.batch_model.specs.Faults.{AreFaultless, IsFirstFault, IsOutOfMemory}
 use Rattle.batch_model.specs.FlagFaults.{IsFirstFlagFault}
 use Rattle.batch_model.specs.Instances.{Instance}
 use Rattle.batch_model.specs.Messages.{AreFlagsLawful, IsRegular, batch_messages}
@@ -22,6 +22,10 @@ module _ {F K : Type 0} (E : Extension F K) (table : ChallengeTable K) (instance
   GivesPlainWitness answer = MatchResult answer
       (λ w. results_of w ≡ plain_witness E table instances)
       (λ fault. IsOutOfMemory fault ⊎ IsFirstFault E table instances fault)
+
+  -- a witness is given only where no AIR has a fault
+  abbrev pub GivesOnlyFaultless : Result (Witness K) BatchFault → Type 0
+  GivesOnlyFaultless answer = IfOk answer (λ _. AreFaultless E table instances)
 
   -- if the batch is regular, only memory can be lacking
   abbrev pub SucceedsIfRegular : Result (Witness K) BatchFault → Type 0

@@ -24,6 +24,10 @@ module _ {F K : Type 0} (E : Extension F K) (table : ChallengeTable K) where
   abbrev pub instance_faults : Instance F → List LookupError
   instance_faults i = trace_faults E (table_denominator E table) (sent_rows_of E.base E.base_eq i)
 
+  -- no AIR has a fault
+  abbrev pub AreFaultless : List (Instance F) → Type 0
+  AreFaultless instances = (i : ℕ) (instance : Instance F) → slice_get instances i ≡ Some instance → instance_faults instance ≡ []
+
   -- the first fault of the first AIR that has one
   pub record IsFirstFault (instances : List (Instance F)) (fault : BatchFault) : Type 0 where
     pub place : ℕ

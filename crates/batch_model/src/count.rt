@@ -1,9 +1,11 @@
 //! The counts of a batch.
 
-/// How many messages a batch has, how many of them do not balance, and at how few challenges it can
-/// be accepted all the same.
+/// How many messages a batch has, how many of them do not balance, and upper bounds on the challenges
+/// at which an unbalanced batch can still be accepted.
 ///
-/// Let `n` be `messages`, `k` be `unbalanced`, and `W` the width that the challenges are made for.
+/// Let `n` be `messages`, `k` be `unbalanced`, and `W` the width that the challenges are made for. At
+/// a beta an alpha is accepting if any witness, whoever made it, is accepted. A beta is bad if `n + k`
+/// alphas are accepting at it; then two unbalanced messages have the same point there.
 #[derive(Debug, Clone, Copy, PartialEq, Eq)]
 pub struct SoundnessCount {
     /// The number of distinct messages, each an id with the values of a tuple; those of multiplicity
@@ -11,8 +13,9 @@ pub struct SoundnessCount {
     pub messages: u128,
     /// The number of those whose multiplicities do not sum to zero.
     pub unbalanced: u128,
-    /// `W * k * (k - 1) / 2`: no more betas are bad.
+    /// `W * k * (k - 1) / 2`: at most this many betas are bad.
     pub bad_betas: u128,
-    /// `n + k - 1`, or none if `k` is zero: at every other beta no more alphas are accepting.
+    /// `n + k - 1`, or none if `k` is zero: at a beta where no two unbalanced messages have the same
+    /// point, at most this many alphas are accepting.
     pub accepting_alphas: Option<u128>,
 }

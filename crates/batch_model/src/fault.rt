@@ -8,7 +8,7 @@ use std::alloc::{AllocError, AllocFailed};
 /// A refusal of a call over a batch, with the AIR that it comes from.
 #[derive(Debug, Drop)]
 pub struct BatchFault {
-    /// The index of the AIR in the batch; none if memory ran out.
+    /// The index of the AIR in the batch; none if memory ran out or a count does not fit.
     pub air: Option<usize>,
     /// What is refused.
     pub error: LookupError,

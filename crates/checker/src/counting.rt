@@ -14,9 +14,12 @@ use lookup_generation::{SentMessage, push_messages};
 use lookup_nets::key_counts;
 use std::alloc::Global;
 
-/// How many messages a batch has, how many of them do not balance, and at how few challenges of `EF`
-/// it can be accepted all the same. The challenges are made for tuples of at most `max_message_width`
-/// elements.
+/// How many messages a batch has, how many of them do not balance, and upper bounds on the challenges
+/// of `EF` at which it can still be accepted; see `SoundnessCount`. The challenges are made for tuples
+/// of at most `max_message_width` elements.
+///
+/// Requires instances that fit (`instances_fit`), with ids that are lawful for this width and some
+/// number of prefixes (`ids_are_lawful`).
 ///
 /// Refuses the first fault of flags of the first AIR that has one, in the order row, lookup: a flag
 /// that is neither zero nor one, then more than one set flag. Refuses `CountOverflow`, of no AIR,

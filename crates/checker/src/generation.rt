@@ -2,7 +2,7 @@
 ghost use Rattle.std.specs.Prelude.{IfOk};
 ghost use Rattle.lookup_model.specs.Challenges.{table_of};
 ghost use Rattle.lookup_model.specs.Extension.{extension};
-ghost use Rattle.batch_model.specs.Answers.{GivesAcceptedIfBalanced, GivesOnlySatisfied, GivesPlainWitness, GivesSatisfied, SucceedsIfRegular};
+ghost use Rattle.batch_model.specs.Answers.{GivesAcceptedIfBalanced, GivesOnlyFaultless, GivesOnlySatisfied, GivesPlainWitness, GivesSatisfied, SucceedsIfRegular};
 ghost use Rattle.batch_model.specs.Instances.{DoInstancesFit, HasPrefixes, HavePrefixes, IsFitting, instance_of, instances_of};
 ghost use Rattle.batch_model.specs.Witnesses.{HasOneOfEach};
 ghost use Rattle.checker.specs.Results.{GivesPlainResult};
@@ -15,8 +15,10 @@ use std::alloc::Global;
 
 /// The auxiliary traces and the terminals of a batch.
 ///
-/// They satisfy the constraints of all lookups. If no denominator vanishes, there are no others that
-/// do; if all messages balance, the terminals sum to zero.
+/// Requires instances that fit (`instances_fit`), with ids below the number of prefixes.
+///
+/// They satisfy the constraints of all lookups. If all flags are lawful and no denominator vanishes,
+/// there are no others that do. If all messages balance, the terminals sum to zero.
 ///
 /// Refuses the first fault of the first AIR that has one, in the order row, lookup; see
 /// `LookupProtocol::generate_permutation`. Out of memory is refused for no AIR.
@@ -28,6 +30,8 @@ pub fn generate_batch<F: Field, EF: ExtensionField<F>>(
     requires fit { DoInstancesFit instances.now }
     requires ids { HavePrefixes challenges.now instances.now }
     ensures answer { GivesPlainWitness (extension F.ring F.eq EF.ring EF.eq EF.embed EF.inverse)
+        (table_of challenges.now) (instances_of instances.now) result }
+    ensures faultless { GivesOnlyFaultless (extension F.ring F.eq EF.ring EF.eq EF.embed EF.inverse)
         (table_of challenges.now) (instances_of instances.now) result }
     ensures complete { IfOk result (λ w. HasOneOfEach (instances_of instances.now) w) }
     ensures succeeds { SucceedsIfRegular (extension F.ring F.eq EF.ring EF.eq EF.embed EF.inverse)

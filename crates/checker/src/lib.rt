@@ -1,9 +1,9 @@
 //! The calls of a prover and a verifier over batches of AIRs (LogUp, eprint 2022/1530).
 //!
-//! `instances_fit` and `ids_are_lawful` test what the other calls take for granted.
-//! `generate_batch` makes the witness of a batch, and `check_witness` says whether a witness, whoever
-//! made it, is accepted. `counted_soundness` says at how few challenges one can be, if the messages do
-//! not balance.
+//! `instances_fit` and `ids_are_lawful` test what the other calls require. `generate_batch` makes the
+//! witness of a batch, and `check_witness` says whether a witness, whoever made it, is accepted.
+//! `soundness_count` bounds the challenges at which one can be, if the messages do not balance;
+//! `counted_soundness` says the same of every batch. docs/HEADLINE.md joins their contracts.
 #![tactic(auto)]
 
 mod counting;

@@ -14,8 +14,8 @@ ghost use Rattle.lookup_model.specs.declared.challenges.Challenges.{Challenges};
 
 use field::{ExtensionField, Field};
 
-/// The second half of the headline, for every batch with lawful ids and flags. It does nothing; what
-/// it says is its contract.
+/// Counted soundness of every batch that fits, with lawful ids and flags: a theorem, as the contract of
+/// a function that does nothing.
 ///
 /// Let `n` be the number of distinct messages, and `k` the number of those that do not balance, above
 /// zero. All but `W * k * (k - 1) / 2` betas at most leave fewer than `n + k` alphas at which any
@@ -27,7 +27,7 @@ pub fn counted_soundness<F: Field, EF: ExtensionField<F>>()
         → IsCountedSound (extension F.ring F.eq EF.ring EF.eq EF.embed EF.inverse) instances W }
 {}
 
-/// What joins `check_witness` to `counted_soundness`. It does nothing, too.
+/// What joins `check_witness` to `counted_soundness`: a theorem, too.
 ///
 /// Let challenges have the beta and the prefixes that `Challenges::new` makes of an alpha and a beta.
 /// If a witness is accepted over them, alpha is accepting at beta.

@@ -18,16 +18,19 @@ use matrix::RowMajorMatrix;
 use std::alloc::{AllocError, Global};
 
 /// Whether a witness is accepted: it satisfies the constraints of all lookups on every row, and its
-/// terminals sum to zero. If no denominator vanishes, only the witness of `generate_batch` can be.
+/// terminals sum to zero. If all flags are lawful and no denominator vanishes, only the witness of
+/// `generate_batch` can be.
 ///
-/// There is an auxiliary trace and an optional terminal for each instance. Refuses the first of
-/// these, AIR by AIR and then for all:
+/// Requires instances that fit (`instances_fit`), with ids below the number of prefixes, and an
+/// auxiliary trace and an optional terminal for each of them. Refuses the first of these, AIR by AIR
+/// and then for all:
 ///
 /// - `TerminalPresenceMismatch`: there is no terminal although there are lookups, or the other way
 ///   round;
-/// - `PermutationWidthMismatch`, `PermutationHeightMismatch`: the auxiliary trace does not have one
-///   column more than there are lookups and the height of the main trace, or is not empty without
-///   lookups;
+/// - `PermutationWidthMismatch`: the auxiliary trace does not have one column more than there are
+///   lookups, or none without lookups;
+/// - `PermutationHeightMismatch`: it does not have the height of the main trace, or is not empty
+///   without lookups;
 /// - `ConstraintFailed`: a constraint is not zero on a row, of which the first is named;
 /// - `TerminalSumNonZero`: the terminals do not sum to zero.
 ///

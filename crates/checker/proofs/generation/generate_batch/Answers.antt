@@ -1,6 +1,6 @@
 use Rattle.std.proofs.Common.{◌≡◌, ◌<◌, ◌+◌, ℕ, Some, List, length, inl, inr, map, sym, ap, subst, subst₂, ◌∙◌, arith}
 use Rattle.std.proofs.lemmas.List.{length-map}
-use Rattle.std.proofs.lemmas.Option.{slice_get_read}
+use Rattle.std.proofs.lemmas.Option.{slice_get_read, slice_get_within}
 use Rattle.std.specs.List.{slice_get}
 use Rattle.lookup_model.proofs.Branches.{mapped_at}
 use Rattle.lookup_model.specs.Extension.{extension, IsLawful}
@@ -120,3 +120,8 @@ returns-clause-complete g c =
     let has = c.loop-air.invariant in
     let long = length-map c.args.instances.now instance_of in
     (omega (arith, has.traces, long, c.loop-air-test.false, c.loop-air.auto.air-end), omega (arith, has.as_many, long, c.loop-air-test.false, c.loop-air.auto.air-end))
+
+pub returns-clause-faultless : goal.returns-clause-faultless
+returns-clause-faultless g c = λ i instance there.
+    let within = slice_get_within (instances_of c.args.instances.now) i instance there in
+    c.loop-air.invariant.faultless i instance (omega (arith, within, length-map c.args.instances.now instance_of, c.loop-air-test.false, c.loop-air.auto.air-end)) there
