@@ -1,10 +1,12 @@
-//! The counts of batches of one AIR, whose one lookup is local.
-use super::{have_ids, holds, instance, range, trace};
+//! The counts of batches of one AIR with one lookup, and the refusals of its flags.
+use super::{cell, generated, have_ids, holds, instance, list, range, table, trace};
+use air::{Expression, SymbolicExpression};
 use checker::{
     BatchFault, BatchInstance, SoundnessCount, accepted_is_accepting, counted_soundness,
     ids_are_lawful, instances_fit, soundness_count,
 };
-use field::F7;
+use field::{F7, PrimeCharacteristicRing};
+use lookup::{Kind, Lookup, LookupError};
 use std::alloc::Global;
 use std::process::Abort;
 
@@ -26,15 +28,7 @@ fn of_rows(rt: &impl Abort, alloc: Global, numbers: &[u32], width: usize) -> Sou
     let main = trace(rt, alloc, numbers, 3);
     let lookups = [range(rt, alloc)];
     let instances = [instance(lookups.as_slice(), &main, &[0])];
-    match counts(rt, alloc, instances.as_slice(), width) {
-        Ok(count) => count,
-        Err(_) => SoundnessCount {
-            messages: 0,
-            unbalanced: 0,
-            bad_betas: 0,
-            accepting_alphas: None,
-        },
-    }
+    counts(rt, alloc, instances.as_slice(), width).expect(rt, "no fault")
 }
 
 fn count(
@@ -92,4 +86,73 @@ fn laws_of_the_headline_are_there(rt: HostRuntime) {
     accepted_is_accepting::<F7, F7>();
     let none = counts(&rt, alloc, &[], 1);
     holds(&rt, "no AIR", none.ok() == Some(count(0, 0, 0, None)));
+}
+
+/// The lookup of a group on a bus: for each branch a flag and a key of one cell, with this count.
+fn group<const N: usize>(
+    rt: &impl Abort,
+    alloc: Global,
+    branches: [(usize, usize); N],
+    count: F7,
+) -> Lookup<F7> {
+    let mut flags = Vec::new(alloc);
+    let mut elements = Vec::new(alloc);
+    let mut multiplicities = Vec::new(alloc);
+    for (flag, key) in branches.as_slice() {
+        flags.push(cell(*flag)).expect(rt, "memory");
+        elements
+            .push(list(rt, alloc, [cell(*key)]))
+            .expect(rt, "memory");
+        multiplicities
+            .push(SymbolicExpression::constant(count))
+            .expect(rt, "memory");
+    }
+    Lookup {
+        kind: Kind::Global(String::from_str(alloc, "keys").expect(rt, "memory")),
+        elements,
+        multiplicities,
+        count_weight: 1,
+        column: 0,
+        flags: Some(flags),
+    }
+}
+
+fn is_of_air_zero(fault: Option<BatchFault>, error: LookupError) -> bool {
+    match fault {
+        Some(fault) => fault.air == Some(0) && fault.error == error,
+        None => false,
+    }
+}
+
+#[test]
+fn two_set_flags_are_refused(rt: HostRuntime) {
+    let alloc = rt.alloc();
+    let main = trace(&rt, alloc, &[1, 3, 1, 5], 4);
+    let lookups = [group(&rt, alloc, [(0, 1), (2, 3)], F7::ONE)];
+    let instances = [instance(lookups.as_slice(), &main, &[0])];
+    let challenges = table(&rt, alloc, 5, 2, 1);
+    let refused = LookupError::FlagsNotExclusive { row: 0, lookup: 0 };
+    let made = generated(&rt, alloc, instances.as_slice(), &challenges);
+    holds(&rt, "by generation", is_of_air_zero(made.err(), refused));
+    let refused = LookupError::FlagsNotExclusive { row: 0, lookup: 0 };
+    let counted = counts(&rt, alloc, instances.as_slice(), 1);
+    holds(&rt, "by counting", is_of_air_zero(counted.err(), refused));
+}
+
+#[test]
+fn a_selected_denominator_vanishes_under_a_count_of_zero(rt: HostRuntime) {
+    let alloc = rt.alloc();
+    let main = trace(&rt, alloc, &[1, 3], 2);
+    let lookups = [group(&rt, alloc, [(0, 1)], F7::ZERO)];
+    let instances = [instance(lookups.as_slice(), &main, &[0])];
+    let challenges = table(&rt, alloc, 1, 2, 1);
+    let refused = LookupError::VanishingDenominator { row: 0, lookup: 0 };
+    let made = generated(&rt, alloc, instances.as_slice(), &challenges);
+    holds(&rt, "by generation", is_of_air_zero(made.err(), refused));
+    let counted = counts(&rt, alloc, instances.as_slice(), 1);
+    holds(
+        &rt,
+        "one message of multiplicity zero",
+        counted.ok() == Some(count(1, 0, 0, None)),
+    );
 }
