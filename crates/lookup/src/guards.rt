@@ -7,8 +7,7 @@ use crate::lookups::Lookups;
 use field::Field;
 use lookup_model::LookupError;
 
-/// Whether the lookups of all AIRs, over traces of these heights, cannot add up to the
-/// characteristic: the sum of each AIR's total weight times its height is below it.
+/// Whether the sum over all AIRs of total weight times height is below the characteristic.
 ///
 /// Refuses `MultiplicityHeightBoundExceeded` otherwise, with this sum, or `u128::MAX` if it is
 /// greater, and the number of binary digits of the characteristic. Allocates nothing.

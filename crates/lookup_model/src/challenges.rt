@@ -30,9 +30,10 @@ impl<EF: Field> Challenges<EF> {
     /// The table of `num_bus_ids` prefixes for tuples of at most `max_message_width` elements.
     ///
     /// Few betas let messages collide. Two distinct tuples of the same width `w` combine alike for at
-    /// most `w - 1` betas. Two distinct keys have the same point for at most `max_message_width`
+    /// most `w - 1` betas. A key is an id with a tuple, and its point is the alpha at which its
+    /// denominator is zero. Two distinct keys have the same point for at most `max_message_width`
     /// betas, if their ids are below `num_bus_ids`, which is at most the characteristic, and each
-    /// tuple has the width of its id.
+    /// tuple has the width of its id, at most `max_message_width`.
     ///
     /// Fails only when out of memory.
     pub fn new(

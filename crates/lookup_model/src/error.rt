@@ -34,7 +34,7 @@ pub enum LookupError {
     PermutationLengthMismatch {
         air: usize,
     },
-    /// The auxiliary width is not the number of lookups plus one.
+    /// The auxiliary width is not the number of lookups plus one, or not 0 without lookups.
     #[error("air {air}: permutation width mismatch: expected {expected}")]
     PermutationWidthMismatch {
         air: usize,
