@@ -1,4 +1,5 @@
 pub mod Evaluations
+pub mod Extracted
 pub mod ExtractionLaws
 pub mod HeightSums
 pub mod Outlines

@@ -1,10 +1,11 @@
+pub mod AirLaws
 pub mod AnswerLaws
+pub mod BatchLaws
+pub mod CellLaws
 pub mod ExtractedLaws
-pub mod GeneratedLaws
 pub mod InputLaws
-pub mod MachineLaws
 pub mod PartLaws
 pub mod ReportLaws
-pub mod SentLaws
+pub mod TraceLaws
 pub mod VerdictLaws
 pub mod WordLaws

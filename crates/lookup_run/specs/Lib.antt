@@ -2,6 +2,8 @@ pub mod Fields
 pub mod Input
 pub mod Machines
 pub mod Program
+pub mod Pushes
 pub mod Refusal
 pub mod Report
+pub mod Traces
 pub mod Words

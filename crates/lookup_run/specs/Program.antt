@@ -1,73 +1,93 @@
 -- The result of a run: a report, or the first refusal in the order of the checks.
-use Rattle.std.specs.Prelude.{◌≡◌, ◌≢◌, ◌⊎◌, ◌↔◌, ◌++◌, ℕ, IsTrue, List, [], ◌∷◌, Option, Some, codes, cond, length, map, slice_get, string_bytes, Result, Err, MatchResult}
+use Rattle.std.specs.Prelude.{◌≡◌, ◌≢◌, ◌⊎◌, ◌↔◌, ◌++◌, ◌<◌, ℕ, IsTrue, List, [], ◌∷◌, Option, Some, codes, cond, length, map, slice_get, slice_index_or, string_bytes, Result, Err, MatchResult}
 use Rattle.std.specs.Io.KnownBytes.{Appends}
 use Rattle.std.specs.List.{range_with_len}
 use Rattle.matrix.specs.Matrix.{Matrix, height, row}
-use Rattle.lookup_model.specs.Denominators.{column_denominator}
+use Rattle.batch_model.specs.Witnesses.{AirResult}
+use Rattle.batch_model.specs.declared.fault.BatchFault.{BatchFault}
+use Rattle.lookup_model.specs.Challenges.{ChallengeTable, prefix_of_bus, table_denominator}
 use Rattle.lookup_model.specs.Extension.{Extension}
 use Rattle.lookup_model.specs.Fault.{trace_faults}
-use Rattle.lookup_model.specs.Message.{Key}
 use Rattle.lookup_model.specs.Plain.{plain_cells, plain_terminal}
 use Rattle.lookup_model.specs.Sent.{Sent}
+use Rattle.lookup_model.specs.Terminals.{terminal_sum}
 use Rattle.lookup_model.specs.declared.error.LookupError.{LookupError}
-use Rattle.lookup_model.specs.Challenges.{prefix_of_bus}
 use Rattle.lookup_run.specs.Fields.{Fields}
 use Rattle.lookup_run.specs.Input.{IsInput, IsInputRefusal}
-use Rattle.lookup_run.specs.Machines.{columns_of, machine_sends, name_of}
-use Rattle.lookup_run.specs.Refusal.{ShowsWord, of_air}
-use Rattle.lookup_run.specs.Report.{air_lines, verdict_line}
+use Rattle.lookup_run.specs.Machines.{air_sends, air_trace, airs_of, columns_of, name_of}
+use Rattle.lookup_run.specs.Refusal.{ShowsWord, of_batch}
+use Rattle.lookup_run.specs.Report.{verdict_line, witness_lines}
+use Rattle.lookup_run.specs.declared.airs.MachineAir.{MachineAir}
 use Rattle.lookup_run.specs.declared.error.RunError.{RunError}
 use Rattle.lookup_run.specs.declared.error.RunError.TheVariants.{Usage, UnknownMachine, UnknownField, BadChallenge, CannotReadInput, Memory}
 use Rattle.lookup_run.specs.declared.machine.Machine.{Machine}
 use Rattle.lookup_run.specs.declared.report.Report.{Report}
 
-module _ {F K : Type 0} (E : Extension F K) (machine : Machine) (alpha beta : K) (trace : Matrix F) where
-  -- what the machine sends over the rows of its input
-  abbrev pub machine_rows : List (List (Sent F))
-  machine_rows = map (λ r. machine_sends E.base E.base_eq machine (row trace r) ∷ []) (range_with_len 0 (height trace))
+-- the challenge table of a run: tuples have one value, and the one id is 0
+abbrev pub run_table : {F K : Type 0} → Extension F K → K → K → ChallengeTable K
+run_table E alpha beta = record { prefix = λ id. slice_index_or (prefix_of_bus E.ring alpha beta 1 0 ∷ []) id alpha; beta = beta }
 
-  -- the denominator of a key on the one bus, whose tuples have one element
-  abbrev pub bus_denominator : Key F → K
-  bus_denominator = column_denominator E (prefix_of_bus E.ring alpha beta 1 0 ∷ beta ∷ [])
+module _ {F K : Type 0} (E : Extension F K) (alpha beta : K) (input : Matrix F) where
+  -- what an AIR sends on each row of its trace
+  abbrev pub air_rows : MachineAir → List (List (Sent F))
+  air_rows air =
+      let trace = air_trace air input in
+      map (λ r. air_sends E.base E.base_eq air (row trace r) ∷ []) (range_with_len 0 (height trace))
 
-  -- the auxiliary trace: the accumulator, and the fractions of the one lookup
-  abbrev pub machine_trace : Matrix K
-  machine_trace = record { values = plain_cells E bus_denominator machine_rows; width = 2 }
+  -- the plain result of an AIR: an accumulator and the fractions of its one lookup, and its terminal
+  abbrev pub air_result : MachineAir → AirResult K
+  air_result air =
+      let denominator = table_denominator E (run_table E alpha beta) in
+      (record { values = plain_cells E denominator (air_rows air); width = 2 }, Some (record { 0 = plain_terminal E denominator (air_rows air) }))
 
-  -- its terminal
-  abbrev pub machine_terminal : K
-  machine_terminal = plain_terminal E bus_denominator machine_rows
+  -- the faults of an AIR
+  abbrev pub air_faults : MachineAir → List LookupError
+  air_faults air = trace_faults E (table_denominator E (run_table E alpha beta)) (air_rows air)
 
-  -- the faults of the rows
-  abbrev pub machine_faults : List LookupError
-  machine_faults = trace_faults E bus_denominator machine_rows
+module _ {F K : Type 0} (E : Extension F K) (machine : Machine) (alpha beta : K) (input : Matrix F) where
+  -- the plain witness of a machine, AIR by AIR
+  abbrev pub machine_witness : List (AirResult K)
+  machine_witness = map (air_result E alpha beta input) (airs_of machine)
 
-  -- why there is no auxiliary trace: the first fault
-  abbrev pub IsAirRefusal : LookupError → Type 0
-  IsAirRefusal e = slice_get machine_faults 0 ≡ Some e
+  -- no AIR has a fault
+  abbrev pub AreFaultless : Type 0
+  AreFaultless = (i : ℕ) (air : MachineAir) → slice_get (airs_of machine) i ≡ Some air → air_faults E alpha beta input air ≡ []
+
+  -- the first fault of the first AIR that has one
+  pub record IsFirstFault (fault : BatchFault) : Type 0 where
+    pub place : ℕ
+    pub air : MachineAir
+    pub air_is : fault.air ≡ Some place
+    pub is_there : slice_get (airs_of machine) place ≡ Some air
+    pub is_first : slice_get (air_faults E alpha beta input air) 0 ≡ Some fault.error
+    pub before : (i : ℕ) (other : MachineAir) → i < place → slice_get (airs_of machine) i ≡ Some other → air_faults E alpha beta input other ≡ []
+
+  -- why there is no witness: that fault
+  abbrev pub IsBatchRefusal : RunError → Type 0
+  IsBatchRefusal e = (fault : BatchFault) × IsFirstFault fault × (e ≡ of_batch fault)
 
 -- a word that gives no challenge is refused
 abbrev pub IsBadChallenge : {K : Type 0} → (List ℕ → K → Type 0) → List ℕ → RunError → Type 0
 IsBadChallenge {K} written word e = ((x : K) → ¬ written word x) × ShowsWord BadChallenge word e
 
 module _ {F K : Type 0} (fields : Fields F K) (machine : Machine) where
-  -- The report of an input at a pair of challenges: the lines of the auxiliary trace of the input's
-  -- rows, and whether its terminal is zero. No row has a fault.
+  -- The report of an input at a pair of challenges: the lines of the plain witness over the input's
+  -- rows, and whether its terminals cancel. No AIR has a fault.
   pub record IsReport (alpha beta : K) (input : List ℕ) (report : Report) : Type 0 where
-    pub trace : Matrix F
-    pub read : IsInput fields.extension.base (columns_of machine) fields.bound input trace
-    pub faultless : machine_faults fields.extension machine alpha beta trace ≡ []
-    pub balanced : IsTrue report.balanced ↔ (machine_terminal fields.extension machine alpha beta trace ≡ fields.extension.ring.zero)
+    pub rows : Matrix F
+    pub read : IsInput fields.extension.base (columns_of machine) fields.bound input rows
+    pub faultless : AreFaultless fields.extension machine alpha beta rows
+    pub balanced : IsTrue report.balanced
+        ↔ (terminal_sum fields.extension.ring (map (λ r. r.1) (machine_witness fields.extension machine alpha beta rows)) ≡ fields.extension.ring.zero)
     pub text : string_bytes report.text
-        ≡ air_lines fields.text 0 (machine_trace fields.extension machine alpha beta trace) (Some (record { 0 = machine_terminal fields.extension machine alpha beta trace }))
-        ++ verdict_line report.balanced
+        ≡ witness_lines fields.text (machine_witness fields.extension machine alpha beta rows) ++ verdict_line report.balanced
 
-  -- the refusal of an input at a pair of challenges: that of its lines, or that of its rows
+  -- the refusal of an input at a pair of challenges: that of its lines, or that of the batch
   abbrev pub IsReportRefusal : K → K → List ℕ → RunError → Type 0
   IsReportRefusal alpha beta input e =
       IsInputRefusal (columns_of machine) fields.bound input e
-      ⊎ ((trace : Matrix F) × (refusal : LookupError) × IsInput fields.extension.base (columns_of machine) fields.bound input trace
-      × IsAirRefusal fields.extension machine alpha beta trace refusal × (e ≡ of_air 0 refusal))
+      ⊎ ((rows : Matrix F) × IsInput fields.extension.base (columns_of machine) fields.bound input rows
+      × IsBatchRefusal fields.extension machine alpha beta rows e)
 
   -- The answer to the words of two challenges and the bytes of an input. Alpha is checked before
   -- beta, and both before the input is read. Out of memory may come at any point.

@@ -1,7 +1,8 @@
 -- What a run prints.
 use Rattle.std.specs.Prelude.{ℕ, ◌++◌, Bool, true, false, List, [], Option, None, Some, codes, decimal}
-use Rattle.std.specs.List.{flat_map, join_by, range_with_len}
+use Rattle.std.specs.List.{enumerate_from, flat_map, join_by, range_with_len}
 use Rattle.matrix.specs.Matrix.{Matrix, height, row}
+use Rattle.batch_model.specs.Witnesses.{AirResult}
 use Rattle.lookup_model.specs.declared.types.LookupTerminal.{LookupTerminal}
 
 module _ {K : Type 0} (text : K → List ℕ) where
@@ -18,6 +19,10 @@ module _ {K : Type 0} (text : K → List ℕ) where
   abbrev pub air_lines : ℕ → Matrix K → Option (LookupTerminal K) → List ℕ
   air_lines air trace terminal =
       codes "air " ++ (decimal air ++ (codes "\n" ++ (flat_map (λ r. row_line (row trace r)) (range_with_len 0 (height trace)) ++ terminal_line terminal)))
+
+  -- the lines of all AIRs of a witness
+  abbrev pub witness_lines : List (AirResult K) → List ℕ
+  witness_lines witness = flat_map (λ p. air_lines p.0 p.1.0 p.1.1) (enumerate_from 0 witness)
 
 -- the last line: whether the terminals cancel
 abbrev pub verdict_line : Bool → List ℕ

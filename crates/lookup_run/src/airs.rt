@@ -1,9 +1,10 @@
 //! The AIRs of the machines, which say what each row looks up.
-ghost use Rattle.std.specs.Prelude.{◌⊎◌, ◌+◌, All, IfErr, IfOk, OnOk};
-ghost use Rattle.lookup_builder.specs.Messages.{IsExclusiveQuery, PushesOne};
+ghost use Rattle.std.specs.Prelude.{◌≡◌, ◌+◌, All, IfErr, IfOk, OnOk};
 ghost use Rattle.lookup_builder.specs.Pushed.{pushed_local};
 ghost use Rattle.lookup_builder.specs.Within.{IsWithin, KeyWithin};
-ghost use Rattle.lookup_run.specs.Machines.{AreTwoKeys, IsCell, IsCellRefusal, IsCellTuple, IsRange, IsRefusedBefore, PushesSuch, group_bus, pushed_if_accepted};
+ghost use Rattle.lookup_run.specs.Machines.{DoesSend, first_column_of, width_of};
+ghost use Rattle.lookup_run.specs.Pushes.{AreTwoKeys, Evaluates, IsCell, IsCellRefusal, IsCellTuple, pushed_if_accepted};
+ghost use Rattle.lookup_run.specs.declared.airs.MachineAir.TheVariants.{RangeCheck};
 
 use air::{Air, AirBuilder, AirError, BaseAir, Expression, LayoutPart};
 use field::PrimeCharacteristicRing;
@@ -11,18 +12,54 @@ use lookup::{Count, InteractionBuilder, LookupBus};
 use matrix::WindowAccess;
 use std::alloc::Global;
 
-/// Columns `read provide mult`: a row reads one value, and provides another `mult` times.
-pub struct RangeAir;
+/// An AIR of a machine. It holds some neighboring columns of the input, and records one lookup.
+#[derive(Clone, Copy, Debug, PartialEq, Eq)]
+pub enum MachineAir {
+    /// Columns `read provide mult`. One local lookup: `[read]` with count 1, and the provided
+    /// `[provide]` with count `-mult`.
+    RangeCheck,
+    /// Column `key`. It queries `[key]` once on the bus `b`.
+    Keys,
+    /// Columns `entry mult`. It provides `[entry]` on the bus `b`, used `mult` times.
+    Entries,
+    /// Columns `flag0 key0 flag1 key1`. One group on the bus `rc`: a row queries the one of both
+    /// keys whose flag is set, or none.
+    Group,
+}
 
-impl<F> BaseAir<F> for RangeAir {
-    ghost width = { λ _. 3 };
+impl MachineAir {
+    /// How many columns it holds.
+    pub fn columns(self) -> usize
+        ensures { result ≡ width_of self }
+    {
+        match self {
+            MachineAir::RangeCheck => 3,
+            MachineAir::Keys => 1,
+            MachineAir::Entries => 2,
+            MachineAir::Group => 4,
+        }
+    }
+
+    /// The first column of the input that it holds.
+    pub fn first_column(self) -> usize
+        ensures { result ≡ first_column_of self }
+    {
+        match self {
+            MachineAir::RangeCheck | MachineAir::Keys | MachineAir::Group => 0,
+            MachineAir::Entries => 1,
+        }
+    }
+}
+
+impl<F> BaseAir<F> for MachineAir {
+    ghost width = { λ air. width_of air };
 
     ghost preprocessed_width = { λ _. 0 };
 
     ghost num_public_values = { λ _. 0 };
 
     fn width(&self) -> usize {
-        3
+        self.columns()
     }
 
     fn preprocessed_width(&self) -> usize {
@@ -34,32 +71,47 @@ impl<F> BaseAir<F> for RangeAir {
     }
 }
 
-/// One local lookup: the value that is read with count 1, and the provided one with the negated
-/// count.
-impl<AB: InteractionBuilder> Air<AB> for RangeAir {
-    ghost evaluates = { λ _ before answer after.
-        (PushesSuch AB.pushes AB.refuses_push
-        (IsRange (λ x w. AB.Expr.value x (AB.seen w)) (AB.stands_for before) (λ w. w.main) AB.F.ring) before answer after
-        ⊎ IsRefusedBefore AB.window_refuses AB.layout 3 before answer after)
+/// Pushes the one lookup. Refused is a row without the columns, by the layout that it has.
+impl<AB: InteractionBuilder> Air<AB> for MachineAir {
+    ghost evaluates = { λ air before answer after.
+        Evaluates AB.pushes AB.refuses_push AB.window_refuses AB.layout
+        (DoesSend AB.F.ring AB.F.eq (λ x w. AB.Expr.value x (AB.seen w)) (AB.stands_for before) (λ w. w.main) air) (width_of air) before answer after
         × OnOk answer (AB.pushed_within before → AB.pushed_within after) };
 
     fn eval(&self, alloc: Global, builder: &mut AB) -> Result<(), AirError> {
-        let tuples = range_tuples(alloc, builder)?;
-        builder.push_local_interaction(alloc, tuples)
+        match self {
+            MachineAir::RangeCheck => {
+                let tuples = range_tuples(alloc, builder)?;
+                builder.push_local_interaction(alloc, tuples)
+            }
+            MachineAir::Keys => {
+                let key = tuple(alloc, builder, 0)?;
+                LookupBus::new("b").lookup_key(alloc, builder, key, Count::from_i32::<AB::F>(1))
+            }
+            MachineAir::Entries => {
+                let entry = tuple(alloc, builder, 0)?;
+                let uses = cell(alloc, builder, 1)?;
+                LookupBus::new("b").table_entry(alloc, builder, entry, uses)
+            }
+            MachineAir::Group => {
+                let branches = two_keys(alloc, builder)?;
+                LookupBus::new("rc").lookup_key_exclusive(alloc, builder, branches)
+            }
+        }
     }
 
     ghost keeps_layout = { λ air before after h.
-        let pushed = pushed_if_accepted _ AB.window_refuses AB.layout 3 before after h.0 in
+        let pushed = pushed_if_accepted _ AB.window_refuses AB.layout (width_of air) before after h.0 in
         AB.push_keeps_layout before pushed.0 after pushed.2 };
 }
 
-/// The tuples of the machine `range`, each with its count.
+/// The tuples of a range check, each with its count.
 fn range_tuples<AB: InteractionBuilder>(
     alloc: Global,
     builder: &AB,
 ) -> Result<Vec<(Vec<AB::Expr>, Count<AB::Expr>)>, AirError>
     ensures refused { IfErr result (IsCellRefusal AB.window_refuses AB.layout 3 builder.now) }
-    ensures range { IfOk result (λ tuples. IsRange (λ x w. AB.Expr.value x (AB.seen w)) (AB.stands_for builder.now) (λ w. w.main) AB.F.ring
+    ensures sends { IfOk result (λ tuples. DoesSend AB.F.ring AB.F.eq (λ x w. AB.Expr.value x (AB.seen w)) (AB.stands_for builder.now) (λ w. w.main) RangeCheck
         (pushed_local tuples.items)) }
     ensures within { IfOk result (λ tuples. IsWithin AB.Expr.within (AB.layout builder.now) (pushed_local tuples.items)) }
 {
@@ -70,48 +122,7 @@ fn range_tuples<AB: InteractionBuilder>(
     Ok(tuples)
 }
 
-/// Columns `flag0 key0 flag1 key1`: a row looks up the key whose flag is set, or none.
-pub struct ExclusiveAir;
-
-impl<F> BaseAir<F> for ExclusiveAir {
-    ghost width = { λ _. 4 };
-
-    ghost preprocessed_width = { λ _. 0 };
-
-    ghost num_public_values = { λ _. 0 };
-
-    fn width(&self) -> usize {
-        4
-    }
-
-    fn preprocessed_width(&self) -> usize {
-        0
-    }
-
-    fn num_public_values(&self) -> usize {
-        0
-    }
-}
-
-/// One group on the bus `rc`, with both keys as branches.
-impl<AB: InteractionBuilder> Air<AB> for ExclusiveAir {
-    ghost evaluates = { λ _ before answer after.
-        (((branches : _) × AreTwoKeys (λ x w. AB.Expr.value x (AB.seen w)) (AB.stands_for before) (λ w. w.main) branches
-        × PushesOne AB.pushes AB.refuses_push (IsExclusiveQuery AB.F.ring.one AB.Expr.value AB.Expr.degree group_bus branches) before answer after)
-        ⊎ IsRefusedBefore AB.window_refuses AB.layout 4 before answer after)
-        × OnOk answer (AB.pushed_within before → AB.pushed_within after) };
-
-    fn eval(&self, alloc: Global, builder: &mut AB) -> Result<(), AirError> {
-        let branches = two_keys(alloc, builder)?;
-        LookupBus::new("rc").lookup_key_exclusive(alloc, builder, branches)
-    }
-
-    ghost keeps_layout = { λ air before after h.
-        let pushed = pushed_if_accepted _ AB.window_refuses AB.layout 4 before after h.0 in
-        AB.push_keeps_layout before pushed.2.0 after pushed.2.2 };
-}
-
-/// The branches of the machine `exclusive`, each a flag with its key.
+/// The branches of a group, each a flag with its key.
 fn two_keys<AB: InteractionBuilder>(
     alloc: Global,
     builder: &AB,
@@ -127,7 +138,7 @@ fn two_keys<AB: InteractionBuilder>(
 }
 
 /// The expression of a cell of the current row.
-#[tactic(auto, using(crate::proofs::MachineLaws::cell_is, crate::proofs::MachineLaws::no_cell))]
+#[tactic(auto, using(crate::proofs::CellLaws::cell_is, crate::proofs::CellLaws::no_cell))]
 fn cell<AB: AirBuilder>(alloc: Global, builder: &AB, column: usize) -> Result<AB::Expr, AirError>
     ensures refused { IfErr result (IsCellRefusal AB.window_refuses AB.layout (column + 1) builder.now) }
     ensures cell { IfOk result (IsCell (λ x w. AB.Expr.value x (AB.seen w)) (AB.stands_for builder.now) (λ w. w.main) column) }

@@ -2,6 +2,7 @@
 ghost use Rattle.std.specs.Prelude.{◌≡◌};
 ghost use Rattle.lookup_run.specs.declared.error.RunError.TheVariants.{Memory};
 
+use checker::BatchFault;
 use lookup::LookupError;
 use std::alloc::{AllocError, AllocFailed};
 use thiserror::Error;
@@ -42,15 +43,18 @@ pub enum RunError {
 }
 
 impl RunError {
-    ghost use Rattle.lookup_run.specs.Refusal.{of_air};
+    ghost use Rattle.lookup_run.specs.Refusal.{of_batch};
 
-    /// A refusal of the lookup layer for one AIR; out of memory keeps its name.
-    pub fn of_air(air: usize, error: LookupError) -> RunError
-        ensures { result ≡ of_air air error }
+    /// A refusal of a batch. One of no AIR is out of memory.
+    pub fn of_batch(fault: BatchFault) -> RunError
+        ensures { result ≡ of_batch fault }
     {
-        match error {
-            LookupError::Memory => RunError::Memory,
-            error => RunError::Air { air, error },
+        match fault.air {
+            Some(air) => RunError::Air {
+                air,
+                error: fault.error,
+            },
+            None => RunError::Memory,
         }
     }
 }

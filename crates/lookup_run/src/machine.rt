@@ -1,25 +1,21 @@
 //! The machines that the program knows.
-ghost use Rattle.std.specs.Prelude.{◌≡◌, ◌≢◌, ◌<◌, MatchOption, MatchResult};
-ghost use Rattle.lookup.specs.Lookups.{lookups_of};
+ghost use Rattle.std.specs.Prelude.{◌≡◌, ◌≢◌, ◌<◌, MatchOption};
 
-use crate::airs::{ExclusiveAir, RangeAir};
-use field::{ExtensionField, Field};
-use lookup::{LookupError, Lookups};
-use std::alloc::Global;
+use crate::airs::MachineAir;
 
-/// A machine: the columns of its input, and the AIRs with their lookups.
+/// A machine: the columns of its input, and its AIRs, each of which holds some of the columns.
 #[derive(Clone, Copy, Debug, PartialEq, Eq)]
 pub enum Machine {
-    /// Columns `read provide mult`, and one AIR with a local lookup: `[read]` with count 1, and the
-    /// provided `[provide]` with count `-mult`.
+    /// Columns `read provide mult`, all in one AIR.
     Range,
-    /// Columns `flag0 key0 flag1 key1`, and one AIR with a group on the bus `rc`: a row looks up
-    /// the one of both keys whose flag is set, or none.
+    /// Columns `key entry mult`: AIR 0 holds `key`, and AIR 1 `entry mult`.
+    Bus,
+    /// Columns `flag0 key0 flag1 key1`, all in one AIR.
     Exclusive,
 }
 
 impl Machine {
-    ghost use Rattle.lookup_run.specs.Machines.{AreLookupsOf, columns_of, name_of};
+    ghost use Rattle.lookup_run.specs.Machines.{airs_of, columns_of, name_of};
 
     /// The machine with this name.
     pub fn from_name(name: &str) -> Option<Machine>
@@ -27,6 +23,7 @@ impl Machine {
     {
         match name {
             "range" => Some(Machine::Range),
+            "bus" => Some(Machine::Bus),
             "exclusive" => Some(Machine::Exclusive),
             _ => None,
         }
@@ -38,25 +35,19 @@ impl Machine {
         ensures columns { result ≡ columns_of self }
     {
         match self {
-            Machine::Range => 3,
+            Machine::Range | Machine::Bus => 3,
             Machine::Exclusive => 4,
         }
     }
 
-    /// The lookups that its AIR records. They fit the rows of its input.
-    ///
-    /// Fails only when out of memory.
-    pub fn lookups<F: Field, EF: ExtensionField<F>>(
-        self,
-        alloc: Global,
-    ) -> Result<Lookups<F>, LookupError>
-        ensures { MatchResult result
-            (λ lookups. AreLookupsOf F.ring F.eq self (lookups_of lookups))
-            (λ e. e ≡ LookupError.Memory) }
+    /// The AIRs, in order.
+    pub fn airs(self) -> &'static [MachineAir]
+        ensures { result.now ≡ airs_of self }
     {
         match self {
-            Machine::Range => Lookups::from_air::<EF, RangeAir>(alloc, &RangeAir),
-            Machine::Exclusive => Lookups::from_air::<EF, ExclusiveAir>(alloc, &ExclusiveAir),
+            Machine::Range => &[MachineAir::RangeCheck],
+            Machine::Bus => &[MachineAir::Keys, MachineAir::Entries],
+            Machine::Exclusive => &[MachineAir::Group],
         }
     }
 }

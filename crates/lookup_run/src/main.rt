@@ -11,6 +11,7 @@ mod report;
 mod rows;
 #[cfg(test)]
 mod tests;
+mod traces;
 
 use std::process::ExitCode;
 use std::{env, io};

@@ -1,18 +1,22 @@
 //! What a run prints.
-ghost use Rattle.std.specs.Prelude.{◌≡◌, ◌++◌, ◌⊎◌, [], MatchResult, OnOk, Some, codes, string_bytes};
+ghost use Rattle.std.specs.Prelude.{◌≡◌, ◌++◌, ◌<◌, ◌⊎◌, MatchResult, OnOk, codes, length, string_bytes};
 ghost use Rattle.std.specs.List.{flat_map};
+ghost use Rattle.matrix.specs.Matrix.{height};
+ghost use Rattle.batch_model.specs.Witnesses.{results_of};
 ghost use Rattle.lookup_model.specs.Extension.{extension};
 ghost use Rattle.lookup_run.specs.Fields.{run_fields};
 ghost use Rattle.lookup_run.specs.Machines.{columns_of};
-ghost use Rattle.lookup_run.specs.Program.{IsAirRefusal, IsReport, IsReportRefusal, machine_faults, machine_terminal, machine_trace};
-ghost use Rattle.lookup_run.specs.Report.{air_lines, row_line};
+ghost use Rattle.lookup_run.specs.Program.{AreFaultless, IsBatchRefusal, IsReport, IsReportRefusal, machine_witness};
+ghost use Rattle.lookup_run.specs.Report.{air_lines, row_line, witness_lines};
 
 use crate::challenge::Challenge;
 use crate::error::RunError;
 use crate::machine::Machine;
 use crate::rows::read_rows;
+use crate::traces::{air_traces, batch_of};
+use checker::{Witness, generate_batch};
 use field::{ExtensionField, Field};
-use lookup::{Challenges, LogUpGadget, LookupError, LookupProtocol, LookupTerminal};
+use lookup::{Challenges, LogUpGadget, LookupProtocol, LookupTerminal};
 use matrix::RowMajorMatrix;
 use std::alloc::{AllocError, Global};
 
@@ -27,7 +31,8 @@ pub struct Report {
 
 /// The report of a machine over the rows of `input`, with its alpha and its beta.
 ///
-/// Refuses a faulty line, then an input without rows, then the first fault of the auxiliary trace.
+/// Refuses a faulty line, then an input without rows, then the first fault of the first AIR that
+/// has one.
 pub fn report_of<F: Field, EF: Challenge<F>>(
     alloc: Global,
     machine: Machine,
@@ -38,18 +43,13 @@ pub fn report_of<F: Field, EF: Challenge<F>>(
         (λ report. IsReport fields machine challenges.0 challenges.1 input.now report)
         (λ e. (e ≡ RunError.Memory) ⊎ IsReportRefusal fields machine challenges.0 challenges.1 input.now e) }
 {
-    let main = read_rows::<F>(alloc, input, machine.columns())?;
-    let (trace, terminal) = match generated::<F, EF>(alloc, machine, challenges, &main) {
-        Ok(generated) => generated,
-        Err(error) => return Err(RunError::of_air(0, error)),
-    };
-    let mut terminals = Vec::new(alloc);
-    terminals.push(terminal)?;
+    let rows = read_rows::<F>(alloc, input, machine.columns())?;
+    let witness = generated::<F, EF>(alloc, machine, challenges, &rows)?;
     let balanced = LogUpGadget::new()
-        .verify_terminal_sum(terminals.as_slice())
+        .verify_terminal_sum(witness.terminals.as_slice())
         .is_ok();
     let mut text = String::new(alloc);
-    push_air(alloc, &mut text, 0, &trace, terminal)?;
+    push_witness(alloc, &mut text, &witness)?;
     text.push_str(if balanced {
         "balanced\n"
     } else {
@@ -58,35 +58,46 @@ pub fn report_of<F: Field, EF: Challenge<F>>(
     Ok(Report { text, balanced })
 }
 
-/// The auxiliary trace of a machine's AIR over its rows, and its terminal.
+/// The witness of the batch that a machine makes of the rows of its input.
 fn generated<F: Field, EF: ExtensionField<F>>(
     alloc: Global,
     machine: Machine,
     challenges: (EF, EF),
-    main: &RowMajorMatrix<F>,
-) -> Result<(RowMajorMatrix<EF>, Option<LookupTerminal<EF>>), LookupError>
-    requires { main.now.width ≡ columns_of machine }
+    input: &RowMajorMatrix<F>,
+) -> Result<Witness<EF>, RunError>
+    requires width { input.now.width ≡ columns_of machine }
+    requires rows { 0 < height input.now }
     ensures { let E = extension F.ring F.eq EF.ring EF.eq EF.embed EF.inverse in
         let alpha = challenges.0 in let beta = challenges.1 in MatchResult result
-        (λ r. (r.0 ≡ machine_trace E machine alpha beta main.now)
-        × (r.1 ≡ Some (record { 0 = machine_terminal E machine alpha beta main.now }))
-        × (machine_faults E machine alpha beta main.now ≡ []))
-        (λ e. (e ≡ LookupError.Memory) ⊎ IsAirRefusal E machine alpha beta main.now e) }
+        (λ w. (results_of w ≡ machine_witness E machine alpha beta input.now)
+        × (length w.aux.items ≡ length w.terminals.items)
+        × AreFaultless E machine alpha beta input.now)
+        (λ e. (e ≡ RunError.Memory) ⊎ IsBatchRefusal E machine alpha beta input.now e) }
 {
-    let lookups = machine.lookups::<F, EF>(alloc)?;
-    let preprocessed: Option<&RowMajorMatrix<F>> = None;
-    let public_values: Vec<F> = Vec::new(alloc);
+    let traces = air_traces::<F, EF>(alloc, machine, input)?;
+    let public_values = Vec::new(alloc);
+    let batch = batch_of(alloc, traces.as_slice(), public_values.as_slice(), &[0])?;
     let (alpha, beta) = challenges;
     let table = Challenges::new(alloc, alpha, beta, 1, 1)?;
-    let columns = table.for_columns(alloc, &[0])?;
-    LogUpGadget::new().generate_permutation(
-        alloc,
-        main,
-        preprocessed,
-        public_values.as_slice(),
-        lookups.as_slice(),
-        columns.as_slice(),
-    )
+    match generate_batch(alloc, batch.as_slice(), &table) {
+        Ok(witness) => Ok(witness),
+        Err(fault) => Err(RunError::of_batch(fault)),
+    }
+}
+
+/// Appends the lines of all AIRs.
+fn push_witness<EF: Field>(
+    alloc: Global,
+    text: &mut String,
+    witness: &Witness<EF>,
+) -> Result<(), AllocError>
+    requires { length witness.now.aux.items ≡ length witness.now.terminals.items }
+    ensures { OnOk result (string_bytes text.new ≡ string_bytes text.old ++ witness_lines EF.text (results_of witness.now)) }
+{
+    for air in 0..witness.aux.len() {
+        push_air(alloc, text, air, &witness.aux[air], witness.terminals[air])?;
+    }
+    Ok(())
 }
 
 /// Appends the lines of one AIR: its number, the rows of its auxiliary trace, and its terminal.

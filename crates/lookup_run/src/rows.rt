@@ -2,6 +2,7 @@
 ghost use Rattle.std.specs.Prelude.{◌≡◌, ◌+◌, ◌%◌, ◌<◌, ◌++◌, ◌⊎◌, IfOk, MatchResult, OnOk, length, map, vec_len};
 ghost use Rattle.std.specs.List.{list_all};
 ghost use Rattle.field.specs.Ring.{of_nat};
+ghost use Rattle.matrix.specs.Matrix.{height};
 ghost use Rattle.lookup_run.specs.Input.{AreNumbers, IsFirstRefusal, IsInput, IsInputRefusal, line_refusal};
 ghost use Rattle.lookup_run.specs.Words.{is_number, number_bound, number_of, numbers_or_zeros, words_of};
 
@@ -25,7 +26,8 @@ pub fn read_rows<F: Field>(
     columns: usize,
 ) -> Result<RowMajorMatrix<F>, RunError>
     requires { 0 < columns }
-    ensures { let bound = number_bound F.CHARACTERISTIC in MatchResult result
+    ensures some_rows { IfOk result (λ m. 0 < height m) }
+    ensures cases { let bound = number_bound F.CHARACTERISTIC in MatchResult result
         (λ m. IsInput F.ring columns bound text.now m)
         (λ e. (e ≡ RunError.Memory) ⊎ IsInputRefusal columns bound text.now e) }
 {

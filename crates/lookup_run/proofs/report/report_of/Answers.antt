@@ -14,7 +14,6 @@ returns g c =
       | then-balanced w ↦ ap (λ s. s.now) w.push_str-is ∙ ap verdict_line (sym w.if-balanced.true)
       | else-balanced w ↦ ap (λ s. s.now) w.push_str-is ∙ ap verdict_line (sym w.if-balanced.false)
     ] in
-    let read = subst (λ (columns : ℕ). IsInput fields.extension.base columns fields.bound c.args.input.now c.in_ok-main.main) c.columns.ensures.columns c.in_ok-main.ensures in
-    let terminals = c.as_slice.ensures.value ∙ after_nothing _ _ _ c.in_ok-push.ensures.items c.new-terminals.ensures.items in
-    let lines = after_nothing _ _ _ c.in_ok-push_air.ensures c.new-text.ensures.bytes in
-    report_is fields c.args.machine c.args.challenges.0 c.args.challenges.1 c.args.input.now _ _ _ _ _ _ _ _ c.push_str.new.self g.EF.PrimeCharacteristicRing.lawful read c.in-Ok.ensures terminals c.verify_terminal_sum.ensures c.is_ok-balanced.ensures.value lines verdict c.in_ok-push_str.ensures.bytes
+    let read = subst (λ (columns : ℕ). IsInput fields.extension.base columns fields.bound c.args.input.now c.in_ok-rows.rows) c.columns.ensures.columns c.in_ok-rows.ensures.cases in
+    let lines = after_nothing _ _ _ c.in_ok-push_witness.ensures c.new-text.ensures.bytes in
+    report_is fields c.args.machine c.args.challenges.0 c.args.challenges.1 c.args.input.now _ _ _ _ _ _ c.push_str.new.self read ? ? c.is_ok-balanced.ensures.value lines verdict c.in_ok-push_str.ensures.bytes

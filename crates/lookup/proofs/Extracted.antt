@@ -1,0 +1,195 @@
+-- What the lookups that are extracted from an AIR send.
+use Rattle.std.proofs.Common.{◌≡◌, ◌⊎◌, ◌<◌, ℕ, zero, suc, ◌+◌, Bool, List, [], ◌∷◌, ◌++◌, length, map, Option, None, Some, option_map, slice_get, All, inl, inr, refl, sym, ap, ap₂, arith, ◌∙◌}
+use Rattle.std.proofs.lemmas.List.{append_assoc, length-append, length-map}
+use Rattle.std.proofs.lemmas.List.Elements.{All-head, All-tail}
+use Rattle.std.specs.List.{enumerate_from, sum_by, zip}
+use Rattle.std.specs.declared.alloc.Global.{Global}
+use Rattle.std.specs.declared.vec.Vec.{Vec}
+use Rattle.field.specs.Ring.{Ring}
+use Rattle.expressions.specs.Window.{Window}
+use Rattle.expressions.specs.declared.base_expression.SymbolicExpression.{SymbolicExpression}
+use Rattle.expressions.specs.declared.layout.AirLayout.{AirLayout}
+use Rattle.lookup_model.specs.Outline.{Outline, fields_of}
+use Rattle.lookup_model.specs.Sent.{Sent, branch_at, sent, sent_at, value, values}
+use Rattle.lookup_model.specs.Trace.{sent_row_under}
+use Rattle.lookup_model.specs.declared.error.LookupError.{LookupError}
+use Rattle.lookup_model.specs.declared.types.Lookup.{Lookup}
+use Rattle.lookup_builder.specs.Interaction.{ExclusiveInteraction, GlobalInteraction, Interaction, Tuple, exclusive, global, local}
+use Rattle.lookup_record.specs.RecordedAir.{RecordedAir, no_air_recorded, with_interaction}
+use Rattle.lookup.specs.Extraction.{HasOtherWidth, IsFaultless, IsFirstLocalRefusal, IsLocalRefusal, exclusive_at, extraction, global_at, in_columns, local_at, tuple_widths}
+use Rattle.lookup.specs.Sends.{bus_and_weight, in_order, interaction_sends, interaction_tuples, lookup_bus_and_weight}
+
+module _ {E : Type 0} where
+  -- the lookup of an interaction in a column
+  abbrev outline_at : ℕ → Interaction E → Outline E
+  outline_at column (global m) = global_at column m
+  outline_at column (local tuples) = local_at column tuples
+  outline_at column (exclusive m) = exclusive_at column m
+
+  -- the lookups of interactions, in the columns from n upwards
+  abbrev outlines_from : ℕ → List (Interaction E) → List (Outline E)
+  outlines_from n interactions = in_columns outline_at n interactions
+
+  -- interactions of one kind
+  one_kind : {M : Type 0} (kind : M → Interaction E) (lookup_at : ℕ → M → Outline E) → ((column : ℕ) (m : M) → lookup_at column m ≡ outline_at column (kind m))
+      → (n : ℕ) (ms : List M) → in_columns lookup_at n ms ≡ outlines_from n (map kind ms)
+  one_kind kind lookup_at same n [] = refl
+  one_kind kind lookup_at same n (m ∷ ms) = λ i. same n m i ∷ one_kind kind lookup_at same (n + 1) ms i
+
+  -- interactions one list after another
+  outlines_append : (n : ℕ) (xs ys : List (Interaction E)) → outlines_from n (xs ++ ys) ≡ outlines_from n xs ++ outlines_from (n + length xs) ys
+  outlines_append n [] ys = ap (λ k. outlines_from k ys) (omega arith)
+  outlines_append n (x ∷ xs) ys =
+      ap (λ t. outline_at n x ∷ t) (outlines_append (n + 1) xs ys ∙ ap (λ k. outlines_from (n + 1) xs ++ outlines_from k ys) (omega arith))
+
+  -- the extraction is that of the interactions in order
+  extraction_in_order : (locals : List (List (Tuple E))) (globals : List (GlobalInteraction E)) (exclusives : List (ExclusiveInteraction E))
+      → extraction locals globals exclusives ≡ outlines_from 0 (in_order locals globals exclusives)
+  extraction_in_order locals globals exclusives =
+      (λ i. (one_kind local local_at (λ column m. refl) 0 locals i ++ one_kind global global_at (λ column m. refl) (length locals) globals i)
+      ++ one_kind exclusive exclusive_at (λ column m. refl) (length locals + length globals) exclusives i)
+      ∙ append_assoc (outlines_from 0 (map local locals)) (outlines_from (length locals) (map global globals)) (outlines_from (length locals + length globals) (map exclusive exclusives))
+      ∙ ap (λ t. outlines_from 0 (map local locals) ++ t) behind
+      ∙ sym (outlines_append 0 (map local locals) (map global globals ++ map exclusive exclusives) ∙ ap (λ k. outlines_from 0 (map local locals) ++ outlines_from k (map global globals ++ map exclusive exclusives)) (length-map locals local))
+    where
+      behind : outlines_from (length locals) (map global globals) ++ outlines_from (length locals + length globals) (map exclusive exclusives) ≡ outlines_from (length locals) (map global globals ++ map exclusive exclusives)
+      behind =
+          sym (outlines_append (length locals) (map global globals) (map exclusive exclusives)
+          ∙ ap (λ k. outlines_from (length locals) (map global globals) ++ outlines_from (length locals + k) (map exclusive exclusives)) (length-map globals global))
+
+-- pairs with a map of the first items
+zip_mapped : {A B C D : Type 0} (f : A → B) (g : B → C → D) (xs : List A) (ys : List C) → map (λ p. g (f p.0) p.1) (zip xs ys) ≡ map (λ p. g p.0 p.1) (zip (map f xs) ys)
+zip_mapped f g [] ys = refl
+zip_mapped f g (x ∷ xs) [] = refl
+zip_mapped f g (x ∷ xs) (y ∷ ys) = ap (λ t. g (f x) y ∷ t) (zip_mapped f g xs ys)
+
+-- pairs of two maps of one list
+zip_of_maps : {T A B C : Type 0} (f : T → A) (g : T → B) (h : A → B → C) (ts : List T) → map (λ p. h p.0 p.1) (zip (map f ts) (map g ts)) ≡ map (λ t. h (f t) (g t)) ts
+zip_of_maps f g h [] = refl
+zip_of_maps f g h (t ∷ ts) = ap (λ r. h (f t) (g t) ∷ r) (zip_of_maps f g h ts)
+
+-- a map of a map
+map_twice : {A B C : Type 0} (f : A → B) (g : B → C) (xs : List A) → map g (map f xs) ≡ map (λ x. g (f x)) xs
+map_twice f g [] = refl
+map_twice f g (x ∷ xs) = ap (λ t. g (f x) ∷ t) (map_twice f g xs)
+
+module _ {F : Type 0} (R : Ring F) (eq : F → F → Bool) (w : Window F) where
+  -- what the fields of a lookup send under an id
+  abbrev outline_sends : ℕ → Outline (SymbolicExpression F) → Sent F
+  outline_sends id o =
+      sent R eq (option_map (values R w) o.flags) (map (λ p. branch_at R w id p.0 p.1) (zip o.elements o.multiplicities))
+
+  -- the values of the flags, which may be absent
+  flags_seen : (flags : Option (Vec (SymbolicExpression F) Global)) → option_map (λ flags. values R w flags.items) flags ≡ option_map (values R w) (option_map (λ flags. flags.items) flags)
+  flags_seen None = refl
+  flags_seen (Some flags) = refl
+
+  -- a lookup sends what its fields say
+  sent_by_fields : (id : ℕ) (l : Lookup F) → sent_at R eq w id l ≡ outline_sends id (fields_of l)
+  sent_by_fields id l =
+      ap₂ (sent R eq) (flags_seen l.flags) (zip_mapped (λ tuple. tuple.items) (branch_at R w id) l.elements.items l.multiplicities.items)
+
+  -- the lookup of an interaction sends what the interaction does
+  outline_sends_pushed : (id column : ℕ) (m : Interaction (SymbolicExpression F)) → outline_sends id (outline_at column m) ≡ interaction_sends R eq (value R w) id m
+  outline_sends_pushed id column (global m) = refl
+  outline_sends_pushed id column (local tuples) =
+      ap (sent R eq None) (zip_of_maps (λ t. t.fields) (λ t. t.count) (branch_at R w id) tuples)
+  outline_sends_pushed id column (exclusive m) =
+      ap₂ (λ flags messages. sent R eq (Some flags) messages) (map_twice (λ b. b.flag) (value R w) m.branches)
+          (zip_of_maps (λ b. b.fields) (λ b. b.count) (branch_at R w id) m.branches)
+
+  -- what lookups with the fields of these interactions send, each under the id of its column
+  sent_from : (id : ℕ → ℕ) (n : ℕ) (lookups : List (Lookup F)) (interactions : List (Interaction (SymbolicExpression F))) → map fields_of lookups ≡ outlines_from n interactions
+      → sent_row_under R eq (λ l. id l.column) w lookups ≡ map (λ p. interaction_sends R eq (value R w) (id p.0) p.1) (enumerate_from n interactions)
+  sent_from id n [] [] same = refl
+  sent_from id n [] (m ∷ ms) same = absurd (cc same)
+  sent_from id n (l ∷ ls) [] same = absurd (cc same)
+  sent_from id n (l ∷ ls) (m ∷ ms) same =
+      let first : fields_of l ≡ outline_at n m = cc same in
+      let rest : map fields_of ls ≡ outlines_from (n + 1) ms = cc same in
+      let column : l.column ≡ n = ap (λ o. o.column) first ∙ column_is n m in
+      let here : sent_at R eq w (id l.column) l ≡ interaction_sends R eq (value R w) (id n) m =
+      sent_by_fields (id l.column) l ∙ (λ i. outline_sends (id (column i)) (first i)) ∙ outline_sends_pushed (id n) n m in
+      λ i. here i ∷ sent_from id (n + 1) ls ms rest i
+    where
+      column_is : (k : ℕ) (m : Interaction (SymbolicExpression F)) → (outline_at k m).column ≡ k
+      column_is k (global m) = refl
+      column_is k (local tuples) = refl
+      column_is k (exclusive m) = refl
+
+-- lookups that are extracted from interactions send, at each window, what the interactions do, in
+-- order, each under the id of its column
+pub extracted_send : {F : Type 0} (R : Ring F) (eq : F → F → Bool) (id : ℕ → ℕ) (lookups : List (Lookup F)) (locals : List (List (Tuple (SymbolicExpression F)))) (globals : List (GlobalInteraction (SymbolicExpression F))) (exclusives : List (ExclusiveInteraction (SymbolicExpression F)))
+    → map fields_of lookups ≡ extraction locals globals exclusives
+    → (w : Window F) → sent_row_under R eq (λ l. id l.column) w lookups ≡ map (λ p. interaction_sends R eq (value R w) (id p.0) p.1) (enumerate_from 0 (in_order locals globals exclusives))
+extracted_send R eq id lookups locals globals exclusives same w =
+    sent_from R eq w id 0 lookups (in_order locals globals exclusives) (same ∙ extraction_in_order locals globals exclusives)
+
+-- the bus and the weight of an outline
+abbrev outline_bus_and_weight : {E : Type 0} → Outline E → Option (List ℕ) × ℕ
+outline_bus_and_weight o = (o.bus, o.count_weight)
+
+-- those of the lookups of interactions
+kinds_from : {E : Type 0} (n : ℕ) (interactions : List (Interaction E)) → map outline_bus_and_weight (outlines_from n interactions) ≡ map bus_and_weight interactions
+kinds_from n [] = refl
+kinds_from n (global m ∷ ms) = ap (λ t. bus_and_weight (global m) ∷ t) (kinds_from (n + 1) ms)
+kinds_from n (local tuples ∷ ms) = ap (λ t. bus_and_weight (local tuples) ∷ t) (kinds_from (n + 1) ms)
+kinds_from n (exclusive m ∷ ms) = ap (λ t. bus_and_weight (exclusive m) ∷ t) (kinds_from (n + 1) ms)
+
+-- lookups that are extracted from interactions have their buses and weights, in order
+pub extracted_kinds : {F : Type 0} (lookups : List (Lookup F)) (locals : List (List (Tuple (SymbolicExpression F)))) (globals : List (GlobalInteraction (SymbolicExpression F))) (exclusives : List (ExclusiveInteraction (SymbolicExpression F)))
+    → map fields_of lookups ≡ extraction locals globals exclusives → map lookup_bus_and_weight lookups ≡ map bus_and_weight (in_order locals globals exclusives)
+extracted_kinds lookups locals globals exclusives same =
+    sym (map_twice fields_of outline_bus_and_weight lookups)
+    ∙ ap (map outline_bus_and_weight) (same ∙ extraction_in_order locals globals exclusives)
+    ∙ kinds_from 0 (in_order locals globals exclusives)
+
+-- the tuples of the lookups of interactions
+tuples_from : {E : Type 0} (n : ℕ) (interactions : List (Interaction E)) → map (λ o. o.elements) (outlines_from n interactions) ≡ map interaction_tuples interactions
+tuples_from n [] = refl
+tuples_from n (global m ∷ ms) = ap (λ t. interaction_tuples (global m) ∷ t) (tuples_from (n + 1) ms)
+tuples_from n (local tuples ∷ ms) = ap (λ t. interaction_tuples (local tuples) ∷ t) (tuples_from (n + 1) ms)
+tuples_from n (exclusive m ∷ ms) = ap (λ t. interaction_tuples (exclusive m) ∷ t) (tuples_from (n + 1) ms)
+
+-- lookups that are extracted from interactions have their tuples, in order
+pub extracted_tuples : {F : Type 0} (lookups : List (Lookup F)) (locals : List (List (Tuple (SymbolicExpression F)))) (globals : List (GlobalInteraction (SymbolicExpression F))) (exclusives : List (ExclusiveInteraction (SymbolicExpression F)))
+    → map fields_of lookups ≡ extraction locals globals exclusives → map (λ l. (fields_of l).elements) lookups ≡ map interaction_tuples (in_order locals globals exclusives)
+extracted_tuples lookups locals globals exclusives same =
+    sym (map_twice fields_of (λ o. o.elements) lookups)
+    ∙ ap (map (λ o. o.elements)) (same ∙ extraction_in_order locals globals exclusives)
+    ∙ tuples_from 0 (in_order locals globals exclusives)
+
+-- where one interaction was pushed into a new builder, it is the only one
+pub one_in_order : {F EF : Type 0} (layout : AirLayout) (m : Interaction (SymbolicExpression F)) (r : RecordedAir F EF) → r ≡ with_interaction (no_air_recorded layout) m → in_order r.locals r.globals r.exclusives ≡ m ∷ []
+one_in_order layout (global m) r is = ap (λ r. in_order r.locals r.globals r.exclusives) is
+one_in_order layout (local tuples) r is = ap (λ r. in_order r.locals r.globals r.exclusives) is
+one_in_order layout (exclusive m) r is = ap (λ r. in_order r.locals r.globals r.exclusives) is
+
+module _ {E : Type 0} where
+  -- widths of tuples of one width have no other
+  one_width : (tuples : List (Tuple E)) (width other k : ℕ) → All (λ t. length t.fields ≡ width) tuples → slice_get (tuple_widths tuples) k ≡ Some other → other ≡ width
+  one_width [] width other k all found = absurd (cc found)
+  one_width (t ∷ ts) width other zero all found =
+      let here : length t.fields ≡ other = cc found in
+      sym here ∙ All-head (λ t. length t.fields ≡ width) t ts all
+  one_width (t ∷ ts) width other (suc k) all found = one_width ts width other k (All-tail (λ t. length t.fields ≡ width) t ts all) found
+
+  -- a local lookup without a fault is not refused
+  not_refused : (tuples : List (Tuple E)) (e : LookupError) → IsFaultless tuples → ¬ IsLocalRefusal tuples e
+  not_refused tuples e faultless (inl (heavy, is)) = absurd (omega (arith, heavy, faultless.weight))
+  not_refused tuples e faultless (inr (light, (width, other, has, is))) =
+      has.differs (one_width tuples faultless.width other has.place faultless.widths has.found ∙ sym (one_width tuples faultless.width width 0 faultless.widths has.first))
+
+  -- none of several is
+  pub none_refused : (locals : List (List (Tuple E))) (e : LookupError) → All IsFaultless locals → ¬ IsFirstLocalRefusal locals e
+  none_refused locals e all first = by_list locals first.before all first.split
+    where
+      by_list : (locals before : List (List (Tuple E))) → All IsFaultless locals → locals ≡ before ++ first.tuples ∷ first.after → ⊥
+      by_list [] [] all split = absurd (cc split)
+      by_list [] (b ∷ before) all split = absurd (cc split)
+      by_list (l ∷ ls) [] all split =
+          let same : l ≡ first.tuples = cc split in
+          not_refused first.tuples e (rw (sym same) (All-head IsFaultless l ls all)) first.refusal
+      by_list (l ∷ ls) (b ∷ before) all split =
+          let rest : ls ≡ before ++ first.tuples ∷ first.after = cc split in
+          by_list ls before (All-tail IsFaultless l ls all) rest
