@@ -50,8 +50,11 @@ module _ {E : Type 0} where
       ++ one_kind exclusive exclusive_at (λ column m. refl) (length locals + length globals) exclusives i)
       ∙ append_assoc (outlines_from 0 (map local locals)) (outlines_from (length locals) (map global globals)) (outlines_from (length locals + length globals) (map exclusive exclusives))
       ∙ ap (λ t. outlines_from 0 (map local locals) ++ t) behind
-      ∙ sym (outlines_append 0 (map local locals) (map global globals ++ map exclusive exclusives) ∙ ap (λ k. outlines_from 0 (map local locals) ++ outlines_from k (map global globals ++ map exclusive exclusives)) (length-map locals local))
+      ∙ sym (outlines_append 0 (map local locals) (map global globals ++ map exclusive exclusives) ∙ ap (λ k. outlines_from 0 (map local locals) ++ outlines_from k (map global globals ++ map exclusive exclusives)) counted)
     where
+      counted : 0 + length (map local locals) ≡ length locals
+      counted = omega (arith, length-map locals local)
+
       behind : outlines_from (length locals) (map global globals) ++ outlines_from (length locals + length globals) (map exclusive exclusives) ≡ outlines_from (length locals) (map global globals ++ map exclusive exclusives)
       behind =
           sym (outlines_append (length locals) (map global globals) (map exclusive exclusives)
