@@ -1,8 +1,8 @@
 -- What the lookups that are extracted from an AIR send.
-use Rattle.std.proofs.Common.{◌≡◌, ◌⊎◌, ◌<◌, ℕ, zero, suc, ◌+◌, Bool, List, [], ◌∷◌, ◌++◌, length, map, Option, None, Some, option_map, slice_get, All, inl, inr, refl, sym, ap, ap₂, arith, ◌∙◌}
-use Rattle.std.proofs.lemmas.List.{append_assoc, length-append, length-map}
+use Rattle.std.proofs.Common.{◌≡◌, ℕ, zero, suc, ◌+◌, Bool, List, [], ◌∷◌, ◌++◌, length, map, Option, None, Some, option_map, slice_get, All, inl, inr, refl, sym, ap, ap₂, arith, ◌∙◌}
+use Rattle.std.proofs.lemmas.List.{append_assoc, length-map}
 use Rattle.std.proofs.lemmas.List.Elements.{All-head, All-tail}
-use Rattle.std.specs.List.{enumerate_from, sum_by, zip}
+use Rattle.std.specs.List.{enumerate_from, zip}
 use Rattle.std.specs.declared.alloc.Global.{Global}
 use Rattle.std.specs.declared.vec.Vec.{Vec}
 use Rattle.field.specs.Ring.{Ring}
@@ -16,7 +16,7 @@ use Rattle.lookup_model.specs.declared.error.LookupError.{LookupError}
 use Rattle.lookup_model.specs.declared.types.Lookup.{Lookup}
 use Rattle.lookup_builder.specs.Interaction.{ExclusiveInteraction, GlobalInteraction, Interaction, Tuple, exclusive, global, local}
 use Rattle.lookup_record.specs.RecordedAir.{RecordedAir, no_air_recorded, with_interaction}
-use Rattle.lookup.specs.Extraction.{HasOtherWidth, IsFaultless, IsFirstLocalRefusal, IsLocalRefusal, exclusive_at, extraction, global_at, in_columns, local_at, tuple_widths}
+use Rattle.lookup.specs.Extraction.{IsFaultless, IsFirstLocalRefusal, IsLocalRefusal, exclusive_at, extraction, global_at, in_columns, local_at, tuple_widths}
 use Rattle.lookup.specs.Sends.{bus_and_weight, in_order, interaction_sends, interaction_tuples, lookup_bus_and_weight}
 
 module _ {E : Type 0} where
@@ -99,7 +99,7 @@ module _ {F : Type 0} (R : Ring F) (eq : F → F → Bool) (w : Window F) where
       ap (sent R eq None) (zip_of_maps (λ t. t.fields) (λ t. t.count) (branch_at R w id) tuples)
   outline_sends_pushed id column (exclusive m) =
       ap₂ (λ flags messages. sent R eq (Some flags) messages) (map_twice (λ b. b.flag) (value R w) m.branches)
-          (zip_of_maps (λ b. b.fields) (λ b. b.count) (branch_at R w id) m.branches)
+      (zip_of_maps (λ b. b.fields) (λ b. b.count) (branch_at R w id) m.branches)
 
   -- what lookups with the fields of these interactions send, each under the id of its column
   sent_from : (id : ℕ → ℕ) (n : ℕ) (lookups : List (Lookup F)) (interactions : List (Interaction (SymbolicExpression F))) → map fields_of lookups ≡ outlines_from n interactions

@@ -1,5 +1,5 @@
 -- What the AIRs of the machines push sends what the machine says.
-use Rattle.std.proofs.Common.{◌≡◌, ◌⊎◌, ℕ, Bool, List, [], ◌∷◌, codes, length, map, slice_index_or, None, Some, All, Result, Ok, Err, MatchResult, inl, inr, subst, sym, ap, ap₂, arith, ◌∙◌}
+use Rattle.std.proofs.Common.{◌≡◌, ℕ, Bool, List, [], ◌∷◌, codes, length, map, slice_index_or, None, Some, All, OnOk, Result, Ok, Err, MatchResult, inl, inr, max, refl, subst, sym, ap, ap₂, arith, ◌∙◌}
 use Rattle.std.proofs.lemmas.List.Elements.{All-cons, All-nil}
 use Rattle.std.proofs.lemmas.Option.{get_or_from_slice_get}
 use Rattle.std.specs.declared.alloc.Global.{Global}
@@ -25,6 +25,11 @@ module _ {B M : Type 0} (pushes : B → M → B → Type 0) (refuses : B → M �
   pub pushes_this : (m : M) (answer : Result (Unit {0}) AirError) → Q m → MatchResult answer (λ _. pushes before m after) (λ e. refuses before m e after) → PushesOne pushes refuses Q before answer after
   pushes_this m (Ok u) is pushed = (m, is, pushed)
   pushes_this m (Err e) is refused = inr (m, is, refused)
+
+-- what follows from what holds of an accepted answer
+pub on_ok_weaker : (answer : Result (Unit {0}) AirError) (P Q : Type 0) → OnOk answer P → (P → Q) → OnOk answer Q
+on_ok_weaker (Ok u) P Q is so = so is
+on_ok_weaker (Err e) P Q is so = tt
 
 -- a list whose image is one item has one item
 pub one_item : {A B : Type 0} (f : A → B) (xs : List A) (y : B) → map f xs ≡ y ∷ [] → (x : A) × (xs ≡ x ∷ []) × (f x ≡ y)

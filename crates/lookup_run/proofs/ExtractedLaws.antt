@@ -1,5 +1,5 @@
 -- The lookups that are extracted from the AIRs of the machines.
-use Rattle.std.proofs.Common.{◌≡◌, ◌⊎◌, ◌<◌, ℕ, Bool, List, [], ◌∷◌, length, map, Option, All, Result, Ok, Err, IfOk, OnOk, MatchResult, inl, inr, subst, sym, ap, arith, ◌∙◌}
+use Rattle.std.proofs.Common.{◌≡◌, ◌<◌, Bool, [], ◌∷◌, length, map, All, Result, Ok, Err, IfOk, OnOk, MatchResult, inl, inr, subst, sym, ap, arith, ◌∙◌}
 use Rattle.std.proofs.lemmas.List.Elements.{All-cons, All-nil}
 use Rattle.std.specs.List.{enumerate_from, sum_by}
 use Rattle.field.specs.Ring.{Ring}
@@ -14,28 +14,26 @@ use Rattle.lookup_model.specs.Outline.{fields_of}
 use Rattle.lookup_model.specs.Records.{DoFit}
 use Rattle.lookup_model.specs.Refusal.{from_air}
 use Rattle.lookup_model.specs.Sent.{value}
-use Rattle.lookup_model.specs.Trace.{sent_row_under}
 use Rattle.lookup_model.specs.declared.error.LookupError.{LookupError}
 use Rattle.lookup_model.specs.declared.error.LookupError.TheVariants.{Memory}
-use Rattle.lookup_model.specs.declared.types.Lookup.{Lookup}
 use Rattle.lookup_builder.proofs.Elements.{all_of_map}
-use Rattle.lookup_builder.specs.Interaction.{Interaction, Tuple, exclusive, global, local}
+use Rattle.lookup_builder.specs.Interaction.{Interaction, exclusive, global, local}
 use Rattle.lookup_record.specs.RecordedAir.{EvaluatesNew, RecordedAir, no_air_recorded, recorded_air, with_interaction}
 use Rattle.lookup_record.specs.RecordedWithin.{EvaluatesWithin, PushedWithin}
 use Rattle.lookup_record.specs.declared.symbolic.InteractionSymbolicBuilder.{InteractionSymbolicBuilder}
 use Rattle.lookup.specs.Extraction.{Extracts, IsFaultless, extraction}
 use Rattle.lookup.specs.Lookups.{lookups_of}
-use Rattle.lookup.specs.Sends.{bus_and_weight, in_order, interaction_sends, interaction_tuples, lookup_bus_and_weight}
+use Rattle.lookup.specs.Sends.{bus_and_weight, in_order, interaction_sends, interaction_tuples}
 use Rattle.lookup.specs.declared.lookups.Lookups.{Lookups}
 use Rattle.lookup.proofs.Extracted.{extracted_kinds, extracted_send, extracted_tuples, none_refused, one_in_order}
-use Rattle.lookup_run.specs.Machines.{AreLookupsOf, DoesSend, air_bus_and_weight, air_sends, width_of}
-use Rattle.lookup_run.specs.Pushes.{Evaluates, IsCellRefusal, IsRefusedBefore}
+use Rattle.lookup_run.specs.Machines.{AreLookupsOf, DoesSend, air_bus_and_weight, width_of}
+use Rattle.lookup_run.specs.Pushes.{Evaluates, IsCellRefusal}
 use Rattle.lookup_run.specs.declared.airs.MachineAir.{MachineAir}
 use Rattle.lookup_run.specs.declared.airs.MachineAir.TheVariants.{Entries, Group, Keys, RangeCheck}
 use Rattle.lookup_run.proofs.AirLaws.{one_item}
 
 -- the weight of an AIR's lookup is small
-light : (air : MachineAir) → air_bus_and_weight air .1 < 4294967296
+light : (air : MachineAir) → (air_bus_and_weight air).1 < 4294967296
 light RangeCheck = omega arith
 light Keys = omega arith
 light Entries = omega arith
@@ -136,7 +134,7 @@ module _ (F EF : Type 0) (R : Ring F) (eq : F → F → Bool) (air : MachineAir)
   locals_faultless stands (global m) r is sends = rw (ap (λ r. r.locals) is) (All-nil IsFaultless)
   locals_faultless stands (exclusive m) r is sends = rw (ap (λ r. r.locals) is) (All-nil IsFaultless)
   locals_faultless stands (local tuples) r is sends =
-      let weight : sum_by (λ t. t.weight) tuples ≡ air_bus_and_weight air .1 = ap (λ k. k.1) sends.kind in
+      let weight : sum_by (λ t. t.weight) tuples ≡ (air_bus_and_weight air).1 = ap (λ k. k.1) sends.kind in
       let faultless : IsFaultless tuples = record {
         weight = omega (arith, weight, light air);
         width = 1;

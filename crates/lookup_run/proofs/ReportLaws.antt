@@ -1,24 +1,18 @@
 -- The lines that are printed so far.
 use Rattle.std.proofs.Common.{◌≡◌, ◌++◌, ◌+◌, ◌<◌, ℕ, zero, suc, List, [], ◌∷◌, Option, codes, get_or, length, take, refl, sym, ap, arith, append_assoc, ◌∙◌}
 use Rattle.std.proofs.lemmas.Grind.{flat_map-append}
-use Rattle.std.proofs.lemmas.List.FromFn.{map-range_with_len_more}
 use Rattle.std.specs.List.{enumerate_from, flat_map, range_with_len, zip}
-use Rattle.std.proofs.lemmas.List.{append-nil, length-take-le, map-id, take_more}
+use Rattle.std.proofs.lemmas.List.{append-nil, length-take-le, take_more}
 use Rattle.matrix.specs.Matrix.{Matrix}
 use Rattle.lookup_model.specs.declared.types.LookupTerminal.{LookupTerminal}
 use Rattle.lookup_run.specs.Report.{air_lines, witness_lines}
-
--- one line more
-pub more_lines : (line : ℕ → List ℕ) (n : ℕ) → flat_map line (range_with_len 0 (n + 1)) ≡ flat_map line (range_with_len 0 n) ++ line n
-more_lines line n =
-    ap (flat_map line) (sym (map-id (range_with_len 0 (n + 1))) ∙ map-range_with_len_more (λ x. x) 0 n n (omega arith) ∙ ap (λ t. t ++ n ∷ []) (map-id (range_with_len 0 n)))
-    ∙ (flat_map-append line (range_with_len 0 n) (n ∷ []) ∙ ap (λ t. flat_map line (range_with_len 0 n) ++ t) (append-nil (line n)))
+use Rattle.lookup_run.proofs.TraceLaws.{more_parts}
 
 -- a text to which the line of the next row is appended has one row's line more
 pub appended_line : (line : ℕ → List ℕ) (n : ℕ) (old before air after : List ℕ) → before ≡ old ++ (codes "air " ++ (air ++ (codes "\n" ++ flat_map line (range_with_len 0 n)))) → after ≡ before ++ line n
     → after ≡ old ++ (codes "air " ++ (air ++ (codes "\n" ++ flat_map line (range_with_len 0 (n + 1)))))
 appended_line line n old before air after is appended =
-    rw (more_lines line n) (appended ∙ ap (λ t. t ++ line n) is
+    rw (more_parts line n) (appended ∙ ap (λ t. t ++ line n) is
     ∙ (append_assoc old _ (line n)
     ∙ ap (λ t. old ++ t) (append_assoc (codes "air ") _ (line n) ∙ ap (λ t. codes "air " ++ t) (append_assoc air _ (line n) ∙ ap (λ t. air ++ t) (append_assoc (codes "\n") _ (line n))))))
 
@@ -38,7 +32,7 @@ zip_at (a ∷ xs) (b ∷ ys) (suc i) x y same lt first second = zip_at xs ys i x
 pub length_zip : {A B : Type 0} (xs : List A) (ys : List B) → length xs ≡ length ys → length (zip xs ys) ≡ length xs
 length_zip [] ys same = refl
 length_zip (x ∷ xs) [] same = absurd (omega (arith, same))
-length_zip (x ∷ xs) (y ∷ ys) same = ap (λ n. n + 1) (length_zip xs ys (omega (arith, same)))
+length_zip (x ∷ xs) (y ∷ ys) same = ap suc (length_zip xs ys (omega (arith, same)))
 
 module _ {K : Type 0} (text : K → List ℕ) where
   -- the lines of one more AIR
@@ -50,10 +44,10 @@ module _ {K : Type 0} (text : K → List ℕ) where
       let long : length (zip aux terminals) ≡ length aux = length_zip aux terminals same in
       let longer : take (air + 1) (zip aux terminals) ≡ take air (zip aux terminals) ++ (trace, terminal) ∷ [] =
       take_more (zip aux terminals) air (trace, terminal) (omega (arith, long, lt)) ∙ ap (λ p. take air (zip aux terminals) ++ p ∷ []) (sym (zip_at aux terminals air trace terminal same lt trace_is terminal_is)) in
-      let placed : length (take air (zip aux terminals)) ≡ air = length-take-le air (zip aux terminals) (omega (arith, long, lt)) in
+      let placed : 0 + length (take air (zip aux terminals)) ≡ air = omega (arith, length-take-le air (zip aux terminals) (omega (arith, long, lt))) in
       let one : witness_lines text (take (air + 1) (zip aux terminals)) ≡ witness_lines text (take air (zip aux terminals)) ++ air_lines text air trace terminal =
       ap (witness_lines text) longer
       ∙ ap (flat_map (λ p. air_lines text p.0 p.1.0 p.1.1)) (enumerate_push 0 (take air (zip aux terminals)) (trace, terminal))
-      ∙ flat_map-append (λ p. air_lines text p.0 p.1.0 p.1.1) (enumerate_from 0 (take air (zip aux terminals))) ((length (take air (zip aux terminals)), (trace, terminal)) ∷ [])
-      ∙ ap (λ t. witness_lines text (take air (zip aux terminals)) ++ t) (append-nil (air_lines text (length (take air (zip aux terminals))) trace terminal) ∙ ap (λ n. air_lines text n trace terminal) placed) in
+      ∙ flat_map-append (λ p. air_lines text p.0 p.1.0 p.1.1) (enumerate_from 0 (take air (zip aux terminals))) ((0 + length (take air (zip aux terminals)), (trace, terminal)) ∷ [])
+      ∙ ap (λ t. witness_lines text (take air (zip aux terminals)) ++ t) (append-nil (air_lines text (0 + length (take air (zip aux terminals))) trace terminal) ∙ ap (λ n. air_lines text n trace terminal) placed) in
       more ∙ ap (λ t. t ++ air_lines text air trace terminal) so_far ∙ append_assoc old (witness_lines text (take air (zip aux terminals))) (air_lines text air trace terminal) ∙ ap (λ t. old ++ t) (sym one)

@@ -35,20 +35,20 @@ cancels sum zero (Err e) (is, other) = (λ none. absurd (cc none), λ same. absu
 
 module _ {F K : Type 0} (fields : Fields F K) (machine : Machine) (alpha beta : K) (input : List ℕ) (rows : Matrix F) where
   -- the report of rows without a fault
-  pub report_is : (w : Witness K) (cancel : Result (Unit {0}) LookupError) (balanced : Bool) (lines verdict : List ℕ) (text : String Global)
+  pub report_is : (w : Witness K) (terminals : List (Option (LookupTerminal K))) (cancel : Result (Unit {0}) LookupError) (balanced : Bool) (lines verdict : List ℕ) (text : String Global)
       → IsInput fields.extension.base (columns_of machine) fields.bound input rows
       → (results_of w ≡ machine_witness fields.extension machine alpha beta rows) × (length w.aux.items ≡ length w.terminals.items) × AreFaultless fields.extension machine alpha beta rows
-      → MatchResult cancel (λ _. terminal_sum fields.extension.ring w.terminals.items ≡ fields.extension.ring.zero) (λ e. (e ≡ TerminalSumNonZero) × (terminal_sum fields.extension.ring w.terminals.items ≢ fields.extension.ring.zero))
+      → terminals ≡ w.terminals.items → MatchResult cancel (λ _. terminal_sum fields.extension.ring terminals ≡ fields.extension.ring.zero) (λ e. (e ≡ TerminalSumNonZero) × (terminal_sum fields.extension.ring terminals ≢ fields.extension.ring.zero))
       → balanced ≡ is_ok cancel → lines ≡ witness_lines fields.text (results_of w) → verdict ≡ verdict_line balanced → string_bytes text ≡ lines ++ verdict
       → IsReport fields machine alpha beta input (record { text = text; balanced = balanced })
-  report_is w cancel balanced lines verdict text read made sum is lines_are verdict_is text_is = record {
+  report_is w terminals cancel balanced lines verdict text read made are sum is lines_are verdict_is text_is = record {
     rows = rows;
     read = read;
     faultless = made.2;
     balanced =
         let S = fields.extension.ring in
-        let terminals : w.terminals.items ≡ map (λ r. r.1) (machine_witness fields.extension machine alpha beta rows) = sym (seconds w.aux.items w.terminals.items made.1) ∙ ap (map (λ r. r.1)) made.0 in
-        let told : IsTrue (is_ok cancel) ↔ (terminal_sum S w.terminals.items ≡ S.zero) = cancels (terminal_sum S w.terminals.items) S.zero cancel sum in
-        rw is (subst (λ (ts : List (Option (LookupTerminal K))). IsTrue (is_ok cancel) ↔ (terminal_sum S ts ≡ S.zero)) terminals told);
+        let same : terminals ≡ map (λ r. r.1) (machine_witness fields.extension machine alpha beta rows) = are ∙ sym (seconds w.aux.items w.terminals.items made.1) ∙ ap (map (λ r. r.1)) made.0 in
+        let told : IsTrue (is_ok cancel) ↔ (terminal_sum S terminals ≡ S.zero) = cancels (terminal_sum S terminals) S.zero cancel sum in
+        rw is (subst (λ (ts : List (Option (LookupTerminal K))). IsTrue (is_ok cancel) ↔ (terminal_sum S ts ≡ S.zero)) same told);
     text = text_is ∙ ap₂ (λ a b. a ++ b) (lines_are ∙ ap (witness_lines fields.text) made.0) verdict_is;
   }

@@ -101,7 +101,7 @@ impl<AB: InteractionBuilder> Air<AB> for MachineAir {
     }
 
     ghost keeps_layout = { λ air before after h.
-        let pushed = pushed_if_accepted _ AB.window_refuses AB.layout (width_of air) before after h.0 in
+        let pushed = pushed_if_accepted AB.pushes AB.refuses_push AB.window_refuses AB.layout _ (width_of air) before after h.0 in
         AB.push_keeps_layout before pushed.0 after pushed.2 };
 }
 

@@ -1,31 +1,23 @@
-use Rattle.std.proofs.Common.{◌≡◌, ◌++◌, ◌∷◌, [], List, map, ap, subst, sym, ◌∙◌}
+use Rattle.std.proofs.Common.{◌++◌, ◌∷◌, [], List, map, ap, subst, sym, ◌∙◌}
 use Rattle.std.proofs.lemmas.List.Elements.{All-cons, All-nil}
 use Rattle.lookup_builder.specs.Interaction.{Tuple, local}
 use Rattle.lookup_builder.specs.Pushed.{pushed_local, tuple_of}
 use Rattle.lookup_builder.specs.Within.{IsWithin, TupleWithin}
-use Rattle.lookup_run.proofs.MachineLaws.{of_nat-one}
+use Rattle.lookup_run.proofs.AirLaws.{range_does_send}
+use Rattle.lookup_run.proofs.CellLaws.{of_nat-one}
 use Rattle.lookup_run.proofs.airs.range_tuples.Goals as goal
 
-pub returns-clause-range : goal.returns-clause-range
-returns-clause-range g c =
+pub returns-clause-sends : goal.returns-clause-sends
+returns-clause-sends g c =
     let count = c.from_i32.result in
     let taken = c.provided-provided.ensures in
     let items = c.in_ok-push-2.ensures.items ∙ ap (λ (l : List _). l ++ (c.in_ok-tuple-2.field-0, c.provided-provided.result) ∷ []) (c.in_ok-push.ensures.items ∙ ap (λ (l : List _). l ++ (c.in_ok-tuple.field-0, count) ∷ []) c.new-tuples.ensures.items) in
-    record {
-      read = c.in_ok-tuple.field-0.items;
-      provided = c.in_ok-tuple-2.field-0.items;
-      once = count.expression;
-      times = c.in_ok-neg.field-0;
-      message =
-          ap (λ (l : List _). local (map tuple_of l)) items
-          ∙ (λ i. local (record { fields = c.in_ok-tuple.field-0.items; count = count.expression; weight = c.from_i32.ensures.weight i } ∷ record { fields = c.in_ok-tuple-2.field-0.items; count = (taken i).expression; weight = (taken i).weight } ∷ []));
-      reads = c.in_ok-tuple.ensures.tuple;
-      provides = c.in_ok-tuple-2.ensures.tuple;
-      counts_once = λ w. c.from_i32.ensures.means (g.AB.AirBuilder.seen w) ∙ of_nat-one g.AB.F.PrimeCharacteristicRing.lawful;
-      counts_times = λ w v stands there.
-          let same : g.AB.Expr.Expression.value c.in_ok-cell.field-0 (g.AB.AirBuilder.seen w) ≡ v = cc (sym (c.in_ok-cell.ensures.cell w stands) ∙ there) in
-          c.in_ok-neg.ensures.means (g.AB.AirBuilder.seen w) ∙ ap g.AB.F.PrimeCharacteristicRing.ring.neg same;
-    }
+    let message = ap (λ (l : List _). local (map tuple_of l)) items
+    ∙ (λ i. local (record { fields = c.in_ok-tuple.field-0.items; count = count.expression; weight = c.from_i32.ensures.weight i } ∷ record { fields = c.in_ok-tuple-2.field-0.items; count = (taken i).expression; weight = (taken i).weight } ∷ [])) in
+    range_does_send g.AB.F.PrimeCharacteristicRing.ring g.AB.F.PartialEq.eq g.AB.Expr.Expression.value g.AB.AirBuilder.seen (g.AB.AirBuilder.stands_for c.args.builder.now) (λ w. w.main)
+    c.in_ok-tuple.field-0.items c.in_ok-tuple-2.field-0.items count.expression c.in_ok-cell.field-0 c.in_ok-neg.field-0 _ message
+    c.in_ok-tuple.ensures.tuple c.in_ok-tuple-2.ensures.tuple c.in_ok-cell.ensures.cell
+    (λ s. c.from_i32.ensures.means s ∙ of_nat-one g.AB.F.PrimeCharacteristicRing.lawful) (λ s. c.in_ok-neg.ensures.means s)
 
 pub returns-clause-within : goal.returns-clause-within
 returns-clause-within g c =

@@ -16,4 +16,4 @@ returns g c =
     ] in
     let read = subst (λ (columns : ℕ). IsInput fields.extension.base columns fields.bound c.args.input.now c.in_ok-rows.rows) c.columns.ensures.columns c.in_ok-rows.ensures.cases in
     let lines = after_nothing _ _ _ c.in_ok-push_witness.ensures c.new-text.ensures.bytes in
-    report_is fields c.args.machine c.args.challenges.0 c.args.challenges.1 c.args.input.now _ _ _ _ _ _ c.push_str.new.self read ? ? c.is_ok-balanced.ensures.value lines verdict c.in_ok-push_str.ensures.bytes
+    report_is fields c.args.machine c.args.challenges.0 c.args.challenges.1 c.args.input.now c.in_ok-rows.rows c.in_ok-witness.witness c.as_slice.result.now c.verify_terminal_sum.result c.is_ok-balanced.result _ _ c.push_str.new.self read c.in_ok-witness.ensures c.as_slice.ensures.value c.verify_terminal_sum.ensures c.is_ok-balanced.ensures.value lines verdict c.in_ok-push_str.ensures.bytes
