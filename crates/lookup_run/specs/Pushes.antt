@@ -1,5 +1,5 @@
 -- How the AIRs of the machines push, and how they read the cells of a row.
-use Rattle.std.specs.Prelude.{◌≡◌, ◌⊎◌, ◌<◌, ℕ, List, [], ◌∷◌, map, Some, slice_get, Result, Ok, Err, MatchResult}
+use Rattle.std.specs.Prelude.{◌≡◌, ◌⊎◌, ◌<◌, ◌≤◌, ℕ, List, [], ◌∷◌, map, Some, slice_get, Result, Ok, Err, MatchResult}
 use Rattle.std.proofs.Common.{inl, inr, subst}
 use Rattle.std.specs.declared.alloc.Global.{Global}
 use Rattle.std.specs.declared.vec.Vec.{Vec}
@@ -9,13 +9,17 @@ use Rattle.expressions.specs.declared.error.LayoutPart.TheVariants.{Main}
 use Rattle.expressions.specs.declared.layout.AirLayout.{AirLayout}
 use Rattle.lookup_builder.specs.Messages.{PushesOne, flag_and_key}
 
--- the refusal of a cell: out of memory, the builder's own for its window, or the layout of a row
--- that doesn't have these columns, with how many it has and how many are wanted of it at most
+-- the refusal of a row that has fewer columns than are wanted, which are at most these
+pub record IsNarrow (width columns : ℕ) (e : AirError) : Type 0 where
+  pub wanted : ℕ
+  pub at_most : wanted ≤ columns
+  pub narrow : width < wanted
+  pub error_is : e ≡ LayoutMismatch Main wanted width
+
+-- the refusal of a cell: out of memory, the builder's own for its window, or that of a narrow row
 abbrev pub IsCellRefusal : {B : Type 0} → (B → AirError → Type 0) → (B → AirLayout) → ℕ → B → AirError → Type 0
 IsCellRefusal window_refuses layout columns builder e =
-    (e ≡ Memory)
-    ⊎ (window_refuses builder e
-    ⊎ (((layout builder).main_width < columns) × ((expected : ℕ) × (actual : ℕ) × (e ≡ LayoutMismatch Main expected actual))))
+    (e ≡ Memory) ⊎ (window_refuses builder e ⊎ IsNarrow (layout builder).main_width columns e)
 
 -- there was such a refusal, and the builder is unchanged
 abbrev pub IsRefusedBefore : {B : Type 0} → (B → AirError → Type 0) → (B → AirLayout) → ℕ → B → Result (Unit {0}) AirError → B → Type 0

@@ -1,5 +1,5 @@
 //! The AIRs of the machines, which say what each row looks up.
-ghost use Rattle.std.specs.Prelude.{◌≡◌, ◌+◌, All, IfErr, IfOk, OnOk};
+ghost use Rattle.std.specs.Prelude.{◌≡◌, ◌+◌, ◌<◌, All, IfErr, IfOk, OnOk};
 ghost use Rattle.lookup_builder.specs.Pushed.{pushed_local};
 ghost use Rattle.lookup_builder.specs.Within.{IsWithin, KeyWithin};
 ghost use Rattle.lookup_run.specs.Machines.{DoesSend, first_column_of, width_of};
@@ -137,9 +137,10 @@ fn two_keys<AB: InteractionBuilder>(
     Ok(branches)
 }
 
-/// The expression of a cell of the current row.
+/// The expression of a cell of the current row, in one of the first four columns.
 #[tactic(auto, using(crate::proofs::CellLaws::cell_is, crate::proofs::CellLaws::no_cell))]
 fn cell<AB: AirBuilder>(alloc: Global, builder: &AB, column: usize) -> Result<AB::Expr, AirError>
+    requires { column < 4 }
     ensures refused { IfErr result (IsCellRefusal AB.window_refuses AB.layout (column + 1) builder.now) }
     ensures cell { IfOk result (IsCell (λ x w. AB.Expr.value x (AB.seen w)) (AB.stands_for builder.now) (λ w. w.main) column) }
     ensures within { IfOk result (λ x. AB.Expr.within (AB.layout builder.now) x) }
@@ -149,18 +150,19 @@ fn cell<AB: AirBuilder>(alloc: Global, builder: &AB, column: usize) -> Result<AB
         Some(variable) => Ok(variable.into()),
         None => Err(AirError::LayoutMismatch {
             part: LayoutPart::Main,
-            expected: column.saturating_add(1),
+            expected: column + 1,
             actual: main.current_slice().len(),
         }),
     }
 }
 
-/// The tuple of one cell.
+/// The tuple of one such cell.
 fn tuple<AB: AirBuilder>(
     alloc: Global,
     builder: &AB,
     column: usize,
 ) -> Result<Vec<AB::Expr>, AirError>
+    requires { column < 4 }
     ensures refused { IfErr result (IsCellRefusal AB.window_refuses AB.layout (column + 1) builder.now) }
     ensures tuple { IfOk result (λ tuple. IsCellTuple (λ x w. AB.Expr.value x (AB.seen w)) (AB.stands_for builder.now) (λ w. w.main) column tuple.items) }
     ensures within { IfOk result (λ tuple. All (AB.Expr.within (AB.layout builder.now)) tuple.items) }
