@@ -2,14 +2,17 @@
 ghost use Rattle.std.specs.Prelude.{◌≡◌, ◌↔◌, ◌<◌, All, IsTrue, length};
 
 mod batches;
+mod binary;
 mod counts;
+mod example;
+mod exhaustion;
 mod guards;
 mod ids;
 mod single;
 
 use air::{BaseEntry, BaseLeaf, Expression, SymbolicExpression, SymbolicVariable};
 use checker::{BatchFault, BatchInstance, Witness, check_witness, generate_batch, instances_fit};
-use field::{F7, PrimeCharacteristicRing};
+use field::{F7, Field, PrimeCharacteristicRing};
 use lookup::{Challenges, Kind, Lookup, LookupError, LookupTerminal};
 use matrix::RowMajorMatrix;
 use std::alloc::Global;
@@ -129,7 +132,7 @@ fn are_below(ids: &[usize], count: usize) -> bool
 }
 
 /// Whether there is an id for each lookup.
-fn have_ids(instances: &[BatchInstance<'_, F7>]) -> bool
+fn have_ids<F: Field>(instances: &[BatchInstance<'_, F>]) -> bool
     ensures { IsTrue result ↔ All (λ b. length b.ids.now ≡ length b.lookups.now) instances.now }
 {
     instances
@@ -137,7 +140,7 @@ fn have_ids(instances: &[BatchInstance<'_, F7>]) -> bool
         .all(|instance| instance.ids.len() == instance.lookups.len())
 }
 
-fn have_prefixes(instances: &[BatchInstance<'_, F7>], count: usize) -> bool
+fn have_prefixes<F: Field>(instances: &[BatchInstance<'_, F>], count: usize) -> bool
     ensures { IsTrue result ↔ All (λ b. All (λ id. id < count) b.ids.now) instances.now }
 {
     instances

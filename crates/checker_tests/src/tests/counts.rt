@@ -11,7 +11,7 @@ use std::alloc::Global;
 use std::process::Abort;
 
 /// The counts of a batch, which has to fit, with lawful ids below 1.
-fn counts(
+pub(super) fn counts(
     rt: &impl Abort,
     alloc: Global,
     instances: &[BatchInstance<'_, F7>],

@@ -1,0 +1,149 @@
+//! The example of the README: two AIRs on one bus, from their evaluation to an accepted witness.
+ghost use Rattle.std.specs.Prelude.{◌≡◌, All, IfOk, OnOk};
+
+use super::{has_result, have_prefixes, holds, instance, trace};
+use air::{Air, AirBuilder, AirError, BaseAir, LayoutPart};
+use checker::{Witness, check_witness, generate_batch, instances_fit};
+use field::F7;
+use lookup::{Challenges, Count, InteractionBuilder, LookupBus, Lookups};
+use matrix::{RowMajorMatrix, WindowAccess};
+use std::alloc::Global;
+use std::process::Abort;
+use std::test::Fail;
+
+/// Column `key`: a row queries its key.
+struct KeysAir;
+
+impl<F> BaseAir<F> for KeysAir {
+    ghost width = { λ _. 1 };
+
+    ghost preprocessed_width = { λ _. 0 };
+
+    ghost num_public_values = { λ _. 0 };
+
+    fn width(&self) -> usize {
+        1
+    }
+
+    fn preprocessed_width(&self) -> usize {
+        0
+    }
+
+    fn num_public_values(&self) -> usize {
+        0
+    }
+}
+
+impl<AB: InteractionBuilder> Air<AB> for KeysAir {
+    ghost evaluates = { λ _ before answer after. OnOk answer ((AB.layout after ≡ AB.layout before)
+        × (AB.pushed_within before → AB.pushed_within after)) };
+
+    fn eval(&self, alloc: Global, builder: &mut AB) -> Result<(), AirError> {
+        let key = tuple(alloc, builder, 0)?;
+        LookupBus::new("keys").lookup_key(alloc, builder, key, Count::from_i32::<AB::F>(1))
+    }
+
+    ghost keeps_layout = { λ air before after h. h.0 };
+}
+
+/// Columns `entry uses`: a row provides its entry, used that often.
+struct EntriesAir;
+
+impl<F> BaseAir<F> for EntriesAir {
+    ghost width = { λ _. 2 };
+
+    ghost preprocessed_width = { λ _. 0 };
+
+    ghost num_public_values = { λ _. 0 };
+
+    fn width(&self) -> usize {
+        2
+    }
+
+    fn preprocessed_width(&self) -> usize {
+        0
+    }
+
+    fn num_public_values(&self) -> usize {
+        0
+    }
+}
+
+impl<AB: InteractionBuilder> Air<AB> for EntriesAir {
+    ghost evaluates = { λ _ before answer after. OnOk answer ((AB.layout after ≡ AB.layout before)
+        × (AB.pushed_within before → AB.pushed_within after)) };
+
+    fn eval(&self, alloc: Global, builder: &mut AB) -> Result<(), AirError> {
+        let entry = tuple(alloc, builder, 0)?;
+        let uses = cell(alloc, builder, 1)?;
+        LookupBus::new("keys").table_entry(alloc, builder, entry, uses)
+    }
+
+    ghost keeps_layout = { λ air before after h. h.0 };
+}
+
+/// The expression of a cell of the current row.
+fn cell<AB: AirBuilder>(alloc: Global, builder: &AB, column: usize) -> Result<AB::Expr, AirError>
+    ensures { IfOk result (λ x. AB.Expr.within (AB.layout builder.now) x) }
+{
+    let main = builder.main(alloc)?;
+    match main.current(column) {
+        Some(variable) => Ok(variable.into()),
+        None => Err(AirError::LayoutMismatch {
+            part: LayoutPart::Main,
+            expected: column.saturating_add(1),
+            actual: main.current_slice().len(),
+        }),
+    }
+}
+
+/// The tuple of one cell.
+fn tuple<AB: AirBuilder>(
+    alloc: Global,
+    builder: &AB,
+    column: usize,
+) -> Result<Vec<AB::Expr>, AirError>
+    ensures { IfOk result (λ tuple. All (AB.Expr.within (AB.layout builder.now)) tuple.items) }
+{
+    let mut tuple = Vec::new(alloc);
+    tuple.push(cell(alloc, builder, column)?)?;
+    Ok(tuple)
+}
+
+/// The witness of keys and entries, which has to be accepted.
+fn accepted(
+    rt: &impl Abort,
+    alloc: Global,
+    keys: &RowMajorMatrix<F7>,
+    entries: &RowMajorMatrix<F7>,
+) -> Result<Witness<F7>, Fail> {
+    let asks = Lookups::from_air::<F7, KeysAir>(alloc, &KeysAir)?;
+    let provides = Lookups::from_air::<F7, EntriesAir>(alloc, &EntriesAir)?;
+    let batch = [
+        instance(asks.as_slice(), keys, &[0]),
+        instance(provides.as_slice(), entries, &[0]),
+    ];
+    let batch = batch.as_slice();
+    let challenges = Challenges::new(alloc, F7::new(5), F7::new(2), 1, 1)?;
+    assert!(rt; instances_fit(batch));
+    assert!(rt; have_prefixes(batch, challenges.bus_prefix.len()));
+    let witness = generate_batch(alloc, batch, &challenges).expect(rt, "no fault");
+    let (aux, terminals) = (witness.aux.as_slice(), witness.terminals.as_slice());
+    check_witness(alloc, batch, &challenges, aux, terminals)?;
+    Ok(witness)
+}
+
+#[test]
+fn keys_are_found_in_the_entries(rt: HostRuntime) -> Result<(), Fail> {
+    let alloc = rt.alloc();
+    let keys = trace(&rt, alloc, &[3, 3], 1);
+    let entries = trace(&rt, alloc, &[3, 2, 4, 0], 2);
+    let witness = accepted(&rt, alloc, &keys, &entries)?;
+    holds(&rt, "the keys", has_result(&witness, 0, &[0, 2, 2, 2], 4));
+    holds(
+        &rt,
+        "the entries",
+        has_result(&witness, 1, &[0, 3, 3, 0], 3),
+    );
+    Ok(())
+}
