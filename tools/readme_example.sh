@@ -2,7 +2,7 @@
 # Each block of the README's example stands, line by line, in the test that runs it.
 set -eu
 cd "$(dirname "${BASH_SOURCE[0]}")/.."
-test=crates/lookup_tests/src/tests/example.rt
+test=crates/checker_tests/src/tests/example.rt
 source=$(tr -d ' \n' <"$test")
 blocks=$(mktemp -d)
 trap 'rm -r "$blocks"' EXIT
@@ -16,5 +16,5 @@ for block in "$blocks"/*; do
   fi
   count=$((count + 1))
 done
-[ "$count" -eq 2 ] || { echo "the README has $count blocks of its example, and not 2" >&2; exit 1; }
+[ "$count" -eq 3 ] || { echo "the README has $count blocks of its example, and not 3" >&2; exit 1; }
 echo "the README's example is what $test runs"
