@@ -8,11 +8,10 @@ ghost use Rattle.lookup_indexed.specs.declared.error.IndexedLookupError.TheVaria
 use crate::symbolic::InteractionSymbolicBuilder;
 use air::{Air, AirLayout};
 use field::{ExtensionField, Field};
-use serde::Serialize;
-use std::alloc::{AllocError, Global};
-
 pub use lookup_declaration::{IndexedRead, IndexedTable, TraceWindow};
 pub use lookup_indexed::{IndexedDeclarations, IndexedLookupError};
+use serde::Serialize;
+use std::alloc::{AllocError, Global};
 
 /// The indexed lookups of one AIR: the tables that it reads and those that it provides. Each
 /// declaration was checked against the widths of the AIR.

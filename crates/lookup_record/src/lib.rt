@@ -7,8 +7,7 @@ pub mod indexed;
 pub mod symbolic;
 
 pub use indexed::{
-    IndexedDeclarations, IndexedLookupError, IndexedLookups, IndexedRead, IndexedTable,
-    TraceWindow,
+    IndexedDeclarations, IndexedLookupError, IndexedLookups, IndexedRead, IndexedTable, TraceWindow,
 };
 pub use lookup_builder::{
     Count, IndexedLookupBuilder, InteractionBuilder, LocalTuple, LookupBus, PermutationCheckBus,
