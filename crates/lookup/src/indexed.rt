@@ -1,5 +1,4 @@
 //! Indexed lookups.
 pub use lookup_record::{
-    IndexedDeclarations, IndexedLookupError, IndexedLookups, IndexedRead, IndexedTable,
-    TraceWindow,
+    IndexedDeclarations, IndexedLookupError, IndexedLookups, IndexedRead, IndexedTable, TraceWindow,
 };

@@ -24,9 +24,9 @@ pub use lookup_model::{
 };
 pub use lookup_record::{
     Count, IndexedDeclarations, IndexedLookupBuilder, IndexedLookupError, IndexedLookups,
-    IndexedRead, IndexedTable, InteractionBuilder, InteractionSymbolicBuilder, LocalTuple, LookupBus, PermutationCheckBus,
-    SymbolicExclusiveBranch, SymbolicExclusiveInteraction, SymbolicInteraction,
-    SymbolicLocalInteraction, TraceWindow,
+    IndexedRead, IndexedTable, InteractionBuilder, InteractionSymbolicBuilder, LocalTuple,
+    LookupBus, PermutationCheckBus, SymbolicExclusiveBranch, SymbolicExclusiveInteraction,
+    SymbolicInteraction, SymbolicLocalInteraction, TraceWindow,
 };
 pub use lookups::Lookups;
 pub use protocol::LookupProtocol;
