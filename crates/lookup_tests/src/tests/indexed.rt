@@ -28,12 +28,7 @@ fn name(rt: &impl Abort, alloc: Global) -> String {
 }
 
 /// The refusal of a column of `t`.
-fn out_of_range(
-    rt: &impl Abort,
-    alloc: Global,
-    column: usize,
-    width: usize,
-) -> IndexedLookupError {
+fn out_of_range(rt: &impl Abort, alloc: Global, column: usize, width: usize) -> IndexedLookupError {
     IndexedLookupError::ColumnOutOfRange {
         table: name(rt, alloc),
         column,
@@ -196,6 +191,7 @@ fn accepted_declarations_are_held_as_given(rt: HostRuntime) {
 
 /// An AIR of two columns that declares a reader of `t` at this position, and the table `t` of its
 /// second column; or is refused.
+#[derive(Drop)]
 struct Declarer {
     position: usize,
     refused: Option<AirError>,

@@ -14,6 +14,7 @@ use std::alloc::Global;
 use std::process::Abort;
 
 /// One column, whose cells are zero. The AIR asserts it, and may then be refused.
+#[derive(Drop)]
 struct ZeroColumn {
     refused: Option<AirError>,
 }
@@ -95,11 +96,7 @@ fn lookups_are_recorded_after_the_air(rt: HostRuntime) {
     let mut builder = recorder(&rt, alloc);
     let lookups = [single(&rt, alloc, 1, 0)];
     evaluated_both(&rt, alloc, &air, &mut builder, lookups.as_slice()).expect(&rt, "memory");
-    holds(
-        &rt,
-        "one lookup",
-        are_at(&builder, &[0], &[1, 2, 3, 4]),
-    );
+    holds(&rt, "one lookup", are_at(&builder, &[0], &[1, 2, 3, 4]));
     let mut builder = recorder(&rt, alloc);
     evaluated_both(&rt, alloc, &air, &mut builder, &[]).expect(&rt, "memory");
     holds(&rt, "no lookups", are_at(&builder, &[0], &[]));
@@ -155,7 +152,13 @@ fn both_are_checked_on_a_row(rt: HostRuntime) {
         ("the lookup fails", None, 0, 2, failed),
         ("the AIR fails", None, 1, 2, failed),
         ("the AIR refuses", overflow, 0, 3, overflow),
-        ("the AIR refuses before the lookup fails", overflow, 0, 2, overflow),
+        (
+            "the AIR refuses before the lookup fails",
+            overflow,
+            0,
+            2,
+            overflow,
+        ),
         ("the AIR fails before it refuses", overflow, 1, 2, failed),
     ] {
         let answer = checked(&rt, rt.alloc(), refused, value, fraction);
