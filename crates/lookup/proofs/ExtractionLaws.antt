@@ -1,23 +1,18 @@
 -- Lookups that are extracted one after another.
-use Rattle.std.proofs.Common.{◌≡◌, ◌≢◌, ◌⊎◌, Result, ℕ, suc, Option, None, ◌+◌, ◌<◌, ◌≤◌, List, [], ◌∷◌, ◌++◌, length, map, get_or, All, Some, inl, inr, arith, refl, ap, subst, sym, ◌∙◌}
+use Rattle.std.proofs.Common.{◌≡◌, ◌≢◌, ◌⊎◌, ℕ, suc, Option, None, ◌+◌, ◌<◌, ◌≤◌, List, [], ◌∷◌, ◌++◌, length, map, get_or, All, Some, inl, inr, arith, refl, ap, subst, sym, ◌∙◌}
 use Rattle.std.proofs.Math.ListN.{get_or-append}
 use Rattle.std.proofs.Math.Seq.{get_or-append_seam}
-use Rattle.std.proofs.lemmas.Bool.{cases_lt, eq-eqb}
+use Rattle.std.proofs.lemmas.Bool.{cases_lt}
 use Rattle.std.proofs.lemmas.List.{append_assoc, append-nil, length-append, length-map, map_push}
 use Rattle.std.proofs.lemmas.List.Elements.{All-cons}
 use Rattle.std.proofs.lemmas.List.FromFn.{length-enumerate_from}
 use Rattle.std.proofs.lemmas.Option.{get_or_from_slice_get, slice_get-get_or, slice_get-map}
 use Rattle.std.specs.List.{enumerate_from, slice_get}
 use Rattle.std.specs.Option.{option_map}
-use Rattle.expressions.specs.Layout.{first_mismatch, layout_of_widths}
 use Rattle.lookup_model.proofs.HornerRule.{map-map}
 use Rattle.lookup_model.specs.Records.{AreRecords, IsRecordAt}
 use Rattle.lookup_model.specs.declared.error.LookupError.{LookupError}
 use Rattle.lookup_model.specs.declared.types.Lookup.{Lookup}
-use Rattle.expressions.specs.declared.error.AirError.{AirError}
-use Rattle.expressions.specs.declared.layout.AirLayout.{AirLayout}
-use Rattle.lookup_record.specs.RecordedAir.{EvaluatesNew}
-use Rattle.lookup_record.specs.declared.symbolic.InteractionSymbolicBuilder.{InteractionSymbolicBuilder}
 use Rattle.lookup_builder.specs.Interaction.{Tuple, GlobalInteraction, ExclusiveInteraction}
 use Rattle.lookup_model.specs.Outline.{Outline}
 use Rattle.lookup.specs.Extraction.{exclusive_at, extraction, global_at, in_columns, local_at, tuple_widths, HasOtherWidth, IsFaultless, IsFirstLocalRefusal, IsLocalRefusal}
@@ -168,15 +163,3 @@ holds_below {A} P xs n x lt is here below i t next there = by_place (cases_lt i 
         let found : slice_get xs n ≡ Some t = subst (λ (m : ℕ). slice_get xs m ≡ Some t) same there in
         let equal : x ≡ t = cc (ap Some is ∙ sym (slice_get-get_or xs n x lt) ∙ found) in
         subst P equal here
-
--- the layout of an AIR's own widths has them
-pub no_mismatch : (main preprocessed public_values : ℕ) → first_mismatch main preprocessed public_values (layout_of_widths main preprocessed public_values) ≡ None
-no_mismatch main preprocessed public_values =
-    rw (eq-eqb main main refl, eq-eqb preprocessed preprocessed refl, eq-eqb public_values public_values refl) refl
-
--- an evaluation for a layout that is the AIR's own
-pub evaluated_as : {A F EF : Type 0} (evaluates : A → InteractionSymbolicBuilder F EF → Result (Unit {0}) AirError → InteractionSymbolicBuilder F EF → Type 0) (air : A) (main preprocessed public_values : ℕ) (layout : AirLayout) (answer : Result (InteractionSymbolicBuilder F EF) AirError)
-    → layout ≡ layout_of_widths main preprocessed public_values → (first_mismatch main preprocessed public_values layout ≡ None → EvaluatesNew evaluates air layout answer)
-    → EvaluatesNew evaluates air (layout_of_widths main preprocessed public_values) answer
-evaluated_as evaluates air main preprocessed public_values layout answer is given =
-    subst (λ (l : AirLayout). EvaluatesNew evaluates air l answer) is (given (ap (first_mismatch main preprocessed public_values) is ∙ no_mismatch main preprocessed public_values))

@@ -2,3 +2,4 @@ pub mod Extraction
 pub mod Guards
 pub mod Lookups
 pub mod Sends
+pub mod WholeAir

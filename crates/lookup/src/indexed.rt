@@ -1,2 +1,4 @@
-//! Indexed declarations.
-pub use lookup_record::{IndexedRead, IndexedTable, TraceWindow};
+//! Indexed lookups.
+pub use lookup_record::{
+    IndexedDeclarations, IndexedLookupError, IndexedLookups, IndexedRead, IndexedTable, TraceWindow,
+};

@@ -23,10 +23,10 @@ pub use lookup_model::{
     Challenges, Kind, Lookup, LookupError, LookupTerminal, fits, has_equal_lengths,
 };
 pub use lookup_record::{
-    Count, IndexedLookupBuilder, IndexedRead, IndexedTable, InteractionBuilder,
-    InteractionSymbolicBuilder, LocalTuple, LookupBus, PermutationCheckBus,
-    SymbolicExclusiveBranch, SymbolicExclusiveInteraction, SymbolicInteraction,
-    SymbolicLocalInteraction, TraceWindow,
+    Count, IndexedDeclarations, IndexedLookupBuilder, IndexedLookupError, IndexedLookups,
+    IndexedRead, IndexedTable, InteractionBuilder, InteractionSymbolicBuilder, LocalTuple,
+    LookupBus, PermutationCheckBus, SymbolicExclusiveBranch, SymbolicExclusiveInteraction,
+    SymbolicInteraction, SymbolicLocalInteraction, TraceWindow,
 };
 pub use lookups::Lookups;
 pub use protocol::LookupProtocol;

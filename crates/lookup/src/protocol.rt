@@ -7,12 +7,13 @@ ghost use Rattle.lookup_model.specs.Constraints.{accumulator_constraints, fracti
 ghost use Rattle.lookup_model.specs.Extension.{extension};
 ghost use Rattle.lookup_model.specs.LookupDegree.{IsDegree, lookup_degree};
 ghost use Rattle.lookup_model.specs.Records.{DoFit, HasEqualLengths, IsWithin};
+ghost use Rattle.lookup.specs.WholeAir.{EvaluatesBoth};
 ghost use Rattle.lookup_model.specs.Terminals.{terminal_sum};
 ghost use Rattle.lookup_model.specs.Generation.{AnswersGeneration};
 ghost use Rattle.matrix.specs.Matrix.{height};
 
 use crate::evaluation::{eval_fractions, eval_terminal};
-use air::{AirBuilder, AirError, ExtensionBuilder, PermutationAirBuilder};
+use air::{Air, AirBuilder, AirError, ExtensionBuilder, PermutationAirBuilder};
 use field::{ExtensionField, Field};
 use lookup_model::{Lookup, LookupError, LookupTerminal};
 use matrix::RowMajorMatrix;
@@ -100,6 +101,33 @@ pub trait LookupProtocol: Sized {
         }
         eval_fractions(self, alloc, builder, lookups)?;
         eval_terminal(self, alloc, builder, lookups)
+    }
+
+    /// Evaluates an AIR, and then asserts the constraints of its lookups as
+    /// [`eval_all`](LookupProtocol::eval_all) does, from the state that the AIR left.
+    ///
+    /// Fails with what the AIR refuses, and then asserts nothing of the lookups; or as `eval_all`
+    /// does. What was asserted before stays.
+    final fn eval_air_and_lookups<AB: PermutationAirBuilder, A: Air<AB>>(
+        &self,
+        alloc: Global,
+        air: &A,
+        builder: &mut AB,
+        lookups: &[Lookup<AB::F>],
+    ) -> Result<(), AirError>
+        requires fit { DoFit (AB.layout builder.old) lookups.now }
+        requires challenges { 2 * length lookups.now ≤ (AB.layout builder.old).num_permutation_challenges }
+        requires cells { 0 < length lookups.now → length lookups.now < (AB.layout builder.old).permutation_width }
+        requires terminal { 0 < length lookups.now → 0 < (AB.layout builder.old).num_permutation_values }
+        ensures { let E = extension AB.F.ring AB.F.eq AB.EF.ring AB.EF.eq AB.EF.embed AB.EF.inverse in
+            EvaluatesBoth A.evaluates
+            (λ between answer after. Evaluates AB.accepts_ext AB.refuses_ext (λ b e. (e ≡ AirError.Memory) ⊎ AB.window_refuses b e)
+            (IsConstraint (λ x w. AB.ExprEF.value x (AB.seen_ext w)) AB.ExprEF.degree (AB.stands_for_ext between))
+            between (lookup_constraints E lookups.now) answer after)
+            air.now builder.old result builder.new }
+    {
+        air.eval(alloc, builder)?;
+        self.eval_all(alloc, builder, lookups)
     }
 
     /// The degree of the equation of a lookup's fraction, if the transition selector has degree 0.

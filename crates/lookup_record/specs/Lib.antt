@@ -1,2 +1,3 @@
+pub mod IndexedLookups
 pub mod RecordedAir
 pub mod RecordedWithin

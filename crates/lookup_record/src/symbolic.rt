@@ -125,6 +125,14 @@ impl<F: Field, EF: ExtensionField<F>> InteractionSymbolicBuilder<F, EF> {
         )
     }
 
+    /// The readers and the tables, each in the order in which they were declared. Drops all else.
+    pub fn into_declarations(self) -> (Vec<IndexedRead>, Vec<IndexedTable>)
+        ensures reads { map read_of result.0.items ≡ (recorded_air self).reads }
+        ensures tables { map table_of result.1.items ≡ (recorded_air self).tables }
+    {
+        (self.indexed_reads, self.indexed_tables)
+    }
+
     /// The readers, in the order in which they were declared.
     pub fn indexed_reads(&self) -> &[IndexedRead]
         ensures { map read_of result.now ≡ (recorded_air self.now).reads }

@@ -1,4 +1,5 @@
 //! What the tests share: expressions, lookups, traces, and generation over them.
+mod collisions;
 mod comparison;
 mod declaration;
 mod degrees;
@@ -7,11 +8,13 @@ mod example;
 mod exclusive;
 mod extraction;
 mod generation;
+mod indexed;
 mod json;
 mod record;
 mod refusals;
 mod rows;
 mod sets;
+mod whole_airs;
 mod windows;
 mod witnesses;
 

@@ -14,7 +14,10 @@ use std::alloc::Global;
 use std::process::Abort;
 
 /// The widths that a builder works with.
-fn layout_of<AB: PermutationAirBuilder>(alloc: Global, builder: &AB) -> Result<AirLayout, AirError>
+pub(super) fn layout_of<AB: PermutationAirBuilder>(
+    alloc: Global,
+    builder: &AB,
+) -> Result<AirLayout, AirError>
     ensures { IfOk result (λ r. r ≡ AB.layout builder.now) }
 {
     let main = builder.main(alloc)?;

@@ -6,7 +6,7 @@ use Rattle.expressions.specs.declared.layout.AirLayout.{AirLayout}
 use Rattle.lookup_model.specs.Records.{DoFit}
 use Rattle.lookup_model.specs.declared.types.Lookup.{Lookup}
 use Rattle.lookup_record.specs.RecordedAir.{recorded_air}
-use Rattle.lookup.proofs.ExtractionLaws.{evaluated_as}
+use Rattle.lookup_record.proofs.OwnLayout.{evaluated_as}
 use Rattle.lookup.proofs.Within.{extracted_fit}
 use Rattle.lookup.proofs.lookups.Lookups.from_air.Goals as goal
 

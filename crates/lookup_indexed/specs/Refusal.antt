@@ -1,0 +1,10 @@
+-- How refusals of an AIR are passed on.
+use Rattle.expressions.specs.declared.error.AirError.{AirError}
+use Rattle.expressions.specs.declared.error.AirError.TheVariants as air
+use Rattle.lookup_indexed.specs.declared.error.IndexedLookupError.{IndexedLookupError}
+use Rattle.lookup_indexed.specs.declared.error.IndexedLookupError.TheVariants.{Memory, Air}
+
+-- out of memory keeps its name
+abbrev pub from_air : AirError → IndexedLookupError
+from_air air.Memory = Memory
+from_air e = Air e

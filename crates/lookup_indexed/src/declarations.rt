@@ -1,0 +1,15 @@
+//! Declarations as they are read from a format.
+
+use lookup_declaration::{IndexedRead, IndexedTable};
+use serde::Deserialize;
+
+/// The indexed declarations of an AIR, not checked yet.
+///
+/// They are read from JSON as this, and then checked by `IndexedLookups::new`.
+#[derive(Debug, Drop, PartialEq, Eq, Deserialize)]
+pub struct IndexedDeclarations {
+    /// The readers, in the order in which they are declared.
+    pub reads: Vec<IndexedRead>,
+    /// The tables, in the order in which they are declared.
+    pub tables: Vec<IndexedTable>,
+}
