@@ -1,0 +1,6 @@
+mod FillLaws
+mod GroupLaws
+mod ListLaws
+pub mod RecordLaws
+mod TrialLaws
+mod WidthLaws

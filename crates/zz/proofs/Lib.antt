@@ -1,0 +1,4 @@
+pub mod ListLaws
+pub mod GroupLaws
+pub mod FillLaws
+pub mod WidthLaws
