@@ -1,7 +1,7 @@
 -- Groups of lookups, lookup by lookup.
-use Rattle.std.proofs.Common.{◌≡◌, ℕ, Bool, true, false, cond, not, ◌||◌, unwrap_or, List, [], ◌∷◌, ◌++◌, Option, None, Some, map, option_map, nat_eq, refl, sym, ap, ◌∙◌, true≢false, Decides}
+use Rattle.std.proofs.Common.{◌≡◌, ◌<◌, ◌+◌, ℕ, length, get_or, take, Bool, true, false, cond, not, ◌||◌, unwrap_or, List, [], ◌∷◌, ◌++◌, Option, None, Some, map, option_map, nat_eq, refl, sym, ap, ◌∙◌, true≢false, Decides}
 use Rattle.std.proofs.lemmas.Bool.Decides.{Decides-eqb}
-use Rattle.std.proofs.lemmas.List.{append-nil}
+use Rattle.std.proofs.lemmas.List.{append-nil, map-append}
 use Rattle.std.proofs.lemmas.List.Elements.{filter-append, filter_map-append}
 use Rattle.std.proofs.lemmas.Slice.Eq.{slice_eq-Decides}
 use Rattle.std.specs.Cmp.Lexicographic.{pointwise}
@@ -9,14 +9,19 @@ use Rattle.std.specs.List.{cons_option, filter, filter_map, list_any}
 use Rattle.std.specs.Map.{lookup}
 use Rattle.std.specs.Option.{option_map_or}
 use Rattle.std.specs.declared.alloc.Global.{Global}
+use Rattle.std.specs.Borrow.{Bor}
+use Rattle.std.specs.String.{string_bytes}
+use Rattle.std.specs.declared.string.String.{String}
 use Rattle.std.specs.declared.vec.Vec.{Vec}
+use Rattle.expressions.specs.declared.base_expression.SymbolicExpression.{SymbolicExpression}
 use Rattle.indexmap.specs.IndexMap.{insert_entry}
 use Rattle.lookup_laws.proofs.Regrouping.{first_seen_separate}
 use Rattle.lookup_model.specs.Net.{first_seen}
-use Rattle.lookup_model.specs.Outline.{Outline}
+use Rattle.lookup_model.specs.Outline.{Outline, bus_of, fields_of}
 use Rattle.lookup_nets.proofs.FirstSeen.{first_seen-push}
-use Rattle.lookup_nets.proofs.NetEntries.{any-first_seen, insert-valued, lookup-valued, turned}
-use Rattle.lookup_packing.specs.Buses.{bus_groups, bus_names, is_named, on_bus, same_name}
+use Rattle.lookup_nets.proofs.NetEntries.{any-first_seen, insert-valued, lookup-valued, mapped-more, turned}
+use Rattle.lookup_model.specs.declared.types.Lookup.{Lookup}
+use Rattle.lookup_packing.specs.Buses.{bus_groups, bus_names, group_of, is_named, on_bus, owned_group, owned_group_of, same_name}
 
 -- the test of names decides their equality
 pub same_name-Decides : (a b : List ℕ) → Decides (same_name a b) (a ≡ b)
@@ -140,3 +145,47 @@ module _ {E K V : Type 0} (key : K → List ℕ) (items : V → List (Outline E)
 pub group_items : {T : Type 0} (found : Option (Vec T Global)) (group empty : Vec T Global) → group ≡ unwrap_or found empty → empty.items ≡ [] → group.items ≡ option_map_or (λ v. v.items) found []
 group_items None group empty is none = ap (λ v. v.items) is ∙ none
 group_items (Some v) group empty is none = ap (λ v. v.items) is
+
+-- what is seen of a group with one more item
+seen_items : {T X : Type 0} (see : T → X) (found : Option (Vec T Global)) (item : T) (group : Vec T Global) → group.items ≡ option_map_or (λ v. v.items) found [] ++ item ∷ [] → map see group.items ≡ option_map_or (λ v. map see v.items) found [] ++ see item ∷ []
+seen_items see None item group is = ap (map see) is
+seen_items see (Some v) item group is = ap (map see) is ∙ map-append see v.items (item ∷ [])
+
+module _ {F : Type 0} where
+  -- a map of borrowed lookups with one more of them
+  pub borrowed_more : (ls : List (Lookup F)) (i : ℕ) (l : Lookup F) (es after : List (Bor (List ℕ) × Vec (Bor (Lookup F)) Global)) (k : Bor (List ℕ)) (r : Bor (Lookup F)) → i < length ls → l ≡ get_or ls i l
+      → map group_of es ≡ bus_groups (map fields_of (take i ls)) → r.now ≡ l → bus_of l.kind ≡ Some k.now
+      → ((group : Vec (Bor (Lookup F)) Global) × (group.items ≡ option_map_or (λ found. found.items) (lookup (λ j. same_name k.now j.now) es) [] ++ r ∷ []) × (after ≡ insert_entry (λ a b. same_name a.now b.now) es k group))
+      → map group_of after ≡ bus_groups (map fields_of (take (i + 1) ls))
+  borrowed_more ls i l es after k r lt is so_far item on added =
+      let see : Bor (Lookup F) → Outline (SymbolicExpression F) = λ x. fields_of x.now in
+      let (group, items, after_is) = added in
+      ap (map group_of) after_is
+      ∙ one_more (λ (b : Bor (List ℕ)). b.now) (λ (v : Vec (Bor (Lookup F)) Global). map see v.items) (map fields_of (take i ls)) (fields_of l) es k group so_far on
+      (seen_items see (lookup (λ j. same_name k.now j.now) es) r group items ∙ ap (λ x. option_map_or (λ v. map see v.items) (lookup (λ j. same_name k.now j.now) es) [] ++ fields_of x ∷ []) item)
+      ∙ ap bus_groups (sym (mapped-more fields_of ls i l lt is))
+
+  -- a lookup on no bus changes no group
+  pub borrowed_skip : (ls : List (Lookup F)) (i : ℕ) (l : Lookup F) (es : List (Bor (List ℕ) × Vec (Bor (Lookup F)) Global)) → i < length ls → l ≡ get_or ls i l
+      → map group_of es ≡ bus_groups (map fields_of (take i ls)) → bus_of l.kind ≡ None → map group_of es ≡ bus_groups (map fields_of (take (i + 1) ls))
+  borrowed_skip ls i l es lt is so_far off =
+      so_far ∙ sym (groups-skip (map fields_of (take i ls)) (fields_of l) off) ∙ ap bus_groups (sym (mapped-more fields_of ls i l lt is))
+
+  -- a map of owned lookups with one more of them
+  pub owned_more : (os : List (Outline (SymbolicExpression F))) (l : Lookup F) (es after : List (String Global × Vec (Lookup F) Global)) (k : String Global)
+      → map owned_group_of es ≡ bus_groups os → bus_of l.kind ≡ Some (string_bytes k)
+      → ((group : Vec (Lookup F) Global) × (group.items ≡ option_map_or (λ found. found.items) (lookup (λ j. same_name (string_bytes k) (string_bytes j)) es) [] ++ l ∷ []) × (after ≡ insert_entry (λ a b. same_name (string_bytes a) (string_bytes b)) es k group))
+      → map owned_group_of after ≡ bus_groups (os ++ fields_of l ∷ [])
+  owned_more os l es after k so_far on added =
+      let (group, items, after_is) = added in
+      ap (map owned_group_of) after_is
+      ∙ one_more (λ (b : String Global). string_bytes b) (λ (v : Vec (Lookup F) Global). map fields_of v.items) os (fields_of l) es k group so_far on
+      (seen_items fields_of (lookup (λ j. same_name (string_bytes k) (string_bytes j)) es) l group items)
+
+-- the groups of a map without their names
+pub groups_only : {F : Type 0} (es : List (String Global × Vec (Lookup F) Global)) (gs : List (List ℕ × List (Outline (SymbolicExpression F)))) → map owned_group_of es ≡ gs → map owned_group (map (λ e. e.1) es) ≡ map (λ g. g.1) gs
+groups_only {F} es gs is = both es ∙ ap (map (λ g. g.1)) is
+  where
+    both : (xs : List (String Global × Vec (Lookup F) Global)) → map owned_group (map (λ e. e.1) xs) ≡ map (λ g. g.1) (map owned_group_of xs)
+    both [] = refl
+    both (x ∷ xs) = ap (λ t. owned_group x.1 ∷ t) (both xs)

@@ -1,9 +1,10 @@
 -- The first width that differs from the first one.
-use Rattle.std.proofs.Common.{◌≡◌, ◌≢◌, ◌<◌, ◌≤◌, ◌+◌, ◌⊎◌, inl, inr, ℕ, zero, suc, Bool, true, false, cond, not, List, [], ◌∷◌, ◌++◌, Option, None, Some, find, nat_eq, slice_get, get_or, length, map, option_map, subst, refl, sym, ap, ◌∙◌, arith, true≢false}
+use Rattle.std.proofs.Common.{◌≡◌, ◌≢◌, ◌<◌, ◌≤◌, ◌+◌, ◌⊎◌, inl, inr, ℕ, zero, suc, Bool, true, false, cond, not, List, [], ◌∷◌, ◌++◌, Option, None, Some, find, nat_eq, slice_get, get_or, length, map, option_map, subst, take, refl, sym, ap, ◌∙◌, arith, true≢false}
 use Rattle.std.proofs.lemmas.Bool.{cases_lt}
 use Rattle.std.proofs.lemmas.Bool.Decides.{Decides-eqb}
+use Rattle.std.proofs.lemmas.List.{append-nil, append_assoc}
 use Rattle.std.proofs.lemmas.Option.{slice_get-get_or, slice_get-map}
-use Rattle.std.specs.List.{AllByRecursion}
+use Rattle.std.specs.List.{AllByRecursion, flat_map}
 use Rattle.lookup_packing.specs.BusWidths.{HasOneWidth}
 use Rattle.lookup_packing.specs.TupleWidths.{HasOtherWidth}
 
@@ -118,3 +119,82 @@ holds_below {A} P xs n x lt is here below i t next there = by_place (cases_lt i 
         let found : slice_get xs n ≡ Some t = subst (λ (m : ℕ). slice_get xs m ≡ Some t) same there in
         let equal : x ≡ t = cc (ap Some is ∙ sym (slice_get-get_or xs n x lt) ∙ found) in
         subst P equal here
+
+other_is : (width w : ℕ) → w ≢ width → is_other width w ≡ true
+other_is width w differs = by_test (nat_eq w width) refl
+  where
+    by_test : (b : Bool) → nat_eq w width ≡ b → not b ≡ true
+    by_test true f = absurd (differs ((Decides-eqb w width).0 f))
+    by_test false f = refl
+
+same_is : (width w : ℕ) → w ≡ width → is_other width w ≡ false
+same_is width w is = ap not ((Decides-eqb w width).1 is)
+
+-- the images of the items below a place, of the one there, and of the rest
+cut_at : {A B : Type 0} (g : A → List B) (xs : List A) (i : ℕ) (x : A) → i < length xs → x ≡ get_or xs i x → (rest : List B) × (flat_map g xs ≡ flat_map g (take i xs) ++ (g x ++ rest)) × (flat_map g (take (i + 1) xs) ≡ flat_map g (take i xs) ++ g x)
+cut_at g [] i x lt is = absurd (omega (arith, lt))
+cut_at g (y ∷ ys) zero x lt is = (flat_map g ys, ap (λ t. g t ++ flat_map g ys) (sym is), ap (λ t. g t ++ []) (sym is) ∙ append-nil (g x))
+cut_at g (y ∷ ys) (suc i) x lt is =
+    let (rest, whole, next) = cut_at g ys i x (omega (arith, lt)) is in
+    let more : suc i + 1 ≡ suc (i + 1) = omega arith in (
+      rest,
+      ap (λ t. g y ++ t) whole ∙ sym (append_assoc (g y) (flat_map g (take i ys)) (g x ++ rest)),
+      ap (λ n. flat_map g (take n (y ∷ ys))) more ∙ ap (λ t. g y ++ t) next ∙ sym (append_assoc (g y) (flat_map g (take i ys)) (g x)),
+    )
+
+flat_map-map : {A B C : Type 0} (g : B → List C) (f : A → B) (xs : List A) → flat_map g (map f xs) ≡ flat_map (λ x. g (f x)) xs
+flat_map-map g f [] = refl
+flat_map-map g f (x ∷ xs) = ap (λ t. g (f x) ++ t) (flat_map-map g f xs)
+
+module _ {A B C : Type 0} (g : B → List C) (f : A → B) (xs : List A) (i : ℕ) (x : A) (lt : i < length xs) (is : x ≡ get_or xs i x) where
+  -- nothing is found in the images below a place, and something in that of the item there
+  pub found_in : (p : C → Bool) (y : C) → find p (flat_map g (map f (take i xs))) ≡ None → find p (g (f x)) ≡ Some y → find p (flat_map g (map f xs)) ≡ Some y
+  found_in p y none found =
+      let (rest, whole, next) = cut_at (λ z. g (f z)) xs i x lt is in
+      ap (find p) (flat_map-map g f xs ∙ whole)
+      ∙ find-append p (flat_map (λ z. g (f z)) (take i xs)) (g (f x) ++ rest) (ap (find p) (sym (flat_map-map g f (take i xs))) ∙ none)
+      ∙ find-first p (g (f x)) rest y found
+
+  -- nothing is found there either
+  pub passed_in : (p : C → Bool) → find p (flat_map g (map f (take i xs))) ≡ None → find p (g (f x)) ≡ None → find p (flat_map g (map f (take (i + 1) xs))) ≡ None
+  passed_in p none nothing =
+      let (rest, whole, next) = cut_at (λ z. g (f z)) xs i x lt is in
+      ap (find p) (flat_map-map g f (take (i + 1) xs) ∙ next)
+      ∙ find-append p (flat_map (λ z. g (f z)) (take i xs)) (g (f x)) (ap (find p) (sym (flat_map-map g f (take i xs))) ∙ none)
+      ∙ nothing
+
+  -- the first of all images, where those below the place are empty
+  pub first_in : (y : C) → flat_map g (map f (take i xs)) ≡ [] → slice_get (g (f x)) 0 ≡ Some y → slice_get (flat_map g (map f xs)) 0 ≡ Some y
+  first_in y none there =
+      let (rest, whole, next) = cut_at (λ z. g (f z)) xs i x lt is in
+      ap (λ t. slice_get t 0) (flat_map-map g f xs ∙ whole ∙ ap (λ t. t ++ (g (f x) ++ rest)) (sym (flat_map-map g f (take i xs)) ∙ none))
+      ∙ first_of (g (f x)) rest there
+    where
+      first_of : (zs rest : List C) → slice_get zs 0 ≡ Some y → slice_get (zs ++ rest) 0 ≡ Some y
+      first_of [] rest e = absurd (cc e)
+      first_of (z ∷ zs) rest e = e
+
+map_as_flat : {A : Type 0} (f : A → ℕ) (xs : List A) → map f xs ≡ flat_map (λ n. n ∷ []) (map f xs)
+map_as_flat f [] = refl
+map_as_flat f (x ∷ xs) = ap (λ t. f x ∷ t) (map_as_flat f xs)
+
+module _ {A : Type 0} (f : A → ℕ) (width : ℕ) (xs : List A) (i : ℕ) (x : A) (lt : i < length xs) (is : x ≡ get_or xs i x) (none : find (is_other width) (map f (take i xs)) ≡ None) where
+  below : find (is_other width) (flat_map (λ n. n ∷ []) (map f (take i xs))) ≡ None
+  below = ap (find (is_other width)) (sym (map_as_flat f (take i xs))) ∙ none
+
+  -- the first other width is that of the item at a place
+  pub other_here : f x ≢ width → find (is_other width) (map f xs) ≡ Some (f x)
+  other_here differs =
+      ap (find (is_other width)) (map_as_flat f xs)
+      ∙ found_in (λ n. n ∷ []) f xs i x lt is (is_other width) (f x) below (ap (λ b. cond b (Some (f x)) None) (other_is width (f x) differs))
+
+  -- or it is not there
+  pub not_here : f x ≡ width → find (is_other width) (map f (take (i + 1) xs)) ≡ None
+  not_here same =
+      ap (find (is_other width)) (map_as_flat f (take (i + 1) xs))
+      ∙ passed_in (λ n. n ∷ []) f xs i x lt is (is_other width) below (ap (λ b. cond b (Some (f x)) None) (same_is width (f x) same))
+
+-- the lengths of lists that are read off
+pub mapped_lengths : {A B : Type 0} (items : A → List B) (xs : List A) → map length (map items xs) ≡ map (λ x. length (items x)) xs
+mapped_lengths items [] = refl
+mapped_lengths items (x ∷ xs) = ap (λ t. length (items x) ∷ t) (mapped_lengths items xs)

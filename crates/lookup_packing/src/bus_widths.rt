@@ -1,6 +1,7 @@
 //! One width for all tuples of a bus.
-ghost use Rattle.std.specs.Prelude.{◌≡◌, ◌⊎◌, ℕ, MatchOption, MatchResult, find, length, map, nat_eq, not, slice_get};
+ghost use Rattle.std.specs.Prelude.{◌≡◌, ◌<◌, ◌⊎◌, ℕ, Some, MatchOption, MatchResult, find, length, map, nat_eq, not, slice_get};
 ghost use Rattle.std.specs.List.{flat_map};
+ghost use Rattle.indexmap.specs.IndexMap.{index_map_len};
 ghost use Rattle.lookup_model.specs.Outline.{fields_of};
 ghost use Rattle.lookup_packing.specs.BusWidths.{HasOneWidth, HaveBusWidths, IsWidthRefusal, bus_context, widths_of};
 ghost use Rattle.lookup_packing.specs.TupleWidths.{HasOtherWidth, IsTupleWidths};
@@ -8,6 +9,7 @@ ghost use Rattle.lookup_packing.specs.TupleWidths.{HasOtherWidth, IsTupleWidths}
 use crate::buses::by_bus;
 use expressions::SymbolicExpression;
 use field::Field;
+use indexmap::IndexMap;
 use lookup_model::{Lookup, LookupError};
 use std::alloc::Global;
 
@@ -26,11 +28,24 @@ pub(crate) fn assert_bus_widths<F: Field>(
 {
     let buses = by_bus(alloc, lookups)?;
     for place in 0..buses.len() {
-        if let Some((name, members)) = buses.get_index(place) {
-            assert_bus_width(alloc, name, members)?;
-        }
+        let (name, members) = bus_at(&buses, place);
+        assert_bus_width(alloc, name, members)?;
     }
     Ok(())
+}
+
+/// The name and the lookups of the bus at a place.
+fn bus_at<'a, 'b, F: Field>(
+    buses: &'b IndexMap<&'a str, Vec<&'a Lookup<F>>>,
+    place: usize,
+) -> (&'a str, &'b Vec<&'a Lookup<F>>)
+    requires { place < index_map_len buses.now }
+    ensures { slice_get buses.now.entries place ≡ Some (result.0, result.1.now) }
+{
+    match buses.get_index(place) {
+        Some((name, members)) => (*name, members),
+        None => unreachable!(),
+    }
 }
 
 /// Likewise of the lookups of one bus.
@@ -44,27 +59,37 @@ fn assert_bus_width<F: Field>(
         (λ e. (e ≡ LookupError.Memory) ⊎ ((width : ℕ) × (other : ℕ)
         × HasOtherWidth (flat_map widths_of (map (λ r. fields_of r.now) members.now)) width other × IsTupleWidths (bus_context name.now) width other e)) }
 {
-    let Some((width, other)) = two_widths(members) else {
-        return Ok(());
-    };
-    let context = format!(in alloc; "bus \"{name}\"")?;
-    Err(LookupError::TupleWidths {
-        context,
-        width,
-        other,
-    })
+    match two_widths(members) {
+        None => Ok(()),
+        Some(widths) => {
+            let context = format!(in alloc; "bus \"{name}\"")?;
+            Err(LookupError::TupleWidths {
+                context,
+                width: widths.first,
+                other: widths.other,
+            })
+        }
+    }
+}
+
+/// The first width of the tuples of a bus, and the first other one.
+#[derive(Clone, Copy)]
+struct TwoWidths {
+    first: usize,
+    other: usize,
 }
 
 /// The first width of these lookups and the first other one, if there are two.
-fn two_widths<F: Field>(members: &[&Lookup<F>]) -> Option<(usize, usize)>
+fn two_widths<F: Field>(members: &[&Lookup<F>]) -> Option<TwoWidths>
     ensures { MatchOption result
         (HasOneWidth (flat_map widths_of (map (λ r. fields_of r.now) members.now)))
-        (λ r. HasOtherWidth (flat_map widths_of (map (λ r. fields_of r.now) members.now)) r.0 r.1) }
+        (λ r. HasOtherWidth (flat_map widths_of (map (λ r. fields_of r.now) members.now)) r.first r.other) }
 {
     let width = first_width(members)?;
     for lookup in members {
-        if let Some(other) = other_width(&lookup.elements, width) {
-            return Some((width, other));
+        match other_width(&lookup.elements, width) {
+            Some(other) => return Some(TwoWidths { first: width, other }),
+            None => {}
         }
     }
     None

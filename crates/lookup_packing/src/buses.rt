@@ -1,8 +1,8 @@
 //! Groups of lookups by bus.
-ghost use Rattle.std.specs.Prelude.{◌≡◌, ◌++◌, [], ◌∷◌, IfOk, OnOk, map, None, Some};
+ghost use Rattle.std.specs.Prelude.{◌≡◌, ◌++◌, [], ◌∷◌, IfOk, OnOk, map, None, Some, option_map, string_bytes};
 ghost use Rattle.std.specs.Option.{option_map_or};
 ghost use Rattle.indexmap.specs.IndexMap.{get, insert_entry};
-ghost use Rattle.lookup_model.specs.Outline.{fields_of};
+ghost use Rattle.lookup_model.specs.Outline.{bus_of, fields_of};
 ghost use Rattle.lookup_packing.specs.Buses.{bus_groups, group_of, owned_group, owned_group_of};
 
 use field::Field;
@@ -23,8 +23,9 @@ pub fn by_bus<'a, F: Field>(
 {
     let mut buses = IndexMap::new(alloc);
     for lookup in lookups {
-        if let Kind::Global(name) = &lookup.kind {
-            push_at(alloc, &mut buses, name.as_str(), lookup)?;
+        match &lookup.kind {
+            Kind::Global(name) => push_at(alloc, &mut buses, name.as_str(), lookup)?,
+            Kind::Local => {}
         }
     }
     Ok(buses)
@@ -42,6 +43,7 @@ pub(crate) fn moved_by_bus<F: Field>(
     buses.into_values().collect(alloc)
 }
 
+/// Likewise with their names.
 fn moved_under_names<F: Field>(
     alloc: Global,
     lookups: Vec<Lookup<F>>,
@@ -50,12 +52,22 @@ fn moved_under_names<F: Field>(
 {
     let mut buses = IndexMap::new(alloc);
     for lookup in lookups {
-        if let Kind::Global(name) = &lookup.kind {
-            let name = name.clone()?;
-            push_at(alloc, &mut buses, name, lookup)?;
+        match copied_name(alloc, &lookup)? {
+            Some(name) => push_at(alloc, &mut buses, name, lookup)?,
+            None => drop(lookup),
         }
     }
     Ok(buses)
+}
+
+/// A copy of the name of the bus of a lookup, if there is one.
+fn copied_name<F: Field>(alloc: Global, lookup: &Lookup<F>) -> Result<Option<String>, AllocError>
+    ensures { IfOk result (λ name. option_map (λ text. string_bytes text) name ≡ bus_of lookup.now.kind) }
+{
+    match &lookup.kind {
+        Kind::Local => Ok(None),
+        Kind::Global(name) => Ok(Some(String::from_str(alloc, name.as_str())?)),
+    }
 }
 
 /// Appends to the group at a key. The group of a new key goes last.

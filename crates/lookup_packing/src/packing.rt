@@ -1,11 +1,9 @@
 //! Packing a list of lookups.
 ghost use Rattle.std.specs.Prelude.{◌≡◌, ◌⊎◌, All, IfOk, MatchResult, map};
 ghost use Rattle.std.specs.Fn.{FnReturnsAt};
-ghost use Rattle.std.specs.List.{sum_by};
 ghost use Rattle.lookup_model.specs.Outline.{fields_of};
 ghost use Rattle.lookup_model.specs.Records.{AreRecords, HasEqualLengths};
 ghost use Rattle.lookup_packing.specs.Buses.{owned_group};
-ghost use Rattle.lookup_packing.specs.Kept.{KeepsMessages, KeepsNets};
 ghost use Rattle.lookup_packing.specs.Packing.{AreColumnsAdded, IsFirstStuck, Packs, additive, is_additive, numbered, passing};
 ghost use Rattle.lookup_packing.specs.Trials.{Answers, IsMember};
 
@@ -41,11 +39,8 @@ pub fn packed<F: Field, D: Fn(&Lookup<F>) -> Result<usize, LookupError>>(
 ) -> Result<Vec<Lookup<F>>, LookupError>
     requires callable { (lookup : _) → IsMember lookup.now → D.pre degree lookup }
     requires lengths { All HasEqualLengths lookups.items }
-    ensures packs { Packs (Answers (FnReturnsAt D.Fn degree)) max_degree (λ (v : Vec (Lookup F) Global). map fields_of v.items) (map fields_of lookups.items) result }
+    ensures packs { Packs (Answers (FnReturnsAt D.Fn degree)) max_degree (λ v. map fields_of v.items) (map fields_of lookups.items) result }
     ensures records { IfOk result (λ v. AreRecords v.items) }
-    ensures weight { IfOk result (λ v. sum_by (λ lookup. lookup.count_weight) v.items ≡ sum_by (λ lookup. lookup.count_weight) lookups.items) }
-    ensures messages { IfOk result (λ v. KeepsMessages F.ring F.eq lookups.items v.items) }
-    ensures nets { IfOk result (λ v. KeepsNets F.ring F.eq lookups.items v.items) }
 {
     assert_bus_widths(alloc, &lookups)?;
     let (columns, additive) = parted(alloc, lookups)?;
@@ -119,7 +114,8 @@ fn in_columns<F: Field>(alloc: Global, lookups: Vec<Lookup<F>>) -> Result<Vec<Lo
     let mut columns = Vec::new(alloc);
     for next in lookups {
         let mut lookup = next;
-        lookup.column = columns.len();
+        let column = columns.len();
+        lookup.column = column;
         columns.push(lookup)?;
     }
     Ok(columns)

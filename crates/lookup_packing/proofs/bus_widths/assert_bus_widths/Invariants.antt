@@ -7,4 +7,4 @@ use Rattle.lookup_packing.proofs.bus_widths.assert_bus_widths.Given as goal
 
 abbrev pub invariant-loop-place : goal.invariant-loop-place
 invariant-loop-place g l =
-    AllByRecursion (λ name. HasOneWidth (bus_widths name (map fields_of l.fn.lookups.now))) (take l.place (bus_names (map fields_of l.fn.lookups.now)))
+    AllByRecursion (λ name. HasOneWidth (bus_widths name (map fields_of l.fn.lookups))) (take l.place (bus_names (map fields_of l.fn.lookups)))

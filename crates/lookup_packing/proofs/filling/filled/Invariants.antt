@@ -13,5 +13,5 @@ invariant-loop-next g l = record {
   left : All IsMember (into_iter_items l.next-iterator);
   seen : List (Outline (SymbolicExpression g.row.F.Denot));
   all : seen ++ map fields_of (into_iter_items l.next-iterator) ≡ map fields_of l.fn.members.items;
-  columns : AreColumns (Answers (FnReturnsAt g.D.Fn l.fn.degree.now)) l.fn.max_degree seen (map fields_of l.columns.items);
+  columns : AreColumns (Answers (FnReturnsAt g.D.Fn l.fn.degree)) l.fn.max_degree seen (map fields_of l.columns.items);
 }

@@ -16,5 +16,5 @@ invariant-loop-members g l = record {
   lengths : All HasEqualLengths l.columns.items;
   seen : List (List (Outline (SymbolicExpression g.row.F.Denot)));
   all : seen ++ map owned_group (into_iter_items l.members-iterator) ≡ map owned_group l.fn.buses.items;
-  added : AreColumnsAdded (Answers (FnReturnsAt g.D.Fn l.fn.degree.now)) l.fn.max_degree seen (map fields_of l.fn.columns.items) (map fields_of l.columns.items);
+  added : AreColumnsAdded (Answers (FnReturnsAt g.D.Fn l.fn.degree)) l.fn.max_degree seen (map fields_of l.fn.columns.items) (map fields_of l.columns.items);
 }
