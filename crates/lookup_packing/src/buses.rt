@@ -1,7 +1,7 @@
 //! Groups of lookups by bus.
 ghost use Rattle.std.specs.Prelude.{◌≡◌, ◌++◌, [], ◌∷◌, IfOk, OnOk, map, None, Some, option_map, string_bytes};
 ghost use Rattle.std.specs.Option.{option_map_or};
-ghost use Rattle.indexmap.specs.IndexMap.{get, insert_entry};
+ghost use Rattle.indexmap.specs.IndexMap.{get, insert_entry, values};
 ghost use Rattle.lookup_model.specs.Outline.{bus_of, fields_of};
 ghost use Rattle.lookup_packing.specs.Buses.{bus_groups, group_of, owned_group, owned_group_of};
 
@@ -40,7 +40,18 @@ pub(crate) fn moved_by_bus<F: Field>(
     ensures { IfOk result (λ buses. map owned_group buses.items ≡ map (λ g. g.1) (bus_groups (map fields_of lookups.items))) }
 {
     let buses = moved_under_names(alloc, lookups)?;
-    buses.into_values().collect(alloc)
+    let groups = values_of(alloc, buses)?;
+    Ok(groups)
+}
+
+/// The values of a map, in their order.
+fn values_of<K: Eq + Hash + Drop, V: Drop>(
+    alloc: Global,
+    map: IndexMap<K, V>,
+) -> Result<Vec<V>, AllocError>
+    ensures { IfOk result (λ v. v.items ≡ values map) }
+{
+    map.into_values().collect(alloc)
 }
 
 /// Likewise with their names.

@@ -8,6 +8,7 @@ mod exclusive;
 mod extraction;
 mod generation;
 mod json;
+mod packing;
 mod record;
 mod refusals;
 mod rows;

@@ -1,4 +1,0 @@
-pub mod ListLaws
-pub mod GroupLaws
-pub mod FillLaws
-pub mod WidthLaws
