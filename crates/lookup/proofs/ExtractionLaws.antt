@@ -15,7 +15,7 @@ use Rattle.lookup_model.specs.declared.error.LookupError.{LookupError}
 use Rattle.lookup_model.specs.declared.types.Lookup.{Lookup}
 use Rattle.lookup_builder.specs.Interaction.{Tuple, GlobalInteraction, ExclusiveInteraction}
 use Rattle.lookup_model.specs.Outline.{Outline}
-use Rattle.lookup.specs.Extraction.{exclusive_at, extraction, global_at, in_columns, local_at, tuple_widths, HasOtherWidth, IsFaultless, IsFirstLocalRefusal, IsLocalRefusal}
+use Rattle.lookup.specs.Extraction.{exclusive_at, extraction, global_at, in_columns, local_at, tuple_widths, IsFaultless, IsFirstLocalRefusal, IsLocalRefusal}
 
 -- a list is one longer with one more item
 length_push : {A : Type 0} (xs : List A) (x : A) → length (xs ++ x ∷ []) ≡ length xs + 1
@@ -28,21 +28,6 @@ next_column seen lookup_at lookups l m rest is =
     (λ i. map_push seen lookups l i ++ in_columns lookup_at (length_push lookups l i) rest)
     ∙ append_assoc (map seen lookups) (seen l ∷ []) (in_columns lookup_at (length lookups + 1) rest)
     ∙ ap (λ s. map seen lookups ++ s ∷ in_columns lookup_at (length lookups + 1) rest) is
-
--- one more well formed record
-pub AreRecords-push : {F : Type 0} (lookups : List (Lookup F)) (l : Lookup F) → AreRecords lookups → IsRecordAt (length lookups) l → AreRecords (lookups ++ l ∷ [])
-AreRecords-push {F} lookups l records record_at i lookup lt there = by_place (cases_lt i (length lookups))
-  where
-    found : get_or (lookups ++ l ∷ []) i lookup ≡ lookup
-    found = get_or_from_slice_get (lookups ++ l ∷ []) i lookup lookup there
-
-    by_place : (i < length lookups) ⊎ (length lookups ≤ i) → IsRecordAt i lookup
-    by_place (inl below) =
-        records i lookup below (slice_get-get_or lookups i lookup below ∙ ap Some (sym (get_or-append lookups (l ∷ []) lookup i below) ∙ found))
-    by_place (inr above) =
-        let last : i ≡ length lookups = omega (arith, lt, above, length_push lookups l) in
-        let same : l ≡ lookup = sym (get_or-append_seam lookups l [] lookup) ∙ ap (λ n. get_or (lookups ++ l ∷ []) n lookup) (sym last) ∙ found in
-        subst (λ (n : ℕ). IsRecordAt n lookup) (sym last) (subst (λ (x : Lookup F). IsRecordAt (length lookups) x) same record_at)
 
 module _ {E : Type 0} where
   -- the first refusal after a local interaction without a fault
@@ -75,11 +60,6 @@ module _ {L M R E : Type 0} (seen : L → Outline E) (lookup_at : ℕ → M → 
       (λ i. map seen (pushed i) ++ in_columns lookup_at (length (pushed i)) (map seen_interaction later))
       ∙ next_column seen lookup_at before l (seen_interaction x) (map seen_interaction later) (is ∙ ap (λ n. lookup_at n (seen_interaction x)) at)
       ∙ ap (λ t. map seen before ++ in_columns lookup_at (length before) (map seen_interaction t)) (sym next)
-
--- the lookups with one more are well formed
-pub next_records : {F : Type 0} (before after : List (Lookup F)) (l : Lookup F) (column : ℕ) → after ≡ before ++ l ∷ [] → column ≡ length before → AreRecords before → IsRecordAt column l → AreRecords after
-next_records {F} before after l column pushed at records record_at =
-    subst (λ (t : List (Lookup F)). AreRecords t) (sym pushed) (AreRecords-push before l records (subst (λ (n : ℕ). IsRecordAt n l) at record_at))
 
 -- as many lookups as interactions
 length-in_columns : {M E : Type 0} (lookup_at : ℕ → M → Outline E) (n : ℕ) (interactions : List M) → length (in_columns lookup_at n interactions) ≡ length interactions
@@ -130,36 +110,8 @@ module _ {A E : Type 0} (items : A → List E) where
   same_widths vs tuples e =
       sym (map-map length items vs) ∙ ap (map length) e ∙ map-map length (λ t. t.fields) tuples
 
--- the first list whose length differs from that of the first one
-pub other_width : {A : Type 0} (f : A → ℕ) (xs : List A) (i : ℕ) (first x : A) (width other : ℕ) → slice_get xs 0 ≡ Some first → f first ≡ width → slice_get xs i ≡ Some x → f x ≡ other → other ≢ width
-    → ((j : ℕ) (t : A) → j < i → slice_get xs j ≡ Some t → f t ≡ width) → HasOtherWidth (map f xs) width other
-other_width {A} f xs i first x width other at_first first_is at_x x_is differs below = record {
-  place = i;
-  first = slice_get-map f xs 0 ∙ ap (option_map f) at_first ∙ ap Some first_is;
-  differs = differs;
-  found = slice_get-map f xs i ∙ ap (option_map f) at_x ∙ ap Some x_is;
-  before = λ j v lt there. by_item j v lt (slice_get xs j) refl (sym (slice_get-map f xs j) ∙ there);
-}
-  where
-    by_item : (j v : ℕ) → j < i → (o : Option A) → slice_get xs j ≡ o → option_map f o ≡ Some v → v ≡ width
-    by_item j v lt None is there = absurd (cc there)
-    by_item j v lt (Some t) is there =
-        let value : f t ≡ v = cc there in sym value ∙ below j t lt is
-
 -- two lists that read off one list are equally long
 pub same_lengths : {A B C T : Type 0} (items : A → B) (f : T → B) (g : T → C) (vs : List A) (ms : List C) (ts : List T) → map items vs ≡ map f ts → ms ≡ map g ts → length ms ≡ length vs
 same_lengths items f g vs ms ts vs_are ms_are =
     ap length ms_are ∙ length-map ts g ∙ sym (length-map ts f) ∙ sym (ap length vs_are) ∙ length-map vs items
 
--- what holds of the items below a place and of the one there
-pub holds_below : {A : Type 0} (P : A → Type 0) (xs : List A) (n : ℕ) (x : A) → n < length xs → x ≡ get_or xs n x → P x → ((i : ℕ) (t : A) → i < n → slice_get xs i ≡ Some t → P t)
-    → (i : ℕ) (t : A) → i < n + 1 → slice_get xs i ≡ Some t → P t
-holds_below {A} P xs n x lt is here below i t next there = by_place (cases_lt i n)
-  where
-    by_place : (i < n) ⊎ (n ≤ i) → P t
-    by_place (inl less) = below i t less there
-    by_place (inr least) =
-        let same : i ≡ n = omega arith in
-        let found : slice_get xs n ≡ Some t = subst (λ (m : ℕ). slice_get xs m ≡ Some t) same there in
-        let equal : x ≡ t = cc (ap Some is ∙ sym (slice_get-get_or xs n x lt) ∙ found) in
-        subst P equal here

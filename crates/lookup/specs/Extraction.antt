@@ -12,6 +12,7 @@ use Rattle.lookup_model.specs.Refusal.{from_air}
 use Rattle.lookup_model.specs.declared.error.LookupError.{LookupError}
 use Rattle.lookup_model.specs.declared.error.LookupError.TheVariants.{Memory, CountWeightOverflow, TupleWidths}
 use Rattle.lookup_builder.specs.Interaction.{Tuple, GlobalInteraction, ExclusiveInteraction}
+use Rattle.lookup_packing.specs.TupleWidths.{HasOtherWidth, IsTupleWidths}
 use Rattle.lookup_record.specs.RecordedAir.{EvaluatesNew, recorded_air}
 use Rattle.lookup_record.specs.declared.symbolic.InteractionSymbolicBuilder.{InteractionSymbolicBuilder}
 use Rattle.lookup.specs.Lookups.{lookups_of}
@@ -61,20 +62,6 @@ module _ {E : Type 0} where
   extraction locals globals exclusives =
       (in_columns local_at 0 locals ++ in_columns global_at (length locals) globals)
       ++ in_columns exclusive_at (length locals + length globals) exclusives
-
--- the first width, and the first one that differs from it
-pub record HasOtherWidth (widths : List ℕ) (width other : ℕ) : Type 0 where
-  pub place : ℕ
-  pub first : slice_get widths 0 ≡ Some width
-  pub differs : other ≢ width
-  pub found : slice_get widths place ≡ Some other
-  pub before : (i v : ℕ) → i < place → slice_get widths i ≡ Some v → v ≡ width
-
--- the refusal of two widths, with a context
-pub record IsTupleWidths (context : List ℕ) (width other : ℕ) (e : LookupError) : Type 0 where
-  pub text : String Global
-  pub text_is : string_bytes text ≡ context
-  pub error_is : e ≡ TupleWidths text width other
 
 -- the bytes of `local lookup`
 abbrev pub local_context : List ℕ

@@ -15,13 +15,13 @@ mod lookups;
 pub mod protocol;
 pub mod symbolic;
 pub mod traits;
-mod widths;
 
 pub use guards::check_multiplicity_height_bound;
 pub use logup::LogUpGadget;
 pub use lookup_model::{
     Challenges, Kind, Lookup, LookupError, LookupTerminal, fits, has_equal_lengths,
 };
+pub use lookup_packing::assert_uniform_tuple_width;
 pub use lookup_record::{
     Count, IndexedDeclarations, IndexedLookupBuilder, IndexedLookupError, IndexedLookups,
     IndexedRead, IndexedTable, InteractionBuilder, InteractionSymbolicBuilder, LocalTuple,
@@ -30,4 +30,3 @@ pub use lookup_record::{
 };
 pub use lookups::Lookups;
 pub use protocol::LookupProtocol;
-pub use widths::assert_uniform_tuple_width;

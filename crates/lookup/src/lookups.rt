@@ -7,6 +7,7 @@ ghost use Rattle.lookup_model.specs.Outline.{outline_of};
 ghost use Rattle.lookup_model.specs.Records.{AreRecords, DoFit, IsFirstMalformed};
 
 use crate::extraction;
+use crate::protocol::LookupProtocol;
 use air::{Air, AirLayout};
 use field::{ExtensionField, Field};
 use lookup_model::{Lookup, LookupError};
@@ -26,6 +27,11 @@ impl<F: Field> Lookups<F> {
     ghost use Rattle.lookup.specs.Extraction.{Extracts};
     ghost use Rattle.lookup.specs.Lookups.{lookups_of};
     ghost use Rattle.lookup_record.specs.RecordedWithin.{EvaluatesWithin};
+    ghost use Rattle.std.specs.Fn.{FnReturnsAt};
+    ghost use Rattle.lookup_model.specs.Outline.{fields_of};
+    ghost use Rattle.lookup_packing.specs.Fewest.{AnswersDegree, HasFewestColumns};
+    ghost use Rattle.lookup_packing.specs.Packing.{Packs};
+    ghost use Rattle.lookup_packing.specs.Trials.{Answers, IsMember};
 
     /// The lookups that an AIR records in a new builder with its own layout: local ones, then those
     /// on buses, then groups, each in the order of their pushes, in the columns 0, 1, 2, …
@@ -65,6 +71,42 @@ impl<F: Field> Lookups<F> {
             Some(lookup) => Err(LookupError::BadRecord { lookup }),
             None => Ok(Lookups { lookups: records }),
         }
+    }
+
+    /// Joins the lookups of each bus into as few columns as a greedy filling takes, by the degree
+    /// that the closure gives; see [`lookup_packing::packed`].
+    ///
+    /// Local lookups and those with flags come first, in their order, then the buses in the order in
+    /// which they are first seen. Refuses `TupleWidths` at the first bus with two widths, then what
+    /// the first refused trial refuses: the closure's own refusal, or `CountWeightOverflow`. The set
+    /// is then dropped.
+    pub fn pack_same_bus_with_degree<D: Fn(&Lookup<F>) -> Result<usize, LookupError>>(
+        self,
+        alloc: Global,
+        max_degree: usize,
+        degree: D,
+    ) -> Result<Self, LookupError>
+        requires callable { (lookup : _) → IsMember lookup.now → D.pre degree lookup }
+        ensures packs { Packs (Answers (FnReturnsAt D.Fn degree)) max_degree (λ set. map fields_of (lookups_of set)) (map fields_of (lookups_of self)) result }
+    {
+        let lookups = lookup_packing::packed(alloc, self.lookups, max_degree, degree)?;
+        Ok(Lookups { lookups })
+    }
+
+    /// Likewise by the degree of the gadget at transition degree 0. No consecutive split of the
+    /// additive lookups of a bus within `max_degree` has fewer columns.
+    ///
+    /// A lookup alone is not refused for its degree.
+    pub fn pack_same_bus<LG: LookupProtocol>(
+        self,
+        alloc: Global,
+        gadget: &LG,
+        max_degree: usize,
+    ) -> Result<Self, LookupError>
+        ensures packs { Packs AnswersDegree max_degree (λ set. map fields_of (lookups_of set)) (map fields_of (lookups_of self)) result }
+        ensures fewest { IfOk result (λ set. HasFewestColumns max_degree (map fields_of (lookups_of self)) (map fields_of (lookups_of set))) }
+    {
+        self.pack_same_bus_with_degree(alloc, max_degree, |lookup| gadget.constraint_degree(lookup))
     }
 
     /// The lookups in the order of their columns.

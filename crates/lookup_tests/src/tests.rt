@@ -10,6 +10,7 @@ mod extraction;
 mod generation;
 mod indexed;
 mod json;
+mod packing;
 mod record;
 mod refusals;
 mod rows;

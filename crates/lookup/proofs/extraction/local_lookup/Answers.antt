@@ -5,7 +5,7 @@ use Rattle.std.specs.List.{sum_by}
 use Rattle.std.specs.Vec.Iter.{into_iter_items}
 use Rattle.lookup_builder.specs.Pushed.{tuple_of}
 use Rattle.lookup_builder.specs.Records.{local_of}
-use Rattle.lookup.specs.Extraction.{HasOtherWidth}
+use Rattle.lookup_packing.specs.TupleWidths.{HasOtherWidth}
 use Rattle.lookup.proofs.ExtractionLaws.{same_lengths, same_widths, whole_list, widths_of_tuples}
 use Rattle.lookup.proofs.extraction.local_lookup.Goals as goal
 

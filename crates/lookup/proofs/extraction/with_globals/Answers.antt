@@ -2,7 +2,8 @@ use Rattle.std.proofs.Common.{◌≡◌, length, ◌∙◌, arith}
 use Rattle.lookup_builder.specs.Records.{global_of}
 use Rattle.lookup_model.specs.Outline.{fields_of}
 use Rattle.lookup.specs.Extraction.{global_at}
-use Rattle.lookup.proofs.ExtractionLaws.{next_records, next_seen}
+use Rattle.lookup.proofs.ExtractionLaws.{next_seen}
+use Rattle.lookup_packing.proofs.RecordLaws.{next_records}
 use Rattle.lookup.proofs.extraction.with_globals.Goals as goal
 
 pub loop-interaction-preserved : goal.loop-interaction-preserved

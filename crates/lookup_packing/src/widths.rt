@@ -1,8 +1,8 @@
 //! Widths of tuples that are folded into one lookup.
 ghost use Rattle.std.specs.Prelude.{◌≡◌, ◌⊎◌, ℕ, [], All, MatchResult, length, map};
-ghost use Rattle.lookup.specs.Extraction.{HasOtherWidth, IsTupleWidths};
+ghost use Rattle.lookup_packing.specs.TupleWidths.{HasOtherWidth, IsTupleWidths};
 
-use air::SymbolicExpression;
+use expressions::SymbolicExpression;
 use lookup_model::LookupError;
 use std::alloc::Global;
 
@@ -33,7 +33,7 @@ pub fn assert_uniform_tuple_width<F>(
 }
 
 /// The refusal of two widths with a context, or out of memory for its text.
-fn tuple_widths(alloc: Global, context: &str, width: usize, other: usize) -> LookupError
+pub(crate) fn tuple_widths(alloc: Global, context: &str, width: usize, other: usize) -> LookupError
     ensures { (result ≡ LookupError.Memory) ⊎ IsTupleWidths context.now width other result }
 {
     match String::from_str(alloc, context) {

@@ -1,7 +1,7 @@
 use Rattle.std.proofs.Common.{◌≢◌, slice_index_or, ◌≡◌, Some, length, slice_get, ap, inl, inr, sym, ◌∙◌, arith}
 use Rattle.std.proofs.lemmas.Option.{slice_get-get_or}
-use Rattle.lookup.proofs.ExtractionLaws.{holds_below, other_width}
-use Rattle.lookup.proofs.widths.assert_uniform_tuple_width.Goals as goal
+use Rattle.lookup_packing.proofs.WidthLaws.{holds_below, other_width}
+use Rattle.lookup_packing.proofs.widths.assert_uniform_tuple_width.Goals as goal
 
 pub returns-then-len-width : goal.returns-then-len-width
 returns-then-len-width g c =

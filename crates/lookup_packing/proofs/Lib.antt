@@ -1,0 +1,11 @@
+pub mod FewestColumns
+mod FewestParts
+mod FillLaws
+mod GroupLaws
+mod JoinedDegrees
+mod ListLaws
+pub mod RecordLaws
+mod PackLaws
+mod StepLaws
+mod TrialLaws
+mod WidthLaws

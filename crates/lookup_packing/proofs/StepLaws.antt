@@ -1,0 +1,105 @@
+-- Steps of a filling, and the lookups that it takes.
+use Rattle.std.proofs.Common.{◌≡◌, ◌⊎◌, inl, inr, ◌&&◌, ◌+◌, ℕ, Bool, true, false, not, List, [], ◌∷◌, ◌++◌, Option, None, Some, Result, length, map, All, refl, sym, ap, subst, ◌∙◌, arith, length-append, true≢false}
+use Rattle.std.proofs.Math.ListN.{get_or-append}
+use Rattle.std.proofs.lemmas.List.{length-map, map-append}
+use Rattle.std.proofs.lemmas.List.Elements.{All-cons, All-from_recursion, All-push, recursion_from_All}
+use Rattle.std.specs.List.{AllByRecursion}
+use Rattle.std.specs.declared.alloc.Global.{Global}
+use Rattle.std.specs.declared.vec.Vec.{Vec}
+use Rattle.std.specs.Option.{is_some, option_map}
+use Rattle.expressions.specs.declared.base_expression.SymbolicExpression.{SymbolicExpression}
+use Rattle.lookup_model.specs.Outline.{Outline, bus_of, fields_of}
+use Rattle.lookup_model.specs.Records.{HasEqualLengths}
+use Rattle.lookup_model.specs.declared.error.LookupError.{LookupError}
+use Rattle.lookup_model.specs.declared.types.Lookup.{Lookup}
+use Rattle.lookup_packing.specs.Buses.{bus_groups, owned_group}
+use Rattle.lookup_packing.specs.Packing.{is_additive}
+use Rattle.lookup_packing.specs.Trials.{IsMember, IsStep, IsTried}
+use Rattle.lookup_packing.specs.declared.trials.Trial.TheVariants.{Apart, Joined}
+use Rattle.lookup_packing.proofs.FewestColumns.{IsPlain}
+use Rattle.lookup_packing.proofs.PackLaws.{in_groups}
+use Rattle.lookup_packing.proofs.FillLaws.{AreColumns, first_column, joined_column, last_part, next_column}
+
+-- columns with one more lookup
+pub stepped : {F : Type 0} (answers : Outline (SymbolicExpression F) → Result ℕ LookupError → Type 0) (most : ℕ) (seen before after : List (Outline (SymbolicExpression F))) (next : Outline (SymbolicExpression F))
+    → AreColumns answers most seen before → IsStep answers most before next after → AreColumns answers most (seen ++ next ∷ []) after
+stepped answers most seen before after next columns (inl h) = first_column answers most seen before after next columns h.0 h.1
+stepped answers most seen before after next columns (inr (front, last, is, inl h)) = joined_column answers most seen front after last next (last_part answers most seen before front last columns is) h.0 h.1 h.2
+stepped answers most seen before after next columns (inr (front, last, is, inr h)) = next_column answers most seen before front after last next (last_part answers most seen before front last columns is) is h.0 h.1
+
+no_flags_of : {A B : Type 0} (f : A → B) (b : Bool) (flags : Option A) → (b && not (is_some (option_map f flags))) ≡ true → flags ≡ None
+no_flags_of f b None e = refl
+no_flags_of f true (Some x) e = absurd (true≢false (sym e))
+no_flags_of f false (Some x) e = absurd (true≢false (sym e))
+
+-- a well formed lookup that may be joined
+pub additive_member : {F : Type 0} (l : Lookup F) → is_additive (fields_of l) ≡ true → HasEqualLengths l → IsMember l
+additive_member l joins lengths = record {
+  lengths = lengths;
+  no_flags = no_flags_of (λ fs. fs.items) (is_some (bus_of l.kind)) l.flags joins;
+}
+
+-- columns without the last one
+pub popped : {F : Type 0} (columns front : List (Lookup F)) (last : Lookup F) → columns ≡ front ++ last ∷ [] → map fields_of columns ≡ map fields_of front ++ fields_of last ∷ []
+popped columns front last is = ap (map fields_of) is ∙ map-append fields_of front (last ∷ [])
+
+module _ {F : Type 0} (answers : Outline (SymbolicExpression F) → Result ℕ LookupError → Type 0) (most : ℕ) where
+  front_members : (columns front : List (Lookup F)) (last : Lookup F) → All IsMember columns → columns ≡ front ++ last ∷ [] → All IsMember front
+  front_members columns front last all is =
+      let both = subst (λ (t : List (Lookup F)). All IsMember t) is all in
+      λ k d lt. subst (λ (l : Lookup F). IsMember l) (get_or-append front (last ∷ []) d k lt) (both k d (omega (arith, lt, length-append front (last ∷ []))))
+
+  pub first_step : (columns front after : List (Lookup F)) (next : Lookup F) → length front ≡ 0 → columns ≡ front ++ [] → after ≡ front ++ next ∷ [] → IsMember next → All IsMember after × IsStep answers most (map fields_of columns) (fields_of next) (map fields_of after)
+  first_step columns [] after next none is pushed member = (subst (λ (t : List (Lookup F)). All IsMember t) (sym pushed) (All-cons IsMember next [] member (λ k d lt. absurd (omega (arith, lt)))), inl (ap (map fields_of) is, ap (map fields_of) pushed))
+  first_step columns (x ∷ xs) after next none is pushed member = absurd (omega (arith, none))
+
+  pub joined_step : (columns front after : List (Lookup F)) (last next both : Lookup F) → All IsMember columns → columns ≡ front ++ last ∷ [] → IsTried answers most last next (Joined both) → after ≡ front ++ both ∷ []
+      → All IsMember after × IsStep answers most (map fields_of columns) (fields_of next) (map fields_of after)
+  joined_step columns front after last next both members is joins pushed = (
+    subst (λ (t : List (Lookup F)). All IsMember t) (sym pushed) (All-push IsMember front both (front_members columns front last members is) joins.0),
+    inr (map fields_of front, fields_of last, popped columns front last is, inl (joins.1, joins.2, popped after front both pushed ∙ ap (λ o. map fields_of front ++ o ∷ []) joins.3)),
+  )
+
+  pub next_step : (columns front first after : List (Lookup F)) (last next a b : Lookup F) → All IsMember columns → columns ≡ front ++ last ∷ [] → IsTried answers most last next (Apart a b) → first ≡ front ++ a ∷ [] → after ≡ first ++ b ∷ []
+      → All IsMember after × IsStep answers most (map fields_of columns) (fields_of next) (map fields_of after)
+  next_step columns front first after last next a b members is apart put pushed =
+      let before = front_members columns front last members is in
+      let firsts = subst (λ (t : List (Lookup F)). All IsMember t) (sym put) (All-push IsMember front a before apart.0) in (
+        subst (λ (t : List (Lookup F)). All IsMember t) (sym pushed) (All-push IsMember first b firsts apart.1),
+        inr (map fields_of front, fields_of last, popped columns front last is, inr (apart.2, popped after first b pushed ∙ (λ i. (popped first front a put ∙ ap (λ o. map fields_of front ++ o ∷ []) apart.3 ∙ sym (popped columns front last is)) i ++ apart.4 i ∷ []))),
+      )
+
+-- a lookup whose fields are those of a plain one is a member, and the other way
+plain_of : {F : Type 0} (l : Lookup F) → IsMember l → IsPlain (fields_of l)
+plain_of l member = record {
+  lengths = member.lengths.multiplicities ∙ sym (length-map l.elements.items (λ tuple. tuple.items));
+  no_flags = ap (option_map (λ fs. fs.items)) member.no_flags;
+}
+
+none_mapped : {A B : Type 0} (f : A → B) (o : Option A) → option_map f o ≡ None → o ≡ None
+none_mapped f None e = refl
+none_mapped f (Some x) e = absurd (cc e)
+
+member_of_plain : {F : Type 0} (l : Lookup F) → IsPlain (fields_of l) → IsMember l
+member_of_plain l plain =
+    let none : l.flags ≡ None = none_mapped (λ fs. fs.items) l.flags plain.no_flags in record {
+      lengths = record { multiplicities = plain.lengths ∙ length-map l.elements.items (λ tuple. tuple.items); flags = λ x e. absurd (cc (sym none ∙ e)) };
+      no_flags = none;
+    }
+
+-- the groups of members hold members
+pub buses_members : {F : Type 0} (ls : List (Lookup F)) (vs : List (Vec (Lookup F) Global)) → map owned_group vs ≡ map (λ g. g.1) (bus_groups (map fields_of ls)) → All IsMember ls → All (λ v. All IsMember v.items) vs
+buses_members {F} ls vs are members =
+    All-from_recursion (λ v. All IsMember v.items) vs (each vs (in_groups IsPlain (map fields_of ls) vs are (plains ls (recursion_from_All IsMember ls members))))
+  where
+    plains : (xs : List (Lookup F)) → AllByRecursion IsMember xs → AllByRecursion IsPlain (map fields_of xs)
+    plains [] h = tt
+    plains (x ∷ xs) h = (plain_of x h.0, plains xs h.1)
+
+    back : (xs : List (Lookup F)) → AllByRecursion (λ l. IsPlain (fields_of l)) xs → AllByRecursion IsMember xs
+    back [] h = tt
+    back (x ∷ xs) h = (member_of_plain x h.0, back xs h.1)
+
+    each : (ws : List (Vec (Lookup F) Global)) → AllByRecursion (λ v. AllByRecursion (λ l. IsPlain (fields_of l)) v.items) ws → AllByRecursion (λ v. All IsMember v.items) ws
+    each [] h = tt
+    each (w ∷ ws) h = (All-from_recursion IsMember w.items (back w.items h.0), each ws h.1)

@@ -1,0 +1,33 @@
+use Rattle.std.proofs.Common.{◌≡◌, List, map, inl, inr, sym, ap, subst, ◌∙◌}
+use Rattle.std.proofs.lemmas.Result.{err_from_is_err_and}
+use Rattle.std.specs.Fn.{FnReturnsAt}
+use Rattle.lookup_model.specs.Outline.{fields_of}
+use Rattle.lookup_model.specs.declared.types.Lookup.{Lookup}
+use Rattle.lookup_packing.specs.Buses.{bus_names, on_bus}
+use Rattle.lookup_packing.specs.BusWidths.{HaveBusWidths}
+use Rattle.lookup_packing.specs.Trials.{Answers}
+use Rattle.lookup_packing.proofs.PackLaws.{all_packed, fill_refusal, groups_of}
+use Rattle.lookup_packing.proofs.StepLaws.{buses_members}
+use Rattle.lookup_packing.proofs.packing.packed.Goals as goal
+
+pub with_buses-requires-clause-buses : goal.with_buses-requires-clause-buses
+with_buses-requires-clause-buses g c = buses_members c.in_ok-columns.additive.items c.in_ok-buses.buses.items c.in_ok-buses.ensures c.in_ok-columns.ensures.3
+
+pub returns-in_err-columns-2-clause-packs : goal.returns-in_err-columns-2-clause-packs
+returns-in_err-columns-2-clause-packs g c =
+    let before = map fields_of c.args.lookups.items in
+    let p = err_from_is_err_and c.from_residual-in_err-columns-2.result c.from_residual-in_err-columns-2.ensures.1 in
+    rw (p.1, p.2) (elim c.in_err-columns-2.ensures [
+      | inl memory ↦ inl memory
+      | inr w ↦ inr (inr (
+        subst (λ (t : List (Lookup g.row.F.Denot)). HaveBusWidths (map fields_of t)) c.deref.ensures.value c.in_ok-assert_bus_widths.ensures,
+        fill_refusal (Answers (FnReturnsAt g.D.Fn c.args.degree)) c.args.max_degree before _ c.in_err-columns-2.field-0.0 (c.in_ok-buses.ensures ∙ groups_of (map fields_of c.in_ok-columns.additive.items) ∙ ap (λ os. map (λ name. on_bus name os) (bus_names os)) c.in_ok-columns.ensures.2) w,
+      ))
+    ])
+
+pub returns-clause-packs : goal.returns-clause-packs
+returns-clause-packs g c =
+    let before = map fields_of c.args.lookups.items in (
+      subst (λ (t : List (Lookup g.row.F.Denot)). HaveBusWidths (map fields_of t)) c.deref.ensures.value c.in_ok-assert_bus_widths.ensures,
+      all_packed (Answers (FnReturnsAt g.D.Fn c.args.degree)) c.args.max_degree before _ _ _ _ (c.in_ok-buses.ensures ∙ groups_of (map fields_of c.in_ok-columns.additive.items) ∙ ap (λ os. map (λ name. on_bus name os) (bus_names os)) c.in_ok-columns.ensures.2) c.in_ok-columns.ensures.0 c.in_ok-columns-2.ensures.1 c.in_ok-in_columns.ensures.fields,
+    )

@@ -1,0 +1,35 @@
+use Rattle.std.proofs.Common.{◌≡◌, true, false, not, List, map, All, sym, ap, subst, ◌∙◌}
+use Rattle.std.proofs.lemmas.List.{map_push}
+use Rattle.std.proofs.lemmas.List.Elements.{All-head, All-push, All-tail}
+use Rattle.lookup_model.specs.Outline.{fields_of}
+use Rattle.lookup_model.specs.Records.{HasEqualLengths}
+use Rattle.lookup_model.specs.declared.types.Lookup.{Lookup}
+use Rattle.lookup_packing.specs.Packing.{is_additive}
+use Rattle.lookup_packing.specs.Trials.{IsMember}
+use Rattle.lookup_packing.proofs.ListLaws.{kept_pushed, left_out}
+use Rattle.lookup_packing.proofs.StepLaws.{additive_member}
+use Rattle.lookup_packing.proofs.packing.parted.Goals as goal
+
+pub loop-lookup-preserved-in-Continue-1 : goal.loop-lookup-preserved-in-Continue-1
+loop-lookup-preserved-in-Continue-1 g c =
+    let inv = c.loop-lookup.invariant in
+    let left = subst (λ (t : List (Lookup g.row.F.Denot)). All HasEqualLengths t) c.in-Some.ensures.steps.0 inv.left in
+    let test : is_additive (fields_of c.in-Some.lookup) ≡ true = sym c.may_be_joined.ensures ∙ c.if-may_be_joined.true in record {
+      left = All-tail HasEqualLengths _ _ left;
+      pass = left_out fields_of (λ o. not (is_additive o)) _ _ _ _ c.in-Some.lookup c.in-Some.ensures.steps.0 (ap not test) inv.pass;
+      lengths = inv.lengths;
+      add = kept_pushed fields_of is_additive c.loop-lookup.additive.items _ _ _ _ c.in-Some.lookup c.in_ok-push.ensures.items c.in-Some.ensures.steps.0 test inv.add;
+      members = subst (λ (t : List (Lookup g.row.F.Denot)). All IsMember t) (sym c.in_ok-push.ensures.items) (All-push IsMember _ _ inv.members (additive_member c.in-Some.lookup test (All-head HasEqualLengths _ _ left)));
+    }
+
+pub loop-lookup-preserved : goal.loop-lookup-preserved
+loop-lookup-preserved g c =
+    let inv = c.loop-lookup.invariant in
+    let left = subst (λ (t : List (Lookup g.row.F.Denot)). All HasEqualLengths t) c.in-Some.ensures.steps.0 inv.left in
+    let test : is_additive (fields_of c.in-Some.lookup) ≡ false = sym c.may_be_joined.ensures ∙ c.if-may_be_joined.false in record {
+      left = All-tail HasEqualLengths _ _ left;
+      pass = kept_pushed fields_of (λ o. not (is_additive o)) c.loop-lookup.columns.items _ _ _ _ c.in-Some.lookup c.in_ok-push-2.ensures.items c.in-Some.ensures.steps.0 (ap not test) inv.pass;
+      lengths = subst (λ (t : List (Lookup g.row.F.Denot)). All HasEqualLengths t) (sym c.in_ok-push-2.ensures.items) (All-push HasEqualLengths _ _ inv.lengths (All-head HasEqualLengths _ _ left));
+      add = left_out fields_of is_additive _ _ _ _ c.in-Some.lookup c.in-Some.ensures.steps.0 test inv.add;
+      members = inv.members;
+    }

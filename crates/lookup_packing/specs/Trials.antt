@@ -1,0 +1,51 @@
+-- One step of a filling: an open column, and the lookup that is tried with it.
+use Rattle.std.specs.Prelude.{◌≡◌, ◌+◌, ◌<◌, ◌≤◌, ◌^◌, ◌⊎◌, ℕ, List, [], ◌∷◌, ◌++◌, None, Result, Ok, Err, map}
+use Rattle.expressions.specs.declared.base_expression.SymbolicExpression.{SymbolicExpression}
+use Rattle.lookup_model.specs.Outline.{Outline, fields_of}
+use Rattle.lookup_model.specs.Records.{HasEqualLengths}
+use Rattle.lookup_model.specs.declared.error.LookupError.{LookupError}
+use Rattle.lookup_model.specs.declared.error.LookupError.TheVariants.{CountWeightOverflow}
+use Rattle.lookup_model.specs.declared.types.Lookup.{Lookup}
+use Rattle.lookup_packing.specs.Packing.{trial}
+use Rattle.lookup_packing.specs.declared.trials.Trial.{Trial}
+use Rattle.lookup_packing.specs.declared.trials.Trial.TheVariants.{Apart, Joined}
+
+module _ {F : Type 0} where
+  -- what a closure answers to a lookup with these fields
+  abbrev pub Answers : (Lookup F → Result ℕ LookupError → Type 0) → Outline (SymbolicExpression F) → Result ℕ LookupError → Type 0
+  Answers returns o r = (lookup : Lookup F) × (fields_of lookup ≡ o) × HasEqualLengths lookup × returns lookup r
+
+  -- a well formed lookup without flags
+  pub record IsMember (lookup : Lookup F) : Type 0 where
+    pub lengths : HasEqualLengths lookup
+    pub no_flags : lookup.flags ≡ None
+
+  module _ (answers : Outline (SymbolicExpression F) → Result ℕ LookupError → Type 0) (max_degree : ℕ) where
+    -- the answer to a trial is within the degree, or above it
+    abbrev pub IsLow : Outline (SymbolicExpression F) → Outline (SymbolicExpression F) → Type 0
+    IsLow a b = (n : ℕ) × answers (trial a b) (Ok n) × (n ≤ max_degree)
+
+    abbrev pub IsHigh : Outline (SymbolicExpression F) → Outline (SymbolicExpression F) → Type 0
+    IsHigh a b = (n : ℕ) × answers (trial a b) (Ok n) × (max_degree < n)
+
+    -- two lookups are joined, or they stay as they are
+    abbrev pub IsTried : Lookup F → Lookup F → Trial F → Type 0
+    IsTried a b (Joined c) =
+        IsMember c × IsLow (fields_of a) (fields_of b) × ((fields_of a).count_weight + (fields_of b).count_weight < 2 ^ 32)
+        × (fields_of c ≡ record (trial (fields_of a) (fields_of b)) { count_weight = (fields_of a).count_weight + (fields_of b).count_weight })
+    IsTried a b (Apart c d) =
+        IsMember c × IsMember d × IsHigh (fields_of a) (fields_of b) × (fields_of c ≡ fields_of a) × (fields_of d ≡ fields_of b)
+
+    -- the refusal of a trial: the closure's, or that of a sum of weights that does not fit
+    abbrev pub IsTrialRefusal : Outline (SymbolicExpression F) → Outline (SymbolicExpression F) → LookupError → Type 0
+    IsTrialRefusal a b e =
+        answers (trial a b) (Err e) ⊎ ((e ≡ CountWeightOverflow) × IsLow a b × (2 ^ 32 ≤ a.count_weight + b.count_weight))
+
+    -- Columns with one more lookup: the first one, one that joins the last column, or one behind it.
+    abbrev pub IsStep : List (Outline (SymbolicExpression F)) → Outline (SymbolicExpression F) → List (Outline (SymbolicExpression F)) → Type 0
+    IsStep before next after =
+        ((before ≡ []) × (after ≡ next ∷ []))
+        ⊎ ((front : List (Outline (SymbolicExpression F))) × (last : Outline (SymbolicExpression F)) × (before ≡ front ++ last ∷ [])
+        × ((IsLow last next × (last.count_weight + next.count_weight < 2 ^ 32)
+        × (after ≡ front ++ record (trial last next) { count_weight = last.count_weight + next.count_weight } ∷ []))
+        ⊎ (IsHigh last next × (after ≡ before ++ next ∷ []))))

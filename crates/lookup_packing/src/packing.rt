@@ -1,0 +1,122 @@
+//! Packing a list of lookups.
+ghost use Rattle.std.specs.Prelude.{◌≡◌, ◌⊎◌, All, IfOk, MatchResult, map};
+ghost use Rattle.std.specs.Fn.{FnReturnsAt};
+ghost use Rattle.lookup_model.specs.Outline.{fields_of};
+ghost use Rattle.lookup_model.specs.Records.{AreRecords, HasEqualLengths};
+ghost use Rattle.lookup_packing.specs.Buses.{owned_group};
+ghost use Rattle.lookup_packing.specs.Packing.{AreColumnsAdded, IsFirstStuck, Packs, additive, is_additive, numbered, passing};
+ghost use Rattle.lookup_packing.specs.Trials.{Answers, IsMember};
+
+use crate::buses::moved_by_bus;
+use crate::bus_widths::assert_bus_widths;
+use crate::filling::filled;
+use field::Field;
+use lookup_model::{Kind, Lookup, LookupError};
+use std::alloc::{AllocError, Global};
+
+/// Joins the lookups of each bus into as few columns as a greedy filling takes, by the degree that
+/// the closure gives.
+///
+/// Local lookups and those with flags pass through, in their order. The others follow by bus, the
+/// buses in the order in which they are first seen. On each bus a lookup joins the open column if
+/// the degree of the trial is at most `max_degree`, and opens a new column otherwise. The trial has
+/// the tuples of both, and the weight and the old column number of the open column. The closure is
+/// asked about trials alone. Weights of joined lookups add, and the columns are numbered from 0.
+///
+/// Refuses, in this order:
+///
+/// - `TupleWidths` with the context `bus "NAME"` at the first bus whose tuples have two widths, those
+///   of groups too;
+/// - at the first trial, bus by bus, that is refused: the closure's own refusal, or
+///   `CountWeightOverflow` if the trial is within the degree and the weights have no sum that fits.
+///
+/// Out of memory is refused under its own name. After a refusal the lookups are dropped.
+pub fn packed<F: Field, D: Fn(&Lookup<F>) -> Result<usize, LookupError>>(
+    alloc: Global,
+    lookups: Vec<Lookup<F>>,
+    max_degree: usize,
+    degree: D,
+) -> Result<Vec<Lookup<F>>, LookupError>
+    requires callable { (lookup : _) → IsMember lookup.now → D.pre degree lookup }
+    requires lengths { All HasEqualLengths lookups.items }
+    ensures packs { Packs (Answers (FnReturnsAt D.Fn degree)) max_degree (λ v. map fields_of v.items) (map fields_of lookups.items) result }
+    ensures records { IfOk result (λ v. AreRecords v.items) }
+{
+    assert_bus_widths(alloc, &lookups)?;
+    let (columns, additive) = parted(alloc, lookups)?;
+    let buses = moved_by_bus(alloc, additive)?;
+    let columns = with_buses(alloc, columns, buses, max_degree, &degree)?;
+    Ok(in_columns(alloc, columns)?)
+}
+
+/// The lookups that pass through, and those that may be joined.
+fn parted<F: Field>(
+    alloc: Global,
+    lookups: Vec<Lookup<F>>,
+) -> Result<(Vec<Lookup<F>>, Vec<Lookup<F>>), AllocError>
+    requires { All HasEqualLengths lookups.items }
+    ensures { IfOk result (λ r. (map fields_of r.0.items ≡ passing (map fields_of lookups.items)) × All HasEqualLengths r.0.items
+        × (map fields_of r.1.items ≡ additive (map fields_of lookups.items)) × All IsMember r.1.items) }
+{
+    let mut columns = Vec::new(alloc);
+    let mut additive = Vec::new(alloc);
+    for lookup in lookups {
+        if may_be_joined(&lookup) {
+            additive.push(lookup)?;
+        } else {
+            columns.push(lookup)?;
+        }
+    }
+    Ok((columns, additive))
+}
+
+/// Whether a lookup is sent on a bus and has no flags.
+fn may_be_joined<F: Field>(lookup: &Lookup<F>) -> bool
+    ensures { result ≡ is_additive (fields_of lookup.now) }
+{
+    match (&lookup.kind, &lookup.flags) {
+        (Kind::Global(_), None) => true,
+        _ => false,
+    }
+}
+
+/// These columns, and behind them those of each bus in turn.
+///
+/// Refuses at the first trial that is refused.
+fn with_buses<F: Field, D: Fn(&Lookup<F>) -> Result<usize, LookupError>>(
+    alloc: Global,
+    columns: Vec<Lookup<F>>,
+    buses: Vec<Vec<Lookup<F>>>,
+    max_degree: usize,
+    degree: &D,
+) -> Result<Vec<Lookup<F>>, LookupError>
+    requires callable { (lookup : _) → IsMember lookup.now → D.pre degree.now lookup }
+    requires columns { All HasEqualLengths columns.items }
+    requires buses { All (λ bus. All IsMember bus.items) buses.items }
+    ensures { MatchResult result
+        (λ after. All HasEqualLengths after.items × AreColumnsAdded (Answers (FnReturnsAt D.Fn degree.now)) max_degree (map owned_group buses.items) (map fields_of columns.items) (map fields_of after.items))
+        (λ e. (e ≡ LookupError.Memory) ⊎ IsFirstStuck (Answers (FnReturnsAt D.Fn degree.now)) max_degree (map owned_group buses.items) e) }
+{
+    let mut columns = columns;
+    for members in buses {
+        let mut filled = filled(alloc, members, max_degree, degree)?;
+        columns.append(&mut filled)?;
+    }
+    Ok(columns)
+}
+
+/// The lookups in the columns 0, 1, 2, …
+fn in_columns<F: Field>(alloc: Global, lookups: Vec<Lookup<F>>) -> Result<Vec<Lookup<F>>, AllocError>
+    requires { All HasEqualLengths lookups.items }
+    ensures fields { IfOk result (λ v. map fields_of v.items ≡ numbered (map fields_of lookups.items)) }
+    ensures records { IfOk result (λ v. AreRecords v.items) }
+{
+    let mut columns = Vec::new(alloc);
+    for next in lookups {
+        let mut lookup = next;
+        let column = columns.len();
+        lookup.column = column;
+        columns.push(lookup)?;
+    }
+    Ok(columns)
+}
