@@ -1,5 +1,6 @@
 pub mod Extraction
 pub mod Guards
 pub mod Lookups
+pub mod NamedWidths
 pub mod Sends
 pub mod WholeAir

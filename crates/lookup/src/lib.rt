@@ -6,6 +6,7 @@
 //! its constraints. `verify_terminal_sum` says whether the terminals of all AIRs cancel.
 #![tactic(auto)]
 
+mod bus_widths;
 mod evaluation;
 mod extraction;
 mod guards;
@@ -16,6 +17,7 @@ pub mod protocol;
 pub mod symbolic;
 pub mod traits;
 
+pub use bus_widths::check_bus_widths;
 pub use guards::check_multiplicity_height_bound;
 pub use logup::LogUpGadget;
 pub use lookup_model::{

@@ -1,0 +1,223 @@
+-- Widths on buses, one by one.
+use Rattle.std.proofs.Common.{◌≡◌, ◌≢◌, ◌++◌, ◌∷◌, ◌+◌, ◌<◌, ℕ, zero, suc, Bool, true, false, cond, true≢false, Decides, List, [], Option, None, Some, get_or, length, map, max, nat_cmp, nat_eq, rules, slice_get, take, unwrap_or, refl, sym, ap, arith, ◌∙◌}
+use Rattle.std.proofs.lemmas.Bool.Decides.{Decides-eqb}
+use Rattle.std.proofs.lemmas.Slice.Eq.{slice_eq-Decides}
+use Rattle.std.specs.Cmp.Lexicographic.{pointwise}
+use Rattle.std.proofs.lemmas.List.{append-nil, append_assoc, map-append, map_push, take_more}
+use Rattle.std.proofs.lemmas.Grind.{flat_map-append}
+use Rattle.std.proofs.lemmas.Option.{slice_get-get_or, slice_get-map}
+use Rattle.std.specs.Borrow.{Bor}
+use Rattle.std.specs.List.{AllByRecursion, flat_map}
+use Rattle.std.specs.Option.{option_map}
+use Rattle.std.specs.Ordering.{ord_max}
+use Rattle.std.specs.Map.{lookup}
+use Rattle.indexmap.specs.IndexMap.{insert_entry}
+use Rattle.lookup_model.specs.LookupDegree.{greatest}
+use Rattle.lookup_model.specs.declared.error.LookupError.{LookupError}
+use Rattle.lookup_packing.specs.Buses.{same_name}
+use Rattle.lookup.specs.NamedWidths.{AgreeOnWidths, IsFirstMismatch, IsMismatch, first_width, seen_widths}
+use Rattle.lookup.specs.declared.bus_widths.NamedWidth.{NamedWidth}
+
+-- the test of names decides their equality
+same_name-Decides : (a b : List ℕ) → Decides (same_name a b) (a ≡ b)
+same_name-Decides a b = slice_eq-Decides Decides-eqb a b (pointwise nat_eq a b) refl
+
+-- an item at its place
+pub at_place : {A : Type 0} (xs : List A) (i : ℕ) (x : A) → slice_get xs i ≡ Some x → (later : List A) × (xs ≡ take i xs ++ x ∷ later) × (take (i + 1) xs ≡ take i xs ++ x ∷ [])
+at_place [] i x e = absurd (cc e)
+at_place (y ∷ ys) zero x e = let is : y ≡ x = cc e in (ys, ap (λ t. t ∷ ys) is, ap (λ t. t ∷ []) is)
+at_place (y ∷ ys) (suc i) x e =
+    let (later, whole, next) = at_place ys i x e in
+    let more : suc i + 1 ≡ suc (i + 1) = omega arith in
+    (later, ap (λ t. y ∷ t) whole, ap (λ n. take n (y ∷ ys)) more ∙ ap (λ t. y ∷ t) next)
+
+-- the greater of two numbers
+max_is : (a b : ℕ) → ord_max nat_cmp a b ≡ max a b
+max_is a b = search rules
+
+-- a greatest number, with one more
+pub greatest_push : (ns : List ℕ) (n : ℕ) → greatest (ns ++ n ∷ []) ≡ max (greatest ns) n
+greatest_push [] n = omega arith
+greatest_push (m ∷ ms) n =
+    let rest : greatest (ms ++ n ∷ []) ≡ max (greatest ms) n = greatest_push ms n in
+    ap (max m) rest ∙ omega arith
+
+-- the one, or else the other
+abbrev or_else : Option ℕ → Option ℕ → Option ℕ
+or_else None other = other
+or_else (Some x) other = Some x
+
+or_none : (o : Option ℕ) → o ≡ or_else o None
+or_none None = refl
+or_none (Some x) = refl
+
+or_some : (o : Option ℕ) (width : ℕ) → Some (unwrap_or o width) ≡ or_else o (Some width)
+or_some None width = refl
+or_some (Some x) width = refl
+
+-- the first width under a name, with one more
+first_push : (widths : List (List ℕ × ℕ)) (name : List ℕ) (width : ℕ) (q : List ℕ) → first_width (widths ++ (name, width) ∷ []) q ≡ or_else (first_width widths q) (cond (same_name q name) (Some width) None)
+first_push [] name width q = refl
+first_push (w ∷ ws) name width q = by_test (same_name q w.0) (first_push ws name width q)
+  where
+    by_test : (b : Bool) → first_width (ws ++ (name, width) ∷ []) q ≡ or_else (first_width ws q) (cond (same_name q name) (Some width) None)
+        → cond b (Some w.1) (first_width (ws ++ (name, width) ∷ []) q) ≡ or_else (cond b (Some w.1) (first_width ws q)) (cond (same_name q name) (Some width) None)
+    by_test true rest = refl
+    by_test false rest = rest
+
+module _ {K : Type 0} (name_of : K → List ℕ) where
+  -- what a map has under a name
+  abbrev at : List (K × ℕ) → List ℕ → Option ℕ
+  at es q = lookup (λ k. same_name q (name_of k)) es
+
+  -- the map with a value at a key
+  abbrev inserted : List (K × ℕ) → K → ℕ → List (K × ℕ)
+  inserted es k v = insert_entry (λ a b. same_name (name_of a) (name_of b)) es k v
+
+  at_inserted : (es : List (K × ℕ)) (k : K) (v : ℕ) (q : List ℕ) → at (inserted es k v) q ≡ cond (same_name q (name_of k)) (Some v) (at es q)
+  at_inserted [] k v q = refl
+  at_inserted (e ∷ es) k v q = by_test (same_name (name_of k) (name_of e.0)) refl (at_inserted es k v q)
+    where
+      at_k : Bool
+      at_k = same_name q (name_of k)
+
+      at_e : Bool
+      at_e = same_name q (name_of e.0)
+
+      same_key : (b c : Bool) → b ≡ c → cond c (Some v) (at es q) ≡ cond b (Some v) (cond c (Some e.1) (at es q))
+      same_key true true bc = refl
+      same_key false false bc = refl
+      same_key true false bc = absurd (true≢false bc)
+      same_key false true bc = absurd (true≢false (sym bc))
+
+      other_key : (b c : Bool) → at_k ≡ b → at_e ≡ c → same_name (name_of k) (name_of e.0) ≡ false → at (inserted es k v) q ≡ cond b (Some v) (at es q)
+          → cond c (Some e.1) (at (inserted es k v) q) ≡ cond b (Some v) (cond c (Some e.1) (at es q))
+      other_key b false eb ec apart rest = rest
+      other_key false true eb ec apart rest = refl
+      other_key true true eb ec apart rest =
+          let first : q ≡ name_of k = (same_name-Decides q (name_of k)).0 eb in
+          let second : q ≡ name_of e.0 = (same_name-Decides q (name_of e.0)).0 ec in
+          absurd (true≢false (sym ((same_name-Decides (name_of k) (name_of e.0)).1 (sym first ∙ second)) ∙ apart))
+
+      by_test : (a : Bool) → same_name (name_of k) (name_of e.0) ≡ a → at (inserted es k v) q ≡ cond at_k (Some v) (at es q)
+          → at (cond a ((e.0, v) ∷ es) (e ∷ inserted es k v)) q ≡ cond at_k (Some v) (cond at_e (Some e.1) (at es q))
+      by_test true ea rest = same_key at_k at_e (ap (same_name q) ((same_name-Decides (name_of k) (name_of e.0)).0 ea))
+      by_test false ea rest = other_key at_k at_e refl refl ea rest
+
+  -- a map has the first width under each name
+  abbrev pub HoldsFirst : List (K × ℕ) → List (List ℕ × ℕ) → Type 0
+  HoldsFirst es widths = (q : List ℕ) → at es q ≡ first_width widths q
+
+  -- so it is of one more width
+  pub holds_more : (es after : List (K × ℕ)) (widths : List (List ℕ × ℕ)) (k : K) (width v : ℕ) → HoldsFirst es widths → v ≡ unwrap_or (at es (name_of k)) width → after ≡ inserted es k v → HoldsFirst after (widths ++ (name_of k, width) ∷ [])
+  holds_more es after widths k width v holds v_is after_is q =
+      ap (λ t. at t q) after_is ∙ at_inserted es k v q ∙ by_test (same_name q (name_of k)) refl ∙ sym (first_push widths (name_of k) width q)
+    where
+      by_test : (b : Bool) → same_name q (name_of k) ≡ b → cond b (Some v) (at es q) ≡ or_else (first_width widths q) (cond b (Some width) None)
+      by_test true e =
+          let same : q ≡ name_of k = (same_name-Decides q (name_of k)).0 e in
+          ap Some (v_is ∙ ap (λ n. unwrap_or (at es n) width) (sym same) ∙ ap (λ o. unwrap_or o width) (holds q)) ∙ or_some (first_width widths q) width
+      by_test false e = holds q ∙ or_none (first_width widths q)
+
+module _ (widths : List (List ℕ × ℕ)) (name : List ℕ) (width : ℕ) where
+  -- the widths with one more
+  abbrev more : List (List ℕ × ℕ)
+  more = widths ++ (name, width) ∷ []
+
+  -- earlier widths stay the first of theirs
+  still : (ws : List (List ℕ × ℕ)) → AllByRecursion (λ w. first_width widths w.0 ≡ Some w.1) ws → AllByRecursion (λ w. first_width more w.0 ≡ Some w.1) ws
+  still [] all = tt
+  still (w ∷ ws) all = (first_push widths name width w.0 ∙ ap (λ o. or_else o (cond (same_name w.0 name) (Some width) None)) all.0, still ws all.1)
+
+  joined : (ws : List (List ℕ × ℕ)) → AllByRecursion (λ w. first_width more w.0 ≡ Some w.1) ws → first_width more name ≡ Some width → AllByRecursion (λ w. first_width more w.0 ≡ Some w.1) (ws ++ (name, width) ∷ [])
+  joined [] all last = (last, tt)
+  joined (w ∷ ws) all last = (all.0, joined ws all.1 last)
+
+  -- a width that is the first of its bus
+  pub agree_more : AgreeOnWidths widths → unwrap_or (first_width widths name) width ≡ width → AgreeOnWidths more
+  agree_more agree same =
+      joined widths (still widths agree)
+      (first_push widths name width name ∙ ap (λ b. or_else (first_width widths name) (cond b (Some width) None)) ((same_name-Decides name name).1 refl)
+      ∙ sym (or_some (first_width widths name) width) ∙ ap Some same)
+
+-- a width that is not
+pub mismatch_here : (widths : List (List ℕ × ℕ)) (i : ℕ) (name : List ℕ) (width v : ℕ) (e : LookupError) → slice_get widths i ≡ Some (name, width) → AgreeOnWidths (take i widths)
+    → v ≡ unwrap_or (first_width (take i widths) name) width → v ≢ width → IsMismatch name v width e → IsFirstMismatch widths e
+mismatch_here widths i name width v e there agree is other refusal =
+    let (later, whole, next) = at_place widths i (name, width) there in
+    record {
+      before = take i widths;
+      name = name;
+      expected = v;
+      actual = width;
+      after = later;
+      split = whole;
+      agree = agree;
+      first = by_first (first_width (take i widths) name) is;
+      differs = λ same. other (sym same);
+      refusal = refusal;
+    }
+  where
+    by_first : (o : Option ℕ) → v ≡ unwrap_or o width → o ≡ Some v
+    by_first None is = absurd (other is)
+    by_first (Some x) is = ap Some (sym is)
+
+module _ (widths : List NamedWidth) (i : ℕ) (d : NamedWidth) (lt : i < length widths) where
+  -- the width at a place
+  abbrev named : NamedWidth
+  named = get_or widths i d
+
+  there : slice_get (seen_widths widths) i ≡ Some (named.name.now, named.width)
+  there = slice_get-map (λ w. (w.name.now, w.width)) widths i ∙ ap (option_map (λ w. (w.name.now, w.width))) (slice_get-get_or widths i d lt)
+
+  -- the widths below it
+  abbrev below : List (List ℕ × ℕ)
+  below = take i (seen_widths widths)
+
+  module _ (es after : List (Bor (List ℕ) × ℕ)) (v : ℕ) (holds : HoldsFirst (λ k. k.now) es below) (v_is : v ≡ unwrap_or (at (λ k. k.now) es named.name.now) named.width) where
+    -- the value of the map is the first width under its name, or this one
+    value_is : v ≡ unwrap_or (first_width below named.name.now) named.width
+    value_is = v_is ∙ ap (λ o. unwrap_or o named.width) (holds named.name.now)
+
+    -- one more width that is the first under its name
+    pub widest_more : (widest next : ℕ) → after ≡ inserted (λ k. k.now) es named.name v → AgreeOnWidths below → v ≡ named.width → widest ≡ greatest (map (λ w. w.1) below) → next ≡ ord_max nat_cmp widest named.width
+        → HoldsFirst (λ k. k.now) after (take (i + 1) (seen_widths widths)) × AgreeOnWidths (take (i + 1) (seen_widths widths)) × (next ≡ greatest (map (λ w. w.1) (take (i + 1) (seen_widths widths))))
+    widest_more widest next after_is agree same so_far next_is =
+        let (later, whole, longer) = at_place (seen_widths widths) i (named.name.now, named.width) there in (
+          rw longer (holds_more (λ k. k.now) es after below named.name named.width v holds v_is after_is),
+          rw longer (agree_more below named.name.now named.width agree (sym value_is ∙ same)),
+          rw longer
+          (next_is ∙ max_is widest named.width ∙ ap (λ n. max n named.width) so_far
+          ∙ sym (ap greatest (map_push (λ (w : List ℕ × ℕ). w.1) below (named.name.now, named.width)) ∙ greatest_push (map (λ w. w.1) below) named.width)),
+        )
+
+    -- one that is not
+    pub widest_mismatch : (e : LookupError) → AgreeOnWidths below → v ≢ named.width → IsMismatch named.name.now v named.width e → IsFirstMismatch (seen_widths widths) e
+    widest_mismatch e agree other refusal = mismatch_here (seen_widths widths) i named.name.now named.width v e there agree value_is other refusal
+
+module _ {X Y : Type 0} where
+  -- images of one more item
+  pub images_more : (f : X → Y) (xs : List X) (i : ℕ) (x : X) (old before after : List Y) → i < length xs → x ≡ get_or xs i x → before ≡ old ++ map f (take i xs) → after ≡ before ++ f x ∷ [] → after ≡ old ++ map f (take (i + 1) xs)
+  images_more f xs i x old before after lt is so_far added =
+      added ∙ ap (λ t. t ++ f x ∷ []) so_far ∙ append_assoc old (map f (take i xs)) (f x ∷ [])
+      ∙ ap (λ t. old ++ t) (sym (ap (map f) (take_more xs i x lt ∙ ap (λ y. take i xs ++ y ∷ []) (sym is)) ∙ map-append f (take i xs) (x ∷ [])))
+
+  -- parts of one more item
+  pub parts_next : (f : X → List Y) (done more : List X) (x : X) (old before after : List Y) → more ≡ done ++ x ∷ [] → before ≡ old ++ flat_map f done → after ≡ before ++ f x → after ≡ old ++ flat_map f more
+  parts_next f done more x old before after next so_far added =
+      added ∙ ap (λ t. t ++ f x) so_far ∙ append_assoc old (flat_map f done) (f x)
+      ∙ ap (λ t. old ++ t) (sym (ap (flat_map f) next ∙ flat_map-append f done (x ∷ []) ∙ ap (λ t. flat_map f done ++ t) (append-nil (f x))))
+
+  pub parts_more : (f : X → List Y) (xs : List X) (i : ℕ) (x : X) (old before after : List Y) → i < length xs → x ≡ get_or xs i x → before ≡ old ++ flat_map f (take i xs) → after ≡ before ++ f x → after ≡ old ++ flat_map f (take (i + 1) xs)
+  parts_more f xs i x old before after lt is =
+      parts_next f (take i xs) (take (i + 1) xs) x old before after (take_more xs i x lt ∙ ap (λ y. take i xs ++ y ∷ []) (sym is))
+
+-- images of parts of images
+pub images_of_parts : {X Y Z W : Type 0} (k : X → Y) (h : Y → List Z) (g : Z → W) (xs : List X) → map g (flat_map h (map k xs)) ≡ flat_map (λ x. map g (h (k x))) xs
+images_of_parts k h g [] = refl
+images_of_parts k h g (x ∷ xs) = map-append g (h (k x)) (flat_map h (map k xs)) ∙ ap (λ t. map g (h (k x)) ++ t) (images_of_parts k h g xs)
+
+-- parts of images
+pub parts_of_images : {X Y Z : Type 0} (k : X → Y) (h : Y → List Z) (xs : List X) → flat_map (λ x. h (k x)) xs ≡ flat_map h (map k xs)
+parts_of_images k h [] = refl
+parts_of_images k h (x ∷ xs) = ap (λ t. h (k x) ++ t) (parts_of_images k h xs)

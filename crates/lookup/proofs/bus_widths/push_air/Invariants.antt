@@ -1,0 +1,10 @@
+use Rattle.std.proofs.Common.{◌≡◌, ◌++◌, map, take}
+use Rattle.std.specs.List.{flat_map}
+use Rattle.lookup_model.specs.Outline.{fields_of}
+use Rattle.lookup_packing.specs.BusWidths.{widths_of}
+use Rattle.lookup_packing.specs.Buses.{bus_groups}
+use Rattle.lookup.specs.NamedWidths.{seen_widths}
+use Rattle.lookup.proofs.bus_widths.push_air.Given as goal
+
+abbrev pub invariant-loop-place : goal.invariant-loop-place
+invariant-loop-place g l = seen_widths l.widths.items ≡ seen_widths l.fn.widths.items ++ flat_map (λ g. map (λ w. (g.0, w)) (flat_map widths_of g.1)) (take l.place (bus_groups (map fields_of l.fn.lookups)))
