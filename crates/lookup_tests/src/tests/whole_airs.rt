@@ -8,7 +8,7 @@ use air::{
     Air, AirBuilder, AirError, AirLayout, BaseAir, DebugConstraintBuilder, PermutationAirBuilder,
     RowInputs, SymbolicAirBuilder,
 };
-use field::F7;
+use field::{F7, PrimeCharacteristicRing};
 use lookup::{LogUpGadget, Lookup, LookupProtocol, fits};
 use std::alloc::Global;
 use std::process::Abort;
@@ -127,7 +127,7 @@ fn checked(
     let permutation = trace::<F7>(rt, alloc, &[0, fraction], 2);
     assert!(rt; main.height() == 1 && permutation.height() == 1);
     let challenges = [F7::new(5), F7::new(2)];
-    let terminals = alone(rt, alloc, permutation.values()[1]);
+    let terminals = alone(rt, alloc, F7::from_u32(fraction));
     let inputs: RowInputs<'_, F7, F7> = RowInputs {
         main: &main,
         preprocessed: no_preprocessed(&main),
