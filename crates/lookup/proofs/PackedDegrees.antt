@@ -69,15 +69,18 @@ pub packs_along : {E S : Type 0} (A B : Outline E → Result ℕ LookupError →
 packs_along A B most seen before (Ok set) h carry = (h.0, record { cuts = h.1.cuts; filled = filled_along A B carry most (additive before) (bus_names (additive before)) h.1.cuts h.1.filled; columns = h.1.columns })
 packs_along A B most seen before (Err e) (inl memory) carry = inl memory
 packs_along A B most seen before (Err e) (inr (inl widths)) carry = inr (inl widths)
-packs_along A B most seen before (Err e) (inr (inr h)) carry = inr (inr (h.0, record {
-  earlier = h.1.earlier;
-  name = h.1.name;
-  later = h.1.later;
-  names = h.1.names;
-  cuts = h.1.cuts;
-  filled = filled_along A B carry most (additive before) h.1.earlier h.1.cuts h.1.filled;
-  stuck = stuck_along A B carry most (on_bus h.1.name (additive before)) e h.1.stuck;
-}))
+packs_along A B most seen before (Err e) (inr (inr h)) carry = inr (inr (
+  h.0,
+  record {
+    earlier = h.1.earlier;
+    name = h.1.name;
+    later = h.1.later;
+    names = h.1.names;
+    cuts = h.1.cuts;
+    filled = filled_along A B carry most (additive before) h.1.earlier h.1.cuts h.1.filled;
+    stuck = stuck_along A B carry most (on_bus h.1.name (additive before)) e h.1.stuck;
+  },
+))
 
 -- by the degree of the gadget it has the fewest columns
 pub fewest_packed : {F S : Type 0} (most : ℕ) (seen : S → List (Outline (SymbolicExpression F))) (before : List (Outline (SymbolicExpression F))) (r : Result S LookupError) → ((name : List ℕ) → AllByRecursion IsPlain (on_bus name (additive before))) → Packs AnswersDegree most seen before r → IfOk r (λ set. HasFewestColumns most before (seen set))
