@@ -1,9 +1,0 @@
-pub mod ListLaws
-pub mod GroupLaws
-pub mod FillLaws
-pub mod WidthLaws
-pub mod RecordLaws
-pub mod FewestParts
-pub mod JoinedDegrees
-pub mod FewestColumns
-pub mod PackLaws
