@@ -4,5 +4,6 @@ pub mod ExtractionLaws
 pub mod HeightSums
 pub mod NamedWidthLaws
 pub mod Outlines
+pub mod PackedDegrees
 pub mod TerminalSums
 pub mod Within

@@ -28,7 +28,9 @@ impl<F: Field> Lookups<F> {
     ghost use Rattle.lookup.specs.Lookups.{lookups_of};
     ghost use Rattle.lookup_record.specs.RecordedWithin.{EvaluatesWithin};
     ghost use Rattle.std.specs.Fn.{FnReturnsAt};
+    ghost use Rattle.lookup_model.specs.LookupDegree.{IsDegree, lookup_degree};
     ghost use Rattle.lookup_model.specs.Outline.{fields_of};
+    ghost use Rattle.lookup_model.specs.Records.{HasEqualLengths};
     ghost use Rattle.lookup_packing.specs.Fewest.{AnswersDegree, HasFewestColumns};
     ghost use Rattle.lookup_packing.specs.Packing.{Packs};
     ghost use Rattle.lookup_packing.specs.Trials.{Answers, IsMember};
@@ -106,7 +108,14 @@ impl<F: Field> Lookups<F> {
         ensures packs { Packs AnswersDegree max_degree (λ set. map fields_of (lookups_of set)) (map fields_of (lookups_of self)) result }
         ensures fewest { IfOk result (λ set. HasFewestColumns max_degree (map fields_of (lookups_of self)) (map fields_of (lookups_of set))) }
     {
-        self.pack_same_bus_with_degree(alloc, max_degree, |lookup| gadget.constraint_degree(lookup))
+        self.pack_same_bus_with_degree(
+            alloc,
+            max_degree,
+            |lookup: &Lookup<F>| -> Result<usize, LookupError>
+                requires { HasEqualLengths lookup.now }
+                ensures { IsDegree result (lookup_degree 0 lookup.now) }
+            { gadget.constraint_degree(lookup) },
+        )
     }
 
     /// The lookups in the order of their columns.

@@ -1,17 +1,17 @@
 -- With the degree of the gadget a greedy filling has the fewest columns.
-use Rattle.std.proofs.Common.{◌≡◌, ◌≢◌, ◌+◌, ◌<◌, ◌≤◌, ◌⊎◌, inl, inr, ◌&&◌, ℕ, suc, Bool, true, false, cond, not, List, [], ◌∷◌, ◌++◌, Option, None, Some, Ok, Err, length, map, refl, sym, ap, subst, ◌∙◌, arith, true≢false, length-append}
+use Rattle.std.proofs.Common.{◌≡◌, ◌+◌, ◌≤◌, ◌⊎◌, inl, inr, ℕ, suc, Bool, true, false, cond, not, List, [], ◌∷◌, ◌++◌, Option, None, Some, length, map, refl, sym, ap, subst, ◌∙◌, arith}
 use Rattle.std.proofs.lemmas.List.{append-nil, length-map, map-append}
 use Rattle.std.proofs.lemmas.List.Elements.{filter-append}
-use Rattle.std.specs.List.{AllByRecursion, AllZip, filter, filter_map, flat_map, zip}
-use Rattle.std.specs.Option.{is_some, option_map}
+use Rattle.std.specs.List.{AllByRecursion, filter, filter_map, flat_map, zip}
+use Rattle.std.specs.Option.{option_map}
 use Rattle.expressions.specs.declared.base_expression.SymbolicExpression.{SymbolicExpression}
-use Rattle.lookup_laws.proofs.Regrouping.{All-filter, All-map, IsSeparate, filter_passes, first_seen_separate}
-use Rattle.lookup_model.specs.LookupDegree.{BranchDegrees, branch_degrees, constraint_degree_of, expression_degree}
+use Rattle.lookup_laws.proofs.Regrouping.{All-filter, IsSeparate, filter_passes, first_seen_separate}
+use Rattle.lookup_model.specs.LookupDegree.{branch_degrees, constraint_degree_of, expression_degree}
 use Rattle.lookup_model.specs.Outline.{Outline}
 use Rattle.lookup_packing.specs.Buses.{bus_names, is_named, on_bus, same_name}
 use Rattle.lookup_packing.specs.Cuts.{AreClosed, IsCut, part_items}
 use Rattle.lookup_packing.specs.Fewest.{AnswersDegree, HasFewestColumns, outline_branches, outline_degree}
-use Rattle.lookup_packing.specs.Packing.{AreFilled, IsAbove, IsFilling, IsPacking, additive, is_additive, joined, numbered, numbered_from, passing, trial}
+use Rattle.lookup_packing.specs.Packing.{AreFilled, IsAbove, IsFilling, IsPacking, additive, is_additive, joined, numbered_from, passing, trial}
 use Rattle.lookup_packing.proofs.FewestParts.{AreFull, fewest_parts}
 use Rattle.lookup_packing.proofs.FillLaws.{joined_more, with_next}
 use Rattle.lookup_packing.proofs.GroupLaws.{same_name-Decides}

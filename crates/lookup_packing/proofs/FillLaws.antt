@@ -8,7 +8,7 @@ use Rattle.lookup_model.specs.Outline.{Outline}
 use Rattle.lookup_model.specs.declared.error.LookupError.{LookupError}
 use Rattle.lookup_model.specs.declared.error.LookupError.TheVariants.{CountWeightOverflow}
 use Rattle.lookup_packing.specs.Cuts.{AreClosed, IsGrown, part_items}
-use Rattle.lookup_packing.specs.Packing.{IsAbove, IsFilling, IsStuck, IsWithin, Joins, joined, trial}
+use Rattle.lookup_packing.specs.Packing.{IsAbove, IsFilling, IsStuck, Joins, joined, trial}
 use Rattle.lookup_packing.proofs.ListLaws.{all_back, all_both, all_front, map_split, snoc_split}
 
 module _ {A : Type 0} where

@@ -1,11 +1,11 @@
 -- Groups of lookups, lookup by lookup.
-use Rattle.std.proofs.Common.{◌≡◌, ◌<◌, ◌+◌, ℕ, length, get_or, take, Bool, true, false, cond, not, ◌||◌, unwrap_or, List, [], ◌∷◌, ◌++◌, Option, None, Some, map, option_map, nat_eq, refl, sym, ap, ◌∙◌, true≢false, Decides}
+use Rattle.std.proofs.Common.{◌≡◌, ◌<◌, ◌+◌, ℕ, length, get_or, take, Bool, true, false, cond, ◌||◌, unwrap_or, List, [], ◌∷◌, ◌++◌, Option, None, Some, map, option_map, nat_eq, refl, sym, ap, ◌∙◌, true≢false, Decides}
 use Rattle.std.proofs.lemmas.Bool.Decides.{Decides-eqb}
 use Rattle.std.proofs.lemmas.List.{append-nil, map-append}
 use Rattle.std.proofs.lemmas.List.Elements.{filter-append, filter_map-append}
 use Rattle.std.proofs.lemmas.Slice.Eq.{slice_eq-Decides}
 use Rattle.std.specs.Cmp.Lexicographic.{pointwise}
-use Rattle.std.specs.List.{cons_option, filter, filter_map, list_any}
+use Rattle.std.specs.List.{cons_option, filter_map, list_any}
 use Rattle.std.specs.Map.{lookup}
 use Rattle.std.specs.Option.{option_map_or}
 use Rattle.std.specs.declared.alloc.Global.{Global}

@@ -6,6 +6,6 @@ mod JoinedDegrees
 mod ListLaws
 pub mod RecordLaws
 mod PackLaws
-mod StepLaws
+pub mod StepLaws
 mod TrialLaws
 mod WidthLaws

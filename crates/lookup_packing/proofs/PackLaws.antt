@@ -1,10 +1,8 @@
 -- From the groups of buses to the packing of all lookups.
-use Rattle.std.proofs.Common.{◌≡◌, ◌+◌, ◌<◌, ℕ, zero, suc, List, [], ◌∷◌, ◌++◌, Option, None, Some, Result, length, map, option_map, slice_get, take, All, refl, sym, ap, subst, ◌∙◌, arith}
-use Rattle.std.proofs.lemmas.List.{length-map}
-use Rattle.std.proofs.lemmas.List.Elements.{All-from_recursion, recursion_from_All}
+use Rattle.std.proofs.Common.{◌≡◌, ◌+◌, ℕ, zero, suc, List, [], ◌∷◌, ◌++◌, Option, None, Some, Result, map, option_map, slice_get, take, refl, sym, ap, subst, ◌∙◌, arith}
 use Rattle.std.proofs.lemmas.Option.{slice_get-map}
 use Rattle.std.specs.Borrow.{Bor}
-use Rattle.std.specs.List.{AllByRecursion, AllZip, filter, flat_map}
+use Rattle.std.specs.List.{AllByRecursion, AllZip, flat_map}
 use Rattle.std.specs.declared.alloc.Global.{Global}
 use Rattle.std.specs.declared.vec.Vec.{Vec}
 use Rattle.expressions.specs.declared.base_expression.SymbolicExpression.{SymbolicExpression}
@@ -15,7 +13,6 @@ use Rattle.lookup_model.specs.declared.error.LookupError.{LookupError}
 use Rattle.lookup_model.specs.declared.types.Lookup.{Lookup}
 use Rattle.lookup_packing.specs.Buses.{bus_groups, bus_names, group_of, is_named, on_bus, owned_group}
 use Rattle.lookup_packing.specs.Packing.{AreColumnsAdded, IsFillRefusal, IsFilling, IsFirstStuck, IsPacking, IsStuck, additive, joined, numbered, passing}
-use Rattle.lookup_packing.proofs.FewestColumns.{IsPlain}
 use Rattle.lookup_packing.proofs.ListLaws.{AllZip-map, map_split}
 
 -- an item at its place

@@ -1,5 +1,5 @@
 -- Steps of a filling, and the lookups that it takes.
-use Rattle.std.proofs.Common.{◌≡◌, ◌⊎◌, inl, inr, ◌&&◌, ◌+◌, ℕ, Bool, true, false, not, List, [], ◌∷◌, ◌++◌, Option, None, Some, Result, length, map, All, refl, sym, ap, subst, ◌∙◌, arith, length-append, true≢false}
+use Rattle.std.proofs.Common.{◌≡◌, inl, inr, ◌&&◌, ℕ, Bool, true, false, cond, not, List, [], ◌∷◌, ◌++◌, Option, None, Some, Result, length, map, All, refl, sym, ap, subst, ◌∙◌, arith, length-append, true≢false}
 use Rattle.std.proofs.Math.ListN.{get_or-append}
 use Rattle.std.proofs.lemmas.List.{length-map, map-append}
 use Rattle.std.proofs.lemmas.List.Elements.{All-cons, All-from_recursion, All-push, recursion_from_All}
@@ -8,12 +8,13 @@ use Rattle.std.specs.declared.alloc.Global.{Global}
 use Rattle.std.specs.declared.vec.Vec.{Vec}
 use Rattle.std.specs.Option.{is_some, option_map}
 use Rattle.expressions.specs.declared.base_expression.SymbolicExpression.{SymbolicExpression}
+use Rattle.lookup_laws.proofs.Regrouping.{All-filter}
 use Rattle.lookup_model.specs.Outline.{Outline, bus_of, fields_of}
 use Rattle.lookup_model.specs.Records.{HasEqualLengths}
 use Rattle.lookup_model.specs.declared.error.LookupError.{LookupError}
 use Rattle.lookup_model.specs.declared.types.Lookup.{Lookup}
-use Rattle.lookup_packing.specs.Buses.{bus_groups, owned_group}
-use Rattle.lookup_packing.specs.Packing.{is_additive}
+use Rattle.lookup_packing.specs.Buses.{bus_groups, is_named, on_bus, owned_group}
+use Rattle.lookup_packing.specs.Packing.{additive, is_additive}
 use Rattle.lookup_packing.specs.Trials.{IsMember, IsStep, IsTried}
 use Rattle.lookup_packing.specs.declared.trials.Trial.TheVariants.{Apart, Joined}
 use Rattle.lookup_packing.proofs.FewestColumns.{IsPlain}
@@ -103,3 +104,15 @@ buses_members {F} ls vs are members =
     each : (ws : List (Vec (Lookup F) Global)) → AllByRecursion (λ v. AllByRecursion (λ l. IsPlain (fields_of l)) v.items) ws → AllByRecursion (λ v. All IsMember v.items) ws
     each [] h = tt
     each (w ∷ ws) h = (All-from_recursion IsMember w.items (back w.items h.0), each ws h.1)
+
+-- of well formed lookups those that may be joined are plain, on each bus
+pub plain_on : {F : Type 0} (ls : List (Lookup F)) (name : List ℕ) → All HasEqualLengths ls → AllByRecursion IsPlain (on_bus name (additive (map fields_of ls)))
+plain_on {F} ls name lengths = All-filter IsPlain (λ o. is_named name o.bus) (additive (map fields_of ls)) (plain ls (recursion_from_All HasEqualLengths ls lengths))
+  where
+    plain : (xs : List (Lookup F)) → AllByRecursion HasEqualLengths xs → AllByRecursion IsPlain (additive (map fields_of xs))
+    plain [] h = tt
+    plain (x ∷ xs) h = by_test (is_additive (fields_of x)) refl (plain xs h.1)
+      where
+        by_test : (b : Bool) → is_additive (fields_of x) ≡ b → AllByRecursion IsPlain (additive (map fields_of xs)) → AllByRecursion IsPlain (cond b (fields_of x ∷ additive (map fields_of xs)) (additive (map fields_of xs)))
+        by_test true e rest = (plain_of x (additive_member x e h.0), rest)
+        by_test false e rest = rest

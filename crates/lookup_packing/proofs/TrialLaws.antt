@@ -1,13 +1,11 @@
 -- Trials: lookups with the tuples of another one behind their own.
-use Rattle.std.proofs.Common.{◌≡◌, ◌<◌, ◌≤◌, ◌+◌, ◌^◌, ◌⊎◌, inl, inr, ℕ, List, [], ◌∷◌, ◌++◌, Option, None, Some, Result, Ok, Err, length, map, take, drop, refl, sym, ap, ◌∙◌, arith, length-append}
+use Rattle.std.proofs.Common.{◌≡◌, ◌<◌, ◌≤◌, ◌+◌, ◌^◌, inl, inr, ℕ, List, ◌++◌, None, Result, Ok, Err, length, map, take, drop, refl, sym, ap, ◌∙◌, arith, length-append}
 use Rattle.std.proofs.Math.Seq.{drop-append-add, take-append_seam}
 use Rattle.std.proofs.lemmas.List.{map-append}
-use Rattle.std.specs.Option.{option_map}
 use Rattle.std.specs.declared.alloc.Global.{Global}
 use Rattle.std.specs.declared.vec.Vec.{Vec}
 use Rattle.expressions.specs.declared.base_expression.SymbolicExpression.{SymbolicExpression}
-use Rattle.lookup_model.specs.Outline.{Outline, bus_of, fields_of}
-use Rattle.lookup_model.specs.Records.{HasEqualLengths}
+use Rattle.lookup_model.specs.Outline.{fields_of}
 use Rattle.lookup_model.specs.declared.error.LookupError.{LookupError}
 use Rattle.lookup_model.specs.declared.error.LookupError.TheVariants.{CountWeightOverflow}
 use Rattle.lookup_model.specs.declared.types.Lookup.{Lookup}

@@ -88,7 +88,10 @@ fn two_widths<F: Field>(members: &[&Lookup<F>]) -> Option<TwoWidths>
     let width = first_width(members)?;
     for lookup in members {
         match other_width(&lookup.elements, width) {
-            Some(other) => return Some(TwoWidths { first: width, other }),
+            Some(other) => return Some(TwoWidths {
+                first: width,
+                other,
+            }),
             None => {}
         }
     }

@@ -7,8 +7,8 @@ ghost use Rattle.lookup_packing.specs.Buses.{owned_group};
 ghost use Rattle.lookup_packing.specs.Packing.{AreColumnsAdded, IsFirstStuck, Packs, additive, is_additive, numbered, passing};
 ghost use Rattle.lookup_packing.specs.Trials.{Answers, IsMember};
 
-use crate::buses::moved_by_bus;
 use crate::bus_widths::assert_bus_widths;
+use crate::buses::moved_by_bus;
 use crate::filling::filled;
 use field::Field;
 use lookup_model::{Kind, Lookup, LookupError};
@@ -106,7 +106,10 @@ fn with_buses<F: Field, D: Fn(&Lookup<F>) -> Result<usize, LookupError>>(
 }
 
 /// The lookups in the columns 0, 1, 2, …
-fn in_columns<F: Field>(alloc: Global, lookups: Vec<Lookup<F>>) -> Result<Vec<Lookup<F>>, AllocError>
+fn in_columns<F: Field>(
+    alloc: Global,
+    lookups: Vec<Lookup<F>>,
+) -> Result<Vec<Lookup<F>>, AllocError>
     requires { All HasEqualLengths lookups.items }
     ensures fields { IfOk result (λ v. map fields_of v.items ≡ numbered (map fields_of lookups.items)) }
     ensures records { IfOk result (λ v. AreRecords v.items) }

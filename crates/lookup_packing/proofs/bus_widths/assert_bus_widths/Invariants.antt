@@ -1,4 +1,4 @@
-use Rattle.std.proofs.Common.{◌≡◌, map, take}
+use Rattle.std.proofs.Common.{map, take}
 use Rattle.std.specs.List.{AllByRecursion}
 use Rattle.lookup_model.specs.Outline.{fields_of}
 use Rattle.lookup_packing.specs.Buses.{bus_names}

@@ -1,4 +1,4 @@
-use Rattle.std.proofs.Common.{◌≡◌, Some, length, map, option_map, slice_get, ap, sym, ◌∙◌, arith}
+use Rattle.std.proofs.Common.{◌≡◌, Some, length, option_map, slice_get, ap, sym, ◌∙◌, arith}
 use Rattle.std.proofs.lemmas.Option.{slice_get-map}
 use Rattle.lookup_model.specs.Outline.{fields_of}
 use Rattle.lookup_packing.specs.BusWidths.{widths_of}

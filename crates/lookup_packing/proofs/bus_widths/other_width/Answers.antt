@@ -1,5 +1,4 @@
-use Rattle.std.proofs.Common.{◌≡◌, ◌≢◌, Some, length, map, take, ap, sym, ◌∙◌, arith}
-use Rattle.std.proofs.lemmas.List.{take_all}
+use Rattle.std.proofs.Common.{◌≡◌, ◌≢◌, Some, length, ap, sym, ◌∙◌, arith}
 use Rattle.lookup_packing.proofs.WidthLaws.{not_here, other_here}
 use Rattle.lookup_packing.proofs.bus_widths.other_width.Goals as goal
 

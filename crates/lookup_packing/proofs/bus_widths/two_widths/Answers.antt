@@ -1,4 +1,4 @@
-use Rattle.std.proofs.Common.{◌≡◌, Some, None, find, length, map, slice_get, take, ap, sym, ◌∙◌, arith}
+use Rattle.std.proofs.Common.{find, length, map, ap, sym, ◌∙◌, arith}
 use Rattle.std.proofs.lemmas.List.{take_all}
 use Rattle.std.specs.List.{flat_map}
 use Rattle.lookup_model.specs.Outline.{fields_of}

@@ -1,4 +1,4 @@
-use Rattle.std.proofs.Common.{◌≡◌, ◌∷◌, ◌++◌, [], List, map, All, inl, inr, refl, sym, ap, subst, length, ◌∙◌, arith}
+use Rattle.std.proofs.Common.{◌∷◌, ◌++◌, [], List, map, All, inl, inr, sym, ap, subst, ◌∙◌, arith}
 use Rattle.std.proofs.lemmas.List.{nil_from_length}
 use Rattle.std.proofs.lemmas.List.Elements.{All-head, All-tail}
 use Rattle.std.proofs.lemmas.Result.{err_from_is_err_and}
@@ -38,7 +38,7 @@ returns-in_err-columns g c =
     rw (p.1, p.2) (elim c.in_err-columns.ensures [
       | inl memory ↦ inl memory
       | inr w ↦ inr (stuck_at (Answers (FnReturnsAt g.D.Fn c.args.degree.now)) c.args.max_degree (map fields_of c.args.members.items) inv.seen w.0 (map fields_of (into_iter_items c.next.new.self)) w.1 (fields_of c.in-Some.next) c.in_err-columns.field-0.0
-      (last_part (Answers (FnReturnsAt g.D.Fn c.args.degree.now)) c.args.max_degree inv.seen (map fields_of c.loop-next.columns.items) w.0 w.1 inv.columns w.2) (ap (λ t. inv.seen ++ map fields_of t) (sym c.in-Some.ensures.steps.0) ∙ inv.all) w.3)
+          (last_part (Answers (FnReturnsAt g.D.Fn c.args.degree.now)) c.args.max_degree inv.seen (map fields_of c.loop-next.columns.items) w.0 w.1 inv.columns w.2) (ap (λ t. inv.seen ++ map fields_of t) (sym c.in-Some.ensures.steps.0) ∙ inv.all) w.3)
     ])
 
 pub loop-next-preserved : goal.loop-next-preserved

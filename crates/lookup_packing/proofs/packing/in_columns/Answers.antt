@@ -1,7 +1,5 @@
-use Rattle.std.proofs.Common.{◌≡◌, length, map, ap, refl, subst, ◌∙◌, arith, All, List}
-use Rattle.std.proofs.lemmas.List.{nil_from_length}
+use Rattle.std.proofs.Common.{◌≡◌, length, refl, subst, ◌∙◌, arith, All, List}
 use Rattle.std.proofs.lemmas.List.Elements.{All-head, All-tail}
-use Rattle.std.specs.Vec.Iter.{into_iter_items}
 use Rattle.lookup_model.specs.Outline.{fields_of}
 use Rattle.lookup_model.specs.Records.{HasEqualLengths}
 use Rattle.lookup_packing.proofs.RecordLaws.{next_numbered, next_records}

@@ -1,4 +1,4 @@
-use Rattle.std.proofs.Common.{◌≡◌, List, map, inl, inr, sym, ap, subst, ◌∙◌}
+use Rattle.std.proofs.Common.{List, map, inl, inr, ap, subst, ◌∙◌}
 use Rattle.std.proofs.lemmas.Result.{err_from_is_err_and}
 use Rattle.std.specs.Fn.{FnReturnsAt}
 use Rattle.lookup_model.specs.Outline.{fields_of}

@@ -1,6 +1,5 @@
 use Rattle.std.proofs.Common.{◌≡◌, ◌++◌, List, map, All}
 use Rattle.std.specs.Fn.{FnReturnsAt}
-use Rattle.std.specs.List.{AllZip, flat_map}
 use Rattle.std.specs.Vec.Iter.{into_iter_items}
 use Rattle.expressions.specs.declared.base_expression.SymbolicExpression.{SymbolicExpression}
 use Rattle.lookup_model.specs.Outline.{Outline, fields_of}

@@ -1,0 +1,6 @@
+use Rattle.std.proofs.Common.{get_or}
+use Rattle.std.proofs.lemmas.Option.{slice_get-get_or}
+use Rattle.lookup.proofs.lookups.Lookups.pack_same_bus_with_degree.Goals as goal
+
+pub packed-requires-clause-lengths : goal.packed-requires-clause-lengths
+packed-requires-clause-lengths g c = λ k d lt. (c.args.self.records k (get_or c.args.self.lookups.items k d) lt (slice_get-get_or c.args.self.lookups.items k d lt)).1
