@@ -114,4 +114,3 @@ module _ {A E : Type 0} (items : A → List E) where
 pub same_lengths : {A B C T : Type 0} (items : A → B) (f : T → B) (g : T → C) (vs : List A) (ms : List C) (ts : List T) → map items vs ≡ map f ts → ms ≡ map g ts → length ms ≡ length vs
 same_lengths items f g vs ms ts vs_are ms_are =
     ap length ms_are ∙ length-map ts g ∙ sym (length-map ts f) ∙ sym (ap length vs_are) ∙ length-map vs items
-

@@ -187,8 +187,8 @@ module _ (widths : List NamedWidth) (i : ℕ) (d : NamedWidth) (lt : i < length 
           rw longer (holds_more (λ k. k.now) es after below named.name named.width v holds v_is after_is),
           rw longer (agree_more below named.name.now named.width agree (sym value_is ∙ same)),
           rw longer
-          (next_is ∙ max_is widest named.width ∙ ap (λ n. max n named.width) so_far
-          ∙ sym (ap greatest (map_push (λ (w : List ℕ × ℕ). w.1) below (named.name.now, named.width)) ∙ greatest_push (map (λ w. w.1) below) named.width)),
+              (next_is ∙ max_is widest named.width ∙ ap (λ n. max n named.width) so_far
+              ∙ sym (ap greatest (map_push (λ (w : List ℕ × ℕ). w.1) below (named.name.now, named.width)) ∙ greatest_push (map (λ w. w.1) below) named.width)),
         )
 
     -- one that is not

@@ -22,10 +22,7 @@ use std::hash::Hash;
 /// Takes the AIRs in order, and in each its buses in the order in which they are first seen, with the
 /// tuples of groups. Ignores local lookups. Refuses `BusWidthMismatch` at the first tuple whose width
 /// is not that of the first tuple on its bus, whichever AIR sends that one.
-pub fn check_bus_widths<F: Field>(
-    alloc: Global,
-    airs: &[Lookups<F>],
-) -> Result<usize, LookupError>
+pub fn check_bus_widths<F: Field>(alloc: Global, airs: &[Lookups<F>]) -> Result<usize, LookupError>
     ensures { let widths = all_named_widths (map (λ air. map fields_of (lookups_of air)) airs.now) in MatchResult result
         (λ widest. AgreeOnWidths widths × (widest ≡ greatest (map (λ w. w.1) widths)))
         (λ e. (e ≡ LookupError.Memory) ⊎ IsFirstMismatch widths e) }

@@ -3,7 +3,7 @@
 //! `packed` joins the additive lookups of each bus, in order, into as few columns as a greedy
 //! filling takes. `by_bus` groups lookups by the name of their bus, and
 //! `assert_uniform_tuple_width` compares the widths of tuples. `specs/` says what a greedy cut is,
-//! that no consecutive split has fewer columns, and what packing keeps.
+//! and that no consecutive split has fewer columns.
 #![tactic(auto)]
 
 mod bus_widths;

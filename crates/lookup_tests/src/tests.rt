@@ -1,4 +1,5 @@
 //! What the tests share: expressions, lookups, traces, and generation over them.
+mod bus_widths;
 mod collisions;
 mod comparison;
 mod declaration;

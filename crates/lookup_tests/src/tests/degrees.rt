@@ -27,7 +27,7 @@ fn raised(
 }
 
 /// A cell to this power.
-fn power(rt: &impl Abort, alloc: Global, power: usize) -> SymbolicExpression<F7> {
+pub(super) fn power(rt: &impl Abort, alloc: Global, power: usize) -> SymbolicExpression<F7> {
     raised(rt, alloc, false, power)
 }
 

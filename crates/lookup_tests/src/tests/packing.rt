@@ -1,4 +1,5 @@
 //! Packing: lookups on one bus in as few columns as a degree allows.
+use super::degrees::power;
 use super::{alone, cell, holds, list, single};
 use field::F7;
 use lookup::{Kind, LogUpGadget, Lookup, LookupError, Lookups};
@@ -6,7 +7,7 @@ use std::alloc::Global;
 use std::process::Abort;
 
 /// A lookup on a bus, of one tuple of the first `width` cells with count 1.
-fn on_bus(
+pub(super) fn on_bus(
     rt: &impl Abort,
     alloc: Global,
     bus: &str,
@@ -158,4 +159,140 @@ fn an_overflow_before_a_later_refusal(rt: HostRuntime) {
         .err();
     let expected = Some(LookupError::CountWeightOverflow);
     holds(&rt, "the overflow", refused == expected);
+}
+
+/// The sizes of the columns, in order.
+fn have_sizes(columns: &[Lookup<F7>], sizes: &[usize]) -> bool {
+    for (lookup, size) in columns.iter().zip(sizes) {
+        if lookup.elements.len() != *size {
+            return false;
+        }
+    }
+    columns.len() == sizes.len()
+}
+
+/// Lookups on bus `a` whose one cell has these degrees.
+fn of_degrees(rt: &impl Abort, alloc: Global, degrees: &[usize]) -> Lookups<F7> {
+    let mut records = Vec::new(alloc);
+    for degree in degrees {
+        let mut lookup = on_bus(rt, alloc, "a", 1, 1, records.len());
+        lookup.elements = alone(rt, alloc, alone(rt, alloc, power(rt, alloc, *degree)));
+        records.push(lookup).expect(rt, "memory");
+    }
+    Lookups::from_records(records).expect(rt, "records")
+}
+
+#[test]
+fn a_lookup_above_the_budget_stands_alone(rt: HostRuntime) {
+    let alloc = rt.alloc();
+    let degrees: [usize; 4] = [1, 1, 3, 1];
+    let packed = of_degrees(&rt, alloc, degrees.as_slice())
+        .pack_same_bus(alloc, &LogUpGadget::new(), 3)
+        .expect(&rt, "packed");
+    holds(&rt, "3 columns", have_sizes(packed.as_slice(), &[2, 1, 1]));
+    let alike: [usize; 4] = [1, 1, 1, 1];
+    let packed = of_degrees(&rt, alloc, alike.as_slice())
+        .pack_same_bus(alloc, &LogUpGadget::new(), 2)
+        .expect(&rt, "packed");
+    holds(
+        &rt,
+        "4 columns",
+        have_sizes(packed.as_slice(), &[1, 1, 1, 1]),
+    );
+}
+
+#[test]
+fn buses_in_the_order_of_their_first_lookups(rt: HostRuntime) {
+    let alloc = rt.alloc();
+    let mut group: Lookup<F7> = on_bus(&rt, alloc, "a", 1, 1, 4);
+    group.flags = Some(alone(&rt, alloc, cell(2)));
+    let records = list(
+        &rt,
+        alloc,
+        [
+            on_bus(&rt, alloc, "a", 1, 1, 0),
+            on_bus(&rt, alloc, "b", 1, 1, 1),
+            on_bus(&rt, alloc, "a", 1, 1, 2),
+            on_bus(&rt, alloc, "b", 1, 1, 3),
+            group,
+        ],
+    );
+    let packed = Lookups::from_records(records)
+        .expect(&rt, "records")
+        .pack_same_bus(alloc, &LogUpGadget::new(), 16)
+        .expect(&rt, "packed");
+    let columns = packed.as_slice();
+    assert!(rt; columns.len() == 3);
+    holds(&rt, "the sizes", have_sizes(columns, &[1, 2, 2]));
+    holds(&rt, "the group first", columns[0].flags.is_some());
+    holds(&rt, "then a", is_on(&columns[1], "a"));
+    holds(&rt, "then b", is_on(&columns[2], "b"));
+}
+
+/// The fewest columns of a consecutive split in which each part has one lookup, or 1 and the sum of
+/// its degrees is within the budget.
+fn fewest(degrees: &[usize], budget: usize) -> usize {
+    let mut best = degrees.len();
+    let mut splits = 1usize;
+    for _ in 1..degrees.len() {
+        splits = splits.saturating_mul(2);
+    }
+    for split in 0..splits {
+        let (mut rest, mut parts, mut members, mut sum) = (split, 0usize, 0usize, 1usize);
+        let mut good = true;
+        for degree in degrees {
+            let cut_here = parts == 0 || rest % 2 == 1;
+            if parts > 0 {
+                rest /= 2;
+            }
+            if cut_here {
+                parts = parts.saturating_add(1);
+                members = 0;
+                sum = 1;
+            }
+            members = members.saturating_add(1);
+            sum = sum.saturating_add(*degree);
+            good = good && (members == 1 || sum <= budget);
+        }
+        if good && parts < best {
+            best = parts;
+        }
+    }
+    best
+}
+
+/// Packs lookups of the degrees that are the digits of a number to the base 5.
+fn expect_fewest(rt: &impl Abort, alloc: Global, number: usize, length: usize, budget: usize) {
+    let mut rest = number;
+    let mut degrees = Vec::new(alloc);
+    for _ in 0..length {
+        degrees.push(rest % 5).expect(rt, "memory");
+        rest /= 5;
+    }
+    let packed = of_degrees(rt, alloc, degrees.as_slice())
+        .pack_same_bus(alloc, &LogUpGadget::new(), budget)
+        .expect(rt, "packed");
+    let columns = packed.as_slice().len();
+    assert!(rt;
+        columns == fewest(degrees.as_slice(), budget),
+        "{number}, budget {budget}"
+    );
+}
+
+/// All lists of up to three degrees from 0 to 4, and 250 lists of eight, against all splits.
+#[test]
+fn no_consecutive_split_has_fewer_columns(rt: HostRuntime) {
+    let alloc = rt.alloc();
+    for budget in 1..7usize {
+        let mut lists = 5usize;
+        for length in 1..4usize {
+            for number in 0..lists {
+                expect_fewest(&rt, alloc, number, length, budget);
+            }
+            lists = lists.saturating_mul(5);
+        }
+    }
+    for step in 0..250usize {
+        expect_fewest(&rt, alloc, step.saturating_mul(1561), 8, 4);
+    }
 }
