@@ -143,3 +143,57 @@ fn two_keys_that_nothing_provides(rt: HostRuntime) {
     let counted = counts(&rt, alloc, instances, 1).ok();
     holds(&rt, "the counts", counted == Some(count(3, 2, 1, 4)));
 }
+
+/// At how many alphas some witness of one row is accepted.
+fn accepting_alphas(
+    rt: &impl Abort,
+    alloc: Global,
+    instances: &[BatchInstance<'_, F7>],
+    beta: u32,
+) -> u128 {
+    let mut alphas = 0u128;
+    for alpha in 0..7u32 {
+        let pair = (F7::from_u32(alpha), F7::from_u32(beta));
+        let challenges = Challenges::new(alloc, pair.0, pair.1, 1, 1).expect(rt, "memory");
+        if some_is_accepted(rt, alloc, instances, &challenges, 1, 7) {
+            alphas = alphas.saturating_add(1);
+        }
+    }
+    alphas
+}
+
+/// Rows of the range machine, drawn at random, with the numbers of their keys and of those that do
+/// not balance: where some key does not, few betas have `n + k` accepting alphas.
+#[test]
+fn rows_drawn_at_random(rt: HostRuntime) {
+    let alloc = rt.alloc();
+    let rows: [([u32; 3], u128, u128); 6] = [
+        ([3, 5, 2], 2, 2),
+        ([0, 0, 1], 1, 0),
+        ([6, 1, 0], 2, 1),
+        ([2, 2, 6], 1, 1),
+        ([5, 4, 6], 2, 2),
+        ([4, 4, 0], 1, 1),
+    ];
+    for (numbers, messages, unbalanced) in rows {
+        let main = trace(&rt, alloc, numbers.as_slice(), 3);
+        let lookups = [range(&rt, alloc)];
+        let instances = [instance(lookups.as_slice(), &main, &[0])];
+        let instances = instances.as_slice();
+        let counted = counts(&rt, alloc, instances, 1).expect(&rt, "no fault");
+        holds(&rt, "the keys", counted.messages == messages);
+        holds(&rt, "the unbalanced", counted.unbalanced == unbalanced);
+        let mut bad = 0u128;
+        for beta in 0..7u32 {
+            let alphas = accepting_alphas(&rt, alloc, instances, beta);
+            if alphas >= messages.saturating_add(unbalanced) {
+                bad = bad.saturating_add(1);
+            }
+        }
+        holds(
+            &rt,
+            "the bad betas",
+            unbalanced == 0 || bad <= counted.bad_betas,
+        );
+    }
+}
