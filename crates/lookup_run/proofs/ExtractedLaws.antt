@@ -93,7 +93,7 @@ module _ (F EF : Type 0) (R : Ring F) (eq : F → F → Bool) (air : MachineAir)
   cell_memory before e empty (inr (inl memory)) = memory
   cell_memory before e empty (inr (inr narrow)) =
       let wide : (recorded before.inner).layout.main_width ≡ width_of air = ap (λ r. r.constraints.layout.main_width) empty in
-      absurd (omega (arith, wide, narrow.narrow, narrow.at_most))
+      absurd (omega (arith, wide, narrow.0))
 
   -- so its one refusal is want of memory
   memory_alone : (e : AirError) → EvaluatesNew {A = MachineAir} (λ _. air_evaluates) air layout (Err e) → e ≡ AirMemory

@@ -1,5 +1,5 @@
 -- How the AIRs of the machines push, and how they read the cells of a row.
-use Rattle.std.specs.Prelude.{◌≡◌, ◌⊎◌, ◌<◌, ◌≤◌, ℕ, List, [], ◌∷◌, map, Some, slice_get, Result, Ok, Err, MatchResult}
+use Rattle.std.specs.Prelude.{◌≡◌, ◌⊎◌, ◌<◌, ℕ, List, [], ◌∷◌, map, Some, slice_get, Result, Ok, Err, MatchResult}
 use Rattle.std.proofs.Common.{inl, inr, subst}
 use Rattle.std.specs.declared.alloc.Global.{Global}
 use Rattle.std.specs.declared.vec.Vec.{Vec}
@@ -9,12 +9,9 @@ use Rattle.expressions.specs.declared.error.LayoutPart.TheVariants.{Main}
 use Rattle.expressions.specs.declared.layout.AirLayout.{AirLayout}
 use Rattle.lookup_builder.specs.Messages.{PushesOne, flag_and_key}
 
--- the refusal of a row that has fewer columns than are wanted, which are at most these
-pub record IsNarrow (width columns : ℕ) (e : AirError) : Type 0 where
-  pub wanted : ℕ
-  pub at_most : wanted ≤ columns
-  pub narrow : width < wanted
-  pub error_is : e ≡ LayoutMismatch Main wanted width
+-- the refusal of a row that has fewer columns than the AIR: it names both numbers
+abbrev pub IsNarrow : ℕ → ℕ → AirError → Type 0
+IsNarrow width columns e = (width < columns) × (e ≡ LayoutMismatch Main columns width)
 
 -- the refusal of a cell: out of memory, the builder's own for its window, or that of a narrow row
 abbrev pub IsCellRefusal : {B : Type 0} → (B → AirError → Type 0) → (B → AirLayout) → ℕ → B → AirError → Type 0

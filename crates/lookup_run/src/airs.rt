@@ -1,5 +1,5 @@
 //! The AIRs of the machines, which say what each row looks up.
-ghost use Rattle.std.specs.Prelude.{◌≡◌, ◌+◌, ◌<◌, All, IfErr, IfOk, OnOk};
+ghost use Rattle.std.specs.Prelude.{◌≡◌, ◌<◌, All, IfErr, IfOk, OnOk};
 ghost use Rattle.lookup_builder.specs.Pushed.{pushed_local};
 ghost use Rattle.lookup_builder.specs.Within.{IsWithin, KeyWithin};
 ghost use Rattle.lookup_run.specs.Machines.{DoesSend, first_column_of, width_of};
@@ -22,7 +22,7 @@ pub enum MachineAir {
     Keys,
     /// Columns `entry mult`. It provides `[entry]` on the bus `b`, used `mult` times.
     Entries,
-    /// Columns `flag0 key0 flag1 key1`. One group on the bus `rc`: a row queries the one of both
+    /// Columns `flag0 key0 flag1 key1`. One group on the bus `rc`: a row queries the one of the two
     /// keys whose flag is set, or none.
     Group,
 }
@@ -85,12 +85,12 @@ impl<AB: InteractionBuilder> Air<AB> for MachineAir {
                 builder.push_local_interaction(alloc, tuples)
             }
             MachineAir::Keys => {
-                let key = tuple(alloc, builder, 0)?;
+                let key = tuple(alloc, builder, 1, 0)?;
                 LookupBus::new("b").lookup_key(alloc, builder, key, Count::from_i32::<AB::F>(1))
             }
             MachineAir::Entries => {
-                let entry = tuple(alloc, builder, 0)?;
-                let uses = cell(alloc, builder, 1)?;
+                let entry = tuple(alloc, builder, 2, 0)?;
+                let uses = cell(alloc, builder, 2, 1)?;
                 LookupBus::new("b").table_entry(alloc, builder, entry, uses)
             }
             MachineAir::Group => {
@@ -116,9 +116,9 @@ fn range_tuples<AB: InteractionBuilder>(
     ensures within { IfOk result (λ tuples. IsWithin AB.Expr.within (AB.layout builder.now) (pushed_local tuples.items)) }
 {
     let mut tuples = Vec::new(alloc);
-    tuples.push((tuple(alloc, builder, 0)?, Count::from_i32::<AB::F>(1)))?;
-    let provided = Count::provided(cell(alloc, builder, 2)?.neg(alloc)?);
-    tuples.push((tuple(alloc, builder, 1)?, provided))?;
+    tuples.push((tuple(alloc, builder, 3, 0)?, Count::from_i32::<AB::F>(1)))?;
+    let provided = Count::provided(cell(alloc, builder, 3, 2)?.neg(alloc)?);
+    tuples.push((tuple(alloc, builder, 3, 1)?, provided))?;
     Ok(tuples)
 }
 
@@ -132,16 +132,21 @@ fn two_keys<AB: InteractionBuilder>(
     ensures within { IfOk result (λ branches. All (KeyWithin AB.Expr.within (AB.layout builder.now)) branches.items) }
 {
     let mut branches = Vec::new(alloc);
-    branches.push((cell(alloc, builder, 0)?, tuple(alloc, builder, 1)?))?;
-    branches.push((cell(alloc, builder, 2)?, tuple(alloc, builder, 3)?))?;
+    branches.push((cell(alloc, builder, 4, 0)?, tuple(alloc, builder, 4, 1)?))?;
+    branches.push((cell(alloc, builder, 4, 2)?, tuple(alloc, builder, 4, 3)?))?;
     Ok(branches)
 }
 
-/// The expression of a cell of the current row, in one of the first four columns.
+/// The expression of a cell of the current row, for an AIR of so many columns.
 #[tactic(auto, using(crate::proofs::CellLaws::cell_is, crate::proofs::CellLaws::no_cell))]
-fn cell<AB: AirBuilder>(alloc: Global, builder: &AB, column: usize) -> Result<AB::Expr, AirError>
-    requires { column < 4 }
-    ensures refused { IfErr result (IsCellRefusal AB.window_refuses AB.layout (column + 1) builder.now) }
+fn cell<AB: AirBuilder>(
+    alloc: Global,
+    builder: &AB,
+    columns: usize,
+    column: usize,
+) -> Result<AB::Expr, AirError>
+    requires { column < columns }
+    ensures refused { IfErr result (IsCellRefusal AB.window_refuses AB.layout columns builder.now) }
     ensures cell { IfOk result (IsCell (λ x w. AB.Expr.value x (AB.seen w)) (AB.stands_for builder.now) (λ w. w.main) column) }
     ensures within { IfOk result (λ x. AB.Expr.within (AB.layout builder.now) x) }
 {
@@ -150,7 +155,7 @@ fn cell<AB: AirBuilder>(alloc: Global, builder: &AB, column: usize) -> Result<AB
         Some(variable) => Ok(variable.into()),
         None => Err(AirError::LayoutMismatch {
             part: LayoutPart::Main,
-            expected: column + 1,
+            expected: columns,
             actual: main.current_slice().len(),
         }),
     }
@@ -160,14 +165,15 @@ fn cell<AB: AirBuilder>(alloc: Global, builder: &AB, column: usize) -> Result<AB
 fn tuple<AB: AirBuilder>(
     alloc: Global,
     builder: &AB,
+    columns: usize,
     column: usize,
 ) -> Result<Vec<AB::Expr>, AirError>
-    requires { column < 4 }
-    ensures refused { IfErr result (IsCellRefusal AB.window_refuses AB.layout (column + 1) builder.now) }
+    requires { column < columns }
+    ensures refused { IfErr result (IsCellRefusal AB.window_refuses AB.layout columns builder.now) }
     ensures tuple { IfOk result (λ tuple. IsCellTuple (λ x w. AB.Expr.value x (AB.seen w)) (AB.stands_for builder.now) (λ w. w.main) column tuple.items) }
     ensures within { IfOk result (λ tuple. All (AB.Expr.within (AB.layout builder.now)) tuple.items) }
 {
     let mut tuple = Vec::new(alloc);
-    tuple.push(cell(alloc, builder, column)?)?;
+    tuple.push(cell(alloc, builder, columns, column)?)?;
     Ok(tuple)
 }

@@ -47,7 +47,7 @@ pub fn air_traces<F: Field, EF: ExtensionField<F>>(
     Ok(traces)
 }
 
-/// The lookup that an AIR records. It fits the AIR's trace.
+/// The lookups that an AIR records: one, which fits the AIR's trace.
 ///
 /// Fails only when out of memory.
 fn lookups_for<F: Field, EF: ExtensionField<F>>(

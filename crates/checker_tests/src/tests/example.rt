@@ -114,14 +114,14 @@ fn tuple<AB: AirBuilder>(
 fn accepted(
     rt: &impl Abort,
     alloc: Global,
-    keys: &RowMajorMatrix<F7>,
-    entries: &RowMajorMatrix<F7>,
+    keys: RowMajorMatrix<F7>,
+    entries: RowMajorMatrix<F7>,
 ) -> Result<Witness<F7>, Fail> {
     let asks = Lookups::from_air::<F7, KeysAir>(alloc, &KeysAir)?;
     let provides = Lookups::from_air::<F7, EntriesAir>(alloc, &EntriesAir)?;
     let batch = [
-        instance(asks.as_slice(), keys, &[0]),
-        instance(provides.as_slice(), entries, &[0]),
+        instance(asks.as_slice(), &keys, &[0]),
+        instance(provides.as_slice(), &entries, &[0]),
     ];
     let batch = batch.as_slice();
     let challenges = Challenges::new(alloc, F7::new(5), F7::new(2), 1, 1)?;
@@ -138,7 +138,7 @@ fn keys_are_found_in_the_entries(rt: HostRuntime) -> Result<(), Fail> {
     let alloc = rt.alloc();
     let keys = trace(&rt, alloc, &[3, 3], 1);
     let entries = trace(&rt, alloc, &[3, 2, 4, 0], 2);
-    let witness = accepted(&rt, alloc, &keys, &entries)?;
+    let witness = accepted(&rt, alloc, keys, entries)?;
     holds(&rt, "the keys", has_result(&witness, 0, &[0, 2, 2, 2], 4));
     holds(
         &rt,

@@ -49,8 +49,18 @@ fn some_is_accepted(
     false
 }
 
+/// Whether a pair is in a list.
+fn is_listed(pairs: &[(u32, u32)], alpha: u32, beta: u32) -> bool {
+    for pair in pairs {
+        if pair.0 == alpha && pair.1 == beta {
+            return true;
+        }
+    }
+    false
+}
+
 /// At each of the 49 pairs of challenges, for tuples of at most `width` elements, some witness is
-/// accepted exactly where it should be.
+/// accepted exactly if the pair, alpha first, is listed.
 fn expect_accepted(
     rt: &impl Abort,
     alloc: Global,
@@ -58,7 +68,7 @@ fn expect_accepted(
     width: usize,
     height: u32,
     terminals: u32,
-    should: impl Fn(u32, u32) -> bool,
+    pairs: &[(u32, u32)],
 ) {
     assert!(rt; width > 0);
     for beta in 0..7u32 {
@@ -66,10 +76,8 @@ fn expect_accepted(
             let pair = (F7::from_u32(alpha), F7::from_u32(beta));
             let challenges = Challenges::new(alloc, pair.0, pair.1, width, 1).expect(rt, "memory");
             let accepted = some_is_accepted(rt, alloc, instances, &challenges, height, terminals);
-            assert!(rt;
-                accepted == should(alpha, beta),
-                "alpha {alpha}, beta {beta}"
-            );
+            let listed = is_listed(pairs, alpha, beta);
+            assert!(rt; accepted == listed, "alpha {alpha}, beta {beta}");
         }
     }
 }
@@ -91,9 +99,8 @@ fn one_key_queried_twice(rt: HostRuntime) {
     let lookups = [lookup(&rt, alloc, None, [(0, None), (0, None)])];
     let instances = [instance(lookups.as_slice(), &main, &[0])];
     let instances = instances.as_slice();
-    expect_accepted(&rt, alloc, instances, 1, 1, 7, |alpha, beta| {
-        alpha.saturating_add(beta) % 7 == 3
-    });
+    let pairs: [(u32, u32); 7] = [(3, 0), (2, 1), (1, 2), (0, 3), (6, 4), (5, 5), (4, 6)];
+    expect_accepted(&rt, alloc, instances, 1, 1, 7, pairs.as_slice());
     let counted = counts(&rt, alloc, instances, 1).ok();
     holds(&rt, "the counts", counted == Some(count(1, 1, 0, 1)));
 }
@@ -123,7 +130,8 @@ fn two_pairs_that_collide_at_one_beta(rt: HostRuntime) {
     let lookups = [two_pairs(&rt, alloc)];
     let instances = [instance(lookups.as_slice(), &main, &[0])];
     let instances = instances.as_slice();
-    expect_accepted(&rt, alloc, instances, 2, 1, 7, |_, beta| beta == 1);
+    let pairs: [(u32, u32); 7] = [(0, 1), (1, 1), (2, 1), (3, 1), (4, 1), (5, 1), (6, 1)];
+    expect_accepted(&rt, alloc, instances, 2, 1, 7, pairs.as_slice());
     let counted = counts(&rt, alloc, instances, 2).ok();
     holds(&rt, "the counts", counted == Some(count(2, 2, 2, 3)));
 }
@@ -137,9 +145,77 @@ fn two_keys_that_nothing_provides(rt: HostRuntime) {
     let lookups = [range(&rt, alloc)];
     let instances = [instance(lookups.as_slice(), &main, &[0])];
     let instances = instances.as_slice();
-    expect_accepted(&rt, alloc, instances, 1, 2, 1, |alpha, beta| {
-        alpha.saturating_add(beta) % 7 < 2
-    });
+    let pairs: [(u32, u32); 14] = [
+        (0, 0),
+        (1, 0),
+        (6, 1),
+        (0, 1),
+        (5, 2),
+        (6, 2),
+        (4, 3),
+        (5, 3),
+        (3, 4),
+        (4, 4),
+        (2, 5),
+        (3, 5),
+        (1, 6),
+        (2, 6),
+    ];
+    expect_accepted(&rt, alloc, instances, 1, 2, 1, pairs.as_slice());
     let counted = counts(&rt, alloc, instances, 1).ok();
     holds(&rt, "the counts", counted == Some(count(3, 2, 1, 4)));
+}
+
+/// At how many alphas some witness of one row is accepted.
+fn accepting_alphas(
+    rt: &impl Abort,
+    alloc: Global,
+    instances: &[BatchInstance<'_, F7>],
+    beta: u32,
+) -> u128 {
+    let mut alphas = 0u128;
+    for alpha in 0..7u32 {
+        let pair = (F7::from_u32(alpha), F7::from_u32(beta));
+        let challenges = Challenges::new(alloc, pair.0, pair.1, 1, 1).expect(rt, "memory");
+        if some_is_accepted(rt, alloc, instances, &challenges, 1, 7) {
+            alphas = alphas.saturating_add(1);
+        }
+    }
+    alphas
+}
+
+/// Rows of the range machine, drawn at random, with the numbers of their keys and of those that do
+/// not balance: where some key does not, few betas have `n + k` accepting alphas.
+#[test]
+fn rows_drawn_at_random(rt: HostRuntime) {
+    let alloc = rt.alloc();
+    let rows: [([u32; 3], u128, u128); 6] = [
+        ([3, 5, 2], 2, 2),
+        ([0, 0, 1], 1, 0),
+        ([6, 1, 0], 2, 1),
+        ([2, 2, 6], 1, 1),
+        ([5, 4, 6], 2, 2),
+        ([4, 4, 0], 1, 1),
+    ];
+    for (numbers, messages, unbalanced) in rows {
+        let main = trace(&rt, alloc, numbers.as_slice(), 3);
+        let lookups = [range(&rt, alloc)];
+        let instances = [instance(lookups.as_slice(), &main, &[0])];
+        let instances = instances.as_slice();
+        let counted = counts(&rt, alloc, instances, 1).expect(&rt, "no fault");
+        holds(&rt, "the keys", counted.messages == messages);
+        holds(&rt, "the unbalanced", counted.unbalanced == unbalanced);
+        let mut bad = 0u128;
+        for beta in 0..7u32 {
+            let alphas = accepting_alphas(&rt, alloc, instances, beta);
+            if alphas >= messages.saturating_add(unbalanced) {
+                bad = bad.saturating_add(1);
+            }
+        }
+        holds(
+            &rt,
+            "the bad betas",
+            unbalanced == 0 || bad <= counted.bad_betas,
+        );
+    }
 }
