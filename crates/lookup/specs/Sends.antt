@@ -15,8 +15,8 @@ abbrev pub message_under : {E F : Type 0} → (E → F) → ℕ → List E → E
 message_under value id fields count = record { key = record { id = id; tuple = map value fields }; multiplicity = value count }
 
 module _ {E F : Type 0} (R : Ring F) (eq : F → F → Bool) (value : E → F) where
-  -- What an interaction sends under an id: a message on a bus itself, a local lookup all of its
-  -- tuples, and a group the branches whose flag is set.
+  -- What an interaction sends under an id: a message on a bus sends itself, a local lookup all of
+  -- its tuples, and a group the branches whose flag is set.
   abbrev pub interaction_sends : ℕ → Interaction E → Sent F
   interaction_sends id (global m) = sent R eq None (message_under value id m.fields m.count ∷ [])
   interaction_sends id (local tuples) = sent R eq None (map (λ t. message_under value id t.fields t.count) tuples)
@@ -28,8 +28,8 @@ module _ {E : Type 0} where
   abbrev pub in_order : List (List (Tuple E)) → List (GlobalInteraction E) → List (ExclusiveInteraction E) → List (Interaction E)
   in_order locals globals exclusives = map local locals ++ (map global globals ++ map exclusive exclusives)
 
-  -- the bus of an interaction, unless it is local, and the most that a row adds to the counts: the
-  -- sum over the tuples of a local lookup, and the greatest weight of a group's branches
+  -- the bus of an interaction, unless it is local, and its weight: that of a message, the sum over
+  -- the tuples of a local lookup, and the greatest of a group's branches
   abbrev pub bus_and_weight : Interaction E → Option (List ℕ) × ℕ
   bus_and_weight (global m) = (Some m.bus_name, m.weight)
   bus_and_weight (local tuples) = (None, sum_by (λ t. t.weight) tuples)

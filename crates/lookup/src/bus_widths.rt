@@ -17,7 +17,7 @@ use lookup_packing::by_bus;
 use std::alloc::{AllocError, Global};
 use std::hash::Hash;
 
-/// The widest tuple that is sent on a bus, 0 if there is none.
+/// The width of the widest tuple that is sent on a bus, 0 if there is none.
 ///
 /// Takes the AIRs in order, and in each its buses in the order in which they are first seen, with the
 /// tuples of groups. Ignores local lookups. Refuses `BusWidthMismatch` at the first tuple whose width

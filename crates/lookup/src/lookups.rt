@@ -75,11 +75,11 @@ impl<F: Field> Lookups<F> {
         }
     }
 
-    /// Joins the lookups of each bus into as few columns as a greedy filling takes, by the degree
-    /// that the closure gives; see [`lookup_packing::packed`].
+    /// Fills the columns of each bus greedily, by the degree that the closure gives; see
+    /// [`lookup_packing::packed`].
     ///
-    /// Local lookups and those with flags come first, in their order, then the buses in the order in
-    /// which they are first seen. Refuses `TupleWidths` at the first bus with two widths, then what
+    /// Local lookups and those with flags come first, in their order, then the buses in the order of
+    /// their first other lookups. Refuses `TupleWidths` at the first bus with two widths, then what
     /// the first refused trial refuses: the closure's own refusal, or `CountWeightOverflow`. The set
     /// is then dropped.
     pub fn pack_same_bus_with_degree<D: Fn(&Lookup<F>) -> Result<usize, LookupError>>(
