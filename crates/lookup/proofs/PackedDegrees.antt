@@ -1,11 +1,8 @@
 -- Packing by the degree of the gadget.
-use Rattle.std.proofs.Common.{◌≡◌, ◌⊎◌, inl, inr, ℕ, List, [], ◌∷◌, Option, None, Some, Result, Ok, Err, IfOk, length, map, refl, sym, ap, subst, ◌∙◌}
-use Rattle.std.proofs.lemmas.List.{length-map}
-use Rattle.std.proofs.lemmas.List.Elements.{recursion_from_All}
-use Rattle.std.specs.List.{AllByRecursion, AllZip, zip}
+use Rattle.std.proofs.Common.{◌≡◌, inl, inr, ℕ, List, [], ◌∷◌, Option, None, Some, Result, Ok, Err, IfOk, map, refl, ap, ◌∙◌}
+use Rattle.std.specs.List.{AllByRecursion, zip}
 use Rattle.std.specs.Option.{option_map}
 use Rattle.expressions.specs.declared.base_expression.SymbolicExpression.{SymbolicExpression}
-use Rattle.lookup_laws.proofs.Regrouping.{All-map}
 use Rattle.lookup_model.specs.LookupDegree.{branch_degrees, constraint_degree_of, expression_degree, lookup_degree}
 use Rattle.lookup_model.specs.Outline.{Outline, fields_of}
 use Rattle.lookup_model.specs.declared.error.LookupError.{LookupError}
@@ -14,7 +11,7 @@ use Rattle.lookup_packing.proofs.FewestColumns.{IsPlain, fewest_columns}
 use Rattle.lookup_packing.specs.Buses.{bus_names, on_bus}
 use Rattle.lookup_packing.specs.Cuts.{AreClosed, IsGrown}
 use Rattle.lookup_packing.specs.Fewest.{AnswersDegree, HasFewestColumns, outline_degree}
-use Rattle.lookup_packing.specs.Packing.{additive, AreFilled, IsAbove, IsFillRefusal, IsFilling, IsPacking, IsStuck, Joins, Packs}
+use Rattle.lookup_packing.specs.Packing.{additive, AreFilled, IsAbove, IsFilling, IsStuck, Joins, Packs}
 
 flags_degrees : {F : Type 0} {V : Type 0} (items : V → List (SymbolicExpression F)) (flags : Option V) → option_map (λ fs. map (expression_degree 0) (items fs)) flags ≡ option_map (λ fs. map (expression_degree 0) fs) (option_map items flags)
 flags_degrees items None = refl

@@ -1,16 +1,13 @@
 -- The lookups that are extracted from an AIR's records.
-use Rattle.std.specs.Prelude.{◌≡◌, ◌≢◌, ◌+◌, ◌<◌, ◌≤◌, ◌⊎◌, ℕ, List, [], ◌∷◌, ◌++◌, length, map, None, Some, slice_get, All, Result, Ok, Err, MatchResult}
+use Rattle.std.specs.Prelude.{◌≡◌, ◌+◌, ◌<◌, ◌≤◌, ◌⊎◌, ℕ, List, [], ◌∷◌, ◌++◌, length, map, None, Some, All, Result, Ok, Err, MatchResult}
 use Rattle.std.specs.List.{enumerate_from, sum_by}
-use Rattle.std.specs.String.{string_bytes}
-use Rattle.std.specs.declared.alloc.Global.{Global}
-use Rattle.std.specs.declared.string.String.{String}
 use Rattle.expressions.specs.declared.error.AirError.{AirError}
 use Rattle.expressions.specs.declared.layout.AirLayout.{AirLayout}
 use Rattle.lookup_model.specs.LookupDegree.{greatest}
 use Rattle.lookup_model.specs.Outline.{Outline, fields_of}
 use Rattle.lookup_model.specs.Refusal.{from_air}
 use Rattle.lookup_model.specs.declared.error.LookupError.{LookupError}
-use Rattle.lookup_model.specs.declared.error.LookupError.TheVariants.{Memory, CountWeightOverflow, TupleWidths}
+use Rattle.lookup_model.specs.declared.error.LookupError.TheVariants.{Memory, CountWeightOverflow}
 use Rattle.lookup_builder.specs.Interaction.{Tuple, GlobalInteraction, ExclusiveInteraction}
 use Rattle.lookup_packing.specs.TupleWidths.{HasOtherWidth, IsTupleWidths}
 use Rattle.lookup_record.specs.RecordedAir.{EvaluatesNew, recorded_air}

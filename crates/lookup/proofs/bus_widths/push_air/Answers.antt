@@ -1,4 +1,4 @@
-use Rattle.std.proofs.Common.{◌≡◌, ◌++◌, Some, ap, arith, ◌+◌, length, map, slice_get, sym, take, take_all, true≢false, ◌∙◌}
+use Rattle.std.proofs.Common.{◌≡◌, ◌++◌, ap, arith, ◌+◌, length, map, slice_get, sym, take, take_all, true≢false, ◌∙◌}
 use Rattle.std.proofs.lemmas.List.{length-map}
 use Rattle.std.proofs.lemmas.Option.{slice_get-map}
 use Rattle.std.specs.Option.{option_map}

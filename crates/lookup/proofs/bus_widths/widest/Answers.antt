@@ -1,4 +1,4 @@
-use Rattle.std.proofs.Common.{◌≡◌, ℕ, List, ap, arith, length, inl, inr, map, take_all, subst, ◌∙◌}
+use Rattle.std.proofs.Common.{ℕ, List, ap, arith, inl, inr, map, take_all, subst, ◌∙◌}
 use Rattle.std.proofs.lemmas.List.{length-map}
 use Rattle.lookup_model.specs.LookupDegree.{greatest}
 use Rattle.lookup.specs.NamedWidths.{AgreeOnWidths, seen_widths}
