@@ -1,4 +1,4 @@
-//! The example of the README: an AIR on a bus, from its evaluation to the check of its terminal.
+//! One AIR on a bus, from its evaluation to the check of its terminal and of its constraints.
 ghost use Rattle.std.specs.Prelude.{◌≡◌, All, IfOk, OnOk};
 
 use super::evaluation::refusal;
