@@ -184,20 +184,20 @@ fn accepting_alphas(
     alphas
 }
 
-/// Rows of the range machine, drawn at random, with the numbers of their keys and of those that do
-/// not balance: where some key does not, few betas have `n + k` accepting alphas.
+/// Rows of the range machine, drawn at random, with their four counts: at all but so many betas as
+/// the third says at most so many alphas are accepting as the fourth says.
 #[test]
 fn rows_drawn_at_random(rt: HostRuntime) {
     let alloc = rt.alloc();
-    let rows: [([u32; 3], u128, u128); 6] = [
-        ([3, 5, 2], 2, 2),
-        ([0, 0, 1], 1, 0),
-        ([6, 1, 0], 2, 1),
-        ([2, 2, 6], 1, 1),
-        ([5, 4, 6], 2, 2),
-        ([4, 4, 0], 1, 1),
+    let rows: [([u32; 3], u128, u128, u128, Option<u128>); 6] = [
+        ([3, 5, 2], 2, 2, 1, Some(3)),
+        ([0, 0, 1], 1, 0, 0, None),
+        ([6, 1, 0], 2, 1, 0, Some(2)),
+        ([2, 2, 6], 1, 1, 0, Some(1)),
+        ([5, 4, 6], 2, 2, 1, Some(3)),
+        ([4, 4, 0], 1, 1, 0, Some(1)),
     ];
-    for (numbers, messages, unbalanced) in rows {
+    for (numbers, messages, unbalanced, bad_betas, accepting) in rows {
         let main = trace(&rt, alloc, numbers.as_slice(), 3);
         let lookups = [range(&rt, alloc)];
         let instances = [instance(lookups.as_slice(), &main, &[0])];
@@ -205,17 +205,17 @@ fn rows_drawn_at_random(rt: HostRuntime) {
         let counted = counts(&rt, alloc, instances, 1).expect(&rt, "no fault");
         holds(&rt, "the keys", counted.messages == messages);
         holds(&rt, "the unbalanced", counted.unbalanced == unbalanced);
+        holds(&rt, "the bound of betas", counted.bad_betas == bad_betas);
+        holds(&rt, "the alphas", counted.accepting_alphas == accepting);
+        let Some(most) = counted.accepting_alphas else {
+            continue;
+        };
         let mut bad = 0u128;
         for beta in 0..7u32 {
-            let alphas = accepting_alphas(&rt, alloc, instances, beta);
-            if alphas >= messages.saturating_add(unbalanced) {
+            if accepting_alphas(&rt, alloc, instances, beta) > most {
                 bad = bad.saturating_add(1);
             }
         }
-        holds(
-            &rt,
-            "the bad betas",
-            unbalanced == 0 || bad <= counted.bad_betas,
-        );
+        holds(&rt, "the bad betas", bad <= counted.bad_betas);
     }
 }
