@@ -1,7 +1,8 @@
 //! What the debug check finds.
 ghost use Rattle.std.specs.Prelude.{◌≡◌, IfOk, OnOk, ◌++◌, codes, string_bytes, map};
 ghost use Rattle.std.specs.List.{flat_map, join_by};
-ghost use Rattle.lookup_debug.specs.FaultText.{fault_text, location_text};
+ghost use Rattle.lookup_debug.specs.Contributions.{place_of};
+ghost use Rattle.lookup_debug.specs.FaultText.{fault_text, place_text};
 
 use field::Field;
 use std::alloc::{AllocError, AllocFailed, Global};
@@ -84,7 +85,7 @@ impl<F: Field> LookupFault<F> {
 
 /// Appends the texts of the elements of a tuple, separated by a comma and a space.
 fn push_elements(line: &mut String, elements: &[String]) -> Result<(), AllocError>
-    ensures { OnOk result (string_bytes line.new ≡ string_bytes line.old ++ join_by (λ t. string_bytes t) (codes ", ") elements.now) }
+    ensures { OnOk result (string_bytes line.new ≡ string_bytes line.old ++ join_by (λ t. t) (codes ", ") (map (λ t. string_bytes t) elements.now)) }
 {
     if let Some((first, rest)) = elements.split_first() {
         line.push_str(first.as_str())?;
@@ -95,7 +96,7 @@ fn push_elements(line: &mut String, elements: &[String]) -> Result<(), AllocErro
 
 /// Appends further elements, each after a comma and a space.
 fn push_further_elements(line: &mut String, elements: &[String]) -> Result<(), AllocError>
-    ensures { OnOk result (string_bytes line.new ≡ string_bytes line.old ++ flat_map (λ t. codes ", " ++ string_bytes t) elements.now) }
+    ensures { OnOk result (string_bytes line.new ≡ string_bytes line.old ++ flat_map (λ t. codes ", " ++ t) (map (λ t. string_bytes t) elements.now)) }
 {
     for element in elements {
         line.push_str(", ")?;
@@ -110,7 +111,7 @@ fn push_locations(
     line: &mut String,
     locations: &[Location],
 ) -> Result<(), AllocError>
-    ensures { OnOk result (string_bytes line.new ≡ string_bytes line.old ++ join_by location_text (codes "; ") locations.now) }
+    ensures { OnOk result (string_bytes line.new ≡ string_bytes line.old ++ join_by place_text (codes "; ") (map place_of locations.now)) }
 {
     if let Some((first, rest)) = locations.split_first() {
         push_location(alloc, line, *first)?;
@@ -125,7 +126,7 @@ fn push_further_locations(
     line: &mut String,
     locations: &[Location],
 ) -> Result<(), AllocError>
-    ensures { OnOk result (string_bytes line.new ≡ string_bytes line.old ++ flat_map (λ l. codes "; " ++ location_text l) locations.now) }
+    ensures { OnOk result (string_bytes line.new ≡ string_bytes line.old ++ flat_map (λ p. codes "; " ++ place_text p) (map place_of locations.now)) }
 {
     for location in locations {
         line.push_str("; ")?;
@@ -136,7 +137,7 @@ fn push_further_locations(
 
 /// Appends the text of a place.
 fn push_location(alloc: Global, line: &mut String, location: Location) -> Result<(), AllocError>
-    ensures { OnOk result (string_bytes line.new ≡ string_bytes line.old ++ location_text location) }
+    ensures { OnOk result (string_bytes line.new ≡ string_bytes line.old ++ place_text (place_of location)) }
 {
     let Location {
         instance,
