@@ -38,7 +38,9 @@ pub enum LookupFault<F> {
 }
 
 impl<F> From<AllocError> for LookupFault<F> {
-    ghost from_gives = { λ _ fault. fault ≡ LookupFault.Memory };
+    ghost use Rattle.lookup_debug.specs.declared.fault.LookupFault.TheVariants.{Memory};
+
+    ghost from_gives = { λ _ fault. fault ≡ Memory };
 
     fn from(_error: AllocError) -> LookupFault<F> {
         LookupFault::Memory
@@ -46,7 +48,9 @@ impl<F> From<AllocError> for LookupFault<F> {
 }
 
 impl<F, T: Drop> From<AllocFailed<T>> for LookupFault<F> {
-    ghost from_gives = { λ _ fault. fault ≡ LookupFault.Memory };
+    ghost use Rattle.lookup_debug.specs.declared.fault.LookupFault.TheVariants.{Memory};
+
+    ghost from_gives = { λ _ fault. fault ≡ Memory };
 
     fn from(_error: AllocFailed<T>) -> LookupFault<F> {
         LookupFault::Memory
@@ -114,7 +118,7 @@ fn push_locations(
     ensures { OnOk result (string_bytes line.new ≡ string_bytes line.old ++ join_by place_text (codes "; ") (map place_of locations.now)) }
 {
     if let Some((first, rest)) = locations.split_first() {
-        push_location(alloc, line, *first)?;
+        push_location(alloc, line, first)?;
         push_further_locations(alloc, line, rest)?;
     }
     Ok(())
@@ -130,21 +134,19 @@ fn push_further_locations(
 {
     for location in locations {
         line.push_str("; ")?;
-        push_location(alloc, line, *location)?;
+        push_location(alloc, line, location)?;
     }
     Ok(())
 }
 
 /// Appends the text of a place.
-fn push_location(alloc: Global, line: &mut String, location: Location) -> Result<(), AllocError>
-    ensures { OnOk result (string_bytes line.new ≡ string_bytes line.old ++ place_text (place_of location)) }
+fn push_location(alloc: Global, line: &mut String, location: &Location) -> Result<(), AllocError>
+    ensures { OnOk result (string_bytes line.new ≡ string_bytes line.old ++ place_text (place_of location.now)) }
 {
     let Location {
         instance,
         lookup,
         row,
     } = location;
-    line.push_str(
-        format!(in alloc; "instance {instance} lookup {lookup} row {row}")?.as_str(),
-    )
+    line.push_str(format!(in alloc; "instance {instance} lookup {lookup} row {row}")?.as_str())
 }
