@@ -1,0 +1,5 @@
+pub mod Arena
+pub mod Contributions
+pub mod FaultText
+pub mod Groups
+pub mod Mismatch
