@@ -7,6 +7,7 @@ mod challenge;
 mod command;
 mod error;
 mod machine;
+mod mismatch;
 mod report;
 mod rows;
 #[cfg(test)]
