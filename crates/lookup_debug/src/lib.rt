@@ -7,6 +7,7 @@
 
 mod arena;
 mod fault;
+mod first;
 mod instance;
 mod labels;
 

@@ -1,0 +1,3 @@
+pub mod FirstMismatch
+pub mod LeastSteps
+pub mod SeenOrder
