@@ -6,7 +6,9 @@
 #![tactic(auto)]
 
 mod arena;
+mod contributions;
 mod fault;
+mod groups;
 mod instance;
 mod labels;
 
