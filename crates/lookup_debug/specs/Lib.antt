@@ -1,3 +1,4 @@
+pub mod Appended
 pub mod Arena
 pub mod Contributions
 pub mod FaultText

@@ -6,8 +6,10 @@
 #![tactic(auto)]
 
 mod arena;
+mod contributions;
 mod fault;
 mod first;
+mod groups;
 mod instance;
 mod labels;
 
