@@ -1,3 +1,6 @@
 pub mod FirstMismatch
+pub mod GroupSteps
+pub mod KeptItems
 pub mod LeastSteps
+pub mod PlacedLaws
 pub mod SeenOrder

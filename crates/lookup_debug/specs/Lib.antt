@@ -1,5 +1,6 @@
 pub mod Appended
 pub mod Arena
+pub mod Checks
 pub mod Contributions
 pub mod FaultText
 pub mod Groups

@@ -1,5 +1,5 @@
 //! Contributions whose tuples stand in one list of elements.
-ghost use Rattle.std.specs.Prelude.{◌≡◌, IfOk};
+ghost use Rattle.std.specs.Prelude.{◌≡◌, [], IfOk};
 ghost use Rattle.lookup_debug.specs.Arena.{AreWithin, contributions_in};
 ghost use Rattle.lookup_debug.specs.Nets.{tuple_entries, tuple_nets};
 
@@ -23,6 +23,25 @@ pub(crate) struct Cut<F> {
 pub(crate) struct Contributions<F> {
     pub(crate) elements: Vec<F>,
     pub(crate) cuts: Vec<Cut<F>>,
+}
+
+impl<F: Field> Contributions<F> {
+    /// No contributions.
+    pub(crate) fn new(alloc: Global) -> Contributions<F> {
+        Contributions {
+            elements: Vec::new(alloc),
+            cuts: Vec::new(alloc),
+        }
+    }
+
+    /// Removes all contributions, and keeps the memory.
+    pub(crate) fn clear(&mut self)
+        ensures within { AreWithin self.new }
+        ensures empty { contributions_in self.new ≡ [] }
+    {
+        self.elements.clear();
+        self.cuts.clear();
+    }
 }
 
 /// The net of each tuple, in the order in which the tuples are first seen.

@@ -6,6 +6,7 @@
 #![tactic(auto)]
 
 mod arena;
+mod check;
 mod contributions;
 mod fault;
 mod first;
@@ -13,5 +14,6 @@ mod groups;
 mod instance;
 mod labels;
 
+pub use check::check_lookups;
 pub use fault::{Location, LookupFault};
 pub use instance::LookupDebugInstance;
