@@ -4,3 +4,4 @@ pub mod KeptItems
 pub mod LeastSteps
 pub mod PlacedLaws
 pub mod SeenOrder
+pub mod TextLaws
