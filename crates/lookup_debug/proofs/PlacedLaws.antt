@@ -1,13 +1,20 @@
 -- Lookups with their places, one after another.
-use Rattle.std.proofs.Common.{◌≡◌, ◌+◌, ◌++◌, ℕ, zero, suc, Bool, true, false, cond, List, [], ◌∷◌, None, Some, map, slice_get, refl, sym, ap, ◌∙◌, true≢false, is_some, arith}
-use Rattle.std.proofs.lemmas.List.{map-append}
+use Rattle.std.proofs.Common.{◌≡◌, ◌<◌, ◌≤◌, ◌+◌, ◌++◌, ℕ, zero, suc, Bool, true, false, cond, List, [], ◌∷◌, None, Some, get_or, length, map, option_map, slice_get, take, refl, sym, ap, subst, ◌∙◌, true≢false, is_some, arith}
+use Rattle.std.proofs.lemmas.List.{map-append, take_all}
 use Rattle.std.proofs.lemmas.List.Elements.{filter-append}
+use Rattle.std.proofs.lemmas.List.FromFn.{length-enumerate_from}
+use Rattle.std.proofs.lemmas.Option.{slice_get-map, slice_get_read}
 use Rattle.std.specs.List.{enumerate_from, filter, flat_map}
 use Rattle.field.specs.Ring.{Ring}
+use Rattle.lookup_model.specs.Outline.{bus_of}
 use Rattle.lookup_model.specs.declared.types.Lookup.{Lookup}
 use Rattle.lookup_debug.specs.Checks.{local_groups_in}
-use Rattle.lookup_debug.specs.Contributions.{Traced}
-use Rattle.lookup_debug.specs.Groups.{Group, Placed, is_local, local_group, local_groups, placed_in}
+use Rattle.lookup_debug.specs.Contributions.{Traced, contributions_of, traced_of}
+use Rattle.lookup_debug.specs.Groups.{Group, Placed, is_local, is_missing, local_group, local_groups, local_label, placed_in}
+use Rattle.lookup_debug.specs.Mismatch.{Balances, EachBalances, IsFirstMismatch, IsMismatchOf}
+use Rattle.lookup_debug.specs.declared.fault.LookupFault.{LookupFault}
+use Rattle.lookup_debug.specs.declared.instance.LookupDebugInstance.{LookupDebugInstance}
+use Rattle.lookup_debug.proofs.GroupSteps.{balance-cons, balance-more, mismatch-at, mismatch-here, none_balance}
 use Rattle.lookup_debug.proofs.LeastSteps.{some_is}
 
 -- an item with its number
@@ -18,6 +25,11 @@ numbered_from n (y ∷ ys) (suc i) x e = let same : n + 1 + i ≡ n + suc i = om
 
 pub numbered_at : {A : Type 0} (xs : List A) (i : ℕ) (x : A) → slice_get xs i ≡ Some x → slice_get (enumerate_from 0 xs) i ≡ Some (i, x)
 numbered_at xs i x e = let same : 0 + i ≡ i = omega arith in numbered_from 0 xs i x e ∙ (λ j. Some (same j, x))
+
+-- an AIR among those that a list of the program holds
+pub traced_at : {F : Type 0} (instances : List (LookupDebugInstance F)) (i : ℕ) (instance : LookupDebugInstance F) → i < length instances → instance ≡ get_or instances i instance → slice_get (map traced_of instances) i ≡ Some (traced_of instance)
+traced_at instances i instance lt is =
+    slice_get-map traced_of instances i ∙ ap (option_map traced_of) (slice_get_read instances (length instances) i instance refl lt is)
 
 -- images of items that pass a test, item by item
 pub kept_images : {X Y Z : Type 0} (h : X → Y) (p : Y → Bool) (f : Y → Z) (xs : List X) → map f (filter p (map h xs)) ≡ flat_map (λ x. cond (p (h x)) (f (h x) ∷ []) []) xs
@@ -53,3 +65,45 @@ module _ {F : Type 0} (R : Ring F) (eq : F → F → Bool) where
   -- the local groups, AIR by AIR
   pub local_groups_parts : (instances : List (Traced F)) → local_groups R eq instances ≡ flat_map (local_groups_in R eq) (enumerate_from 0 instances)
   local_groups_parts instances = kept_parts placed_in is_local (local_group R eq) (enumerate_from 0 instances)
+
+  -- the local lookups of an AIR before one, and with it
+  module _ (i : ℕ × Traced F) (place : ℕ) (lookup : Lookup F) (there : slice_get i.1.lookups place ≡ Some lookup) (before : EachBalances R eq (flat_map (group_at i) (take place (enumerate_from 0 i.1.lookups)))) where
+    pub local_mismatch : (text : F → List ℕ) (fault : LookupFault F) → is_missing (bus_of lookup.kind) ≡ true
+        → IsMismatchOf R eq text (local_label i.0 place) (contributions_of R eq i.0 place i.1 lookup) fault → IsFirstMismatch R eq text (local_groups_in R eq i) fault
+    local_mismatch text fault local is =
+        subst (λ gs. IsFirstMismatch R eq text gs fault) (sym (groups_in_parts i))
+        (mismatch-at R eq (group_at i) text (enumerate_from 0 i.1.lookups) place (place, lookup) fault (numbered_at i.1.lookups place lookup there) before
+        (subst (λ b. IsFirstMismatch R eq text (cond b (local_group R eq (record { instance = i.0; place = place; traced = i.1; lookup = lookup }) ∷ []) []) fault) (sym local)
+        (mismatch-here R eq text (local_label i.0 place) (contributions_of R eq i.0 place i.1 lookup) fault is)))
+
+    pub local_balances : is_missing (bus_of lookup.kind) ≡ true → Balances R eq (contributions_of R eq i.0 place i.1 lookup)
+        → EachBalances R eq (flat_map (group_at i) (take (place + 1) (enumerate_from 0 i.1.lookups)))
+    local_balances local here =
+        balance-more R eq (group_at i) (enumerate_from 0 i.1.lookups) place (place, lookup) (numbered_at i.1.lookups place lookup there) before
+        (subst (λ b. EachBalances R eq (cond b (local_group R eq (record { instance = i.0; place = place; traced = i.1; lookup = lookup }) ∷ []) [])) (sym local)
+        (balance-cons R eq (local_group R eq (record { instance = i.0; place = place; traced = i.1; lookup = lookup })) [] here (none_balance R eq)))
+
+    pub other_balances : is_missing (bus_of lookup.kind) ≡ false → EachBalances R eq (flat_map (group_at i) (take (place + 1) (enumerate_from 0 i.1.lookups)))
+    other_balances other =
+        balance-more R eq (group_at i) (enumerate_from 0 i.1.lookups) place (place, lookup) (numbered_at i.1.lookups place lookup there) before
+        (subst (λ b. EachBalances R eq (cond b (local_group R eq (record { instance = i.0; place = place; traced = i.1; lookup = lookup }) ∷ []) [])) (sym other) (none_balance R eq))
+
+  -- all of them
+  pub locals_balance : (i : ℕ × Traced F) (n : ℕ) → length i.1.lookups ≤ n → EachBalances R eq (flat_map (group_at i) (take n (enumerate_from 0 i.1.lookups))) → EachBalances R eq (local_groups_in R eq i)
+  locals_balance i n past before =
+      subst (EachBalances R eq) (ap (flat_map (group_at i)) (take_all n (enumerate_from 0 i.1.lookups) (omega (arith, past, length-enumerate_from 0 i.1.lookups))) ∙ sym (groups_in_parts i)) before
+
+  -- the AIRs before one, and with it
+  module _ (instances : List (Traced F)) (place : ℕ) (traced : Traced F) (there : slice_get instances place ≡ Some traced) (before : EachBalances R eq (flat_map (local_groups_in R eq) (take place (enumerate_from 0 instances)))) where
+    pub air_mismatch : (text : F → List ℕ) (fault : LookupFault F) → IsFirstMismatch R eq text (local_groups_in R eq (place, traced)) fault → IsFirstMismatch R eq text (local_groups R eq instances) fault
+    air_mismatch text fault is =
+        subst (λ gs. IsFirstMismatch R eq text gs fault) (sym (local_groups_parts instances))
+        (mismatch-at R eq (local_groups_in R eq) text (enumerate_from 0 instances) place (place, traced) fault (numbered_at instances place traced there) before is)
+
+    pub air_balances : EachBalances R eq (local_groups_in R eq (place, traced)) → EachBalances R eq (flat_map (local_groups_in R eq) (take (place + 1) (enumerate_from 0 instances)))
+    air_balances here = balance-more R eq (local_groups_in R eq) (enumerate_from 0 instances) place (place, traced) (numbered_at instances place traced there) before here
+
+  -- all of them
+  pub airs_balance : (instances : List (Traced F)) (n : ℕ) → length instances ≤ n → EachBalances R eq (flat_map (local_groups_in R eq) (take n (enumerate_from 0 instances))) → EachBalances R eq (local_groups R eq instances)
+  airs_balance instances n past before =
+      subst (EachBalances R eq) (ap (flat_map (local_groups_in R eq)) (take_all n (enumerate_from 0 instances) (omega (arith, past, length-enumerate_from 0 instances))) ∙ sym (local_groups_parts instances)) before
