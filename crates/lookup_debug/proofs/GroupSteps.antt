@@ -1,14 +1,17 @@
 -- Groups that are checked one after another.
-use Rattle.std.proofs.Common.{◌≡◌, ◌<◌, ◌+◌, ◌++◌, ◌⊎◌, ℕ, zero, suc, Bool, true, false, cond, List, [], ◌∷◌, None, Some, length, map, slice_get, take, drop, refl, sym, ap, subst, ◌∙◌, true≢false, is_some, arith}
+use Rattle.std.proofs.Common.{◌≡◌, ◌<◌, ◌+◌, ◌++◌, ◌⊎◌, ℕ, zero, suc, Bool, true, false, cond, List, [], ◌∷◌, Some, Result, Ok, Err, inl, inr, length, map, slice_get, take, drop, refl, sym, ap, subst, ◌∙◌, true≢false, is_some, arith}
 use Rattle.std.proofs.lemmas.Grind.{flat_map-append}
 use Rattle.std.proofs.lemmas.List.{append_assoc, append-nil, take-append-drop}
 use Rattle.std.proofs.lemmas.Option.{get_or_from_slice_get, slice_get_within}
+use Rattle.std.specs.Bool.{⊤}
 use Rattle.std.specs.List.{flat_map}
 use Rattle.field.specs.Ring.{Ring}
 use Rattle.lookup_laws.proofs.Rows.{take_item}
+use Rattle.lookup_debug.specs.Checks.{AnswersGroups}
 use Rattle.lookup_debug.specs.Contributions.{Contribution}
 use Rattle.lookup_debug.specs.Groups.{Group}
 use Rattle.lookup_debug.specs.Mismatch.{Balances, EachBalances, IsFirstMismatch, IsMismatchOf}
+use Rattle.lookup_debug.specs.declared.fault.LookupFault.{LookupFault}
 use Rattle.lookup_debug.proofs.LeastSteps.{some_is}
 
 -- the parts of the items up to one, and with it
@@ -95,6 +98,12 @@ module _ {F : Type 0} (R : Ring F) (eq : F → F → Bool) where
         by_place : Balances R eq g.contributions → (rest : IsFirstMismatch R eq text (gs ++ hs) fault) → (i : ℕ) (other : Group F) → i < suc rest.place → slice_get (g ∷ gs ++ hs) i ≡ Some other → Balances R eq other.contributions
         by_place here rest zero other lt there = subst (λ (h : Group F). Balances R eq h.contributions) (some_is g other there) here
         by_place here rest (suc i) other lt there = rest.before i other (omega (arith, lt)) there
+
+    -- the answer of a check of groups after others that balance
+    pub answers-after : (gs hs : List (Group F)) → EachBalances R eq gs → (result : Result ⊤ (LookupFault F)) → AnswersGroups R eq text hs result → AnswersGroups R eq text (gs ++ hs) result
+    answers-after gs hs each (Ok done) rest = balance-append gs hs each rest
+    answers-after gs hs each (Err fault) (inl memory) = inl memory
+    answers-after gs hs each (Err fault) (inr is) = inr (mismatch-later gs hs fault each is)
 
   -- the groups of some items, item by item
   module _ {X : Type 0} (groups : X → List (Group F)) where

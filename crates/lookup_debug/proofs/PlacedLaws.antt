@@ -2,6 +2,7 @@
 use Rattle.std.proofs.Common.{◌≡◌, ◌<◌, ◌≤◌, ◌+◌, ◌++◌, ℕ, zero, suc, Bool, true, false, cond, List, [], ◌∷◌, None, Some, get_or, length, map, option_map, slice_get, take, refl, sym, ap, subst, ◌∙◌, true≢false, is_some, arith}
 use Rattle.std.proofs.lemmas.List.{map-append, take_all}
 use Rattle.std.proofs.lemmas.List.Elements.{filter-append}
+use Rattle.std.proofs.lemmas.List.Concat.{flat_map_single}
 use Rattle.std.proofs.lemmas.List.FromFn.{length-enumerate_from}
 use Rattle.std.proofs.lemmas.Option.{slice_get-map, slice_get_read}
 use Rattle.std.specs.List.{enumerate_from, filter, flat_map}
@@ -10,7 +11,7 @@ use Rattle.lookup_model.specs.Outline.{bus_of}
 use Rattle.lookup_model.specs.declared.types.Lookup.{Lookup}
 use Rattle.lookup_debug.specs.Checks.{local_groups_in}
 use Rattle.lookup_debug.specs.Contributions.{Traced, contributions_of, traced_of}
-use Rattle.lookup_debug.specs.Groups.{Group, Placed, is_local, is_missing, local_group, local_groups, local_label, placed_in}
+use Rattle.lookup_debug.specs.Groups.{Group, Placed, bus_group, bus_label, is_local, is_missing, local_group, local_groups, local_label, placed_in}
 use Rattle.lookup_debug.specs.Mismatch.{Balances, EachBalances, IsFirstMismatch, IsMismatchOf}
 use Rattle.lookup_debug.specs.declared.fault.LookupFault.{LookupFault}
 use Rattle.lookup_debug.specs.declared.instance.LookupDebugInstance.{LookupDebugInstance}
@@ -107,3 +108,33 @@ module _ {F : Type 0} (R : Ring F) (eq : F → F → Bool) where
   pub airs_balance : (instances : List (Traced F)) (n : ℕ) → length instances ≤ n → EachBalances R eq (flat_map (local_groups_in R eq) (take n (enumerate_from 0 instances))) → EachBalances R eq (local_groups R eq instances)
   airs_balance instances n past before =
       subst (EachBalances R eq) (ap (flat_map (local_groups_in R eq)) (take_all n (enumerate_from 0 instances) (omega (arith, past, length-enumerate_from 0 instances))) ∙ sym (local_groups_parts instances)) before
+
+  -- the buses before one, and with it
+  module _ {N : Type 0} (text_of : N → List ℕ) (all : List (Traced F)) (names : List N) where
+    -- the group of the bus of a name
+    abbrev pub bus_at : N → List (Group F)
+    bus_at name = bus_group R eq all (text_of name) ∷ []
+
+    buses_parts : flat_map bus_at names ≡ map (bus_group R eq all) (map text_of names)
+    buses_parts = flat_map_single (λ name. bus_group R eq all (text_of name)) names ∙ images_twice names
+      where
+        images_twice : (ns : List N) → map (λ name. bus_group R eq all (text_of name)) ns ≡ map (bus_group R eq all) (map text_of ns)
+        images_twice [] = refl
+        images_twice (n ∷ ns) = ap (λ t. bus_group R eq all (text_of n) ∷ t) (images_twice ns)
+
+    pub bus_mismatch : (text : F → List ℕ) (place : ℕ) (name : N) (fault : LookupFault F) → slice_get names place ≡ Some name
+        → EachBalances R eq (flat_map bus_at (take place names))
+        → IsMismatchOf R eq text (bus_label (text_of name)) (bus_group R eq all (text_of name)).contributions fault
+        → IsFirstMismatch R eq text (map (bus_group R eq all) (map text_of names)) fault
+    bus_mismatch text place name fault there before is =
+        subst (λ gs. IsFirstMismatch R eq text gs fault) buses_parts
+        (mismatch-at R eq bus_at text names place name fault there before (mismatch-here R eq text (bus_label (text_of name)) (bus_group R eq all (text_of name)).contributions fault is))
+
+    pub bus_balances : (place : ℕ) (name : N) → slice_get names place ≡ Some name → EachBalances R eq (flat_map bus_at (take place names))
+        → Balances R eq (bus_group R eq all (text_of name)).contributions → EachBalances R eq (flat_map bus_at (take (place + 1) names))
+    bus_balances place name there before here =
+        balance-more R eq bus_at names place name there before (balance-cons R eq (bus_group R eq all (text_of name)) [] here (none_balance R eq))
+
+    -- all of them
+    pub buses_balance : (n : ℕ) → length names ≤ n → EachBalances R eq (flat_map bus_at (take n names)) → EachBalances R eq (map (bus_group R eq all) (map text_of names))
+    buses_balance n past before = subst (EachBalances R eq) (ap (flat_map bus_at) (take_all n names past) ∙ buses_parts) before

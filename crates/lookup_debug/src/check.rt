@@ -110,11 +110,11 @@ fn check_local<F: Field>(
 {
     contributions.clear();
     push_lookup(alloc, contributions, traced, lookup, instance, place)?;
-    let Some((tuple, net)) = first_mismatch(alloc, contributions)? else {
+    let Some(found) = first_mismatch(alloc, contributions)? else {
         return Ok(());
     };
     let label = label_of_local(alloc, instance, place)?;
-    Err(mismatch(alloc, label, tuple, net, contributions)?)
+    Err(mismatch(alloc, label, found, contributions)?)
 }
 
 /// Checks all buses.
@@ -149,25 +149,25 @@ fn check_bus<F: Field>(
 {
     contributions.clear();
     push_bus(alloc, contributions, instances, name)?;
-    let Some((tuple, net)) = first_mismatch(alloc, contributions)? else {
+    let Some(found) = first_mismatch(alloc, contributions)? else {
         return Ok(());
     };
     let label = label_of_bus(alloc, name)?;
-    Err(mismatch(alloc, label, tuple, net, contributions)?)
+    Err(mismatch(alloc, label, found, contributions)?)
 }
 
-/// The mismatch of a tuple in a group with this label.
+/// The mismatch of a tuple with this net, in a group with this label.
 fn mismatch<F: Field>(
     alloc: Global,
     label: String,
-    tuple: &[F],
-    net: F,
+    found: (&[F], F),
     contributions: &Contributions<F>,
 ) -> Result<LookupFault<F>, AllocError>
     requires within { AreWithin contributions.now }
-    ensures { IfOk result (HasParts (string_bytes label) (map F.text tuple.now) net
-        (map (λ c. c.place) (of_tuple F.ring F.eq (contributions_in contributions.now) tuple.now))) }
+    ensures { IfOk result (HasParts (string_bytes label) (map F.text found.entry.0.now) found.entry.1
+        (map (λ c. c.place) (of_tuple F.ring F.eq (contributions_in contributions.now) found.entry.0.now))) }
 {
+    let (tuple, net) = found;
     let texts = texts_of(alloc, tuple)?;
     let locations = locations_of(alloc, tuple, contributions)?;
     Ok(LookupFault::Mismatch {
