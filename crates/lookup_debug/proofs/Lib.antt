@@ -1,0 +1,4 @@
+pub mod AmountLaws
+pub mod CutLaws
+pub mod NameLaws
+pub mod PlacedLaws
