@@ -143,5 +143,7 @@ fn push_location(alloc: Global, line: &mut String, location: Location) -> Result
         lookup,
         row,
     } = location;
-    line.push_str(format!(in alloc; "instance {instance} lookup {lookup} row {row}")?.as_str())
+    line.push_str(
+        format!(in alloc; "instance {instance} lookup {lookup} row {row}")?.as_str(),
+    )
 }
