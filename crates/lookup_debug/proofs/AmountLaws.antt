@@ -1,8 +1,10 @@
--- The contributions of the branches of a lookup, one after another.
+-- What a lookup contributes, branch by branch and row by row.
 use Rattle.std.proofs.Common.{◌≡◌, ℕ, ◌+◌, ◌<◌, Bool, None, Some, List, [], ◌∷◌, ◌++◌, get_or, length, map, not, take, ap, sym, ◌∙◌, arith}
-use Rattle.std.proofs.lemmas.List.{length-map}
+use Rattle.std.proofs.lemmas.Grind.{flat_map-append}
+use Rattle.std.proofs.lemmas.List.{append-nil, length-map, map-id}
 use Rattle.std.proofs.lemmas.List.Elements.{filter-append}
-use Rattle.std.specs.List.{zip}
+use Rattle.std.proofs.lemmas.List.FromFn.{map-range_with_len_more}
+use Rattle.std.specs.List.{flat_map, range_with_len, zip}
 use Rattle.std.specs.declared.alloc.Global.{Global}
 use Rattle.std.specs.declared.vec.Vec.{Vec}
 use Rattle.expressions.specs.Window.{Window}
@@ -77,3 +79,10 @@ module _ {F : Type 0} (R : Ring F) (eq : F → F → Bool) (place : Place) where
           from_more branches (flagged flags flag_number) (as_many_flagged flags flag_number) i branch (R.mul (value R w flag) (value R w multiplicity)) within branch_is
           (zipped_at (λ (b : F × Message F). R.mul b.0 b.1.multiplicity) (values R w flags) branches (as_many_flags flags flag_number) i (value R w flag) branch
           (omega (arith, within, as_many_flags flags flag_number)) (mapped_at (value R w) flags i flag (omega (arith, lt, flag_number)) flag_is) branch_is)
+
+-- one more number of a range
+pub rows_more : {A : Type 0} (f : ℕ → List A) (n : ℕ) → flat_map f (range_with_len 0 (n + 1)) ≡ flat_map f (range_with_len 0 n) ++ f n
+rows_more f n = ap (flat_map f) (range_more 0 n n (omega arith)) ∙ flat_map-append f (range_with_len 0 n) (n ∷ []) ∙ ap (λ t. flat_map f (range_with_len 0 n) ++ t) (append-nil (f n))
+  where
+    range_more : (a n j : ℕ) → a + n ≡ j → range_with_len a (n + 1) ≡ range_with_len a n ++ j ∷ []
+    range_more a n j is = sym (map-id (range_with_len a (n + 1))) ∙ map-range_with_len_more (λ k. k) a n j is ∙ ap (λ t. t ++ j ∷ []) (map-id (range_with_len a n))

@@ -1,4 +1,5 @@
 pub mod AmountLaws
+pub mod BusLaws
 pub mod CutLaws
 pub mod NameLaws
-pub mod PlacedLaws
+pub mod TextLaws

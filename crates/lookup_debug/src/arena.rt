@@ -1,5 +1,4 @@
 //! Contributions whose tuples stand in one list of elements.
-ghost use Rattle.std.specs.Prelude.{◌≡◌, ◌×◌, ◌≤◌, [], length};
 
 use crate::fault::Location;
 use std::alloc::Global;

@@ -1,7 +1,8 @@
 //! What the debug check finds.
 ghost use Rattle.std.specs.Prelude.{◌≡◌, IfOk, OnOk, ◌++◌, codes, string_bytes, map};
 ghost use Rattle.std.specs.List.{flat_map, join_by};
-ghost use Rattle.lookup_debug.specs.FaultText.{fault_text, location_text};
+ghost use Rattle.lookup_debug.specs.Contributions.{place_of};
+ghost use Rattle.lookup_debug.specs.FaultText.{fault_text, place_text};
 
 use field::Field;
 use std::alloc::{AllocError, AllocFailed, Global};
@@ -37,7 +38,9 @@ pub enum LookupFault<F> {
 }
 
 impl<F> From<AllocError> for LookupFault<F> {
-    ghost from_gives = { λ _ fault. fault ≡ LookupFault.Memory };
+    ghost use Rattle.lookup_debug.specs.declared.fault.LookupFault.TheVariants.{Memory};
+
+    ghost from_gives = { λ _ fault. fault ≡ Memory };
 
     fn from(_error: AllocError) -> LookupFault<F> {
         LookupFault::Memory
@@ -45,7 +48,9 @@ impl<F> From<AllocError> for LookupFault<F> {
 }
 
 impl<F, T: Drop> From<AllocFailed<T>> for LookupFault<F> {
-    ghost from_gives = { λ _ fault. fault ≡ LookupFault.Memory };
+    ghost use Rattle.lookup_debug.specs.declared.fault.LookupFault.TheVariants.{Memory};
+
+    ghost from_gives = { λ _ fault. fault ≡ Memory };
 
     fn from(_error: AllocFailed<T>) -> LookupFault<F> {
         LookupFault::Memory
@@ -84,7 +89,7 @@ impl<F: Field> LookupFault<F> {
 
 /// Appends the texts of the elements of a tuple, separated by a comma and a space.
 fn push_elements(line: &mut String, elements: &[String]) -> Result<(), AllocError>
-    ensures { OnOk result (string_bytes line.new ≡ string_bytes line.old ++ join_by (λ t. string_bytes t) (codes ", ") elements.now) }
+    ensures { OnOk result (string_bytes line.new ≡ string_bytes line.old ++ join_by (λ t. t) (codes ", ") (map (λ t. string_bytes t) elements.now)) }
 {
     if let Some((first, rest)) = elements.split_first() {
         line.push_str(first.as_str())?;
@@ -95,7 +100,7 @@ fn push_elements(line: &mut String, elements: &[String]) -> Result<(), AllocErro
 
 /// Appends further elements, each after a comma and a space.
 fn push_further_elements(line: &mut String, elements: &[String]) -> Result<(), AllocError>
-    ensures { OnOk result (string_bytes line.new ≡ string_bytes line.old ++ flat_map (λ t. codes ", " ++ string_bytes t) elements.now) }
+    ensures { OnOk result (string_bytes line.new ≡ string_bytes line.old ++ flat_map (λ t. codes ", " ++ t) (map (λ t. string_bytes t) elements.now)) }
 {
     for element in elements {
         line.push_str(", ")?;
@@ -110,10 +115,10 @@ fn push_locations(
     line: &mut String,
     locations: &[Location],
 ) -> Result<(), AllocError>
-    ensures { OnOk result (string_bytes line.new ≡ string_bytes line.old ++ join_by location_text (codes "; ") locations.now) }
+    ensures { OnOk result (string_bytes line.new ≡ string_bytes line.old ++ join_by place_text (codes "; ") (map place_of locations.now)) }
 {
     if let Some((first, rest)) = locations.split_first() {
-        push_location(alloc, line, *first)?;
+        push_location(alloc, line, first)?;
         push_further_locations(alloc, line, rest)?;
     }
     Ok(())
@@ -125,25 +130,23 @@ fn push_further_locations(
     line: &mut String,
     locations: &[Location],
 ) -> Result<(), AllocError>
-    ensures { OnOk result (string_bytes line.new ≡ string_bytes line.old ++ flat_map (λ l. codes "; " ++ location_text l) locations.now) }
+    ensures { OnOk result (string_bytes line.new ≡ string_bytes line.old ++ flat_map (λ p. codes "; " ++ place_text p) (map place_of locations.now)) }
 {
     for location in locations {
         line.push_str("; ")?;
-        push_location(alloc, line, *location)?;
+        push_location(alloc, line, location)?;
     }
     Ok(())
 }
 
 /// Appends the text of a place.
-fn push_location(alloc: Global, line: &mut String, location: Location) -> Result<(), AllocError>
-    ensures { OnOk result (string_bytes line.new ≡ string_bytes line.old ++ location_text location) }
+fn push_location(alloc: Global, line: &mut String, location: &Location) -> Result<(), AllocError>
+    ensures { OnOk result (string_bytes line.new ≡ string_bytes line.old ++ place_text (place_of location.now)) }
 {
     let Location {
         instance,
         lookup,
         row,
     } = location;
-    line.push_str(
-        format!(in alloc; "instance {instance} lookup {lookup} row {row}")?.as_str(),
-    )
+    line.push_str(format!(in alloc; "instance {instance} lookup {lookup} row {row}")?.as_str())
 }

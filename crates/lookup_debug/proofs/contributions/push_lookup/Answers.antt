@@ -13,7 +13,7 @@ use Rattle.lookup_debug.specs.Appended.{Appends}
 use Rattle.lookup_debug.specs.Contributions.{Contribution, Place, contributions_at, contributions_on, traced_of}
 use Rattle.lookup_debug.specs.declared.arena.Contributions.{Contributions}
 use Rattle.lookup_debug.proofs.CutLaws.{appends-more}
-use Rattle.lookup_debug.proofs.PlacedLaws.{rows_more}
+use Rattle.lookup_debug.proofs.AmountLaws.{rows_more}
 use Rattle.lookup_debug.proofs.contributions.push_lookup.Goals as goal
 
 pub push_on_row-requires-clause-fits : goal.push_on_row-requires-clause-fits

@@ -8,7 +8,7 @@ use Rattle.lookup_model.specs.Net.{first_seen}
 use Rattle.lookup_model.specs.Outline.{bus_of}
 use Rattle.lookup_debug.specs.Contributions.{Traced, traced_of}
 use Rattle.lookup_debug.specs.Groups.{Placed, placed_in}
-use Rattle.lookup_debug.proofs.PlacedLaws.{names_more, numbered_all}
+use Rattle.lookup_debug.proofs.BusLaws.{names_more, numbered_all}
 use Rattle.lookup_debug.proofs.groups.bus_names.Goals as goal
 
 pub loop-instance-preserved : goal.loop-instance-preserved

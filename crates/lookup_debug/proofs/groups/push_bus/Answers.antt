@@ -12,7 +12,7 @@ use Rattle.lookup_debug.specs.Groups.{Placed, is_on, placed_contributions, place
 use Rattle.lookup_debug.specs.declared.arena.Contributions.{Contributions}
 use Rattle.lookup_debug.specs.declared.instance.LookupDebugInstance.{LookupDebugInstance}
 use Rattle.lookup_debug.proofs.CutLaws.{appends-more}
-use Rattle.lookup_debug.proofs.PlacedLaws.{chosen-append, numbered_all, placed-more}
+use Rattle.lookup_debug.proofs.BusLaws.{chosen-append, numbered_all, placed-more}
 use Rattle.lookup_debug.proofs.groups.push_bus.Goals as goal
 
 pub push_bus_of-requires-clause-fit : goal.push_bus_of-requires-clause-fit

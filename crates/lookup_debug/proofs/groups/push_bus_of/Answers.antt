@@ -8,7 +8,7 @@ use Rattle.lookup_debug.specs.Contributions.{Contribution, traced_of}
 use Rattle.lookup_debug.specs.Groups.{Placed, is_named, is_on, placed_contributions, placed_in}
 use Rattle.lookup_debug.specs.declared.arena.Contributions.{Contributions}
 use Rattle.lookup_debug.proofs.CutLaws.{appends-more, appends-none}
-use Rattle.lookup_debug.proofs.PlacedLaws.{chosen-append, chosen-one, length-placed_in, placed_in-more}
+use Rattle.lookup_debug.proofs.BusLaws.{chosen-append, chosen-one, length-placed_in, placed_in-more}
 use Rattle.lookup_debug.proofs.groups.push_bus_of.Goals.{else-is_on_bus, then-is_on_bus+in_ok-push_lookup}
 use Rattle.lookup_debug.proofs.groups.push_bus_of.Goals as goal
 

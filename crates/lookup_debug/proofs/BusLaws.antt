@@ -1,4 +1,4 @@
--- The lookups of all AIRs with their places, one after another.
+-- The lookups of all AIRs, one after another.
 use Rattle.std.proofs.Common.{◌≡◌, ℕ, ◌+◌, ◌<◌, ◌≤◌, Bool, true, false, cond, Option, List, [], ◌∷◌, ◌++◌, get_or, length, map, take, ap, refl, sym, ◌∙◌, arith}
 use Rattle.std.proofs.lemmas.Grind.{flat_map-append}
 use Rattle.std.proofs.lemmas.List.{append-nil, length-map, map-id, take_all}
@@ -39,13 +39,6 @@ chosen-append p f xs ys = ap (flat_map f) (filter-append p xs ys) ∙ flat_map-a
 pub chosen-one : {X A : Type 0} (p : X → Bool) (f : X → List A) (x : X) (b : Bool) → p x ≡ b → flat_map f (filter p (x ∷ [])) ≡ cond b (f x) []
 chosen-one p f x true is = ap (λ b. flat_map f (cond b (x ∷ []) [])) is ∙ append-nil (f x)
 chosen-one p f x false is = ap (λ b. flat_map f (cond b (x ∷ []) [])) is
-
--- one more number of a range
-pub rows_more : {A : Type 0} (f : ℕ → List A) (n : ℕ) → flat_map f (range_with_len 0 (n + 1)) ≡ flat_map f (range_with_len 0 n) ++ f n
-rows_more f n = ap (flat_map f) (range_more 0 n n (omega arith)) ∙ flat_map-append f (range_with_len 0 n) (n ∷ []) ∙ ap (λ t. flat_map f (range_with_len 0 n) ++ t) (append-nil (f n))
-  where
-    range_more : (a n j : ℕ) → a + n ≡ j → range_with_len a (n + 1) ≡ range_with_len a n ++ j ∷ []
-    range_more a n j is = sym (map-id (range_with_len a (n + 1))) ∙ map-range_with_len_more (λ k. k) a n j is ∙ ap (λ t. t ++ j ∷ []) (map-id (range_with_len a n))
 
 module _ {F : Type 0} where
   -- the lookups of one AIR with their places, and one more of them
