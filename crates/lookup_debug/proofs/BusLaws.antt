@@ -1,16 +1,16 @@
 -- The lookups of all AIRs, one after another.
-use Rattle.std.proofs.Common.{◌≡◌, ℕ, ◌+◌, ◌<◌, ◌≤◌, Bool, true, false, cond, Option, List, [], ◌∷◌, ◌++◌, get_or, length, map, take, ap, refl, sym, ◌∙◌, arith}
+use Rattle.std.proofs.Common.{◌≡◌, ℕ, ◌+◌, ◌<◌, ◌≤◌, Bool, true, false, cond, List, [], ◌∷◌, ◌++◌, get_or, length, map, take, ap, refl, sym, ◌∙◌, arith}
 use Rattle.std.proofs.lemmas.Grind.{flat_map-append}
-use Rattle.std.proofs.lemmas.List.{append-nil, length-map, map-id, take_all}
+use Rattle.std.proofs.lemmas.List.{append-nil, length-map, take_all}
 use Rattle.std.proofs.lemmas.List.Elements.{filter-append, filter_map-append}
-use Rattle.std.proofs.lemmas.List.FromFn.{get_or-enumerate_from, length-enumerate_from, map-range_with_len_more}
-use Rattle.std.specs.List.{cons_option, enumerate_from, filter, filter_map, flat_map, range_with_len}
+use Rattle.std.proofs.lemmas.List.FromFn.{get_or-enumerate_from, length-enumerate_from}
+use Rattle.std.specs.List.{cons_option, enumerate_from, filter, filter_map, flat_map}
 use Rattle.lookup_laws.proofs.Rows.{take_item}
 use Rattle.lookup_model.proofs.Branches.{mapped_more}
 use Rattle.lookup_model.specs.Outline.{bus_of}
 use Rattle.lookup_model.specs.declared.types.Lookup.{Lookup}
 use Rattle.lookup_debug.specs.Contributions.{Traced}
-use Rattle.lookup_debug.specs.Groups.{Placed, is_on, placed, placed_in}
+use Rattle.lookup_debug.specs.Groups.{Placed, placed_in}
 
 -- an item with its number
 module _ {A : Type 0} (xs : List A) (i : ℕ) (x : A) (lt : i < length xs) (is : x ≡ get_or xs i x) where

@@ -1,5 +1,5 @@
 -- Cuts of a list of elements that grows.
-use Rattle.std.proofs.Common.{◌≡◌, ℕ, ◌+◌, ◌-◌, ◌≤◌, All, List, [], ◌∷◌, ◌++◌, append_assoc, drop, get_or, length, length-append, map, take, ap, refl, subst, sym, ◌∙◌, arith, suc}
+use Rattle.std.proofs.Common.{◌≡◌, ℕ, ◌+◌, ◌-◌, ◌≤◌, All, List, [], ◌∷◌, ◌++◌, append_assoc, drop, length, length-append, map, take, ap, refl, subst, sym, ◌∙◌, arith, suc}
 use Rattle.std.proofs.lemmas.List.{append-nil, drop-append-le, length-drop, map-append, take-append-le, take_all}
 use Rattle.std.proofs.lemmas.List.Elements.{All-push}
 use Rattle.std.specs.List.{slice_range}

@@ -1,4 +1,4 @@
-use Rattle.std.proofs.Common.{◌≡◌, ◌∷◌, [], None, List, arith, subst, sym, take, ◌+◌, ◌++◌, ◌∙◌}
+use Rattle.std.proofs.Common.{◌≡◌, ◌∷◌, [], None, List, arith, subst, sym, take, ◌++◌, ◌∙◌}
 use Rattle.std.proofs.lemmas.List.{take_all}
 use Rattle.expressions.specs.declared.base_expression.SymbolicExpression.{SymbolicExpression}
 use Rattle.lookup_generation.specs.TraceBuilder.{builder_layout, builder_window}

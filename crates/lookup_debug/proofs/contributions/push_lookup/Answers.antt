@@ -1,14 +1,13 @@
-use Rattle.std.proofs.Common.{◌≡◌, ◌<◌, ℕ, List, ap, arith, length, subst, sym, ◌+◌, ◌∙◌}
+use Rattle.std.proofs.Common.{List, length, subst, sym}
 use Rattle.std.proofs.lemmas.Option.{get_or_from_slice_get, slice_get_within}
 use Rattle.std.specs.List.{flat_map, range_with_len}
 use Rattle.std.specs.Option.{option_copied}
 use Rattle.expressions.specs.Layout.{layout_of_traces}
-use Rattle.expressions.specs.Window.{Window, window_at}
+use Rattle.expressions.specs.Window.{Window}
 use Rattle.expressions.specs.declared.layout.AirLayout.{AirLayout}
 use Rattle.lookup_generation.proofs.Layouts.{DoFit-with_challenges, with_challenges}
 use Rattle.lookup_model.specs.Records.{IsWithin}
 use Rattle.lookup_model.specs.declared.types.Lookup.{Lookup}
-use Rattle.matrix.specs.Matrix.{height}
 use Rattle.lookup_debug.specs.Appended.{Appends}
 use Rattle.lookup_debug.specs.Contributions.{Contribution, Place, contributions_at, contributions_on, traced_of}
 use Rattle.lookup_debug.specs.declared.arena.Contributions.{Contributions}

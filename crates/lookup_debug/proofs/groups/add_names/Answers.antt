@@ -1,4 +1,4 @@
-use Rattle.std.proofs.Common.{◌≡◌, ◌∷◌, ◌++◌, [], ◌∙◌, None, Option, Some, ap, append_assoc, map, nat_eq, sym, take}
+use Rattle.std.proofs.Common.{◌∙◌, Some, ap, map, nat_eq, sym}
 use Rattle.std.specs.Cmp.Lexicographic.{pointwise}
 use Rattle.indexmap.specs.IndexSet.{keys}
 use Rattle.lookup_model.specs.Net.{first_seen}

@@ -1,5 +1,5 @@
-use Rattle.std.proofs.Common.{◌≡◌, ◌∷◌, ◌++◌, [], ◌+◌, ◌∙◌, Bool, List, ap, arith, cond, false, subst, sym, take, true}
-use Rattle.std.proofs.lemmas.List.{append-nil, take_all}
+use Rattle.std.proofs.Common.{◌≡◌, ◌∷◌, ◌++◌, [], ◌+◌, ◌∙◌, List, ap, arith, false, subst, sym, take, true}
+use Rattle.std.proofs.lemmas.List.{take_all}
 use Rattle.std.specs.List.{filter, flat_map}
 use Rattle.lookup_model.specs.Outline.{bus_of}
 use Rattle.lookup_model.specs.declared.types.Lookup.{Lookup}
