@@ -65,10 +65,10 @@ fn push_branch<F: Field>(
     requires within { AreWithin contributions.now }
     requires fits { AllFit (builder_layout builder.now) tuple.now }
     ensures { OnOk result (Appends contributions.old contributions.new (nonzero F.ring F.eq (record {
-          tuple = values F.ring (builder_window builder.now) tuple.now;
-          amount = amount;
-          place = place_of location;
-        } ∷ []))) }
+      tuple = values F.ring (builder_window builder.now) tuple.now;
+      amount = amount;
+      place = place_of location;
+    } ∷ []))) }
 {
     if amount == F::ZERO {
         return Ok(());
@@ -102,8 +102,9 @@ fn push_counted<F: Field>(
         (contributions_from (place_of location) branches (amounts F.ring None branches)))) }
 {
     for branch in 0..lookup.elements.len() {
-        let amount = value_on(alloc, &lookup.multiplicities[branch], builder)?;
         let tuple = &lookup.elements[branch];
+        let multiplicity = &lookup.multiplicities[branch];
+        let amount = value_on(alloc, multiplicity, builder)?;
         push_branch(alloc, contributions, location, tuple, amount, builder)?;
     }
     Ok(())
@@ -130,10 +131,11 @@ fn push_flagged<F: Field>(
         (contributions_from (place_of location) branches (amounts F.ring (Some (values F.ring w flags.now)) branches)))) }
 {
     for branch in 0..lookup.elements.len() {
-        let flag = value_on(alloc, &flags[branch], builder)?;
-        let count = value_on(alloc, &lookup.multiplicities[branch], builder)?;
-        let amount = flag * count;
         let tuple = &lookup.elements[branch];
+        let multiplicity = &lookup.multiplicities[branch];
+        let flag = value_on(alloc, &flags[branch], builder)?;
+        let count = value_on(alloc, multiplicity, builder)?;
+        let amount = flag * count;
         push_branch(alloc, contributions, location, tuple, amount, builder)?;
     }
     Ok(())

@@ -33,6 +33,13 @@ pub(crate) fn bus_names<'a, F: Field>(
     for instance in instances {
         add_names(&mut names, instance.lookups)?;
     }
+    listed(alloc, names)
+}
+
+/// The names of a set, in their order.
+fn listed<'a>(alloc: Global, names: IndexSet<&'a str>) -> Result<Vec<&'a str>, AllocError>
+    ensures { IfOk result (λ list. list.items ≡ keys names.entry) }
+{
     names.into_iter().collect(alloc)
 }
 
