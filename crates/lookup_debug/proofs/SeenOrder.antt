@@ -1,5 +1,5 @@
 -- The order in which items are first seen.
-use Rattle.std.proofs.Common.{◌≡◌, ◌≢◌, ◌<◌, ◌⊎◌, ℕ, zero, suc, Bool, true, false, cond, not, List, [], ◌∷◌, Option, None, Some, slice_get, refl, sym, ap, ◌∙◌, inl, inr, true≢false, is_some, arith, Decides}
+use Rattle.std.proofs.Common.{◌≡◌, ◌<◌, ◌⊎◌, ℕ, zero, suc, Bool, true, false, cond, not, List, [], ◌∷◌, Option, None, Some, slice_get, refl, sym, ap, ◌∙◌, inl, inr, true≢false, is_some, arith, Decides}
 use Rattle.std.specs.List.{filter}
 use Rattle.lookup_model.specs.Net.{first_seen}
 use Rattle.lookup_debug.specs.Mismatch.{Precedes}

@@ -1,4 +1,4 @@
-use Rattle.std.proofs.Common.{List, map, take}
+use Rattle.std.proofs.Common.{map, take}
 use Rattle.std.specs.Borrow.{Bor}
 use Rattle.std.specs.List.{flat_map}
 use Rattle.lookup_debug.specs.Contributions.{traced_of}

@@ -3,7 +3,7 @@ use Rattle.std.proofs.lemmas.List.{append-nil, map-append, take_all}
 use Rattle.std.specs.Cmp.Lexicographic.{pointwise}
 use Rattle.lookup_nets.proofs.NetEntries.{mapped-more}
 use Rattle.lookup_debug.specs.Arena.{cut_contribution}
-use Rattle.lookup_debug.specs.Contributions.{Contribution, Place, place_of}
+use Rattle.lookup_debug.specs.Contributions.{Contribution, place_of}
 use Rattle.lookup_debug.specs.Mismatch.{of_tuple}
 use Rattle.lookup_debug.proofs.KeptItems.{kept-more}
 use Rattle.lookup_debug.proofs.check.locations_of.Goals.{then-eq+in_ok-push, else-eq}
@@ -23,8 +23,8 @@ loop-cut-preserved g c =
     let mine = λ (k : Contribution _). pointwise eq tuple k.tuple in
     let before = map place (of_tuple g.F.PrimeCharacteristicRing.ring eq (map (cut_contribution elements) (take i cuts)) tuple) in
     let more =
-        ap (λ t. map place (of_tuple g.F.PrimeCharacteristicRing.ring eq t tuple)) (mapped-more (cut_contribution elements) cuts i cut lt (c.cut-item.is ∙ ap (λ t. get_or t i cut) all))
-        ∙ kept-more mine place (map (cut_contribution elements) (take i cuts)) (cut_contribution elements cut) in
+    ap (λ t. map place (of_tuple g.F.PrimeCharacteristicRing.ring eq t tuple)) (mapped-more (cut_contribution elements) cuts i cut lt (c.cut-item.is ∙ ap (λ t. get_or t i cut) all))
+    ∙ kept-more mine place (map (cut_contribution elements) (take i cuts)) (cut_contribution elements cut) in
     let test : mine (cut_contribution elements cut) ≡ c.eq.result = sym (c.eq.ensures ∙ ap (λ t. pointwise eq tuple (slice_range t cut.start cut.end)) c.as_slice-elements.ensures.value) in
     elim c.if-eq.branch [
       | then-eq+in_ok-push w ↦
