@@ -1,11 +1,11 @@
 //! The first tuple of a group that does not balance.
-ghost use Rattle.std.specs.Prelude.{◌≡◌, ◌<◌, ◌+◌, IfOk, MatchOption, Some, not, slice_get};
+ghost use Rattle.std.specs.Prelude.{◌≡◌, ◌<◌, ◌+◌, IfOk, MatchOption, Some, slice_get};
 ghost use Rattle.std.specs.Cmp.Lexicographic.{slice_cmp};
 ghost use Rattle.std.specs.Ordering.{nat_cmp};
 ghost use Rattle.indexmap.specs.IndexMap.{index_map_len};
 ghost use Rattle.lookup_debug.specs.Arena.{AreWithin, contributions_in};
-ghost use Rattle.lookup_debug.specs.Least.{IsBest};
 ghost use Rattle.lookup_debug.specs.Mismatch.{Balances, IsFirst, net_amount, text_cmp};
+ghost use Rattle.lookup_debug.specs.Nets.{IsFirstPlace};
 
 use crate::arena::{Contributions, nets};
 use field::Field;
@@ -34,7 +34,7 @@ pub(crate) fn first_mismatch<'a, F: Field>(
 
 /// The place of the least tuple whose net is not zero, and of several with its texts the first.
 fn least<F: Field>(alloc: Global, nets: &IndexMap<&[F], F>) -> Result<Option<usize>, AllocError>
-    ensures { IfOk result (IsBest (λ a b. text_cmp F.text a.now b.now) (λ v. not (F.eq v F.ring.zero)) nets.now.entries (index_map_len nets.now)) }
+    ensures { IfOk result (IsFirstPlace F.ring F.eq F.text nets.now.entries (index_map_len nets.now)) }
 {
     let mut best = None;
     for place in 0..nets.len() {
@@ -51,8 +51,8 @@ fn better<F: Field>(
     place: usize,
 ) -> Result<Option<usize>, AllocError>
     requires within { place < index_map_len nets.now }
-    requires best { IsBest (λ a b. text_cmp F.text a.now b.now) (λ v. not (F.eq v F.ring.zero)) nets.now.entries place best }
-    ensures { IfOk result (IsBest (λ a b. text_cmp F.text a.now b.now) (λ v. not (F.eq v F.ring.zero)) nets.now.entries (place + 1)) }
+    requires best { IsFirstPlace F.ring F.eq F.text nets.now.entries place best }
+    ensures { IfOk result (IsFirstPlace F.ring F.eq F.text nets.now.entries (place + 1)) }
 {
     let (tuple, net) = entry_at(nets, place);
     if net == F::ZERO {
