@@ -1,1 +1,12 @@
+pub mod AmountLaws
+pub mod BusLaws
+pub mod CutLaws
+pub mod FirstMismatch
+pub mod GroupSteps
+pub mod KeptItems
+pub mod LeastSteps
+pub mod MismatchLaws
+pub mod NameLaws
+pub mod PlacedLaws
+pub mod SeenOrder
 pub mod TextLaws

@@ -43,21 +43,25 @@ pub record Contribution (F : Type 0) : Type 0 where
   pub amount : F
   pub place : Place
 
+-- the tuples of branches, each with its amount
+abbrev pub contributions_from : {F : Type 0} → Place → List (Message F) → List F → List (Contribution F)
+contributions_from place branches amounts =
+    map (λ b. record { tuple = b.0.key.tuple; amount = b.1; place = place }) (zip branches amounts)
+
 module _ {F : Type 0} (R : Ring F) where
   -- how much of each branch is sent: flag times count if there are flags, whatever they are
   abbrev pub amounts : Option (List F) → List (Message F) → List F
   amounts None branches = map (λ m. m.multiplicity) branches
   amounts (Some flags) branches = map (λ b. R.mul b.0 b.1.multiplicity) (zip flags branches)
 
-  -- what the branches of a lookup contribute at a window
-  abbrev pub branch_contributions : Place → Window F → Lookup F → List (Contribution F)
-  branch_contributions place w lookup =
-      let branches = branches_at R w 0 lookup in
-      map (λ b. record { tuple = b.0.key.tuple; amount = b.1; place = place }) (zip branches (amounts (flags_at R w lookup) branches))
+  -- those of some contributions that are not zero
+  abbrev pub nonzero : (F → F → Bool) → List (Contribution F) → List (Contribution F)
+  nonzero eq cs = filter (λ c. not (eq c.amount R.zero)) cs
 
-  -- of these the ones that are not zero
+  -- what a lookup contributes at a window
   abbrev pub contributions_at : (F → F → Bool) → Place → Window F → Lookup F → List (Contribution F)
-  contributions_at eq place w lookup = filter (λ c. not (eq c.amount R.zero)) (branch_contributions place w lookup)
+  contributions_at eq place w lookup =
+      let branches = branches_at R w 0 lookup in nonzero eq (contributions_from place branches (amounts (flags_at R w lookup) branches))
 
   -- those of a lookup on a row of the traces of its AIR
   abbrev pub contributions_on : (F → F → Bool) → ℕ → ℕ → Traced F → Lookup F → ℕ → List (Contribution F)

@@ -23,20 +23,25 @@ placed_in i = map (λ l. record { instance = i.0; place = l.0; traced = i.1; loo
 abbrev pub placed : {F : Type 0} → List (Traced F) → List (Placed F)
 placed instances = flat_map placed_in (enumerate_from 0 instances)
 
+-- whether a name is missing, and whether it is this one
+abbrev pub is_missing : Option (List ℕ) → Bool
+is_missing None = true
+is_missing (Some name) = false
+
+abbrev pub is_named : List ℕ → Option (List ℕ) → Bool
+is_named name None = false
+is_named name (Some other) = pointwise nat_eq name other
+
 -- whether a lookup is local, or on the bus of this name
 abbrev pub is_local : {F : Type 0} → Placed F → Bool
-is_local p = is_none (bus_of p.lookup.kind)
-  where
-    is_none : Option (List ℕ) → Bool
-    is_none None = true
-    is_none (Some name) = false
+is_local p = is_missing (bus_of p.lookup.kind)
 
 abbrev pub is_on : {F : Type 0} → List ℕ → Placed F → Bool
-is_on name p = is_this (bus_of p.lookup.kind)
-  where
-    is_this : Option (List ℕ) → Bool
-    is_this None = false
-    is_this (Some other) = pointwise nat_eq name other
+is_on name p = is_named name (bus_of p.lookup.kind)
+
+-- the names of the buses, in the order of their first lookups
+abbrev pub bus_names : {F : Type 0} → List (Traced F) → List (List ℕ)
+bus_names instances = first_seen (pointwise nat_eq) (filter_map (λ p. bus_of p.lookup.kind) (placed instances))
 
 -- what is checked by itself: its label, and all that is contributed to it
 pub record Group (F : Type 0) : Type 0 where
@@ -65,10 +70,6 @@ module _ {F : Type 0} (R : Ring F) (eq : F → F → Bool) where
   -- and so is a bus, with all lookups on it
   abbrev pub bus_group : List (Traced F) → List ℕ → Group F
   bus_group instances name = record { label = bus_label name; contributions = flat_map placed_contributions (filter (is_on name) (placed instances)) }
-
-  -- the names of the buses, in the order of their first lookups
-  abbrev pub bus_names : List (Traced F) → List (List ℕ)
-  bus_names instances = first_seen (pointwise nat_eq) (filter_map (λ p. bus_of p.lookup.kind) (placed instances))
 
   -- first the local lookups, and then the buses
   abbrev pub groups : List (Traced F) → List (Group F)

@@ -48,9 +48,13 @@ module _ {F : Type 0} (R : Ring F) (eq : F → F → Bool) where
   abbrev pub Balances : List (Contribution F) → Type 0
   Balances cs = (tuple : List F) → net_amount cs tuple ≡ R.zero
 
-  -- so it is in every group
+  -- so it is in each of some groups
+  abbrev pub EachBalances : List (Group F) → Type 0
+  EachBalances gs = (i : ℕ) (group : Group F) → slice_get gs i ≡ Some group → Balances group.contributions
+
+  -- and in all groups
   abbrev pub AllBalance : List (Traced F) → Type 0
-  AllBalance instances = (i : ℕ) (group : Group F) → slice_get (groups R eq instances) i ≡ Some group → Balances group.contributions
+  AllBalance instances = EachBalances (groups R eq instances)
 
   module _ (text : F → List ℕ) where
     -- Among the tuples whose net is not zero this one is first: by its texts, and among equal texts by
@@ -60,12 +64,21 @@ module _ {F : Type 0} (R : Ring F) (eq : F → F → Bool) where
       pub first : (other : List F) → net_amount cs other ≢ R.zero → other ≢ tuple
           → (text_cmp text tuple other ≡ Less) ⊎ ((text_cmp text tuple other ≡ Equal) × Precedes (map (λ c. c.tuple) cs) tuple other)
 
-    -- A fault is the mismatch of the first group that has one.
-    pub record IsMismatch (instances : List (Traced F)) (fault : LookupFault F) : Type 0 where
+    -- A fault is the mismatch of a group: under its label, the tuple that is first, with its net and
+    -- the places of its contributions.
+    pub record IsMismatchOf (label : List ℕ) (cs : List (Contribution F)) (fault : LookupFault F) : Type 0 where
+      pub tuple : List F
+      pub first : IsFirst cs tuple
+      pub fault_is : HasParts label (map text tuple) (net_amount cs tuple) (map (λ c. c.place) (of_tuple cs tuple)) fault
+
+    -- A fault is the mismatch of the first of some groups that has one.
+    pub record IsFirstMismatch (gs : List (Group F)) (fault : LookupFault F) : Type 0 where
       pub place : ℕ
       pub group : Group F
-      pub there : slice_get (groups R eq instances) place ≡ Some group
-      pub before : (i : ℕ) (other : Group F) → i < place → slice_get (groups R eq instances) i ≡ Some other → Balances other.contributions
-      pub tuple : List F
-      pub first : IsFirst group.contributions tuple
-      pub fault_is : HasParts group.label (map text tuple) (net_amount group.contributions tuple) (map (λ c. c.place) (of_tuple group.contributions tuple)) fault
+      pub there : slice_get gs place ≡ Some group
+      pub before : (i : ℕ) (other : Group F) → i < place → slice_get gs i ≡ Some other → Balances other.contributions
+      pub mismatch : IsMismatchOf group.label group.contributions fault
+
+    -- and of the first of all groups
+    abbrev pub IsMismatch : List (Traced F) → LookupFault F → Type 0
+    IsMismatch instances fault = IsFirstMismatch (groups R eq instances) fault

@@ -6,9 +6,14 @@
 #![tactic(auto)]
 
 mod arena;
+mod check;
+mod contributions;
 mod fault;
+mod first;
+mod groups;
 mod instance;
 mod labels;
 
+pub use check::check_lookups;
 pub use fault::{Location, LookupFault};
 pub use instance::LookupDebugInstance;

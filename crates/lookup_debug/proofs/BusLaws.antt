@@ -1,0 +1,78 @@
+-- The lookups of all AIRs, one after another.
+use Rattle.std.proofs.Common.{◌≡◌, ℕ, ◌+◌, ◌<◌, ◌≤◌, Bool, true, false, cond, List, [], ◌∷◌, ◌++◌, get_or, length, map, take, ap, refl, sym, ◌∙◌, arith}
+use Rattle.std.proofs.lemmas.Grind.{flat_map-append}
+use Rattle.std.proofs.lemmas.List.{append-nil, length-map, take_all}
+use Rattle.std.proofs.lemmas.List.Elements.{filter-append, filter_map-append}
+use Rattle.std.proofs.lemmas.List.FromFn.{get_or-enumerate_from, length-enumerate_from}
+use Rattle.std.specs.List.{cons_option, enumerate_from, filter, filter_map, flat_map}
+use Rattle.lookup_laws.proofs.Rows.{take_item}
+use Rattle.lookup_model.proofs.Branches.{mapped_more}
+use Rattle.lookup_model.specs.Outline.{bus_of}
+use Rattle.lookup_model.specs.declared.types.Lookup.{Lookup}
+use Rattle.lookup_debug.specs.Contributions.{Traced}
+use Rattle.lookup_debug.specs.Groups.{Placed, placed_in}
+
+-- an item with its number
+module _ {A : Type 0} (xs : List A) (i : ℕ) (x : A) (lt : i < length xs) (is : x ≡ get_or xs i x) where
+  numbered_at : (i, x) ≡ get_or (enumerate_from 0 xs) i (i, x)
+  numbered_at = (λ k. (i, is k)) ∙ sym (get_or-enumerate_from 0 xs i (i, x) lt ∙ (λ k. (zero_plus k, get_or xs i x)))
+    where
+      zero_plus : 0 + i ≡ i
+      zero_plus = omega arith
+
+  numbered_within : i < length (enumerate_from 0 xs)
+  numbered_within = omega (arith, lt, length-enumerate_from 0 xs)
+
+  -- one more of them
+  pub numbered_more : take (i + 1) (enumerate_from 0 xs) ≡ take i (enumerate_from 0 xs) ++ (i, x) ∷ []
+  numbered_more = take_item (enumerate_from 0 xs) i (i, x) numbered_within numbered_at
+
+-- at the end all of them
+pub numbered_all : {A : Type 0} (xs : List A) (n : ℕ) → length xs ≤ n → take n (enumerate_from 0 xs) ≡ enumerate_from 0 xs
+numbered_all xs n le = take_all n (enumerate_from 0 xs) (omega (arith, le, length-enumerate_from 0 xs))
+
+-- what the items that pass give, of two lists one after the other
+pub chosen-append : {X A : Type 0} (p : X → Bool) (f : X → List A) (xs ys : List X) → flat_map f (filter p (xs ++ ys)) ≡ flat_map f (filter p xs) ++ flat_map f (filter p ys)
+chosen-append p f xs ys = ap (flat_map f) (filter-append p xs ys) ∙ flat_map-append f (filter p xs) (filter p ys)
+
+-- of one item
+pub chosen-one : {X A : Type 0} (p : X → Bool) (f : X → List A) (x : X) (b : Bool) → p x ≡ b → flat_map f (filter p (x ∷ [])) ≡ cond b (f x) []
+chosen-one p f x true is = ap (λ b. flat_map f (cond b (x ∷ []) [])) is ∙ append-nil (f x)
+chosen-one p f x false is = ap (λ b. flat_map f (cond b (x ∷ []) [])) is
+
+module _ {F : Type 0} where
+  -- the lookups of one AIR with their places, and one more of them
+  pub placed_in-more : (n : ℕ) (t : Traced F) (j : ℕ) (l : Lookup F) → j < length t.lookups → l ≡ get_or t.lookups j l
+      → take (j + 1) (placed_in (n, t)) ≡ take j (placed_in (n, t)) ++ record { instance = n; place = j; traced = t; lookup = l } ∷ []
+  placed_in-more n t j l lt is =
+      mapped_more (λ (p : ℕ × Lookup F). record { instance = n; place = p.0; traced = t; lookup = p.1 }) (enumerate_from 0 t.lookups) j (j, l) (numbered_within t.lookups j l lt is) (numbered_at t.lookups j l lt is)
+
+  pub length-placed_in : (n : ℕ) (t : Traced F) → length (placed_in (n, t)) ≡ length t.lookups
+  length-placed_in n t =
+      length-map (enumerate_from 0 t.lookups) (λ (p : ℕ × Lookup F). record { instance = n; place = p.0; traced = t; lookup = p.1 }) ∙ length-enumerate_from 0 t.lookups
+
+  -- the lookups of one more AIR
+  pub placed-more : (ts : List (Traced F)) (i : ℕ) (t : Traced F) → i < length ts → t ≡ get_or ts i t
+      → flat_map placed_in (take (i + 1) (enumerate_from 0 ts)) ≡ flat_map placed_in (take i (enumerate_from 0 ts)) ++ placed_in (i, t)
+  placed-more ts i t lt is =
+      ap (flat_map placed_in) (numbered_more ts i t lt is)
+      ∙ flat_map-append placed_in (take i (enumerate_from 0 ts)) ((i, t) ∷ [])
+      ∙ ap (λ ps. flat_map placed_in (take i (enumerate_from 0 ts)) ++ ps) (append-nil (placed_in (i, t)))
+
+  -- the buses of the lookups of an AIR
+  pub buses_in : (n : ℕ) (t : Traced F) → filter_map (λ p. bus_of p.lookup.kind) (placed_in (n, t)) ≡ filter_map (λ (l : Lookup F). bus_of l.kind) t.lookups
+  buses_in n t = from 0 t.lookups
+    where
+      from : (k : ℕ) (ls : List (Lookup F)) → filter_map (λ (p : Placed F). bus_of p.lookup.kind) (map (λ (p : ℕ × Lookup F). record { instance = n; place = p.0; traced = t; lookup = p.1 }) (enumerate_from k ls)) ≡ filter_map (λ (l : Lookup F). bus_of l.kind) ls
+      from k [] = refl
+      from k (l ∷ ls) = ap (cons_option (bus_of l.kind)) (from (k + 1) ls)
+
+  -- and those of the lookups of one more AIR
+  pub names_more : (ts : List (Traced F)) (i : ℕ) (t : Traced F) → i < length ts → t ≡ get_or ts i t
+      → filter_map (λ p. bus_of p.lookup.kind) (flat_map placed_in (take (i + 1) (enumerate_from 0 ts))) ≡ filter_map (λ p. bus_of p.lookup.kind) (flat_map placed_in (take i (enumerate_from 0 ts))) ++ filter_map (λ (l : Lookup F). bus_of l.kind) t.lookups
+  names_more ts i t lt is =
+      let bus = λ (p : Placed F). bus_of p.lookup.kind in
+      let front = flat_map placed_in (take i (enumerate_from 0 ts)) in
+      ap (filter_map bus) (placed-more ts i t lt is)
+      ∙ filter_map-append bus front (placed_in (i, t))
+      ∙ ap (λ names. filter_map bus front ++ names) (buses_in i t)

@@ -1,0 +1,14 @@
+use Rattle.std.proofs.Common.{◌++◌, inr, map, string_bytes, subst, ap, ◌∙◌}
+use Rattle.lookup_debug.specs.Arena.{contributions_in}
+use Rattle.lookup_debug.specs.Contributions.{traced_of}
+use Rattle.lookup_debug.specs.Groups.{bus_group, bus_label}
+use Rattle.lookup_debug.proofs.MismatchLaws.{IsFound, mismatch_of}
+use Rattle.lookup_debug.proofs.check.check_bus.Goals as goal
+
+pub returns : goal.returns
+returns g c =
+    let R = g.F.PrimeCharacteristicRing.ring in
+    let eq = g.F.PartialEq.eq in
+    let cs = (bus_group R eq (map traced_of c.args.instances.now) c.args.name.now).contributions in
+    inr (mismatch_of R eq g.F.Field.text (string_bytes c.in_ok-label.label) (bus_label c.args.name.now) (contributions_in c.push_bus.new.contributions) cs c.in-Some.found.0.now c.in-Some.found.1 c.in_ok-mismatch.field-0
+    c.in_ok-label.ensures (c.in_ok-push_bus.ensures.1 ∙ ap (λ t. t ++ cs) c.clear.ensures.empty) (subst (IsFound R eq g.F.Field.text (contributions_in c.push_bus.new.contributions)) c.in-Some.is c.in_ok-found.ensures) c.in_ok-mismatch.ensures)
