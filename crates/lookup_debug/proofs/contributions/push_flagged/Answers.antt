@@ -1,4 +1,4 @@
-use Rattle.std.proofs.Common.{◌≡◌, ◌∷◌, [], Some, List, arith, subst, sym, take, ◌++◌, ◌∙◌}
+use Rattle.std.proofs.Common.{◌≡◌, Some, List, arith, subst, sym, ◌∙◌}
 use Rattle.std.proofs.lemmas.List.{take_all}
 use Rattle.expressions.specs.declared.base_expression.SymbolicExpression.{SymbolicExpression}
 use Rattle.lookup_generation.specs.TraceBuilder.{builder_layout, builder_window}
@@ -7,9 +7,7 @@ use Rattle.lookup_model.specs.Records.{AllFit, IsWithin}
 use Rattle.lookup_model.specs.Sent.{branches_at, value, values}
 use Rattle.lookup_debug.specs.Appended.{Appends}
 use Rattle.lookup_debug.specs.Contributions.{Contribution, amounts, contributions_from, nonzero, place_of}
-use Rattle.lookup_debug.specs.declared.arena.Contributions.{Contributions}
-use Rattle.lookup_debug.proofs.AmountLaws.{flagged_more, length-flagged}
-use Rattle.lookup_debug.proofs.CutLaws.{appends-more}
+use Rattle.lookup_debug.proofs.AmountLaws.{flagged_step, length-flagged}
 use Rattle.lookup_debug.proofs.contributions.push_flagged.Goals as goal
 
 pub value_on-requires : goal.value_on-requires
@@ -30,23 +28,11 @@ push_branch-requires-clause-fits g c =
 pub loop-branch-preserved : goal.loop-branch-preserved
 loop-branch-preserved g c =
     let R = g.F.PrimeCharacteristicRing.ring in
-    let eq = g.F.PartialEq.eq in
     let w = builder_window c.args.builder.now in
-    let place = place_of c.args.location in
-    let lookup = c.args.lookup.now in
-    let flags = c.args.flags.now in
-    let branches = branches_at R w 0 lookup in
-    let i = c.loop-branch.branch in
-    let before : Contributions _ = c.args.contributions.now in
-    let after : Contributions _ = c.push_branch.new.contributions in
-    let so_far = nonzero R eq (take i (contributions_from place branches (amounts R (Some (values R w flags)) branches))) in
-    let one : List _ → _ → List (Contribution _) = λ tuple amount. nonzero R eq (record { tuple = values R w tuple; amount = amount; place = place } ∷ []) in
     let amount_is : c.mul-amount.result ≡ R.mul (value R w c.index-flags-branch.result) (value R w c.index-multiplicity.result.now) =
     g.met.F.PrimeCharacteristicRing.mul_is _ _ _ c.mul-amount.ensures ∙ (λ k. R.mul (c.in_ok-flag.ensures k) (c.in_ok-count.ensures k)) in
-    let more = flagged_more R eq place w lookup c.requires.lengths i c.index-tuple.result.now c.index-multiplicity.result.now (omega arith) c.index-tuple.ensures c.index-multiplicity.ensures flags c.requires.flag_number c.index-flags-branch.result c.index-flags-branch.is in
-    let grown : so_far ++ one c.deref.result.now c.mul-amount.result ≡ so_far ++ one c.index-tuple.result.now.items (R.mul (value R w c.index-flags-branch.result) (value R w c.index-multiplicity.result.now)) = λ k. so_far ++ one (c.deref.ensures.value k) (amount_is k) in
-    subst (λ (cs : List (Contribution _)). Appends before after cs) (grown ∙ sym more)
-    (appends-more before c.loop-branch.contributions after so_far (one c.deref.result.now c.mul-amount.result) c.loop-branch.invariant c.in_ok-push_branch.ensures)
+    flagged_step R g.F.PartialEq.eq (place_of c.args.location) w c.args.lookup.now c.requires.lengths c.loop-branch.branch c.index-tuple.result.now c.index-multiplicity.result.now (omega arith) c.index-tuple.ensures c.index-multiplicity.ensures c.args.flags.now c.requires.flag_number c.index-flags-branch.result c.index-flags-branch.is
+    c.args.contributions.now c.loop-branch.contributions c.push_branch.new.contributions c.deref.result.now c.mul-amount.result c.deref.ensures.value amount_is c.loop-branch.invariant c.in_ok-push_branch.ensures
 
 pub returns : goal.returns
 returns g c =
