@@ -8,6 +8,7 @@ use Rattle.lookup_model.specs.Sent.{branches_at}
 use Rattle.lookup_debug.specs.Appended.{Appends}
 use Rattle.lookup_debug.specs.Contributions.{Contribution, amounts, contributions_from, nonzero, place_of}
 use Rattle.lookup_debug.proofs.AmountLaws.{counted_step, length-counted}
+use Rattle.lookup_debug.proofs.CutLaws.{appends-none}
 use Rattle.lookup_debug.proofs.contributions.push_counted.Goals as goal
 
 pub value_on-requires : goal.value_on-requires
@@ -36,3 +37,9 @@ returns g c =
     let branches = branches_at R w 0 lookup in
     let all = contributions_from place branches (amounts R None branches) in
     subst (λ (cs : List (Contribution _)). Appends c.args.contributions.now c.loop-branch.contributions (nonzero R eq cs)) (take_all c.loop-branch.branch all (omega (arith, length-counted R eq place w lookup c.requires.lengths))) c.loop-branch.invariant
+
+pub loop-branch-init : goal.loop-branch-init
+loop-branch-init g c = appends-none c.args.contributions.now c.requires.within
+
+pub push_branch-requires-clause-within : goal.push_branch-requires-clause-within
+push_branch-requires-clause-within g c = c.loop-branch.invariant.0

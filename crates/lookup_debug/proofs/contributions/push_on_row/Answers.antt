@@ -37,3 +37,21 @@ returns-in-None g c =
     let branches = branches_at R w 0 lookup in
     let flags_are : None ≡ option_map (λ flags. values R w flags.items) lookup.flags = ap (option_map (λ flags. values R w flags.items)) (sym c.in-None.is) in
     subst (λ (flags : Option (List _)). OnOk c.push_counted.result (Appends c.args.contributions.now c.push_counted.new.contributions (nonzero R g.F.PartialEq.eq (contributions_from (place_of c.args.location) branches (amounts R flags branches))))) flags_are c.push_counted.ensures
+
+pub push_counted-requires-clause-within : goal.push_counted-requires-clause-within
+push_counted-requires-clause-within g c = c.requires.within
+
+pub push_counted-requires-clause-lengths : goal.push_counted-requires-clause-lengths
+push_counted-requires-clause-lengths g c = c.requires.lengths
+
+pub push_counted-requires-clause-fits : goal.push_counted-requires-clause-fits
+push_counted-requires-clause-fits g c = c.requires.fits
+
+pub push_flagged-requires-clause-within : goal.push_flagged-requires-clause-within
+push_flagged-requires-clause-within g c = c.requires.within
+
+pub push_flagged-requires-clause-lengths : goal.push_flagged-requires-clause-lengths
+push_flagged-requires-clause-lengths g c = c.requires.lengths
+
+pub push_flagged-requires-clause-fits : goal.push_flagged-requires-clause-fits
+push_flagged-requires-clause-fits g c = c.requires.fits
