@@ -9,4 +9,5 @@ pub mod MismatchLaws
 pub mod NameLaws
 pub mod PlacedLaws
 pub mod SeenOrder
+pub mod SentContributionLaws
 pub mod TextLaws

@@ -7,3 +7,4 @@ pub mod Groups
 pub mod Least
 pub mod Mismatch
 pub mod Nets
+pub mod SentContributions
