@@ -1,5 +1,5 @@
 -- What is contributed is what is sent, where each flag is zero or one.
-use Rattle.std.proofs.Common.{◌≡◌, Bool, true, false, cond, not, ◌&&◌, ◌||◌, Option, None, Some, IfSome, List, [], ◌∷◌, map, refl, subst, sym, ap, ◌∙◌, Decides}
+use Rattle.std.proofs.Common.{◌≡◌, Bool, true, false, cond, not, ◌||◌, Option, None, Some, IfSome, List, [], ◌∷◌, map, refl, subst, sym, ap, ◌∙◌, Decides}
 use Rattle.std.proofs.lemmas.Bool.{and_parts}
 use Rattle.std.specs.List.{filter, list_all, zip}
 use Rattle.field.specs.Ring.{Ring, IsCommutativeRing}
