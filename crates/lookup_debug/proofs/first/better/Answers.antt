@@ -1,4 +1,4 @@
-use Rattle.std.proofs.Common.{◌≡◌, Bool, not, ap, sym, subst, ◌∙◌}
+use Rattle.std.proofs.Common.{not, ap, sym, subst, ◌∙◌}
 use Rattle.lookup_debug.specs.Nets.{IsFirstPlace}
 use Rattle.lookup_debug.proofs.LeastSteps.{skipped, first_passing, replaced, kept, Less-from_eq, Less-from_ne}
 use Rattle.lookup_debug.proofs.first.better.Goals as goal
