@@ -110,6 +110,23 @@ fn push_counted<F: Field>(
     Ok(())
 }
 
+/// Flag times count on the builder's row.
+fn flagged_amount<F: Field>(
+    alloc: Global,
+    flag: &SymbolicExpression<F>,
+    count: &SymbolicExpression<F>,
+    builder: &LookupTraceBuilder<'_, F, F>,
+) -> Result<F, AllocError>
+    requires flag_fits { Fits (builder_layout builder.now) (tree_of flag.now) }
+    requires count_fits { Fits (builder_layout builder.now) (tree_of count.now) }
+    ensures { let w = builder_window builder.now in
+        IfOk result (λ v. v ≡ F.ring.mul (value F.ring w flag.now) (value F.ring w count.now)) }
+{
+    let flag = value_on(alloc, flag, builder)?;
+    let count = value_on(alloc, count, builder)?;
+    Ok(flag * count)
+}
+
 /// Appends the contributions of a lookup with flags on the builder's row: each tuple with flag times
 /// count, whatever the flags are.
 fn push_flagged<F: Field>(
@@ -133,9 +150,8 @@ fn push_flagged<F: Field>(
     for branch in 0..lookup.elements.len() {
         let tuple = &lookup.elements[branch];
         let multiplicity = &lookup.multiplicities[branch];
-        let flag = value_on(alloc, &flags[branch], builder)?;
-        let count = value_on(alloc, multiplicity, builder)?;
-        let amount = flag * count;
+        let flag = &flags[branch];
+        let amount = flagged_amount(alloc, flag, multiplicity, builder)?;
         push_branch(alloc, contributions, location, tuple, amount, builder)?;
     }
     Ok(())
