@@ -11,6 +11,7 @@ use Rattle.lookup_debug.proofs.check.locations_of.Goals as goal
 
 pub loop-cut-preserved : goal.loop-cut-preserved
 loop-cut-preserved g c =
+    let R = g.F.PrimeCharacteristicRing.ring in
     let eq = g.F.PartialEq.eq in
     let tuple = c.args.tuple.now in
     let cuts = c.args.contributions.now.cuts.items in
@@ -21,9 +22,9 @@ loop-cut-preserved g c =
     let lt = subst (λ t. i < length t) all c.loop-cut-test.true in
     let place = λ (k : Contribution _). k.place in
     let mine = λ (k : Contribution _). pointwise eq tuple k.tuple in
-    let before = map place (of_tuple g.F.PrimeCharacteristicRing.ring eq (map (cut_contribution elements) (take i cuts)) tuple) in
+    let before = map place (of_tuple R eq (map (cut_contribution elements) (take i cuts)) tuple) in
     let more =
-    ap (λ t. map place (of_tuple g.F.PrimeCharacteristicRing.ring eq t tuple)) (mapped-more (cut_contribution elements) cuts i cut lt (c.cut-item.is ∙ ap (λ t. get_or t i cut) all))
+    ap (λ t. map place (of_tuple R eq t tuple)) (mapped-more (cut_contribution elements) cuts i cut lt (c.cut-item.is ∙ ap (λ t. get_or t i cut) all))
     ∙ kept-more mine place (map (cut_contribution elements) (take i cuts)) (cut_contribution elements cut) in
     let test : mine (cut_contribution elements cut) ≡ c.eq.result = sym (c.eq.ensures ∙ ap (λ t. pointwise eq tuple (slice_range t cut.start cut.end)) c.as_slice-elements.ensures.value) in
     elim c.if-eq.branch [
@@ -43,4 +44,6 @@ pub returns : goal.returns
 returns g c =
     let cuts = c.args.contributions.now.cuts.items in
     let elements = c.args.contributions.now.elements.items in
-    c.loop-cut.invariant ∙ ap (λ t. map (λ (k : Contribution _). k.place) (of_tuple g.F.PrimeCharacteristicRing.ring g.F.PartialEq.eq (map (cut_contribution elements) t) c.args.tuple.now)) (take_all c.loop-cut.cut-index cuts (omega (arith, c.loop-cut-test.false, c.deref-cut-items.ensures.len)))
+    let found = of_tuple g.F.PrimeCharacteristicRing.ring g.F.PartialEq.eq in
+    c.loop-cut.invariant
+    ∙ ap (λ t. map (λ (k : Contribution _). k.place) (found (map (cut_contribution elements) t) c.args.tuple.now)) (take_all c.loop-cut.cut-index cuts (omega (arith, c.loop-cut-test.false, c.deref-cut-items.ensures.len)))
