@@ -22,8 +22,10 @@ use Rattle.lookup_debug.specs.declared.arena.Contributions.{Contributions}
 use Rattle.lookup_debug.proofs.CutLaws.{appends-more}
 
 -- the values of one more element of a tuple
-pub values_step : {F : Type 0} (R : Ring F) (w : Window F) (es : List (SymbolicExpression F)) (i : ℕ) (e : SymbolicExpression F) (v : F) (before now after : List F) → i < length es → e ≡ get_or es i e → v ≡ value R w e
-    → now ≡ before ++ values R w (take i es) → after ≡ now ++ v ∷ [] → after ≡ before ++ values R w (take (i + 1) es)
+pub values_step : {F : Type 0} (R : Ring F) (w : Window F) (es : List (SymbolicExpression F)) (i : ℕ) (e : SymbolicExpression F) (v : F) (before now after : List F)
+    → i < length es → e ≡ get_or es i e → v ≡ value R w e
+    → now ≡ before ++ values R w (take i es) → after ≡ now ++ v ∷ []
+    → after ≡ before ++ values R w (take (i + 1) es)
 values_step R w es i e v before now after lt is v_is so_far this =
     this
     ∙ (λ k. so_far k ++ v_is k ∷ [])
@@ -32,7 +34,9 @@ values_step R w es i e v before now after lt is v_is so_far this =
 
 module _ {F : Type 0} (R : Ring F) (eq : F → F → Bool) (place : Place) where
   -- one more branch with its amount
-  from_more : (branches : List (Message F)) (sizes : List F) → length sizes ≡ length branches → (i : ℕ) (m : Message F) (a : F) → i < length branches → m ≡ get_or branches i m → a ≡ get_or sizes i a
+  from_more : (branches : List (Message F)) (sizes : List F) → length sizes ≡ length branches
+      → (i : ℕ) (m : Message F) (a : F) → i < length branches → m ≡ get_or branches i m
+      → a ≡ get_or sizes i a
       → nonzero R eq (take (i + 1) (contributions_from place branches sizes)) ≡ nonzero R eq (take i (contributions_from place branches sizes)) ++ nonzero R eq (record { tuple = m.key.tuple; amount = a; place = place } ∷ [])
   from_more branches sizes same i m a lt m_is a_is =
       let all = contributions_from place branches sizes in
@@ -40,7 +44,8 @@ module _ {F : Type 0} (R : Ring F) (eq : F → F → Bool) (place : Place) where
       ∙ filter-append (λ (c : Contribution F). not (eq c.amount R.zero)) (take i all) (record { tuple = m.key.tuple; amount = a; place = place } ∷ [])
 
   -- there are as many contributions sizes branches
-  length-from : (branches : List (Message F)) (sizes : List F) → length sizes ≡ length branches → length (contributions_from place branches sizes) ≡ length branches
+  length-from : (branches : List (Message F)) (sizes : List F) → length sizes ≡ length branches
+      → length (contributions_from place branches sizes) ≡ length branches
   length-from branches sizes same = length-zipped (λ (b : Message F × F). record { tuple = b.0.key.tuple; amount = b.1; place = place }) branches sizes same
 
   module _ (w : Window F) (lookup : Lookup F) (lengths : HasEqualLengths lookup) where
@@ -86,7 +91,8 @@ module _ {F : Type 0} (R : Ring F) (eq : F → F → Bool) (place : Place) where
           (mapped_at (λ (m : Message F). m.multiplicity) branches i branch within branch_is)
 
       -- with flags it counts with flag times multiplicity
-      flagged_more : (flags : List (SymbolicExpression F)) (flag_number : length flags ≡ length lookup.elements.items) (flag : SymbolicExpression F) → flag ≡ get_or flags i flag
+      flagged_more : (flags : List (SymbolicExpression F)) (flag_number : length flags ≡ length lookup.elements.items) (flag : SymbolicExpression F)
+          → flag ≡ get_or flags i flag
           → nonzero R eq (take (i + 1) (contributions_from place branches (flagged flags flag_number))) ≡ nonzero R eq (take i (contributions_from place branches (flagged flags flag_number))) ++ nonzero R eq (record { tuple = values R w tuple.items; amount = R.mul (value R w flag) (value R w multiplicity); place = place } ∷ [])
       flagged_more flags flag_number flag flag_is =
           from_more branches (flagged flags flag_number) (as_many_flagged flags flag_number) i branch (R.mul (value R w flag) (value R w multiplicity)) within branch_is
@@ -94,7 +100,8 @@ module _ {F : Type 0} (R : Ring F) (eq : F → F → Bool) (place : Place) where
           (omega (arith, within, as_many_flags flags flag_number)) (mapped_at (value R w) flags i flag (omega (arith, lt, flag_number)) flag_is) branch_is)
 
       -- so it is once the branch is appended
-      pub counted_step : (before now after : Contributions F) (es : List (SymbolicExpression F)) (amount : F) → es ≡ tuple.items → amount ≡ value R w multiplicity
+      pub counted_step : (before now after : Contributions F) (es : List (SymbolicExpression F)) (amount : F)
+          → es ≡ tuple.items → amount ≡ value R w multiplicity
           → Appends before now (nonzero R eq (take i (contributions_from place branches counts)))
           → Appends now after (nonzero R eq (record { tuple = values R w es; amount = amount; place = place } ∷ []))
           → Appends before after (nonzero R eq (take (i + 1) (contributions_from place branches counts)))
@@ -103,8 +110,10 @@ module _ {F : Type 0} (R : Ring F) (eq : F → F → Bool) (place : Place) where
           subst (Appends before after) ((λ k. front ++ nonzero R eq (record { tuple = values R w (es_are k); amount = amount_is k; place = place } ∷ [])) ∙ sym counted_more)
           (appends-more before now after front (nonzero R eq (record { tuple = values R w es; amount = amount; place = place } ∷ [])) so_far this)
 
-      pub flagged_step : (flags : List (SymbolicExpression F)) (flag_number : length flags ≡ length lookup.elements.items) (flag : SymbolicExpression F) → flag ≡ get_or flags i flag
-          → (before now after : Contributions F) (es : List (SymbolicExpression F)) (amount : F) → es ≡ tuple.items → amount ≡ R.mul (value R w flag) (value R w multiplicity)
+      pub flagged_step : (flags : List (SymbolicExpression F)) (flag_number : length flags ≡ length lookup.elements.items) (flag : SymbolicExpression F)
+          → flag ≡ get_or flags i flag
+          → (before now after : Contributions F) (es : List (SymbolicExpression F)) (amount : F)
+          → es ≡ tuple.items → amount ≡ R.mul (value R w flag) (value R w multiplicity)
           → Appends before now (nonzero R eq (take i (contributions_from place branches (flagged flags flag_number))))
           → Appends now after (nonzero R eq (record { tuple = values R w es; amount = amount; place = place } ∷ []))
           → Appends before after (nonzero R eq (take (i + 1) (contributions_from place branches (flagged flags flag_number))))
@@ -114,14 +123,16 @@ module _ {F : Type 0} (R : Ring F) (eq : F → F → Bool) (place : Place) where
           (appends-more before now after front (nonzero R eq (record { tuple = values R w es; amount = amount; place = place } ∷ [])) so_far this)
 
 -- one more number of a range
-rows_more : {A : Type 0} (f : ℕ → List A) (n : ℕ) → flat_map f (range_with_len 0 (n + 1)) ≡ flat_map f (range_with_len 0 n) ++ f n
+rows_more : {A : Type 0} (f : ℕ → List A) (n : ℕ)
+    → flat_map f (range_with_len 0 (n + 1)) ≡ flat_map f (range_with_len 0 n) ++ f n
 rows_more f n = ap (flat_map f) (range_more 0 n n (omega arith)) ∙ flat_map-append f (range_with_len 0 n) (n ∷ []) ∙ ap (λ t. flat_map f (range_with_len 0 n) ++ t) (append-nil (f n))
   where
     range_more : (a n j : ℕ) → a + n ≡ j → range_with_len a (n + 1) ≡ range_with_len a n ++ j ∷ []
     range_more a n j is = sym (map-id (range_with_len a (n + 1))) ∙ map-range_with_len_more (λ k. k) a n j is ∙ ap (λ t. t ++ j ∷ []) (map-id (range_with_len a n))
 
 -- The contributions on one more row, which is that of this window.
-pub row_step : {F : Type 0} (R : Ring F) (eq : F → F → Bool) (instance place : ℕ) (t : Traced F) (lookup : Lookup F) (row : ℕ) (before now after : Contributions F) (w : Window F) → w ≡ window_at t.main t.preprocessed t.public_values (height t.main) row
+pub row_step : {F : Type 0} (R : Ring F) (eq : F → F → Bool) (instance place : ℕ) (t : Traced F) (lookup : Lookup F) (row : ℕ) (before now after : Contributions F) (w : Window F)
+    → w ≡ window_at t.main t.preprocessed t.public_values (height t.main) row
     → Appends before now (flat_map (contributions_on R eq instance place t lookup) (range_with_len 0 row))
     → Appends now after (contributions_at R eq (record { instance = instance; lookup = place; row = row }) w lookup)
     → Appends before after (flat_map (contributions_on R eq instance place t lookup) (range_with_len 0 (row + 1)))

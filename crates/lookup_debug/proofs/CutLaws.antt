@@ -11,13 +11,15 @@ use Rattle.lookup_debug.specs.declared.arena.Cut.{Cut}
 
 module _ {F : Type 0} where
   -- a part of a list stays as it is when more comes after the list
-  slice_range-longer : (xs ys : List F) (a b : ℕ) → a ≤ b → b ≤ length xs → slice_range (xs ++ ys) a b ≡ slice_range xs a b
+  slice_range-longer : (xs ys : List F) (a b : ℕ) → a ≤ b → b ≤ length xs
+      → slice_range (xs ++ ys) a b ≡ slice_range xs a b
   slice_range-longer xs ys a b ordered within =
       ap (take (b - a)) (drop-append-le a xs ys (omega (arith, ordered, within)))
       ∙ take-append-le (b - a) (drop a xs) ys (omega (arith, length-drop a xs, ordered, within))
 
   -- and what comes after it is the part from its end
-  slice_range-last : (xs ys : List F) (a b : ℕ) → a ≡ length xs → b ≡ length (xs ++ ys) → slice_range (xs ++ ys) a b ≡ ys
+  slice_range-last : (xs ys : List F) (a b : ℕ) → a ≡ length xs → b ≡ length (xs ++ ys)
+      → slice_range (xs ++ ys) a b ≡ ys
   slice_range-last xs ys a b a_is b_is =
       ap (take (b - a)) (ap (λ k. drop k (xs ++ ys)) a_is ∙ drop-front xs)
       ∙ take-whole ys (b - a) (omega (arith, a_is, b_is, length-append xs ys))
@@ -34,14 +36,16 @@ module _ {F : Type 0} where
   IsPart n cut = (cut.start ≤ cut.end) × (cut.end ≤ n)
 
   -- cuts contribute the same when more elements come
-  kept : (xs ys : List F) (cuts : List (Cut F)) → All (IsPart (length xs)) cuts → map (cut_contribution (xs ++ ys)) cuts ≡ map (cut_contribution xs) cuts
+  kept : (xs ys : List F) (cuts : List (Cut F)) → All (IsPart (length xs)) cuts
+      → map (cut_contribution (xs ++ ys)) cuts ≡ map (cut_contribution xs) cuts
   kept xs ys [] parts = refl
   kept xs ys (cut ∷ cuts) parts =
       let here : IsPart (length xs) cut = parts 0 cut (omega arith) in
       λ i. record { tuple = slice_range-longer xs ys cut.start cut.end here.0 here.1 i; amount = cut.amount; place = place_of cut.location } ∷ kept xs ys cuts (λ k d lt. parts (suc k) d (omega (arith, lt))) i
 
   -- parts of some elements are parts of more
-  still_parts : (n m : ℕ) → n ≤ m → (cuts : List (Cut F)) → All (IsPart n) cuts → All (IsPart m) cuts
+  still_parts : (n m : ℕ) → n ≤ m → (cuts : List (Cut F)) → All (IsPart n) cuts
+      → All (IsPart m) cuts
   still_parts n m le cuts parts = λ k d lt. (let p = parts k d lt in (p.0, omega (arith, p.1, le)))
 
   -- nothing is appended
@@ -49,13 +53,16 @@ module _ {F : Type 0} where
   appends-none c within = (within, sym (append-nil (contributions_in c)))
 
   -- first some contributions are appended, and then more
-  pub appends-more : (a b c : Contributions F) (xs ys : List (Contribution F)) → Appends a b xs → Appends b c ys → Appends a c (xs ++ ys)
+  pub appends-more : (a b c : Contributions F) (xs ys : List (Contribution F)) → Appends a b xs
+      → Appends b c ys → Appends a c (xs ++ ys)
   appends-more a b c xs ys first then =
       (then.0, then.1 ∙ ap (λ t. t ++ ys) first.1 ∙ append_assoc (contributions_in a) xs ys)
 
   -- one more cut, from the end of the elements that were there to that of those that are there now
-  pub appends-cut : (before after : Contributions F) (tuple : List F) (cut : Cut F) → AreWithin before
-      → after.elements.items ≡ before.elements.items ++ tuple → after.cuts.items ≡ before.cuts.items ++ cut ∷ []
+  pub appends-cut : (before after : Contributions F) (tuple : List F) (cut : Cut F)
+      → AreWithin before
+      → after.elements.items ≡ before.elements.items ++ tuple
+      → after.cuts.items ≡ before.cuts.items ++ cut ∷ []
       → cut.start ≡ length before.elements.items → cut.end ≡ length after.elements.items
       → Appends before after (record { tuple = tuple; amount = cut.amount; place = place_of cut.location } ∷ [])
   appends-cut before after tuple cut within elements_are cuts_are start_is end_is = (parts, seen)

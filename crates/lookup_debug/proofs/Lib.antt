@@ -1,6 +1,7 @@
 pub mod AmountLaws
 pub mod BusLaws
 pub mod CutLaws
+pub mod CutNets
 pub mod FirstMismatch
 pub mod GroupSteps
 pub mod KeptItems
