@@ -67,7 +67,7 @@ module _ {A : Type 0} {R : Ring A} (laws : IsCommutativeRing R) where
 module _ {F : Type 0} {R : Ring F} (laws : IsCommutativeRing R) (eq : F → F → Bool) (decides : (a b : Key F) → Decides (same_key eq a b) (a ≡ b)) (key : Key F) where
   -- no provided entry has the key
   abbrev NoneProvided : List (Message F × Part) → Type 0
-  NoneProvided marked = IsAmong key (provided_keys eq marked) → ⊥
+  NoneProvided marked = IsAmong key (provided_keys marked) → ⊥
 
   -- then the net is the sum of the query numbers
   net_is : (ms : List (Message F)) (ps : List Part) → AllZip (IsPartOf R) ms ps → NoneProvided (zip ms ps) → net R eq ms key ≡ of_int R (query_sum eq key (zip ms ps))
@@ -107,8 +107,8 @@ module _ {F : Type 0} {R : Ring F} (laws : IsCommutativeRing R) (eq : F → F �
       by_test false e (inr absent) = inr (λ s. elim s [ inl same ↦ cc (e, (decides key k).1 same) | inr there ↦ absent there ])
 
   -- the law over one list of messages
-  pub provided_key : (p : ℕ) → HasCharacteristic R p → (ms : List (Message F)) (ps : List Part) → AllZip (IsPartOf R) ms ps → sum_by size_of ps < p → IsBalanced R eq ms → query_sum eq key (zip ms ps) ≢ pos 0 → IsAmong key (provided_keys eq (zip ms ps))
-  provided_key p char ms ps each light balanced ne = elim (is_among (provided_keys eq (zip ms ps))) [
+  pub provided_key : (p : ℕ) → HasCharacteristic R p → (ms : List (Message F)) (ps : List Part) → AllZip (IsPartOf R) ms ps → sum_by size_of ps < p → IsBalanced R eq ms → query_sum eq key (zip ms ps) ≢ pos 0 → IsAmong key (provided_keys (zip ms ps))
+  provided_key p char ms ps each light balanced ne = elim (is_among (provided_keys (zip ms ps))) [
     | inl there ↦ there
     | inr absent ↦ absurd (ne (small_zero laws p char (query_sum eq key (zip ms ps)) (omega (arith, query_sum-small ms ps, light)) (sym (net_is ms ps each absent) ∙ balanced key)))
   ]

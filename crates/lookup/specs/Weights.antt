@@ -42,18 +42,17 @@ module _ {F : Type 0} (R : Ring F) where
 abbrev pub all_parts : List (List (List (List Part))) → List Part
 all_parts divisions = flat_map (λ division. flat_map (λ row. flat_map (λ parts. parts) row) division) divisions
 
-module _ {F : Type 0} (eq : F → F → Bool) where
-  -- the sum of the query numbers of a key
-  abbrev pub query_sum : Key F → List (Message F × Part) → ℤ
-  query_sum key [] = pos 0
-  query_sum key ((m, None) ∷ ms) = query_sum key ms
-  query_sum key ((m, Some z) ∷ ms) = cond (same_key eq key m.key) (z +ℤ query_sum key ms) (query_sum key ms)
+-- the sum of the query numbers of a key
+abbrev pub query_sum : {F : Type 0} → (F → F → Bool) → Key F → List (Message F × Part) → ℤ
+query_sum eq key [] = pos 0
+query_sum eq key ((m, None) ∷ ms) = query_sum eq key ms
+query_sum eq key ((m, Some z) ∷ ms) = cond (same_key eq key m.key) (z +ℤ query_sum eq key ms) (query_sum eq key ms)
 
-  -- the keys of the provided entries
-  abbrev pub provided_keys : List (Message F × Part) → List (Key F)
-  provided_keys [] = []
-  provided_keys ((m, None) ∷ ms) = m.key ∷ provided_keys ms
-  provided_keys ((m, Some z) ∷ ms) = provided_keys ms
+-- the keys of the provided entries
+abbrev pub provided_keys : {F : Type 0} → List (Message F × Part) → List (Key F)
+provided_keys [] = []
+provided_keys ((m, None) ∷ ms) = m.key ∷ provided_keys ms
+provided_keys ((m, Some z) ∷ ms) = provided_keys ms
 
 module _ {F : Type 0} (R : Ring F) (eq : F → F → Bool) where
   -- If the traces of a batch keep their weights, however its messages divide, and its messages balance,
@@ -63,7 +62,7 @@ module _ {F : Type 0} (R : Ring F) (eq : F → F → Bool) where
       (divisions : List (List (List (List Part)))) → AllZip (TraceKeepsWeights R eq) instances divisions
       → IsBalanced R eq (batch_messages R eq instances)
       → (key : Key F) → query_sum eq key (zip (batch_messages R eq instances) (all_parts divisions)) ≢ pos 0
-      → IsAmong key (provided_keys eq (zip (batch_messages R eq instances) (all_parts divisions)))
+      → IsAmong key (provided_keys (zip (batch_messages R eq instances) (all_parts divisions)))
 
   -- the law of every batch whose AIRs have these lookups and traces of these heights
   abbrev pub HeightLaws : List (List (Lookup F)) → List ℕ → Type 0

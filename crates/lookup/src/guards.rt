@@ -13,9 +13,10 @@ use lookup_model::LookupError;
 /// Refuses `MultiplicityHeightBoundExceeded` otherwise, with this sum, or `u128::MAX` if it is
 /// greater, and the number of binary digits of the characteristic. Allocates nothing.
 ///
-/// The height law: if the bound holds for the heights of the traces, the multiplicities of each row's
-/// queries add up to at most the weight of their lookup in absolute value, and all messages balance,
-/// then a key whose queries do not cancel in whole numbers is the key of a provided entry.
+/// The height law: let the bound hold for the heights of the traces, let each query's multiplicity be
+/// a signed whole number, let the absolute values of these numbers add up, for each lookup on each
+/// row, to at most its weight, and let all messages balance. Then a key whose query numbers do not
+/// cancel is the key of a provided entry.
 pub fn check_multiplicity_height_bound<F: Field>(
     airs: &[Lookups<F>],
     heights: &[usize],

@@ -43,7 +43,7 @@ module _ {F : Type 0} (R : Ring F) (eq : F → F → Bool) (place : Place) where
       ap (nonzero R eq) (zipped_more (λ (b : Message F × F). record { tuple = b.0.key.tuple; amount = b.1; place = place }) branches sizes same i m a lt m_is a_is)
       ∙ filter-append (λ (c : Contribution F). not (eq c.amount R.zero)) (take i all) (record { tuple = m.key.tuple; amount = a; place = place } ∷ [])
 
-  -- there are as many contributions sizes branches
+  -- there are as many contributions as branches
   length-from : (branches : List (Message F)) (sizes : List F) → length sizes ≡ length branches
       → length (contributions_from place branches sizes) ≡ length branches
   length-from branches sizes same = length-zipped (λ (b : Message F × F). record { tuple = b.0.key.tuple; amount = b.1; place = place }) branches sizes same

@@ -39,6 +39,15 @@ three_ways (suc j) (suc i) = elim (three_ways j i) [
   | inr (inr more) ↦ inr (inr (omega (arith, more)))
 ]
 
+-- by a total order an item is equal to itself
+pub same-equal : {K : Type 0} {order : K → K → Ordering} → IsTotalOrder order → (x : K) → order x x ≡ Equal
+same-equal {order = order} total x = by_reverse (order x x) (total.antisymm x x)
+  where
+    by_reverse : (o : Ordering) → o ≡ ordering_reverse o → o ≡ Equal
+    by_reverse Less e = absurd (cc e)
+    by_reverse Equal e = refl
+    by_reverse Greater e = absurd (cc e)
+
 -- the order of two tuples by their texts, where keys are seen through references, is total
 pub text_total : {F : Type 0} (text : F → List ℕ) → IsTotalOrder (λ (a b : Bor (List F)). text_cmp text a.now b.now)
 text_total text = on_total (λ (a : Bor (List _)). map text a.now) (lists_total nat_list_cmp_total)

@@ -9,6 +9,6 @@ use Rattle.lookup_debug.specs.Contributions.{Contribution, Place, nonzero}
 abbrev pub message_contribution : {F : Type 0} → Place → Message F → Contribution F
 message_contribution place m = record { tuple = m.key.tuple; amount = m.multiplicity; place = place }
 
--- what a lookup contributes that sends these messages: those that are not of multiplicity zero
+-- what these messages contribute: those whose multiplicity is not zero
 abbrev pub sent_contributions : {F : Type 0} → Ring F → (F → F → Bool) → Place → Sent F → List (Contribution F)
 sent_contributions R eq place sent = nonzero R eq (map (message_contribution place) sent.messages)

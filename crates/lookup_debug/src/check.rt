@@ -29,9 +29,9 @@ use std::alloc::{AllocError, Global};
 /// the main trace. Contributions of zero are skipped. A branch of an exclusive lookup contributes
 /// flag times count, whatever the flag is.
 ///
-/// Refuses the first mismatch, with its label, net and locations. Among the tuples of a group whose
-/// net is not zero it is the least by the texts of its elements, and among equal texts the first that
-/// is sent. Out of memory is refused under its own name.
+/// Refuses the mismatch of the first group that has one, with its label, net and locations. It is
+/// about the tuple of nonzero net that is least by the texts of its elements, and among equal texts
+/// about the first one that contributes. Out of memory is refused under its own name.
 pub fn check_lookups<F: Field>(
     alloc: Global,
     instances: &[LookupDebugInstance<'_, F>],

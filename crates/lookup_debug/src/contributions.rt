@@ -110,7 +110,7 @@ fn push_counted<F: Field>(
     Ok(())
 }
 
-/// Flag times count on the builder's row.
+/// Flag times count on the builder's row. The count under a flag of zero is not walked.
 fn flagged_amount<F: Field>(
     alloc: Global,
     flag: &SymbolicExpression<F>,
@@ -123,6 +123,9 @@ fn flagged_amount<F: Field>(
         IfOk result (λ v. v ≡ F.ring.mul (value F.ring w flag.now) (value F.ring w count.now)) }
 {
     let flag = value_on(alloc, flag, builder)?;
+    if flag.is_zero() {
+        return Ok(F::ZERO);
+    }
     let count = value_on(alloc, count, builder)?;
     Ok(flag * count)
 }

@@ -43,7 +43,7 @@ fn least<F: Field>(alloc: Global, nets: &IndexMap<&[F], F>) -> Result<Option<usi
     Ok(best)
 }
 
-/// The same up to a place and with it.
+/// That of the entries up to `place` and with it, where `best` is that of the entries before it.
 fn better<F: Field>(
     alloc: Global,
     nets: &IndexMap<&[F], F>,
@@ -99,6 +99,9 @@ fn text_order<F: Field>(alloc: Global, a: &[F], b: &[F]) -> Result<Ordering, All
 fn element_order<F: Field>(alloc: Global, a: F, b: F) -> Result<Ordering, AllocError>
     ensures { IfOk result (λ o. o ≡ slice_cmp nat_cmp (F.text a) (F.text b)) }
 {
+    if a == b {
+        return Ok(Ordering::Equal);
+    }
     let first = a.text(alloc)?;
     let second = b.text(alloc)?;
     Ok(first.cmp(&second))

@@ -1,4 +1,4 @@
--- The first tuple of a machine that does not balance.
+-- The first tuple that does not balance, over the AIRs of a machine.
 use Rattle.std.specs.Prelude.{◌≡◌, ◌<◌, ◌++◌, ◌||◌, ℕ, Bool, true, List, Option, None, Some, IfSome, codes, map, slice_get, string_bytes}
 use Rattle.std.specs.List.{enumerate_from, flat_map, list_all, range_with_len}
 use Rattle.std.specs.declared.alloc.Global.{Global}
@@ -32,7 +32,7 @@ module _ {F : Type 0} (R : Ring F) (eq : F → F → Bool) where
   abbrev pub machine_contributions : Machine → Matrix F → List (Contribution F)
   machine_contributions machine input = flat_map (λ p. air_contributions p.0 p.1 (air_trace p.1 input)) (enumerate_from 0 (airs_of machine))
 
-  -- each flag that an AIR sends is zero or one
+  -- each flag of what an AIR sends is zero or one
   abbrev pub HasBooleanFlags : Sent F → Type 0
   HasBooleanFlags sent = IfSome sent.flags (λ flags. list_all (λ f. eq f R.zero || eq f R.one) flags ≡ true)
 

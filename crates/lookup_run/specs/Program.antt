@@ -130,13 +130,18 @@ abbrev pub HasMismatch : {E : Type 0} → (E → Option (List ℕ)) → Option (
 HasMismatch contents None errors errors_after = errors_after ≡ errors
 HasMismatch contents (Some line) errors errors_after = Appends (contents errors) (contents errors_after) (string_bytes line)
 
+-- The errors are as they were, unless there is a mismatch and the whole report stands in the output.
+abbrev pub WritesInOrder : {W E : Type 0} → (W → Option (List ℕ)) → Report → W → W → E → E → Type 0
+WritesInOrder contents report output output_after errors errors_after =
+    (errors_after ≡ errors) ⊎ ((report.mismatch ≢ None) × Appends (contents output) (contents output_after) (string_bytes report.text))
+
 -- The status of a run, and what becomes of its two outputs. A report is written whole, with status
 -- 0 if the terminals cancel and 1 if they do not, and after it the line of a mismatch to the errors;
--- or the status is 2, and nothing is said of the outputs. Without a mismatch a report leaves the
--- errors as they were. A refusal has status 2 and leaves the output as it was.
+-- or the status is 2, and something may be left unwritten. A refusal has status 2 and leaves the
+-- output as it was.
 abbrev pub Ends : {W E : Type 0} → (W → Option (List ℕ)) → (E → Option (List ℕ)) → Result Report RunError → ℕ → W → W → E → E → Type 0
 Ends contents error_contents answer status output output_after errors errors_after = MatchResult answer
     (λ report. (((status ≡ cond report.balanced 0 1) × Appends (contents output) (contents output_after) (string_bytes report.text)
     × HasMismatch error_contents report.mismatch errors errors_after) ⊎ (status ≡ 2))
-    × ((report.mismatch ≡ None) → errors_after ≡ errors))
+    × WritesInOrder contents report output output_after errors errors_after)
     (λ e. (status ≡ 2) × (output_after ≡ output))

@@ -1,9 +1,9 @@
 //! A run of the program, from its words to its status.
-ghost use Rattle.std.specs.Prelude.{◌≡◌, ◌⊎◌, ℕ, List, None, IfSome, MatchResult, OnOk, Result, cond, map, string_bytes};
+ghost use Rattle.std.specs.Prelude.{◌≡◌, ◌⊎◌, ℕ, List, IfSome, MatchResult, OnOk, Result, cond, map, string_bytes};
 ghost use Rattle.std.specs.Io.KnownBytes.{Appends};
 ghost use Rattle.std.specs.Process.{exit_status};
 ghost use Rattle.lookup_run.specs.Fields.{run_fields};
-ghost use Rattle.lookup_run.specs.Program.{Answers, AnswersOver, Ends, HasMismatch, IsBadChallenge};
+ghost use Rattle.lookup_run.specs.Program.{Answers, AnswersOver, Ends, HasMismatch, IsBadChallenge, WritesInOrder};
 
 use crate::challenge::Challenge;
 use crate::error::RunError;
@@ -55,7 +55,7 @@ pub fn refuse<E: Write>(alloc: Global, error: RunError, errors: &mut E) -> ExitC
 fn write_report<W: Write, E: Write>(report: &Report, output: &mut W, errors: &mut E) -> ExitCode
     ensures written { ((exit_status result ≡ cond report.now.balanced 0 1) × Appends (W.contents output.old) (W.contents output.new) (string_bytes report.now.text)
         × HasMismatch E.contents report.now.mismatch errors.old errors.new) ⊎ (exit_status result ≡ 2) }
-    ensures nothing { report.now.mismatch ≡ None → errors.new ≡ errors.old }
+    ensures order { WritesInOrder W.contents report.now output.old output.new errors.old errors.new }
 {
     if write_and_flush(report.text.as_bytes(), output).is_err() {
         return ExitCode::from(2);

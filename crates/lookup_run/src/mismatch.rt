@@ -13,7 +13,8 @@ use field::Field;
 use lookup::debug_util::{LookupFault, check_lookups};
 use std::alloc::{AllocError, Global};
 
-/// The line of the first tuple of a machine that does not balance, none if all do.
+/// The line of the first tuple that does not balance over these AIRs of a machine, none if all do.
+/// Each of their flags is zero or one, as it is where generation succeeds.
 ///
 /// Fails only when out of memory.
 pub fn mismatch_line<F: Field>(
@@ -34,7 +35,7 @@ pub fn mismatch_line<F: Field>(
 
 /// The line of a mismatch.
 ///
-/// Fails only when out of memory, of which there is no line.
+/// Fails when out of memory, and if the fault is that memory ran out.
 fn line_of<F: Field>(alloc: Global, fault: &LookupFault<F>) -> Result<String, AllocError>
     ensures { IfOk result (λ line. (fault.now ≢ LookupFault.Memory) × (string_bytes line ≡ fault_text F.text fault.now ++ codes "\n")) }
 {

@@ -86,7 +86,7 @@ fn expect_refusal(
     Ok(())
 }
 
-/// Runs the words of the first rows over an input, and an output and errors that have so much room,
+/// Runs `range f7 5 2` over an input, and an output and errors that have so much room,
 /// where one of the two writers fails: the status is 2, and so much room is left in each.
 fn expect_failing_write(
     rt: &impl Abort,

@@ -178,7 +178,8 @@ fn branches_count_by_their_flags(rt: HostRuntime) {
     }
 }
 
-/// Each AIR sends cell 0 on `a` as often as cell 1 says, and on `b` as often as cell 2 says.
+/// Two AIRs, each of which sends cell 0 on the first bus as often as cell 1 says, and on the second as
+/// often as cell 2 says.
 fn expect_on_buses(
     rt: &impl Abort,
     alloc: Global,
