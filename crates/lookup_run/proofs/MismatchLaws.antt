@@ -25,7 +25,7 @@ use Rattle.lookup.specs.Sends.{lookup_bus_and_weight}
 use Rattle.lookup_debug.specs.Contributions.{Contribution, Traced, contributions_of, contributions_on, traced_of}
 use Rattle.lookup_debug.specs.FaultText.{fault_text, mismatch_text}
 use Rattle.lookup_debug.specs.Groups.{Group, Placed, bus_label, groups, is_local, is_on, local_group, local_label, placed_contributions, placed_in}
-use Rattle.lookup_debug.specs.Mismatch.{AllBalance, Balances, HasParts, IsFirst, IsMismatch, net_amount, of_tuple}
+use Rattle.lookup_debug.specs.Mismatch.{AllBalance, Balances, IsFirst, IsMismatch, IsMismatchOf, net_amount, of_tuple}
 use Rattle.lookup_debug.specs.declared.fault.LookupFault.{LookupFault}
 use Rattle.lookup_debug.specs.declared.instance.LookupDebugInstance.{LookupDebugInstance}
 use Rattle.lookup_debug.specs.SentContributions.{sent_contributions}
@@ -175,18 +175,19 @@ module _ {F : Type 0} {R : Ring F} (laws : IsCommutativeRing R) (eq : F → F �
     -- the mismatch of that group
     pub mismatched : (text : F → List ℕ) (fault : LookupFault F) → IsMismatch R eq text (map traced_over traces) fault
         → (tuple : List F) × IsFirst R eq text (machine_contributions R eq machine input) tuple × (fault_text text fault ++ codes "\n" ≡ mismatch_line R eq text machine input tuple)
-    mismatched text fault m = at_place m.place m.group (ap (λ gs. slice_get gs m.place) (sym (groups_are machine traces all boolean)) ∙ m.there) m.first m.fault_is
+    mismatched text fault m = at_place m.place m.group (ap (λ gs. slice_get gs m.place) (sym (groups_are machine traces all boolean)) ∙ m.there) m.mismatch
       where
-        at_place : (i : ℕ) (group : Group F) → slice_get (machine_group machine ∷ []) i ≡ Some group → IsFirst R eq text group.contributions m.tuple
-            → HasParts group.label (map text m.tuple) (net_amount R eq group.contributions m.tuple) (map (λ c. c.place) (of_tuple R eq group.contributions m.tuple)) fault
+        at_place : (i : ℕ) (group : Group F) → slice_get (machine_group machine ∷ []) i ≡ Some group → IsMismatchOf R eq text group.label group.contributions fault
             → (tuple : List F) × IsFirst R eq text (machine_contributions R eq machine input) tuple × (fault_text text fault ++ codes "\n" ≡ mismatch_line R eq text machine input tuple)
-        at_place zero group is first parts =
+        at_place zero group is here =
             let same : machine_group machine ≡ group = cc is in
-            let told = subst (λ (g : Group F). HasParts g.label (map text m.tuple) (net_amount R eq g.contributions m.tuple) (map (λ c. c.place) (of_tuple R eq g.contributions m.tuple)) fault) (sym same) parts in
-            let whole : fault_text text fault ≡ mismatch_text (label_of machine) (map text m.tuple) (text (net_amount R eq (machine_contributions R eq machine input) m.tuple)) (map (λ c. c.place) (of_tuple R eq (machine_contributions R eq machine input) m.tuple)) =
-            ap (fault_text text) told.fault_is ∙ (λ i. mismatch_text (told.label_is i) (told.tuple_is i) (text (net_amount R eq (machine_contributions R eq machine input) m.tuple)) (told.places_are i)) in
-            (m.tuple, subst (λ (g : Group F). IsFirst R eq text g.contributions m.tuple) (sym same) first, ap (λ t. t ++ codes "\n") whole)
-        at_place (suc i) group is first parts = absurd (cc is)
+            let told : IsMismatchOf R eq text (label_of machine) (machine_contributions R eq machine input) fault =
+            subst (λ (g : Group F). IsMismatchOf R eq text g.label g.contributions fault) (sym same) here in
+            let parts = told.fault_is in
+            let net = text (net_amount R eq (machine_contributions R eq machine input) told.tuple) in
+            let whole = ap (fault_text text) parts.fault_is ∙ (λ i. mismatch_text (parts.label_is i) (parts.tuple_is i) net (parts.places_are i)) in
+            (told.tuple, told.first, ap (λ t. t ++ codes "\n") whole)
+        at_place (suc i) group is here = absurd (cc is)
 
 -- traces of a machine are fit for the debug check
 module _ {F : Type 0} (R : Ring F) (eq : F → F → Bool) (input : Matrix F) where

@@ -269,6 +269,70 @@ fn tuples_of_two_rows(rt: HostRuntime) {
     expect(&rt, alloc, &[instance(&main, lookups.as_slice())], text);
 }
 
+/// Each row sends the tuple of its two cells once.
+fn expect_of_cells(rt: &impl Abort, alloc: Global, numbers: &[u32], text: &str) {
+    let main: RowMajorMatrix<F7> = trace(rt, alloc, numbers, 2);
+    let lookups = [single(rt, alloc, 2, 0)];
+    expect(rt, alloc, &[instance(&main, lookups.as_slice())], text);
+}
+
+/// Texts are compared element by element, and a shorter tuple comes before a longer one.
+#[test]
+fn tuples_in_the_order_of_their_texts(rt: HostRuntime) {
+    let alloc = rt.alloc();
+    let second =
+        "Lookup mismatch (instance 0 local lookup 0): tuple [1, 3] has net multiplicity 1 at instance 0 lookup 0 row 1";
+    expect_of_cells(&rt, alloc, &[1, 5, 1, 3], second);
+    let main: RowMajorMatrix<F7> = trace(&rt, alloc, &[1, 2], 2);
+    let long = list(&rt, alloc, [cell(0), cell(1)]);
+    let short = list(&rt, alloc, [cell(0)]);
+    let lookups = [local(
+        list(&rt, alloc, [long, short]),
+        list(&rt, alloc, [one(), one()]),
+        0,
+    )];
+    let shorter =
+        "Lookup mismatch (instance 0 local lookup 0): tuple [1] has net multiplicity 1 at instance 0 lookup 0 row 0";
+    expect(&rt, alloc, &[instance(&main, lookups.as_slice())], shorter);
+}
+
+/// A variable of this entry.
+fn variable(entry: BaseEntry, index: usize) -> SymbolicExpression<F7> {
+    SymbolicExpression::Leaf(BaseLeaf::Variable(SymbolicVariable::new(entry, index)))
+}
+
+/// A preprocessed cell with a public value, as often as flag times count says. Challenges change
+/// nothing.
+#[test]
+fn all_parts_of_an_air(rt: HostRuntime) {
+    let alloc = rt.alloc();
+    let tuple = list(
+        &rt,
+        alloc,
+        [
+            variable(BaseEntry::Preprocessed { offset: 0 }, 0),
+            variable(BaseEntry::Public, 0),
+        ],
+    );
+    let mut lookup = local(list(&rt, alloc, [tuple]), list(&rt, alloc, [cell(1)]), 0);
+    lookup.flags = Some(list(&rt, alloc, [cell(0)]));
+    let lookups = [lookup];
+    let main: RowMajorMatrix<F7> = trace(&rt, alloc, &[0, 4, 3, 4, 2, 0], 2);
+    let preprocessed: RowMajorMatrix<F7> = trace(&rt, alloc, &[1, 5, 2], 1);
+    let public_values = [F7::new(6)];
+    let challenges = [F7::new(5), F7::new(2)];
+    let whole = LookupDebugInstance {
+        main_trace: &main,
+        preprocessed_trace: Some(&preprocessed),
+        public_values: public_values.as_slice(),
+        lookups: lookups.as_slice(),
+        permutation_challenges: challenges.as_slice(),
+    };
+    let text =
+        "Lookup mismatch (instance 0 local lookup 0): tuple [5, 6] has net multiplicity 5 at instance 0 lookup 0 row 1";
+    expect(&rt, alloc, &[whole], text);
+}
+
 #[test]
 fn out_of_memory_as_text(rt: HostRuntime) {
     let alloc = rt.alloc();
