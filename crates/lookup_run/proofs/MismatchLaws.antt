@@ -25,7 +25,7 @@ use Rattle.lookup.specs.Sends.{lookup_bus_and_weight}
 use Rattle.lookup_debug.specs.Contributions.{Contribution, Traced, contributions_of, contributions_on, traced_of}
 use Rattle.lookup_debug.specs.FaultText.{fault_text, mismatch_text}
 use Rattle.lookup_debug.specs.Groups.{Group, Placed, bus_label, groups, is_local, is_on, local_group, local_label, placed_contributions, placed_in}
-use Rattle.lookup_debug.specs.Mismatch.{AllBalance, Balances, IsFirst, IsMismatch, IsMismatchOf, net_amount, of_tuple}
+use Rattle.lookup_debug.specs.Mismatch.{AllBalance, Balances, IsFirst, IsMismatch, IsMismatchOf, net_amount}
 use Rattle.lookup_debug.specs.declared.fault.LookupFault.{LookupFault}
 use Rattle.lookup_debug.specs.declared.instance.LookupDebugInstance.{LookupDebugInstance}
 use Rattle.lookup_debug.specs.SentContributions.{sent_contributions}
