@@ -341,9 +341,9 @@ fn out_of_memory_as_text(rt: HostRuntime) {
     assert!(rt; text.as_str() == "out of memory");
 }
 
-/// The first key below `modulus` whose counts do not sum to zero, with their sum. Each row has a key
-/// and a count.
-fn first_unbalanced(rows: &[(u32, u32)], modulus: u32) -> Option<(u32, u32)> {
+/// The first key below `modulus` whose counts do not sum to zero, with their sum. Each of the two rows
+/// has a key and a count below `modulus`.
+fn first_unbalanced(rows: [(u32, u32); 2], modulus: u32) -> Option<(u32, u32)> {
     for key in 0..modulus {
         let mut net = 0u32;
         for row in rows {
@@ -351,7 +351,7 @@ fn first_unbalanced(rows: &[(u32, u32)], modulus: u32) -> Option<(u32, u32)> {
                 net = net.saturating_add(row.1);
             }
         }
-        while net >= modulus {
+        if net >= modulus {
             net -= modulus;
         }
         if net > 0 {
@@ -361,37 +361,64 @@ fn first_unbalanced(rows: &[(u32, u32)], modulus: u32) -> Option<(u32, u32)> {
     None
 }
 
-/// Two rows of a key and a count each: what is found is what a plain calculation finds.
-fn expect_plain<F: Field>(rt: &impl Abort, alloc: Global, rows: [(u32, u32); 2], modulus: u32) {
-    let numbers = [rows[0].0, rows[0].1, rows[1].0, rows[1].1];
-    let main: RowMajorMatrix<F> = trace(rt, alloc, numbers.as_slice(), 2);
-    let lookups = [counted(rt, alloc, 1, 0)];
-    let found = checked(rt, alloc, &[instance(&main, lookups.as_slice())]);
-    match first_unbalanced(rows.as_slice(), modulus) {
-        None => assert!(rt; found.is_ok(), "{numbers:?}"),
+/// The places of the rows that send a key.
+fn places(rows: [(u32, u32); 2], key: u32) -> &'static str {
+    let first = rows[0].0 == key && rows[0].1 > 0;
+    let second = rows[1].0 == key && rows[1].1 > 0;
+    if first && second {
+        "instance 0 lookup 0 row 0; instance 0 lookup 0 row 1"
+    } else if first {
+        "instance 0 lookup 0 row 0"
+    } else {
+        "instance 0 lookup 0 row 1"
+    }
+}
+
+/// What the check has to say of two rows.
+fn plain_text(rt: &impl Abort, alloc: Global, rows: [(u32, u32); 2], modulus: u32) -> String {
+    match first_unbalanced(rows, modulus) {
+        None => String::new(alloc),
         Some((key, sum)) => {
-            let Err(LookupFault::Mismatch { tuple, net, .. }) = found else {
-                panic!(rt; "{numbers:?}");
-            };
-            let text = format!(in alloc; "{key}").expect(rt, "memory");
-            assert!(rt; tuple.len() == 1 && tuple[0] == text, "{numbers:?}");
-            assert!(rt; net == F::from_u32(sum), "{numbers:?}");
+            let places = places(rows, key);
+            format!(in alloc;
+                "Lookup mismatch (instance 0 local lookup 0): tuple [{key}] has net multiplicity {sum} at {places}"
+            ).expect(rt, "memory")
         }
     }
 }
 
+/// Each row over `F2` sends its first cell as often as its second cell says.
+fn expect_of_bits(rt: &impl Abort, alloc: Global, numbers: &[u32], text: &str) {
+    let main: RowMajorMatrix<F2> = trace(rt, alloc, numbers, 2);
+    let lookups = [counted(rt, alloc, 1, 0)];
+    expect(rt, alloc, &[instance(&main, lookups.as_slice())], text);
+}
+
+/// The same over `F7`.
+fn expect_of_rows(rt: &impl Abort, alloc: Global, numbers: &[u32], text: &str) {
+    let main: RowMajorMatrix<F7> = trace(rt, alloc, numbers, 2);
+    let lookups = [counted(rt, alloc, 1, 0)];
+    expect(rt, alloc, &[instance(&main, lookups.as_slice())], text);
+}
+
 #[test]
-fn two_rows_over_small_fields(rt: HostRuntime) {
+fn two_rows_over_f2(rt: HostRuntime) {
     let alloc = rt.alloc();
     for number in 0..16u32 {
-        let rows = [(number % 2, number / 2 % 2), (number / 4 % 2, number / 8)];
-        expect_plain::<F2>(&rt, alloc, rows, 2);
+        let numbers = [number % 2, number / 2 % 2, number / 4 % 2, number / 8];
+        let rows = [(numbers[0], numbers[1]), (numbers[2], numbers[3])];
+        let text = plain_text(&rt, alloc, rows, 2);
+        expect_of_bits(&rt, alloc, numbers.as_slice(), text.as_str());
     }
+}
+
+#[test]
+fn two_rows_over_f7(rt: HostRuntime) {
+    let alloc = rt.alloc();
     for number in 0..2401u32 {
-        let rows = [
-            (number % 7, number / 7 % 7),
-            (number / 49 % 7, number / 343),
-        ];
-        expect_plain::<F7>(&rt, alloc, rows, 7);
+        let numbers = [number % 7, number / 7 % 7, number / 49 % 7, number / 343];
+        let rows = [(numbers[0], numbers[1]), (numbers[2], numbers[3])];
+        let text = plain_text(&rt, alloc, rows, 7);
+        expect_of_rows(&rt, alloc, numbers.as_slice(), text.as_str());
     }
 }
