@@ -2,6 +2,7 @@ pub mod Evaluations
 pub mod Extracted
 pub mod ExtractionLaws
 pub mod HeightSums
+pub mod Heights
 pub mod NamedWidthLaws
 pub mod Outlines
 pub mod PackedDegrees

@@ -1,7 +1,8 @@
 //! Guards on the lookups of all AIRs.
-ghost use Rattle.std.specs.Prelude.{◌≡◌, ◌<◌, ◌≤◌, ◌-◌, ◌^◌, ℕ, MatchResult, length, map, min};
+ghost use Rattle.std.specs.Prelude.{◌≡◌, ◌<◌, ◌≤◌, ◌-◌, ◌^◌, ℕ, IfOk, MatchResult, length, map, min};
 ghost use Rattle.lookup.specs.Guards.{IsBitLength, IsHeightRefusal, weighted_height_sum};
 ghost use Rattle.lookup.specs.Lookups.{lookups_of};
+ghost use Rattle.lookup.specs.Weights.{HeightLaws};
 
 use crate::lookups::Lookups;
 use field::Field;
@@ -11,14 +12,20 @@ use lookup_model::LookupError;
 ///
 /// Refuses `MultiplicityHeightBoundExceeded` otherwise, with this sum, or `u128::MAX` if it is
 /// greater, and the number of binary digits of the characteristic. Allocates nothing.
+///
+/// The height law: let the bound hold for the heights of the traces, let each query's multiplicity be
+/// a signed whole number, let the absolute values of these numbers add up, for each lookup on each
+/// row, to at most its weight, and let all messages balance. Then a key whose query numbers do not
+/// cancel is the key of a provided entry.
 pub fn check_multiplicity_height_bound<F: Field>(
     airs: &[Lookups<F>],
     heights: &[usize],
 ) -> Result<(), LookupError>
     requires { length heights.now ≡ length airs.now }
-    ensures { MatchResult result
+    ensures bound { MatchResult result
         (λ _. weighted_height_sum (map lookups_of airs.now) heights.now < F.CHARACTERISTIC)
         (λ e. IsHeightRefusal F.CHARACTERISTIC (weighted_height_sum (map lookups_of airs.now) heights.now) e) }
+    ensures law { IfOk result (λ _. HeightLaws F.ring F.eq (map lookups_of airs.now) heights.now) }
 {
     let sum = saturated_height_sum(airs, heights);
     if sum < F::CHARACTERISTIC {

@@ -7,6 +7,7 @@
 #![tactic(auto)]
 
 mod bus_widths;
+pub mod debug_util;
 mod evaluation;
 mod extraction;
 mod guards;

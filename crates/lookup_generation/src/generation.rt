@@ -50,7 +50,7 @@ fn push_row<F: Field, EF: ExtensionField<F>>(
 
 /// The builder of one row of an AIR's traces together with the next row; the last row comes with
 /// the first one.
-pub(crate) fn row_builder<'a, F: Field, EF: Field>(
+pub fn row_builder<'a, F: Field, EF: Field>(
     main: &'a RowMajorMatrix<F>,
     preprocessed: Option<&'a RowMajorMatrix<F>>,
     public_values: &'a [F],

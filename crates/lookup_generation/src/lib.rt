@@ -11,6 +11,6 @@ mod generation;
 mod messages;
 mod trace_builder;
 
-pub use generation::generate_permutation;
+pub use generation::{generate_permutation, row_builder};
 pub use messages::{SentMessage, push_messages};
 pub use trace_builder::LookupTraceBuilder;

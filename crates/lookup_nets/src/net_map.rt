@@ -41,8 +41,10 @@ pub fn nets<'a, F: Field>(
 }
 
 /// Adds to the value at a key, which is zero where the key is new. A new key goes last.
+///
+/// Fails only when out of memory.
 #[inline(always)]
-fn add_at<K: Eq + Hash + Drop, F: Field>(
+pub fn add_at<K: Eq + Hash + Drop, F: Field>(
     nets: &mut IndexMap<K, F>,
     key: K,
     amount: F,

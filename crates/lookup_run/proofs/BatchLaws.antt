@@ -13,6 +13,7 @@ use Rattle.field.specs.Ring.{Ring}
 use Rattle.matrix.specs.Matrix.{IsShaped, Matrix, height, row}
 use Rattle.expressions.specs.Layout.{layout_of_widths}
 use Rattle.expressions.specs.Window.{window_at}
+use Rattle.air.specs.Recorded.{HasWidths}
 use Rattle.batch_model.specs.Answers.{GivesOnlyFaultless, GivesPlainWitness}
 use Rattle.batch_model.specs.Faults.{AreFaultless as AreInstancesFaultless, IsFirstFault as IsFirstInstanceFault, IsOutOfMemory, instance_faults}
 use Rattle.batch_model.specs.Instances.{DoInstancesFit, HavePrefixes, Instance, IsFitting, instance_of, instances_of}
@@ -132,7 +133,7 @@ instance trace = instance_over [] ids trace
 
 module _ {F : Type 0} (R : Ring F) (eq : F → F → Bool) (input : Matrix F) (air : MachineAir) (trace : AirTrace F) (is : IsTraceOf R eq input air trace) where
   -- the AIR has one lookup
-  one_lookup : (l : Lookup F) × (lookups_of trace.lookups ≡ l ∷ [])
+  pub one_lookup : (l : Lookup F) × (lookups_of trace.lookups ≡ l ∷ [])
   one_lookup =
       let one = one_item lookup_bus_and_weight (lookups_of trace.lookups) (air_bus_and_weight air) is.lookups.one in
       (one.0, one.1)
@@ -146,19 +147,24 @@ module _ {F : Type 0} (R : Ring F) (eq : F → F → Bool) (input : Matrix F) (a
     ids = sym (ap length one_lookup.1);
   }
 
-  -- its lookup sends what the AIR sends, on each row
-  sent_on_row : (main : Matrix F) → main.width ≡ width_of air → (r : ℕ) → r < height main
-      → sent_row_under R eq (id_of ids) (window_at main None [] (height main) r) (lookups_of trace.lookups) ≡ air_sends R eq air (row main r) ∷ []
-  sent_on_row main same r lt =
+  -- the window of a row has the widths of the AIR
+  pub row_widths : (main : Matrix F) → main.width ≡ width_of air → (r : ℕ) → r < height main → HasWidths (layout_of_widths (width_of air) 0 0) (window_at main None [] (height main) r)
+  row_widths main same r lt =
       let next : (r + 1) % height main < height main = mod-lt (r + 1) (omega (arith, lt)) in
-      (λ i. sent_row_under R eq (λ l. zero_id l.column i) (window_at main None [] (height main) r) (lookups_of trace.lookups))
-      ∙ is.lookups.sends (window_at main None [] (height main) r) (record {
+      record {
         main = length_row main.values main.width r lt ∙ same;
         main_next = length_row main.values main.width ((r + 1) % height main) next ∙ same;
         preprocessed = refl;
         preprocessed_next = refl;
         public_values = refl;
-      })
+      }
+
+  -- its lookup sends what the AIR sends, on each row
+  sent_on_row : (main : Matrix F) → main.width ≡ width_of air → (r : ℕ) → r < height main
+      → sent_row_under R eq (id_of ids) (window_at main None [] (height main) r) (lookups_of trace.lookups) ≡ air_sends R eq air (row main r) ∷ []
+  sent_on_row main same r lt =
+      (λ i. sent_row_under R eq (λ l. zero_id l.column i) (window_at main None [] (height main) r) (lookups_of trace.lookups))
+      ∙ is.lookups.sends (window_at main None [] (height main) r) (row_widths main same r lt)
 
   -- so it is of the whole trace
   sent_by_air : sent_rows_of R eq (instance trace) ≡ map (λ r. air_sends R eq air (row (air_trace air input) r) ∷ []) (range_with_len 0 (height (air_trace air input)))

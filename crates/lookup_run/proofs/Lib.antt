@@ -4,6 +4,7 @@ pub mod BatchLaws
 pub mod CellLaws
 pub mod ExtractedLaws
 pub mod InputLaws
+pub mod MismatchLaws
 pub mod PartLaws
 pub mod ReportLaws
 pub mod TraceLaws

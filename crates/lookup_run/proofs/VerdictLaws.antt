@@ -13,6 +13,7 @@ use Rattle.lookup_model.specs.declared.types.LookupTerminal.{LookupTerminal}
 use Rattle.lookup_run.specs.Fields.{Fields}
 use Rattle.lookup_run.specs.Input.{IsInput}
 use Rattle.lookup_run.specs.Machines.{columns_of}
+use Rattle.lookup_run.specs.Mismatches.{IsMismatchLine}
 use Rattle.lookup_run.specs.Program.{AreFaultless, IsReport, machine_witness}
 use Rattle.lookup_run.specs.Report.{verdict_line, witness_lines}
 use Rattle.lookup_run.specs.declared.machine.Machine.{Machine}
@@ -35,13 +36,14 @@ cancels sum zero (Err e) (is, other) = (λ none. absurd (cc none), λ same. absu
 
 module _ {F K : Type 0} (fields : Fields F K) (machine : Machine) (alpha beta : K) (input : List ℕ) (rows : Matrix F) where
   -- the report of rows without a fault
-  pub report_is : (w : Witness K) (terminals : List (Option (LookupTerminal K))) (cancel : Result (Unit {0}) LookupError) (balanced : Bool) (lines verdict : List ℕ) (text : String Global)
+  pub report_is : (w : Witness K) (terminals : List (Option (LookupTerminal K))) (cancel : Result (Unit {0}) LookupError) (balanced : Bool) (lines verdict : List ℕ) (text : String Global) (mismatch : Option (String Global))
       → IsInput fields.extension.base (columns_of machine) fields.bound input rows
       → (results_of w ≡ machine_witness fields.extension machine alpha beta rows) × (length w.aux.items ≡ length w.terminals.items) × AreFaultless fields.extension machine alpha beta rows
       → terminals ≡ w.terminals.items → MatchResult cancel (λ _. terminal_sum fields.extension.ring terminals ≡ fields.extension.ring.zero) (λ e. (e ≡ TerminalSumNonZero) × (terminal_sum fields.extension.ring terminals ≢ fields.extension.ring.zero))
       → balanced ≡ is_ok cancel → lines ≡ witness_lines fields.text (results_of w) → verdict ≡ verdict_line balanced → string_bytes text ≡ lines ++ verdict
-      → IsReport fields machine alpha beta input (record { text = text; balanced = balanced })
-  report_is w terminals cancel balanced lines verdict text read made are sum is lines_are verdict_is text_is = record {
+      → IsMismatchLine fields.extension.base fields.extension.base_eq fields.base_text machine rows mismatch
+      → IsReport fields machine alpha beta input (record { text = text; balanced = balanced; mismatch = mismatch })
+  report_is w terminals cancel balanced lines verdict text mismatch read made are sum is lines_are verdict_is text_is mismatch_is = record {
     rows = rows;
     read = read;
     faultless = made.2;
@@ -51,4 +53,5 @@ module _ {F K : Type 0} (fields : Fields F K) (machine : Machine) (alpha beta : 
         let told : IsTrue (is_ok cancel) ↔ (terminal_sum S terminals ≡ S.zero) = cancels (terminal_sum S terminals) S.zero cancel sum in
         rw is (subst (λ (ts : List (Option (LookupTerminal K))). IsTrue (is_ok cancel) ↔ (terminal_sum S ts ≡ S.zero)) same told);
     text = text_is ∙ ap₂ (λ a b. a ++ b) (lines_are ∙ ap (witness_lines fields.text) made.0) verdict_is;
+    mismatch = mismatch_is;
   }

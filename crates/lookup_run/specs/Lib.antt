@@ -1,6 +1,7 @@
 pub mod Fields
 pub mod Input
 pub mod Machines
+pub mod Mismatches
 pub mod Program
 pub mod Pushes
 pub mod Refusal

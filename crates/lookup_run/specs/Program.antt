@@ -1,7 +1,9 @@
 -- The result of a run: a report, or the first refusal in the order of the checks.
-use Rattle.std.specs.Prelude.{◌≡◌, ◌≢◌, ◌⊎◌, ◌↔◌, ◌++◌, ◌<◌, ℕ, IsTrue, List, [], ◌∷◌, Option, Some, codes, cond, length, map, slice_get, slice_index_or, string_bytes, Result, Err, MatchResult}
+use Rattle.std.specs.Prelude.{◌≡◌, ◌≢◌, ◌⊎◌, ◌↔◌, ◌++◌, ◌<◌, ℕ, IsTrue, List, [], ◌∷◌, Option, None, Some, codes, cond, length, map, slice_get, slice_index_or, string_bytes, Result, Err, MatchResult}
 use Rattle.std.specs.Io.KnownBytes.{Appends}
 use Rattle.std.specs.List.{range_with_len}
+use Rattle.std.specs.declared.alloc.Global.{Global}
+use Rattle.std.specs.declared.string.String.{String}
 use Rattle.matrix.specs.Matrix.{Matrix, height, row}
 use Rattle.batch_model.specs.Witnesses.{AirResult}
 use Rattle.batch_model.specs.declared.fault.BatchFault.{BatchFault}
@@ -15,6 +17,7 @@ use Rattle.lookup_model.specs.declared.error.LookupError.{LookupError}
 use Rattle.lookup_run.specs.Fields.{Fields}
 use Rattle.lookup_run.specs.Input.{IsInput, IsInputRefusal}
 use Rattle.lookup_run.specs.Machines.{air_sends, air_trace, airs_of, columns_of, name_of}
+use Rattle.lookup_run.specs.Mismatches.{IsMismatchLine}
 use Rattle.lookup_run.specs.Refusal.{ShowsWord, of_batch}
 use Rattle.lookup_run.specs.Report.{verdict_line, witness_lines}
 use Rattle.lookup_run.specs.declared.airs.MachineAir.{MachineAir}
@@ -72,7 +75,8 @@ IsBadChallenge {K} written word e = ((x : K) → ¬ written word x) × ShowsWord
 
 module _ {F K : Type 0} (fields : Fields F K) (machine : Machine) where
   -- The report of an input at a pair of challenges: the lines of the plain witness over the input's
-  -- rows, and whether its terminals cancel. No AIR has a fault.
+  -- rows, whether its terminals cancel, and the line of the first tuple that does not balance. No AIR
+  -- has a fault.
   pub record IsReport (alpha beta : K) (input : List ℕ) (report : Report) : Type 0 where
     pub rows : Matrix F
     pub read : IsInput fields.extension.base (columns_of machine) fields.bound input rows
@@ -81,6 +85,7 @@ module _ {F K : Type 0} (fields : Fields F K) (machine : Machine) where
         ↔ (terminal_sum fields.extension.ring (map (λ r. r.1) (machine_witness fields.extension machine alpha beta rows)) ≡ fields.extension.ring.zero)
     pub text : string_bytes report.text
         ≡ witness_lines fields.text (machine_witness fields.extension machine alpha beta rows) ++ verdict_line report.balanced
+    pub mismatch : IsMismatchLine fields.extension.base fields.extension.base_eq fields.base_text machine rows report.mismatch
 
   -- the refusal of an input at a pair of challenges: that of its lines, or that of the batch
   abbrev pub IsReportRefusal : K → K → List ℕ → RunError → Type 0
@@ -120,11 +125,23 @@ module _ {F K F' K' : Type 0} (f7 : Fields F K) (babybear4 : Fields F' K') where
       ⊎ ((name : List ℕ) × (field : List ℕ) × (alpha : List ℕ) × (beta : List ℕ) × (words ≡ name ∷ field ∷ alpha ∷ beta ∷ [])
       × AnswersFour name field alpha beta input answer)
 
+-- What becomes of the errors of a report: the line of a mismatch is appended, if there is one.
+abbrev pub HasMismatch : {E : Type 0} → (E → Option (List ℕ)) → Option (String Global) → E → E → Type 0
+HasMismatch contents None errors errors_after = errors_after ≡ errors
+HasMismatch contents (Some line) errors errors_after = Appends (contents errors) (contents errors_after) (string_bytes line)
+
+-- The errors are as they were, unless there is a mismatch and the whole report stands in the output.
+abbrev pub WritesInOrder : {W E : Type 0} → (W → Option (List ℕ)) → Report → W → W → E → E → Type 0
+WritesInOrder contents report output output_after errors errors_after =
+    (errors_after ≡ errors) ⊎ ((report.mismatch ≢ None) × Appends (contents output) (contents output_after) (string_bytes report.text))
+
 -- The status of a run, and what becomes of its two outputs. A report is written whole, with status
--- 0 if the terminals cancel and 1 if they do not; or the status is 2, and nothing is said of the
--- output. A report leaves the errors as they were. A refusal has status 2 and leaves the output as
--- it was.
-abbrev pub Ends : {W E : Type 0} → (W → Option (List ℕ)) → Result Report RunError → ℕ → W → W → E → E → Type 0
-Ends contents answer status output output_after errors errors_after = MatchResult answer
-    (λ report. (((status ≡ cond report.balanced 0 1) × Appends (contents output) (contents output_after) (string_bytes report.text)) ⊎ (status ≡ 2)) × (errors_after ≡ errors))
+-- 0 if the terminals cancel and 1 if they do not, and after it the line of a mismatch to the errors;
+-- or the status is 2, and something may be left unwritten. A refusal has status 2 and leaves the
+-- output as it was.
+abbrev pub Ends : {W E : Type 0} → (W → Option (List ℕ)) → (E → Option (List ℕ)) → Result Report RunError → ℕ → W → W → E → E → Type 0
+Ends contents error_contents answer status output output_after errors errors_after = MatchResult answer
+    (λ report. (((status ≡ cond report.balanced 0 1) × Appends (contents output) (contents output_after) (string_bytes report.text)
+    × HasMismatch error_contents report.mismatch errors errors_after) ⊎ (status ≡ 2))
+    × WritesInOrder contents report output output_after errors errors_after)
     (λ e. (status ≡ 2) × (output_after ≡ output))

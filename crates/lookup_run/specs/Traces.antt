@@ -1,11 +1,14 @@
 -- The AIRs of a machine as the program holds them.
-use Rattle.std.specs.Prelude.{◌≡◌, ℕ, Bool, List, None}
+use Rattle.std.specs.List.{AllZip}
+use Rattle.std.specs.Prelude.{◌≡◌, ℕ, Bool, List, [], None}
 use Rattle.field.specs.Ring.{Ring}
 use Rattle.matrix.specs.Matrix.{Matrix}
 use Rattle.batch_model.specs.Instances.{Instance}
 use Rattle.lookup.specs.Lookups.{lookups_of}
-use Rattle.lookup_run.specs.Machines.{AreLookupsOf, air_trace}
+use Rattle.lookup_debug.specs.Contributions.{Traced}
+use Rattle.lookup_run.specs.Machines.{AreLookupsOf, air_trace, airs_of}
 use Rattle.lookup_run.specs.declared.airs.MachineAir.{MachineAir}
+use Rattle.lookup_run.specs.declared.machine.Machine.{Machine}
 use Rattle.lookup_run.specs.declared.traces.AirTrace.{AirTrace}
 
 -- the lookups of an AIR, and its trace over an input
@@ -22,3 +25,16 @@ instance_over public_values ids trace = record {
   public_values = public_values;
   ids = ids;
 }
+
+-- an AIR as the debug check is given it
+abbrev pub traced_over : {F : Type 0} → AirTrace F → Traced F
+traced_over trace = record {
+  main = trace.main;
+  preprocessed = None;
+  public_values = [];
+  lookups = lookups_of trace.lookups;
+}
+
+-- these are the AIRs of a machine over some input
+abbrev pub AreTracesOf : {F : Type 0} → Ring F → (F → F → Bool) → List (AirTrace F) → Type 0
+AreTracesOf {F} R eq traces = (machine : Machine) × (input : Matrix F) × AllZip (IsTraceOf R eq input) (airs_of machine) traces

@@ -25,7 +25,7 @@ impl Challenge<F7> for F7 {
     ghost written = { λ word x. WritesResidue word x };
 
     ghost fields = { run_fields ⟦<F7 as PrimeCharacteristicRing>⟧.ring ⟦<F7 as PartialEq>⟧.eq 7 ⟦<F7 as PrimeCharacteristicRing>⟧.ring ⟦<F7 as PartialEq>⟧.eq
-        ⟦<F7 as ExtensionDomain<F7>>⟧.embed ⟦<F7 as Field>⟧.inverse (λ word x. WritesResidue word x) ⟦<F7 as Field>⟧.text };
+        ⟦<F7 as ExtensionDomain<F7>>⟧.embed ⟦<F7 as Field>⟧.inverse (λ word x. WritesResidue word x) ⟦<F7 as Field>⟧.text ⟦<F7 as Field>⟧.text };
 
     fn from_word(word: &[u8]) -> Option<F7> {
         element(word)
@@ -38,7 +38,7 @@ impl Challenge<BabyBear> for BabyBear4 {
     ghost written = { λ word x. WritesQuartic word x };
 
     ghost fields = { run_fields ⟦<BabyBear as PrimeCharacteristicRing>⟧.ring ⟦<BabyBear as PartialEq>⟧.eq 2013265921 ⟦<BabyBear4 as PrimeCharacteristicRing>⟧.ring ⟦<BabyBear4 as PartialEq>⟧.eq
-        ⟦<BabyBear4 as ExtensionDomain<BabyBear>>⟧.embed ⟦<BabyBear4 as Field>⟧.inverse (λ word x. WritesQuartic word x) ⟦<BabyBear4 as Field>⟧.text };
+        ⟦<BabyBear4 as ExtensionDomain<BabyBear>>⟧.embed ⟦<BabyBear4 as Field>⟧.inverse (λ word x. WritesQuartic word x) ⟦<BabyBear4 as Field>⟧.text ⟦<BabyBear as Field>⟧.text };
 
     fn from_word(word: &[u8]) -> Option<BabyBear4> {
         let mut parts = word.split(|byte| *byte == b',');

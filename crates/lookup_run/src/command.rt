@@ -3,7 +3,7 @@ ghost use Rattle.std.specs.Prelude.{◌≡◌, ◌⊎◌, ℕ, List, IfSome, Mat
 ghost use Rattle.std.specs.Io.KnownBytes.{Appends};
 ghost use Rattle.std.specs.Process.{exit_status};
 ghost use Rattle.lookup_run.specs.Fields.{run_fields};
-ghost use Rattle.lookup_run.specs.Program.{Answers, AnswersOver, Ends, IsBadChallenge};
+ghost use Rattle.lookup_run.specs.Program.{Answers, AnswersOver, Ends, HasMismatch, IsBadChallenge, WritesInOrder};
 
 use crate::challenge::Challenge;
 use crate::error::RunError;
@@ -17,9 +17,10 @@ use std::process::ExitCode;
 
 /// Runs `words`, which are `MACHINE FIELD ALPHA BETA`, over the rows of `input`.
 ///
-/// Writes the report to `output`. If the run is refused, it writes one line `error: TEXT` to
-/// `errors` and nothing to `output`. All text is made before anything is written. The status is 0
-/// if the terminals cancel, 1 if they do not, and 2 if the run is refused or a write fails.
+/// Writes the report to `output`, and then the line of the first tuple that does not balance to
+/// `errors`, if there is one. If the run is refused, it writes one line `error: TEXT` to `errors` and
+/// nothing to `output`. All text is made before anything is written. The status is 0 if the terminals
+/// cancel, 1 if they do not, and 2 if the run is refused or a write fails.
 pub fn run<R: Read, W: Write, E: Write>(
     alloc: Global,
     words: &[String],
@@ -29,10 +30,10 @@ pub fn run<R: Read, W: Write, E: Write>(
 ) -> ExitCode
     ensures { (bytes : List ℕ) × (answer : Result Report RunError) × IfSome (R.remaining input.old) (λ known. bytes ≡ known)
         × Answers ⟦<F7 as Challenge<F7>>⟧.fields ⟦<BabyBear4 as Challenge<BabyBear>>⟧.fields (map string_bytes words.now) bytes answer
-        × Ends W.contents answer (exit_status result) output.old output.new errors.old errors.new }
+        × Ends W.contents E.contents answer (exit_status result) output.old output.new errors.old errors.new }
 {
     match answer(alloc, words, input) {
-        Ok(report) => write_report(&report, output),
+        Ok(report) => write_report(&report, output, errors),
         Err(error) => refuse(alloc, error, errors),
     }
 }
@@ -49,15 +50,22 @@ pub fn refuse<E: Write>(alloc: Global, error: RunError, errors: &mut E) -> ExitC
     ExitCode::from(2)
 }
 
-/// Writes a report. The status is 0 if the terminals cancel, 1 if they do not, and 2 if a write
-/// fails.
-fn write_report<W: Write>(report: &Report, output: &mut W) -> ExitCode
-    ensures { ((exit_status result ≡ cond report.now.balanced 0 1) × Appends (W.contents output.old) (W.contents output.new) (string_bytes report.now.text))
-        ⊎ (exit_status result ≡ 2) }
+/// Writes a report to `output`, and then the line of its mismatch to `errors`, if there is one. The
+/// status is 0 if the terminals cancel, 1 if they do not, and 2 if a write fails.
+fn write_report<W: Write, E: Write>(report: &Report, output: &mut W, errors: &mut E) -> ExitCode
+    ensures written { ((exit_status result ≡ cond report.now.balanced 0 1) × Appends (W.contents output.old) (W.contents output.new) (string_bytes report.now.text)
+        × HasMismatch E.contents report.now.mismatch errors.old errors.new) ⊎ (exit_status result ≡ 2) }
+    ensures order { WritesInOrder W.contents report.now output.old output.new errors.old errors.new }
 {
     if write_and_flush(report.text.as_bytes(), output).is_err() {
-        ExitCode::from(2)
-    } else if report.balanced {
+        return ExitCode::from(2);
+    }
+    if let Some(line) = &report.mismatch {
+        if write_and_flush(line.as_bytes(), errors).is_err() {
+            return ExitCode::from(2);
+        }
+    }
+    if report.balanced {
         ExitCode::SUCCESS
     } else {
         ExitCode::from(1)
@@ -98,7 +106,7 @@ fn answer_over<F: Field, EF: Challenge<F>, R: Read>(
     input: &mut R,
 ) -> Result<Report, RunError>
     ensures { (bytes : List ℕ) × IfSome (R.remaining input.old) (λ known. bytes ≡ known)
-        × AnswersOver (run_fields F.ring F.eq F.CHARACTERISTIC EF.ring EF.eq EF.embed EF.inverse EF.written EF.text) machine (string_bytes alpha.now) (string_bytes beta.now) bytes result }
+        × AnswersOver (run_fields F.ring F.eq F.CHARACTERISTIC EF.ring EF.eq EF.embed EF.inverse EF.written EF.text F.text) machine (string_bytes alpha.now) (string_bytes beta.now) bytes result }
 {
     let challenges = (
         challenge::<F, EF>(alloc, alpha.as_str())?,

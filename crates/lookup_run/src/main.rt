@@ -1,5 +1,6 @@
 //! `lookup-run MACHINE FIELD ALPHA BETA`: reads the rows of a machine. Prints the auxiliary traces
-//! and terminals of its AIRs, and whether the terminals cancel.
+//! and terminals of its AIRs, and whether the terminals cancel. Names the first tuple that does not
+//! balance on standard error.
 #![tactic(auto)]
 
 mod airs;
@@ -7,6 +8,7 @@ mod challenge;
 mod command;
 mod error;
 mod machine;
+mod mismatch;
 mod report;
 mod rows;
 #[cfg(test)]

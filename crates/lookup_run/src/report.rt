@@ -1,19 +1,21 @@
 //! What a run prints.
 ghost use Rattle.std.specs.Prelude.{◌≡◌, ◌++◌, ◌<◌, ◌⊎◌, MatchResult, OnOk, codes, length, string_bytes};
-ghost use Rattle.std.specs.List.{flat_map};
+ghost use Rattle.std.specs.List.{AllZip, flat_map};
 ghost use Rattle.matrix.specs.Matrix.{height};
 ghost use Rattle.batch_model.specs.Witnesses.{results_of};
 ghost use Rattle.lookup_model.specs.Extension.{extension};
 ghost use Rattle.lookup_run.specs.Fields.{run_fields};
-ghost use Rattle.lookup_run.specs.Machines.{columns_of};
+ghost use Rattle.lookup_run.specs.Machines.{airs_of, columns_of};
 ghost use Rattle.lookup_run.specs.Program.{AreFaultless, IsBatchRefusal, IsReport, IsReportRefusal, machine_witness};
 ghost use Rattle.lookup_run.specs.Report.{air_lines, row_line, witness_lines};
+ghost use Rattle.lookup_run.specs.Traces.{IsTraceOf};
 
 use crate::challenge::Challenge;
 use crate::error::RunError;
 use crate::machine::Machine;
+use crate::mismatch::mismatch_line;
 use crate::rows::read_rows;
-use crate::traces::{air_traces, batch_of};
+use crate::traces::{AirTrace, air_traces, batch_of};
 use checker::{Witness, generate_batch};
 use field::{ExtensionField, Field};
 use lookup::{Challenges, LogUpGadget, LookupProtocol, LookupTerminal};
@@ -27,6 +29,8 @@ pub struct Report {
     pub text: String,
     /// Whether the terminals cancel.
     pub balanced: bool,
+    /// What is written to standard error: the line of the first tuple that does not balance.
+    pub mismatch: Option<String>,
 }
 
 /// The report of a machine over the rows of `input`, with its alpha and its beta.
@@ -39,12 +43,14 @@ pub fn report_of<F: Field, EF: Challenge<F>>(
     challenges: (EF, EF),
     input: &[u8],
 ) -> Result<Report, RunError>
-    ensures { let fields = run_fields F.ring F.eq F.CHARACTERISTIC EF.ring EF.eq EF.embed EF.inverse EF.written EF.text in MatchResult result
+    ensures { let fields = run_fields F.ring F.eq F.CHARACTERISTIC EF.ring EF.eq EF.embed EF.inverse EF.written EF.text F.text in MatchResult result
         (λ report. IsReport fields machine challenges.0 challenges.1 input.now report)
         (λ e. (e ≡ RunError.Memory) ⊎ IsReportRefusal fields machine challenges.0 challenges.1 input.now e) }
 {
     let rows = read_rows::<F>(alloc, input, machine.columns())?;
-    let witness = generated::<F, EF>(alloc, machine, challenges, &rows)?;
+    let traces = air_traces::<F, EF>(alloc, machine, &rows)?;
+    let witness = generated::<F, EF>(alloc, machine, challenges, &rows, traces.as_slice())?;
+    let mismatch = mismatch_line(alloc, traces.as_slice())?;
     let balanced = LogUpGadget::new()
         .verify_terminal_sum(witness.terminals.as_slice())
         .is_ok();
@@ -55,18 +61,24 @@ pub fn report_of<F: Field, EF: Challenge<F>>(
     } else {
         "unbalanced\n"
     })?;
-    Ok(Report { text, balanced })
+    Ok(Report {
+        text,
+        balanced,
+        mismatch,
+    })
 }
 
-/// The witness of the batch that a machine makes of the rows of its input.
+/// The witness of the batch of these traces, which are those of a machine over the rows of its input.
 fn generated<F: Field, EF: ExtensionField<F>>(
     alloc: Global,
     machine: Machine,
     challenges: (EF, EF),
     input: &RowMajorMatrix<F>,
+    traces: &[AirTrace<F>],
 ) -> Result<Witness<EF>, RunError>
     requires width { input.now.width ≡ columns_of machine }
     requires rows { 0 < height input.now }
+    requires traces { AllZip (IsTraceOf F.ring F.eq input.now) (airs_of machine) traces.now }
     ensures { let E = extension F.ring F.eq EF.ring EF.eq EF.embed EF.inverse in
         let alpha = challenges.0 in let beta = challenges.1 in MatchResult result
         (λ w. (results_of w ≡ machine_witness E machine alpha beta input.now)
@@ -74,9 +86,8 @@ fn generated<F: Field, EF: ExtensionField<F>>(
         × AreFaultless E machine alpha beta input.now)
         (λ e. (e ≡ RunError.Memory) ⊎ IsBatchRefusal E machine alpha beta input.now e) }
 {
-    let traces = air_traces::<F, EF>(alloc, machine, input)?;
     let public_values = Vec::new(alloc);
-    let batch = batch_of(alloc, traces.as_slice(), public_values.as_slice(), &[0])?;
+    let batch = batch_of(alloc, traces, public_values.as_slice(), &[0])?;
     let (alpha, beta) = challenges;
     let table = Challenges::new(alloc, alpha, beta, 1, 1)?;
     match generate_batch(alloc, batch.as_slice(), &table) {

@@ -86,7 +86,7 @@ fn expect_refusal(
     Ok(())
 }
 
-/// Runs the words of the first rows over an input, and an output and errors that have so much room,
+/// Runs `range f7 5 2` over an input, and an output and errors that have so much room,
 /// where one of the two writers fails: the status is 2, and so much room is left in each.
 fn expect_failing_write(
     rt: &impl Abort,
@@ -153,6 +153,31 @@ fn a_refusal_that_cannot_be_written_keeps_its_status(rt: HostRuntime) -> Result<
     let alloc = rt.alloc();
     for room in [0usize, 5] {
         expect_failing_write(&rt, alloc, b"3 4\n", (1000, room), (1000, 0))?;
+    }
+    Ok(())
+}
+
+/// The report is written whole, and the line of its mismatch has no room, or can't be flushed.
+#[test]
+fn a_mismatch_that_cannot_be_written_ends_the_run(rt: HostRuntime) -> Result<(), Fail> {
+    let alloc = rt.alloc();
+    let words = words_of(alloc, "range f7 5 2")?;
+    for room in [0usize, 1000] {
+        let mut input = b"3 4 1\n".as_slice();
+        let mut output = Vec::new(alloc);
+        let mut errors = FullWriter { room };
+        let code = run(
+            alloc,
+            words.as_slice(),
+            &mut input,
+            &mut output,
+            &mut errors,
+        );
+        let text = b"air 0\n0 4\nterminal 4\nunbalanced\n".as_slice();
+        assert!(rt;
+            code == ExitCode::from(2) && output.as_slice() == text,
+            "room {room}"
+        );
     }
     Ok(())
 }

@@ -3,14 +3,16 @@ ghost use Rattle.std.specs.Prelude.{◌≡◌, ◌≤◌, ◌+◌, IfOk, MatchRe
 ghost use Rattle.std.specs.List.{AllZip};
 ghost use Rattle.batch_model.specs.Instances.{instances_of};
 ghost use Rattle.lookup.specs.Lookups.{lookups_of};
+ghost use Rattle.lookup_debug.specs.Contributions.{traced_of};
 ghost use Rattle.lookup_run.specs.Machines.{AreLookupsOf, air_trace, airs_of, columns_of, first_column_of, width_of};
-ghost use Rattle.lookup_run.specs.Traces.{IsTraceOf, instance_over};
+ghost use Rattle.lookup_run.specs.Traces.{IsTraceOf, instance_over, traced_over};
 
 use crate::airs::MachineAir;
 use crate::error::RunError;
 use crate::machine::Machine;
 use checker::BatchInstance;
 use field::{ExtensionField, Field};
+use lookup::debug_util::LookupDebugInstance;
 use lookup::{LookupError, Lookups};
 use matrix::RowMajorMatrix;
 use std::alloc::{AllocError, Global};
@@ -99,4 +101,24 @@ pub fn batch_of<'a, F: Field>(
         })?;
     }
     Ok(batch)
+}
+
+/// What the debug check is given of these AIRs.
+pub fn debug_instances<'a, F: Field>(
+    alloc: Global,
+    traces: &'a [AirTrace<F>],
+) -> Result<Vec<LookupDebugInstance<'a, F>>, AllocError>
+    ensures { IfOk result (λ instances. map traced_of instances.items ≡ map traced_over traces.now) }
+{
+    let mut instances = Vec::new(alloc);
+    for trace in traces {
+        instances.push(LookupDebugInstance {
+            main_trace: &trace.main,
+            preprocessed_trace: None,
+            public_values: &[],
+            lookups: trace.lookups.as_slice(),
+            permutation_challenges: &[],
+        })?;
+    }
+    Ok(instances)
 }

@@ -2,6 +2,7 @@
 mod bus_widths;
 mod collisions;
 mod comparison;
+mod debug;
 mod declaration;
 mod degrees;
 mod evaluation;

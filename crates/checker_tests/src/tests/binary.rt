@@ -83,14 +83,14 @@ fn terminal_bit(witness: u32, air: u32, shape: Shape) -> u32 {
 /// Whether an AIR's part of a witness is satisfied, by plain calculation modulo 2: accumulators start
 /// at zero and add the fractions up, each fraction times its denominator is its count, and the
 /// terminal is the whole sum.
-fn is_satisfied(rows: u32, witness: u32, air: u32, shape: Shape, challenges: u32) -> bool {
+fn is_satisfied(rows: u32, witness: u32, air: u32, shape: Shape, prefix: u32) -> bool {
     let mut sum = 0u32;
     let mut row = start_of_trace(air, shape);
     let mut cells = start_of_witness(air, shape);
     for _ in 0..shape.height {
         let (key, count) = (bit(rows, row), bit(rows, row.saturating_add(1)));
         let (accumulator, fraction) = (bit(witness, cells), bit(witness, cells.saturating_add(1)));
-        let denominator = challenges.saturating_add(key) % 2;
+        let denominator = prefix.saturating_add(key) % 2;
         if accumulator != sum % 2 || fraction.saturating_mul(denominator) != count {
             return false;
         }
@@ -102,10 +102,10 @@ fn is_satisfied(rows: u32, witness: u32, air: u32, shape: Shape, challenges: u32
 }
 
 /// Whether a witness is accepted: each AIR's part is satisfied, and the terminals cancel.
-fn should_be_accepted(rows: u32, witness: u32, shape: Shape, challenges: u32) -> bool {
+fn should_be_accepted(rows: u32, witness: u32, shape: Shape, prefix: u32) -> bool {
     let mut sum = 0u32;
     for air in 0..shape.airs {
-        if !is_satisfied(rows, witness, air, shape, challenges) {
+        if !is_satisfied(rows, witness, air, shape, prefix) {
             return false;
         }
         sum = sum.saturating_add(terminal_bit(witness, air, shape));
@@ -161,11 +161,11 @@ fn accepting_alphas(
     for alpha in 0..2u32 {
         let pair = (F2::from_u32(alpha), F2::from_u32(beta));
         let challenges = Challenges::new(alloc, pair.0, pair.1, 1, 1).expect(rt, "memory");
-        let sum = alpha.saturating_add(beta);
+        let prefix = alpha.saturating_add(beta);
         let mut some = false;
         for witness in 0..witnesses {
             let accepted = is_accepted(rt, alloc, instances, &challenges, witness, shape);
-            let should = should_be_accepted(rows, witness, shape, sum);
+            let should = should_be_accepted(rows, witness, shape, prefix);
             assert!(rt; accepted == should, "rows {rows}, witness {witness}");
             some = some || should;
         }

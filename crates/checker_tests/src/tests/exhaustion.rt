@@ -184,8 +184,8 @@ fn accepting_alphas(
     alphas
 }
 
-/// Rows of the range machine, drawn at random, with their four counts: at all but so many betas as
-/// the third says at most so many alphas are accepting as the fourth says.
+/// Rows of the range machine, drawn at random, with their four counts: no more than `bad_betas` betas
+/// have more than `accepting_alphas` accepting alphas.
 #[test]
 fn rows_drawn_at_random(rt: HostRuntime) {
     let alloc = rt.alloc();

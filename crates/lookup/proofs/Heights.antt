@@ -1,0 +1,187 @@
+-- The height law: messages of bounded weight that balance do so in whole numbers, but for provided keys.
+use Rattle.std.proofs.Common.{◌≡◌, ◌≢◌, ℕ, zero, suc, ◌+◌, ◌*◌, ◌<◌, ◌≤◌, ◌⊎◌, inl, inr, ℤ, pos, negsuc, ◌+ℤ◌, nat_abs, Bool, true, false, cond, None, Some, List, [], ◌∷◌, ◌++◌, length, map, refl, sym, ap, ◌∙◌, arith, Decides}
+use Rattle.std.proofs.lemmas.Int.{ints}
+use Rattle.std.proofs.lemmas.List.{length-map}
+use Rattle.std.proofs.lemmas.List.FromFn.{length-map-range_with_len}
+use Rattle.std.proofs.lemmas.List.Sums.{sum_by-append, sum_by-cons}
+use Rattle.std.proofs.lemmas.Nat.Gcd.{le_of_dvd}
+use Rattle.std.specs.List.{AllByRecursion, AllZip, filter, flat_map, range_with_len, sum_by, zip}
+use Rattle.field.specs.Characteristic.{HasCharacteristic}
+use Rattle.field.specs.Distinct.{IsAmong}
+use Rattle.field.specs.Ring.{Ring, IsCommutativeRing, of_int, of_nat}
+use Rattle.field.specs.RingFacts.{neg_neg, neg_zero, of_nat-add}
+use Rattle.field.specs.RingSolver.{var, con, :neg, ◌:+◌, ring_given}
+use Rattle.field.specs.Sums.{sum_in}
+use Rattle.matrix.specs.Matrix.{height}
+use Rattle.expressions.specs.Window.{window_at}
+use Rattle.lookup_model.specs.Plain.{trace_messages}
+use Rattle.lookup_model.specs.Sent.{Sent, sent_at}
+use Rattle.lookup_model.specs.declared.types.Lookup.{Lookup}
+use Rattle.lookup_laws.proofs.KeyLaws.{same_key-Decides}
+use Rattle.lookup_model.specs.Message.{Key, Message, same_key}
+use Rattle.lookup_model.specs.Net.{IsBalanced, net}
+use Rattle.lookup_model.specs.Trace.{sent_row_under}
+use Rattle.batch_model.specs.Instances.{Instance}
+use Rattle.batch_model.specs.Messages.{batch_messages, id_of, sent_rows_of}
+use Rattle.lookup.specs.Guards.{weighted_height, weighted_height_sum}
+use Rattle.lookup.specs.Weights.{HeightLaws, IsPartOf, Part, RowKeepsWeights, TraceKeepsWeights, all_parts, provided_keys, query_sum, size_of}
+
+module _ {A : Type 0} {R : Ring A} (laws : IsCommutativeRing R) where
+  -- a signed number is a difference of two
+  by_parts : (z : ℤ) (p n : ℕ) → pos p ≡ z +ℤ pos n → R.add (of_int R z) (of_nat R n) ≡ of_nat R p
+  by_parts (pos m) p n e = sym (of_nat-add laws m n) ∙ ap (of_nat R) (omega (arith, ints, e))
+  by_parts (negsuc m) p n e =
+      let s : p + suc m ≡ n = omega (arith, ints, e) in
+      let t : R.add (of_nat R p) (of_nat R (suc m)) ≡ of_nat R n = sym (of_nat-add laws p (suc m)) ∙ ap (of_nat R) s in
+      ring_given laws (of_nat R (suc m) ∷ of_nat R n ∷ of_nat R p ∷ []) ((:neg (con 1), var 2 :+ var 0, var 1) ∷ []) (:neg (var 0) :+ var 1) (var 2) (t, tt) refl
+
+  parts : (z : ℤ) → (p : ℕ) × (n : ℕ) × (pos p ≡ z +ℤ pos n)
+  parts (pos m) = (m, 0, omega (arith, ints))
+  parts (negsuc m) = (0, suc m, omega (arith, ints))
+
+  -- the sum of two numbers as an element
+  pub of_int-add : (a b : ℤ) → of_int R (a +ℤ b) ≡ R.add (of_int R a) (of_int R b)
+  of_int-add a b =
+      let s : (p : ℕ) × (n : ℕ) × (pos p ≡ a +ℤ pos n) = parts a in
+      let t : (p : ℕ) × (n : ℕ) × (pos p ≡ b +ℤ pos n) = parts b in
+      let h : pos (s.0 + t.0) ≡ (a +ℤ b) +ℤ pos (s.1 + t.1) = omega (arith, ints, s.2, t.2) in
+      let e : R.add (of_int R (a +ℤ b)) (of_nat R (s.1 + t.1)) ≡ of_nat R (s.0 + t.0) = by_parts (a +ℤ b) (s.0 + t.0) (s.1 + t.1) h in
+      let f : of_nat R (s.1 + t.1) ≡ R.add (of_nat R s.1) (of_nat R t.1) = of_nat-add laws s.1 t.1 in
+      let g : of_nat R (s.0 + t.0) ≡ R.add (of_nat R s.0) (of_nat R t.0) = of_nat-add laws s.0 t.0 in
+      let i = con 1 in
+      ring_given laws
+      (of_int R (a +ℤ b) ∷ of_int R a ∷ of_int R b ∷ of_nat R s.1 ∷ of_nat R t.1 ∷ of_nat R (s.1 + t.1) ∷ of_nat R s.0 ∷ of_nat R t.0 ∷ of_nat R (s.0 + t.0) ∷ [])
+      ((i, var 0 :+ var 5, var 8) ∷ (:neg i, var 5, var 3 :+ var 4) ∷ (i, var 8, var 6 :+ var 7) ∷ (:neg i, var 1 :+ var 3, var 6) ∷ (:neg i, var 2 :+ var 4, var 7) ∷ [])
+      (var 0) (var 1 :+ var 2) (e, (f, (g, (by_parts a s.0 s.1 s.2, (by_parts b t.0 t.1 t.2, tt))))) refl
+
+  small : (p n : ℕ) → HasCharacteristic R p → suc n < p → of_nat R (suc n) ≡ R.zero → ⊥
+  small p n char lt e = omega (arith, lt, le_of_dvd {n = suc n} (omega arith) ((char (suc n)).0 e))
+
+  -- a number below the characteristic in absolute value that is zero in the ring is zero
+  pub small_zero : (p : ℕ) → HasCharacteristic R p → (z : ℤ) → nat_abs z < p → of_int R z ≡ R.zero → z ≡ pos 0
+  small_zero p char (pos zero) lt e = refl
+  small_zero p char (pos (suc n)) lt e = absurd (small p n char (omega (arith, ints, lt)) e)
+  small_zero p char (negsuc n) lt e =
+      absurd (small p n char (omega (arith, ints, lt)) (sym (neg_neg laws (of_nat R (suc n))) ∙ ap R.neg e ∙ neg_zero laws))
+
+module _ {F : Type 0} {R : Ring F} (laws : IsCommutativeRing R) (eq : F → F → Bool) (decides : (a b : Key F) → Decides (same_key eq a b) (a ≡ b)) (key : Key F) where
+  -- no provided entry has the key
+  abbrev NoneProvided : List (Message F × Part) → Type 0
+  NoneProvided marked = IsAmong key (provided_keys marked) → ⊥
+
+  -- then the net is the sum of the query numbers
+  net_is : (ms : List (Message F)) (ps : List Part) → AllZip (IsPartOf R) ms ps → NoneProvided (zip ms ps) → net R eq ms key ≡ of_int R (query_sum eq key (zip ms ps))
+  unfolding of_nat
+  net_is [] [] each none = refl
+  net_is [] (p ∷ ps) each none = absurd each
+  net_is (m ∷ ms) [] each none = absurd each
+  net_is (m ∷ ms) (None ∷ ps) each none = by_test (same_key eq key m.key) refl (net_is ms ps each.1 (λ among. none (inr among)))
+    where
+      by_test : (b : Bool) → same_key eq key m.key ≡ b → net R eq ms key ≡ of_int R (query_sum eq key (zip ms ps)) → sum_in R (map (λ n. n.multiplicity) (cond b (m ∷ filter (λ n. same_key eq key n.key) ms) (filter (λ n. same_key eq key n.key) ms))) ≡ of_int R (query_sum eq key (zip ms ps))
+      by_test true e rest = absurd (none (inl ((decides key m.key).0 e)))
+      by_test false e rest = rest
+  net_is (m ∷ ms) (Some z ∷ ps) each none = by_test (same_key eq key m.key) (net_is ms ps each.1 none)
+    where
+      by_test : (b : Bool) → net R eq ms key ≡ of_int R (query_sum eq key (zip ms ps)) → sum_in R (map (λ n. n.multiplicity) (cond b (m ∷ filter (λ n. same_key eq key n.key) ms) (filter (λ n. same_key eq key n.key) ms))) ≡ of_int R (cond b (z +ℤ query_sum eq key (zip ms ps)) (query_sum eq key (zip ms ps)))
+      by_test true rest = (λ i. R.add (each.0 i) (rest i)) ∙ sym (of_int-add laws z (query_sum eq key (zip ms ps)))
+      by_test false rest = rest
+
+  -- and no greater than all sizes together
+  query_sum-small : (ms : List (Message F)) (ps : List Part) → nat_abs (query_sum eq key (zip ms ps)) ≤ sum_by size_of ps
+  query_sum-small [] ps = omega (arith, ints)
+  query_sum-small (m ∷ ms) [] = omega (arith, ints)
+  query_sum-small (m ∷ ms) (None ∷ ps) = omega (arith, ints, query_sum-small ms ps, sum_by-cons size_of None ps)
+  query_sum-small (m ∷ ms) (Some z ∷ ps) = rw (sum_by-cons size_of (Some z) ps) (by_test (same_key eq key m.key) (query_sum-small ms ps))
+    where
+      by_test : (b : Bool) → nat_abs (query_sum eq key (zip ms ps)) ≤ sum_by size_of ps → nat_abs (cond b (z +ℤ query_sum eq key (zip ms ps)) (query_sum eq key (zip ms ps))) ≤ nat_abs z + sum_by size_of ps
+      by_test true rest = omega (arith, ints, rest)
+      by_test false rest = omega (arith, ints, rest)
+
+  is_among : (ks : List (Key F)) → IsAmong key ks ⊎ (IsAmong key ks → ⊥)
+  is_among [] = inr (λ none. none)
+  is_among (k ∷ ks) = by_test (same_key eq key k) refl (is_among ks)
+    where
+      by_test : (b : Bool) → same_key eq key k ≡ b → IsAmong key ks ⊎ (IsAmong key ks → ⊥) → ((key ≡ k) ⊎ IsAmong key ks) ⊎ (((key ≡ k) ⊎ IsAmong key ks) → ⊥)
+      by_test true e rest = inl (inl ((decides key k).0 e))
+      by_test false e (inl there) = inl (inr there)
+      by_test false e (inr absent) = inr (λ s. elim s [ inl same ↦ cc (e, (decides key k).1 same) | inr there ↦ absent there ])
+
+  -- the law over one list of messages
+  pub provided_key : (p : ℕ) → HasCharacteristic R p → (ms : List (Message F)) (ps : List Part) → AllZip (IsPartOf R) ms ps → sum_by size_of ps < p → IsBalanced R eq ms → query_sum eq key (zip ms ps) ≢ pos 0 → IsAmong key (provided_keys (zip ms ps))
+  provided_key p char ms ps each light balanced ne = elim (is_among (provided_keys (zip ms ps))) [
+    | inl there ↦ there
+    | inr absent ↦ absurd (ne (small_zero laws p char (query_sum eq key (zip ms ps)) (omega (arith, query_sum-small ms ps, light)) (sym (net_is ms ps each absent) ∙ balanced key)))
+  ]
+
+AllZip-both : {A B : Type 0} (P : A → B → Type 0) (xs : List A) (ys : List B) (us : List A) (vs : List B) → AllZip P xs ys → AllZip P us vs → AllZip P (xs ++ us) (ys ++ vs)
+AllZip-both P [] [] us vs first second = second
+AllZip-both P [] (y ∷ ys) us vs first second = absurd first
+AllZip-both P (x ∷ xs) [] us vs first second = absurd first
+AllZip-both P (x ∷ xs) (y ∷ ys) us vs first second = (first.0, AllZip-both P xs ys us vs first.1 second)
+
+module _ {F : Type 0} (R : Ring F) where
+  -- parts of some messages, no greater than a bound
+  pub record AreBounded (ms : List (Message F)) (ps : List Part) (bound : ℕ) : Type 0 where
+    pub divided : AllZip (IsPartOf R) ms ps
+    pub within : sum_by size_of ps ≤ bound
+
+  bounded_both : (ms ns : List (Message F)) (ps qs : List Part) (a b c : ℕ) → AreBounded ms ps a → AreBounded ns qs b → a + b ≤ c → AreBounded (ms ++ ns) (ps ++ qs) c
+  bounded_both ms ns ps qs a b c first second le = record {
+    divided = AllZip-both (IsPartOf R) ms ps ns qs first.divided second.divided;
+    within = omega (arith, sum_by-append size_of ps qs, first.within, second.within, le);
+  }
+
+  row_bounded : (lookups : List (Lookup F)) (row : List (Sent F)) (parts : List (List Part)) → length row ≡ length lookups → RowKeepsWeights R lookups row parts → AreBounded (flat_map (λ s. s.messages) row) (flat_map (λ p. p) parts) (sum_by (λ l. l.count_weight) lookups)
+  row_bounded [] [] [] same keeps = record { divided = tt; within = omega arith }
+  row_bounded [] [] (p ∷ ps) same keeps = absurd keeps
+  row_bounded [] (s ∷ ss) ps same keeps = absurd (omega (arith, same))
+  row_bounded (l ∷ ls) [] ps same keeps = absurd (omega (arith, same))
+  row_bounded (l ∷ ls) (s ∷ ss) [] same keeps = absurd keeps
+  row_bounded (l ∷ ls) (s ∷ ss) (p ∷ ps) same keeps =
+      bounded_both s.messages (flat_map (λ t. t.messages) ss) p (flat_map (λ q. q) ps) l.count_weight (sum_by (λ k. k.count_weight) ls) (sum_by (λ k. k.count_weight) (l ∷ ls))
+      (record { divided = keeps.0.divided; within = keeps.0.within }) (row_bounded ls ss ps (omega (arith, same)) keeps.1) (omega (arith, sum_by-cons (λ k. k.count_weight) l ls))
+
+  trace_bounded : (lookups : List (Lookup F)) (rows : List (List (Sent F))) (division : List (List (List Part))) → AllByRecursion (λ row. length row ≡ length lookups) rows → AllZip (RowKeepsWeights R lookups) rows division
+      → AreBounded (trace_messages rows) (flat_map (λ row. flat_map (λ p. p) row) division) (sum_by (λ l. l.count_weight) lookups * length rows)
+  trace_bounded lookups [] [] long keeps = record { divided = tt; within = omega arith }
+  trace_bounded lookups [] (d ∷ ds) long keeps = absurd keeps
+  trace_bounded lookups (row ∷ rows) [] long keeps = absurd keeps
+  trace_bounded lookups (row ∷ rows) (d ∷ ds) long keeps =
+      let w = sum_by (λ (l : Lookup F). l.count_weight) lookups in
+      bounded_both (flat_map (λ s. s.messages) row) (trace_messages rows) (flat_map (λ p. p) d) (flat_map (λ r. flat_map (λ p. p) r) ds) w (w * length rows) (w * suc (length rows))
+      (row_bounded lookups row d long.0 keeps.0) (trace_bounded lookups rows ds long.1 keeps.1) (omega arith)
+
+  -- the weighted height of an AIR
+  abbrev own : Instance F → ℕ
+  own i = weighted_height (i.lookups, height i.main)
+
+  batch_bounded : (eq : F → F → Bool) (instances : List (Instance F)) (divisions : List (List (List (List Part)))) → AllZip (TraceKeepsWeights R eq) instances divisions → AreBounded (batch_messages R eq instances) (all_parts divisions) (sum_by own instances)
+  batch_bounded eq [] [] keeps = record { divided = tt; within = omega arith }
+  batch_bounded eq [] (d ∷ ds) keeps = absurd keeps
+  batch_bounded eq (i ∷ is) [] keeps = absurd keeps
+  batch_bounded eq (i ∷ is) (d ∷ ds) keeps =
+      let rows = sent_rows_of R eq i in
+      let window = λ (r : ℕ). window_at i.main i.preprocessed i.public_values (height i.main) r in
+      let w = sum_by (λ (l : Lookup F). l.count_weight) i.lookups in
+      let high : length rows ≡ height i.main = length-map-range_with_len (λ r. sent_row_under R eq (id_of i.ids) (window r) i.lookups) 0 (height i.main) in
+      let area : w * length rows ≡ w * height i.main = ap (λ n. w * n) high in
+      bounded_both (trace_messages rows) (batch_messages R eq is) (flat_map (λ row. flat_map (λ p. p) row) d) (all_parts ds) (w * length rows) (sum_by own is) (sum_by own (i ∷ is))
+      (trace_bounded i.lookups rows d (long (range_with_len 0 (height i.main))) keeps.0) (batch_bounded eq is ds keeps.1) (omega (arith, area, sum_by-cons own i is))
+    where
+      long : (rs : List ℕ) → AllByRecursion (λ row. length row ≡ length i.lookups) (map (λ r. sent_row_under R eq (id_of i.ids) (window_at i.main i.preprocessed i.public_values (height i.main) r) i.lookups) rs)
+      long [] = tt
+      long (r ∷ rs) = (length-map i.lookups (λ lookup. sent_at R eq (window_at i.main i.preprocessed i.public_values (height i.main) r) (id_of i.ids lookup) lookup), long rs)
+
+  -- the sum over a batch is that over its lookups and heights
+  own_sum : (instances : List (Instance F)) → sum_by own instances ≡ weighted_height_sum (map (λ i. i.lookups) instances) (map (λ i. height i.main) instances)
+  own_sum [] = refl
+  own_sum (i ∷ is) =
+      sum_by-cons own i is ∙ ap (λ n. own i + n) (own_sum is)
+      ∙ sym (sum_by-cons weighted_height (i.lookups, height i.main) (zip (map (λ j. j.lookups) is) (map (λ j. height j.main) is)))
+
+-- the law of all batches with these lookups and heights
+pub height_laws : {F : Type 0} {R : Ring F} → IsCommutativeRing R → (eq : F → F → Bool) → ((a b : F) → Decides (eq a b) (a ≡ b)) → (p : ℕ) → HasCharacteristic R p → (airs : List (List (Lookup F))) (heights : List ℕ) → weighted_height_sum airs heights < p → HeightLaws R eq airs heights
+height_laws {F} {R} laws eq decides p char airs heights light instances lookups_are heights_are divisions keeps balanced key ne =
+    let bounded = batch_bounded R eq instances divisions keeps in
+    let sum_is : sum_by (own R) instances ≡ weighted_height_sum airs heights = own_sum R instances ∙ (λ k. weighted_height_sum (lookups_are k) (heights_are k)) in
+    provided_key laws eq (same_key-Decides eq decides) key p char (batch_messages R eq instances) (all_parts divisions) bounded.divided (omega (arith, bounded.within, sum_is, light)) balanced ne

@@ -1,0 +1,143 @@
+-- What a lookup contributes, branch by branch and row by row.
+use Rattle.std.proofs.Common.{◌≡◌, ℕ, ◌+◌, ◌<◌, Bool, None, Some, List, [], ◌∷◌, ◌++◌, get_or, length, not, take, ap, subst, sym, append_assoc, ◌∙◌, arith}
+use Rattle.std.proofs.lemmas.Grind.{flat_map-append}
+use Rattle.std.proofs.lemmas.List.{append-nil, length-map, map-id, map_more}
+use Rattle.std.proofs.lemmas.List.Elements.{filter-append}
+use Rattle.std.proofs.lemmas.List.FromFn.{map-range_with_len_more}
+use Rattle.std.specs.List.{flat_map, range_with_len}
+use Rattle.std.specs.declared.alloc.Global.{Global}
+use Rattle.std.specs.declared.vec.Vec.{Vec}
+use Rattle.expressions.specs.Window.{Window, window_at}
+use Rattle.expressions.specs.declared.base_expression.SymbolicExpression.{SymbolicExpression}
+use Rattle.field.specs.Ring.{Ring}
+use Rattle.lookup_model.proofs.Branches.{length-branches_at, length-zipped, mapped_at, zipped_at, zipped_more}
+use Rattle.lookup_model.specs.Message.{Message}
+use Rattle.lookup_model.specs.Records.{HasEqualLengths}
+use Rattle.lookup_model.specs.Sent.{branch_at, branches_at, value, values}
+use Rattle.lookup_model.specs.declared.types.Lookup.{Lookup}
+use Rattle.matrix.specs.Matrix.{height}
+use Rattle.lookup_debug.specs.Appended.{Appends}
+use Rattle.lookup_debug.specs.Contributions.{Contribution, Place, Traced, amounts, contributions_at, contributions_from, contributions_on, nonzero}
+use Rattle.lookup_debug.specs.declared.arena.Contributions.{Contributions}
+use Rattle.lookup_debug.proofs.CutLaws.{appends-more}
+
+-- the values of one more element of a tuple
+pub values_step : {F : Type 0} (R : Ring F) (w : Window F) (es : List (SymbolicExpression F)) (i : ℕ) (e : SymbolicExpression F) (v : F) (before now after : List F)
+    → i < length es → e ≡ get_or es i e → v ≡ value R w e
+    → now ≡ before ++ values R w (take i es) → after ≡ now ++ v ∷ []
+    → after ≡ before ++ values R w (take (i + 1) es)
+values_step R w es i e v before now after lt is v_is so_far this =
+    this
+    ∙ (λ k. so_far k ++ v_is k ∷ [])
+    ∙ append_assoc before (values R w (take i es)) (value R w e ∷ [])
+    ∙ ap (λ t. before ++ t) (sym (map_more (value R w) es i e lt ∙ ap (λ x. values R w (take i es) ++ value R w x ∷ []) (sym is)))
+
+module _ {F : Type 0} (R : Ring F) (eq : F → F → Bool) (place : Place) where
+  -- one more branch with its amount
+  from_more : (branches : List (Message F)) (sizes : List F) → length sizes ≡ length branches
+      → (i : ℕ) (m : Message F) (a : F) → i < length branches → m ≡ get_or branches i m
+      → a ≡ get_or sizes i a
+      → nonzero R eq (take (i + 1) (contributions_from place branches sizes)) ≡ nonzero R eq (take i (contributions_from place branches sizes)) ++ nonzero R eq (record { tuple = m.key.tuple; amount = a; place = place } ∷ [])
+  from_more branches sizes same i m a lt m_is a_is =
+      let all = contributions_from place branches sizes in
+      ap (nonzero R eq) (zipped_more (λ (b : Message F × F). record { tuple = b.0.key.tuple; amount = b.1; place = place }) branches sizes same i m a lt m_is a_is)
+      ∙ filter-append (λ (c : Contribution F). not (eq c.amount R.zero)) (take i all) (record { tuple = m.key.tuple; amount = a; place = place } ∷ [])
+
+  -- there are as many contributions as branches
+  length-from : (branches : List (Message F)) (sizes : List F) → length sizes ≡ length branches
+      → length (contributions_from place branches sizes) ≡ length branches
+  length-from branches sizes same = length-zipped (λ (b : Message F × F). record { tuple = b.0.key.tuple; amount = b.1; place = place }) branches sizes same
+
+  module _ (w : Window F) (lookup : Lookup F) (lengths : HasEqualLengths lookup) where
+    abbrev branches : List (Message F)
+    branches = branches_at R w 0 lookup
+
+    abbrev counts : List F
+    counts = amounts R None branches
+
+    as_many_counts : length counts ≡ length branches
+    as_many_counts = length-map branches (λ (m : Message F). m.multiplicity)
+
+    pub length-counted : length (contributions_from place branches counts) ≡ length lookup.elements.items
+    length-counted = length-from branches counts as_many_counts ∙ length-branches_at R w 0 lookup lengths
+
+    module _ (flags : List (SymbolicExpression F)) (flag_number : length flags ≡ length lookup.elements.items) where
+      abbrev flagged : List F
+      flagged = amounts R (Some (values R w flags)) branches
+
+      as_many_flags : length branches ≡ length (values R w flags)
+      as_many_flags = length-branches_at R w 0 lookup lengths ∙ sym (length-map flags (value R w) ∙ flag_number)
+
+      as_many_flagged : length flagged ≡ length branches
+      as_many_flagged = length-zipped (λ (b : F × Message F). R.mul b.0 b.1.multiplicity) (values R w flags) branches as_many_flags ∙ sym as_many_flags
+
+      pub length-flagged : length (contributions_from place branches flagged) ≡ length lookup.elements.items
+      length-flagged = length-from branches flagged as_many_flagged ∙ length-branches_at R w 0 lookup lengths
+
+    module _ (i : ℕ) (tuple : Vec (SymbolicExpression F) Global) (multiplicity : SymbolicExpression F) (lt : i < length lookup.elements.items) (tuple_is : tuple ≡ get_or lookup.elements.items i tuple) (multiplicity_is : multiplicity ≡ get_or lookup.multiplicities.items i multiplicity) where
+      abbrev branch : Message F
+      branch = branch_at R w 0 tuple.items multiplicity
+
+      within : i < length branches
+      within = omega (arith, lt, length-branches_at R w 0 lookup lengths)
+
+      branch_is : branch ≡ get_or branches i branch
+      branch_is = zipped_at (λ b. branch_at R w 0 b.0.items b.1) lookup.elements.items lookup.multiplicities.items lengths.multiplicities i tuple multiplicity lt tuple_is multiplicity_is
+
+      -- without flags a branch counts with its multiplicity
+      counted_more : nonzero R eq (take (i + 1) (contributions_from place branches counts)) ≡ nonzero R eq (take i (contributions_from place branches counts)) ++ nonzero R eq (record { tuple = values R w tuple.items; amount = value R w multiplicity; place = place } ∷ [])
+      counted_more =
+          from_more branches counts as_many_counts i branch (value R w multiplicity) within branch_is
+          (mapped_at (λ (m : Message F). m.multiplicity) branches i branch within branch_is)
+
+      -- with flags it counts with flag times multiplicity
+      flagged_more : (flags : List (SymbolicExpression F)) (flag_number : length flags ≡ length lookup.elements.items) (flag : SymbolicExpression F)
+          → flag ≡ get_or flags i flag
+          → nonzero R eq (take (i + 1) (contributions_from place branches (flagged flags flag_number))) ≡ nonzero R eq (take i (contributions_from place branches (flagged flags flag_number))) ++ nonzero R eq (record { tuple = values R w tuple.items; amount = R.mul (value R w flag) (value R w multiplicity); place = place } ∷ [])
+      flagged_more flags flag_number flag flag_is =
+          from_more branches (flagged flags flag_number) (as_many_flagged flags flag_number) i branch (R.mul (value R w flag) (value R w multiplicity)) within branch_is
+          (zipped_at (λ (b : F × Message F). R.mul b.0 b.1.multiplicity) (values R w flags) branches (as_many_flags flags flag_number) i (value R w flag) branch
+          (omega (arith, within, as_many_flags flags flag_number)) (mapped_at (value R w) flags i flag (omega (arith, lt, flag_number)) flag_is) branch_is)
+
+      -- so it is once the branch is appended
+      pub counted_step : (before now after : Contributions F) (es : List (SymbolicExpression F)) (amount : F)
+          → es ≡ tuple.items → amount ≡ value R w multiplicity
+          → Appends before now (nonzero R eq (take i (contributions_from place branches counts)))
+          → Appends now after (nonzero R eq (record { tuple = values R w es; amount = amount; place = place } ∷ []))
+          → Appends before after (nonzero R eq (take (i + 1) (contributions_from place branches counts)))
+      counted_step before now after es amount es_are amount_is so_far this =
+          let front = nonzero R eq (take i (contributions_from place branches counts)) in
+          subst (Appends before after) ((λ k. front ++ nonzero R eq (record { tuple = values R w (es_are k); amount = amount_is k; place = place } ∷ [])) ∙ sym counted_more)
+          (appends-more before now after front (nonzero R eq (record { tuple = values R w es; amount = amount; place = place } ∷ [])) so_far this)
+
+      pub flagged_step : (flags : List (SymbolicExpression F)) (flag_number : length flags ≡ length lookup.elements.items) (flag : SymbolicExpression F)
+          → flag ≡ get_or flags i flag
+          → (before now after : Contributions F) (es : List (SymbolicExpression F)) (amount : F)
+          → es ≡ tuple.items → amount ≡ R.mul (value R w flag) (value R w multiplicity)
+          → Appends before now (nonzero R eq (take i (contributions_from place branches (flagged flags flag_number))))
+          → Appends now after (nonzero R eq (record { tuple = values R w es; amount = amount; place = place } ∷ []))
+          → Appends before after (nonzero R eq (take (i + 1) (contributions_from place branches (flagged flags flag_number))))
+      flagged_step flags flag_number flag flag_is before now after es amount es_are amount_is so_far this =
+          let front = nonzero R eq (take i (contributions_from place branches (flagged flags flag_number))) in
+          subst (Appends before after) ((λ k. front ++ nonzero R eq (record { tuple = values R w (es_are k); amount = amount_is k; place = place } ∷ [])) ∙ sym (flagged_more flags flag_number flag flag_is))
+          (appends-more before now after front (nonzero R eq (record { tuple = values R w es; amount = amount; place = place } ∷ [])) so_far this)
+
+-- one more number of a range
+rows_more : {A : Type 0} (f : ℕ → List A) (n : ℕ)
+    → flat_map f (range_with_len 0 (n + 1)) ≡ flat_map f (range_with_len 0 n) ++ f n
+rows_more f n = ap (flat_map f) (range_more 0 n n (omega arith)) ∙ flat_map-append f (range_with_len 0 n) (n ∷ []) ∙ ap (λ t. flat_map f (range_with_len 0 n) ++ t) (append-nil (f n))
+  where
+    range_more : (a n j : ℕ) → a + n ≡ j → range_with_len a (n + 1) ≡ range_with_len a n ++ j ∷ []
+    range_more a n j is = sym (map-id (range_with_len a (n + 1))) ∙ map-range_with_len_more (λ k. k) a n j is ∙ ap (λ t. t ++ j ∷ []) (map-id (range_with_len a n))
+
+-- The contributions on one more row, which is that of this window.
+pub row_step : {F : Type 0} (R : Ring F) (eq : F → F → Bool) (instance place : ℕ) (t : Traced F) (lookup : Lookup F) (row : ℕ) (before now after : Contributions F) (w : Window F)
+    → w ≡ window_at t.main t.preprocessed t.public_values (height t.main) row
+    → Appends before now (flat_map (contributions_on R eq instance place t lookup) (range_with_len 0 row))
+    → Appends now after (contributions_at R eq (record { instance = instance; lookup = place; row = row }) w lookup)
+    → Appends before after (flat_map (contributions_on R eq instance place t lookup) (range_with_len 0 (row + 1)))
+row_step R eq instance place t lookup row before now after w w_is so_far this =
+    let f = contributions_on R eq instance place t lookup in
+    let here = contributions_at R eq (record { instance = instance; lookup = place; row = row }) w lookup in
+    subst (Appends before after) (ap (λ v. flat_map f (range_with_len 0 row) ++ contributions_at R eq (record { instance = instance; lookup = place; row = row }) v lookup) w_is ∙ sym (rows_more f row))
+    (appends-more before now after (flat_map f (range_with_len 0 row)) here so_far this)

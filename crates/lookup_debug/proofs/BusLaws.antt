@@ -1,0 +1,128 @@
+-- The lookups of all AIRs, one after another.
+use Rattle.std.proofs.Common.{◌≡◌, ℕ, ◌+◌, ◌<◌, ◌≤◌, Bool, true, false, cond, List, [], ◌∷◌, ◌++◌, get_or, length, map, take, ap, refl, subst, sym, ◌∙◌, arith}
+use Rattle.std.proofs.lemmas.Grind.{flat_map-append}
+use Rattle.std.proofs.lemmas.List.{append-nil, length-map, take_all}
+use Rattle.std.proofs.lemmas.List.Elements.{filter-append, filter_map-append}
+use Rattle.std.proofs.lemmas.List.FromFn.{get_or-enumerate_from, length-enumerate_from}
+use Rattle.std.specs.List.{cons_option, enumerate_from, filter, filter_map, flat_map}
+use Rattle.field.specs.Ring.{Ring}
+use Rattle.lookup_laws.proofs.Rows.{take_item}
+use Rattle.lookup_model.proofs.Branches.{mapped_more}
+use Rattle.lookup_model.specs.Outline.{bus_of}
+use Rattle.lookup_model.specs.declared.types.Lookup.{Lookup}
+use Rattle.lookup_debug.specs.Appended.{Appends}
+use Rattle.lookup_debug.specs.Contributions.{Contribution, Traced, contributions_of}
+use Rattle.lookup_debug.specs.Groups.{Placed, is_named, is_on, placed_contributions, placed_in}
+use Rattle.lookup_debug.specs.declared.arena.Contributions.{Contributions}
+use Rattle.lookup_debug.proofs.CutLaws.{appends-more, appends-none}
+
+-- an item with its number
+module _ {A : Type 0} (xs : List A) (i : ℕ) (x : A) (lt : i < length xs) (is : x ≡ get_or xs i x) where
+  numbered_at : (i, x) ≡ get_or (enumerate_from 0 xs) i (i, x)
+  numbered_at = (λ k. (i, is k)) ∙ sym (get_or-enumerate_from 0 xs i (i, x) lt ∙ (λ k. (zero_plus k, get_or xs i x)))
+    where
+      zero_plus : 0 + i ≡ i
+      zero_plus = omega arith
+
+  numbered_within : i < length (enumerate_from 0 xs)
+  numbered_within = omega (arith, lt, length-enumerate_from 0 xs)
+
+  -- one more of them
+  numbered_more : take (i + 1) (enumerate_from 0 xs) ≡ take i (enumerate_from 0 xs) ++ (i, x) ∷ []
+  numbered_more = take_item (enumerate_from 0 xs) i (i, x) numbered_within numbered_at
+
+-- at the end all of them
+pub numbered_all : {A : Type 0} (xs : List A) (n : ℕ) → length xs ≤ n
+    → take n (enumerate_from 0 xs) ≡ enumerate_from 0 xs
+numbered_all xs n le = take_all n (enumerate_from 0 xs) (omega (arith, le, length-enumerate_from 0 xs))
+
+-- what the items that pass give, of two lists one after the other
+chosen-append : {X A : Type 0} (p : X → Bool) (f : X → List A) (xs ys : List X)
+    → flat_map f (filter p (xs ++ ys)) ≡ flat_map f (filter p xs) ++ flat_map f (filter p ys)
+chosen-append p f xs ys = ap (flat_map f) (filter-append p xs ys) ∙ flat_map-append f (filter p xs) (filter p ys)
+
+-- of one item
+chosen-one : {X A : Type 0} (p : X → Bool) (f : X → List A) (x : X) (b : Bool) → p x ≡ b
+    → flat_map f (filter p (x ∷ [])) ≡ cond b (f x) []
+chosen-one p f x true is = ap (λ b. flat_map f (cond b (x ∷ []) [])) is ∙ append-nil (f x)
+chosen-one p f x false is = ap (λ b. flat_map f (cond b (x ∷ []) [])) is
+
+module _ {F : Type 0} where
+  -- the lookups of one AIR with their places, and one more of them
+  placed_in-more : (n : ℕ) (t : Traced F) (j : ℕ) (l : Lookup F) → j < length t.lookups
+      → l ≡ get_or t.lookups j l
+      → take (j + 1) (placed_in (n, t)) ≡ take j (placed_in (n, t)) ++ record { instance = n; place = j; traced = t; lookup = l } ∷ []
+  placed_in-more n t j l lt is =
+      mapped_more (λ (p : ℕ × Lookup F). record { instance = n; place = p.0; traced = t; lookup = p.1 }) (enumerate_from 0 t.lookups) j (j, l) (numbered_within t.lookups j l lt is) (numbered_at t.lookups j l lt is)
+
+  pub length-placed_in : (n : ℕ) (t : Traced F) → length (placed_in (n, t)) ≡ length t.lookups
+  length-placed_in n t =
+      length-map (enumerate_from 0 t.lookups) (λ (p : ℕ × Lookup F). record { instance = n; place = p.0; traced = t; lookup = p.1 }) ∙ length-enumerate_from 0 t.lookups
+
+  -- the lookups of one more AIR
+  placed-more : (ts : List (Traced F)) (i : ℕ) (t : Traced F) → i < length ts → t ≡ get_or ts i t
+      → flat_map placed_in (take (i + 1) (enumerate_from 0 ts)) ≡ flat_map placed_in (take i (enumerate_from 0 ts)) ++ placed_in (i, t)
+  placed-more ts i t lt is =
+      ap (flat_map placed_in) (numbered_more ts i t lt is)
+      ∙ flat_map-append placed_in (take i (enumerate_from 0 ts)) ((i, t) ∷ [])
+      ∙ ap (λ ps. flat_map placed_in (take i (enumerate_from 0 ts)) ++ ps) (append-nil (placed_in (i, t)))
+
+  -- the buses of the lookups of an AIR
+  buses_in : (n : ℕ) (t : Traced F)
+      → filter_map (λ p. bus_of p.lookup.kind) (placed_in (n, t)) ≡ filter_map (λ (l : Lookup F). bus_of l.kind) t.lookups
+  buses_in n t = from 0 t.lookups
+    where
+      from : (k : ℕ) (ls : List (Lookup F))
+          → filter_map (λ (p : Placed F). bus_of p.lookup.kind) (map (λ (p : ℕ × Lookup F). record { instance = n; place = p.0; traced = t; lookup = p.1 }) (enumerate_from k ls)) ≡ filter_map (λ (l : Lookup F). bus_of l.kind) ls
+      from k [] = refl
+      from k (l ∷ ls) = ap (cons_option (bus_of l.kind)) (from (k + 1) ls)
+
+  -- and those of the lookups of one more AIR
+  pub names_more : (ts : List (Traced F)) (i : ℕ) (t : Traced F) → i < length ts → t ≡ get_or ts i t
+      → filter_map (λ p. bus_of p.lookup.kind) (flat_map placed_in (take (i + 1) (enumerate_from 0 ts))) ≡ filter_map (λ p. bus_of p.lookup.kind) (flat_map placed_in (take i (enumerate_from 0 ts))) ++ filter_map (λ (l : Lookup F). bus_of l.kind) t.lookups
+  names_more ts i t lt is =
+      let bus = λ (p : Placed F). bus_of p.lookup.kind in
+      let front = flat_map placed_in (take i (enumerate_from 0 ts)) in
+      ap (filter_map bus) (placed-more ts i t lt is)
+      ∙ filter_map-append bus front (placed_in (i, t))
+      ∙ ap (λ names. filter_map bus front ++ names) (buses_in i t)
+
+module _ {F : Type 0} (R : Ring F) (eq : F → F → Bool) (name : List ℕ) where
+  -- what the lookups on the bus contribute
+  abbrev chosen : List (Placed F) → List (Contribution F)
+  chosen ps = flat_map (placed_contributions R eq) (filter (is_on name) ps)
+
+  -- one more lookup of an AIR
+  module _ (n : ℕ) (t : Traced F) (j : ℕ) (l : Lookup F) (lt : j < length t.lookups) (is : l ≡ get_or t.lookups j l) (before now : Contributions F) (so_far : Appends before now (chosen (take j (placed_in (n, t))))) where
+    step : (after : Contributions F) (b : Bool) → is_named name (bus_of l.kind) ≡ b
+        → Appends now after (cond b (contributions_of R eq n j t l) [])
+        → Appends before after (chosen (take (j + 1) (placed_in (n, t))))
+    step after b on this =
+        let p : Placed F = record { instance = n; place = j; traced = t; lookup = l } in
+        subst (Appends before after)
+        (ap (λ cs. chosen (take j (placed_in (n, t))) ++ cs) (sym (chosen-one (is_on name) (placed_contributions R eq) p b on))
+        ∙ sym (ap chosen (placed_in-more n t j l lt is) ∙ chosen-append (is_on name) (placed_contributions R eq) (take j (placed_in (n, t))) (p ∷ [])))
+        (appends-more before now after (chosen (take j (placed_in (n, t)))) (cond b (contributions_of R eq n j t l) []) so_far this)
+
+    -- it is on the bus
+    pub step_on : (made after : Contributions F) → after ≡ made
+        → is_named name (bus_of l.kind) ≡ true → Appends now made (contributions_of R eq n j t l)
+        → Appends before after (chosen (take (j + 1) (placed_in (n, t))))
+    step_on made after same on this = step after true on (subst (λ c. Appends now c (contributions_of R eq n j t l)) (sym same) this)
+
+    -- or it is not
+    pub step_off : (after : Contributions F) → after ≡ now → is_named name (bus_of l.kind) ≡ false
+        → Appends before after (chosen (take (j + 1) (placed_in (n, t))))
+    step_off after same off = step after false off (subst (λ c. Appends now c []) (sym same) (appends-none now so_far.0))
+
+  -- the lookups of one more AIR
+  pub step_instance : (ts : List (Traced F)) (i : ℕ) (t : Traced F) → i < length ts
+      → t ≡ get_or ts i t → (before now after : Contributions F)
+      → Appends before now (chosen (flat_map placed_in (take i (enumerate_from 0 ts))))
+      → Appends now after (chosen (placed_in (i, t)))
+      → Appends before after (chosen (flat_map placed_in (take (i + 1) (enumerate_from 0 ts))))
+  step_instance ts i t lt is before now after so_far this =
+      let front = flat_map placed_in (take i (enumerate_from 0 ts)) in
+      subst (Appends before after)
+      (sym (ap chosen (placed-more ts i t lt is) ∙ chosen-append (is_on name) (placed_contributions R eq) front (placed_in (i, t))))
+      (appends-more before now after (chosen front) (chosen (placed_in (i, t))) so_far this)

@@ -1,0 +1,14 @@
+pub mod AmountLaws
+pub mod BusLaws
+pub mod CutLaws
+pub mod CutNets
+pub mod FirstMismatch
+pub mod GroupSteps
+pub mod KeptItems
+pub mod LeastSteps
+pub mod MismatchLaws
+pub mod NameLaws
+pub mod PlacedLaws
+pub mod SeenOrder
+pub mod SentContributionLaws
+pub mod TextLaws

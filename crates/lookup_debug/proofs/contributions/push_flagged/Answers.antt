@@ -1,0 +1,50 @@
+use Rattle.std.proofs.Common.{Some, List, arith, subst, sym}
+use Rattle.std.proofs.lemmas.List.{take_all}
+use Rattle.expressions.specs.declared.base_expression.SymbolicExpression.{SymbolicExpression}
+use Rattle.lookup_generation.specs.TraceBuilder.{builder_layout, builder_window}
+use Rattle.lookup_model.proofs.RecordLaws.{All-at, Fits-at}
+use Rattle.lookup_model.specs.Records.{AllFit, IsWithin}
+use Rattle.lookup_model.specs.Sent.{branches_at, values}
+use Rattle.lookup_debug.specs.Appended.{Appends}
+use Rattle.lookup_debug.specs.Contributions.{Contribution, amounts, contributions_from, nonzero, place_of}
+use Rattle.lookup_debug.proofs.AmountLaws.{flagged_step, length-flagged}
+use Rattle.lookup_debug.proofs.CutLaws.{appends-none}
+use Rattle.lookup_debug.proofs.contributions.push_flagged.Goals as goal
+
+pub flagged_amount-requires-clause-flag_fits : goal.flagged_amount-requires-clause-flag_fits
+flagged_amount-requires-clause-flag_fits g c =
+    Fits-at (builder_layout c.args.builder.now) c.args.flags.now c.loop-branch.branch _ c.requires.flags_fit (omega (arith, c.requires.flag_number)) c.index-flags-branch.is
+
+pub flagged_amount-requires-clause-count_fits : goal.flagged_amount-requires-clause-count_fits
+unfolding IsWithin
+flagged_amount-requires-clause-count_fits g c =
+    Fits-at (builder_layout c.args.builder.now) c.args.lookup.now.multiplicities.items c.loop-branch.branch _ c.requires.fits.1 (omega (arith, c.requires.lengths.multiplicities)) c.index-multiplicity.ensures
+
+pub push_branch-requires-clause-fits : goal.push_branch-requires-clause-fits
+unfolding IsWithin
+push_branch-requires-clause-fits g c =
+    let layout = builder_layout c.args.builder.now in
+    subst (λ (t : List (SymbolicExpression _)). AllFit layout t) (sym c.deref.ensures.value) (All-at (λ tuple. AllFit layout tuple.items) c.args.lookup.now.elements.items c.loop-branch.branch c.index-tuple.result.now c.requires.fits.0 (omega arith) c.index-tuple.ensures)
+
+pub loop-branch-preserved : goal.loop-branch-preserved
+loop-branch-preserved g c =
+    flagged_step g.F.PrimeCharacteristicRing.ring g.F.PartialEq.eq (place_of c.args.location) (builder_window c.args.builder.now) c.args.lookup.now c.requires.lengths c.loop-branch.branch c.index-tuple.result.now c.index-multiplicity.result.now (omega arith) c.index-tuple.ensures c.index-multiplicity.ensures c.args.flags.now c.requires.flag_number c.index-flags-branch.result c.index-flags-branch.is
+    c.args.contributions.now c.loop-branch.contributions c.push_branch.new.contributions c.deref.result.now c.in_ok-amount.amount c.deref.ensures.value c.in_ok-amount.ensures c.loop-branch.invariant c.in_ok-push_branch.ensures
+
+pub returns : goal.returns
+returns g c =
+    let R = g.F.PrimeCharacteristicRing.ring in
+    let eq = g.F.PartialEq.eq in
+    let w = builder_window c.args.builder.now in
+    let place = place_of c.args.location in
+    let lookup = c.args.lookup.now in
+    let flags = c.args.flags.now in
+    let branches = branches_at R w 0 lookup in
+    let all = contributions_from place branches (amounts R (Some (values R w flags)) branches) in
+    subst (λ (cs : List (Contribution _)). Appends c.args.contributions.now c.loop-branch.contributions (nonzero R eq cs)) (take_all c.loop-branch.branch all (omega (arith, length-flagged R eq place w lookup c.requires.lengths flags c.requires.flag_number))) c.loop-branch.invariant
+
+pub loop-branch-init : goal.loop-branch-init
+loop-branch-init g c = appends-none c.args.contributions.now c.requires.within
+
+pub push_branch-requires-clause-within : goal.push_branch-requires-clause-within
+push_branch-requires-clause-within g c = c.loop-branch.invariant.0

@@ -1,0 +1,24 @@
+use Rattle.std.proofs.Common.{◌++◌, ap, sym, ◌∙◌}
+use Rattle.std.proofs.lemmas.List.{append-nil, take_all}
+use Rattle.lookup_model.proofs.RecordLaws.{Fits-at}
+use Rattle.lookup_model.specs.Sent.{values}
+use Rattle.lookup_generation.specs.TraceBuilder.{builder_layout, builder_window}
+use Rattle.lookup_debug.proofs.AmountLaws.{values_step}
+use Rattle.lookup_debug.proofs.contributions.push_tuple.Goals as goal
+
+pub value_on-requires : goal.value_on-requires
+value_on-requires g c =
+    Fits-at (builder_layout c.args.builder.now) c.args.tuple.now c.loop-element.element-index _ c.requires c.loop-element-test.true c.element-item.is
+
+pub loop-element-init : goal.loop-element-init
+loop-element-init g c = sym (append-nil c.args.elements.now.items)
+
+pub loop-element-preserved : goal.loop-element-preserved
+loop-element-preserved g c =
+    values_step g.F.PrimeCharacteristicRing.ring (builder_window c.args.builder.now) c.args.tuple.now c.loop-element.element-index c.element-item.result c.in_ok-value.value
+    c.args.elements.now.items c.loop-element.elements.items c.push.new.self.items c.loop-element-test.true c.element-item.is c.in_ok-value.ensures c.loop-element.invariant c.in_ok-push.ensures.items
+
+pub returns : goal.returns
+returns g c =
+    c.loop-element.invariant
+    ∙ ap (λ es. c.args.elements.now.items ++ values g.F.PrimeCharacteristicRing.ring (builder_window c.args.builder.now) es) (take_all c.loop-element.element-index c.args.tuple.now c.loop-element-test.false)

@@ -1,0 +1,10 @@
+pub mod Appended
+pub mod Arena
+pub mod Checks
+pub mod Contributions
+pub mod FaultText
+pub mod Groups
+pub mod Least
+pub mod Mismatch
+pub mod Nets
+pub mod SentContributions

@@ -1,0 +1,21 @@
+-- What a map of nets holds.
+use Rattle.std.specs.Prelude.{ℕ, Bool, List, Option, map, not}
+use Rattle.std.specs.Borrow.{Bor}
+use Rattle.std.specs.Cmp.Lexicographic.{pointwise}
+use Rattle.field.specs.Ring.{Ring}
+use Rattle.lookup_model.specs.Net.{first_seen}
+use Rattle.lookup_debug.specs.Contributions.{Contribution}
+use Rattle.lookup_debug.specs.Least.{IsBest}
+use Rattle.lookup_debug.specs.Mismatch.{net_amount, text_cmp}
+
+-- each distinct tuple with its net, in the order in which the tuples are first seen
+abbrev pub tuple_nets : {F : Type 0} → Ring F → (F → F → Bool) → List (Contribution F) → List (List F × F)
+tuple_nets R eq cs = map (λ tuple. (tuple, net_amount R eq cs tuple)) (first_seen (pointwise eq) (map (λ c. c.tuple) cs))
+
+-- the entries of a map with slices as keys
+abbrev pub tuple_entries : {F : Type 0} → List (Bor (List F) × F) → List (List F × F)
+tuple_entries es = map (λ e. (e.0.now, e.1)) es
+
+-- Of the first n entries, the place of the first tuple by its texts whose net is not zero.
+abbrev pub IsFirstPlace : {F : Type 0} → Ring F → (F → F → Bool) → (F → List ℕ) → List (Bor (List F) × F) → ℕ → Option ℕ → Type 0
+IsFirstPlace {F} R eq text es n best = IsBest (λ (a b : Bor (List F)). text_cmp text a.now b.now) (λ v. not (eq v R.zero)) es n best

@@ -1,0 +1,210 @@
+//! The debug check.
+ghost use Rattle.std.specs.Prelude.{◌≡◌, ◌⊎◌, All, IfOk, MatchResult, Some, map, slice_get, string_bytes};
+ghost use Rattle.std.specs.Option.{ForSome, option_copied};
+ghost use Rattle.expressions.specs.Layout.{layout_of_traces};
+ghost use Rattle.lookup_debug.specs.Arena.{AreWithin, contributions_in};
+ghost use Rattle.lookup_debug.specs.Checks.{AnswersGroup, AnswersGroups, local_groups_in};
+ghost use Rattle.lookup_debug.specs.Contributions.{contributions_of, place_of, traced_of};
+ghost use Rattle.lookup_debug.specs.Groups.{bus_group, bus_label, bus_names, is_missing, local_groups, local_label};
+ghost use Rattle.lookup_debug.specs.Mismatch.{AllBalance, HasParts, IsMismatch, of_tuple};
+ghost use Rattle.lookup_model.specs.Outline.{bus_of};
+ghost use Rattle.lookup_model.specs.Records.{DoFit};
+ghost use Rattle.matrix.specs.Matrix.{height};
+
+use crate::arena::Contributions;
+use crate::contributions::push_lookup;
+use crate::fault::{Location, LookupFault};
+use crate::first::first_mismatch;
+use crate::groups::{bus_names, push_bus};
+use crate::instance::LookupDebugInstance;
+use crate::labels::{label_of_bus, label_of_local};
+use field::Field;
+use lookup_model::{Kind, Lookup};
+use std::alloc::{AllocError, Global};
+
+/// Checks that all tuples balance: those of each local lookup by itself, in the order instance,
+/// lookup, and then those of each bus, in the order of the first lookups on them.
+///
+/// The lookups fit the traces and public values of their AIR, and a preprocessed trace is as high as
+/// the main trace. Contributions of zero are skipped. A branch of an exclusive lookup contributes
+/// flag times count, whatever the flag is.
+///
+/// Refuses the mismatch of the first group that has one, with its label, net and locations. It is
+/// about the tuple of nonzero net that is least by the texts of its elements, and among equal texts
+/// about the first one that contributes. Out of memory is refused under its own name.
+pub fn check_lookups<F: Field>(
+    alloc: Global,
+    instances: &[LookupDebugInstance<'_, F>],
+) -> Result<(), LookupFault<F>>
+    requires fit { All (λ i. DoFit (layout_of_traces i.main_trace.now (option_copied i.preprocessed_trace) i.public_values.now) i.lookups.now) instances.now }
+    requires heights { All (λ i. ForSome (option_copied i.preprocessed_trace) (λ m. height m ≡ height i.main_trace.now)) instances.now }
+    ensures { MatchResult result
+        (λ _. AllBalance F.ring F.eq (map traced_of instances.now))
+        (λ e. (e ≡ LookupFault.Memory) ⊎ IsMismatch F.ring F.eq F.text (map traced_of instances.now) e) }
+{
+    let mut contributions = Contributions::new(alloc);
+    check_locals(alloc, &mut contributions, instances)?;
+    check_buses(alloc, &mut contributions, instances)
+}
+
+/// Checks all local lookups.
+fn check_locals<F: Field>(
+    alloc: Global,
+    contributions: &mut Contributions<F>,
+    instances: &[LookupDebugInstance<'_, F>],
+) -> Result<(), LookupFault<F>>
+    requires fit { All (λ i. DoFit (layout_of_traces i.main_trace.now (option_copied i.preprocessed_trace) i.public_values.now) i.lookups.now) instances.now }
+    requires heights { All (λ i. ForSome (option_copied i.preprocessed_trace) (λ m. height m ≡ height i.main_trace.now)) instances.now }
+    ensures { AnswersGroups F.ring F.eq F.text (local_groups F.ring F.eq (map traced_of instances.now)) result }
+{
+    for instance in 0..instances.len() {
+        check_locals_of(alloc, contributions, &instances[instance], instance)?;
+    }
+    Ok(())
+}
+
+/// Checks the local lookups of one AIR.
+fn check_locals_of<F: Field>(
+    alloc: Global,
+    contributions: &mut Contributions<F>,
+    traced: &LookupDebugInstance<'_, F>,
+    instance: usize,
+) -> Result<(), LookupFault<F>>
+    requires fit { DoFit (layout_of_traces traced.now.main_trace.now (option_copied traced.now.preprocessed_trace) traced.now.public_values.now) traced.now.lookups.now }
+    requires heights { ForSome (option_copied traced.now.preprocessed_trace) (λ m. height m ≡ height traced.now.main_trace.now) }
+    ensures { AnswersGroups F.ring F.eq F.text (local_groups_in F.ring F.eq (instance, traced_of traced.now)) result }
+{
+    for place in 0..traced.lookups.len() {
+        let lookup = &traced.lookups[place];
+        if is_local(lookup) {
+            check_local(alloc, contributions, traced, lookup, instance, place)?;
+        }
+    }
+    Ok(())
+}
+
+/// Whether a lookup is local.
+fn is_local<F: Field>(lookup: &Lookup<F>) -> bool
+    ensures { result ≡ is_missing (bus_of lookup.now.kind) }
+{
+    match &lookup.kind {
+        Kind::Local => true,
+        Kind::Global(_) => false,
+    }
+}
+
+/// Checks one local lookup.
+fn check_local<F: Field>(
+    alloc: Global,
+    contributions: &mut Contributions<F>,
+    traced: &LookupDebugInstance<'_, F>,
+    lookup: &Lookup<F>,
+    instance: usize,
+    place: usize,
+) -> Result<(), LookupFault<F>>
+    requires there { slice_get traced.now.lookups.now place ≡ Some lookup.now }
+    requires fit { DoFit (layout_of_traces traced.now.main_trace.now (option_copied traced.now.preprocessed_trace) traced.now.public_values.now) traced.now.lookups.now }
+    requires heights { ForSome (option_copied traced.now.preprocessed_trace) (λ m. height m ≡ height traced.now.main_trace.now) }
+    ensures { AnswersGroup F.ring F.eq F.text (local_label instance place)
+        (contributions_of F.ring F.eq instance place (traced_of traced.now) lookup.now) result }
+{
+    contributions.clear();
+    push_lookup(alloc, contributions, traced, lookup, instance, place)?;
+    let Some(found) = first_mismatch(alloc, contributions)? else {
+        return Ok(());
+    };
+    let label = label_of_local(alloc, instance, place)?;
+    Err(mismatch(alloc, label, found, contributions)?)
+}
+
+/// Checks all buses.
+fn check_buses<F: Field>(
+    alloc: Global,
+    contributions: &mut Contributions<F>,
+    instances: &[LookupDebugInstance<'_, F>],
+) -> Result<(), LookupFault<F>>
+    requires fit { All (λ i. DoFit (layout_of_traces i.main_trace.now (option_copied i.preprocessed_trace) i.public_values.now) i.lookups.now) instances.now }
+    requires heights { All (λ i. ForSome (option_copied i.preprocessed_trace) (λ m. height m ≡ height i.main_trace.now)) instances.now }
+    ensures { let all = map traced_of instances.now in
+        AnswersGroups F.ring F.eq F.text (map (bus_group F.ring F.eq all) (bus_names all)) result }
+{
+    let names = bus_names(alloc, instances)?;
+    for place in 0..names.len() {
+        check_bus(alloc, contributions, instances, names[place])?;
+    }
+    Ok(())
+}
+
+/// Checks the bus of this name.
+fn check_bus<F: Field>(
+    alloc: Global,
+    contributions: &mut Contributions<F>,
+    instances: &[LookupDebugInstance<'_, F>],
+    name: &str,
+) -> Result<(), LookupFault<F>>
+    requires fit { All (λ i. DoFit (layout_of_traces i.main_trace.now (option_copied i.preprocessed_trace) i.public_values.now) i.lookups.now) instances.now }
+    requires heights { All (λ i. ForSome (option_copied i.preprocessed_trace) (λ m. height m ≡ height i.main_trace.now)) instances.now }
+    ensures { let group = bus_group F.ring F.eq (map traced_of instances.now) name.now in
+        AnswersGroup F.ring F.eq F.text group.label group.contributions result }
+{
+    contributions.clear();
+    push_bus(alloc, contributions, instances, name)?;
+    let Some(found) = first_mismatch(alloc, contributions)? else {
+        return Ok(());
+    };
+    let label = label_of_bus(alloc, name)?;
+    Err(mismatch(alloc, label, found, contributions)?)
+}
+
+/// The mismatch of a tuple with this net, in a group with this label.
+fn mismatch<F: Field>(
+    alloc: Global,
+    label: String,
+    found: (&[F], F),
+    contributions: &Contributions<F>,
+) -> Result<LookupFault<F>, AllocError>
+    requires within { AreWithin contributions.now }
+    ensures { IfOk result (HasParts (string_bytes label) (map F.text found.entry.0.now) found.entry.1
+        (map (λ c. c.place) (of_tuple F.ring F.eq (contributions_in contributions.now) found.entry.0.now))) }
+{
+    let (tuple, net) = found;
+    let texts = texts_of(alloc, tuple)?;
+    let locations = locations_of(alloc, tuple, contributions)?;
+    Ok(LookupFault::Mismatch {
+        label,
+        tuple: texts,
+        net,
+        locations,
+    })
+}
+
+/// The texts of the elements of a tuple.
+fn texts_of<F: Field>(alloc: Global, tuple: &[F]) -> Result<Vec<String>, AllocError>
+    ensures { IfOk result (λ texts. map (λ t. string_bytes t) texts.items ≡ map F.text tuple.now) }
+{
+    let mut texts = Vec::with_capacity(alloc, tuple.len())?;
+    for element in tuple {
+        texts.push(element.text(alloc)?)?;
+    }
+    Ok(texts)
+}
+
+/// Where a tuple is sent, one place for each contribution, in order.
+fn locations_of<F: Field>(
+    alloc: Global,
+    tuple: &[F],
+    contributions: &Contributions<F>,
+) -> Result<Vec<Location>, AllocError>
+    requires within { AreWithin contributions.now }
+    ensures { IfOk result (λ locations. map place_of locations.items
+        ≡ map (λ c. c.place) (of_tuple F.ring F.eq (contributions_in contributions.now) tuple.now)) }
+{
+    let elements = contributions.elements.as_slice();
+    let mut locations = Vec::new(alloc);
+    for cut in &contributions.cuts {
+        if tuple == &elements[cut.start..cut.end] {
+            locations.push(cut.location)?;
+        }
+    }
+    Ok(locations)
+}

@@ -1,0 +1,216 @@
+//! What a lookup contributes, row by row.
+ghost use Rattle.std.specs.Prelude.{◌≡◌, ◌++◌, [], ◌∷◌, None, Some, IfOk, OnOk, filter, length, map, not, slice_get};
+ghost use Rattle.std.specs.List.{zip};
+ghost use Rattle.std.specs.Option.{ForSome, option_copied};
+ghost use Rattle.expressions.specs.Layout.{Fits, layout_of_traces};
+ghost use Rattle.expressions.specs.Tree.{tree_of};
+ghost use Rattle.lookup_debug.specs.Appended.{Appends};
+ghost use Rattle.lookup_debug.specs.Arena.{AreWithin};
+ghost use Rattle.lookup_debug.specs.Contributions.{amounts, contributions_at, contributions_from, contributions_of, nonzero, place_of, traced_of};
+ghost use Rattle.lookup_generation.specs.TraceBuilder.{builder_layout, builder_window};
+ghost use Rattle.lookup_model.specs.Records.{AllFit, DoFit, HasEqualLengths, IsWithin};
+ghost use Rattle.lookup_model.specs.Sent.{branches_at, value, values};
+ghost use Rattle.matrix.specs.Matrix.{height};
+
+use crate::arena::{Contributions, Cut};
+use crate::fault::Location;
+use crate::instance::LookupDebugInstance;
+use air::SymbolicExpression;
+use field::Field;
+use lookup_generation::{LookupTraceBuilder, row_builder};
+use lookup_model::Lookup;
+use std::alloc::{AllocError, Global};
+
+/// The value of an expression on the builder's row.
+fn value_on<F: Field>(
+    alloc: Global,
+    expression: &SymbolicExpression<F>,
+    builder: &LookupTraceBuilder<'_, F, F>,
+) -> Result<F, AllocError>
+    requires { Fits (builder_layout builder.now) (tree_of expression.now) }
+    ensures { IfOk result (λ v. v ≡ value F.ring (builder_window builder.now) expression.now) }
+{
+    match expression.resolve(alloc, builder) {
+        Ok(value) => Ok(value),
+        Err(_) => Err(AllocError),
+    }
+}
+
+/// Appends the values of a tuple on the builder's row.
+fn push_tuple<F: Field>(
+    alloc: Global,
+    elements: &mut Vec<F>,
+    tuple: &[SymbolicExpression<F>],
+    builder: &LookupTraceBuilder<'_, F, F>,
+) -> Result<(), AllocError>
+    requires { AllFit (builder_layout builder.now) tuple.now }
+    ensures { OnOk result (elements.new.items ≡ elements.old.items ++ values F.ring (builder_window builder.now) tuple.now) }
+{
+    for element in tuple {
+        let value = value_on(alloc, element, builder)?;
+        elements.push(value)?;
+    }
+    Ok(())
+}
+
+/// Appends the contribution of one branch, unless its amount is zero.
+fn push_branch<F: Field>(
+    alloc: Global,
+    contributions: &mut Contributions<F>,
+    location: Location,
+    tuple: &[SymbolicExpression<F>],
+    amount: F,
+    builder: &LookupTraceBuilder<'_, F, F>,
+) -> Result<(), AllocError>
+    requires within { AreWithin contributions.now }
+    requires fits { AllFit (builder_layout builder.now) tuple.now }
+    ensures { OnOk result (Appends contributions.old contributions.new (nonzero F.ring F.eq (record {
+      tuple = values F.ring (builder_window builder.now) tuple.now;
+      amount = amount;
+      place = place_of location;
+    } ∷ []))) }
+{
+    if amount == F::ZERO {
+        return Ok(());
+    }
+    let start = contributions.elements.len();
+    push_tuple(alloc, &mut contributions.elements, tuple, builder)?;
+    let end = contributions.elements.len();
+    contributions.cuts.push(Cut {
+        start,
+        end,
+        amount,
+        location,
+    })?;
+    Ok(())
+}
+
+/// Appends the contributions of a lookup without flags on the builder's row: each tuple with its
+/// multiplicity.
+fn push_counted<F: Field>(
+    alloc: Global,
+    contributions: &mut Contributions<F>,
+    location: Location,
+    lookup: &Lookup<F>,
+    builder: &LookupTraceBuilder<'_, F, F>,
+) -> Result<(), AllocError>
+    requires within { AreWithin contributions.now }
+    requires lengths { HasEqualLengths lookup.now }
+    requires fits { IsWithin (builder_layout builder.now) lookup.now }
+    ensures { let branches = branches_at F.ring (builder_window builder.now) 0 lookup.now in
+        OnOk result (Appends contributions.old contributions.new (nonzero F.ring F.eq
+        (contributions_from (place_of location) branches (amounts F.ring None branches)))) }
+{
+    for branch in 0..lookup.elements.len() {
+        let tuple = &lookup.elements[branch];
+        let multiplicity = &lookup.multiplicities[branch];
+        let amount = value_on(alloc, multiplicity, builder)?;
+        push_branch(alloc, contributions, location, tuple, amount, builder)?;
+    }
+    Ok(())
+}
+
+/// Flag times count on the builder's row. The count under a flag of zero is not walked.
+fn flagged_amount<F: Field>(
+    alloc: Global,
+    flag: &SymbolicExpression<F>,
+    count: &SymbolicExpression<F>,
+    builder: &LookupTraceBuilder<'_, F, F>,
+) -> Result<F, AllocError>
+    requires flag_fits { Fits (builder_layout builder.now) (tree_of flag.now) }
+    requires count_fits { Fits (builder_layout builder.now) (tree_of count.now) }
+    ensures { let w = builder_window builder.now in
+        IfOk result (λ v. v ≡ F.ring.mul (value F.ring w flag.now) (value F.ring w count.now)) }
+{
+    let flag = value_on(alloc, flag, builder)?;
+    if flag.is_zero() {
+        return Ok(F::ZERO);
+    }
+    let count = value_on(alloc, count, builder)?;
+    Ok(flag * count)
+}
+
+/// Appends the contributions of a lookup with flags on the builder's row: each tuple with flag times
+/// count, whatever the flags are.
+fn push_flagged<F: Field>(
+    alloc: Global,
+    contributions: &mut Contributions<F>,
+    location: Location,
+    lookup: &Lookup<F>,
+    flags: &[SymbolicExpression<F>],
+    builder: &LookupTraceBuilder<'_, F, F>,
+) -> Result<(), AllocError>
+    requires within { AreWithin contributions.now }
+    requires lengths { HasEqualLengths lookup.now }
+    requires flag_number { length flags.now ≡ length lookup.now.elements.items }
+    requires fits { IsWithin (builder_layout builder.now) lookup.now }
+    requires flags_fit { AllFit (builder_layout builder.now) flags.now }
+    ensures { let w = builder_window builder.now in
+        let branches = branches_at F.ring w 0 lookup.now in
+        OnOk result (Appends contributions.old contributions.new (nonzero F.ring F.eq
+        (contributions_from (place_of location) branches (amounts F.ring (Some (values F.ring w flags.now)) branches)))) }
+{
+    for branch in 0..lookup.elements.len() {
+        let tuple = &lookup.elements[branch];
+        let multiplicity = &lookup.multiplicities[branch];
+        let flag = &flags[branch];
+        let amount = flagged_amount(alloc, flag, multiplicity, builder)?;
+        push_branch(alloc, contributions, location, tuple, amount, builder)?;
+    }
+    Ok(())
+}
+
+/// Appends the contributions of a lookup on the builder's row.
+fn push_on_row<F: Field>(
+    alloc: Global,
+    contributions: &mut Contributions<F>,
+    location: Location,
+    lookup: &Lookup<F>,
+    builder: &LookupTraceBuilder<'_, F, F>,
+) -> Result<(), AllocError>
+    requires within { AreWithin contributions.now }
+    requires lengths { HasEqualLengths lookup.now }
+    requires fits { IsWithin (builder_layout builder.now) lookup.now }
+    ensures { OnOk result (Appends contributions.old contributions.new
+        (contributions_at F.ring F.eq (place_of location) (builder_window builder.now) lookup.now)) }
+{
+    match &lookup.flags {
+        None => push_counted(alloc, contributions, location, lookup, builder),
+        Some(flags) => push_flagged(alloc, contributions, location, lookup, flags, builder),
+    }
+}
+
+/// Appends the contributions of the lookup at `place` of an AIR on all rows of its traces, those of
+/// zero left out.
+pub(crate) fn push_lookup<F: Field>(
+    alloc: Global,
+    contributions: &mut Contributions<F>,
+    traced: &LookupDebugInstance<'_, F>,
+    lookup: &Lookup<F>,
+    instance: usize,
+    place: usize,
+) -> Result<(), AllocError>
+    requires within { AreWithin contributions.now }
+    requires there { slice_get traced.now.lookups.now place ≡ Some lookup.now }
+    requires fit { DoFit (layout_of_traces traced.now.main_trace.now (option_copied traced.now.preprocessed_trace) traced.now.public_values.now) traced.now.lookups.now }
+    requires heights { ForSome (option_copied traced.now.preprocessed_trace) (λ m. height m ≡ height traced.now.main_trace.now) }
+    ensures { OnOk result (Appends contributions.old contributions.new
+        (contributions_of F.ring F.eq instance place (traced_of traced.now) lookup.now)) }
+{
+    for row in 0..traced.main_trace.height() {
+        let builder = row_builder(
+            traced.main_trace,
+            traced.preprocessed_trace,
+            traced.public_values,
+            traced.permutation_challenges,
+            row,
+        );
+        let location = Location {
+            instance,
+            lookup: place,
+            row,
+        };
+        push_on_row(alloc, contributions, location, lookup, &builder)?;
+    }
+    Ok(())
+}

@@ -1,0 +1,108 @@
+//! The first tuple of a group that does not balance.
+ghost use Rattle.std.specs.Prelude.{◌≡◌, ◌<◌, ◌+◌, IfOk, MatchOption, Some, slice_get};
+ghost use Rattle.std.specs.Cmp.Lexicographic.{slice_cmp};
+ghost use Rattle.std.specs.Ordering.{nat_cmp};
+ghost use Rattle.indexmap.specs.IndexMap.{index_map_len};
+ghost use Rattle.lookup_debug.specs.Arena.{AreWithin, contributions_in};
+ghost use Rattle.lookup_debug.specs.Mismatch.{Balances, IsFirst, net_amount, text_cmp};
+ghost use Rattle.lookup_debug.specs.Nets.{IsFirstPlace};
+
+use crate::arena::{Contributions, nets};
+use field::Field;
+use indexmap::IndexMap;
+use std::alloc::{AllocError, Global};
+use std::cmp::Ordering;
+
+/// The first tuple whose net is not zero, with its net: the least by the texts of its elements, and
+/// among equal texts the first that is contributed.
+pub(crate) fn first_mismatch<'a, F: Field>(
+    alloc: Global,
+    contributions: &'a Contributions<F>,
+) -> Result<Option<(&'a [F], F)>, AllocError>
+    requires within { AreWithin contributions.now }
+    ensures { IfOk result (λ found. MatchOption found
+        (Balances F.ring F.eq (contributions_in contributions.now))
+        (λ m. IsFirst F.ring F.eq F.text (contributions_in contributions.now) m.0.now
+        × (m.1 ≡ net_amount F.ring F.eq (contributions_in contributions.now) m.0.now))) }
+{
+    let nets = nets(alloc, contributions)?;
+    let Some(place) = least(alloc, &nets)? else {
+        return Ok(None);
+    };
+    Ok(Some(entry_at(&nets, place)))
+}
+
+/// The place of the least tuple whose net is not zero, and of several with its texts the first.
+fn least<F: Field>(alloc: Global, nets: &IndexMap<&[F], F>) -> Result<Option<usize>, AllocError>
+    ensures { IfOk result (IsFirstPlace F.ring F.eq F.text nets.now.entries (index_map_len nets.now)) }
+{
+    let mut best = None;
+    for place in 0..nets.len() {
+        best = better(alloc, nets, best, place)?;
+    }
+    Ok(best)
+}
+
+/// That of the entries up to `place` and with it, where `best` is that of the entries before it.
+fn better<F: Field>(
+    alloc: Global,
+    nets: &IndexMap<&[F], F>,
+    best: Option<usize>,
+    place: usize,
+) -> Result<Option<usize>, AllocError>
+    requires within { place < index_map_len nets.now }
+    requires best { IsFirstPlace F.ring F.eq F.text nets.now.entries place best }
+    ensures { IfOk result (IsFirstPlace F.ring F.eq F.text nets.now.entries (place + 1)) }
+{
+    let (tuple, net) = entry_at(nets, place);
+    if net == F::ZERO {
+        return Ok(best);
+    }
+    let Some(least) = best else {
+        return Ok(Some(place));
+    };
+    let (other, _) = entry_at(nets, least);
+    if text_order(alloc, tuple, other)? == Ordering::Less {
+        Ok(Some(place))
+    } else {
+        Ok(Some(least))
+    }
+}
+
+/// The entry at a place.
+fn entry_at<'a, F: Field>(nets: &IndexMap<&'a [F], F>, place: usize) -> (&'a [F], F)
+    requires { place < index_map_len nets.now }
+    ensures { slice_get nets.now.entries place ≡ Some result }
+{
+    match nets.get_index(place) {
+        Some((tuple, net)) => (*tuple, *net),
+        None => unreachable!(),
+    }
+}
+
+/// The order of two tuples by the lists of their texts.
+fn text_order<F: Field>(alloc: Global, a: &[F], b: &[F]) -> Result<Ordering, AllocError>
+    ensures { IfOk result (λ o. o ≡ text_cmp F.text a.now b.now) }
+{
+    let mut place = 0;
+    while place < a.len() && place < b.len() {
+        let order = element_order(alloc, a[place], b[place])?;
+        if order != Ordering::Equal {
+            return Ok(order);
+        }
+        place += 1;
+    }
+    Ok(a.len().cmp(&b.len()))
+}
+
+/// The order of two elements by their texts.
+fn element_order<F: Field>(alloc: Global, a: F, b: F) -> Result<Ordering, AllocError>
+    ensures { IfOk result (λ o. o ≡ slice_cmp nat_cmp (F.text a) (F.text b)) }
+{
+    if a == b {
+        return Ok(Ordering::Equal);
+    }
+    let first = a.text(alloc)?;
+    let second = b.text(alloc)?;
+    Ok(first.cmp(&second))
+}

@@ -1,0 +1,19 @@
+//! The debug check of lookups: which tuple does not balance, by how much, and on which rows.
+//!
+//! `check_lookups` takes each local lookup by itself and then each bus. The tuples of such a group are
+//! collected in one list of elements, a map from slices of it to nets adds them up, and texts are
+//! made only of tuples that do not balance.
+#![tactic(auto)]
+
+mod arena;
+mod check;
+mod contributions;
+mod fault;
+mod first;
+mod groups;
+mod instance;
+mod labels;
+
+pub use check::check_lookups;
+pub use fault::{Location, LookupFault};
+pub use instance::LookupDebugInstance;
