@@ -77,9 +77,9 @@ reduced_plainly x q e low =
     let same : q * 2013265921 % 4294967296 ≡ x % 4294967296 = rw e (same_low (x % 4294967296) half) in
     reduced x _ q 0 (omega arith)
 
--- A multiple of the modulus may be taken away before.
-pub reduced_later : (x r : ℕ) → 8646911288846319616 ≤ x → baby_bear_of r ≡ from_stored (x - 8646911288846319616) → baby_bear_of r ≡ from_stored x
-reduced_later x r high e = e ∙ from_stored_same _ x (same_residue _ x 4294967296 0 (omega arith))
+-- The modulus times 2^32 may be taken away first.
+pub wrapped_once : (x : ℕ) → 8646911288846319616 ≤ x → from_stored (x - 8646911288846319616) ≡ from_stored x
+wrapped_once x high = from_stored_same _ x (same_residue _ x 4294967296 0 (omega arith))
 
 -- The stored form of a sum.
 pub add_stored : (m n r : ℕ) → baby_bear_of r ≡ baby_bear_of (m + n) → from_stored r ≡ baby_bear_ring.add (from_stored m) (from_stored n)

@@ -1,8 +1,9 @@
 -- The product of two polynomials modulo X^4 - w, by coefficients of one factor times w.
 use Rattle.std.specs.Prelude.{◌≡◌, List, [], ◌∷◌, refl}
-use Rattle.field.specs.Quartic.{Quartic, quartic_ring, quartic_same}
-use Rattle.field.specs.Ring.{Ring, IsCommutativeRing}
-use Rattle.field.specs.RingSolver.{var, con, ◌:+◌, ◌:*◌, ring_given}
+use Rattle.std.proofs.Common.{ap, ◌∙◌}
+use Rattle.field.specs.Quartic.{Quartic, quartic_embed, quartic_ring, quartic_same}
+use Rattle.field.specs.Ring.{Ring, IsCommutativeRing, sub_in}
+use Rattle.field.specs.RingSolver.{var, con, ◌:+◌, ◌:*◌, ring_given, ring_law}
 
 module _ {A : Type 0} {R : Ring A} (laws : IsCommutativeRing R) (w : A) (a b : Quartic A) where
   -- the four coefficients, where w1, w2 and w3 are w times those of b
@@ -35,3 +36,27 @@ module _ {A : Type 0} {R : Ring A} (laws : IsCommutativeRing R) (w : A) (a b : Q
       (ring_given laws (env r.c2) ((con 1, x, a0 :* b2 :+ a1 :* b1 :+ (a2 :* b0 :+ a3 :* v3)) ∷ (a3, v3, W :* b3) ∷ [])
       x (a0 :* b2 :+ (a1 :* b1 :+ a2 :* b0) :+ W :* (a3 :* b3)) (f2, (e3, tt)) refl)
       f3
+
+module _ {A : Type 0} {R : Ring A} (laws : IsCommutativeRing R) (w : A) (a : Quartic A) (x : A) where
+  -- the product with an embedded element, by four products
+  pub quartic_scaled : (r : Quartic A) → r.c0 ≡ R.mul a.c0 x → r.c1 ≡ R.mul a.c1 x → r.c2 ≡ R.mul a.c2 x → r.c3 ≡ R.mul a.c3 x → r ≡ (quartic_ring R w).mul a (quartic_embed R x)
+  quartic_scaled r f0 f1 f2 f3 =
+      let env : List A = w ∷ x ∷ a.c0 ∷ a.c1 ∷ a.c2 ∷ a.c3 ∷ [] in
+      let W = var 0 in
+      let X = var 1 in
+      let a0 = var 2 in
+      let a1 = var 3 in
+      let a2 = var 4 in
+      let a3 = var 5 in
+      quartic_same r _
+      (f0 ∙ ring_law laws env (a0 :* X) (a0 :* X :+ W :* (a1 :* con 0 :+ (a2 :* con 0 :+ a3 :* con 0))) refl)
+      (f1 ∙ ring_law laws env (a1 :* X) (a0 :* con 0 :+ a1 :* X :+ W :* (a2 :* con 0 :+ a3 :* con 0)) refl)
+      (f2 ∙ ring_law laws env (a2 :* X) (a0 :* con 0 :+ (a1 :* con 0 :+ a2 :* X) :+ W :* (a3 :* con 0)) refl)
+      (f3 ∙ ring_law laws env (a3 :* X) (a0 :* con 0 :+ a1 :* con 0 :+ (a2 :* con 0 :+ a3 :* X)) refl)
+
+  -- what is left of b when that is subtracted
+  pub quartic_minus_scaled : (b r : Quartic A) → r.c0 ≡ sub_in R b.c0 (R.mul a.c0 x) → r.c1 ≡ sub_in R b.c1 (R.mul a.c1 x) → r.c2 ≡ sub_in R b.c2 (R.mul a.c2 x) → r.c3 ≡ sub_in R b.c3 (R.mul a.c3 x)
+      → r ≡ sub_in (quartic_ring R w) b ((quartic_ring R w).mul a (quartic_embed R x))
+  quartic_minus_scaled b r f0 f1 f2 f3 =
+      quartic_same r _ f0 f1 f2 f3
+      ∙ ap (sub_in (quartic_ring R w) b) (quartic_scaled (record { c0 = R.mul a.c0 x; c1 = R.mul a.c1 x; c2 = R.mul a.c2 x; c3 = R.mul a.c3 x }) refl refl refl refl)

@@ -79,6 +79,20 @@ fn reduce(x: u64) -> u32
     }
 }
 
+/// `x`, minus the modulus times 2^32 unless `x` is below that. Chosen without a jump.
+#[inline]
+fn wrapped(x: u64) -> u64
+    requires { x < 17293822577692639232 }
+    ensures below { result < 8646911288846319616 }
+    ensures value { from_stored result ≡ from_stored x }
+{
+    if x < MODULUS_TIMES_RADIX {
+        x
+    } else {
+        x - MODULUS_TIMES_RADIX
+    }
+}
+
 /// As `reduce`, for a number up to twice as large.
 #[inline]
 fn reduce_wide(x: u64) -> u32
@@ -86,11 +100,7 @@ fn reduce_wide(x: u64) -> u32
     ensures below { result < 2013265921 }
     ensures value { baby_bear_of result ≡ from_stored x }
 {
-    if x < MODULUS_TIMES_RADIX {
-        reduce(x)
-    } else {
-        reduce(x - MODULUS_TIMES_RADIX)
-    }
+    reduce(wrapped(x))
 }
 
 /// `x`, minus the modulus unless `x` is below it.

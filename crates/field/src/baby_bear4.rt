@@ -267,6 +267,28 @@ impl ExtensionDomain<BabyBear> for BabyBear4 {
         }
     }
 
+    /// Four products, where the product of two polynomials takes sixteen.
+    #[inline]
+    fn scaled(self, by: BabyBear) -> BabyBear4 {
+        BabyBear4 {
+            c0: self.c0 * by,
+            c1: self.c1 * by,
+            c2: self.c2 * by,
+            c3: self.c3 * by,
+        }
+    }
+
+    /// Four products as well.
+    #[inline]
+    fn minus_scaled(self, power: BabyBear4, by: BabyBear) -> BabyBear4 {
+        BabyBear4 {
+            c0: self.c0 - power.c0 * by,
+            c1: self.c1 - power.c1 * by,
+            c2: self.c2 - power.c2 * by,
+            c3: self.c3 - power.c3 * by,
+        }
+    }
+
     ghost embeds = { baby_bear4_embeds };
 
     ghost same_characteristic = { refl };

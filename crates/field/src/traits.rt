@@ -155,6 +155,20 @@ pub trait ExtensionDomain<F: Field>: Domain {
     fn embed(x: F) -> Self
         ensures { result ≡ embed x };
 
+    /// `self * by`, with `by` embedded.
+    fn scaled(self, by: F) -> Self
+        ensures { result ≡ Self.ring.mul self (embed by) }
+    {
+        self * Self::embed(by)
+    }
+
+    /// `self - power * by`, with `by` embedded.
+    fn minus_scaled(self, power: Self, by: F) -> Self
+        ensures { result ≡ sub_in Self.ring self (Self.ring.mul power (embed by)) }
+    {
+        self - power.scaled(by)
+    }
+
     ghost embeds: { IsEmbedding F.ring Self.ring embed };
 
     ghost same_characteristic: { F.CHARACTERISTIC ≡ Self.CHARACTERISTIC };

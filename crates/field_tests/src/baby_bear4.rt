@@ -101,3 +101,30 @@ fn generic_code_runs_over_both(rt: HostRuntime) {
     let wide: BabyBear4 = affine(x, x, quartic(2, 0, 0, 0));
     is(&rt, "an extension over itself", wide, quartic(2, 0, 1, 0));
 }
+
+fn scaled<F: Field, EF: ExtensionDomain<F>>(x: EF, by: F) -> EF {
+    x.scaled(by)
+}
+
+fn minus_scaled<F: Field, EF: ExtensionDomain<F>>(x: EF, power: EF, by: F) -> EF {
+    x.minus_scaled(power, by)
+}
+
+#[test]
+fn products_with_base_elements(rt: HostRuntime) {
+    let (three, last) = (BabyBear::new(3), BabyBear::from_i32(-1));
+    let (x, y) = (quartic(1, 2, 3, 4), quartic(10, 20, 30, 40));
+    is(&rt, "3x", scaled(x, three), quartic(3, 6, 9, 12));
+    is(&rt, "x * -1", scaled(x, last), -x);
+    is(&rt, "y - 3x", minus_scaled(y, x, three), quartic(7, 14, 21, 28));
+    is(&rt, "x - 3x", minus_scaled(x, x, three), -quartic(2, 4, 6, 8));
+    is(&rt, "3 * 3", scaled(three, three), BabyBear::new(9));
+    is(
+        &rt,
+        "-1 - 3 * 3",
+        minus_scaled(last, three, three),
+        BabyBear::from_i32(-10),
+    );
+    let root = quartic(0, 1, 0, 0);
+    is(&rt, "x by itself", scaled(root, root), quartic(0, 0, 1, 0));
+}

@@ -12,6 +12,13 @@ fn units() -> [F7; 4]
     [F7::new(1), F7::new(2), F7::new(3), F7::new(6)]
 }
 
+/// Two, three and four.
+fn three_units() -> [F7; 3]
+    ensures { All (λ x. x ≢ f7_ring.zero) result }
+{
+    [F7::new(2), F7::new(3), F7::new(4)]
+}
+
 /// Whether the inverses of a list are these, by so many counted inverses.
 fn has_inverses<K: Field>(alloc: Global, xs: &[K], wanted: &[K], calls: u64) -> bool
     requires { All (λ x. x ≢ K.ring.zero) xs.now }
@@ -27,6 +34,13 @@ fn has_inverses<K: Field>(alloc: Global, xs: &[K], wanted: &[K], calls: u64) -> 
 fn one_inverse_serves_a_list(rt: HostRuntime) {
     let wanted = [F7::new(1), F7::new(4), F7::new(5), F7::new(6)];
     holds(&rt, "four", has_inverses(rt.alloc(), &units(), &wanted, 1));
+}
+
+/// 2 * 4, 3 * 5 and 4 * 2 are 8, 15 and 8, all one modulo 7.
+#[test]
+fn two_three_and_four(rt: HostRuntime) {
+    let wanted = [F7::new(4), F7::new(5), F7::new(2)];
+    holds(&rt, "three", has_inverses(rt.alloc(), &three_units(), &wanted, 1));
 }
 
 #[test]

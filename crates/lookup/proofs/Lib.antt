@@ -6,5 +6,6 @@ pub mod Heights
 pub mod NamedWidthLaws
 pub mod Outlines
 pub mod PackedDegrees
+pub mod PackedWithin
 pub mod TerminalSums
 pub mod Within

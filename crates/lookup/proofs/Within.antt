@@ -18,16 +18,20 @@ of_option : {X Y : Type 0} (P : Y → Type 0) (f : X → Y) (o : Option X) → I
 of_option P f None h = tt
 of_option P f (Some x) h = h
 
+to_option : {X Y : Type 0} (P : Y → Type 0) (f : X → Y) (o : Option X) → IfSome o (λ x. P (f x)) → IfSome (option_map f o) P
+to_option P f None h = tt
+to_option P f (Some x) h = h
+
 module _ {F : Type 0} (layout : AirLayout) where
   -- an expression stays within the layout
-  abbrev IsInside : SymbolicExpression F → Type 0
+  abbrev pub IsInside : SymbolicExpression F → Type 0
   IsInside e = Fits layout (tree_of e)
 
   -- all expressions of an outline do
-  record IsOutlineInside (o : Outline (SymbolicExpression F)) : Type 0 where
-    elements : All (λ tuple. All IsInside tuple) o.elements
-    multiplicities : All IsInside o.multiplicities
-    flags : IfSome o.flags (λ flags. All IsInside flags)
+  pub record IsOutlineInside (o : Outline (SymbolicExpression F)) : Type 0 where
+    pub elements : All (λ tuple. All IsInside tuple) o.elements
+    pub multiplicities : All IsInside o.multiplicities
+    pub flags : IfSome o.flags (λ flags. All IsInside flags)
 
   -- the interactions that push such expressions
   abbrev AreTuplesInside : List (Tuple (SymbolicExpression F)) → Type 0
@@ -66,13 +70,21 @@ module _ {F : Type 0} (layout : AirLayout) where
     flags = All-map IsInside (λ b. b.flag) m.branches (λ n d below. (all n d below).flag);
   }
 
-  lookup_inside : (lookup : Lookup F) → IsOutlineInside (fields_of lookup) → IsWithin layout lookup
+  pub lookup_inside : (lookup : Lookup F) → IsOutlineInside (fields_of lookup) → IsWithin layout lookup
   unfolding AllFit IsWithin
   lookup_inside lookup o = (
     all_of_map (λ tuple. All IsInside tuple) (λ tuple. tuple.items) lookup.elements.items o.elements,
     o.multiplicities,
     of_option (λ flags. All IsInside flags) (λ flags. flags.items) lookup.flags o.flags,
   )
+
+  pub inside_of : (lookup : Lookup F) → IsWithin layout lookup → IsOutlineInside (fields_of lookup)
+  unfolding AllFit IsWithin
+  inside_of lookup within = record {
+    elements = All-map (λ tuple. All IsInside tuple) (λ tuple. tuple.items) lookup.elements.items within.0;
+    multiplicities = within.1;
+    flags = to_option (λ flags. All IsInside flags) (λ flags. flags.items) lookup.flags within.2;
+  }
 
   -- lookups that are extracted from interactions within a layout fit it
   pub extracted_fit : (lookups : List (Lookup F)) (locals : List (List (Tuple (SymbolicExpression F)))) (globals : List (GlobalInteraction (SymbolicExpression F))) (exclusives : List (ExclusiveInteraction (SymbolicExpression F))) → AreRecords lookups → map fields_of lookups ≡ extraction locals globals exclusives → All AreTuplesInside locals → All IsGlobalInside globals → All AreBranchesInside exclusives → DoFit layout lookups

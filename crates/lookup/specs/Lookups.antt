@@ -1,8 +1,14 @@
 -- What contracts see of the lookups of one AIR.
 use Rattle.std.specs.Prelude.{List}
+use Rattle.expressions.specs.declared.layout.AirLayout.{AirLayout}
+use Rattle.lookup_model.specs.Records.{DoFit}
 use Rattle.lookup_model.specs.declared.types.Lookup.{Lookup}
 use Rattle.lookup.specs.declared.lookups.Lookups.{Lookups}
 
 -- the lookups in the order of their columns
 abbrev pub lookups_of : {F : Type 0} → Lookups F → List (Lookup F)
 lookups_of set = set.lookups.items
+
+-- each layout that the lookups before fit, those after fit too
+abbrev pub DoesStillFit : {F : Type 0} → List (Lookup F) → List (Lookup F) → Type 0
+DoesStillFit before after = (layout : AirLayout) → DoFit layout before → DoFit layout after

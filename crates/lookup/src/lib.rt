@@ -24,7 +24,7 @@ pub use logup::LogUpGadget;
 pub use lookup_model::{
     Challenges, Kind, Lookup, LookupError, LookupTerminal, fits, has_equal_lengths,
 };
-pub use lookup_packing::assert_uniform_tuple_width;
+pub use lookup_packing::{assert_uniform_tuple_width, messages_keep_terminals};
 pub use lookup_record::{
     Count, IndexedDeclarations, IndexedLookupBuilder, IndexedLookupError, IndexedLookups,
     IndexedRead, IndexedTable, InteractionBuilder, InteractionSymbolicBuilder, LocalTuple,

@@ -1,12 +1,19 @@
 //! The LogUp gadget (eprint 2022/1530).
-ghost use Rattle.std.specs.Prelude.{◌≡◌};
+ghost use Rattle.std.specs.Prelude.{◌≡◌, ◌+◌, ◌*◌, ◌≤◌, length};
+ghost use Rattle.std.specs.Option.{ForSome, option_copied};
+ghost use Rattle.expressions.specs.Layout.{layout_of_traces};
+ghost use Rattle.lookup_generation.specs.Inverses.{ForInverses};
+ghost use Rattle.lookup_generation.specs.Progress.{started_chunks};
+ghost use Rattle.lookup_model.specs.Extension.{extension};
+ghost use Rattle.lookup_model.specs.Generation.{AnswersGeneration};
 ghost use Rattle.lookup_model.specs.LookupDegree.{IsDegree, lookup_degree};
-ghost use Rattle.lookup_model.specs.Records.{HasEqualLengths};
+ghost use Rattle.lookup_model.specs.Records.{DoFit, HasEqualLengths};
 ghost use Rattle.lookup_model.specs.Terminals.{terminal_sum, terminal_value};
+ghost use Rattle.matrix.specs.Matrix.{height};
 
 use crate::protocol::LookupProtocol;
 use air::{AirBuilder, AirError, ExtensionBuilder, PermutationAirBuilder};
-use field::{ExtensionField, Field};
+use field::{ExtensionDomain, ExtensionField, Field, Inverter};
 use lookup_generation::LookupTraceBuilder;
 use lookup_model::{Lookup, LookupError, LookupTerminal};
 use matrix::RowMajorMatrix;
@@ -39,6 +46,50 @@ impl LogUpGadget {
         ensures { IsDegree result (lookup_degree transition lookup.now) }
     {
         lookup_model::constraint_degree(lookup, transition)
+    }
+
+    /// The auxiliary trace of one AIR and its terminal, as `generate_permutation` makes them, with an
+    /// inverter that counts.
+    ///
+    /// `main` and `preprocessed`, if there is one, have the same height. `challenges` are an alpha and a
+    /// beta for each lookup, in the order of their columns. The trace has that height and one column
+    /// more than there are lookups: the accumulator, then the fraction of each lookup. Without lookups
+    /// it has width 0, and there is no terminal.
+    ///
+    /// Rows are made in chunks of 1024, and all fractions of a chunk are divided by one inverse.
+    /// `inverter` counts at most one call for each chunk that is started, also if the trace is
+    /// refused: at most `height / 1024`, rounded up. The challenges may lie in a domain that has no
+    /// inverse of its own: whatever function inverts its elements, the answer is the one of that
+    /// inverse.
+    ///
+    /// Refuses the first fault in the order row, lookup, before it inverts the chunk of that row, and
+    /// returns nothing of the trace; on one row of one lookup, in the order of `generate_permutation`. Out
+    /// of memory is refused under its own name.
+    pub fn generate_counted<'a, F: Field, EF: ExtensionDomain<F>, I: Inverter<EF>>(
+        &self,
+        alloc: Global,
+        main: &'a RowMajorMatrix<F>,
+        preprocessed: Option<&'a RowMajorMatrix<F>>,
+        public_values: &[F],
+        lookups: &[Lookup<F>],
+        challenges: &[EF],
+        inverter: &mut I,
+    ) -> Result<(RowMajorMatrix<EF>, Option<LookupTerminal<EF>>), LookupError>
+        requires heights { ForSome (option_copied preprocessed) (λ m. height m ≡ height main.now) }
+        requires fit { DoFit (layout_of_traces main.now (option_copied preprocessed) public_values.now) lookups.now }
+        requires challenges { 2 * length lookups.now ≤ length challenges.now }
+        ensures answers { ForInverses EF.ring (λ inverse. AnswersGeneration (extension F.ring F.eq EF.ring EF.eq EF.embed inverse) main.now (option_copied preprocessed.entry) public_values.now lookups.now challenges.now result) }
+        ensures counted { I.count inverter.new ≤ I.count inverter.old + started_chunks (height main.now) }
+    {
+        lookup_generation::generate_counted(
+            alloc,
+            main,
+            preprocessed,
+            public_values,
+            lookups,
+            challenges,
+            inverter,
+        )
     }
 }
 

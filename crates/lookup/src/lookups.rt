@@ -25,13 +25,14 @@ pub struct Lookups<F> {
 
 impl<F: Field> Lookups<F> {
     ghost use Rattle.lookup.specs.Extraction.{Extracts};
-    ghost use Rattle.lookup.specs.Lookups.{lookups_of};
+    ghost use Rattle.lookup.specs.Lookups.{DoesStillFit, lookups_of};
     ghost use Rattle.lookup_record.specs.RecordedWithin.{EvaluatesWithin};
     ghost use Rattle.std.specs.Fn.{FnReturnsAt};
     ghost use Rattle.lookup_model.specs.LookupDegree.{IsDegree, lookup_degree};
     ghost use Rattle.lookup_model.specs.Outline.{fields_of};
     ghost use Rattle.lookup_model.specs.Records.{HasEqualLengths};
     ghost use Rattle.lookup_packing.specs.Fewest.{AnswersDegree, HasFewestColumns};
+    ghost use Rattle.lookup_packing.specs.Kept.{KeepsKeys, KeepsMessages, KeepsNets, KeepsWeight};
     ghost use Rattle.lookup_packing.specs.Packing.{Packs};
     ghost use Rattle.lookup_packing.specs.Trials.{Answers, IsMember};
 
@@ -82,6 +83,10 @@ impl<F: Field> Lookups<F> {
     /// their first other lookups. Refuses `TupleWidths` at the first bus with two widths, then what
     /// the first refused trial refuses: the closure's own refusal, or `CountWeightOverflow`. The set
     /// is then dropped.
+    ///
+    /// The packed set sends the same messages on every row, if its columns have the ids that their
+    /// lookups had. So the keys stay, each with its net, and so does the weight of all lookups. It
+    /// fits the layouts that the set fits.
     pub fn pack_same_bus_with_degree<D: Fn(&Lookup<F>) -> Result<usize, LookupError>>(
         self,
         alloc: Global,
@@ -90,6 +95,11 @@ impl<F: Field> Lookups<F> {
     ) -> Result<Self, LookupError>
         requires callable { (lookup : _) → IsMember lookup.now → D.pre degree lookup }
         ensures packs { Packs (Answers (FnReturnsAt D.Fn degree)) max_degree (λ set. map fields_of (lookups_of set)) (map fields_of (lookups_of self)) result }
+        ensures weight { IfOk result (λ set. KeepsWeight (lookups_of self) (lookups_of set)) }
+        ensures messages { IfOk result (λ set. KeepsMessages F.ring F.eq (lookups_of self) (lookups_of set)) }
+        ensures nets { IfOk result (λ set. KeepsNets F.ring F.eq (lookups_of self) (lookups_of set)) }
+        ensures keys { IfOk result (λ set. KeepsKeys F.ring F.eq (lookups_of self) (lookups_of set)) }
+        ensures fits { IfOk result (λ set. DoesStillFit (lookups_of self) (lookups_of set)) }
     {
         let lookups = lookup_packing::packed(alloc, self.lookups, max_degree, degree)?;
         Ok(Lookups { lookups })
@@ -107,6 +117,11 @@ impl<F: Field> Lookups<F> {
     ) -> Result<Self, LookupError>
         ensures packs { Packs AnswersDegree max_degree (λ set. map fields_of (lookups_of set)) (map fields_of (lookups_of self)) result }
         ensures fewest { IfOk result (λ set. HasFewestColumns max_degree (map fields_of (lookups_of self)) (map fields_of (lookups_of set))) }
+        ensures weight { IfOk result (λ set. KeepsWeight (lookups_of self) (lookups_of set)) }
+        ensures messages { IfOk result (λ set. KeepsMessages F.ring F.eq (lookups_of self) (lookups_of set)) }
+        ensures nets { IfOk result (λ set. KeepsNets F.ring F.eq (lookups_of self) (lookups_of set)) }
+        ensures keys { IfOk result (λ set. KeepsKeys F.ring F.eq (lookups_of self) (lookups_of set)) }
+        ensures fits { IfOk result (λ set. DoesStillFit (lookups_of self) (lookups_of set)) }
     {
         self.pack_same_bus_with_degree(
             alloc,

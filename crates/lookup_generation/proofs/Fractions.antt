@@ -1,5 +1,5 @@
 -- The fraction of a lookup, message by message.
-use Rattle.std.proofs.Common.{◌≡◌, ◌≢◌, Bool, true, false, cond, not, ◌||◌, List, [], ◌∷◌, ◌++◌, map, refl, sym, ap, ◌∙◌}
+use Rattle.std.proofs.Common.{◌≡◌, ◌≢◌, Bool, true, false, cond, not, ◌||◌, List, [], ◌∷◌, ◌++◌, map, refl, sym, ap, subst, ◌∙◌}
 use Rattle.std.proofs.lemmas.Bool.{false_from_ne_true, or_left, or_right}
 use Rattle.std.proofs.lemmas.List.{map_push}
 use Rattle.std.proofs.lemmas.List.Folds.{list_any-append}
@@ -7,7 +7,9 @@ use Rattle.std.specs.List.{list_any}
 use Rattle.field.specs.Sums.{sum_in}
 use Rattle.lookup_model.specs.Extension.{Extension, IsLawful}
 use Rattle.lookup_model.specs.Fault.{vanishes}
-use Rattle.lookup_generation.specs.Fraction.{IsFractionOf}
+use Rattle.lookup_generation.specs.Fraction.{IsFractionOf, IsRatio}
+use Rattle.lookup_generation.specs.declared.ratio.Ratio.{Ratio}
+use Rattle.lookup_laws.proofs.SatisfiedFractions.{divides_one}
 use Rattle.lookup_model.specs.Plain.{quotient_of}
 use Rattle.lookup_model.specs.Message.{Key, Message}
 use Rattle.lookup_model.specs.Plain.{counted}
@@ -23,15 +25,18 @@ module _ {F K : Type 0} {E : Extension F K} (laws : IsLawful E) (denominator : K
       by_test false f = refl
 
   -- a message that counts adds its quotient, where its denominator is not zero
-  pub fraction_of_added : (ms : List (Message F)) (m : Message F) (f next : K) → m.multiplicity ≢ E.base.zero → denominator m.key ≢ E.ring.zero → next ≡ E.ring.add f (quotient_of E denominator m) → IsFractionOf E denominator ms f → IsFractionOf E denominator (ms ++ m ∷ []) next
-  fraction_of_added ms m f next counts divides next_is so_far =
+  pub fraction_of_added : (ms : List (Message F)) (m : Message F) (f next : Ratio K) → m.multiplicity ≢ E.base.zero → denominator m.key ≢ E.ring.zero
+      → ((x q : K) → IsRatio E.ring f x → E.ring.mul (denominator m.key) q ≡ E.embed m.multiplicity → IsRatio E.ring next (E.ring.add x q))
+      → IsFractionOf E denominator ms f → IsFractionOf E denominator (ms ++ m ∷ []) next
+  fraction_of_added ms m f next counts divides plus so_far =
       let same = counted_nonzero ms m counts in
+      let q = quotient_of E denominator m in
+      let qs = map (quotient_of E denominator) (counted E ms) in
       record {
-        value =
-            next_is ∙ ap (λ t. E.ring.add t (quotient_of E denominator m)) so_far.value
-            ∙ sym (sum_in-push laws.ring (map (quotient_of E denominator) (counted E ms)) (quotient_of E denominator m))
-            ∙ ap (sum_in E.ring) (sym (map_push (quotient_of E denominator) (counted E ms) m))
-            ∙ ap (λ ns. sum_in E.ring (map (quotient_of E denominator) ns)) (sym same);
+        is =
+            subst (IsRatio E.ring next)
+            (sym (sum_in-push laws.ring qs q) ∙ ap (sum_in E.ring) (sym (map_push (quotient_of E denominator) (counted E ms) m)) ∙ ap (λ ns. sum_in E.ring (map (quotient_of E denominator) ns)) (sym same))
+            (plus (sum_in E.ring qs) q so_far.is (divides_one laws denominator m divides));
         divides =
             ap (vanishes E denominator) same
             ∙ list_any-append (λ n. E.eq (denominator n.key) E.ring.zero) (counted E ms) (m ∷ [])

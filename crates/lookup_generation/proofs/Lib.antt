@@ -3,6 +3,7 @@ pub mod Layouts
 pub mod MadeRows
 pub mod OwnWindow
 pub mod ProgressLaws
+pub mod Ratios
 pub mod SelectedFractions
 pub mod SentMessageLaws
 pub mod SetFlags

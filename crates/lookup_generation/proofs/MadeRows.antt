@@ -13,11 +13,11 @@ use Rattle.lookup_laws.proofs.Terminals.{plain_terminal-sum}
 
 module _ {F K : Type 0} {E : Extension F K} (laws : IsLawful E) (denominator : Key F → K) (rows : List (List (Sent F))) (h : ℕ) (cells : List K) (accumulator : K) (high : length rows ≡ h) (has : HasRows E denominator rows h cells accumulator) where
   pub cells_plain : cells ≡ plain_cells E denominator rows
-  cells_plain = has.cells_are ∙ ap (λ n. flat_map (plain_row E denominator rows) (range_with_len 0 n)) (sym high)
+  cells_plain = has.made.cells_are ∙ ap (λ n. flat_map (plain_row E denominator rows) (range_with_len 0 n)) (sym high)
 
   pub accumulator_plain : accumulator ≡ plain_terminal E denominator rows
   accumulator_plain =
-      has.accumulator_is ∙ ap (λ t. sum_in E.ring (flat_map (λ row. map (plain_fraction E denominator) row) t)) (take_all h rows (omega arith))
+      has.made.accumulator_is ∙ ap (λ t. sum_in E.ring (flat_map (λ row. map (plain_fraction E denominator) row) t)) (take_all h rows (omega arith))
       ∙ sym (plain_terminal-sum laws denominator rows)
 
   pub faultless_trace : trace_faults E denominator rows ≡ []

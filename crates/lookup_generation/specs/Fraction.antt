@@ -1,5 +1,5 @@
 -- The fraction of a lookup while its messages are processed.
-use Rattle.std.specs.Prelude.{◌≡◌, ℕ, false, List, map}
+use Rattle.std.specs.Prelude.{◌≡◌, ◌≢◌, ℕ, All, false, List, length, map}
 use Rattle.field.specs.Ring.{Ring}
 use Rattle.field.specs.Sums.{sum_in}
 use Rattle.expressions.specs.Window.{Window}
@@ -9,13 +9,26 @@ use Rattle.lookup_model.specs.Fault.{vanishes}
 use Rattle.lookup_model.specs.Message.{Key, Message}
 use Rattle.lookup_model.specs.Plain.{counted, quotient_of}
 use Rattle.lookup_model.specs.Sent.{values}
+use Rattle.lookup_generation.specs.declared.ratio.Ratio.{Ratio}
 
 -- the key of a tuple at a window, under an id
 abbrev pub key_at : {F : Type 0} → Ring F → Window F → ℕ → List (SymbolicExpression F) → Key F
 key_at R w id tuple = record { id = id; tuple = values R w tuple }
 
+-- A ratio has this value: its numerator is its denominator times the value, and its denominator is
+-- not zero.
+pub record IsRatio {K : Type 0} (S : Ring K) (ratio : Ratio K) (x : K) : Type 0 where
+  pub value : ratio.numerator ≡ S.mul ratio.denominator x
+  pub nonzero : ratio.denominator ≢ S.zero
+
+-- these are n ratios, and no denominator is zero
+pub record AreSound {K : Type 0} (S : Ring K) (n : ℕ) (ratios : List (Ratio K)) : Type 0 where
+  pub many : length ratios ≡ n
+  pub nonzero : All (λ r. r.denominator ≢ S.zero) ratios
+
 module _ {F K : Type 0} (E : Extension F K) (denominator : Key F → K) where
-  -- f is the sum of the quotients of the counted messages, and none of their denominators vanishes
-  pub record IsFractionOf (ms : List (Message F)) (f : K) : Type 0 where
-    pub value : f ≡ sum_in E.ring (map (quotient_of E denominator) (counted E ms))
+  -- the ratio is the sum of the quotients of the counted messages, and none of their denominators
+  -- vanishes
+  pub record IsFractionOf (ms : List (Message F)) (ratio : Ratio K) : Type 0 where
+    pub is : IsRatio E.ring ratio (sum_in E.ring (map (quotient_of E denominator) (counted E ms)))
     pub divides : vanishes E denominator (counted E ms) ≡ false

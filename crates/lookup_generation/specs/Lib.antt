@@ -1,4 +1,5 @@
 pub mod Fraction
+pub mod Inverses
 pub mod Progress
 pub mod RowAnswers
 pub mod Selection

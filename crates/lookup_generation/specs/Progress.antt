@@ -1,12 +1,13 @@
 -- An auxiliary trace while it is being made.
-use Rattle.std.specs.Prelude.{◌≡◌, ◌⊎◌, ℕ, List, [], ◌∷◌, ◌++◌, map, take, slice_get, Some, Result, MatchResult}
-use Rattle.std.specs.List.{flat_map, range_with_len}
-use Rattle.field.specs.Sums.{sum_in}
+use Rattle.std.specs.Prelude.{◌≡◌, ◌⊎◌, ◌+◌, ◌-◌, ◌/◌, ℕ, List, [], ◌++◌, map, take, slice_get, slice_index_or, Some, Result, MatchResult}
+use Rattle.std.specs.List.{AllZip, flat_map, range_with_len}
 use Rattle.lookup_model.specs.Extension.{Extension}
 use Rattle.lookup_model.specs.Fault.{row_faults, trace_faults}
 use Rattle.lookup_model.specs.Message.{Key}
 use Rattle.lookup_model.specs.Plain.{plain_accumulator, plain_fraction, plain_row}
 use Rattle.lookup_model.specs.Sent.{Sent}
+use Rattle.lookup_generation.specs.Fraction.{IsRatio}
+use Rattle.lookup_generation.specs.declared.ratio.Ratio.{Ratio}
 use Rattle.lookup_model.specs.declared.error.LookupError.{LookupError}
 use Rattle.lookup_model.specs.declared.error.LookupError.TheVariants.{Memory}
 
@@ -15,23 +16,39 @@ abbrev pub IsFirstOf : List LookupError → LookupError → Type 0
 IsFirstOf faults e = (e ≡ Memory) ⊎ (slice_get faults 0 ≡ Some e)
 
 module _ {F K : Type 0} (E : Extension F K) (denominator : Key F → K) where
-  -- After the earlier cells come the accumulator and the fractions of these lookups of a row, which
-  -- has no fault in them. next is the accumulator plus these fractions.
-  pub record HasRow (row : ℕ) (before after : List K) (accumulator next : K) (sents : List (Sent F)) : Type 0 where
-    pub cells : after ≡ before ++ accumulator ∷ map (plain_fraction E denominator) sents
-    pub total : next ≡ E.ring.add accumulator (sum_in E.ring (map (plain_fraction E denominator) sents))
+  -- The ratios are these values, and then the fractions of these lookups of a row, which has no fault
+  -- in them.
+  pub record HasRatios (row : ℕ) (before after : List (Ratio K)) (sents : List (Sent F)) : Type 0 where
+    pub ratios : (fs : List K) → AllZip (IsRatio E.ring) before fs → AllZip (IsRatio E.ring) after (fs ++ map (plain_fraction E denominator) sents)
     pub faultless : row_faults E denominator row sents ≡ []
 
-  -- The cells are those of the first r rows, which have no fault, and the accumulator is that of
-  -- row r.
-  pub record HasRows (rows : List (List (Sent F))) (r : ℕ) (cells : List K) (accumulator : K) : Type 0 where
+  -- the fractions on a row of a trace
+  abbrev pub row_fractions : List (List (Sent F)) → ℕ → List K
+  row_fractions rows r = map (plain_fraction E denominator) (slice_index_or rows r [])
+
+  -- The ratios are the fractions of the rows from `first` up to `end`, and no row before `end` has a
+  -- fault.
+  pub record AreRatios (rows : List (List (Sent F))) (first end : ℕ) (ratios : List (Ratio K)) : Type 0 where
+    pub ratios_are : AllZip (IsRatio E.ring) ratios (flat_map (λ i. row_fractions rows (first + i)) (range_with_len 0 (end - first)))
+    pub faultless : trace_faults E denominator (take end rows) ≡ []
+
+  -- the cells are those of the first r rows, and the accumulator is that of row r
+  pub record HasCells (rows : List (List (Sent F))) (r : ℕ) (cells : List K) (accumulator : K) : Type 0 where
     pub cells_are : cells ≡ flat_map (plain_row E denominator rows) (range_with_len 0 r)
     pub accumulator_is : accumulator ≡ plain_accumulator E denominator rows r
+
+  -- they are, and none of these rows has a fault
+  pub record HasRows (rows : List (List (Sent F))) (r : ℕ) (cells : List K) (accumulator : K) : Type 0 where
+    pub made : HasCells rows r cells accumulator
     pub faultless : trace_faults E denominator (take r rows) ≡ []
 
-  -- The accumulator after a row, whose cells were appended. Otherwise its first fault.
-  abbrev pub AnswersRow : ℕ → List K → List K → K → List (Sent F) → Result K LookupError → Type 0
-  AnswersRow row before after accumulator sents result =
+  -- The ratios of a row are appended. Otherwise its first fault.
+  abbrev pub AnswersRow : ℕ → List (Ratio K) → List (Ratio K) → List (Sent F) → Result (Unit {0}) LookupError → Type 0
+  AnswersRow row before after sents result =
       MatchResult result
-      (λ next. HasRow row before after accumulator next sents)
+      (λ _. HasRatios row before after sents)
       (IsFirstOf (row_faults E denominator row sents))
+
+-- how many chunks of 1024 rows are started in a trace of this height
+abbrev pub started_chunks : ℕ → ℕ
+started_chunks height = (height + 1023) / 1024

@@ -10,11 +10,19 @@ use Rattle.lookup_model.specs.Sent.{Sent, branch_at, branches_at, sent, sent_at,
 use Rattle.lookup_model.specs.declared.error.LookupError.{LookupError}
 use Rattle.lookup_model.specs.declared.error.LookupError.TheVariants.{FlagNotBoolean, Memory, VanishingDenominator}
 use Rattle.lookup_model.specs.declared.types.Lookup.{Lookup}
-use Rattle.lookup_generation.specs.Fraction.{IsFractionOf}
+use Rattle.lookup_generation.specs.Fraction.{IsFractionOf, IsRatio}
 use Rattle.lookup_generation.specs.Selection.{AreSetFlags}
 use Rattle.lookup_generation.specs.TraceBuilder.{builder_window}
 use Rattle.lookup_generation.specs.declared.exclusive.SetFlags.{SetFlags}
+use Rattle.lookup_generation.specs.declared.ratio.Ratio.{Ratio}
 use Rattle.lookup_generation.specs.declared.trace_builder.LookupTraceBuilder.{LookupTraceBuilder}
+
+-- The set flags among these, in a column on a row. Otherwise one is neither zero nor one.
+abbrev pub AnswersFlags : {F K : Type 0} → Extension F K → ℕ → ℕ → List F → Result SetFlags LookupError → Type 0
+AnswersFlags E row column flags result =
+    MatchResult result
+    (AreSetFlags E flags)
+    (λ e. (e ≡ Memory) ⊎ ((e ≡ FlagNotBoolean row column) × (are_boolean E flags ≡ false)))
 
 module _ {F K : Type 0} (E : Extension F K) (builder : LookupTraceBuilder F K) where
   -- the denominator of a key whose id is a column, over the builder's challenges
@@ -37,41 +45,41 @@ module _ {F K : Type 0} (E : Extension F K) (builder : LookupTraceBuilder F K) w
   abbrev pub IsVanishing : ℕ → Type 0 → LookupError → Type 0
   IsVanishing column such e = (e ≡ Memory) ⊎ ((e ≡ VanishingDenominator builder.row column) × such)
 
-  -- The quotient of a message, whose denominator is not zero. Otherwise it vanishes.
-  abbrev pub AnswersQuotient : ℕ → Message F → Result K LookupError → Type 0
-  AnswersQuotient column message result =
+  -- The denominator of a key, which is not zero. Otherwise it vanishes.
+  abbrev pub AnswersDenominator : ℕ → Key F → Result K LookupError → Type 0
+  AnswersDenominator column key result =
       MatchResult result
-      (λ q. (denominator_on message.key ≢ E.ring.zero) × (q ≡ quotient_of E denominator_on message))
+      (λ d. (d ≡ denominator_on key) × (d ≢ E.ring.zero))
+      (IsVanishing column (denominator_on key ≡ E.ring.zero))
+
+  -- The multiplicity of a message over its denominator, which is not zero. Otherwise it vanishes.
+  abbrev pub AnswersRatio : ℕ → Message F → Result (Ratio K) LookupError → Type 0
+  AnswersRatio column message result =
+      MatchResult result
+      (λ r. (denominator_on message.key ≢ E.ring.zero) × IsRatio E.ring r (quotient_of E denominator_on message))
       (IsVanishing column (denominator_on message.key ≡ E.ring.zero))
 
   -- The sum of the quotients of the counted branches. Otherwise a denominator of them vanishes.
-  abbrev pub AnswersAdditive : Lookup F → Result K LookupError → Type 0
+  abbrev pub AnswersAdditive : Lookup F → Result (Ratio K) LookupError → Type 0
   AnswersAdditive lookup result =
       MatchResult result
       (IsFractionOf E denominator_on (branches_on lookup))
       (IsVanishing lookup.column (IsTrue (vanishes E denominator_on (counted E (branches_on lookup)))))
 
-  -- The set flags among these. Otherwise one is neither zero nor one.
-  abbrev pub AnswersFlags : ℕ → List F → Result SetFlags LookupError → Type 0
-  AnswersFlags column flags result =
-      MatchResult result
-      (AreSetFlags E flags)
-      (λ e. (e ≡ Memory) ⊎ ((e ≡ FlagNotBoolean builder.row column) × (are_boolean E flags ≡ false)))
-
   -- The plain fraction of what is sent, which has no fault. Otherwise its fault.
-  abbrev pub AnswersSent : ℕ → Sent F → Result K LookupError → Type 0
+  abbrev pub AnswersSent : ℕ → Sent F → Result (Ratio K) LookupError → Type 0
   AnswersSent column sent result =
       MatchResult result
-      (λ f. (f ≡ plain_fraction E denominator_on sent)
+      (λ r. IsRatio E.ring r (plain_fraction E denominator_on sent)
       × (fault_of E denominator_on builder.row column sent ≡ None))
       (λ e. (e ≡ Memory) ⊎ (fault_of E denominator_on builder.row column sent ≡ Some e))
 
   -- that of a lookup
-  abbrev pub AnswersFraction : Lookup F → Result K LookupError → Type 0
+  abbrev pub AnswersFraction : Lookup F → Result (Ratio K) LookupError → Type 0
   AnswersFraction lookup =
       AnswersSent lookup.column (sent_at E.base E.base_eq (builder_window builder) lookup.column lookup)
 
   -- that of a lookup with these flags
-  abbrev pub AnswersExclusive : Lookup F → List (SymbolicExpression F) → Result K LookupError → Type 0
+  abbrev pub AnswersExclusive : Lookup F → List (SymbolicExpression F) → Result (Ratio K) LookupError → Type 0
   AnswersExclusive lookup flags =
       AnswersSent lookup.column (sent E.base E.base_eq (Some (values_on flags)) (branches_on lookup))

@@ -1,12 +1,16 @@
-//! Generation of the auxiliary trace, row by row.
-ghost use Rattle.std.specs.Prelude.{◌≡◌, ◌+◌, ◌*◌, ◌<◌, ◌≤◌, None, Some, MatchResult, length};
+//! Generation of the auxiliary trace, in chunks of rows: a chunk's fractions are found as ratios, and
+//! divided by one inverse.
+ghost use Rattle.std.specs.Prelude.{◌≡◌, ◌+◌, ◌-◌, ◌*◌, ◌%◌, ℕ, ◌<◌, ◌≤◌, ◌⊎◌, ◌++◌, ◌∷◌, [], None, Some, IfOk, MatchResult, length, take};
 ghost use Rattle.std.specs.Option.{ForSome, option_copied};
 ghost use Rattle.expressions.specs.Layout.{layout_of_traces};
 ghost use Rattle.expressions.specs.Window.{window_at};
 ghost use Rattle.lookup_model.specs.Denominators.{column_denominator};
 ghost use Rattle.lookup_model.specs.Extension.{extension};
 ghost use Rattle.lookup_model.specs.Fault.{trace_faults};
-ghost use Rattle.lookup_generation.specs.Progress.{AnswersRow, HasRows, IsFirstOf};
+ghost use Rattle.field.specs.Sums.{sum_in};
+ghost use Rattle.lookup_generation.specs.Fraction.{AreSound};
+ghost use Rattle.lookup_generation.specs.Inverses.{ForInverses};
+ghost use Rattle.lookup_generation.specs.Progress.{AnswersRow, AreRatios, HasRows, IsFirstOf, started_chunks};
 ghost use Rattle.lookup_model.specs.Records.{DoFit};
 ghost use Rattle.lookup_model.specs.Generation.{AnswersGeneration};
 ghost use Rattle.lookup_model.specs.Trace.{sent_row, sent_rows};
@@ -14,43 +18,42 @@ ghost use Rattle.lookup_generation.specs.TraceBuilder.{builder_layout, builder_w
 ghost use Rattle.matrix.specs.Matrix.{height};
 
 use crate::fraction::fraction;
+use crate::ratio::{Ratio, values_of};
 use crate::trace_builder::LookupTraceBuilder;
-use field::{ExtensionField, Field};
+use field::{Domain, ExtensionDomain, ExtensionField, Field, InverseCount, Inverter};
 use lookup_model::{Lookup, LookupError, LookupTerminal};
 use matrix::{RowMajorMatrix, ViewPair};
-use std::alloc::Global;
+use std::alloc::{AllocError, Global};
 
-/// Appends one row of the auxiliary trace to `cells`: the accumulator and the fraction of each
-/// lookup. Returns the accumulator of the next row.
+/// How many rows make a chunk. All fractions of a chunk are divided by one inverse.
+const CHUNK_ROWS: usize = 1024;
+
+/// Appends the fraction of each lookup on the builder's row, as a ratio.
 ///
-/// Refuses the first fault of the row; `cells` may then hold a part of it.
-fn push_row<F: Field, EF: ExtensionField<F>>(
+/// Refuses the first fault of the row; `ratios` may then hold a part of it.
+fn push_ratios<F: Field, EF: ExtensionDomain<F>>(
     alloc: Global,
-    cells: &mut Vec<EF>,
+    ratios: &mut Vec<Ratio<EF>>,
     lookups: &[Lookup<F>],
     builder: &LookupTraceBuilder<'_, F, EF>,
-    accumulator: EF,
-) -> Result<EF, LookupError>
+) -> Result<(), LookupError>
     requires fit { DoFit (builder_layout builder.now) lookups.now }
     requires challenges { 2 * length lookups.now ≤ length builder.now.permutation_challenges.now }
-    ensures { let E = extension F.ring F.eq EF.ring EF.eq EF.embed EF.inverse in
+    ensures answers { ForInverses EF.ring (λ inverse. let E = extension F.ring F.eq EF.ring EF.eq EF.embed inverse in
         AnswersRow E (column_denominator E builder.now.permutation_challenges.now) builder.now.row
-        cells.old.items cells.new.items accumulator
-        (sent_row F.ring F.eq (builder_window builder.now) lookups.now) result }
+        ratios.old.items ratios.new.items (sent_row F.ring F.eq (builder_window builder.now) lookups.now) result) }
+    ensures sound { IfOk result (λ _. (n : ℕ) → AreSound EF.ring n ratios.old.items → AreSound EF.ring (n + length lookups.now) ratios.new.items) }
 {
-    cells.push(accumulator)?;
-    let mut next = accumulator;
     for lookup in lookups {
-        let fraction = fraction(alloc, lookup, builder)?;
-        cells.push(fraction)?;
-        next = next + fraction;
+        let ratio = fraction(alloc, lookup, builder)?;
+        ratios.push(ratio)?;
     }
-    Ok(next)
+    Ok(())
 }
 
 /// The builder of one row of an AIR's traces together with the next row; the last row comes with
 /// the first one.
-pub fn row_builder<'a, F: Field, EF: Field>(
+pub fn row_builder<'a, F: Field, EF: Domain>(
     main: &'a RowMajorMatrix<F>,
     preprocessed: Option<&'a RowMajorMatrix<F>>,
     public_values: &'a [F],
@@ -85,26 +88,150 @@ pub fn row_builder<'a, F: Field, EF: Field>(
     LookupTraceBuilder::new(main, preprocessed, public_values, challenges, height, row)
 }
 
-/// The cells of the auxiliary trace, row after row, and the sum of all fractions.
+/// The fractions of all lookups on the rows from `first` up to `end`, row after row, as ratios.
 ///
 /// Refuses the first fault in the order row, lookup.
-fn generate<F: Field, EF: ExtensionField<F>>(
+fn ratios_of<F: Field, EF: ExtensionDomain<F>>(
     alloc: Global,
     main: &RowMajorMatrix<F>,
     preprocessed: Option<&RowMajorMatrix<F>>,
     public_values: &[F],
     lookups: &[Lookup<F>],
     challenges: &[EF],
+    first: usize,
+    end: usize,
+) -> Result<Vec<Ratio<EF>>, LookupError>
+    requires heights { ForSome (option_copied preprocessed) (λ m. height m ≡ height main.now) }
+    requires fit { DoFit (layout_of_traces main.now (option_copied preprocessed) public_values.now) lookups.now }
+    requires challenges { 2 * length lookups.now ≤ length challenges.now }
+    requires from { first ≤ end }
+    requires up_to { end ≤ height main.now }
+    requires faultless { ForInverses EF.ring (λ inverse. let E = extension F.ring F.eq EF.ring EF.eq EF.embed inverse in
+        trace_faults E (column_denominator E challenges.now) (take first (sent_rows F.ring F.eq main.now (option_copied preprocessed) public_values.now lookups.now)) ≡ []) }
+    ensures answers { ForInverses EF.ring (λ inverse. let E = extension F.ring F.eq EF.ring EF.eq EF.embed inverse in
+        let denominator = column_denominator E challenges.now in
+        let rows = sent_rows F.ring F.eq main.now (option_copied preprocessed.entry) public_values.now lookups.now in
+        MatchResult result
+        (λ v. AreRatios E denominator rows first end v.items)
+        (IsFirstOf (trace_faults E denominator rows))) }
+    ensures sound { IfOk result (λ v. AreSound EF.ring ((end - first) * length lookups.now) v.items) }
+{
+    let mut ratios = Vec::new(alloc);
+    for row in first..end {
+        let builder = row_builder(main, preprocessed, public_values, challenges, row);
+        push_ratios(alloc, &mut ratios, lookups, &builder)?;
+    }
+    Ok(ratios)
+}
+
+/// Appends a row of the auxiliary trace to `cells`: the accumulator and the fractions. Returns the
+/// accumulator of the next row.
+fn push_row<K: Domain>(cells: &mut Vec<K>, accumulator: K, fractions: &[K]) -> Result<K, AllocError>
+    ensures { IfOk result (λ next. (cells.new.items ≡ cells.old.items ++ accumulator ∷ fractions.now)
+        × (next ≡ K.ring.add accumulator (sum_in K.ring fractions.now))) }
+{
+    cells.push(accumulator)?;
+    let mut next = accumulator;
+    for fraction in fractions {
+        cells.push(*fraction)?;
+        next = next + *fraction;
+    }
+    Ok(next)
+}
+
+/// Appends the rows from `first` up to `end` of the auxiliary trace to `cells`, by one inverse. Returns
+/// the accumulator of row `end`.
+///
+/// Refuses the first fault in the order row, lookup, before it inverts.
+fn push_chunk<F: Field, EF: ExtensionDomain<F>, I: Inverter<EF>>(
+    alloc: Global,
+    cells: &mut Vec<EF>,
+    accumulator: EF,
+    main: &RowMajorMatrix<F>,
+    preprocessed: Option<&RowMajorMatrix<F>>,
+    public_values: &[F],
+    lookups: &[Lookup<F>],
+    challenges: &[EF],
+    first: usize,
+    end: usize,
+    inverter: &mut I,
+) -> Result<EF, LookupError>
+    requires heights { ForSome (option_copied preprocessed) (λ m. height m ≡ height main.now) }
+    requires fit { DoFit (layout_of_traces main.now (option_copied preprocessed) public_values.now) lookups.now }
+    requires challenges { 2 * length lookups.now ≤ length challenges.now }
+    requires some { 0 < length lookups.now }
+    requires from { first ≤ end }
+    requires up_to { end ≤ height main.now }
+    requires so_far { ForInverses EF.ring (λ inverse. let E = extension F.ring F.eq EF.ring EF.eq EF.embed inverse in
+        let denominator = column_denominator E challenges.now in
+        let rows = sent_rows F.ring F.eq main.now (option_copied preprocessed) public_values.now lookups.now in
+        HasRows E denominator rows first cells.now.items accumulator) }
+    ensures rows { ForInverses EF.ring (λ inverse. let E = extension F.ring F.eq EF.ring EF.eq EF.embed inverse in
+        let denominator = column_denominator E challenges.now in
+        let rows = sent_rows F.ring F.eq main.now (option_copied preprocessed.entry) public_values.now lookups.now in
+        MatchResult result
+        (HasRows E denominator rows end cells.new.items)
+        (IsFirstOf (trace_faults E denominator rows))) }
+    ensures many { IfOk result (λ _. length cells.new.items ≡ length cells.old.items + (end - first) * (length lookups.now + 1)) }
+    ensures counted { I.count inverter.new ≤ I.count inverter.old + 1 }
+{
+    let ratios = ratios_of(
+        alloc,
+        main,
+        preprocessed,
+        public_values,
+        lookups,
+        challenges,
+        first,
+        end,
+    )?;
+    let fractions = RowMajorMatrix::new(values_of(alloc, &ratios, inverter)?, lookups.len());
+    let mut next = accumulator;
+    for i in 0..end - first {
+        next = push_row(cells, next, fractions.row_slice(i))?;
+    }
+    Ok(next)
+}
+
+/// Where the chunk ends that starts at `first`.
+fn chunk_end(first: usize, height: usize) -> usize
+    requires { first < height }
+    ensures further { first < result }
+    ensures up_to { result ≤ height }
+    ensures whole { first % 1024 ≡ 0 → (result % 1024 ≡ 0) ⊎ (result ≡ height) }
+    ensures one { first % 1024 ≡ 0 → started_chunks result ≡ started_chunks first + 1 }
+{
+    if height - first > CHUNK_ROWS {
+        first + CHUNK_ROWS
+    } else {
+        height
+    }
+}
+
+/// The cells of the auxiliary trace, row after row, and the sum of all fractions.
+///
+/// Refuses the first fault in the order row, lookup.
+fn generate<F: Field, EF: ExtensionDomain<F>, I: Inverter<EF>>(
+    alloc: Global,
+    main: &RowMajorMatrix<F>,
+    preprocessed: Option<&RowMajorMatrix<F>>,
+    public_values: &[F],
+    lookups: &[Lookup<F>],
+    challenges: &[EF],
+    inverter: &mut I,
 ) -> Result<(Vec<EF>, EF), LookupError>
     requires heights { ForSome (option_copied preprocessed) (λ m. height m ≡ height main.now) }
     requires fit { DoFit (layout_of_traces main.now (option_copied preprocessed) public_values.now) lookups.now }
     requires challenges { 2 * length lookups.now ≤ length challenges.now }
-    ensures { let E = extension F.ring F.eq EF.ring EF.eq EF.embed EF.inverse in
+    requires some { 0 < length lookups.now }
+    ensures rows { ForInverses EF.ring (λ inverse. let E = extension F.ring F.eq EF.ring EF.eq EF.embed inverse in
         let denominator = column_denominator E challenges.now in
         let rows = sent_rows F.ring F.eq main.now (option_copied preprocessed.entry) public_values.now lookups.now in
         MatchResult result
         (λ r. HasRows E denominator rows (height main.now) r.0.items r.1)
-        (IsFirstOf (trace_faults E denominator rows)) }
+        (IsFirstOf (trace_faults E denominator rows))) }
+    ensures many { IfOk result (λ r. length r.0.items ≡ height main.now * (length lookups.now + 1)) }
+    ensures counted { I.count inverter.new ≤ I.count inverter.old + started_chunks (height main.now) }
 {
     let height = main.height();
     let size = height
@@ -112,11 +239,62 @@ fn generate<F: Field, EF: ExtensionField<F>>(
         .ok_or(LookupError::Memory)?;
     let mut cells = Vec::with_capacity(alloc, size)?;
     let mut accumulator = EF::ZERO;
-    for row in 0..height {
-        let builder = row_builder(main, preprocessed, public_values, challenges, row);
-        accumulator = push_row(alloc, &mut cells, lookups, &builder, accumulator)?;
+    let mut first = 0;
+    while first < height {
+        let end = chunk_end(first, height);
+        accumulator = push_chunk(
+            alloc,
+            &mut cells,
+            accumulator,
+            main,
+            preprocessed,
+            public_values,
+            lookups,
+            challenges,
+            first,
+            end,
+            inverter,
+        )?;
+        first = end;
     }
     Ok((cells, accumulator))
+}
+
+/// The auxiliary trace of one AIR and its terminal, by an inverse for each chunk of 1024 rows.
+///
+/// It answers as [`generate_permutation`] does. `inverter` is asked at most once for each chunk of rows
+/// that is started, also if the call is refused, and never for a chunk with a fault.
+pub fn generate_counted<'a, F: Field, EF: ExtensionDomain<F>, I: Inverter<EF>>(
+    alloc: Global,
+    main: &'a RowMajorMatrix<F>,
+    preprocessed: Option<&'a RowMajorMatrix<F>>,
+    public_values: &[F],
+    lookups: &[Lookup<F>],
+    challenges: &[EF],
+    inverter: &mut I,
+) -> Result<(RowMajorMatrix<EF>, Option<LookupTerminal<EF>>), LookupError>
+    requires heights { ForSome (option_copied preprocessed) (λ m. height m ≡ height main.now) }
+    requires fit { DoFit (layout_of_traces main.now (option_copied preprocessed) public_values.now) lookups.now }
+    requires challenges { 2 * length lookups.now ≤ length challenges.now }
+    ensures answers { ForInverses EF.ring (λ inverse. AnswersGeneration (extension F.ring F.eq EF.ring EF.eq EF.embed inverse) main.now (option_copied preprocessed.entry) public_values.now lookups.now challenges.now result) }
+    ensures counted { I.count inverter.new ≤ I.count inverter.old + started_chunks (height main.now) }
+{
+    if lookups.is_empty() {
+        return Ok((RowMajorMatrix::new(Vec::new(alloc), 0), None));
+    }
+    let (cells, terminal) = generate(
+        alloc,
+        main,
+        preprocessed,
+        public_values,
+        lookups,
+        challenges,
+        inverter,
+    )?;
+    Ok((
+        RowMajorMatrix::new(cells, lookups.len() + 1),
+        Some(LookupTerminal(terminal)),
+    ))
 }
 
 /// The auxiliary trace of one AIR and its terminal.
@@ -140,19 +318,14 @@ pub fn generate_permutation<'a, F: Field, EF: ExtensionField<F>>(
     requires challenges { 2 * length lookups.now ≤ length challenges.now }
     ensures { AnswersGeneration (extension F.ring F.eq EF.ring EF.eq EF.embed EF.inverse) main.now (option_copied preprocessed.entry) public_values.now lookups.now challenges.now result }
 {
-    if lookups.is_empty() {
-        return Ok((RowMajorMatrix::new(Vec::new(alloc), 0), None));
-    }
-    let (cells, terminal) = generate(
+    let mut count = InverseCount::new();
+    generate_counted(
         alloc,
         main,
         preprocessed,
         public_values,
         lookups,
         challenges,
-    )?;
-    Ok((
-        RowMajorMatrix::new(cells, lookups.len() + 1),
-        Some(LookupTerminal(terminal)),
-    ))
+        &mut count,
+    )
 }

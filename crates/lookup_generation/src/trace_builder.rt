@@ -92,7 +92,7 @@ impl<'a, F, EF> LookupTraceBuilder<'a, F, EF> {
     }
 }
 
-impl<F, EF: Field> LookupTraceBuilder<'_, F, EF> {
+impl<F, EF: Domain> LookupTraceBuilder<'_, F, EF> {
     ghost use Rattle.std.specs.Prelude.{◌*◌, slice_index_or};
 
     /// The challenges of a column: its alpha and its beta.
@@ -117,7 +117,7 @@ fn judge<K: Domain>(x: K, row: usize) -> Result<(), AirError>
     }
 }
 
-impl<'a, F: Field, EF: Field> AirBuilder for LookupTraceBuilder<'a, F, EF> {
+impl<'a, F: Field, EF: Domain> AirBuilder for LookupTraceBuilder<'a, F, EF> {
     ghost use Rattle.std.specs.Prelude.{◌≢◌, ◌≡◌, refl};
     ghost use Rattle.std.proofs.Common.{rules, ap, sym, ◌∙◌};
     ghost use Rattle.expressions.specs.declared.error.AirError.TheVariants.{Assertion};

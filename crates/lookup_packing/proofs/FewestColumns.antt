@@ -19,7 +19,7 @@ use Rattle.lookup_packing.proofs.JoinedDegrees.{degree_hereditary}
 use Rattle.lookup_packing.proofs.ListLaws.{all_back, all_both, all_front}
 
 -- lists of equal lengths one after the other, side by side
-zip-append : {A B : Type 0} (xs ys : List A) (us vs : List B) → length us ≡ length xs → zip (xs ++ ys) (us ++ vs) ≡ zip xs us ++ zip ys vs
+pub zip-append : {A B : Type 0} (xs ys : List A) (us vs : List B) → length us ≡ length xs → zip (xs ++ ys) (us ++ vs) ≡ zip xs us ++ zip ys vs
 zip-append [] ys [] vs e = refl
 zip-append [] ys (u ∷ us) vs e = absurd (omega (arith, e))
 zip-append (x ∷ xs) ys [] vs e = absurd (omega (arith, e))
@@ -104,7 +104,7 @@ module _ {E : Type 0} where
           by_name false = e
 
   -- what passes through is not counted
-  none_additive : (os : List (Outline E)) → additive (passing os) ≡ []
+  pub none_additive : (os : List (Outline E)) → additive (passing os) ≡ []
   none_additive [] = refl
   none_additive (o ∷ os) = by_test (is_additive o) refl (none_additive os)
     where
@@ -117,7 +117,7 @@ module _ {E : Type 0} where
     pub joins : is_additive o ≡ true
     pub named : is_named name o.bus ≡ true
 
-  members_on : (name : List ℕ) (os : List (Outline E)) → AllByRecursion (IsOn name) (on_bus name (additive os))
+  pub members_on : (name : List ℕ) (os : List (Outline E)) → AllByRecursion (IsOn name) (on_bus name (additive os))
   members_on name os =
       both (on_bus name (additive os)) (All-filter (λ o. is_additive o ≡ true) (λ o. is_named name o.bus) (additive os) (filter_passes is_additive os)) (filter_passes (λ o. is_named name o.bus) (additive os))
     where

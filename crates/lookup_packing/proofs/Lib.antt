@@ -3,9 +3,16 @@ mod FewestParts
 mod FillLaws
 mod GroupLaws
 mod JoinedDegrees
+mod JoinedMessages
 mod ListLaws
+pub mod OneLookup
 pub mod RecordLaws
+mod KeptLaws
+mod KeptTerminals
 mod PackLaws
+mod Rearranged
+mod RearrangedSums
+mod SameKeys
 pub mod StepLaws
 mod TrialLaws
 mod WidthLaws

@@ -28,7 +28,7 @@ stepped answers most seen before after next columns (inl h) = first_column answe
 stepped answers most seen before after next columns (inr (front, last, is, inl h)) = joined_column answers most seen front after last next (last_part answers most seen before front last columns is) h.0 h.1 h.2
 stepped answers most seen before after next columns (inr (front, last, is, inr h)) = next_column answers most seen before front after last next (last_part answers most seen before front last columns is) is h.0 h.1
 
-no_flags_of : {A B : Type 0} (f : A → B) (b : Bool) (flags : Option A) → (b && not (is_some (option_map f flags))) ≡ true → flags ≡ None
+pub no_flags_of : {A B : Type 0} (f : A → B) (b : Bool) (flags : Option A) → (b && not (is_some (option_map f flags))) ≡ true → flags ≡ None
 no_flags_of f b None e = refl
 no_flags_of f true (Some x) e = absurd (true≢false (sym e))
 no_flags_of f false (Some x) e = absurd (true≢false (sym e))

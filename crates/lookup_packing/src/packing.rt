@@ -4,6 +4,7 @@ ghost use Rattle.std.specs.Fn.{FnReturnsAt};
 ghost use Rattle.lookup_model.specs.Outline.{fields_of};
 ghost use Rattle.lookup_model.specs.Records.{AreRecords, HasEqualLengths};
 ghost use Rattle.lookup_packing.specs.Buses.{owned_group};
+ghost use Rattle.lookup_packing.specs.Kept.{KeepsKeys, KeepsMessages, KeepsNets, KeepsWeight};
 ghost use Rattle.lookup_packing.specs.Packing.{AreColumnsAdded, IsFirstStuck, Packs, additive, is_additive, numbered, passing};
 ghost use Rattle.lookup_packing.specs.Trials.{Answers, IsMember};
 
@@ -14,14 +15,16 @@ use field::Field;
 use lookup_model::{Kind, Lookup, LookupError};
 use std::alloc::{AllocError, Global};
 
-/// Joins the lookups of each bus into as few columns as a greedy filling takes, by the degree that
-/// the closure gives.
+/// Fills the columns of each bus greedily, by the degree that the closure gives.
 ///
 /// Local lookups and those with flags pass through, in their order. The others follow by bus, the
 /// buses in the order in which they are first seen. On each bus a lookup joins the open column if
 /// the degree of the trial is at most `max_degree`, and opens a new column otherwise. The trial has
 /// the tuples of both, and the weight and the old column number of the open column. The closure is
 /// asked about trials alone. Weights of joined lookups add, and the columns are numbered from 0.
+///
+/// On every row the packed lookups send the messages of those before, if a column has the id that
+/// its lookups had. So the keys stay, each with its net, and so does the weight of all lookups.
 ///
 /// Refuses, in this order:
 ///
@@ -41,6 +44,10 @@ pub fn packed<F: Field, D: Fn(&Lookup<F>) -> Result<usize, LookupError>>(
     requires lengths { All HasEqualLengths lookups.items }
     ensures packs { Packs (Answers (FnReturnsAt D.Fn degree)) max_degree (λ v. map fields_of v.items) (map fields_of lookups.items) result }
     ensures records { IfOk result (λ v. AreRecords v.items) }
+    ensures weight { IfOk result (λ v. KeepsWeight lookups.items v.items) }
+    ensures messages { IfOk result (λ v. KeepsMessages F.ring F.eq lookups.items v.items) }
+    ensures nets { IfOk result (λ v. KeepsNets F.ring F.eq lookups.items v.items) }
+    ensures keys { IfOk result (λ v. KeepsKeys F.ring F.eq lookups.items v.items) }
 {
     assert_bus_widths(alloc, &lookups)?;
     let (columns, additive) = parted(alloc, lookups)?;

@@ -5,6 +5,7 @@ pub mod CellLaws
 pub mod ExtractedLaws
 pub mod InputLaws
 pub mod MismatchLaws
+pub mod PackedAir
 pub mod PartLaws
 pub mod ReportLaws
 pub mod TraceLaws

@@ -13,7 +13,7 @@ use crate::machine::Machine;
 use checker::BatchInstance;
 use field::{ExtensionField, Field};
 use lookup::debug_util::LookupDebugInstance;
-use lookup::{LookupError, Lookups};
+use lookup::{LogUpGadget, LookupError, Lookups};
 use matrix::RowMajorMatrix;
 use std::alloc::{AllocError, Global};
 
@@ -49,10 +49,28 @@ pub fn air_traces<F: Field, EF: ExtensionField<F>>(
     Ok(traces)
 }
 
-/// The lookups that an AIR records: one, which fits the AIR's trace.
+/// The greatest degree of the constraint of a packed column.
+const MAX_DEGREE: usize = 3;
+
+/// The lookups that an AIR records, packed: one, which fits the AIR's trace.
 ///
 /// Fails only when out of memory.
 fn lookups_for<F: Field, EF: ExtensionField<F>>(
+    alloc: Global,
+    air: MachineAir,
+) -> Result<Lookups<F>, LookupError>
+    ensures { MatchResult result
+        (λ lookups. AreLookupsOf F.ring F.eq air (lookups_of lookups))
+        (λ e. e ≡ LookupError.Memory) }
+{
+    let lookups = recorded_for::<F, EF>(alloc, air)?;
+    lookups.pack_same_bus(alloc, &LogUpGadget::new(), MAX_DEGREE)
+}
+
+/// The lookups that an AIR records.
+///
+/// Fails only when out of memory.
+fn recorded_for<F: Field, EF: ExtensionField<F>>(
     alloc: Global,
     air: MachineAir,
 ) -> Result<Lookups<F>, LookupError>

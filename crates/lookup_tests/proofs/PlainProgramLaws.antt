@@ -12,8 +12,7 @@ use Rattle.lookup_model.specs.Message.{Key, Message, same_key}
 use Rattle.lookup_model.specs.Fault.{vanishes}
 use Rattle.lookup_model.specs.Net.{first_seen, keys, net, unbalanced_keys}
 use Rattle.lookup_model.specs.Plain.{counted, net_sum, quotient}
-use Rattle.lookup_generation.specs.Fraction.{IsFractionOf}
-use Rattle.lookup_tests.specs.PlainProgram.{message_of, messages_of, net_message, net_vanishes}
+use Rattle.lookup_tests.specs.PlainProgram.{IsFractionOf, message_of, messages_of, net_message, net_vanishes}
 use Rattle.lookup_tests.specs.declared.plain.PlainMessage.{PlainMessage}
 use Rattle.lookup_nets.proofs.FirstSeen.{first_seen-push}
 use Rattle.std.proofs.lemmas.List.Elements.{filter-append}

@@ -1,10 +1,13 @@
 -- What the plain program's messages mean.
-use Rattle.std.specs.Prelude.{ℕ, Bool, List, None, map}
+use Rattle.std.specs.Prelude.{◌≡◌, ℕ, Bool, false, List, None, map}
 use Rattle.std.specs.List.{enumerate_from, filter, list_any}
 use Rattle.field.specs.Ring.{Ring}
+use Rattle.field.specs.Sums.{sum_in}
 use Rattle.lookup_model.specs.Extension.{Extension}
+use Rattle.lookup_model.specs.Fault.{vanishes}
 use Rattle.lookup_model.specs.Message.{Key, Message}
 use Rattle.lookup_model.specs.Net.{net, unbalanced_keys}
+use Rattle.lookup_model.specs.Plain.{counted, quotient_of}
 use Rattle.lookup_model.specs.Sent.{Sent}
 use Rattle.lookup_tests.specs.declared.plain.PlainMessage.{PlainMessage}
 
@@ -31,3 +34,8 @@ places_of_ones R eq xs = map (λ p. p.0) (filter (λ p. eq p.1 R.one) (enumerate
 -- a key with its net, as a message
 abbrev pub net_message : {F : Type 0} → Ring F → (F → F → Bool) → List (Message F) → Key F → Message F
 net_message R eq messages key = record { key = key; multiplicity = net R eq messages key }
+
+-- f is the sum of the quotients of the counted messages, and none of their denominators vanishes
+pub record IsFractionOf {F K : Type 0} (E : Extension F K) (denominator : Key F → K) (ms : List (Message F)) (f : K) : Type 0 where
+  pub value : f ≡ sum_in E.ring (map (quotient_of E denominator) (counted E ms))
+  pub divides : vanishes E denominator (counted E ms) ≡ false

@@ -3,8 +3,7 @@
 ghost use Rattle.std.specs.Prelude.{◌≡◌, ◌≢◌, ◌+◌, ◌*◌, ◌<◌, ◌⊎◌, ◌||◌, All, IfOk, IsTrue, List, [], ◌∷◌, Some, false, length, map, MatchOption, MatchResult};
 ghost use Rattle.std.specs.List.{list_all, list_any};
 ghost use Rattle.field.specs.Polynomial.{combined};
-ghost use Rattle.lookup_generation.specs.Fraction.{IsFractionOf};
-ghost use Rattle.lookup_tests.specs.PlainProgram.{message_of, messages_of, net_vanishes, places_of_ones, sent_of};
+ghost use Rattle.lookup_tests.specs.PlainProgram.{IsFractionOf, message_of, messages_of, net_vanishes, places_of_ones, sent_of};
 ghost use Rattle.lookup_model.specs.Denominators.{column_denominator};
 ghost use Rattle.lookup_model.specs.Extension.{extension};
 ghost use Rattle.lookup_model.specs.Fault.{fault_of, vanishes};

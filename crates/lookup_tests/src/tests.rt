@@ -1,10 +1,12 @@
 //! What the tests share: expressions, lookups, traces, and generation over them.
 mod bus_widths;
+mod chunks;
 mod collisions;
 mod comparison;
 mod debug;
 mod declaration;
 mod degrees;
+mod equal_texts;
 mod evaluation;
 mod example;
 mod exclusive;

@@ -3,12 +3,13 @@ use super::{Made, alone, generated, group, holds, list, range, trace};
 use crate::plain::{self, PlainMessage};
 use field::{F2, F7, Field};
 use lookup::{Lookup, LookupError};
+use matrix::RowMajorMatrix;
 use std::alloc::Global;
 use std::process::Abort;
 
 /// What the plain program says of the rows so far.
 #[derive(Drop)]
-struct Expected<F> {
+pub(super) struct Expected<F> {
     cells: Vec<F>,
     sum: F,
     fault: Option<LookupError>,
@@ -43,7 +44,12 @@ impl<F: Field> Expected<F> {
     }
 
     /// Fails unless generation makes the same of these rows, whose plain terminal is this one.
-    fn compare(&self, rt: &impl Abort, made: Result<Made<F>, LookupError>, terminal: Option<F>) {
+    pub(super) fn compare(
+        &self,
+        rt: &impl Abort,
+        made: Result<Made<F>, LookupError>,
+        terminal: Option<F>,
+    ) {
         match made {
             Ok(made) => {
                 holds(rt, "no fault", self.fault.is_none());
@@ -119,14 +125,21 @@ fn push_range_row(
     }
 }
 
-/// Compares generation with the plain program on these rows of the range lookup.
-fn compare_ranges(
+/// A main trace of rows of the range lookup, and what the plain program makes of it.
+#[derive(Drop)]
+pub(super) struct RangeRows {
+    pub(super) main: RowMajorMatrix<F7>,
+    pub(super) expected: Expected<F7>,
+    pub(super) terminal: Option<F7>,
+}
+
+/// The trace of these rows.
+pub(super) fn ranges(
     rt: &impl Abort,
     alloc: Global,
-    lookups: &[Lookup<F7>],
     rows: &[[u32; 3]],
     challenges: &[F7],
-) {
+) -> RangeRows {
     let mut numbers = Vec::new(alloc);
     let mut expected = Expected::new(alloc);
     for (index, row) in rows.iter().enumerate() {
@@ -135,10 +148,25 @@ fn compare_ranges(
         }
         push_range_row(rt, alloc, &mut expected, index, *row, challenges);
     }
-    let main = trace::<F7>(rt, alloc, numbers.as_slice(), 3);
-    let made = generated(rt, alloc, &main, lookups, challenges);
     let terminal = additive_terminal(rt, expected.sent.as_slice(), challenges);
-    expected.compare(rt, made, terminal);
+    RangeRows {
+        main: trace(rt, alloc, numbers.as_slice(), 3),
+        expected,
+        terminal,
+    }
+}
+
+/// Compares generation with the plain program on these rows of the range lookup.
+fn compare_ranges(
+    rt: &impl Abort,
+    alloc: Global,
+    lookups: &[Lookup<F7>],
+    rows: &[[u32; 3]],
+    challenges: &[F7],
+) {
+    let ranges = ranges(rt, alloc, rows, challenges);
+    let made = generated(rt, alloc, &ranges.main, lookups, challenges);
+    ranges.expected.compare(rt, made, ranges.terminal);
 }
 
 /// The row of this code, which is below 343.

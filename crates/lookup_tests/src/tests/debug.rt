@@ -35,7 +35,7 @@ fn has_one_height<F: Field>(instance: &LookupDebugInstance<'_, F>) -> bool
 }
 
 /// An AIR without preprocessed trace and public values.
-fn instance<'a, F: Field>(
+pub(super) fn instance<'a, F: Field>(
     main: &'a RowMajorMatrix<F>,
     lookups: &'a [Lookup<F>],
 ) -> LookupDebugInstance<'a, F> {
@@ -64,7 +64,7 @@ fn checked<F: Field>(
 }
 
 /// The text of the mismatch has to be this one, and `""` stands for none.
-fn expect<F: Field>(
+pub(super) fn expect<F: Field>(
     rt: &impl Abort,
     alloc: Global,
     instances: &[LookupDebugInstance<'_, F>],
@@ -78,7 +78,12 @@ fn expect<F: Field>(
 }
 
 /// A local lookup of cell 0, as often as cell `count` says.
-fn counted<F: Field>(rt: &impl Abort, alloc: Global, count: usize, column: usize) -> Lookup<F> {
+pub(super) fn counted<F: Field>(
+    rt: &impl Abort,
+    alloc: Global,
+    count: usize,
+    column: usize,
+) -> Lookup<F> {
     let tuples = alone(rt, alloc, alone(rt, alloc, cell(0)));
     local(tuples, alone(rt, alloc, cell(count)), column)
 }

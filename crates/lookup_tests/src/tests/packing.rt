@@ -2,7 +2,7 @@
 use super::degrees::power;
 use super::{alone, cell, holds, list, single};
 use field::F7;
-use lookup::{Kind, LogUpGadget, Lookup, LookupError, Lookups};
+use lookup::{Kind, LogUpGadget, Lookup, LookupError, Lookups, messages_keep_terminals};
 use std::alloc::Global;
 use std::process::Abort;
 
@@ -171,6 +171,13 @@ fn have_sizes(columns: &[Lookup<F7>], sizes: &[usize]) -> bool {
     columns.len() == sizes.len()
 }
 
+#[test]
+fn the_law_of_terminals_is_there(rt: HostRuntime) {
+    messages_keep_terminals::<F7, F7>();
+    let none: Vec<Lookup<F7>> = Vec::new(rt.alloc());
+    holds(&rt, "no lookup", none.is_empty());
+}
+
 /// Lookups on bus `a` whose one cell has these degrees.
 fn of_degrees(rt: &impl Abort, alloc: Global, degrees: &[usize]) -> Lookups<F7> {
     let mut records = Vec::new(alloc);
@@ -229,6 +236,57 @@ fn buses_in_the_order_of_their_first_lookups(rt: HostRuntime) {
     holds(&rt, "then b", is_on(&columns[2], "b"));
 }
 
+/// A group on `b`, then lookups on `a` and on `b`: `widths` are those of the tuples, in this order.
+fn a_group_first(rt: &impl Abort, alloc: Global, widths: &[usize; 5]) -> Lookups<F7> {
+    let mut group: Lookup<F7> = on_bus(rt, alloc, "b", widths[0], 1, 0);
+    group.flags = Some(alone(rt, alloc, cell(2)));
+    let records = list(
+        rt,
+        alloc,
+        [
+            group,
+            on_bus(rt, alloc, "a", widths[1], 1, 1),
+            on_bus(rt, alloc, "b", widths[2], 1, 2),
+            on_bus(rt, alloc, "a", widths[3], 1, 3),
+            on_bus(rt, alloc, "b", widths[4], 1, 4),
+        ],
+    );
+    Lookups::from_records(records).expect(rt, "records")
+}
+
+/// The columns come in the order of the lookups that are joined: `a` is before `b`, though a group
+/// on `b` is the first lookup.
+#[test]
+fn a_group_does_not_order_the_columns(rt: HostRuntime) {
+    let alloc = rt.alloc();
+    let packed = a_group_first(&rt, alloc, &[1, 1, 1, 1, 1])
+        .pack_same_bus(alloc, &LogUpGadget::new(), 16)
+        .expect(&rt, "packed");
+    let columns = packed.as_slice();
+    assert!(rt; columns.len() == 3);
+    holds(&rt, "the sizes", have_sizes(columns, &[1, 2, 2]));
+    holds(&rt, "the group first", columns[0].flags.is_some());
+    holds(&rt, "then a", is_on(&columns[1], "a"));
+    holds(&rt, "then b", is_on(&columns[2], "b"));
+}
+
+/// The widths are compared in the order of all lookups on buses: where both buses have two widths,
+/// `b` is refused, since a group on it is the first lookup.
+#[test]
+fn a_group_orders_the_widths(rt: HostRuntime) {
+    let alloc = rt.alloc();
+    let refused = a_group_first(&rt, alloc, &[1, 1, 1, 2, 3])
+        .pack_same_bus(alloc, &LogUpGadget::new(), 16)
+        .err();
+    let context = String::from_str(alloc, "bus \"b\"").expect(&rt, "memory");
+    let expected = LookupError::TupleWidths {
+        context,
+        width: 1,
+        other: 3,
+    };
+    holds(&rt, "the widths on b", refused == Some(expected));
+}
+
 /// The fewest columns of a consecutive split in which each part has one lookup, or 1 and the sum of
 /// its degrees is within the budget.
 fn fewest(degrees: &[usize], budget: usize) -> usize {
@@ -261,38 +319,49 @@ fn fewest(degrees: &[usize], budget: usize) -> usize {
     best
 }
 
-/// Packs lookups of the degrees that are the digits of a number to the base 5.
-fn expect_fewest(rt: &impl Abort, alloc: Global, number: usize, length: usize, budget: usize) {
+/// The list of degrees from 0 to 4 that a number writes in base 5, lowest digit first.
+fn degrees_of(rt: &impl Abort, alloc: Global, number: usize, length: usize) -> Vec<usize> {
     let mut rest = number;
     let mut degrees = Vec::new(alloc);
     for _ in 0..length {
         degrees.push(rest % 5).expect(rt, "memory");
         rest /= 5;
     }
-    let packed = of_degrees(rt, alloc, degrees.as_slice())
-        .pack_same_bus(alloc, &LogUpGadget::new(), budget)
-        .expect(rt, "packed");
-    let columns = packed.as_slice().len();
-    assert!(rt;
-        columns == fewest(degrees.as_slice(), budget),
-        "{number}, budget {budget}"
-    );
+    degrees
 }
 
-/// All lists of up to three degrees from 0 to 4, and 250 lists of eight, against all splits.
+/// Packs lookups of each list of so many degrees from 0 to 4 within a budget.
+fn expect_fewest(rt: &impl Abort, alloc: Global, length: usize, budget: usize) {
+    let mut lists = 1usize;
+    for _ in 0..length {
+        lists = lists.saturating_mul(5);
+    }
+    for number in 0..lists {
+        let degrees = degrees_of(rt, alloc, number, length);
+        let packed = of_degrees(rt, alloc, degrees.as_slice())
+            .pack_same_bus(alloc, &LogUpGadget::new(), budget)
+            .expect(rt, "packed");
+        let columns = packed.as_slice().len();
+        assert!(rt;
+            columns == fewest(degrees.as_slice(), budget),
+            "list {number}, budget {budget}"
+        );
+    }
+}
+
+/// All lists of at most seven degrees from 0 to 4 within each budget from 1 to 6, against all splits.
 #[test]
-fn no_consecutive_split_has_fewer_columns(rt: HostRuntime) {
-    let alloc = rt.alloc();
+fn no_split_of_a_short_list_has_fewer_columns(rt: HostRuntime) {
     for budget in 1..7usize {
-        let mut lists = 5usize;
-        for length in 1..4usize {
-            for number in 0..lists {
-                expect_fewest(&rt, alloc, number, length, budget);
-            }
-            lists = lists.saturating_mul(5);
+        for length in 1..8usize {
+            expect_fewest(&rt, rt.alloc(), length, budget);
         }
     }
-    for step in 0..250usize {
-        expect_fewest(&rt, alloc, step.saturating_mul(1561), 8, 4);
-    }
+}
+
+/// All lists of eight degrees from 0 to 4 within budgets 4 and 6, against all splits.
+#[test]
+fn no_split_of_eight_has_fewer_columns(rt: HostRuntime) {
+    expect_fewest(&rt, rt.alloc(), 8, 4);
+    expect_fewest(&rt, rt.alloc(), 8, 6);
 }

@@ -1,13 +1,14 @@
-use Rattle.std.proofs.Common.{◌<◌, ◌+◌, List, length, take, drop, inl, inr, sym, ap, ◌∙◌, subst, arith}
+use Rattle.std.proofs.Common.{◌<◌, ◌+◌, List, length, take, drop, inl, inr, refl, sym, ap, ◌∙◌, subst, arith}
 use Rattle.std.proofs.lemmas.List.{length-map, length-take, take_all}
 use Rattle.std.proofs.lemmas.Result.{err_from_is_err_and}
 use Rattle.lookup_model.proofs.Branches.{mapped_at, mapped_more}
-use Rattle.lookup_model.specs.Extension.{extension, IsLawful}
+use Rattle.lookup_model.specs.Extension.{IsLawful}
 use Rattle.lookup_model.specs.Fault.{are_boolean}
 use Rattle.lookup_model.proofs.RecordLaws.{Fits-at}
 use Rattle.lookup_laws.proofs.Rows.{split_at}
 use Rattle.lookup_model.specs.Sent.{value, values}
 use Rattle.lookup_generation.specs.Selection.{AreSetFlags}
+use Rattle.lookup_generation.specs.Inverses.{base_extension}
 use Rattle.lookup_generation.specs.TraceBuilder.{builder_layout, builder_window}
 use Rattle.lookup_laws.proofs.Selections.{not_boolean}
 use Rattle.lookup_generation.proofs.exclusive.set_flags.Goals as goal
@@ -17,15 +18,15 @@ with_flag-requires g c = Fits-at (builder_layout c.args.builder.now) c.args.flag
 
 pub returns-in_err-set : goal.returns-in_err-set
 returns-in_err-set g c =
-    let E = extension g.F.PrimeCharacteristicRing.ring g.F.PartialEq.eq g.EF.PrimeCharacteristicRing.ring g.EF.PartialEq.eq g.EF.ExtensionDomain.embed g.EF.Field.inverse in
+    let E = base_extension g.F.PrimeCharacteristicRing.ring g.F.PartialEq.eq g.F.Field.inverse in
     let laws : IsLawful E = record {
       base = g.F.PrimeCharacteristicRing.lawful;
       base_eq = g.met.F.PrimeCharacteristicRing.eq_is;
-      ring = g.EF.PrimeCharacteristicRing.lawful;
-      domain = g.met.EF.Domain.domain;
-      eq = g.met.EF.PrimeCharacteristicRing.eq_is;
-      embeds = g.met.EF.ExtensionDomain.embeds;
-      inverse = g.met.EF.Field.inverse_is;
+      ring = g.F.PrimeCharacteristicRing.lawful;
+      domain = g.met.F.Domain.domain;
+      eq = g.met.F.PrimeCharacteristicRing.eq_is;
+      embeds = record { zero = refl; one = refl; add = λ a b. refl; mul = λ a b. refl; injective = λ a b e. e };
+      inverse = g.met.F.Field.inverse_is;
     } in
     let look = value E.base (builder_window c.args.builder.now) in
     let flags = c.args.flags.now in
@@ -42,7 +43,7 @@ returns-in_err-set g c =
 
 pub loop-place-preserved : goal.loop-place-preserved
 loop-place-preserved g c =
-    let E = extension g.F.PrimeCharacteristicRing.ring g.F.PartialEq.eq g.EF.PrimeCharacteristicRing.ring g.EF.PartialEq.eq g.EF.ExtensionDomain.embed g.EF.Field.inverse in
+    let E = base_extension g.F.PrimeCharacteristicRing.ring g.F.PartialEq.eq g.F.Field.inverse in
     let look = value E.base (builder_window c.args.builder.now) in
     let flags = c.args.flags.now in
     let i = c.loop-place.place in
@@ -54,6 +55,6 @@ loop-place-preserved g c =
 
 pub returns : goal.returns
 returns g c =
-    let E = extension g.F.PrimeCharacteristicRing.ring g.F.PartialEq.eq g.EF.PrimeCharacteristicRing.ring g.EF.PartialEq.eq g.EF.ExtensionDomain.embed g.EF.Field.inverse in
+    let E = base_extension g.F.PrimeCharacteristicRing.ring g.F.PartialEq.eq g.F.Field.inverse in
     let vals = values E.base (builder_window c.args.builder.now) c.args.flags.now in
     subst (λ (fs : List _). AreSetFlags E fs c.loop-place.set) (take_all c.loop-place.place vals (omega (arith, c.loop-place-test.false, length-map c.args.flags.now (value E.base (builder_window c.args.builder.now))))) c.loop-place.invariant

@@ -1,34 +1,35 @@
-use Rattle.std.proofs.Common.{sym, ◌∙◌}
-use Rattle.lookup_model.specs.Extension.{extension, IsLawful}
+use Rattle.std.proofs.Common.{refl, sym, ◌∙◌}
+use Rattle.lookup_model.specs.Extension.{IsLawful}
 use Rattle.lookup_model.specs.Sent.{value}
+use Rattle.lookup_generation.specs.Inverses.{base_extension}
 use Rattle.lookup_generation.specs.TraceBuilder.{builder_window}
 use Rattle.lookup_generation.proofs.SetFlags.{one_flag, zero_flag}
 use Rattle.lookup_generation.proofs.exclusive.with_flag.Goals as goal
 
 pub returns-then-is_zero-clause-next : goal.returns-then-is_zero-clause-next
 returns-then-is_zero-clause-next g c =
-    let E = extension g.F.PrimeCharacteristicRing.ring g.F.PartialEq.eq g.EF.PrimeCharacteristicRing.ring g.EF.PartialEq.eq g.EF.ExtensionDomain.embed g.EF.Field.inverse in
+    let E = base_extension g.F.PrimeCharacteristicRing.ring g.F.PartialEq.eq g.F.Field.inverse in
     let laws : IsLawful E = record {
       base = g.F.PrimeCharacteristicRing.lawful;
       base_eq = g.met.F.PrimeCharacteristicRing.eq_is;
-      ring = g.EF.PrimeCharacteristicRing.lawful;
-      domain = g.met.EF.Domain.domain;
-      eq = g.met.EF.PrimeCharacteristicRing.eq_is;
-      embeds = g.met.EF.ExtensionDomain.embeds;
-      inverse = g.met.EF.Field.inverse_is;
+      ring = g.F.PrimeCharacteristicRing.lawful;
+      domain = g.met.F.Domain.domain;
+      eq = g.met.F.PrimeCharacteristicRing.eq_is;
+      embeds = record { zero = refl; one = refl; add = λ a b. refl; mul = λ a b. refl; injective = λ a b e. e };
+      inverse = g.met.F.Field.inverse_is;
     } in
     λ flags at so_far. zero_flag laws flags (value E.base (builder_window c.args.builder.now) c.args.flag.now) c.args.set (sym c.in_ok-flag.ensures ∙ c.is_zero.ensures.0 c.if-is_zero.true) so_far
 
 pub returns-then-eq-clause-next : goal.returns-then-eq-clause-next
 returns-then-eq-clause-next g c =
-    let E = extension g.F.PrimeCharacteristicRing.ring g.F.PartialEq.eq g.EF.PrimeCharacteristicRing.ring g.EF.PartialEq.eq g.EF.ExtensionDomain.embed g.EF.Field.inverse in
+    let E = base_extension g.F.PrimeCharacteristicRing.ring g.F.PartialEq.eq g.F.Field.inverse in
     let laws : IsLawful E = record {
       base = g.F.PrimeCharacteristicRing.lawful;
       base_eq = g.met.F.PrimeCharacteristicRing.eq_is;
-      ring = g.EF.PrimeCharacteristicRing.lawful;
-      domain = g.met.EF.Domain.domain;
-      eq = g.met.EF.PrimeCharacteristicRing.eq_is;
-      embeds = g.met.EF.ExtensionDomain.embeds;
-      inverse = g.met.EF.Field.inverse_is;
+      ring = g.F.PrimeCharacteristicRing.lawful;
+      domain = g.met.F.Domain.domain;
+      eq = g.met.F.PrimeCharacteristicRing.eq_is;
+      embeds = record { zero = refl; one = refl; add = λ a b. refl; mul = λ a b. refl; injective = λ a b e. e };
+      inverse = g.met.F.Field.inverse_is;
     } in
     λ flags at so_far. one_flag laws flags (value E.base (builder_window c.args.builder.now) c.args.flag.now) c.args.set c.with_place.result c.args.place at (sym c.in_ok-flag.ensures ∙ (laws.base_eq c.in_ok-flag.flag c.ONE.result).0 (sym c.eq.ensures ∙ c.if-eq.true) ∙ c.ONE.ensures ∙ g.met.F.PrimeCharacteristicRing.one_is) c.with_place.ensures so_far

@@ -8,13 +8,14 @@ use Rattle.lookup_model.specs.Fault.{fault_of}
 use Rattle.lookup_model.specs.Plain.{plain_fraction}
 use Rattle.lookup_model.specs.Records.{AllFit, IsWithin}
 use Rattle.lookup_model.specs.Sent.{branches_at, sent, sent_at, values}
+use Rattle.lookup_generation.specs.Fraction.{IsRatio}
 use Rattle.lookup_generation.specs.TraceBuilder.{builder_layout, builder_window}
 use Rattle.lookup_laws.proofs.LookupFaults.{additive_faultless, additive_fault}
 use Rattle.lookup_generation.proofs.fraction.fraction.Goals as goal
 
-pub returns-in-None : goal.returns-in-None
-returns-in-None g c =
-    let E = extension g.F.PrimeCharacteristicRing.ring g.F.PartialEq.eq g.EF.PrimeCharacteristicRing.ring g.EF.PartialEq.eq g.EF.ExtensionDomain.embed g.EF.Field.inverse in
+pub returns-in-None-clause-answers : goal.returns-in-None-clause-answers
+returns-in-None-clause-answers g c = λ inverse is_inverse.
+    let E = extension g.F.PrimeCharacteristicRing.ring g.F.PartialEq.eq g.EF.PrimeCharacteristicRing.ring g.EF.PartialEq.eq g.EF.ExtensionDomain.embed inverse in
     let denominator = column_denominator E c.args.builder.now.permutation_challenges.now in
     let row = c.args.builder.now.row in
     let lookup = c.args.lookup.now in
@@ -23,16 +24,16 @@ returns-in-None g c =
     let sent_is : sent E.base E.base_eq None branches ≡ sent_at E.base E.base_eq w lookup.column lookup =
     ap (λ o. sent E.base E.base_eq (option_map (λ flags. values E.base w flags.items) o) branches) (sym c.in-None.is) in
     let fault_is = ap (fault_of E denominator row lookup.column) (sym sent_is) in
-    MatchResult-weaker c.additive_fraction.result c.additive_fraction.ensures
-    (λ f of. (of.value ∙ ap (plain_fraction E denominator) sent_is, fault_is ∙ additive_faultless E denominator row lookup.column branches of.divides))
+    MatchResult-weaker c.additive_fraction.result (c.additive_fraction.ensures.answers inverse is_inverse)
+    (λ f of. (subst (IsRatio E.ring f) (ap (plain_fraction E denominator) sent_is) of.is, fault_is ∙ additive_faultless E denominator row lookup.column branches of.divides))
     (λ e refused. elim refused [
       | inl memory ↦ inl memory
       | inr vanishing ↦ inr (fault_is ∙ additive_fault E denominator row lookup.column branches vanishing.1 ∙ ap Some (sym vanishing.0))
     ])
 
-pub returns-in-Some : goal.returns-in-Some
-returns-in-Some g c =
-    let E = extension g.F.PrimeCharacteristicRing.ring g.F.PartialEq.eq g.EF.PrimeCharacteristicRing.ring g.EF.PartialEq.eq g.EF.ExtensionDomain.embed g.EF.Field.inverse in
+pub returns-in-Some-clause-answers : goal.returns-in-Some-clause-answers
+returns-in-Some-clause-answers g c = λ inverse is_inverse.
+    let E = extension g.F.PrimeCharacteristicRing.ring g.F.PartialEq.eq g.EF.PrimeCharacteristicRing.ring g.EF.PartialEq.eq g.EF.ExtensionDomain.embed inverse in
     let denominator = column_denominator E c.args.builder.now.permutation_challenges.now in
     let row = c.args.builder.now.row in
     let lookup = c.args.lookup.now in
@@ -42,8 +43,8 @@ returns-in-Some g c =
     ap (λ t. sent E.base E.base_eq (Some (values E.base w t)) branches) c.deref.ensures.value
     ∙ ap (λ o. sent E.base E.base_eq (option_map (λ flags. values E.base w flags.items) o) branches) (sym c.in-Some.is) in
     let fault_is = ap (fault_of E denominator row lookup.column) (sym sent_is) in
-    MatchResult-weaker c.exclusive_fraction.result c.exclusive_fraction.ensures
-    (λ f of. (of.0 ∙ ap (plain_fraction E denominator) sent_is, fault_is ∙ of.1))
+    MatchResult-weaker c.exclusive_fraction.result (c.exclusive_fraction.ensures.answers inverse is_inverse)
+    (λ f of. (subst (IsRatio E.ring f) (ap (plain_fraction E denominator) sent_is) of.0, fault_is ∙ of.1))
     (λ e refused. elim refused [
       | inl memory ↦ inl memory
       | inr fault ↦ inr (fault_is ∙ fault)

@@ -8,6 +8,7 @@ use Rattle.lookup_model.specs.Extension.{extension, IsLawful}
 use Rattle.lookup_model.specs.Records.{AllFit, IsWithin}
 use Rattle.lookup_model.specs.Sent.{branch_at, branches_at, value, values}
 use Rattle.lookup_laws.proofs.Selections.{place_within}
+use Rattle.lookup_generation.specs.Inverses.{base_extension}
 use Rattle.lookup_generation.specs.Selection.{AreSetFlags}
 use Rattle.lookup_generation.specs.SentMessages.{messages_of}
 use Rattle.lookup_generation.specs.TraceBuilder.{builder_layout, builder_window}
@@ -17,7 +18,7 @@ use Rattle.lookup_generation.proofs.messages.push_selected.Goals as goal
 
 pub index-tuple-requires : goal.index-tuple-requires
 index-tuple-requires g c =
-    let E = extension g.F.PrimeCharacteristicRing.ring g.F.PartialEq.eq g.EF.PrimeCharacteristicRing.ring g.EF.PartialEq.eq g.EF.ExtensionDomain.embed g.EF.Field.inverse in
+    let E = base_extension g.F.PrimeCharacteristicRing.ring g.F.PartialEq.eq g.F.Field.inverse in
     let w = builder_window c.args.builder.now in
     let vals = values E.base w c.args.flags.now in
     let set : AreSetFlags E vals (One c.in-One.branch) = subst (AreSetFlags E vals) c.in-One.is c.in_ok-set_flags.ensures in
@@ -25,7 +26,7 @@ index-tuple-requires g c =
 
 pub index-multiplicity-requires : goal.index-multiplicity-requires
 index-multiplicity-requires g c =
-    let E = extension g.F.PrimeCharacteristicRing.ring g.F.PartialEq.eq g.EF.PrimeCharacteristicRing.ring g.EF.PartialEq.eq g.EF.ExtensionDomain.embed g.EF.Field.inverse in
+    let E = base_extension g.F.PrimeCharacteristicRing.ring g.F.PartialEq.eq g.F.Field.inverse in
     let w = builder_window c.args.builder.now in
     let vals = values E.base w c.args.flags.now in
     let set : AreSetFlags E vals (One c.in-One.branch) = subst (AreSetFlags E vals) c.in-One.is c.in_ok-set_flags.ensures in
@@ -34,7 +35,7 @@ index-multiplicity-requires g c =
 pub push_branch-requires-clause-tuple_fits : goal.push_branch-requires-clause-tuple_fits
 unfolding IsWithin
 push_branch-requires-clause-tuple_fits g c =
-    let E = extension g.F.PrimeCharacteristicRing.ring g.F.PartialEq.eq g.EF.PrimeCharacteristicRing.ring g.EF.PartialEq.eq g.EF.ExtensionDomain.embed g.EF.Field.inverse in
+    let E = base_extension g.F.PrimeCharacteristicRing.ring g.F.PartialEq.eq g.F.Field.inverse in
     let w = builder_window c.args.builder.now in
     let vals = values E.base w c.args.flags.now in
     let set : AreSetFlags E vals (One c.in-One.branch) = subst (AreSetFlags E vals) c.in-One.is c.in_ok-set_flags.ensures in
@@ -45,7 +46,7 @@ pub push_branch-requires-clause-multiplicity_fits :
     goal.push_branch-requires-clause-multiplicity_fits
 unfolding IsWithin
 push_branch-requires-clause-multiplicity_fits g c =
-    let E = extension g.F.PrimeCharacteristicRing.ring g.F.PartialEq.eq g.EF.PrimeCharacteristicRing.ring g.EF.PartialEq.eq g.EF.ExtensionDomain.embed g.EF.Field.inverse in
+    let E = base_extension g.F.PrimeCharacteristicRing.ring g.F.PartialEq.eq g.F.Field.inverse in
     let w = builder_window c.args.builder.now in
     let vals = values E.base w c.args.flags.now in
     let set : AreSetFlags E vals (One c.in-One.branch) = subst (AreSetFlags E vals) c.in-One.is c.in_ok-set_flags.ensures in
@@ -67,7 +68,8 @@ returns-in-Nothing g c =
     let vals = values E.base w c.args.flags.now in
     let lookup = c.args.lookup.now in
     let before = messages_of c.args.messages.now.items in
-    let set : AreSetFlags E vals Nothing = subst (AreSetFlags E vals) c.in-Nothing.is c.in_ok-set_flags.ensures in
+    let base = base_extension g.F.PrimeCharacteristicRing.ring g.F.PartialEq.eq g.F.Field.inverse in
+    let set : AreSetFlags base vals Nothing = subst (AreSetFlags base vals) c.in-Nothing.is c.in_ok-set_flags.ensures in
     let is = no_flag laws c.args.builder.now.row lookup.column (branches_at E.base w c.args.id lookup) vals set.boolean set.places in
     (sym (append-nil before) ∙ ap (λ t. before ++ t) (sym is.0), is.1)
 
@@ -93,7 +95,8 @@ returns-in-One g c =
     let tuple = c.index-tuple.result.now in
     let multiplicity = c.index-multiplicity.result.now in
     let m = branch_at E.base w id tuple.items multiplicity in
-    let set : AreSetFlags E vals (One k) = subst (AreSetFlags E vals) c.in-One.is c.in_ok-set_flags.ensures in
+    let base = base_extension g.F.PrimeCharacteristicRing.ring g.F.PartialEq.eq g.F.Field.inverse in
+    let set : AreSetFlags base vals (One k) = subst (AreSetFlags base vals) c.in-One.is c.in_ok-set_flags.ensures in
     let lt : k < length lookup.elements.items = omega (arith, place_within E 0 vals k [] set.places, length-map c.args.flags.now (value E.base w), c.requires.flag_number) in
     let within : k < length branches = omega (arith, lt, length-branches_at E.base w id lookup c.requires.lengths) in
     let at : m ≡ get_or branches k m = zipped_at (λ b. branch_at E.base w id b.0.items b.1) lookup.elements.items lookup.multiplicities.items c.requires.lengths.multiplicities k tuple multiplicity lt c.index-tuple.ensures c.index-multiplicity.ensures in

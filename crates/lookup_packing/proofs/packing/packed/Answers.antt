@@ -6,6 +6,8 @@ use Rattle.lookup_model.specs.declared.types.Lookup.{Lookup}
 use Rattle.lookup_packing.specs.Buses.{bus_names, on_bus}
 use Rattle.lookup_packing.specs.BusWidths.{HaveBusWidths}
 use Rattle.lookup_packing.specs.Trials.{Answers}
+use Rattle.lookup_packing.proofs.KeptLaws.{kept_messages, kept_nets, kept_weight}
+use Rattle.lookup_packing.proofs.SameKeys.{kept_keys}
 use Rattle.lookup_packing.proofs.PackLaws.{all_packed, fill_refusal, groups_of}
 use Rattle.lookup_packing.proofs.StepLaws.{buses_members}
 use Rattle.lookup_packing.proofs.packing.packed.Goals as goal
@@ -31,3 +33,16 @@ returns-clause-packs g c =
       subst (λ (t : List (Lookup g.row.F.Denot)). HaveBusWidths (map fields_of t)) c.deref.ensures.value c.in_ok-assert_bus_widths.ensures,
       all_packed (Answers (FnReturnsAt g.D.Fn c.args.degree)) c.args.max_degree before _ _ _ _ (c.in_ok-buses.ensures ∙ groups_of (map fields_of c.in_ok-columns.additive.items) ∙ ap (λ os. map (λ name. on_bus name os) (bus_names os)) c.in_ok-columns.ensures.2) c.in_ok-columns.ensures.0 c.in_ok-columns-2.ensures.1 c.in_ok-in_columns.ensures.fields,
     )
+
+pub returns-clause-weight : goal.returns-clause-weight
+returns-clause-weight g c = kept_weight (Answers (FnReturnsAt g.D.Fn c.args.degree)) c.args.max_degree c.args.lookups.items c.in_ok-in_columns.field-0.items (returns-clause-packs g c).1
+
+pub returns-clause-messages : goal.returns-clause-messages
+returns-clause-messages g c =
+    kept_messages (Answers (FnReturnsAt g.D.Fn c.args.degree)) c.args.max_degree c.args.lookups.items c.in_ok-in_columns.field-0.items (returns-clause-packs g c).1 g.F.PrimeCharacteristicRing.ring g.F.PartialEq.eq c.requires.lengths
+
+pub returns-clause-nets : goal.returns-clause-nets
+returns-clause-nets g c = kept_nets g.F.PrimeCharacteristicRing.lawful g.F.PartialEq.eq c.args.lookups.items c.in_ok-in_columns.field-0.items (returns-clause-messages g c)
+
+pub returns-clause-keys : goal.returns-clause-keys
+returns-clause-keys g c = kept_keys g.F.PrimeCharacteristicRing.lawful g.F.PartialEq.eq g.met.F.PrimeCharacteristicRing.eq_is c.args.lookups.items c.in_ok-in_columns.field-0.items (returns-clause-messages g c)

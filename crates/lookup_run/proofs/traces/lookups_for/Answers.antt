@@ -1,6 +1,6 @@
-use Rattle.lookup_run.proofs.ExtractedLaws.{air_lookups}
+use Rattle.lookup_run.proofs.PackedAir.{packed_air}
 use Rattle.lookup_run.proofs.traces.lookups_for.Goals as goal
 
 pub returns : goal.returns
 returns g c =
-    air_lookups _ _ g.F.PrimeCharacteristicRing.ring g.F.PartialEq.eq c.args.air c.from_air.result c.from_air.ensures.extracts c.from_air.ensures.within
+    packed_air g.F.PrimeCharacteristicRing.ring g.F.PartialEq.eq c.args.air _ _ c.pack_same_bus.result c.in_ok-lookups.ensures c.pack_same_bus.ensures.packs c.pack_same_bus.ensures.fits

@@ -7,8 +7,7 @@ use Rattle.lookup_model.specs.Fault.{vanishes}
 use Rattle.lookup_model.specs.Message.{Message}
 use Rattle.lookup_model.specs.Plain.{counted}
 use Rattle.lookup_laws.proofs.Rows.{split_at}
-use Rattle.lookup_generation.specs.Fraction.{IsFractionOf}
-use Rattle.lookup_tests.specs.PlainProgram.{message_of, messages_of}
+use Rattle.lookup_tests.specs.PlainProgram.{IsFractionOf, message_of, messages_of}
 use Rattle.lookup_tests.proofs.PlainProgramLaws.{fraction_of_both, messages-more, vanishes_among}
 use Rattle.lookup_tests.proofs.plain.fraction_of.Goals as goal
 

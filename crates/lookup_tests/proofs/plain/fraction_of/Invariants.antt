@@ -1,8 +1,7 @@
 use Rattle.std.proofs.Common.{take}
 use Rattle.lookup_model.specs.Denominators.{column_denominator}
 use Rattle.lookup_model.specs.Extension.{extension}
-use Rattle.lookup_generation.specs.Fraction.{IsFractionOf}
-use Rattle.lookup_tests.specs.PlainProgram.{messages_of}
+use Rattle.lookup_tests.specs.PlainProgram.{IsFractionOf, messages_of}
 use Rattle.lookup_tests.proofs.plain.fraction_of.Given as goal
 
 abbrev pub invariant-loop-message : goal.invariant-loop-message

@@ -6,8 +6,7 @@ use Rattle.lookup_model.specs.Extension.{extension, IsLawful}
 use Rattle.lookup_model.specs.Fault.{vanishes}
 use Rattle.lookup_model.specs.Message.{Key, Message}
 use Rattle.lookup_model.specs.Plain.{counted}
-use Rattle.lookup_generation.specs.Fraction.{IsFractionOf}
-use Rattle.lookup_tests.specs.PlainProgram.{message_of, messages_of, net_message}
+use Rattle.lookup_tests.specs.PlainProgram.{IsFractionOf, message_of, messages_of, net_message}
 use Rattle.lookup_tests.proofs.PlainProgramLaws.{fraction_of_both, keys-new, keys-seen, keys_of, sum_of_nets, vanishing_net, vanishing_nets}
 use Rattle.lookup_tests.proofs.plain.terminal_of.Goals.{then-not-holds+in_ok-quotient_of, else-not-holds}
 use Rattle.lookup_tests.proofs.plain.terminal_of.Goals as goal

@@ -2,8 +2,7 @@ use Rattle.std.proofs.Common.{map, take}
 use Rattle.lookup_model.specs.Denominators.{column_denominator}
 use Rattle.lookup_model.specs.Extension.{extension}
 use Rattle.lookup_model.specs.Net.{keys}
-use Rattle.lookup_generation.specs.Fraction.{IsFractionOf}
-use Rattle.lookup_tests.specs.PlainProgram.{messages_of, net_message}
+use Rattle.lookup_tests.specs.PlainProgram.{IsFractionOf, messages_of, net_message}
 use Rattle.lookup_tests.proofs.plain.terminal_of.Given as goal
 
 abbrev pub invariant-loop-place : goal.invariant-loop-place

@@ -1,0 +1,15 @@
+use Rattle.std.proofs.Common.{◌≡◌, ◌≤◌, drop, length}
+use Rattle.std.specs.Option.{option_copied}
+use Rattle.field.specs.Ring.{power}
+use Rattle.lookup_columns.specs.Columns.{denominator_column, windows_of}
+use Rattle.lookup_columns.proofs.denominators.denominators_of.Given as goal
+
+abbrev pub invariant-loop-left : goal.invariant-loop-left
+invariant-loop-left g l =
+    let S = g.EF.PrimeCharacteristicRing.ring in
+    (l.left ≤ length l.tuple)
+    × (l.power ≡ power S l.beta (length (drop l.left l.tuple)))
+    × (l.denominators.items ≡ denominator_column g.F.PrimeCharacteristicRing.ring S g.EF.ExtensionDomain.embed (windows_of l.main (option_copied l.preprocessed) l.public_values) l.fn.alpha l.beta l.rows (drop l.left l.tuple))
+
+abbrev pub decreases-loop-left : goal.decreases-loop-left
+decreases-loop-left g l = l.left

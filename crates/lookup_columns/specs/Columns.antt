@@ -1,0 +1,32 @@
+-- Columns: what expressions and tuples give on some rows of the traces of an AIR.
+use Rattle.std.specs.Prelude.{ℕ, List, Option, map}
+use Rattle.field.specs.Polynomial.{combined}
+use Rattle.field.specs.Ring.{Ring, sub_in}
+use Rattle.matrix.specs.Matrix.{Matrix, height}
+use Rattle.expressions.specs.Meaning.{leaf_value, value_of}
+use Rattle.expressions.specs.Tree.{Tree}
+use Rattle.expressions.specs.Window.{Window, window_at}
+use Rattle.expressions.specs.declared.base_expression.BaseLeaf.{BaseLeaf}
+use Rattle.expressions.specs.declared.base_expression.SymbolicExpression.{SymbolicExpression}
+use Rattle.lookup_model.specs.Sent.{values}
+
+-- the windows of the rows of traces
+abbrev pub windows_of : {F : Type 0} → Matrix F → Option (Matrix F) → List F → ℕ → Window F
+windows_of main preprocessed public_values r = window_at main preprocessed public_values (height main) r
+
+module _ {F : Type 0} (R : Ring F) where
+  -- the values of a leaf on these rows
+  abbrev pub leaf_column : (ℕ → Window F) → List ℕ → BaseLeaf F → List F
+  leaf_column window rows l = map (λ r. leaf_value R (window r) l) rows
+
+  -- the values of a tree on these rows
+  abbrev pub column : (ℕ → Window F) → List ℕ → Tree F → List F
+  column window rows t = map (λ r. value_of R (window r) t) rows
+
+  -- the denominator of a tuple at a window: alpha less the tuple combined by beta
+  abbrev pub denominator_at : {K : Type 0} → Ring K → (F → K) → K → K → Window F → List (SymbolicExpression F) → K
+  denominator_at S embed alpha beta w tuple = sub_in S alpha (combined S (map embed (values R w tuple)) beta)
+
+  -- the denominators of a tuple on these rows
+  abbrev pub denominator_column : {K : Type 0} → Ring K → (F → K) → (ℕ → Window F) → K → K → List ℕ → List (SymbolicExpression F) → List K
+  denominator_column S embed window alpha beta rows tuple = map (λ r. denominator_at S embed alpha beta (window r) tuple) rows

@@ -1,0 +1,64 @@
+//! The denominators of a tuple on some rows.
+ghost use Rattle.std.specs.Prelude.{◌≡◌, ◌<◌, All, IfOk, map};
+ghost use Rattle.std.specs.List.{zip};
+ghost use Rattle.std.specs.Option.{ForSome, option_copied};
+ghost use Rattle.field.specs.Ring.{sub_in};
+ghost use Rattle.expressions.specs.Layout.{layout_of_traces};
+ghost use Rattle.lookup_columns.specs.Columns.{denominator_column, windows_of};
+ghost use Rattle.lookup_model.specs.Records.{AllFit};
+ghost use Rattle.matrix.specs.Matrix.{height};
+
+use crate::column::{alike, column_of};
+use expressions::SymbolicExpression;
+use field::{Domain, ExtensionDomain, Field};
+use matrix::RowMajorMatrix;
+use std::alloc::{AllocError, Global};
+
+/// Each element less the element of `column` beside it, times `power`.
+fn lessened<F: Field, EF: ExtensionDomain<F>>(
+    alloc: Global,
+    elements: &[EF],
+    power: EF,
+    column: &[F],
+) -> Result<Vec<EF>, AllocError>
+    ensures { IfOk result (λ v. v.items ≡ map (λ p. sub_in EF.ring p.0 (EF.ring.mul power (EF.embed p.1))) (zip elements.now column.now)) }
+{
+    elements
+        .iter()
+        .zip(column)
+        .map(|(element, x)| element.minus_scaled(power, *x))
+        .collect(alloc)
+}
+
+/// The denominators of a tuple on rows of the traces of an AIR, in the order of `rows`: `alpha` less
+/// the tuple combined by `beta`.
+///
+/// The last element of a tuple has the factor 1, each one before it a power of `beta` more. The next
+/// row of the last one is the first one. `preprocessed`, if there is one, is as high as `main`. Fails
+/// only when out of memory.
+pub fn denominators_of<F: Field, EF: ExtensionDomain<F>>(
+    alloc: Global,
+    tuple: &[SymbolicExpression<F>],
+    main: &RowMajorMatrix<F>,
+    preprocessed: Option<&RowMajorMatrix<F>>,
+    public_values: &[F],
+    rows: &[usize],
+    alpha: EF,
+    beta: EF,
+) -> Result<Vec<EF>, AllocError>
+    requires heights { ForSome (option_copied preprocessed) (λ m. height m ≡ height main.now) }
+    requires fits { AllFit (layout_of_traces main.now (option_copied preprocessed) public_values.now) tuple.now }
+    requires rows_exist { All (λ r. r < height main.now) rows.now }
+    ensures { IfOk result (λ v. v.items ≡ denominator_column F.ring EF.ring EF.embed (windows_of main.now (option_copied preprocessed.entry) public_values.now) alpha beta rows.now tuple.now) }
+{
+    let mut denominators = alike(alloc, rows, alpha)?;
+    let mut power = EF::ONE;
+    let mut left = tuple.len();
+    while left > 0 {
+        left -= 1;
+        let column = column_of(alloc, &tuple[left], main, preprocessed, public_values, rows)?;
+        denominators = lessened(alloc, &denominators, power, &column)?;
+        power = power * beta;
+    }
+    Ok(denominators)
+}

@@ -1,0 +1,157 @@
+//! Columns at values calculated by hand.
+ghost use Rattle.std.specs.Prelude.{◌↔◌, IsTrue};
+ghost use Rattle.lookup_model.specs.Records.{AllFit};
+
+use super::{column_of, denominators_of};
+use expressions::{
+    AirLayout, BaseEntry, BaseLeaf, Expression, SymbolicExpression, SymbolicVariable,
+};
+use field::F7;
+use matrix::RowMajorMatrix;
+use std::alloc::Global;
+use std::process::Abort;
+
+/// A trace of these rows.
+fn trace(rt: &impl Abort, alloc: Global, numbers: &[u32], width: usize) -> RowMajorMatrix<F7> {
+    let mut values = Vec::new(alloc);
+    for number in numbers {
+        values.push(F7::new(*number)).expect(rt, "memory");
+    }
+    assert!(rt; width > 0 && values.len() % width == 0);
+    RowMajorMatrix::new(values, width)
+}
+
+fn leaf(entry: BaseEntry, index: usize) -> SymbolicExpression<F7> {
+    SymbolicExpression::Leaf(BaseLeaf::Variable(SymbolicVariable::new(entry, index)))
+}
+
+/// The values of an expression on the last row and on the first one, over the main rows `1 2`, `3 4`
+/// and `5 6`, the preprocessed rows `0`, `2` and `4`, and the public value 6.
+fn expect(rt: &impl Abort, alloc: Global, expression: SymbolicExpression<F7>, expected: [u32; 2]) {
+    let main = trace(rt, alloc, &[1, 2, 3, 4, 5, 6], 2);
+    let preprocessed = trace(rt, alloc, &[0, 2, 4], 1);
+    let public_values = [F7::new(6)];
+    let layout = AirLayout::of_traces(&main, Some(&preprocessed), public_values.as_slice());
+    let rows: [usize; 2] = [2, 0];
+    assert!(rt; expression.fits(&layout));
+    assert!(rt; preprocessed.height() == main.height());
+    assert!(rt; rows.iter().all(|r| *r < main.height()));
+    let found = column_of(
+        alloc,
+        &expression,
+        &main,
+        Some(&preprocessed),
+        public_values.as_slice(),
+        rows.as_slice(),
+    )
+    .expect(rt, "memory");
+    assert!(rt; found.len() == 2);
+    assert!(rt; found[0] == F7::new(expected[0]) && found[1] == F7::new(expected[1]));
+}
+
+#[test]
+fn columns_of_leaves(rt: HostRuntime) {
+    let alloc = rt.alloc();
+    for (leaf, expected) in [
+        (leaf(BaseEntry::Main { offset: 0 }, 1), [6, 2]),
+        (leaf(BaseEntry::Main { offset: 1 }, 1), [2, 4]),
+        (leaf(BaseEntry::Preprocessed { offset: 0 }, 0), [4, 0]),
+        (leaf(BaseEntry::Preprocessed { offset: 1 }, 0), [0, 2]),
+        (leaf(BaseEntry::Public, 0), [6, 6]),
+        (SymbolicExpression::Leaf(BaseLeaf::IsFirstRow), [0, 1]),
+        (SymbolicExpression::Leaf(BaseLeaf::IsLastRow), [1, 0]),
+        (SymbolicExpression::Leaf(BaseLeaf::IsTransition), [0, 1]),
+        (
+            SymbolicExpression::Leaf(BaseLeaf::Constant(F7::new(3))),
+            [3, 3],
+        ),
+    ] {
+        expect(&rt, alloc, leaf, expected);
+    }
+}
+
+#[test]
+fn columns_of_operations(rt: HostRuntime) {
+    let alloc = rt.alloc();
+    let first = leaf(BaseEntry::Main { offset: 0 }, 0);
+    let next = leaf(BaseEntry::Main { offset: 1 }, 1);
+    expect(
+        &rt,
+        alloc,
+        first.add(alloc, next).expect(&rt, "memory"),
+        [0, 5],
+    );
+    let first = leaf(BaseEntry::Main { offset: 0 }, 0);
+    let next = leaf(BaseEntry::Main { offset: 1 }, 1);
+    expect(
+        &rt,
+        alloc,
+        first.sub(alloc, next).expect(&rt, "memory"),
+        [3, 4],
+    );
+    let second = leaf(BaseEntry::Main { offset: 0 }, 1);
+    let next = leaf(BaseEntry::Main { offset: 1 }, 1);
+    expect(
+        &rt,
+        alloc,
+        second.mul(alloc, next).expect(&rt, "memory"),
+        [5, 1],
+    );
+    let first = leaf(BaseEntry::Main { offset: 0 }, 0);
+    expect(&rt, alloc, first.neg(alloc).expect(&rt, "memory"), [2, 6]);
+}
+
+/// Whether all elements of a tuple are within a layout.
+#[tactic(auto, unfolding(lookup_model::specs::Records::AllFit))]
+fn are_within(tuple: &[SymbolicExpression<F7>], layout: &AirLayout) -> bool
+    ensures { IsTrue result ↔ AllFit layout.now tuple.now }
+{
+    tuple.iter().all(|element| element.fits(layout))
+}
+
+/// The denominators on the last row and on the first one of three, with the public value 6, at alpha 5
+/// and beta 2.
+fn expect_denominators(
+    rt: &impl Abort,
+    alloc: Global,
+    main: &RowMajorMatrix<F7>,
+    tuple: &[SymbolicExpression<F7>],
+    expected: [u32; 2],
+) {
+    let public_values = [F7::new(6)];
+    let layout = AirLayout::of_traces(main, None, public_values.as_slice());
+    let rows: [usize; 2] = [2, 0];
+    assert!(rt; are_within(tuple, &layout));
+    assert!(rt; rows.iter().all(|r| *r < main.height()));
+    let found = denominators_of(
+        alloc,
+        tuple,
+        main,
+        None,
+        public_values.as_slice(),
+        rows.as_slice(),
+        F7::new(5),
+        F7::new(2),
+    )
+    .expect(rt, "memory");
+    assert!(rt; found.len() == 2);
+    assert!(rt; found[0] == F7::new(expected[0]) && found[1] == F7::new(expected[1]));
+}
+
+#[test]
+fn denominators_of_tuples(rt: HostRuntime) {
+    let alloc = rt.alloc();
+    let main = trace(&rt, alloc, &[1, 2, 3, 4, 5, 6], 2);
+    expect_denominators(&rt, alloc, &main, &[], [5, 5]);
+    let pair = [
+        leaf(BaseEntry::Main { offset: 0 }, 0),
+        leaf(BaseEntry::Main { offset: 0 }, 1),
+    ];
+    expect_denominators(&rt, alloc, &main, pair.as_slice(), [3, 1]);
+    let triple = [
+        leaf(BaseEntry::Main { offset: 0 }, 0),
+        leaf(BaseEntry::Main { offset: 0 }, 1),
+        leaf(BaseEntry::Public, 0),
+    ];
+    expect_denominators(&rt, alloc, &main, triple.as_slice(), [2, 5]);
+}

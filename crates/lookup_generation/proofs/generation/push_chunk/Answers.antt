@@ -1,0 +1,111 @@
+use Rattle.std.proofs.Common.{◌≡◌, ◌≢◌, ◌<◌, ◌≤◌, ◌+◌, ◌-◌, ◌*◌, ◌∷◌, ℕ, suc, All, List, length, sym, ap, subst, ◌∙◌, arith}
+use Rattle.std.proofs.lemmas.List.{length-append}
+use Rattle.std.proofs.lemmas.Result.{err_from_is_err_and}
+use Rattle.std.specs.List.{AllZip, flat_map, range_with_len}
+use Rattle.std.specs.Option.{option_copied}
+use Rattle.lookup_generation.proofs.ProgressLaws.{HasCells-more, fractions_at, product_more}
+use Rattle.lookup_generation.specs.Fraction.{IsRatio}
+use Rattle.lookup_generation.specs.Progress.{HasCells, row_fractions}
+use Rattle.lookup_generation.specs.declared.ratio.Ratio.{Ratio}
+use Rattle.lookup_laws.proofs.PlainResults.{IsShaped-product, height_of}
+use Rattle.lookup_laws.proofs.SentRows.{length-sent_rows, length-sent_rows-at}
+use Rattle.lookup_model.specs.Denominators.{column_denominator}
+use Rattle.lookup_model.specs.Extension.{extension, IsLawful}
+use Rattle.lookup_model.specs.Trace.{sent_rows}
+use Rattle.matrix.specs.Matrix.{IsShaped, height, row}
+use Rattle.lookup_generation.proofs.generation.push_chunk.Goals as goal
+
+pub ratios_of-requires-clause-faultless : goal.ratios_of-requires-clause-faultless
+ratios_of-requires-clause-faultless g c = λ inverse is_inverse. (c.requires.so_far inverse is_inverse).faultless
+
+pub values_of-requires : goal.values_of-requires
+values_of-requires g c =
+    subst (λ (rs : List (Ratio _)). All (λ r. r.denominator ≢ g.EF.PrimeCharacteristicRing.ring.zero) rs) (sym c.deref.ensures.value) c.in_ok-ratios.ensures.sound.nonzero
+
+pub new-fractions-requires : goal.new-fractions-requires
+new-fractions-requires g c =
+    let n = length c.args.lookups.now in
+    let m = c.args.end - c.args.first in
+    let one : n ≡ (n - 1) + 1 = omega (arith, c.requires.some) in
+    let values = c.in_ok-values_of.field-0.items in
+    let long : length values ≡ m * ((n - 1) + 1) = c.in_ok-values_of.ensures.many ∙ ap length c.deref.ensures.value ∙ c.in_ok-ratios.ensures.sound.many ∙ ap (λ w. m * w) one in
+    subst (λ w. IsShaped (record { values = values; width = w })) (sym one) (IsShaped-product values m (n - 1) long)
+
+pub row_slice-requires : goal.row_slice-requires
+row_slice-requires g c =
+    let n = length c.args.lookups.now in
+    let m = c.args.end - c.args.first in
+    let one : n ≡ (n - 1) + 1 = omega (arith, c.requires.some) in
+    let values = c.in_ok-values_of.field-0.items in
+    let long : length values ≡ m * ((n - 1) + 1) = c.in_ok-values_of.ensures.many ∙ ap length c.deref.ensures.value ∙ c.in_ok-ratios.ensures.sound.many ∙ ap (λ w. m * w) one in
+    let tall : height c.new-fractions.result ≡ m = ap height c.new-fractions.ensures ∙ ap (λ w. height (record { values = values; width = w })) one ∙ height_of values m (n - 1) long in
+    omega (arith, tall, c.loop-i-test.true)
+
+pub loop-i-init : goal.loop-i-init
+loop-i-init g c = (
+  λ inverse is_inverse.
+      let E = extension g.F.PrimeCharacteristicRing.ring g.F.PartialEq.eq g.EF.PrimeCharacteristicRing.ring g.EF.PartialEq.eq g.EF.ExtensionDomain.embed inverse in
+      let here : c.args.first ≡ c.args.first + 0 = omega arith in
+      subst (λ r. HasCells E (column_denominator E c.args.challenges.now) (sent_rows E.base E.base_eq c.args.main.now (option_copied c.args.preprocessed) c.args.public_values.now c.args.lookups.now) r c.args.cells.now.items c.args.accumulator) here (c.requires.so_far inverse is_inverse).made,
+  omega arith,
+)
+
+pub loop-i-preserved : goal.loop-i-preserved
+loop-i-preserved g c = (
+  λ inverse is_inverse.
+      let E = extension g.F.PrimeCharacteristicRing.ring g.F.PartialEq.eq g.EF.PrimeCharacteristicRing.ring g.EF.PartialEq.eq g.EF.ExtensionDomain.embed inverse in
+      let laws : IsLawful E = record {
+        base = g.F.PrimeCharacteristicRing.lawful;
+        base_eq = g.met.F.PrimeCharacteristicRing.eq_is;
+        ring = g.EF.PrimeCharacteristicRing.lawful;
+        domain = g.met.EF.Domain.domain;
+        eq = g.met.EF.PrimeCharacteristicRing.eq_is;
+        embeds = g.met.EF.ExtensionDomain.embeds;
+        inverse = is_inverse;
+      } in
+      let denominator = column_denominator E c.args.challenges.now in
+      let prep = option_copied c.args.preprocessed in
+      let rows = sent_rows E.base E.base_eq c.args.main.now prep c.args.public_values.now c.args.lookups.now in
+      let first = c.args.first in
+      let m = c.args.end - first in
+      let n = length c.args.lookups.now in
+      let one : n ≡ (n - 1) + 1 = omega (arith, c.requires.some) in
+      let high = length-sent_rows E.base E.base_eq c.args.main.now prep c.args.public_values.now c.args.lookups.now in
+      let within : first + m ≤ length rows = omega (arith, high, c.requires.up_to, c.requires.from) in
+      let wide = λ (k : ℕ) (lt : k < length rows). length-sent_rows-at E.base E.base_eq c.args.main.now prep c.args.public_values.now c.args.lookups.now k (omega (arith, high, lt)) in
+      let fs = flat_map (λ i. row_fractions E denominator rows (first + i)) (range_with_len 0 m) in
+      let values = c.in_ok-values_of.field-0.items in
+      let are : values ≡ fs = c.in_ok-values_of.ensures.values fs (subst (λ rs. AllZip (IsRatio E.ring) rs fs) (sym c.deref.ensures.value) (c.in_ok-ratios.ensures.answers inverse is_inverse).ratios_are) in
+      let i = c.loop-i.i in
+      let here : c.row_slice.result.now ≡ row_fractions E denominator rows (first + i) =
+      c.row_slice.ensures.row ∙ ap (λ t. row t i) c.new-fractions.ensures ∙ (λ k. row (record { values = are k; width = n }) i) ∙ fractions_at laws denominator rows n wide first m i within c.loop-i-test.true in
+      let lt : first + i < length rows = omega (arith, within, c.loop-i-test.true) in
+      let next : (first + i) + 1 ≡ first + (i + 1) = omega arith in
+      subst (λ r. HasCells E denominator rows r c.push_row.new.cells.items c.in_ok-next.next) next
+      (HasCells-more laws denominator rows (first + i) c.loop-i.cells.items c.push_row.new.cells.items c.row_slice.result.now c.loop-i.next c.in_ok-next.next lt here c.in_ok-next.ensures.0 c.in_ok-next.ensures.1 (c.loop-i.invariant.0 inverse is_inverse)),
+  let n = length c.args.lookups.now in
+      let slice = c.row_slice.result.now in
+      let wide : length slice ≡ n = c.row_slice.ensures.len ∙ ap (λ t. t.width) c.new-fractions.ensures in
+      ap length c.in_ok-next.ensures.0 ∙ length-append c.loop-i.cells.items (c.loop-i.next ∷ slice)
+      ∙ (λ k. c.loop-i.invariant.1 k + suc (wide k))
+      ∙ omega (arith, product_more c.loop-i.i (n + 1)),
+)
+
+pub returns-clause-rows : goal.returns-clause-rows
+returns-clause-rows g c = λ inverse is_inverse.
+    let E = extension g.F.PrimeCharacteristicRing.ring g.F.PartialEq.eq g.EF.PrimeCharacteristicRing.ring g.EF.PartialEq.eq g.EF.ExtensionDomain.embed inverse in
+    let all : c.args.first + c.loop-i.i ≡ c.args.end = omega (arith, c.loop-i-test.false, c.loop-i.auto.i-end, c.requires.from) in
+    record {
+      made = subst (λ r. HasCells E (column_denominator E c.args.challenges.now) (sent_rows E.base E.base_eq c.args.main.now (option_copied c.args.preprocessed) c.args.public_values.now c.args.lookups.now) r c.loop-i.cells.items c.loop-i.next) all (c.loop-i.invariant.0 inverse is_inverse);
+      faultless = (c.in_ok-ratios.ensures.answers inverse is_inverse).faultless;
+    }
+
+pub returns-in_err-ratios-clause-rows : goal.returns-in_err-ratios-clause-rows
+returns-in_err-ratios-clause-rows g c = λ inverse is_inverse.
+    let p = err_from_is_err_and c.from_residual.result c.from_residual.ensures.1 in
+    rw (p.1, p.2) (c.in_err-ratios.ensures.answers inverse is_inverse)
+
+pub returns-clause-many : goal.returns-clause-many
+returns-clause-many g c =
+    let all : c.loop-i.i ≡ c.args.end - c.args.first = omega (arith, c.loop-i-test.false, c.loop-i.auto.i-end) in
+    c.loop-i.invariant.1 ∙ ap (λ m. length c.args.cells.now.items + m * (length c.args.lookups.now + 1)) all

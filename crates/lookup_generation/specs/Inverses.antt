@@ -1,0 +1,12 @@
+-- What holds for every inverse that a domain may have, and a field as an extension of itself.
+use Rattle.std.specs.Prelude.{◌≢◌, Bool}
+use Rattle.field.specs.Ring.{Ring, IsInverse}
+use Rattle.lookup_model.specs.Extension.{Extension, extension}
+
+-- It holds of each function that inverts all elements but zero. A domain that is no field has none.
+abbrev pub ForInverses : {K : Type 0} → Ring K → ((K → K) → Type 0) → Type 0
+ForInverses {K} S Holds = (inverse : K → K) → ((a : K) → a ≢ S.zero → IsInverse S a (inverse a)) → Holds inverse
+
+-- a field as an extension of itself
+abbrev pub base_extension : {F : Type 0} → Ring F → (F → F → Bool) → (F → F) → Extension F F
+base_extension R eq inverse = extension R eq R eq (λ x. x) inverse
