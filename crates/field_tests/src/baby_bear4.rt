@@ -116,8 +116,18 @@ fn products_with_base_elements(rt: HostRuntime) {
     let (x, y) = (quartic(1, 2, 3, 4), quartic(10, 20, 30, 40));
     is(&rt, "3x", scaled(x, three), quartic(3, 6, 9, 12));
     is(&rt, "x * -1", scaled(x, last), -x);
-    is(&rt, "y - 3x", minus_scaled(y, x, three), quartic(7, 14, 21, 28));
-    is(&rt, "x - 3x", minus_scaled(x, x, three), -quartic(2, 4, 6, 8));
+    is(
+        &rt,
+        "y - 3x",
+        minus_scaled(y, x, three),
+        quartic(7, 14, 21, 28),
+    );
+    is(
+        &rt,
+        "x - 3x",
+        minus_scaled(x, x, three),
+        -quartic(2, 4, 6, 8),
+    );
     is(&rt, "3 * 3", scaled(three, three), BabyBear::new(9));
     is(
         &rt,

@@ -40,7 +40,11 @@ fn one_inverse_serves_a_list(rt: HostRuntime) {
 #[test]
 fn two_three_and_four(rt: HostRuntime) {
     let wanted = [F7::new(4), F7::new(5), F7::new(2)];
-    holds(&rt, "three", has_inverses(rt.alloc(), &three_units(), &wanted, 1));
+    holds(
+        &rt,
+        "three",
+        has_inverses(rt.alloc(), &three_units(), &wanted, 1),
+    );
 }
 
 #[test]
