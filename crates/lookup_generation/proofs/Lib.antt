@@ -1,9 +1,12 @@
+pub mod ChunkColumnLaws
 pub mod Fractions
 pub mod Layouts
 pub mod MadeRows
 pub mod OwnWindow
+pub mod PlacedLaws
 pub mod ProgressLaws
 pub mod Ratios
+pub mod SelectedColumns
 pub mod SelectedFractions
 pub mod SentMessageLaws
 pub mod SetFlags

@@ -20,7 +20,7 @@ use Rattle.lookup_laws.proofs.Rows.{plain_accumulator-more, row_faults-none, spl
 use Rattle.lookup_laws.proofs.SatisfiedRows.{row_of_parts}
 
 -- a range goes on
-range-more : (a n : ℕ) → range_with_len a (n + 1) ≡ range_with_len a n ++ (a + n) ∷ []
+pub range-more : (a n : ℕ) → range_with_len a (n + 1) ≡ range_with_len a n ++ (a + n) ∷ []
 range-more a n =
     sym (map-id (range_with_len a (n + 1))) ∙ map-range_with_len_more (λ x. x) a n (a + n) refl ∙ ap (λ t. t ++ (a + n) ∷ []) (map-id (range_with_len a n))
 
@@ -42,7 +42,7 @@ all_push P (y ∷ xs) x h p zero d lt = h 0 y (omega arith)
 all_push P (y ∷ xs) x h p (suc k) d lt = all_push P xs x (λ j e l. h (suc j) e (omega (arith, l))) p k d (omega (arith, lt))
 
 -- items that are related go on
-zip_push : {A B : Type 0} (R : A → B → Type 0) (xs : List A) (ys : List B) (x : A) (y : B) → AllZip R xs ys → R x y → AllZip R (xs ++ x ∷ []) (ys ++ y ∷ [])
+pub zip_push : {A B : Type 0} (R : A → B → Type 0) (xs : List A) (ys : List B) (x : A) (y : B) → AllZip R xs ys → R x y → AllZip R (xs ++ x ∷ []) (ys ++ y ∷ [])
 zip_push R [] [] x y h r = (r, tt)
 zip_push R [] (b ∷ ys) x y h r = absurd h
 zip_push R (a ∷ xs) [] x y h r = absurd h

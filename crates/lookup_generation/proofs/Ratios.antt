@@ -1,10 +1,10 @@
 -- Ratios and their values.
-use Rattle.std.proofs.Common.{◌≡◌, ◌≢◌, zero, suc, List, [], ◌∷◌, All, length, map, refl, sym, ap, ◌∙◌, inl, inr, arith, ◌&&◌, Bool, true, false, IsTrue}
+use Rattle.std.proofs.Common.{◌≡◌, ◌≢◌, zero, suc, List, [], ◌∷◌, All, length, map, refl, sym, ap, subst, ◌∙◌, inl, inr, arith, ◌&&◌, Bool, true, false, IsTrue}
 use Rattle.std.proofs.lemmas.Bool.{true≢false}
 use Rattle.std.specs.List.{AllByRecursion, AllZip, list_all, zip}
 use Rattle.field.specs.Ring.{Ring, IsCommutativeRing, IsDomain, IsInverse}
 use Rattle.field.specs.RingFacts.{mul_zero}
-use Rattle.field.specs.RingSolver.{var, con, ◌:*◌, ◌:+◌, ring_given}
+use Rattle.field.specs.RingSolver.{var, con, ◌:*◌, ◌:+◌, ring_given, ring_law}
 use Rattle.lookup_generation.specs.Fraction.{IsRatio}
 use Rattle.lookup_generation.specs.declared.ratio.Ratio.{Ratio}
 
@@ -29,6 +29,15 @@ module _ {K : Type 0} {S : Ring K} (laws : IsCommutativeRing S) (domain : IsDoma
       | inr f ↦ ne f
     ];
   }
+
+  -- nothing is added to a quotient
+  pub alone : (r s : Ratio K) (x q : K) → r.numerator ≡ S.zero → IsRatio S r x → IsRatio S s q → IsRatio S s (S.add x q)
+  alone r s x q none is so =
+      let no_value : x ≡ S.zero = elim (domain.no_zero_divisors r.denominator x (sym is.value ∙ none)) [
+        | inl f ↦ absurd (is.nonzero f)
+        | inr f ↦ f
+      ] in
+      subst (IsRatio S s) (sym (ap (λ t. S.add t q) no_value ∙ ring_law laws (q ∷ []) (con 0 :+ var 0) (var 0) refl)) so
 
   -- zero over one
   pub nothing : (r : Ratio K) → r.numerator ≡ S.zero → r.denominator ≡ S.one → IsRatio S r S.zero

@@ -2,18 +2,11 @@
 use Rattle.std.specs.Prelude.{◌≡◌, ◌≢◌, ℕ, All, false, List, length, map}
 use Rattle.field.specs.Ring.{Ring}
 use Rattle.field.specs.Sums.{sum_in}
-use Rattle.expressions.specs.Window.{Window}
-use Rattle.expressions.specs.declared.base_expression.SymbolicExpression.{SymbolicExpression}
 use Rattle.lookup_model.specs.Extension.{Extension}
 use Rattle.lookup_model.specs.Fault.{vanishes}
 use Rattle.lookup_model.specs.Message.{Key, Message}
 use Rattle.lookup_model.specs.Plain.{counted, quotient_of}
-use Rattle.lookup_model.specs.Sent.{values}
 use Rattle.lookup_generation.specs.declared.ratio.Ratio.{Ratio}
-
--- the key of a tuple at a window, under an id
-abbrev pub key_at : {F : Type 0} → Ring F → Window F → ℕ → List (SymbolicExpression F) → Key F
-key_at R w id tuple = record { id = id; tuple = values R w tuple }
 
 -- A ratio has this value: its numerator is its denominator times the value, and its denominator is
 -- not zero.

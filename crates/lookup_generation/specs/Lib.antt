@@ -1,3 +1,4 @@
+pub mod ChunkColumns
 pub mod Fraction
 pub mod Inverses
 pub mod Progress

@@ -1,12 +1,12 @@
 -- What the steps of a row answer, over the builder of that row.
-use Rattle.std.specs.Prelude.{◌≡◌, ◌≢◌, ◌⊎◌, ℕ, None, Some, IsTrue, List, Result, MatchResult, false}
+use Rattle.std.specs.Prelude.{◌≡◌, ◌⊎◌, ℕ, None, Some, IsTrue, List, Result, MatchResult, false}
 use Rattle.expressions.specs.declared.base_expression.SymbolicExpression.{SymbolicExpression}
 use Rattle.lookup_model.specs.Denominators.{column_denominator}
 use Rattle.lookup_model.specs.Extension.{Extension}
 use Rattle.lookup_model.specs.Fault.{are_boolean, fault_of, vanishes}
 use Rattle.lookup_model.specs.Message.{Key, Message}
-use Rattle.lookup_model.specs.Plain.{counted, plain_fraction, quotient_of}
-use Rattle.lookup_model.specs.Sent.{Sent, branch_at, branches_at, sent, sent_at, values}
+use Rattle.lookup_model.specs.Plain.{counted, plain_fraction}
+use Rattle.lookup_model.specs.Sent.{Sent, branches_at, sent, sent_at, values}
 use Rattle.lookup_model.specs.declared.error.LookupError.{LookupError}
 use Rattle.lookup_model.specs.declared.error.LookupError.TheVariants.{FlagNotBoolean, Memory, VanishingDenominator}
 use Rattle.lookup_model.specs.declared.types.Lookup.{Lookup}
@@ -33,10 +33,6 @@ module _ {F K : Type 0} (E : Extension F K) (builder : LookupTraceBuilder F K) w
   abbrev pub values_on : List (SymbolicExpression F) → List F
   values_on = values E.base (builder_window builder)
 
-  -- a tuple of a column with its multiplicity
-  abbrev pub branch_on : ℕ → List (SymbolicExpression F) → SymbolicExpression F → Message F
-  branch_on = branch_at E.base (builder_window builder)
-
   -- the branches of a lookup
   abbrev pub branches_on : Lookup F → List (Message F)
   branches_on lookup = branches_at E.base (builder_window builder) lookup.column lookup
@@ -44,20 +40,6 @@ module _ {F K : Type 0} (E : Extension F K) (builder : LookupTraceBuilder F K) w
   -- out of memory, or the row and the column where a denominator vanishes as this says
   abbrev pub IsVanishing : ℕ → Type 0 → LookupError → Type 0
   IsVanishing column such e = (e ≡ Memory) ⊎ ((e ≡ VanishingDenominator builder.row column) × such)
-
-  -- The denominator of a key, which is not zero. Otherwise it vanishes.
-  abbrev pub AnswersDenominator : ℕ → Key F → Result K LookupError → Type 0
-  AnswersDenominator column key result =
-      MatchResult result
-      (λ d. (d ≡ denominator_on key) × (d ≢ E.ring.zero))
-      (IsVanishing column (denominator_on key ≡ E.ring.zero))
-
-  -- The multiplicity of a message over its denominator, which is not zero. Otherwise it vanishes.
-  abbrev pub AnswersRatio : ℕ → Message F → Result (Ratio K) LookupError → Type 0
-  AnswersRatio column message result =
-      MatchResult result
-      (λ r. (denominator_on message.key ≢ E.ring.zero) × IsRatio E.ring r (quotient_of E denominator_on message))
-      (IsVanishing column (denominator_on message.key ≡ E.ring.zero))
 
   -- The sum of the quotients of the counted branches. Otherwise a denominator of them vanishes.
   abbrev pub AnswersAdditive : Lookup F → Result (Ratio K) LookupError → Type 0

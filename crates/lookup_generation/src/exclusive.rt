@@ -1,16 +1,18 @@
 //! The fraction of an exclusive lookup on one row.
-ghost use Rattle.std.specs.Prelude.{◌≡◌, ◌≢◌, ◌+◌, ◌*◌, ◌<◌, ◌⊎◌, IfErr, IfOk, List, ℕ, [], ◌∷◌, ◌++◌, length};
-ghost use Rattle.expressions.specs.Layout.{Fits};
-ghost use Rattle.expressions.specs.Tree.{tree_of};
+ghost use Rattle.std.specs.Prelude.{◌≡◌, ◌≢◌, ◌+◌, ◌<◌, All, IfErr, IfOk, List, ℕ, [], ◌∷◌, ◌++◌, length, MatchResult};
+ghost use Rattle.std.specs.List.{AllZip};
 ghost use Rattle.lookup_generation.specs.Selection.{ArePlaces, AreSetFlags};
 ghost use Rattle.lookup_generation.specs.TraceBuilder.{builder_layout, builder_window};
 ghost use Rattle.lookup_generation.specs.Inverses.{ForInverses, base_extension};
-ghost use Rattle.lookup_generation.specs.RowAnswers.{AnswersExclusive, AnswersFlags, AnswersRatio, branch_on};
+ghost use Rattle.lookup_generation.specs.ChunkColumns.{HasFlag, HoldSelected, key_denominator};
+ghost use Rattle.lookup_generation.specs.Fraction.{IsRatio};
+ghost use Rattle.lookup_generation.specs.RowAnswers.{AnswersExclusive, AnswersFlags};
 ghost use Rattle.lookup_model.specs.Extension.{extension};
-ghost use Rattle.lookup_model.specs.Records.{AllFit, HasEqualLengths, IsWithin};
-ghost use Rattle.lookup_model.specs.Sent.{value, values};
+ghost use Rattle.lookup_model.specs.Records.{AllFit};
+ghost use Rattle.lookup_model.specs.Sent.{branches_at, values};
 
-use crate::fraction::{denominator_over, resolved};
+use crate::columns::BranchColumns;
+use crate::fraction::resolved;
 use crate::ratio::Ratio;
 use crate::trace_builder::LookupTraceBuilder;
 use air::SymbolicExpression;
@@ -37,31 +39,27 @@ fn with_place(set: SetFlags, place: usize) -> SetFlags
 }
 
 /// The set flags, plus the flag at `place` if it is set.
-fn with_flag<F: Field, EF: Domain>(
-    alloc: Global,
+fn with_flag<F: Field>(
     set: SetFlags,
     place: usize,
-    flag: &SymbolicExpression<F>,
-    builder: &LookupTraceBuilder<'_, F, EF>,
+    flag: F,
+    row: usize,
     column: usize,
 ) -> Result<SetFlags, LookupError>
-    requires { Fits (builder_layout builder.now) (tree_of flag.now) }
     ensures next { IfOk result (λ next.
         let E = base_extension F.ring F.eq F.inverse in
         (flags : List F) → length flags ≡ place → AreSetFlags E flags set
-        → AreSetFlags E (flags ++ value F.ring (builder_window builder.now) flag.now ∷ []) next) }
-    ensures refused { IfErr result (λ e. let v = value F.ring (builder_window builder.now) flag.now in
-        (e ≡ LookupError.Memory) ⊎ ((e ≡ LookupError.FlagNotBoolean builder.now.row column)
-        × (v ≢ F.ring.zero) × (v ≢ F.ring.one))) }
+        → AreSetFlags E (flags ++ flag ∷ []) next) }
+    ensures refused { IfErr result (λ e. (e ≡ LookupError.FlagNotBoolean row column)
+        × (flag ≢ F.ring.zero) × (flag ≢ F.ring.one)) }
 {
-    let flag = resolved(alloc, flag, builder)?;
     if flag.is_zero() {
         Ok(set)
     } else if flag == F::ONE {
         Ok(with_place(set, place))
     } else {
         Err(LookupError::FlagNotBoolean {
-            row: builder.row(),
+            row,
             lookup: column,
         })
     }
@@ -80,63 +78,90 @@ pub(crate) fn set_flags<F: Field, EF: Domain>(
 {
     let mut set = SetFlags::Nothing;
     for place in 0..flags.len() {
-        set = with_flag(alloc, set, place, &flags[place], builder, column)?;
+        let flag = resolved(alloc, &flags[place], builder)?;
+        set = with_flag(set, place, flag, builder.row(), column)?;
     }
     Ok(set)
 }
 
-/// The multiplicity of a tuple over its denominator on the builder's row, even if the multiplicity is
-/// zero.
-fn branch_ratio<F: Field, EF: ExtensionDomain<F>>(
-    alloc: Global,
-    tuple: &[SymbolicExpression<F>],
-    multiplicity: &SymbolicExpression<F>,
-    builder: &LookupTraceBuilder<'_, F, EF>,
+/// The set flags of an exclusive lookup, at a place of its columns.
+fn set_flags_at<F: Field, EF: ExtensionDomain<F>>(
+    columns: &[BranchColumns<F, EF>],
+    place: usize,
+    row: usize,
     column: usize,
-) -> Result<Ratio<EF>, LookupError>
-    requires tuple_fits { AllFit (builder_layout builder.now) tuple.now }
-    requires multiplicity_fits { Fits (builder_layout builder.now) (tree_of multiplicity.now) }
-    requires challenges { 2 * column + 1 < length builder.now.permutation_challenges.now }
-    ensures answers { ForInverses EF.ring (λ inverse. let E = extension F.ring F.eq EF.ring EF.eq EF.embed inverse in
-        AnswersRatio E builder.now column
-        (branch_on E builder.now column tuple.now multiplicity.now) result) }
-    ensures sound { IfOk result (λ r. r.denominator ≢ EF.ring.zero) }
+) -> Result<SetFlags, LookupError>
+    requires { All (λ c. place < length c.flags.items) columns.now }
+    ensures { let E = base_extension F.ring F.eq F.inverse in
+        (flags : List F) → AllZip (HasFlag place) columns.now flags → AnswersFlags E row column flags result }
 {
-    let multiplicity = resolved(alloc, multiplicity, builder)?;
-    let denominator = denominator_over(alloc, tuple, builder, column)?;
-    Ok(Ratio::over(multiplicity, denominator))
+    let mut set = SetFlags::Nothing;
+    for branch in 0..columns.len() {
+        let flag = columns[branch].flags[place];
+        set = with_flag(set, branch, flag, row, column)?;
+    }
+    Ok(set)
 }
 
-/// The ratio of the tuple whose flag is set, zero if no flag is set.
+/// The multiplicity over the denominator, even if the multiplicity is zero.
+///
+/// Refuses a denominator of zero.
+fn branch_ratio<F: Field, EF: ExtensionDomain<F>>(
+    multiplicity: F,
+    denominator: EF,
+    row: usize,
+    column: usize,
+) -> Result<Ratio<EF>, LookupError>
+    ensures answers { MatchResult result
+        (λ r. (denominator ≢ EF.ring.zero) × ((q : EF) → EF.ring.mul denominator q ≡ EF.embed multiplicity → IsRatio EF.ring r q))
+        (λ e. (e ≡ LookupError.VanishingDenominator row column) × (denominator ≡ EF.ring.zero)) }
+    ensures sound { IfOk result (λ r. r.denominator ≢ EF.ring.zero) }
+{
+    if denominator.is_zero() {
+        Err(LookupError::VanishingDenominator {
+            row,
+            lookup: column,
+        })
+    } else {
+        Ok(Ratio::over(multiplicity, denominator))
+    }
+}
+
+/// The ratio of the tuple whose flag is set, zero if no flag is set, read off the lookup's columns at
+/// the row's place in its chunk.
 ///
 /// Refused, in this order: a flag that is neither zero nor one, more than one set flag, and a
 /// denominator that vanishes, even if its multiplicity is zero. The denominators of the other
 /// tuples are ignored.
 pub(crate) fn exclusive_fraction<F: Field, EF: ExtensionDomain<F>>(
-    alloc: Global,
     lookup: &Lookup<F>,
+    columns: &[BranchColumns<F, EF>],
+    place: usize,
     flags: &[SymbolicExpression<F>],
     builder: &LookupTraceBuilder<'_, F, EF>,
 ) -> Result<Ratio<EF>, LookupError>
-    requires lengths { HasEqualLengths lookup.now }
-    requires flag_number { length flags.now ≡ length lookup.now.elements.items }
-    requires within { IsWithin (builder_layout builder.now) lookup.now }
-    requires flags_fit { AllFit (builder_layout builder.now) flags.now }
-    requires challenges { 2 * lookup.now.column + 1 < length builder.now.permutation_challenges.now }
+    requires { HoldSelected F.ring (key_denominator EF.ring EF.embed builder.now.permutation_challenges.now) place columns.now
+        (values F.ring (builder_window builder.now) flags.now) (branches_at F.ring (builder_window builder.now) lookup.now.column lookup.now) }
     ensures answers { ForInverses EF.ring (λ inverse. let E = extension F.ring F.eq EF.ring EF.eq EF.embed inverse in
         AnswersExclusive E builder.now lookup.now flags.now result) }
     ensures sound { IfOk result (λ r. r.denominator ≢ EF.ring.zero) }
 {
+    let row = builder.row();
     let column = lookup.column;
-    match set_flags(alloc, flags, builder, column)? {
+    match set_flags_at(columns, place, row, column)? {
         SetFlags::Nothing => Ok(Ratio::zero()),
         SetFlags::One(branch) => {
-            let tuple = &lookup.elements[branch];
-            let multiplicity = &lookup.multiplicities[branch];
-            branch_ratio(alloc, tuple, multiplicity, builder, column)
+            let branch = &columns[branch];
+            let at = branch.places[place];
+            branch_ratio(
+                branch.multiplicities[at],
+                branch.denominators[at],
+                row,
+                column,
+            )
         }
         SetFlags::Several => Err(LookupError::FlagsNotExclusive {
-            row: builder.row(),
+            row,
             lookup: column,
         }),
     }

@@ -10,6 +10,7 @@ ghost use Rattle.lookup_model.specs.Fault.{trace_faults};
 ghost use Rattle.field.specs.Sums.{sum_in};
 ghost use Rattle.lookup_generation.specs.Fraction.{AreSound};
 ghost use Rattle.lookup_generation.specs.Inverses.{ForInverses};
+ghost use Rattle.lookup_generation.specs.ChunkColumns.{HoldLookups};
 ghost use Rattle.lookup_generation.specs.Progress.{AnswersRow, AreRatios, HasRows, IsFirstOf, started_chunks};
 ghost use Rattle.lookup_model.specs.Records.{DoFit};
 ghost use Rattle.lookup_model.specs.Generation.{AnswersGeneration};
@@ -17,6 +18,7 @@ ghost use Rattle.lookup_model.specs.Trace.{sent_row, sent_rows};
 ghost use Rattle.lookup_generation.specs.TraceBuilder.{builder_layout, builder_window};
 ghost use Rattle.matrix.specs.Matrix.{height};
 
+use crate::columns::{BranchColumns, columns_of_lookups, rows_between};
 use crate::fraction::fraction;
 use crate::ratio::{Ratio, values_of};
 use crate::trace_builder::LookupTraceBuilder;
@@ -28,27 +30,38 @@ use std::alloc::{AllocError, Global};
 /// How many rows make a chunk. All fractions of a chunk are divided by one inverse.
 const CHUNK_ROWS: usize = 1024;
 
-/// Appends the fraction of each lookup on the builder's row, as a ratio.
+/// Appends the fraction of each lookup on the builder's row, as a ratio. `place` is that of the row in
+/// its chunk, whose columns these are.
 ///
 /// Refuses the first fault of the row; `ratios` may then hold a part of it.
 fn push_ratios<F: Field, EF: ExtensionDomain<F>>(
-    alloc: Global,
     ratios: &mut Vec<Ratio<EF>>,
     lookups: &[Lookup<F>],
+    columns: &[Vec<BranchColumns<F, EF>>],
+    place: usize,
     builder: &LookupTraceBuilder<'_, F, EF>,
 ) -> Result<(), LookupError>
     requires fit { DoFit (builder_layout builder.now) lookups.now }
-    requires challenges { 2 * length lookups.now ≤ length builder.now.permutation_challenges.now }
+    requires columns { HoldLookups F.ring EF.ring EF.embed builder.now.permutation_challenges.now (builder_window builder.now) place lookups.now columns.now }
     ensures answers { ForInverses EF.ring (λ inverse. let E = extension F.ring F.eq EF.ring EF.eq EF.embed inverse in
         AnswersRow E (column_denominator E builder.now.permutation_challenges.now) builder.now.row
         ratios.old.items ratios.new.items (sent_row F.ring F.eq (builder_window builder.now) lookups.now) result) }
     ensures sound { IfOk result (λ _. (n : ℕ) → AreSound EF.ring n ratios.old.items → AreSound EF.ring (n + length lookups.now) ratios.new.items) }
 {
     for lookup in lookups {
-        let ratio = fraction(alloc, lookup, builder)?;
+        let ratio = fraction(lookup, &columns[lookup.column], place, builder)?;
         ratios.push(ratio)?;
     }
     Ok(())
+}
+
+/// The row after a row; the first one comes after the last.
+fn next_row(row: usize, height: usize) -> usize
+    requires { row < height }
+    ensures next { result ≡ (row + 1) % height }
+    ensures exists { result < height }
+{
+    if row + 1 == height { 0 } else { row + 1 }
 }
 
 /// The builder of one row of an AIR's traces together with the next row; the last row comes with
@@ -70,7 +83,7 @@ pub fn row_builder<'a, F: Field, EF: Domain>(
     ensures row { result.row ≡ row }
 {
     let height = main.height();
-    let next = (row + 1) % height;
+    let next = next_row(row, height);
     let main = ViewPair {
         top: main.row_slice(row),
         bottom: main.row_slice(next),
@@ -116,10 +129,24 @@ fn ratios_of<F: Field, EF: ExtensionDomain<F>>(
         (IsFirstOf (trace_faults E denominator rows))) }
     ensures sound { IfOk result (λ v. AreSound EF.ring ((end - first) * length lookups.now) v.items) }
 {
-    let mut ratios = Vec::new(alloc);
+    let rows = rows_between(alloc, first, end)?;
+    let columns = columns_of_lookups(
+        alloc,
+        lookups,
+        main,
+        preprocessed,
+        public_values,
+        challenges,
+        &rows,
+    )?;
+    let size = rows
+        .len()
+        .checked_mul(lookups.len())
+        .ok_or(LookupError::Memory)?;
+    let mut ratios = Vec::with_capacity(alloc, size)?;
     for row in first..end {
         let builder = row_builder(main, preprocessed, public_values, challenges, row);
-        push_ratios(alloc, &mut ratios, lookups, &builder)?;
+        push_ratios(&mut ratios, lookups, &columns, row - first, &builder)?;
     }
     Ok(ratios)
 }

@@ -1,11 +1,13 @@
 //! Generation of auxiliary traces: the fraction of each lookup on each row, and their running sum.
 //!
-//! `LookupTraceBuilder` is one row as lookups see it. `fraction` adds up quotients on it as a ratio,
-//! and `exclusive` looks at flags first. `generate_counted` goes through the rows in chunks, and
-//! divides the ratios of a chunk by one inverse; `generate_permutation` is that call with a count of
-//! its own. `push_messages` collects what the rows send.
+//! `generate_counted` goes through the rows in chunks. `columns` works out the multiplicities and the
+//! denominators of all lookups on a chunk, a column at a time. `fraction` reads them row by row, and adds
+//! up the quotients of a lookup as a ratio; `exclusive` looks at flags first. The ratios of a chunk are
+//! divided by one inverse. `generate_permutation` is the same call with a count of its own.
+//! `LookupTraceBuilder` is one row as lookups see it, and `push_messages` collects what the rows send.
 #![tactic(auto)]
 
+mod columns;
 mod exclusive;
 mod fraction;
 mod generation;

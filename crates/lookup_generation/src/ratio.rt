@@ -38,7 +38,8 @@ impl<K: Domain> Ratio<K> {
         }
     }
 
-    /// The ratio plus `multiplicity` over `denominator`, over the product of both denominators.
+    /// The ratio plus `multiplicity` over `denominator`: over the product of both denominators, or, if
+    /// the ratio is zero so far, over `denominator` alone.
     pub(crate) fn plus<F: Field>(self, multiplicity: F, denominator: K) -> Self
     where
         K: ExtensionDomain<F>,
@@ -46,6 +47,9 @@ impl<K: Domain> Ratio<K> {
             → IsRatio K.ring result (K.ring.add x q) }
         ensures sound { self.denominator ≢ K.ring.zero → denominator ≢ K.ring.zero → result.denominator ≢ K.ring.zero }
     {
+        if self.numerator.is_zero() {
+            return Ratio::over(multiplicity, denominator);
+        }
         Ratio {
             numerator: self.numerator * denominator + self.denominator.scaled(multiplicity),
             denominator: self.denominator * denominator,

@@ -92,20 +92,6 @@ impl<'a, F, EF> LookupTraceBuilder<'a, F, EF> {
     }
 }
 
-impl<F, EF: Domain> LookupTraceBuilder<'_, F, EF> {
-    ghost use Rattle.std.specs.Prelude.{◌*◌, slice_index_or};
-
-    /// The challenges of a column: its alpha and its beta.
-    pub(crate) fn column_challenges(&self, column: usize) -> (EF, EF)
-        requires { 2 * column + 1 < length self.now.permutation_challenges.now }
-        ensures alpha { result.0 ≡ slice_index_or self.now.permutation_challenges.now (2 * column) EF.ring.zero }
-        ensures beta { result.1 ≡ slice_index_or self.now.permutation_challenges.now (2 * column + 1) EF.ring.zero }
-    {
-        let challenges = self.permutation_challenges;
-        (challenges[2 * column], challenges[2 * column + 1])
-    }
-}
-
 /// Accepts zero and refuses anything else, with the row.
 fn judge<K: Domain>(x: K, row: usize) -> Result<(), AirError>
     ensures { MatchResult result (λ _. x ≡ K.ring.zero) (λ e. (x ≢ K.ring.zero) × (e ≡ AirError.Assertion row)) }
@@ -118,7 +104,7 @@ fn judge<K: Domain>(x: K, row: usize) -> Result<(), AirError>
 }
 
 impl<'a, F: Field, EF: Domain> AirBuilder for LookupTraceBuilder<'a, F, EF> {
-    ghost use Rattle.std.specs.Prelude.{◌≢◌, ◌≡◌, refl};
+    ghost use Rattle.std.specs.Prelude.{◌≢◌, ◌≡◌};
     ghost use Rattle.std.proofs.Common.{rules, ap, sym, ◌∙◌};
     ghost use Rattle.expressions.specs.declared.error.AirError.TheVariants.{Assertion};
     ghost use Rattle.lookup_generation.specs.TraceBuilder.{builder_window, builder_layout};

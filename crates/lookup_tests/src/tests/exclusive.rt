@@ -99,6 +99,26 @@ const NOT_BOOLEAN: LookupError = LookupError::FlagNotBoolean { row: 0, lookup: 0
 /// More than one set flag there.
 const NOT_EXCLUSIVE: LookupError = LookupError::FlagsNotExclusive { row: 0, lookup: 0 };
 
+/// The rows select the first tuple, the second, none, the first, the second and the first. At the
+/// prefix 0 a key x has the denominator -x: 1 / -1 = 6, 1 / -2 = 3 and 1 / -3 = 2. A key of 0 would
+/// vanish, and stands only where its flag is not set.
+#[test]
+fn each_row_sends_its_own_branch(rt: HostRuntime) {
+    let alloc = rt.alloc();
+    let rows = [
+        1, 1, 0, 2, 0, 1, 1, 2, 0, 5, 0, 4, 1, 3, 0, 1, 0, 0, 1, 1, 1, 2, 0, 0,
+    ];
+    let lookup = group(&rt, alloc, 2, 0);
+    let made = made_at::<F7>(&rt, alloc, rows.as_slice(), 4, lookup, 0).expect(&rt, "no fault");
+    let expected = [0, 6, 6, 3, 2, 0, 2, 2, 4, 6, 3, 3];
+    holds(
+        &rt,
+        "the trace",
+        are_numbers(made.auxiliary.values(), expected.as_slice()),
+    );
+    holds(&rt, "the terminal", made.terminal == Some(F7::new(6)));
+}
+
 #[test]
 fn a_zero_count_on_a_point_is_a_fault(rt: HostRuntime) {
     let alloc = rt.alloc();

@@ -1,8 +1,6 @@
 use Rattle.std.proofs.Common.{refl, sym, ◌∙◌}
 use Rattle.lookup_model.specs.Extension.{IsLawful}
-use Rattle.lookup_model.specs.Sent.{value}
 use Rattle.lookup_generation.specs.Inverses.{base_extension}
-use Rattle.lookup_generation.specs.TraceBuilder.{builder_window}
 use Rattle.lookup_generation.proofs.SetFlags.{one_flag, zero_flag}
 use Rattle.lookup_generation.proofs.exclusive.with_flag.Goals as goal
 
@@ -18,7 +16,7 @@ returns-then-is_zero-clause-next g c =
       embeds = record { zero = refl; one = refl; add = λ a b. refl; mul = λ a b. refl; injective = λ a b e. e };
       inverse = g.met.F.Field.inverse_is;
     } in
-    λ flags at so_far. zero_flag laws flags (value E.base (builder_window c.args.builder.now) c.args.flag.now) c.args.set (sym c.in_ok-flag.ensures ∙ c.is_zero.ensures.0 c.if-is_zero.true) so_far
+    λ flags at so_far. zero_flag laws flags c.args.flag c.args.set (c.is_zero.ensures.0 c.if-is_zero.true) so_far
 
 pub returns-then-eq-clause-next : goal.returns-then-eq-clause-next
 returns-then-eq-clause-next g c =
@@ -32,4 +30,4 @@ returns-then-eq-clause-next g c =
       embeds = record { zero = refl; one = refl; add = λ a b. refl; mul = λ a b. refl; injective = λ a b e. e };
       inverse = g.met.F.Field.inverse_is;
     } in
-    λ flags at so_far. one_flag laws flags (value E.base (builder_window c.args.builder.now) c.args.flag.now) c.args.set c.with_place.result c.args.place at (sym c.in_ok-flag.ensures ∙ (laws.base_eq c.in_ok-flag.flag c.ONE.result).0 (sym c.eq.ensures ∙ c.if-eq.true) ∙ c.ONE.ensures ∙ g.met.F.PrimeCharacteristicRing.one_is) c.with_place.ensures so_far
+    λ flags at so_far. one_flag laws flags c.args.flag c.args.set c.with_place.result c.args.place at ((laws.base_eq c.args.flag c.ONE.result).0 (sym c.eq.ensures ∙ c.if-eq.true) ∙ c.ONE.ensures ∙ g.met.F.PrimeCharacteristicRing.one_is) c.with_place.ensures so_far

@@ -1,32 +1,33 @@
-use Rattle.std.proofs.Common.{◌≡◌, inl, inr, refl, sym, ap, subst, ◌∙◌, ◌∷◌, ◌++◌, [], take, drop, ◌+◌, arith, List}
+use Rattle.std.proofs.Common.{inr, refl, sym, ap, subst, ◌∙◌, take, drop, ◌+◌, arith, List}
 use Rattle.std.proofs.lemmas.List.{take_all}
+use Rattle.std.proofs.lemmas.Option.{slice_get_within}
 use Rattle.std.proofs.lemmas.Result.{err_from_is_err_and}
-use Rattle.expressions.specs.declared.base_expression.SymbolicExpression.{SymbolicExpression}
+use Rattle.std.proofs.lemmas.Slice.Zip.{AllZip-long}
 use Rattle.lookup_model.specs.Denominators.{column_denominator}
 use Rattle.lookup_model.specs.Extension.{extension, IsLawful}
 use Rattle.lookup_model.specs.Fault.{vanishes}
 use Rattle.lookup_generation.specs.Fraction.{IsFractionOf}
+use Rattle.lookup_model.specs.declared.error.LookupError.TheVariants.{VanishingDenominator}
 use Rattle.lookup_model.specs.Message.{Message}
 use Rattle.lookup_model.specs.Plain.{counted}
-use Rattle.lookup_model.specs.Records.{AllFit, IsWithin}
-use Rattle.lookup_model.specs.Sent.{branch_at, branches_at}
-use Rattle.lookup_generation.specs.TraceBuilder.{builder_layout, builder_window}
-use Rattle.lookup_model.proofs.Branches.{branches_more, branches_split, length-branches_at}
+use Rattle.lookup_model.specs.Sent.{branches_at}
+use Rattle.lookup_generation.specs.ChunkColumns.{IsHeld, key_denominator}
+use Rattle.lookup_generation.specs.TraceBuilder.{builder_window}
+use Rattle.lookup_generation.proofs.ChunkColumnLaws.{Beside, beside, read_is, taken_more, taken_split}
 use Rattle.lookup_generation.proofs.Fractions.{vanishes_at}
-use Rattle.lookup_model.proofs.RecordLaws.{All-at, Fits-at}
 use Rattle.lookup_generation.proofs.fraction.additive_fraction.Goals as goal
 
-pub with_branch-requires-clause-tuple_fits : goal.with_branch-requires-clause-tuple_fits
-unfolding IsWithin
-with_branch-requires-clause-tuple_fits g c =
-    let layout = builder_layout c.args.builder.now in
-    subst (λ (t : List (SymbolicExpression _)). AllFit layout t) (sym c.deref.ensures.value) (All-at (λ tuple. AllFit layout tuple.items) c.args.lookup.now.elements.items c.loop-branch.branch c.index-tuple.result.now c.requires.within.0 (omega arith) c.index-tuple.ensures)
+pub index-multiplicity-requires : goal.index-multiplicity-requires
+index-multiplicity-requires g c =
+    let held = IsHeld (key_denominator g.EF.PrimeCharacteristicRing.ring g.EF.ExtensionDomain.embed c.args.builder.now.permutation_challenges.now) c.args.place in
+    let b = beside held c.args.columns.now _ c.loop-branch.branch-index c.branch-item.result c.requires c.loop-branch-test.true c.branch-item.is in
+    omega (arith, slice_get_within _ c.args.place _ b.holds.0)
 
-pub with_branch-requires-clause-multiplicity_fits :
-    goal.with_branch-requires-clause-multiplicity_fits
-unfolding IsWithin
-with_branch-requires-clause-multiplicity_fits g c =
-    Fits-at (builder_layout c.args.builder.now) c.args.lookup.now.multiplicities.items c.loop-branch.branch _ c.requires.within.1 (omega (arith, c.requires.lengths.multiplicities)) c.index-multiplicity.ensures
+pub index-denominator-requires : goal.index-denominator-requires
+index-denominator-requires g c =
+    let held = IsHeld (key_denominator g.EF.PrimeCharacteristicRing.ring g.EF.ExtensionDomain.embed c.args.builder.now.permutation_challenges.now) c.args.place in
+    let b = beside held c.args.columns.now _ c.loop-branch.branch-index c.branch-item.result c.requires c.loop-branch-test.true c.branch-item.is in
+    omega (arith, slice_get_within _ c.args.place _ b.holds.1)
 
 pub returns-in_err-fraction-clause-answers : goal.returns-in_err-fraction-clause-answers
 returns-in_err-fraction-clause-answers g c = λ inverse is_inverse.
@@ -41,34 +42,37 @@ returns-in_err-fraction-clause-answers g c = λ inverse is_inverse.
       inverse = is_inverse;
     } in
     let denominator = column_denominator E c.args.builder.now.permutation_challenges.now in
-    let w = builder_window c.args.builder.now in
     let lookup = c.args.lookup.now in
-    let i = c.loop-branch.branch in
-    let split = branches_split E.base w lookup.column lookup c.requires.lengths i c.index-tuple.result.now c.index-multiplicity.result.now (omega arith) c.index-tuple.ensures c.index-multiplicity.ensures in
-    let branches = branches_at E.base w lookup.column lookup in
-    let m = branch_at E.base w lookup.column c.index-tuple.result.now.items c.index-multiplicity.result.now in
+    let i = c.loop-branch.branch-index in
+    let ms = branches_at E.base (builder_window c.args.builder.now) lookup.column lookup in
+    let b : Beside (IsHeld denominator c.args.place) ms i c.branch-item.result =
+    beside (IsHeld denominator c.args.place) c.args.columns.now ms i c.branch-item.result c.requires c.loop-branch-test.true c.branch-item.is in
     let p = err_from_is_err_and c.from_residual.result c.from_residual.ensures.1 in
-    rw (p.1, p.2) (elim (c.in_err-fraction.ensures.refused inverse is_inverse) [
-      | inl memory ↦ inl memory
-      | inr vanishing ↦
-          let zero : denominator m.key ≡ E.ring.zero =
-          ap (λ t. denominator (branch_at E.base w lookup.column t c.index-multiplicity.result.now).key) (sym c.deref.ensures.value) ∙ vanishing.1.1 in
-          inr (vanishing.0, ap (λ ms. vanishes E denominator (counted E ms)) split ∙ vanishes_at laws denominator (take i branches) (drop (i + 1) branches) m vanishing.1.0 zero)
-    ])
+    let why = c.in_err-fraction.ensures.refused in
+    rw (p.1, p.2) (inr (
+      why.0 ∙ ap (λ r. VanishingDenominator r lookup.column) c.row.ensures,
+      ap (λ t. vanishes E denominator (counted E t)) (taken_split ms i b.item b.within b.there)
+          ∙ vanishes_at laws denominator (take i ms) (drop (i + 1) ms) b.item
+          (λ e. why.1 (sym (read_is _ c.args.place c.index-multiplicity.result.now b.item.multiplicity b.holds.0 c.index-multiplicity.ensures) ∙ e))
+          (read_is _ c.args.place c.index-denominator.result.now (denominator b.item.key) b.holds.1 c.index-denominator.ensures ∙ why.2),
+    ))
 
 pub loop-branch-preserved : goal.loop-branch-preserved
 loop-branch-preserved g c = (
   λ inverse is_inverse.
       let E = extension g.F.PrimeCharacteristicRing.ring g.F.PartialEq.eq g.EF.PrimeCharacteristicRing.ring g.EF.PartialEq.eq g.EF.ExtensionDomain.embed inverse in
       let denominator = column_denominator E c.args.builder.now.permutation_challenges.now in
-      let w = builder_window c.args.builder.now in
       let lookup = c.args.lookup.now in
-      let i = c.loop-branch.branch in
-      let branches = branches_at E.base w lookup.column lookup in
-      let more = branches_more E.base w lookup.column lookup c.requires.lengths i c.index-tuple.result.now c.index-multiplicity.result.now (omega arith) c.index-tuple.ensures c.index-multiplicity.ensures in
-      subst (λ (ms : List (Message _)). IsFractionOf E denominator ms c.in_ok-fraction.fraction)
-      (ap (λ t. take i branches ++ branch_at E.base w lookup.column t c.index-multiplicity.result.now ∷ []) c.deref.ensures.value ∙ sym more)
-      (c.in_ok-fraction.ensures.next inverse is_inverse (take i branches) (c.loop-branch.invariant.0 inverse is_inverse)),
+      let i = c.loop-branch.branch-index in
+      let ms = branches_at E.base (builder_window c.args.builder.now) lookup.column lookup in
+      let b : Beside (IsHeld denominator c.args.place) ms i c.branch-item.result =
+      beside (IsHeld denominator c.args.place) c.args.columns.now ms i c.branch-item.result c.requires c.loop-branch-test.true c.branch-item.is in
+      subst (λ (t : List (Message _)). IsFractionOf E denominator t c.in_ok-fraction.fraction)
+      (sym (taken_more ms i b.item b.within b.there))
+      (c.in_ok-fraction.ensures.next inverse is_inverse denominator (take i ms) b.item
+      (read_is _ c.args.place c.index-multiplicity.result.now b.item.multiplicity b.holds.0 c.index-multiplicity.ensures)
+      (read_is _ c.args.place c.index-denominator.result.now (denominator b.item.key) b.holds.1 c.index-denominator.ensures)
+      (c.loop-branch.invariant.0 inverse is_inverse)),
   c.in_ok-fraction.ensures.sound c.loop-branch.invariant.1,
 )
 
@@ -77,8 +81,9 @@ returns-clause-answers g c = λ inverse is_inverse.
     let E = extension g.F.PrimeCharacteristicRing.ring g.F.PartialEq.eq g.EF.PrimeCharacteristicRing.ring g.EF.PartialEq.eq g.EF.ExtensionDomain.embed inverse in
     let denominator = column_denominator E c.args.builder.now.permutation_challenges.now in
     let lookup = c.args.lookup.now in
-    let branches = branches_at E.base (builder_window c.args.builder.now) lookup.column lookup in
-    subst (λ (ms : List (Message _)). IsFractionOf E denominator ms c.loop-branch.fraction) (take_all c.loop-branch.branch branches (omega (arith, length-branches_at E.base (builder_window c.args.builder.now) lookup.column lookup c.requires.lengths))) (c.loop-branch.invariant.0 inverse is_inverse)
+    let ms = branches_at E.base (builder_window c.args.builder.now) lookup.column lookup in
+    let long = AllZip-long (IsHeld denominator c.args.place) c.args.columns.now ms c.requires in
+    subst (λ (t : List (Message _)). IsFractionOf E denominator t c.loop-branch.fraction) (take_all c.loop-branch.branch-index ms (omega (arith, long, c.loop-branch-test.false))) (c.loop-branch.invariant.0 inverse is_inverse)
 
 pub loop-branch-init : goal.loop-branch-init
 loop-branch-init g c =

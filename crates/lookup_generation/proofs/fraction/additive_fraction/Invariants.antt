@@ -11,5 +11,5 @@ abbrev pub invariant-loop-branch : goal.invariant-loop-branch
 invariant-loop-branch g l =
     ForInverses g.EF.PrimeCharacteristicRing.ring (λ inverse.
     let E = extension g.F.PrimeCharacteristicRing.ring g.F.PartialEq.eq g.EF.PrimeCharacteristicRing.ring g.EF.PartialEq.eq g.EF.ExtensionDomain.embed inverse in
-    IsFractionOf E (column_denominator E l.builder.permutation_challenges.now) (take l.branch (branches_at E.base (builder_window l.builder) l.lookup.column l.lookup)) l.fraction)
+    IsFractionOf E (column_denominator E l.builder.permutation_challenges.now) (take l.branch-index (branches_at E.base (builder_window l.builder) l.lookup.column l.lookup)) l.fraction)
     × (l.fraction.denominator ≢ g.EF.PrimeCharacteristicRing.ring.zero)

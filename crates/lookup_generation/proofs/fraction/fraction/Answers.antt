@@ -1,4 +1,4 @@
-use Rattle.std.proofs.Common.{◌≡◌, inl, inr, List, Option, IfSome, None, Some, length, ap, sym, subst, ◌∙◌}
+use Rattle.std.proofs.Common.{◌≡◌, inl, inr, List, None, Some, ap, sym, subst, ◌∙◌}
 use Rattle.std.proofs.lemmas.Result.{MatchResult-weaker}
 use Rattle.std.specs.Option.{option_map}
 use Rattle.expressions.specs.declared.base_expression.SymbolicExpression.{SymbolicExpression}
@@ -6,11 +6,11 @@ use Rattle.lookup_model.specs.Denominators.{column_denominator}
 use Rattle.lookup_model.specs.Extension.{extension}
 use Rattle.lookup_model.specs.Fault.{fault_of}
 use Rattle.lookup_model.specs.Plain.{plain_fraction}
-use Rattle.lookup_model.specs.Records.{AllFit, IsWithin}
 use Rattle.lookup_model.specs.Sent.{branches_at, sent, sent_at, values}
 use Rattle.lookup_generation.specs.Fraction.{IsRatio}
-use Rattle.lookup_generation.specs.TraceBuilder.{builder_layout, builder_window}
+use Rattle.lookup_generation.specs.TraceBuilder.{builder_window}
 use Rattle.lookup_laws.proofs.LookupFaults.{additive_faultless, additive_fault}
+use Rattle.lookup_generation.specs.ChunkColumns.{HoldSelected, key_denominator}
 use Rattle.lookup_generation.proofs.fraction.fraction.Goals as goal
 
 pub returns-in-None-clause-answers : goal.returns-in-None-clause-answers
@@ -50,13 +50,13 @@ returns-in-Some-clause-answers g c = λ inverse is_inverse.
       | inr fault ↦ inr (fault_is ∙ fault)
     ])
 
-pub exclusive_fraction-requires-clause-flag_number :
-    goal.exclusive_fraction-requires-clause-flag_number
-exclusive_fraction-requires-clause-flag_number g c = ap length c.deref.ensures.value ∙ c.requires.lengths.flags _ c.in-Some.is
+pub additive_fraction-requires : goal.additive_fraction-requires
+additive_fraction-requires g c = c.requires.additive c.in-None.is
 
-pub exclusive_fraction-requires-clause-flags_fit :
-    goal.exclusive_fraction-requires-clause-flags_fit
-unfolding IsWithin
-exclusive_fraction-requires-clause-flags_fit g c =
-    let layout = builder_layout c.args.builder.now in
-    subst (λ (es : List (SymbolicExpression _)). AllFit layout es) (sym c.deref.ensures.value) (subst (λ (o : Option _). IfSome o (λ flags. AllFit layout flags.items)) c.in-Some.is c.requires.within.2)
+pub exclusive_fraction-requires : goal.exclusive_fraction-requires
+exclusive_fraction-requires g c =
+    let w = builder_window c.args.builder.now in
+    let lookup = c.args.lookup.now in
+    let R = g.F.PrimeCharacteristicRing.ring in
+    let denominator = key_denominator g.EF.PrimeCharacteristicRing.ring g.EF.ExtensionDomain.embed c.args.builder.now.permutation_challenges.now in
+    subst (λ (es : List (SymbolicExpression _)). HoldSelected R denominator c.args.place c.args.columns.now (values R w es) (branches_at R w lookup.column lookup)) (sym c.deref.ensures.value) (c.requires.exclusive _ c.in-Some.is)

@@ -1,7 +1,10 @@
 use Rattle.std.proofs.Common.{◌≡◌, inl, inr, length, refl, subst, sym, ap, ◌∙◌, take, drop, ◌+◌, List, arith}
 use Rattle.std.proofs.lemmas.Result.{err_from_is_err_and}
 use Rattle.std.proofs.lemmas.List.{append-nil, length-map, take_all}
-use Rattle.std.specs.List.{AllZip, slice_get}
+use Rattle.std.specs.List.{AllZip, slice_get, slice_index_or}
+use Rattle.std.specs.declared.alloc.Global.{Global}
+use Rattle.std.specs.declared.vec.Vec.{Vec}
+use Rattle.lookup_model.specs.declared.types.Lookup.{Lookup}
 use Rattle.lookup_model.specs.Denominators.{column_denominator}
 use Rattle.lookup_model.specs.Extension.{extension, IsLawful}
 use Rattle.lookup_model.specs.Fault.{row_faults}
@@ -13,7 +16,31 @@ use Rattle.lookup_generation.specs.TraceBuilder.{builder_window}
 use Rattle.lookup_generation.proofs.ProgressLaws.{HasRatios-more, sound_more, sound_of}
 use Rattle.lookup_laws.proofs.Rows.{row_faults-first}
 use Rattle.lookup_laws.proofs.SentRows.{column_is, sent_row-more, sent_row-split, length-take-sent_row}
+use Rattle.std.proofs.lemmas.Slice.Zip.{AllZip-long}
+use Rattle.std.proofs.lemmas.List.{get_or_read}
+use Rattle.lookup_generation.specs.ChunkColumns.{HoldLookup}
+use Rattle.lookup_generation.specs.declared.columns.BranchColumns.{BranchColumns}
+use Rattle.lookup_generation.proofs.ChunkColumnLaws.{Beside, beside}
 use Rattle.lookup_generation.proofs.generation.push_ratios.Goals as goal
+
+pub bounds-columns-lookup : goal.bounds-columns-lookup
+bounds-columns-lookup g c =
+    let held = λ (lookup : Lookup _) (columns : Vec (BranchColumns _ _) Global). HoldLookup g.F.PrimeCharacteristicRing.ring g.EF.PrimeCharacteristicRing.ring g.EF.ExtensionDomain.embed c.args.builder.now.permutation_challenges.now (builder_window c.args.builder.now) c.args.place lookup columns.items in
+    let at = column_is c.args.lookups.now c.loop-lookup.lookup-index c.lookup-item.result c.requires.fit.records c.loop-lookup-test.true c.lookup-item.is in
+    omega (arith, at, AllZip-long held c.args.lookups.now c.args.columns.now c.requires.columns, c.loop-lookup-test.true)
+
+pub fraction-requires : goal.fraction-requires
+fraction-requires g c =
+    let held = λ (lookup : Lookup _) (columns : Vec (BranchColumns _ _) Global). HoldLookup g.F.PrimeCharacteristicRing.ring g.EF.PrimeCharacteristicRing.ring g.EF.ExtensionDomain.embed c.args.builder.now.permutation_challenges.now (builder_window c.args.builder.now) c.args.place lookup columns.items in
+    let i = c.loop-lookup.lookup-index in
+    let lookup = c.lookup-item.result in
+    let columns = c.index-columns-lookup.result in
+    let at = column_is c.args.lookups.now i lookup c.requires.fit.records c.loop-lookup-test.true c.lookup-item.is in
+    let b : Beside held c.args.columns.now i lookup = beside held c.args.lookups.now c.args.columns.now i lookup c.requires.columns c.loop-lookup-test.true c.lookup-item.is in
+    let same : b.item.items ≡ c.deref.result.now =
+    ap (λ v. v.items) (get_or_read c.args.columns.now i b.item b.within b.there columns ∙ ap (λ n. slice_index_or c.args.columns.now n columns) (sym at) ∙ sym c.index-columns-lookup.is)
+    ∙ sym c.deref.ensures.value in
+    subst (HoldLookup g.F.PrimeCharacteristicRing.ring g.EF.PrimeCharacteristicRing.ring g.EF.ExtensionDomain.embed c.args.builder.now.permutation_challenges.now (builder_window c.args.builder.now) c.args.place lookup) same b.holds
 
 pub returns-in_err-ratio-clause-answers : goal.returns-in_err-ratio-clause-answers
 returns-in_err-ratio-clause-answers g c = λ inverse is_inverse.

@@ -13,10 +13,46 @@ use Rattle.lookup_generation.specs.Fraction.{AreSound}
 use Rattle.lookup_generation.specs.Progress.{AreRatios, HasRatios}
 use Rattle.lookup_model.specs.Records.{DoFit}
 use Rattle.lookup_model.specs.Trace.{sent_row, sent_rows}
+use Rattle.lookup_generation.specs.TraceBuilder.{builder_window}
 use Rattle.lookup_generation.proofs.Layouts.{DoFit-with_challenges}
 use Rattle.lookup_generation.proofs.ProgressLaws.{AreRatios-more, AreRatios-none, first_fault, row_more, sound_none}
 use Rattle.lookup_laws.proofs.SentRows.{sent_rows-at, length-sent_rows}
+use Rattle.std.specs.declared.alloc.Global.{Global}
+use Rattle.std.specs.declared.vec.Vec.{Vec}
+use Rattle.lookup_columns.specs.Columns.{windows_of}
+use Rattle.lookup_generation.specs.ChunkColumns.{AreColumns, HoldLookup, HoldLookups}
+use Rattle.lookup_generation.specs.declared.columns.BranchColumns.{BranchColumns}
+use Rattle.lookup_generation.proofs.ChunkColumnLaws.{range_at, range_below, zip_weaker}
+use Rattle.lookup_model.specs.declared.types.Lookup.{Lookup}
 use Rattle.lookup_generation.proofs.generation.ratios_of.Goals as goal
+
+pub columns_of_lookups-requires-clause-rows_exist :
+    goal.columns_of_lookups-requires-clause-rows_exist
+columns_of_lookups-requires-clause-rows_exist g c =
+    range_below c.args.first (c.args.end - c.args.first) (height c.args.main.now) c.deref.result.now (c.deref.ensures.value ∙ c.in_ok-rows.ensures) (omega (arith, c.requires.from, c.requires.up_to))
+
+pub push_ratios-requires-clause-columns : goal.push_ratios-requires-clause-columns
+push_ratios-requires-clause-columns g c =
+    let R = g.F.PrimeCharacteristicRing.ring in
+    let S = g.EF.PrimeCharacteristicRing.ring in
+    let embed = g.EF.ExtensionDomain.embed in
+    let lookups = c.args.lookups.now in
+    let challenges = c.args.challenges.now in
+    let windows = windows_of c.args.main.now (option_copied c.args.preprocessed) c.args.public_values.now in
+    let row = c.loop-row.row in
+    let place = row - c.args.first in
+    let rows = c.deref.result.now in
+    let built = c.row_builder-builder.ensures in
+    let here : c.args.first + place ≡ row = omega (arith, c.loop-row.auto.row) in
+    let there : slice_get rows place ≡ Some row =
+    range_at c.args.first (c.args.end - c.args.first) place rows (c.deref.ensures.value ∙ c.in_ok-rows.ensures) (omega (arith, c.loop-row.auto.row, c.loop-row-test.true)) ∙ ap Some here in
+    let held = λ (lookup : Lookup _) (columns : Vec (BranchColumns _ _) Global). HoldLookup R S embed challenges (windows row) place lookup columns.items in
+    let all = λ (lookup : Lookup _) (columns : Vec (BranchColumns _ _) Global). AreColumns R S embed challenges windows rows lookup columns.items in
+    let columns : HoldLookups R S embed challenges (windows row) place lookups c.in_ok-columns.columns.items =
+    zip_weaker held all (λ lookup columns are. are place row there) lookups c.in_ok-columns.columns.items c.in_ok-columns.ensures in
+    subst (λ (cs : List _). HoldLookups R S embed cs (builder_window c.row_builder-builder.result) place lookups c.deref-in-loop-row.result.now) (sym built.challenges)
+    (subst (λ (w : Window _). HoldLookups R S embed challenges w place lookups c.deref-in-loop-row.result.now) (sym built.window)
+    (subst (λ (cs : List _). HoldLookups R S embed challenges (windows row) place lookups cs) (sym c.deref-in-loop-row.ensures.value) columns))
 
 pub push_ratios-requires-clause-fit : goal.push_ratios-requires-clause-fit
 push_ratios-requires-clause-fit g c =
@@ -45,7 +81,7 @@ returns-in_err-push_ratios-clause-answers g c = λ inverse is_inverse.
     let lt : r < length rows = omega (arith, length-sent_rows E.base E.base_eq c.args.main.now prep c.args.public_values.now c.args.lookups.now, below) in
     let sents = sent_row E.base E.base_eq w c.args.lookups.now in
     let at = sent_rows-at E.base E.base_eq c.args.main.now prep c.args.public_values.now c.args.lookups.now r below in
-    let p = err_from_is_err_and c.from_residual.result c.from_residual.ensures.1 in
+    let p = err_from_is_err_and c.from_residual-in_err-push_ratios.result c.from_residual-in_err-push_ratios.ensures.1 in
     rw (p.1, p.2) (elim (c.in_err-push_ratios.ensures.answers inverse is_inverse) [
       | inl memory ↦ inl memory
       | inr fault ↦
@@ -69,8 +105,8 @@ loop-row-init g c =
             embeds = g.met.EF.ExtensionDomain.embeds;
             inverse = is_inverse;
           } in
-          AreRatios-none laws (column_denominator E c.args.challenges.now) (sent_rows E.base E.base_eq c.args.main.now (option_copied c.args.preprocessed) c.args.public_values.now c.args.lookups.now) c.args.first _ c.new-ratios.ensures.items (c.requires.faultless inverse is_inverse),
-      sound_none _ c.new-ratios.result.items c.new-ratios.ensures.items nothing,
+          AreRatios-none laws (column_denominator E c.args.challenges.now) (sent_rows E.base E.base_eq c.args.main.now (option_copied c.args.preprocessed) c.args.public_values.now c.args.lookups.now) c.args.first _ c.in_ok-ratios.ensures.items (c.requires.faultless inverse is_inverse),
+      sound_none _ c.in_ok-ratios.ratios.items c.in_ok-ratios.ensures.items nothing,
     )
 
 pub loop-row-preserved : goal.loop-row-preserved

@@ -1,0 +1,39 @@
+use Rattle.std.proofs.Common.{◌<◌, [], List, length, take, get_or, sym, subst, subst₂, arith}
+use Rattle.std.proofs.lemmas.List.{get_or_default, take_all}
+use Rattle.std.proofs.lemmas.Option.{slice_get-get_or}
+use Rattle.std.specs.List.{AllZip}
+use Rattle.std.specs.Option.{option_copied}
+use Rattle.lookup_columns.specs.Columns.{windows_of}
+use Rattle.lookup_generation.specs.ChunkColumns.{IsHeld, key_denominator}
+use Rattle.lookup_generation.proofs.ChunkColumnLaws.{taken_more}
+use Rattle.lookup_generation.proofs.ProgressLaws.{zip_push}
+use Rattle.lookup_model.proofs.Branches.{length-branches_at}
+use Rattle.lookup_model.specs.Message.{Message}
+use Rattle.lookup_model.specs.Sent.{branches_at}
+use Rattle.lookup_generation.proofs.columns.additive_columns.Goals as goal
+
+pub loop-branch-preserved : goal.loop-branch-preserved
+loop-branch-preserved g c = λ place r there.
+    let R = g.F.PrimeCharacteristicRing.ring in
+    let held = IsHeld (key_denominator g.EF.PrimeCharacteristicRing.ring g.EF.ExtensionDomain.embed c.args.challenges.now) place in
+    let w = windows_of c.args.main.now (option_copied c.args.preprocessed) c.args.public_values.now r in
+    let lookup = c.args.lookup.now in
+    let i = c.loop-branch.branch in
+    let ms = branches_at R w lookup.column lookup in
+    let d : Message _ = record { key = record { id = 0; tuple = [] }; multiplicity = R.zero } in
+    let m = get_or ms i d in
+    let lt : i < length ms = omega (arith, length-branches_at R w lookup.column lookup c.requires.lengths) in
+    subst₂ (AllZip held) (sym c.in_ok-push.ensures.items) (sym (taken_more ms i m lt (get_or_default ms i d m lt)))
+    (zip_push held c.loop-branch.branches.items (take i ms) c.in_ok-columns.columns m (c.loop-branch.invariant place r there)
+    (c.in_ok-columns.ensures.held place r m there (slice_get-get_or ms i d lt)))
+
+pub returns : goal.returns
+returns g c = λ place r there.
+    let R = g.F.PrimeCharacteristicRing.ring in
+    let held = IsHeld (key_denominator g.EF.PrimeCharacteristicRing.ring g.EF.ExtensionDomain.embed c.args.challenges.now) place in
+    let w = windows_of c.args.main.now (option_copied c.args.preprocessed) c.args.public_values.now r in
+    let lookup = c.args.lookup.now in
+    let ms = branches_at R w lookup.column lookup in
+    subst (λ (t : List (Message _)). AllZip held c.loop-branch.branches.items t)
+    (take_all c.loop-branch.branch ms (omega (arith, c.loop-branch-test.false, length-branches_at R w lookup.column lookup c.requires.lengths)))
+    (c.loop-branch.invariant place r there)

@@ -1,0 +1,39 @@
+use Rattle.std.proofs.Common.{◌≡◌, IfSome, List, Option, Some, sym, ap, subst, ◌∙◌}
+use Rattle.std.proofs.lemmas.Result.{IfOk-weaker}
+use Rattle.std.specs.Option.{option_copied}
+use Rattle.expressions.specs.Layout.{layout_of_traces}
+use Rattle.expressions.specs.declared.base_expression.SymbolicExpression.{SymbolicExpression}
+use Rattle.lookup_columns.specs.Columns.{windows_of}
+use Rattle.lookup_generation.specs.ChunkColumns.{HoldSelected, key_denominator}
+use Rattle.lookup_model.specs.Records.{AllFit, IsWithin}
+use Rattle.lookup_model.specs.Sent.{branches_at, values}
+use Rattle.lookup_generation.proofs.columns.columns_of_lookup.Goals as goal
+
+pub exclusive_columns-requires-clause-flags_fit : goal.exclusive_columns-requires-clause-flags_fit
+unfolding IsWithin
+exclusive_columns-requires-clause-flags_fit g c =
+    let layout = layout_of_traces c.args.main.now (option_copied c.args.preprocessed) c.args.public_values.now in
+    subst (λ (es : List (SymbolicExpression _)). AllFit layout es) (sym c.deref.ensures.value) (subst (λ (o : Option _). IfSome o (λ flags. AllFit layout flags.items)) c.in-Some.is c.requires.within.2)
+
+pub returns-in-None : goal.returns-in-None
+returns-in-None g c =
+    IfOk-weaker c.additive_columns.result _ _
+    (λ v are place r there. record {
+      additive = λ none. are place r there;
+      exclusive = λ flags some. absurd (cc (sym c.in-None.is ∙ some));
+    }) c.additive_columns.ensures
+
+pub returns-in-Some : goal.returns-in-Some
+returns-in-Some g c =
+    let R = g.F.PrimeCharacteristicRing.ring in
+    let D = key_denominator g.EF.PrimeCharacteristicRing.ring g.EF.ExtensionDomain.embed c.args.challenges.now in
+    let lookup = c.args.lookup.now in
+    let windows = windows_of c.args.main.now (option_copied c.args.preprocessed) c.args.public_values.now in
+    IfOk-weaker c.exclusive_columns.result _ _
+    (λ v are place r there. record {
+      additive = λ none. absurd (cc (sym none ∙ c.in-Some.is));
+      exclusive = λ flags some.
+          let is : Some c.in-Some.flags ≡ Some flags = sym c.in-Some.is ∙ some in
+          let same : c.in-Some.flags ≡ flags = cc is in
+          subst (λ (es : List (SymbolicExpression _)). HoldSelected R D place v.items (values R (windows r) es) (branches_at R (windows r) lookup.column lookup)) (c.deref.ensures.value ∙ ap (λ t. t.items) same) (are place r there);
+    }) c.exclusive_columns.ensures

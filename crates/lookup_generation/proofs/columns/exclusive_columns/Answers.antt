@@ -1,0 +1,76 @@
+use Rattle.std.proofs.Common.{◌<◌, [], List, length, take, get_or, sym, ap, subst, subst₂, ◌∙◌, arith, All}
+use Rattle.std.proofs.lemmas.List.{get_or_default, length-map, take_all}
+use Rattle.std.proofs.lemmas.Option.{slice_get-get_or}
+use Rattle.std.specs.List.{AllZip, slice_get}
+use Rattle.std.specs.Option.{option_copied}
+use Rattle.expressions.specs.Layout.{layout_of_traces}
+use Rattle.lookup_columns.specs.Columns.{windows_of}
+use Rattle.lookup_generation.specs.ChunkColumns.{HasFlag, IsHeldIfSet, key_denominator}
+use Rattle.lookup_generation.proofs.ChunkColumnLaws.{mapped_there, taken_more}
+use Rattle.lookup_generation.proofs.ProgressLaws.{zip_push}
+use Rattle.lookup_model.proofs.Branches.{length-branches_at, mapped_more}
+use Rattle.lookup_model.proofs.RecordLaws.{Fits-at}
+use Rattle.lookup_model.specs.Message.{Message}
+use Rattle.lookup_model.specs.Sent.{branches_at, value, values}
+use Rattle.matrix.specs.Matrix.{height}
+use Rattle.lookup_generation.proofs.columns.exclusive_columns.Goals as goal
+
+pub column_of-requires-clause-fits : goal.column_of-requires-clause-fits
+column_of-requires-clause-fits g c =
+    Fits-at (layout_of_traces c.args.main.now (option_copied c.args.preprocessed) c.args.public_values.now) c.args.flags.now c.loop-branch.branch _ c.requires.flags_fit (omega (arith, c.requires.flag_number)) c.index-flags-branch.is
+
+pub branch_columns-requires-clause-rows_exist : goal.branch_columns-requires-clause-rows_exist
+branch_columns-requires-clause-rows_exist g c =
+    subst (λ (l : List _). All (λ r. r < height c.args.main.now) l) (sym c.deref-in-loop-branch.ensures.value) (c.in_ok-places.ensures.rows_exist (height c.args.main.now) c.requires.rows_exist)
+
+pub loop-branch-preserved : goal.loop-branch-preserved
+loop-branch-preserved g c = λ place r there.
+    let R = g.F.PrimeCharacteristicRing.ring in
+    let D = key_denominator g.EF.PrimeCharacteristicRing.ring g.EF.ExtensionDomain.embed c.args.challenges.now in
+    let windows = windows_of c.args.main.now (option_copied c.args.preprocessed) c.args.public_values.now in
+    let w = windows r in
+    let lookup = c.args.lookup.now in
+    let flags = c.args.flags.now in
+    let i = c.loop-branch.branch in
+    let e = c.index-flags-branch.result in
+    let ms = branches_at R w lookup.column lookup in
+    let d : Message _ = record { key = record { id = 0; tuple = [] }; multiplicity = R.zero } in
+    let m = get_or ms i d in
+    let lt : i < length ms = omega (arith, length-branches_at R w lookup.column lookup c.requires.lengths) in
+    let set = c.in_ok-set.set.items in
+    let new = c.in_ok-columns.columns in
+    let kept = c.in_ok-columns.ensures.flags in
+    let so_far = c.loop-branch.invariant place r there in
+    let flag : HasFlag place new (value R w e) =
+    ap (λ v. slice_get v.items place) kept.0 ∙ mapped_there (λ row. value R (windows row) e) c.args.rows.now set place r c.in_ok-set.ensures there in
+    let held : IsHeldIfSet R D place new m =
+    λ f has nonzero.
+    let placed = c.in_ok-places.ensures.places.at place r f there (ap (λ l. slice_get l place) c.deref.ensures.value ∙ ap (λ v. slice_get v.items place) (sym kept.0) ∙ has) nonzero in
+    record {
+      at = placed.at;
+      there = ap (λ v. slice_get v.items place) kept.1 ∙ placed.there;
+      held = c.in_ok-columns.ensures.held placed.at r m (ap (λ l. slice_get l placed.at) c.deref-in-loop-branch.ensures.value ∙ placed.selected_there) (slice_get-get_or ms i d lt);
+    } in
+    record {
+      flags_are =
+          subst₂ (AllZip (HasFlag place)) (sym c.in_ok-push.ensures.items) (sym (mapped_more (value R w) flags i e (omega (arith, c.requires.flag_number)) c.index-flags-branch.is))
+          (zip_push (HasFlag place) c.loop-branch.branches.items (take i (values R w flags)) new (value R w e) so_far.flags_are flag);
+      held =
+          subst₂ (AllZip (IsHeldIfSet R D place)) (sym c.in_ok-push.ensures.items) (sym (taken_more ms i m lt (get_or_default ms i d m lt)))
+          (zip_push (IsHeldIfSet R D place) c.loop-branch.branches.items (take i ms) new m so_far.held held);
+    }
+
+pub returns : goal.returns
+returns g c = λ place r there.
+    let R = g.F.PrimeCharacteristicRing.ring in
+    let D = key_denominator g.EF.PrimeCharacteristicRing.ring g.EF.ExtensionDomain.embed c.args.challenges.now in
+    let w = windows_of c.args.main.now (option_copied c.args.preprocessed) c.args.public_values.now r in
+    let lookup = c.args.lookup.now in
+    let vals = values R w c.args.flags.now in
+    let ms = branches_at R w lookup.column lookup in
+    let i = c.loop-branch.branch in
+    let so_far = c.loop-branch.invariant place r there in
+    record {
+      flags_are = subst (λ (t : List _). AllZip (HasFlag place) c.loop-branch.branches.items t) (take_all i vals (omega (arith, c.loop-branch-test.false, length-map c.args.flags.now (value R w), c.requires.flag_number))) so_far.flags_are;
+      held = subst (λ (t : List (Message _)). AllZip (IsHeldIfSet R D place) c.loop-branch.branches.items t) (take_all i ms (omega (arith, c.loop-branch-test.false, length-branches_at R w lookup.column lookup c.requires.lengths))) so_far.held;
+    }

@@ -1,0 +1,56 @@
+use Rattle.std.proofs.Common.{◌∷◌, ◌++◌, [], List, take, drop, inr, refl, sym, ap, subst, ◌∙◌, ◌+◌, arith}
+use Rattle.std.specs.List.{slice_index_or}
+use Rattle.lookup_generation.specs.declared.columns.BranchColumns.{BranchColumns}
+use Rattle.std.proofs.lemmas.List.{length-take, take_all}
+use Rattle.std.proofs.lemmas.Result.{err_from_is_err_and}
+use Rattle.std.proofs.lemmas.Slice.Zip.{AllZip-long}
+use Rattle.lookup_generation.proofs.ChunkColumnLaws.{Beside, beside, read_is, taken_more, taken_split}
+use Rattle.lookup_generation.specs.ChunkColumns.{HasFlag}
+use Rattle.lookup_generation.specs.Inverses.{base_extension}
+use Rattle.lookup_generation.specs.Selection.{AreSetFlags}
+use Rattle.lookup_laws.proofs.Selections.{not_boolean}
+use Rattle.lookup_model.specs.Extension.{IsLawful}
+use Rattle.lookup_model.specs.Fault.{are_boolean}
+use Rattle.lookup_generation.proofs.exclusive.set_flags_at.Goals as goal
+
+pub returns-in_err-set : goal.returns-in_err-set
+returns-in_err-set g c = λ flags held.
+    let E = base_extension g.F.PrimeCharacteristicRing.ring g.F.PartialEq.eq g.F.Field.inverse in
+    let laws : IsLawful E = record {
+      base = g.F.PrimeCharacteristicRing.lawful;
+      base_eq = g.met.F.PrimeCharacteristicRing.eq_is;
+      ring = g.F.PrimeCharacteristicRing.lawful;
+      domain = g.met.F.Domain.domain;
+      eq = g.met.F.PrimeCharacteristicRing.eq_is;
+      embeds = record { zero = refl; one = refl; add = λ a b. refl; mul = λ a b. refl; injective = λ a b e. e };
+      inverse = g.met.F.Field.inverse_is;
+    } in
+    let i = c.loop-branch.branch in
+    let b : Beside (HasFlag c.args.place) flags i c.index-columns-branch.result =
+    beside (HasFlag c.args.place) c.args.columns.now flags i c.index-columns-branch.result held (omega arith) c.index-columns-branch.is in
+    let here = read_is _ c.args.place c.index-flag.result.now b.item b.holds (c.index-flag.ensures ∙ ap (λ (t : BranchColumns _ _). slice_index_or t.flags.items c.args.place c.index-flag.result.now) (sym c.index-columns-branch.is)) in
+    let p = err_from_is_err_and c.from_residual.result c.from_residual.ensures.1 in
+    let why = c.in_err-set.ensures.refused in
+    rw (p.1, p.2) (inr (
+      why.0,
+      ap (are_boolean E) (taken_split flags i b.item b.within b.there)
+          ∙ not_boolean laws (take i flags) (drop (i + 1) flags) b.item (λ e. why.1 (sym here ∙ e)) (λ e. why.2 (sym here ∙ e)),
+    ))
+
+pub loop-branch-preserved : goal.loop-branch-preserved
+loop-branch-preserved g c = λ flags held.
+    let E = base_extension g.F.PrimeCharacteristicRing.ring g.F.PartialEq.eq g.F.Field.inverse in
+    let i = c.loop-branch.branch in
+    let b : Beside (HasFlag c.args.place) flags i c.index-columns-branch.result =
+    beside (HasFlag c.args.place) c.args.columns.now flags i c.index-columns-branch.result held (omega arith) c.index-columns-branch.is in
+    let here = read_is _ c.args.place c.index-flag.result.now b.item b.holds (c.index-flag.ensures ∙ ap (λ (t : BranchColumns _ _). slice_index_or t.flags.items c.args.place c.index-flag.result.now) (sym c.index-columns-branch.is)) in
+    subst (λ (fs : List _). AreSetFlags E fs c.in_ok-set.set)
+    ((λ k. take i flags ++ sym here k ∷ []) ∙ sym (taken_more flags i b.item b.within b.there))
+    (c.in_ok-set.ensures.next (take i flags) (omega (arith, length-take i flags, b.within)) (c.loop-branch.invariant flags held))
+
+pub returns : goal.returns
+returns g c = λ flags held.
+    let E = base_extension g.F.PrimeCharacteristicRing.ring g.F.PartialEq.eq g.F.Field.inverse in
+    subst (λ (fs : List _). AreSetFlags E fs c.loop-branch.set)
+    (take_all c.loop-branch.branch flags (omega (arith, AllZip-long (HasFlag c.args.place) c.args.columns.now flags held, c.loop-branch-test.false)))
+    (c.loop-branch.invariant flags held)

@@ -1,0 +1,277 @@
+//! The values of lookups on the rows of a chunk, a column at a time.
+ghost use Rattle.std.specs.Prelude.{◌≡◌, ◌+◌, ◌-◌, ◌*◌, ◌<◌, ◌≤◌, ℕ, All, IfOk, Some, length, slice_get};
+ghost use Rattle.std.specs.List.{AllZip, range_with_len};
+ghost use Rattle.std.specs.Option.{ForSome, option_copied};
+ghost use Rattle.expressions.specs.Layout.{layout_of_traces};
+ghost use Rattle.lookup_columns.specs.Columns.{windows_of};
+ghost use Rattle.lookup_generation.specs.ChunkColumns.{AreColumns, AreLookupColumns, ArePlaced, HoldSelected, IsHeld, key_denominator};
+ghost use Rattle.lookup_model.specs.Records.{AllFit, DoFit, HasEqualLengths, IsWithin};
+ghost use Rattle.lookup_model.specs.Message.{Message};
+ghost use Rattle.lookup_model.specs.Sent.{branches_at, values};
+ghost use Rattle.matrix.specs.Matrix.{height};
+
+use air::SymbolicExpression;
+use field::{ExtensionDomain, Field};
+use lookup_columns::{column_of, denominators_of};
+use lookup_model::Lookup;
+use matrix::RowMajorMatrix;
+use std::alloc::{AllocError, Global};
+
+/// One tuple of a lookup on the rows of a chunk.
+#[derive(Drop)]
+pub(crate) struct BranchColumns<F, EF> {
+    /// The flag of each row, in an exclusive lookup.
+    pub(crate) flags: Vec<F>,
+    /// The place of each row whose flag is not zero among all such rows, in an exclusive lookup.
+    pub(crate) places: Vec<usize>,
+    /// The multiplicities, of each row or of each row whose flag is not zero.
+    pub(crate) multiplicities: Vec<F>,
+    /// The denominators of the same rows.
+    pub(crate) denominators: Vec<EF>,
+}
+
+/// The indices of the rows from `first` up to `end`.
+pub(crate) fn rows_between(
+    alloc: Global,
+    first: usize,
+    end: usize,
+) -> Result<Vec<usize>, AllocError>
+    requires { first ≤ end }
+    ensures { IfOk result (λ v. v.items ≡ range_with_len first (end - first)) }
+{
+    let mut rows = Vec::with_capacity(alloc, end - first)?;
+    for row in first..end {
+        rows.push(row)?;
+    }
+    Ok(rows)
+}
+
+/// The rows whose flag is not zero, and for each row its place among them, if it is one.
+fn selected_rows<F: Field>(
+    alloc: Global,
+    flags: &[F],
+    rows: &[usize],
+) -> Result<(Vec<usize>, Vec<usize>), AllocError>
+    requires { length flags.now ≡ length rows.now }
+    ensures places { IfOk result (λ v. ArePlaced F.ring flags.now rows.now v.0.items v.1.items) }
+    ensures rows_exist { (n : ℕ) → All (λ r. r < n) rows.now → IfOk result (λ v. All (λ r. r < n) v.1.items) }
+{
+    let mut places = Vec::with_capacity(alloc, rows.len())?;
+    let mut selected = Vec::with_capacity(alloc, rows.len())?;
+    for i in 0..rows.len() {
+        places.push(selected.len())?;
+        if !flags[i].is_zero() {
+            selected.push(rows[i])?;
+        }
+    }
+    Ok((places, selected))
+}
+
+/// The multiplicities and denominators of a tuple of a lookup on these rows.
+fn branch_columns<F: Field, EF: ExtensionDomain<F>>(
+    alloc: Global,
+    lookup: &Lookup<F>,
+    branch: usize,
+    flags: Vec<F>,
+    places: Vec<usize>,
+    main: &RowMajorMatrix<F>,
+    preprocessed: Option<&RowMajorMatrix<F>>,
+    public_values: &[F],
+    challenges: &[EF],
+    rows: &[usize],
+) -> Result<BranchColumns<F, EF>, AllocError>
+    requires heights { ForSome (option_copied preprocessed) (λ m. height m ≡ height main.now) }
+    requires lengths { HasEqualLengths lookup.now }
+    requires within { IsWithin (layout_of_traces main.now (option_copied preprocessed) public_values.now) lookup.now }
+    requires challenges { 2 * lookup.now.column + 1 < length challenges.now }
+    requires rows_exist { All (λ r. r < height main.now) rows.now }
+    requires branch_exists { branch < length lookup.now.elements.items }
+    ensures flags { IfOk result (λ v. (v.flags ≡ flags) × (v.places ≡ places)) }
+    ensures held { IfOk result (λ v. (place r : ℕ) (m : Message F) → slice_get rows.now place ≡ Some r
+        → slice_get (branches_at F.ring (windows_of main.now (option_copied preprocessed.entry) public_values.now r) lookup.now.column lookup.now) branch ≡ Some m
+        → IsHeld (key_denominator EF.ring EF.embed challenges.now) place v m) }
+{
+    let alpha = challenges[2 * lookup.column];
+    let beta = challenges[2 * lookup.column + 1];
+    let tuple = &lookup.elements[branch];
+    let multiplicity = &lookup.multiplicities[branch];
+    let multiplicities = column_of(alloc, multiplicity, main, preprocessed, public_values, rows)?;
+    let denominators = denominators_of(
+        alloc,
+        tuple,
+        main,
+        preprocessed,
+        public_values,
+        rows,
+        alpha,
+        beta,
+    )?;
+    Ok(BranchColumns {
+        flags,
+        places,
+        multiplicities,
+        denominators,
+    })
+}
+
+/// The columns of each tuple of an additive lookup on these rows, in the order of its tuples.
+fn additive_columns<F: Field, EF: ExtensionDomain<F>>(
+    alloc: Global,
+    lookup: &Lookup<F>,
+    main: &RowMajorMatrix<F>,
+    preprocessed: Option<&RowMajorMatrix<F>>,
+    public_values: &[F],
+    challenges: &[EF],
+    rows: &[usize],
+) -> Result<Vec<BranchColumns<F, EF>>, AllocError>
+    requires heights { ForSome (option_copied preprocessed) (λ m. height m ≡ height main.now) }
+    requires lengths { HasEqualLengths lookup.now }
+    requires within { IsWithin (layout_of_traces main.now (option_copied preprocessed) public_values.now) lookup.now }
+    requires challenges { 2 * lookup.now.column + 1 < length challenges.now }
+    requires rows_exist { All (λ r. r < height main.now) rows.now }
+    ensures { IfOk result (λ v. (place r : ℕ) → slice_get rows.now place ≡ Some r
+        → AllZip (IsHeld (key_denominator EF.ring EF.embed challenges.now) place) v.items
+        (branches_at F.ring (windows_of main.now (option_copied preprocessed.entry) public_values.now r) lookup.now.column lookup.now)) }
+{
+    let mut branches = Vec::with_capacity(alloc, lookup.elements.len())?;
+    for branch in 0..lookup.elements.len() {
+        let columns = branch_columns(
+            alloc,
+            lookup,
+            branch,
+            Vec::new(alloc),
+            Vec::new(alloc),
+            main,
+            preprocessed,
+            public_values,
+            challenges,
+            rows,
+        )?;
+        branches.push(columns)?;
+    }
+    Ok(branches)
+}
+
+/// The columns of each tuple of an exclusive lookup, in the order of its tuples: its flag on these
+/// rows, and its multiplicities and denominators on those of them whose flag is not zero.
+fn exclusive_columns<F: Field, EF: ExtensionDomain<F>>(
+    alloc: Global,
+    lookup: &Lookup<F>,
+    flags: &[SymbolicExpression<F>],
+    main: &RowMajorMatrix<F>,
+    preprocessed: Option<&RowMajorMatrix<F>>,
+    public_values: &[F],
+    challenges: &[EF],
+    rows: &[usize],
+) -> Result<Vec<BranchColumns<F, EF>>, AllocError>
+    requires heights { ForSome (option_copied preprocessed) (λ m. height m ≡ height main.now) }
+    requires lengths { HasEqualLengths lookup.now }
+    requires within { IsWithin (layout_of_traces main.now (option_copied preprocessed) public_values.now) lookup.now }
+    requires challenges { 2 * lookup.now.column + 1 < length challenges.now }
+    requires rows_exist { All (λ r. r < height main.now) rows.now }
+    requires flag_number { length flags.now ≡ length lookup.now.elements.items }
+    requires flags_fit { AllFit (layout_of_traces main.now (option_copied preprocessed) public_values.now) flags.now }
+    ensures { IfOk result (λ v. (place r : ℕ) → slice_get rows.now place ≡ Some r
+        → let w = windows_of main.now (option_copied preprocessed.entry) public_values.now r in
+        HoldSelected F.ring (key_denominator EF.ring EF.embed challenges.now) place v.items
+        (values F.ring w flags.now) (branches_at F.ring w lookup.now.column lookup.now)) }
+{
+    let mut branches = Vec::with_capacity(alloc, lookup.elements.len())?;
+    for branch in 0..lookup.elements.len() {
+        let set = column_of(
+            alloc,
+            &flags[branch],
+            main,
+            preprocessed,
+            public_values,
+            rows,
+        )?;
+        let (places, selected) = selected_rows(alloc, &set, rows)?;
+        let columns = branch_columns(
+            alloc,
+            lookup,
+            branch,
+            set,
+            places,
+            main,
+            preprocessed,
+            public_values,
+            challenges,
+            &selected,
+        )?;
+        branches.push(columns)?;
+    }
+    Ok(branches)
+}
+
+/// The columns of a lookup on these rows.
+fn columns_of_lookup<F: Field, EF: ExtensionDomain<F>>(
+    alloc: Global,
+    lookup: &Lookup<F>,
+    main: &RowMajorMatrix<F>,
+    preprocessed: Option<&RowMajorMatrix<F>>,
+    public_values: &[F],
+    challenges: &[EF],
+    rows: &[usize],
+) -> Result<Vec<BranchColumns<F, EF>>, AllocError>
+    requires heights { ForSome (option_copied preprocessed) (λ m. height m ≡ height main.now) }
+    requires lengths { HasEqualLengths lookup.now }
+    requires within { IsWithin (layout_of_traces main.now (option_copied preprocessed) public_values.now) lookup.now }
+    requires challenges { 2 * lookup.now.column + 1 < length challenges.now }
+    requires rows_exist { All (λ r. r < height main.now) rows.now }
+    ensures { IfOk result (λ v. AreColumns F.ring EF.ring EF.embed challenges.now (windows_of main.now (option_copied preprocessed.entry) public_values.now) rows.now lookup.now v.items) }
+{
+    match &lookup.flags {
+        None => additive_columns(
+            alloc,
+            lookup,
+            main,
+            preprocessed,
+            public_values,
+            challenges,
+            rows,
+        ),
+        Some(flags) => exclusive_columns(
+            alloc,
+            lookup,
+            flags,
+            main,
+            preprocessed,
+            public_values,
+            challenges,
+            rows,
+        ),
+    }
+}
+
+/// The columns of each lookup on these rows, in the order of the lookups.
+pub(crate) fn columns_of_lookups<F: Field, EF: ExtensionDomain<F>>(
+    alloc: Global,
+    lookups: &[Lookup<F>],
+    main: &RowMajorMatrix<F>,
+    preprocessed: Option<&RowMajorMatrix<F>>,
+    public_values: &[F],
+    challenges: &[EF],
+    rows: &[usize],
+) -> Result<Vec<Vec<BranchColumns<F, EF>>>, AllocError>
+    requires heights { ForSome (option_copied preprocessed) (λ m. height m ≡ height main.now) }
+    requires fit { DoFit (layout_of_traces main.now (option_copied preprocessed) public_values.now) lookups.now }
+    requires challenges { 2 * length lookups.now ≤ length challenges.now }
+    requires rows_exist { All (λ r. r < height main.now) rows.now }
+    ensures { IfOk result (λ v. AreLookupColumns F.ring EF.ring EF.embed challenges.now (windows_of main.now (option_copied preprocessed.entry) public_values.now) rows.now lookups.now v.items) }
+{
+    let mut columns = Vec::with_capacity(alloc, lookups.len())?;
+    for lookup in lookups {
+        let branches = columns_of_lookup(
+            alloc,
+            lookup,
+            main,
+            preprocessed,
+            public_values,
+            challenges,
+            rows,
+        )?;
+        columns.push(branches)?;
+    }
+    Ok(columns)
+}
