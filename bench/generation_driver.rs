@@ -145,6 +145,11 @@ impl Challenge {
     }
 }
 
+/// How many fractions a lookup has on a row.
+fn fractions_of(lookup: &Lookup) -> usize {
+    if lookup.flags.is_some() { 1 } else { lookup.tuples.len() }
+}
+
 /// Appends the denominators of a lookup on a row, and their multiplicities.
 fn push(
     lookup: &Lookup,
@@ -187,11 +192,14 @@ fn generate(main: &[Base], shape: u32, combine: Combine) -> (Vec<Quartic>, Quart
     let challenges: Vec<Challenge> = lookups.iter().map(Challenge::new).collect();
     let height = main.len() / main_width;
     let width = lookups.len() + 1;
+    let fractions: usize = lookups.iter().map(fractions_of).sum();
     let mut auxiliary = vec![Quartic::ZERO; height * width];
     let mut totals = vec![Quartic::ZERO; height];
     let chunks = auxiliary.chunks_mut(CHUNK * width).zip(totals.chunks_mut(CHUNK));
     for ((auxiliary, totals), main) in chunks.zip(main.chunks(CHUNK * main_width)) {
-        let (mut denominators, mut multiplicities) = (Vec::new(), Vec::new());
+        let size = main.len() / main_width * fractions;
+        let (mut denominators, mut multiplicities) =
+            (Vec::with_capacity(size), Vec::with_capacity(size));
         for row in main.chunks(main_width) {
             for (lookup, challenge) in lookups.iter().zip(&challenges) {
                 push(lookup, challenge, combine, row, &mut denominators, &mut multiplicities);
@@ -201,8 +209,7 @@ fn generate(main: &[Base], shape: u32, combine: Combine) -> (Vec<Quartic>, Quart
         let mut place = 0;
         for (cells, total) in auxiliary.chunks_mut(width).zip(totals.iter_mut()) {
             for (cell, lookup) in cells[1..].iter_mut().zip(&lookups) {
-                let fractions = if lookup.flags.is_some() { 1 } else { lookup.tuples.len() };
-                for _ in 0..fractions {
+                for _ in 0..fractions_of(lookup) {
                     *cell = *cell + inverses[place] * multiplicities[place];
                     place += 1;
                 }

@@ -1,5 +1,5 @@
 //! The LogUp gadget (eprint 2022/1530).
-ghost use Rattle.std.specs.Prelude.{◌≡◌, ◌+◌, ◌*◌, ◌≤◌, length};
+ghost use Rattle.std.specs.Prelude.{◌≡◌, ◌<◌, ◌+◌, ◌*◌, ◌≤◌, ◌⊎◌, IfErr, length};
 ghost use Rattle.std.specs.Option.{ForSome, option_copied};
 ghost use Rattle.expressions.specs.Layout.{layout_of_traces};
 ghost use Rattle.lookup_generation.specs.Inverses.{ForInverses};
@@ -58,13 +58,13 @@ impl LogUpGadget {
     ///
     /// Rows are made in chunks of 1024, and all fractions of a chunk are divided by one inverse.
     /// `inverter` counts at most one call for each chunk that is started, also if the trace is
-    /// refused: at most `height / 1024`, rounded up. The challenges may lie in a domain that has no
+    /// refused: at most `height / 1024`, rounded up. It counts at least one call less where a fault is
+    /// refused, and none where there are no lookups. The challenges may lie in a domain that has no
     /// inverse of its own: whatever function inverts its elements, the answer is the one of that
     /// inverse.
     ///
-    /// Refuses the first fault in the order row, lookup, before it inverts the chunk of that row, and
-    /// returns nothing of the trace; on one row of one lookup, in the order of `generate_permutation`. Out
-    /// of memory is refused under its own name.
+    /// Refuses the first fault in the order row, lookup, and returns nothing of the trace; on one row of
+    /// one lookup, in the order of `generate_permutation`. Out of memory is refused under its own name.
     pub fn generate_counted<'a, F: Field, EF: ExtensionDomain<F>, I: Inverter<EF>>(
         &self,
         alloc: Global,
@@ -80,6 +80,8 @@ impl LogUpGadget {
         requires challenges { 2 * length lookups.now ≤ length challenges.now }
         ensures answers { ForInverses EF.ring (λ inverse. AnswersGeneration (extension F.ring F.eq EF.ring EF.eq EF.embed inverse) main.now (option_copied preprocessed.entry) public_values.now lookups.now challenges.now result) }
         ensures counted { I.count inverter.new ≤ I.count inverter.old + started_chunks (height main.now) }
+        ensures spared { IfErr result (λ e. (e ≡ LookupError.Memory) ⊎ (I.count inverter.new < I.count inverter.old + started_chunks (height main.now))) }
+        ensures nothing_sent { length lookups.now ≡ 0 → I.count inverter.new ≡ I.count inverter.old }
     {
         lookup_generation::generate_counted(
             alloc,

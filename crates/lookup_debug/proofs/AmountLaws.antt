@@ -1,10 +1,10 @@
 -- What a lookup contributes, branch by branch and row by row.
-use Rattle.std.proofs.Common.{◌≡◌, ℕ, ◌+◌, ◌<◌, Bool, None, Some, List, [], ◌∷◌, ◌++◌, get_or, length, not, take, ap, subst, sym, append_assoc, ◌∙◌, arith}
+use Rattle.std.proofs.Common.{◌≡◌, ℕ, ◌+◌, ◌<◌, All, Bool, None, Some, List, map, refl, [], ◌∷◌, ◌++◌, get_or, length, not, take, ap, subst, sym, append_assoc, ◌∙◌, arith}
 use Rattle.std.proofs.lemmas.Grind.{flat_map-append}
 use Rattle.std.proofs.lemmas.List.{append-nil, length-map, map-id, map_more}
-use Rattle.std.proofs.lemmas.List.Elements.{filter-append}
+use Rattle.std.proofs.lemmas.List.Elements.{All-cons, All-filter, All-nil, filter-append, recursion_from_All}
 use Rattle.std.proofs.lemmas.List.FromFn.{map-range_with_len_more}
-use Rattle.std.specs.List.{flat_map, range_with_len}
+use Rattle.std.specs.List.{AllByRecursion, flat_map, range_with_len, zip}
 use Rattle.std.specs.declared.alloc.Global.{Global}
 use Rattle.std.specs.declared.vec.Vec.{Vec}
 use Rattle.expressions.specs.Window.{Window, window_at}
@@ -13,13 +13,13 @@ use Rattle.field.specs.Ring.{Ring}
 use Rattle.lookup_model.proofs.Branches.{length-branches_at, length-zipped, mapped_at, zipped_at, zipped_more}
 use Rattle.lookup_model.specs.Message.{Message}
 use Rattle.lookup_model.specs.Records.{HasEqualLengths}
-use Rattle.lookup_model.specs.Sent.{branch_at, branches_at, value, values}
+use Rattle.lookup_model.specs.Sent.{branch_at, branches_at, flags_at, value, values}
 use Rattle.lookup_model.specs.declared.types.Lookup.{Lookup}
 use Rattle.matrix.specs.Matrix.{height}
-use Rattle.lookup_debug.specs.Appended.{Appends}
+use Rattle.lookup_debug.specs.Appended.{Appends, Collects}
 use Rattle.lookup_debug.specs.Contributions.{Contribution, Place, Traced, amounts, contributions_at, contributions_from, contributions_on, nonzero}
 use Rattle.lookup_debug.specs.declared.arena.Contributions.{Contributions}
-use Rattle.lookup_debug.proofs.CutLaws.{appends-more}
+use Rattle.lookup_debug.proofs.CutLaws.{appends-more, collects-more}
 
 -- the values of one more element of a tuple
 pub values_step : {F : Type 0} (R : Ring F) (w : Window F) (es : List (SymbolicExpression F)) (i : ℕ) (e : SymbolicExpression F) (v : F) (before now after : List F)
@@ -130,14 +130,28 @@ rows_more f n = ap (flat_map f) (range_more 0 n n (omega arith)) ∙ flat_map-ap
     range_more : (a n j : ℕ) → a + n ≡ j → range_with_len a (n + 1) ≡ range_with_len a n ++ j ∷ []
     range_more a n j is = sym (map-id (range_with_len a (n + 1))) ∙ map-range_with_len_more (λ k. k) a n j is ∙ ap (λ t. t ++ j ∷ []) (map-id (range_with_len a n))
 
--- The contributions on one more row, which is that of this window.
-pub row_step : {F : Type 0} (R : Ring F) (eq : F → F → Bool) (instance place : ℕ) (t : Traced F) (lookup : Lookup F) (row : ℕ) (before now after : Contributions F) (w : Window F)
+-- every contribution of a lookup at a window is from this place
+module _ {F : Type 0} (R : Ring F) (eq : F → F → Bool) (place : Place) where
+  from_there : (bs : List (Message F × F)) → All (λ (c : Contribution F). c.place ≡ place) (map (λ (b : Message F × F). record { tuple = b.0.key.tuple; amount = b.1; place = place }) bs)
+  from_there [] = All-nil (λ (c : Contribution F). c.place ≡ place)
+  from_there (b ∷ bs) = All-cons (λ (c : Contribution F). c.place ≡ place) _ _ refl (from_there bs)
+
+  pub at_place : (w : Window F) (lookup : Lookup F) → AllByRecursion (λ (c : Contribution F). c.place ≡ place) (contributions_at R eq place w lookup)
+  at_place w lookup =
+      let branches = branches_at R w 0 lookup in
+      let all = contributions_from place branches (amounts R (flags_at R w lookup) branches) in
+      recursion_from_All (λ (c : Contribution F). c.place ≡ place) (nonzero R eq all)
+      (All-filter (λ (c : Contribution F). not (eq c.amount R.zero)) (λ c. c.place ≡ place) all (from_there (zip branches (amounts R (flags_at R w lookup) branches))))
+
+-- The contributions on one more row, which is that of this window, are appended and collected.
+pub row_step : {F S : Type 0} (holds : S → List F → List (List F × F) → List (Contribution F) → Type 0) (R : Ring F) (eq : F → F → Bool) (instance place : ℕ) (t : Traced F) (lookup : Lookup F) (row : ℕ)
+    (before now after : S × Contributions F) (w : Window F)
     → w ≡ window_at t.main t.preprocessed t.public_values (height t.main) row
-    → Appends before now (flat_map (contributions_on R eq instance place t lookup) (range_with_len 0 row))
-    → Appends now after (contributions_at R eq (record { instance = instance; lookup = place; row = row }) w lookup)
-    → Appends before after (flat_map (contributions_on R eq instance place t lookup) (range_with_len 0 (row + 1)))
-row_step R eq instance place t lookup row before now after w w_is so_far this =
+    → Collects holds before now (flat_map (contributions_on R eq instance place t lookup) (range_with_len 0 row))
+    → Collects holds now after (contributions_at R eq (record { instance = instance; lookup = place; row = row }) w lookup)
+    → Collects holds before after (flat_map (contributions_on R eq instance place t lookup) (range_with_len 0 (row + 1)))
+row_step holds R eq instance place t lookup row before now after w w_is so_far this =
     let f = contributions_on R eq instance place t lookup in
     let here = contributions_at R eq (record { instance = instance; lookup = place; row = row }) w lookup in
-    subst (Appends before after) (ap (λ v. flat_map f (range_with_len 0 row) ++ contributions_at R eq (record { instance = instance; lookup = place; row = row }) v lookup) w_is ∙ sym (rows_more f row))
-    (appends-more before now after (flat_map f (range_with_len 0 row)) here so_far this)
+    subst (Collects holds before after) (ap (λ v. flat_map f (range_with_len 0 row) ++ contributions_at R eq (record { instance = instance; lookup = place; row = row }) v lookup) w_is ∙ sym (rows_more f row))
+    (collects-more holds before now after (flat_map f (range_with_len 0 row)) here so_far this)

@@ -3,9 +3,9 @@ use Rattle.std.proofs.Common.{◌≡◌, ℕ, ◌+◌, ◌-◌, ◌≤◌, All, 
 use Rattle.std.proofs.lemmas.List.{append-nil, drop-append-le, length-drop, map-append, take-append-le, take_all}
 use Rattle.std.proofs.lemmas.List.Elements.{All-push}
 use Rattle.std.specs.List.{slice_range}
-use Rattle.lookup_debug.specs.Appended.{Appends}
-use Rattle.lookup_debug.specs.Arena.{AreWithin, contributions_in, cut_contribution}
-use Rattle.lookup_debug.specs.Contributions.{Contribution, place_of}
+use Rattle.lookup_debug.specs.Appended.{Appends, Collects, placeless}
+use Rattle.lookup_debug.specs.Arena.{AreWithin, amounts_in, cut_amount}
+use Rattle.lookup_debug.specs.Contributions.{Contribution}
 use Rattle.lookup_debug.specs.declared.arena.Contributions.{Contributions}
 use Rattle.lookup_debug.specs.declared.arena.Cut.{Cut}
 
@@ -35,13 +35,13 @@ module _ {F : Type 0} where
   abbrev IsPart : ℕ → Cut F → Type 0
   IsPart n cut = (cut.start ≤ cut.end) × (cut.end ≤ n)
 
-  -- cuts contribute the same when more elements come
+  -- cuts have the same amounts when more elements come
   kept : (xs ys : List F) (cuts : List (Cut F)) → All (IsPart (length xs)) cuts
-      → map (cut_contribution (xs ++ ys)) cuts ≡ map (cut_contribution xs) cuts
+      → map (cut_amount (xs ++ ys)) cuts ≡ map (cut_amount xs) cuts
   kept xs ys [] parts = refl
   kept xs ys (cut ∷ cuts) parts =
       let here : IsPart (length xs) cut = parts 0 cut (omega arith) in
-      λ i. record { tuple = slice_range-longer xs ys cut.start cut.end here.0 here.1 i; amount = cut.amount; place = place_of cut.location } ∷ kept xs ys cuts (λ k d lt. parts (suc k) d (omega (arith, lt))) i
+      λ i. (slice_range-longer xs ys cut.start cut.end here.0 here.1 i, cut.amount) ∷ kept xs ys cuts (λ k d lt. parts (suc k) d (omega (arith, lt))) i
 
   -- parts of some elements are parts of more
   still_parts : (n m : ℕ) → n ≤ m → (cuts : List (Cut F)) → All (IsPart n) cuts
@@ -50,13 +50,18 @@ module _ {F : Type 0} where
 
   -- nothing is appended
   pub appends-none : (c : Contributions F) → AreWithin c → Appends c c []
-  appends-none c within = (within, sym (append-nil (contributions_in c)))
+  appends-none c within = (within, sym (append-nil (amounts_in c)))
 
   -- first some contributions are appended, and then more
   pub appends-more : (a b c : Contributions F) (xs ys : List (Contribution F)) → Appends a b xs
       → Appends b c ys → Appends a c (xs ++ ys)
-  appends-more a b c xs ys first then =
-      (then.0, then.1 ∙ ap (λ t. t ++ ys) first.1 ∙ append_assoc (contributions_in a) xs ys)
+  appends-more a b c xs ys first then = (
+    then.0,
+    then.1
+        ∙ ap (λ t. t ++ map placeless ys) first.1
+        ∙ append_assoc (amounts_in a) (map placeless xs) (map placeless ys)
+        ∙ ap (λ t. amounts_in a ++ t) (sym (map-append placeless xs ys)),
+  )
 
   -- one more cut, from the end of the elements that were there to that of those that are there now
   pub appends-cut : (before after : Contributions F) (tuple : List F) (cut : Cut F)
@@ -64,7 +69,7 @@ module _ {F : Type 0} where
       → after.elements.items ≡ before.elements.items ++ tuple
       → after.cuts.items ≡ before.cuts.items ++ cut ∷ []
       → cut.start ≡ length before.elements.items → cut.end ≡ length after.elements.items
-      → Appends before after (record { tuple = tuple; amount = cut.amount; place = place_of cut.location } ∷ [])
+      → AreWithin after × (amounts_in after ≡ amounts_in before ++ (tuple, cut.amount) ∷ [])
   appends-cut before after tuple cut within elements_are cuts_are start_is end_is = (parts, seen)
     where
       xs : List F
@@ -83,8 +88,20 @@ module _ {F : Type 0} where
       last : slice_range (xs ++ tuple) cut.start cut.end ≡ tuple
       last = slice_range-last xs tuple cut.start cut.end start_is (end_is ∙ ap length elements_are)
 
-      seen : contributions_in after ≡ contributions_in before ++ record { tuple = tuple; amount = cut.amount; place = place_of cut.location } ∷ []
+      seen : amounts_in after ≡ amounts_in before ++ (tuple, cut.amount) ∷ []
       seen =
-          (λ i. map (cut_contribution (elements_are i)) (cuts_are i))
-          ∙ map-append (cut_contribution (xs ++ tuple)) before.cuts.items (cut ∷ [])
-          ∙ (λ i. kept xs tuple before.cuts.items within i ++ record { tuple = last i; amount = cut.amount; place = place_of cut.location } ∷ [])
+          (λ i. map (cut_amount (elements_are i)) (cuts_are i))
+          ∙ map-append (cut_amount (xs ++ tuple)) before.cuts.items (cut ∷ [])
+          ∙ (λ i. kept xs tuple before.cuts.items within i ++ (last i, cut.amount) ∷ [])
+
+-- What a collector does, one part after the other.
+module _ {F S : Type 0} (holds : S → List F → List (List F × F) → List (Contribution F) → Type 0) where
+  -- nothing is collected
+  pub collects-none : (a : S × Contributions F) → AreWithin a.1 → Collects holds a a []
+  collects-none a within = (within, λ tuple cs h. subst (holds a.0 tuple (amounts_in a.1)) (sym (append-nil cs)) h)
+
+  -- first some contributions are collected, and then more
+  pub collects-more : (a b c : S × Contributions F) (xs ys : List (Contribution F)) → Collects holds a b xs
+      → Collects holds b c ys → Collects holds a c (xs ++ ys)
+  collects-more a b c xs ys first then =
+      (then.0, λ tuple cs h. subst (holds c.0 tuple (amounts_in c.1)) (append_assoc cs xs ys) (then.1 tuple (cs ++ xs) (first.1 tuple cs h)))

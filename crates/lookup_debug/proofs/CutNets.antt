@@ -7,21 +7,20 @@ use Rattle.std.specs.Map.{lookup}
 use Rattle.indexmap.specs.IndexMap.{insert_entry}
 use Rattle.field.specs.Ring.{Ring, IsCommutativeRing}
 use Rattle.lookup_nets.proofs.NetEntries.{mapped-more, one_more}
-use Rattle.lookup_debug.specs.Arena.{cut_contribution}
-use Rattle.lookup_debug.specs.Contributions.{Contribution}
-use Rattle.lookup_debug.specs.Nets.{tuple_entries, tuple_nets}
+use Rattle.lookup_debug.specs.Arena.{cut_amount}
+use Rattle.lookup_debug.specs.Nets.{amount_nets, tuple_entries}
 use Rattle.lookup_debug.specs.declared.arena.Cut.{Cut}
 
 module _ {F : Type 0} {R : Ring F} (laws : IsCommutativeRing R) (eq : F → F → Bool) (eq_is : (a b : F) → Decides (eq a b) (a ≡ b)) (elements : List F) where
   -- one more cut is added to the net of its tuple
   pub cut_more : (cuts : List (Cut F)) (i : ℕ) (cut : Cut F) → i < length cuts → cut ≡ get_or cuts i cut
       → (before after : List (Bor (List F) × F)) (key : Bor (List F)) → key.now ≡ slice_range elements cut.start cut.end
-      → tuple_entries before ≡ tuple_nets R eq (map (cut_contribution elements) (take i cuts))
+      → tuple_entries before ≡ amount_nets R eq (map (cut_amount elements) (take i cuts))
       → after ≡ insert_entry (λ a b. pointwise eq a.now b.now) before key (R.add (unwrap_or (lookup (λ b. pointwise eq key.now b.now) before) R.zero) cut.amount)
-      → tuple_entries after ≡ tuple_nets R eq (map (cut_contribution elements) (take (i + 1) cuts))
+      → tuple_entries after ≡ amount_nets R eq (map (cut_amount elements) (take (i + 1) cuts))
   cut_more cuts i cut lt is before after key key_is so_far inserted =
-      let done = map (cut_contribution elements) (take i cuts) in
+      let done = map (cut_amount elements) (take i cuts) in
       ap tuple_entries inserted
-      ∙ one_more (pointwise eq) (λ a b. slice_eq-Decides eq_is a b (pointwise eq a b) refl) (λ (k : Bor (List F)). k.now) laws (λ (c : Contribution F). c.tuple) (λ c. c.amount)
-      done (cut_contribution elements cut) before key _ _ so_far key_is refl refl
-      ∙ ap (tuple_nets R eq) (sym (mapped-more (cut_contribution elements) cuts i cut lt is))
+      ∙ one_more (pointwise eq) (λ a b. slice_eq-Decides eq_is a b (pointwise eq a b) refl) (λ (k : Bor (List F)). k.now) laws (λ (a : List F × F). a.0) (λ a. a.1)
+      done (cut_amount elements cut) before key _ _ so_far key_is refl refl
+      ∙ ap (amount_nets R eq) (sym (mapped-more (cut_amount elements) cuts i cut lt is))

@@ -1,4 +1,5 @@
 pub mod AmountLaws
+pub mod AmountNets
 pub mod BusLaws
 pub mod CutLaws
 pub mod CutNets

@@ -1,9 +1,19 @@
 -- Contributions while they are collected.
-use Rattle.std.specs.Prelude.{◌≡◌, ◌++◌, List}
-use Rattle.lookup_debug.specs.Arena.{AreWithin, contributions_in}
+use Rattle.std.specs.Prelude.{◌≡◌, ◌++◌, List, map}
+use Rattle.lookup_debug.specs.Arena.{AreWithin, amounts_in}
 use Rattle.lookup_debug.specs.Contributions.{Contribution}
 use Rattle.lookup_debug.specs.declared.arena.Contributions.{Contributions}
 
--- after the earlier contributions come these, and every cut is a part of the elements
+-- a contribution without its place
+abbrev pub placeless : {F : Type 0} → Contribution F → List F × F
+placeless c = (c.tuple, c.amount)
+
+-- After the earlier contributions come these, and every cut is a part of the elements.
 abbrev pub Appends : {F : Type 0} → Contributions F → Contributions F → List (Contribution F) → Type 0
-Appends before after more = AreWithin after × (contributions_in after ≡ contributions_in before ++ more)
+Appends before after more = AreWithin after × (amounts_in after ≡ amounts_in before ++ map placeless more)
+
+-- A collector, with the contributions that it has not gone through yet, goes on from those before to
+-- these.
+abbrev pub Collects : {F S : Type 0} → (S → List F → List (List F × F) → List (Contribution F) → Type 0) → S × Contributions F → S × Contributions F → List (Contribution F) → Type 0
+Collects {F} holds before after more =
+    AreWithin after.1 × ((tuple : List F) (cs : List (Contribution F)) → holds before.0 tuple (amounts_in before.1) cs → holds after.0 tuple (amounts_in after.1) (cs ++ more))

@@ -2,15 +2,17 @@
 use Rattle.std.specs.Prelude.{ℕ, Bool, List, Option, map, not}
 use Rattle.std.specs.Borrow.{Bor}
 use Rattle.std.specs.Cmp.Lexicographic.{pointwise}
+use Rattle.std.specs.List.{filter}
 use Rattle.field.specs.Ring.{Ring}
+use Rattle.field.specs.Sums.{sum_in}
 use Rattle.lookup_model.specs.Net.{first_seen}
-use Rattle.lookup_debug.specs.Contributions.{Contribution}
 use Rattle.lookup_debug.specs.Least.{IsBest}
-use Rattle.lookup_debug.specs.Mismatch.{net_amount, text_cmp}
+use Rattle.lookup_debug.specs.Mismatch.{text_cmp}
 
--- each distinct tuple with its net, in the order in which the tuples are first seen
-abbrev pub tuple_nets : {F : Type 0} → Ring F → (F → F → Bool) → List (Contribution F) → List (List F × F)
-tuple_nets R eq cs = map (λ tuple. (tuple, net_amount R eq cs tuple)) (first_seen (pointwise eq) (map (λ c. c.tuple) cs))
+-- each distinct tuple with the sum of its amounts, in the order in which the tuples are first seen
+abbrev pub amount_nets : {F : Type 0} → Ring F → (F → F → Bool) → List (List F × F) → List (List F × F)
+amount_nets R eq xs =
+    map (λ tuple. (tuple, sum_in R (map (λ a. a.1) (filter (λ a. pointwise eq tuple a.0) xs)))) (first_seen (pointwise eq) (map (λ a. a.0) xs))
 
 -- the entries of a map with slices as keys
 abbrev pub tuple_entries : {F : Type 0} → List (Bor (List F) × F) → List (List F × F)

@@ -1,24 +1,24 @@
-//! Contributions whose tuples stand in one list of elements.
-ghost use Rattle.std.specs.Prelude.{◌≡◌, [], IfOk};
-ghost use Rattle.lookup_debug.specs.Arena.{AreWithin, contributions_in};
-ghost use Rattle.lookup_debug.specs.Nets.{tuple_entries, tuple_nets};
+//! Tuples with amounts, whose elements stand in one list.
+ghost use Rattle.std.specs.Prelude.{◌≡◌, ◌<◌, ◌∷◌, ◌++◌, [], IfOk, OnOk, Some, slice_get};
+ghost use Rattle.indexmap.specs.IndexMap.{index_map_len};
+ghost use Rattle.lookup_debug.specs.Arena.{AreWithin, amounts_in};
+ghost use Rattle.lookup_debug.specs.Nets.{amount_nets, tuple_entries};
 
-use crate::fault::Location;
 use field::Field;
 use indexmap::IndexMap;
 use lookup_nets::add_at;
 use std::alloc::{AllocError, Global};
 
-/// One contribution. Its tuple is `elements[start..end]`.
+/// How much of a tuple is contributed. The tuple is `elements[start..end]`.
 #[derive(Clone, Copy)]
 pub(crate) struct Cut<F> {
     pub(crate) start: usize,
     pub(crate) end: usize,
     pub(crate) amount: F,
-    pub(crate) location: Location,
 }
 
-/// What is contributed to a group. The tuples stand one after another in `elements`.
+/// What is contributed to a group, without the places. The tuples stand one after another in
+/// `elements`.
 #[derive(Drop)]
 pub(crate) struct Contributions<F> {
     pub(crate) elements: Vec<F>,
@@ -27,7 +27,10 @@ pub(crate) struct Contributions<F> {
 
 impl<F: Field> Contributions<F> {
     /// No contributions.
-    pub(crate) fn new(alloc: Global) -> Contributions<F> {
+    pub(crate) fn new(alloc: Global) -> Contributions<F>
+        ensures within { AreWithin result }
+        ensures empty { amounts_in result ≡ [] }
+    {
         Contributions {
             elements: Vec::new(alloc),
             cuts: Vec::new(alloc),
@@ -37,10 +40,22 @@ impl<F: Field> Contributions<F> {
     /// Removes all contributions, and keeps the memory.
     pub(crate) fn clear(&mut self)
         ensures within { AreWithin self.new }
-        ensures empty { contributions_in self.new ≡ [] }
+        ensures empty { amounts_in self.new ≡ [] }
     {
         self.elements.clear();
         self.cuts.clear();
+    }
+
+    /// Appends one more tuple with its amount.
+    fn push(&mut self, tuple: &[F], amount: F) -> Result<(), AllocError>
+        requires within { AreWithin self.now }
+        ensures { OnOk result (AreWithin self.new × (amounts_in self.new ≡ amounts_in self.old ++ (tuple.now, amount) ∷ [])) }
+    {
+        let start = self.elements.len();
+        self.elements.extend_from_slice(tuple)?;
+        let end = self.elements.len();
+        self.cuts.push(Cut { start, end, amount })?;
+        Ok(())
     }
 }
 
@@ -50,7 +65,7 @@ pub(crate) fn nets<'a, F: Field>(
     contributions: &'a Contributions<F>,
 ) -> Result<IndexMap<&'a [F], F>, AllocError>
     requires within { AreWithin contributions.now }
-    ensures { IfOk result (λ m. tuple_entries m.entries ≡ tuple_nets F.ring F.eq (contributions_in contributions.now)) }
+    ensures { IfOk result (λ m. tuple_entries m.entries ≡ amount_nets F.ring F.eq (amounts_in contributions.now)) }
 {
     let elements = contributions.elements.as_slice();
     let mut nets = IndexMap::new(alloc);
@@ -59,4 +74,32 @@ pub(crate) fn nets<'a, F: Field>(
         add_at(&mut nets, tuple, cut.amount)?;
     }
     Ok(nets)
+}
+
+/// Each tuple once, with its net, in the order in which the tuples are first seen.
+pub(crate) fn merged<F: Field>(
+    alloc: Global,
+    contributions: &Contributions<F>,
+) -> Result<Contributions<F>, AllocError>
+    requires within { AreWithin contributions.now }
+    ensures { IfOk result (λ v. AreWithin v × (amounts_in v ≡ amount_nets F.ring F.eq (amounts_in contributions.now))) }
+{
+    let nets = nets(alloc, contributions)?;
+    let mut merged = Contributions::new(alloc);
+    for place in 0..nets.len() {
+        let (tuple, net) = entry_at(&nets, place);
+        merged.push(tuple, net)?;
+    }
+    Ok(merged)
+}
+
+/// The entry at a place.
+pub(crate) fn entry_at<'a, F: Field>(nets: &IndexMap<&'a [F], F>, place: usize) -> (&'a [F], F)
+    requires { place < index_map_len nets.now }
+    ensures { slice_get nets.now.entries place ≡ Some result }
+{
+    match nets.get_index(place) {
+        Some((tuple, net)) => (*tuple, *net),
+        None => unreachable!(),
+    }
 }

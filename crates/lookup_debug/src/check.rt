@@ -2,20 +2,20 @@
 ghost use Rattle.std.specs.Prelude.{◌≡◌, ◌⊎◌, All, IfOk, MatchResult, Some, map, slice_get, string_bytes};
 ghost use Rattle.std.specs.Option.{ForSome, option_copied};
 ghost use Rattle.expressions.specs.Layout.{layout_of_traces};
-ghost use Rattle.lookup_debug.specs.Arena.{AreWithin, contributions_in};
 ghost use Rattle.lookup_debug.specs.Checks.{AnswersGroup, AnswersGroups, local_groups_in};
 ghost use Rattle.lookup_debug.specs.Contributions.{contributions_of, place_of, traced_of};
 ghost use Rattle.lookup_debug.specs.Groups.{bus_group, bus_label, bus_names, is_missing, local_groups, local_label};
-ghost use Rattle.lookup_debug.specs.Mismatch.{AllBalance, HasParts, IsMismatch, of_tuple};
+ghost use Rattle.lookup_debug.specs.Mismatch.{AllBalance, HasParts, IsMismatch};
 ghost use Rattle.lookup_model.specs.Outline.{bus_of};
 ghost use Rattle.lookup_model.specs.Records.{DoFit};
 ghost use Rattle.matrix.specs.Matrix.{height};
 
 use crate::arena::Contributions;
-use crate::contributions::push_lookup;
+use crate::collector::{Nets, Places};
+use crate::contributions::collect_lookup;
 use crate::fault::{Location, LookupFault};
 use crate::first::first_mismatch;
-use crate::groups::{bus_names, push_bus};
+use crate::groups::{bus_names, collect_bus};
 use crate::instance::LookupDebugInstance;
 use crate::labels::{label_of_bus, label_of_local};
 use field::Field;
@@ -109,12 +109,32 @@ fn check_local<F: Field>(
         (contributions_of F.ring F.eq instance place (traced_of traced.now) lookup.now) result }
 {
     contributions.clear();
-    push_lookup(alloc, contributions, traced, lookup, instance, place)?;
+    let mut nets = Nets::new();
+    collect_lookup(
+        alloc,
+        &mut nets,
+        contributions,
+        traced,
+        lookup,
+        instance,
+        place,
+    )?;
     let Some(found) = first_mismatch(alloc, contributions)? else {
         return Ok(());
     };
     let label = label_of_local(alloc, instance, place)?;
-    Err(mismatch(alloc, label, found, contributions)?)
+    let mut places = Places::new(alloc, found.0);
+    let mut row = Contributions::new(alloc);
+    collect_lookup(
+        alloc,
+        &mut places,
+        &mut row,
+        traced,
+        lookup,
+        instance,
+        place,
+    )?;
+    Err(mismatch(alloc, label, found, places.into_locations())?)
 }
 
 /// Checks all buses.
@@ -148,12 +168,16 @@ fn check_bus<F: Field>(
         AnswersGroup F.ring F.eq F.text group.label group.contributions result }
 {
     contributions.clear();
-    push_bus(alloc, contributions, instances, name)?;
+    let mut nets = Nets::new();
+    collect_bus(alloc, &mut nets, contributions, instances, name)?;
     let Some(found) = first_mismatch(alloc, contributions)? else {
         return Ok(());
     };
     let label = label_of_bus(alloc, name)?;
-    Err(mismatch(alloc, label, found, contributions)?)
+    let mut places = Places::new(alloc, found.0);
+    let mut row = Contributions::new(alloc);
+    collect_bus(alloc, &mut places, &mut row, instances, name)?;
+    Err(mismatch(alloc, label, found, places.into_locations())?)
 }
 
 /// The mismatch of a tuple with this net, in a group with this label.
@@ -161,18 +185,15 @@ fn mismatch<F: Field>(
     alloc: Global,
     label: String,
     found: (&[F], F),
-    contributions: &Contributions<F>,
+    locations: Vec<Location>,
 ) -> Result<LookupFault<F>, AllocError>
-    requires within { AreWithin contributions.now }
-    ensures { IfOk result (HasParts (string_bytes label) (map F.text found.entry.0.now) found.entry.1
-        (map (λ c. c.place) (of_tuple F.ring F.eq (contributions_in contributions.now) found.entry.0.now))) }
+    ensures { IfOk result (HasParts (string_bytes label) (map F.text found.entry.0.now) found.entry.1 (map place_of locations.items)) }
 {
     let (tuple, net) = found;
-    let texts = texts_of(alloc, tuple)?;
-    let locations = locations_of(alloc, tuple, contributions)?;
+    let tuple = texts_of(alloc, tuple)?;
     Ok(LookupFault::Mismatch {
         label,
-        tuple: texts,
+        tuple,
         net,
         locations,
     })
@@ -187,24 +208,4 @@ fn texts_of<F: Field>(alloc: Global, tuple: &[F]) -> Result<Vec<String>, AllocEr
         texts.push(element.text(alloc)?)?;
     }
     Ok(texts)
-}
-
-/// Where a tuple is sent, one place for each contribution, in order.
-fn locations_of<F: Field>(
-    alloc: Global,
-    tuple: &[F],
-    contributions: &Contributions<F>,
-) -> Result<Vec<Location>, AllocError>
-    requires within { AreWithin contributions.now }
-    ensures { IfOk result (λ locations. map place_of locations.items
-        ≡ map (λ c. c.place) (of_tuple F.ring F.eq (contributions_in contributions.now) tuple.now)) }
-{
-    let elements = contributions.elements.as_slice();
-    let mut locations = Vec::new(alloc);
-    for cut in &contributions.cuts {
-        if tuple == &elements[cut.start..cut.end] {
-            locations.push(cut.location)?;
-        }
-    }
-    Ok(locations)
 }

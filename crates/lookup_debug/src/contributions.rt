@@ -4,15 +4,16 @@ ghost use Rattle.std.specs.List.{zip};
 ghost use Rattle.std.specs.Option.{ForSome, option_copied};
 ghost use Rattle.expressions.specs.Layout.{Fits, layout_of_traces};
 ghost use Rattle.expressions.specs.Tree.{tree_of};
-ghost use Rattle.lookup_debug.specs.Appended.{Appends};
+ghost use Rattle.lookup_debug.specs.Appended.{Appends, Collects};
 ghost use Rattle.lookup_debug.specs.Arena.{AreWithin};
-ghost use Rattle.lookup_debug.specs.Contributions.{amounts, contributions_at, contributions_from, contributions_of, nonzero, place_of, traced_of};
+ghost use Rattle.lookup_debug.specs.Contributions.{Place, amounts, contributions_at, contributions_from, contributions_of, nonzero, traced_of};
 ghost use Rattle.lookup_generation.specs.TraceBuilder.{builder_layout, builder_window};
 ghost use Rattle.lookup_model.specs.Records.{AllFit, DoFit, HasEqualLengths, IsWithin};
 ghost use Rattle.lookup_model.specs.Sent.{branches_at, value, values};
 ghost use Rattle.matrix.specs.Matrix.{height};
 
 use crate::arena::{Contributions, Cut};
+use crate::collector::Collector;
 use crate::fault::Location;
 use crate::instance::LookupDebugInstance;
 use air::SymbolicExpression;
@@ -57,17 +58,16 @@ fn push_tuple<F: Field>(
 fn push_branch<F: Field>(
     alloc: Global,
     contributions: &mut Contributions<F>,
-    location: Location,
     tuple: &[SymbolicExpression<F>],
     amount: F,
     builder: &LookupTraceBuilder<'_, F, F>,
 ) -> Result<(), AllocError>
     requires within { AreWithin contributions.now }
     requires fits { AllFit (builder_layout builder.now) tuple.now }
-    ensures { OnOk result (Appends contributions.old contributions.new (nonzero F.ring F.eq (record {
+    ensures { (place : Place) → OnOk result (Appends contributions.old contributions.new (nonzero F.ring F.eq (record {
       tuple = values F.ring (builder_window builder.now) tuple.now;
       amount = amount;
-      place = place_of location;
+      place = place;
     } ∷ []))) }
 {
     if amount == F::ZERO {
@@ -76,12 +76,7 @@ fn push_branch<F: Field>(
     let start = contributions.elements.len();
     push_tuple(alloc, &mut contributions.elements, tuple, builder)?;
     let end = contributions.elements.len();
-    contributions.cuts.push(Cut {
-        start,
-        end,
-        amount,
-        location,
-    })?;
+    contributions.cuts.push(Cut { start, end, amount })?;
     Ok(())
 }
 
@@ -90,7 +85,6 @@ fn push_branch<F: Field>(
 fn push_counted<F: Field>(
     alloc: Global,
     contributions: &mut Contributions<F>,
-    location: Location,
     lookup: &Lookup<F>,
     builder: &LookupTraceBuilder<'_, F, F>,
 ) -> Result<(), AllocError>
@@ -98,14 +92,14 @@ fn push_counted<F: Field>(
     requires lengths { HasEqualLengths lookup.now }
     requires fits { IsWithin (builder_layout builder.now) lookup.now }
     ensures { let branches = branches_at F.ring (builder_window builder.now) 0 lookup.now in
-        OnOk result (Appends contributions.old contributions.new (nonzero F.ring F.eq
-        (contributions_from (place_of location) branches (amounts F.ring None branches)))) }
+        (place : Place) → OnOk result (Appends contributions.old contributions.new (nonzero F.ring F.eq
+        (contributions_from place branches (amounts F.ring None branches)))) }
 {
     for branch in 0..lookup.elements.len() {
         let tuple = &lookup.elements[branch];
         let multiplicity = &lookup.multiplicities[branch];
         let amount = value_on(alloc, multiplicity, builder)?;
-        push_branch(alloc, contributions, location, tuple, amount, builder)?;
+        push_branch(alloc, contributions, tuple, amount, builder)?;
     }
     Ok(())
 }
@@ -135,7 +129,6 @@ fn flagged_amount<F: Field>(
 fn push_flagged<F: Field>(
     alloc: Global,
     contributions: &mut Contributions<F>,
-    location: Location,
     lookup: &Lookup<F>,
     flags: &[SymbolicExpression<F>],
     builder: &LookupTraceBuilder<'_, F, F>,
@@ -147,15 +140,15 @@ fn push_flagged<F: Field>(
     requires flags_fit { AllFit (builder_layout builder.now) flags.now }
     ensures { let w = builder_window builder.now in
         let branches = branches_at F.ring w 0 lookup.now in
-        OnOk result (Appends contributions.old contributions.new (nonzero F.ring F.eq
-        (contributions_from (place_of location) branches (amounts F.ring (Some (values F.ring w flags.now)) branches)))) }
+        (place : Place) → OnOk result (Appends contributions.old contributions.new (nonzero F.ring F.eq
+        (contributions_from place branches (amounts F.ring (Some (values F.ring w flags.now)) branches)))) }
 {
     for branch in 0..lookup.elements.len() {
         let tuple = &lookup.elements[branch];
         let multiplicity = &lookup.multiplicities[branch];
         let flag = &flags[branch];
         let amount = flagged_amount(alloc, flag, multiplicity, builder)?;
-        push_branch(alloc, contributions, location, tuple, amount, builder)?;
+        push_branch(alloc, contributions, tuple, amount, builder)?;
     }
     Ok(())
 }
@@ -164,26 +157,26 @@ fn push_flagged<F: Field>(
 fn push_on_row<F: Field>(
     alloc: Global,
     contributions: &mut Contributions<F>,
-    location: Location,
     lookup: &Lookup<F>,
     builder: &LookupTraceBuilder<'_, F, F>,
 ) -> Result<(), AllocError>
     requires within { AreWithin contributions.now }
     requires lengths { HasEqualLengths lookup.now }
     requires fits { IsWithin (builder_layout builder.now) lookup.now }
-    ensures { OnOk result (Appends contributions.old contributions.new
-        (contributions_at F.ring F.eq (place_of location) (builder_window builder.now) lookup.now)) }
+    ensures { (place : Place) → OnOk result (Appends contributions.old contributions.new
+        (contributions_at F.ring F.eq place (builder_window builder.now) lookup.now)) }
 {
     match &lookup.flags {
-        None => push_counted(alloc, contributions, location, lookup, builder),
-        Some(flags) => push_flagged(alloc, contributions, location, lookup, flags, builder),
+        None => push_counted(alloc, contributions, lookup, builder),
+        Some(flags) => push_flagged(alloc, contributions, lookup, flags, builder),
     }
 }
 
-/// Appends the contributions of the lookup at `place` of an AIR on all rows of its traces, those of
+/// Collects the contributions of the lookup at `place` of an AIR on all rows of its traces, those of
 /// zero left out.
-pub(crate) fn push_lookup<F: Field>(
+pub(crate) fn collect_lookup<F: Field, C: Collector<F>>(
     alloc: Global,
+    collector: &mut C,
     contributions: &mut Contributions<F>,
     traced: &LookupDebugInstance<'_, F>,
     lookup: &Lookup<F>,
@@ -194,7 +187,7 @@ pub(crate) fn push_lookup<F: Field>(
     requires there { slice_get traced.now.lookups.now place ≡ Some lookup.now }
     requires fit { DoFit (layout_of_traces traced.now.main_trace.now (option_copied traced.now.preprocessed_trace) traced.now.public_values.now) traced.now.lookups.now }
     requires heights { ForSome (option_copied traced.now.preprocessed_trace) (λ m. height m ≡ height traced.now.main_trace.now) }
-    ensures { OnOk result (Appends contributions.old contributions.new
+    ensures { OnOk result (Collects C.holds (collector.old, contributions.old) (collector.new, contributions.new)
         (contributions_of F.ring F.eq instance place (traced_of traced.now) lookup.now)) }
 {
     for row in 0..traced.main_trace.height() {
@@ -205,12 +198,13 @@ pub(crate) fn push_lookup<F: Field>(
             traced.permutation_challenges,
             row,
         );
+        push_on_row(alloc, contributions, lookup, &builder)?;
         let location = Location {
             instance,
             lookup: place,
             row,
         };
-        push_on_row(alloc, contributions, location, lookup, &builder)?;
+        collector.collect(alloc, contributions, location)?;
     }
     Ok(())
 }

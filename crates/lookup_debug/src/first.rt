@@ -1,29 +1,31 @@
 //! The first tuple of a group that does not balance.
-ghost use Rattle.std.specs.Prelude.{◌≡◌, ◌<◌, ◌+◌, IfOk, MatchOption, Some, slice_get};
+ghost use Rattle.std.specs.Prelude.{◌≡◌, ◌<◌, ◌+◌, IfOk, List, MatchOption, Some, map, slice_get};
 ghost use Rattle.std.specs.Cmp.Lexicographic.{slice_cmp};
 ghost use Rattle.std.specs.Ordering.{nat_cmp};
 ghost use Rattle.indexmap.specs.IndexMap.{index_map_len};
-ghost use Rattle.lookup_debug.specs.Arena.{AreWithin, contributions_in};
+ghost use Rattle.lookup_debug.specs.Appended.{placeless};
+ghost use Rattle.lookup_debug.specs.Arena.{AreWithin, amounts_in};
+ghost use Rattle.lookup_debug.specs.Contributions.{Contribution};
 ghost use Rattle.lookup_debug.specs.Mismatch.{Balances, IsFirst, net_amount, text_cmp};
-ghost use Rattle.lookup_debug.specs.Nets.{IsFirstPlace};
+ghost use Rattle.lookup_debug.specs.Nets.{IsFirstPlace, amount_nets};
 
-use crate::arena::{Contributions, nets};
+use crate::arena::{Contributions, entry_at, nets};
 use field::Field;
 use indexmap::IndexMap;
 use std::alloc::{AllocError, Global};
 use std::cmp::Ordering;
 
 /// The first tuple whose net is not zero, with its net: the least by the texts of its elements, and
-/// among equal texts the first that is contributed.
+/// among equal texts the first that is contributed. So it is for all contributions with these nets.
 pub(crate) fn first_mismatch<'a, F: Field>(
     alloc: Global,
     contributions: &'a Contributions<F>,
 ) -> Result<Option<(&'a [F], F)>, AllocError>
     requires within { AreWithin contributions.now }
-    ensures { IfOk result (λ found. MatchOption found
-        (Balances F.ring F.eq (contributions_in contributions.now))
-        (λ m. IsFirst F.ring F.eq F.text (contributions_in contributions.now) m.0.now
-        × (m.1 ≡ net_amount F.ring F.eq (contributions_in contributions.now) m.0.now))) }
+    ensures { (cs : List (Contribution F)) → amount_nets F.ring F.eq (amounts_in contributions.now) ≡ amount_nets F.ring F.eq (map placeless cs)
+        → IfOk result (λ found. MatchOption found
+        (Balances F.ring F.eq cs)
+        (λ m. IsFirst F.ring F.eq F.text cs m.0.now × (m.1 ≡ net_amount F.ring F.eq cs m.0.now))) }
 {
     let nets = nets(alloc, contributions)?;
     let Some(place) = least(alloc, &nets)? else {
@@ -66,17 +68,6 @@ fn better<F: Field>(
         Ok(Some(place))
     } else {
         Ok(Some(least))
-    }
-}
-
-/// The entry at a place.
-fn entry_at<'a, F: Field>(nets: &IndexMap<&'a [F], F>, place: usize) -> (&'a [F], F)
-    requires { place < index_map_len nets.now }
-    ensures { slice_get nets.now.entries place ≡ Some result }
-{
-    match nets.get_index(place) {
-        Some((tuple, net)) => (*tuple, *net),
-        None => unreachable!(),
     }
 }
 

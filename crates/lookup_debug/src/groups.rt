@@ -5,7 +5,7 @@ ghost use Rattle.std.specs.List.{filter_map, flat_map};
 ghost use Rattle.std.specs.Option.{ForSome, option_copied};
 ghost use Rattle.expressions.specs.Layout.{layout_of_traces};
 ghost use Rattle.indexmap.specs.IndexSet.{keys};
-ghost use Rattle.lookup_debug.specs.Appended.{Appends};
+ghost use Rattle.lookup_debug.specs.Appended.{Collects};
 ghost use Rattle.lookup_debug.specs.Arena.{AreWithin};
 ghost use Rattle.lookup_debug.specs.Contributions.{traced_of};
 ghost use Rattle.lookup_debug.specs.Groups.{bus_names, is_named, is_on, placed, placed_contributions, placed_in};
@@ -15,7 +15,8 @@ ghost use Rattle.lookup_model.specs.Records.{DoFit};
 ghost use Rattle.matrix.specs.Matrix.{height};
 
 use crate::arena::Contributions;
-use crate::contributions::push_lookup;
+use crate::collector::Collector;
+use crate::contributions::collect_lookup;
 use crate::instance::LookupDebugInstance;
 use field::Field;
 use indexmap::IndexSet;
@@ -62,9 +63,10 @@ fn add_names<'a, F: Field>(
     Ok(())
 }
 
-/// Appends the contributions of all lookups on a bus.
-pub(crate) fn push_bus<F: Field>(
+/// Collects the contributions of all lookups on a bus.
+pub(crate) fn collect_bus<F: Field, C: Collector<F>>(
     alloc: Global,
+    collector: &mut C,
     contributions: &mut Contributions<F>,
     instances: &[LookupDebugInstance<'_, F>],
     name: &str,
@@ -72,18 +74,20 @@ pub(crate) fn push_bus<F: Field>(
     requires within { AreWithin contributions.now }
     requires fit { All (λ i. DoFit (layout_of_traces i.main_trace.now (option_copied i.preprocessed_trace) i.public_values.now) i.lookups.now) instances.now }
     requires heights { All (λ i. ForSome (option_copied i.preprocessed_trace) (λ m. height m ≡ height i.main_trace.now)) instances.now }
-    ensures { OnOk result (Appends contributions.old contributions.new
+    ensures { OnOk result (Collects C.holds (collector.old, contributions.old) (collector.new, contributions.new)
         (flat_map (placed_contributions F.ring F.eq) (filter (is_on name.now) (placed (map traced_of instances.now))))) }
 {
     for instance in 0..instances.len() {
-        push_bus_of(alloc, contributions, &instances[instance], instance, name)?;
+        let traced = &instances[instance];
+        collect_bus_of(alloc, collector, contributions, traced, instance, name)?;
     }
     Ok(())
 }
 
-/// Appends the contributions of the lookups of one AIR on a bus.
-fn push_bus_of<F: Field>(
+/// Collects the contributions of the lookups of one AIR on a bus.
+fn collect_bus_of<F: Field, C: Collector<F>>(
     alloc: Global,
+    collector: &mut C,
     contributions: &mut Contributions<F>,
     traced: &LookupDebugInstance<'_, F>,
     instance: usize,
@@ -92,13 +96,21 @@ fn push_bus_of<F: Field>(
     requires within { AreWithin contributions.now }
     requires fit { DoFit (layout_of_traces traced.now.main_trace.now (option_copied traced.now.preprocessed_trace) traced.now.public_values.now) traced.now.lookups.now }
     requires heights { ForSome (option_copied traced.now.preprocessed_trace) (λ m. height m ≡ height traced.now.main_trace.now) }
-    ensures { OnOk result (Appends contributions.old contributions.new
+    ensures { OnOk result (Collects C.holds (collector.old, contributions.old) (collector.new, contributions.new)
         (flat_map (placed_contributions F.ring F.eq) (filter (is_on name.now) (placed_in (instance, traced_of traced.now))))) }
 {
     for place in 0..traced.lookups.len() {
         let lookup = &traced.lookups[place];
         if is_on_bus(lookup, name) {
-            push_lookup(alloc, contributions, traced, lookup, instance, place)?;
+            collect_lookup(
+                alloc,
+                collector,
+                contributions,
+                traced,
+                lookup,
+                instance,
+                place,
+            )?;
         }
     }
     Ok(())

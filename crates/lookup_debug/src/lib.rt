@@ -1,12 +1,14 @@
 //! The debug check of lookups: which tuple does not balance, by how much, and on which rows.
 //!
 //! `check_lookups` takes each local lookup by itself and then each bus. The tuples of such a group are
-//! collected in one list of elements, a map from slices of it to nets adds them up, and texts are
-//! made only of tuples that do not balance.
+//! collected in one list of elements, and a map from slices of it to nets adds them up: now and then,
+//! so that equal tuples take no more memory, and at the end. Texts are made only of tuples that do not
+//! balance, and the places of the first of them are found in a second walk.
 #![tactic(auto)]
 
 mod arena;
 mod check;
+mod collector;
 mod contributions;
 mod fault;
 mod first;

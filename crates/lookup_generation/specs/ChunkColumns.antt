@@ -12,7 +12,7 @@ use Rattle.lookup_model.specs.Sent.{branches_at, values}
 use Rattle.lookup_model.specs.declared.types.Lookup.{Lookup}
 use Rattle.lookup_generation.specs.declared.columns.BranchColumns.{BranchColumns}
 
--- the place of a row among the selected ones
+-- Row r is the one at place i. It stands among the selected rows, at the place that is kept at i.
 pub record IsSelected (places selected : List ℕ) (i r : ℕ) : Type 0 where
   pub at : ℕ
   pub there : slice_get places i ≡ Some at
@@ -33,8 +33,8 @@ module _ {F K : Type 0} where
   abbrev pub HasFlag : ℕ → BranchColumns F K → F → Type 0
   HasFlag place c f = slice_get c.flags.items place ≡ Some f
 
-  -- Where the row at this place has its multiplicity and its denominator, which are those of this
-  -- message.
+  -- The place that is kept for the row at `place`, where the multiplicity and the denominator are
+  -- those of this message.
   pub record IsPlaced (denominator : Key F → K) (place : ℕ) (c : BranchColumns F K) (m : Message F) : Type 0 where
     pub at : ℕ
     pub there : slice_get c.places.items place ≡ Some at

@@ -22,7 +22,8 @@ use std::alloc::{AllocError, Global};
 pub(crate) struct BranchColumns<F, EF> {
     /// The flag of each row, in an exclusive lookup.
     pub(crate) flags: Vec<F>,
-    /// The place of each row whose flag is not zero among all such rows, in an exclusive lookup.
+    /// For each row, how many rows before it have a flag that is not zero: its place among them, if its
+    /// own flag is not zero. Only in an exclusive lookup.
     pub(crate) places: Vec<usize>,
     /// The multiplicities, of each row or of each row whose flag is not zero.
     pub(crate) multiplicities: Vec<F>,
@@ -46,7 +47,8 @@ pub(crate) fn rows_between(
     Ok(rows)
 }
 
-/// The rows whose flag is not zero, and for each row its place among them, if it is one.
+/// For each row, how many rows before it have a flag that is not zero, and then the rows whose flag
+/// is not zero: such a row stands among them at that place.
 fn selected_rows<F: Field>(
     alloc: Global,
     flags: &[F],

@@ -1,6 +1,6 @@
 //! Generation of the auxiliary trace, in chunks of rows: a chunk's fractions are found as ratios, and
 //! divided by one inverse.
-ghost use Rattle.std.specs.Prelude.{◌≡◌, ◌+◌, ◌-◌, ◌*◌, ◌%◌, ℕ, ◌<◌, ◌≤◌, ◌⊎◌, ◌++◌, ◌∷◌, [], None, Some, IfOk, MatchResult, length, take};
+ghost use Rattle.std.specs.Prelude.{◌≡◌, ◌+◌, ◌-◌, ◌*◌, ◌%◌, ℕ, ◌<◌, ◌≤◌, ◌⊎◌, ◌++◌, ◌∷◌, [], None, Some, IfErr, IfOk, MatchResult, length, take};
 ghost use Rattle.std.specs.Option.{ForSome, option_copied};
 ghost use Rattle.expressions.specs.Layout.{layout_of_traces};
 ghost use Rattle.expressions.specs.Window.{window_at};
@@ -169,7 +169,7 @@ fn push_row<K: Domain>(cells: &mut Vec<K>, accumulator: K, fractions: &[K]) -> R
 /// Appends the rows from `first` up to `end` of the auxiliary trace to `cells`, by one inverse. Returns
 /// the accumulator of row `end`.
 ///
-/// Refuses the first fault in the order row, lookup, before it inverts.
+/// Refuses the first fault in the order row, lookup. A fault is found before anything is inverted.
 fn push_chunk<F: Field, EF: ExtensionDomain<F>, I: Inverter<EF>>(
     alloc: Global,
     cells: &mut Vec<EF>,
@@ -201,6 +201,7 @@ fn push_chunk<F: Field, EF: ExtensionDomain<F>, I: Inverter<EF>>(
         (IsFirstOf (trace_faults E denominator rows))) }
     ensures many { IfOk result (λ _. length cells.new.items ≡ length cells.old.items + (end - first) * (length lookups.now + 1)) }
     ensures counted { I.count inverter.new ≤ I.count inverter.old + 1 }
+    ensures spared { IfErr result (λ e. (e ≡ LookupError.Memory) ⊎ (I.count inverter.new ≡ I.count inverter.old)) }
 {
     let ratios = ratios_of(
         alloc,
@@ -259,6 +260,7 @@ fn generate<F: Field, EF: ExtensionDomain<F>, I: Inverter<EF>>(
         (IsFirstOf (trace_faults E denominator rows))) }
     ensures many { IfOk result (λ r. length r.0.items ≡ height main.now * (length lookups.now + 1)) }
     ensures counted { I.count inverter.new ≤ I.count inverter.old + started_chunks (height main.now) }
+    ensures spared { IfErr result (λ e. (e ≡ LookupError.Memory) ⊎ (I.count inverter.new < I.count inverter.old + started_chunks (height main.now))) }
 {
     let height = main.height();
     let size = height
@@ -290,7 +292,7 @@ fn generate<F: Field, EF: ExtensionDomain<F>, I: Inverter<EF>>(
 /// The auxiliary trace of one AIR and its terminal, by an inverse for each chunk of 1024 rows.
 ///
 /// It answers as [`generate_permutation`] does. `inverter` is asked at most once for each chunk of rows
-/// that is started, also if the call is refused, and never for a chunk with a fault.
+/// that is started, at least once less where a fault is refused, and never where there are no lookups.
 pub fn generate_counted<'a, F: Field, EF: ExtensionDomain<F>, I: Inverter<EF>>(
     alloc: Global,
     main: &'a RowMajorMatrix<F>,
@@ -305,6 +307,8 @@ pub fn generate_counted<'a, F: Field, EF: ExtensionDomain<F>, I: Inverter<EF>>(
     requires challenges { 2 * length lookups.now ≤ length challenges.now }
     ensures answers { ForInverses EF.ring (λ inverse. AnswersGeneration (extension F.ring F.eq EF.ring EF.eq EF.embed inverse) main.now (option_copied preprocessed.entry) public_values.now lookups.now challenges.now result) }
     ensures counted { I.count inverter.new ≤ I.count inverter.old + started_chunks (height main.now) }
+    ensures spared { IfErr result (λ e. (e ≡ LookupError.Memory) ⊎ (I.count inverter.new < I.count inverter.old + started_chunks (height main.now))) }
+    ensures nothing_sent { length lookups.now ≡ 0 → I.count inverter.new ≡ I.count inverter.old }
 {
     if lookups.is_empty() {
         return Ok((RowMajorMatrix::new(Vec::new(alloc), 0), None));
@@ -326,12 +330,15 @@ pub fn generate_counted<'a, F: Field, EF: ExtensionDomain<F>, I: Inverter<EF>>(
 
 /// The auxiliary trace of one AIR and its terminal.
 ///
-/// The trace has the height of `main` and one column more than there are lookups. Without lookups
-/// it has width 0, and there is no terminal. The preprocessed trace, if there is one, is as high as
-/// `main`. `challenges` are an alpha and a beta for each lookup, in the order of their columns.
+/// The trace has the height of `main` and one column more than there are lookups: first the
+/// accumulator, the sum of all fractions on the rows before, and then the fraction of each lookup.
+/// Without lookups it has width 0, and there is no terminal. The preprocessed trace, if there is one,
+/// is as high as `main`. `challenges` are an alpha and a beta for each lookup, in the order of their
+/// columns. The running sum is that of LogUp (<https://eprint.iacr.org/2022/1530>).
 ///
-/// Refuses the first fault in the order row, lookup, and returns nothing of the trace. Out of
-/// memory is refused under its own name.
+/// Refuses the first fault in the order row, lookup, and returns nothing of the trace. In a group, a
+/// flag that is neither zero nor one comes first, then more than one set flag, and then a denominator
+/// that vanishes. Out of memory is refused under its own name.
 pub fn generate_permutation<'a, F: Field, EF: ExtensionField<F>>(
     alloc: Global,
     main: &'a RowMajorMatrix<F>,

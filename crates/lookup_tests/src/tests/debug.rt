@@ -427,3 +427,47 @@ fn two_rows_over_f7(rt: HostRuntime) {
         expect_of_rows(&rt, alloc, numbers.as_slice(), text.as_str());
     }
 }
+
+/// Rows of a tuple with its count, more than twice as many as are collected before equal tuples are
+/// merged. The first row sends 7 and the last one `last`, both once; between them each of 0 to 4 is
+/// sent as often with count 1 as with count -1.
+fn many_rows(rt: &impl Abort, alloc: Global, last: u32) -> Vec<u32> {
+    let mut numbers = Vec::new(alloc);
+    numbers.extend_from_slice(&[7, 1]).expect(rt, "memory");
+    for pair in 0..70_000 {
+        let tuple: u32 = pair % 5;
+        numbers
+            .extend_from_slice(&[tuple, 1, tuple, 2_013_265_920])
+            .expect(rt, "memory");
+    }
+    numbers.extend_from_slice(&[last, 1]).expect(rt, "memory");
+    numbers
+}
+
+/// Equal tuples are merged on the way, and the rows of the one that is named are all there.
+#[test]
+fn more_rows_than_are_kept(rt: HostRuntime) {
+    let alloc = rt.alloc();
+    let cases: [(u32, &str); 2] = [
+        (
+            7,
+            "tuple [7] has net multiplicity 2 at instance 0 lookup 0 row 0; instance 0 lookup 0 row 140001",
+        ),
+        (
+            60,
+            "tuple [60] has net multiplicity 1 at instance 0 lookup 0 row 140001",
+        ),
+    ];
+    let labels = ["instance 0 local lookup 0", "global lookup 'a'"];
+    for (last, rest) in cases {
+        let numbers = many_rows(&rt, alloc, last);
+        let main: RowMajorMatrix<BabyBear> = trace(&rt, alloc, numbers.as_slice(), 2);
+        let local = [counted(&rt, alloc, 1, 0)];
+        let bus = [on_bus(&rt, alloc, "a", 1, 0)];
+        for (lookups, label) in [(&local, labels[0]), (&bus, labels[1])] {
+            let text = format!(in alloc; "Lookup mismatch ({label}): {rest}").expect(&rt, "memory");
+            let instances = [instance(&main, lookups.as_slice())];
+            expect(&rt, alloc, instances.as_slice(), text.as_str());
+        }
+    }
+}

@@ -185,3 +185,20 @@ fn the_tuple_sent_first(rt: HostRuntime) {
         expect(&rt, alloc, instances.as_slice(), text.as_str());
     }
 }
+
+/// Among equal texts the tuple that is sent first is named, also where equal tuples were merged on the
+/// way: 1 is sent in the first row, and 0 in all others.
+#[test]
+fn merged_tuples_keep_their_order(rt: HostRuntime) {
+    let alloc = rt.alloc();
+    let mut numbers = Vec::new(alloc);
+    numbers.extend_from_slice(&[1, 1]).expect(&rt, "memory");
+    for _ in 0..70_001 {
+        numbers.extend_from_slice(&[0, 1]).expect(&rt, "memory");
+    }
+    let main = trace::<Alike>(&rt, alloc, numbers.as_slice(), 2);
+    let lookups = [counted(&rt, alloc, 1, 0)];
+    let text =
+        "Lookup mismatch (instance 0 local lookup 0): tuple [?] has net multiplicity ? at instance 0 lookup 0 row 0";
+    expect(&rt, alloc, &[instance(&main, lookups.as_slice())], text);
+}

@@ -1,7 +1,7 @@
 use Rattle.std.proofs.Common.{◌<◌, get_or, length, map, slice_range, subst, ap, ◌∙◌, arith}
 use Rattle.std.proofs.lemmas.List.{take_all}
-use Rattle.lookup_debug.specs.Arena.{cut_contribution}
-use Rattle.lookup_debug.specs.Nets.{tuple_nets}
+use Rattle.lookup_debug.specs.Arena.{cut_amount}
+use Rattle.lookup_debug.specs.Nets.{amount_nets}
 use Rattle.lookup_debug.proofs.CutNets.{cut_more}
 use Rattle.lookup_debug.proofs.arena.nets.Goals as goal
 
@@ -24,4 +24,4 @@ returns g c =
     let cuts = c.args.contributions.now.cuts.items in
     let elements = c.args.contributions.now.elements.items in
     c.loop-cut.invariant
-    ∙ ap (λ t. tuple_nets R g.F.PartialEq.eq (map (cut_contribution elements) t)) (take_all c.loop-cut.cut-index cuts (omega (arith, c.loop-cut-test.false, c.deref-cut-items.ensures.len)))
+    ∙ ap (λ t. amount_nets R g.F.PartialEq.eq (map (cut_amount elements) t)) (take_all c.loop-cut.cut-index cuts (omega (arith, c.loop-cut-test.false, c.deref-cut-items.ensures.len)))

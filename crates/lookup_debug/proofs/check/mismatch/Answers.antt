@@ -4,10 +4,10 @@ use Rattle.lookup_debug.proofs.check.mismatch.Goals as goal
 pub returns : goal.returns
 returns g c = record {
   name = c.args.label;
-  texts = c.in_ok-texts.texts;
-  locations = c.in_ok-locations.locations;
+  texts = c.in_ok-tuple.tuple;
+  locations = c.args.locations;
   fault_is = refl;
   label_is = refl;
-  tuple_is = c.in_ok-texts.ensures;
-  places_are = c.in_ok-locations.ensures;
+  tuple_is = c.in_ok-tuple.ensures;
+  places_are = refl;
 }

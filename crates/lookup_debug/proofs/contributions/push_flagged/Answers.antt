@@ -6,7 +6,7 @@ use Rattle.lookup_model.proofs.RecordLaws.{All-at, Fits-at}
 use Rattle.lookup_model.specs.Records.{AllFit, IsWithin}
 use Rattle.lookup_model.specs.Sent.{branches_at, values}
 use Rattle.lookup_debug.specs.Appended.{Appends}
-use Rattle.lookup_debug.specs.Contributions.{Contribution, amounts, contributions_from, nonzero, place_of}
+use Rattle.lookup_debug.specs.Contributions.{Contribution, amounts, contributions_from, nonzero}
 use Rattle.lookup_debug.proofs.AmountLaws.{flagged_step, length-flagged}
 use Rattle.lookup_debug.proofs.CutLaws.{appends-none}
 use Rattle.lookup_debug.proofs.contributions.push_flagged.Goals as goal
@@ -27,24 +27,23 @@ push_branch-requires-clause-fits g c =
     subst (λ (t : List (SymbolicExpression _)). AllFit layout t) (sym c.deref.ensures.value) (All-at (λ tuple. AllFit layout tuple.items) c.args.lookup.now.elements.items c.loop-branch.branch c.index-tuple.result.now c.requires.fits.0 (omega arith) c.index-tuple.ensures)
 
 pub loop-branch-preserved : goal.loop-branch-preserved
-loop-branch-preserved g c =
-    flagged_step g.F.PrimeCharacteristicRing.ring g.F.PartialEq.eq (place_of c.args.location) (builder_window c.args.builder.now) c.args.lookup.now c.requires.lengths c.loop-branch.branch c.index-tuple.result.now c.index-multiplicity.result.now (omega arith) c.index-tuple.ensures c.index-multiplicity.ensures c.args.flags.now c.requires.flag_number c.index-flags-branch.result c.index-flags-branch.is
-    c.args.contributions.now c.loop-branch.contributions c.push_branch.new.contributions c.deref.result.now c.in_ok-amount.amount c.deref.ensures.value c.in_ok-amount.ensures c.loop-branch.invariant c.in_ok-push_branch.ensures
+loop-branch-preserved g c place =
+    flagged_step g.F.PrimeCharacteristicRing.ring g.F.PartialEq.eq place (builder_window c.args.builder.now) c.args.lookup.now c.requires.lengths c.loop-branch.branch c.index-tuple.result.now c.index-multiplicity.result.now (omega arith) c.index-tuple.ensures c.index-multiplicity.ensures c.args.flags.now c.requires.flag_number c.index-flags-branch.result c.index-flags-branch.is
+    c.args.contributions.now c.loop-branch.contributions c.push_branch.new.contributions c.deref.result.now c.in_ok-amount.amount c.deref.ensures.value c.in_ok-amount.ensures (c.loop-branch.invariant place) (c.in_ok-push_branch.ensures place)
 
 pub returns : goal.returns
-returns g c =
+returns g c place =
     let R = g.F.PrimeCharacteristicRing.ring in
     let eq = g.F.PartialEq.eq in
     let w = builder_window c.args.builder.now in
-    let place = place_of c.args.location in
     let lookup = c.args.lookup.now in
     let flags = c.args.flags.now in
     let branches = branches_at R w 0 lookup in
     let all = contributions_from place branches (amounts R (Some (values R w flags)) branches) in
-    subst (λ (cs : List (Contribution _)). Appends c.args.contributions.now c.loop-branch.contributions (nonzero R eq cs)) (take_all c.loop-branch.branch all (omega (arith, length-flagged R eq place w lookup c.requires.lengths flags c.requires.flag_number))) c.loop-branch.invariant
+    subst (λ (cs : List (Contribution _)). Appends c.args.contributions.now c.loop-branch.contributions (nonzero R eq cs)) (take_all c.loop-branch.branch all (omega (arith, length-flagged R eq place w lookup c.requires.lengths flags c.requires.flag_number))) (c.loop-branch.invariant place)
 
 pub loop-branch-init : goal.loop-branch-init
-loop-branch-init g c = appends-none c.args.contributions.now c.requires.within
+loop-branch-init g c place = appends-none c.args.contributions.now c.requires.within
 
 pub push_branch-requires-clause-within : goal.push_branch-requires-clause-within
-push_branch-requires-clause-within g c = c.loop-branch.invariant.0
+push_branch-requires-clause-within g c = (c.loop-branch.invariant (record { instance = 0; lookup = 0; row = 0 })).0

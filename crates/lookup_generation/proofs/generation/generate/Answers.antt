@@ -1,4 +1,6 @@
-use Rattle.std.proofs.Common.{◌≡◌, ◌+◌, ◌-◌, ◌*◌, ◌%◌, length, ap, ◌∙◌, inl, inr, arith}
+use Rattle.std.proofs.Common.{◌≡◌, ◌<◌, ◌+◌, ◌-◌, ◌*◌, ◌%◌, length, ap, ◌∙◌, inl, inr, arith}
+use Rattle.std.proofs.lemmas.Result.{err_from_is_err_and}
+use Rattle.matrix.specs.Matrix.{height}
 use Rattle.lookup_generation.proofs.ProgressLaws.{product_joined}
 use Rattle.lookup_generation.specs.Progress.{started_chunks}
 use Rattle.lookup_generation.proofs.generation.generate.Goals as goal
@@ -21,3 +23,16 @@ loop-first-preserved g c =
       c.in_ok-accumulator.ensures.many ∙ ap (λ m. m + (c.chunk_end-end.result - c.loop-first.first) * (length c.args.lookups.now + 1)) before.3 ∙ product_joined c.loop-first.first c.chunk_end-end.result (length c.args.lookups.now + 1) chunk.further,
       c.in_ok-accumulator.ensures.rows,
     )
+
+pub returns-in_err-accumulator-clause-spared : goal.returns-in_err-accumulator-clause-spared
+returns-in_err-accumulator-clause-spared g c =
+    let before = c.loop-first.invariant in
+    let p = err_from_is_err_and c.from_residual-in_err-accumulator.result c.from_residual-in_err-accumulator.ensures.1 in
+    let further : started_chunks c.loop-first.first < started_chunks (height c.args.main.now) = elim before.1 [
+      | inl even ↦ omega (arith, even, c.loop-first-test.true, c.height-height.ensures.height)
+      | inr last ↦ absurd (omega (arith, last, c.loop-first-test.true, c.height-height.ensures.height))
+    ] in
+    rw (p.1, p.2) (elim c.in_err-accumulator.ensures.spared [
+      | inl memory ↦ inl memory
+      | inr same ↦ inr (omega (arith, same, before.2, further))
+    ])

@@ -64,3 +64,8 @@ pub returns-in_err-cells-clause-answers : goal.returns-in_err-cells-clause-answe
 returns-in_err-cells-clause-answers g c = λ inverse is_inverse.
     let p = err_from_is_err_and c.from_residual.result c.from_residual.ensures.1 in
     rw (p.1, p.2) (c.in_err-cells.ensures.rows inverse is_inverse)
+
+pub returns-in_err-cells-clause-spared : goal.returns-in_err-cells-clause-spared
+returns-in_err-cells-clause-spared g c =
+    let p = err_from_is_err_and c.from_residual.result c.from_residual.ensures.1 in
+    rw (p.1, p.2) c.in_err-cells.ensures.spared

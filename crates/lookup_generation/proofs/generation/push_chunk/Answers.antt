@@ -1,4 +1,4 @@
-use Rattle.std.proofs.Common.{◌≡◌, ◌≢◌, ◌<◌, ◌≤◌, ◌+◌, ◌-◌, ◌*◌, ◌∷◌, ℕ, suc, All, List, length, sym, ap, subst, ◌∙◌, arith}
+use Rattle.std.proofs.Common.{◌≡◌, ◌≢◌, ◌<◌, ◌≤◌, ◌+◌, ◌-◌, ◌*◌, ◌∷◌, ℕ, suc, All, List, inr, length, refl, sym, ap, subst, ◌∙◌, arith}
 use Rattle.std.proofs.lemmas.List.{length-append}
 use Rattle.std.proofs.lemmas.Result.{err_from_is_err_and}
 use Rattle.std.specs.List.{AllZip, flat_map, range_with_len}
@@ -109,3 +109,8 @@ pub returns-clause-many : goal.returns-clause-many
 returns-clause-many g c =
     let all : c.loop-i.i ≡ c.args.end - c.args.first = omega (arith, c.loop-i-test.false, c.loop-i.auto.i-end) in
     c.loop-i.invariant.1 ∙ ap (λ m. length c.args.cells.now.items + m * (length c.args.lookups.now + 1)) all
+
+pub returns-in_err-ratios-clause-spared : goal.returns-in_err-ratios-clause-spared
+returns-in_err-ratios-clause-spared g c =
+    let p = err_from_is_err_and c.from_residual.result c.from_residual.ensures.1 in
+    rw (p.1, p.2) (inr refl)

@@ -1,0 +1,62 @@
+use Rattle.std.proofs.Common.{◌≡◌, ◌∙◌, List, ap, arith, subst, sym}
+use Rattle.std.proofs.lemmas.List.{take_all}
+use Rattle.std.proofs.lemmas.Option.{slice_get-get_or}
+use Rattle.std.specs.List.{filter, flat_map}
+use Rattle.lookup_model.specs.Outline.{bus_of}
+use Rattle.lookup_model.specs.declared.types.Lookup.{Lookup}
+use Rattle.lookup_debug.specs.Appended.{Collects}
+use Rattle.lookup_debug.specs.Contributions.{contributions_of, traced_of}
+use Rattle.lookup_debug.specs.Groups.{Placed, is_named, is_on, placed_contributions, placed_in}
+use Rattle.lookup_debug.specs.declared.arena.Contributions.{Contributions}
+use Rattle.lookup_debug.proofs.CutLaws.{collects-none}
+use Rattle.lookup_debug.proofs.BusLaws.{length-placed_in, step_off, step_on}
+use Rattle.lookup_debug.proofs.groups.collect_bus_of.Goals.{else-is_on_bus, then-is_on_bus+in_ok-collect_lookup}
+use Rattle.lookup_debug.proofs.groups.collect_bus_of.Goals as goal
+
+pub loop-place-preserved : goal.loop-place-preserved
+loop-place-preserved g c =
+    let R = g.F.PrimeCharacteristicRing.ring in
+    let eq = g.F.PartialEq.eq in
+    let name = c.args.name.now in
+    let t = traced_of c.args.traced.now in
+    let n = c.args.instance in
+    let j = c.loop-place.place in
+    let l = c.index-traced-place.result in
+    let is = c.index-traced-place.is in
+    let holds = g.C.Collector.holds in
+    let start : _ × Contributions _ = (c.args.collector.now, c.args.contributions.now) in
+    let so_far : _ × Contributions _ = (c.loop-place.collector, c.loop-place.contributions) in
+    let after : _ × Contributions _ = (c.if-is_on_bus.collector, c.if-is_on_bus.contributions) in
+    let named : is_named name (bus_of l.kind) ≡ c.is_on_bus.result = ap (λ (k : Lookup _). is_named name (bus_of k.kind)) is ∙ sym c.is_on_bus.ensures in
+    elim c.if-is_on_bus.branch [
+      | then-is_on_bus+in_ok-collect_lookup w ↦
+          let made : _ × Contributions _ = (w.collect_lookup.new.collector, w.collect_lookup.new.contributions) in
+          step_on holds R eq name n t j l c.loop-place-test.true is start so_far c.loop-place.invariant made after (λ i. (w.collector-is i, w.contributions-is i)) (named ∙ w.if-is_on_bus.true)
+          (subst (λ (k : Lookup _). Collects holds so_far made (contributions_of R eq n j t k)) (sym is) w.in_ok-collect_lookup.ensures)
+      | else-is_on_bus w ↦
+          step_off holds R eq name n t j l c.loop-place-test.true is start so_far c.loop-place.invariant after (λ i. (w.collector-is i, w.contributions-is i)) (named ∙ w.if-is_on_bus.false)
+    ]
+
+pub returns : goal.returns
+returns g c =
+    let f = placed_contributions g.F.PrimeCharacteristicRing.ring g.F.PartialEq.eq in
+    let on = is_on c.args.name.now in
+    let t = traced_of c.args.traced.now in
+    let ps = placed_in (c.args.instance, t) in
+    subst (λ (qs : List (Placed _)). Collects g.C.Collector.holds (c.args.collector.now, c.args.contributions.now) (c.loop-place.collector, c.loop-place.contributions) (flat_map f (filter on qs))) (take_all c.loop-place.place ps (omega (arith, c.loop-place-test.false, length-placed_in c.args.instance t))) c.loop-place.invariant
+
+pub loop-place-init : goal.loop-place-init
+loop-place-init g c = collects-none g.C.Collector.holds (c.args.collector.now, c.args.contributions.now) c.requires.within
+
+pub collect_lookup-requires-clause-within : goal.collect_lookup-requires-clause-within
+collect_lookup-requires-clause-within g c = c.loop-place.invariant.0
+
+pub collect_lookup-requires-clause-fit : goal.collect_lookup-requires-clause-fit
+collect_lookup-requires-clause-fit g c = c.requires.fit
+
+pub collect_lookup-requires-clause-heights : goal.collect_lookup-requires-clause-heights
+collect_lookup-requires-clause-heights g c = c.requires.heights
+
+pub collect_lookup-requires-clause-there : goal.collect_lookup-requires-clause-there
+collect_lookup-requires-clause-there g c =
+    let ls = c.args.traced.now.lookups.now in slice_get-get_or ls c.loop-place.place c.index-traced-place.result c.loop-place-test.true
