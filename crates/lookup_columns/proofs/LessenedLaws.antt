@@ -48,7 +48,7 @@ module _ {F K : Type 0} (R : Ring F) {S : Ring K} (laws : IsCommutativeRing S) (
   unfolding power
   power_more n e = ap (λ q. S.mul q beta) e ∙ ring_law laws (power S beta n ∷ beta ∷ []) (var 0 :* var 1) (var 1 :* var 0) refl
 
--- no power of it is one
+-- the power 0 is one
 pub no_power : {K : Type 0} (S : Ring K) (x : K) → S.one ≡ power S x 0
 unfolding power
 no_power S x = refl

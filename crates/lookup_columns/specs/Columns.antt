@@ -23,7 +23,7 @@ module _ {F : Type 0} (R : Ring F) where
   abbrev pub column : (ℕ → Window F) → List ℕ → Tree F → List F
   column window rows t = map (λ r. value_of R (window r) t) rows
 
-  -- the denominator of a tuple at a window: alpha less the tuple combined by beta
+  -- the denominator of a tuple at a window: `alpha - t`, where t is the tuple combined by beta
   abbrev pub denominator_at : {K : Type 0} → Ring K → (F → K) → K → K → Window F → List (SymbolicExpression F) → K
   denominator_at S embed alpha beta w tuple = sub_in S alpha (combined S (map embed (values R w tuple)) beta)
 

@@ -14,7 +14,7 @@ use field::{Domain, ExtensionDomain, Field};
 use matrix::RowMajorMatrix;
 use std::alloc::{AllocError, Global};
 
-/// Each element less the element of `column` beside it, times `power`.
+/// `e - power * x` for each element `e`, where `x` stands beside it in `column`.
 fn lessened<F: Field, EF: ExtensionDomain<F>>(
     alloc: Global,
     elements: &[EF],
@@ -30,8 +30,8 @@ fn lessened<F: Field, EF: ExtensionDomain<F>>(
         .collect(alloc)
 }
 
-/// The denominators of a tuple on rows of the traces of an AIR, in the order of `rows`: `alpha` less
-/// the tuple combined by `beta`.
+/// The denominators of a tuple on rows of the traces of an AIR, in the order of `rows`: `alpha - t`,
+/// where `t` is the tuple combined by `beta`, as in LogUp (<https://eprint.iacr.org/2022/1530>).
 ///
 /// The last element of a tuple has the factor 1, each one before it a power of `beta` more. The next
 /// row of the last one is the first one. `preprocessed`, if there is one, is as high as `main`. Fails

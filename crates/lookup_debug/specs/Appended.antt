@@ -12,8 +12,8 @@ placeless c = (c.tuple, c.amount)
 abbrev pub Appends : {F : Type 0} → Contributions F → Contributions F → List (Contribution F) → Type 0
 Appends before after more = AreWithin after × (amounts_in after ≡ amounts_in before ++ map placeless more)
 
--- A collector, with the contributions that it has not gone through yet, goes on from those before to
--- these.
+-- If a collector with its list stood for some contributions before, it stands for these followed by
+-- more after.
 abbrev pub Collects : {F S : Type 0} → (S → List F → List (List F × F) → List (Contribution F) → Type 0) → S × Contributions F → S × Contributions F → List (Contribution F) → Type 0
 Collects {F} holds before after more =
     AreWithin after.1 × ((tuple : List F) (cs : List (Contribution F)) → holds before.0 tuple (amounts_in before.1) cs → holds after.0 tuple (amounts_in after.1) (cs ++ more))

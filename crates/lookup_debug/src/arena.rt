@@ -9,7 +9,7 @@ use indexmap::IndexMap;
 use lookup_nets::add_at;
 use std::alloc::{AllocError, Global};
 
-/// How much of a tuple is contributed. The tuple is `elements[start..end]`.
+/// A tuple with its amount. The tuple is `elements[start..end]`.
 #[derive(Clone, Copy)]
 pub(crate) struct Cut<F> {
     pub(crate) start: usize,
@@ -17,8 +17,7 @@ pub(crate) struct Cut<F> {
     pub(crate) amount: F,
 }
 
-/// What is contributed to a group, without the places. The tuples stand one after another in
-/// `elements`.
+/// Tuples with amounts. The tuples stand one after another in `elements`.
 #[derive(Drop)]
 pub(crate) struct Contributions<F> {
     pub(crate) elements: Vec<F>,

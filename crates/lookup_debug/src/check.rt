@@ -4,7 +4,7 @@ ghost use Rattle.std.specs.Option.{ForSome, option_copied};
 ghost use Rattle.expressions.specs.Layout.{layout_of_traces};
 ghost use Rattle.lookup_debug.specs.Checks.{AnswersGroup, AnswersGroups, local_groups_in};
 ghost use Rattle.lookup_debug.specs.Contributions.{contributions_of, place_of, traced_of};
-ghost use Rattle.lookup_debug.specs.Groups.{bus_group, bus_label, bus_names, is_missing, local_groups, local_label};
+ghost use Rattle.lookup_debug.specs.Groups.{bus_group, bus_names, is_missing, local_groups, local_label};
 ghost use Rattle.lookup_debug.specs.Mismatch.{AllBalance, HasParts, IsMismatch};
 ghost use Rattle.lookup_model.specs.Outline.{bus_of};
 ghost use Rattle.lookup_model.specs.Records.{DoFit};

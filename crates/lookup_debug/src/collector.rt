@@ -1,5 +1,5 @@
 //! What is collected while the contributions of a group are walked: their nets, or the places of one
-//! tuple. Memory is linear in what is collected, and not in what is walked.
+//! tuple. What is not collected is forgotten on the way, so memory is not linear in what is walked.
 ghost use Rattle.std.specs.Prelude.{◌≡◌, ◌++◌, [], List, OnOk, map};
 ghost use Rattle.std.specs.Cmp.Lexicographic.{pointwise};
 ghost use Rattle.std.specs.List.{AllByRecursion, filter};
@@ -14,15 +14,14 @@ use crate::fault::Location;
 use field::Field;
 use std::alloc::{AllocError, Global};
 
-/// What is collected of contributions. They are appended to a list of tuples with amounts, and now
-/// and then the collector takes them out of it.
+/// What is collected of contributions, beside a list of tuples with amounts to which they are appended.
 ///
-/// `holds` says that a collector, together with what the list has, stands for these contributions. If
-/// it is one for a single tuple, it is one for this tuple.
+/// `holds s tuple list cs` says that the collector `s` with the list `list` stands for the contributions
+/// `cs`. A collector of places is one for the tuple `tuple`; for nets it plays no part.
 pub(crate) trait Collector<F: Field> {
     ghost holds: { Self → List F → List (List F × F) → List (Contribution F) → Type 0 };
 
-    /// Goes through the list after contributions from one place were appended to it.
+    /// Called after the contributions of one row were appended to the list. It may shorten the list.
     fn collect(
         &mut self,
         alloc: Global,
@@ -36,17 +35,18 @@ pub(crate) trait Collector<F: Field> {
             → holds self.new tuple (amounts_in contributions.new) (cs ++ more))) };
 }
 
-/// How many contributions there may be before equal tuples are merged, beside eight for each tuple.
+/// At how many contributions equal tuples are merged, in addition to eight for each tuple that the last
+/// merge left.
 const FREE_CONTRIBUTIONS: usize = 1 << 16;
 
-/// Collects the nets of all tuples. Where the list grows past its limit, equal tuples are merged.
+/// Collects the nets of all tuples. Where the list reaches the limit, equal tuples are merged in it.
 #[derive(Drop)]
 pub(crate) struct Nets {
     limit: usize,
 }
 
 impl Nets {
-    /// No nets.
+    /// Starts with the first limit.
     pub(crate) fn new() -> Nets {
         Nets {
             limit: FREE_CONTRIBUTIONS,

@@ -1,5 +1,5 @@
 //! The first tuple of a group that does not balance.
-ghost use Rattle.std.specs.Prelude.{◌≡◌, ◌<◌, ◌+◌, IfOk, List, MatchOption, Some, map, slice_get};
+ghost use Rattle.std.specs.Prelude.{◌≡◌, ◌<◌, ◌+◌, IfOk, List, MatchOption, map};
 ghost use Rattle.std.specs.Cmp.Lexicographic.{slice_cmp};
 ghost use Rattle.std.specs.Ordering.{nat_cmp};
 ghost use Rattle.indexmap.specs.IndexMap.{index_map_len};
@@ -16,7 +16,8 @@ use std::alloc::{AllocError, Global};
 use std::cmp::Ordering;
 
 /// The first tuple whose net is not zero, with its net: the least by the texts of its elements, and
-/// among equal texts the first that is contributed. So it is for all contributions with these nets.
+/// among equal texts the first that is contributed. The answer is that of every list of
+/// contributions with the same nets.
 pub(crate) fn first_mismatch<'a, F: Field>(
     alloc: Global,
     contributions: &'a Contributions<F>,

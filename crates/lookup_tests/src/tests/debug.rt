@@ -444,6 +444,19 @@ fn many_rows(rt: &impl Abort, alloc: Global, last: u32) -> Vec<u32> {
     numbers
 }
 
+/// The text of the mismatch has to be this one, after its label.
+fn expect_under(
+    rt: &impl Abort,
+    alloc: Global,
+    main: &RowMajorMatrix<BabyBear>,
+    lookups: &[Lookup<BabyBear>],
+    label: &str,
+    rest: &str,
+) {
+    let text = format!(in alloc; "Lookup mismatch ({label}): {rest}").expect(rt, "memory");
+    expect(rt, alloc, &[instance(main, lookups)], text.as_str());
+}
+
 /// Equal tuples are merged on the way, and the rows of the one that is named are all there.
 #[test]
 fn more_rows_than_are_kept(rt: HostRuntime) {
@@ -458,16 +471,12 @@ fn more_rows_than_are_kept(rt: HostRuntime) {
             "tuple [60] has net multiplicity 1 at instance 0 lookup 0 row 140001",
         ),
     ];
-    let labels = ["instance 0 local lookup 0", "global lookup 'a'"];
     for (last, rest) in cases {
         let numbers = many_rows(&rt, alloc, last);
         let main: RowMajorMatrix<BabyBear> = trace(&rt, alloc, numbers.as_slice(), 2);
         let local = [counted(&rt, alloc, 1, 0)];
+        expect_under(&rt, alloc, &main, &local, "instance 0 local lookup 0", rest);
         let bus = [on_bus(&rt, alloc, "a", 1, 0)];
-        for (lookups, label) in [(&local, labels[0]), (&bus, labels[1])] {
-            let text = format!(in alloc; "Lookup mismatch ({label}): {rest}").expect(&rt, "memory");
-            let instances = [instance(&main, lookups.as_slice())];
-            expect(&rt, alloc, instances.as_slice(), text.as_str());
-        }
+        expect_under(&rt, alloc, &main, &bus, "global lookup 'a'", rest);
     }
 }

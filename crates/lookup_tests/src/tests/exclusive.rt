@@ -119,6 +119,29 @@ fn each_row_sends_its_own_branch(rt: HostRuntime) {
     holds(&rt, "the terminal", made.terminal == Some(F7::new(6)));
 }
 
+/// Rows of two chunks select their branches. Rows 0 to 1023 send 1 by the first flag and 2 by the
+/// second in turn: 512 * 6 + 512 * 3 = 4608 = 2. Row 1024 sends 3 by the first flag: 2 + 2 = 4.
+#[test]
+fn branches_in_two_chunks(rt: HostRuntime) {
+    let alloc = rt.alloc();
+    let mut rows = Vec::new(alloc);
+    for _ in 0..512 {
+        rows.extend_from_slice(&[1, 1, 0, 0, 0, 0, 1, 2])
+            .expect(&rt, "memory");
+    }
+    rows.extend_from_slice(&[1, 3, 0, 0]).expect(&rt, "memory");
+    let lookup = group(&rt, alloc, 2, 0);
+    let made = made_at::<F7>(&rt, alloc, rows.as_slice(), 4, lookup, 0).expect(&rt, "no fault");
+    let cells = made.auxiliary.values();
+    assert!(rt; cells.len() == 2050);
+    holds(
+        &rt,
+        "the rows where chunks meet",
+        are_numbers(&cells[2044..], &[0, 6, 6, 3, 2, 2]),
+    );
+    holds(&rt, "the terminal", made.terminal == Some(F7::new(4)));
+}
+
 #[test]
 fn a_zero_count_on_a_point_is_a_fault(rt: HostRuntime) {
     let alloc = rt.alloc();

@@ -1,5 +1,5 @@
 //! What lookups read of the traces, and which lookups fit them.
-use super::{are_numbers, generated_over, holds, list, local, one, trace};
+use super::{Made, are_numbers, generated_over, holds, list, local, one, trace};
 use air::{AirLayout, BaseEntry, BaseLeaf, SymbolicExpression, SymbolicVariable};
 use field::F7;
 use lookup::{Lookup, fits};
@@ -14,11 +14,17 @@ fn reading(rt: &impl Abort, alloc: Global, entry: BaseEntry, index: usize) -> Lo
     local(list(rt, alloc, [tuple]), list(rt, alloc, [one()]), 0)
 }
 
-/// Whether these are the auxiliary cells of the lookup of one entry, at the prefix 0: over the main
-/// cells 3 and 4, the preprocessed cells 4 and 4, and the public value 3.
-fn has_cells(rt: &impl Abort, alloc: Global, entry: BaseEntry, cells: &[u32]) -> bool {
-    let main = trace::<F7>(rt, alloc, &[3, 4], 1);
-    let preprocessed = trace::<F7>(rt, alloc, &[4, 4], 1);
+/// What generation makes of the lookup of one entry, at the prefix 0, over these main and preprocessed
+/// cells and the public value 3.
+fn made_of(
+    rt: &impl Abort,
+    alloc: Global,
+    entry: BaseEntry,
+    main: &[u32],
+    preprocessed: &[u32],
+) -> Made<F7> {
+    let main = trace::<F7>(rt, alloc, main, 1);
+    let preprocessed = trace::<F7>(rt, alloc, preprocessed, 1);
     let public_values = [F7::new(3)];
     let lookups = [reading(rt, alloc, entry, 0)];
     let challenges = [F7::new(0), F7::new(2)];
@@ -31,7 +37,58 @@ fn has_cells(rt: &impl Abort, alloc: Global, entry: BaseEntry, cells: &[u32]) ->
         lookups.as_slice(),
         challenges.as_slice(),
     );
-    are_numbers(made.expect(rt, "no fault").auxiliary.values(), cells)
+    made.expect(rt, "no fault")
+}
+
+/// Whether these are the auxiliary cells of the lookup of one entry, over the main cells 3 and 4 and the
+/// preprocessed cells 4 and 4.
+fn has_cells(rt: &impl Abort, alloc: Global, entry: BaseEntry, cells: &[u32]) -> bool {
+    let made = made_of(rt, alloc, entry, &[3, 4], &[4, 4]);
+    are_numbers(made.auxiliary.values(), cells)
+}
+
+/// As many copies of a number, and then another one.
+fn numbers(rt: &impl Abort, alloc: Global, copies: usize, number: u32, last: u32) -> Vec<u32> {
+    let mut numbers = Vec::new(alloc);
+    for _ in 0..copies {
+        numbers.push(number).expect(rt, "memory");
+    }
+    numbers.push(last).expect(rt, "memory");
+    numbers
+}
+
+/// The last row of a chunk and the only one of the next: the main cells are 3 and at last 4, the
+/// preprocessed ones 4 and at last 3. A 3 adds 1 / -3 = 2, and a 4 adds 1 / -4 = 5. So the accumulator of
+/// row 1023 is 1023 * 2 = 2 or 1023 * 5 = 5.
+#[test]
+fn entries_are_read_where_chunks_meet(rt: HostRuntime) {
+    let alloc = rt.alloc();
+    let main = numbers(&rt, alloc, 1024, 3, 4);
+    let preprocessed = numbers(&rt, alloc, 1024, 4, 3);
+    for (what, entry, cells) in [
+        (
+            "the current row",
+            BaseEntry::Main { offset: 0 },
+            [2, 2, 4, 5],
+        ),
+        ("the next row", BaseEntry::Main { offset: 1 }, [2, 5, 0, 2]),
+        (
+            "a fixed row",
+            BaseEntry::Preprocessed { offset: 0 },
+            [5, 5, 3, 2],
+        ),
+        (
+            "the next fixed row",
+            BaseEntry::Preprocessed { offset: 1 },
+            [5, 2, 0, 5],
+        ),
+        ("a public value", BaseEntry::Public, [2, 2, 4, 2]),
+    ] {
+        let made = made_of(&rt, alloc, entry, main.as_slice(), preprocessed.as_slice());
+        let values = made.auxiliary.values();
+        assert!(rt; values.len() == 2050);
+        holds(&rt, what, are_numbers(&values[2046..], cells.as_slice()));
+    }
 }
 
 #[test]
