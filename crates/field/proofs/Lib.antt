@@ -1,8 +1,8 @@
+pub mod ChainProducts
 pub mod DotProduct
 pub mod Exponents
 pub mod Items
 pub mod Montgomery
-pub mod PrefixProducts
 pub mod QuarticProduct
 pub mod RingSolverExamples
 pub mod Roots

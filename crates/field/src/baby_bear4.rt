@@ -138,7 +138,8 @@ impl Mul for BabyBear4 {
 
     ghost mul_gives = { λ a b r. r ≡ baby_bear4_ring.mul a b };
 
-    #[inline]
+    // Two products with one factor `rhs`, both put in place, share its multiples of eleven.
+    #[inline(always)]
     fn mul(self, rhs: BabyBear4) -> BabyBear4 {
         let (a0, a1, a2, a3) = (self.c0, self.c1, self.c2, self.c3);
         let (b0, b1, b2, b3) = (rhs.c0, rhs.c1, rhs.c2, rhs.c3);

@@ -1,9 +1,14 @@
-ghost use Rattle.std.specs.Prelude.{◌≢◌, All};
+ghost use Rattle.std.specs.Prelude.{◌≢◌, IfOk, All};
 ghost use Rattle.field.specs.IntegersModulo7.{f7_ring};
 
-use crate::cases::holds;
-use field::{BabyBear4, F7, Field, InverseCount, batch_multiplicative_inverse};
-use std::alloc::Global;
+use crate::cases::{holds, holds_at};
+use field::{BabyBear4, Domain, F7, Field, InverseCount, batch_multiplicative_inverse};
+use std::alloc::{AllocError, Global};
+
+/// Nine elements modulo 7, and the inverse of each: 2 * 4 and 3 * 5 are 8 and 15, and 6 * 6 is 36.
+const NUMBERS: [u32; 9] = [1, 2, 3, 4, 5, 6, 1, 2, 3];
+
+const INVERSES: [u32; 9] = [1, 4, 5, 2, 3, 6, 1, 4, 5];
 
 /// Four elements that are not zero.
 fn units() -> [F7; 4]
@@ -27,6 +32,36 @@ fn has_inverses<K: Field>(alloc: Global, xs: &[K], wanted: &[K], calls: u64) -> 
     match batch_multiplicative_inverse(alloc, xs, &mut count) {
         Ok(inverses) => inverses.as_slice() == wanted && count.get() == calls,
         Err(_) => false,
+    }
+}
+
+/// The elements of these numbers, without those that are zero.
+fn units_of(alloc: Global, numbers: &[u32]) -> Result<Vec<F7>, AllocError>
+    ensures { IfOk result (λ v. All (λ x. x ≢ f7_ring.zero) v.items) }
+{
+    let mut kept = Vec::with_capacity(alloc, numbers.len())?;
+    for n in numbers {
+        let x = F7::new(*n);
+        if !x.is_zero() {
+            kept.push(x)?;
+        }
+    }
+    Ok(kept)
+}
+
+/// Whether the inverses of these numbers modulo 7 are these, by so many counted inverses.
+fn have_inverses(alloc: Global, numbers: &[u32], wanted: &[u32], calls: u64) -> bool {
+    match (units_of(alloc, numbers), units_of(alloc, wanted)) {
+        (Ok(xs), Ok(inverses)) => has_inverses(alloc, &xs, &inverses, calls),
+        _ => false,
+    }
+}
+
+#[test]
+fn every_length_up_to_nine(rt: HostRuntime) {
+    for n in 1..10 {
+        let held = have_inverses(rt.alloc(), &NUMBERS[..n], &INVERSES[..n], 1);
+        holds_at(&rt, "a list", n as u32, held);
     }
 }
 
