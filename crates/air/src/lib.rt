@@ -1,15 +1,17 @@
-//! The builders that record constraints or check them on given rows. Re-exports all of
-//! `expressions`.
+//! The builders that record constraints or check them on given rows, and the cells of a row for who
+//! writes an AIR. Re-exports all of `expressions`.
 #![tactic(auto)]
 
+mod cell;
 mod debug;
 mod recording;
 
+pub use cell::{current_cell, current_cells, next_cell};
 pub use debug::{DebugConstraintBuilder, RowInputs, check_rows};
 pub use expressions::{
     Air, AirBuilder, AirError, AirLayout, BaseAir, BaseEntry, BaseLeaf, Expression, ExtEntry,
     ExtLeaf, ExtensionBuilder, FilteredAirBuilder, LayoutPart, PermutationAirBuilder, Seen,
     SeenExt, SymbolicExpression, SymbolicExpressionExt, SymbolicVariable, SymbolicVariableExt,
-    copy_expressions, resolve_over,
+    WholeNumbers, copy_expressions, resolve_over,
 };
 pub use recording::{ConstraintLayout, SymbolicAirBuilder};

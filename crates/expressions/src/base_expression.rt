@@ -3,7 +3,7 @@ ghost use Rattle.std.specs.Prelude.{◌≡◌, ℕ, ◌+◌, max, IfOk, map};
 ghost use Rattle.expressions.specs.Tree.{tree_of};
 ghost use Rattle.field.specs.Ring.{sub_in};
 
-use crate::expression::Expression;
+use crate::expression::{Expression, WholeNumbers};
 use crate::variable::SymbolicVariable;
 use field::Field;
 use serde::{Case, Described, Serialize, Serializer};
@@ -64,7 +64,22 @@ impl<F> From<SymbolicVariable<F>> for SymbolicExpression<F> {
     }
 }
 
+/// A whole number is the constant that many times one.
+impl<F: Field> WholeNumbers for SymbolicExpression<F> {
+    ghost use Rattle.std.specs.Prelude.{◌≡◌};
+    ghost use Rattle.field.specs.Ring.{of_int};
+    ghost use Rattle.expressions.specs.Tree.{tree_of, leaf};
+    ghost use Rattle.expressions.specs.declared.base_expression.BaseLeaf.TheVariants.{Constant};
+
+    ghost is_whole = { λ n e. tree_of e ≡ leaf (Constant (of_int F.ring n)) };
+
+    fn whole(n: i32) -> Self {
+        Self::constant(F::from_i32(n))
+    }
+}
+
 impl<F: Field> Expression<F> for SymbolicExpression<F> {
+    ghost use Rattle.std.proofs.Common.{ap, subst, sym};
     ghost use Rattle.expressions.specs.Degree.{degree_of};
     ghost use Rattle.expressions.specs.Layout.{Fits};
     ghost use Rattle.expressions.specs.Meaning.{value_of};
@@ -146,6 +161,12 @@ impl<F: Field> Expression<F> for SymbolicExpression<F> {
             }
         }
     }
+
+    ghost whole_value = { λ n x w h. ap (value_of F.ring w) h };
+
+    ghost whole_degree = { λ n x t h. ap (degree_of t) h };
+
+    ghost whole_within = { λ n x l h. subst (Fits l) (sym h) tt };
 }
 
 /// Deep copies of expressions, in order.

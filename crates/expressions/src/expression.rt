@@ -1,10 +1,30 @@
 //! What field elements and expression trees have in common: both are built up from constants.
-ghost use Rattle.std.specs.Prelude.{◌≡◌, ℕ, ◌+◌, max, IfOk, refl};
-ghost use Rattle.field.specs.Ring.{Ring, sub_in};
+ghost use Rattle.std.specs.Prelude.{◌≡◌, ℕ, ℤ, ◌+◌, max, IfOk, refl};
+ghost use Rattle.field.specs.Ring.{Ring, of_int, sub_in};
 ghost use Rattle.expressions.specs.declared.layout.AirLayout.{AirLayout};
 
 use field::Field;
 use std::alloc::{AllocError, Global};
+
+/// What whole numbers can be written as: elements of a field, and expressions.
+///
+/// It is apart from [`Expression`], whose field is a parameter: here no field has to be named.
+pub trait WholeNumbers: Sized {
+    ghost is_whole: { ℤ → Self → Type 0 };
+
+    /// `n` times one. For a negative number: the negative of `-n` times one.
+    fn whole(n: i32) -> Self
+        ensures { is_whole n result };
+}
+
+/// A whole number in a field is that many times one.
+impl<F: Field> WholeNumbers for F {
+    ghost is_whole = { λ n x. x ≡ of_int F.ring n };
+
+    fn whole(n: i32) -> F {
+        F::from_i32(n)
+    }
+}
 
 /// A value that constraints are built from: an element of the field `F`, or an expression tree
 /// with constants in `F`.
@@ -13,7 +33,7 @@ use std::alloc::{AllocError, Global};
 /// nothing for an element, and its degree if the transition selector has degree `t`. They also know
 /// copies (`same`) and products (`is_product`) by their nodes, and whether all variables of a tree
 /// are `within` a layout; elements have none.
-pub trait Expression<F: Field>: Drop {
+pub trait Expression<F: Field>: Drop + WholeNumbers {
     /// What values of the type are evaluated at.
     type Seen;
 
@@ -64,6 +84,12 @@ pub trait Expression<F: Field>: Drop {
         ensures degree { IfOk result (λ r. (t : ℕ) → degree r t ≡ degree self.now t) }
         ensures same { IfOk result (λ r. same self.now r) }
         ensures within { IfOk result (λ r. (l : AirLayout) → within l self.now → within l r) };
+
+    ghost whole_value: { (n : ℤ) (x : Self) (w : Self.Seen) → Self.is_whole n x → value x w ≡ of_int F.ring n };
+
+    ghost whole_degree: { (n : ℤ) (x : Self) (t : ℕ) → Self.is_whole n x → degree x t ≡ 0 };
+
+    ghost whole_within: { (n : ℤ) (x : Self) (l : AirLayout) → Self.is_whole n x → within l x };
 }
 
 /// Elements of a field are their own values and have degree 0. No call fails.
@@ -113,4 +139,10 @@ impl<F: Field> Expression<F> for F {
     {
         Ok(*self)
     }
+
+    ghost whole_value = { λ n x w h. h };
+
+    ghost whole_degree = { λ n x t h. refl };
+
+    ghost whole_within = { λ n x l h. tt };
 }

@@ -2,7 +2,7 @@
 ghost use Rattle.std.specs.Prelude.{◌≡◌, IfOk};
 
 use crate::base_expression::SymbolicExpression;
-use crate::expression::Expression;
+use crate::expression::{Expression, WholeNumbers};
 use crate::variable::SymbolicVariableExt;
 use field::{ExtensionField, Field};
 use std::alloc::{AllocError, Global};
@@ -73,7 +73,21 @@ impl<F, EF> From<SymbolicVariableExt<F, EF>> for SymbolicExpressionExt<F, EF> {
     }
 }
 
+/// A whole number is the constant that many times one.
+impl<F: Field, EF: ExtensionField<F>> WholeNumbers for SymbolicExpressionExt<F, EF> {
+    ghost use Rattle.std.specs.Prelude.{◌≡◌};
+    ghost use Rattle.field.specs.Ring.{of_int};
+    ghost use Rattle.expressions.specs.ExtTree.{ext_tree_of, constant};
+
+    ghost is_whole = { λ n e. ext_tree_of e ≡ constant (of_int EF.ring n) };
+
+    fn whole(n: i32) -> Self {
+        Self::constant(EF::from_i32(n))
+    }
+}
+
 impl<F: Field, EF: ExtensionField<F>> Expression<EF> for SymbolicExpressionExt<F, EF> {
+    ghost use Rattle.std.proofs.Common.{ap, subst, sym};
     ghost use Rattle.expressions.specs.ExtDegree.{ext_degree_of};
     ghost use Rattle.expressions.specs.ExtLayout.{ExtFits};
     ghost use Rattle.expressions.specs.ExtMeaning.{ext_value_of};
@@ -155,4 +169,10 @@ impl<F: Field, EF: ExtensionField<F>> Expression<EF> for SymbolicExpressionExt<F
             }
         }
     }
+
+    ghost whole_value = { λ n x w h. ap (ext_value_of F.ring EF.ring EF.embed w) h };
+
+    ghost whole_degree = { λ n x t h. ap (ext_degree_of t) h };
+
+    ghost whole_within = { λ n x l h. subst (ExtFits l) (sym h) tt };
 }

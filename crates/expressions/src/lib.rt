@@ -22,7 +22,7 @@ pub use air::{Air, BaseAir};
 pub use base_expression::{BaseLeaf, Seen, SymbolicExpression, copy_expressions};
 pub use builder::AirBuilder;
 pub use error::{AirError, LayoutPart};
-pub use expression::Expression;
+pub use expression::{Expression, WholeNumbers};
 pub use ext_expression::{ExtLeaf, SeenExt, SymbolicExpressionExt};
 pub use extension::{ExtensionBuilder, PermutationAirBuilder};
 pub use filtered::FilteredAirBuilder;

@@ -1,12 +1,11 @@
 //! Signed counts of messages.
-ghost use Rattle.std.specs.Prelude.{◌≡◌, ℕ, IfOk, unsigned_abs};
+ghost use Rattle.std.specs.Prelude.{◌≡◌, ℕ, IfOk};
 ghost use Rattle.expressions.specs.Tree.{tree_of};
 ghost use Rattle.expressions.specs.declared.layout.AirLayout.{AirLayout};
-ghost use Rattle.field.specs.Ring.{of_int};
 ghost use Rattle.lookup_builder.specs.Negation.{IsNegation};
 
-use air::{Expression, SymbolicExpression};
-use field::{Field, PrimeCharacteristicRing};
+use air::{Expression, SymbolicExpression, WholeNumbers};
+use field::Field;
 use std::alloc::{AllocError, Global};
 use std::ops::Neg;
 
@@ -52,21 +51,6 @@ impl<E> Count<E> {
         ensures { result ≡ (self.expression, self.weight) }
     {
         (self.expression, self.weight)
-    }
-
-    /// The whole number `count`, with its absolute value as the weight.
-    pub fn from_i32<F: Field>(count: i32) -> Self
-    where
-        E: Expression<F>,
-        ensures means { (s : E.Seen) → E.value result.expression s ≡ of_int F.ring count }
-        ensures degree { (t : ℕ) → E.degree result.expression t ≡ 0 }
-        ensures weight { result.weight ≡ unsigned_abs count }
-        ensures within { (l : AirLayout) → E.within l result.expression }
-    {
-        Count {
-            expression: E::constant(F::from_i32(count)),
-            weight: count.unsigned_abs(),
-        }
     }
 
     /// The negated count, with the same weight. Negating twice gives the same value.
@@ -122,16 +106,15 @@ impl<F: Field> Count<SymbolicExpression<F>> {
     }
 }
 
-/// The whole number `count` in a field, with its absolute value as the weight.
-impl<F: Field> From<i32> for Count<F> {
+/// The whole number `count`, with its absolute value as the weight.
+impl<E: WholeNumbers> From<i32> for Count<E> {
     ghost use Rattle.std.specs.Prelude.{◌≡◌, unsigned_abs};
-    ghost use Rattle.field.specs.Ring.{of_int};
 
-    ghost from_gives = { λ n c. (c.expression ≡ of_int F.ring n) × (c.weight ≡ unsigned_abs n) };
+    ghost from_gives = { λ n c. E.is_whole n c.expression × (c.weight ≡ unsigned_abs n) };
 
-    fn from(count: i32) -> Count<F> {
+    fn from(count: i32) -> Count<E> {
         Count {
-            expression: F::from_i32(count),
+            expression: E::whole(count),
             weight: count.unsigned_abs(),
         }
     }

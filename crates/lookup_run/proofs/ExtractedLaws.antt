@@ -27,7 +27,8 @@ use Rattle.lookup.specs.Sends.{bus_and_weight, in_order, interaction_sends, inte
 use Rattle.lookup.specs.declared.lookups.Lookups.{Lookups}
 use Rattle.lookup.proofs.Extracted.{extracted_kinds, extracted_send, extracted_tuples, none_refused, one_in_order}
 use Rattle.lookup_run.specs.Machines.{AreLookupsOf, DoesSend, air_bus_and_weight, width_of}
-use Rattle.lookup_run.specs.Pushes.{Evaluates, IsCellRefusal}
+use Rattle.air.specs.Cell.{IsCellRefusal}
+use Rattle.lookup_run.specs.Pushes.{Evaluates}
 use Rattle.lookup_run.specs.declared.airs.MachineAir.{MachineAir}
 use Rattle.lookup_run.specs.declared.airs.MachineAir.TheVariants.{Entries, Group, Keys, RangeCheck}
 use Rattle.lookup_run.proofs.AirLaws.{one_item}

@@ -1,7 +1,6 @@
 pub mod AirLaws
 pub mod AnswerLaws
 pub mod BatchLaws
-pub mod CellLaws
 pub mod ExtractedLaws
 pub mod InputLaws
 pub mod MismatchLaws

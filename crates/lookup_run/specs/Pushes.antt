@@ -1,24 +1,14 @@
--- How the AIRs of the machines push, and how they read the cells of a row.
+-- How the AIRs of the machines push.
 use Rattle.std.specs.Prelude.{◌≡◌, ◌⊎◌, ◌<◌, ℕ, List, [], ◌∷◌, map, Some, slice_get, Result, Ok, Err, MatchResult}
 use Rattle.std.proofs.Common.{inl, inr, subst}
 use Rattle.std.specs.declared.alloc.Global.{Global}
 use Rattle.std.specs.declared.vec.Vec.{Vec}
+use Rattle.air.specs.Cell.{IsCell, IsCellRefusal}
 use Rattle.expressions.specs.declared.error.AirError.{AirError}
-use Rattle.expressions.specs.declared.error.AirError.TheVariants.{LayoutMismatch, Memory}
-use Rattle.expressions.specs.declared.error.LayoutPart.TheVariants.{Main}
 use Rattle.expressions.specs.declared.layout.AirLayout.{AirLayout}
 use Rattle.lookup_builder.specs.Messages.{PushesOne, flag_and_key}
 
--- the refusal of a row that has fewer columns than the AIR: it names both numbers
-abbrev pub IsNarrow : ℕ → ℕ → AirError → Type 0
-IsNarrow width columns e = (width < columns) × (e ≡ LayoutMismatch Main columns width)
-
--- the refusal of a cell: out of memory, the builder's own for its window, or that of a narrow row
-abbrev pub IsCellRefusal : {B : Type 0} → (B → AirError → Type 0) → (B → AirLayout) → ℕ → B → AirError → Type 0
-IsCellRefusal window_refuses layout columns builder e =
-    (e ≡ Memory) ⊎ (window_refuses builder e ⊎ IsNarrow (layout builder).main_width columns e)
-
--- there was such a refusal, and the builder is unchanged
+-- there was the refusal of a cell, and the builder is unchanged
 abbrev pub IsRefusedBefore : {B : Type 0} → (B → AirError → Type 0) → (B → AirLayout) → ℕ → B → Result (Unit {0}) AirError → B → Type 0
 IsRefusedBefore window_refuses layout columns before answer after =
     (e : AirError) × (answer ≡ Err e) × (after ≡ before) × IsCellRefusal window_refuses layout columns before e
@@ -37,13 +27,9 @@ pushed_if_accepted pushes refuses window_refuses layout IsMeant columns before a
     absurd (subst (λ (answer : Result (Unit {0}) AirError). MatchResult answer (λ _. Unit {0}) (λ _. ⊥)) refused.1 tt)
 
 module _ {E W F : Type 0} (value : E → W → F) (stands : W → Type 0) (cells : W → List F) where
-  -- an expression whose value is this cell of the row, at each window that the builder stands for
-  abbrev pub IsCell : ℕ → E → Type 0
-  IsCell column x = (w : W) → stands w → slice_get (cells w) column ≡ Some (value x w)
-
-  -- the tuple of one such expression
+  -- the tuple of one expression whose value is this cell of the row
   abbrev pub IsCellTuple : ℕ → List E → Type 0
-  IsCellTuple column tuple = (x : E) × (tuple ≡ x ∷ []) × IsCell column x
+  IsCellTuple column tuple = (x : E) × (tuple ≡ x ∷ []) × IsCell value stands cells column x
 
   -- the branches of a group: cell 1 with the flag in cell 0, and cell 3 with the flag in cell 2
   pub record AreTwoKeys (branches : List (E × Vec E Global)) : Type 0 where
@@ -52,7 +38,7 @@ module _ {E W F : Type 0} (value : E → W → F) (stands : W → Type 0) (cells
     pub second_flag : E
     pub second_key : List E
     pub branches_are : map flag_and_key branches ≡ (first_flag, first_key) ∷ (second_flag, second_key) ∷ []
-    pub first_flag_is : IsCell 0 first_flag
+    pub first_flag_is : IsCell value stands cells 0 first_flag
     pub first_key_is : IsCellTuple 1 first_key
-    pub second_flag_is : IsCell 2 second_flag
+    pub second_flag_is : IsCell value stands cells 2 second_flag
     pub second_key_is : IsCellTuple 3 second_key

@@ -1,15 +1,14 @@
 //! The AIRs of the machines, which say what each row looks up.
 ghost use Rattle.std.specs.Prelude.{◌≡◌, ◌<◌, All, IfErr, IfOk, OnOk};
+ghost use Rattle.air.specs.Cell.{IsCellRefusal};
 ghost use Rattle.lookup_builder.specs.Pushed.{pushed_local};
 ghost use Rattle.lookup_builder.specs.Within.{IsWithin, KeyWithin};
 ghost use Rattle.lookup_run.specs.Machines.{DoesSend, first_column_of, width_of};
-ghost use Rattle.lookup_run.specs.Pushes.{AreTwoKeys, Evaluates, IsCell, IsCellRefusal, IsCellTuple, pushed_if_accepted};
+ghost use Rattle.lookup_run.specs.Pushes.{AreTwoKeys, Evaluates, IsCellTuple, pushed_if_accepted};
 ghost use Rattle.lookup_run.specs.declared.airs.MachineAir.TheVariants.{RangeCheck};
 
-use air::{Air, AirBuilder, AirError, BaseAir, Expression, LayoutPart};
-use field::PrimeCharacteristicRing;
+use air::{Air, AirBuilder, AirError, BaseAir, Expression, current_cell};
 use lookup::{Count, InteractionBuilder, LookupBus};
-use matrix::WindowAccess;
 use std::alloc::Global;
 
 /// An AIR of a machine. It holds some neighboring columns of the input, and records one lookup.
@@ -86,11 +85,11 @@ impl<AB: InteractionBuilder> Air<AB> for MachineAir {
             }
             MachineAir::Keys => {
                 let key = tuple(alloc, builder, 1, 0)?;
-                LookupBus::new("b").lookup_key(alloc, builder, key, Count::from_i32::<AB::F>(1))
+                LookupBus::new("b").lookup_key(alloc, builder, key, Count::from(1))
             }
             MachineAir::Entries => {
                 let entry = tuple(alloc, builder, 2, 0)?;
-                let uses = cell(alloc, builder, 2, 1)?;
+                let uses = current_cell(alloc, builder, 2, 1)?;
                 LookupBus::new("b").table_entry(alloc, builder, entry, uses)
             }
             MachineAir::Group => {
@@ -116,8 +115,8 @@ fn range_tuples<AB: InteractionBuilder>(
     ensures within { IfOk result (λ tuples. IsWithin AB.Expr.within (AB.layout builder.now) (pushed_local tuples.items)) }
 {
     let mut tuples = Vec::new(alloc);
-    tuples.push((tuple(alloc, builder, 3, 0)?, Count::from_i32::<AB::F>(1)))?;
-    let provided = Count::provided(cell(alloc, builder, 3, 2)?.neg(alloc)?);
+    tuples.push((tuple(alloc, builder, 3, 0)?, Count::from(1)))?;
+    let provided = Count::provided(current_cell(alloc, builder, 3, 2)?.neg(alloc)?);
     tuples.push((tuple(alloc, builder, 3, 1)?, provided))?;
     Ok(tuples)
 }
@@ -132,36 +131,18 @@ fn two_keys<AB: InteractionBuilder>(
     ensures within { IfOk result (λ branches. All (KeyWithin AB.Expr.within (AB.layout builder.now)) branches.items) }
 {
     let mut branches = Vec::new(alloc);
-    branches.push((cell(alloc, builder, 4, 0)?, tuple(alloc, builder, 4, 1)?))?;
-    branches.push((cell(alloc, builder, 4, 2)?, tuple(alloc, builder, 4, 3)?))?;
+    branches.push((
+        current_cell(alloc, builder, 4, 0)?,
+        tuple(alloc, builder, 4, 1)?,
+    ))?;
+    branches.push((
+        current_cell(alloc, builder, 4, 2)?,
+        tuple(alloc, builder, 4, 3)?,
+    ))?;
     Ok(branches)
 }
 
-/// The expression of a cell of the current row, for an AIR of so many columns.
-#[tactic(auto, using(crate::proofs::CellLaws::cell_is, crate::proofs::CellLaws::no_cell))]
-fn cell<AB: AirBuilder>(
-    alloc: Global,
-    builder: &AB,
-    columns: usize,
-    column: usize,
-) -> Result<AB::Expr, AirError>
-    requires { column < columns }
-    ensures refused { IfErr result (IsCellRefusal AB.window_refuses AB.layout columns builder.now) }
-    ensures cell { IfOk result (IsCell (λ x w. AB.Expr.value x (AB.seen w)) (AB.stands_for builder.now) (λ w. w.main) column) }
-    ensures within { IfOk result (λ x. AB.Expr.within (AB.layout builder.now) x) }
-{
-    let main = builder.main(alloc)?;
-    match main.current(column) {
-        Some(variable) => Ok(variable.into()),
-        None => Err(AirError::LayoutMismatch {
-            part: LayoutPart::Main,
-            expected: columns,
-            actual: main.current_slice().len(),
-        }),
-    }
-}
-
-/// The tuple of one such cell.
+/// The tuple of one cell of the current row, for an AIR of so many columns.
 fn tuple<AB: AirBuilder>(
     alloc: Global,
     builder: &AB,
@@ -174,6 +155,6 @@ fn tuple<AB: AirBuilder>(
     ensures within { IfOk result (λ tuple. All (AB.Expr.within (AB.layout builder.now)) tuple.items) }
 {
     let mut tuple = Vec::new(alloc);
-    tuple.push(cell(alloc, builder, columns, column)?)?;
+    tuple.push(current_cell(alloc, builder, columns, column)?)?;
     Ok(tuple)
 }

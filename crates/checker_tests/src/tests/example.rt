@@ -40,7 +40,7 @@ impl<AB: InteractionBuilder> Air<AB> for KeysAir {
 
     fn eval(&self, alloc: Global, builder: &mut AB) -> Result<(), AirError> {
         let key = tuple(alloc, builder, 0)?;
-        LookupBus::new("keys").lookup_key(alloc, builder, key, Count::from_i32::<AB::F>(1))
+        LookupBus::new("keys").lookup_key(alloc, builder, key, Count::from(1))
     }
 
     ghost keeps_layout = { λ air before after h. h.0 };

@@ -43,7 +43,7 @@ impl<AB: InteractionBuilder> Air<AB> for KeysAir {
     fn eval(&self, alloc: Global, builder: &mut AB) -> Result<(), AirError> {
         let bus = LookupBus::new("keys");
         let key = tuple(alloc, builder, 0)?;
-        bus.lookup_key(alloc, builder, key, Count::from_i32::<AB::F>(1))?;
+        bus.lookup_key(alloc, builder, key, Count::from(1))?;
         let entry = tuple(alloc, builder, 1)?;
         let multiplicity = cell(alloc, builder, 2)?;
         bus.table_entry(alloc, builder, entry, multiplicity)

@@ -91,7 +91,7 @@ fn push_range<AB: InteractionBuilder>(alloc: Global, builder: &mut AB) -> Result
     ensures within { OnOk result (AB.pushed_within builder.old → AB.pushed_within builder.new) }
 {
     let mut tuples = Vec::new(alloc);
-    tuples.push((tuple(alloc, builder, 0)?, Count::from_i32::<AB::F>(1)))?;
+    tuples.push((tuple(alloc, builder, 0)?, Count::from(1)))?;
     let provided = Count::provided(cell(alloc, builder, 2)?.neg(alloc)?);
     tuples.push((tuple(alloc, builder, 1)?, provided))?;
     builder.push_local_interaction(alloc, tuples)
@@ -139,7 +139,7 @@ fn query_one<AB: InteractionBuilder>(
     ensures within { OnOk result (AB.pushed_within builder.old → AB.pushed_within builder.new) }
 {
     let key = ones::<AB>(alloc, 1)?;
-    LookupBus::new(name).lookup_key(alloc, builder, key, Count::from_i32::<AB::F>(1))
+    LookupBus::new(name).lookup_key(alloc, builder, key, Count::from(1))
 }
 
 fn take_step<AB: InteractionBuilder>(

@@ -117,7 +117,7 @@ fn is_branch(
 
 /// The count 1.
 fn once() -> Count<Tree> {
-    Count::from_i32(1)
+    Count::from(1)
 }
 
 /// A call of a bus.
@@ -144,7 +144,7 @@ fn ask<AB: InteractionBuilder>(
 ) {
     let lookup = LookupBus::new(bus);
     let permutation = PermutationCheckBus::new(bus);
-    let once = Count::from_i32::<AB::F>(1);
+    let once = Count::from(1);
     let answer = match call {
         Call::Query(key) => lookup.lookup_key(alloc, builder, key, once),
         Call::Provide(key, times) => lookup.table_entry(alloc, builder, key, times),

@@ -46,7 +46,7 @@ fn look_up_itself<AB: InteractionBuilder>(alloc: Global, builder: &mut AB) -> Re
     ensures within { OnOk result (AB.pushed_within builder.old → AB.pushed_within builder.new) }
 {
     let mut tuples = Vec::new(alloc);
-    tuples.push((tuple(alloc, builder, 0)?, Count::from_i32::<AB::F>(1)))?;
+    tuples.push((tuple(alloc, builder, 0)?, Count::from(1)))?;
     let provided = Count::provided(AB::Expr::constant(AB::F::ONE));
     tuples.push((tuple(alloc, builder, 0)?, provided.negate::<AB::F>(alloc)?))?;
     builder.push_local_interaction(alloc, tuples)
@@ -66,11 +66,11 @@ fn speak<AB: InteractionBuilder>(alloc: Global, builder: &mut AB) -> Result<(), 
     ensures within { OnOk result (AB.pushed_within builder.old → AB.pushed_within builder.new) }
 {
     let sent = tuple(alloc, builder, 0)?;
-    PermutationCheckBus::new("a").send(alloc, builder, sent, Count::from_i32::<AB::F>(1))?;
+    PermutationCheckBus::new("a").send(alloc, builder, sent, Count::from(1))?;
     look_up_itself(alloc, builder)?;
     query_one(alloc, builder)?;
     let received = tuple(alloc, builder, 0)?;
-    PermutationCheckBus::new("c").receive(alloc, builder, received, Count::from_i32::<AB::F>(1))
+    PermutationCheckBus::new("c").receive(alloc, builder, received, Count::from(1))
 }
 
 fn declare<AB: IndexedLookupBuilder>(alloc: Global, builder: &mut AB) -> Result<(), AirError>

@@ -3,8 +3,7 @@ use Rattle.expressions.proofs.Assertions.{on_ok}
 use Rattle.lookup_builder.specs.Interaction.{global}
 use Rattle.lookup_builder.specs.Messages.{IsExclusiveQuery}
 use Rattle.lookup_builder.specs.Pushed.{pushed_global, pushed_local}
-use Rattle.lookup_run.proofs.AirLaws.{entries_do_send, group_does_send, keys_do_send, on_ok_weaker, pushes_this, pushes_weaker}
-use Rattle.lookup_run.proofs.CellLaws.{of_nat-one}
+use Rattle.lookup_run.proofs.AirLaws.{entries_do_send, group_does_send, keys_do_send, of_nat-one, on_ok_weaker, pushes_this, pushes_weaker}
 use Rattle.lookup_run.proofs.airs.MachineAirAir.eval.Goals as goal
 
 pub returns-in_ok-tuples-in-RangeCheck : goal.returns-in_ok-tuples-in-RangeCheck
@@ -20,12 +19,12 @@ pub returns-in_ok-key-in-Keys : goal.returns-in_ok-key-in-Keys
 returns-in_ok-key-in-Keys g c =
     let key = c.in_ok-key-in-Keys in
     let sends = keys_do_send g.AB.F.PrimeCharacteristicRing.ring g.AB.F.PartialEq.eq g.AB.Expr.Expression.value g.AB.AirBuilder.seen (g.AB.AirBuilder.stands_for c.args.builder.now) (λ w. w.main)
-    key.key.items c.from_i32.result.expression (pushed_global c.new.result.name.now key.key.items c.from_i32.result)
-    (λ i. global (record { bus_name = (c.new.ensures i).now; fields = key.key.items; count = c.from_i32.result.expression; weight = c.from_i32.ensures.weight i }))
-    key.ensures.tuple (λ s. c.from_i32.ensures.means s ∙ of_nat-one g.AB.F.PrimeCharacteristicRing.lawful) in
+    key.key.items c.from.result.expression (pushed_global c.new.result.name.now key.key.items c.from.result)
+    (λ i. global (record { bus_name = (c.new.ensures i).now; fields = key.key.items; count = c.from.result.expression; weight = c.from.ensures.1 i }))
+    key.ensures.tuple (λ s. g.met.AB.Expr.Expression.whole_value _ _ s c.from.ensures.0 ∙ of_nat-one g.AB.F.PrimeCharacteristicRing.lawful) in
     rw c.in-Keys.is (
-      inl (pushes_this g.AB.InteractionBuilder.pushes g.AB.InteractionBuilder.refuses_push _ _ _ (pushed_global c.new.result.name.now key.key.items c.from_i32.result) c.lookup_key.result sends c.lookup_key.ensures.pushed),
-      on_ok_weaker c.lookup_key.result _ _ c.lookup_key.ensures.within (λ within old. within key.ensures.within (c.from_i32.ensures.within _) old),
+      inl (pushes_this g.AB.InteractionBuilder.pushes g.AB.InteractionBuilder.refuses_push _ _ _ (pushed_global c.new.result.name.now key.key.items c.from.result) c.lookup_key.result sends c.lookup_key.ensures.pushed),
+      on_ok_weaker c.lookup_key.result _ _ c.lookup_key.ensures.within (λ within old. within key.ensures.within (g.met.AB.Expr.Expression.whole_within _ _ _ c.from.ensures.0) old),
     )
 
 pub returns-in_ok-uses-in-Entries : goal.returns-in_ok-uses-in-Entries

@@ -1,8 +1,9 @@
--- The cells that the AIRs of the machines ask for.
-use Rattle.std.proofs.Common.{◌≡◌, ◌<◌, ◌+◌, List, ℕ, None, Some, slice_get, ap, inl, inr, arith, refl, sym, ◌∙◌}
+-- The cells that variables of a row mean.
+use Rattle.std.proofs.Common.{◌≡◌, ◌<◌, ◌+◌, List, [], ◌∷◌, ◌++◌, length, ℕ, None, Some, get_or, slice_get, take, ap, inl, inr, arith, refl, subst, sym, ◌∙◌}
+use Rattle.std.proofs.lemmas.List.{take_more}
 use Rattle.std.proofs.lemmas.Option.{slice_get_cases, slice_get-map}
+use Rattle.std.specs.List.{AllZip}
 use Rattle.expressions.specs.Builder.{MeansRow}
-use Rattle.field.specs.Ring.{Ring, IsCommutativeRing, of_nat}
 
 -- what means a variable of a row is, at each window that is stood for, the cell at its place
 pub cell_is : {V W A E : Type 0} (stands : W → Type 0) (meaning : V → W → A) (width : ℕ) (cells : W → List A) (variables : List V) (i : ℕ) (v : V) (x : E) (value : E → W → A) → MeansRow stands meaning width cells variables → slice_get variables i ≡ Some v → ((w : W) → value x w ≡ meaning v w)
@@ -13,11 +14,6 @@ cell_is {V} {W} {A} stands meaning width cells variables i v x value row found i
     read : slice_get (cells w) i ≡ Some (meaning v w)
     read = rw (← row.reads w s, slice_get-map, found) refl
 
--- the whole number 1 is the one
-pub of_nat-one : {A : Type 0} {R : Ring A} → IsCommutativeRing R → of_nat R 1 ≡ R.one
-unfolding of_nat
-of_nat-one {R = R} laws = laws.add_zero R.one
-
 -- where a row of variables has none at a place, the row is not longer
 pub no_cell : {V W A : Type 0} (stands : W → Type 0) (meaning : V → W → A) (width : ℕ) (cells : W → List A) (variables : List V) (i : ℕ) → MeansRow stands meaning width cells variables → slice_get variables i ≡ None → width < i + 1
 no_cell stands meaning width cells variables i row none =
@@ -25,3 +21,15 @@ no_cell stands meaning width cells variables i row none =
       | inl found ↦ absurd (cc (sym none ∙ found.2))
       | inr past ↦ omega (arith, past.0, row.len)
     ]
+
+AllZip-push : {A B : Type 0} (P : A → B → Type 0) (xs : List A) (ys : List B) (x : A) (y : B) → AllZip P xs ys → P x y → AllZip P (xs ++ x ∷ []) (ys ++ y ∷ [])
+AllZip-push P [] [] x y all here = (here, tt)
+AllZip-push P [] (b ∷ ys) x y all here = absurd all
+AllZip-push P (a ∷ xs) [] x y all here = absurd all
+AllZip-push P (a ∷ xs) (b ∷ ys) x y all here = (all.0, AllZip-push P xs ys x y all.1 here)
+
+-- one more item beside the next one of a list
+pub one_more_beside : {A B : Type 0} (P : A → B → Type 0) (xs : List A) (ys : List B) (i : ℕ) (d x : A) (y : B) → AllZip P (take i xs) ys → i < length xs → x ≡ get_or xs i d → P x y → AllZip P (take (i + 1) xs) (ys ++ y ∷ [])
+one_more_beside P xs ys i d x y so_far below is here =
+    let longer : take (i + 1) xs ≡ take i xs ++ x ∷ [] = take_more xs i d below ∙ ap (λ z. take i xs ++ z ∷ []) (sym is) in
+    subst (λ (l : List _). AllZip P l (ys ++ y ∷ [])) (sym longer) (AllZip-push P (take i xs) ys x y so_far here)
