@@ -161,7 +161,7 @@ fn balanced(shape: u32, rows: usize) -> Vec<u32> {
 }
 
 fn compare(name: &str, numbers: &[u32], shape: u32, rows: usize, balances: bool) {
-    let runs = if rows > 1 << 16 { 2 } else { 7 };
+    let runs = if rows > 1 << 16 { 4 } else { 7 };
     let (mut least_proved, mut least_plain) = (f64::MAX, f64::MAX);
     for _ in 0..runs {
         let start = Instant::now();

@@ -37,7 +37,7 @@ pub(crate) trait Collector<F: Field> {
 
 /// At how many contributions equal tuples are merged, in addition to eight for each tuple that the last
 /// merge left.
-const FREE_CONTRIBUTIONS: usize = 1 << 16;
+const FREE_CONTRIBUTIONS: usize = 1 << 18;
 
 /// Collects the nets of all tuples. Where the list reaches the limit, equal tuples are merged in it.
 #[derive(Drop)]

@@ -21,24 +21,8 @@ use lookup_generation::{LookupTraceBuilder, row_builder};
 use lookup_model::Lookup;
 use std::alloc::{AllocError, Global};
 
-/// The value of an expression on the builder's row.
-fn value_on<F: Field>(
-    alloc: Global,
-    expression: &SymbolicExpression<F>,
-    builder: &LookupTraceBuilder<'_, F, F>,
-) -> Result<F, AllocError>
-    requires { Fits (builder_layout builder.now) (tree_of expression.now) }
-    ensures { IfOk result (λ v. v ≡ value F.ring (builder_window builder.now) expression.now) }
-{
-    match expression.resolve(alloc, builder) {
-        Ok(value) => Ok(value),
-        Err(_) => Err(AllocError),
-    }
-}
-
 /// Appends the values of a tuple on the builder's row.
 fn push_tuple<F: Field>(
-    alloc: Global,
     elements: &mut Vec<F>,
     tuple: &[SymbolicExpression<F>],
     builder: &LookupTraceBuilder<'_, F, F>,
@@ -47,15 +31,13 @@ fn push_tuple<F: Field>(
     ensures { OnOk result (elements.new.items ≡ elements.old.items ++ values F.ring (builder_window builder.now) tuple.now) }
 {
     for element in tuple {
-        let value = value_on(alloc, element, builder)?;
-        elements.push(value)?;
+        elements.push(builder.value_of(element))?;
     }
     Ok(())
 }
 
 /// Appends the contribution of one branch, unless its amount is zero.
 fn push_branch<F: Field>(
-    alloc: Global,
     contributions: &mut Contributions<F>,
     tuple: &[SymbolicExpression<F>],
     amount: F,
@@ -73,7 +55,7 @@ fn push_branch<F: Field>(
         return Ok(());
     }
     let start = contributions.elements.len();
-    push_tuple(alloc, &mut contributions.elements, tuple, builder)?;
+    push_tuple(&mut contributions.elements, tuple, builder)?;
     let end = contributions.elements.len();
     contributions.cuts.push(Cut { start, end, amount })?;
     Ok(())
@@ -82,7 +64,6 @@ fn push_branch<F: Field>(
 /// Appends the contributions of a lookup without flags on the builder's row: each tuple with its
 /// multiplicity.
 fn push_counted<F: Field>(
-    alloc: Global,
     contributions: &mut Contributions<F>,
     lookup: &Lookup<F>,
     builder: &LookupTraceBuilder<'_, F, F>,
@@ -97,36 +78,33 @@ fn push_counted<F: Field>(
     for branch in 0..lookup.elements.len() {
         let tuple = &lookup.elements[branch];
         let multiplicity = &lookup.multiplicities[branch];
-        let amount = value_on(alloc, multiplicity, builder)?;
-        push_branch(alloc, contributions, tuple, amount, builder)?;
+        let amount = builder.value_of(multiplicity);
+        push_branch(contributions, tuple, amount, builder)?;
     }
     Ok(())
 }
 
 /// Flag times count on the builder's row. The count under a flag of zero is not walked.
 fn flagged_amount<F: Field>(
-    alloc: Global,
     flag: &SymbolicExpression<F>,
     count: &SymbolicExpression<F>,
     builder: &LookupTraceBuilder<'_, F, F>,
-) -> Result<F, AllocError>
+) -> F
     requires flag_fits { Fits (builder_layout builder.now) (tree_of flag.now) }
     requires count_fits { Fits (builder_layout builder.now) (tree_of count.now) }
     ensures { let w = builder_window builder.now in
-        IfOk result (λ v. v ≡ F.ring.mul (value F.ring w flag.now) (value F.ring w count.now)) }
+        result ≡ F.ring.mul (value F.ring w flag.now) (value F.ring w count.now) }
 {
-    let flag = value_on(alloc, flag, builder)?;
+    let flag = builder.value_of(flag);
     if flag.is_zero() {
-        return Ok(F::ZERO);
+        return F::ZERO;
     }
-    let count = value_on(alloc, count, builder)?;
-    Ok(flag * count)
+    flag * builder.value_of(count)
 }
 
 /// Appends the contributions of a lookup with flags on the builder's row: each tuple with flag times
 /// count, whatever the flags are.
 fn push_flagged<F: Field>(
-    alloc: Global,
     contributions: &mut Contributions<F>,
     lookup: &Lookup<F>,
     flags: &[SymbolicExpression<F>],
@@ -146,15 +124,14 @@ fn push_flagged<F: Field>(
         let tuple = &lookup.elements[branch];
         let multiplicity = &lookup.multiplicities[branch];
         let flag = &flags[branch];
-        let amount = flagged_amount(alloc, flag, multiplicity, builder)?;
-        push_branch(alloc, contributions, tuple, amount, builder)?;
+        let amount = flagged_amount(flag, multiplicity, builder);
+        push_branch(contributions, tuple, amount, builder)?;
     }
     Ok(())
 }
 
 /// Appends the contributions of a lookup on the builder's row.
 fn push_on_row<F: Field>(
-    alloc: Global,
     contributions: &mut Contributions<F>,
     lookup: &Lookup<F>,
     builder: &LookupTraceBuilder<'_, F, F>,
@@ -166,8 +143,8 @@ fn push_on_row<F: Field>(
         (contributions_at F.ring F.eq place (builder_window builder.now) lookup.now)) }
 {
     match &lookup.flags {
-        None => push_counted(alloc, contributions, lookup, builder),
-        Some(flags) => push_flagged(alloc, contributions, lookup, flags, builder),
+        None => push_counted(contributions, lookup, builder),
+        Some(flags) => push_flagged(contributions, lookup, flags, builder),
     }
 }
 
@@ -197,7 +174,7 @@ pub(crate) fn collect_lookup<F: Field, C: Collector<F>>(
             traced.permutation_challenges,
             row,
         );
-        push_on_row(alloc, contributions, lookup, &builder)?;
+        push_on_row(contributions, lookup, &builder)?;
         let location = Location {
             instance,
             lookup: place,

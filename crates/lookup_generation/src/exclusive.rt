@@ -12,13 +12,11 @@ ghost use Rattle.lookup_model.specs.Records.{AllFit};
 ghost use Rattle.lookup_model.specs.Sent.{branches_at, values};
 
 use crate::columns::BranchColumns;
-use crate::fraction::resolved;
 use crate::ratio::Ratio;
 use crate::trace_builder::LookupTraceBuilder;
 use air::SymbolicExpression;
 use field::{Domain, ExtensionDomain, Field};
 use lookup_model::{Lookup, LookupError};
-use std::alloc::Global;
 
 /// The indices of the set flags, counted in whole numbers.
 #[derive(Clone, Copy)]
@@ -67,7 +65,6 @@ fn with_flag<F: Field>(
 
 /// The set flags on the builder's row.
 pub(crate) fn set_flags<F: Field, EF: Domain>(
-    alloc: Global,
     flags: &[SymbolicExpression<F>],
     builder: &LookupTraceBuilder<'_, F, EF>,
     column: usize,
@@ -78,7 +75,7 @@ pub(crate) fn set_flags<F: Field, EF: Domain>(
 {
     let mut set = SetFlags::Nothing;
     for place in 0..flags.len() {
-        let flag = resolved(alloc, &flags[place], builder)?;
+        let flag = builder.value_of(&flags[place]);
         set = with_flag(set, place, flag, builder.row(), column)?;
     }
     Ok(set)

@@ -1,39 +1,21 @@
 //! The fraction of one lookup on one row, as a ratio: nothing is divided yet.
-ghost use Rattle.std.specs.Prelude.{◌≡◌, ◌≢◌, ◌+◌, ◌<◌, None, Some, IfOk, IfErr, List, [], ◌∷◌, ◌++◌, MatchResult};
+ghost use Rattle.std.specs.Prelude.{◌≡◌, ◌≢◌, ◌+◌, ◌<◌, None, Some, IfOk, IfErr, List, [], ◌∷◌, ◌++◌};
 ghost use Rattle.std.specs.List.{AllZip};
-ghost use Rattle.expressions.specs.Layout.{Fits};
-ghost use Rattle.expressions.specs.Tree.{tree_of};
 ghost use Rattle.lookup_generation.specs.Inverses.{ForInverses};
 ghost use Rattle.lookup_generation.specs.ChunkColumns.{HoldLookup, IsHeld, key_denominator};
 ghost use Rattle.lookup_generation.specs.RowAnswers.{AnswersAdditive, AnswersFraction};
 ghost use Rattle.lookup_model.specs.Extension.{extension};
 ghost use Rattle.lookup_generation.specs.Fraction.{IsFractionOf};
 ghost use Rattle.lookup_model.specs.Message.{Key, Message};
-ghost use Rattle.lookup_model.specs.Sent.{branches_at, value};
-ghost use Rattle.lookup_generation.specs.TraceBuilder.{builder_layout, builder_window};
+ghost use Rattle.lookup_model.specs.Sent.{branches_at};
+ghost use Rattle.lookup_generation.specs.TraceBuilder.{builder_window};
 
 use crate::columns::BranchColumns;
 use crate::exclusive::exclusive_fraction;
 use crate::ratio::Ratio;
 use crate::trace_builder::LookupTraceBuilder;
-use air::SymbolicExpression;
-use field::{Domain, ExtensionDomain, Field};
+use field::{ExtensionDomain, Field};
 use lookup_model::{Lookup, LookupError};
-use std::alloc::Global;
-
-/// The value of an expression on the builder's row.
-pub(crate) fn resolved<F: Field, EF: Domain>(
-    alloc: Global,
-    expression: &SymbolicExpression<F>,
-    builder: &LookupTraceBuilder<'_, F, EF>,
-) -> Result<F, LookupError>
-    requires { Fits (builder_layout builder.now) (tree_of expression.now) }
-    ensures { MatchResult result
-        (λ v. v ≡ value F.ring (builder_window builder.now) expression.now)
-        (λ e. e ≡ LookupError.Memory) }
-{
-    Ok(expression.resolve(alloc, builder)?)
-}
 
 /// The fraction so far plus, if its multiplicity is not zero, the quotient of one more tuple.
 ///

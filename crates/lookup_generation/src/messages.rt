@@ -14,7 +14,6 @@ ghost use Rattle.lookup_model.specs.Trace.{sent_row_under, sent_rows_under};
 ghost use Rattle.matrix.specs.Matrix.{height};
 
 use crate::exclusive::{SetFlags, set_flags};
-use crate::fraction::resolved;
 use crate::generation::row_builder;
 use crate::trace_builder::LookupTraceBuilder;
 use air::SymbolicExpression;
@@ -42,10 +41,9 @@ fn tuple_values<F: Field, EF: Field>(
         (λ v. v.items ≡ values F.ring (builder_window builder.now) tuple.now)
         (λ e. e ≡ LookupError.Memory) }
 {
-    let mut values = Vec::new(alloc);
+    let mut values = Vec::with_capacity(alloc, tuple.len())?;
     for element in tuple {
-        let value = resolved(alloc, element, builder)?;
-        values.push(value)?;
+        values.push(builder.value_of(element))?;
     }
     Ok(values)
 }
@@ -67,7 +65,7 @@ fn push_branch<F: Field, EF: Field>(
         (λ e. e ≡ LookupError.Memory) }
 {
     let tuple = tuple_values(alloc, tuple, builder)?;
-    let multiplicity = resolved(alloc, multiplicity, builder)?;
+    let multiplicity = builder.value_of(multiplicity);
     messages.push(SentMessage {
         id,
         tuple,
@@ -122,7 +120,7 @@ fn push_selected<F: Field, EF: ExtensionField<F>>(
         (λ _. (messages_of messages.new.items ≡ messages_of messages.old.items ++ sent.messages) × (fault ≡ None))
         (λ e. (e ≡ LookupError.Memory) ⊎ (fault ≡ Some e)) }
 {
-    match set_flags(alloc, flags, builder, lookup.column)? {
+    match set_flags(flags, builder, lookup.column)? {
         SetFlags::Nothing => Ok(()),
         SetFlags::One(branch) => {
             let tuple = &lookup.elements[branch];

@@ -1,9 +1,13 @@
 //! The builder that evaluates lookups on one row of a trace.
-ghost use Rattle.std.specs.Prelude.{◌≡◌, ◌≢◌, ◌+◌, ◌<◌, length, MatchResult};
+ghost use Rattle.std.specs.Prelude.{◌≡◌, ◌≢◌, ◌+◌, ◌<◌, ◌≤◌, length, MatchResult, slice_index_or};
+ghost use Rattle.expressions.specs.Meaning.{row_at};
 
-use air::{AirBuilder, AirError, ExtensionBuilder, PermutationAirBuilder};
+use air::{
+    AirBuilder, AirError, BaseEntry, BaseLeaf, ExtensionBuilder, PermutationAirBuilder,
+    SymbolicExpression, SymbolicVariable,
+};
 use field::{Domain, ExtensionDomain, ExtensionField, Field};
-use matrix::{RowWindow, ViewPair};
+use matrix::{RowWindow, ViewPair, WindowAccess};
 use std::alloc::Global;
 
 /// One row of the traces of an AIR, as the evaluation of its lookups sees it: this row and the next
@@ -89,6 +93,73 @@ impl<'a, F, EF> LookupTraceBuilder<'a, F, EF> {
         ensures { result ≡ (builder_window self.now).is_last }
     {
         self.row + 1 == self.height
+    }
+}
+
+/// A cell of a window: of its current row at offset 0, of the next one at offset 1.
+fn cell_of<F: Field>(window: &RowWindow<'_, F>, offset: usize, index: usize) -> F
+    requires offset { offset ≤ 1 }
+    requires current { index < length window.now.current.now }
+    requires next { index < length window.now.next.now }
+    ensures { result ≡ slice_index_or
+        (row_at offset window.now.current.now window.now.next.now) index F.ring.zero }
+{
+    if offset == 0 {
+        window.current_slice()[index]
+    } else {
+        window.next_slice()[index]
+    }
+}
+
+impl<'a, F: Field, EF> LookupTraceBuilder<'a, F, EF> {
+    ghost use Rattle.expressions.specs.Layout.{EntryFits, Fits, LeafFits};
+    ghost use Rattle.expressions.specs.Meaning.{leaf_value, variable_value};
+    ghost use Rattle.expressions.specs.Tree.{tree_of};
+    ghost use Rattle.lookup_generation.specs.TraceBuilder.{builder_window, builder_layout};
+    ghost use Rattle.lookup_model.specs.Sent.{value};
+
+    /// The value of a variable on the builder's row.
+    fn variable(&self, variable: SymbolicVariable<F>) -> F
+        requires { EntryFits (builder_layout self.now) variable.entry variable.index }
+        ensures { result ≡ variable_value F.ring (builder_window self.now) variable }
+    {
+        match variable.entry {
+            BaseEntry::Main { offset } => cell_of(&self.main, offset, variable.index),
+            BaseEntry::Preprocessed { offset } => {
+                cell_of(&self.preprocessed, offset, variable.index)
+            }
+            BaseEntry::Public => self.public_values[variable.index],
+        }
+    }
+
+    /// The value of a leaf on the builder's row.
+    fn leaf(&self, leaf: BaseLeaf<F>) -> F
+        requires { LeafFits (builder_layout self.now) leaf }
+        ensures { result ≡ leaf_value F.ring (builder_window self.now) leaf }
+    {
+        match leaf {
+            BaseLeaf::Variable(variable) => self.variable(variable),
+            BaseLeaf::IsFirstRow => F::from_bool(self.is_first()),
+            BaseLeaf::IsLastRow => F::from_bool(self.is_last()),
+            BaseLeaf::IsTransition => F::from_bool(!self.is_last()),
+            BaseLeaf::Constant(x) => x,
+        }
+    }
+
+    /// The value of an expression on the builder's row. Its variables are within the builder's layout.
+    ///
+    /// It is what `resolve` gives on this builder, without anything that can fail on the way.
+    pub fn value_of(&self, expression: &SymbolicExpression<F>) -> F
+        requires { Fits (builder_layout self.now) (tree_of expression.now) }
+        ensures { result ≡ value F.ring (builder_window self.now) expression.now }
+    {
+        match expression {
+            SymbolicExpression::Leaf(leaf) => self.leaf(*leaf),
+            SymbolicExpression::Add(a, b) => self.value_of(a) + self.value_of(b),
+            SymbolicExpression::Sub(a, b) => self.value_of(a) - self.value_of(b),
+            SymbolicExpression::Mul(a, b) => self.value_of(a) * self.value_of(b),
+            SymbolicExpression::Neg(a) => -self.value_of(a),
+        }
     }
 }
 

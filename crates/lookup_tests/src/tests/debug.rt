@@ -434,7 +434,7 @@ fn two_rows_over_f7(rt: HostRuntime) {
 fn many_rows(rt: &impl Abort, alloc: Global, last: u32) -> Vec<u32> {
     let mut numbers = Vec::new(alloc);
     numbers.extend_from_slice(&[7, 1]).expect(rt, "memory");
-    for pair in 0..70_000 {
+    for pair in 0..280_000 {
         let tuple: u32 = pair % 5;
         numbers
             .extend_from_slice(&[tuple, 1, tuple, 2_013_265_920])
@@ -464,11 +464,11 @@ fn more_rows_than_are_kept(rt: HostRuntime) {
     let cases: [(u32, &str); 2] = [
         (
             7,
-            "tuple [7] has net multiplicity 2 at instance 0 lookup 0 row 0; instance 0 lookup 0 row 140001",
+            "tuple [7] has net multiplicity 2 at instance 0 lookup 0 row 0; instance 0 lookup 0 row 560001",
         ),
         (
             60,
-            "tuple [60] has net multiplicity 1 at instance 0 lookup 0 row 140001",
+            "tuple [60] has net multiplicity 1 at instance 0 lookup 0 row 560001",
         ),
     ];
     for (last, rest) in cases {

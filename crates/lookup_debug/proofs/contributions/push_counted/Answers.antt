@@ -11,9 +11,9 @@ use Rattle.lookup_debug.proofs.AmountLaws.{counted_step, length-counted}
 use Rattle.lookup_debug.proofs.CutLaws.{appends-none}
 use Rattle.lookup_debug.proofs.contributions.push_counted.Goals as goal
 
-pub value_on-requires : goal.value_on-requires
+pub value_of-amount-requires : goal.value_of-amount-requires
 unfolding IsWithin
-value_on-requires g c =
+value_of-amount-requires g c =
     Fits-at (builder_layout c.args.builder.now) c.args.lookup.now.multiplicities.items c.loop-branch.branch _ c.requires.fits.1 (omega (arith, c.requires.lengths.multiplicities)) c.index-multiplicity.ensures
 
 pub push_branch-requires-clause-fits : goal.push_branch-requires-clause-fits
@@ -25,7 +25,7 @@ push_branch-requires-clause-fits g c =
 pub loop-branch-preserved : goal.loop-branch-preserved
 loop-branch-preserved g c place =
     counted_step g.F.PrimeCharacteristicRing.ring g.F.PartialEq.eq place (builder_window c.args.builder.now) c.args.lookup.now c.requires.lengths c.loop-branch.branch c.index-tuple.result.now c.index-multiplicity.result.now (omega arith) c.index-tuple.ensures c.index-multiplicity.ensures
-    c.args.contributions.now c.loop-branch.contributions c.push_branch.new.contributions c.deref.result.now c.in_ok-amount.amount c.deref.ensures.value c.in_ok-amount.ensures (c.loop-branch.invariant place) (c.in_ok-push_branch.ensures place)
+    c.args.contributions.now c.loop-branch.contributions c.push_branch.new.contributions c.deref.result.now c.value_of-amount.result c.deref.ensures.value c.value_of-amount.ensures (c.loop-branch.invariant place) (c.in_ok-push_branch.ensures place)
 
 pub returns : goal.returns
 returns g c place =

@@ -11,13 +11,13 @@ use Rattle.lookup_debug.proofs.AmountLaws.{flagged_step, length-flagged}
 use Rattle.lookup_debug.proofs.CutLaws.{appends-none}
 use Rattle.lookup_debug.proofs.contributions.push_flagged.Goals as goal
 
-pub flagged_amount-requires-clause-flag_fits : goal.flagged_amount-requires-clause-flag_fits
-flagged_amount-requires-clause-flag_fits g c =
+pub flagged_amount-amount-requires-clause-flag_fits : goal.flagged_amount-amount-requires-clause-flag_fits
+flagged_amount-amount-requires-clause-flag_fits g c =
     Fits-at (builder_layout c.args.builder.now) c.args.flags.now c.loop-branch.branch _ c.requires.flags_fit (omega (arith, c.requires.flag_number)) c.index-flags-branch.is
 
-pub flagged_amount-requires-clause-count_fits : goal.flagged_amount-requires-clause-count_fits
+pub flagged_amount-amount-requires-clause-count_fits : goal.flagged_amount-amount-requires-clause-count_fits
 unfolding IsWithin
-flagged_amount-requires-clause-count_fits g c =
+flagged_amount-amount-requires-clause-count_fits g c =
     Fits-at (builder_layout c.args.builder.now) c.args.lookup.now.multiplicities.items c.loop-branch.branch _ c.requires.fits.1 (omega (arith, c.requires.lengths.multiplicities)) c.index-multiplicity.ensures
 
 pub push_branch-requires-clause-fits : goal.push_branch-requires-clause-fits
@@ -29,7 +29,7 @@ push_branch-requires-clause-fits g c =
 pub loop-branch-preserved : goal.loop-branch-preserved
 loop-branch-preserved g c place =
     flagged_step g.F.PrimeCharacteristicRing.ring g.F.PartialEq.eq place (builder_window c.args.builder.now) c.args.lookup.now c.requires.lengths c.loop-branch.branch c.index-tuple.result.now c.index-multiplicity.result.now (omega arith) c.index-tuple.ensures c.index-multiplicity.ensures c.args.flags.now c.requires.flag_number c.index-flags-branch.result c.index-flags-branch.is
-    c.args.contributions.now c.loop-branch.contributions c.push_branch.new.contributions c.deref.result.now c.in_ok-amount.amount c.deref.ensures.value c.in_ok-amount.ensures (c.loop-branch.invariant place) (c.in_ok-push_branch.ensures place)
+    c.args.contributions.now c.loop-branch.contributions c.push_branch.new.contributions c.deref.result.now c.flagged_amount-amount.result c.deref.ensures.value c.flagged_amount-amount.ensures (c.loop-branch.invariant place) (c.in_ok-push_branch.ensures place)
 
 pub returns : goal.returns
 returns g c place =

@@ -6,8 +6,8 @@ use Rattle.lookup_generation.specs.TraceBuilder.{builder_layout, builder_window}
 use Rattle.lookup_debug.proofs.AmountLaws.{values_step}
 use Rattle.lookup_debug.proofs.contributions.push_tuple.Goals as goal
 
-pub value_on-requires : goal.value_on-requires
-value_on-requires g c =
+pub value_of-requires : goal.value_of-requires
+value_of-requires g c =
     Fits-at (builder_layout c.args.builder.now) c.args.tuple.now c.loop-element.element-index _ c.requires c.loop-element-test.true c.element-item.is
 
 pub loop-element-init : goal.loop-element-init
@@ -15,8 +15,8 @@ loop-element-init g c = sym (append-nil c.args.elements.now.items)
 
 pub loop-element-preserved : goal.loop-element-preserved
 loop-element-preserved g c =
-    values_step g.F.PrimeCharacteristicRing.ring (builder_window c.args.builder.now) c.args.tuple.now c.loop-element.element-index c.element-item.result c.in_ok-value.value
-    c.args.elements.now.items c.loop-element.elements.items c.push.new.self.items c.loop-element-test.true c.element-item.is c.in_ok-value.ensures c.loop-element.invariant c.in_ok-push.ensures.items
+    values_step g.F.PrimeCharacteristicRing.ring (builder_window c.args.builder.now) c.args.tuple.now c.loop-element.element-index c.element-item.result c.value_of.result
+    c.args.elements.now.items c.loop-element.elements.items c.push.new.self.items c.loop-element-test.true c.element-item.is c.value_of.ensures c.loop-element.invariant c.in_ok-push.ensures.items
 
 pub returns : goal.returns
 returns g c =

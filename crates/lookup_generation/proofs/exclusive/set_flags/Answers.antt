@@ -14,8 +14,8 @@ use Rattle.lookup_laws.proofs.Selections.{not_boolean}
 use Rattle.lookup_model.specs.declared.error.LookupError.TheVariants.{FlagNotBoolean}
 use Rattle.lookup_generation.proofs.exclusive.set_flags.Goals as goal
 
-pub resolved-requires : goal.resolved-requires
-resolved-requires g c = Fits-at (builder_layout c.args.builder.now) c.args.flags.now c.loop-place.place _ c.requires (omega arith) c.index-flags-place.is
+pub value_of-flag-requires : goal.value_of-flag-requires
+value_of-flag-requires g c = Fits-at (builder_layout c.args.builder.now) c.args.flags.now c.loop-place.place _ c.requires (omega arith) c.index-flags-place.is
 
 pub returns-in_err-set : goal.returns-in_err-set
 returns-in_err-set g c =
@@ -36,11 +36,11 @@ returns-in_err-set g c =
     let flag = c.index-flags-place.result in
     let lt : i < length flags = omega arith in
     let split = split_at vals i (look flag) (omega (arith, length-map flags look)) (mapped_at look flags i flag lt c.index-flags-place.is) in
-    let p = err_from_is_err_and c.from_residual-in_err-set.result c.from_residual-in_err-set.ensures.1 in
+    let p = err_from_is_err_and c.from_residual.result c.from_residual.ensures.1 in
     let why = c.in_err-set.ensures.refused in
     rw (p.1, p.2) (inr (
       why.0 ∙ ap (λ r. FlagNotBoolean r c.args.column) c.row.ensures,
-      ap (are_boolean E) split ∙ not_boolean laws (take i vals) (drop (i + 1) vals) (look flag) (λ e. why.1 (c.in_ok-flag.ensures ∙ e)) (λ e. why.2 (c.in_ok-flag.ensures ∙ e)),
+      ap (are_boolean E) split ∙ not_boolean laws (take i vals) (drop (i + 1) vals) (look flag) (λ e. why.1 (c.value_of-flag.ensures ∙ e)) (λ e. why.2 (c.value_of-flag.ensures ∙ e)),
     ))
 
 pub loop-place-preserved : goal.loop-place-preserved
@@ -52,7 +52,7 @@ loop-place-preserved g c =
     let flag = c.index-flags-place.result in
     let lt : i < length flags = omega arith in
     let more = mapped_more look flags i flag lt c.index-flags-place.is in
-    subst (λ (fs : List _). AreSetFlags E fs c.in_ok-set.set) ((λ k. take i (values E.base (builder_window c.args.builder.now) flags) ++ c.in_ok-flag.ensures k ∷ []) ∙ sym more)
+    subst (λ (fs : List _). AreSetFlags E fs c.in_ok-set.set) ((λ k. take i (values E.base (builder_window c.args.builder.now) flags) ++ c.value_of-flag.ensures k ∷ []) ∙ sym more)
     (c.in_ok-set.ensures.next (take i (values E.base (builder_window c.args.builder.now) flags)) (omega (arith, length-take i (values E.base (builder_window c.args.builder.now) flags), length-map flags look)) c.loop-place.invariant)
 
 pub returns : goal.returns

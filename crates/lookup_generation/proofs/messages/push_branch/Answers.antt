@@ -7,4 +7,4 @@ pub returns : goal.returns
 returns g c =
     ap messages_of c.in_ok-push.ensures.items
     ∙ map_push message_of c.args.messages.now.items _
-    ∙ (λ i. messages_of c.args.messages.now.items ++ record { key = record { id = c.args.id; tuple = c.in_ok-tuple.ensures i }; multiplicity = c.in_ok-multiplicity.ensures i } ∷ [])
+    ∙ (λ i. messages_of c.args.messages.now.items ++ record { key = record { id = c.args.id; tuple = c.in_ok-tuple.ensures i }; multiplicity = c.value_of-multiplicity.ensures i } ∷ [])
