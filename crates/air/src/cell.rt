@@ -80,7 +80,8 @@ pub fn current_cells<AB: AirBuilder>(
     requires { All (λ column. column < width) columns.now }
     ensures cells { IfOk result (λ tuple. AllZip (IsCell (λ x w. AB.Expr.value x (AB.seen w))
         (AB.stands_for builder.now) (λ w. w.main)) columns.now tuple.items) }
-    ensures within { IfOk result (λ tuple. All (AB.Expr.within (AB.layout builder.now)) tuple.items) }
+    ensures within { IfOk result (λ tuple. All
+        (AB.Expr.within (AB.layout builder.now)) tuple.items) }
     ensures refused { IfErr result (IsCellRefusal AB.window_refuses AB.layout width builder.now) }
 {
     let mut tuple = Vec::with_capacity(alloc, columns.len())?;

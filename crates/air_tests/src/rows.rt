@@ -16,7 +16,8 @@ pub fn answer<'a>(
     inputs: &'a RowInputs<'a, F7, F7>,
     row: Option<usize>,
 ) -> Answer
-    requires preprocessed { OptionHeightFits (height inputs.now.main.now) (option_copied inputs.now.preprocessed) }
+    requires preprocessed { OptionHeightFits (height inputs.now.main.now)
+        (option_copied inputs.now.preprocessed) }
     requires permutation { HeightFits (height inputs.now.main.now) inputs.now.permutation.now }
 {
     let machine = Machine {

@@ -30,15 +30,19 @@ pub fn soundness_count<F: Field, EF: ExtensionField<F>>(
     max_message_width: usize,
 ) -> Result<SoundnessCount, BatchFault>
     requires fit { DoInstancesFit instances.now }
-    requires ids { (m : ℕ) × AreLawfulIds max_message_width m F.CHARACTERISTIC (instances_of instances.now) }
+    requires ids { (m : ℕ) × AreLawfulIds max_message_width m F.CHARACTERISTIC
+        (instances_of instances.now) }
     ensures answer { GivesCounts (extension F.ring F.eq EF.ring EF.eq EF.embed EF.inverse)
         (instances_of instances.now) max_message_width result }
     ensures few_sharing_betas { IfOk result (λ _. FewSharingBetas
-        (extension F.ring F.eq EF.ring EF.eq EF.embed EF.inverse) (instances_of instances.now) max_message_width) }
+        (extension F.ring F.eq EF.ring EF.eq EF.embed EF.inverse)
+        (instances_of instances.now) max_message_width) }
     ensures few_accepting_alphas { IfOk result (λ _. FewAcceptingAlphas
-        (extension F.ring F.eq EF.ring EF.eq EF.embed EF.inverse) (instances_of instances.now) max_message_width) }
+        (extension F.ring F.eq EF.ring EF.eq EF.embed EF.inverse)
+        (instances_of instances.now) max_message_width) }
     ensures few_bad_betas { IfOk result (λ _. FewBadBetas
-        (extension F.ring F.eq EF.ring EF.eq EF.embed EF.inverse) (instances_of instances.now) max_message_width) }
+        (extension F.ring F.eq EF.ring EF.eq EF.embed EF.inverse)
+        (instances_of instances.now) max_message_width) }
 {
     let messages = collected::<F, EF>(alloc, instances)?;
     let (keys, unbalanced) = key_counts(alloc, messages.as_slice())?;
@@ -51,7 +55,8 @@ fn collected<F: Field, EF: ExtensionField<F>>(
     instances: &[BatchInstance<'_, F>],
 ) -> Result<Vec<SentMessage<F>>, BatchFault>
     requires fit { DoInstancesFit instances.now }
-    ensures { GivesMessages (extension F.ring F.eq EF.ring EF.eq EF.embed EF.inverse) (instances_of instances.now) result }
+    ensures { GivesMessages (extension F.ring F.eq EF.ring EF.eq EF.embed EF.inverse)
+        (instances_of instances.now) result }
 {
     let mut messages = Vec::new(alloc);
     for air in 0..instances.len() {

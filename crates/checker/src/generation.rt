@@ -40,7 +40,8 @@ pub fn generate_batch<F: Field, EF: ExtensionField<F>>(
         (table_of challenges.now) (instances_of instances.now) result }
     ensures only { GivesOnlySatisfied (extension F.ring F.eq EF.ring EF.eq EF.embed EF.inverse)
         (table_of challenges.now) (instances_of instances.now) result }
-    ensures balanced { GivesAcceptedIfBalanced (extension F.ring F.eq EF.ring EF.eq EF.embed EF.inverse)
+    ensures balanced { GivesAcceptedIfBalanced
+        (extension F.ring F.eq EF.ring EF.eq EF.embed EF.inverse)
         (table_of challenges.now) (instances_of instances.now) result }
 {
     let mut aux = Vec::new(alloc);

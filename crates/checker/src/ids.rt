@@ -26,7 +26,8 @@ pub fn ids_are_lawful<F: Field>(
 ) -> Result<bool, AllocError>
     requires { HaveIds instances.now }
     ensures { IfOk result
-        (λ lawful. IsTrue lawful ↔ AreLawfulIds max_message_width num_bus_ids F.CHARACTERISTIC (instances_of instances.now)) }
+        (λ lawful. IsTrue lawful ↔ AreLawfulIds max_message_width num_bus_ids F.CHARACTERISTIC
+        (instances_of instances.now)) }
 {
     let all = identified_lookups(alloc, instances)?;
     Ok(are_lawful(all.as_slice(), max_message_width, num_bus_ids))
@@ -64,7 +65,8 @@ fn identified_lookups<'a, F>(
     instances: &'a [BatchInstance<'a, F>],
 ) -> Result<Vec<Identified<'a, F>>, AllocError>
     requires { HaveIds instances.now }
-    ensures { IfOk result (λ all. map identified_of all.items ≡ identified (instances_of instances.now)) }
+    ensures { IfOk result (λ all. map identified_of all.items
+        ≡ identified (instances_of instances.now)) }
 {
     let mut all = Vec::new(alloc);
     for instance in instances {
@@ -80,7 +82,8 @@ fn push_identified<'a, F>(
 ) -> Result<(), AllocError>
     requires { length instance.now.ids.now ≡ length instance.now.lookups.now }
     ensures { IfOk result
-        (λ _. map identified_of all.new.items ≡ map identified_of all.old.items ++ zip instance.now.ids.now instance.now.lookups.now) }
+        (λ _. map identified_of all.new.items ≡ map identified_of all.old.items
+        ++ zip instance.now.ids.now instance.now.lookups.now) }
 {
     for place in 0..instance.ids.len() {
         all.push(Identified {
@@ -106,7 +109,8 @@ fn is_within<F>(one: &Identified<'_, F>, max_message_width: usize, num_bus_ids: 
 }
 
 fn is_narrow<F>(lookup: &Lookup<F>, max_message_width: usize) -> bool
-    ensures { IsTrue result ↔ All (λ tuple. length tuple.items ≤ max_message_width) lookup.now.elements.items }
+    ensures { IsTrue result ↔ All (λ tuple. length tuple.items
+        ≤ max_message_width) lookup.now.elements.items }
 {
     lookup
         .elements

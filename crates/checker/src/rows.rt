@@ -20,16 +20,21 @@ pub(crate) fn first_failing_row<'a, F: Field, EF: ExtensionField<F>>(
     inputs: &'a RowInputs<'a, F, EF>,
     lookups: &[Lookup<F>],
 ) -> Result<Option<usize>, AllocError>
-    requires preprocessed { OptionHeightFits (height inputs.now.main.now) (option_copied inputs.now.preprocessed) }
+    requires preprocessed { OptionHeightFits (height inputs.now.main.now)
+        (option_copied inputs.now.preprocessed) }
     requires permutation { HeightFits (height inputs.now.main.now) inputs.now.permutation.now }
     requires fit { DoFit (input_layout inputs.now) lookups.now }
     requires challenges { 2 * length lookups.now ≤ length inputs.now.challenges.now }
-    requires cells { 0 < length lookups.now → length lookups.now < inputs.now.permutation.now.width }
+    requires cells { 0 < length lookups.now
+        → length lookups.now < inputs.now.permutation.now.width }
     requires terminal { 0 < length lookups.now → 0 < length inputs.now.permutation_values.now }
     ensures { MatchResult result
         (λ found. MatchOption found
-        ((r : ℕ) → r < height inputs.now.main.now → HoldsOn (extension F.ring F.eq EF.ring EF.eq EF.embed EF.inverse) inputs.now lookups.now r)
-        (λ r. IsFirstFailingOn (extension F.ring F.eq EF.ring EF.eq EF.embed EF.inverse) inputs.now lookups.now r))
+        ((r : ℕ) → r < height inputs.now.main.now
+        → HoldsOn (extension F.ring F.eq EF.ring EF.eq EF.embed EF.inverse) inputs.now lookups.now
+        r)
+        (λ r. IsFirstFailingOn (extension F.ring F.eq EF.ring EF.eq EF.embed EF.inverse) inputs.now
+        lookups.now r))
         (λ _. ⊤) }
 {
     for row in 0..inputs.main.height() {
@@ -50,16 +55,20 @@ fn check_row<'a, F: Field, EF: ExtensionField<F>>(
     row: usize,
 ) -> Result<(), AirError>
     requires row { row < height inputs.now.main.now }
-    requires preprocessed { OptionHeightFits (height inputs.now.main.now) (option_copied inputs.now.preprocessed) }
+    requires preprocessed { OptionHeightFits (height inputs.now.main.now)
+        (option_copied inputs.now.preprocessed) }
     requires permutation { HeightFits (height inputs.now.main.now) inputs.now.permutation.now }
     requires fit { DoFit (input_layout inputs.now) lookups.now }
     requires challenges { 2 * length lookups.now ≤ length inputs.now.challenges.now }
-    requires cells { 0 < length lookups.now → length lookups.now < inputs.now.permutation.now.width }
+    requires cells { 0 < length lookups.now
+        → length lookups.now < inputs.now.permutation.now.width }
     requires terminal { 0 < length lookups.now → 0 < length inputs.now.permutation_values.now }
     ensures { MatchResult result
-        (λ _. HoldsOn (extension F.ring F.eq EF.ring EF.eq EF.embed EF.inverse) inputs.now lookups.now row)
+        (λ _. HoldsOn (extension F.ring F.eq EF.ring EF.eq EF.embed EF.inverse) inputs.now
+        lookups.now row)
         (λ e. (e ≡ AirError.Memory) ⊎ ((e ≡ AirError.Assertion row)
-        × (¬ HoldsOn (extension F.ring F.eq EF.ring EF.eq EF.embed EF.inverse) inputs.now lookups.now row))) }
+        × (¬ HoldsOn (extension F.ring F.eq EF.ring EF.eq EF.embed EF.inverse) inputs.now
+        lookups.now row))) }
 {
     let mut builder = DebugConstraintBuilder::new(inputs, row);
     LogUpGadget::new().eval_all(alloc, &mut builder, lookups)

@@ -32,10 +32,14 @@ pub fn counted_soundness<F: Field, EF: ExtensionField<F>>()
 /// Let challenges have the beta and the prefixes that `Challenges::new` makes of an alpha and a beta.
 /// If a witness is accepted over them, alpha is accepting at beta.
 pub fn accepted_is_accepting<F: Field, EF: ExtensionField<F>>()
-    ensures { (W m : ℕ) (alpha beta : EF) (challenges : Challenges EF) (instances : List (BatchInstance F))
+    ensures { (W m : ℕ) (alpha beta : EF) (challenges : Challenges EF)
+        (instances : List (BatchInstance F))
         → challenges.beta ≡ beta
-        → boxed_slice_items challenges.bus_prefix ≡ map (prefix_of_bus EF.ring alpha beta W) (range_with_len 0 m)
+        → boxed_slice_items challenges.bus_prefix
+        ≡ map (prefix_of_bus EF.ring alpha beta W) (range_with_len 0 m)
         → HavePrefixes challenges instances → (witness : List (AirResult EF))
-        → IsAccepted (extension F.ring F.eq EF.ring EF.eq EF.embed EF.inverse) (table_of challenges) (instances_of instances) witness
-        → IsAccepting (extension F.ring F.eq EF.ring EF.eq EF.embed EF.inverse) (instances_of instances) W beta alpha }
+        → IsAccepted (extension F.ring F.eq EF.ring EF.eq EF.embed EF.inverse) (table_of challenges)
+        (instances_of instances) witness
+        → IsAccepting (extension F.ring F.eq EF.ring EF.eq EF.embed EF.inverse)
+        (instances_of instances) W beta alpha }
 {}

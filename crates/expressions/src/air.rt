@@ -39,5 +39,6 @@ pub trait Air<AB: AirBuilder>: BaseAir<AB::F> {
     fn eval(&self, alloc: Global, builder: &mut AB) -> Result<(), AirError>
         ensures { evaluates self.now builder.old result builder.new };
 
-    ghost keeps_layout: { (a : Self) (b c : AB) → evaluates a b (Ok tt) c → AB.layout c ≡ AB.layout b };
+    ghost keeps_layout: { (a : Self) (b c : AB) → evaluates a b (Ok tt) c
+        → AB.layout c ≡ AB.layout b };
 }

@@ -66,27 +66,35 @@ pub trait AirBuilder: Sized {
             (layout self.now).main_width (λ w. w.main) (Self.MainWindow.current m)) }
         ensures next { IfOk result (λ m. MeansRow (stands_for self.now) variable
             (layout self.now).main_width (λ w. w.main_next) (Self.MainWindow.next m)) }
-        ensures current_within { IfOk result (λ m. RowWithin Self.Var.converts Self.Expr.within (layout self.now) (Self.MainWindow.current m)) }
-        ensures next_within { IfOk result (λ m. RowWithin Self.Var.converts Self.Expr.within (layout self.now) (Self.MainWindow.next m)) }
+        ensures current_within { IfOk result (λ m. RowWithin Self.Var.converts Self.Expr.within
+            (layout self.now) (Self.MainWindow.current m)) }
+        ensures next_within { IfOk result (λ m. RowWithin Self.Var.converts Self.Expr.within
+            (layout self.now) (Self.MainWindow.next m)) }
         ensures refused { IfErr result (window_refuses self.now) };
 
     /// The current row and the next one of the preprocessed trace, of width 0 if there is none.
     fn preprocessed(&self) -> &Self::PreprocessedWindow
         ensures readable { Self.PreprocessedWindow.readable result.now }
         ensures current { MeansRow (stands_for self.now) variable
-            (layout self.now).preprocessed_width (λ w. w.preprocessed) (Self.PreprocessedWindow.current result.now) }
+            (layout self.now).preprocessed_width (λ w. w.preprocessed)
+            (Self.PreprocessedWindow.current result.now) }
         ensures next { MeansRow (stands_for self.now) variable
-            (layout self.now).preprocessed_width (λ w. w.preprocessed_next) (Self.PreprocessedWindow.next result.now) }
-        ensures current_within { RowWithin Self.Var.converts Self.Expr.within (layout self.now) (Self.PreprocessedWindow.current result.now) }
-        ensures next_within { RowWithin Self.Var.converts Self.Expr.within (layout self.now) (Self.PreprocessedWindow.next result.now) };
+            (layout self.now).preprocessed_width (λ w. w.preprocessed_next)
+            (Self.PreprocessedWindow.next result.now) }
+        ensures current_within { RowWithin Self.Var.converts Self.Expr.within (layout self.now)
+            (Self.PreprocessedWindow.current result.now) }
+        ensures next_within { RowWithin Self.Var.converts Self.Expr.within (layout self.now)
+            (Self.PreprocessedWindow.next result.now) };
 
     /// The public values.
     fn public_values(&self) -> &[Self::PublicVar]
         ensures means { MeansRow (stands_for self.now) public_value
             (layout self.now).num_public_values (λ w. w.public_values) result.now }
-        ensures degree { (i t : ℕ) (v : Self.PublicVar) (e : Self.Expr) → slice_get result.now i ≡ Some v
+        ensures degree { (i t : ℕ) (v : Self.PublicVar) (e : Self.Expr)
+            → slice_get result.now i ≡ Some v
             → Self.PublicVar.converts v e → Self.Expr.degree e t ≡ 0 }
-        ensures within { RowWithin Self.PublicVar.converts Self.Expr.within (layout self.now) result.now };
+        ensures within { RowWithin Self.PublicVar.converts Self.Expr.within
+            (layout self.now) result.now };
 
     /// The selector of the first row.
     fn is_first_row(&self) -> Self::Expr
@@ -111,7 +119,8 @@ pub trait AirBuilder: Sized {
 
     /// Asserts that `x` is zero.
     fn assert_zero(&mut self, alloc: Global, x: Self::Expr) -> Result<(), AirError>
-        ensures { MatchResult result (λ _. accepts self.old x self.new) (λ e. refuses self.old x e self.new) };
+        ensures { MatchResult result (λ _. accepts self.old x self.new)
+            (λ e. refuses self.old x e self.new) };
 
     /// Asserts that each of `xs` is zero, in order, and returns the first refusal.
     final fn assert_zeros(&mut self, alloc: Global, xs: Vec<Self::Expr>) -> Result<(), AirError>
@@ -169,18 +178,23 @@ pub trait AirBuilder: Sized {
         }
     }
 
-    ghost variable_converts: { (v : Self.Var) (e : Self.Expr) (w : Window Self.F) → Self.Var.converts v e
+    ghost variable_converts: { (v : Self.Var) (e : Self.Expr) (w : Window Self.F)
+        → Self.Var.converts v e
         → Self.Expr.value e (seen w) ≡ variable v w };
 
-    ghost variable_degree: { (v : Self.Var) (e : Self.Expr) (t : ℕ) → Self.Var.converts v e → Self.Expr.degree e t ≤ 1 };
+    ghost variable_degree: { (v : Self.Var) (e : Self.Expr) (t : ℕ) → Self.Var.converts v e
+        → Self.Expr.degree e t ≤ 1 };
 
-    ghost public_converts: { (v : Self.PublicVar) (e : Self.Expr) (w : Window Self.F) → Self.PublicVar.converts v e
+    ghost public_converts: { (v : Self.PublicVar) (e : Self.Expr) (w : Window Self.F)
+        → Self.PublicVar.converts v e
         → Self.Expr.value e (seen w) ≡ public_value v w };
 
     ghost keeps: { (b : Self) (x : Self.Expr) (c : Self) (w : Window Self.F) → accepts b x c
         → stands_for b w ↔ stands_for c w };
 
-    ghost keeps_layout: { (b : Self) (x : Self.Expr) (c : Self) → accepts b x c → layout c ≡ layout b };
+    ghost keeps_layout: { (b : Self) (x : Self.Expr) (c : Self) → accepts b x c
+        → layout c ≡ layout b };
 
-    ghost keeps_pushed: { (b : Self) (x : Self.Expr) (c : Self) → accepts b x c → pushed_within b → pushed_within c };
+    ghost keeps_pushed: { (b : Self) (x : Self.Expr) (c : Self) → accepts b x c → pushed_within b
+        → pushed_within c };
 }

@@ -19,7 +19,8 @@ impl<F> SymbolicExpression<F> {
     /// The degree, if the transition selector has degree `transition`.
     pub fn degree_multiple_with_transition(&self, transition: usize) -> Result<usize, AirError>
         ensures { MatchResult result (λ d. d ≡ degree_of transition (tree_of self.now))
-            (λ e. (e ≡ AirError.DegreeOverflow) × (2 ^ 64 ≤ degree_of transition (tree_of self.now))) }
+            (λ e. (e ≡ AirError.DegreeOverflow)
+            × (2 ^ 64 ≤ degree_of transition (tree_of self.now))) }
     {
         match self {
             SymbolicExpression::Leaf(leaf) => Ok(degree_of_leaf(leaf, transition)),

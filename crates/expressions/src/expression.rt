@@ -55,22 +55,30 @@ pub trait Expression<F: Field>: Drop + WholeNumbers {
 
     /// The sum `self + other`.
     fn add(self, alloc: Global, other: Self) -> Result<Self, AllocError>
-        ensures means { IfOk result (λ r. (w : Self.Seen) → value r w ≡ F.ring.add (value self w) (value other w)) }
-        ensures degree { IfOk result (λ r. (t : ℕ) → degree r t ≡ max (degree self t) (degree other t)) }
-        ensures within { IfOk result (λ r. (l : AirLayout) → within l self → within l other → within l r) };
+        ensures means { IfOk result (λ r. (w : Self.Seen)
+            → value r w ≡ F.ring.add (value self w) (value other w)) }
+        ensures degree { IfOk result (λ r. (t : ℕ)
+            → degree r t ≡ max (degree self t) (degree other t)) }
+        ensures within { IfOk result (λ r. (l : AirLayout) → within l self → within l other
+            → within l r) };
 
     /// The difference `self - other`.
     fn sub(self, alloc: Global, other: Self) -> Result<Self, AllocError>
-        ensures means { IfOk result (λ r. (w : Self.Seen) → value r w ≡ sub_in F.ring (value self w) (value other w)) }
-        ensures degree { IfOk result (λ r. (t : ℕ) → degree r t ≡ max (degree self t) (degree other t)) }
-        ensures within { IfOk result (λ r. (l : AirLayout) → within l self → within l other → within l r) };
+        ensures means { IfOk result (λ r. (w : Self.Seen)
+            → value r w ≡ sub_in F.ring (value self w) (value other w)) }
+        ensures degree { IfOk result (λ r. (t : ℕ)
+            → degree r t ≡ max (degree self t) (degree other t)) }
+        ensures within { IfOk result (λ r. (l : AirLayout) → within l self → within l other
+            → within l r) };
 
     /// The product `self * other`.
     fn mul(self, alloc: Global, other: Self) -> Result<Self, AllocError>
-        ensures means { IfOk result (λ r. (w : Self.Seen) → value r w ≡ F.ring.mul (value self w) (value other w)) }
+        ensures means { IfOk result (λ r. (w : Self.Seen)
+            → value r w ≡ F.ring.mul (value self w) (value other w)) }
         ensures degree { IfOk result (λ r. (t : ℕ) → degree r t ≡ degree self t + degree other t) }
         ensures node { IfOk result (λ r. is_product self other r) }
-        ensures within { IfOk result (λ r. (l : AirLayout) → within l self → within l other → within l r) };
+        ensures within { IfOk result (λ r. (l : AirLayout) → within l self → within l other
+            → within l r) };
 
     /// The negation `-self`.
     fn neg(self, alloc: Global) -> Result<Self, AllocError>
@@ -85,7 +93,8 @@ pub trait Expression<F: Field>: Drop + WholeNumbers {
         ensures same { IfOk result (λ r. same self.now r) }
         ensures within { IfOk result (λ r. (l : AirLayout) → within l self.now → within l r) };
 
-    ghost whole_value: { (n : ℤ) (x : Self) (w : Self.Seen) → Self.is_whole n x → value x w ≡ of_int F.ring n };
+    ghost whole_value: { (n : ℤ) (x : Self) (w : Self.Seen) → Self.is_whole n x
+        → value x w ≡ of_int F.ring n };
 
     ghost whole_degree: { (n : ℤ) (x : Self) (t : ℕ) → Self.is_whole n x → degree x t ≡ 0 };
 

@@ -12,7 +12,8 @@ impl<F, EF> SymbolicExpressionExt<F, EF> {
     /// The degree, if the transition selector has degree 0.
     pub fn degree_multiple(&self) -> Result<usize, AirError>
         ensures { MatchResult result (λ d. d ≡ ext_degree_of 0 (ext_tree_of self.now))
-            (λ e. (e ≡ AirError.DegreeOverflow) × (2 ^ 64 ≤ ext_degree_of 0 (ext_tree_of self.now))) }
+            (λ e. (e ≡ AirError.DegreeOverflow)
+            × (2 ^ 64 ≤ ext_degree_of 0 (ext_tree_of self.now))) }
     {
         self.degree_multiple_with_transition(0)
     }
@@ -20,7 +21,8 @@ impl<F, EF> SymbolicExpressionExt<F, EF> {
     /// The degree, if the transition selector has degree `transition`.
     pub fn degree_multiple_with_transition(&self, transition: usize) -> Result<usize, AirError>
         ensures { MatchResult result (λ d. d ≡ ext_degree_of transition (ext_tree_of self.now))
-            (λ e. (e ≡ AirError.DegreeOverflow) × (2 ^ 64 ≤ ext_degree_of transition (ext_tree_of self.now))) }
+            (λ e. (e ≡ AirError.DegreeOverflow)
+            × (2 ^ 64 ≤ ext_degree_of transition (ext_tree_of self.now))) }
     {
         match self {
             SymbolicExpressionExt::Leaf(leaf) => degree_of_ext_leaf(leaf, transition),
@@ -41,7 +43,8 @@ impl<F, EF> SymbolicExpressionExt<F, EF> {
 
 fn degree_of_ext_leaf<F, EF>(leaf: &ExtLeaf<F, EF>, transition: usize) -> Result<usize, AirError>
     ensures { MatchResult result (λ d. d ≡ ext_degree_of transition (ext_leaf_tree leaf.now))
-        (λ e. (e ≡ AirError.DegreeOverflow) × (2 ^ 64 ≤ ext_degree_of transition (ext_leaf_tree leaf.now))) }
+        (λ e. (e ≡ AirError.DegreeOverflow)
+        × (2 ^ 64 ≤ ext_degree_of transition (ext_leaf_tree leaf.now))) }
 {
     match leaf {
         ExtLeaf::Base(expression) => expression.degree_multiple_with_transition(transition),

@@ -38,19 +38,23 @@ pub trait ExtensionBuilder: AirBuilder {
     /// The base expression `x`, embedded.
     fn lift(x: Self::Expr) -> Self::ExprEF
         ensures means { (w : ExtWindow Self.F Self.EF)
-            → Self.ExprEF.value result (seen_ext w) ≡ Self.EF.embed (Self.Expr.value x (Self.seen w.base)) }
+            → Self.ExprEF.value result (seen_ext w)
+            ≡ Self.EF.embed (Self.Expr.value x (Self.seen w.base)) }
         ensures degree { (t : ℕ) → Self.ExprEF.degree result t ≡ Self.Expr.degree x t };
 
     /// Asserts that `x` is zero.
     fn assert_zero_ext(&mut self, alloc: Global, x: Self::ExprEF) -> Result<(), AirError>
-        ensures { MatchResult result (λ _. accepts_ext self.old x self.new) (λ e. refuses_ext self.old x e self.new) };
+        ensures { MatchResult result (λ _. accepts_ext self.old x self.new)
+            (λ e. refuses_ext self.old x e self.new) };
 
-    ghost base_window: { (b : Self) (w : ExtWindow Self.F Self.EF) → stands_for_ext b w → Self.stands_for b w.base };
+    ghost base_window: { (b : Self) (w : ExtWindow Self.F Self.EF) → stands_for_ext b w
+        → Self.stands_for b w.base };
 
     ghost variable_ext_converts: { (v : Self.VarEF) (e : Self.ExprEF) (w : ExtWindow Self.F Self.EF)
         → Self.VarEF.converts v e → Self.ExprEF.value e (seen_ext w) ≡ variable_ext v w };
 
-    ghost variable_ext_degree: { (v : Self.VarEF) (e : Self.ExprEF) (t : ℕ) → Self.VarEF.converts v e
+    ghost variable_ext_degree: { (v : Self.VarEF) (e : Self.ExprEF) (t : ℕ)
+        → Self.VarEF.converts v e
         → Self.ExprEF.degree e t ≤ 1 };
 
     ghost keeps_ext: { (b : Self) (x : Self.ExprEF) (c : Self) (w : ExtWindow Self.F Self.EF)
@@ -88,7 +92,8 @@ pub trait PermutationAirBuilder: ExtensionBuilder {
     /// The current row and the next one of the permutation trace.
     fn permutation(&self, alloc: Global) -> Result<Self::MP, AirError>
         ensures readable { IfOk result (λ m. Self.MP.readable m) }
-        ensures current { IfOk result (λ m. MeansRow (Self.stands_for_ext self.now) Self.variable_ext
+        ensures current { IfOk result (λ m. MeansRow
+            (Self.stands_for_ext self.now) Self.variable_ext
             (Self.layout self.now).permutation_width (λ w. w.permutation) (Self.MP.current m)) }
         ensures next { IfOk result (λ m. MeansRow (Self.stands_for_ext self.now) Self.variable_ext
             (Self.layout self.now).permutation_width (λ w. w.permutation_next) (Self.MP.next m)) }
@@ -98,19 +103,24 @@ pub trait PermutationAirBuilder: ExtensionBuilder {
     fn permutation_randomness(&self) -> &[Self::RandomVar]
         ensures means { MeansRow (Self.stands_for_ext self.now) challenge
             (Self.layout self.now).num_permutation_challenges (λ w. w.challenges) result.now }
-        ensures degree { (i t : ℕ) (v : Self.RandomVar) (e : Self.ExprEF) → slice_get result.now i ≡ Some v
+        ensures degree { (i t : ℕ) (v : Self.RandomVar) (e : Self.ExprEF)
+            → slice_get result.now i ≡ Some v
             → Self.RandomVar.converts v e → Self.ExprEF.degree e t ≡ 0 };
 
     /// The values of the permutation argument.
     fn permutation_values(&self) -> &[Self::PermutationVar]
         ensures means { MeansRow (Self.stands_for_ext self.now) permutation_value
             (Self.layout self.now).num_permutation_values (λ w. w.permutation_values) result.now }
-        ensures degree { (i t : ℕ) (v : Self.PermutationVar) (e : Self.ExprEF) → slice_get result.now i ≡ Some v
+        ensures degree { (i t : ℕ) (v : Self.PermutationVar) (e : Self.ExprEF)
+            → slice_get result.now i ≡ Some v
             → Self.PermutationVar.converts v e → Self.ExprEF.degree e t ≡ 0 };
 
-    ghost challenge_converts: { (v : Self.RandomVar) (e : Self.ExprEF) (w : ExtWindow Self.F Self.EF)
+    ghost challenge_converts: { (v : Self.RandomVar) (e : Self.ExprEF)
+        (w : ExtWindow Self.F Self.EF)
         → Self.RandomVar.converts v e → Self.ExprEF.value e (Self.seen_ext w) ≡ challenge v w };
 
-    ghost permutation_value_converts: { (v : Self.PermutationVar) (e : Self.ExprEF) (w : ExtWindow Self.F Self.EF)
-        → Self.PermutationVar.converts v e → Self.ExprEF.value e (Self.seen_ext w) ≡ permutation_value v w };
+    ghost permutation_value_converts: { (v : Self.PermutationVar) (e : Self.ExprEF)
+        (w : ExtWindow Self.F Self.EF)
+        → Self.PermutationVar.converts v e
+        → Self.ExprEF.value e (Self.seen_ext w) ≡ permutation_value v w };
 }

@@ -51,15 +51,21 @@ impl<'a, AB: AirBuilder> AirBuilder for FilteredAirBuilder<'a, AB> {
 
     ghost public_value = { AB.public_value };
 
-    ghost accepts = { λ b x c. (c.inner.ghost_name ≡ b.inner.ghost_name) × (c.condition ≡ b.condition)
-        × ((product : AB.Expr) × IsProduct AB.F.ring.mul (AB.Expr.value product) (AB.Expr.value b.condition) (AB.Expr.value x)
+    ghost accepts = { λ b x c. (c.inner.ghost_name ≡ b.inner.ghost_name)
+        × (c.condition ≡ b.condition)
+        × ((product : AB.Expr)
+        × IsProduct AB.F.ring.mul (AB.Expr.value product) (AB.Expr.value b.condition)
+        (AB.Expr.value x)
         (AB.Expr.degree product) (AB.Expr.degree b.condition) (AB.Expr.degree x)
         ((factor : AB.Expr) × AB.Expr.same b.condition factor × AB.Expr.is_product factor x product)
         × AB.accepts b.inner.now product c.inner.now) };
 
-    ghost refuses = { λ b x e c. (c.inner.ghost_name ≡ b.inner.ghost_name) × (c.condition ≡ b.condition)
+    ghost refuses = { λ b x e c. (c.inner.ghost_name ≡ b.inner.ghost_name)
+        × (c.condition ≡ b.condition)
         × (((e ≡ Memory) × (c.inner.now ≡ b.inner.now))
-        ⊎ ((product : AB.Expr) × IsProduct AB.F.ring.mul (AB.Expr.value product) (AB.Expr.value b.condition) (AB.Expr.value x)
+        ⊎ ((product : AB.Expr)
+        × IsProduct AB.F.ring.mul (AB.Expr.value product) (AB.Expr.value b.condition)
+        (AB.Expr.value x)
         (AB.Expr.degree product) (AB.Expr.degree b.condition) (AB.Expr.degree x)
         ((factor : AB.Expr) × AB.Expr.same b.condition factor × AB.Expr.is_product factor x product)
         × AB.refuses b.inner.now product e c.inner.now)) };
@@ -124,17 +130,21 @@ impl<'a, AB: ExtensionBuilder> ExtensionBuilder for FilteredAirBuilder<'a, AB> {
 
     ghost variable_ext = { AB.variable_ext };
 
-    ghost accepts_ext = { λ b x c. (c.inner.ghost_name ≡ b.inner.ghost_name) × (c.condition ≡ b.condition)
-        × ((product : AB.ExprEF) × IsProduct AB.EF.ring.mul (λ w. AB.ExprEF.value product (AB.seen_ext w))
+    ghost accepts_ext = { λ b x c. (c.inner.ghost_name ≡ b.inner.ghost_name)
+        × (c.condition ≡ b.condition)
+        × ((product : AB.ExprEF)
+        × IsProduct AB.EF.ring.mul (λ w. AB.ExprEF.value product (AB.seen_ext w))
         (λ w. AB.EF.embed (AB.Expr.value b.condition (AB.seen w.base)))
         (λ w. AB.ExprEF.value x (AB.seen_ext w))
         (AB.ExprEF.degree product) (AB.Expr.degree b.condition) (AB.ExprEF.degree x)
         ((factor : AB.ExprEF) × AB.ExprEF.is_product factor x product)
         × AB.accepts_ext b.inner.now product c.inner.now) };
 
-    ghost refuses_ext = { λ b x e c. (c.inner.ghost_name ≡ b.inner.ghost_name) × (c.condition ≡ b.condition)
+    ghost refuses_ext = { λ b x e c. (c.inner.ghost_name ≡ b.inner.ghost_name)
+        × (c.condition ≡ b.condition)
         × (((e ≡ Memory) × (c.inner.now ≡ b.inner.now))
-        ⊎ ((product : AB.ExprEF) × IsProduct AB.EF.ring.mul (λ w. AB.ExprEF.value product (AB.seen_ext w))
+        ⊎ ((product : AB.ExprEF)
+        × IsProduct AB.EF.ring.mul (λ w. AB.ExprEF.value product (AB.seen_ext w))
         (λ w. AB.EF.embed (AB.Expr.value b.condition (AB.seen w.base)))
         (λ w. AB.ExprEF.value x (AB.seen_ext w))
         (AB.ExprEF.degree product) (AB.Expr.degree b.condition) (AB.ExprEF.degree x)

@@ -28,7 +28,8 @@ impl AirLayout {
 
     /// The layout of an AIR's traces, without a permutation argument.
     pub fn from_air<F, A: BaseAir<F>>(air: &A) -> Self
-        ensures { result ≡ layout_of_widths (A.width air.now) (A.preprocessed_width air.now) (A.num_public_values air.now) }
+        ensures { result ≡ layout_of_widths (A.width air.now) (A.preprocessed_width air.now)
+            (A.num_public_values air.now) }
     {
         AirLayout {
             preprocessed_width: air.preprocessed_width(),
@@ -44,8 +45,10 @@ impl AirLayout {
     /// Returns the first of them that differs, with the AIR's number as the expected one.
     pub fn validate_against_air<F, A: BaseAir<F>>(&self, air: &A) -> Result<(), AirError>
         ensures { MatchResult result
-            (λ _. first_mismatch (A.width air.now) (A.preprocessed_width air.now) (A.num_public_values air.now) self.now ≡ None)
-            (λ e. first_mismatch (A.width air.now) (A.preprocessed_width air.now) (A.num_public_values air.now) self.now ≡ Some e) }
+            (λ _. first_mismatch (A.width air.now) (A.preprocessed_width air.now)
+            (A.num_public_values air.now) self.now ≡ None)
+            (λ e. first_mismatch (A.width air.now) (A.preprocessed_width air.now)
+            (A.num_public_values air.now) self.now ≡ Some e) }
     {
         compare(LayoutPart::Main, air.width(), self.main_width)?;
         compare(
@@ -66,7 +69,8 @@ impl AirLayout {
         preprocessed: Option<&'a RowMajorMatrix<T>>,
         public_values: &[T],
     ) -> Self
-        ensures { result ≡ layout_of_traces main.now (option_copied preprocessed.entry) public_values.now }
+        ensures { result ≡ layout_of_traces main.now
+            (option_copied preprocessed.entry) public_values.now }
     {
         AirLayout {
             preprocessed_width: preprocessed.map_or(0, |trace| trace.width()),

@@ -27,8 +27,10 @@ impl<F> SymbolicExpression<F> {
         requires { Fits (AB.layout builder.now) (tree_of self.now) }
         ensures means { IfOk result (λ r. (w : Window F) → AB.stands_for builder.now w
             → AB.Expr.value r (AB.seen w) ≡ value_of F.ring w (tree_of self.now)) }
-        ensures degree { IfOk result (λ r. (t : ℕ) → AB.Expr.degree r t ≤ degree_of t (tree_of self.now)) }
-        ensures refused { IfErr result (λ e. (e ≡ AirError.Memory) ⊎ AB.window_refuses builder.now e) }
+        ensures degree { IfOk result (λ r. (t : ℕ)
+            → AB.Expr.degree r t ≤ degree_of t (tree_of self.now)) }
+        ensures refused { IfErr result (λ e. (e ≡ AirError.Memory)
+            ⊎ AB.window_refuses builder.now e) }
     {
         let main = builder.main(alloc)?;
         Ok(resolve_over(alloc, self, builder, &main)?)
@@ -51,7 +53,8 @@ pub fn resolve_over<AB: AirBuilder>(
         (AB.layout builder.now).main_width (λ w. w.main_next) (AB.MainWindow.next main.now) }
     ensures means { IfOk result (λ r. (w : Window AB.F) → AB.stands_for builder.now w
         → AB.Expr.value r (AB.seen w) ≡ value_of AB.F.ring w (tree_of expression.now)) }
-    ensures degree { IfOk result (λ r. (t : ℕ) → AB.Expr.degree r t ≤ degree_of t (tree_of expression.now)) }
+    ensures degree { IfOk result (λ r. (t : ℕ)
+        → AB.Expr.degree r t ≤ degree_of t (tree_of expression.now)) }
 {
     match expression {
         SymbolicExpression::Leaf(leaf) => Ok(resolve_leaf(*leaf, builder, main)),
@@ -130,7 +133,8 @@ fn resolve_variable<AB: AirBuilder>(
 fn cell<V: Copy, W: WindowAccess<V>>(window: &W, offset: usize, index: usize) -> V
     requires readable { W.readable window.now }
     requires within { index < length (row_at offset (W.current window.now) (W.next window.now)) }
-    ensures { slice_get (row_at offset (W.current window.now) (W.next window.now)) index ≡ Some result }
+    ensures { slice_get (row_at offset (W.current window.now) (W.next window.now)) index
+        ≡ Some result }
 {
     if offset == 0 {
         window.current_slice()[index]

@@ -150,7 +150,8 @@ impl BabyBear {
     #[inline]
     fn stored_product(self, rhs: BabyBear) -> u64
         ensures below { result ≤ 4053239664633446400 }
-        ensures value { from_stored result ≡ baby_bear_ring.mul (baby_bear_of 4294967296) (baby_bear_ring.mul self rhs) }
+        ensures value { from_stored result ≡ baby_bear_ring.mul (baby_bear_of 4294967296)
+            (baby_bear_ring.mul self rhs) }
     {
         self.stored() as u64 * rhs.stored() as u64
     }
@@ -173,7 +174,8 @@ impl BabyBear {
         z: (BabyBear, BabyBear),
         w: (BabyBear, BabyBear),
     ) -> Self
-        ensures { result ≡ baby_bear_ring.add (baby_bear_ring.add (baby_bear_ring.mul x.0 x.1) (baby_bear_ring.mul y.0 y.1))
+        ensures { result ≡ baby_bear_ring.add
+            (baby_bear_ring.add (baby_bear_ring.mul x.0 x.1) (baby_bear_ring.mul y.0 y.1))
             (baby_bear_ring.add (baby_bear_ring.mul z.0 z.1) (baby_bear_ring.mul w.0 w.1)) }
     {
         let front = x.0.stored_product(x.1) + y.0.stored_product(y.1);

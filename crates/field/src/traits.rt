@@ -124,7 +124,8 @@ pub trait Field: Domain {
 
     /// The inverse of `self`, and `None` exactly if `self` is zero.
     fn try_inverse(self) -> Option<Self>
-        ensures inverts { MatchOption result (self ≡ Self.ring.zero) (λ v. IsInverse Self.ring self v) }
+        ensures inverts { MatchOption result (self ≡ Self.ring.zero)
+            (λ v. IsInverse Self.ring self v) }
         ensures value { MatchOption result (self ≡ Self.ring.zero) (λ v. v ≡ inverse self) };
 
     /// The inverse of `self`, which must not be zero.
@@ -181,7 +182,13 @@ pub trait ExtensionField<F: Field>: ExtensionDomain<F> + Field {}
 impl<F: Field> ExtensionDomain<F> for F {
     ghost embed = { λ x. x };
 
-    ghost embeds = { record { zero = refl; one = refl; add = λ a b. refl; mul = λ a b. refl; injective = λ a b e. e } };
+    ghost embeds = { record {
+      zero = refl;
+      one = refl;
+      add = λ a b. refl;
+      mul = λ a b. refl;
+      injective = λ a b e. e;
+    } };
 
     ghost same_characteristic = { refl };
 

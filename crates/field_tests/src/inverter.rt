@@ -8,7 +8,8 @@ use std::process::Abort;
 ///
 /// That the count stays at its limit is proved here, for every inverter.
 fn inverts<K: Field, I: Inverter<K>>(rt: &impl Abort, what: &str, inverter: &mut I, x: K, wanted: K)
-    ensures stays_at_its_limit { I.count inverter.old ≡ 2 ^ 64 - 1 → I.count inverter.new ≡ 2 ^ 64 - 1 }
+    ensures stays_at_its_limit { I.count inverter.old ≡ 2 ^ 64 - 1
+        → I.count inverter.new ≡ 2 ^ 64 - 1 }
 {
     match inverter.invert(x) {
         Some(found) => is(rt, what, found, wanted),

@@ -23,7 +23,8 @@ use std::hash::Hash;
 /// tuples of groups. Ignores local lookups. Refuses `BusWidthMismatch` at the first tuple whose width
 /// is not that of the first tuple on its bus, whichever AIR sends that one.
 pub fn check_bus_widths<F: Field>(alloc: Global, airs: &[Lookups<F>]) -> Result<usize, LookupError>
-    ensures { let widths = all_named_widths (map (λ air. map fields_of (lookups_of air)) airs.now) in MatchResult result
+    ensures { let widths = all_named_widths (map
+        (λ air. map fields_of (lookups_of air)) airs.now) in MatchResult result
         (λ widest. AgreeOnWidths widths × (widest ≡ greatest (map (λ w. w.1) widths)))
         (λ e. (e ≡ LookupError.Memory) ⊎ IsFirstMismatch widths e) }
 {
@@ -43,7 +44,8 @@ fn widths_on_buses<'a, F: Field>(
     alloc: Global,
     airs: &'a [Lookups<F>],
 ) -> Result<Vec<NamedWidth<'a>>, AllocError>
-    ensures { IfOk result (λ v. seen_widths v.items ≡ all_named_widths (map (λ air. map fields_of (lookups_of air)) airs.now)) }
+    ensures { IfOk result (λ v. seen_widths v.items
+        ≡ all_named_widths (map (λ air. map fields_of (lookups_of air)) airs.now)) }
 {
     let mut widths = Vec::new(alloc);
     for air in airs {
@@ -58,7 +60,8 @@ fn push_air<'a, F: Field>(
     widths: &mut Vec<NamedWidth<'a>>,
     lookups: &'a [Lookup<F>],
 ) -> Result<(), AllocError>
-    ensures { OnOk result (seen_widths widths.new.items ≡ seen_widths widths.old.items ++ named_widths (map fields_of lookups.now)) }
+    ensures { OnOk result (seen_widths widths.new.items ≡ seen_widths widths.old.items
+        ++ named_widths (map fields_of lookups.now)) }
 {
     let buses = by_bus(alloc, lookups)?;
     for place in 0..buses.len() {
@@ -76,7 +79,8 @@ fn push_bus<'a, F: Field>(
     members: &[&Lookup<F>],
 ) -> Result<(), AllocError>
     ensures { OnOk result (seen_widths widths.new.items ≡ seen_widths widths.old.items
-        ++ map (λ w. (name.entry.now, w)) (flat_map widths_of (map (λ r. fields_of r.now) members.now))) }
+        ++ map (λ w. (name.entry.now, w)) (flat_map widths_of
+        (map (λ r. fields_of r.now) members.now))) }
 {
     for lookup in members {
         push_tuples(widths, name, lookup.elements.as_slice())?;
@@ -105,7 +109,8 @@ fn push_tuples<'a, F>(
 /// The greatest width, or the refusal of the first that is not the first of its bus.
 fn widest(alloc: Global, widths: &[NamedWidth<'_>]) -> Result<usize, LookupError>
     ensures { MatchResult result
-        (λ widest. AgreeOnWidths (seen_widths widths.now) × (widest ≡ greatest (map (λ w. w.1) (seen_widths widths.now))))
+        (λ widest. AgreeOnWidths (seen_widths widths.now)
+        × (widest ≡ greatest (map (λ w. w.1) (seen_widths widths.now))))
         (λ e. (e ≡ LookupError.Memory) ⊎ IsFirstMismatch (seen_widths widths.now) e) }
 {
     let mut firsts = IndexMap::new(alloc);

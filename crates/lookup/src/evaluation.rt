@@ -19,11 +19,14 @@ pub(crate) fn eval_fractions<P: LookupProtocol, AB: PermutationAirBuilder>(
     lookups: &[Lookup<AB::F>],
 ) -> Result<(), AirError>
     requires fit { DoFit (AB.layout builder.old) lookups.now }
-    requires challenges { 2 * length lookups.now ≤ (AB.layout builder.old).num_permutation_challenges }
+    requires challenges { 2 * length lookups.now
+        ≤ (AB.layout builder.old).num_permutation_challenges }
     requires cells { length lookups.now < (AB.layout builder.old).permutation_width }
     ensures { let E = extension AB.F.ring AB.F.eq AB.EF.ring AB.EF.eq AB.EF.embed AB.EF.inverse in
-        Evaluates AB.accepts_ext AB.refuses_ext (λ b e. (e ≡ AirError.Memory) ⊎ AB.window_refuses b e)
-        (IsConstraint (λ x w. AB.ExprEF.value x (AB.seen_ext w)) AB.ExprEF.degree (AB.stands_for_ext builder.old))
+        Evaluates AB.accepts_ext AB.refuses_ext (λ b e. (e ≡ AirError.Memory)
+        ⊎ AB.window_refuses b e)
+        (IsConstraint (λ x w. AB.ExprEF.value x (AB.seen_ext w)) AB.ExprEF.degree
+        (AB.stands_for_ext builder.old))
         builder.old (map (fraction_constraint E) lookups.now) result builder.new }
 {
     for lookup in lookups {
@@ -39,12 +42,16 @@ pub(crate) fn eval_terminal<P: LookupProtocol, AB: PermutationAirBuilder>(
     builder: &mut AB,
     lookups: &[Lookup<AB::F>],
 ) -> Result<(), AirError>
-    requires cells { All (λ lookup. lookup.column + 1 < (AB.layout builder.old).permutation_width) lookups.now }
+    requires cells { All (λ lookup. lookup.column + 1
+        < (AB.layout builder.old).permutation_width) lookups.now }
     requires terminal { 0 < (AB.layout builder.old).num_permutation_values }
     ensures { let E = extension AB.F.ring AB.F.eq AB.EF.ring AB.EF.eq AB.EF.embed AB.EF.inverse in
-        Evaluates AB.accepts_ext AB.refuses_ext (λ b e. (e ≡ AirError.Memory) ⊎ AB.window_refuses b e)
-        (IsConstraint (λ x w. AB.ExprEF.value x (AB.seen_ext w)) AB.ExprEF.degree (AB.stands_for_ext builder.old))
-        builder.old (accumulator_constraints E lookups.now (terminal_at E) (λ t. 0)) result builder.new }
+        Evaluates AB.accepts_ext AB.refuses_ext (λ b e. (e ≡ AirError.Memory)
+        ⊎ AB.window_refuses b e)
+        (IsConstraint (λ x w. AB.ExprEF.value x (AB.seen_ext w)) AB.ExprEF.degree
+        (AB.stands_for_ext builder.old))
+        builder.old (accumulator_constraints E lookups.now (terminal_at E) (λ t. 0)) result
+        builder.new }
 {
     let terminal = terminal(&*builder);
     protocol.eval_accumulator(alloc, builder, lookups, terminal)

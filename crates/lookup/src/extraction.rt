@@ -21,7 +21,8 @@ fn local_lookup<F: Field>(
     column: usize,
 ) -> Result<Lookup<F>, LookupError>
     ensures { MatchResult result
-        (λ lookup. (fields_of lookup ≡ local_at column (local_of interaction)) × IsFaultless (local_of interaction) × IsRecordAt column lookup)
+        (λ lookup. (fields_of lookup ≡ local_at column (local_of interaction))
+        × IsFaultless (local_of interaction) × IsRecordAt column lookup)
         (λ e. (e ≡ LookupError.Memory) ⊎ IsLocalRefusal (local_of interaction) e) }
 {
     let mut elements = Vec::new(alloc);
@@ -53,7 +54,8 @@ fn global_lookup<F: Field>(
     interaction: SymbolicInteraction<F>,
     column: usize,
 ) -> Result<Lookup<F>, AllocError>
-    ensures { IfOk result (λ lookup. (fields_of lookup ≡ global_at column (global_of interaction)) × IsRecordAt column lookup) }
+    ensures { IfOk result (λ lookup. (fields_of lookup ≡ global_at column (global_of interaction))
+        × IsRecordAt column lookup) }
 {
     let mut elements = Vec::new(alloc);
     elements.push(interaction.fields)?;
@@ -75,7 +77,8 @@ fn exclusive_lookup<F: Field>(
     interaction: SymbolicExclusiveInteraction<F>,
     column: usize,
 ) -> Result<Lookup<F>, AllocError>
-    ensures { IfOk result (λ lookup. (fields_of lookup ≡ exclusive_at column (exclusive_of interaction)) × IsRecordAt column lookup) }
+    ensures { IfOk result (λ lookup. (fields_of lookup
+        ≡ exclusive_at column (exclusive_of interaction)) × IsRecordAt column lookup) }
 {
     let mut elements = Vec::new(alloc);
     let mut multiplicities = Vec::new(alloc);
@@ -105,7 +108,8 @@ fn local_lookups<F: Field>(
     locals: Vec<SymbolicLocalInteraction<F>>,
 ) -> Result<Vec<Lookup<F>>, LookupError>
     ensures { MatchResult result
-        (λ lookups. (map fields_of lookups.items ≡ in_columns local_at 0 (map local_of locals.items))
+        (λ lookups. (map fields_of lookups.items
+        ≡ in_columns local_at 0 (map local_of locals.items))
         × All IsFaultless (map local_of locals.items) × AreRecords lookups.items)
         (λ e. (e ≡ LookupError.Memory) ⊎ IsFirstLocalRefusal (map local_of locals.items) e) }
 {
@@ -124,7 +128,8 @@ fn with_globals<F: Field>(
     globals: Vec<SymbolicInteraction<F>>,
 ) -> Result<Vec<Lookup<F>>, AllocError>
     requires { AreRecords before.items }
-    ensures { IfOk result (λ lookups. (map fields_of lookups.items ≡ map fields_of before.items ++ in_columns global_at (length before.items) (map global_of globals.items))
+    ensures { IfOk result (λ lookups. (map fields_of lookups.items ≡ map fields_of before.items
+        ++ in_columns global_at (length before.items) (map global_of globals.items))
         × AreRecords lookups.items) }
 {
     let mut lookups = before;
@@ -142,7 +147,8 @@ fn with_exclusives<F: Field>(
     exclusives: Vec<SymbolicExclusiveInteraction<F>>,
 ) -> Result<Vec<Lookup<F>>, AllocError>
     requires { AreRecords before.items }
-    ensures { IfOk result (λ lookups. (map fields_of lookups.items ≡ map fields_of before.items ++ in_columns exclusive_at (length before.items) (map exclusive_of exclusives.items))
+    ensures { IfOk result (λ lookups. (map fields_of lookups.items ≡ map fields_of before.items
+        ++ in_columns exclusive_at (length before.items) (map exclusive_of exclusives.items))
         × AreRecords lookups.items) }
 {
     let mut lookups = before;
@@ -164,7 +170,9 @@ pub(crate) fn extracted<F: Field>(
     exclusives: Vec<SymbolicExclusiveInteraction<F>>,
 ) -> Result<Vec<Lookup<F>>, LookupError>
     ensures { MatchResult result
-        (λ lookups. (map fields_of lookups.items ≡ extraction (map local_of locals.items) (map global_of globals.items) (map exclusive_of exclusives.items))
+        (λ lookups. (map fields_of lookups.items
+        ≡ extraction (map local_of locals.items) (map global_of globals.items)
+        (map exclusive_of exclusives.items))
         × All IsFaultless (map local_of locals.items) × AreRecords lookups.items)
         (λ e. (e ≡ LookupError.Memory) ⊎ IsFirstLocalRefusal (map local_of locals.items) e) }
 {

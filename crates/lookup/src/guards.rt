@@ -24,7 +24,8 @@ pub fn check_multiplicity_height_bound<F: Field>(
     requires { length heights.now ≡ length airs.now }
     ensures bound { MatchResult result
         (λ _. weighted_height_sum (map lookups_of airs.now) heights.now < F.CHARACTERISTIC)
-        (λ e. IsHeightRefusal F.CHARACTERISTIC (weighted_height_sum (map lookups_of airs.now) heights.now) e) }
+        (λ e. IsHeightRefusal F.CHARACTERISTIC
+        (weighted_height_sum (map lookups_of airs.now) heights.now) e) }
     ensures law { IfOk result (λ _. HeightLaws F.ring F.eq (map lookups_of airs.now) heights.now) }
 {
     let sum = saturated_height_sum(airs, heights);
@@ -40,7 +41,8 @@ pub fn check_multiplicity_height_bound<F: Field>(
 /// The sum of total weight times height, or `u128::MAX` if it is greater.
 fn saturated_height_sum<F: Field>(airs: &[Lookups<F>], heights: &[usize]) -> u128
     requires { length heights.now ≡ length airs.now }
-    ensures { result ≡ min (weighted_height_sum (map lookups_of airs.now) heights.now) (2 ^ 128 - 1) }
+    ensures { result ≡ min (weighted_height_sum (map lookups_of airs.now) heights.now)
+        (2 ^ 128 - 1) }
 {
     let mut sum: u128 = 0;
     for air in 0..airs.len() {

@@ -76,12 +76,19 @@ impl LogUpGadget {
         inverter: &mut I,
     ) -> Result<(RowMajorMatrix<EF>, Option<LookupTerminal<EF>>), LookupError>
         requires heights { ForSome (option_copied preprocessed) (λ m. height m ≡ height main.now) }
-        requires fit { DoFit (layout_of_traces main.now (option_copied preprocessed) public_values.now) lookups.now }
+        requires fit { DoFit (layout_of_traces main.now
+            (option_copied preprocessed) public_values.now) lookups.now }
         requires challenges { 2 * length lookups.now ≤ length challenges.now }
-        ensures answers { ForInverses EF.ring (λ inverse. AnswersGeneration (extension F.ring F.eq EF.ring EF.eq EF.embed inverse) main.now (option_copied preprocessed.entry) public_values.now lookups.now challenges.now result) }
-        ensures counted { I.count inverter.new ≤ I.count inverter.old + started_chunks (height main.now) }
-        ensures spared { IfErr result (λ e. (e ≡ LookupError.Memory) ⊎ (I.count inverter.new < I.count inverter.old + started_chunks (height main.now))) }
-        ensures nothing_sent { length lookups.now ≡ 0 → I.count inverter.new ≡ I.count inverter.old }
+        ensures answers { ForInverses EF.ring
+            (λ inverse. AnswersGeneration (extension F.ring F.eq EF.ring EF.eq EF.embed inverse)
+            main.now (option_copied preprocessed.entry) public_values.now lookups.now challenges.now
+            result) }
+        ensures counted { I.count inverter.new
+            ≤ I.count inverter.old + started_chunks (height main.now) }
+        ensures spared { IfErr result (λ e. (e ≡ LookupError.Memory)
+            ⊎ (I.count inverter.new < I.count inverter.old + started_chunks (height main.now))) }
+        ensures nothing_sent { length lookups.now ≡ 0
+            → I.count inverter.new ≡ I.count inverter.old }
     {
         lookup_generation::generate_counted(
             alloc,

@@ -50,9 +50,12 @@ impl<F: Field> Lookups<F> {
         alloc: Global,
         air: &A,
     ) -> Result<Self, LookupError>
-        ensures extracts { Extracts A.evaluates air.now (layout_of_widths (A.width air.now) (A.preprocessed_width air.now) (A.num_public_values air.now)) result }
+        ensures extracts { Extracts A.evaluates air.now
+            (layout_of_widths (A.width air.now) (A.preprocessed_width air.now)
+            (A.num_public_values air.now)) result }
         ensures within { IfOk result (λ set. EvaluatesWithin A.evaluates air.now
-            → DoFit (layout_of_widths (A.width air.now) (A.preprocessed_width air.now) (A.num_public_values air.now)) (lookups_of set)) }
+            → DoFit (layout_of_widths (A.width air.now) (A.preprocessed_width air.now)
+            (A.num_public_values air.now)) (lookups_of set)) }
     {
         let layout = AirLayout::from_air(air);
         let builder = InteractionSymbolicBuilder::from_air(alloc, air, layout)?;
@@ -95,11 +98,15 @@ impl<F: Field> Lookups<F> {
         degree: D,
     ) -> Result<Self, LookupError>
         requires callable { (lookup : _) → IsMember lookup.now → D.pre degree lookup }
-        ensures packs { Packs (Answers (FnReturnsAt D.Fn degree)) max_degree (λ set. map fields_of (lookups_of set)) (map fields_of (lookups_of self)) result }
+        ensures packs { Packs (Answers (FnReturnsAt D.Fn degree)) max_degree
+            (λ set. map fields_of (lookups_of set)) (map fields_of (lookups_of self)) result }
         ensures weight { IfOk result (λ set. KeepsWeight (lookups_of self) (lookups_of set)) }
-        ensures messages { IfOk result (λ set. KeepsMessages F.ring F.eq (lookups_of self) (lookups_of set)) }
-        ensures nets { IfOk result (λ set. KeepsNets F.ring F.eq (lookups_of self) (lookups_of set)) }
-        ensures keys { IfOk result (λ set. KeepsKeys F.ring F.eq (lookups_of self) (lookups_of set)) }
+        ensures messages { IfOk result (λ set. KeepsMessages F.ring F.eq (lookups_of self)
+            (lookups_of set)) }
+        ensures nets { IfOk result (λ set. KeepsNets F.ring F.eq (lookups_of self)
+            (lookups_of set)) }
+        ensures keys { IfOk result (λ set. KeepsKeys F.ring F.eq (lookups_of self)
+            (lookups_of set)) }
         ensures fits { IfOk result (λ set. DoesStillFit (lookups_of self) (lookups_of set)) }
     {
         let lookups = lookup_packing::packed(alloc, self.lookups, max_degree, degree)?;
@@ -116,12 +123,17 @@ impl<F: Field> Lookups<F> {
         gadget: &LG,
         max_degree: usize,
     ) -> Result<Self, LookupError>
-        ensures packs { Packs AnswersDegree max_degree (λ set. map fields_of (lookups_of set)) (map fields_of (lookups_of self)) result }
-        ensures fewest { IfOk result (λ set. HasFewestColumns max_degree (map fields_of (lookups_of self)) (map fields_of (lookups_of set))) }
+        ensures packs { Packs AnswersDegree max_degree (λ set. map fields_of (lookups_of set))
+            (map fields_of (lookups_of self)) result }
+        ensures fewest { IfOk result (λ set. HasFewestColumns max_degree
+            (map fields_of (lookups_of self)) (map fields_of (lookups_of set))) }
         ensures weight { IfOk result (λ set. KeepsWeight (lookups_of self) (lookups_of set)) }
-        ensures messages { IfOk result (λ set. KeepsMessages F.ring F.eq (lookups_of self) (lookups_of set)) }
-        ensures nets { IfOk result (λ set. KeepsNets F.ring F.eq (lookups_of self) (lookups_of set)) }
-        ensures keys { IfOk result (λ set. KeepsKeys F.ring F.eq (lookups_of self) (lookups_of set)) }
+        ensures messages { IfOk result (λ set. KeepsMessages F.ring F.eq (lookups_of self)
+            (lookups_of set)) }
+        ensures nets { IfOk result (λ set. KeepsNets F.ring F.eq (lookups_of self)
+            (lookups_of set)) }
+        ensures keys { IfOk result (λ set. KeepsKeys F.ring F.eq (lookups_of self)
+            (lookups_of set)) }
         ensures fits { IfOk result (λ set. DoesStillFit (lookups_of self) (lookups_of set)) }
     {
         self.pack_same_bus_with_degree(
@@ -163,7 +175,8 @@ impl<F: Field> Lookups<F> {
     ///
     /// Fails only when out of memory.
     pub fn copy(&self, alloc: Global) -> Result<Self, AllocError>
-        ensures { IfOk result (λ r. map outline_of (lookups_of r) ≡ map outline_of (lookups_of self.now)) }
+        ensures { IfOk result (λ r. map outline_of (lookups_of r)
+            ≡ map outline_of (lookups_of self.now)) }
     {
         let lookups = copy_lookups(alloc, self.as_slice())?;
         Ok(Lookups { lookups })

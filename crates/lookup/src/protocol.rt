@@ -47,11 +47,15 @@ pub trait LookupProtocol: Sized {
     ) -> Result<(), AirError>
         requires lengths { HasEqualLengths lookup.now }
         requires fits { IsWithin (AB.layout builder.old) lookup.now }
-        requires challenges { 2 * lookup.now.column + 1 < (AB.layout builder.old).num_permutation_challenges }
+        requires challenges { 2 * lookup.now.column + 1
+            < (AB.layout builder.old).num_permutation_challenges }
         requires cell { lookup.now.column + 1 < (AB.layout builder.old).permutation_width }
-        ensures { let E = extension AB.F.ring AB.F.eq AB.EF.ring AB.EF.eq AB.EF.embed AB.EF.inverse in
-            Evaluates AB.accepts_ext AB.refuses_ext (λ b e. (e ≡ AirError.Memory) ⊎ AB.window_refuses b e)
-            (IsConstraint (λ x w. AB.ExprEF.value x (AB.seen_ext w)) AB.ExprEF.degree (AB.stands_for_ext builder.old))
+        ensures { let E = extension AB.F.ring AB.F.eq AB.EF.ring AB.EF.eq AB.EF.embed
+            AB.EF.inverse in
+            Evaluates AB.accepts_ext AB.refuses_ext (λ b e. (e ≡ AirError.Memory)
+            ⊎ AB.window_refuses b e)
+            (IsConstraint (λ x w. AB.ExprEF.value x (AB.seen_ext w)) AB.ExprEF.degree
+            (AB.stands_for_ext builder.old))
             builder.old (fraction_constraint E lookup.now ∷ []) result builder.new };
 
     /// Asserts the accumulator's equations, where the accumulator is cell 0 of the auxiliary row.
@@ -70,11 +74,17 @@ pub trait LookupProtocol: Sized {
         lookups: &[Lookup<AB::F>],
         terminal: AB::ExprEF,
     ) -> Result<(), AirError>
-        requires cells { All (λ lookup. lookup.column + 1 < (AB.layout builder.old).permutation_width) lookups.now }
-        ensures { let E = extension AB.F.ring AB.F.eq AB.EF.ring AB.EF.eq AB.EF.embed AB.EF.inverse in
-            Evaluates AB.accepts_ext AB.refuses_ext (λ b e. (e ≡ AirError.Memory) ⊎ AB.window_refuses b e)
-            (IsConstraint (λ x w. AB.ExprEF.value x (AB.seen_ext w)) AB.ExprEF.degree (AB.stands_for_ext builder.old))
-            builder.old (accumulator_constraints E lookups.now (λ w. AB.ExprEF.value terminal (AB.seen_ext w)) (AB.ExprEF.degree terminal)) result builder.new };
+        requires cells { All (λ lookup. lookup.column + 1
+            < (AB.layout builder.old).permutation_width) lookups.now }
+        ensures { let E = extension AB.F.ring AB.F.eq AB.EF.ring AB.EF.eq AB.EF.embed
+            AB.EF.inverse in
+            Evaluates AB.accepts_ext AB.refuses_ext (λ b e. (e ≡ AirError.Memory)
+            ⊎ AB.window_refuses b e)
+            (IsConstraint (λ x w. AB.ExprEF.value x (AB.seen_ext w)) AB.ExprEF.degree
+            (AB.stands_for_ext builder.old))
+            builder.old (accumulator_constraints E lookups.now
+            (λ w. AB.ExprEF.value terminal (AB.seen_ext w)) (AB.ExprEF.degree terminal)) result
+            builder.new };
 
     /// Asserts the equation of each lookup in order, and then the accumulator's three. The terminal
     /// is the first permutation value. Nothing is asserted without lookups.
@@ -88,12 +98,18 @@ pub trait LookupProtocol: Sized {
         lookups: &[Lookup<AB::F>],
     ) -> Result<(), AirError>
         requires fit { DoFit (AB.layout builder.old) lookups.now }
-        requires challenges { 2 * length lookups.now ≤ (AB.layout builder.old).num_permutation_challenges }
-        requires cells { 0 < length lookups.now → length lookups.now < (AB.layout builder.old).permutation_width }
-        requires terminal { 0 < length lookups.now → 0 < (AB.layout builder.old).num_permutation_values }
-        ensures { let E = extension AB.F.ring AB.F.eq AB.EF.ring AB.EF.eq AB.EF.embed AB.EF.inverse in
-            Evaluates AB.accepts_ext AB.refuses_ext (λ b e. (e ≡ AirError.Memory) ⊎ AB.window_refuses b e)
-            (IsConstraint (λ x w. AB.ExprEF.value x (AB.seen_ext w)) AB.ExprEF.degree (AB.stands_for_ext builder.old))
+        requires challenges { 2 * length lookups.now
+            ≤ (AB.layout builder.old).num_permutation_challenges }
+        requires cells { 0 < length lookups.now
+            → length lookups.now < (AB.layout builder.old).permutation_width }
+        requires terminal { 0 < length lookups.now
+            → 0 < (AB.layout builder.old).num_permutation_values }
+        ensures { let E = extension AB.F.ring AB.F.eq AB.EF.ring AB.EF.eq AB.EF.embed
+            AB.EF.inverse in
+            Evaluates AB.accepts_ext AB.refuses_ext (λ b e. (e ≡ AirError.Memory)
+            ⊎ AB.window_refuses b e)
+            (IsConstraint (λ x w. AB.ExprEF.value x (AB.seen_ext w)) AB.ExprEF.degree
+            (AB.stands_for_ext builder.old))
             builder.old (lookup_constraints E lookups.now) result builder.new }
     {
         if lookups.is_empty() {
@@ -116,13 +132,19 @@ pub trait LookupProtocol: Sized {
         lookups: &[Lookup<AB::F>],
     ) -> Result<(), AirError>
         requires fit { DoFit (AB.layout builder.old) lookups.now }
-        requires challenges { 2 * length lookups.now ≤ (AB.layout builder.old).num_permutation_challenges }
-        requires cells { 0 < length lookups.now → length lookups.now < (AB.layout builder.old).permutation_width }
-        requires terminal { 0 < length lookups.now → 0 < (AB.layout builder.old).num_permutation_values }
-        ensures { let E = extension AB.F.ring AB.F.eq AB.EF.ring AB.EF.eq AB.EF.embed AB.EF.inverse in
+        requires challenges { 2 * length lookups.now
+            ≤ (AB.layout builder.old).num_permutation_challenges }
+        requires cells { 0 < length lookups.now
+            → length lookups.now < (AB.layout builder.old).permutation_width }
+        requires terminal { 0 < length lookups.now
+            → 0 < (AB.layout builder.old).num_permutation_values }
+        ensures { let E = extension AB.F.ring AB.F.eq AB.EF.ring AB.EF.eq AB.EF.embed
+            AB.EF.inverse in
             EvaluatesBoth A.evaluates
-            (λ between answer after. Evaluates AB.accepts_ext AB.refuses_ext (λ b e. (e ≡ AirError.Memory) ⊎ AB.window_refuses b e)
-            (IsConstraint (λ x w. AB.ExprEF.value x (AB.seen_ext w)) AB.ExprEF.degree (AB.stands_for_ext between))
+            (λ between answer after. Evaluates AB.accepts_ext AB.refuses_ext
+            (λ b e. (e ≡ AirError.Memory) ⊎ AB.window_refuses b e)
+            (IsConstraint (λ x w. AB.ExprEF.value x (AB.seen_ext w)) AB.ExprEF.degree
+            (AB.stands_for_ext between))
             between (lookup_constraints E lookups.now) answer after)
             air.now builder.old result builder.new }
     {
@@ -168,9 +190,12 @@ pub trait LookupProtocol: Sized {
         challenges: &[EF],
     ) -> Result<(RowMajorMatrix<EF>, Option<LookupTerminal<EF>>), LookupError>
         requires heights { ForSome (option_copied preprocessed) (λ m. height m ≡ height main.now) }
-        requires fit { DoFit (layout_of_traces main.now (option_copied preprocessed) public_values.now) lookups.now }
+        requires fit { DoFit (layout_of_traces main.now
+            (option_copied preprocessed) public_values.now) lookups.now }
         requires challenges { 2 * length lookups.now ≤ length challenges.now }
-        ensures { AnswersGeneration (extension F.ring F.eq EF.ring EF.eq EF.embed EF.inverse) main.now (option_copied preprocessed.entry) public_values.now lookups.now challenges.now result };
+        ensures { AnswersGeneration (extension F.ring F.eq EF.ring EF.eq EF.embed EF.inverse)
+            main.now (option_copied preprocessed.entry) public_values.now lookups.now challenges.now
+            result };
 
     /// Whether the terminals of all AIRs cancel.
     ///
@@ -181,5 +206,6 @@ pub trait LookupProtocol: Sized {
     ) -> Result<(), LookupError>
         ensures { MatchResult result
             (λ _. terminal_sum EF.ring terminals.now ≡ EF.ring.zero)
-            (λ e. (e ≡ LookupError.TerminalSumNonZero) × (terminal_sum EF.ring terminals.now ≢ EF.ring.zero)) };
+            (λ e. (e ≡ LookupError.TerminalSumNonZero)
+            × (terminal_sum EF.ring terminals.now ≢ EF.ring.zero)) };
 }

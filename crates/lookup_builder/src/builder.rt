@@ -39,7 +39,8 @@ pub trait InteractionBuilder: AirBuilder {
     ) -> Result<(), AirError>
         ensures { MatchResult result
             (λ _. pushes self.old (pushed_global bus_name.now fields.items count) self.new)
-            (λ e. refuses_push self.old (pushed_global bus_name.now fields.items count) e self.new) };
+            (λ e. refuses_push self.old (pushed_global bus_name.now fields.items count) e
+            self.new) };
 
     /// Pushes one lookup inside the AIR, which consists of all these tuples, each with its count.
     fn push_local_interaction(
@@ -63,7 +64,8 @@ pub trait InteractionBuilder: AirBuilder {
     ) -> Result<(), AirError>
         ensures { MatchResult result
             (λ _. pushes self.old (pushed_exclusive bus_name.now branches.items) self.new)
-            (λ e. refuses_push self.old (pushed_exclusive bus_name.now branches.items) e self.new) };
+            (λ e. refuses_push self.old (pushed_exclusive bus_name.now branches.items) e
+            self.new) };
 
     /// How many messages on buses are recorded.
     fn num_global_interactions(&self) -> usize
@@ -77,14 +79,16 @@ pub trait InteractionBuilder: AirBuilder {
     fn num_exclusive_interactions(&self) -> usize
         ensures { result ≡ exclusive_count self.now };
 
-    ghost push_keeps: { (b : Self) (m : Interaction Self.Expr) (c : Self) (w : Window Self.F) → pushes b m c
+    ghost push_keeps: { (b : Self) (m : Interaction Self.Expr) (c : Self) (w : Window Self.F)
+        → pushes b m c
         → Self.stands_for b w ↔ Self.stands_for c w };
 
     ghost push_keeps_layout: { (b : Self) (m : Interaction Self.Expr) (c : Self) → pushes b m c
         → Self.layout c ≡ Self.layout b };
 
     ghost push_within: { (b : Self) (m : Interaction Self.Expr) (c : Self) → pushes b m c
-        → IsWithin Self.Expr.within (Self.layout b) m → Self.pushed_within b → Self.pushed_within c };
+        → IsWithin Self.Expr.within (Self.layout b) m → Self.pushed_within b
+        → Self.pushed_within c };
 }
 
 /// A builder that AIRs can declare indexed lookups to.
@@ -111,8 +115,11 @@ pub trait IndexedLookupBuilder: AirBuilder {
         payload: Vec<usize>,
     ) -> Result<(), AirError>
         ensures { MatchResult result
-            (λ _. declares self.old (read (record { table = table.now; position = position; payload = payload.items })) self.new)
-            (λ e. refuses_declaration self.old (read (record { table = table.now; position = position; payload = payload.items })) e self.new) };
+            (λ _. declares self.old (read (record
+            { table = table.now; position = position; payload = payload.items })) self.new)
+            (λ e. refuses_declaration self.old
+            (read (record { table = table.now; position = position; payload = payload.items })) e
+            self.new) };
 
     /// Declares that the AIR provides a table of this name, with these columns of this trace.
     fn push_indexed_table(
@@ -123,8 +130,11 @@ pub trait IndexedLookupBuilder: AirBuilder {
         columns: Vec<usize>,
     ) -> Result<(), AirError>
         ensures { MatchResult result
-            (λ _. declares self.old (table (record { name = name.now; window = window; columns = columns.items })) self.new)
-            (λ e. refuses_declaration self.old (table (record { name = name.now; window = window; columns = columns.items })) e self.new) };
+            (λ _. declares self.old (table (record
+            { name = name.now; window = window; columns = columns.items })) self.new)
+            (λ e. refuses_declaration self.old
+            (table (record { name = name.now; window = window; columns = columns.items })) e
+            self.new) };
 
     /// How many readers are declared.
     fn num_indexed_reads(&self) -> usize
@@ -134,7 +144,8 @@ pub trait IndexedLookupBuilder: AirBuilder {
     fn num_indexed_tables(&self) -> usize
         ensures { result ≡ table_count self.now };
 
-    ghost declaration_keeps: { (b : Self) (d : Declaration) (c : Self) (w : Window Self.F) → declares b d c
+    ghost declaration_keeps: { (b : Self) (d : Declaration) (c : Self) (w : Window Self.F)
+        → declares b d c
         → Self.stands_for b w ↔ Self.stands_for c w };
 
     ghost declaration_keeps_layout: { (b : Self) (d : Declaration) (c : Self) → declares b d c

@@ -60,11 +60,14 @@ impl<E> Count<E> {
     pub fn negate<F: Field>(self, alloc: Global) -> Result<Self, AllocError>
     where
         E: Expression<F>,
-        ensures negation { IfOk result (λ c. IsNegation F.ring.neg (E.value c.expression) (E.value self.expression)
+        ensures negation { IfOk result (λ c. IsNegation F.ring.neg (E.value c.expression)
+            (E.value self.expression)
             (E.degree c.expression) (E.degree self.expression)) }
-        ensures twice { IfOk result (λ c. (s : E.Seen) → F.ring.neg (E.value c.expression s) ≡ E.value self.expression s) }
+        ensures twice { IfOk result (λ c. (s : E.Seen)
+            → F.ring.neg (E.value c.expression s) ≡ E.value self.expression s) }
         ensures weight { IfOk result (λ c. c.weight ≡ self.weight) }
-        ensures within { IfOk result (λ c. (l : AirLayout) → E.within l self.expression → E.within l c.expression) }
+        ensures within { IfOk result (λ c. (l : AirLayout) → E.within l self.expression
+            → E.within l c.expression) }
     {
         let expression = self.expression.neg(alloc)?;
         Ok(Count {
@@ -79,11 +82,14 @@ impl<E> Count<E> {
     pub fn copy<F: Field>(&self, alloc: Global) -> Result<Self, AllocError>
     where
         E: Expression<F>,
-        ensures means { IfOk result (λ c. (s : E.Seen) → E.value c.expression s ≡ E.value self.now.expression s) }
-        ensures degree { IfOk result (λ c. (t : ℕ) → E.degree c.expression t ≡ E.degree self.now.expression t) }
+        ensures means { IfOk result (λ c. (s : E.Seen)
+            → E.value c.expression s ≡ E.value self.now.expression s) }
+        ensures degree { IfOk result (λ c. (t : ℕ)
+            → E.degree c.expression t ≡ E.degree self.now.expression t) }
         ensures same { IfOk result (λ c. E.same self.now.expression c.expression) }
         ensures weight { IfOk result (λ c. c.weight ≡ self.now.weight) }
-        ensures within { IfOk result (λ c. (l : AirLayout) → E.within l self.now.expression → E.within l c.expression) }
+        ensures within { IfOk result (λ c. (l : AirLayout) → E.within l self.now.expression
+            → E.within l c.expression) }
     {
         let expression = self.expression.copy(alloc)?;
         Ok(Count {

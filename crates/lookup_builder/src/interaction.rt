@@ -62,7 +62,8 @@ impl<F: Field> SymbolicInteraction<F> {
     ///
     /// Fails only when out of memory.
     pub fn copy(&self, alloc: Global) -> Result<Self, AllocError>
-        ensures { IfOk result (λ r. map_global tree_of (global_of r) ≡ map_global tree_of (global_of self.now)) }
+        ensures { IfOk result (λ r. map_global tree_of (global_of r)
+            ≡ map_global tree_of (global_of self.now)) }
     {
         Ok(SymbolicInteraction {
             bus_name: String::from_str(alloc, self.bus_name.as_str())?,
@@ -78,7 +79,8 @@ impl<F: Field> SymbolicLocalInteraction<F> {
     ///
     /// Fails only when out of memory.
     pub fn copy(&self, alloc: Global) -> Result<Self, AllocError>
-        ensures { IfOk result (λ r. map (map_tuple tree_of) (local_of r) ≡ map (map_tuple tree_of) (local_of self.now)) }
+        ensures { IfOk result (λ r. map (map_tuple tree_of) (local_of r)
+            ≡ map (map_tuple tree_of) (local_of self.now)) }
     {
         let mut tuples = Vec::new(alloc);
         for tuple in self.tuples.as_slice() {
@@ -93,7 +95,8 @@ impl<F: Field> SymbolicExclusiveInteraction<F> {
     ///
     /// Fails only when out of memory.
     pub fn copy(&self, alloc: Global) -> Result<Self, AllocError>
-        ensures { IfOk result (λ r. map_exclusive tree_of (exclusive_of r) ≡ map_exclusive tree_of (exclusive_of self.now)) }
+        ensures { IfOk result (λ r. map_exclusive tree_of (exclusive_of r)
+            ≡ map_exclusive tree_of (exclusive_of self.now)) }
     {
         let bus_name = String::from_str(alloc, self.bus_name.as_str())?;
         let mut branches = Vec::new(alloc);
@@ -109,7 +112,8 @@ impl<F: Field> SymbolicExclusiveBranch<F> {
     ///
     /// Fails only when out of memory.
     pub fn copy(&self, alloc: Global) -> Result<Self, AllocError>
-        ensures { IfOk result (λ r. map_branch tree_of (branch_of r) ≡ map_branch tree_of (branch_of self.now)) }
+        ensures { IfOk result (λ r. map_branch tree_of (branch_of r)
+            ≡ map_branch tree_of (branch_of self.now)) }
     {
         Ok(SymbolicExclusiveBranch {
             flag: self.flag.copy(alloc)?,
@@ -122,7 +126,8 @@ impl<F: Field> SymbolicExclusiveBranch<F> {
 
 /// A copy of the tuple.
 fn copy_tuple<F: Field>(alloc: Global, tuple: &LocalTuple<F>) -> Result<LocalTuple<F>, AllocError>
-    ensures { IfOk result (λ t. map_tuple tree_of (tuple_of t) ≡ map_tuple tree_of (tuple_of tuple.now)) }
+    ensures { IfOk result (λ t. map_tuple tree_of (tuple_of t)
+        ≡ map_tuple tree_of (tuple_of tuple.now)) }
 {
     let fields = copy_expressions(alloc, tuple.0.as_slice())?;
     let count = tuple.1.copy_tree(alloc)?;

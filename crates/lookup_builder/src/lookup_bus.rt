@@ -43,10 +43,13 @@ impl<'a> LookupBus<'a> {
         count: Count<AB::Expr>,
     ) -> Result<(), AirError>
         ensures pushed { MatchResult result
-            (λ _. AB.pushes builder.old (pushed_global self.now.name.now key.items count) builder.new)
-            (λ e. AB.refuses_push builder.old (pushed_global self.now.name.now key.items count) e builder.new) }
+            (λ _. AB.pushes builder.old (pushed_global self.now.name.now key.items count)
+            builder.new)
+            (λ e. AB.refuses_push builder.old
+            (pushed_global self.now.name.now key.items count) e builder.new) }
         ensures within { OnOk result (All (AB.Expr.within (AB.layout builder.old)) key.items
-            → AB.Expr.within (AB.layout builder.old) count.expression → AB.pushed_within builder.old → AB.pushed_within builder.new) }
+            → AB.Expr.within (AB.layout builder.old) count.expression → AB.pushed_within builder.old
+            → AB.pushed_within builder.new) }
         ensures layout { OnOk result (AB.layout builder.new ≡ AB.layout builder.old) }
     {
         builder.push_interaction(alloc, self.name, key, count)
@@ -64,10 +67,12 @@ impl<'a> LookupBus<'a> {
         num_lookups: AB::Expr,
     ) -> Result<(), AirError>
         ensures pushed { PushesOne AB.pushes AB.refuses_push
-            (IsNegatedMessage AB.F.ring.neg AB.Expr.value AB.Expr.degree self.now.name.now key.items num_lookups 0)
+            (IsNegatedMessage AB.F.ring.neg AB.Expr.value AB.Expr.degree self.now.name.now key.items
+            num_lookups 0)
             builder.old result builder.new }
         ensures within { OnOk result (All (AB.Expr.within (AB.layout builder.old)) key.items
-            → AB.Expr.within (AB.layout builder.old) num_lookups → AB.pushed_within builder.old → AB.pushed_within builder.new) }
+            → AB.Expr.within (AB.layout builder.old) num_lookups → AB.pushed_within builder.old
+            → AB.pushed_within builder.new) }
         ensures layout { OnOk result (AB.layout builder.new ≡ AB.layout builder.old) }
     {
         let taken = num_lookups.neg(alloc)?;
@@ -86,9 +91,11 @@ impl<'a> LookupBus<'a> {
         branches: Vec<(AB::Expr, Vec<AB::Expr>)>,
     ) -> Result<(), AirError>
         ensures pushed { PushesOne AB.pushes AB.refuses_push
-            (IsExclusiveQuery AB.F.ring.one AB.Expr.value AB.Expr.degree self.now.name.now branches.items)
+            (IsExclusiveQuery AB.F.ring.one AB.Expr.value AB.Expr.degree self.now.name.now
+            branches.items)
             builder.old result builder.new }
-        ensures within { OnOk result (All (KeyWithin AB.Expr.within (AB.layout builder.old)) branches.items
+        ensures within { OnOk result (All (KeyWithin AB.Expr.within (AB.layout builder.old))
+            branches.items
             → AB.pushed_within builder.old → AB.pushed_within builder.new) }
         ensures layout { OnOk result (AB.layout builder.new ≡ AB.layout builder.old) }
     {
@@ -102,9 +109,12 @@ fn unit_queries<F: Field, E: Expression<F>>(
     alloc: Global,
     branches: Vec<(E, Vec<E>)>,
 ) -> Result<Vec<(E, Count<E>, Vec<E>)>, AllocError>
-    ensures flags_and_fields { IfOk result (λ v. map flag_and_fields (map pushed_branch v.items) ≡ map flag_and_key branches.items) }
-    ensures queries { IfOk result (λ v. All (IsUnitQuery F.ring.one E.value E.degree) (map pushed_branch v.items)) }
-    ensures counts { IfOk result (λ v. (l : AirLayout) → All (λ b. E.within l b.count) (map pushed_branch v.items)) }
+    ensures flags_and_fields { IfOk result (λ v. map flag_and_fields (map pushed_branch v.items)
+        ≡ map flag_and_key branches.items) }
+    ensures queries { IfOk result (λ v. All (IsUnitQuery F.ring.one E.value E.degree)
+        (map pushed_branch v.items)) }
+    ensures counts { IfOk result (λ v. (l : AirLayout)
+        → All (λ b. E.within l b.count) (map pushed_branch v.items)) }
 {
     let mut queries = Vec::new(alloc);
     for (flag, key) in branches {

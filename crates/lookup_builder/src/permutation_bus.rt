@@ -40,10 +40,13 @@ impl<'a> PermutationCheckBus<'a> {
         count: Count<AB::Expr>,
     ) -> Result<(), AirError>
         ensures pushed { MatchResult result
-            (λ _. AB.pushes builder.old (pushed_global self.now.name.now fields.items count) builder.new)
-            (λ e. AB.refuses_push builder.old (pushed_global self.now.name.now fields.items count) e builder.new) }
+            (λ _. AB.pushes builder.old (pushed_global self.now.name.now fields.items count)
+            builder.new)
+            (λ e. AB.refuses_push builder.old
+            (pushed_global self.now.name.now fields.items count) e builder.new) }
         ensures within { OnOk result (All (AB.Expr.within (AB.layout builder.old)) fields.items
-            → AB.Expr.within (AB.layout builder.old) count.expression → AB.pushed_within builder.old → AB.pushed_within builder.new) }
+            → AB.Expr.within (AB.layout builder.old) count.expression → AB.pushed_within builder.old
+            → AB.pushed_within builder.new) }
         ensures layout { OnOk result (AB.layout builder.new ≡ AB.layout builder.old) }
     {
         builder.push_interaction(alloc, self.name, fields, count)
@@ -61,10 +64,12 @@ impl<'a> PermutationCheckBus<'a> {
         count: Count<AB::Expr>,
     ) -> Result<(), AirError>
         ensures pushed { PushesOne AB.pushes AB.refuses_push
-            (IsNegatedMessage AB.F.ring.neg AB.Expr.value AB.Expr.degree self.now.name.now fields.items count.expression count.weight)
+            (IsNegatedMessage AB.F.ring.neg AB.Expr.value AB.Expr.degree self.now.name.now
+            fields.items count.expression count.weight)
             builder.old result builder.new }
         ensures within { OnOk result (All (AB.Expr.within (AB.layout builder.old)) fields.items
-            → AB.Expr.within (AB.layout builder.old) count.expression → AB.pushed_within builder.old → AB.pushed_within builder.new) }
+            → AB.Expr.within (AB.layout builder.old) count.expression → AB.pushed_within builder.old
+            → AB.pushed_within builder.new) }
         ensures layout { OnOk result (AB.layout builder.new ≡ AB.layout builder.old) }
     {
         let received = count.negate(alloc)?;

@@ -32,7 +32,8 @@ fn cells<F: Field>(
 ) -> Result<Vec<F>, AllocError>
     requires rows_exist { All (λ r. r < height trace.now) rows.now }
     requires column_exists { index < trace.now.width }
-    ensures { IfOk result (λ v. v.items ≡ map (λ r. slice_index_or (row trace.now r) index F.ring.zero) rows.now) }
+    ensures { IfOk result (λ v. v.items ≡ map
+        (λ r. slice_index_or (row trace.now r) index F.ring.zero) rows.now) }
 {
     rows.iter()
         .map(|r| cell_of(trace, *r, index))
@@ -53,7 +54,8 @@ fn next_cell<F: Field>(trace: &RowMajorMatrix<F>, end: usize, r: usize, index: u
     requires end { end ≡ height trace.now }
     requires row_exists { r < end }
     requires column_exists { index < trace.now.width }
-    ensures { result ≡ slice_index_or (row trace.now ((r + 1) % height trace.now)) index F.ring.zero }
+    ensures { result ≡ slice_index_or (row trace.now ((r + 1) % height trace.now)) index
+        F.ring.zero }
 {
     cell_of(trace, next_of(r, end), index)
 }
@@ -67,7 +69,9 @@ fn next_cells<F: Field>(
 ) -> Result<Vec<F>, AllocError>
     requires rows_exist { All (λ r. r < height trace.now) rows.now }
     requires column_exists { index < trace.now.width }
-    ensures { IfOk result (λ v. v.items ≡ map (λ r. slice_index_or (row trace.now ((r + 1) % height trace.now)) index F.ring.zero) rows.now) }
+    ensures { IfOk result (λ v. v.items ≡ map
+        (λ r. slice_index_or (row trace.now ((r + 1) % height trace.now)) index F.ring.zero)
+        rows.now) }
 {
     let end = trace.height();
     rows.iter()
@@ -87,7 +91,9 @@ fn cells_at<F: Field>(
     requires rows_exist { All (λ r. r < height trace.now) rows.now }
     requires offset { offset ≤ 1 }
     requires column_exists { index < trace.now.width }
-    ensures { IfOk result (λ v. v.items ≡ map (λ r. slice_index_or (row_at offset (row trace.now r) (row trace.now ((r + 1) % height trace.now))) index F.ring.zero) rows.now) }
+    ensures { IfOk result (λ v. v.items ≡ map
+        (λ r. slice_index_or (row_at offset (row trace.now r)
+        (row trace.now ((r + 1) % height trace.now))) index F.ring.zero) rows.now) }
 {
     if offset == 0 {
         cells(alloc, trace, rows, index)
@@ -113,7 +119,8 @@ fn only_on<F: Field>(alloc: Global, rows: &[usize], row: usize) -> Result<Vec<F>
 /// One on the rows before the last one, zero on the last.
 fn before_last<F: Field>(alloc: Global, rows: &[usize], height: usize) -> Result<Vec<F>, AllocError>
     requires { All (λ r. r < height) rows.now }
-    ensures { IfOk result (λ v. v.items ≡ map (λ r. of_bool F.ring (not (r + 1 == height))) rows.now) }
+    ensures { IfOk result (λ v. v.items ≡ map
+        (λ r. of_bool F.ring (not (r + 1 == height))) rows.now) }
 {
     rows.iter()
         .map(|r| F::from_bool(*r + 1 != height))
@@ -168,9 +175,11 @@ fn leaf_values<F: Field>(
     rows: &[usize],
 ) -> Result<Vec<F>, AllocError>
     requires heights { ForSome (option_copied preprocessed) (λ m. height m ≡ height main.now) }
-    requires fits { LeafFits (layout_of_traces main.now (option_copied preprocessed) public_values.now) leaf }
+    requires fits { LeafFits (layout_of_traces main.now
+        (option_copied preprocessed) public_values.now) leaf }
     requires rows_exist { All (λ r. r < height main.now) rows.now }
-    ensures { IfOk result (λ v. v.items ≡ leaf_column F.ring (windows_of main.now (option_copied preprocessed.entry) public_values.now) rows.now leaf) }
+    ensures { IfOk result (λ v. v.items ≡ leaf_column F.ring
+        (windows_of main.now (option_copied preprocessed.entry) public_values.now) rows.now leaf) }
 {
     match leaf {
         BaseLeaf::Variable(variable) => {
@@ -205,9 +214,12 @@ pub fn column_of<F: Field>(
     rows: &[usize],
 ) -> Result<Vec<F>, AllocError>
     requires heights { ForSome (option_copied preprocessed) (λ m. height m ≡ height main.now) }
-    requires fits { Fits (layout_of_traces main.now (option_copied preprocessed) public_values.now) (tree_of expression.now) }
+    requires fits { Fits (layout_of_traces main.now (option_copied preprocessed) public_values.now)
+        (tree_of expression.now) }
     requires rows_exist { All (λ r. r < height main.now) rows.now }
-    ensures { IfOk result (λ v. v.items ≡ column F.ring (windows_of main.now (option_copied preprocessed.entry) public_values.now) rows.now (tree_of expression.now)) }
+    ensures { IfOk result (λ v. v.items ≡ column F.ring
+        (windows_of main.now (option_copied preprocessed.entry) public_values.now) rows.now
+        (tree_of expression.now)) }
 {
     match expression {
         SymbolicExpression::Leaf(leaf) => {

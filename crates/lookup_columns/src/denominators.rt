@@ -21,7 +21,9 @@ fn lessened<F: Field, EF: ExtensionDomain<F>>(
     power: EF,
     column: &[F],
 ) -> Result<Vec<EF>, AllocError>
-    ensures { IfOk result (λ v. v.items ≡ map (λ p. sub_in EF.ring p.0 (EF.ring.mul power (EF.embed p.1))) (zip elements.now column.now)) }
+    ensures { IfOk result (λ v. v.items ≡ map
+        (λ p. sub_in EF.ring p.0 (EF.ring.mul power (EF.embed p.1)))
+        (zip elements.now column.now)) }
 {
     elements
         .iter()
@@ -47,9 +49,12 @@ pub fn denominators_of<F: Field, EF: ExtensionDomain<F>>(
     beta: EF,
 ) -> Result<Vec<EF>, AllocError>
     requires heights { ForSome (option_copied preprocessed) (λ m. height m ≡ height main.now) }
-    requires fits { AllFit (layout_of_traces main.now (option_copied preprocessed) public_values.now) tuple.now }
+    requires fits { AllFit (layout_of_traces main.now
+        (option_copied preprocessed) public_values.now) tuple.now }
     requires rows_exist { All (λ r. r < height main.now) rows.now }
-    ensures { IfOk result (λ v. v.items ≡ denominator_column F.ring EF.ring EF.embed (windows_of main.now (option_copied preprocessed.entry) public_values.now) alpha beta rows.now tuple.now) }
+    ensures { IfOk result (λ v. v.items ≡ denominator_column F.ring EF.ring EF.embed
+        (windows_of main.now (option_copied preprocessed.entry) public_values.now) alpha beta
+        rows.now tuple.now) }
 {
     let mut denominators = alike(alloc, rows, alpha)?;
     let mut power = EF::ONE;

@@ -48,7 +48,8 @@ impl<F: Field> Contributions<F> {
     /// Appends one more tuple with its amount.
     fn push(&mut self, tuple: &[F], amount: F) -> Result<(), AllocError>
         requires within { AreWithin self.now }
-        ensures { OnOk result (AreWithin self.new × (amounts_in self.new ≡ amounts_in self.old ++ (tuple.now, amount) ∷ [])) }
+        ensures { OnOk result (AreWithin self.new
+            × (amounts_in self.new ≡ amounts_in self.old ++ (tuple.now, amount) ∷ [])) }
     {
         let start = self.elements.len();
         self.elements.extend_from_slice(tuple)?;
@@ -64,7 +65,8 @@ pub(crate) fn nets<'a, F: Field>(
     contributions: &'a Contributions<F>,
 ) -> Result<IndexMap<&'a [F], F>, AllocError>
     requires within { AreWithin contributions.now }
-    ensures { IfOk result (λ m. tuple_entries m.entries ≡ amount_nets F.ring F.eq (amounts_in contributions.now)) }
+    ensures { IfOk result (λ m. tuple_entries m.entries
+        ≡ amount_nets F.ring F.eq (amounts_in contributions.now)) }
 {
     let elements = contributions.elements.as_slice();
     let mut nets = IndexMap::new(alloc);
@@ -81,7 +83,8 @@ pub(crate) fn merged<F: Field>(
     contributions: &Contributions<F>,
 ) -> Result<Contributions<F>, AllocError>
     requires within { AreWithin contributions.now }
-    ensures { IfOk result (λ v. AreWithin v × (amounts_in v ≡ amount_nets F.ring F.eq (amounts_in contributions.now))) }
+    ensures { IfOk result (λ v. AreWithin v
+        × (amounts_in v ≡ amount_nets F.ring F.eq (amounts_in contributions.now))) }
 {
     let nets = nets(alloc, contributions)?;
     let mut merged = Contributions::new(alloc);

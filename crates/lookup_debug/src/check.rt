@@ -36,11 +36,14 @@ pub fn check_lookups<F: Field>(
     alloc: Global,
     instances: &[LookupDebugInstance<'_, F>],
 ) -> Result<(), LookupFault<F>>
-    requires fit { All (λ i. DoFit (layout_of_traces i.main_trace.now (option_copied i.preprocessed_trace) i.public_values.now) i.lookups.now) instances.now }
-    requires heights { All (λ i. ForSome (option_copied i.preprocessed_trace) (λ m. height m ≡ height i.main_trace.now)) instances.now }
+    requires fit { All (λ i. DoFit (layout_of_traces i.main_trace.now
+        (option_copied i.preprocessed_trace) i.public_values.now) i.lookups.now) instances.now }
+    requires heights { All (λ i. ForSome (option_copied i.preprocessed_trace)
+        (λ m. height m ≡ height i.main_trace.now)) instances.now }
     ensures { MatchResult result
         (λ _. AllBalance F.ring F.eq (map traced_of instances.now))
-        (λ e. (e ≡ LookupFault.Memory) ⊎ IsMismatch F.ring F.eq F.text (map traced_of instances.now) e) }
+        (λ e. (e ≡ LookupFault.Memory)
+        ⊎ IsMismatch F.ring F.eq F.text (map traced_of instances.now) e) }
 {
     let mut contributions = Contributions::new(alloc);
     check_locals(alloc, &mut contributions, instances)?;
@@ -53,9 +56,12 @@ fn check_locals<F: Field>(
     contributions: &mut Contributions<F>,
     instances: &[LookupDebugInstance<'_, F>],
 ) -> Result<(), LookupFault<F>>
-    requires fit { All (λ i. DoFit (layout_of_traces i.main_trace.now (option_copied i.preprocessed_trace) i.public_values.now) i.lookups.now) instances.now }
-    requires heights { All (λ i. ForSome (option_copied i.preprocessed_trace) (λ m. height m ≡ height i.main_trace.now)) instances.now }
-    ensures { AnswersGroups F.ring F.eq F.text (local_groups F.ring F.eq (map traced_of instances.now)) result }
+    requires fit { All (λ i. DoFit (layout_of_traces i.main_trace.now
+        (option_copied i.preprocessed_trace) i.public_values.now) i.lookups.now) instances.now }
+    requires heights { All (λ i. ForSome (option_copied i.preprocessed_trace)
+        (λ m. height m ≡ height i.main_trace.now)) instances.now }
+    ensures { AnswersGroups F.ring F.eq F.text
+        (local_groups F.ring F.eq (map traced_of instances.now)) result }
 {
     for instance in 0..instances.len() {
         check_locals_of(alloc, contributions, &instances[instance], instance)?;
@@ -70,9 +76,13 @@ fn check_locals_of<F: Field>(
     traced: &LookupDebugInstance<'_, F>,
     instance: usize,
 ) -> Result<(), LookupFault<F>>
-    requires fit { DoFit (layout_of_traces traced.now.main_trace.now (option_copied traced.now.preprocessed_trace) traced.now.public_values.now) traced.now.lookups.now }
-    requires heights { ForSome (option_copied traced.now.preprocessed_trace) (λ m. height m ≡ height traced.now.main_trace.now) }
-    ensures { AnswersGroups F.ring F.eq F.text (local_groups_in F.ring F.eq (instance, traced_of traced.now)) result }
+    requires fit { DoFit (layout_of_traces traced.now.main_trace.now
+        (option_copied traced.now.preprocessed_trace) traced.now.public_values.now)
+        traced.now.lookups.now }
+    requires heights { ForSome (option_copied traced.now.preprocessed_trace)
+        (λ m. height m ≡ height traced.now.main_trace.now) }
+    ensures { AnswersGroups F.ring F.eq F.text
+        (local_groups_in F.ring F.eq (instance, traced_of traced.now)) result }
 {
     for place in 0..traced.lookups.len() {
         let lookup = &traced.lookups[place];
@@ -103,8 +113,11 @@ fn check_local<F: Field>(
     place: usize,
 ) -> Result<(), LookupFault<F>>
     requires there { slice_get traced.now.lookups.now place ≡ Some lookup.now }
-    requires fit { DoFit (layout_of_traces traced.now.main_trace.now (option_copied traced.now.preprocessed_trace) traced.now.public_values.now) traced.now.lookups.now }
-    requires heights { ForSome (option_copied traced.now.preprocessed_trace) (λ m. height m ≡ height traced.now.main_trace.now) }
+    requires fit { DoFit (layout_of_traces traced.now.main_trace.now
+        (option_copied traced.now.preprocessed_trace) traced.now.public_values.now)
+        traced.now.lookups.now }
+    requires heights { ForSome (option_copied traced.now.preprocessed_trace)
+        (λ m. height m ≡ height traced.now.main_trace.now) }
     ensures { AnswersGroup F.ring F.eq F.text (local_label instance place)
         (contributions_of F.ring F.eq instance place (traced_of traced.now) lookup.now) result }
 {
@@ -143,8 +156,10 @@ fn check_buses<F: Field>(
     contributions: &mut Contributions<F>,
     instances: &[LookupDebugInstance<'_, F>],
 ) -> Result<(), LookupFault<F>>
-    requires fit { All (λ i. DoFit (layout_of_traces i.main_trace.now (option_copied i.preprocessed_trace) i.public_values.now) i.lookups.now) instances.now }
-    requires heights { All (λ i. ForSome (option_copied i.preprocessed_trace) (λ m. height m ≡ height i.main_trace.now)) instances.now }
+    requires fit { All (λ i. DoFit (layout_of_traces i.main_trace.now
+        (option_copied i.preprocessed_trace) i.public_values.now) i.lookups.now) instances.now }
+    requires heights { All (λ i. ForSome (option_copied i.preprocessed_trace)
+        (λ m. height m ≡ height i.main_trace.now)) instances.now }
     ensures { let all = map traced_of instances.now in
         AnswersGroups F.ring F.eq F.text (map (bus_group F.ring F.eq all) (bus_names all)) result }
 {
@@ -162,8 +177,10 @@ fn check_bus<F: Field>(
     instances: &[LookupDebugInstance<'_, F>],
     name: &str,
 ) -> Result<(), LookupFault<F>>
-    requires fit { All (λ i. DoFit (layout_of_traces i.main_trace.now (option_copied i.preprocessed_trace) i.public_values.now) i.lookups.now) instances.now }
-    requires heights { All (λ i. ForSome (option_copied i.preprocessed_trace) (λ m. height m ≡ height i.main_trace.now)) instances.now }
+    requires fit { All (λ i. DoFit (layout_of_traces i.main_trace.now
+        (option_copied i.preprocessed_trace) i.public_values.now) i.lookups.now) instances.now }
+    requires heights { All (λ i. ForSome (option_copied i.preprocessed_trace)
+        (λ m. height m ≡ height i.main_trace.now)) instances.now }
     ensures { let group = bus_group F.ring F.eq (map traced_of instances.now) name.now in
         AnswersGroup F.ring F.eq F.text group.label group.contributions result }
 {
@@ -187,7 +204,8 @@ fn mismatch<F: Field>(
     found: (&[F], F),
     locations: Vec<Location>,
 ) -> Result<LookupFault<F>, AllocError>
-    ensures { IfOk result (HasParts (string_bytes label) (map F.text found.entry.0.now) found.entry.1 (map place_of locations.items)) }
+    ensures { IfOk result (HasParts (string_bytes label)
+        (map F.text found.entry.0.now) found.entry.1 (map place_of locations.items)) }
 {
     let (tuple, net) = found;
     let tuple = texts_of(alloc, tuple)?;

@@ -30,8 +30,10 @@ pub(crate) trait Collector<F: Field> {
     ) -> Result<(), AllocError>
         requires within { AreWithin contributions.now }
         ensures { OnOk result (AreWithin contributions.new × (
-            (tuple : List F) (before : List (List F × F)) (cs more : List (Contribution F)) → holds self.old tuple before cs
-            → amounts_in contributions.old ≡ before ++ map placeless more → AllByRecursion (λ c. c.place ≡ place_of location) more
+            (tuple : List F) (before : List (List F × F)) (cs more : List (Contribution F))
+            → holds self.old tuple before cs
+            → amounts_in contributions.old ≡ before ++ map placeless more
+            → AllByRecursion (λ c. c.place ≡ place_of location) more
             → holds self.new tuple (amounts_in contributions.new) (cs ++ more))) };
 }
 
@@ -55,7 +57,8 @@ impl Nets {
 }
 
 impl<F: Field> Collector<F> for Nets {
-    ghost holds = { λ _ _ list cs. amount_nets F.ring F.eq list ≡ amount_nets F.ring F.eq (map placeless cs) };
+    ghost holds = { λ _ _ list cs. amount_nets F.ring F.eq list
+        ≡ amount_nets F.ring F.eq (map placeless cs) };
 
     fn collect(
         &mut self,
@@ -126,7 +129,8 @@ fn push_times<F: Field>(
 ) -> Result<(), AllocError>
     requires within { AreWithin contributions.now }
     ensures { OnOk result (map place_of locations.new.items ≡ map place_of locations.old.items
-        ++ map (λ _. place_of location) (filter (λ a. pointwise F.eq tuple.now a.0) (amounts_in contributions.now))) }
+        ++ map (λ _. place_of location) (filter (λ a. pointwise F.eq tuple.now a.0)
+        (amounts_in contributions.now))) }
 {
     let elements = contributions.elements.as_slice();
     for cut in &contributions.cuts {

@@ -28,7 +28,8 @@ fn push_tuple<F: Field>(
     builder: &LookupTraceBuilder<'_, F, F>,
 ) -> Result<(), AllocError>
     requires { AllFit (builder_layout builder.now) tuple.now }
-    ensures { OnOk result (elements.new.items ≡ elements.old.items ++ values F.ring (builder_window builder.now) tuple.now) }
+    ensures { OnOk result (elements.new.items ≡ elements.old.items
+        ++ values F.ring (builder_window builder.now) tuple.now) }
 {
     for element in tuple {
         elements.push(builder.value_of(element))?;
@@ -45,11 +46,12 @@ fn push_branch<F: Field>(
 ) -> Result<(), AllocError>
     requires within { AreWithin contributions.now }
     requires fits { AllFit (builder_layout builder.now) tuple.now }
-    ensures { (place : Place) → OnOk result (Appends contributions.old contributions.new (nonzero F.ring F.eq (record {
-      tuple = values F.ring (builder_window builder.now) tuple.now;
-      amount = amount;
-      place = place;
-    } ∷ []))) }
+    ensures { (place : Place) → OnOk result (Appends contributions.old contributions.new
+        (nonzero F.ring F.eq (record {
+          tuple = values F.ring (builder_window builder.now) tuple.now;
+          amount = amount;
+          place = place;
+        } ∷ []))) }
 {
     if amount == F::ZERO {
         return Ok(());
@@ -72,7 +74,8 @@ fn push_counted<F: Field>(
     requires lengths { HasEqualLengths lookup.now }
     requires fits { IsWithin (builder_layout builder.now) lookup.now }
     ensures { let branches = branches_at F.ring (builder_window builder.now) 0 lookup.now in
-        (place : Place) → OnOk result (Appends contributions.old contributions.new (nonzero F.ring F.eq
+        (place : Place) → OnOk result (Appends contributions.old contributions.new
+        (nonzero F.ring F.eq
         (contributions_from place branches (amounts F.ring None branches)))) }
 {
     for branch in 0..lookup.elements.len() {
@@ -117,8 +120,10 @@ fn push_flagged<F: Field>(
     requires flags_fit { AllFit (builder_layout builder.now) flags.now }
     ensures { let w = builder_window builder.now in
         let branches = branches_at F.ring w 0 lookup.now in
-        (place : Place) → OnOk result (Appends contributions.old contributions.new (nonzero F.ring F.eq
-        (contributions_from place branches (amounts F.ring (Some (values F.ring w flags.now)) branches)))) }
+        (place : Place) → OnOk result (Appends contributions.old contributions.new
+        (nonzero F.ring F.eq
+        (contributions_from place branches (amounts F.ring
+        (Some (values F.ring w flags.now)) branches)))) }
 {
     for branch in 0..lookup.elements.len() {
         let tuple = &lookup.elements[branch];
@@ -161,9 +166,13 @@ pub(crate) fn collect_lookup<F: Field, C: Collector<F>>(
 ) -> Result<(), AllocError>
     requires within { AreWithin contributions.now }
     requires there { slice_get traced.now.lookups.now place ≡ Some lookup.now }
-    requires fit { DoFit (layout_of_traces traced.now.main_trace.now (option_copied traced.now.preprocessed_trace) traced.now.public_values.now) traced.now.lookups.now }
-    requires heights { ForSome (option_copied traced.now.preprocessed_trace) (λ m. height m ≡ height traced.now.main_trace.now) }
-    ensures { OnOk result (Collects C.holds (collector.old, contributions.old) (collector.new, contributions.new)
+    requires fit { DoFit (layout_of_traces traced.now.main_trace.now
+        (option_copied traced.now.preprocessed_trace) traced.now.public_values.now)
+        traced.now.lookups.now }
+    requires heights { ForSome (option_copied traced.now.preprocessed_trace)
+        (λ m. height m ≡ height traced.now.main_trace.now) }
+    ensures { OnOk result (Collects C.holds (collector.old, contributions.old)
+        (collector.new, contributions.new)
         (contributions_of F.ring F.eq instance place (traced_of traced.now) lookup.now)) }
 {
     for row in 0..traced.main_trace.height() {

@@ -89,7 +89,8 @@ impl<F: Field> LookupFault<F> {
 
 /// Appends the texts of the elements of a tuple, separated by a comma and a space.
 fn push_elements(line: &mut String, elements: &[String]) -> Result<(), AllocError>
-    ensures { OnOk result (string_bytes line.new ≡ string_bytes line.old ++ join_by (λ t. t) (codes ", ") (map (λ t. string_bytes t) elements.now)) }
+    ensures { OnOk result (string_bytes line.new ≡ string_bytes line.old
+        ++ join_by (λ t. t) (codes ", ") (map (λ t. string_bytes t) elements.now)) }
 {
     if let Some((first, rest)) = elements.split_first() {
         line.push_str(first.as_str())?;
@@ -100,7 +101,8 @@ fn push_elements(line: &mut String, elements: &[String]) -> Result<(), AllocErro
 
 /// Appends further elements, each after a comma and a space.
 fn push_further_elements(line: &mut String, elements: &[String]) -> Result<(), AllocError>
-    ensures { OnOk result (string_bytes line.new ≡ string_bytes line.old ++ flat_map (λ t. codes ", " ++ t) (map (λ t. string_bytes t) elements.now)) }
+    ensures { OnOk result (string_bytes line.new ≡ string_bytes line.old
+        ++ flat_map (λ t. codes ", " ++ t) (map (λ t. string_bytes t) elements.now)) }
 {
     for element in elements {
         line.push_str(", ")?;
@@ -115,7 +117,8 @@ fn push_locations(
     line: &mut String,
     locations: &[Location],
 ) -> Result<(), AllocError>
-    ensures { OnOk result (string_bytes line.new ≡ string_bytes line.old ++ join_by place_text (codes "; ") (map place_of locations.now)) }
+    ensures { OnOk result (string_bytes line.new ≡ string_bytes line.old
+        ++ join_by place_text (codes "; ") (map place_of locations.now)) }
 {
     if let Some((first, rest)) = locations.split_first() {
         push_location(alloc, line, first)?;
@@ -130,7 +133,8 @@ fn push_further_locations(
     line: &mut String,
     locations: &[Location],
 ) -> Result<(), AllocError>
-    ensures { OnOk result (string_bytes line.new ≡ string_bytes line.old ++ flat_map (λ p. codes "; " ++ place_text p) (map place_of locations.now)) }
+    ensures { OnOk result (string_bytes line.new ≡ string_bytes line.old
+        ++ flat_map (λ p. codes "; " ++ place_text p) (map place_of locations.now)) }
 {
     for location in locations {
         line.push_str("; ")?;
@@ -141,7 +145,8 @@ fn push_further_locations(
 
 /// Appends the text of a place.
 fn push_location(alloc: Global, line: &mut String, location: &Location) -> Result<(), AllocError>
-    ensures { OnOk result (string_bytes line.new ≡ string_bytes line.old ++ place_text (place_of location.now)) }
+    ensures { OnOk result (string_bytes line.new ≡ string_bytes line.old
+        ++ place_text (place_of location.now)) }
 {
     let Location {
         instance,

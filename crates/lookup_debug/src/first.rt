@@ -23,7 +23,9 @@ pub(crate) fn first_mismatch<'a, F: Field>(
     contributions: &'a Contributions<F>,
 ) -> Result<Option<(&'a [F], F)>, AllocError>
     requires within { AreWithin contributions.now }
-    ensures { (cs : List (Contribution F)) → amount_nets F.ring F.eq (amounts_in contributions.now) ≡ amount_nets F.ring F.eq (map placeless cs)
+    ensures { (cs : List (Contribution F))
+        → amount_nets F.ring F.eq (amounts_in contributions.now)
+        ≡ amount_nets F.ring F.eq (map placeless cs)
         → IfOk result (λ found. MatchOption found
         (Balances F.ring F.eq cs)
         (λ m. IsFirst F.ring F.eq F.text cs m.0.now × (m.1 ≡ net_amount F.ring F.eq cs m.0.now))) }
@@ -37,7 +39,8 @@ pub(crate) fn first_mismatch<'a, F: Field>(
 
 /// The place of the least tuple whose net is not zero, and of several with its texts the first.
 fn least<F: Field>(alloc: Global, nets: &IndexMap<&[F], F>) -> Result<Option<usize>, AllocError>
-    ensures { IfOk result (IsFirstPlace F.ring F.eq F.text nets.now.entries (index_map_len nets.now)) }
+    ensures { IfOk result (IsFirstPlace F.ring F.eq F.text nets.now.entries
+        (index_map_len nets.now)) }
 {
     let mut best = None;
     for place in 0..nets.len() {

@@ -28,7 +28,8 @@ pub(crate) fn bus_names<'a, F: Field>(
     alloc: Global,
     instances: &'a [LookupDebugInstance<'a, F>],
 ) -> Result<Vec<&'a str>, AllocError>
-    ensures { IfOk result (λ names. map (λ n. n.now) names.items ≡ bus_names (map traced_of instances.now)) }
+    ensures { IfOk result (λ names. map (λ n. n.now) names.items
+        ≡ bus_names (map traced_of instances.now)) }
 {
     let mut names = IndexSet::new(alloc);
     for instance in instances {
@@ -49,8 +50,10 @@ fn add_names<'a, F: Field>(
     names: &mut IndexSet<&'a str>,
     lookups: &'a [Lookup<F>],
 ) -> Result<(), AllocError>
-    ensures { OnOk result ((seen : List _) → map (λ n. n.now) (keys names.old) ≡ first_seen (pointwise nat_eq) seen
-        → map (λ n. n.now) (keys names.new) ≡ first_seen (pointwise nat_eq) (seen ++ filter_map (λ l. bus_of l.kind) lookups.now)) }
+    ensures { OnOk result ((seen : List _)
+        → map (λ n. n.now) (keys names.old) ≡ first_seen (pointwise nat_eq) seen
+        → map (λ n. n.now) (keys names.new) ≡ first_seen (pointwise nat_eq)
+        (seen ++ filter_map (λ l. bus_of l.kind) lookups.now)) }
 {
     for lookup in lookups {
         match &lookup.kind {
@@ -72,10 +75,14 @@ pub(crate) fn collect_bus<F: Field, C: Collector<F>>(
     name: &str,
 ) -> Result<(), AllocError>
     requires within { AreWithin contributions.now }
-    requires fit { All (λ i. DoFit (layout_of_traces i.main_trace.now (option_copied i.preprocessed_trace) i.public_values.now) i.lookups.now) instances.now }
-    requires heights { All (λ i. ForSome (option_copied i.preprocessed_trace) (λ m. height m ≡ height i.main_trace.now)) instances.now }
-    ensures { OnOk result (Collects C.holds (collector.old, contributions.old) (collector.new, contributions.new)
-        (flat_map (placed_contributions F.ring F.eq) (filter (is_on name.now) (placed (map traced_of instances.now))))) }
+    requires fit { All (λ i. DoFit (layout_of_traces i.main_trace.now
+        (option_copied i.preprocessed_trace) i.public_values.now) i.lookups.now) instances.now }
+    requires heights { All (λ i. ForSome (option_copied i.preprocessed_trace)
+        (λ m. height m ≡ height i.main_trace.now)) instances.now }
+    ensures { OnOk result (Collects C.holds (collector.old, contributions.old)
+        (collector.new, contributions.new)
+        (flat_map (placed_contributions F.ring F.eq)
+        (filter (is_on name.now) (placed (map traced_of instances.now))))) }
 {
     for instance in 0..instances.len() {
         let traced = &instances[instance];
@@ -94,10 +101,15 @@ fn collect_bus_of<F: Field, C: Collector<F>>(
     name: &str,
 ) -> Result<(), AllocError>
     requires within { AreWithin contributions.now }
-    requires fit { DoFit (layout_of_traces traced.now.main_trace.now (option_copied traced.now.preprocessed_trace) traced.now.public_values.now) traced.now.lookups.now }
-    requires heights { ForSome (option_copied traced.now.preprocessed_trace) (λ m. height m ≡ height traced.now.main_trace.now) }
-    ensures { OnOk result (Collects C.holds (collector.old, contributions.old) (collector.new, contributions.new)
-        (flat_map (placed_contributions F.ring F.eq) (filter (is_on name.now) (placed_in (instance, traced_of traced.now))))) }
+    requires fit { DoFit (layout_of_traces traced.now.main_trace.now
+        (option_copied traced.now.preprocessed_trace) traced.now.public_values.now)
+        traced.now.lookups.now }
+    requires heights { ForSome (option_copied traced.now.preprocessed_trace)
+        (λ m. height m ≡ height traced.now.main_trace.now) }
+    ensures { OnOk result (Collects C.holds (collector.old, contributions.old)
+        (collector.new, contributions.new)
+        (flat_map (placed_contributions F.ring F.eq)
+        (filter (is_on name.now) (placed_in (instance, traced_of traced.now))))) }
 {
     for place in 0..traced.lookups.len() {
         let lookup = &traced.lookups[place];

@@ -22,8 +22,10 @@ fn row_sum<AB: PermutationAirBuilder>(
 ) -> Result<AB::ExprEF, AllocError>
     requires readable { AB.MP.readable permutation.now }
     requires current { MeansRow (AB.stands_for_ext builder.now) AB.variable_ext
-        (AB.layout builder.now).permutation_width (λ w. w.permutation) (AB.MP.current permutation.now) }
-    requires cells { All (λ lookup. lookup.column + 1 < (AB.layout builder.now).permutation_width) lookups.now }
+        (AB.layout builder.now).permutation_width (λ w. w.permutation)
+        (AB.MP.current permutation.now) }
+    requires cells { All (λ lookup. lookup.column + 1
+        < (AB.layout builder.now).permutation_width) lookups.now }
     ensures means { IfOk result (λ r. (w : ExtWindow AB.F AB.EF) → AB.stands_for_ext builder.now w
         → let E = extension AB.F.ring AB.F.eq AB.EF.ring AB.EF.eq AB.EF.embed AB.EF.inverse in
         AB.ExprEF.value r (AB.seen_ext w) ≡ fractions_at E lookups.now w) }
@@ -69,21 +71,26 @@ fn sides_of<AB: PermutationAirBuilder>(
     terminal: AB::ExprEF,
 ) -> Result<AccumulatorSides<AB::ExprEF>, AirError>
     requires row { 0 < (AB.layout builder.now).permutation_width }
-    requires fractions { All (λ lookup. lookup.column + 1 < (AB.layout builder.now).permutation_width) lookups.now }
+    requires fractions { All (λ lookup. lookup.column + 1
+        < (AB.layout builder.now).permutation_width) lookups.now }
     ensures first { IfOk result (λ r. (w : ExtWindow AB.F AB.EF) → AB.stands_for_ext builder.now w
         → let E = extension AB.F.ring AB.F.eq AB.EF.ring AB.EF.eq AB.EF.embed AB.EF.inverse in
         AB.ExprEF.value r.first (AB.seen_ext w) ≡ accumulator_at E w) }
-    ensures transition { IfOk result (λ r. (w : ExtWindow AB.F AB.EF) → AB.stands_for_ext builder.now w
+    ensures transition { IfOk result (λ r. (w : ExtWindow AB.F AB.EF)
+        → AB.stands_for_ext builder.now w
         → let E = extension AB.F.ring AB.F.eq AB.EF.ring AB.EF.eq AB.EF.embed AB.EF.inverse in
         AB.ExprEF.value r.transition (AB.seen_ext w)
-        ≡ sub_in E.ring (sub_in E.ring (next_accumulator_at E w) (accumulator_at E w)) (fractions_at E lookups.now w)) }
+        ≡ sub_in E.ring (sub_in E.ring (next_accumulator_at E w) (accumulator_at E w))
+        (fractions_at E lookups.now w)) }
     ensures last { IfOk result (λ r. (w : ExtWindow AB.F AB.EF) → AB.stands_for_ext builder.now w
         → let E = extension AB.F.ring AB.F.eq AB.EF.ring AB.EF.eq AB.EF.embed AB.EF.inverse in
         AB.ExprEF.value r.last (AB.seen_ext w)
-        ≡ sub_in E.ring (sub_in E.ring (AB.ExprEF.value terminal (AB.seen_ext w)) (accumulator_at E w)) (fractions_at E lookups.now w)) }
+        ≡ sub_in E.ring (sub_in E.ring (AB.ExprEF.value terminal (AB.seen_ext w))
+        (accumulator_at E w)) (fractions_at E lookups.now w)) }
     ensures first_degree { IfOk result (λ r. (t : ℕ) → AB.ExprEF.degree r.first t ≤ 1) }
     ensures transition_degree { IfOk result (λ r. (t : ℕ) → AB.ExprEF.degree r.transition t ≤ 1) }
-    ensures last_degree { IfOk result (λ r. (t : ℕ) → AB.ExprEF.degree r.last t ≤ max (AB.ExprEF.degree terminal t) 1) }
+    ensures last_degree { IfOk result (λ r. (t : ℕ)
+        → AB.ExprEF.degree r.last t ≤ max (AB.ExprEF.degree terminal t) 1) }
     ensures refused { IfErr result (λ e. (e ≡ AirError.Memory) ⊎ AB.window_refuses builder.now e) }
 {
     let permutation = builder.permutation(alloc)?;
@@ -107,11 +114,14 @@ fn assert_first<AB: PermutationAirBuilder>(
 ) -> Result<(), AirError>
     ensures accepted { IfOk result (λ _. (p : AB.ExprEF) × AB.accepts_ext builder.old p builder.new
         × ((w : ExtWindow AB.F AB.EF) → AB.stands_for_ext builder.old w
-        → AB.ExprEF.value p (AB.seen_ext w) ≡ AB.EF.ring.mul (AB.EF.embed (of_bool AB.F.ring w.base.is_first)) (AB.ExprEF.value x (AB.seen_ext w)))
+        → AB.ExprEF.value p (AB.seen_ext w) ≡ AB.EF.ring.mul
+        (AB.EF.embed (of_bool AB.F.ring w.base.is_first)) (AB.ExprEF.value x (AB.seen_ext w)))
         × ((t : ℕ) → AB.ExprEF.degree p t ≤ 1 + AB.ExprEF.degree x t)) }
-    ensures refused { IfErr result (λ e. ((e ≡ AirError.Memory) × (builder.new ≡ builder.old)) ⊎ ((p : AB.ExprEF) × AB.refuses_ext builder.old p e builder.new
+    ensures refused { IfErr result (λ e. ((e ≡ AirError.Memory) × (builder.new ≡ builder.old))
+        ⊎ ((p : AB.ExprEF) × AB.refuses_ext builder.old p e builder.new
         × ((w : ExtWindow AB.F AB.EF) → AB.stands_for_ext builder.old w
-        → AB.ExprEF.value p (AB.seen_ext w) ≡ AB.EF.ring.mul (AB.EF.embed (of_bool AB.F.ring w.base.is_first)) (AB.ExprEF.value x (AB.seen_ext w)))
+        → AB.ExprEF.value p (AB.seen_ext w) ≡ AB.EF.ring.mul
+        (AB.EF.embed (of_bool AB.F.ring w.base.is_first)) (AB.ExprEF.value x (AB.seen_ext w)))
         × ((t : ℕ) → AB.ExprEF.degree p t ≤ 1 + AB.ExprEF.degree x t))) }
 {
     builder.when_first_row().assert_zero_ext(alloc, x)
@@ -125,11 +135,14 @@ fn assert_transition<AB: PermutationAirBuilder>(
 ) -> Result<(), AirError>
     ensures accepted { IfOk result (λ _. (p : AB.ExprEF) × AB.accepts_ext builder.old p builder.new
         × ((w : ExtWindow AB.F AB.EF) → AB.stands_for_ext builder.old w
-        → AB.ExprEF.value p (AB.seen_ext w) ≡ AB.EF.ring.mul (AB.EF.embed (of_bool AB.F.ring w.base.is_transition)) (AB.ExprEF.value x (AB.seen_ext w)))
+        → AB.ExprEF.value p (AB.seen_ext w) ≡ AB.EF.ring.mul
+        (AB.EF.embed (of_bool AB.F.ring w.base.is_transition)) (AB.ExprEF.value x (AB.seen_ext w)))
         × ((t : ℕ) → AB.ExprEF.degree p t ≤ t + AB.ExprEF.degree x t)) }
-    ensures refused { IfErr result (λ e. ((e ≡ AirError.Memory) × (builder.new ≡ builder.old)) ⊎ ((p : AB.ExprEF) × AB.refuses_ext builder.old p e builder.new
+    ensures refused { IfErr result (λ e. ((e ≡ AirError.Memory) × (builder.new ≡ builder.old))
+        ⊎ ((p : AB.ExprEF) × AB.refuses_ext builder.old p e builder.new
         × ((w : ExtWindow AB.F AB.EF) → AB.stands_for_ext builder.old w
-        → AB.ExprEF.value p (AB.seen_ext w) ≡ AB.EF.ring.mul (AB.EF.embed (of_bool AB.F.ring w.base.is_transition)) (AB.ExprEF.value x (AB.seen_ext w)))
+        → AB.ExprEF.value p (AB.seen_ext w) ≡ AB.EF.ring.mul
+        (AB.EF.embed (of_bool AB.F.ring w.base.is_transition)) (AB.ExprEF.value x (AB.seen_ext w)))
         × ((t : ℕ) → AB.ExprEF.degree p t ≤ t + AB.ExprEF.degree x t))) }
 {
     builder.when_transition().assert_zero_ext(alloc, x)
@@ -143,11 +156,14 @@ fn assert_last<AB: PermutationAirBuilder>(
 ) -> Result<(), AirError>
     ensures accepted { IfOk result (λ _. (p : AB.ExprEF) × AB.accepts_ext builder.old p builder.new
         × ((w : ExtWindow AB.F AB.EF) → AB.stands_for_ext builder.old w
-        → AB.ExprEF.value p (AB.seen_ext w) ≡ AB.EF.ring.mul (AB.EF.embed (of_bool AB.F.ring w.base.is_last)) (AB.ExprEF.value x (AB.seen_ext w)))
+        → AB.ExprEF.value p (AB.seen_ext w) ≡ AB.EF.ring.mul
+        (AB.EF.embed (of_bool AB.F.ring w.base.is_last)) (AB.ExprEF.value x (AB.seen_ext w)))
         × ((t : ℕ) → AB.ExprEF.degree p t ≤ 1 + AB.ExprEF.degree x t)) }
-    ensures refused { IfErr result (λ e. ((e ≡ AirError.Memory) × (builder.new ≡ builder.old)) ⊎ ((p : AB.ExprEF) × AB.refuses_ext builder.old p e builder.new
+    ensures refused { IfErr result (λ e. ((e ≡ AirError.Memory) × (builder.new ≡ builder.old))
+        ⊎ ((p : AB.ExprEF) × AB.refuses_ext builder.old p e builder.new
         × ((w : ExtWindow AB.F AB.EF) → AB.stands_for_ext builder.old w
-        → AB.ExprEF.value p (AB.seen_ext w) ≡ AB.EF.ring.mul (AB.EF.embed (of_bool AB.F.ring w.base.is_last)) (AB.ExprEF.value x (AB.seen_ext w)))
+        → AB.ExprEF.value p (AB.seen_ext w) ≡ AB.EF.ring.mul
+        (AB.EF.embed (of_bool AB.F.ring w.base.is_last)) (AB.ExprEF.value x (AB.seen_ext w)))
         × ((t : ℕ) → AB.ExprEF.degree p t ≤ 1 + AB.ExprEF.degree x t))) }
 {
     builder.when_last_row().assert_zero_ext(alloc, x)
@@ -161,11 +177,16 @@ pub fn eval_accumulator<AB: PermutationAirBuilder>(
     lookups: &[Lookup<AB::F>],
     terminal: AB::ExprEF,
 ) -> Result<(), AirError>
-    requires cells { All (λ lookup. lookup.column + 1 < (AB.layout builder.old).permutation_width) lookups.now }
+    requires cells { All (λ lookup. lookup.column + 1
+        < (AB.layout builder.old).permutation_width) lookups.now }
     ensures { let E = extension AB.F.ring AB.F.eq AB.EF.ring AB.EF.eq AB.EF.embed AB.EF.inverse in
-        Evaluates AB.accepts_ext AB.refuses_ext (λ b e. (e ≡ AirError.Memory) ⊎ AB.window_refuses b e)
-        (IsConstraint (λ x w. AB.ExprEF.value x (AB.seen_ext w)) AB.ExprEF.degree (AB.stands_for_ext builder.old))
-        builder.old (accumulator_constraints E lookups.now (λ w. AB.ExprEF.value terminal (AB.seen_ext w)) (AB.ExprEF.degree terminal)) result builder.new }
+        Evaluates AB.accepts_ext AB.refuses_ext (λ b e. (e ≡ AirError.Memory)
+        ⊎ AB.window_refuses b e)
+        (IsConstraint (λ x w. AB.ExprEF.value x (AB.seen_ext w)) AB.ExprEF.degree
+        (AB.stands_for_ext builder.old))
+        builder.old (accumulator_constraints E lookups.now
+        (λ w. AB.ExprEF.value terminal (AB.seen_ext w)) (AB.ExprEF.degree terminal)) result
+        builder.new }
 {
     if lookups.is_empty() {
         return Ok(());

@@ -37,19 +37,25 @@ fn with_tuple<AB: PermutationAirBuilder>(
         (AB.layout builder.now).main_width (λ w. w.main) (AB.MainWindow.current main.now) }
     requires next { MeansRow (AB.stands_for builder.now) AB.variable
         (AB.layout builder.now).main_width (λ w. w.main_next) (AB.MainWindow.next main.now) }
-    ensures numerator { IfOk result (λ r. (w : ExtWindow AB.F AB.EF) → AB.stands_for_ext builder.now w
+    ensures numerator { IfOk result (λ r. (w : ExtWindow AB.F AB.EF)
+        → AB.stands_for_ext builder.now w
         → let E = extension AB.F.ring AB.F.eq AB.EF.ring AB.EF.eq AB.EF.embed AB.EF.inverse in
         AB.ExprEF.value r.numerator (AB.seen_ext w)
         ≡ AB.EF.ring.add (AB.EF.ring.mul (AB.ExprEF.value quotient.numerator (AB.seen_ext w))
-        (tuple_denominator E (AB.ExprEF.value alpha.now (AB.seen_ext w)) (AB.ExprEF.value beta.now (AB.seen_ext w)) (values AB.F.ring w.base tuple.now)))
-        (AB.EF.ring.mul (AB.EF.embed (value AB.F.ring w.base multiplicity.now)) (AB.ExprEF.value quotient.denominator (AB.seen_ext w)))) }
-    ensures denominator { IfOk result (λ r. (w : ExtWindow AB.F AB.EF) → AB.stands_for_ext builder.now w
+        (tuple_denominator E (AB.ExprEF.value alpha.now (AB.seen_ext w))
+        (AB.ExprEF.value beta.now (AB.seen_ext w)) (values AB.F.ring w.base tuple.now)))
+        (AB.EF.ring.mul (AB.EF.embed (value AB.F.ring w.base multiplicity.now))
+        (AB.ExprEF.value quotient.denominator (AB.seen_ext w)))) }
+    ensures denominator { IfOk result (λ r. (w : ExtWindow AB.F AB.EF)
+        → AB.stands_for_ext builder.now w
         → let E = extension AB.F.ring AB.F.eq AB.EF.ring AB.EF.eq AB.EF.embed AB.EF.inverse in
         AB.ExprEF.value r.denominator (AB.seen_ext w)
         ≡ AB.EF.ring.mul (AB.ExprEF.value quotient.denominator (AB.seen_ext w))
-        (tuple_denominator E (AB.ExprEF.value alpha.now (AB.seen_ext w)) (AB.ExprEF.value beta.now (AB.seen_ext w)) (values AB.F.ring w.base tuple.now))) }
+        (tuple_denominator E (AB.ExprEF.value alpha.now (AB.seen_ext w))
+        (AB.ExprEF.value beta.now (AB.seen_ext w)) (values AB.F.ring w.base tuple.now))) }
     ensures numerator_degree { IfOk result (λ r. (t : ℕ) → AB.ExprEF.degree r.numerator t
-        ≤ max (AB.ExprEF.degree quotient.numerator t + tuple_degree t tuple.now) (expression_degree t multiplicity.now + AB.ExprEF.degree quotient.denominator t)) }
+        ≤ max (AB.ExprEF.degree quotient.numerator t + tuple_degree t tuple.now)
+        (expression_degree t multiplicity.now + AB.ExprEF.degree quotient.denominator t)) }
     ensures denominator_degree { IfOk result (λ r. (t : ℕ) → AB.ExprEF.degree r.denominator t
         ≤ AB.ExprEF.degree quotient.denominator t + tuple_degree t tuple.now) }
 {
@@ -77,16 +83,29 @@ pub(crate) fn additive_quotient<AB: PermutationAirBuilder>(
         (AB.layout builder.now).main_width (λ w. w.main) (AB.MainWindow.current main.now) }
     requires next { MeansRow (AB.stands_for builder.now) AB.variable
         (AB.layout builder.now).main_width (λ w. w.main_next) (AB.MainWindow.next main.now) }
-    ensures numerator { IfOk result (λ r. (w : ExtWindow AB.F AB.EF) → AB.stands_for_ext builder.now w
+    ensures numerator { IfOk result (λ r. (w : ExtWindow AB.F AB.EF)
+        → AB.stands_for_ext builder.now w
         → let E = extension AB.F.ring AB.F.eq AB.EF.ring AB.EF.eq AB.EF.embed AB.EF.inverse in
-        let denominator = tuple_denominator E (AB.ExprEF.value alpha.now (AB.seen_ext w)) (AB.ExprEF.value beta.now (AB.seen_ext w)) in
-        AB.ExprEF.value r.numerator (AB.seen_ext w) ≡ additive_numerator E denominator (branches_at AB.F.ring w.base lookup.now.column lookup.now)) }
-    ensures denominator { IfOk result (λ r. (w : ExtWindow AB.F AB.EF) → AB.stands_for_ext builder.now w
+        let denominator = tuple_denominator E (AB.ExprEF.value alpha.now (AB.seen_ext w))
+        (AB.ExprEF.value beta.now (AB.seen_ext w)) in
+        AB.ExprEF.value r.numerator (AB.seen_ext w)
+        ≡ additive_numerator E denominator (branches_at AB.F.ring w.base lookup.now.column
+        lookup.now)) }
+    ensures denominator { IfOk result (λ r. (w : ExtWindow AB.F AB.EF)
+        → AB.stands_for_ext builder.now w
         → let E = extension AB.F.ring AB.F.eq AB.EF.ring AB.EF.eq AB.EF.embed AB.EF.inverse in
-        let denominator = tuple_denominator E (AB.ExprEF.value alpha.now (AB.seen_ext w)) (AB.ExprEF.value beta.now (AB.seen_ext w)) in
-        AB.ExprEF.value r.denominator (AB.seen_ext w) ≡ additive_denominator E denominator (branches_at AB.F.ring w.base lookup.now.column lookup.now)) }
-    ensures numerator_degree { IfOk result (λ r. (t : ℕ) → AB.ExprEF.degree r.numerator t ≤ max (additive_denominator_degree (lookup_branch_degrees t lookup.now)) (additive_numerator_degree (lookup_branch_degrees t lookup.now))) }
-    ensures denominator_degree { IfOk result (λ r. (t : ℕ) → AB.ExprEF.degree r.denominator t ≤ additive_denominator_degree (lookup_branch_degrees t lookup.now)) }
+        let denominator = tuple_denominator E (AB.ExprEF.value alpha.now (AB.seen_ext w))
+        (AB.ExprEF.value beta.now (AB.seen_ext w)) in
+        AB.ExprEF.value r.denominator (AB.seen_ext w)
+        ≡ additive_denominator E denominator (branches_at AB.F.ring w.base lookup.now.column
+        lookup.now)) }
+    ensures numerator_degree { IfOk result (λ r. (t : ℕ)
+        → AB.ExprEF.degree r.numerator t ≤ max
+        (additive_denominator_degree (lookup_branch_degrees t lookup.now))
+        (additive_numerator_degree (lookup_branch_degrees t lookup.now))) }
+    ensures denominator_degree { IfOk result (λ r. (t : ℕ)
+        → AB.ExprEF.degree r.denominator t ≤ additive_denominator_degree
+        (lookup_branch_degrees t lookup.now)) }
 {
     let mut quotient = no_quotient();
     for branch in 0..lookup.elements.len() {

@@ -14,9 +14,11 @@ pub(crate) fn column_challenges<AB: PermutationAirBuilder>(
 ) -> (AB::ExprEF, AB::ExprEF)
     requires { 2 * column + 1 < (AB.layout builder.now).num_permutation_challenges }
     ensures alpha { (w : ExtWindow AB.F AB.EF) → AB.stands_for_ext builder.now w
-        → AB.ExprEF.value result.0 (AB.seen_ext w) ≡ slice_index_or w.challenges (2 * column) AB.EF.ring.zero }
+        → AB.ExprEF.value result.0 (AB.seen_ext w)
+        ≡ slice_index_or w.challenges (2 * column) AB.EF.ring.zero }
     ensures beta { (w : ExtWindow AB.F AB.EF) → AB.stands_for_ext builder.now w
-        → AB.ExprEF.value result.1 (AB.seen_ext w) ≡ slice_index_or w.challenges (2 * column + 1) AB.EF.ring.zero }
+        → AB.ExprEF.value result.1 (AB.seen_ext w)
+        ≡ slice_index_or w.challenges (2 * column + 1) AB.EF.ring.zero }
     ensures alpha_degree { (t : ℕ) → AB.ExprEF.degree result.0 t ≡ 0 }
     ensures beta_degree { (t : ℕ) → AB.ExprEF.degree result.1 t ≡ 0 }
 {
@@ -32,7 +34,8 @@ pub(crate) fn column_challenges<AB: PermutationAirBuilder>(
 pub fn terminal<AB: PermutationAirBuilder>(builder: &AB) -> AB::ExprEF
     requires { 0 < (AB.layout builder.now).num_permutation_values }
     ensures means { (w : ExtWindow AB.F AB.EF) → AB.stands_for_ext builder.now w
-        → AB.ExprEF.value result (AB.seen_ext w) ≡ slice_index_or w.permutation_values 0 AB.EF.ring.zero }
+        → AB.ExprEF.value result (AB.seen_ext w)
+        ≡ slice_index_or w.permutation_values 0 AB.EF.ring.zero }
     ensures degree { (t : ℕ) → AB.ExprEF.degree result t ≡ 0 }
 {
     builder.permutation_values()[0].into()
@@ -46,7 +49,8 @@ pub(crate) fn accumulator_cell<AB: PermutationAirBuilder>(
 ) -> AB::ExprEF
     requires readable { AB.MP.readable permutation.now }
     requires current { MeansRow (AB.stands_for_ext builder.now) AB.variable_ext
-        (AB.layout builder.now).permutation_width (λ w. w.permutation) (AB.MP.current permutation.now) }
+        (AB.layout builder.now).permutation_width (λ w. w.permutation)
+        (AB.MP.current permutation.now) }
     requires within { 0 < (AB.layout builder.now).permutation_width }
     ensures means { (w : ExtWindow AB.F AB.EF) → AB.stands_for_ext builder.now w
         → AB.ExprEF.value result (AB.seen_ext w) ≡ slice_index_or w.permutation 0 AB.EF.ring.zero }
@@ -63,10 +67,12 @@ pub(crate) fn next_accumulator_cell<AB: PermutationAirBuilder>(
 ) -> AB::ExprEF
     requires readable { AB.MP.readable permutation.now }
     requires next { MeansRow (AB.stands_for_ext builder.now) AB.variable_ext
-        (AB.layout builder.now).permutation_width (λ w. w.permutation_next) (AB.MP.next permutation.now) }
+        (AB.layout builder.now).permutation_width (λ w. w.permutation_next)
+        (AB.MP.next permutation.now) }
     requires within { 0 < (AB.layout builder.now).permutation_width }
     ensures means { (w : ExtWindow AB.F AB.EF) → AB.stands_for_ext builder.now w
-        → AB.ExprEF.value result (AB.seen_ext w) ≡ slice_index_or w.permutation_next 0 AB.EF.ring.zero }
+        → AB.ExprEF.value result (AB.seen_ext w)
+        ≡ slice_index_or w.permutation_next 0 AB.EF.ring.zero }
     ensures degree { (t : ℕ) → AB.ExprEF.degree result t ≤ 1 }
 {
     permutation.next_slice()[0].into()
@@ -81,10 +87,12 @@ pub(crate) fn fraction_cell<AB: PermutationAirBuilder>(
 ) -> AB::ExprEF
     requires readable { AB.MP.readable permutation.now }
     requires current { MeansRow (AB.stands_for_ext builder.now) AB.variable_ext
-        (AB.layout builder.now).permutation_width (λ w. w.permutation) (AB.MP.current permutation.now) }
+        (AB.layout builder.now).permutation_width (λ w. w.permutation)
+        (AB.MP.current permutation.now) }
     requires within { column + 1 < (AB.layout builder.now).permutation_width }
     ensures means { (w : ExtWindow AB.F AB.EF) → AB.stands_for_ext builder.now w
-        → AB.ExprEF.value result (AB.seen_ext w) ≡ slice_index_or w.permutation (column + 1) AB.EF.ring.zero }
+        → AB.ExprEF.value result (AB.seen_ext w)
+        ≡ slice_index_or w.permutation (column + 1) AB.EF.ring.zero }
     ensures degree { (t : ℕ) → AB.ExprEF.degree result t ≤ 1 }
 {
     let row = permutation.current_slice();

@@ -29,7 +29,8 @@ pub(crate) fn lifted<AB: PermutationAirBuilder>(
         (AB.layout builder.now).main_width (λ w. w.main_next) (AB.MainWindow.next main.now) }
     ensures means { IfOk result (λ r. (w : ExtWindow AB.F AB.EF) → AB.stands_for_ext builder.now w
         → AB.ExprEF.value r (AB.seen_ext w) ≡ AB.EF.embed (value AB.F.ring w.base expression.now)) }
-    ensures degree { IfOk result (λ r. (t : ℕ) → AB.ExprEF.degree r t ≤ expression_degree t expression.now) }
+    ensures degree { IfOk result (λ r. (t : ℕ)
+        → AB.ExprEF.degree r t ≤ expression_degree t expression.now) }
 {
     Ok(AB::lift(resolve_over(alloc, expression, builder, main)?))
 }
@@ -51,7 +52,8 @@ fn combined_tuple<AB: PermutationAirBuilder>(
         (AB.layout builder.now).main_width (λ w. w.main_next) (AB.MainWindow.next main.now) }
     ensures means { IfOk result (λ r. (w : ExtWindow AB.F AB.EF) → AB.stands_for_ext builder.now w
         → AB.ExprEF.value r (AB.seen_ext w)
-        ≡ combined AB.EF.ring (map AB.EF.embed (values AB.F.ring w.base tuple.now)) (AB.ExprEF.value beta.now (AB.seen_ext w))) }
+        ≡ combined AB.EF.ring (map AB.EF.embed (values AB.F.ring w.base tuple.now))
+        (AB.ExprEF.value beta.now (AB.seen_ext w))) }
     ensures degree { IfOk result (λ r. (t : ℕ) → AB.ExprEF.degree r t ≤ tuple_degree t tuple.now) }
 {
     let mut sum = AB::ExprEF::constant(AB::EF::ZERO);
@@ -82,7 +84,8 @@ pub(crate) fn denominator<AB: PermutationAirBuilder>(
     ensures means { IfOk result (λ r. (w : ExtWindow AB.F AB.EF) → AB.stands_for_ext builder.now w
         → AB.ExprEF.value r (AB.seen_ext w)
         ≡ sub_in AB.EF.ring (AB.ExprEF.value alpha.now (AB.seen_ext w))
-        (combined AB.EF.ring (map AB.EF.embed (values AB.F.ring w.base tuple.now)) (AB.ExprEF.value beta.now (AB.seen_ext w)))) }
+        (combined AB.EF.ring (map AB.EF.embed (values AB.F.ring w.base tuple.now))
+        (AB.ExprEF.value beta.now (AB.seen_ext w)))) }
     ensures degree { IfOk result (λ r. (t : ℕ) → AB.ExprEF.degree r t ≤ tuple_degree t tuple.now) }
 {
     let combined = combined_tuple(alloc, builder, main, tuple, beta)?;

@@ -53,15 +53,19 @@ fn select<K: Field, E: Expression<K>>(
     denominator: E,
 ) -> Result<Selection<E>, AllocError>
     ensures numerator { IfOk result (λ r. (s : E.Seen) → E.value r.numerator s
-        ≡ K.ring.add (E.value selection.numerator s) (K.ring.mul (E.value flag s) (E.value numerator s))) }
+        ≡ K.ring.add (E.value selection.numerator s)
+        (K.ring.mul (E.value flag s) (E.value numerator s))) }
     ensures denominator { IfOk result (λ r. (s : E.Seen) → E.value r.denominator s
-        ≡ K.ring.add (E.value selection.denominator s) (K.ring.mul (E.value flag s) (E.value denominator s))) }
-    ensures flags { IfOk result (λ r. (s : E.Seen) → E.value r.flags s ≡ K.ring.add (E.value selection.flags s) (E.value flag s)) }
+        ≡ K.ring.add (E.value selection.denominator s)
+        (K.ring.mul (E.value flag s) (E.value denominator s))) }
+    ensures flags { IfOk result (λ r. (s : E.Seen)
+        → E.value r.flags s ≡ K.ring.add (E.value selection.flags s) (E.value flag s)) }
     ensures numerator_degree { IfOk result (λ r. (t : ℕ) → E.degree r.numerator t
         ≡ max (E.degree selection.numerator t) (E.degree flag t + E.degree numerator t)) }
     ensures denominator_degree { IfOk result (λ r. (t : ℕ) → E.degree r.denominator t
         ≡ max (E.degree selection.denominator t) (E.degree flag t + E.degree denominator t)) }
-    ensures flags_degree { IfOk result (λ r. (t : ℕ) → E.degree r.flags t ≡ max (E.degree selection.flags t) (E.degree flag t)) }
+    ensures flags_degree { IfOk result (λ r. (t : ℕ)
+        → E.degree r.flags t ≡ max (E.degree selection.flags t) (E.degree flag t)) }
 {
     let selected_numerator = flag.copy(alloc)?.mul(alloc, numerator)?;
     let selected_denominator = flag.copy(alloc)?.mul(alloc, denominator)?;
@@ -79,7 +83,8 @@ fn selected<K: Field, E: Expression<K>>(
 ) -> Result<Quotient<E>, AllocError>
     ensures numerator { IfOk result (λ r. r.numerator ≡ selection.numerator) }
     ensures denominator { IfOk result (λ r. (s : E.Seen) → E.value r.denominator s
-        ≡ K.ring.add (E.value selection.denominator s) (sub_in K.ring K.ring.one (E.value selection.flags s))) }
+        ≡ K.ring.add (E.value selection.denominator s)
+        (sub_in K.ring K.ring.one (E.value selection.flags s))) }
     ensures degree { IfOk result (λ r. (t : ℕ) → E.degree r.denominator t
         ≡ max (E.degree selection.denominator t) (E.degree selection.flags t)) }
 {
@@ -112,23 +117,30 @@ fn with_branch<AB: PermutationAirBuilder>(
         (AB.layout builder.now).main_width (λ w. w.main) (AB.MainWindow.current main.now) }
     requires next { MeansRow (AB.stands_for builder.now) AB.variable
         (AB.layout builder.now).main_width (λ w. w.main_next) (AB.MainWindow.next main.now) }
-    ensures numerator { IfOk result (λ r. (w : ExtWindow AB.F AB.EF) → AB.stands_for_ext builder.now w
+    ensures numerator { IfOk result (λ r. (w : ExtWindow AB.F AB.EF)
+        → AB.stands_for_ext builder.now w
         → AB.ExprEF.value r.numerator (AB.seen_ext w)
         ≡ AB.EF.ring.add (AB.ExprEF.value selection.numerator (AB.seen_ext w))
-        (AB.EF.ring.mul (AB.EF.embed (value AB.F.ring w.base flag.now)) (AB.EF.embed (value AB.F.ring w.base multiplicity.now)))) }
-    ensures denominator { IfOk result (λ r. (w : ExtWindow AB.F AB.EF) → AB.stands_for_ext builder.now w
+        (AB.EF.ring.mul (AB.EF.embed (value AB.F.ring w.base flag.now))
+        (AB.EF.embed (value AB.F.ring w.base multiplicity.now)))) }
+    ensures denominator { IfOk result (λ r. (w : ExtWindow AB.F AB.EF)
+        → AB.stands_for_ext builder.now w
         → let E = extension AB.F.ring AB.F.eq AB.EF.ring AB.EF.eq AB.EF.embed AB.EF.inverse in
         AB.ExprEF.value r.denominator (AB.seen_ext w)
         ≡ AB.EF.ring.add (AB.ExprEF.value selection.denominator (AB.seen_ext w))
         (AB.EF.ring.mul (AB.EF.embed (value AB.F.ring w.base flag.now))
-        (tuple_denominator E (AB.ExprEF.value alpha.now (AB.seen_ext w)) (AB.ExprEF.value beta.now (AB.seen_ext w)) (values AB.F.ring w.base tuple.now)))) }
+        (tuple_denominator E (AB.ExprEF.value alpha.now (AB.seen_ext w))
+        (AB.ExprEF.value beta.now (AB.seen_ext w)) (values AB.F.ring w.base tuple.now)))) }
     ensures flags { IfOk result (λ r. (w : ExtWindow AB.F AB.EF) → AB.stands_for_ext builder.now w
         → AB.ExprEF.value r.flags (AB.seen_ext w)
-        ≡ AB.EF.ring.add (AB.ExprEF.value selection.flags (AB.seen_ext w)) (AB.EF.embed (value AB.F.ring w.base flag.now))) }
+        ≡ AB.EF.ring.add (AB.ExprEF.value selection.flags (AB.seen_ext w))
+        (AB.EF.embed (value AB.F.ring w.base flag.now))) }
     ensures numerator_degree { IfOk result (λ r. (t : ℕ) → AB.ExprEF.degree r.numerator t
-        ≤ max (AB.ExprEF.degree selection.numerator t) (expression_degree t flag.now + expression_degree t multiplicity.now)) }
+        ≤ max (AB.ExprEF.degree selection.numerator t)
+        (expression_degree t flag.now + expression_degree t multiplicity.now)) }
     ensures denominator_degree { IfOk result (λ r. (t : ℕ) → AB.ExprEF.degree r.denominator t
-        ≤ max (AB.ExprEF.degree selection.denominator t) (expression_degree t flag.now + tuple_degree t tuple.now)) }
+        ≤ max (AB.ExprEF.degree selection.denominator t)
+        (expression_degree t flag.now + tuple_degree t tuple.now)) }
     ensures flags_degree { IfOk result (λ r. (t : ℕ) → AB.ExprEF.degree r.flags t
         ≤ max (AB.ExprEF.degree selection.flags t) (expression_degree t flag.now)) }
 {
@@ -159,19 +171,30 @@ fn selection_of<AB: PermutationAirBuilder>(
         (AB.layout builder.now).main_width (λ w. w.main) (AB.MainWindow.current main.now) }
     requires next { MeansRow (AB.stands_for builder.now) AB.variable
         (AB.layout builder.now).main_width (λ w. w.main_next) (AB.MainWindow.next main.now) }
-    ensures numerator { IfOk result (λ r. (w : ExtWindow AB.F AB.EF) → AB.stands_for_ext builder.now w
+    ensures numerator { IfOk result (λ r. (w : ExtWindow AB.F AB.EF)
+        → AB.stands_for_ext builder.now w
         → let E = extension AB.F.ring AB.F.eq AB.EF.ring AB.EF.eq AB.EF.embed AB.EF.inverse in
-        AB.ExprEF.value r.numerator (AB.seen_ext w) ≡ exclusive_numerator E (values AB.F.ring w.base flags.now) (branches_at AB.F.ring w.base lookup.now.column lookup.now)) }
-    ensures denominator { IfOk result (λ r. (w : ExtWindow AB.F AB.EF) → AB.stands_for_ext builder.now w
+        AB.ExprEF.value r.numerator (AB.seen_ext w)
+        ≡ exclusive_numerator E (values AB.F.ring w.base flags.now)
+        (branches_at AB.F.ring w.base lookup.now.column lookup.now)) }
+    ensures denominator { IfOk result (λ r. (w : ExtWindow AB.F AB.EF)
+        → AB.stands_for_ext builder.now w
         → let E = extension AB.F.ring AB.F.eq AB.EF.ring AB.EF.eq AB.EF.embed AB.EF.inverse in
-        let denominator = tuple_denominator E (AB.ExprEF.value alpha.now (AB.seen_ext w)) (AB.ExprEF.value beta.now (AB.seen_ext w)) in
-        AB.ExprEF.value r.denominator (AB.seen_ext w) ≡ flagged_denominators E denominator (values AB.F.ring w.base flags.now) (branches_at AB.F.ring w.base lookup.now.column lookup.now)) }
+        let denominator = tuple_denominator E (AB.ExprEF.value alpha.now (AB.seen_ext w))
+        (AB.ExprEF.value beta.now (AB.seen_ext w)) in
+        AB.ExprEF.value r.denominator (AB.seen_ext w)
+        ≡ flagged_denominators E denominator (values AB.F.ring w.base flags.now)
+        (branches_at AB.F.ring w.base lookup.now.column lookup.now)) }
     ensures flags { IfOk result (λ r. (w : ExtWindow AB.F AB.EF) → AB.stands_for_ext builder.now w
-        → AB.ExprEF.value r.flags (AB.seen_ext w) ≡ sum_in AB.EF.ring (map AB.EF.embed (values AB.F.ring w.base flags.now))) }
+        → AB.ExprEF.value r.flags (AB.seen_ext w)
+        ≡ sum_in AB.EF.ring (map AB.EF.embed (values AB.F.ring w.base flags.now))) }
     ensures numerator_degree { IfOk result (λ r. (t : ℕ) → AB.ExprEF.degree r.numerator t
-        ≤ exclusive_numerator_degree (map (expression_degree t) flags.now) (lookup_branch_degrees t lookup.now)) }
-    ensures denominator_degree { IfOk result (λ r. (t : ℕ) → max (AB.ExprEF.degree r.denominator t) (AB.ExprEF.degree r.flags t)
-        ≤ exclusive_denominator_degree (map (expression_degree t) flags.now) (lookup_branch_degrees t lookup.now)) }
+        ≤ exclusive_numerator_degree (map (expression_degree t) flags.now)
+        (lookup_branch_degrees t lookup.now)) }
+    ensures denominator_degree { IfOk result (λ r. (t : ℕ)
+        → max (AB.ExprEF.degree r.denominator t) (AB.ExprEF.degree r.flags t)
+        ≤ exclusive_denominator_degree (map (expression_degree t) flags.now)
+        (lookup_branch_degrees t lookup.now)) }
 {
     let mut selection = no_selection();
     for branch in 0..flags.len() {
@@ -215,17 +238,26 @@ pub(crate) fn exclusive_quotient<AB: PermutationAirBuilder>(
         (AB.layout builder.now).main_width (λ w. w.main) (AB.MainWindow.current main.now) }
     requires next { MeansRow (AB.stands_for builder.now) AB.variable
         (AB.layout builder.now).main_width (λ w. w.main_next) (AB.MainWindow.next main.now) }
-    ensures numerator { IfOk result (λ r. (w : ExtWindow AB.F AB.EF) → AB.stands_for_ext builder.now w
+    ensures numerator { IfOk result (λ r. (w : ExtWindow AB.F AB.EF)
+        → AB.stands_for_ext builder.now w
         → let E = extension AB.F.ring AB.F.eq AB.EF.ring AB.EF.eq AB.EF.embed AB.EF.inverse in
-        AB.ExprEF.value r.numerator (AB.seen_ext w) ≡ exclusive_numerator E (values AB.F.ring w.base flags.now) (branches_at AB.F.ring w.base lookup.now.column lookup.now)) }
-    ensures denominator { IfOk result (λ r. (w : ExtWindow AB.F AB.EF) → AB.stands_for_ext builder.now w
+        AB.ExprEF.value r.numerator (AB.seen_ext w)
+        ≡ exclusive_numerator E (values AB.F.ring w.base flags.now)
+        (branches_at AB.F.ring w.base lookup.now.column lookup.now)) }
+    ensures denominator { IfOk result (λ r. (w : ExtWindow AB.F AB.EF)
+        → AB.stands_for_ext builder.now w
         → let E = extension AB.F.ring AB.F.eq AB.EF.ring AB.EF.eq AB.EF.embed AB.EF.inverse in
-        let denominator = tuple_denominator E (AB.ExprEF.value alpha.now (AB.seen_ext w)) (AB.ExprEF.value beta.now (AB.seen_ext w)) in
-        AB.ExprEF.value r.denominator (AB.seen_ext w) ≡ exclusive_denominator E denominator (values AB.F.ring w.base flags.now) (branches_at AB.F.ring w.base lookup.now.column lookup.now)) }
+        let denominator = tuple_denominator E (AB.ExprEF.value alpha.now (AB.seen_ext w))
+        (AB.ExprEF.value beta.now (AB.seen_ext w)) in
+        AB.ExprEF.value r.denominator (AB.seen_ext w)
+        ≡ exclusive_denominator E denominator (values AB.F.ring w.base flags.now)
+        (branches_at AB.F.ring w.base lookup.now.column lookup.now)) }
     ensures numerator_degree { IfOk result (λ r. (t : ℕ) → AB.ExprEF.degree r.numerator t
-        ≤ exclusive_numerator_degree (map (expression_degree t) flags.now) (lookup_branch_degrees t lookup.now)) }
+        ≤ exclusive_numerator_degree (map (expression_degree t) flags.now)
+        (lookup_branch_degrees t lookup.now)) }
     ensures denominator_degree { IfOk result (λ r. (t : ℕ) → AB.ExprEF.degree r.denominator t
-        ≤ exclusive_denominator_degree (map (expression_degree t) flags.now) (lookup_branch_degrees t lookup.now)) }
+        ≤ exclusive_denominator_degree (map (expression_degree t) flags.now)
+        (lookup_branch_degrees t lookup.now)) }
 {
     let selection = selection_of(alloc, builder, main, lookup, flags, alpha, beta)?;
     selected(alloc, selection)

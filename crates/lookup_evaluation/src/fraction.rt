@@ -26,19 +26,30 @@ fn quotient_of<AB: PermutationAirBuilder>(
 ) -> Result<Quotient<AB::ExprEF>, AllocError>
     requires lengths { HasEqualLengths lookup.now }
     requires fits { IsWithin (AB.layout builder.now) lookup.now }
-    requires challenges { 2 * lookup.now.column + 1 < (AB.layout builder.now).num_permutation_challenges }
+    requires challenges { 2 * lookup.now.column + 1
+        < (AB.layout builder.now).num_permutation_challenges }
     requires readable { AB.MainWindow.readable main.now }
     requires current { MeansRow (AB.stands_for builder.now) AB.variable
         (AB.layout builder.now).main_width (λ w. w.main) (AB.MainWindow.current main.now) }
     requires next { MeansRow (AB.stands_for builder.now) AB.variable
         (AB.layout builder.now).main_width (λ w. w.main_next) (AB.MainWindow.next main.now) }
-    ensures numerator { IfOk result (λ r. (w : ExtWindow AB.F AB.EF) → AB.stands_for_ext builder.now w
+    ensures numerator { IfOk result (λ r. (w : ExtWindow AB.F AB.EF)
+        → AB.stands_for_ext builder.now w
         → let E = extension AB.F.ring AB.F.eq AB.EF.ring AB.EF.eq AB.EF.embed AB.EF.inverse in
-        AB.ExprEF.value r.numerator (AB.seen_ext w) ≡ fraction_numerator E (denominator_at E lookup.now.column w) (flags_at AB.F.ring w.base lookup.now) (branches_at AB.F.ring w.base lookup.now.column lookup.now)) }
-    ensures denominator { IfOk result (λ r. (w : ExtWindow AB.F AB.EF) → AB.stands_for_ext builder.now w
+        AB.ExprEF.value r.numerator (AB.seen_ext w)
+        ≡ fraction_numerator E (denominator_at E lookup.now.column w)
+        (flags_at AB.F.ring w.base lookup.now)
+        (branches_at AB.F.ring w.base lookup.now.column lookup.now)) }
+    ensures denominator { IfOk result (λ r. (w : ExtWindow AB.F AB.EF)
+        → AB.stands_for_ext builder.now w
         → let E = extension AB.F.ring AB.F.eq AB.EF.ring AB.EF.eq AB.EF.embed AB.EF.inverse in
-        AB.ExprEF.value r.denominator (AB.seen_ext w) ≡ fraction_denominator E (denominator_at E lookup.now.column w) (flags_at AB.F.ring w.base lookup.now) (branches_at AB.F.ring w.base lookup.now.column lookup.now)) }
-    ensures degree { IfOk result (λ r. (t : ℕ) → max (1 + AB.ExprEF.degree r.denominator t) (AB.ExprEF.degree r.numerator t) ≤ lookup_degree t lookup.now) }
+        AB.ExprEF.value r.denominator (AB.seen_ext w)
+        ≡ fraction_denominator E (denominator_at E lookup.now.column w)
+        (flags_at AB.F.ring w.base lookup.now)
+        (branches_at AB.F.ring w.base lookup.now.column lookup.now)) }
+    ensures degree { IfOk result (λ r. (t : ℕ)
+        → max (1 + AB.ExprEF.degree r.denominator t) (AB.ExprEF.degree r.numerator t)
+        ≤ lookup_degree t lookup.now) }
 {
     let (alpha, beta) = column_challenges(builder, lookup.column);
     match &lookup.flags {
@@ -55,11 +66,13 @@ fn fraction_expression<AB: PermutationAirBuilder>(
 ) -> Result<AB::ExprEF, AirError>
     requires lengths { HasEqualLengths lookup.now }
     requires fits { IsWithin (AB.layout builder.now) lookup.now }
-    requires challenges { 2 * lookup.now.column + 1 < (AB.layout builder.now).num_permutation_challenges }
+    requires challenges { 2 * lookup.now.column + 1
+        < (AB.layout builder.now).num_permutation_challenges }
     requires cell { lookup.now.column + 1 < (AB.layout builder.now).permutation_width }
     ensures means { IfOk result (λ r.
         let E = extension AB.F.ring AB.F.eq AB.EF.ring AB.EF.eq AB.EF.embed AB.EF.inverse in
-        IsConstraint (λ x w. AB.ExprEF.value x (AB.seen_ext w)) AB.ExprEF.degree (AB.stands_for_ext builder.now) (fraction_constraint E lookup.now) r) }
+        IsConstraint (λ x w. AB.ExprEF.value x (AB.seen_ext w)) AB.ExprEF.degree
+        (AB.stands_for_ext builder.now) (fraction_constraint E lookup.now) r) }
     ensures refused { IfErr result (λ e. (e ≡ AirError.Memory) ⊎ AB.window_refuses builder.now e) }
 {
     let main = builder.main(alloc)?;
@@ -77,11 +90,14 @@ pub fn eval_fraction<AB: PermutationAirBuilder>(
 ) -> Result<(), AirError>
     requires lengths { HasEqualLengths lookup.now }
     requires fits { IsWithin (AB.layout builder.old) lookup.now }
-    requires challenges { 2 * lookup.now.column + 1 < (AB.layout builder.old).num_permutation_challenges }
+    requires challenges { 2 * lookup.now.column + 1
+        < (AB.layout builder.old).num_permutation_challenges }
     requires cell { lookup.now.column + 1 < (AB.layout builder.old).permutation_width }
     ensures { let E = extension AB.F.ring AB.F.eq AB.EF.ring AB.EF.eq AB.EF.embed AB.EF.inverse in
-        Evaluates AB.accepts_ext AB.refuses_ext (λ b e. (e ≡ AirError.Memory) ⊎ AB.window_refuses b e)
-        (IsConstraint (λ x w. AB.ExprEF.value x (AB.seen_ext w)) AB.ExprEF.degree (AB.stands_for_ext builder.old))
+        Evaluates AB.accepts_ext AB.refuses_ext (λ b e. (e ≡ AirError.Memory)
+        ⊎ AB.window_refuses b e)
+        (IsConstraint (λ x w. AB.ExprEF.value x (AB.seen_ext w)) AB.ExprEF.degree
+        (AB.stands_for_ext builder.old))
         builder.old (fraction_constraint E lookup.now ∷ []) result builder.new }
 {
     let constraint = fraction_expression(alloc, &*builder, lookup)?;

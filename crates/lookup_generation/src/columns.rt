@@ -56,7 +56,8 @@ fn selected_rows<F: Field>(
 ) -> Result<(Vec<usize>, Vec<usize>), AllocError>
     requires { length flags.now ≡ length rows.now }
     ensures places { IfOk result (λ v. ArePlaced F.ring flags.now rows.now v.0.items v.1.items) }
-    ensures rows_exist { (n : ℕ) → All (λ r. r < n) rows.now → IfOk result (λ v. All (λ r. r < n) v.1.items) }
+    ensures rows_exist { (n : ℕ) → All (λ r. r < n) rows.now
+        → IfOk result (λ v. All (λ r. r < n) v.1.items) }
 {
     let mut places = Vec::with_capacity(alloc, rows.len())?;
     let mut selected = Vec::with_capacity(alloc, rows.len())?;
@@ -84,13 +85,17 @@ fn branch_columns<F: Field, EF: ExtensionDomain<F>>(
 ) -> Result<BranchColumns<F, EF>, AllocError>
     requires heights { ForSome (option_copied preprocessed) (λ m. height m ≡ height main.now) }
     requires lengths { HasEqualLengths lookup.now }
-    requires within { IsWithin (layout_of_traces main.now (option_copied preprocessed) public_values.now) lookup.now }
+    requires within { IsWithin (layout_of_traces main.now
+        (option_copied preprocessed) public_values.now) lookup.now }
     requires challenges { 2 * lookup.now.column + 1 < length challenges.now }
     requires rows_exist { All (λ r. r < height main.now) rows.now }
     requires branch_exists { branch < length lookup.now.elements.items }
     ensures flags { IfOk result (λ v. (v.flags ≡ flags) × (v.places ≡ places)) }
-    ensures held { IfOk result (λ v. (place r : ℕ) (m : Message F) → slice_get rows.now place ≡ Some r
-        → slice_get (branches_at F.ring (windows_of main.now (option_copied preprocessed.entry) public_values.now r) lookup.now.column lookup.now) branch ≡ Some m
+    ensures held { IfOk result (λ v. (place r : ℕ) (m : Message F)
+        → slice_get rows.now place ≡ Some r
+        → slice_get (branches_at F.ring (windows_of main.now
+        (option_copied preprocessed.entry) public_values.now r) lookup.now.column lookup.now) branch
+        ≡ Some m
         → IsHeld (key_denominator EF.ring EF.embed challenges.now) place v m) }
 {
     let alpha = challenges[2 * lookup.column];
@@ -128,12 +133,14 @@ fn additive_columns<F: Field, EF: ExtensionDomain<F>>(
 ) -> Result<Vec<BranchColumns<F, EF>>, AllocError>
     requires heights { ForSome (option_copied preprocessed) (λ m. height m ≡ height main.now) }
     requires lengths { HasEqualLengths lookup.now }
-    requires within { IsWithin (layout_of_traces main.now (option_copied preprocessed) public_values.now) lookup.now }
+    requires within { IsWithin (layout_of_traces main.now
+        (option_copied preprocessed) public_values.now) lookup.now }
     requires challenges { 2 * lookup.now.column + 1 < length challenges.now }
     requires rows_exist { All (λ r. r < height main.now) rows.now }
     ensures { IfOk result (λ v. (place r : ℕ) → slice_get rows.now place ≡ Some r
         → AllZip (IsHeld (key_denominator EF.ring EF.embed challenges.now) place) v.items
-        (branches_at F.ring (windows_of main.now (option_copied preprocessed.entry) public_values.now r) lookup.now.column lookup.now)) }
+        (branches_at F.ring (windows_of main.now
+        (option_copied preprocessed.entry) public_values.now r) lookup.now.column lookup.now)) }
 {
     let mut branches = Vec::with_capacity(alloc, lookup.elements.len())?;
     for branch in 0..lookup.elements.len() {
@@ -168,11 +175,13 @@ fn exclusive_columns<F: Field, EF: ExtensionDomain<F>>(
 ) -> Result<Vec<BranchColumns<F, EF>>, AllocError>
     requires heights { ForSome (option_copied preprocessed) (λ m. height m ≡ height main.now) }
     requires lengths { HasEqualLengths lookup.now }
-    requires within { IsWithin (layout_of_traces main.now (option_copied preprocessed) public_values.now) lookup.now }
+    requires within { IsWithin (layout_of_traces main.now
+        (option_copied preprocessed) public_values.now) lookup.now }
     requires challenges { 2 * lookup.now.column + 1 < length challenges.now }
     requires rows_exist { All (λ r. r < height main.now) rows.now }
     requires flag_number { length flags.now ≡ length lookup.now.elements.items }
-    requires flags_fit { AllFit (layout_of_traces main.now (option_copied preprocessed) public_values.now) flags.now }
+    requires flags_fit { AllFit (layout_of_traces main.now
+        (option_copied preprocessed) public_values.now) flags.now }
     ensures { IfOk result (λ v. (place r : ℕ) → slice_get rows.now place ≡ Some r
         → let w = windows_of main.now (option_copied preprocessed.entry) public_values.now r in
         HoldSelected F.ring (key_denominator EF.ring EF.embed challenges.now) place v.items
@@ -218,10 +227,13 @@ fn columns_of_lookup<F: Field, EF: ExtensionDomain<F>>(
 ) -> Result<Vec<BranchColumns<F, EF>>, AllocError>
     requires heights { ForSome (option_copied preprocessed) (λ m. height m ≡ height main.now) }
     requires lengths { HasEqualLengths lookup.now }
-    requires within { IsWithin (layout_of_traces main.now (option_copied preprocessed) public_values.now) lookup.now }
+    requires within { IsWithin (layout_of_traces main.now
+        (option_copied preprocessed) public_values.now) lookup.now }
     requires challenges { 2 * lookup.now.column + 1 < length challenges.now }
     requires rows_exist { All (λ r. r < height main.now) rows.now }
-    ensures { IfOk result (λ v. AreColumns F.ring EF.ring EF.embed challenges.now (windows_of main.now (option_copied preprocessed.entry) public_values.now) rows.now lookup.now v.items) }
+    ensures { IfOk result (λ v. AreColumns F.ring EF.ring EF.embed challenges.now
+        (windows_of main.now (option_copied preprocessed.entry) public_values.now) rows.now
+        lookup.now v.items) }
 {
     match &lookup.flags {
         None => additive_columns(
@@ -257,10 +269,13 @@ pub(crate) fn columns_of_lookups<F: Field, EF: ExtensionDomain<F>>(
     rows: &[usize],
 ) -> Result<Vec<Vec<BranchColumns<F, EF>>>, AllocError>
     requires heights { ForSome (option_copied preprocessed) (λ m. height m ≡ height main.now) }
-    requires fit { DoFit (layout_of_traces main.now (option_copied preprocessed) public_values.now) lookups.now }
+    requires fit { DoFit (layout_of_traces main.now (option_copied preprocessed) public_values.now)
+        lookups.now }
     requires challenges { 2 * length lookups.now ≤ length challenges.now }
     requires rows_exist { All (λ r. r < height main.now) rows.now }
-    ensures { IfOk result (λ v. AreLookupColumns F.ring EF.ring EF.embed challenges.now (windows_of main.now (option_copied preprocessed.entry) public_values.now) rows.now lookups.now v.items) }
+    ensures { IfOk result (λ v. AreLookupColumns F.ring EF.ring EF.embed challenges.now
+        (windows_of main.now (option_copied preprocessed.entry) public_values.now) rows.now
+        lookups.now v.items) }
 {
     let mut columns = Vec::with_capacity(alloc, lookups.len())?;
     for lookup in lookups {

@@ -71,7 +71,8 @@ pub(crate) fn set_flags<F: Field, EF: Domain>(
 ) -> Result<SetFlags, LookupError>
     requires { AllFit (builder_layout builder.now) flags.now }
     ensures { let E = base_extension F.ring F.eq F.inverse in
-        AnswersFlags E builder.now.row column (values F.ring (builder_window builder.now) flags.now) result }
+        AnswersFlags E builder.now.row column
+        (values F.ring (builder_window builder.now) flags.now) result }
 {
     let mut set = SetFlags::Nothing;
     for place in 0..flags.len() {
@@ -90,7 +91,8 @@ fn set_flags_at<F: Field, EF: ExtensionDomain<F>>(
 ) -> Result<SetFlags, LookupError>
     requires { All (λ c. place < length c.flags.items) columns.now }
     ensures { let E = base_extension F.ring F.eq F.inverse in
-        (flags : List F) → AllZip (HasFlag place) columns.now flags → AnswersFlags E row column flags result }
+        (flags : List F) → AllZip (HasFlag place) columns.now flags
+        → AnswersFlags E row column flags result }
 {
     let mut set = SetFlags::Nothing;
     for branch in 0..columns.len() {
@@ -110,7 +112,8 @@ fn branch_ratio<F: Field, EF: ExtensionDomain<F>>(
     column: usize,
 ) -> Result<Ratio<EF>, LookupError>
     ensures answers { MatchResult result
-        (λ r. (denominator ≢ EF.ring.zero) × ((q : EF) → EF.ring.mul denominator q ≡ EF.embed multiplicity → IsRatio EF.ring r q))
+        (λ r. (denominator ≢ EF.ring.zero)
+        × ((q : EF) → EF.ring.mul denominator q ≡ EF.embed multiplicity → IsRatio EF.ring r q))
         (λ e. (e ≡ LookupError.VanishingDenominator row column) × (denominator ≡ EF.ring.zero)) }
     ensures sound { IfOk result (λ r. r.denominator ≢ EF.ring.zero) }
 {
@@ -137,9 +140,12 @@ pub(crate) fn exclusive_fraction<F: Field, EF: ExtensionDomain<F>>(
     flags: &[SymbolicExpression<F>],
     builder: &LookupTraceBuilder<'_, F, EF>,
 ) -> Result<Ratio<EF>, LookupError>
-    requires { HoldSelected F.ring (key_denominator EF.ring EF.embed builder.now.permutation_challenges.now) place columns.now
-        (values F.ring (builder_window builder.now) flags.now) (branches_at F.ring (builder_window builder.now) lookup.now.column lookup.now) }
-    ensures answers { ForInverses EF.ring (λ inverse. let E = extension F.ring F.eq EF.ring EF.eq EF.embed inverse in
+    requires { HoldSelected F.ring (key_denominator EF.ring EF.embed
+        builder.now.permutation_challenges.now) place columns.now
+        (values F.ring (builder_window builder.now) flags.now)
+        (branches_at F.ring (builder_window builder.now) lookup.now.column lookup.now) }
+    ensures answers { ForInverses EF.ring (λ inverse.
+        let E = extension F.ring F.eq EF.ring EF.eq EF.embed inverse in
         AnswersExclusive E builder.now lookup.now flags.now result) }
     ensures sound { IfOk result (λ r. r.denominator ≢ EF.ring.zero) }
 {

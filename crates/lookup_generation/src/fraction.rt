@@ -27,13 +27,17 @@ fn with_branch<F: Field, EF: ExtensionDomain<F>>(
     row: usize,
     column: usize,
 ) -> Result<Ratio<EF>, LookupError>
-    ensures next { ForInverses EF.ring (λ inverse. let E = extension F.ring F.eq EF.ring EF.eq EF.embed inverse in
-        IfOk result (λ next. (denominators : Key F → EF) (messages : List (Message F)) (message : Message F)
+    ensures next { ForInverses EF.ring (λ inverse.
+        let E = extension F.ring F.eq EF.ring EF.eq EF.embed inverse in
+        IfOk result (λ next. (denominators : Key F → EF) (messages : List (Message F))
+        (message : Message F)
         → message.multiplicity ≡ multiplicity → denominators message.key ≡ denominator
-        → IsFractionOf E denominators messages fraction → IsFractionOf E denominators (messages ++ message ∷ []) next)) }
+        → IsFractionOf E denominators messages fraction
+        → IsFractionOf E denominators (messages ++ message ∷ []) next)) }
     ensures refused { IfErr result (λ e. (e ≡ LookupError.VanishingDenominator row column)
         × (multiplicity ≢ F.ring.zero) × (denominator ≡ EF.ring.zero)) }
-    ensures sound { IfOk result (λ next. fraction.denominator ≢ EF.ring.zero → next.denominator ≢ EF.ring.zero) }
+    ensures sound { IfOk result (λ next. fraction.denominator ≢ EF.ring.zero
+        → next.denominator ≢ EF.ring.zero) }
 {
     if multiplicity.is_zero() {
         Ok(fraction)
@@ -54,9 +58,11 @@ fn additive_fraction<F: Field, EF: ExtensionDomain<F>>(
     place: usize,
     builder: &LookupTraceBuilder<'_, F, EF>,
 ) -> Result<Ratio<EF>, LookupError>
-    requires { AllZip (IsHeld (key_denominator EF.ring EF.embed builder.now.permutation_challenges.now) place) columns.now
+    requires { AllZip (IsHeld (key_denominator EF.ring EF.embed
+        builder.now.permutation_challenges.now) place) columns.now
         (branches_at F.ring (builder_window builder.now) lookup.now.column lookup.now) }
-    ensures answers { ForInverses EF.ring (λ inverse. let E = extension F.ring F.eq EF.ring EF.eq EF.embed inverse in
+    ensures answers { ForInverses EF.ring (λ inverse.
+        let E = extension F.ring F.eq EF.ring EF.eq EF.embed inverse in
         AnswersAdditive E builder.now lookup.now result) }
     ensures sound { IfOk result (λ r. r.denominator ≢ EF.ring.zero) }
 {
@@ -84,8 +90,10 @@ pub(crate) fn fraction<F: Field, EF: ExtensionDomain<F>>(
     place: usize,
     builder: &LookupTraceBuilder<'_, F, EF>,
 ) -> Result<Ratio<EF>, LookupError>
-    requires { HoldLookup F.ring EF.ring EF.embed builder.now.permutation_challenges.now (builder_window builder.now) place lookup.now columns.now }
-    ensures answers { ForInverses EF.ring (λ inverse. let E = extension F.ring F.eq EF.ring EF.eq EF.embed inverse in
+    requires { HoldLookup F.ring EF.ring EF.embed builder.now.permutation_challenges.now
+        (builder_window builder.now) place lookup.now columns.now }
+    ensures answers { ForInverses EF.ring (λ inverse.
+        let E = extension F.ring F.eq EF.ring EF.eq EF.embed inverse in
         AnswersFraction E builder.now lookup.now result) }
     ensures sound { IfOk result (λ r. r.denominator ≢ EF.ring.zero) }
 {

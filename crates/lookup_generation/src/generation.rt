@@ -42,11 +42,15 @@ fn push_ratios<F: Field, EF: ExtensionDomain<F>>(
     builder: &LookupTraceBuilder<'_, F, EF>,
 ) -> Result<(), LookupError>
     requires fit { DoFit (builder_layout builder.now) lookups.now }
-    requires columns { HoldLookups F.ring EF.ring EF.embed builder.now.permutation_challenges.now (builder_window builder.now) place lookups.now columns.now }
-    ensures answers { ForInverses EF.ring (λ inverse. let E = extension F.ring F.eq EF.ring EF.eq EF.embed inverse in
+    requires columns { HoldLookups F.ring EF.ring EF.embed builder.now.permutation_challenges.now
+        (builder_window builder.now) place lookups.now columns.now }
+    ensures answers { ForInverses EF.ring (λ inverse.
+        let E = extension F.ring F.eq EF.ring EF.eq EF.embed inverse in
         AnswersRow E (column_denominator E builder.now.permutation_challenges.now) builder.now.row
-        ratios.old.items ratios.new.items (sent_row F.ring F.eq (builder_window builder.now) lookups.now) result) }
-    ensures sound { IfOk result (λ _. (n : ℕ) → AreSound EF.ring n ratios.old.items → AreSound EF.ring (n + length lookups.now) ratios.new.items) }
+        ratios.old.items ratios.new.items (sent_row F.ring F.eq
+        (builder_window builder.now) lookups.now) result) }
+    ensures sound { IfOk result (λ _. (n : ℕ) → AreSound EF.ring n ratios.old.items
+        → AreSound EF.ring (n + length lookups.now) ratios.new.items) }
 {
     for lookup in lookups {
         let ratio = fraction(lookup, &columns[lookup.column], place, builder)?;
@@ -75,10 +79,12 @@ pub fn row_builder<'a, F: Field, EF: Domain>(
 ) -> LookupTraceBuilder<'a, F, EF>
     requires row_exists { row < height main.now }
     requires heights { ForSome (option_copied preprocessed) (λ m. height m ≡ height main.now) }
-    ensures window { builder_window result ≡ window_at main.now (option_copied preprocessed.entry) public_values.now (height main.now) row }
-    ensures layout { builder_layout result ≡ record (layout_of_traces main.now (option_copied preprocessed.entry) public_values.now) {
-      num_permutation_challenges = length challenges.now;
-    } }
+    ensures window { builder_window result ≡ window_at main.now
+        (option_copied preprocessed.entry) public_values.now (height main.now) row }
+    ensures layout { builder_layout result ≡ record
+        (layout_of_traces main.now (option_copied preprocessed.entry) public_values.now) {
+          num_permutation_challenges = length challenges.now;
+        } }
     ensures challenges { result.permutation_challenges.now ≡ challenges.now }
     ensures row { result.row ≡ row }
 {
@@ -115,19 +121,26 @@ fn ratios_of<F: Field, EF: ExtensionDomain<F>>(
     end: usize,
 ) -> Result<Vec<Ratio<EF>>, LookupError>
     requires heights { ForSome (option_copied preprocessed) (λ m. height m ≡ height main.now) }
-    requires fit { DoFit (layout_of_traces main.now (option_copied preprocessed) public_values.now) lookups.now }
+    requires fit { DoFit (layout_of_traces main.now (option_copied preprocessed) public_values.now)
+        lookups.now }
     requires challenges { 2 * length lookups.now ≤ length challenges.now }
     requires from { first ≤ end }
     requires up_to { end ≤ height main.now }
-    requires faultless { ForInverses EF.ring (λ inverse. let E = extension F.ring F.eq EF.ring EF.eq EF.embed inverse in
-        trace_faults E (column_denominator E challenges.now) (take first (sent_rows F.ring F.eq main.now (option_copied preprocessed) public_values.now lookups.now)) ≡ []) }
-    ensures answers { ForInverses EF.ring (λ inverse. let E = extension F.ring F.eq EF.ring EF.eq EF.embed inverse in
+    requires faultless { ForInverses EF.ring (λ inverse.
+        let E = extension F.ring F.eq EF.ring EF.eq EF.embed inverse in
+        trace_faults E (column_denominator E challenges.now)
+        (take first (sent_rows F.ring F.eq main.now
+        (option_copied preprocessed) public_values.now lookups.now)) ≡ []) }
+    ensures answers { ForInverses EF.ring (λ inverse.
+        let E = extension F.ring F.eq EF.ring EF.eq EF.embed inverse in
         let denominator = column_denominator E challenges.now in
-        let rows = sent_rows F.ring F.eq main.now (option_copied preprocessed.entry) public_values.now lookups.now in
+        let rows = sent_rows F.ring F.eq main.now
+        (option_copied preprocessed.entry) public_values.now lookups.now in
         MatchResult result
         (λ v. AreRatios E denominator rows first end v.items)
         (IsFirstOf (trace_faults E denominator rows))) }
-    ensures sound { IfOk result (λ v. AreSound EF.ring ((end - first) * length lookups.now) v.items) }
+    ensures sound { IfOk result (λ v. AreSound EF.ring
+        ((end - first) * length lookups.now) v.items) }
 {
     let rows = rows_between(alloc, first, end)?;
     let columns = columns_of_lookups(
@@ -154,7 +167,8 @@ fn ratios_of<F: Field, EF: ExtensionDomain<F>>(
 /// Appends a row of the auxiliary trace to `cells`: the accumulator and the fractions. Returns the
 /// accumulator of the next row.
 fn push_row<K: Domain>(cells: &mut Vec<K>, accumulator: K, fractions: &[K]) -> Result<K, AllocError>
-    ensures { IfOk result (λ next. (cells.new.items ≡ cells.old.items ++ accumulator ∷ fractions.now)
+    ensures { IfOk result (λ next. (cells.new.items ≡ cells.old.items
+        ++ accumulator ∷ fractions.now)
         × (next ≡ K.ring.add accumulator (sum_in K.ring fractions.now))) }
 {
     cells.push(accumulator)?;
@@ -184,24 +198,31 @@ fn push_chunk<F: Field, EF: ExtensionDomain<F>, I: Inverter<EF>>(
     inverter: &mut I,
 ) -> Result<EF, LookupError>
     requires heights { ForSome (option_copied preprocessed) (λ m. height m ≡ height main.now) }
-    requires fit { DoFit (layout_of_traces main.now (option_copied preprocessed) public_values.now) lookups.now }
+    requires fit { DoFit (layout_of_traces main.now (option_copied preprocessed) public_values.now)
+        lookups.now }
     requires challenges { 2 * length lookups.now ≤ length challenges.now }
     requires some { 0 < length lookups.now }
     requires from { first ≤ end }
     requires up_to { end ≤ height main.now }
-    requires so_far { ForInverses EF.ring (λ inverse. let E = extension F.ring F.eq EF.ring EF.eq EF.embed inverse in
+    requires so_far { ForInverses EF.ring (λ inverse.
+        let E = extension F.ring F.eq EF.ring EF.eq EF.embed inverse in
         let denominator = column_denominator E challenges.now in
-        let rows = sent_rows F.ring F.eq main.now (option_copied preprocessed) public_values.now lookups.now in
+        let rows = sent_rows F.ring F.eq main.now
+        (option_copied preprocessed) public_values.now lookups.now in
         HasRows E denominator rows first cells.now.items accumulator) }
-    ensures rows { ForInverses EF.ring (λ inverse. let E = extension F.ring F.eq EF.ring EF.eq EF.embed inverse in
+    ensures rows { ForInverses EF.ring (λ inverse.
+        let E = extension F.ring F.eq EF.ring EF.eq EF.embed inverse in
         let denominator = column_denominator E challenges.now in
-        let rows = sent_rows F.ring F.eq main.now (option_copied preprocessed.entry) public_values.now lookups.now in
+        let rows = sent_rows F.ring F.eq main.now
+        (option_copied preprocessed.entry) public_values.now lookups.now in
         MatchResult result
         (HasRows E denominator rows end cells.new.items)
         (IsFirstOf (trace_faults E denominator rows))) }
-    ensures many { IfOk result (λ _. length cells.new.items ≡ length cells.old.items + (end - first) * (length lookups.now + 1)) }
+    ensures many { IfOk result (λ _. length cells.new.items
+        ≡ length cells.old.items + (end - first) * (length lookups.now + 1)) }
     ensures counted { I.count inverter.new ≤ I.count inverter.old + 1 }
-    ensures spared { IfErr result (λ e. (e ≡ LookupError.Memory) ⊎ (I.count inverter.new ≡ I.count inverter.old)) }
+    ensures spared { IfErr result (λ e. (e ≡ LookupError.Memory)
+        ⊎ (I.count inverter.new ≡ I.count inverter.old)) }
 {
     let ratios = ratios_of(
         alloc,
@@ -249,18 +270,24 @@ fn generate<F: Field, EF: ExtensionDomain<F>, I: Inverter<EF>>(
     inverter: &mut I,
 ) -> Result<(Vec<EF>, EF), LookupError>
     requires heights { ForSome (option_copied preprocessed) (λ m. height m ≡ height main.now) }
-    requires fit { DoFit (layout_of_traces main.now (option_copied preprocessed) public_values.now) lookups.now }
+    requires fit { DoFit (layout_of_traces main.now (option_copied preprocessed) public_values.now)
+        lookups.now }
     requires challenges { 2 * length lookups.now ≤ length challenges.now }
     requires some { 0 < length lookups.now }
-    ensures rows { ForInverses EF.ring (λ inverse. let E = extension F.ring F.eq EF.ring EF.eq EF.embed inverse in
+    ensures rows { ForInverses EF.ring (λ inverse.
+        let E = extension F.ring F.eq EF.ring EF.eq EF.embed inverse in
         let denominator = column_denominator E challenges.now in
-        let rows = sent_rows F.ring F.eq main.now (option_copied preprocessed.entry) public_values.now lookups.now in
+        let rows = sent_rows F.ring F.eq main.now
+        (option_copied preprocessed.entry) public_values.now lookups.now in
         MatchResult result
         (λ r. HasRows E denominator rows (height main.now) r.0.items r.1)
         (IsFirstOf (trace_faults E denominator rows))) }
-    ensures many { IfOk result (λ r. length r.0.items ≡ height main.now * (length lookups.now + 1)) }
-    ensures counted { I.count inverter.new ≤ I.count inverter.old + started_chunks (height main.now) }
-    ensures spared { IfErr result (λ e. (e ≡ LookupError.Memory) ⊎ (I.count inverter.new < I.count inverter.old + started_chunks (height main.now))) }
+    ensures many { IfOk result (λ r. length r.0.items
+        ≡ height main.now * (length lookups.now + 1)) }
+    ensures counted { I.count inverter.new ≤ I.count inverter.old + started_chunks
+        (height main.now) }
+    ensures spared { IfErr result (λ e. (e ≡ LookupError.Memory)
+        ⊎ (I.count inverter.new < I.count inverter.old + started_chunks (height main.now))) }
 {
     let height = main.height();
     let size = height
@@ -303,11 +330,16 @@ pub fn generate_counted<'a, F: Field, EF: ExtensionDomain<F>, I: Inverter<EF>>(
     inverter: &mut I,
 ) -> Result<(RowMajorMatrix<EF>, Option<LookupTerminal<EF>>), LookupError>
     requires heights { ForSome (option_copied preprocessed) (λ m. height m ≡ height main.now) }
-    requires fit { DoFit (layout_of_traces main.now (option_copied preprocessed) public_values.now) lookups.now }
+    requires fit { DoFit (layout_of_traces main.now (option_copied preprocessed) public_values.now)
+        lookups.now }
     requires challenges { 2 * length lookups.now ≤ length challenges.now }
-    ensures answers { ForInverses EF.ring (λ inverse. AnswersGeneration (extension F.ring F.eq EF.ring EF.eq EF.embed inverse) main.now (option_copied preprocessed.entry) public_values.now lookups.now challenges.now result) }
-    ensures counted { I.count inverter.new ≤ I.count inverter.old + started_chunks (height main.now) }
-    ensures spared { IfErr result (λ e. (e ≡ LookupError.Memory) ⊎ (I.count inverter.new < I.count inverter.old + started_chunks (height main.now))) }
+    ensures answers { ForInverses EF.ring (λ inverse. AnswersGeneration
+        (extension F.ring F.eq EF.ring EF.eq EF.embed inverse) main.now
+        (option_copied preprocessed.entry) public_values.now lookups.now challenges.now result) }
+    ensures counted { I.count inverter.new ≤ I.count inverter.old + started_chunks
+        (height main.now) }
+    ensures spared { IfErr result (λ e. (e ≡ LookupError.Memory)
+        ⊎ (I.count inverter.new < I.count inverter.old + started_chunks (height main.now))) }
     ensures nothing_sent { length lookups.now ≡ 0 → I.count inverter.new ≡ I.count inverter.old }
 {
     if lookups.is_empty() {
@@ -348,9 +380,11 @@ pub fn generate_permutation<'a, F: Field, EF: ExtensionField<F>>(
     challenges: &[EF],
 ) -> Result<(RowMajorMatrix<EF>, Option<LookupTerminal<EF>>), LookupError>
     requires heights { ForSome (option_copied preprocessed) (λ m. height m ≡ height main.now) }
-    requires fit { DoFit (layout_of_traces main.now (option_copied preprocessed) public_values.now) lookups.now }
+    requires fit { DoFit (layout_of_traces main.now (option_copied preprocessed) public_values.now)
+        lookups.now }
     requires challenges { 2 * length lookups.now ≤ length challenges.now }
-    ensures { AnswersGeneration (extension F.ring F.eq EF.ring EF.eq EF.embed EF.inverse) main.now (option_copied preprocessed.entry) public_values.now lookups.now challenges.now result }
+    ensures { AnswersGeneration (extension F.ring F.eq EF.ring EF.eq EF.embed EF.inverse) main.now
+        (option_copied preprocessed.entry) public_values.now lookups.now challenges.now result }
 {
     let mut count = InverseCount::new();
     generate_counted(

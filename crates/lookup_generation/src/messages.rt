@@ -114,10 +114,12 @@ fn push_selected<F: Field, EF: ExtensionField<F>>(
     requires flags_fit { AllFit (builder_layout builder.now) flags.now }
     ensures { let E = extension F.ring F.eq EF.ring EF.eq EF.embed EF.inverse in
         let w = builder_window builder.now in
-        let sent = sent F.ring F.eq (Some (values F.ring w flags.now)) (branches_at F.ring w id lookup.now) in
+        let sent = sent F.ring F.eq (Some (values F.ring w flags.now))
+        (branches_at F.ring w id lookup.now) in
         let fault = fault_of E (λ _. EF.ring.one) builder.now.row lookup.now.column sent in
         MatchResult result
-        (λ _. (messages_of messages.new.items ≡ messages_of messages.old.items ++ sent.messages) × (fault ≡ None))
+        (λ _. (messages_of messages.new.items ≡ messages_of messages.old.items ++ sent.messages)
+        × (fault ≡ None))
         (λ e. (e ≡ LookupError.Memory) ⊎ (fault ≡ Some e)) }
 {
     match set_flags(flags, builder, lookup.column)? {
@@ -150,7 +152,8 @@ fn push_sent<F: Field, EF: ExtensionField<F>>(
         let sent = sent_at F.ring F.eq (builder_window builder.now) id lookup.now in
         let fault = fault_of E (λ _. EF.ring.one) builder.now.row lookup.now.column sent in
         MatchResult result
-        (λ _. (messages_of messages.new.items ≡ messages_of messages.old.items ++ sent.messages) × (fault ≡ None))
+        (λ _. (messages_of messages.new.items ≡ messages_of messages.old.items ++ sent.messages)
+        × (fault ≡ None))
         (λ e. (e ≡ LookupError.Memory) ⊎ (fault ≡ Some e)) }
 {
     match &lookup.flags {
@@ -172,10 +175,12 @@ fn push_row_messages<F: Field, EF: ExtensionField<F>>(
     requires fit { DoFit (builder_layout builder.now) lookups.now }
     requires ids { length ids.now ≡ length lookups.now }
     ensures { let E = extension F.ring F.eq EF.ring EF.eq EF.embed EF.inverse in
-        let sents = sent_row_under F.ring F.eq (λ l. slice_index_or ids.now l.column 0) (builder_window builder.now) lookups.now in
+        let sents = sent_row_under F.ring F.eq (λ l. slice_index_or ids.now l.column 0)
+        (builder_window builder.now) lookups.now in
         MatchResult result
         (λ _. HasSentRow E builder.now.row messages.old.items messages.new.items sents)
-        (λ e. (e ≡ LookupError.Memory) ⊎ (slice_get (row_flag_faults E builder.now.row sents) 0 ≡ Some e)) }
+        (λ e. (e ≡ LookupError.Memory)
+        ⊎ (slice_get (row_flag_faults E builder.now.row sents) 0 ≡ Some e)) }
 {
     for lookup in lookups {
         let id = ids[lookup.column];
@@ -199,10 +204,12 @@ pub fn push_messages<F: Field, EF: ExtensionField<F>>(
     ids: &[usize],
 ) -> Result<(), LookupError>
     requires heights { ForSome (option_copied preprocessed) (λ m. height m ≡ height main.now) }
-    requires fit { DoFit (layout_of_traces main.now (option_copied preprocessed) public_values.now) lookups.now }
+    requires fit { DoFit (layout_of_traces main.now (option_copied preprocessed) public_values.now)
+        lookups.now }
     requires ids { length ids.now ≡ length lookups.now }
     ensures { let E = extension F.ring F.eq EF.ring EF.eq EF.embed EF.inverse in
-        let rows = sent_rows_under F.ring F.eq (λ l. slice_index_or ids.now l.column 0) main.now (option_copied preprocessed.entry) public_values.now lookups.now in
+        let rows = sent_rows_under F.ring F.eq (λ l. slice_index_or ids.now l.column 0) main.now
+        (option_copied preprocessed.entry) public_values.now lookups.now in
         MatchResult result
         (λ _. HasSentRows E messages.old.items messages.new.items rows)
         (λ e. (e ≡ LookupError.Memory) ⊎ (slice_get (trace_flag_faults E rows) 0 ≡ Some e)) }

@@ -29,7 +29,8 @@ impl<K: Domain> Ratio<K> {
     pub(crate) fn over<F: Field>(multiplicity: F, denominator: K) -> Self
     where
         K: ExtensionDomain<F>,
-        ensures value { (q : K) → denominator ≢ K.ring.zero → K.ring.mul denominator q ≡ K.embed multiplicity → IsRatio K.ring result q }
+        ensures value { (q : K) → denominator ≢ K.ring.zero
+            → K.ring.mul denominator q ≡ K.embed multiplicity → IsRatio K.ring result q }
         ensures sound { denominator ≢ K.ring.zero → result.denominator ≢ K.ring.zero }
     {
         Ratio {
@@ -43,9 +44,11 @@ impl<K: Domain> Ratio<K> {
     pub(crate) fn plus<F: Field>(self, multiplicity: F, denominator: K) -> Self
     where
         K: ExtensionDomain<F>,
-        ensures value { (x q : K) → IsRatio K.ring self x → denominator ≢ K.ring.zero → K.ring.mul denominator q ≡ K.embed multiplicity
+        ensures value { (x q : K) → IsRatio K.ring self x → denominator ≢ K.ring.zero
+            → K.ring.mul denominator q ≡ K.embed multiplicity
             → IsRatio K.ring result (K.ring.add x q) }
-        ensures sound { self.denominator ≢ K.ring.zero → denominator ≢ K.ring.zero → result.denominator ≢ K.ring.zero }
+        ensures sound { self.denominator ≢ K.ring.zero → denominator ≢ K.ring.zero
+            → result.denominator ≢ K.ring.zero }
     {
         if self.numerator.is_zero() {
             return Ratio::over(multiplicity, denominator);
@@ -67,10 +70,12 @@ pub(crate) fn values_of<K: Domain, I: Inverter<K>>(
     inverter: &mut I,
 ) -> Result<Vec<K>, AllocError>
     requires { All (λ r. r.denominator ≢ K.ring.zero) ratios.now }
-    ensures values { (xs : List K) → AllZip (IsRatio K.ring) ratios.now xs → IfOk result (λ v. v.items ≡ xs) }
+    ensures values { (xs : List K) → AllZip (IsRatio K.ring) ratios.now xs
+        → IfOk result (λ v. v.items ≡ xs) }
     ensures many { IfOk result (λ v. length v.items ≡ length ratios.now) }
     ensures counted { I.count inverter.new ≤ I.count inverter.old + 1 }
-    ensures not_counted_whole { AllByRecursion (λ r. r.denominator ≡ K.ring.one) ratios.now → I.count inverter.new ≡ I.count inverter.old }
+    ensures not_counted_whole { AllByRecursion (λ r. r.denominator ≡ K.ring.one) ratios.now
+        → I.count inverter.new ≡ I.count inverter.old }
 {
     if are_whole(ratios) {
         return numerators_of(alloc, ratios);
@@ -107,7 +112,8 @@ fn products<K: Domain>(
     ratios: &[Ratio<K>],
     factors: &[K],
 ) -> Result<Vec<K>, AllocError>
-    ensures { IfOk result (λ v. v.items ≡ map (λ p. K.ring.mul p.0.numerator p.1) (zip ratios.now factors.now)) }
+    ensures { IfOk result (λ v. v.items ≡ map (λ p. K.ring.mul p.0.numerator p.1)
+        (zip ratios.now factors.now)) }
 {
     ratios
         .iter()

@@ -165,7 +165,8 @@ impl<'a, F: Field, EF> LookupTraceBuilder<'a, F, EF> {
 
 /// Accepts zero and refuses anything else, with the row.
 fn judge<K: Domain>(x: K, row: usize) -> Result<(), AirError>
-    ensures { MatchResult result (λ _. x ≡ K.ring.zero) (λ e. (x ≢ K.ring.zero) × (e ≡ AirError.Assertion row)) }
+    ensures { MatchResult result (λ _. x ≡ K.ring.zero) (λ e. (x ≢ K.ring.zero)
+        × (e ≡ AirError.Assertion row)) }
 {
     if x.is_zero() {
         Ok(())
@@ -216,7 +217,11 @@ impl<'a, F: Field, EF: Domain> AirBuilder for LookupTraceBuilder<'a, F, EF> {
 
     ghost public_converts = { λ v e w h. h };
 
-    ghost keeps = { λ b x c w h. (λ e. e ∙ ap builder_window (sym h.0), λ e. e ∙ ap builder_window h.0) };
+    ghost keeps = { λ b x c w h. (
+      λ e. e ∙ ap builder_window
+          (sym h.0),
+      λ e. e ∙ ap builder_window h.0,
+    ) };
 
     ghost keeps_layout = { λ b x c h. ap builder_layout h.0 };
 

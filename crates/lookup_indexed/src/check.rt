@@ -30,7 +30,8 @@ pub fn check_declarations(
 ) -> Result<(), IndexedLookupError>
     ensures { MatchResult result
         (λ _. AreFaultless layout.now (map read_of reads.now) (map table_of tables.now))
-        (λ e. (e ≡ IndexedLookupError.Memory) ⊎ IsFirstFault layout.now (map read_of reads.now) (map table_of tables.now) e) }
+        (λ e. (e ≡ IndexedLookupError.Memory)
+        ⊎ IsFirstFault layout.now (map read_of reads.now) (map table_of tables.now) e) }
 {
     check_reads(alloc, reads, layout.main_width)?;
     check_tables(alloc, tables, layout)
@@ -54,7 +55,8 @@ fn check_tables(
 ) -> Result<(), IndexedLookupError>
     ensures { MatchResult result
         (λ _. All (IsFaultlessTable layout.now) (map table_of tables.now))
-        (λ e. (e ≡ IndexedLookupError.Memory) ⊎ IsFirstTableFault layout.now (map table_of tables.now) e) }
+        (λ e. (e ≡ IndexedLookupError.Memory)
+        ⊎ IsFirstTableFault layout.now (map table_of tables.now) e) }
 {
     for table in tables {
         check_table(alloc, table, layout)?;
@@ -106,7 +108,8 @@ fn width_of(layout: &AirLayout, window: TraceWindow) -> usize
 
 /// The refusal of a reader without columns, or out of memory for the table's name.
 fn empty_payload(alloc: Global, table: &str) -> IndexedLookupError
-    ensures { (result ≡ IndexedLookupError.Memory) ⊎ Names table.now IndexedLookupError.EmptyPayload result }
+    ensures { (result ≡ IndexedLookupError.Memory)
+        ⊎ Names table.now IndexedLookupError.EmptyPayload result }
 {
     match String::from_str(alloc, table) {
         Ok(table) => IndexedLookupError::EmptyPayload { table },
@@ -116,7 +119,8 @@ fn empty_payload(alloc: Global, table: &str) -> IndexedLookupError
 
 /// The refusal of a table without columns, or out of memory for its name.
 fn empty_table(alloc: Global, table: &str) -> IndexedLookupError
-    ensures { (result ≡ IndexedLookupError.Memory) ⊎ Names table.now IndexedLookupError.EmptyTable result }
+    ensures { (result ≡ IndexedLookupError.Memory)
+        ⊎ Names table.now IndexedLookupError.EmptyTable result }
 {
     match String::from_str(alloc, table) {
         Ok(table) => IndexedLookupError::EmptyTable { table },

@@ -47,11 +47,15 @@ impl<EF: Field> Challenges<EF> {
         ensures alpha { IfOk result (λ c. c.alpha ≡ alpha) }
         ensures beta { IfOk result (λ c. c.beta ≡ beta) }
         ensures prefixes { IfOk result
-            (λ c. boxed_slice_items c.bus_prefix ≡ map (prefix_of_bus EF.ring alpha beta max_message_width) (range_with_len 0 num_bus_ids)) }
-        ensures points { IfOk result (λ c. HasPoints EF.ring max_message_width alpha beta num_bus_ids (table_of c)) }
+            (λ c. boxed_slice_items c.bus_prefix
+            ≡ map (prefix_of_bus EF.ring alpha beta max_message_width)
+            (range_with_len 0 num_bus_ids)) }
+        ensures points { IfOk result (λ c. HasPoints EF.ring max_message_width alpha beta
+            num_bus_ids (table_of c)) }
         ensures leading_zero { IgnoresLeadingZero EF.ring }
         ensures few_combine_alike { FewCombineAlike EF.ring }
-        ensures few_share_a_point { num_bus_ids ≤ EF.CHARACTERISTIC → FewShareAPoint EF.ring max_message_width num_bus_ids }
+        ensures few_share_a_point { num_bus_ids ≤ EF.CHARACTERISTIC
+            → FewShareAPoint EF.ring max_message_width num_bus_ids }
     {
         let gamma = beta.exp_u64(max_message_width as u64);
         let mut prefixes = Vec::with_capacity(alloc, num_bus_ids)?;

@@ -46,7 +46,8 @@ fn copy_tuples<F: Field>(
     tuples: &[Vec<SymbolicExpression<F>>],
 ) -> Result<Vec<Vec<SymbolicExpression<F>>>, AllocError>
     ensures { IfOk result
-        (λ v. map (λ tuple. map tree_of tuple.items) v.items ≡ map (λ tuple. map tree_of tuple.items) tuples.now) }
+        (λ v. map (λ tuple. map tree_of tuple.items) v.items
+        ≡ map (λ tuple. map tree_of tuple.items) tuples.now) }
 {
     let mut copies = Vec::new(alloc);
     for tuple in tuples {
@@ -61,7 +62,8 @@ fn copy_flags<F: Field>(
     flags: &Option<Vec<SymbolicExpression<F>>>,
 ) -> Result<Option<Vec<SymbolicExpression<F>>>, AllocError>
     ensures { IfOk result
-        (λ o. option_map (λ flags. map tree_of flags.items) o ≡ option_map (λ flags. map tree_of flags.items) flags.now) }
+        (λ o. option_map (λ flags. map tree_of flags.items) o
+        ≡ option_map (λ flags. map tree_of flags.items) flags.now) }
 {
     match flags {
         Some(flags) => Ok(Some(copy_expressions(alloc, flags.as_slice())?)),

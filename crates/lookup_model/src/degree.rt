@@ -33,7 +33,8 @@ pub fn constraint_degree<F>(lookup: &Lookup<F>, transition: usize) -> Result<usi
 /// The degree without flags, in time linear in the size of the lookup.
 fn additive_degree<F>(lookup: &Lookup<F>, transition: usize) -> Result<usize, LookupError>
     requires { HasEqualLengths lookup.now }
-    ensures { IsDegree result (constraint_degree_of None (lookup_branch_degrees transition lookup.now)) }
+    ensures { IsDegree result (constraint_degree_of None
+        (lookup_branch_degrees transition lookup.now)) }
 {
     let product = product_degree(&lookup.elements, transition)?;
     let mut degree = sum_of_degrees(1, product)?;
@@ -54,7 +55,8 @@ fn term_degree<F>(
     transition: usize,
 ) -> Result<usize, LookupError>
     requires { tuple_degree transition tuple.now ≤ product }
-    ensures { IsDegree result (expression_degree transition multiplicity.now + (product - tuple_degree transition tuple.now)) }
+    ensures { IsDegree result (expression_degree transition multiplicity.now +
+        (product - tuple_degree transition tuple.now)) }
 {
     let others = product - degree_of_tuple(tuple, transition)?;
     sum_of_degrees(degree_of(multiplicity, transition)?, others)
@@ -65,7 +67,8 @@ fn product_degree<F>(
     elements: &[Vec<SymbolicExpression<F>>],
     transition: usize,
 ) -> Result<usize, LookupError>
-    ensures { IsDegree result (total (map (λ tuple. tuple_degree transition tuple.items) elements.now)) }
+    ensures { IsDegree result (total (map (λ tuple. tuple_degree transition tuple.items)
+        elements.now)) }
 {
     let mut sum = 0;
     for tuple in elements {
@@ -82,7 +85,9 @@ fn exclusive_degree<F>(
 ) -> Result<usize, LookupError>
     requires lengths { HasEqualLengths lookup.now }
     requires flag_number { length flags.now ≡ length lookup.now.elements.items }
-    ensures { IsDegree result (constraint_degree_of (Some (map (expression_degree transition) flags.now)) (lookup_branch_degrees transition lookup.now)) }
+    ensures { IsDegree result (constraint_degree_of
+        (Some (map (expression_degree transition) flags.now))
+        (lookup_branch_degrees transition lookup.now)) }
 {
     let mut degree = 1;
     for branch in 0..flags.len() {
@@ -103,7 +108,8 @@ fn branch_degree<F>(
     transition: usize,
 ) -> Result<usize, LookupError>
     ensures { let flag = expression_degree transition flag.now in
-        IsDegree result (max (1 + (flag + tuple_degree transition tuple.now)) (flag + expression_degree transition multiplicity.now)) }
+        IsDegree result (max (1 + (flag + tuple_degree transition tuple.now))
+        (flag + expression_degree transition multiplicity.now)) }
 {
     let flag = degree_of(flag, transition)?;
     let denominator = sum_of_degrees(flag, degree_of_tuple(tuple, transition)?)?;

@@ -18,7 +18,8 @@ pub fn key_counts<F: Field>(
     messages: &[SentMessage<F>],
 ) -> Result<(usize, usize), AllocError>
     ensures all { IfOk result (λ r. r.0 ≡ length (keys F.eq (messages_of messages.now))) }
-    ensures unbalanced { IfOk result (λ r. r.1 ≡ length (unbalanced_keys F.ring F.eq (messages_of messages.now))) }
+    ensures unbalanced { IfOk result (λ r. r.1
+        ≡ length (unbalanced_keys F.ring F.eq (messages_of messages.now))) }
 {
     let nets = nets(alloc, messages)?;
     let nonzero = nonzero_count(&nets);

@@ -27,7 +27,8 @@ pub fn nets<'a, F: Field>(
     alloc: Global,
     messages: &'a [SentMessage<F>],
 ) -> Result<IndexMap<KeyRef<'a, F>, F>, AllocError>
-    ensures { IfOk result (λ m. key_entries m.entries ≡ nets_of F.ring F.eq (messages_of messages.now)) }
+    ensures { IfOk result (λ m. key_entries m.entries
+        ≡ nets_of F.ring F.eq (messages_of messages.now)) }
 {
     let mut nets = IndexMap::new(alloc);
     for message in messages {
@@ -49,7 +50,8 @@ pub fn add_at<K: Eq + Hash + Drop, F: Field>(
     key: K,
     amount: F,
 ) -> Result<(), AllocFailed<K>>
-    ensures { OnOk result (nets.new.entries ≡ insert_entry K.eq nets.old.entries key (F.ring.add (unwrap_or (get K.eq nets.old key) F.ring.zero) amount)) }
+    ensures { OnOk result (nets.new.entries ≡ insert_entry K.eq nets.old.entries key
+        (F.ring.add (unwrap_or (get K.eq nets.old key) F.ring.zero) amount)) }
 {
     let net = nets.entry(key)?.or_insert(F::ZERO);
     *net = *net + amount;

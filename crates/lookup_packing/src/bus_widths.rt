@@ -57,7 +57,8 @@ fn assert_bus_width<F: Field>(
     ensures { MatchResult result
         (λ _. HasOneWidth (flat_map widths_of (map (λ r. fields_of r.now) members.now)))
         (λ e. (e ≡ LookupError.Memory) ⊎ ((width : ℕ) × (other : ℕ)
-        × HasOtherWidth (flat_map widths_of (map (λ r. fields_of r.now) members.now)) width other × IsTupleWidths (bus_context name.now) width other e)) }
+        × HasOtherWidth (flat_map widths_of (map (λ r. fields_of r.now) members.now)) width other
+        × IsTupleWidths (bus_context name.now) width other e)) }
 {
     match two_widths(members) {
         None => Ok(()),
@@ -83,7 +84,8 @@ struct TwoWidths {
 fn two_widths<F: Field>(members: &[&Lookup<F>]) -> Option<TwoWidths>
     ensures { MatchOption result
         (HasOneWidth (flat_map widths_of (map (λ r. fields_of r.now) members.now)))
-        (λ r. HasOtherWidth (flat_map widths_of (map (λ r. fields_of r.now) members.now)) r.first r.other) }
+        (λ r. HasOtherWidth (flat_map widths_of (map (λ r. fields_of r.now) members.now)) r.first
+        r.other) }
 {
     let width = first_width(members)?;
     for lookup in members {
@@ -112,7 +114,8 @@ fn first_width<F: Field>(members: &[&Lookup<F>]) -> Option<usize>
 
 /// The first width that is not this one.
 fn other_width<F>(tuples: &[Vec<SymbolicExpression<F>>], width: usize) -> Option<usize>
-    ensures { result ≡ find (λ w. not (nat_eq w width)) (map (λ tuple. length tuple.items) tuples.now) }
+    ensures { result ≡ find (λ w. not (nat_eq w width))
+        (map (λ tuple. length tuple.items) tuples.now) }
 {
     for tuple in tuples {
         if tuple.len() != width {

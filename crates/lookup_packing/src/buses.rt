@@ -19,7 +19,8 @@ pub fn by_bus<'a, F: Field>(
     alloc: Global,
     lookups: &'a [Lookup<F>],
 ) -> Result<IndexMap<&'a str, Vec<&'a Lookup<F>>>, AllocError>
-    ensures { IfOk result (λ buses. map group_of buses.entries ≡ bus_groups (map fields_of lookups.now)) }
+    ensures { IfOk result (λ buses. map group_of buses.entries
+        ≡ bus_groups (map fields_of lookups.now)) }
 {
     let mut buses = IndexMap::new(alloc);
     for lookup in lookups {
@@ -37,7 +38,8 @@ pub(crate) fn moved_by_bus<F: Field>(
     alloc: Global,
     lookups: Vec<Lookup<F>>,
 ) -> Result<Vec<Vec<Lookup<F>>>, AllocError>
-    ensures { IfOk result (λ buses. map owned_group buses.items ≡ map (λ g. g.1) (bus_groups (map fields_of lookups.items))) }
+    ensures { IfOk result (λ buses. map owned_group buses.items
+        ≡ map (λ g. g.1) (bus_groups (map fields_of lookups.items))) }
 {
     let buses = moved_under_names(alloc, lookups)?;
     let groups = values_of(alloc, buses)?;
@@ -59,7 +61,8 @@ fn moved_under_names<F: Field>(
     alloc: Global,
     lookups: Vec<Lookup<F>>,
 ) -> Result<IndexMap<String, Vec<Lookup<F>>>, AllocError>
-    ensures { IfOk result (λ buses. map owned_group_of buses.entries ≡ bus_groups (map fields_of lookups.items)) }
+    ensures { IfOk result (λ buses. map owned_group_of buses.entries
+        ≡ bus_groups (map fields_of lookups.items)) }
 {
     let mut buses = IndexMap::new(alloc);
     for lookup in lookups {
@@ -73,7 +76,8 @@ fn moved_under_names<F: Field>(
 
 /// A copy of the name of the bus of a lookup, if there is one.
 fn copied_name<F: Field>(alloc: Global, lookup: &Lookup<F>) -> Result<Option<String>, AllocError>
-    ensures { IfOk result (λ name. option_map (λ text. string_bytes text) name ≡ bus_of lookup.now.kind) }
+    ensures { IfOk result (λ name. option_map (λ text. string_bytes text) name
+        ≡ bus_of lookup.now.kind) }
 {
     match &lookup.kind {
         Kind::Local => Ok(None),
@@ -88,7 +92,9 @@ fn push_at<K: Eq + Hash + Drop, T: Drop>(
     key: K,
     item: T,
 ) -> Result<(), AllocError>
-    ensures { OnOk result ((group : _) × (group.items ≡ option_map_or (λ found. found.items) (get K.eq groups.old key) [] ++ item ∷ [])
+    ensures { OnOk result ((group : _)
+        × (group.items ≡ option_map_or (λ found. found.items) (get K.eq groups.old key) []
+        ++ item ∷ [])
         × (groups.new.entries ≡ insert_entry K.eq groups.old.entries key group)) }
 {
     let group = groups.entry(key)?.or_insert(Vec::new(alloc));

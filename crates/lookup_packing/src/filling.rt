@@ -24,8 +24,11 @@ pub(crate) fn filled<F: Field, D: Fn(&Lookup<F>) -> Result<usize, LookupError>>(
     requires members { All IsMember members.items }
     ensures { MatchResult result
         (λ columns. All IsMember columns.items
-        × ((cut : _) × IsFilling (Answers (FnReturnsAt D.Fn degree.now)) max_degree cut (map fields_of members.items) × (map fields_of columns.items ≡ map joined cut)))
-        (λ e. (e ≡ LookupError.Memory) ⊎ IsStuck (Answers (FnReturnsAt D.Fn degree.now)) max_degree (map fields_of members.items) e) }
+        × ((cut : _) × IsFilling (Answers (FnReturnsAt D.Fn degree.now)) max_degree cut
+        (map fields_of members.items) × (map fields_of columns.items ≡ map joined cut)))
+        (λ e. (e ≡ LookupError.Memory)
+        ⊎ IsStuck (Answers (FnReturnsAt D.Fn degree.now)) max_degree
+        (map fields_of members.items) e) }
 {
     let mut columns = Vec::new(alloc);
     for next in members {
@@ -45,9 +48,13 @@ fn with_next<F: Field, D: Fn(&Lookup<F>) -> Result<usize, LookupError>>(
     requires columns { All IsMember columns.items }
     requires next { IsMember next }
     ensures { MatchResult result
-        (λ after. All IsMember after.items × IsStep (Answers (FnReturnsAt D.Fn degree.now)) max_degree (map fields_of columns.items) (fields_of next) (map fields_of after.items))
+        (λ after. All IsMember after.items
+        × IsStep (Answers (FnReturnsAt D.Fn degree.now)) max_degree (map fields_of columns.items)
+        (fields_of next) (map fields_of after.items))
         (λ e. (e ≡ LookupError.Memory)
-        ⊎ ((front : _) × (last : _) × (map fields_of columns.items ≡ front ++ last ∷ []) × IsTrialRefusal (Answers (FnReturnsAt D.Fn degree.now)) max_degree last (fields_of next) e)) }
+        ⊎ ((front : _) × (last : _) × (map fields_of columns.items ≡ front ++ last ∷ [])
+        × IsTrialRefusal (Answers (FnReturnsAt D.Fn degree.now)) max_degree last
+        (fields_of next) e)) }
 {
     let mut columns = columns;
     match columns.pop() {

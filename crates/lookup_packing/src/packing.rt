@@ -42,7 +42,8 @@ pub fn packed<F: Field, D: Fn(&Lookup<F>) -> Result<usize, LookupError>>(
 ) -> Result<Vec<Lookup<F>>, LookupError>
     requires callable { (lookup : _) → IsMember lookup.now → D.pre degree lookup }
     requires lengths { All HasEqualLengths lookups.items }
-    ensures packs { Packs (Answers (FnReturnsAt D.Fn degree)) max_degree (λ v. map fields_of v.items) (map fields_of lookups.items) result }
+    ensures packs { Packs (Answers (FnReturnsAt D.Fn degree)) max_degree
+        (λ v. map fields_of v.items) (map fields_of lookups.items) result }
     ensures records { IfOk result (λ v. AreRecords v.items) }
     ensures weight { IfOk result (λ v. KeepsWeight lookups.items v.items) }
     ensures messages { IfOk result (λ v. KeepsMessages F.ring F.eq lookups.items v.items) }
@@ -62,8 +63,10 @@ fn parted<F: Field>(
     lookups: Vec<Lookup<F>>,
 ) -> Result<(Vec<Lookup<F>>, Vec<Lookup<F>>), AllocError>
     requires { All HasEqualLengths lookups.items }
-    ensures { IfOk result (λ r. (map fields_of r.0.items ≡ passing (map fields_of lookups.items)) × All HasEqualLengths r.0.items
-        × (map fields_of r.1.items ≡ additive (map fields_of lookups.items)) × All IsMember r.1.items) }
+    ensures { IfOk result (λ r. (map fields_of r.0.items ≡ passing (map fields_of lookups.items))
+        × All HasEqualLengths r.0.items
+        × (map fields_of r.1.items ≡ additive (map fields_of lookups.items))
+        × All IsMember r.1.items) }
 {
     let mut columns = Vec::new(alloc);
     let mut additive = Vec::new(alloc);
@@ -101,8 +104,12 @@ fn with_buses<F: Field, D: Fn(&Lookup<F>) -> Result<usize, LookupError>>(
     requires columns { All HasEqualLengths columns.items }
     requires buses { All (λ bus. All IsMember bus.items) buses.items }
     ensures { MatchResult result
-        (λ after. All HasEqualLengths after.items × AreColumnsAdded (Answers (FnReturnsAt D.Fn degree.now)) max_degree (map owned_group buses.items) (map fields_of columns.items) (map fields_of after.items))
-        (λ e. (e ≡ LookupError.Memory) ⊎ IsFirstStuck (Answers (FnReturnsAt D.Fn degree.now)) max_degree (map owned_group buses.items) e) }
+        (λ after. All HasEqualLengths after.items
+        × AreColumnsAdded (Answers (FnReturnsAt D.Fn degree.now)) max_degree
+        (map owned_group buses.items) (map fields_of columns.items) (map fields_of after.items))
+        (λ e. (e ≡ LookupError.Memory)
+        ⊎ IsFirstStuck (Answers (FnReturnsAt D.Fn degree.now)) max_degree
+        (map owned_group buses.items) e) }
 {
     let mut columns = columns;
     for members in buses {
@@ -118,7 +125,8 @@ fn in_columns<F: Field>(
     lookups: Vec<Lookup<F>>,
 ) -> Result<Vec<Lookup<F>>, AllocError>
     requires { All HasEqualLengths lookups.items }
-    ensures fields { IfOk result (λ v. map fields_of v.items ≡ numbered (map fields_of lookups.items)) }
+    ensures fields { IfOk result (λ v. map fields_of v.items
+        ≡ numbered (map fields_of lookups.items)) }
     ensures records { IfOk result (λ v. AreRecords v.items) }
 {
     let mut columns = Vec::new(alloc);

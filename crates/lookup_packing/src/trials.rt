@@ -35,7 +35,9 @@ pub(crate) fn tried<F: Field, D: Fn(&Lookup<F>) -> Result<usize, LookupError>>(
     requires next { IsMember next }
     ensures { MatchResult result
         (IsTried (Answers (FnReturnsAt D.Fn degree.now)) max_degree column next)
-        (λ e. (e ≡ LookupError.Memory) ⊎ IsTrialRefusal (Answers (FnReturnsAt D.Fn degree.now)) max_degree (fields_of column) (fields_of next) e) }
+        (λ e. (e ≡ LookupError.Memory)
+        ⊎ IsTrialRefusal (Answers (FnReturnsAt D.Fn degree.now)) max_degree (fields_of column)
+        (fields_of next) e) }
 {
     let mut column = column;
     let mut next = next;

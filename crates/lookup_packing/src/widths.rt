@@ -16,9 +16,11 @@ pub fn assert_uniform_tuple_width<F>(
     context: &str,
 ) -> Result<usize, LookupError>
     ensures { MatchResult result
-        (λ width. All (λ tuple. length tuple.items ≡ width) tuples.now × (tuples.now ≡ [] → width ≡ 0))
+        (λ width. All (λ tuple. length tuple.items ≡ width) tuples.now
+        × (tuples.now ≡ [] → width ≡ 0))
         (λ e. (e ≡ LookupError.Memory) ⊎ ((width : ℕ) × (other : ℕ)
-        × HasOtherWidth (map (λ tuple. length tuple.items) tuples.now) width other × IsTupleWidths context.now width other e)) }
+        × HasOtherWidth (map (λ tuple. length tuple.items) tuples.now) width other
+        × IsTupleWidths context.now width other e)) }
 {
     let Some(first) = tuples.first() else {
         return Ok(0);

@@ -48,7 +48,8 @@ impl IndexedLookups {
         ensures { MatchResult result
             (λ set. (reads_of set ≡ reads.items) × (tables_of set ≡ tables.items)
             × AreFaultless layout.now (map read_of reads.items) (map table_of tables.items))
-            (λ e. (e ≡ Memory) ⊎ IsFirstFault layout.now (map read_of reads.items) (map table_of tables.items) e) }
+            (λ e. (e ≡ Memory)
+            ⊎ IsFirstFault layout.now (map read_of reads.items) (map table_of tables.items) e) }
     {
         lookup_indexed::check_declarations(alloc, &reads, &tables, layout)?;
         Ok(IndexedLookups { reads, tables })
@@ -62,7 +63,9 @@ impl IndexedLookups {
         alloc: Global,
         air: &A,
     ) -> Result<Self, IndexedLookupError>
-        ensures { Declares A.evaluates air.now (layout_of_widths (A.width air.now) (A.preprocessed_width air.now) (A.num_public_values air.now)) result }
+        ensures { Declares A.evaluates air.now
+            (layout_of_widths (A.width air.now) (A.preprocessed_width air.now)
+            (A.num_public_values air.now)) result }
     {
         let layout = AirLayout::from_air(air);
         let builder = InteractionSymbolicBuilder::from_air(alloc, air, layout)?;
@@ -95,8 +98,10 @@ impl IndexedLookups {
     ///
     /// Fails only when out of memory.
     pub fn copy(&self, alloc: Global) -> Result<Self, AllocError>
-        ensures reads { IfOk result (λ r. map read_of (reads_of r) ≡ map read_of (reads_of self.now)) }
-        ensures tables { IfOk result (λ r. map table_of (tables_of r) ≡ map table_of (tables_of self.now)) }
+        ensures reads { IfOk result (λ r. map read_of (reads_of r)
+            ≡ map read_of (reads_of self.now)) }
+        ensures tables { IfOk result (λ r. map table_of (tables_of r)
+            ≡ map table_of (tables_of self.now)) }
     {
         Ok(IndexedLookups {
             reads: copy_reads(alloc, self.reads())?,

@@ -72,11 +72,15 @@ impl<F: Field, EF: ExtensionField<F>> InteractionSymbolicBuilder<F, EF> {
         air: &A,
         layout: AirLayout,
     ) -> Result<Self, AirError>
-        ensures mismatch { (e : AirError) → first_mismatch (A.width air.now) (A.preprocessed_width air.now) (A.num_public_values air.now) layout ≡ Some e → result ≡ Err e }
-        ensures evaluates { first_mismatch (A.width air.now) (A.preprocessed_width air.now) (A.num_public_values air.now) layout ≡ None
+        ensures mismatch { (e : AirError)
+            → first_mismatch (A.width air.now) (A.preprocessed_width air.now)
+            (A.num_public_values air.now) layout ≡ Some e → result ≡ Err e }
+        ensures evaluates { first_mismatch (A.width air.now) (A.preprocessed_width air.now)
+            (A.num_public_values air.now) layout ≡ None
             → EvaluatesNew A.evaluates air.now layout result }
         ensures layout { IfOk result (λ b. (recorded_air b).constraints.layout ≡ layout) }
-        ensures within { IfOk result (λ b. EvaluatesWithin A.evaluates air.now → PushedWithin (recorded_air b)) }
+        ensures within { IfOk result (λ b. EvaluatesWithin A.evaluates air.now
+            → PushedWithin (recorded_air b)) }
     {
         layout.validate_against_air(air)?;
         let mut builder = InteractionSymbolicBuilder::new(alloc, layout)?;
@@ -151,7 +155,8 @@ impl<F: Field, EF: ExtensionField<F>> InteractionSymbolicBuilder<F, EF> {
     ///
     /// Fails only when out of memory.
     pub fn base_constraints(&self, alloc: Global) -> Result<Vec<SymbolicExpression<F>>, AllocError>
-        ensures { IfOk result (λ v. map tree_of v.items ≡ map tree_of (recorded_air self.now).constraints.base) }
+        ensures { IfOk result (λ v. map tree_of v.items
+            ≡ map tree_of (recorded_air self.now).constraints.base) }
     {
         copy_expressions(alloc, self.inner.base_constraints())
     }
@@ -163,7 +168,8 @@ impl<F: Field, EF: ExtensionField<F>> InteractionSymbolicBuilder<F, EF> {
         &self,
         alloc: Global,
     ) -> Result<Vec<SymbolicExpressionExt<F, EF>>, AllocError>
-        ensures { IfOk result (λ v. map ext_tree_of v.items ≡ map ext_tree_of (recorded_air self.now).constraints.extension) }
+        ensures { IfOk result (λ v. map ext_tree_of v.items
+            ≡ map ext_tree_of (recorded_air self.now).constraints.extension) }
     {
         let mut copies = Vec::new(alloc);
         for constraint in self.inner.extension_constraints() {
@@ -176,8 +182,10 @@ impl<F: Field, EF: ExtensionField<F>> InteractionSymbolicBuilder<F, EF> {
     ///
     /// Fails only when out of memory.
     pub fn constraint_layout(&self, alloc: Global) -> Result<ConstraintLayout, AllocError>
-        ensures base { IfOk result (λ l. l.base_indices.items ≡ (recorded_air self.now).constraints.base_indices) }
-        ensures extension { IfOk result (λ l. l.ext_indices.items ≡ (recorded_air self.now).constraints.ext_indices) }
+        ensures base { IfOk result (λ l. l.base_indices.items
+            ≡ (recorded_air self.now).constraints.base_indices) }
+        ensures extension { IfOk result (λ l. l.ext_indices.items
+            ≡ (recorded_air self.now).constraints.ext_indices) }
     {
         let places = self.inner.constraint_layout();
         Ok(ConstraintLayout {
@@ -216,7 +224,8 @@ impl<F: Field, EF: ExtensionField<F>> AirBuilder for InteractionSymbolicBuilder<
 
     ghost public_value = { λ v w. variable_value F.ring w v };
 
-    ghost accepts = { λ b x c. recorded_air c ≡ with_constraints (recorded_air b) (with_base (recorded b.inner) x) };
+    ghost accepts = { λ b x c. recorded_air c
+        ≡ with_constraints (recorded_air b) (with_base (recorded b.inner) x) };
 
     ghost refuses = { λ b x e c. (recorded_air c ≡ recorded_air b) × (e ≡ Memory) };
 
@@ -230,11 +239,13 @@ impl<F: Field, EF: ExtensionField<F>> AirBuilder for InteractionSymbolicBuilder<
 
     ghost public_converts = { λ v x w h. ap (value_of F.ring w) h };
 
-    ghost keeps = { λ b x c w h. iff_along (λ l. HasWidths l w) (recorded b.inner).layout (recorded c.inner).layout (ap (λ r. r.constraints.layout) h) };
+    ghost keeps = { λ b x c w h. iff_along (λ l. HasWidths l w) (recorded b.inner).layout
+        (recorded c.inner).layout (ap (λ r. r.constraints.layout) h) };
 
     ghost keeps_layout = { λ b x c h. ap (λ r. r.constraints.layout) h };
 
-    ghost keeps_pushed = { λ b x c h s. subst (λ r. PushedWithin r) (sym h) (record { globals = s.globals; locals = s.locals; exclusives = s.exclusives }) };
+    ghost keeps_pushed = { λ b x c h s. subst (λ r. PushedWithin r) (sym h)
+        (record { globals = s.globals; locals = s.locals; exclusives = s.exclusives }) };
 
     fn main(&self, alloc: Global) -> Result<RowMajorMatrix<SymbolicVariable<F>>, AirError> {
         self.inner.main(alloc)
@@ -284,7 +295,8 @@ impl<F: Field, EF: ExtensionField<F>> ExtensionBuilder for InteractionSymbolicBu
 
     ghost variable_ext = { λ v w. ext_variable_value EF.ring w v };
 
-    ghost accepts_ext = { λ b x c. recorded_air c ≡ with_constraints (recorded_air b) (with_extension (recorded b.inner) x) };
+    ghost accepts_ext = { λ b x c. recorded_air c
+        ≡ with_constraints (recorded_air b) (with_extension (recorded b.inner) x) };
 
     ghost refuses_ext = { λ b x e c. (recorded_air c ≡ recorded_air b) × (e ≡ Memory) };
 
@@ -294,15 +306,19 @@ impl<F: Field, EF: ExtensionField<F>> ExtensionBuilder for InteractionSymbolicBu
 
     ghost variable_ext_degree = { λ v x t h. ext_variable_degree-le v _ t h };
 
-    ghost keeps_ext = { λ b x c w h. iff_along (λ l. HasExtWidths l w) (recorded b.inner).layout (recorded c.inner).layout (ap (λ r. r.constraints.layout) h) };
+    ghost keeps_ext = { λ b x c w h. iff_along (λ l. HasExtWidths l w) (recorded b.inner).layout
+        (recorded c.inner).layout (ap (λ r. r.constraints.layout) h) };
 
     ghost keeps_ext_layout = { λ b x c h. ap (λ r. r.constraints.layout) h };
 
-    ghost keeps_ext_pushed = { λ b x c h s. subst (λ r. PushedWithin r) (sym h) (record { globals = s.globals; locals = s.locals; exclusives = s.exclusives }) };
+    ghost keeps_ext_pushed = { λ b x c h s. subst (λ r. PushedWithin r) (sym h)
+        (record { globals = s.globals; locals = s.locals; exclusives = s.exclusives }) };
 
-    ghost base_keeps_ext = { λ b x c w h. iff_along (λ l. HasExtWidths l w) (recorded b.inner).layout (recorded c.inner).layout (ap (λ r. r.constraints.layout) h) };
+    ghost base_keeps_ext = { λ b x c w h. iff_along (λ l. HasExtWidths l w)
+        (recorded b.inner).layout (recorded c.inner).layout (ap (λ r. r.constraints.layout) h) };
 
-    ghost ext_keeps_base = { λ b x c w h. iff_along (λ l. HasWidths l w) (recorded b.inner).layout (recorded c.inner).layout (ap (λ r. r.constraints.layout) h) };
+    ghost ext_keeps_base = { λ b x c w h. iff_along (λ l. HasWidths l w) (recorded b.inner).layout
+        (recorded c.inner).layout (ap (λ r. r.constraints.layout) h) };
 
     fn lift(x: SymbolicExpression<F>) -> SymbolicExpressionExt<F, EF> {
         SymbolicAirBuilder::<F, EF>::lift(x)
@@ -392,12 +408,15 @@ impl<F: Field, EF: ExtensionField<F>> InteractionBuilder for InteractionSymbolic
 
     ghost exclusive_count = { λ b. length (recorded_air b).exclusives };
 
-    ghost push_keeps = { λ b m c w h. iff_along (λ l. HasWidths l w) (recorded b.inner).layout (recorded c.inner).layout
+    ghost push_keeps = { λ b m c w h. iff_along (λ l. HasWidths l w) (recorded b.inner).layout
+        (recorded c.inner).layout
         (ap (λ r. r.constraints.layout) h ∙ with_interaction-layout (recorded_air b) m) };
 
-    ghost push_keeps_layout = { λ b m c h. ap (λ r. r.constraints.layout) h ∙ with_interaction-layout (recorded_air b) m };
+    ghost push_keeps_layout = { λ b m c h. ap
+        (λ r. r.constraints.layout) h ∙ with_interaction-layout (recorded_air b) m };
 
-    ghost push_within = { λ b m c h i s. subst (λ r. PushedWithin r) (sym h) (with_interaction-within (recorded_air b) m i s) };
+    ghost push_within = { λ b m c h i s. subst (λ r. PushedWithin r) (sym h)
+        (with_interaction-within (recorded_air b) m i s) };
 
     fn push_interaction(
         &mut self,
@@ -407,7 +426,8 @@ impl<F: Field, EF: ExtensionField<F>> InteractionBuilder for InteractionSymbolic
         count: Count<SymbolicExpression<F>>,
     ) -> Result<(), AirError>
         ensures { MatchResult result
-            (λ _. recorded_air self.new ≡ with_interaction (recorded_air self.old) (pushed_global bus_name.now fields.items count))
+            (λ _. recorded_air self.new ≡ with_interaction (recorded_air self.old)
+            (pushed_global bus_name.now fields.items count))
             (λ e. (recorded_air self.new ≡ recorded_air self.old) × (e ≡ Memory)) }
     {
         let bus_name = String::from_str(alloc, bus_name)?;
@@ -427,7 +447,8 @@ impl<F: Field, EF: ExtensionField<F>> InteractionBuilder for InteractionSymbolic
         tuples: Vec<LocalTuple<F>>,
     ) -> Result<(), AirError>
         ensures { MatchResult result
-            (λ _. recorded_air self.new ≡ with_interaction (recorded_air self.old) (pushed_local tuples.items))
+            (λ _. recorded_air self.new ≡ with_interaction (recorded_air self.old)
+            (pushed_local tuples.items))
             (λ e. (recorded_air self.new ≡ recorded_air self.old) × (e ≡ Memory)) }
     {
         self.local_interactions
@@ -448,7 +469,8 @@ impl<F: Field, EF: ExtensionField<F>> InteractionBuilder for InteractionSymbolic
         >,
     ) -> Result<(), AirError>
         ensures { MatchResult result
-            (λ _. recorded_air self.new ≡ with_interaction (recorded_air self.old) (pushed_exclusive bus_name.now branches.items))
+            (λ _. recorded_air self.new ≡ with_interaction (recorded_air self.old)
+            (pushed_exclusive bus_name.now branches.items))
             (λ e. (recorded_air self.new ≡ recorded_air self.old) × (e ≡ Memory)) }
     {
         let bus_name = String::from_str(alloc, bus_name)?;
@@ -485,12 +507,15 @@ impl<F: Field, EF: ExtensionField<F>> IndexedLookupBuilder for InteractionSymbol
 
     ghost table_count = { λ b. length (recorded_air b).tables };
 
-    ghost declaration_keeps = { λ b d c w h. iff_along (λ l. HasWidths l w) (recorded b.inner).layout (recorded c.inner).layout
+    ghost declaration_keeps = { λ b d c w h. iff_along (λ l. HasWidths l w)
+        (recorded b.inner).layout (recorded c.inner).layout
         (ap (λ r. r.constraints.layout) h ∙ with_declaration-layout (recorded_air b) d) };
 
-    ghost declaration_keeps_layout = { λ b d c h. ap (λ r. r.constraints.layout) h ∙ with_declaration-layout (recorded_air b) d };
+    ghost declaration_keeps_layout = { λ b d c h. ap
+        (λ r. r.constraints.layout) h ∙ with_declaration-layout (recorded_air b) d };
 
-    ghost declaration_keeps_pushed = { λ b d c h s. subst (λ r. PushedWithin r) (sym h) (with_declaration-within (recorded_air b) d s) };
+    ghost declaration_keeps_pushed = { λ b d c h s. subst (λ r. PushedWithin r) (sym h)
+        (with_declaration-within (recorded_air b) d s) };
 
     fn push_indexed_read(
         &mut self,

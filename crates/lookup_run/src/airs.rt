@@ -74,7 +74,8 @@ impl<F> BaseAir<F> for MachineAir {
 impl<AB: InteractionBuilder> Air<AB> for MachineAir {
     ghost evaluates = { λ air before answer after.
         Evaluates AB.pushes AB.refuses_push AB.window_refuses AB.layout
-        (DoesSend AB.F.ring AB.F.eq (λ x w. AB.Expr.value x (AB.seen w)) (AB.stands_for before) (λ w. w.main) air) (width_of air) before answer after
+        (DoesSend AB.F.ring AB.F.eq (λ x w. AB.Expr.value x (AB.seen w)) (AB.stands_for before)
+        (λ w. w.main) air) (width_of air) before answer after
         × OnOk answer (AB.pushed_within before → AB.pushed_within after) };
 
     fn eval(&self, alloc: Global, builder: &mut AB) -> Result<(), AirError> {
@@ -100,7 +101,8 @@ impl<AB: InteractionBuilder> Air<AB> for MachineAir {
     }
 
     ghost keeps_layout = { λ air before after h.
-        let pushed = pushed_if_accepted AB.pushes AB.refuses_push AB.window_refuses AB.layout _ (width_of air) before after h.0 in
+        let pushed = pushed_if_accepted AB.pushes AB.refuses_push AB.window_refuses AB.layout _
+        (width_of air) before after h.0 in
         AB.push_keeps_layout before pushed.0 after pushed.2 };
 }
 
@@ -110,9 +112,11 @@ fn range_tuples<AB: InteractionBuilder>(
     builder: &AB,
 ) -> Result<Vec<(Vec<AB::Expr>, Count<AB::Expr>)>, AirError>
     ensures refused { IfErr result (IsCellRefusal AB.window_refuses AB.layout 3 builder.now) }
-    ensures sends { IfOk result (λ tuples. DoesSend AB.F.ring AB.F.eq (λ x w. AB.Expr.value x (AB.seen w)) (AB.stands_for builder.now) (λ w. w.main) RangeCheck
+    ensures sends { IfOk result (λ tuples. DoesSend AB.F.ring AB.F.eq
+        (λ x w. AB.Expr.value x (AB.seen w)) (AB.stands_for builder.now) (λ w. w.main) RangeCheck
         (pushed_local tuples.items)) }
-    ensures within { IfOk result (λ tuples. IsWithin AB.Expr.within (AB.layout builder.now) (pushed_local tuples.items)) }
+    ensures within { IfOk result (λ tuples. IsWithin AB.Expr.within (AB.layout builder.now)
+        (pushed_local tuples.items)) }
 {
     let mut tuples = Vec::new(alloc);
     tuples.push((tuple(alloc, builder, 3, 0)?, Count::from(1)))?;
@@ -127,8 +131,10 @@ fn two_keys<AB: InteractionBuilder>(
     builder: &AB,
 ) -> Result<Vec<(AB::Expr, Vec<AB::Expr>)>, AirError>
     ensures refused { IfErr result (IsCellRefusal AB.window_refuses AB.layout 4 builder.now) }
-    ensures keys { IfOk result (λ branches. AreTwoKeys (λ x w. AB.Expr.value x (AB.seen w)) (AB.stands_for builder.now) (λ w. w.main) branches.items) }
-    ensures within { IfOk result (λ branches. All (KeyWithin AB.Expr.within (AB.layout builder.now)) branches.items) }
+    ensures keys { IfOk result (λ branches. AreTwoKeys (λ x w. AB.Expr.value x (AB.seen w))
+        (AB.stands_for builder.now) (λ w. w.main) branches.items) }
+    ensures within { IfOk result (λ branches. All
+        (KeyWithin AB.Expr.within (AB.layout builder.now)) branches.items) }
 {
     let mut branches = Vec::new(alloc);
     branches.push((
@@ -151,8 +157,10 @@ fn tuple<AB: AirBuilder>(
 ) -> Result<Vec<AB::Expr>, AirError>
     requires { column < columns }
     ensures refused { IfErr result (IsCellRefusal AB.window_refuses AB.layout columns builder.now) }
-    ensures tuple { IfOk result (λ tuple. IsCellTuple (λ x w. AB.Expr.value x (AB.seen w)) (AB.stands_for builder.now) (λ w. w.main) column tuple.items) }
-    ensures within { IfOk result (λ tuple. All (AB.Expr.within (AB.layout builder.now)) tuple.items) }
+    ensures tuple { IfOk result (λ tuple. IsCellTuple (λ x w. AB.Expr.value x (AB.seen w))
+        (AB.stands_for builder.now) (λ w. w.main) column tuple.items) }
+    ensures within { IfOk result (λ tuple. All
+        (AB.Expr.within (AB.layout builder.now)) tuple.items) }
 {
     let mut tuple = Vec::new(alloc);
     tuple.push(current_cell(alloc, builder, columns, column)?)?;

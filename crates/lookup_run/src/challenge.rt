@@ -17,15 +17,18 @@ pub trait Challenge<F: Field>: ExtensionField<F> {
 
     /// The element that a word gives, or `None` if it gives none.
     fn from_word(word: &[u8]) -> Option<Self>
-        ensures { MatchOption result ((x : Self) → ¬ written word.now x) (λ x. written word.now x) };
+        ensures { MatchOption result ((x : Self) → ¬ written word.now x)
+            (λ x. written word.now x) };
 }
 
 /// A number below 7.
 impl Challenge<F7> for F7 {
     ghost written = { λ word x. WritesResidue word x };
 
-    ghost fields = { run_fields ⟦<F7 as PrimeCharacteristicRing>⟧.ring ⟦<F7 as PartialEq>⟧.eq 7 ⟦<F7 as PrimeCharacteristicRing>⟧.ring ⟦<F7 as PartialEq>⟧.eq
-        ⟦<F7 as ExtensionDomain<F7>>⟧.embed ⟦<F7 as Field>⟧.inverse (λ word x. WritesResidue word x) ⟦<F7 as Field>⟧.text ⟦<F7 as Field>⟧.text };
+    ghost fields = { run_fields ⟦<F7 as PrimeCharacteristicRing>⟧.ring ⟦<F7 as PartialEq>⟧.eq 7
+        ⟦<F7 as PrimeCharacteristicRing>⟧.ring ⟦<F7 as PartialEq>⟧.eq
+        ⟦<F7 as ExtensionDomain<F7>>⟧.embed ⟦<F7 as Field>⟧.inverse
+        (λ word x. WritesResidue word x) ⟦<F7 as Field>⟧.text ⟦<F7 as Field>⟧.text };
 
     fn from_word(word: &[u8]) -> Option<F7> {
         element(word)
@@ -37,8 +40,11 @@ impl Challenge<F7> for F7 {
 impl Challenge<BabyBear> for BabyBear4 {
     ghost written = { λ word x. WritesQuartic word x };
 
-    ghost fields = { run_fields ⟦<BabyBear as PrimeCharacteristicRing>⟧.ring ⟦<BabyBear as PartialEq>⟧.eq 2013265921 ⟦<BabyBear4 as PrimeCharacteristicRing>⟧.ring ⟦<BabyBear4 as PartialEq>⟧.eq
-        ⟦<BabyBear4 as ExtensionDomain<BabyBear>>⟧.embed ⟦<BabyBear4 as Field>⟧.inverse (λ word x. WritesQuartic word x) ⟦<BabyBear4 as Field>⟧.text ⟦<BabyBear as Field>⟧.text };
+    ghost fields = { run_fields ⟦<BabyBear as PrimeCharacteristicRing>⟧.ring
+        ⟦<BabyBear as PartialEq>⟧.eq 2013265921 ⟦<BabyBear4 as PrimeCharacteristicRing>⟧.ring
+        ⟦<BabyBear4 as PartialEq>⟧.eq
+        ⟦<BabyBear4 as ExtensionDomain<BabyBear>>⟧.embed ⟦<BabyBear4 as Field>⟧.inverse
+        (λ word x. WritesQuartic word x) ⟦<BabyBear4 as Field>⟧.text ⟦<BabyBear as Field>⟧.text };
 
     fn from_word(word: &[u8]) -> Option<BabyBear4> {
         let mut parts = word.split(|byte| *byte == b',');
@@ -55,7 +61,8 @@ impl Challenge<BabyBear> for BabyBear4 {
 
 /// The element of a prime field that is given by a number below its characteristic.
 fn element<F: PrimeCharacteristicRing>(word: &[u8]) -> Option<F>
-    ensures { result ≡ option_map (of_nat F.ring) (number_of (number_bound F.CHARACTERISTIC) word.now) }
+    ensures { result ≡ option_map (of_nat F.ring)
+        (number_of (number_bound F.CHARACTERISTIC) word.now) }
 {
     number(word, F::CHARACTERISTIC).map(|value| F::from_u32(value))
 }

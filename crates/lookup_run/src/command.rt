@@ -28,9 +28,12 @@ pub fn run<R: Read, W: Write, E: Write>(
     output: &mut W,
     errors: &mut E,
 ) -> ExitCode
-    ensures { (bytes : List ℕ) × (answer : Result Report RunError) × IfSome (R.remaining input.old) (λ known. bytes ≡ known)
-        × Answers ⟦<F7 as Challenge<F7>>⟧.fields ⟦<BabyBear4 as Challenge<BabyBear>>⟧.fields (map string_bytes words.now) bytes answer
-        × Ends W.contents E.contents answer (exit_status result) output.old output.new errors.old errors.new }
+    ensures { (bytes : List ℕ) × (answer : Result Report RunError)
+        × IfSome (R.remaining input.old) (λ known. bytes ≡ known)
+        × Answers ⟦<F7 as Challenge<F7>>⟧.fields ⟦<BabyBear4 as Challenge<BabyBear>>⟧.fields
+        (map string_bytes words.now) bytes answer
+        × Ends W.contents E.contents answer (exit_status result) output.old output.new errors.old
+        errors.new }
 {
     match answer(alloc, words, input) {
         Ok(report) => write_report(&report, output, errors),
@@ -53,9 +56,12 @@ pub fn refuse<E: Write>(alloc: Global, error: RunError, errors: &mut E) -> ExitC
 /// Writes a report to `output`, and then the line of its mismatch to `errors`, if there is one. The
 /// status is 0 if the terminals cancel, 1 if they do not, and 2 if a write fails.
 fn write_report<W: Write, E: Write>(report: &Report, output: &mut W, errors: &mut E) -> ExitCode
-    ensures written { ((exit_status result ≡ cond report.now.balanced 0 1) × Appends (W.contents output.old) (W.contents output.new) (string_bytes report.now.text)
-        × HasMismatch E.contents report.now.mismatch errors.old errors.new) ⊎ (exit_status result ≡ 2) }
-    ensures order { WritesInOrder W.contents report.now output.old output.new errors.old errors.new }
+    ensures written { ((exit_status result ≡ cond report.now.balanced 0 1)
+        × Appends (W.contents output.old) (W.contents output.new) (string_bytes report.now.text)
+        × HasMismatch E.contents report.now.mismatch errors.old errors.new)
+        ⊎ (exit_status result ≡ 2) }
+    ensures order { WritesInOrder W.contents report.now output.old output.new errors.old
+        errors.new }
 {
     if write_and_flush(report.text.as_bytes(), output).is_err() {
         return ExitCode::from(2);
@@ -82,7 +88,8 @@ fn write_and_flush<W: Write>(bytes: &[u8], output: &mut W) -> io::Result<()>
 /// The report for the words, or the first refusal in the order of the checks.
 fn answer<R: Read>(alloc: Global, words: &[String], input: &mut R) -> Result<Report, RunError>
     ensures { (bytes : List ℕ) × IfSome (R.remaining input.old) (λ known. bytes ≡ known)
-        × Answers ⟦<F7 as Challenge<F7>>⟧.fields ⟦<BabyBear4 as Challenge<BabyBear>>⟧.fields (map string_bytes words.now) bytes result }
+        × Answers ⟦<F7 as Challenge<F7>>⟧.fields ⟦<BabyBear4 as Challenge<BabyBear>>⟧.fields
+        (map string_bytes words.now) bytes result }
 {
     let [machine, field, alpha, beta] = words else {
         return Err(RunError::Usage);
@@ -106,7 +113,9 @@ fn answer_over<F: Field, EF: Challenge<F>, R: Read>(
     input: &mut R,
 ) -> Result<Report, RunError>
     ensures { (bytes : List ℕ) × IfSome (R.remaining input.old) (λ known. bytes ≡ known)
-        × AnswersOver (run_fields F.ring F.eq F.CHARACTERISTIC EF.ring EF.eq EF.embed EF.inverse EF.written EF.text F.text) machine (string_bytes alpha.now) (string_bytes beta.now) bytes result }
+        × AnswersOver (run_fields F.ring F.eq F.CHARACTERISTIC EF.ring EF.eq EF.embed EF.inverse
+        EF.written EF.text F.text) machine (string_bytes alpha.now)
+        (string_bytes beta.now) bytes result }
 {
     let challenges = (
         challenge::<F, EF>(alloc, alpha.as_str())?,

@@ -19,7 +19,8 @@ impl Machine {
 
     /// The machine with this name.
     pub fn from_name(name: &str) -> Option<Machine>
-        ensures { MatchOption result ((machine : Self) → name.now ≢ name_of machine) (λ machine. name.now ≡ name_of machine) }
+        ensures { MatchOption result ((machine : Self) → name.now ≢ name_of machine)
+            (λ machine. name.now ≡ name_of machine) }
     {
         match name {
             "range" => Some(Machine::Range),

@@ -23,7 +23,8 @@ pub fn mismatch_line<F: Field>(
 ) -> Result<Option<String>, AllocError>
     requires { AreTracesOf F.ring F.eq traces.now }
     ensures { IfOk result (λ line. (machine : Machine) (input : Matrix F)
-        → AllZip (IsTraceOf F.ring F.eq input) (airs_of machine) traces.now → AreFlagsBoolean F.ring F.eq machine input
+        → AllZip (IsTraceOf F.ring F.eq input) (airs_of machine) traces.now
+        → AreFlagsBoolean F.ring F.eq machine input
         → IsMismatchLine F.ring F.eq F.text machine input line) }
 {
     let instances = debug_instances(alloc, traces)?;
@@ -37,7 +38,8 @@ pub fn mismatch_line<F: Field>(
 ///
 /// Fails when out of memory, and if the fault is that memory ran out.
 fn line_of<F: Field>(alloc: Global, fault: &LookupFault<F>) -> Result<String, AllocError>
-    ensures { IfOk result (λ line. (fault.now ≢ LookupFault.Memory) × (string_bytes line ≡ fault_text F.text fault.now ++ codes "\n")) }
+    ensures { IfOk result (λ line. (fault.now ≢ LookupFault.Memory)
+        × (string_bytes line ≡ fault_text F.text fault.now ++ codes "\n")) }
 {
     match fault {
         LookupFault::Memory => Err(AllocError),

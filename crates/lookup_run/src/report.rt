@@ -43,9 +43,11 @@ pub fn report_of<F: Field, EF: Challenge<F>>(
     challenges: (EF, EF),
     input: &[u8],
 ) -> Result<Report, RunError>
-    ensures { let fields = run_fields F.ring F.eq F.CHARACTERISTIC EF.ring EF.eq EF.embed EF.inverse EF.written EF.text F.text in MatchResult result
+    ensures { let fields = run_fields F.ring F.eq F.CHARACTERISTIC EF.ring EF.eq EF.embed EF.inverse
+        EF.written EF.text F.text in MatchResult result
         (λ report. IsReport fields machine challenges.0 challenges.1 input.now report)
-        (λ e. (e ≡ RunError.Memory) ⊎ IsReportRefusal fields machine challenges.0 challenges.1 input.now e) }
+        (λ e. (e ≡ RunError.Memory)
+        ⊎ IsReportRefusal fields machine challenges.0 challenges.1 input.now e) }
 {
     let rows = read_rows::<F>(alloc, input, machine.columns())?;
     let traces = air_traces::<F, EF>(alloc, machine, &rows)?;
@@ -103,7 +105,8 @@ fn push_witness<EF: Field>(
     witness: &Witness<EF>,
 ) -> Result<(), AllocError>
     requires { length witness.now.aux.items ≡ length witness.now.terminals.items }
-    ensures { OnOk result (string_bytes text.new ≡ string_bytes text.old ++ witness_lines EF.text (results_of witness.now)) }
+    ensures { OnOk result (string_bytes text.new ≡ string_bytes text.old
+        ++ witness_lines EF.text (results_of witness.now)) }
 {
     for air in 0..witness.aux.len() {
         push_air(alloc, text, air, &witness.aux[air], witness.terminals[air])?;
@@ -119,7 +122,8 @@ fn push_air<EF: Field>(
     trace: &RowMajorMatrix<EF>,
     terminal: Option<LookupTerminal<EF>>,
 ) -> Result<(), AllocError>
-    ensures { OnOk result (string_bytes text.new ≡ string_bytes text.old ++ air_lines EF.text air trace.now terminal) }
+    ensures { OnOk result (string_bytes text.new ≡ string_bytes text.old
+        ++ air_lines EF.text air trace.now terminal) }
 {
     text.push_str(format!(in alloc; "air {air}\n")?.as_str())?;
     for row in 0..trace.height() {
@@ -135,7 +139,8 @@ fn push_air<EF: Field>(
 
 /// Appends the cells of a row, separated by one space.
 fn push_row<EF: Field>(alloc: Global, text: &mut String, cells: &[EF]) -> Result<(), AllocError>
-    ensures { OnOk result (string_bytes text.new ≡ string_bytes text.old ++ row_line EF.text cells.now) }
+    ensures { OnOk result (string_bytes text.new ≡ string_bytes text.old
+        ++ row_line EF.text cells.now) }
 {
     if let Some((first, rest)) = cells.split_first() {
         text.push_str(first.text(alloc)?.as_str())?;
@@ -146,7 +151,8 @@ fn push_row<EF: Field>(alloc: Global, text: &mut String, cells: &[EF]) -> Result
 
 /// Appends the remaining cells of a row, each after one space.
 fn push_rest<EF: Field>(alloc: Global, text: &mut String, cells: &[EF]) -> Result<(), AllocError>
-    ensures { OnOk result (string_bytes text.new ≡ string_bytes text.old ++ flat_map (λ cell. codes " " ++ EF.text cell) cells.now) }
+    ensures { OnOk result (string_bytes text.new ≡ string_bytes text.old
+        ++ flat_map (λ cell. codes " " ++ EF.text cell) cells.now) }
 {
     for cell in cells {
         text.push_str(" ")?;

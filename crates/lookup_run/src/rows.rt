@@ -79,10 +79,12 @@ fn push_line(
     columns: usize,
     bound: u128,
 ) -> Result<(), RunError>
-    ensures whole_row { OnOk result ((vec_len numbers.new ≡ vec_len numbers.old) ⊎ (vec_len numbers.new ≡ vec_len numbers.old + columns)) }
+    ensures whole_row { OnOk result ((vec_len numbers.new ≡ vec_len numbers.old)
+        ⊎ (vec_len numbers.new ≡ vec_len numbers.old + columns)) }
     ensures cases { let bound = number_bound bound in MatchResult result
         (λ _. (line_refusal columns bound line words.now ≡ None)
-        × (map Some numbers.new.items ≡ map Some numbers.old.items ++ map (number_of bound) (words_of words.now)))
+        × (map Some numbers.new.items ≡ map Some numbers.old.items
+        ++ map (number_of bound) (words_of words.now)))
         (λ e. (e ≡ RunError.Memory) ⊎ (line_refusal columns bound line words.now ≡ Some e)) }
 {
     let start = numbers.len();
@@ -101,8 +103,10 @@ fn push_line(
 /// Appends a number for each word, 0 for a word that is not a number below `bound`. Returns whether
 /// every word is one.
 fn push_words(numbers: &mut Vec<u32>, words: &[u8], bound: u128) -> Result<bool, AllocError>
-    ensures numbers { OnOk result (numbers.new.items ≡ numbers.old.items ++ numbers_or_zeros (number_bound bound) (words_of words.now)) }
-    ensures good { IfOk result (λ good. good ≡ list_all (is_number (number_bound bound)) (words_of words.now)) }
+    ensures numbers { OnOk result (numbers.new.items ≡ numbers.old.items
+        ++ numbers_or_zeros (number_bound bound) (words_of words.now)) }
+    ensures good { IfOk result (λ good. good ≡ list_all (is_number (number_bound bound))
+        (words_of words.now)) }
 {
     let mut good = true;
     for word in words.split(|byte| matches!(*byte, b' ' | b'\t' | b'\r')) {

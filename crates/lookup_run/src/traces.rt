@@ -106,7 +106,8 @@ pub fn batch_of<'a, F: Field>(
     public_values: &'a [F],
     ids: &'a [usize],
 ) -> Result<Vec<BatchInstance<'a, F>>, AllocError>
-    ensures { IfOk result (λ batch. instances_of batch.items ≡ map (instance_over public_values.now ids.now) traces.now) }
+    ensures { IfOk result (λ batch. instances_of batch.items
+        ≡ map (instance_over public_values.now ids.now) traces.now) }
 {
     let mut batch = Vec::new(alloc);
     for trace in traces {
@@ -126,7 +127,8 @@ pub fn debug_instances<'a, F: Field>(
     alloc: Global,
     traces: &'a [AirTrace<F>],
 ) -> Result<Vec<LookupDebugInstance<'a, F>>, AllocError>
-    ensures { IfOk result (λ instances. map traced_of instances.items ≡ map traced_over traces.now) }
+    ensures { IfOk result (λ instances. map traced_of instances.items
+        ≡ map traced_over traces.now) }
 {
     let mut instances = Vec::new(alloc);
     for trace in traces {

@@ -34,7 +34,8 @@ pub fn fraction_of<F: Field, EF: ExtensionField<F>>(
     ensures { let E = extension F.ring F.eq EF.ring EF.eq EF.embed EF.inverse in
         let denominator = column_denominator E challenges.now in
         let vanishing = vanishes E denominator (counted E (messages_of messages.now)) in
-        MatchOption result (IsTrue vanishing) (λ f. (f ≡ plain_fraction E denominator (sent_of messages.now)) × (vanishing ≡ false)) }
+        MatchOption result (IsTrue vanishing)
+        (λ f. (f ≡ plain_fraction E denominator (sent_of messages.now)) × (vanishing ≡ false)) }
 {
     let mut sum = EF::ZERO;
     for message in messages {
@@ -53,7 +54,8 @@ pub fn terminal_of<F: Field, EF: ExtensionField<F>>(
     ensures { let E = extension F.ring F.eq EF.ring EF.eq EF.embed EF.inverse in
         let denominator = column_denominator E challenges.now in
         let vanishing = net_vanishes E denominator (messages_of messages.now) in
-        MatchOption result (IsTrue vanishing) (λ t. (t ≡ net_sum E denominator (messages_of messages.now)) × (vanishing ≡ false)) }
+        MatchOption result (IsTrue vanishing)
+        (λ t. (t ≡ net_sum E denominator (messages_of messages.now)) × (vanishing ≡ false)) }
 {
     let mut sum = EF::ZERO;
     for place in 0..messages.len() {
@@ -83,7 +85,8 @@ pub fn exclusive_fraction_of<F: Field, EF: ExtensionField<F>>(
         let denominator = column_denominator E challenges.now in
         let sent = sent F.ring F.eq (Some flags.now) (messages_of messages.now) in
         MatchResult result
-        (λ f. (f ≡ plain_fraction E denominator sent) × (fault_of E denominator row lookup sent ≡ None))
+        (λ f. (f ≡ plain_fraction E denominator sent)
+        × (fault_of E denominator row lookup sent ≡ None))
         (λ e. (e ≡ LookupError.Memory) ⊎ (fault_of E denominator row lookup sent ≡ Some e)) }
 {
     if !are_boolean(flags) {
@@ -111,8 +114,10 @@ fn single_quotient<F: Field, EF: ExtensionField<F>>(
         let denominator = column_denominator E challenges.now in
         let key = (message_of message.now).key in
         MatchResult result
-        (λ q. (denominator key ≢ EF.ring.zero) × (q ≡ quotient E denominator message.now.multiplicity key))
-        (λ e. (e ≡ LookupError.VanishingDenominator row lookup) × (denominator key ≡ EF.ring.zero)) }
+        (λ q. (denominator key ≢ EF.ring.zero)
+        × (q ≡ quotient E denominator message.now.multiplicity key))
+        (λ e. (e ≡ LookupError.VanishingDenominator row lookup)
+        × (denominator key ≡ EF.ring.zero)) }
 {
     let denominator = denominator_of(message, challenges);
     if denominator.is_zero() {
@@ -164,8 +169,10 @@ fn quotient_of<F: Field, EF: ExtensionField<F>>(
     requires { 2 * message.now.id + 1 < length challenges.now }
     ensures { let E = extension F.ring F.eq EF.ring EF.eq EF.embed EF.inverse in
         let denominator = column_denominator E challenges.now in
-        let alone : List (Message F) = record { key = (message_of message.now).key; multiplicity = multiplicity } ∷ [] in
-        MatchOption result (IsTrue (vanishes E denominator (counted E alone))) (λ q. IsFractionOf E denominator alone q) }
+        let alone : List (Message F) = record
+        { key = (message_of message.now).key; multiplicity = multiplicity } ∷ [] in
+        MatchOption result (IsTrue (vanishes E denominator (counted E alone)))
+        (λ q. IsFractionOf E denominator alone q) }
 {
     if multiplicity.is_zero() {
         return Some(EF::ZERO);
@@ -184,7 +191,8 @@ fn denominator_of<F: Field, EF: ExtensionField<F>>(
     challenges: &[EF],
 ) -> EF
     requires { 2 * message.now.id + 1 < length challenges.now }
-    ensures { result ≡ column_denominator (extension F.ring F.eq EF.ring EF.eq EF.embed EF.inverse) challenges.now (message_of message.now).key }
+    ensures { result ≡ column_denominator (extension F.ring F.eq EF.ring EF.eq EF.embed EF.inverse)
+        challenges.now (message_of message.now).key }
 {
     challenges[2 * message.id] - combined_of(&message.tuple, challenges[2 * message.id + 1])
 }
@@ -215,7 +223,8 @@ fn net_of<F: Field>(messages: &[PlainMessage<F>], like: &PlainMessage<F>) -> F
 
 /// Whether one of the messages has the key of `like`.
 fn holds<F: Field>(messages: &[PlainMessage<F>], like: &PlainMessage<F>) -> bool
-    ensures { result ≡ list_any (λ m. same_key F.eq (message_of m).key (message_of like.now).key) messages.now }
+    ensures { result ≡ list_any (λ m. same_key F.eq (message_of m).key (message_of like.now).key)
+        messages.now }
 {
     for message in messages {
         if is_same(message, like) {

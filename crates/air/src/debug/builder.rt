@@ -52,7 +52,8 @@ impl<'a, F: Field, EF: ExtensionField<F>> DebugConstraintBuilder<'a, F, EF> {
     /// The builder for one row of the inputs.
     pub fn new(inputs: &'a RowInputs<'a, F, EF>, row: usize) -> Self
         requires row { row < height inputs.now.main.now }
-        requires preprocessed { OptionHeightFits (height inputs.now.main.now) (option_copied inputs.now.preprocessed) }
+        requires preprocessed { OptionHeightFits (height inputs.now.main.now)
+            (option_copied inputs.now.preprocessed) }
         requires permutation { HeightFits (height inputs.now.main.now) inputs.now.permutation.now }
         ensures { IsRow inputs.now row result }
     {
@@ -91,7 +92,8 @@ fn window_of_option<T>(
     current: usize,
     next: usize,
 ) -> RowWindow<'_, T>
-    requires { IfSome (option_copied trace) (λ m. (m.width ≡ 0) ⊎ ((current < height m) × (next < height m))) }
+    requires { IfSome (option_copied trace) (λ m. (m.width ≡ 0)
+        ⊎ ((current < height m) × (next < height m))) }
     ensures current { result.current.now ≡ row_of_option (option_copied trace.entry) current }
     ensures next { result.next.now ≡ row_of_option (option_copied trace.entry) next }
     ensures len { length result.current.now ≡ width_of_option (option_copied trace.entry) }

@@ -16,11 +16,14 @@ pub fn check_rows<'a, F: Field, EF: ExtensionField<F>, A: Air<DebugConstraintBui
     air: &A,
     inputs: &'a RowInputs<'a, F, EF>,
 ) -> Result<(), AirError>
-    requires preprocessed { OptionHeightFits (height inputs.now.main.now) (option_copied inputs.now.preprocessed) }
+    requires preprocessed { OptionHeightFits (height inputs.now.main.now)
+        (option_copied inputs.now.preprocessed) }
     requires permutation { HeightFits (height inputs.now.main.now) inputs.now.permutation.now }
     ensures { MatchResult result
-        (λ _. (r : ℕ) → r < height inputs.now.main.now → RowAnswers A.evaluates air.now inputs.now r (Ok tt))
-        (λ e. (r : ℕ) × (r < height inputs.now.main.now) × RowAnswers A.evaluates air.now inputs.now r (Err e)
+        (λ _. (r : ℕ) → r < height inputs.now.main.now
+        → RowAnswers A.evaluates air.now inputs.now r (Ok tt))
+        (λ e. (r : ℕ) × (r < height inputs.now.main.now)
+        × RowAnswers A.evaluates air.now inputs.now r (Err e)
         × ((q : ℕ) → q < r → RowAnswers A.evaluates air.now inputs.now q (Ok tt))) }
 {
     for row in 0..inputs.main.height() {
@@ -37,7 +40,8 @@ fn check_row<'a, F: Field, EF: ExtensionField<F>, A: Air<DebugConstraintBuilder<
     row: usize,
 ) -> Result<(), AirError>
     requires row { row < height inputs.now.main.now }
-    requires preprocessed { OptionHeightFits (height inputs.now.main.now) (option_copied inputs.now.preprocessed) }
+    requires preprocessed { OptionHeightFits (height inputs.now.main.now)
+        (option_copied inputs.now.preprocessed) }
     requires permutation { HeightFits (height inputs.now.main.now) inputs.now.permutation.now }
     ensures { RowAnswers A.evaluates air.now inputs.now row result }
 {

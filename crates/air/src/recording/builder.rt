@@ -83,9 +83,11 @@ fn append<X: Drop>(
     constraint: X,
     place: usize,
 ) -> Result<(), AllocError>
-    ensures appended { OnOk result ((constraints.new.items ≡ constraints.old.items ++ constraint ∷ [])
+    ensures appended { OnOk result ((constraints.new.items ≡ constraints.old.items
+        ++ constraint ∷ [])
         × (places.new.items ≡ places.old.items ++ place ∷ [])) }
-    ensures refused { OnErr result ((constraints.new.items ≡ constraints.old.items) × (places.new.items ≡ places.old.items)) }
+    ensures refused { OnErr result ((constraints.new.items ≡ constraints.old.items)
+        × (places.new.items ≡ places.old.items)) }
 {
     places.push(place)?;
     if let Err(refused) = constraints.push(constraint) {
@@ -148,7 +150,8 @@ impl<F: Field, EF: ExtensionField<F>> AirBuilder for SymbolicAirBuilder<F, EF> {
 
     ghost public_converts = { λ v x w h. ap (value_of F.ring w) h };
 
-    ghost keeps = { λ b x c w h. iff_along (λ l. HasWidths l w) b.variables c.variables (ap (λ r. r.layout) h) };
+    ghost keeps = { λ b x c w h. iff_along (λ l. HasWidths l w) b.variables c.variables
+        (ap (λ r. r.layout) h) };
 
     ghost keeps_layout = { λ b x c h. ap (λ r. r.layout) h };
 
@@ -220,15 +223,18 @@ impl<F: Field, EF: ExtensionField<F>> ExtensionBuilder for SymbolicAirBuilder<F,
 
     ghost variable_ext_degree = { λ v x t h. ext_variable_degree-le v _ t h };
 
-    ghost keeps_ext = { λ b x c w h. iff_along (λ l. HasExtWidths l w) b.variables c.variables (ap (λ r. r.layout) h) };
+    ghost keeps_ext = { λ b x c w h. iff_along (λ l. HasExtWidths l w) b.variables c.variables
+        (ap (λ r. r.layout) h) };
 
     ghost keeps_ext_layout = { λ b x c h. ap (λ r. r.layout) h };
 
     ghost keeps_ext_pushed = { λ b x c h s. s };
 
-    ghost base_keeps_ext = { λ b x c w h. iff_along (λ l. HasExtWidths l w) b.variables c.variables (ap (λ r. r.layout) h) };
+    ghost base_keeps_ext = { λ b x c w h. iff_along (λ l. HasExtWidths l w) b.variables c.variables
+        (ap (λ r. r.layout) h) };
 
-    ghost ext_keeps_base = { λ b x c w h. iff_along (λ l. HasWidths l w) b.variables c.variables (ap (λ r. r.layout) h) };
+    ghost ext_keeps_base = { λ b x c w h. iff_along (λ l. HasWidths l w) b.variables c.variables
+        (ap (λ r. r.layout) h) };
 
     fn lift(x: SymbolicExpression<F>) -> SymbolicExpressionExt<F, EF> {
         SymbolicExpressionExt::Leaf(ExtLeaf::Base(x))

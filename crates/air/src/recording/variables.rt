@@ -83,7 +83,8 @@ impl<F: Copy, EF: Copy> LayoutVariables<F, EF> {
 
     /// The variables of the main trace.
     pub fn main(&self) -> &RowMajorMatrix<SymbolicVariable<F>>
-        ensures { IsVariableMatrix (λ v. v.entry) (λ v. v.index) (Main 0) (Main 1) self.now.main_width result.now }
+        ensures { IsVariableMatrix (λ v. v.entry) (λ v. v.index) (Main 0)
+            (Main 1) self.now.main_width result.now }
     {
         &self.main
     }
@@ -98,7 +99,8 @@ impl<F: Copy, EF: Copy> LayoutVariables<F, EF> {
 
     /// The public values.
     pub fn public_values(&self) -> &[SymbolicVariable<F>]
-        ensures { IsVariableRow (λ v. v.entry) (λ v. v.index) Public self.now.num_public_values result.now }
+        ensures { IsVariableRow (λ v. v.entry)
+            (λ v. v.index) Public self.now.num_public_values result.now }
     {
         self.public_values.as_slice()
     }
@@ -113,7 +115,8 @@ impl<F: Copy, EF: Copy> LayoutVariables<F, EF> {
 
     /// The challenges.
     pub fn challenges(&self) -> &[SymbolicVariableExt<F, EF>]
-        ensures { IsVariableRow (λ v. v.entry) (λ v. v.index) Challenge self.now.num_permutation_challenges result.now }
+        ensures { IsVariableRow (λ v. v.entry)
+            (λ v. v.index) Challenge self.now.num_permutation_challenges result.now }
     {
         self.challenges.as_slice()
     }

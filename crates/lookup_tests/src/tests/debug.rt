@@ -15,7 +15,9 @@ use std::alloc::Global;
 use std::process::Abort;
 
 fn has_fitting_lookups<F: Field>(instance: &LookupDebugInstance<'_, F>) -> bool
-    ensures { IsTrue result ↔ DoFit (layout_of_traces instance.now.main_trace.now (option_copied instance.now.preprocessed_trace) instance.now.public_values.now) instance.now.lookups.now }
+    ensures { IsTrue result ↔ DoFit (layout_of_traces instance.now.main_trace.now
+        (option_copied instance.now.preprocessed_trace) instance.now.public_values.now)
+        instance.now.lookups.now }
 {
     let layout = AirLayout::of_traces(
         instance.main_trace,
@@ -26,7 +28,8 @@ fn has_fitting_lookups<F: Field>(instance: &LookupDebugInstance<'_, F>) -> bool
 }
 
 fn has_one_height<F: Field>(instance: &LookupDebugInstance<'_, F>) -> bool
-    ensures { IsTrue result ↔ ForSome (option_copied instance.now.preprocessed_trace) (λ m. height m ≡ height instance.now.main_trace.now) }
+    ensures { IsTrue result ↔ ForSome (option_copied instance.now.preprocessed_trace)
+        (λ m. height m ≡ height instance.now.main_trace.now) }
 {
     match instance.preprocessed_trace {
         Some(trace) => trace.height() == instance.main_trace.height(),

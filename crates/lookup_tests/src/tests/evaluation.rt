@@ -79,7 +79,8 @@ impl<R, F> BaseAir<F> for LookupsAir<'_, R, F> {
 
 impl<'b, R: Abort, F: Field, EF: ExtensionField<F>> Air<DebugConstraintBuilder<'b, F, EF>>
     for LookupsAir<'_, R, F> {
-    ghost evaluates = { λ _ before answer after. OnOk answer (row_layout after ≡ row_layout before) };
+    ghost evaluates = { λ _ before answer after. OnOk answer
+        (row_layout after ≡ row_layout before) };
 
     fn eval(
         &self,

@@ -61,7 +61,8 @@ impl<F> BaseAir<F> for Steps<'_> {
 
 /// A tuple of as many ones.
 fn ones<AB: AirBuilder>(alloc: Global, width: usize) -> Result<Vec<AB::Expr>, AirError>
-    ensures { IfOk result (λ tuple. (layout : AirLayout) → All (AB.Expr.within layout) tuple.items) }
+    ensures { IfOk result (λ tuple. (layout : AirLayout)
+        → All (AB.Expr.within layout) tuple.items) }
 {
     let mut tuple = Vec::new(alloc);
     for _ in 0..width {
