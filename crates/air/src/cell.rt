@@ -20,8 +20,8 @@ fn narrow(width: usize, actual: usize) -> AirError
 
 /// The expression of a cell of the current row of the main trace, for an AIR of `width` columns.
 ///
-/// Refuses what the builder refuses where it can't provide its window, and, where its rows have no such
-/// column, `LayoutMismatch` of the main width, with `width` and theirs.
+/// Refuses what the builder refuses if it can't provide its window, and `LayoutMismatch` of the main
+/// width, with `width` and that of its rows, if they have no such column.
 #[tactic(auto, using(crate::proofs::CellLaws::cell_is, crate::proofs::CellLaws::no_cell))]
 pub fn current_cell<AB: AirBuilder>(
     alloc: Global,

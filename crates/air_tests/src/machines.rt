@@ -4,7 +4,7 @@ ghost use Rattle.expressions.specs.Builder.{AcceptsAll};
 
 use air::{
     Air, AirBuilder, AirError, BaseAir, Expression, ExtensionBuilder, LayoutPart,
-    PermutationAirBuilder,
+    PermutationAirBuilder, current_cell, next_cell,
 };
 use field::{Field, PrimeCharacteristicRing};
 use matrix::WindowAccess;
@@ -140,7 +140,8 @@ fn assert_counted<AB: AirBuilder>(
 ) -> Result<(), AirError>
     ensures { OnOk result (AB.layout builder.new ≡ AB.layout builder.old) }
 {
-    let (below, above) = (next(alloc, &*builder, 0), current(alloc, &*builder, 0));
+    let above = current_cell(alloc, &*builder, 1, 0);
+    let below = next_cell(alloc, &*builder, 1, 0);
     let step = difference::<AB::F, AB::Expr>(alloc, below, above);
     let left = difference(alloc, step, Ok(AB::Expr::constant(AB::F::ONE)));
     if on_every_row {

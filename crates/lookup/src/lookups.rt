@@ -64,8 +64,9 @@ impl<F: Field> Lookups<F> {
     /// The set of these lookups, unchanged.
     ///
     /// Refuses `BadRecord` at the first lookup whose lists have different lengths or whose column
-    /// is not its index. The lookups are then dropped.
-    pub fn from_records(records: Vec<Lookup<F>>) -> Result<Self, LookupError>
+    /// is not its index. The lookups are then dropped. Like every call that makes a set it takes the
+    /// allocator, though it allocates nothing.
+    pub fn from_records(_alloc: Global, records: Vec<Lookup<F>>) -> Result<Self, LookupError>
         ensures { MatchResult result
             (λ lookups. lookups_of lookups ≡ records.items)
             (λ e. (i : ℕ) × (e ≡ LookupError.BadRecord i) × IsFirstMalformed records.items i) }

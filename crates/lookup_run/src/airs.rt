@@ -131,8 +131,14 @@ fn two_keys<AB: InteractionBuilder>(
     ensures within { IfOk result (λ branches. All (KeyWithin AB.Expr.within (AB.layout builder.now)) branches.items) }
 {
     let mut branches = Vec::new(alloc);
-    branches.push((current_cell(alloc, builder, 4, 0)?, tuple(alloc, builder, 4, 1)?))?;
-    branches.push((current_cell(alloc, builder, 4, 2)?, tuple(alloc, builder, 4, 3)?))?;
+    branches.push((
+        current_cell(alloc, builder, 4, 0)?,
+        tuple(alloc, builder, 4, 1)?,
+    ))?;
+    branches.push((
+        current_cell(alloc, builder, 4, 2)?,
+        tuple(alloc, builder, 4, 3)?,
+    ))?;
     Ok(branches)
 }
 

@@ -15,7 +15,7 @@ fn of_weight_one(rt: &impl Abort, alloc: Global) -> Lookups<BabyBear> {
         column: 0,
         flags: None,
     };
-    Lookups::from_records(list(rt, alloc, [lookup])).expect(rt, "well formed")
+    Lookups::from_records(alloc, list(rt, alloc, [lookup])).expect(rt, "well formed")
 }
 
 /// What the guard says of two AIRs of weight 1 with these heights.
@@ -55,10 +55,10 @@ fn heights_of_two_airs(rt: HostRuntime) {
 #[test]
 fn seven_queries_reach_seven(rt: HostRuntime) {
     let alloc = rt.alloc();
-    let lookups: Lookups<F7> = Lookups::from_records(list(&rt, alloc, [range(&rt, alloc)])).expect(
-        &rt,
-        "well formed",
-    );
+    let lookups: Lookups<F7> = Lookups::from_records(
+        alloc,
+        list(&rt, alloc, [range(&rt, alloc)]),
+    ).expect(&rt, "well formed");
     let airs = [lookups];
     let refused = check_multiplicity_height_bound(airs.as_slice(), &[7]);
     let reached = LookupError::MultiplicityHeightBoundExceeded {

@@ -8,7 +8,7 @@ use std::process::Abort;
 
 /// An AIR with these lookups.
 fn air<const N: usize>(rt: &impl Abort, alloc: Global, records: [Lookup<F7>; N]) -> Lookups<F7> {
-    Lookups::from_records(list(rt, alloc, records)).expect(rt, "records")
+    Lookups::from_records(alloc, list(rt, alloc, records)).expect(rt, "records")
 }
 
 /// The refusal of two widths on a bus.

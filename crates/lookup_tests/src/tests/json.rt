@@ -59,7 +59,7 @@ fn refusal(alloc: Global, text: &str) -> Option<Category> {
 
 /// The set of lookups of a text.
 fn read_set(rt: &impl Abort, alloc: Global, text: &str) -> Lookups<F7> {
-    Lookups::from_records(read(rt, alloc, text)).expect(rt, text)
+    Lookups::from_records(alloc, read(rt, alloc, text)).expect(rt, text)
 }
 
 /// Whether lookups are written as this text.

@@ -29,7 +29,7 @@ fn alike(rt: &impl Abort, alloc: Global, number: usize) -> Lookups<F7> {
             .push(on_bus(rt, alloc, "a", 1, 1, column))
             .expect(rt, "memory");
     }
-    Lookups::from_records(records).expect(rt, "records")
+    Lookups::from_records(alloc, records).expect(rt, "records")
 }
 
 /// How many tuples there are in all.
@@ -72,7 +72,7 @@ fn a_local_lookup_comes_first(rt: HostRuntime) {
             on_bus(&rt, alloc, "a", 1, 1, 3),
         ],
     );
-    let packed = Lookups::from_records(records)
+    let packed = Lookups::from_records(alloc, records)
         .expect(&rt, "records")
         .pack_same_bus(alloc, &LogUpGadget::new(), 3)
         .expect(&rt, "packed");
@@ -96,7 +96,7 @@ fn weights_add(rt: HostRuntime) {
             on_bus(&rt, alloc, "a", 1, 9, 2),
         ],
     );
-    let packed = Lookups::from_records(records)
+    let packed = Lookups::from_records(alloc, records)
         .expect(&rt, "records")
         .pack_same_bus_with_degree(alloc, 6, |lookup| Ok(lookup.count_weight as usize))
         .expect(&rt, "packed");
@@ -113,7 +113,7 @@ fn two_widths_on_a_bus(rt: HostRuntime) {
     let mut group: Lookup<F7> = on_bus(&rt, alloc, "a", 2, 1, 1);
     group.flags = Some(alone(&rt, alloc, cell(2)));
     let records = list(&rt, alloc, [on_bus(&rt, alloc, "a", 1, 1, 0), group]);
-    let refused = Lookups::from_records(records)
+    let refused = Lookups::from_records(alloc, records)
         .expect(&rt, "records")
         .pack_same_bus(alloc, &LogUpGadget::new(), 16)
         .err();
@@ -147,7 +147,7 @@ fn an_overflow_before_a_later_refusal(rt: HostRuntime) {
             on_bus(&rt, alloc, "b", 1, 1, 3),
         ],
     );
-    let refused = Lookups::from_records(records)
+    let refused = Lookups::from_records(alloc, records)
         .expect(&rt, "records")
         .pack_same_bus_with_degree(alloc, 3, |lookup| {
             if is_on(lookup, "c") {
@@ -186,7 +186,7 @@ fn of_degrees(rt: &impl Abort, alloc: Global, degrees: &[usize]) -> Lookups<F7> 
         lookup.elements = alone(rt, alloc, alone(rt, alloc, power(rt, alloc, *degree)));
         records.push(lookup).expect(rt, "memory");
     }
-    Lookups::from_records(records).expect(rt, "records")
+    Lookups::from_records(alloc, records).expect(rt, "records")
 }
 
 #[test]
@@ -224,7 +224,7 @@ fn buses_in_the_order_of_their_first_lookups(rt: HostRuntime) {
             group,
         ],
     );
-    let packed = Lookups::from_records(records)
+    let packed = Lookups::from_records(alloc, records)
         .expect(&rt, "records")
         .pack_same_bus(alloc, &LogUpGadget::new(), 16)
         .expect(&rt, "packed");
@@ -251,7 +251,7 @@ fn a_group_first(rt: &impl Abort, alloc: Global, widths: &[usize; 5]) -> Lookups
             on_bus(rt, alloc, "b", widths[4], 1, 4),
         ],
     );
-    Lookups::from_records(records).expect(rt, "records")
+    Lookups::from_records(alloc, records).expect(rt, "records")
 }
 
 /// The columns come in the order of the lookups that are joined: `a` is before `b`, though a group

@@ -7,8 +7,8 @@ use std::alloc::Global;
 use std::process::Abort;
 
 /// Whether records are refused, and for this one.
-fn is_refused_at(records: Vec<Lookup<F7>>, lookup: usize) -> bool {
-    Lookups::from_records(records).err() == Some(LookupError::BadRecord { lookup })
+fn is_refused_at(alloc: Global, records: Vec<Lookup<F7>>, lookup: usize) -> bool {
+    Lookups::from_records(alloc, records).err() == Some(LookupError::BadRecord { lookup })
 }
 
 /// A record without multiplicities for its tuple.
@@ -33,11 +33,15 @@ fn malformed_records(rt: HostRuntime) {
         alloc,
         [single(&rt, alloc, 1, 0), single(&rt, alloc, 1, 5)],
     );
-    holds(&rt, "column 5 in place 1", is_refused_at(misplaced, 1));
+    holds(
+        &rt,
+        "column 5 in place 1",
+        is_refused_at(alloc, misplaced, 1),
+    );
     let uncounted = list(&rt, alloc, [without_multiplicities(&rt, alloc)]);
-    holds(&rt, "no multiplicities", is_refused_at(uncounted, 0));
+    holds(&rt, "no multiplicities", is_refused_at(alloc, uncounted, 0));
     let flagged = list(&rt, alloc, [with_two_flags(&rt, alloc)]);
-    holds(&rt, "two flags", is_refused_at(flagged, 0));
+    holds(&rt, "two flags", is_refused_at(alloc, flagged, 0));
 }
 
 /// A set of lookups of these weights, each of a tuple of two cells.
@@ -48,7 +52,7 @@ fn with_weights(rt: &impl Abort, alloc: Global, weights: &[u32]) -> Lookups<F7> 
         record.count_weight = *weight;
         records.push(record).expect(rt, "memory");
     }
-    Lookups::from_records(records).expect(rt, "records")
+    Lookups::from_records(alloc, records).expect(rt, "records")
 }
 
 #[test]
