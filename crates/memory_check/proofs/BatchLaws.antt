@@ -1,5 +1,5 @@
 -- The batch of a memory check: it fits, and its ids have prefixes.
-use Rattle.std.proofs.Common.{◌≡◌, ◌<◌, ℕ, Bool, true, false, List, [], ◌∷◌, All, IfErr, OnOk, MatchResult, Option, None, Some, Result, Ok, Err, codes, if◌then◌else◌, length, map, nat_eq, slice_index_or, inl, inr, subst, subst₂, sym, ap, arith, ◌∙◌}
+use Rattle.std.proofs.Common.{◌≡◌, ◌<◌, ℕ, Bool, true, false, List, [], ◌∷◌, All, IfErr, OnOk, MatchResult, Option, None, Some, Result, Ok, Err, codes, if◌then◌else◌, length, map, nat_eq, slice_index_or, inr, subst, subst₂, sym, ap, arith}
 use Rattle.std.proofs.lemmas.List.{length-map}
 use Rattle.std.proofs.lemmas.List.Elements.{All-cons, All-map, All-nil}
 use Rattle.std.specs.Box.{boxed_slice_items}
@@ -16,9 +16,10 @@ use Rattle.lookup_model.specs.declared.types.Lookup.{Lookup}
 use Rattle.lookup.specs.Lookups.{lookups_of}
 use Rattle.lookup.specs.declared.lookups.Lookups.{Lookups}
 use Rattle.batch_model.specs.Counts.{IsAccepting}
-use Rattle.batch_model.specs.Instances.{DoInstancesFit, HasPrefixes, HavePrefixes, Instance, IsFitting, instance_of, instances_of}
+use Rattle.batch_model.specs.Instances.{DoInstancesFit, HavePrefixes, Instance, IsFitting, instance_of, instances_of}
 use Rattle.batch_model.specs.Witnesses.{plain_witness}
 use Rattle.batch_model.specs.declared.instance.BatchInstance.{BatchInstance}
+use Rattle.checker.proofs.IdLaws.{all_unmapped}
 use Rattle.checker.proofs.MadeTables.{accepting}
 use Rattle.memory_check.specs.Batch.{IsBatchRefusal, IsFaultlessAndAccepted, bus_id_of, id_of_bus, instance_over}
 use Rattle.memory_check.specs.Memory.{AreTraces, DoLookupsFit, IsAcceptedMemory, IsMemoryRefusal, memory_batch, memory_table}
@@ -61,63 +62,55 @@ module _ {F : Type 0} where
     ids = length-map (lookups_of set) bus_id_of;
   }
 
-  module _ (lookups : MemoryLookups F) (traces : MemoryTraces F) (a b c : BatchInstance F)
-      (a_is : instance_of a ≡ instance_over lookups.accesses traces.accesses.now)
-      (b_is : instance_of b ≡ instance_over lookups.boundary traces.boundary.now)
-      (c_is : instance_of c ≡ instance_over lookups.gaps traces.gaps.now) where
-    -- three instances are the batch
-    pub batch_is : instances_of (a ∷ b ∷ c ∷ []) ≡ memory_batch lookups traces
-    batch_is = λ i. a_is i ∷ b_is i ∷ c_is i ∷ []
-
-    -- they fit
-    pub batch_fits : DoLookupsFit lookups → AreTraces traces → DoInstancesFit (a ∷ b ∷ c ∷ [])
+  module _ (lookups : MemoryLookups F) (traces : MemoryTraces F) (bs : List (BatchInstance F)) (batch_is : instances_of bs ≡ memory_batch lookups traces) where
+    -- the instances fit
+    pub batch_fits : DoLookupsFit lookups → AreTraces traces → DoInstancesFit bs
     batch_fits fit are =
-        all_three (λ b. IsFitting (instance_of b)) a b c
-        (subst IsFitting (sym a_is) (instance_fits lookups.accesses traces.accesses.now 5 are.accesses fit.accesses))
-        (subst IsFitting (sym b_is) (instance_fits lookups.boundary traces.boundary.now 4 are.boundary fit.boundary))
-        (subst IsFitting (sym c_is) (instance_fits lookups.gaps traces.gaps.now 2 are.gaps fit.gaps))
-
-    -- their ids have prefixes
-    pub batch_has_prefixes : {K : Type 0} (E : Extension F K) (alpha beta : K) (challenges : Challenges K)
-        → boxed_slice_items challenges.bus_prefix ≡ map (prefix_of_bus E.ring alpha beta 3) (range_with_len 0 2) → HavePrefixes challenges (a ∷ b ∷ c ∷ [])
-    batch_has_prefixes E alpha beta challenges prefixes =
-        all_three (HasPrefixes challenges) a b c
-        (each a lookups.accesses traces.accesses.now a_is)
-        (each b lookups.boundary traces.boundary.now b_is)
-        (each c lookups.gaps traces.gaps.now c_is)
-      where
-        two : length (boxed_slice_items challenges.bus_prefix) ≡ 2
-        two = ap length prefixes
-
-        each : (x : BatchInstance F) (set : Lookups F) (main : Matrix F) → instance_of x ≡ instance_over set main → HasPrefixes challenges x
-        each x set main is =
-            subst (All (λ id. id < length (boxed_slice_items challenges.bus_prefix))) (sym (ap (λ i. i.ids) is))
-            (λ k d lt. omega (arith, two, ids_below (lookups_of set) k d lt))
+        all_unmapped instance_of bs IsFitting (subst (All IsFitting) (sym batch_is)
+        (all_three IsFitting (instance_over lookups.accesses traces.accesses) (instance_over lookups.boundary traces.boundary) (instance_over lookups.gaps traces.gaps)
+        (instance_fits lookups.accesses traces.accesses 5 are.accesses fit.accesses)
+        (instance_fits lookups.boundary traces.boundary 4 are.boundary fit.boundary)
+        (instance_fits lookups.gaps traces.gaps 2 are.gaps fit.gaps)))
 
     module _ {K : Type 0} (E : Extension F K) (alpha beta : K) (challenges : Challenges K)
-        (alpha_is : challenges.alpha ≡ alpha) (beta_is : challenges.beta ≡ beta)
-        (prefixes : boxed_slice_items challenges.bus_prefix ≡ map (prefix_of_bus E.ring alpha beta 3) (range_with_len 0 2))
-        (are : AreTraces traces) where
-      -- the batch is checked over the table of alpha and beta
-      table_made : table_of challenges ≡ memory_table E alpha beta
-      table_made = table_is E alpha beta challenges alpha_is beta_is prefixes
+        (prefixes : boxed_slice_items challenges.bus_prefix ≡ map (prefix_of_bus E.ring alpha beta 3) (range_with_len 0 2)) where
+      -- the ids of an AIR have prefixes
+      abbrev Has : Instance F → Type 0
+      Has x = All (λ id. id < length (boxed_slice_items challenges.bus_prefix)) x.ids
 
-      -- what the check of the batch answers, answers of the memory
-      abbrev Checked : Result (Unit {0}) MemoryError → Type 0
-      Checked answer = MatchResult answer
-          (λ _. IsFaultlessAndAccepted E (table_of challenges) (instances_of (a ∷ b ∷ c ∷ [])))
-          (λ e. IsBatchRefusal E (table_of challenges) (instances_of (a ∷ b ∷ c ∷ [])) e)
+      each_has : (set : Lookups F) (main : Matrix F) → Has (instance_over set main)
+      each_has set main =
+          let two : length (boxed_slice_items challenges.bus_prefix) ≡ 2 = ap length prefixes in
+          λ k d lt. omega (arith, two, ids_below (lookups_of set) k d lt)
 
-      pub memory_accepted : (answer : Result (Unit {0}) MemoryError) → Checked answer → OnOk answer (IsAcceptedMemory E alpha beta lookups traces)
-      memory_accepted (Ok u) checked = record {
-        traces_are = are;
-        batch_is = subst₂ (λ (t : ChallengeTable K) (is : List (Instance F)). IsFaultlessAndAccepted E t is) table_made batch_is checked;
-        accepting = subst (λ (is : List (Instance F)). IsAccepting E is 3 beta alpha) batch_is
-            (accepting E 3 2 alpha beta challenges (a ∷ b ∷ c ∷ []) beta_is prefixes (batch_has_prefixes E alpha beta challenges prefixes) (plain_witness E (table_of challenges) (instances_of (a ∷ b ∷ c ∷ []))) checked.accepted);
-      }
-      memory_accepted (Err e) checked = tt
+      -- so it is of all
+      pub batch_has_prefixes : HavePrefixes challenges bs
+      batch_has_prefixes =
+          all_unmapped instance_of bs Has (subst (All Has) (sym batch_is)
+          (all_three Has (instance_over lookups.accesses traces.accesses) (instance_over lookups.boundary traces.boundary) (instance_over lookups.gaps traces.gaps)
+          (each_has lookups.accesses traces.accesses) (each_has lookups.boundary traces.boundary) (each_has lookups.gaps traces.gaps)))
 
-      pub memory_refused : (answer : Result (Unit {0}) MemoryError) → Checked answer → IfErr answer (IsMemoryRefusal E alpha beta lookups traces)
-      memory_refused (Ok u) checked = tt
-      memory_refused (Err e) checked =
-          inr (are, subst₂ (λ (t : ChallengeTable K) (is : List (Instance F)). IsBatchRefusal E t is e) table_made batch_is checked)
+      module _ (alpha_is : challenges.alpha ≡ alpha) (beta_is : challenges.beta ≡ beta) (are : AreTraces traces) where
+        -- the batch is checked over the table of alpha and beta
+        table_made : table_of challenges ≡ memory_table E alpha beta
+        table_made = table_is E alpha beta challenges alpha_is beta_is prefixes
+
+        -- what the check of the batch answers, answers of the memory
+        abbrev Checked : Result (Unit {0}) MemoryError → Type 0
+        Checked answer = MatchResult answer
+            (λ _. IsFaultlessAndAccepted E (table_of challenges) (instances_of bs))
+            (λ e. IsBatchRefusal E (table_of challenges) (instances_of bs) e)
+
+        pub memory_accepted : (answer : Result (Unit {0}) MemoryError) → Checked answer → OnOk answer (IsAcceptedMemory E alpha beta lookups traces)
+        memory_accepted (Ok u) checked = record {
+          traces_are = are;
+          batch_is = subst₂ (λ (t : ChallengeTable K) (is : List (Instance F)). IsFaultlessAndAccepted E t is) table_made batch_is checked;
+          accepting = subst (λ (is : List (Instance F)). IsAccepting E is 3 beta alpha) batch_is
+              (accepting E 3 2 alpha beta challenges bs beta_is prefixes batch_has_prefixes (plain_witness E (table_of challenges) (instances_of bs)) checked.accepted);
+        }
+        memory_accepted (Err e) checked = tt
+
+        pub memory_refused : (answer : Result (Unit {0}) MemoryError) → Checked answer → IfErr answer (IsMemoryRefusal E alpha beta lookups traces)
+        memory_refused (Ok u) checked = tt
+        memory_refused (Err e) checked =
+            inr (are, subst₂ (λ (t : ChallengeTable K) (is : List (Instance F)). IsBatchRefusal E t is e) table_made batch_is checked)

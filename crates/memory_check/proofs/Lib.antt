@@ -1,2 +1,1 @@
-mod AnswerLaws
 mod BatchLaws

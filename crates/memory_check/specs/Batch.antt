@@ -38,26 +38,26 @@ module _ {F : Type 0} where
   }
 
 module _ {F K : Type 0} (E : Extension F K) (table : ChallengeTable K) (batch : List (Instance F))
-    where
-  -- no AIR has a fault, and the plain witness is accepted
-  pub record IsFaultlessAndAccepted : Type 0 where
-    pub faultless : AreFaultless E table batch
-    pub accepted : IsAccepted E table batch (plain_witness E table batch)
+  where
+    -- no AIR has a fault, and the plain witness is accepted
+    pub record IsFaultlessAndAccepted : Type 0 where
+      pub faultless : AreFaultless E table batch
+      pub accepted : IsAccepted E table batch (plain_witness E table batch)
 
-  -- no AIR has a fault, the plain witness is not accepted, and so the messages do not balance
-  pub record IsUnbalanced (e : MemoryError) : Type 0 where
-    pub error_is : e ≡ Unbalanced
-    pub faultless : AreFaultless E table batch
-    pub refused : ¬ IsAccepted E table batch (plain_witness E table batch)
-    pub unbalanced : ¬ IsBalanced E.base E.base_eq (batch_messages E.base E.base_eq batch)
+    -- no AIR has a fault, the plain witness is not accepted, and so the messages do not balance
+    pub record IsUnbalanced (e : MemoryError) : Type 0 where
+      pub error_is : e ≡ Unbalanced
+      pub faultless : AreFaultless E table batch
+      pub refused : ¬ IsAccepted E table batch (plain_witness E table batch)
+      pub unbalanced : ¬ IsBalanced E.base E.base_eq (batch_messages E.base E.base_eq batch)
 
-  -- the first fault of generation
-  pub record IsFault (e : MemoryError) : Type 0 where
-    pub air : ℕ
-    pub error : LookupError
-    pub error_is : e ≡ Fault air error
-    pub first : IsFirstFault E table batch (record { air = Some air; error = error })
+    -- the first fault of generation
+    pub record IsFault (e : MemoryError) : Type 0 where
+      pub air : ℕ
+      pub error : LookupError
+      pub error_is : e ≡ Fault air error
+      pub first : IsFirstFault E table batch (record { air = Some air; error = error })
 
-  -- the refusal of a batch; or memory runs out
-  abbrev pub IsBatchRefusal : MemoryError → Type 0
-  IsBatchRefusal e = (e ≡ Memory) ⊎ (IsFault e ⊎ IsUnbalanced e)
+    -- the refusal of a batch; or memory runs out
+    abbrev pub IsBatchRefusal : MemoryError → Type 0
+    IsBatchRefusal e = (e ≡ Memory) ⊎ (IsFault e ⊎ IsUnbalanced e)

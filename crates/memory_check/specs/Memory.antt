@@ -1,5 +1,5 @@
 -- A memory check: its traces, its batch, and what it answers.
-use Rattle.std.specs.Prelude.{◌≡◌, ◌⊎◌, ℕ, List, [], ◌∷◌, map, slice_index_or}
+use Rattle.std.specs.Prelude.{◌≡◌, ◌⊎◌, List, [], ◌∷◌, map, slice_index_or}
 use Rattle.std.specs.List.{range_with_len}
 use Rattle.expressions.specs.Layout.{layout_of_widths}
 use Rattle.lookup_model.specs.Challenges.{ChallengeTable, prefix_of_bus}
@@ -8,9 +8,10 @@ use Rattle.lookup_model.specs.Records.{DoFit}
 use Rattle.lookup.specs.Lookups.{lookups_of}
 use Rattle.batch_model.specs.Counts.{IsAccepting}
 use Rattle.batch_model.specs.Instances.{Instance}
-use Rattle.memory_check.specs.Batch.{IsBatchRefusal, IsFaultlessAndAccepted, instance_over}
+use Rattle.memory_check.specs.Batch.{IsBatchRefusal, IsFaultlessAndAccepted, bus_id_of, instance_over}
 use Rattle.memory_check.specs.Traces.{IsTrace, IsTraceRefusal}
 use Rattle.memory_check.specs.declared.error.MemoryError.{MemoryError}
+use Rattle.memory_check.specs.declared.memory.MemoryIds.{MemoryIds}
 use Rattle.memory_check.specs.declared.memory.MemoryLookups.{MemoryLookups}
 use Rattle.memory_check.specs.declared.memory.MemoryTraces.{MemoryTraces}
 
@@ -21,26 +22,32 @@ module _ {F : Type 0} where
     pub boundary : DoFit (layout_of_widths 4 0 0) (lookups_of lookups.boundary)
     pub gaps : DoFit (layout_of_widths 2 0 0) (lookups_of lookups.gaps)
 
+  -- each lookup has the id of its bus
+  pub record AreBusIds (lookups : MemoryLookups F) (ids : MemoryIds) : Type 0 where
+    pub accesses : ids.accesses.items ≡ map bus_id_of (lookups_of lookups.accesses)
+    pub boundary : ids.boundary.items ≡ map bus_id_of (lookups_of lookups.boundary)
+    pub gaps : ids.gaps.items ≡ map bus_id_of (lookups_of lookups.gaps)
+
   -- each trace has the columns of its AIR, and a row
   pub record AreTraces (traces : MemoryTraces F) : Type 0 where
-    pub accesses : IsTrace 5 traces.accesses.now
-    pub boundary : IsTrace 4 traces.boundary.now
-    pub gaps : IsTrace 2 traces.gaps.now
+    pub accesses : IsTrace 5 traces.accesses
+    pub boundary : IsTrace 4 traces.boundary
+    pub gaps : IsTrace 2 traces.gaps
 
   -- the refusal of the first trace that is not so
   abbrev pub IsFirstTraceRefusal : MemoryTraces F → MemoryError → Type 0
   IsFirstTraceRefusal traces e =
-      IsTraceRefusal 0 5 traces.accesses.now e
-      ⊎ (IsTrace 5 traces.accesses.now
-      × (IsTraceRefusal 1 4 traces.boundary.now e
-      ⊎ (IsTrace 4 traces.boundary.now × IsTraceRefusal 2 2 traces.gaps.now e)))
+      IsTraceRefusal 0 5 traces.accesses e
+      ⊎ (IsTrace 5 traces.accesses
+      × (IsTraceRefusal 1 4 traces.boundary e
+      ⊎ (IsTrace 4 traces.boundary × IsTraceRefusal 2 2 traces.gaps e)))
 
   -- the batch of a memory check: the accesses, the boundary and the gaps
   abbrev pub memory_batch : MemoryLookups F → MemoryTraces F → List (Instance F)
   memory_batch lookups traces =
-      instance_over lookups.accesses traces.accesses.now
-      ∷ instance_over lookups.boundary traces.boundary.now
-      ∷ instance_over lookups.gaps traces.gaps.now
+      instance_over lookups.accesses traces.accesses
+      ∷ instance_over lookups.boundary traces.boundary
+      ∷ instance_over lookups.gaps traces.gaps
       ∷ []
 
 -- the challenge table of alpha and beta, for tuples of at most 3 elements and the ids 0 and 1

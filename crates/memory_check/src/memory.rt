@@ -7,7 +7,7 @@ ghost use Rattle.lookup_model.specs.Challenges.{table_of};
 ghost use Rattle.lookup_model.specs.Extension.{extension};
 ghost use Rattle.lookup_model.specs.Records.{DoFit};
 ghost use Rattle.memory_check.specs.Batch.{IsBatchRefusal, IsFaultlessAndAccepted, bus_id_of, instance_over};
-ghost use Rattle.memory_check.specs.Memory.{AreTraces, DoLookupsFit, IsAcceptedMemory, IsFirstTraceRefusal, IsMemoryRefusal};
+ghost use Rattle.memory_check.specs.Memory.{AreBusIds, AreTraces, DoLookupsFit, IsAcceptedMemory, IsFirstTraceRefusal, IsMemoryRefusal, memory_batch};
 ghost use Rattle.memory_check.specs.Traces.{IsTrace, IsTraceRefusal};
 
 use crate::airs::{AccessesAir, BoundaryAir, GapsAir};
@@ -31,14 +31,22 @@ pub struct MemoryLookups<F> {
 }
 
 /// The traces of the memory check.
-#[derive(Clone, Copy)]
-pub struct MemoryTraces<'a, F> {
+#[derive(Debug, Drop)]
+pub struct MemoryTraces<F> {
     /// Columns `address old_value old_time new_value new_time`.
-    pub accesses: &'a RowMajorMatrix<F>,
+    pub accesses: RowMajorMatrix<F>,
     /// Columns `address initial_value final_value final_time`.
-    pub boundary: &'a RowMajorMatrix<F>,
+    pub boundary: RowMajorMatrix<F>,
     /// Columns `gap uses`.
-    pub gaps: &'a RowMajorMatrix<F>,
+    pub gaps: RowMajorMatrix<F>,
+}
+
+/// The id of each lookup, AIR by AIR.
+#[derive(Debug, Drop)]
+struct MemoryIds {
+    accesses: Vec<usize>,
+    boundary: Vec<usize>,
+    gaps: Vec<usize>,
 }
 
 /// What the AIRs of the memory check look up, extracted from their evaluation. It fits all traces
@@ -76,7 +84,7 @@ pub fn memory_lookups<F: Field, EF: ExtensionField<F>>(
 pub fn check_memory<F: Field, EF: ExtensionField<F>>(
     alloc: Global,
     lookups: &MemoryLookups<F>,
-    traces: &MemoryTraces<'_, F>,
+    traces: &MemoryTraces<F>,
     alpha: EF,
     beta: EF,
 ) -> Result<(), MemoryError>
@@ -89,27 +97,25 @@ pub fn check_memory<F: Field, EF: ExtensionField<F>>(
         alpha beta lookups.now traces.now) }
 {
     check_traces(traces)?;
-    let accesses = bus_ids(alloc, lookups.accesses.as_slice())?;
-    let boundary = bus_ids(alloc, lookups.boundary.as_slice())?;
-    let gaps = bus_ids(alloc, lookups.gaps.as_slice())?;
-    let batch = [
-        instance(&lookups.accesses, traces.accesses, accesses.as_slice()),
-        instance(&lookups.boundary, traces.boundary, boundary.as_slice()),
-        instance(&lookups.gaps, traces.gaps, gaps.as_slice()),
-    ];
+    let ids = MemoryIds {
+        accesses: bus_ids(alloc, lookups.accesses.as_slice())?,
+        boundary: bus_ids(alloc, lookups.boundary.as_slice())?,
+        gaps: bus_ids(alloc, lookups.gaps.as_slice())?,
+    };
+    let batch = batch_of(alloc, lookups, traces, &ids)?;
     let challenges = Challenges::new(alloc, alpha, beta, 3, 2)?;
     check_batch(alloc, batch.as_slice(), &challenges)
 }
 
 /// Refuses the first trace that has not the columns of its AIR, or no row.
-fn check_traces<F>(traces: &MemoryTraces<'_, F>) -> Result<(), MemoryError>
+fn check_traces<F>(traces: &MemoryTraces<F>) -> Result<(), MemoryError>
     ensures { MatchResult result
         (λ _. AreTraces traces.now)
         (λ e. IsFirstTraceRefusal traces.now e) }
 {
-    check_trace(0, traces.accesses, 5)?;
-    check_trace(1, traces.boundary, 4)?;
-    check_trace(2, traces.gaps, 2)
+    check_trace(0, &traces.accesses, 5)?;
+    check_trace(1, &traces.boundary, 4)?;
+    check_trace(2, &traces.gaps, 2)
 }
 
 /// Refuses a trace that has not so many columns, or no row.
@@ -150,6 +156,23 @@ fn bus_id<F>(lookup: &Lookup<F>) -> usize
         Kind::Global(name) => { if name.as_str() == "memory" { 0 } else { 1 } }
         Kind::Local => 1,
     }
+}
+
+/// The batch of the accesses, the boundary and the gaps.
+fn batch_of<'a, F: Field>(
+    alloc: Global,
+    lookups: &'a MemoryLookups<F>,
+    traces: &'a MemoryTraces<F>,
+    ids: &'a MemoryIds,
+) -> Result<Vec<BatchInstance<'a, F>>, AllocError>
+    requires { AreBusIds lookups.now ids.now }
+    ensures { IfOk result (λ batch. instances_of batch.items ≡ memory_batch lookups.now traces.now) }
+{
+    let mut batch = Vec::new(alloc);
+    batch.push(instance(&lookups.accesses, &traces.accesses, ids.accesses.as_slice()))?;
+    batch.push(instance(&lookups.boundary, &traces.boundary, ids.boundary.as_slice()))?;
+    batch.push(instance(&lookups.gaps, &traces.gaps, ids.gaps.as_slice()))?;
+    Ok(batch)
 }
 
 /// An AIR of the batch: its lookups over its trace.

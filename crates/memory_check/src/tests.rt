@@ -54,9 +54,9 @@ fn checked(
 ) -> Result<(), MemoryError> {
     let lookups = memory_lookups::<BabyBear, BabyBear4>(alloc).expect(rt, "lookups");
     let traces = MemoryTraces {
-        accesses: &accesses,
-        boundary: &boundary,
-        gaps: &gaps,
+        accesses,
+        boundary,
+        gaps,
     };
     let (alpha, beta) = challenges;
     let (alpha, beta) = (BabyBear4::from_u32(alpha), BabyBear4::from_u32(beta));
