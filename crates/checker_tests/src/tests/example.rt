@@ -1,12 +1,12 @@
 //! The example of the README: two AIRs on one bus, from their evaluation to an accepted witness.
-ghost use Rattle.std.specs.Prelude.{◌≡◌, All, IfOk, OnOk};
+ghost use Rattle.std.specs.Prelude.{◌≡◌, OnOk};
 
 use super::{has_result, have_prefixes, holds, instance, trace};
-use air::{Air, AirBuilder, AirError, BaseAir, LayoutPart};
+use air::{Air, AirError, BaseAir, current_cell, current_cells};
 use checker::{Witness, check_witness, generate_batch, instances_fit};
 use field::F7;
 use lookup::{Challenges, Count, InteractionBuilder, LookupBus, Lookups};
-use matrix::{RowMajorMatrix, WindowAccess};
+use matrix::RowMajorMatrix;
 use std::alloc::Global;
 use std::process::Abort;
 use std::test::Fail;
@@ -39,7 +39,7 @@ impl<AB: InteractionBuilder> Air<AB> for KeysAir {
         × (AB.pushed_within before → AB.pushed_within after)) };
 
     fn eval(&self, alloc: Global, builder: &mut AB) -> Result<(), AirError> {
-        let key = tuple(alloc, builder, 0)?;
+        let key = current_cells(alloc, builder, 1, &[0])?;
         LookupBus::new("keys").lookup_key(alloc, builder, key, Count::from(1))
     }
 
@@ -74,40 +74,12 @@ impl<AB: InteractionBuilder> Air<AB> for EntriesAir {
         × (AB.pushed_within before → AB.pushed_within after)) };
 
     fn eval(&self, alloc: Global, builder: &mut AB) -> Result<(), AirError> {
-        let entry = tuple(alloc, builder, 0)?;
-        let uses = cell(alloc, builder, 1)?;
+        let entry = current_cells(alloc, builder, 2, &[0])?;
+        let uses = current_cell(alloc, builder, 2, 1)?;
         LookupBus::new("keys").table_entry(alloc, builder, entry, uses)
     }
 
     ghost keeps_layout = { λ air before after h. h.0 };
-}
-
-/// The expression of a cell of the current row.
-fn cell<AB: AirBuilder>(alloc: Global, builder: &AB, column: usize) -> Result<AB::Expr, AirError>
-    ensures { IfOk result (λ x. AB.Expr.within (AB.layout builder.now) x) }
-{
-    let main = builder.main(alloc)?;
-    match main.current(column) {
-        Some(variable) => Ok(variable.into()),
-        None => Err(AirError::LayoutMismatch {
-            part: LayoutPart::Main,
-            expected: column.saturating_add(1),
-            actual: main.current_slice().len(),
-        }),
-    }
-}
-
-/// The tuple of one cell.
-fn tuple<AB: AirBuilder>(
-    alloc: Global,
-    builder: &AB,
-    column: usize,
-) -> Result<Vec<AB::Expr>, AirError>
-    ensures { IfOk result (λ tuple. All (AB.Expr.within (AB.layout builder.now)) tuple.items) }
-{
-    let mut tuple = Vec::new(alloc);
-    tuple.push(cell(alloc, builder, column)?)?;
-    Ok(tuple)
 }
 
 /// The witness of keys and entries, which has to be accepted.

@@ -1,0 +1,3 @@
+pub mod Batch
+pub mod Memory
+pub mod Traces
