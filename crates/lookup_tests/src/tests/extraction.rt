@@ -2,10 +2,9 @@
 ghost use Rattle.std.specs.Prelude.{◌≡◌, All, IfOk, OnOk};
 ghost use Rattle.expressions.specs.declared.layout.AirLayout.{AirLayout};
 
+use super::example::{cell, tuple};
 use super::{holds, list, one};
-use air::{
-    Air, AirBuilder, AirError, BaseAir, Expression, SymbolicExpression, current_cell, current_cells,
-};
+use air::{Air, AirBuilder, AirError, BaseAir, Expression, SymbolicExpression};
 use field::{BabyBear, BabyBear4, ExtensionField, F7, Field, PrimeCharacteristicRing};
 use lookup::{
     Count, InteractionBuilder, Kind, Lookup, LookupBus, LookupError, Lookups,
@@ -93,9 +92,9 @@ fn push_range<AB: InteractionBuilder>(alloc: Global, builder: &mut AB) -> Result
     ensures within { OnOk result (AB.pushed_within builder.old → AB.pushed_within builder.new) }
 {
     let mut tuples = Vec::new(alloc);
-    tuples.push((current_cells(alloc, builder, 4, &[0])?, Count::from(1)))?;
-    let provided = Count::provided(current_cell(alloc, builder, 4, 2)?.neg(alloc)?);
-    tuples.push((current_cells(alloc, builder, 4, &[1])?, provided))?;
+    tuples.push((tuple(alloc, builder, 0)?, Count::from(1)))?;
+    let provided = Count::provided(cell(alloc, builder, 2)?.neg(alloc)?);
+    tuples.push((tuple(alloc, builder, 1)?, provided))?;
     builder.push_local_interaction(alloc, tuples)
 }
 
@@ -126,9 +125,8 @@ fn query_keys<AB: InteractionBuilder>(
 {
     let mut branches = Vec::new(alloc);
     for branch in 0..2 {
-        let flag = current_cell(alloc, builder, 4, 2 * branch)?;
-        let key = current_cells(alloc, builder, 4, &[2 * branch + 1])?;
-        branches.push((flag, key))?;
+        let flag = cell(alloc, builder, 2 * branch)?;
+        branches.push((flag, tuple(alloc, builder, 2 * branch + 1)?))?;
     }
     LookupBus::new(name).lookup_key_exclusive(alloc, builder, branches)
 }

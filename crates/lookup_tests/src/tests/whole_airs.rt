@@ -2,10 +2,11 @@
 ghost use Rattle.std.specs.Prelude.{◌≡◌, OnOk};
 
 use super::evaluation::{layout_of, no_preprocessed};
+use super::example::cell;
 use super::{alone, holds, single, trace};
 use air::{
     Air, AirBuilder, AirError, AirLayout, BaseAir, DebugConstraintBuilder, PermutationAirBuilder,
-    RowInputs, SymbolicAirBuilder, current_cell,
+    RowInputs, SymbolicAirBuilder,
 };
 use field::{F7, PrimeCharacteristicRing};
 use lookup::{LogUpGadget, Lookup, LookupProtocol, fits};
@@ -42,7 +43,7 @@ impl<AB: AirBuilder> Air<AB> for ZeroColumn {
     ghost evaluates = { λ _ before answer after. OnOk answer (AB.layout after ≡ AB.layout before) };
 
     fn eval(&self, alloc: Global, builder: &mut AB) -> Result<(), AirError> {
-        let first = current_cell(alloc, &*builder, 1, 0)?;
+        let first = cell(alloc, &*builder, 0)?;
         builder.assert_zero(alloc, first)?;
         match self.refused {
             Some(error) => Err(error),
