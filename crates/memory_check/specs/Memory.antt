@@ -76,4 +76,5 @@ module _ {F K : Type 0} (E : Extension F K) (alpha beta : K)
 
   -- the refusal of the first trace that is not that of its AIR, or else that of the batch
   abbrev pub IsMemoryRefusal : MemoryError → Type 0
-  IsMemoryRefusal e = IsFirstTraceRefusal traces e ⊎ (AreTraces traces × IsBatchRefusal E table batch e)
+  IsMemoryRefusal e =
+      IsFirstTraceRefusal traces e ⊎ (AreTraces traces × IsBatchRefusal E table batch e)

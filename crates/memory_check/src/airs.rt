@@ -11,8 +11,8 @@ use std::alloc::Global;
 /// On the bus `memory` it receives what the access before it left there,
 /// `[address, old_value, old_time]`, and sends what it leaves itself,
 /// `[address, new_value, new_time]`. A row that only reads has the same value twice. On the bus
-/// `gaps` it queries `[new_time - old_time - 1]`, so that each access to an address is later than the
-/// one before it.
+/// `gaps` it queries `[new_time - old_time - 1]`, so that each access to an address is later than
+/// the one before it.
 #[derive(Clone, Copy, Debug)]
 pub struct AccessesAir;
 

@@ -1,11 +1,9 @@
 //! The memory check: from the traces of its AIRs to an accepted witness.
-ghost use Rattle.std.specs.Prelude.{◌≡◌, ◌⊎◌, IfErr, IfOk, MatchResult, OnOk, map};
+ghost use Rattle.std.specs.Prelude.{◌≡◌, IfErr, IfOk, MatchResult, OnOk, map};
 ghost use Rattle.batch_model.specs.Instances.{DoInstancesFit, HavePrefixes, instance_of, instances_of};
-ghost use Rattle.expressions.specs.Layout.{layout_of_widths};
 ghost use Rattle.lookup.specs.Lookups.{lookups_of};
 ghost use Rattle.lookup_model.specs.Challenges.{table_of};
 ghost use Rattle.lookup_model.specs.Extension.{extension};
-ghost use Rattle.lookup_model.specs.Records.{DoFit};
 ghost use Rattle.memory_check.specs.Batch.{IsBatchRefusal, IsFaultlessAndAccepted, bus_id_of, instance_over};
 ghost use Rattle.memory_check.specs.Memory.{AreBusIds, AreTraces, DoLookupsFit, IsAcceptedMemory, IsFirstTraceRefusal, IsMemoryRefusal, memory_batch};
 ghost use Rattle.memory_check.specs.Traces.{IsTrace, IsTraceRefusal};
@@ -166,8 +164,8 @@ fn batch_of<'a, F: Field>(
     ids: &'a MemoryIds,
 ) -> Result<Vec<BatchInstance<'a, F>>, AllocError>
     requires { AreBusIds lookups.now ids.now }
-    ensures { IfOk result (λ batch. instances_of batch.items
-        ≡ memory_batch lookups.now traces.now) }
+    ensures { IfOk result
+        (λ batch. instances_of batch.items ≡ memory_batch lookups.now traces.now) }
 {
     let mut batch = Vec::new(alloc);
     batch.push(instance(&lookups.accesses, &traces.accesses, ids.accesses.as_slice()))?;
