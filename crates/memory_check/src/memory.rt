@@ -164,8 +164,8 @@ fn batch_of<'a, F: Field>(
     ids: &'a MemoryIds,
 ) -> Result<Vec<BatchInstance<'a, F>>, AllocError>
     requires { AreBusIds lookups.now ids.now }
-    ensures { IfOk result
-        (λ batch. instances_of batch.items ≡ memory_batch lookups.now traces.now) }
+    ensures { IfOk result (λ batch. instances_of batch.items
+        ≡ memory_batch lookups.now traces.now) }
 {
     let mut batch = Vec::new(alloc);
     batch.push(instance(&lookups.accesses, &traces.accesses, ids.accesses.as_slice()))?;
