@@ -15,7 +15,6 @@ pub map_of_two : {A B C X : Type 0} (f : A → B → C) (g : X → A) (h : X →
 map_of_two f g h xs {ls} {rs} e d w = w ∙ ap (λ l. map (λ p. f p.0 p.1) (zip l rs)) e ∙ ap (λ l. map (λ p. f p.0 p.1) (zip (map g xs) l)) d ∙ map_of_columns f g h xs
 
 -- a function of a list that is a map
-pub map_of_one : {A B X : Type 0} (f : A → B) (g : X → A) (xs : List X) {ls : List A} {v : List B}
-    → ls ≡ map g xs → v ≡ map f ls → v ≡ map (λ x. f (g x)) xs
-map_of_one f g [] e w = w ∙ ap (map f) e
-map_of_one f g (x ∷ xs) e w = w ∙ ap (map f) e ∙ ap (λ ys. f (g x) ∷ ys) (map_of_one f g xs refl refl)
+pub map_of_list : {A B X : Type 0} (f : A → B) (g : X → A) (xs : List X) → map f (map g xs) ≡ map (λ x. f (g x)) xs
+map_of_list f g [] = refl
+map_of_list f g (x ∷ xs) = ap (λ ys. f (g x) ∷ ys) (map_of_list f g xs)

@@ -1,2 +1,5 @@
 pub mod ColumnLaws
 pub mod LessenedLaws
+pub mod SlotLaws
+pub mod StepLaws
+pub mod ZipLaws

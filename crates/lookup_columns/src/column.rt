@@ -1,15 +1,19 @@
 //! The values of an expression on some rows.
-ghost use Rattle.std.specs.Prelude.{◌≡◌, ◌<◌, ◌≤◌, ◌+◌, ◌%◌, ◌==◌, ℕ, All, IfOk, List, map, length, not, slice_index_or};
+ghost use Rattle.std.specs.Prelude.{◌≡◌, ◌<◌, ◌≤◌, ◌+◌, ◌%◌, ◌++◌, ◌==◌, ℕ, All, IfOk, List, OnOk, map, length, not, slice_index_or};
 ghost use Rattle.std.specs.List.{zip};
 ghost use Rattle.std.specs.Option.{ForSome, option_copied};
 ghost use Rattle.field.specs.Ring.{of_bool, sub_in};
-ghost use Rattle.expressions.specs.Layout.{Fits, LeafFits, layout_of_traces};
+ghost use Rattle.expressions.specs.Layout.{LeafFits, layout_of_traces};
 ghost use Rattle.expressions.specs.Meaning.{row_at};
-ghost use Rattle.expressions.specs.Tree.{tree_of};
+ghost use Rattle.expressions.specs.Tree.{Tree};
 ghost use Rattle.lookup_columns.specs.Columns.{column, leaf_column, windows_of};
+ghost use Rattle.lookup_columns.specs.Slots.{after, filled};
+ghost use Rattle.lookup_columns.specs.Steps.{StepFits, steps_in_order};
 ghost use Rattle.matrix.specs.Matrix.{height, row};
 
-use expressions::{BaseEntry, BaseLeaf, SymbolicExpression, SymbolicVariable};
+use crate::slots::Slots;
+use crate::step::Step;
+use expressions::{BaseEntry, BaseLeaf};
 use field::{Domain, Field};
 use matrix::RowMajorMatrix;
 use std::alloc::{AllocError, Global};
@@ -21,23 +25,6 @@ fn cell_of<F: Field>(trace: &RowMajorMatrix<F>, r: usize, index: usize) -> F
     ensures { result ≡ slice_index_or (row trace.now r) index F.ring.zero }
 {
     trace.row_slice(r)[index]
-}
-
-/// The cells of a column on these rows.
-fn cells<F: Field>(
-    alloc: Global,
-    trace: &RowMajorMatrix<F>,
-    rows: &[usize],
-    index: usize,
-) -> Result<Vec<F>, AllocError>
-    requires rows_exist { All (λ r. r < height trace.now) rows.now }
-    requires column_exists { index < trace.now.width }
-    ensures { IfOk result (λ v. v.items ≡ map
-        (λ r. slice_index_or (row trace.now r) index F.ring.zero) rows.now) }
-{
-    rows.iter()
-        .map(|r| cell_of(trace, *r, index))
-        .collect(alloc)
 }
 
 /// The row after a row; the first one comes after the last.
@@ -60,189 +47,252 @@ fn next_cell<F: Field>(trace: &RowMajorMatrix<F>, end: usize, r: usize, index: u
     cell_of(trace, next_of(r, end), index)
 }
 
-/// The cells of a column on the rows after these.
-fn next_cells<F: Field>(
-    alloc: Global,
+/// Appends the cells of a column on these rows.
+fn push_cells<F: Field>(
+    to: &mut Vec<F>,
     trace: &RowMajorMatrix<F>,
     rows: &[usize],
     index: usize,
-) -> Result<Vec<F>, AllocError>
+) -> Result<(), AllocError>
     requires rows_exist { All (λ r. r < height trace.now) rows.now }
     requires column_exists { index < trace.now.width }
-    ensures { IfOk result (λ v. v.items ≡ map
+    ensures { OnOk result (to.new.items ≡ to.old.items ++ map
+        (λ r. slice_index_or (row trace.now r) index F.ring.zero) rows.now) }
+{
+    to.extend(rows.iter().map(|r| cell_of(trace, *r, index)))
+}
+
+/// Appends the cells of a column on the rows after these.
+fn push_next_cells<F: Field>(
+    to: &mut Vec<F>,
+    trace: &RowMajorMatrix<F>,
+    rows: &[usize],
+    index: usize,
+) -> Result<(), AllocError>
+    requires rows_exist { All (λ r. r < height trace.now) rows.now }
+    requires column_exists { index < trace.now.width }
+    ensures { OnOk result (to.new.items ≡ to.old.items ++ map
         (λ r. slice_index_or (row trace.now ((r + 1) % height trace.now)) index F.ring.zero)
         rows.now) }
 {
     let end = trace.height();
-    rows.iter()
-        .map(|r| next_cell(trace, end, *r, index))
-        .collect(alloc)
+    to.extend(rows.iter().map(|r| next_cell(trace, end, *r, index)))
 }
 
-/// The cells of a column on the rows that are so far from these: 0 for the rows themselves, 1 for the
-/// next ones.
-fn cells_at<F: Field>(
-    alloc: Global,
+/// Appends the cells of a column on the rows that are so far from these: 0 for the rows themselves, 1
+/// for the next ones.
+fn push_cells_at<F: Field>(
+    to: &mut Vec<F>,
     trace: &RowMajorMatrix<F>,
     rows: &[usize],
     offset: usize,
     index: usize,
-) -> Result<Vec<F>, AllocError>
+) -> Result<(), AllocError>
     requires rows_exist { All (λ r. r < height trace.now) rows.now }
     requires offset { offset ≤ 1 }
     requires column_exists { index < trace.now.width }
-    ensures { IfOk result (λ v. v.items ≡ map
+    ensures { OnOk result (to.new.items ≡ to.old.items ++ map
         (λ r. slice_index_or (row_at offset (row trace.now r)
         (row trace.now ((r + 1) % height trace.now))) index F.ring.zero) rows.now) }
 {
     if offset == 0 {
-        cells(alloc, trace, rows, index)
+        push_cells(to, trace, rows, index)
     } else {
-        next_cells(alloc, trace, rows, index)
+        push_next_cells(to, trace, rows, index)
     }
 }
 
-/// The same element on each row.
-pub(crate) fn alike<K: Domain>(alloc: Global, rows: &[usize], x: K) -> Result<Vec<K>, AllocError>
-    ensures { IfOk result (λ v. v.items ≡ map (λ _. x) rows.now) }
+/// Appends the same element for each row.
+pub(crate) fn push_alike<K: Domain>(
+    to: &mut Vec<K>,
+    rows: &[usize],
+    x: K,
+) -> Result<(), AllocError>
+    ensures { OnOk result (to.new.items ≡ to.old.items ++ map (λ _. x) rows.now) }
 {
-    rows.iter().map(|_| x).collect(alloc)
+    to.extend(rows.iter().map(|_| x))
 }
 
-/// One on this row, zero on the others.
-fn only_on<F: Field>(alloc: Global, rows: &[usize], row: usize) -> Result<Vec<F>, AllocError>
-    ensures { IfOk result (λ v. v.items ≡ map (λ r. of_bool F.ring (r == row)) rows.now) }
+/// Appends one on this row, zero on the others.
+fn push_only_on<F: Field>(to: &mut Vec<F>, rows: &[usize], row: usize) -> Result<(), AllocError>
+    ensures { OnOk result (to.new.items ≡ to.old.items
+        ++ map (λ r. of_bool F.ring (r == row)) rows.now) }
 {
-    rows.iter().map(|r| F::from_bool(*r == row)).collect(alloc)
+    to.extend(rows.iter().map(|r| F::from_bool(*r == row)))
 }
 
-/// One on the rows before the last one, zero on the last.
-fn before_last<F: Field>(alloc: Global, rows: &[usize], height: usize) -> Result<Vec<F>, AllocError>
+/// Appends one on the rows before the last one, zero on the last.
+fn push_before_last<F: Field>(
+    to: &mut Vec<F>,
+    rows: &[usize],
+    height: usize,
+) -> Result<(), AllocError>
     requires { All (λ r. r < height) rows.now }
-    ensures { IfOk result (λ v. v.items ≡ map
-        (λ r. of_bool F.ring (not (r + 1 == height))) rows.now) }
+    ensures { OnOk result (to.new.items ≡ to.old.items
+        ++ map (λ r. of_bool F.ring (not (r + 1 == height))) rows.now) }
 {
-    rows.iter()
-        .map(|r| F::from_bool(*r + 1 != height))
-        .collect(alloc)
+    to.extend(rows.iter().map(|r| F::from_bool(*r + 1 != height)))
 }
 
-/// One on the last row, zero on the others.
-fn last_one<F: Field>(alloc: Global, rows: &[usize], height: usize) -> Result<Vec<F>, AllocError>
+/// Appends one on the last row, zero on the others.
+fn push_last_one<F: Field>(
+    to: &mut Vec<F>,
+    rows: &[usize],
+    height: usize,
+) -> Result<(), AllocError>
     requires { All (λ r. r < height) rows.now }
-    ensures { IfOk result (λ v. v.items ≡ map (λ r. of_bool F.ring (r + 1 == height)) rows.now) }
+    ensures { OnOk result (to.new.items ≡ to.old.items
+        ++ map (λ r. of_bool F.ring (r + 1 == height)) rows.now) }
 {
-    rows.iter()
-        .map(|r| F::from_bool(*r + 1 == height))
-        .collect(alloc)
+    to.extend(rows.iter().map(|r| F::from_bool(*r + 1 == height)))
 }
 
-/// The sums of both columns, row by row.
-fn sums<F: Field>(alloc: Global, a: &[F], b: &[F]) -> Result<Vec<F>, AllocError>
-    ensures { IfOk result (λ v. v.items ≡ map (λ p. F.ring.add p.0 p.1) (zip a.now b.now)) }
-{
-    a.iter().zip(b).map(|(x, y)| *x + *y).collect(alloc)
-}
-
-/// The differences of both columns, row by row.
-fn differences<F: Field>(alloc: Global, a: &[F], b: &[F]) -> Result<Vec<F>, AllocError>
-    ensures { IfOk result (λ v. v.items ≡ map (λ p. sub_in F.ring p.0 p.1) (zip a.now b.now)) }
-{
-    a.iter().zip(b).map(|(x, y)| *x - *y).collect(alloc)
-}
-
-/// The products of both columns, row by row.
-fn products<F: Field>(alloc: Global, a: &[F], b: &[F]) -> Result<Vec<F>, AllocError>
-    ensures { IfOk result (λ v. v.items ≡ map (λ p. F.ring.mul p.0 p.1) (zip a.now b.now)) }
-{
-    a.iter().zip(b).map(|(x, y)| *x * *y).collect(alloc)
-}
-
-/// The negatives of a column, row by row.
-fn negatives<F: Field>(alloc: Global, a: &[F]) -> Result<Vec<F>, AllocError>
-    ensures { IfOk result (λ v. v.items ≡ map F.ring.neg a.now) }
-{
-    a.iter().map(|x| -*x).collect(alloc)
-}
-
-/// The values of a leaf on these rows.
-fn leaf_values<F: Field>(
-    alloc: Global,
+/// Appends the values of a leaf on these rows.
+fn push_leaf<F: Field>(
+    to: &mut Vec<F>,
     leaf: BaseLeaf<F>,
     main: &RowMajorMatrix<F>,
     preprocessed: Option<&RowMajorMatrix<F>>,
     public_values: &[F],
     rows: &[usize],
-) -> Result<Vec<F>, AllocError>
+) -> Result<(), AllocError>
     requires heights { ForSome (option_copied preprocessed) (λ m. height m ≡ height main.now) }
     requires fits { LeafFits (layout_of_traces main.now
         (option_copied preprocessed) public_values.now) leaf }
     requires rows_exist { All (λ r. r < height main.now) rows.now }
-    ensures { IfOk result (λ v. v.items ≡ leaf_column F.ring
+    ensures { OnOk result (to.new.items ≡ to.old.items ++ leaf_column F.ring
         (windows_of main.now (option_copied preprocessed.entry) public_values.now) rows.now leaf) }
 {
     match leaf {
         BaseLeaf::Variable(variable) => {
             let index = variable.index;
             match variable.entry {
-                BaseEntry::Main { offset } => cells_at(alloc, main, rows, offset, index),
+                BaseEntry::Main { offset } => push_cells_at(to, main, rows, offset, index),
                 BaseEntry::Preprocessed { offset } => match preprocessed {
-                    Some(trace) => cells_at(alloc, trace, rows, offset, index),
+                    Some(trace) => push_cells_at(to, trace, rows, offset, index),
                     None => unreachable!(),
                 },
-                BaseEntry::Public => alike(alloc, rows, public_values[index]),
+                BaseEntry::Public => push_alike(to, rows, public_values[index]),
             }
         }
-        BaseLeaf::IsFirstRow => only_on(alloc, rows, 0),
-        BaseLeaf::IsLastRow => last_one(alloc, rows, main.height()),
-        BaseLeaf::IsTransition => before_last(alloc, rows, main.height()),
-        BaseLeaf::Constant(x) => alike(alloc, rows, x),
+        BaseLeaf::IsFirstRow => push_only_on(to, rows, 0),
+        BaseLeaf::IsLastRow => push_last_one(to, rows, main.height()),
+        BaseLeaf::IsTransition => push_before_last(to, rows, main.height()),
+        BaseLeaf::Constant(x) => push_alike(to, rows, x),
     }
 }
 
-/// The values of an expression on rows of the traces of an AIR, in the order of `rows`. The next row
-/// of the last one is the first one.
+/// Appends the sums of both columns, row by row.
+fn push_sums<F: Field>(to: &mut Vec<F>, a: &[F], b: &[F]) -> Result<(), AllocError>
+    ensures { OnOk result (to.new.items ≡ to.old.items
+        ++ map (λ p. F.ring.add p.0 p.1) (zip a.now b.now)) }
+{
+    to.extend(a.iter().zip(b).map(|(x, y)| *x + *y))
+}
+
+/// Appends the differences of both columns, row by row.
+fn push_differences<F: Field>(to: &mut Vec<F>, a: &[F], b: &[F]) -> Result<(), AllocError>
+    ensures { OnOk result (to.new.items ≡ to.old.items
+        ++ map (λ p. sub_in F.ring p.0 p.1) (zip a.now b.now)) }
+{
+    to.extend(a.iter().zip(b).map(|(x, y)| *x - *y))
+}
+
+/// Appends the products of both columns, row by row.
+fn push_products<F: Field>(to: &mut Vec<F>, a: &[F], b: &[F]) -> Result<(), AllocError>
+    ensures { OnOk result (to.new.items ≡ to.old.items
+        ++ map (λ p. F.ring.mul p.0 p.1) (zip a.now b.now)) }
+{
+    to.extend(a.iter().zip(b).map(|(x, y)| *x * *y))
+}
+
+/// Appends the negatives of a column, row by row.
+fn push_negatives<F: Field>(to: &mut Vec<F>, a: &[F]) -> Result<(), AllocError>
+    ensures { OnOk result (to.new.items ≡ to.old.items ++ map F.ring.neg a.now) }
+{
+    to.extend(a.iter().map(|x| -*x))
+}
+
+/// Works out one step on these rows.
+fn work_out<F: Field>(
+    alloc: Global,
+    slots: &mut Slots<F>,
+    step: Step<F>,
+    main: &RowMajorMatrix<F>,
+    preprocessed: Option<&RowMajorMatrix<F>>,
+    public_values: &[F],
+    rows: &[usize],
+) -> Result<(), AllocError>
+    requires heights { ForSome (option_copied preprocessed) (λ m. height m ≡ height main.now) }
+    requires fits { StepFits (layout_of_traces main.now
+        (option_copied preprocessed) public_values.now) step }
+    requires rows_exist { All (λ r. r < height main.now) rows.now }
+    ensures { OnOk result (filled slots.new ≡ after F.ring
+        (windows_of main.now (option_copied preprocessed.entry) public_values.now) rows.now step
+        (filled slots.old)) }
+{
+    let mut values = slots.take(alloc);
+    match step {
+        Step::Leaf(leaf) => {
+            push_leaf(&mut values, leaf, main, preprocessed, public_values, rows)?;
+            slots.push(values)
+        }
+        Step::Add => {
+            let (left, right) = slots.pop_two(alloc);
+            push_sums(&mut values, &left, &right)?;
+            slots.put(left)?;
+            slots.put(right)?;
+            slots.push(values)
+        }
+        Step::Sub => {
+            let (left, right) = slots.pop_two(alloc);
+            push_differences(&mut values, &left, &right)?;
+            slots.put(left)?;
+            slots.put(right)?;
+            slots.push(values)
+        }
+        Step::Mul => {
+            let (left, right) = slots.pop_two(alloc);
+            push_products(&mut values, &left, &right)?;
+            slots.put(left)?;
+            slots.put(right)?;
+            slots.push(values)
+        }
+        Step::Neg => {
+            let inner = slots.pop(alloc);
+            push_negatives(&mut values, &inner)?;
+            slots.put(inner)?;
+            slots.push(values)
+        }
+    }
+}
+
+/// The values of the expression of these steps on rows of the traces of an AIR, in the order of
+/// `rows`. The next row of the last one is the first one.
 ///
-/// `preprocessed`, if there is one, is as high as `main`. Each node of the expression is worked out
-/// once, as a list over all rows. Fails only when out of memory.
+/// `preprocessed`, if there is one, is as high as `main`. Each step is worked out once, as a list over
+/// all rows. The list that is returned can be put away in `slots` after use. Fails only when out of
+/// memory.
 pub fn column_of<F: Field>(
     alloc: Global,
-    expression: &SymbolicExpression<F>,
+    slots: &mut Slots<F>,
+    steps: &[Step<F>],
     main: &RowMajorMatrix<F>,
     preprocessed: Option<&RowMajorMatrix<F>>,
     public_values: &[F],
     rows: &[usize],
 ) -> Result<Vec<F>, AllocError>
     requires heights { ForSome (option_copied preprocessed) (λ m. height m ≡ height main.now) }
-    requires fits { Fits (layout_of_traces main.now (option_copied preprocessed) public_values.now)
-        (tree_of expression.now) }
+    requires fits { All (StepFits (layout_of_traces main.now
+        (option_copied preprocessed) public_values.now)) steps.now }
     requires rows_exist { All (λ r. r < height main.now) rows.now }
-    ensures { IfOk result (λ v. v.items ≡ column F.ring
-        (windows_of main.now (option_copied preprocessed.entry) public_values.now) rows.now
-        (tree_of expression.now)) }
+    ensures { (tree : Tree F) → steps.now ≡ steps_in_order tree → IfOk result (λ v. v.items
+        ≡ column F.ring (windows_of main.now
+        (option_copied preprocessed.entry) public_values.now) rows.now tree) }
 {
-    match expression {
-        SymbolicExpression::Leaf(leaf) => {
-            leaf_values(alloc, *leaf, main, preprocessed, public_values, rows)
-        }
-        SymbolicExpression::Add(a, b) => {
-            let left = column_of(alloc, a, main, preprocessed, public_values, rows)?;
-            let right = column_of(alloc, b, main, preprocessed, public_values, rows)?;
-            sums(alloc, &left, &right)
-        }
-        SymbolicExpression::Sub(a, b) => {
-            let left = column_of(alloc, a, main, preprocessed, public_values, rows)?;
-            let right = column_of(alloc, b, main, preprocessed, public_values, rows)?;
-            differences(alloc, &left, &right)
-        }
-        SymbolicExpression::Mul(a, b) => {
-            let left = column_of(alloc, a, main, preprocessed, public_values, rows)?;
-            let right = column_of(alloc, b, main, preprocessed, public_values, rows)?;
-            products(alloc, &left, &right)
-        }
-        SymbolicExpression::Neg(a) => {
-            let inner = column_of(alloc, a, main, preprocessed, public_values, rows)?;
-            negatives(alloc, &inner)
-        }
+    slots.clear()?;
+    for step in steps {
+        work_out(alloc, slots, *step, main, preprocessed, public_values, rows)?;
     }
+    Ok(slots.pop(alloc))
 }

@@ -1,46 +1,53 @@
 //! The denominators of a tuple on some rows.
-ghost use Rattle.std.specs.Prelude.{◌≡◌, ◌<◌, All, IfOk, map};
-ghost use Rattle.std.specs.List.{zip};
+ghost use Rattle.std.specs.Prelude.{◌≡◌, ◌<◌, ◌++◌, All, IfOk, List, OnOk, map};
+ghost use Rattle.std.specs.List.{AllZip, zip};
 ghost use Rattle.std.specs.Option.{ForSome, option_copied};
 ghost use Rattle.field.specs.Ring.{sub_in};
 ghost use Rattle.expressions.specs.Layout.{layout_of_traces};
+ghost use Rattle.expressions.specs.declared.base_expression.SymbolicExpression.{SymbolicExpression};
 ghost use Rattle.lookup_columns.specs.Columns.{denominator_column, windows_of};
-ghost use Rattle.lookup_model.specs.Records.{AllFit};
+ghost use Rattle.lookup_columns.specs.Steps.{AreStepsOf, DoStepsFit};
 ghost use Rattle.matrix.specs.Matrix.{height};
 
-use crate::column::{alike, column_of};
-use expressions::SymbolicExpression;
+use crate::column::{column_of, push_alike};
+use crate::slots::Slots;
+use crate::spare::Spare;
+use crate::step::Step;
 use field::{Domain, ExtensionDomain, Field};
 use matrix::RowMajorMatrix;
 use std::alloc::{AllocError, Global};
 
-/// `e - power * x` for each element `e`, where `x` stands beside it in `column`.
-fn lessened<F: Field, EF: ExtensionDomain<F>>(
-    alloc: Global,
+/// Appends `e - power * x` for each element `e`, where `x` stands beside it in `column`.
+fn push_lessened<F: Field, EF: ExtensionDomain<F>>(
+    to: &mut Vec<EF>,
     elements: &[EF],
     power: EF,
     column: &[F],
-) -> Result<Vec<EF>, AllocError>
-    ensures { IfOk result (λ v. v.items ≡ map
+) -> Result<(), AllocError>
+    ensures { OnOk result (to.new.items ≡ to.old.items ++ map
         (λ p. sub_in EF.ring p.0 (EF.ring.mul power (EF.embed p.1)))
         (zip elements.now column.now)) }
 {
-    elements
-        .iter()
-        .zip(column)
-        .map(|(element, x)| element.minus_scaled(power, *x))
-        .collect(alloc)
+    to.extend(
+        elements
+            .iter()
+            .zip(column)
+            .map(|(element, x)| element.minus_scaled(power, *x)),
+    )
 }
 
-/// The denominators of a tuple on rows of the traces of an AIR, in the order of `rows`: `alpha - t`,
-/// where `t` is the tuple combined by `beta`, as in LogUp (<https://eprint.iacr.org/2022/1530>).
+/// The denominators of the tuple of these steps on rows of the traces of an AIR, in the order of
+/// `rows`: `alpha - t`, where `t` is the tuple combined by `beta`, as in LogUp
+/// (<https://eprint.iacr.org/2022/1530>).
 ///
 /// The last element of a tuple has the factor 1, each one before it a power of `beta` more. The next
-/// row of the last one is the first one. `preprocessed`, if there is one, is as high as `main`. Fails
-/// only when out of memory.
+/// row of the last one is the first one. `preprocessed`, if there is one, is as high as `main`. The
+/// list that is returned can be put away in `spare` after use. Fails only when out of memory.
 pub fn denominators_of<F: Field, EF: ExtensionDomain<F>>(
     alloc: Global,
-    tuple: &[SymbolicExpression<F>],
+    slots: &mut Slots<F>,
+    spare: &mut Spare<EF>,
+    tuple: &[Vec<Step<F>>],
     main: &RowMajorMatrix<F>,
     preprocessed: Option<&RowMajorMatrix<F>>,
     public_values: &[F],
@@ -49,20 +56,34 @@ pub fn denominators_of<F: Field, EF: ExtensionDomain<F>>(
     beta: EF,
 ) -> Result<Vec<EF>, AllocError>
     requires heights { ForSome (option_copied preprocessed) (λ m. height m ≡ height main.now) }
-    requires fits { AllFit (layout_of_traces main.now
-        (option_copied preprocessed) public_values.now) tuple.now }
+    requires fits { All (DoStepsFit (layout_of_traces main.now
+        (option_copied preprocessed) public_values.now)) tuple.now }
     requires rows_exist { All (λ r. r < height main.now) rows.now }
-    ensures { IfOk result (λ v. v.items ≡ denominator_column F.ring EF.ring EF.embed
+    ensures { (expressions : List (SymbolicExpression F)) → AllZip AreStepsOf tuple.now expressions
+        → IfOk result (λ v. v.items ≡ denominator_column F.ring EF.ring EF.embed
         (windows_of main.now (option_copied preprocessed.entry) public_values.now) alpha beta
-        rows.now tuple.now) }
+        rows.now expressions) }
 {
-    let mut denominators = alike(alloc, rows, alpha)?;
+    let mut denominators = spare.take(alloc);
+    push_alike(&mut denominators, rows, alpha)?;
     let mut power = EF::ONE;
     let mut left = tuple.len();
     while left > 0 {
         left -= 1;
-        let column = column_of(alloc, &tuple[left], main, preprocessed, public_values, rows)?;
-        denominators = lessened(alloc, &denominators, power, &column)?;
+        let column = column_of(
+            alloc,
+            slots,
+            &tuple[left],
+            main,
+            preprocessed,
+            public_values,
+            rows,
+        )?;
+        let mut lessened = spare.take(alloc);
+        push_lessened(&mut lessened, &denominators, power, &column)?;
+        slots.put(column)?;
+        spare.put(denominators)?;
+        denominators = lessened;
         power = power * beta;
     }
     Ok(denominators)

@@ -3,8 +3,14 @@
 
 mod column;
 mod denominators;
+mod slots;
+mod spare;
+mod step;
 #[cfg(test)]
 mod tests;
 
 pub use column::column_of;
 pub use denominators::denominators_of;
+pub use slots::Slots;
+pub use spare::Spare;
+pub use step::{Step, steps_of, steps_of_each};

@@ -2,7 +2,7 @@
 ghost use Rattle.std.specs.Prelude.{◌↔◌, IsTrue};
 ghost use Rattle.lookup_model.specs.Records.{AllFit};
 
-use super::{column_of, denominators_of};
+use super::{Slots, Spare, column_of, denominators_of, steps_of, steps_of_each};
 use expressions::{
     AirLayout, BaseEntry, BaseLeaf, Expression, SymbolicExpression, SymbolicVariable,
 };
@@ -36,9 +36,11 @@ fn expect(rt: &impl Abort, alloc: Global, expression: SymbolicExpression<F7>, ex
     assert!(rt; expression.fits(&layout));
     assert!(rt; preprocessed.height() == main.height());
     assert!(rt; rows.iter().all(|r| *r < main.height()));
+    let steps = steps_of(alloc, &expression).expect(rt, "memory");
     let found = column_of(
         alloc,
-        &expression,
+        &mut Slots::new(alloc),
+        &steps,
         &main,
         Some(&preprocessed),
         public_values.as_slice(),
@@ -123,9 +125,12 @@ fn expect_denominators(
     let rows: [usize; 2] = [2, 0];
     assert!(rt; are_within(tuple, &layout));
     assert!(rt; rows.iter().all(|r| *r < main.height()));
+    let steps = steps_of_each(alloc, tuple).expect(rt, "memory");
     let found = denominators_of(
         alloc,
-        tuple,
+        &mut Slots::new(alloc),
+        &mut Spare::new(alloc),
+        &steps,
         main,
         None,
         public_values.as_slice(),

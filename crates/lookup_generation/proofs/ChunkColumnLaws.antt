@@ -1,37 +1,19 @@
 -- What stands at one place of the columns of lookups.
 use Rattle.std.proofs.Common.{◌≡◌, ℕ, zero, suc, ◌+◌, ◌<◌, ◌≤◌, Some, List, [], ◌∷◌, ◌++◌, All, length, map, take, drop, get_or, refl, sym, ap, subst, ◌∙◌, arith}
-use Rattle.std.proofs.lemmas.List.{take-append-drop, take_more}
+use Rattle.std.proofs.lemmas.List.{take-append-drop}
 use Rattle.std.proofs.lemmas.List.FromFn.{get_or-range_with_len, length-range_with_len}
 use Rattle.std.proofs.lemmas.Option.{get_or_from_slice_get, slice_get-map, slice_get-get_or}
 use Rattle.std.specs.List.{AllZip, range_with_len, slice_get}
 use Rattle.std.specs.Option.{option_map}
-
--- the item beside an item
-pub record Beside {A B : Type 0} (Q : A → B → Type 0) (ys : List B) (i : ℕ) (x : A) : Type 0 where
-  pub item : B
-  pub there : item ≡ get_or ys i item
-  pub within : i < length ys
-  pub holds : Q x item
+use Rattle.lookup_columns.proofs.ZipLaws.{taken_more}
 
 module _ {A B : Type 0} (Q : A → B → Type 0) where
-  pub beside : (xs : List A) (ys : List B) (i : ℕ) (x : A) → AllZip Q xs ys → i < length xs → x ≡ get_or xs i x → Beside Q ys i x
-  beside [] ys i x h lt is = absurd (omega (arith, lt))
-  beside (a ∷ xs) [] i x h lt is = absurd h
-  beside (a ∷ xs) (b ∷ ys) zero x h lt is = record { item = b; there = refl; within = omega arith; holds = subst (λ t. Q t b) (sym is) h.0 }
-  beside (a ∷ xs) (b ∷ ys) (suc i) x h lt is =
-      let next = beside xs ys i x h.1 (omega (arith, lt)) is in
-      record { item = next.item; there = next.there; within = omega (arith, next.within); holds = next.holds }
-
   -- a relation that follows from another
   pub zip_weaker : (P : A → B → Type 0) → ((x : A) (y : B) → P x y → Q x y) → (xs : List A) (ys : List B) → AllZip P xs ys → AllZip Q xs ys
   zip_weaker P weaker [] [] h = tt
   zip_weaker P weaker [] (y ∷ ys) h = absurd h
   zip_weaker P weaker (x ∷ xs) [] h = absurd h
   zip_weaker P weaker (x ∷ xs) (y ∷ ys) h = (weaker x y h.0, zip_weaker P weaker xs ys h.1)
-
--- the items up to one, and that one
-pub taken_more : {A : Type 0} (xs : List A) (i : ℕ) (x : A) → i < length xs → x ≡ get_or xs i x → take (i + 1) xs ≡ take i xs ++ x ∷ []
-taken_more xs i x lt is = take_more xs i x lt ∙ ap (λ t. take i xs ++ t ∷ []) (sym is)
 
 -- the items before one, that one, and the rest
 pub taken_split : {A : Type 0} (xs : List A) (i : ℕ) (x : A) → i < length xs → x ≡ get_or xs i x → xs ≡ (take i xs ++ x ∷ []) ++ drop (i + 1) xs

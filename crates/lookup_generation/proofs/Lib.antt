@@ -10,3 +10,4 @@ pub mod SelectedColumns
 pub mod SelectedFractions
 pub mod SentMessageLaws
 pub mod SetFlags
+pub mod StepLaws

@@ -6,6 +6,7 @@ use Rattle.std.proofs.lemmas.List.FromFn.{map-range_with_len_more}
 use Rattle.std.proofs.lemmas.Grind.{flat_map-append}
 use Rattle.std.specs.List.{AllZip, flat_map, range_with_len, slice_get, slice_range}
 use Rattle.field.specs.Sums.{sum_in}
+use Rattle.lookup_columns.proofs.ZipLaws.{zip_push}
 use Rattle.lookup_model.specs.Extension.{Extension, IsLawful}
 use Rattle.lookup_model.specs.Fault.{fault_of, row_faults, trace_faults}
 use Rattle.lookup_model.specs.Message.{Key}
@@ -40,13 +41,6 @@ all_push P [] x h p zero d lt = p
 all_push P [] x h p (suc k) d lt = absurd (omega (arith, lt))
 all_push P (y ∷ xs) x h p zero d lt = h 0 y (omega arith)
 all_push P (y ∷ xs) x h p (suc k) d lt = all_push P xs x (λ j e l. h (suc j) e (omega (arith, l))) p k d (omega (arith, lt))
-
--- items that are related go on
-pub zip_push : {A B : Type 0} (R : A → B → Type 0) (xs : List A) (ys : List B) (x : A) (y : B) → AllZip R xs ys → R x y → AllZip R (xs ++ x ∷ []) (ys ++ y ∷ [])
-zip_push R [] [] x y h r = (r, tt)
-zip_push R [] (b ∷ ys) x y h r = absurd h
-zip_push R (a ∷ xs) [] x y h r = absurd h
-zip_push R (a ∷ xs) (b ∷ ys) x y h r = (h.0, zip_push R xs ys x y h.1 r)
 
 -- sound ratios go on by one more
 module _ {K : Type 0} {S : Ring K} where

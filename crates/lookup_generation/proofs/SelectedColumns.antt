@@ -8,7 +8,7 @@ use Rattle.lookup_model.specs.Fault.{set_places}
 use Rattle.lookup_model.specs.Message.{Key, Message}
 use Rattle.lookup_generation.specs.ChunkColumns.{HasFlag, HoldSelected, IsHeldIfSet, IsPlaced}
 use Rattle.lookup_generation.specs.declared.columns.BranchColumns.{BranchColumns}
-use Rattle.lookup_generation.proofs.ChunkColumnLaws.{Beside, beside}
+use Rattle.lookup_columns.proofs.ZipLaws.{Beside, beside}
 use Rattle.lookup_laws.proofs.Selections.{place_within}
 
 module _ {F K : Type 0} (E : Extension F K) where

@@ -4,15 +4,19 @@ ghost use Rattle.std.specs.List.{AllZip, range_with_len};
 ghost use Rattle.std.specs.Option.{ForSome, option_copied};
 ghost use Rattle.expressions.specs.Layout.{layout_of_traces};
 ghost use Rattle.lookup_columns.specs.Columns.{windows_of};
+ghost use Rattle.lookup_columns.specs.Steps.{AreStepsOf};
 ghost use Rattle.lookup_generation.specs.ChunkColumns.{AreColumns, AreLookupColumns, ArePlaced, HoldSelected, IsHeld, key_denominator};
+ghost use Rattle.lookup_generation.specs.LookupSteps.{AreLookupSteps};
 ghost use Rattle.lookup_model.specs.Records.{AllFit, DoFit, HasEqualLengths, IsWithin};
 ghost use Rattle.lookup_model.specs.Message.{Message};
 ghost use Rattle.lookup_model.specs.Sent.{branches_at, values};
 ghost use Rattle.matrix.specs.Matrix.{height};
 
+use crate::memory::ChunkMemory;
+use crate::steps::LookupSteps;
 use air::SymbolicExpression;
 use field::{ExtensionDomain, Field};
-use lookup_columns::{column_of, denominators_of};
+use lookup_columns::{Spare, column_of, denominators_of};
 use lookup_model::Lookup;
 use matrix::RowMajorMatrix;
 use std::alloc::{AllocError, Global};
@@ -34,13 +38,14 @@ pub(crate) struct BranchColumns<F, EF> {
 /// The indices of the rows from `first` up to `end`.
 pub(crate) fn rows_between(
     alloc: Global,
+    spare: &mut Spare<usize>,
     first: usize,
     end: usize,
 ) -> Result<Vec<usize>, AllocError>
     requires { first ≤ end }
     ensures { IfOk result (λ v. v.items ≡ range_with_len first (end - first)) }
 {
-    let mut rows = Vec::with_capacity(alloc, end - first)?;
+    let mut rows = spare.take(alloc);
     for row in first..end {
         rows.push(row)?;
     }
@@ -51,6 +56,7 @@ pub(crate) fn rows_between(
 /// is not zero: such a row stands among them at that place.
 fn selected_rows<F: Field>(
     alloc: Global,
+    spare: &mut Spare<usize>,
     flags: &[F],
     rows: &[usize],
 ) -> Result<(Vec<usize>, Vec<usize>), AllocError>
@@ -59,8 +65,8 @@ fn selected_rows<F: Field>(
     ensures rows_exist { (n : ℕ) → All (λ r. r < n) rows.now
         → IfOk result (λ v. All (λ r. r < n) v.1.items) }
 {
-    let mut places = Vec::with_capacity(alloc, rows.len())?;
-    let mut selected = Vec::with_capacity(alloc, rows.len())?;
+    let mut places = spare.take(alloc);
+    let mut selected = spare.take(alloc);
     for i in 0..rows.len() {
         places.push(selected.len())?;
         if !flags[i].is_zero() {
@@ -73,7 +79,9 @@ fn selected_rows<F: Field>(
 /// The multiplicities and denominators of a tuple of a lookup on these rows.
 fn branch_columns<F: Field, EF: ExtensionDomain<F>>(
     alloc: Global,
+    memory: &mut ChunkMemory<F, EF>,
     lookup: &Lookup<F>,
+    steps: &LookupSteps<F>,
     branch: usize,
     flags: Vec<F>,
     places: Vec<usize>,
@@ -84,6 +92,7 @@ fn branch_columns<F: Field, EF: ExtensionDomain<F>>(
     rows: &[usize],
 ) -> Result<BranchColumns<F, EF>, AllocError>
     requires heights { ForSome (option_copied preprocessed) (λ m. height m ≡ height main.now) }
+    requires steps { AreLookupSteps steps.now lookup.now }
     requires lengths { HasEqualLengths lookup.now }
     requires within { IsWithin (layout_of_traces main.now
         (option_copied preprocessed) public_values.now) lookup.now }
@@ -100,12 +109,20 @@ fn branch_columns<F: Field, EF: ExtensionDomain<F>>(
 {
     let alpha = challenges[2 * lookup.column];
     let beta = challenges[2 * lookup.column + 1];
-    let tuple = &lookup.elements[branch];
-    let multiplicity = &lookup.multiplicities[branch];
-    let multiplicities = column_of(alloc, multiplicity, main, preprocessed, public_values, rows)?;
+    let multiplicities = column_of(
+        alloc,
+        &mut memory.slots,
+        &steps.multiplicities[branch],
+        main,
+        preprocessed,
+        public_values,
+        rows,
+    )?;
     let denominators = denominators_of(
         alloc,
-        tuple,
+        &mut memory.slots,
+        &mut memory.elements,
+        &steps.elements[branch],
         main,
         preprocessed,
         public_values,
@@ -124,7 +141,9 @@ fn branch_columns<F: Field, EF: ExtensionDomain<F>>(
 /// The columns of each tuple of an additive lookup on these rows, in the order of its tuples.
 fn additive_columns<F: Field, EF: ExtensionDomain<F>>(
     alloc: Global,
+    memory: &mut ChunkMemory<F, EF>,
     lookup: &Lookup<F>,
+    steps: &LookupSteps<F>,
     main: &RowMajorMatrix<F>,
     preprocessed: Option<&RowMajorMatrix<F>>,
     public_values: &[F],
@@ -132,6 +151,7 @@ fn additive_columns<F: Field, EF: ExtensionDomain<F>>(
     rows: &[usize],
 ) -> Result<Vec<BranchColumns<F, EF>>, AllocError>
     requires heights { ForSome (option_copied preprocessed) (λ m. height m ≡ height main.now) }
+    requires steps { AreLookupSteps steps.now lookup.now }
     requires lengths { HasEqualLengths lookup.now }
     requires within { IsWithin (layout_of_traces main.now
         (option_copied preprocessed) public_values.now) lookup.now }
@@ -146,7 +166,9 @@ fn additive_columns<F: Field, EF: ExtensionDomain<F>>(
     for branch in 0..lookup.elements.len() {
         let columns = branch_columns(
             alloc,
+            memory,
             lookup,
+            steps,
             branch,
             Vec::new(alloc),
             Vec::new(alloc),
@@ -165,7 +187,9 @@ fn additive_columns<F: Field, EF: ExtensionDomain<F>>(
 /// rows, and its multiplicities and denominators on those of them whose flag is not zero.
 fn exclusive_columns<F: Field, EF: ExtensionDomain<F>>(
     alloc: Global,
+    memory: &mut ChunkMemory<F, EF>,
     lookup: &Lookup<F>,
+    steps: &LookupSteps<F>,
     flags: &[SymbolicExpression<F>],
     main: &RowMajorMatrix<F>,
     preprocessed: Option<&RowMajorMatrix<F>>,
@@ -174,11 +198,13 @@ fn exclusive_columns<F: Field, EF: ExtensionDomain<F>>(
     rows: &[usize],
 ) -> Result<Vec<BranchColumns<F, EF>>, AllocError>
     requires heights { ForSome (option_copied preprocessed) (λ m. height m ≡ height main.now) }
+    requires steps { AreLookupSteps steps.now lookup.now }
     requires lengths { HasEqualLengths lookup.now }
     requires within { IsWithin (layout_of_traces main.now
         (option_copied preprocessed) public_values.now) lookup.now }
     requires challenges { 2 * lookup.now.column + 1 < length challenges.now }
     requires rows_exist { All (λ r. r < height main.now) rows.now }
+    requires flag_steps { AllZip AreStepsOf steps.now.flags.items flags.now }
     requires flag_number { length flags.now ≡ length lookup.now.elements.items }
     requires flags_fit { AllFit (layout_of_traces main.now
         (option_copied preprocessed) public_values.now) flags.now }
@@ -191,16 +217,19 @@ fn exclusive_columns<F: Field, EF: ExtensionDomain<F>>(
     for branch in 0..lookup.elements.len() {
         let set = column_of(
             alloc,
-            &flags[branch],
+            &mut memory.slots,
+            &steps.flags[branch],
             main,
             preprocessed,
             public_values,
             rows,
         )?;
-        let (places, selected) = selected_rows(alloc, &set, rows)?;
+        let (places, selected) = selected_rows(alloc, &mut memory.places, &set, rows)?;
         let columns = branch_columns(
             alloc,
+            memory,
             lookup,
+            steps,
             branch,
             set,
             places,
@@ -210,6 +239,7 @@ fn exclusive_columns<F: Field, EF: ExtensionDomain<F>>(
             challenges,
             &selected,
         )?;
+        memory.places.put(selected)?;
         branches.push(columns)?;
     }
     Ok(branches)
@@ -218,7 +248,9 @@ fn exclusive_columns<F: Field, EF: ExtensionDomain<F>>(
 /// The columns of a lookup on these rows.
 fn columns_of_lookup<F: Field, EF: ExtensionDomain<F>>(
     alloc: Global,
+    memory: &mut ChunkMemory<F, EF>,
     lookup: &Lookup<F>,
+    steps: &LookupSteps<F>,
     main: &RowMajorMatrix<F>,
     preprocessed: Option<&RowMajorMatrix<F>>,
     public_values: &[F],
@@ -226,6 +258,7 @@ fn columns_of_lookup<F: Field, EF: ExtensionDomain<F>>(
     rows: &[usize],
 ) -> Result<Vec<BranchColumns<F, EF>>, AllocError>
     requires heights { ForSome (option_copied preprocessed) (λ m. height m ≡ height main.now) }
+    requires steps { AreLookupSteps steps.now lookup.now }
     requires lengths { HasEqualLengths lookup.now }
     requires within { IsWithin (layout_of_traces main.now
         (option_copied preprocessed) public_values.now) lookup.now }
@@ -238,7 +271,9 @@ fn columns_of_lookup<F: Field, EF: ExtensionDomain<F>>(
     match &lookup.flags {
         None => additive_columns(
             alloc,
+            memory,
             lookup,
+            steps,
             main,
             preprocessed,
             public_values,
@@ -247,7 +282,9 @@ fn columns_of_lookup<F: Field, EF: ExtensionDomain<F>>(
         ),
         Some(flags) => exclusive_columns(
             alloc,
+            memory,
             lookup,
+            steps,
             flags,
             main,
             preprocessed,
@@ -261,7 +298,9 @@ fn columns_of_lookup<F: Field, EF: ExtensionDomain<F>>(
 /// The columns of each lookup on these rows, in the order of the lookups.
 pub(crate) fn columns_of_lookups<F: Field, EF: ExtensionDomain<F>>(
     alloc: Global,
+    memory: &mut ChunkMemory<F, EF>,
     lookups: &[Lookup<F>],
+    steps: &[LookupSteps<F>],
     main: &RowMajorMatrix<F>,
     preprocessed: Option<&RowMajorMatrix<F>>,
     public_values: &[F],
@@ -269,6 +308,7 @@ pub(crate) fn columns_of_lookups<F: Field, EF: ExtensionDomain<F>>(
     rows: &[usize],
 ) -> Result<Vec<Vec<BranchColumns<F, EF>>>, AllocError>
     requires heights { ForSome (option_copied preprocessed) (λ m. height m ≡ height main.now) }
+    requires steps { AllZip AreLookupSteps steps.now lookups.now }
     requires fit { DoFit (layout_of_traces main.now (option_copied preprocessed) public_values.now)
         lookups.now }
     requires challenges { 2 * length lookups.now ≤ length challenges.now }
@@ -281,7 +321,9 @@ pub(crate) fn columns_of_lookups<F: Field, EF: ExtensionDomain<F>>(
     for lookup in lookups {
         let branches = columns_of_lookup(
             alloc,
+            memory,
             lookup,
+            &steps[lookup.column],
             main,
             preprocessed,
             public_values,

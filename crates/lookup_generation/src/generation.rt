@@ -1,6 +1,7 @@
 //! Generation of the auxiliary trace, in chunks of rows: a chunk's fractions are found as ratios, and
 //! divided by one inverse.
 ghost use Rattle.std.specs.Prelude.{◌≡◌, ◌+◌, ◌-◌, ◌*◌, ◌%◌, ℕ, ◌<◌, ◌≤◌, ◌⊎◌, ◌++◌, ◌∷◌, [], None, Some, IfErr, IfOk, MatchResult, length, take};
+ghost use Rattle.std.specs.List.{AllZip};
 ghost use Rattle.std.specs.Option.{ForSome, option_copied};
 ghost use Rattle.expressions.specs.Layout.{layout_of_traces};
 ghost use Rattle.expressions.specs.Window.{window_at};
@@ -11,6 +12,7 @@ ghost use Rattle.field.specs.Sums.{sum_in};
 ghost use Rattle.lookup_generation.specs.Fraction.{AreSound};
 ghost use Rattle.lookup_generation.specs.Inverses.{ForInverses};
 ghost use Rattle.lookup_generation.specs.ChunkColumns.{HoldLookups};
+ghost use Rattle.lookup_generation.specs.LookupSteps.{AreLookupSteps};
 ghost use Rattle.lookup_generation.specs.Progress.{AnswersRow, AreRatios, HasRows, IsFirstOf, started_chunks};
 ghost use Rattle.lookup_model.specs.Records.{DoFit};
 ghost use Rattle.lookup_model.specs.Generation.{AnswersGeneration};
@@ -20,7 +22,9 @@ ghost use Rattle.matrix.specs.Matrix.{height};
 
 use crate::columns::{BranchColumns, columns_of_lookups, rows_between};
 use crate::fraction::fraction;
+use crate::memory::ChunkMemory;
 use crate::ratio::{Ratio, values_of};
+use crate::steps::{LookupSteps, steps_of_lookups};
 use crate::trace_builder::LookupTraceBuilder;
 use field::{Domain, ExtensionDomain, ExtensionField, Field, InverseCount, Inverter};
 use lookup_model::{Lookup, LookupError, LookupTerminal};
@@ -112,15 +116,18 @@ pub fn row_builder<'a, F: Field, EF: Domain>(
 /// Refuses the first fault in the order row, lookup.
 fn ratios_of<F: Field, EF: ExtensionDomain<F>>(
     alloc: Global,
+    memory: &mut ChunkMemory<F, EF>,
     main: &RowMajorMatrix<F>,
     preprocessed: Option<&RowMajorMatrix<F>>,
     public_values: &[F],
     lookups: &[Lookup<F>],
+    steps: &[LookupSteps<F>],
     challenges: &[EF],
     first: usize,
     end: usize,
 ) -> Result<Vec<Ratio<EF>>, LookupError>
     requires heights { ForSome (option_copied preprocessed) (λ m. height m ≡ height main.now) }
+    requires steps { AllZip AreLookupSteps steps.now lookups.now }
     requires fit { DoFit (layout_of_traces main.now (option_copied preprocessed) public_values.now)
         lookups.now }
     requires challenges { 2 * length lookups.now ≤ length challenges.now }
@@ -142,10 +149,12 @@ fn ratios_of<F: Field, EF: ExtensionDomain<F>>(
     ensures sound { IfOk result (λ v. AreSound EF.ring
         ((end - first) * length lookups.now) v.items) }
 {
-    let rows = rows_between(alloc, first, end)?;
+    let rows = rows_between(alloc, &mut memory.places, first, end)?;
     let columns = columns_of_lookups(
         alloc,
+        memory,
         lookups,
+        steps,
         main,
         preprocessed,
         public_values,
@@ -156,11 +165,14 @@ fn ratios_of<F: Field, EF: ExtensionDomain<F>>(
         .len()
         .checked_mul(lookups.len())
         .ok_or(LookupError::Memory)?;
-    let mut ratios = Vec::with_capacity(alloc, size)?;
+    let mut ratios = memory.ratios.take(alloc);
+    ratios.reserve(size)?;
     for row in first..end {
         let builder = row_builder(main, preprocessed, public_values, challenges, row);
         push_ratios(&mut ratios, lookups, &columns, row - first, &builder)?;
     }
+    memory.places.put(rows)?;
+    memory.put_columns(columns)?;
     Ok(ratios)
 }
 
@@ -186,18 +198,21 @@ fn push_row<K: Domain>(cells: &mut Vec<K>, accumulator: K, fractions: &[K]) -> R
 /// Refuses the first fault in the order row, lookup. A fault is found before anything is inverted.
 fn push_chunk<F: Field, EF: ExtensionDomain<F>, I: Inverter<EF>>(
     alloc: Global,
+    memory: &mut ChunkMemory<F, EF>,
     cells: &mut Vec<EF>,
     accumulator: EF,
     main: &RowMajorMatrix<F>,
     preprocessed: Option<&RowMajorMatrix<F>>,
     public_values: &[F],
     lookups: &[Lookup<F>],
+    steps: &[LookupSteps<F>],
     challenges: &[EF],
     first: usize,
     end: usize,
     inverter: &mut I,
 ) -> Result<EF, LookupError>
     requires heights { ForSome (option_copied preprocessed) (λ m. height m ≡ height main.now) }
+    requires steps { AllZip AreLookupSteps steps.now lookups.now }
     requires fit { DoFit (layout_of_traces main.now (option_copied preprocessed) public_values.now)
         lookups.now }
     requires challenges { 2 * length lookups.now ≤ length challenges.now }
@@ -226,19 +241,24 @@ fn push_chunk<F: Field, EF: ExtensionDomain<F>, I: Inverter<EF>>(
 {
     let ratios = ratios_of(
         alloc,
+        memory,
         main,
         preprocessed,
         public_values,
         lookups,
+        steps,
         challenges,
         first,
         end,
     )?;
-    let fractions = RowMajorMatrix::new(values_of(alloc, &ratios, inverter)?, lookups.len());
+    let values = values_of(alloc, &mut memory.elements, &ratios, inverter)?;
+    memory.ratios.put(ratios)?;
+    let fractions = RowMajorMatrix::new(values, lookups.len());
     let mut next = accumulator;
     for i in 0..end - first {
         next = push_row(cells, next, fractions.row_slice(i))?;
     }
+    memory.elements.put(fractions.into_values())?;
     Ok(next)
 }
 
@@ -294,18 +314,22 @@ fn generate<F: Field, EF: ExtensionDomain<F>, I: Inverter<EF>>(
         .checked_mul(lookups.len() + 1)
         .ok_or(LookupError::Memory)?;
     let mut cells = Vec::with_capacity(alloc, size)?;
+    let steps = steps_of_lookups(alloc, lookups)?;
+    let mut memory = ChunkMemory::new(alloc);
     let mut accumulator = EF::ZERO;
     let mut first = 0;
     while first < height {
         let end = chunk_end(first, height);
         accumulator = push_chunk(
             alloc,
+            &mut memory,
             &mut cells,
             accumulator,
             main,
             preprocessed,
             public_values,
             lookups,
+            &steps,
             challenges,
             first,
             end,

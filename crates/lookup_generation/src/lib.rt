@@ -11,8 +11,10 @@ mod columns;
 mod exclusive;
 mod fraction;
 mod generation;
+mod memory;
 mod messages;
 mod ratio;
+mod steps;
 mod trace_builder;
 
 pub use generation::{generate_counted, generate_permutation, row_builder};

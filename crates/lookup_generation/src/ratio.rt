@@ -1,9 +1,10 @@
 //! Fractions that are not divided yet, and their values by one inverse.
-ghost use Rattle.std.specs.Prelude.{◌≡◌, ◌≢◌, ◌≤◌, ◌+◌, All, IfOk, List, length, map};
+ghost use Rattle.std.specs.Prelude.{◌≡◌, ◌≢◌, ◌≤◌, ◌+◌, ◌++◌, All, IfOk, List, OnOk, length, map};
 ghost use Rattle.std.specs.List.{AllByRecursion, AllZip, list_all, zip};
 ghost use Rattle.lookup_generation.specs.Fraction.{IsRatio};
 
 use field::{Domain, ExtensionDomain, Field, Inverter, batch_multiplicative_inverse};
+use lookup_columns::Spare;
 use std::alloc::{AllocError, Global};
 
 /// A numerator over a denominator.
@@ -66,6 +67,7 @@ impl<K: Domain> Ratio<K> {
 /// out of memory.
 pub(crate) fn values_of<K: Domain, I: Inverter<K>>(
     alloc: Global,
+    spare: &mut Spare<K>,
     ratios: &[Ratio<K>],
     inverter: &mut I,
 ) -> Result<Vec<K>, AllocError>
@@ -77,12 +79,17 @@ pub(crate) fn values_of<K: Domain, I: Inverter<K>>(
     ensures not_counted_whole { AllByRecursion (λ r. r.denominator ≡ K.ring.one) ratios.now
         → I.count inverter.new ≡ I.count inverter.old }
 {
+    let mut values = spare.take(alloc);
     if are_whole(ratios) {
-        return numerators_of(alloc, ratios);
+        push_numerators(&mut values, ratios)?;
+        return Ok(values);
     }
-    let denominators = denominators_of(alloc, ratios)?;
+    let mut denominators = spare.take(alloc);
+    push_denominators(&mut denominators, ratios)?;
     let inverses = batch_multiplicative_inverse(alloc, &denominators, inverter)?;
-    products(alloc, ratios, &inverses)
+    spare.put(denominators)?;
+    push_products(&mut values, ratios, &inverses)?;
+    Ok(values)
 }
 
 /// Whether every denominator is one.
@@ -92,32 +99,28 @@ fn are_whole<K: Domain>(ratios: &[Ratio<K>]) -> bool
     ratios.iter().all(|r| r.denominator == K::ONE)
 }
 
-/// The numerators of the ratios.
-fn numerators_of<K: Domain>(alloc: Global, ratios: &[Ratio<K>]) -> Result<Vec<K>, AllocError>
-    ensures { IfOk result (λ v. v.items ≡ map (λ r. r.numerator) ratios.now) }
+/// Appends the numerators of the ratios.
+fn push_numerators<K: Domain>(to: &mut Vec<K>, ratios: &[Ratio<K>]) -> Result<(), AllocError>
+    ensures { OnOk result (to.new.items ≡ to.old.items ++ map (λ r. r.numerator) ratios.now) }
 {
-    ratios.iter().map(|r| r.numerator).collect(alloc)
+    to.extend(ratios.iter().map(|r| r.numerator))
 }
 
-/// The denominators of the ratios.
-fn denominators_of<K: Domain>(alloc: Global, ratios: &[Ratio<K>]) -> Result<Vec<K>, AllocError>
-    ensures { IfOk result (λ v. v.items ≡ map (λ r. r.denominator) ratios.now) }
+/// Appends the denominators of the ratios.
+fn push_denominators<K: Domain>(to: &mut Vec<K>, ratios: &[Ratio<K>]) -> Result<(), AllocError>
+    ensures { OnOk result (to.new.items ≡ to.old.items ++ map (λ r. r.denominator) ratios.now) }
 {
-    ratios.iter().map(|r| r.denominator).collect(alloc)
+    to.extend(ratios.iter().map(|r| r.denominator))
 }
 
-/// Each numerator times the factor beside it.
-fn products<K: Domain>(
-    alloc: Global,
+/// Appends each numerator times the factor beside it.
+fn push_products<K: Domain>(
+    to: &mut Vec<K>,
     ratios: &[Ratio<K>],
     factors: &[K],
-) -> Result<Vec<K>, AllocError>
-    ensures { IfOk result (λ v. v.items ≡ map (λ p. K.ring.mul p.0.numerator p.1)
-        (zip ratios.now factors.now)) }
+) -> Result<(), AllocError>
+    ensures { OnOk result (to.new.items ≡ to.old.items ++ map
+        (λ p. K.ring.mul p.0.numerator p.1) (zip ratios.now factors.now)) }
 {
-    ratios
-        .iter()
-        .zip(factors)
-        .map(|(r, x)| r.numerator * *x)
-        .collect(alloc)
+    to.extend(ratios.iter().zip(factors).map(|(r, x)| r.numerator * *x))
 }

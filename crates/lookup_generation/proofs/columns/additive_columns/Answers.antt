@@ -5,8 +5,7 @@ use Rattle.std.specs.List.{AllZip}
 use Rattle.std.specs.Option.{option_copied}
 use Rattle.lookup_columns.specs.Columns.{windows_of}
 use Rattle.lookup_generation.specs.ChunkColumns.{IsHeld, key_denominator}
-use Rattle.lookup_generation.proofs.ChunkColumnLaws.{taken_more}
-use Rattle.lookup_generation.proofs.ProgressLaws.{zip_push}
+use Rattle.lookup_columns.proofs.ZipLaws.{taken_more, zip_push}
 use Rattle.lookup_model.proofs.Branches.{length-branches_at}
 use Rattle.lookup_model.specs.Message.{Message}
 use Rattle.lookup_model.specs.Sent.{branches_at}

@@ -1,9 +1,11 @@
 use Rattle.std.proofs.Common.{◌≡◌, IfSome, List, Option, Some, sym, ap, subst, ◌∙◌}
 use Rattle.std.proofs.lemmas.Result.{IfOk-weaker}
+use Rattle.std.specs.List.{AllZip}
 use Rattle.std.specs.Option.{option_copied}
 use Rattle.expressions.specs.Layout.{layout_of_traces}
 use Rattle.expressions.specs.declared.base_expression.SymbolicExpression.{SymbolicExpression}
 use Rattle.lookup_columns.specs.Columns.{windows_of}
+use Rattle.lookup_columns.specs.Steps.{AreStepsOf}
 use Rattle.lookup_generation.specs.ChunkColumns.{HoldSelected, key_denominator}
 use Rattle.lookup_model.specs.Records.{AllFit, IsWithin}
 use Rattle.lookup_model.specs.Sent.{branches_at, values}
@@ -14,6 +16,11 @@ unfolding IsWithin
 exclusive_columns-requires-clause-flags_fit g c =
     let layout = layout_of_traces c.args.main.now (option_copied c.args.preprocessed) c.args.public_values.now in
     subst (λ (es : List (SymbolicExpression _)). AllFit layout es) (sym c.deref.ensures.value) (subst (λ (o : Option _). IfSome o (λ flags. AllFit layout flags.items)) c.in-Some.is c.requires.within.2)
+
+pub exclusive_columns-requires-clause-flag_steps : goal.exclusive_columns-requires-clause-flag_steps
+exclusive_columns-requires-clause-flag_steps g c =
+    let steps = c.args.steps.now.flags.items in
+    subst (λ (es : List (SymbolicExpression _)). AllZip AreStepsOf steps es) (sym c.deref.ensures.value) (subst (λ (o : Option _). IfSome o (λ flags. AllZip AreStepsOf steps flags.items)) c.in-Some.is c.requires.steps.flags)
 
 pub returns-in-None : goal.returns-in-None
 returns-in-None g c =

@@ -1,4 +1,5 @@
-use Rattle.std.proofs.Common.{take, sym, subst₂}
+use Rattle.std.proofs.Common.{◌≡◌, ap, arith, get_or, take, sym, subst, subst₂, ◌∙◌}
+use Rattle.std.proofs.lemmas.List.{get_or_default}
 use Rattle.std.specs.List.{AllZip}
 use Rattle.std.specs.Option.{option_copied}
 use Rattle.std.specs.declared.alloc.Global.{Global}
@@ -6,10 +7,30 @@ use Rattle.std.specs.declared.vec.Vec.{Vec}
 use Rattle.lookup_columns.specs.Columns.{windows_of}
 use Rattle.lookup_generation.specs.ChunkColumns.{AreColumns}
 use Rattle.lookup_generation.specs.declared.columns.BranchColumns.{BranchColumns}
-use Rattle.lookup_generation.proofs.ChunkColumnLaws.{taken_more}
-use Rattle.lookup_generation.proofs.ProgressLaws.{zip_push}
+use Rattle.std.proofs.lemmas.Slice.Zip.{AllZip-long}
+use Rattle.lookup_columns.proofs.ZipLaws.{beside, taken_more, zip_push}
+use Rattle.lookup_generation.specs.LookupSteps.{AreLookupSteps}
+use Rattle.lookup_laws.proofs.SentRows.{column_is}
 use Rattle.lookup_model.specs.declared.types.Lookup.{Lookup}
 use Rattle.lookup_generation.proofs.columns.columns_of_lookups.Goals as goal
+
+pub bounds-steps-lookup : goal.bounds-steps-lookup
+bounds-steps-lookup g c =
+    let at = column_is c.args.lookups.now c.loop-lookup.lookup-index c.lookup-item.result c.requires.fit.records c.loop-lookup-test.true c.lookup-item.is in
+    omega (arith, at, AllZip-long AreLookupSteps c.args.steps.now c.args.lookups.now c.requires.steps, c.loop-lookup-test.true)
+
+pub columns_of_lookup-requires-clause-steps : goal.columns_of_lookup-requires-clause-steps
+columns_of_lookup-requires-clause-steps g c =
+    let steps = c.args.steps.now in
+    let lookups = c.args.lookups.now in
+    let i = c.loop-lookup.lookup-index in
+    let lookup = c.lookup-item.result in
+    let here = c.index-steps-lookup.result in
+    let at = column_is lookups i lookup c.requires.fit.records c.loop-lookup-test.true c.lookup-item.is in
+    let long = AllZip-long AreLookupSteps steps lookups c.requires.steps in
+    let same_place = beside AreLookupSteps steps lookups i here c.requires.steps (omega (arith, long, c.loop-lookup-test.true)) (c.index-steps-lookup.is ∙ ap (λ n. get_or steps n here) at) in
+    let same : same_place.item ≡ lookup = same_place.there ∙ get_or_default lookups i same_place.item lookup c.loop-lookup-test.true ∙ sym c.lookup-item.is in
+    subst (AreLookupSteps here) same same_place.holds
 
 pub loop-lookup-preserved : goal.loop-lookup-preserved
 loop-lookup-preserved g c =

@@ -2,7 +2,7 @@ use Rattle.std.proofs.Common.{◌≡◌, ◌<◌, ◌+◌, ◌∷◌, ◌++◌, 
 use Rattle.std.proofs.lemmas.List.{get_or_default, length-take, length_push}
 use Rattle.std.proofs.lemmas.List.Elements.{All-push}
 use Rattle.lookup_generation.specs.ChunkColumns.{ArePlaced}
-use Rattle.lookup_generation.proofs.ChunkColumnLaws.{taken_more}
+use Rattle.lookup_columns.proofs.ZipLaws.{taken_more}
 use Rattle.lookup_generation.proofs.PlacedLaws.{placed_more, placed_skipped}
 use Rattle.lookup_generation.proofs.columns.selected_rows.Goals.{then-not-is_zero+in_ok-push-2, else-not-is_zero}
 use Rattle.lookup_generation.proofs.columns.selected_rows.Goals as goal

@@ -4,7 +4,8 @@ use Rattle.lookup_generation.specs.declared.columns.BranchColumns.{BranchColumns
 use Rattle.std.proofs.lemmas.List.{length-take, take_all}
 use Rattle.std.proofs.lemmas.Result.{err_from_is_err_and}
 use Rattle.std.proofs.lemmas.Slice.Zip.{AllZip-long}
-use Rattle.lookup_generation.proofs.ChunkColumnLaws.{Beside, beside, read_is, taken_more, taken_split}
+use Rattle.lookup_columns.proofs.ZipLaws.{Beside, beside, taken_more}
+use Rattle.lookup_generation.proofs.ChunkColumnLaws.{read_is, taken_split}
 use Rattle.lookup_generation.specs.ChunkColumns.{HasFlag}
 use Rattle.lookup_generation.specs.Inverses.{base_extension}
 use Rattle.lookup_generation.specs.Selection.{AreSetFlags}

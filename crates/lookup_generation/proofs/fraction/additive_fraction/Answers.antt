@@ -13,7 +13,8 @@ use Rattle.lookup_model.specs.Plain.{counted}
 use Rattle.lookup_model.specs.Sent.{branches_at}
 use Rattle.lookup_generation.specs.ChunkColumns.{IsHeld, key_denominator}
 use Rattle.lookup_generation.specs.TraceBuilder.{builder_window}
-use Rattle.lookup_generation.proofs.ChunkColumnLaws.{Beside, beside, read_is, taken_more, taken_split}
+use Rattle.lookup_columns.proofs.ZipLaws.{Beside, beside, taken_more}
+use Rattle.lookup_generation.proofs.ChunkColumnLaws.{read_is, taken_split}
 use Rattle.lookup_generation.proofs.Fractions.{vanishes_at}
 use Rattle.lookup_generation.proofs.fraction.additive_fraction.Goals as goal
 

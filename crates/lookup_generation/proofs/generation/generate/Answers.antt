@@ -1,8 +1,12 @@
-use Rattle.std.proofs.Common.{◌≡◌, ◌<◌, ◌+◌, ◌-◌, ◌*◌, ◌%◌, length, ap, ◌∙◌, inl, inr, arith}
+use Rattle.std.proofs.Common.{◌≡◌, ◌<◌, ◌+◌, ◌-◌, ◌*◌, ◌%◌, length, ap, subst, ◌∙◌, inl, inr, arith}
 use Rattle.std.proofs.lemmas.Result.{err_from_is_err_and}
+use Rattle.std.specs.Option.{option_copied}
+use Rattle.lookup_model.specs.Denominators.{column_denominator}
+use Rattle.lookup_model.specs.Extension.{extension}
+use Rattle.lookup_model.specs.Trace.{sent_rows}
 use Rattle.matrix.specs.Matrix.{height}
 use Rattle.lookup_generation.proofs.ProgressLaws.{product_joined}
-use Rattle.lookup_generation.specs.Progress.{started_chunks}
+use Rattle.lookup_generation.specs.Progress.{HasRows, started_chunks}
 use Rattle.lookup_generation.proofs.generation.generate.Goals as goal
 
 pub loop-first-preserved : goal.loop-first-preserved
@@ -36,3 +40,14 @@ returns-in_err-accumulator-clause-spared g c =
       | inl memory ↦ inl memory
       | inr same ↦ inr (omega (arith, same, before.2, further))
     ])
+
+pub returns-in_err-accumulator-clause-rows : goal.returns-in_err-accumulator-clause-rows
+returns-in_err-accumulator-clause-rows g c = λ inverse is_inverse.
+    let p = err_from_is_err_and c.from_residual-in_err-accumulator.result c.from_residual-in_err-accumulator.ensures.1 in
+    rw (p.1, p.2) (c.in_err-accumulator.ensures.rows inverse is_inverse)
+
+pub returns-clause-rows : goal.returns-clause-rows
+returns-clause-rows g c = λ inverse is_inverse.
+    let E = extension g.F.PrimeCharacteristicRing.ring g.F.PartialEq.eq g.EF.PrimeCharacteristicRing.ring g.EF.PartialEq.eq g.EF.ExtensionDomain.embed inverse in
+    let all : c.loop-first.first ≡ height c.args.main.now = omega (arith, c.loop-first-test.false, c.loop-first.invariant.0, c.height-height.ensures.height) in
+    subst (λ r. HasRows E (column_denominator E c.args.challenges.now) (sent_rows E.base E.base_eq c.args.main.now (option_copied c.args.preprocessed) c.args.public_values.now c.args.lookups.now) r c.loop-first.cells.items c.loop-first.accumulator) all (c.loop-first.invariant.4 inverse is_inverse)

@@ -27,8 +27,8 @@ new-fractions-requires g c =
     let n = length c.args.lookups.now in
     let m = c.args.end - c.args.first in
     let one : n ≡ (n - 1) + 1 = omega (arith, c.requires.some) in
-    let values = c.in_ok-values_of.field-0.items in
-    let long : length values ≡ m * ((n - 1) + 1) = c.in_ok-values_of.ensures.many ∙ ap length c.deref.ensures.value ∙ c.in_ok-ratios.ensures.sound.many ∙ ap (λ w. m * w) one in
+    let values = c.in_ok-values.values.items in
+    let long : length values ≡ m * ((n - 1) + 1) = c.in_ok-values.ensures.many ∙ ap length c.deref.ensures.value ∙ c.in_ok-ratios.ensures.sound.many ∙ ap (λ w. m * w) one in
     subst (λ w. IsShaped (record { values = values; width = w })) (sym one) (IsShaped-product values m (n - 1) long)
 
 pub row_slice-requires : goal.row_slice-requires
@@ -36,8 +36,8 @@ row_slice-requires g c =
     let n = length c.args.lookups.now in
     let m = c.args.end - c.args.first in
     let one : n ≡ (n - 1) + 1 = omega (arith, c.requires.some) in
-    let values = c.in_ok-values_of.field-0.items in
-    let long : length values ≡ m * ((n - 1) + 1) = c.in_ok-values_of.ensures.many ∙ ap length c.deref.ensures.value ∙ c.in_ok-ratios.ensures.sound.many ∙ ap (λ w. m * w) one in
+    let values = c.in_ok-values.values.items in
+    let long : length values ≡ m * ((n - 1) + 1) = c.in_ok-values.ensures.many ∙ ap length c.deref.ensures.value ∙ c.in_ok-ratios.ensures.sound.many ∙ ap (λ w. m * w) one in
     let tall : height c.new-fractions.result ≡ m = ap height c.new-fractions.ensures ∙ ap (λ w. height (record { values = values; width = w })) one ∙ height_of values m (n - 1) long in
     omega (arith, tall, c.loop-i-test.true)
 
@@ -74,8 +74,8 @@ loop-i-preserved g c = (
       let within : first + m ≤ length rows = omega (arith, high, c.requires.up_to, c.requires.from) in
       let wide = λ (k : ℕ) (lt : k < length rows). length-sent_rows-at E.base E.base_eq c.args.main.now prep c.args.public_values.now c.args.lookups.now k (omega (arith, high, lt)) in
       let fs = flat_map (λ i. row_fractions E denominator rows (first + i)) (range_with_len 0 m) in
-      let values = c.in_ok-values_of.field-0.items in
-      let are : values ≡ fs = c.in_ok-values_of.ensures.values fs (subst (λ rs. AllZip (IsRatio E.ring) rs fs) (sym c.deref.ensures.value) (c.in_ok-ratios.ensures.answers inverse is_inverse).ratios_are) in
+      let values = c.in_ok-values.values.items in
+      let are : values ≡ fs = c.in_ok-values.ensures.values fs (subst (λ rs. AllZip (IsRatio E.ring) rs fs) (sym c.deref.ensures.value) (c.in_ok-ratios.ensures.answers inverse is_inverse).ratios_are) in
       let i = c.loop-i.i in
       let here : c.row_slice.result.now ≡ row_fractions E denominator rows (first + i) =
       c.row_slice.ensures.row ∙ ap (λ t. row t i) c.new-fractions.ensures ∙ (λ k. row (record { values = are k; width = n }) i) ∙ fractions_at laws denominator rows n wide first m i within c.loop-i-test.true in

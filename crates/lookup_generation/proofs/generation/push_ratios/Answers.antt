@@ -20,7 +20,7 @@ use Rattle.std.proofs.lemmas.Slice.Zip.{AllZip-long}
 use Rattle.std.proofs.lemmas.List.{get_or_read}
 use Rattle.lookup_generation.specs.ChunkColumns.{HoldLookup}
 use Rattle.lookup_generation.specs.declared.columns.BranchColumns.{BranchColumns}
-use Rattle.lookup_generation.proofs.ChunkColumnLaws.{Beside, beside}
+use Rattle.lookup_columns.proofs.ZipLaws.{Beside, beside}
 use Rattle.lookup_generation.proofs.generation.push_ratios.Goals as goal
 
 pub bounds-columns-lookup : goal.bounds-columns-lookup

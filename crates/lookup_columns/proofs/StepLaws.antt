@@ -1,0 +1,64 @@
+-- The steps of a tree: each leaf is one of the tree's, and working them out fills one slot.
+use Rattle.std.proofs.Common.{◌≡◌, ◌∷◌, ◌++◌, ℕ, List, [], All, map, ap, sym, refl, ◌∙◌, append_assoc}
+use Rattle.std.proofs.lemmas.List.Elements.{All-append, All-cons, All-nil}
+use Rattle.field.specs.Ring.{Ring, sub_in}
+use Rattle.expressions.specs.Layout.{Fits}
+use Rattle.expressions.specs.Meaning.{leaf_value, value_of}
+use Rattle.expressions.specs.Tree.{Tree, leaf, add, sub, mul, neg}
+use Rattle.expressions.specs.Window.{Window}
+use Rattle.expressions.specs.declared.layout.AirLayout.{AirLayout}
+use Rattle.lookup_columns.specs.Columns.{column}
+use Rattle.lookup_columns.specs.Slots.{after}
+use Rattle.lookup_columns.specs.Steps.{StepFits, steps_in_order}
+use Rattle.lookup_columns.specs.declared.step.Step.{Step}
+use Rattle.lookup_columns.specs.declared.step.Step.TheVariants.{Leaf, Add, Sub, Mul, Neg}
+use Rattle.lookup_columns.proofs.ColumnLaws.{map_of_columns, map_of_list}
+
+module _ {F : Type 0} where
+  -- one more step that has no leaf
+  fits_with : (layout : AirLayout) (s : Step F) (xs : List (Step F)) → StepFits layout s → All (StepFits layout) xs → All (StepFits layout) (xs ++ s ∷ [])
+  fits_with layout s xs fits all = All-append (StepFits layout) xs (s ∷ []) all (All-cons (StepFits layout) s [] fits (All-nil (StepFits layout)))
+
+  fit_both : (layout : AirLayout) (s : Step F) (xs ys : List (Step F)) → StepFits layout s → All (StepFits layout) xs → All (StepFits layout) ys → All (StepFits layout) (xs ++ ys ++ s ∷ [])
+  fit_both layout s xs ys fits all more = fits_with layout s (xs ++ ys) fits (All-append (StepFits layout) xs ys all more)
+
+  -- the steps of a tree fit where the tree does
+  pub steps_fit : (layout : AirLayout) (t : Tree F) → Fits layout t → All (StepFits layout) (steps_in_order t)
+  steps_fit layout (leaf l) fits = All-cons (StepFits layout) (Leaf l) [] fits (All-nil (StepFits layout))
+  steps_fit layout (add a b) fits = fit_both layout Add (steps_in_order a) (steps_in_order b) tt (steps_fit layout a fits.0) (steps_fit layout b fits.1)
+  steps_fit layout (sub a b) fits = fit_both layout Sub (steps_in_order a) (steps_in_order b) tt (steps_fit layout a fits.0) (steps_fit layout b fits.1)
+  steps_fit layout (mul a b) fits = fit_both layout Mul (steps_in_order a) (steps_in_order b) tt (steps_fit layout a fits.0) (steps_fit layout b fits.1)
+  steps_fit layout (neg a) fits = fits_with layout Neg (steps_in_order a) tt (steps_fit layout a fits)
+
+  module _ (R : Ring F) (window : ℕ → Window F) (rows : List ℕ) where
+    -- the slots after some steps
+    unfoldable pub worked_out : List (Step F) → List (List F) → List (List F)
+    worked_out [] s = s
+    worked_out (x ∷ xs) s = worked_out xs (after R window rows x s)
+
+    worked_out-append : (xs ys : List (Step F)) (s : List (List F)) → worked_out (xs ++ ys) s ≡ worked_out ys (worked_out xs s)
+    unfolding worked_out
+    worked_out-append [] ys s = refl
+    worked_out-append (x ∷ xs) ys s = worked_out-append xs ys (after R window rows x s)
+
+    -- the steps of two trees and an operation
+    both : (s : Step F) (a b : Tree F) (c : List F) → ((z : List (List F)) → after R window rows s (column R window rows b ∷ column R window rows a ∷ z) ≡ c ∷ z)
+        → ((z : List (List F)) → worked_out (steps_in_order a) z ≡ column R window rows a ∷ z)
+        → ((z : List (List F)) → worked_out (steps_in_order b) z ≡ column R window rows b ∷ z)
+        → (z : List (List F)) → worked_out (steps_in_order a ++ steps_in_order b ++ s ∷ []) z ≡ c ∷ z
+    unfolding worked_out
+    both s a b c is left right z =
+        worked_out-append (steps_in_order a ++ steps_in_order b) (s ∷ []) z
+        ∙ ap (λ y. after R window rows s y) (worked_out-append (steps_in_order a) (steps_in_order b) z ∙ ap (worked_out (steps_in_order b)) (left z) ∙ right (column R window rows a ∷ z))
+        ∙ is z
+
+    -- the steps of a tree fill one slot with its values
+    pub worked_out_tree : (t : Tree F) (z : List (List F)) → worked_out (steps_in_order t) z ≡ column R window rows t ∷ z
+    unfolding worked_out
+    worked_out_tree (leaf l) z = refl
+    worked_out_tree (add a b) z = both Add a b _ (λ y. ap (λ c. c ∷ y) (map_of_columns R.add (λ r. value_of R (window r) a) (λ r. value_of R (window r) b) rows)) (worked_out_tree a) (worked_out_tree b) z
+    worked_out_tree (sub a b) z = both Sub a b _ (λ y. ap (λ c. c ∷ y) (map_of_columns (sub_in R) (λ r. value_of R (window r) a) (λ r. value_of R (window r) b) rows)) (worked_out_tree a) (worked_out_tree b) z
+    worked_out_tree (mul a b) z = both Mul a b _ (λ y. ap (λ c. c ∷ y) (map_of_columns R.mul (λ r. value_of R (window r) a) (λ r. value_of R (window r) b) rows)) (worked_out_tree a) (worked_out_tree b) z
+    worked_out_tree (neg a) z =
+        worked_out-append (steps_in_order a) (Neg ∷ []) z ∙ ap (λ y. after R window rows Neg y) (worked_out_tree a z)
+        ∙ ap (λ c. c ∷ z) (map_of_list R.neg (λ r. value_of R (window r) a) rows)

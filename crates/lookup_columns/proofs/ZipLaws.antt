@@ -1,0 +1,31 @@
+-- Lists whose items are related place by place.
+use Rattle.std.proofs.Common.{◌≡◌, ◌<◌, ◌+◌, ◌∷◌, ◌++◌, ℕ, zero, suc, List, [], length, get_or, take, sym, refl, subst, ap, ◌∙◌, arith}
+use Rattle.std.proofs.lemmas.List.{take_more}
+use Rattle.std.specs.List.{AllZip}
+
+-- the item beside an item
+pub record Beside {A B : Type 0} (R : A → B → Type 0) (ys : List B) (i : ℕ) (x : A) : Type 0 where
+  pub item : B
+  pub there : item ≡ get_or ys i item
+  pub within : i < length ys
+  pub holds : R x item
+
+module _ {A B : Type 0} (R : A → B → Type 0) where
+  pub beside : (xs : List A) (ys : List B) (i : ℕ) (x : A) → AllZip R xs ys → i < length xs → x ≡ get_or xs i x → Beside R ys i x
+  beside [] ys i x h lt is = absurd (omega (arith, lt))
+  beside (a ∷ xs) [] i x h lt is = absurd h
+  beside (a ∷ xs) (b ∷ ys) zero x h lt is = record { item = b; there = refl; within = omega arith; holds = subst (λ t. R t b) (sym is) h.0 }
+  beside (a ∷ xs) (b ∷ ys) (suc i) x h lt is =
+      let next = beside xs ys i x h.1 (omega (arith, lt)) is in
+      record { item = next.item; there = next.there; within = omega (arith, next.within); holds = next.holds }
+
+  -- one more item in both lists
+  pub zip_push : (xs : List A) (ys : List B) (x : A) (y : B) → AllZip R xs ys → R x y → AllZip R (xs ++ x ∷ []) (ys ++ y ∷ [])
+  zip_push [] [] x y h r = (r, tt)
+  zip_push [] (b ∷ ys) x y h r = absurd h
+  zip_push (a ∷ xs) [] x y h r = absurd h
+  zip_push (a ∷ xs) (b ∷ ys) x y h r = (h.0, zip_push xs ys x y h.1 r)
+
+-- the items up to one, and that one
+pub taken_more : {A : Type 0} (xs : List A) (i : ℕ) (x : A) → i < length xs → x ≡ get_or xs i x → take (i + 1) xs ≡ take i xs ++ x ∷ []
+taken_more xs i x lt is = take_more xs i x lt ∙ ap (λ t. take i xs ++ t ∷ []) (sym is)

@@ -1,0 +1,12 @@
+use Rattle.std.proofs.Common.{rules}
+use Rattle.std.specs.Prelude.{◌+◌, ◌==◌, not}
+use Rattle.std.proofs.lemmas.Iterator.{YieldsList-from_map, YieldsList-from_slice}
+use Rattle.std.proofs.lemmas.Iterator.Adapters.{items_from_extend}
+use Rattle.std.proofs.lemmas.Iterator.Consumers.{YieldsList-at}
+use Rattle.field.specs.Ring.{of_bool}
+use Rattle.lookup_columns.proofs.column.push_before_last.Goals as goal
+
+pub returns : goal.returns
+returns g c =
+    let h = items_from_extend c.extend.result c.extend.ensures.ran (YieldsList-from_map _ (λ r. of_bool g.F.PrimeCharacteristicRing.ring (not (r + 1 == c.args.height))) (YieldsList-at c.map.ensures.source (YieldsList-from_slice c.args.rows.now cc)) c.map.ensures.closure (λ x r q k. search rules)) in
+    search rules

@@ -1,0 +1,57 @@
+//! The lists of a chunk, whose memory is used again for the next one.
+use crate::columns::BranchColumns;
+use crate::ratio::Ratio;
+use lookup_columns::{Slots, Spare};
+use std::alloc::{AllocError, Global};
+
+/// Lists that a chunk fills, and that stand empty between two chunks.
+#[derive(Drop)]
+pub(crate) struct ChunkMemory<F, EF> {
+    /// For the values of expressions.
+    pub(crate) slots: Slots<F>,
+    /// For rows, and for places of rows.
+    pub(crate) places: Spare<usize>,
+    /// For denominators, and for fractions.
+    pub(crate) elements: Spare<EF>,
+    /// For fractions that are not divided yet.
+    pub(crate) ratios: Spare<Ratio<EF>>,
+}
+
+impl<F: Drop, EF: Drop> ChunkMemory<F, EF> {
+    /// No lists.
+    pub(crate) fn new(alloc: Global) -> ChunkMemory<F, EF> {
+        ChunkMemory {
+            slots: Slots::new(alloc),
+            places: Spare::new(alloc),
+            elements: Spare::new(alloc),
+            ratios: Spare::new(alloc),
+        }
+    }
+
+    /// Puts away the columns of lookups.
+    pub(crate) fn put_columns(
+        &mut self,
+        columns: Vec<Vec<BranchColumns<F, EF>>>,
+    ) -> Result<(), AllocError> {
+        for branches in columns {
+            for branch in branches {
+                self.put_branch(branch)?;
+            }
+        }
+        Ok(())
+    }
+
+    /// Puts away the columns of one tuple.
+    fn put_branch(&mut self, branch: BranchColumns<F, EF>) -> Result<(), AllocError> {
+        let BranchColumns {
+            flags,
+            places,
+            multiplicities,
+            denominators,
+        } = branch;
+        self.slots.put(flags)?;
+        self.places.put(places)?;
+        self.slots.put(multiplicities)?;
+        self.elements.put(denominators)
+    }
+}
