@@ -103,11 +103,7 @@ fn push_cells_at<F: Field>(
 }
 
 /// Appends the same element for each row.
-pub(crate) fn push_alike<K: Domain>(
-    to: &mut Vec<K>,
-    rows: &[usize],
-    x: K,
-) -> Result<(), AllocError>
+pub(crate) fn push_alike<K: Domain>(to: &mut Vec<K>, rows: &[usize], x: K) -> Result<(), AllocError>
     ensures { OnOk result (to.new.items ≡ to.old.items ++ map (λ _. x) rows.now) }
 {
     to.extend(rows.iter().map(|_| x))
@@ -135,11 +131,7 @@ fn push_before_last<F: Field>(
 }
 
 /// Appends one on the last row, zero on the others.
-fn push_last_one<F: Field>(
-    to: &mut Vec<F>,
-    rows: &[usize],
-    height: usize,
-) -> Result<(), AllocError>
+fn push_last_one<F: Field>(to: &mut Vec<F>, rows: &[usize], height: usize) -> Result<(), AllocError>
     requires { All (λ r. r < height) rows.now }
     ensures { OnOk result (to.new.items ≡ to.old.items
         ++ map (λ r. of_bool F.ring (r + 1 == height)) rows.now) }

@@ -72,9 +72,9 @@ impl<F: Drop> Slots<F> {
     }
 
     /// Puts a list away that is no longer used. Fails only when out of memory.
-    pub fn put(&mut self, list: Vec<F>) -> Result<(), AllocError>
+    pub fn put(&mut self, used: Vec<F>) -> Result<(), AllocError>
         ensures { OnOk result (filled self.new ≡ filled self.old) }
     {
-        self.spare.put(list)
+        self.spare.put(used)
     }
 }

@@ -1,8 +1,12 @@
 //! Columns at values calculated by hand.
-ghost use Rattle.std.specs.Prelude.{◌↔◌, IsTrue};
+ghost use Rattle.std.specs.Prelude.{◌↔◌, ◌<◌, All, IsTrue};
+ghost use Rattle.expressions.specs.Layout.{Fits};
+ghost use Rattle.expressions.specs.Tree.{tree_of};
+ghost use Rattle.lookup_columns.specs.Steps.{DoStepsFit};
 ghost use Rattle.lookup_model.specs.Records.{AllFit};
+ghost use Rattle.matrix.specs.Matrix.{height};
 
-use super::{Slots, Spare, column_of, denominators_of, steps_of, steps_of_each};
+use super::{Slots, Spare, Step, column_of, denominators_of, steps_of, steps_of_each};
 use expressions::{
     AirLayout, BaseEntry, BaseLeaf, Expression, SymbolicExpression, SymbolicVariable,
 };
@@ -25,30 +29,61 @@ fn leaf(entry: BaseEntry, index: usize) -> SymbolicExpression<F7> {
     SymbolicExpression::Leaf(BaseLeaf::Variable(SymbolicVariable::new(entry, index)))
 }
 
-/// The values of an expression on the last row and on the first one, over the main rows `1 2`, `3 4`
-/// and `5 6`, the preprocessed rows `0`, `2` and `4`, and the public value 6.
-fn expect(rt: &impl Abort, alloc: Global, expression: SymbolicExpression<F7>, expected: [u32; 2]) {
-    let main = trace(rt, alloc, &[1, 2, 3, 4, 5, 6], 2);
-    let preprocessed = trace(rt, alloc, &[0, 2, 4], 1);
+/// The steps of an expression that is within a layout.
+fn fitting_steps(
+    rt: &impl Abort,
+    alloc: Global,
+    expression: &SymbolicExpression<F7>,
+    layout: &AirLayout,
+) -> Vec<Step<F7>>
+    requires { Fits layout.now (tree_of expression.now) }
+    ensures { DoStepsFit layout.now result }
+{
+    steps_of(alloc, expression).expect(rt, "memory")
+}
+
+/// Whether these are rows of a trace.
+fn are_rows(rows: &[usize], trace: &RowMajorMatrix<F7>) -> bool
+    ensures { IsTrue result ↔ All (λ r. r < height trace.now) rows.now }
+{
+    rows.iter().all(|r| *r < trace.height())
+}
+
+/// The values of an expression on the last row and on the first one of three, with the public value 6.
+fn expect_column(
+    rt: &impl Abort,
+    alloc: Global,
+    main: &RowMajorMatrix<F7>,
+    preprocessed: &RowMajorMatrix<F7>,
+    expression: &SymbolicExpression<F7>,
+    expected: [u32; 2],
+) {
     let public_values = [F7::new(6)];
-    let layout = AirLayout::of_traces(&main, Some(&preprocessed), public_values.as_slice());
+    let layout = AirLayout::of_traces(main, Some(preprocessed), public_values.as_slice());
     let rows: [usize; 2] = [2, 0];
     assert!(rt; expression.fits(&layout));
+    let steps = fitting_steps(rt, alloc, expression, &layout);
     assert!(rt; preprocessed.height() == main.height());
-    assert!(rt; rows.iter().all(|r| *r < main.height()));
-    let steps = steps_of(alloc, &expression).expect(rt, "memory");
+    assert!(rt; are_rows(rows.as_slice(), main));
     let found = column_of(
         alloc,
         &mut Slots::new(alloc),
         &steps,
-        &main,
-        Some(&preprocessed),
+        main,
+        Some(preprocessed),
         public_values.as_slice(),
         rows.as_slice(),
     )
     .expect(rt, "memory");
     assert!(rt; found.len() == 2);
     assert!(rt; found[0] == F7::new(expected[0]) && found[1] == F7::new(expected[1]));
+}
+
+/// The same over the main rows `1 2`, `3 4` and `5 6` and the preprocessed rows `0`, `2` and `4`.
+fn expect(rt: &impl Abort, alloc: Global, expression: SymbolicExpression<F7>, expected: [u32; 2]) {
+    let main = trace(rt, alloc, &[1, 2, 3, 4, 5, 6], 2);
+    let preprocessed = trace(rt, alloc, &[0, 2, 4], 1);
+    expect_column(rt, alloc, &main, &preprocessed, &expression, expected);
 }
 
 #[test]

@@ -27,6 +27,6 @@ returns g c = λ tree are.
     let none = drop_all c.loop-step.step-index steps (omega (arith, c.loop-step-test.false)) in
     c.pop.ensures.last
     ∙ ap last_of (
-      sym (ap (λ l. go l (filled c.loop-step.slots)) none)
-      ∙ c.loop-step.invariant ∙ ap (λ l. go l []) are ∙ worked_out_tree R ws c.args.rows.now tree []
+    sym (ap (λ l. go l (filled c.loop-step.slots)) none)
+    ∙ c.loop-step.invariant ∙ ap (λ l. go l []) are ∙ worked_out_tree R ws c.args.rows.now tree []
     )

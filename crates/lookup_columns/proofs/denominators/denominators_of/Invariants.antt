@@ -13,7 +13,7 @@ invariant-loop-left g l =
     (l.left ≤ length l.tuple)
     × (l.power ≡ power S l.beta (length (drop l.left l.tuple)))
     × ((es : List (SymbolicExpression _)) → AllZip AreStepsOf l.tuple es
-      → l.denominators.items ≡ denominator_column g.F.PrimeCharacteristicRing.ring S g.EF.ExtensionDomain.embed (windows_of l.main (option_copied l.preprocessed) l.public_values) l.fn.alpha l.beta l.rows (drop l.left es))
+    → l.denominators.items ≡ denominator_column g.F.PrimeCharacteristicRing.ring S g.EF.ExtensionDomain.embed (windows_of l.main (option_copied l.preprocessed) l.public_values) l.fn.alpha l.beta l.rows (drop l.left es))
 
 abbrev pub decreases-loop-left : goal.decreases-loop-left
 decreases-loop-left g l = l.left

@@ -16,7 +16,7 @@ loop-expression-preserved g c =
     let so_far = c.loop-expression.invariant in
     let longer = sym c.in_ok-push.ensures.items in (
       subst₂ (AllZip AreStepsOf) longer (sym (taken_more es i e c.loop-expression-test.true c.expression-item.is))
-      (zip_push AreStepsOf all (take i es) new e so_far.0 c.in_ok-steps_of.ensures.steps),
+          (zip_push AreStepsOf all (take i es) new e so_far.0 c.in_ok-steps_of.ensures.steps),
       λ layout fit. subst (λ (l : List _). All (DoStepsFit layout) l) longer
-      (All-push (DoStepsFit layout) all new (so_far.1 layout fit) (c.in_ok-steps_of.ensures.fit layout (Fits-at layout es i e fit c.loop-expression-test.true c.expression-item.is))),
+          (All-push (DoStepsFit layout) all new (so_far.1 layout fit) (c.in_ok-steps_of.ensures.fit layout (Fits-at layout es i e fit c.loop-expression-test.true c.expression-item.is))),
     )
