@@ -1,10 +1,12 @@
 -- What a lookup contributes, branch by branch and row by row.
-use Rattle.std.proofs.Common.{◌≡◌, ℕ, ◌+◌, ◌<◌, All, Bool, None, Some, List, map, refl, [], ◌∷◌, ◌++◌, get_or, length, not, take, ap, subst, sym, append_assoc, ◌∙◌, arith}
+use Rattle.std.proofs.Common.{◌≡◌, ℕ, ◌+◌, ◌<◌, Bool, Option, None, Some, inl, inr, List, refl, [], ◌∷◌, ◌++◌, get_or, length, not, slice_get, take, ap, subst, sym, append_assoc, ◌∙◌, arith}
 use Rattle.std.proofs.lemmas.Grind.{flat_map-append}
 use Rattle.std.proofs.lemmas.List.{append-nil, length-map, map-id, map_more}
-use Rattle.std.proofs.lemmas.List.Elements.{All-cons, All-filter, All-nil, filter-append, recursion_from_All}
+use Rattle.std.proofs.lemmas.List.Elements.{filter-append}
 use Rattle.std.proofs.lemmas.List.FromFn.{map-range_with_len_more}
-use Rattle.std.specs.List.{AllByRecursion, flat_map, range_with_len, zip}
+use Rattle.std.proofs.lemmas.Option.{get_or_from_slice_get, slice_get_cases, slice_get_read}
+use Rattle.std.specs.List.{flat_map, range_with_len}
+use Rattle.std.specs.Option.{ForSome, option_map}
 use Rattle.std.specs.declared.alloc.Global.{Global}
 use Rattle.std.specs.declared.vec.Vec.{Vec}
 use Rattle.expressions.specs.Window.{Window, window_at}
@@ -16,10 +18,11 @@ use Rattle.lookup_model.specs.Records.{HasEqualLengths}
 use Rattle.lookup_model.specs.Sent.{branch_at, branches_at, flags_at, value, values}
 use Rattle.lookup_model.specs.declared.types.Lookup.{Lookup}
 use Rattle.matrix.specs.Matrix.{height}
-use Rattle.lookup_debug.specs.Appended.{Appends, Collects}
+use Rattle.lookup_debug.specs.Appended.{Appends}
 use Rattle.lookup_debug.specs.Contributions.{Contribution, Place, Traced, amounts, contributions_at, contributions_from, contributions_on, nonzero}
 use Rattle.lookup_debug.specs.declared.arena.Contributions.{Contributions}
-use Rattle.lookup_debug.proofs.CutLaws.{appends-more, collects-more}
+use Rattle.lookup_debug.proofs.CutLaws.{appends-more}
+use Rattle.lookup_debug.proofs.Walks.{IsWalk}
 
 -- the values of one more element of a tuple
 pub values_step : {F : Type 0} (R : Ring F) (w : Window F) (es : List (SymbolicExpression F)) (i : ℕ) (e : SymbolicExpression F) (v : F) (before now after : List F)
@@ -74,6 +77,21 @@ module _ {F : Type 0} (R : Ring F) (eq : F → F → Bool) (place : Place) where
       pub length-flagged : length (contributions_from place branches flagged) ≡ length lookup.elements.items
       length-flagged = length-from branches flagged as_many_flagged ∙ length-branches_at R w 0 lookup lengths
 
+    -- the amounts with the flags of the lookup, if it has any
+    abbrev sizes : List F
+    sizes = amounts R (flags_at R w lookup) branches
+
+    as_many_sizes : length sizes ≡ length branches
+    as_many_sizes = by_flags lookup.flags lengths.flags
+      where
+        by_flags : (flags : Option (Vec (SymbolicExpression F) Global)) → ForSome flags (λ fs. length fs.items ≡ length lookup.elements.items)
+            → length (amounts R (option_map (λ fs. values R w fs.items) flags) branches) ≡ length branches
+        by_flags None h = as_many_counts
+        by_flags (Some fs) h = as_many_flagged fs.items (h fs refl)
+
+    pub length-sized : length (contributions_from place branches sizes) ≡ length lookup.elements.items
+    length-sized = length-from branches sizes as_many_sizes ∙ length-branches_at R w 0 lookup lengths
+
     module _ (i : ℕ) (tuple : Vec (SymbolicExpression F) Global) (multiplicity : SymbolicExpression F) (lt : i < length lookup.elements.items) (tuple_is : tuple ≡ get_or lookup.elements.items i tuple) (multiplicity_is : multiplicity ≡ get_or lookup.multiplicities.items i multiplicity) where
       abbrev branch : Message F
       branch = branch_at R w 0 tuple.items multiplicity
@@ -122,6 +140,49 @@ module _ {F : Type 0} (R : Ring F) (eq : F → F → Bool) (place : Place) where
           subst (Appends before after) ((λ k. front ++ nonzero R eq (record { tuple = values R w (es_are k); amount = amount_is k; place = place } ∷ [])) ∙ sym (flagged_more flags flag_number flag flag_is))
           (appends-more before now after front (nonzero R eq (record { tuple = values R w es; amount = amount; place = place } ∷ [])) so_far this)
 
+    -- each branch has an amount
+    pub size_there : (i : ℕ) → i < length lookup.elements.items → (amount : F) × (slice_get sizes i ≡ Some amount)
+    size_there i lt = elim (slice_get_cases sizes i).1 [
+      | inl a ↦ (a.0, a.2)
+      | inr past ↦ absurd (omega (arith, lt, past.0, as_many_sizes, length-branches_at R w 0 lookup lengths))
+    ]
+
+    -- one more branch with its amount
+    pub sized_more : (i : ℕ) (tuple : Vec (SymbolicExpression F) Global) → i < length lookup.elements.items → tuple ≡ get_or lookup.elements.items i tuple
+        → (amount : F) → slice_get sizes i ≡ Some amount
+        → nonzero R eq (take (i + 1) (contributions_from place branches sizes)) ≡ nonzero R eq (take i (contributions_from place branches sizes)) ++ nonzero R eq (record { tuple = values R w tuple.items; amount = amount; place = place } ∷ [])
+    sized_more i tuple lt tuple_is amount there = elim (slice_get_cases lookup.multiplicities.items i).1 [
+      | inl m ↦
+          from_more branches sizes as_many_sizes i (branch i tuple m.0 lt tuple_is (sym m.3)) amount (within i tuple m.0 lt tuple_is (sym m.3)) (branch_is i tuple m.0 lt tuple_is (sym m.3)) (sym (get_or_from_slice_get sizes i amount amount there))
+      | inr past ↦ absurd (omega (arith, lt, past.0, lengths.multiplicities))
+    ]
+
+    module _ (i : ℕ) (multiplicity : SymbolicExpression F) (lt : i < length lookup.elements.items) (multiplicity_is : multiplicity ≡ get_or lookup.multiplicities.items i multiplicity) where
+      -- without flags the amount of a branch is its multiplicity
+      pub size_counted : lookup.flags ≡ None → slice_get sizes i ≡ Some (value R w multiplicity)
+      size_counted none = elim (slice_get_cases lookup.elements.items i).1 [
+        | inl t ↦
+            subst (λ (o : Option (Vec (SymbolicExpression F) Global)). slice_get (amounts R (option_map (λ fs. values R w fs.items) o) branches) i ≡ Some (value R w multiplicity)) (sym none)
+            (slice_get_read counts (length counts) i (value R w multiplicity) refl (omega (arith, within i t.0 multiplicity lt (sym t.3) multiplicity_is, as_many_counts))
+            (mapped_at (λ (m : Message F). m.multiplicity) branches i (branch i t.0 multiplicity lt (sym t.3) multiplicity_is) (within i t.0 multiplicity lt (sym t.3) multiplicity_is) (branch_is i t.0 multiplicity lt (sym t.3) multiplicity_is)))
+        | inr past ↦ absurd (omega (arith, lt, past.0))
+      ]
+
+      -- and with flags it is flag times multiplicity
+      pub size_flagged : (flags : Vec (SymbolicExpression F) Global) → lookup.flags ≡ Some flags → (flag : SymbolicExpression F) → flag ≡ get_or flags.items i flag
+          → slice_get sizes i ≡ Some (R.mul (value R w flag) (value R w multiplicity))
+      size_flagged flags some flag flag_is =
+          let number = lengths.flags flags some in
+          let amount = R.mul (value R w flag) (value R w multiplicity) in
+          elim (slice_get_cases lookup.elements.items i).1 [
+            | inl t ↦
+                subst (λ (o : Option (Vec (SymbolicExpression F) Global)). slice_get (amounts R (option_map (λ fs. values R w fs.items) o) branches) i ≡ Some amount) (sym some)
+                (slice_get_read (flagged flags.items number) (length (flagged flags.items number)) i amount refl (omega (arith, within i t.0 multiplicity lt (sym t.3) multiplicity_is, as_many_flagged flags.items number))
+                (zipped_at (λ (b : F × Message F). R.mul b.0 b.1.multiplicity) (values R w flags.items) branches (as_many_flags flags.items number) i (value R w flag) (branch i t.0 multiplicity lt (sym t.3) multiplicity_is)
+                (omega (arith, within i t.0 multiplicity lt (sym t.3) multiplicity_is, as_many_flags flags.items number)) (mapped_at (value R w) flags.items i flag (omega (arith, lt, number)) flag_is) (branch_is i t.0 multiplicity lt (sym t.3) multiplicity_is)))
+            | inr past ↦ absurd (omega (arith, lt, past.0))
+          ]
+
 -- one more number of a range
 rows_more : {A : Type 0} (f : ℕ → List A) (n : ℕ)
     → flat_map f (range_with_len 0 (n + 1)) ≡ flat_map f (range_with_len 0 n) ++ f n
@@ -130,28 +191,15 @@ rows_more f n = ap (flat_map f) (range_more 0 n n (omega arith)) ∙ flat_map-ap
     range_more : (a n j : ℕ) → a + n ≡ j → range_with_len a (n + 1) ≡ range_with_len a n ++ j ∷ []
     range_more a n j is = sym (map-id (range_with_len a (n + 1))) ∙ map-range_with_len_more (λ k. k) a n j is ∙ ap (λ t. t ++ j ∷ []) (map-id (range_with_len a n))
 
--- every contribution of a lookup at a window is from this place
-module _ {F : Type 0} (R : Ring F) (eq : F → F → Bool) (place : Place) where
-  from_there : (bs : List (Message F × F)) → All (λ (c : Contribution F). c.place ≡ place) (map (λ (b : Message F × F). record { tuple = b.0.key.tuple; amount = b.1; place = place }) bs)
-  from_there [] = All-nil (λ (c : Contribution F). c.place ≡ place)
-  from_there (b ∷ bs) = All-cons (λ (c : Contribution F). c.place ≡ place) _ _ refl (from_there bs)
-
-  pub at_place : (w : Window F) (lookup : Lookup F) → AllByRecursion (λ (c : Contribution F). c.place ≡ place) (contributions_at R eq place w lookup)
-  at_place w lookup =
-      let branches = branches_at R w 0 lookup in
-      let all = contributions_from place branches (amounts R (flags_at R w lookup) branches) in
-      recursion_from_All (λ (c : Contribution F). c.place ≡ place) (nonzero R eq all)
-      (All-filter (λ (c : Contribution F). not (eq c.amount R.zero)) (λ c. c.place ≡ place) all (from_there (zip branches (amounts R (flags_at R w lookup) branches))))
-
--- The contributions on one more row, which is that of this window, are appended and collected.
-pub row_step : {F S : Type 0} (holds : S → List F → List (List F × F) → List (Contribution F) → Type 0) (R : Ring F) (eq : F → F → Bool) (instance place : ℕ) (t : Traced F) (lookup : Lookup F) (row : ℕ)
-    (before now after : S × Contributions F) (w : Window F)
+-- One more row, which is that of this window.
+pub row_step : {F A : Type 0} (Does : A → A → List (Contribution F) → Type 0) (walk : IsWalk Does) (R : Ring F) (eq : F → F → Bool) (instance place : ℕ) (t : Traced F) (lookup : Lookup F) (row : ℕ)
+    (before now after : A) (w : Window F)
     → w ≡ window_at t.main t.preprocessed t.public_values (height t.main) row
-    → Collects holds before now (flat_map (contributions_on R eq instance place t lookup) (range_with_len 0 row))
-    → Collects holds now after (contributions_at R eq (record { instance = instance; lookup = place; row = row }) w lookup)
-    → Collects holds before after (flat_map (contributions_on R eq instance place t lookup) (range_with_len 0 (row + 1)))
-row_step holds R eq instance place t lookup row before now after w w_is so_far this =
+    → Does before now (flat_map (contributions_on R eq instance place t lookup) (range_with_len 0 row))
+    → Does now after (contributions_at R eq (record { instance = instance; lookup = place; row = row }) w lookup)
+    → Does before after (flat_map (contributions_on R eq instance place t lookup) (range_with_len 0 (row + 1)))
+row_step Does walk R eq instance place t lookup row before now after w w_is so_far this =
     let f = contributions_on R eq instance place t lookup in
     let here = contributions_at R eq (record { instance = instance; lookup = place; row = row }) w lookup in
-    subst (Collects holds before after) (ap (λ v. flat_map f (range_with_len 0 row) ++ contributions_at R eq (record { instance = instance; lookup = place; row = row }) v lookup) w_is ∙ sym (rows_more f row))
-    (collects-more holds before now after (flat_map f (range_with_len 0 row)) here so_far this)
+    subst (Does before after) (ap (λ v. flat_map f (range_with_len 0 row) ++ contributions_at R eq (record { instance = instance; lookup = place; row = row }) v lookup) w_is ∙ sym (rows_more f row))
+    (walk.joins before now after (flat_map f (range_with_len 0 row)) here so_far this)

@@ -12,7 +12,7 @@ use Rattle.lookup_model.specs.Net.{first_seen}
 use Rattle.lookup_laws.proofs.Regrouping.{IsSeparate, first_seen_separate}
 use Rattle.lookup_nets.proofs.NetEntries.{entries-push, net-lookup, net-none, net_in, turned}
 use Rattle.lookup_debug.specs.Appended.{placeless}
-use Rattle.lookup_debug.specs.Contributions.{Contribution, Place}
+use Rattle.lookup_debug.specs.Contributions.{Contribution}
 use Rattle.lookup_debug.specs.Mismatch.{net_amount}
 use Rattle.lookup_debug.specs.Nets.{amount_nets}
 
@@ -38,22 +38,6 @@ module _ {F : Type 0} where
 
       by_test : (b : Bool) → map (λ a. a.1) rest ≡ map (λ d. d.amount) kept → map (λ a. a.1) (cond b (placeless c ∷ rest) rest) ≡ map (λ d. d.amount) (cond b (c ∷ kept) kept)
       by_test true e = ap (λ t. c.amount ∷ t) e
-      by_test false e = e
-
-  -- and their places, where all are from one
-  pub places_there : (p : List F → Bool) (place : Place) (cs : List (Contribution F)) → AllByRecursion (λ c. c.place ≡ place) cs
-      → map (λ _. place) (filter (λ a. p a.0) (map placeless cs)) ≡ map (λ c. c.place) (filter (λ c. p c.tuple) cs)
-  places_there p place [] h = refl
-  places_there p place (c ∷ cs) h = by_test (p c.tuple) (places_there p place cs h.1)
-    where
-      rest : List (List F × F)
-      rest = filter (λ a. p a.0) (map placeless cs)
-
-      kept : List (Contribution F)
-      kept = filter (λ d. p d.tuple) cs
-
-      by_test : (b : Bool) → map (λ _. place) rest ≡ map (λ d. d.place) kept → map (λ _. place) (cond b (placeless c ∷ rest) rest) ≡ map (λ d. d.place) (cond b (c ∷ kept) kept)
-      by_test true e = λ i. sym h.0 i ∷ e i
       by_test false e = e
 
 module _ {F : Type 0} {R : Ring F} (laws : IsCommutativeRing R) (eq : F → F → Bool) (eq_is : (a b : F) → Decides (eq a b) (a ≡ b)) where

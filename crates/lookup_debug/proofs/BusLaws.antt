@@ -10,11 +10,9 @@ use Rattle.lookup_laws.proofs.Rows.{take_item}
 use Rattle.lookup_model.proofs.Branches.{mapped_more}
 use Rattle.lookup_model.specs.Outline.{bus_of}
 use Rattle.lookup_model.specs.declared.types.Lookup.{Lookup}
-use Rattle.lookup_debug.specs.Appended.{Collects}
 use Rattle.lookup_debug.specs.Contributions.{Contribution, Traced, contributions_of}
 use Rattle.lookup_debug.specs.Groups.{Placed, is_named, is_on, placed_contributions, placed_in}
-use Rattle.lookup_debug.specs.declared.arena.Contributions.{Contributions}
-use Rattle.lookup_debug.proofs.CutLaws.{collects-more, collects-none}
+use Rattle.lookup_debug.proofs.Walks.{IsWalk}
 
 -- an item with its number
 module _ {A : Type 0} (xs : List A) (i : ℕ) (x : A) (lt : i < length xs) (is : x ≡ get_or xs i x) where
@@ -87,42 +85,42 @@ module _ {F : Type 0} where
       ∙ filter_map-append bus front (placed_in (i, t))
       ∙ ap (λ names. filter_map bus front ++ names) (buses_in i t)
 
-module _ {F S : Type 0} (holds : S → List F → List (List F × F) → List (Contribution F) → Type 0) (R : Ring F) (eq : F → F → Bool) (name : List ℕ) where
+module _ {F A : Type 0} (Does : A → A → List (Contribution F) → Type 0) (walk : IsWalk Does) (R : Ring F) (eq : F → F → Bool) (name : List ℕ) where
   -- what the lookups on the bus contribute
   abbrev chosen : List (Placed F) → List (Contribution F)
   chosen ps = flat_map (placed_contributions R eq) (filter (is_on name) ps)
 
   -- one more lookup of an AIR
-  module _ (n : ℕ) (t : Traced F) (j : ℕ) (l : Lookup F) (lt : j < length t.lookups) (is : l ≡ get_or t.lookups j l) (before now : S × Contributions F) (so_far : Collects holds before now (chosen (take j (placed_in (n, t))))) where
-    step : (after : S × Contributions F) (b : Bool) → is_named name (bus_of l.kind) ≡ b
-        → Collects holds now after (cond b (contributions_of R eq n j t l) [])
-        → Collects holds before after (chosen (take (j + 1) (placed_in (n, t))))
+  module _ (n : ℕ) (t : Traced F) (j : ℕ) (l : Lookup F) (lt : j < length t.lookups) (is : l ≡ get_or t.lookups j l) (before now : A) (so_far : Does before now (chosen (take j (placed_in (n, t))))) where
+    step : (after : A) (b : Bool) → is_named name (bus_of l.kind) ≡ b
+        → Does now after (cond b (contributions_of R eq n j t l) [])
+        → Does before after (chosen (take (j + 1) (placed_in (n, t))))
     step after b on this =
         let p : Placed F = record { instance = n; place = j; traced = t; lookup = l } in
-        subst (Collects holds before after)
+        subst (Does before after)
         (ap (λ cs. chosen (take j (placed_in (n, t))) ++ cs) (sym (chosen-one (is_on name) (placed_contributions R eq) p b on))
         ∙ sym (ap chosen (placed_in-more n t j l lt is) ∙ chosen-append (is_on name) (placed_contributions R eq) (take j (placed_in (n, t))) (p ∷ [])))
-        (collects-more holds before now after (chosen (take j (placed_in (n, t)))) (cond b (contributions_of R eq n j t l) []) so_far this)
+        (walk.joins before now after (chosen (take j (placed_in (n, t)))) (cond b (contributions_of R eq n j t l) []) so_far this)
 
     -- it is on the bus
-    pub step_on : (made after : S × Contributions F) → after ≡ made
-        → is_named name (bus_of l.kind) ≡ true → Collects holds now made (contributions_of R eq n j t l)
-        → Collects holds before after (chosen (take (j + 1) (placed_in (n, t))))
-    step_on made after same on this = step after true on (subst (λ c. Collects holds now c (contributions_of R eq n j t l)) (sym same) this)
+    pub step_on : (made after : A) → after ≡ made
+        → is_named name (bus_of l.kind) ≡ true → Does now made (contributions_of R eq n j t l)
+        → Does before after (chosen (take (j + 1) (placed_in (n, t))))
+    step_on made after same on this = step after true on (subst (λ c. Does now c (contributions_of R eq n j t l)) (sym same) this)
 
     -- or it is not
-    pub step_off : (after : S × Contributions F) → after ≡ now → is_named name (bus_of l.kind) ≡ false
-        → Collects holds before after (chosen (take (j + 1) (placed_in (n, t))))
-    step_off after same off = step after false off (subst (λ c. Collects holds now c []) (sym same) (collects-none holds now so_far.0))
+    pub step_off : (after : A) → after ≡ now → is_named name (bus_of l.kind) ≡ false
+        → Does before after (chosen (take (j + 1) (placed_in (n, t))))
+    step_off after same off = step after false off (subst (λ c. Does now c []) (sym same) (walk.rests before now (chosen (take j (placed_in (n, t)))) so_far))
 
   -- the lookups of one more AIR
   pub step_instance : (ts : List (Traced F)) (i : ℕ) (t : Traced F) → i < length ts
-      → t ≡ get_or ts i t → (before now after : S × Contributions F)
-      → Collects holds before now (chosen (flat_map placed_in (take i (enumerate_from 0 ts))))
-      → Collects holds now after (chosen (placed_in (i, t)))
-      → Collects holds before after (chosen (flat_map placed_in (take (i + 1) (enumerate_from 0 ts))))
+      → t ≡ get_or ts i t → (before now after : A)
+      → Does before now (chosen (flat_map placed_in (take i (enumerate_from 0 ts))))
+      → Does now after (chosen (placed_in (i, t)))
+      → Does before after (chosen (flat_map placed_in (take (i + 1) (enumerate_from 0 ts))))
   step_instance ts i t lt is before now after so_far this =
       let front = flat_map placed_in (take i (enumerate_from 0 ts)) in
-      subst (Collects holds before after)
+      subst (Does before after)
       (sym (ap chosen (placed-more ts i t lt is) ∙ chosen-append (is_on name) (placed_contributions R eq) front (placed_in (i, t))))
-      (collects-more holds before now after (chosen front) (chosen (placed_in (i, t))) so_far this)
+      (walk.joins before now after (chosen front) (chosen (placed_in (i, t))) so_far this)

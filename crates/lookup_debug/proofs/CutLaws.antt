@@ -3,7 +3,7 @@ use Rattle.std.proofs.Common.{◌≡◌, ℕ, ◌+◌, ◌-◌, ◌≤◌, All, 
 use Rattle.std.proofs.lemmas.List.{append-nil, drop-append-le, length-drop, map-append, take-append-le, take_all}
 use Rattle.std.proofs.lemmas.List.Elements.{All-push}
 use Rattle.std.specs.List.{slice_range}
-use Rattle.lookup_debug.specs.Appended.{Appends, Collects, placeless}
+use Rattle.lookup_debug.specs.Appended.{Appends, placeless}
 use Rattle.lookup_debug.specs.Arena.{AreWithin, amounts_in, cut_amount}
 use Rattle.lookup_debug.specs.Contributions.{Contribution}
 use Rattle.lookup_debug.specs.declared.arena.Contributions.{Contributions}
@@ -93,15 +93,3 @@ module _ {F : Type 0} where
           (λ i. map (cut_amount (elements_are i)) (cuts_are i))
           ∙ map-append (cut_amount (xs ++ tuple)) before.cuts.items (cut ∷ [])
           ∙ (λ i. kept xs tuple before.cuts.items within i ++ (last i, cut.amount) ∷ [])
-
--- What a collector does, one part after the other.
-module _ {F S : Type 0} (holds : S → List F → List (List F × F) → List (Contribution F) → Type 0) where
-  -- nothing is collected
-  pub collects-none : (a : S × Contributions F) → AreWithin a.1 → Collects holds a a []
-  collects-none a within = (within, λ tuple cs h. subst (holds a.0 tuple (amounts_in a.1)) (sym (append-nil cs)) h)
-
-  -- first some contributions are collected, and then more
-  pub collects-more : (a b c : S × Contributions F) (xs ys : List (Contribution F)) → Collects holds a b xs
-      → Collects holds b c ys → Collects holds a c (xs ++ ys)
-  collects-more a b c xs ys first then =
-      (then.0, λ tuple cs h. subst (holds c.0 tuple (amounts_in c.1)) (append_assoc cs xs ys) (then.1 tuple (cs ++ xs) (first.1 tuple cs h)))

@@ -5,11 +5,12 @@ pub mod CutLaws
 pub mod CutNets
 pub mod FirstMismatch
 pub mod GroupSteps
-pub mod KeptItems
 pub mod LeastSteps
 pub mod MismatchLaws
 pub mod NameLaws
+pub mod PlaceLaws
 pub mod PlacedLaws
 pub mod SeenOrder
 pub mod SentContributionLaws
 pub mod TextLaws
+pub mod Walks

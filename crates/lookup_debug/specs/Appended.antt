@@ -1,8 +1,14 @@
--- Contributions while they are collected.
-use Rattle.std.specs.Prelude.{◌≡◌, ◌++◌, List, map}
+-- Contributions while they are collected, and places while they are found.
+use Rattle.std.specs.Prelude.{◌≡◌, ◌++◌, Bool, List, map}
+use Rattle.std.specs.declared.alloc.Global.{Global}
+use Rattle.std.specs.declared.vec.Vec.{Vec}
+use Rattle.field.specs.Ring.{Ring}
 use Rattle.lookup_debug.specs.Arena.{AreWithin, amounts_in}
-use Rattle.lookup_debug.specs.Contributions.{Contribution}
+use Rattle.lookup_debug.specs.Contributions.{Contribution, place_of}
+use Rattle.lookup_debug.specs.Mismatch.{of_tuple}
+use Rattle.lookup_debug.specs.Nets.{amount_nets}
 use Rattle.lookup_debug.specs.declared.arena.Contributions.{Contributions}
+use Rattle.lookup_debug.specs.declared.fault.Location.{Location}
 
 -- a contribution without its place
 abbrev pub placeless : {F : Type 0} → Contribution F → List F × F
@@ -12,8 +18,12 @@ placeless c = (c.tuple, c.amount)
 abbrev pub Appends : {F : Type 0} → Contributions F → Contributions F → List (Contribution F) → Type 0
 Appends before after more = AreWithin after × (amounts_in after ≡ amounts_in before ++ map placeless more)
 
--- If a collector with its list stood for some contributions before, it stands for these followed by
--- more after.
-abbrev pub Collects : {F S : Type 0} → (S → List F → List (List F × F) → List (Contribution F) → Type 0) → S × Contributions F → S × Contributions F → List (Contribution F) → Type 0
-Collects {F} holds before after more =
-    AreWithin after.1 × ((tuple : List F) (cs : List (Contribution F)) → holds before.0 tuple (amounts_in before.1) cs → holds after.0 tuple (amounts_in after.1) (cs ++ more))
+-- If the nets before were those of some contributions, they are those of these followed by more after.
+abbrev pub Collects : {F : Type 0} → Ring F → (F → F → Bool) → Contributions F → Contributions F → List (Contribution F) → Type 0
+Collects {F} R eq before after more =
+    AreWithin after × ((cs : List (Contribution F)) → amount_nets R eq (amounts_in before) ≡ amount_nets R eq (map placeless cs) → amount_nets R eq (amounts_in after) ≡ amount_nets R eq (map placeless (cs ++ more)))
+
+-- After the earlier locations come the places of those of these contributions that have this tuple.
+abbrev pub AppendsPlaces : {F : Type 0} → Ring F → (F → F → Bool) → List F → Vec Location Global → Vec Location Global → List (Contribution F) → Type 0
+AppendsPlaces R eq tuple before after more =
+    map place_of after.items ≡ map place_of before.items ++ map (λ c. c.place) (of_tuple R eq more tuple)

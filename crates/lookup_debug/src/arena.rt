@@ -17,11 +17,17 @@ pub(crate) struct Cut<F> {
     pub(crate) amount: F,
 }
 
-/// Tuples with amounts. The tuples stand one after another in `elements`.
+/// At how many contributions equal tuples are merged, in addition to eight for each tuple that the last
+/// merge left.
+const FREE_CONTRIBUTIONS: usize = 1 << 18;
+
+/// Tuples with amounts. The tuples stand one after another in `elements`. Where there are `limit` of
+/// them, equal ones are merged.
 #[derive(Drop)]
 pub(crate) struct Contributions<F> {
     pub(crate) elements: Vec<F>,
     pub(crate) cuts: Vec<Cut<F>>,
+    limit: usize,
 }
 
 impl<F: Field> Contributions<F> {
@@ -33,16 +39,18 @@ impl<F: Field> Contributions<F> {
         Contributions {
             elements: Vec::new(alloc),
             cuts: Vec::new(alloc),
+            limit: FREE_CONTRIBUTIONS,
         }
     }
 
-    /// Removes all contributions, and keeps the memory.
+    /// Removes all contributions, and keeps the memory. The limit is the first one again.
     pub(crate) fn clear(&mut self)
         ensures within { AreWithin self.new }
         ensures empty { amounts_in self.new ≡ [] }
     {
         self.elements.clear();
         self.cuts.clear();
+        self.limit = FREE_CONTRIBUTIONS;
     }
 
     /// Appends one more tuple with its amount.
@@ -77,8 +85,29 @@ pub(crate) fn nets<'a, F: Field>(
     Ok(nets)
 }
 
+/// Merges equal tuples where the list has reached its limit: each stays once, with its net. So memory is
+/// not linear in what is contributed.
+pub(crate) fn merge_at_limit<F: Field>(
+    alloc: Global,
+    contributions: &mut Contributions<F>,
+) -> Result<(), AllocError>
+    requires within { AreWithin contributions.now }
+    ensures { OnOk result (AreWithin contributions.new
+        × (amount_nets F.ring F.eq (amounts_in contributions.new)
+        ≡ amount_nets F.ring F.eq (amounts_in contributions.old))) }
+{
+    if contributions.cuts.len() < contributions.limit {
+        return Ok(());
+    }
+    let mut merged = merged(alloc, contributions)?;
+    let tuples = merged.cuts.len();
+    merged.limit = tuples.saturating_mul(8).saturating_add(FREE_CONTRIBUTIONS);
+    *contributions = merged;
+    Ok(())
+}
+
 /// Each tuple once, with its net, in the order in which the tuples are first seen.
-pub(crate) fn merged<F: Field>(
+fn merged<F: Field>(
     alloc: Global,
     contributions: &Contributions<F>,
 ) -> Result<Contributions<F>, AllocError>

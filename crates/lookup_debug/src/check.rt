@@ -11,13 +11,13 @@ ghost use Rattle.lookup_model.specs.Records.{DoFit};
 ghost use Rattle.matrix.specs.Matrix.{height};
 
 use crate::arena::Contributions;
-use crate::collector::{Nets, Places};
 use crate::contributions::collect_lookup;
 use crate::fault::{Location, LookupFault};
 use crate::first::first_mismatch;
 use crate::groups::{bus_names, collect_bus};
 use crate::instance::LookupDebugInstance;
 use crate::labels::{label_of_bus, label_of_local};
+use crate::places::{push_bus_places, push_lookup_places};
 use field::Field;
 use lookup_model::{Kind, Lookup};
 use std::alloc::{AllocError, Global};
@@ -122,32 +122,14 @@ fn check_local<F: Field>(
         (contributions_of F.ring F.eq instance place (traced_of traced.now) lookup.now) result }
 {
     contributions.clear();
-    let mut nets = Nets::new();
-    collect_lookup(
-        alloc,
-        &mut nets,
-        contributions,
-        traced,
-        lookup,
-        instance,
-        place,
-    )?;
+    collect_lookup(alloc, contributions, traced, lookup, instance, place)?;
     let Some(found) = first_mismatch(alloc, contributions)? else {
         return Ok(());
     };
     let label = label_of_local(alloc, instance, place)?;
-    let mut places = Places::new(alloc, found.0);
-    let mut row = Contributions::new(alloc);
-    collect_lookup(
-        alloc,
-        &mut places,
-        &mut row,
-        traced,
-        lookup,
-        instance,
-        place,
-    )?;
-    Err(mismatch(alloc, label, found, places.into_locations())?)
+    let mut locations = Vec::new(alloc);
+    push_lookup_places(&mut locations, found.0, traced, lookup, instance, place)?;
+    Err(mismatch(alloc, label, found, locations)?)
 }
 
 /// Checks all buses.
@@ -185,16 +167,14 @@ fn check_bus<F: Field>(
         AnswersGroup F.ring F.eq F.text group.label group.contributions result }
 {
     contributions.clear();
-    let mut nets = Nets::new();
-    collect_bus(alloc, &mut nets, contributions, instances, name)?;
+    collect_bus(alloc, contributions, instances, name)?;
     let Some(found) = first_mismatch(alloc, contributions)? else {
         return Ok(());
     };
     let label = label_of_bus(alloc, name)?;
-    let mut places = Places::new(alloc, found.0);
-    let mut row = Contributions::new(alloc);
-    collect_bus(alloc, &mut places, &mut row, instances, name)?;
-    Err(mismatch(alloc, label, found, places.into_locations())?)
+    let mut locations = Vec::new(alloc);
+    push_bus_places(&mut locations, found.0, instances, name)?;
+    Err(mismatch(alloc, label, found, locations)?)
 }
 
 /// The mismatch of a tuple with this net, in a group with this label.

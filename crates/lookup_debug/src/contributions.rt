@@ -11,9 +11,7 @@ ghost use Rattle.lookup_model.specs.Records.{AllFit, DoFit, HasEqualLengths, IsW
 ghost use Rattle.lookup_model.specs.Sent.{branches_at, value, values};
 ghost use Rattle.matrix.specs.Matrix.{height};
 
-use crate::arena::{Contributions, Cut};
-use crate::collector::Collector;
-use crate::fault::Location;
+use crate::arena::{Contributions, Cut, merge_at_limit};
 use crate::instance::LookupDebugInstance;
 use air::SymbolicExpression;
 use field::Field;
@@ -88,7 +86,7 @@ fn push_counted<F: Field>(
 }
 
 /// Flag times count on the builder's row. The count under a flag of zero is not walked.
-fn flagged_amount<F: Field>(
+pub(crate) fn flagged_amount<F: Field>(
     flag: &SymbolicExpression<F>,
     count: &SymbolicExpression<F>,
     builder: &LookupTraceBuilder<'_, F, F>,
@@ -155,9 +153,8 @@ fn push_on_row<F: Field>(
 
 /// Collects the contributions of the lookup at `place` of an AIR on all rows of its traces, those of
 /// zero left out.
-pub(crate) fn collect_lookup<F: Field, C: Collector<F>>(
+pub(crate) fn collect_lookup<F: Field>(
     alloc: Global,
-    collector: &mut C,
     contributions: &mut Contributions<F>,
     traced: &LookupDebugInstance<'_, F>,
     lookup: &Lookup<F>,
@@ -171,8 +168,7 @@ pub(crate) fn collect_lookup<F: Field, C: Collector<F>>(
         traced.now.lookups.now }
     requires heights { ForSome (option_copied traced.now.preprocessed_trace)
         (λ m. height m ≡ height traced.now.main_trace.now) }
-    ensures { OnOk result (Collects C.holds (collector.old, contributions.old)
-        (collector.new, contributions.new)
+    ensures { OnOk result (Collects F.ring F.eq contributions.old contributions.new
         (contributions_of F.ring F.eq instance place (traced_of traced.now) lookup.now)) }
 {
     for row in 0..traced.main_trace.height() {
@@ -184,12 +180,7 @@ pub(crate) fn collect_lookup<F: Field, C: Collector<F>>(
             row,
         );
         push_on_row(contributions, lookup, &builder)?;
-        let location = Location {
-            instance,
-            lookup: place,
-            row,
-        };
-        collector.collect(alloc, contributions, location)?;
+        merge_at_limit(alloc, contributions)?;
     }
     Ok(())
 }

@@ -15,7 +15,6 @@ ghost use Rattle.lookup_model.specs.Records.{DoFit};
 ghost use Rattle.matrix.specs.Matrix.{height};
 
 use crate::arena::Contributions;
-use crate::collector::Collector;
 use crate::contributions::collect_lookup;
 use crate::instance::LookupDebugInstance;
 use field::Field;
@@ -67,9 +66,8 @@ fn add_names<'a, F: Field>(
 }
 
 /// Collects the contributions of all lookups on a bus.
-pub(crate) fn collect_bus<F: Field, C: Collector<F>>(
+pub(crate) fn collect_bus<F: Field>(
     alloc: Global,
-    collector: &mut C,
     contributions: &mut Contributions<F>,
     instances: &[LookupDebugInstance<'_, F>],
     name: &str,
@@ -79,22 +77,20 @@ pub(crate) fn collect_bus<F: Field, C: Collector<F>>(
         (option_copied i.preprocessed_trace) i.public_values.now) i.lookups.now) instances.now }
     requires heights { All (λ i. ForSome (option_copied i.preprocessed_trace)
         (λ m. height m ≡ height i.main_trace.now)) instances.now }
-    ensures { OnOk result (Collects C.holds (collector.old, contributions.old)
-        (collector.new, contributions.new)
+    ensures { OnOk result (Collects F.ring F.eq contributions.old contributions.new
         (flat_map (placed_contributions F.ring F.eq)
         (filter (is_on name.now) (placed (map traced_of instances.now))))) }
 {
     for instance in 0..instances.len() {
         let traced = &instances[instance];
-        collect_bus_of(alloc, collector, contributions, traced, instance, name)?;
+        collect_bus_of(alloc, contributions, traced, instance, name)?;
     }
     Ok(())
 }
 
 /// Collects the contributions of the lookups of one AIR on a bus.
-fn collect_bus_of<F: Field, C: Collector<F>>(
+fn collect_bus_of<F: Field>(
     alloc: Global,
-    collector: &mut C,
     contributions: &mut Contributions<F>,
     traced: &LookupDebugInstance<'_, F>,
     instance: usize,
@@ -106,30 +102,21 @@ fn collect_bus_of<F: Field, C: Collector<F>>(
         traced.now.lookups.now }
     requires heights { ForSome (option_copied traced.now.preprocessed_trace)
         (λ m. height m ≡ height traced.now.main_trace.now) }
-    ensures { OnOk result (Collects C.holds (collector.old, contributions.old)
-        (collector.new, contributions.new)
+    ensures { OnOk result (Collects F.ring F.eq contributions.old contributions.new
         (flat_map (placed_contributions F.ring F.eq)
         (filter (is_on name.now) (placed_in (instance, traced_of traced.now))))) }
 {
     for place in 0..traced.lookups.len() {
         let lookup = &traced.lookups[place];
         if is_on_bus(lookup, name) {
-            collect_lookup(
-                alloc,
-                collector,
-                contributions,
-                traced,
-                lookup,
-                instance,
-                place,
-            )?;
+            collect_lookup(alloc, contributions, traced, lookup, instance, place)?;
         }
     }
     Ok(())
 }
 
 /// Whether a lookup is on the bus of this name.
-fn is_on_bus<F: Field>(lookup: &Lookup<F>, name: &str) -> bool
+pub(crate) fn is_on_bus<F: Field>(lookup: &Lookup<F>, name: &str) -> bool
     ensures { result ≡ is_named name.now (bus_of lookup.now.kind) }
 {
     match &lookup.kind {

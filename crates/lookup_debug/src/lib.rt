@@ -8,13 +8,13 @@
 
 mod arena;
 mod check;
-mod collector;
 mod contributions;
 mod fault;
 mod first;
 mod groups;
 mod instance;
 mod labels;
+mod places;
 
 pub use check::check_lookups;
 pub use fault::{Location, LookupFault};

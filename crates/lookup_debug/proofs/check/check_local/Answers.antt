@@ -1,6 +1,7 @@
-use Rattle.std.proofs.Common.{[], inr, map, string_bytes, subst, ap, ◌∙◌}
+use Rattle.std.proofs.Common.{◌++◌, [], inr, map, string_bytes, subst, ap, ◌∙◌}
 use Rattle.lookup_debug.specs.Contributions.{contributions_of, place_of, traced_of}
 use Rattle.lookup_debug.specs.Groups.{local_label}
+use Rattle.lookup_debug.specs.Mismatch.{of_tuple}
 use Rattle.lookup_debug.specs.Nets.{amount_nets}
 use Rattle.lookup_debug.proofs.MismatchLaws.{IsFound, mismatch_of}
 use Rattle.lookup_debug.proofs.check.check_local.Goals as goal
@@ -10,7 +11,7 @@ returns-in_default g c =
     let R = g.F.PrimeCharacteristicRing.ring in
     let eq = g.F.PartialEq.eq in
     let cs = contributions_of R eq c.args.instance c.args.place (traced_of c.args.traced.now) c.args.lookup.now in
-    let same = c.in_ok-collect_lookup.ensures.1 [] [] (ap (amount_nets R eq) c.clear.ensures.empty) in
+    let same = c.in_ok-collect_lookup.ensures.1 [] (ap (amount_nets R eq) c.clear.ensures.empty) in
     subst (IsFound R eq g.F.Field.text cs) c.in_default.is (c.in_ok-found.ensures cs same)
 
 pub returns : goal.returns
@@ -20,8 +21,8 @@ returns g c =
     let text = g.F.Field.text in
     let label = local_label c.args.instance c.args.place in
     let cs = contributions_of R eq c.args.instance c.args.place (traced_of c.args.traced.now) c.args.lookup.now in
-    let same = c.in_ok-collect_lookup.ensures.1 [] [] (ap (amount_nets R eq) c.clear.ensures.empty) in
+    let same = c.in_ok-collect_lookup.ensures.1 [] (ap (amount_nets R eq) c.clear.ensures.empty) in
     let found = subst (IsFound R eq text cs) c.in-Some.is (c.in_ok-found.ensures cs same) in
-    let places = c.in_ok-collect_lookup-2.ensures.1 c.in-Some.found.0.now [] (c.new-places.ensures.tuple, c.new-row.ensures.empty, ap (map place_of) c.new-places.ensures.empty) in
-    inr (mismatch_of R eq text (string_bytes c.in_ok-label.label) label cs c.in-Some.found.0.now c.in-Some.found.1 (map place_of c.into_locations.result.items) c.in_ok-mismatch.field-0
-    c.in_ok-label.ensures found (ap (λ v. map place_of v.items) c.into_locations.ensures ∙ places.2) c.in_ok-mismatch.ensures)
+    inr (mismatch_of R eq text (string_bytes c.in_ok-label.label) label cs c.in-Some.found.0.now c.in-Some.found.1 (map place_of c.push_lookup_places.new.locations.items) c.in_ok-mismatch.field-0
+    c.in_ok-label.ensures found
+    (c.in_ok-push_lookup_places.ensures ∙ ap (λ ls. map place_of ls ++ map (λ k. k.place) (of_tuple R eq cs c.in-Some.found.0.now)) c.new-locations.ensures.items) c.in_ok-mismatch.ensures)

@@ -5,4 +5,4 @@ use Rattle.lookup_debug.proofs.contributions.collect_lookup.Given as goal
 
 abbrev pub invariant-loop-row : goal.invariant-loop-row
 invariant-loop-row g l =
-    Collects g.C.Collector.holds (l.fn.collector, l.fn.contributions) (l.collector, l.contributions) (flat_map (contributions_on g.F.PrimeCharacteristicRing.ring g.F.PartialEq.eq l.instance l.place (traced_of l.traced) l.lookup) (range_with_len 0 l.row))
+    Collects g.F.PrimeCharacteristicRing.ring g.F.PartialEq.eq l.fn.contributions l.contributions (flat_map (contributions_on g.F.PrimeCharacteristicRing.ring g.F.PartialEq.eq l.instance l.place (traced_of l.traced) l.lookup) (range_with_len 0 l.row))

@@ -12,7 +12,7 @@ returns g c place =
     let R = g.F.PrimeCharacteristicRing.ring in
     let eq = g.F.PartialEq.eq in
     let before : Contributions _ = c.args.contributions.now in
-    let after : Contributions _ = record { elements = c.push_tuple.new.elements; cuts = c.push.new.self } in
+    let after : Contributions _ = record { elements = c.push_tuple.new.elements; cuts = c.push.new.self; limit = before.limit } in
     let tuple = values R (builder_window c.args.builder.now) c.args.tuple.now in
     let one : List (Contribution _) = record { tuple = tuple; amount = c.args.amount; place = place } ∷ [] in
     let zero_is : c.ZERO.result ≡ R.zero = c.ZERO.ensures ∙ g.met.F.PrimeCharacteristicRing.zero_is in

@@ -11,6 +11,7 @@ use Rattle.lookup_debug.specs.Contributions.{Traced, traced_of}
 use Rattle.lookup_debug.specs.Groups.{is_on, placed_contributions, placed_in}
 use Rattle.lookup_debug.specs.declared.instance.LookupDebugInstance.{LookupDebugInstance}
 use Rattle.lookup_debug.proofs.BusLaws.{numbered_all, step_instance}
+use Rattle.lookup_debug.proofs.Walks.{collects}
 use Rattle.lookup_debug.proofs.groups.collect_bus.Goals as goal
 
 pub collect_bus_of-requires-clause-fit : goal.collect_bus_of-requires-clause-fit
@@ -24,8 +25,10 @@ loop-instance-preserved g c =
     let i = c.loop-instance.instance in
     let t = traced_of c.index-instances-instance.result in
     let lt : i < length ts = omega (arith, c.loop-instance-test.true, length-map instances traced_of) in
-    step_instance g.C.Collector.holds g.F.PrimeCharacteristicRing.ring g.F.PartialEq.eq c.args.name.now ts i t lt (mapped_at traced_of instances i c.index-instances-instance.result c.loop-instance-test.true c.index-instances-instance.is)
-    (c.args.collector.now, c.args.contributions.now) (c.loop-instance.collector, c.loop-instance.contributions) (c.collect_bus_of.new.collector, c.collect_bus_of.new.contributions) c.loop-instance.invariant c.in_ok-collect_bus_of.ensures
+    let R = g.F.PrimeCharacteristicRing.ring in
+    let eq = g.F.PartialEq.eq in
+    step_instance (Collects R eq) (collects R eq) R eq c.args.name.now ts i t lt (mapped_at traced_of instances i c.index-instances-instance.result c.loop-instance-test.true c.index-instances-instance.is)
+    c.args.contributions.now c.loop-instance.contributions c.collect_bus_of.new.contributions c.loop-instance.invariant c.in_ok-collect_bus_of.ensures
 
 pub returns : goal.returns
 returns g c =
@@ -33,4 +36,4 @@ returns g c =
     let on = is_on c.args.name.now in
     let instances = c.args.instances.now in
     let ts = map traced_of instances in
-    subst (λ (ns : List (ℕ × Traced _)). Collects g.C.Collector.holds (c.args.collector.now, c.args.contributions.now) (c.loop-instance.collector, c.loop-instance.contributions) (flat_map f (filter on (flat_map placed_in ns)))) (numbered_all ts c.loop-instance.instance (omega (arith, c.loop-instance-test.false, length-map instances traced_of))) c.loop-instance.invariant
+    subst (λ (ns : List (ℕ × Traced _)). Collects g.F.PrimeCharacteristicRing.ring g.F.PartialEq.eq c.args.contributions.now c.loop-instance.contributions (flat_map f (filter on (flat_map placed_in ns)))) (numbered_all ts c.loop-instance.instance (omega (arith, c.loop-instance-test.false, length-map instances traced_of))) c.loop-instance.invariant

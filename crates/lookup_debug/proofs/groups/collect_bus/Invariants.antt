@@ -7,4 +7,4 @@ use Rattle.lookup_debug.proofs.groups.collect_bus.Given as goal
 
 abbrev pub invariant-loop-instance : goal.invariant-loop-instance
 invariant-loop-instance g l =
-    Collects g.C.Collector.holds (l.fn.collector, l.fn.contributions) (l.collector, l.contributions) (flat_map (placed_contributions g.F.PrimeCharacteristicRing.ring g.F.PartialEq.eq) (filter (is_on l.name) (flat_map placed_in (take l.instance (enumerate_from 0 (map traced_of l.instances))))))
+    Collects g.F.PrimeCharacteristicRing.ring g.F.PartialEq.eq l.fn.contributions l.contributions (flat_map (placed_contributions g.F.PrimeCharacteristicRing.ring g.F.PartialEq.eq) (filter (is_on l.name) (flat_map placed_in (take l.instance (enumerate_from 0 (map traced_of l.instances))))))

@@ -8,8 +8,8 @@ use Rattle.lookup_debug.specs.Appended.{Collects}
 use Rattle.lookup_debug.specs.Contributions.{contributions_of, traced_of}
 use Rattle.lookup_debug.specs.Groups.{Placed, is_named, is_on, placed_contributions, placed_in}
 use Rattle.lookup_debug.specs.declared.arena.Contributions.{Contributions}
-use Rattle.lookup_debug.proofs.CutLaws.{collects-none}
 use Rattle.lookup_debug.proofs.BusLaws.{length-placed_in, step_off, step_on}
+use Rattle.lookup_debug.proofs.Walks.{collects, collects-none}
 use Rattle.lookup_debug.proofs.groups.collect_bus_of.Goals.{else-is_on_bus, then-is_on_bus+in_ok-collect_lookup}
 use Rattle.lookup_debug.proofs.groups.collect_bus_of.Goals as goal
 
@@ -23,18 +23,17 @@ loop-place-preserved g c =
     let j = c.loop-place.place in
     let l = c.index-traced-place.result in
     let is = c.index-traced-place.is in
-    let holds = g.C.Collector.holds in
-    let start : _ × Contributions _ = (c.args.collector.now, c.args.contributions.now) in
-    let so_far : _ × Contributions _ = (c.loop-place.collector, c.loop-place.contributions) in
-    let after : _ × Contributions _ = (c.if-is_on_bus.collector, c.if-is_on_bus.contributions) in
+    let start : Contributions _ = c.args.contributions.now in
+    let so_far : Contributions _ = c.loop-place.contributions in
+    let after : Contributions _ = c.if-is_on_bus.contributions in
     let named : is_named name (bus_of l.kind) ≡ c.is_on_bus.result = ap (λ (k : Lookup _). is_named name (bus_of k.kind)) is ∙ sym c.is_on_bus.ensures in
     elim c.if-is_on_bus.branch [
       | then-is_on_bus+in_ok-collect_lookup w ↦
-          let made : _ × Contributions _ = (w.collect_lookup.new.collector, w.collect_lookup.new.contributions) in
-          step_on holds R eq name n t j l c.loop-place-test.true is start so_far c.loop-place.invariant made after (λ i. (w.collector-is i, w.contributions-is i)) (named ∙ w.if-is_on_bus.true)
-          (subst (λ (k : Lookup _). Collects holds so_far made (contributions_of R eq n j t k)) (sym is) w.in_ok-collect_lookup.ensures)
+          let made : Contributions _ = w.collect_lookup.new.contributions in
+          step_on (Collects R eq) (collects R eq) R eq name n t j l c.loop-place-test.true is start so_far c.loop-place.invariant made after w.contributions-is (named ∙ w.if-is_on_bus.true)
+          (subst (λ (k : Lookup _). Collects R eq so_far made (contributions_of R eq n j t k)) (sym is) w.in_ok-collect_lookup.ensures)
       | else-is_on_bus w ↦
-          step_off holds R eq name n t j l c.loop-place-test.true is start so_far c.loop-place.invariant after (λ i. (w.collector-is i, w.contributions-is i)) (named ∙ w.if-is_on_bus.false)
+          step_off (Collects R eq) (collects R eq) R eq name n t j l c.loop-place-test.true is start so_far c.loop-place.invariant after w.contributions-is (named ∙ w.if-is_on_bus.false)
     ]
 
 pub returns : goal.returns
@@ -43,10 +42,10 @@ returns g c =
     let on = is_on c.args.name.now in
     let t = traced_of c.args.traced.now in
     let ps = placed_in (c.args.instance, t) in
-    subst (λ (qs : List (Placed _)). Collects g.C.Collector.holds (c.args.collector.now, c.args.contributions.now) (c.loop-place.collector, c.loop-place.contributions) (flat_map f (filter on qs))) (take_all c.loop-place.place ps (omega (arith, c.loop-place-test.false, length-placed_in c.args.instance t))) c.loop-place.invariant
+    subst (λ (qs : List (Placed _)). Collects g.F.PrimeCharacteristicRing.ring g.F.PartialEq.eq c.args.contributions.now c.loop-place.contributions (flat_map f (filter on qs))) (take_all c.loop-place.place ps (omega (arith, c.loop-place-test.false, length-placed_in c.args.instance t))) c.loop-place.invariant
 
 pub loop-place-init : goal.loop-place-init
-loop-place-init g c = collects-none g.C.Collector.holds (c.args.collector.now, c.args.contributions.now) c.requires.within
+loop-place-init g c = collects-none g.F.PrimeCharacteristicRing.ring g.F.PartialEq.eq c.args.contributions.now c.requires.within
 
 pub collect_lookup-requires-clause-within : goal.collect_lookup-requires-clause-within
 collect_lookup-requires-clause-within g c = c.loop-place.invariant.0

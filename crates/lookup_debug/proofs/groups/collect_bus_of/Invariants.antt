@@ -7,4 +7,4 @@ use Rattle.lookup_debug.proofs.groups.collect_bus_of.Given as goal
 
 abbrev pub invariant-loop-place : goal.invariant-loop-place
 invariant-loop-place g l =
-    Collects g.C.Collector.holds (l.fn.collector, l.fn.contributions) (l.collector, l.contributions) (flat_map (placed_contributions g.F.PrimeCharacteristicRing.ring g.F.PartialEq.eq) (filter (is_on l.name) (take l.place (placed_in (l.instance, traced_of l.traced)))))
+    Collects g.F.PrimeCharacteristicRing.ring g.F.PartialEq.eq l.fn.contributions l.contributions (flat_map (placed_contributions g.F.PrimeCharacteristicRing.ring g.F.PartialEq.eq) (filter (is_on l.name) (take l.place (placed_in (l.instance, traced_of l.traced)))))

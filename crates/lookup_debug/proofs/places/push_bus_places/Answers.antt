@@ -1,0 +1,43 @@
+use Rattle.std.proofs.Common.{◌<◌, List, arith, length, map, subst, sym, ℕ}
+use Rattle.std.proofs.lemmas.List.{append-nil, length-map}
+use Rattle.std.specs.List.{filter, flat_map}
+use Rattle.std.specs.Option.{option_copied}
+use Rattle.expressions.specs.Layout.{layout_of_traces}
+use Rattle.lookup_model.proofs.Branches.{mapped_at}
+use Rattle.lookup_model.proofs.RecordLaws.{All-at}
+use Rattle.lookup_model.specs.Records.{DoFit}
+use Rattle.lookup_debug.specs.Appended.{AppendsPlaces}
+use Rattle.lookup_debug.specs.Contributions.{Traced, place_of, traced_of}
+use Rattle.lookup_debug.specs.Groups.{is_on, placed_contributions, placed_in}
+use Rattle.lookup_debug.specs.declared.instance.LookupDebugInstance.{LookupDebugInstance}
+use Rattle.lookup_debug.proofs.BusLaws.{numbered_all, step_instance}
+use Rattle.lookup_debug.proofs.Walks.{finds}
+use Rattle.lookup_debug.proofs.places.push_bus_places.Goals as goal
+
+pub push_bus_places_of-requires-clause-fit : goal.push_bus_places_of-requires-clause-fit
+push_bus_places_of-requires-clause-fit g c =
+    All-at (λ (i : LookupDebugInstance _). DoFit (layout_of_traces i.main_trace.now (option_copied i.preprocessed_trace) i.public_values.now) i.lookups.now) c.args.instances.now c.loop-instance.instance c.index-instances-instance.result c.requires.fit c.loop-instance-test.true c.index-instances-instance.is
+
+pub loop-instance-init : goal.loop-instance-init
+loop-instance-init g c = sym (append-nil (map place_of c.args.locations.now.items))
+
+pub loop-instance-preserved : goal.loop-instance-preserved
+loop-instance-preserved g c =
+    let instances = c.args.instances.now in
+    let ts = map traced_of instances in
+    let i = c.loop-instance.instance in
+    let t = traced_of c.index-instances-instance.result in
+    let lt : i < length ts = omega (arith, c.loop-instance-test.true, length-map instances traced_of) in
+    let R = g.F.PrimeCharacteristicRing.ring in
+    let eq = g.F.PartialEq.eq in
+    let tuple = c.args.tuple.now in
+    step_instance (AppendsPlaces R eq tuple) (finds R eq tuple) R eq c.args.name.now ts i t lt (mapped_at traced_of instances i c.index-instances-instance.result c.loop-instance-test.true c.index-instances-instance.is)
+    c.args.locations.now c.loop-instance.locations c.push_bus_places_of.new.locations c.loop-instance.invariant c.in_ok-push_bus_places_of.ensures
+
+pub returns : goal.returns
+returns g c =
+    let R = g.F.PrimeCharacteristicRing.ring in
+    let eq = g.F.PartialEq.eq in
+    let instances = c.args.instances.now in
+    let ts = map traced_of instances in
+    subst (λ (ns : List (ℕ × Traced _)). AppendsPlaces R eq c.args.tuple.now c.args.locations.now c.loop-instance.locations (flat_map (placed_contributions R eq) (filter (is_on c.args.name.now) (flat_map placed_in ns)))) (numbered_all ts c.loop-instance.instance (omega (arith, c.loop-instance-test.false, length-map instances traced_of))) c.loop-instance.invariant

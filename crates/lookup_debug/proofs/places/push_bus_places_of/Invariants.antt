@@ -1,0 +1,10 @@
+use Rattle.std.proofs.Common.{take}
+use Rattle.std.specs.List.{filter, flat_map}
+use Rattle.lookup_debug.specs.Appended.{AppendsPlaces}
+use Rattle.lookup_debug.specs.Contributions.{traced_of}
+use Rattle.lookup_debug.specs.Groups.{is_on, placed_contributions, placed_in}
+use Rattle.lookup_debug.proofs.places.push_bus_places_of.Given as goal
+
+abbrev pub invariant-loop-place : goal.invariant-loop-place
+invariant-loop-place g l =
+    AppendsPlaces g.F.PrimeCharacteristicRing.ring g.F.PartialEq.eq l.tuple l.fn.locations l.locations (flat_map (placed_contributions g.F.PrimeCharacteristicRing.ring g.F.PartialEq.eq) (filter (is_on l.name) (take l.place (placed_in (l.instance, traced_of l.traced)))))
