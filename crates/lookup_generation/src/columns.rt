@@ -121,7 +121,7 @@ fn branch_columns<F: Field, EF: ExtensionDomain<F>>(
     let denominators = denominators_of(
         alloc,
         &mut memory.slots,
-        &mut memory.elements,
+        &mut memory.denominators,
         &steps.elements[branch],
         main,
         preprocessed,

@@ -251,14 +251,14 @@ fn push_chunk<F: Field, EF: ExtensionDomain<F>, I: Inverter<EF>>(
         first,
         end,
     )?;
-    let values = values_of(alloc, &mut memory.elements, &ratios, inverter)?;
+    let values = values_of(alloc, &mut memory.fractions, &ratios, inverter)?;
     memory.ratios.put(ratios)?;
     let fractions = RowMajorMatrix::new(values, lookups.len());
     let mut next = accumulator;
     for i in 0..end - first {
         next = push_row(cells, next, fractions.row_slice(i))?;
     }
-    memory.elements.put(fractions.into_values())?;
+    memory.fractions.put(fractions.into_values())?;
     Ok(next)
 }
 

@@ -11,10 +11,12 @@ pub(crate) struct ChunkMemory<F, EF> {
     pub(crate) slots: Slots<F>,
     /// For rows, and for places of rows.
     pub(crate) places: Spare<usize>,
-    /// For denominators, and for fractions.
-    pub(crate) elements: Spare<EF>,
-    /// For fractions that are not divided yet.
+    /// For the denominators of a tuple.
+    pub(crate) denominators: Spare<EF>,
+    /// For the fractions of all lookups, as ratios.
     pub(crate) ratios: Spare<Ratio<EF>>,
+    /// For the same, divided.
+    pub(crate) fractions: Spare<EF>,
 }
 
 impl<F: Drop, EF: Drop> ChunkMemory<F, EF> {
@@ -23,8 +25,9 @@ impl<F: Drop, EF: Drop> ChunkMemory<F, EF> {
         ChunkMemory {
             slots: Slots::new(alloc),
             places: Spare::new(alloc),
-            elements: Spare::new(alloc),
+            denominators: Spare::new(alloc),
             ratios: Spare::new(alloc),
+            fractions: Spare::new(alloc),
         }
     }
 
@@ -52,6 +55,6 @@ impl<F: Drop, EF: Drop> ChunkMemory<F, EF> {
         self.slots.put(flags)?;
         self.places.put(places)?;
         self.slots.put(multiplicities)?;
-        self.elements.put(denominators)
+        self.denominators.put(denominators)
     }
 }

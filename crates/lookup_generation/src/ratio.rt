@@ -84,10 +84,9 @@ pub(crate) fn values_of<K: Domain, I: Inverter<K>>(
         push_numerators(&mut values, ratios)?;
         return Ok(values);
     }
-    let mut denominators = spare.take(alloc);
-    push_denominators(&mut denominators, ratios)?;
-    let inverses = batch_multiplicative_inverse(alloc, &denominators, inverter)?;
-    spare.put(denominators)?;
+    push_denominators(&mut values, ratios)?;
+    let inverses = batch_multiplicative_inverse(alloc, &values, inverter)?;
+    values.clear();
     push_products(&mut values, ratios, &inverses)?;
     Ok(values)
 }
