@@ -1,4 +1,5 @@
 //! What the tests share: expressions, lookups, traces, and generation over them.
+mod asserted;
 mod bus_widths;
 mod chunks;
 mod collisions;
@@ -19,13 +20,14 @@ mod record;
 mod refusals;
 mod rows;
 mod sets;
+mod two_airs;
 mod whole_airs;
 mod windows;
 mod witnesses;
 
 use air::{AirLayout, BaseEntry, BaseLeaf, Expression, SymbolicExpression, SymbolicVariable};
 use field::{ExtensionField, Field, PrimeCharacteristicRing};
-use lookup::{Kind, LogUpGadget, Lookup, LookupError, LookupProtocol, fits};
+use lookup::{Kind, LogUpGadget, Lookup, LookupError, LookupProtocol, LookupTerminal, fits};
 use matrix::RowMajorMatrix;
 use std::alloc::Global;
 use std::process::Abort;
@@ -146,11 +148,35 @@ fn are_numbers<F: Field>(values: &[F], numbers: &[u32]) -> bool {
     values.len() == numbers.len()
 }
 
+/// Whether all values are zero.
+fn are_zero<F: Field>(values: &[F]) -> bool {
+    for value in values {
+        if *value != F::ZERO {
+            return false;
+        }
+    }
+    true
+}
+
 /// What generation makes: the auxiliary trace, and the terminal where there is one.
 #[derive(Drop)]
 struct Made<EF> {
     auxiliary: RowMajorMatrix<EF>,
     terminal: Option<EF>,
+}
+
+impl<EF> Made<EF> {
+    /// What these parts of its answer are.
+    fn new(auxiliary: RowMajorMatrix<EF>, terminal: Option<LookupTerminal<EF>>) -> Self {
+        let terminal = match terminal {
+            Some(LookupTerminal(value)) => Some(value),
+            None => None,
+        };
+        Made {
+            auxiliary,
+            terminal,
+        }
+    }
 }
 
 /// What generation makes of lookups over traces that they have to fit.
@@ -177,10 +203,7 @@ fn generated_over<'a, F: Field, EF: ExtensionField<F>>(
         lookups,
         challenges,
     )?;
-    Ok(Made {
-        auxiliary,
-        terminal: terminal.map(|terminal| terminal.0),
-    })
+    Ok(Made::new(auxiliary, terminal))
 }
 
 /// The same over a main trace alone.

@@ -1,6 +1,6 @@
 //! Generation in chunks of 1024 rows: what stands where chunks meet, and how many inverses are counted.
 use super::comparison::ranges;
-use super::{Made, are_numbers, holds, local, range, trace};
+use super::{Made, are_numbers, are_zero, holds, local, range, trace};
 use air::AirLayout;
 use field::{ExtensionField, F7, Field, InverseCount};
 use lookup::{LogUpGadget, Lookup, LookupError, fits};
@@ -30,10 +30,10 @@ fn counted<F: Field, EF: ExtensionField<F>>(
         challenges,
         &mut count,
     );
-    let made = answer.map(|(auxiliary, terminal)| Made {
-        auxiliary,
-        terminal: terminal.map(|terminal| terminal.0),
-    });
+    let made = match answer {
+        Ok((auxiliary, terminal)) => Ok(Made::new(auxiliary, terminal)),
+        Err(fault) => Err(fault),
+    };
     (made, count.get())
 }
 
@@ -148,7 +148,7 @@ fn a_lookup_without_tuples_counts_nothing(rt: HostRuntime) {
     let made = made.expect(&rt, "no fault");
     let cells = made.auxiliary.values();
     holds(&rt, "two columns", cells.len() == 2050);
-    holds(&rt, "the cells", cells.iter().all(|x| *x == F7::new(0)));
+    holds(&rt, "the cells", are_zero(cells));
     holds(&rt, "the terminal", made.terminal == Some(F7::new(0)));
     holds(&rt, "the count", count == 0);
 }

@@ -70,7 +70,13 @@ fn all_inverses(rt: &impl Abort, alloc: Global, width: usize) -> Vec<Vec<Option<
 
 /// At how many betas two tuples combine alike.
 fn betas_alike(a: &[Option<F7>], b: &[Option<F7>]) -> usize {
-    a.iter().zip(b).filter(|(x, y)| **x == **y).count()
+    let mut alike: usize = 0;
+    for (x, y) in a.iter().zip(b) {
+        if *x == *y {
+            alike = alike.saturating_add(1);
+        }
+    }
+    alike
 }
 
 /// How many pairs of distinct tuples of a width combine alike at no beta, at one, at two and at

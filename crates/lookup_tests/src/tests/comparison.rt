@@ -1,4 +1,6 @@
 //! Generated traces against those of the plain program.
+ghost use Rattle.std.specs.Prelude.{◌+◌, ◌*◌, ◌<◌, ◌↔◌, All, IsTrue};
+
 use super::{Made, alone, generated, group, holds, list, range, trace};
 use crate::plain::{self, PlainMessage};
 use field::{F2, F7, Field};
@@ -80,6 +82,13 @@ fn message<F: Field>(
     }
 }
 
+/// Whether there are challenges for the id of each message, where there are so many.
+fn have_challenges<F>(messages: &[PlainMessage<F>], challenges: usize) -> bool
+    ensures { IsTrue result ↔ All (λ m. 2 * m.id + 1 < challenges) messages.now }
+{
+    messages.iter().all(|message| message.id < challenges / 2)
+}
+
 /// The plain answer to the messages of an additive lookup on this row: its fraction, or its fault.
 fn additive_answer(
     rt: &impl Abort,
@@ -87,11 +96,7 @@ fn additive_answer(
     messages: &[PlainMessage<F7>],
     challenges: &[F7],
 ) -> Result<F7, LookupError> {
-    assert!(rt;
-        messages
-            .iter()
-            .all(|message| message.id < challenges.len() / 2)
-    );
+    assert!(rt; have_challenges(messages, challenges.len()));
     match plain::fraction_of::<F7, F7>(messages, challenges) {
         Some(fraction) => Ok(fraction),
         None => Err(LookupError::VanishingDenominator { row, lookup: 0 }),
@@ -100,7 +105,7 @@ fn additive_answer(
 
 /// The plain terminal of the messages of range lookups.
 fn additive_terminal(rt: &impl Abort, sent: &[PlainMessage<F7>], challenges: &[F7]) -> Option<F7> {
-    assert!(rt; sent.iter().all(|message| message.id < challenges.len() / 2));
+    assert!(rt; have_challenges(sent, challenges.len()));
     plain::terminal_of::<F7, F7>(sent, challenges)
 }
 
@@ -224,17 +229,13 @@ fn exclusive_answer(
     challenges: &[F2],
 ) -> Result<F2, LookupError> {
     assert!(rt; messages.len() == flags.len());
-    assert!(rt;
-        messages
-            .iter()
-            .all(|message| message.id < challenges.len() / 2)
-    );
+    assert!(rt; have_challenges(messages, challenges.len()));
     plain::exclusive_fraction_of::<F2, F2>(alloc, row, 0, flags, messages, challenges)
 }
 
 /// The plain terminal of the messages that exclusive lookups send.
 fn exclusive_terminal(rt: &impl Abort, sent: &[PlainMessage<F2>], challenges: &[F2]) -> Option<F2> {
-    assert!(rt; sent.iter().all(|message| message.id < challenges.len() / 2));
+    assert!(rt; have_challenges(sent, challenges.len()));
     plain::terminal_of::<F2, F2>(sent, challenges)
 }
 

@@ -1,5 +1,5 @@
 //! Constraints of lookups, on witnesses and as expressions.
-ghost use Rattle.std.specs.Prelude.{◌≡◌, IfOk, None, OnOk};
+ghost use Rattle.std.specs.Prelude.{◌≡◌, ◌+◌, ◌<◌, ◌↔◌, All, IfOk, IsTrue, None, OnOk};
 ghost use Rattle.air.specs.Row.{row_layout};
 
 use super::{alone, are_numbers, generated, group, holds, range, single, trace};
@@ -8,7 +8,8 @@ use air::{
     SymbolicAirBuilder, check_rows,
 };
 use field::{ExtensionField, F7, Field, PrimeCharacteristicRing};
-use lookup::{LogUpGadget, Lookup, LookupProtocol, fits};
+use lookup::{LogUpGadget, Lookup, LookupProtocol, fits, has_equal_lengths};
+use lookup_evaluation::terminal;
 use matrix::{RowMajorMatrix, WindowAccess};
 use std::alloc::Global;
 use std::process::Abort;
@@ -258,12 +259,87 @@ fn an_exclusive_lookup_takes_the_set_branch(rt: HostRuntime) {
     }
 }
 
+/// Whether each lookup has a cell for its fraction in auxiliary rows of this width.
+fn have_cells<F>(lookups: &[Lookup<F>], width: usize) -> bool
+    ensures { IsTrue result ↔ All (λ lookup. lookup.column + 1 < width) lookups.now }
+{
+    lookups.iter().all(|lookup| lookup.column < width && lookup.column + 1 < width)
+}
+
+/// Evaluates the fraction of the lookup in a column.
+fn fraction_evaluated<AB: PermutationAirBuilder>(
+    rt: &impl Abort,
+    alloc: Global,
+    builder: &mut AB,
+    lookups: &[Lookup<AB::F>],
+    column: usize,
+) -> Result<(), AirError> {
+    let layout = layout_of(alloc, &*builder)?;
+    assert!(rt; fits(lookups, &layout) && column < lookups.len());
+    let lookup = &lookups[column];
+    assert!(rt; has_equal_lengths(lookup) && lookup.column == column);
+    assert!(rt; column < layout.num_permutation_challenges / 2);
+    assert!(rt; column < layout.permutation_width.saturating_sub(1));
+    LogUpGadget::new().eval_fraction(alloc, builder, lookup)
+}
+
+/// Evaluates the accumulator, where the terminal is the first permutation value.
+fn accumulator_evaluated<AB: PermutationAirBuilder>(
+    rt: &impl Abort,
+    alloc: Global,
+    builder: &mut AB,
+    lookups: &[Lookup<AB::F>],
+) -> Result<(), AirError> {
+    let layout = layout_of(alloc, &*builder)?;
+    assert!(rt; have_cells(lookups, layout.permutation_width));
+    assert!(rt; 0 < layout.num_permutation_values);
+    let terminal = terminal(&*builder);
+    LogUpGadget::new().eval_accumulator(alloc, builder, lookups, terminal)
+}
+
+/// What is evaluated of lookups.
+#[derive(Clone, Copy)]
+pub(super) enum Part {
+    /// The fraction of the lookup in this column.
+    Fraction(usize),
+    /// The accumulator.
+    Accumulator,
+    /// All of it.
+    All,
+}
+
+/// Evaluates a part of lookups.
+fn part_evaluated<AB: PermutationAirBuilder>(
+    rt: &impl Abort,
+    alloc: Global,
+    builder: &mut AB,
+    lookups: &[Lookup<AB::F>],
+    part: Part,
+) -> Result<(), AirError> {
+    match part {
+        Part::Fraction(column) => fraction_evaluated(rt, alloc, builder, lookups, column),
+        Part::Accumulator => accumulator_evaluated(rt, alloc, builder, lookups),
+        Part::All => evaluated(rt, alloc, builder, lookups),
+    }
+}
+
 /// The constraints of lookups as a symbolic builder records them, over a main trace of this width.
 pub(super) fn recorded(
     rt: &impl Abort,
     alloc: Global,
     width: usize,
     lookups: &[Lookup<F7>],
+) -> SymbolicAirBuilder<F7, F7> {
+    recorded_part(rt, alloc, width, lookups, Part::All)
+}
+
+/// The same of a part of them.
+pub(super) fn recorded_part(
+    rt: &impl Abort,
+    alloc: Global,
+    width: usize,
+    lookups: &[Lookup<F7>],
+    part: Part,
 ) -> SymbolicAirBuilder<F7, F7> {
     let layout = AirLayout {
         preprocessed_width: 0,
@@ -274,7 +350,7 @@ pub(super) fn recorded(
         num_permutation_values: 1,
     };
     let mut builder = SymbolicAirBuilder::new(alloc, layout).expect(rt, "memory");
-    evaluated(rt, alloc, &mut builder, lookups).expect(rt, "memory");
+    part_evaluated(rt, alloc, &mut builder, lookups, part).expect(rt, "memory");
     builder
 }
 

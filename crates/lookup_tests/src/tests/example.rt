@@ -1,14 +1,14 @@
 //! One AIR on a bus, from its evaluation to the check of its terminal and of its constraints.
-ghost use Rattle.std.specs.Prelude.{◌≡◌, All, IfOk, OnOk};
+ghost use Rattle.std.specs.Prelude.{◌≡◌, OnOk};
 
 use super::evaluation::refusal;
 use super::{are_numbers, holds, trace};
-use air::{Air, AirBuilder, AirError, BaseAir, LayoutPart};
+use air::{Air, AirError, BaseAir, current_cell, current_cells};
 use field::F7;
 use lookup::{
     Challenges, Count, InteractionBuilder, LogUpGadget, LookupBus, LookupProtocol, Lookups,
 };
-use matrix::{RowMajorMatrix, WindowAccess};
+use matrix::RowMajorMatrix;
 use std::alloc::Global;
 use std::process::Abort;
 use std::test::Fail;
@@ -42,46 +42,14 @@ impl<AB: InteractionBuilder> Air<AB> for KeysAir {
 
     fn eval(&self, alloc: Global, builder: &mut AB) -> Result<(), AirError> {
         let bus = LookupBus::new("keys");
-        let key = tuple(alloc, builder, 0)?;
+        let key = current_cells(alloc, builder, 3, &[0])?;
         bus.lookup_key(alloc, builder, key, Count::from(1))?;
-        let entry = tuple(alloc, builder, 1)?;
-        let multiplicity = cell(alloc, builder, 2)?;
+        let entry = current_cells(alloc, builder, 3, &[1])?;
+        let multiplicity = current_cell(alloc, builder, 3, 2)?;
         bus.table_entry(alloc, builder, entry, multiplicity)
     }
 
     ghost keeps_layout = { λ air before after h. h.0 };
-}
-
-/// The expression of a cell of the current row.
-pub(super) fn cell<AB: AirBuilder>(
-    alloc: Global,
-    builder: &AB,
-    column: usize,
-) -> Result<AB::Expr, AirError>
-    ensures { IfOk result (λ x. AB.Expr.within (AB.layout builder.now) x) }
-{
-    let main = builder.main(alloc)?;
-    match main.current(column) {
-        Some(variable) => Ok(variable.into()),
-        None => Err(AirError::LayoutMismatch {
-            part: LayoutPart::Main,
-            expected: column.saturating_add(1),
-            actual: main.current_slice().len(),
-        }),
-    }
-}
-
-/// The tuple of one cell.
-pub(super) fn tuple<AB: AirBuilder>(
-    alloc: Global,
-    builder: &AB,
-    column: usize,
-) -> Result<Vec<AB::Expr>, AirError>
-    ensures { IfOk result (λ tuple. All (AB.Expr.within (AB.layout builder.now)) tuple.items) }
-{
-    let mut tuple = Vec::new(alloc);
-    tuple.push(cell(alloc, builder, column)?)?;
-    Ok(tuple)
 }
 
 /// The lookups of the AIR, and the auxiliary trace of a main trace of keys and entries, whose

@@ -1,5 +1,6 @@
 //! Exclusive lookups: which branch a row sends, and which faults it can have.
-use super::evaluation::{is_refused_at, refusal, refusal_at};
+use super::evaluation::{is_refused_at, refusal_at};
+use super::witnesses::Batch;
 use super::{Made, alone, are_numbers, cell, generated, group, holds, local, pair, single, trace};
 use air::{Expression, SymbolicExpression};
 use field::{BabyBear, BabyBear4, ExtensionDomain, F2, F7, Field, PrimeCharacteristicRing};
@@ -334,12 +335,14 @@ fn cells_of_keys(rt: &impl Abort, alloc: Global, alpha: BabyBear4) -> (Vec<BabyB
 #[test]
 fn branches_are_selected_in_the_extension(rt: HostRuntime) {
     let alloc = rt.alloc();
-    let main = trace::<BabyBear>(&rt, alloc, numbers_of_keys(&rt, alloc).as_slice(), 4);
-    let lookups = [group(&rt, alloc, 2, 0)];
     let alpha = BabyBear4::new([7, 1, 0, 0].map(BabyBear::new));
-    let challenges = [alpha, BabyBear4::embed(BabyBear::new(11))];
-    let (lookups, challenges) = (lookups.as_slice(), challenges.as_slice());
-    let made = generated(&rt, alloc, &main, lookups, challenges).expect(&rt, "no fault");
+    let beta = BabyBear4::embed(BabyBear::new(11));
+    let batch = Batch {
+        main: trace(&rt, alloc, numbers_of_keys(&rt, alloc).as_slice(), 4),
+        lookups: alone(&rt, alloc, group(&rt, alloc, 2, 0)),
+        challenges: pair(&rt, alloc, alpha, beta),
+    };
+    let made = batch.generated(&rt, alloc);
     let (cells, sum) = cells_of_keys(&rt, alloc, alpha);
     holds(
         &rt,
@@ -347,6 +350,6 @@ fn branches_are_selected_in_the_extension(rt: HostRuntime) {
         made.auxiliary.values() == cells.as_slice(),
     );
     holds(&rt, "the terminal", made.terminal == Some(sum));
-    let refused = refusal(&rt, alloc, &main, lookups, challenges, &made.auxiliary, sum);
+    let refused = batch.refusal(&rt, alloc, &made.auxiliary, sum);
     holds(&rt, "the witness", refused.is_none());
 }

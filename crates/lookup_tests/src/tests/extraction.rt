@@ -1,10 +1,12 @@
 //! Lookups of AIRs that push what a test asks for.
-ghost use Rattle.std.specs.Prelude.{◌≡◌, All, IfOk, OnOk};
+ghost use Rattle.std.specs.Prelude.{◌≡◌, ◌<◌, All, IfOk, OnOk};
 ghost use Rattle.expressions.specs.declared.layout.AirLayout.{AirLayout};
+ghost use Rattle.lookup_builder.specs.Within.{KeyWithin};
 
-use super::example::{cell, tuple};
 use super::{holds, list, one};
-use air::{Air, AirBuilder, AirError, BaseAir, Expression, SymbolicExpression};
+use air::{
+    Air, AirBuilder, AirError, BaseAir, Expression, SymbolicExpression, current_cell, current_cells,
+};
 use field::{BabyBear, BabyBear4, ExtensionField, F7, Field, PrimeCharacteristicRing};
 use lookup::{
     Count, InteractionBuilder, Kind, Lookup, LookupBus, LookupError, Lookups,
@@ -15,7 +17,7 @@ use std::process::Abort;
 
 /// What an AIR does in its evaluation.
 #[derive(Clone, Copy)]
-enum Step<'a> {
+pub(super) enum Step<'a> {
     /// Pushes a local lookup of tuples of ones, each a width and a weight.
     Local(&'a [(usize, u32)]),
     /// Pushes the local lookup of cell 0 and of cell 1, which is provided as often as cell 2 says.
@@ -26,6 +28,10 @@ enum Step<'a> {
     Exclusive(&'a str, &'a [u32]),
     /// Queries, on a bus, cell 1 under the flag of cell 0, or cell 3 under that of cell 2.
     Keys(&'a str),
+    /// Looks up cell 0 on a bus, as often as cell 1 says.
+    Key(&'a str),
+    /// Provides cell 0 on a bus, as often as cell 1 says.
+    Entry(&'a str),
     /// Refuses an assertion on this row.
     Assertion(usize),
     /// Refuses a degree.
@@ -92,9 +98,11 @@ fn push_range<AB: InteractionBuilder>(alloc: Global, builder: &mut AB) -> Result
     ensures within { OnOk result (AB.pushed_within builder.old → AB.pushed_within builder.new) }
 {
     let mut tuples = Vec::new(alloc);
-    tuples.push((tuple(alloc, builder, 0)?, Count::from(1)))?;
-    let provided = Count::provided(cell(alloc, builder, 2)?.neg(alloc)?);
-    tuples.push((tuple(alloc, builder, 1)?, provided))?;
+    let read = current_cells(alloc, builder, 3, &[0])?;
+    tuples.push((read, Count::from(1)))?;
+    let provided = Count::provided(current_cell(alloc, builder, 3, 2)?.neg(alloc)?);
+    let entry = current_cells(alloc, builder, 3, &[1])?;
+    tuples.push((entry, provided))?;
     builder.push_local_interaction(alloc, tuples)
 }
 
@@ -115,6 +123,20 @@ fn push_exclusive<AB: InteractionBuilder>(
     builder.push_exclusive_interaction(alloc, name, branches)
 }
 
+/// The flag of a branch and its key, which are the cells `2 * branch` and `2 * branch + 1`.
+fn flagged_key<AB: AirBuilder>(
+    alloc: Global,
+    builder: &AB,
+    branch: usize,
+) -> Result<(AB::Expr, Vec<AB::Expr>), AirError>
+    requires { branch < 2 }
+    ensures { IfOk result (KeyWithin AB.Expr.within (AB.layout builder.now)) }
+{
+    let flag = current_cell(alloc, builder, 4, 2 * branch)?;
+    let key = current_cells(alloc, builder, 4, &[2 * branch + 1])?;
+    Ok((flag, key))
+}
+
 fn query_keys<AB: InteractionBuilder>(
     alloc: Global,
     builder: &mut AB,
@@ -125,8 +147,7 @@ fn query_keys<AB: InteractionBuilder>(
 {
     let mut branches = Vec::new(alloc);
     for branch in 0..2 {
-        let flag = cell(alloc, builder, 2 * branch)?;
-        branches.push((flag, tuple(alloc, builder, 2 * branch + 1)?))?;
+        branches.push(flagged_key(alloc, builder, branch)?)?;
     }
     LookupBus::new(name).lookup_key_exclusive(alloc, builder, branches)
 }
@@ -143,6 +164,26 @@ fn query_one<AB: InteractionBuilder>(
     LookupBus::new(name).lookup_key(alloc, builder, key, Count::from(1))
 }
 
+/// Looks up cell 0 on a bus, or provides it there, as often as cell 1 says.
+fn push_counted<AB: InteractionBuilder>(
+    alloc: Global,
+    builder: &mut AB,
+    name: &str,
+    is_provided: bool,
+) -> Result<(), AirError>
+    ensures layout { OnOk result (AB.layout builder.new ≡ AB.layout builder.old) }
+    ensures within { OnOk result (AB.pushed_within builder.old → AB.pushed_within builder.new) }
+{
+    let bus = LookupBus::new(name);
+    let tuple = current_cells(alloc, builder, 2, &[0])?;
+    let count = current_cell(alloc, builder, 2, 1)?;
+    if is_provided {
+        bus.table_entry(alloc, builder, tuple, count)
+    } else {
+        bus.lookup_key(alloc, builder, tuple, Count::bounded(count, 1))
+    }
+}
+
 fn take_step<AB: InteractionBuilder>(
     alloc: Global,
     builder: &mut AB,
@@ -157,6 +198,8 @@ fn take_step<AB: InteractionBuilder>(
         Step::Global(name) => query_one(alloc, builder, name),
         Step::Exclusive(name, weights) => push_exclusive(alloc, builder, name, weights),
         Step::Keys(name) => query_keys(alloc, builder, name),
+        Step::Key(name) => push_counted(alloc, builder, name, false),
+        Step::Entry(name) => push_counted(alloc, builder, name, true),
         Step::Assertion(row) => Err(AirError::Assertion { row: *row }),
         Step::Overflow => Err(AirError::DegreeOverflow),
     }
@@ -185,7 +228,7 @@ fn extracted<F: Field, EF: ExtensionField<F>>(
 }
 
 /// The same over F7, where none of the steps is refused.
-fn lookups_of(rt: &impl Abort, alloc: Global, steps: &[Step<'_>]) -> Lookups<F7> {
+pub(super) fn lookups_of(rt: &impl Abort, alloc: Global, steps: &[Step<'_>]) -> Lookups<F7> {
     extracted::<F7, F7>(alloc, steps).expect(rt, "lookups")
 }
 

@@ -111,7 +111,10 @@ fn no_lookups_have_no_columns(rt: HostRuntime) {
 fn do_cancel(rt: &impl Abort, alloc: Global, values: &[Option<i32>]) -> bool {
     let mut terminals = Vec::new(alloc);
     for value in values {
-        let terminal = value.map(|value| LookupTerminal(F7::from_i32(value)));
+        let terminal = match value {
+            Some(value) => Some(LookupTerminal(F7::from_i32(*value))),
+            None => None,
+        };
         terminals.push(terminal).expect(rt, "memory");
     }
     match LogUpGadget::new().verify_terminal_sum(terminals.as_slice()) {

@@ -52,9 +52,16 @@ fn read(rt: &impl Abort, alloc: Global, text: &str) -> Vec<Lookup<F7>> {
 
 /// What a text of lookups is refused for, if it is.
 fn refusal(alloc: Global, text: &str) -> Option<Category> {
-    serde_json::from_str::<Vec<Lookup<F7>>>(alloc, text)
-        .err()
-        .map(|error| error.classify())
+    match serde_json::from_str::<Vec<Lookup<F7>>>(alloc, text) {
+        Ok(_) => None,
+        Err(error) => Some(error.classify()),
+    }
+}
+
+/// What the first text is refused for, if it is, with one part of it changed into another.
+fn changed_refusal(rt: &impl Abort, alloc: Global, old: &str, new: &str) -> Option<Category> {
+    let text = LOOKUPS.replace(alloc, old, new).expect(rt, "memory");
+    refusal(alloc, text.as_str())
 }
 
 /// The set of lookups of a text.
@@ -123,6 +130,31 @@ fn copies_have_the_same_text(rt: HostRuntime) {
     );
 }
 
+/// Copies of the lookups of a text.
+fn copied(rt: &impl Abort, alloc: Global, text: &str) -> Vec<Lookup<F7>> {
+    let mut copies = Vec::new(alloc);
+    for lookup in &read(rt, alloc, text) {
+        let copy = lookup.copy(alloc).expect(rt, "memory");
+        copies.push(copy).expect(rt, "memory");
+    }
+    copies
+}
+
+/// The texts have every field of a lookup: its kind, its lists, its weight, its column and its
+/// flags.
+#[test]
+fn copies_of_lookups_have_the_same_fields(rt: HostRuntime) {
+    let alloc = rt.alloc();
+    for (what, text) in [
+        ("a local lookup and two on a bus", LOOKUPS),
+        ("an exclusive lookup on a bus", EXCLUSIVE),
+        ("a local exclusive lookup of weight 3", ORDERED),
+    ] {
+        let copies = copied(&rt, alloc, text);
+        holds(&rt, what, are_written(&rt, alloc, &copies, text));
+    }
+}
+
 #[test]
 fn every_node_goes_round(rt: HostRuntime) {
     let alloc = rt.alloc();
@@ -185,19 +217,15 @@ fn what_is_no_lookup_is_refused(rt: HostRuntime) {
         (r#""offset":0"#, r#""offset":0,"offset":0"#),
         (r#""Main""#, r#""Permutation""#),
     ] {
-        let text = LOOKUPS.replace(alloc, old, new).expect(&rt, "memory");
-        holds(
-            &rt,
-            new,
-            refusal(alloc, text.as_str()) == Some(Category::Data),
-        );
+        let refused = changed_refusal(&rt, alloc, old, new);
+        holds(&rt, new, refused == Some(Category::Data));
     }
     for (old, new) in [
         (r#","flags":null"#, ""),
         (r#""column":0"#, r#""column":0,"other":[{}]"#),
     ] {
-        let text = LOOKUPS.replace(alloc, old, new).expect(&rt, "memory");
-        holds(&rt, new, refusal(alloc, text.as_str()).is_none());
+        let refused = changed_refusal(&rt, alloc, old, new);
+        holds(&rt, new, refused.is_none());
     }
 }
 

@@ -49,7 +49,7 @@ fn constants(rt: &impl Abort, alloc: Global, values: &[u32]) -> Vec<Tree> {
 fn value(tree: &Tree) -> Option<F7> {
     match tree {
         SymbolicExpression::Leaf(BaseLeaf::Constant(x)) => Some(*x),
-        SymbolicExpression::Neg(inner) => value(inner).map(|x| -x),
+        SymbolicExpression::Neg(inner) => Some(-value(inner)?),
         _ => None,
     }
 }

@@ -2,11 +2,10 @@
 ghost use Rattle.std.specs.Prelude.{◌≡◌, OnOk};
 
 use super::evaluation::{layout_of, no_preprocessed};
-use super::example::cell;
 use super::{alone, holds, single, trace};
 use air::{
     Air, AirBuilder, AirError, AirLayout, BaseAir, DebugConstraintBuilder, PermutationAirBuilder,
-    RowInputs, SymbolicAirBuilder,
+    RowInputs, SymbolicAirBuilder, current_cell,
 };
 use field::{F7, PrimeCharacteristicRing};
 use lookup::{LogUpGadget, Lookup, LookupProtocol, fits};
@@ -43,7 +42,7 @@ impl<AB: AirBuilder> Air<AB> for ZeroColumn {
     ghost evaluates = { λ _ before answer after. OnOk answer (AB.layout after ≡ AB.layout before) };
 
     fn eval(&self, alloc: Global, builder: &mut AB) -> Result<(), AirError> {
-        let first = cell(alloc, &*builder, 0)?;
+        let first = current_cell(alloc, &*builder, 1, 0)?;
         builder.assert_zero(alloc, first)?;
         match self.refused {
             Some(error) => Err(error),
@@ -89,28 +88,39 @@ fn are_at(builder: &SymbolicAirBuilder<F7, F7>, base: &[usize], extension: &[usi
     places.base_indices.as_slice() == base && places.ext_indices.as_slice() == extension
 }
 
+/// What a recorder refuses, if anything, and the recorder after it has evaluated the AIR with these
+/// lookups.
+fn recorded_both(
+    rt: &impl Abort,
+    alloc: Global,
+    refused: Option<AirError>,
+    lookups: &[Lookup<F7>],
+) -> (Option<AirError>, SymbolicAirBuilder<F7, F7>) {
+    let mut builder = recorder(rt, alloc);
+    let air = ZeroColumn { refused };
+    let answer = evaluated_both(rt, alloc, &air, &mut builder, lookups);
+    (answer.err(), builder)
+}
+
 #[test]
 fn lookups_are_recorded_after_the_air(rt: HostRuntime) {
     let alloc = rt.alloc();
-    let air = ZeroColumn { refused: None };
-    let mut builder = recorder(&rt, alloc);
     let lookups = [single(&rt, alloc, 1, 0)];
-    evaluated_both(&rt, alloc, &air, &mut builder, lookups.as_slice()).expect(&rt, "memory");
+    let (refused, builder) = recorded_both(&rt, alloc, None, lookups.as_slice());
+    holds(&rt, "one lookup, accepted", refused.is_none());
     holds(&rt, "one lookup", are_at(&builder, &[0], &[1, 2, 3, 4]));
-    let mut builder = recorder(&rt, alloc);
-    evaluated_both(&rt, alloc, &air, &mut builder, &[]).expect(&rt, "memory");
+    let (refused, builder) = recorded_both(&rt, alloc, None, &[]);
+    holds(&rt, "no lookups, accepted", refused.is_none());
     holds(&rt, "no lookups", are_at(&builder, &[0], &[]));
 }
 
 #[test]
 fn an_air_that_refuses_leaves_no_constraints_of_lookups(rt: HostRuntime) {
     let alloc = rt.alloc();
-    let refused = Some(AirError::DegreeOverflow);
-    let air = ZeroColumn { refused };
-    let mut builder = recorder(&rt, alloc);
+    let refusal = Some(AirError::DegreeOverflow);
     let lookups = [single(&rt, alloc, 1, 0)];
-    let answer = evaluated_both(&rt, alloc, &air, &mut builder, lookups.as_slice());
-    holds(&rt, "its refusal", answer.err() == refused);
+    let (refused, builder) = recorded_both(&rt, alloc, refusal, lookups.as_slice());
+    holds(&rt, "its refusal", refused == refusal);
     holds(&rt, "its constraint", are_at(&builder, &[0], &[]));
 }
 

@@ -1,6 +1,8 @@
 //! Witnesses of whole traces, over BabyBear as its own extension and over its quartic one.
 use super::evaluation::{is_refused_at, refusal};
-use super::{Made, alone, cell, generated, holds, list, local, one, pair, range, single, trace};
+use super::{
+    Made, alone, are_zero, cell, generated, holds, list, local, one, pair, range, single, trace,
+};
 use air::{AirError, Expression, SymbolicExpression};
 use field::{BabyBear, BabyBear4, ExtensionField, PrimeCharacteristicRing};
 use lookup::{LogUpGadget, Lookup, LookupProtocol, LookupTerminal};
@@ -20,21 +22,21 @@ fn quartic(numbers: [u32; 4]) -> BabyBear4 {
 
 /// Lookups over a main trace of BabyBear, with their challenges.
 #[derive(Drop)]
-struct Batch<EF> {
-    main: RowMajorMatrix<BabyBear>,
-    lookups: Vec<Lookup<BabyBear>>,
-    challenges: Vec<EF>,
+pub(super) struct Batch<EF> {
+    pub(super) main: RowMajorMatrix<BabyBear>,
+    pub(super) lookups: Vec<Lookup<BabyBear>>,
+    pub(super) challenges: Vec<EF>,
 }
 
 impl<EF: ExtensionField<BabyBear> + 'static> Batch<EF> {
     /// What generation makes of it.
-    fn generated(&self, rt: &impl Abort, alloc: Global) -> Made<EF> {
+    pub(super) fn generated(&self, rt: &impl Abort, alloc: Global) -> Made<EF> {
         let (lookups, challenges) = (self.lookups.as_slice(), self.challenges.as_slice());
         generated(rt, alloc, &self.main, lookups, challenges).expect(rt, "no fault")
     }
 
     /// The refusal of this auxiliary trace and terminal, where there is one.
-    fn refusal(
+    pub(super) fn refusal(
         &self,
         rt: &impl Abort,
         alloc: Global,
@@ -218,7 +220,7 @@ fn broken_cells<EF: ExtensionField<BabyBear>>(
 ) -> RowMajorMatrix<EF> {
     let mut cells = made.auxiliary.into_values();
     assert!(rt; cells.len() == 8 && place < 8);
-    assert!(rt; cells.iter().all(|cell| *cell == EF::ZERO));
+    assert!(rt; are_zero(cells.as_slice()));
     cells[place] = EF::from_u32(99);
     RowMajorMatrix::new(cells, 2)
 }

@@ -2,11 +2,11 @@
 ghost use Rattle.std.specs.Prelude.{◌≡◌, [], OnOk};
 
 use super::super::evaluation::no_preprocessed;
-use super::super::example::tuple;
 use super::super::{holds, list};
 use super::{Recorder, declared_counts, recorded_counts};
 use air::{
     Air, AirError, AirLayout, BaseAir, DebugConstraintBuilder, Expression, LayoutPart, RowInputs,
+    current_cells,
 };
 use field::{F7, PrimeCharacteristicRing};
 use lookup_record::{
@@ -46,9 +46,11 @@ fn look_up_itself<AB: InteractionBuilder>(alloc: Global, builder: &mut AB) -> Re
     ensures within { OnOk result (AB.pushed_within builder.old → AB.pushed_within builder.new) }
 {
     let mut tuples = Vec::new(alloc);
-    tuples.push((tuple(alloc, builder, 0)?, Count::from(1)))?;
+    let read = current_cells(alloc, builder, 3, &[0])?;
+    tuples.push((read, Count::from(1)))?;
+    let entry = current_cells(alloc, builder, 3, &[0])?;
     let provided = Count::provided(AB::Expr::constant(AB::F::ONE));
-    tuples.push((tuple(alloc, builder, 0)?, provided.negate::<AB::F>(alloc)?))?;
+    tuples.push((entry, provided.negate::<AB::F>(alloc)?))?;
     builder.push_local_interaction(alloc, tuples)
 }
 
@@ -57,7 +59,8 @@ fn query_one<AB: InteractionBuilder>(alloc: Global, builder: &mut AB) -> Result<
     ensures within { OnOk result (AB.pushed_within builder.old → AB.pushed_within builder.new) }
 {
     let mut branches = Vec::new(alloc);
-    branches.push((builder.is_first_row(), tuple(alloc, builder, 0)?))?;
+    let key = current_cells(alloc, builder, 3, &[0])?;
+    branches.push((builder.is_first_row(), key))?;
     LookupBus::new("b").lookup_key_exclusive(alloc, builder, branches)
 }
 
@@ -65,11 +68,11 @@ fn speak<AB: InteractionBuilder>(alloc: Global, builder: &mut AB) -> Result<(), 
     ensures layout { OnOk result (AB.layout builder.new ≡ AB.layout builder.old) }
     ensures within { OnOk result (AB.pushed_within builder.old → AB.pushed_within builder.new) }
 {
-    let sent = tuple(alloc, builder, 0)?;
+    let sent = current_cells(alloc, builder, 3, &[0])?;
     PermutationCheckBus::new("a").send(alloc, builder, sent, Count::from(1))?;
     look_up_itself(alloc, builder)?;
     query_one(alloc, builder)?;
-    let received = tuple(alloc, builder, 0)?;
+    let received = current_cells(alloc, builder, 3, &[0])?;
     PermutationCheckBus::new("c").receive(alloc, builder, received, Count::from(1))
 }
 

@@ -271,18 +271,12 @@ fn constraints_are_recorded_beside(rt: HostRuntime) {
 
 /// The entry of the next row's cell in column 1 of the preprocessed trace.
 fn fixed_entry(recorder: &Recorder) -> Option<BaseEntry> {
-    recorder
-        .preprocessed()
-        .next(1)
-        .map(|variable| variable.entry)
+    Some(recorder.preprocessed().next(1)?.entry)
 }
 
 /// The index of the third public value.
 fn public_index(recorder: &Recorder) -> Option<usize> {
-    recorder
-        .public_values()
-        .get(2)
-        .map(|variable| variable.index)
+    Some(recorder.public_values().get(2)?.index)
 }
 
 /// Whether the selector of the last row is lifted to a base expression.
