@@ -5,7 +5,7 @@ ghost use Rattle.lookup_columns.specs.Slots.{filled, last_of, without_last};
 use crate::spare::Spare;
 use std::alloc::{AllocError, Global};
 
-/// Slots for lists. The memory of those that are emptied is used again.
+/// Slots for lists, and lists that are put away, whose memory is used again.
 #[derive(Drop)]
 pub struct Slots<F> {
     lists: Vec<Vec<F>>,

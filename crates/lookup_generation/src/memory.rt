@@ -4,7 +4,7 @@ use crate::ratio::Ratio;
 use lookup_columns::{Slots, Spare};
 use std::alloc::{AllocError, Global};
 
-/// Lists that a chunk fills, and that stand empty between two chunks.
+/// Lists that a chunk has filled, put away for the next one.
 #[derive(Drop)]
 pub(crate) struct ChunkMemory<F, EF> {
     /// For the values of expressions.
@@ -15,7 +15,7 @@ pub(crate) struct ChunkMemory<F, EF> {
     pub(crate) denominators: Spare<EF>,
     /// For the fractions of all lookups, as ratios.
     pub(crate) ratios: Spare<Ratio<EF>>,
-    /// For the same, divided.
+    /// For the values of these ratios.
     pub(crate) fractions: Spare<EF>,
 }
 
