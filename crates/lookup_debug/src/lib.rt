@@ -3,7 +3,7 @@
 //! `check_lookups` takes each local lookup by itself and then each bus. The tuples of such a group are
 //! collected in one list of elements, and a map from slices of it to nets adds them up: now and then,
 //! so that equal tuples take no more memory, and at the end. Texts are made only of tuples that do not
-//! balance, and the places of the first of them are found in a second walk, which only compares.
+//! balance. A second walk finds the places of the first of them: it compares each tuple with that one.
 #![tactic(auto)]
 
 mod arena;
