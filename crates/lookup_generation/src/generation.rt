@@ -72,16 +72,18 @@ fn next_row(row: usize, height: usize) -> usize
     if row + 1 == height { 0 } else { row + 1 }
 }
 
-/// The builder of one row of an AIR's traces together with the next row; the last row comes with
-/// the first one.
+/// The builder of one row of an AIR's traces, which have `rows` rows, together with the next row; the
+/// last row comes with the first one.
 pub fn row_builder<'a, F: Field, EF: Domain>(
     main: &'a RowMajorMatrix<F>,
     preprocessed: Option<&'a RowMajorMatrix<F>>,
     public_values: &'a [F],
     challenges: &'a [EF],
+    rows: usize,
     row: usize,
 ) -> LookupTraceBuilder<'a, F, EF>
-    requires row_exists { row < height main.now }
+    requires rows { rows ≡ height main.now }
+    requires row_exists { row < rows }
     requires heights { ForSome (option_copied preprocessed) (λ m. height m ≡ height main.now) }
     ensures window { builder_window result ≡ window_at main.now
         (option_copied preprocessed.entry) public_values.now (height main.now) row }
@@ -92,8 +94,7 @@ pub fn row_builder<'a, F: Field, EF: Domain>(
     ensures challenges { result.permutation_challenges.now ≡ challenges.now }
     ensures row { result.row ≡ row }
 {
-    let height = main.height();
-    let next = next_row(row, height);
+    let next = next_row(row, rows);
     let main = ViewPair {
         top: main.row_slice(row),
         bottom: main.row_slice(next),
@@ -108,7 +109,7 @@ pub fn row_builder<'a, F: Field, EF: Domain>(
             bottom: &[],
         },
     };
-    LookupTraceBuilder::new(main, preprocessed, public_values, challenges, height, row)
+    LookupTraceBuilder::new(main, preprocessed, public_values, challenges, rows, row)
 }
 
 /// The fractions of all lookups on the rows from `first` up to `end`, row after row, as ratios.
@@ -167,8 +168,9 @@ fn ratios_of<F: Field, EF: ExtensionDomain<F>>(
         .ok_or(LookupError::Memory)?;
     let mut ratios = memory.ratios.take(alloc);
     ratios.reserve(size)?;
+    let height = main.height();
     for row in first..end {
-        let builder = row_builder(main, preprocessed, public_values, challenges, row);
+        let builder = row_builder(main, preprocessed, public_values, challenges, height, row);
         push_ratios(&mut ratios, lookups, &columns, row - first, &builder)?;
     }
     memory.places.put(rows)?;

@@ -215,8 +215,9 @@ pub fn push_messages<F: Field, EF: ExtensionField<F>>(
         (λ e. (e ≡ LookupError.Memory) ⊎ (slice_get (trace_flag_faults E rows) 0 ≡ Some e)) }
 {
     let challenges: &[EF] = &[];
-    for row in 0..main.height() {
-        let builder = row_builder(main, preprocessed, public_values, challenges, row);
+    let height = main.height();
+    for row in 0..height {
+        let builder = row_builder(main, preprocessed, public_values, challenges, height, row);
         push_row_messages(alloc, messages, ids, lookups, &builder)?;
     }
     Ok(())
