@@ -13,8 +13,3 @@ map_of_columns f g h (x ∷ xs) = ap (λ ys. f (g x) (h x) ∷ ys) (map_of_colum
 pub map_of_two : {A B C X : Type 0} (f : A → B → C) (g : X → A) (h : X → B) (xs : List X) {ls : List A} {rs : List B} {v : List C}
     → ls ≡ map g xs → rs ≡ map h xs → v ≡ map (λ p. f p.0 p.1) (zip ls rs) → v ≡ map (λ x. f (g x) (h x)) xs
 map_of_two f g h xs {ls} {rs} e d w = w ∙ ap (λ l. map (λ p. f p.0 p.1) (zip l rs)) e ∙ ap (λ l. map (λ p. f p.0 p.1) (zip (map g xs) l)) d ∙ map_of_columns f g h xs
-
--- a function of a list that is a map
-pub map_of_list : {A B X : Type 0} (f : A → B) (g : X → A) (xs : List X) → map f (map g xs) ≡ map (λ x. f (g x)) xs
-map_of_list f g [] = refl
-map_of_list f g (x ∷ xs) = ap (λ ys. f (g x) ∷ ys) (map_of_list f g xs)

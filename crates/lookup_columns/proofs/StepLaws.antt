@@ -1,18 +1,24 @@
 -- The steps of a tree: each leaf is one of the tree's, and working them out fills one slot.
-use Rattle.std.proofs.Common.{◌≡◌, ◌∷◌, ◌++◌, ℕ, List, [], All, map, ap, sym, refl, ◌∙◌, append_assoc}
-use Rattle.std.proofs.lemmas.List.Elements.{All-append, All-cons, All-nil}
+use Rattle.std.proofs.Common.{◌≡◌, ◌∷◌, ◌++◌, ℕ, List, [], All, ap, sym, subst, refl, ◌∙◌}
+use Rattle.std.proofs.lemmas.List.Elements.{All-append, All-cons, All-head, All-nil, All-tail}
+use Rattle.std.specs.List.{AllZip}
+use Rattle.std.specs.declared.alloc.Global.{Global}
+use Rattle.std.specs.declared.vec.Vec.{Vec}
 use Rattle.field.specs.Ring.{Ring, sub_in}
 use Rattle.expressions.specs.Layout.{Fits}
-use Rattle.expressions.specs.Meaning.{leaf_value, value_of}
-use Rattle.expressions.specs.Tree.{Tree, leaf, add, sub, mul, neg}
+use Rattle.expressions.specs.Meaning.{value_of}
+use Rattle.expressions.specs.Tree.{Tree, leaf, add, sub, mul, neg, tree_of}
 use Rattle.expressions.specs.Window.{Window}
+use Rattle.expressions.specs.declared.base_expression.SymbolicExpression.{SymbolicExpression}
 use Rattle.expressions.specs.declared.layout.AirLayout.{AirLayout}
 use Rattle.lookup_columns.specs.Columns.{column}
 use Rattle.lookup_columns.specs.Slots.{after}
-use Rattle.lookup_columns.specs.Steps.{StepFits, steps_in_order}
+use Rattle.lookup_columns.specs.Steps.{AreStepsOf, DoStepsFit, StepFits, steps_in_order}
 use Rattle.lookup_columns.specs.declared.step.Step.{Step}
 use Rattle.lookup_columns.specs.declared.step.Step.TheVariants.{Leaf, Add, Sub, Mul, Neg}
-use Rattle.lookup_columns.proofs.ColumnLaws.{map_of_columns, map_of_list}
+use Rattle.lookup_columns.proofs.ColumnLaws.{map_of_columns}
+use Rattle.lookup_model.proofs.HornerRule.{map-map}
+use Rattle.lookup_model.specs.Records.{AllFit}
 
 module _ {F : Type 0} where
   -- one more step that has no leaf
@@ -29,6 +35,19 @@ module _ {F : Type 0} where
   steps_fit layout (sub a b) fits = fit_both layout Sub (steps_in_order a) (steps_in_order b) tt (steps_fit layout a fits.0) (steps_fit layout b fits.1)
   steps_fit layout (mul a b) fits = fit_both layout Mul (steps_in_order a) (steps_in_order b) tt (steps_fit layout a fits.0) (steps_fit layout b fits.1)
   steps_fit layout (neg a) fits = fits_with layout Neg (steps_in_order a) tt (steps_fit layout a fits)
+
+  -- and so do those of an expression
+  pub expression_steps_fit : (layout : AirLayout) (v : Vec (Step F) Global) (e : SymbolicExpression F) → AreStepsOf v e → Fits layout (tree_of e) → DoStepsFit layout v
+  expression_steps_fit layout v e are fits = subst (All (StepFits layout)) (sym are) (steps_fit layout (tree_of e) fits)
+
+  -- and of each expression of a list
+  pub all_steps_fit : (layout : AirLayout) (vs : List (Vec (Step F) Global)) (es : List (SymbolicExpression F)) → AllZip AreStepsOf vs es → AllFit layout es → All (DoStepsFit layout) vs
+  unfolding AllFit
+  all_steps_fit layout [] es are fit = All-nil (DoStepsFit layout)
+  all_steps_fit layout (v ∷ vs) [] are fit = absurd are
+  all_steps_fit layout (v ∷ vs) (e ∷ es) are fit =
+      let fits = λ (x : SymbolicExpression F). Fits layout (tree_of x) in
+      All-cons (DoStepsFit layout) v vs (expression_steps_fit layout v e are.0 (All-head fits e es fit)) (all_steps_fit layout vs es are.1 (All-tail fits e es fit))
 
   module _ (R : Ring F) (window : ℕ → Window F) (rows : List ℕ) where
     -- the slots after some steps
@@ -61,4 +80,4 @@ module _ {F : Type 0} where
     worked_out_tree (mul a b) z = both Mul a b _ (λ y. ap (λ c. c ∷ y) (map_of_columns R.mul (λ r. value_of R (window r) a) (λ r. value_of R (window r) b) rows)) (worked_out_tree a) (worked_out_tree b) z
     worked_out_tree (neg a) z =
         worked_out-append (steps_in_order a) (Neg ∷ []) z ∙ ap (λ y. after R window rows Neg y) (worked_out_tree a z)
-        ∙ ap (λ c. c ∷ z) (map_of_list R.neg (λ r. value_of R (window r) a) rows)
+        ∙ ap (λ c. c ∷ z) (map-map R.neg (λ r. value_of R (window r) a) rows)

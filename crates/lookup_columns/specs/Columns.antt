@@ -14,6 +14,10 @@ use Rattle.lookup_model.specs.Sent.{values}
 abbrev pub windows_of : {F : Type 0} → Matrix F → Option (Matrix F) → List F → ℕ → Window F
 windows_of main preprocessed public_values r = window_at main preprocessed public_values (height main) r
 
+-- the denominator of a tuple of these values: `alpha - t`, where t is the tuple combined by beta
+abbrev pub denominator_of : {F K : Type 0} → Ring K → (F → K) → K → K → List F → K
+denominator_of S embed alpha beta tuple = sub_in S alpha (combined S (map embed tuple) beta)
+
 module _ {F : Type 0} (R : Ring F) where
   -- the values of a leaf on these rows
   abbrev pub leaf_column : (ℕ → Window F) → List ℕ → BaseLeaf F → List F
@@ -23,9 +27,9 @@ module _ {F : Type 0} (R : Ring F) where
   abbrev pub column : (ℕ → Window F) → List ℕ → Tree F → List F
   column window rows t = map (λ r. value_of R (window r) t) rows
 
-  -- the denominator of a tuple at a window: `alpha - t`, where t is the tuple combined by beta
+  -- the denominator of a tuple at a window
   abbrev pub denominator_at : {K : Type 0} → Ring K → (F → K) → K → K → Window F → List (SymbolicExpression F) → K
-  denominator_at S embed alpha beta w tuple = sub_in S alpha (combined S (map embed (values R w tuple)) beta)
+  denominator_at S embed alpha beta w tuple = denominator_of S embed alpha beta (values R w tuple)
 
   -- the denominators of a tuple on these rows
   abbrev pub denominator_column : {K : Type 0} → Ring K → (F → K) → (ℕ → Window F) → K → K → List ℕ → List (SymbolicExpression F) → List K

@@ -4,6 +4,7 @@ use Rattle.std.specs.List.{zip}
 use Rattle.field.specs.Ring.{Ring, sub_in}
 use Rattle.expressions.specs.Window.{Window}
 use Rattle.lookup_columns.specs.Columns.{leaf_column}
+use Rattle.lookup_columns.specs.Spare.{rooms}
 use Rattle.lookup_columns.specs.declared.slots.Slots.{Slots}
 use Rattle.lookup_columns.specs.declared.step.Step.{Step}
 use Rattle.lookup_columns.specs.declared.step.Step.TheVariants.{Leaf, Add, Sub, Mul, Neg}
@@ -12,6 +13,10 @@ module _ {F : Type 0} where
   -- what the filled slots hold
   abbrev pub filled : Slots F → List (List F)
   filled s = reverse (map (λ v. v.items) s.lists.items)
+
+  -- how many items each list that is put away has room for, the last one first
+  abbrev pub spare_rooms : Slots F → List ℕ
+  spare_rooms s = rooms s.spare
 
   -- what the last filled slot holds: nothing if there is none
   abbrev pub last_of : List (List F) → List F

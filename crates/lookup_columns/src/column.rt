@@ -27,13 +27,13 @@ fn cell_of<F: Field>(trace: &RowMajorMatrix<F>, r: usize, index: usize) -> F
     trace.row_slice(r)[index]
 }
 
-/// The row after a row; the first one comes after the last.
-fn next_of(r: usize, height: usize) -> usize
-    requires { r < height }
-    ensures next { result ≡ (r + 1) % height }
-    ensures exists { result < height }
+/// The row after a row of a trace that has this many rows; the first one comes after the last.
+pub fn next_row(row: usize, rows: usize) -> usize
+    requires { row < rows }
+    ensures next { result ≡ (row + 1) % rows }
+    ensures exists { result < rows }
 {
-    if r + 1 == height { 0 } else { r + 1 }
+    if row + 1 == rows { 0 } else { row + 1 }
 }
 
 /// A cell of the row after a row, in a trace of this height.
@@ -44,7 +44,7 @@ fn next_cell<F: Field>(trace: &RowMajorMatrix<F>, end: usize, r: usize, index: u
     ensures { result ≡ slice_index_or (row trace.now ((r + 1) % height trace.now)) index
         F.ring.zero }
 {
-    cell_of(trace, next_of(r, end), index)
+    cell_of(trace, next_row(r, end), index)
 }
 
 /// Appends the cells of a column on these rows.
@@ -223,7 +223,7 @@ fn work_out<F: Field>(
         (windows_of main.now (option_copied preprocessed.entry) public_values.now) rows.now step
         (filled slots.old)) }
 {
-    let mut values = slots.take(alloc);
+    let mut values = slots.take(alloc, rows.len())?;
     match step {
         Step::Leaf(leaf) => {
             push_leaf(&mut values, leaf, main, preprocessed, public_values, rows)?;

@@ -64,7 +64,7 @@ pub fn denominators_of<F: Field, EF: ExtensionDomain<F>>(
         (windows_of main.now (option_copied preprocessed.entry) public_values.now) alpha beta
         rows.now expressions) }
 {
-    let mut denominators = spare.take(alloc);
+    let mut denominators = spare.take(alloc, rows.len())?;
     push_alike(&mut denominators, rows, alpha)?;
     let mut power = EF::ONE;
     let mut left = tuple.len();
@@ -79,7 +79,7 @@ pub fn denominators_of<F: Field, EF: ExtensionDomain<F>>(
             public_values,
             rows,
         )?;
-        let mut lessened = spare.take(alloc);
+        let mut lessened = spare.take(alloc, rows.len())?;
         push_lessened(&mut lessened, &denominators, power, &column)?;
         slots.put(column)?;
         spare.put(denominators)?;

@@ -9,7 +9,7 @@ mod step;
 #[cfg(test)]
 mod tests;
 
-pub use column::column_of;
+pub use column::{column_of, next_row};
 pub use denominators::denominators_of;
 pub use slots::Slots;
 pub use spare::Spare;

@@ -1,6 +1,6 @@
 //! The slots that steps fill and empty.
-ghost use Rattle.std.specs.Prelude.{◌≡◌, ◌∷◌, [], OnOk};
-ghost use Rattle.lookup_columns.specs.Slots.{filled, last_of, without_last};
+ghost use Rattle.std.specs.Prelude.{◌≡◌, ◌<◌, ◌∷◌, [], IfOk, OnOk, drop, max, slice_index_or, vec_capacity};
+ghost use Rattle.lookup_columns.specs.Slots.{filled, last_of, spare_rooms, without_last};
 
 use crate::spare::Spare;
 use std::alloc::{AllocError, Global};
@@ -13,9 +13,10 @@ pub struct Slots<F> {
 }
 
 impl<F: Drop> Slots<F> {
-    /// No slot is filled.
+    /// No slot is filled, and no list is put away.
     pub fn new(alloc: Global) -> Slots<F>
-        ensures { filled result ≡ [] }
+        ensures slots { filled result ≡ [] }
+        ensures spare { spare_rooms result ≡ [] }
     {
         Slots {
             lists: Vec::new(alloc),
@@ -63,17 +64,25 @@ impl<F: Drop> Slots<F> {
         (first, last)
     }
 
-    /// An empty list: one that was put away, if there is one.
-    pub(crate) fn take(&mut self, alloc: Global) -> Vec<F>
-        ensures empty { result.items ≡ [] }
+    /// An empty list with room for this many items, as `Spare::take` finds one. Fails only when out of
+    /// memory.
+    pub(crate) fn take(&mut self, alloc: Global, room: usize) -> Result<Vec<F>, AllocError>
+        ensures empty { IfOk result (λ list. list.items ≡ []) }
+        ensures used_again { IfOk result (λ list. vec_capacity list
+            ≡ max (slice_index_or (spare_rooms self.old) 0 0) room) }
+        ensures left { spare_rooms self.new ≡ drop 1 (spare_rooms self.old) }
         ensures others { filled self.new ≡ filled self.old }
     {
-        self.spare.take(alloc)
+        self.spare.take(alloc, room)
     }
 
-    /// Puts a list away that is no longer used. Fails only when out of memory.
+    /// Puts a list away that is no longer used, unless it has no memory. Fails only when out of memory.
     pub fn put(&mut self, used: Vec<F>) -> Result<(), AllocError>
-        ensures { OnOk result (filled self.new ≡ filled self.old) }
+        ensures none { vec_capacity used ≡ 0
+            → OnOk result (spare_rooms self.new ≡ spare_rooms self.old) }
+        ensures one { 0 < vec_capacity used
+            → OnOk result (spare_rooms self.new ≡ vec_capacity used ∷ spare_rooms self.old) }
+        ensures others { filled self.new ≡ filled self.old }
     {
         self.spare.put(used)
     }

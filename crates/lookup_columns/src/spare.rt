@@ -1,6 +1,6 @@
 //! Lists whose memory is used again.
-ghost use Rattle.std.specs.Prelude.{◌≡◌, ◌<◌, ◌+◌, ◌-◌, [], OnOk, vec_capacity};
-ghost use Rattle.lookup_columns.specs.Spare.{lists_in};
+ghost use Rattle.std.specs.Prelude.{◌≡◌, ◌<◌, ◌∷◌, [], IfOk, OnOk, drop, max, slice_index_or, vec_capacity};
+ghost use Rattle.lookup_columns.specs.Spare.{rooms};
 
 use std::alloc::{AllocError, Global};
 
@@ -13,31 +13,37 @@ pub struct Spare<T> {
 impl<T: Drop> Spare<T> {
     /// No lists.
     pub fn new(alloc: Global) -> Spare<T>
-        ensures { lists_in result ≡ 0 }
+        ensures { rooms result ≡ [] }
     {
         Spare {
             lists: Vec::new(alloc),
         }
     }
 
-    /// An empty list: one that was put away, if there is one.
-    pub fn take(&mut self, alloc: Global) -> Vec<T>
-        ensures empty { result.items ≡ [] }
-        ensures left { lists_in self.new ≡ lists_in self.old - 1 }
+    /// An empty list with room for this many items: the one that was put away last, if there is one,
+    /// with more room only where it has too little. Fails only when out of memory; the list that was
+    /// put away is then freed.
+    pub fn take(&mut self, alloc: Global, room: usize) -> Result<Vec<T>, AllocError>
+        ensures empty { IfOk result (λ list. list.items ≡ []) }
+        ensures used_again { IfOk result (λ list. vec_capacity list
+            ≡ max (slice_index_or (rooms self.old) 0 0) room) }
+        ensures left { rooms self.new ≡ drop 1 (rooms self.old) }
     {
-        let Some(mut list) = self.lists.pop() else {
-            return Vec::new(alloc);
+        let mut list = match self.lists.pop() {
+            Some(list) => list,
+            None => Vec::new(alloc),
         };
         list.clear();
-        list
+        list.reserve_exact(room)?;
+        Ok(list)
     }
 
     /// Puts a list away, unless it has no memory to use again. Fails only when out of memory; the list
     /// is then freed.
     pub fn put(&mut self, list: Vec<T>) -> Result<(), AllocError>
-        ensures none { vec_capacity list ≡ 0 → lists_in self.new ≡ lists_in self.old }
+        ensures none { vec_capacity list ≡ 0 → OnOk result (rooms self.new ≡ rooms self.old) }
         ensures one { 0 < vec_capacity list
-            → OnOk result (lists_in self.new ≡ lists_in self.old + 1) }
+            → OnOk result (rooms self.new ≡ vec_capacity list ∷ rooms self.old) }
     {
         if list.capacity() > 0 {
             self.lists.push(list)?;

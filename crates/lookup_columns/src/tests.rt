@@ -6,7 +6,7 @@ ghost use Rattle.lookup_columns.specs.Steps.{DoStepsFit};
 ghost use Rattle.lookup_model.specs.Records.{AllFit};
 ghost use Rattle.matrix.specs.Matrix.{height};
 
-use super::{Slots, Spare, Step, column_of, denominators_of, steps_of, steps_of_each};
+use super::{Slots, Spare, Step, column_of, denominators_of, next_row, steps_of, steps_of_each};
 use expressions::{
     AirLayout, BaseEntry, BaseLeaf, Expression, SymbolicExpression, SymbolicVariable,
 };
@@ -194,4 +194,24 @@ fn denominators_of_tuples(rt: HostRuntime) {
         leaf(BaseEntry::Public, 0),
     ];
     expect_denominators(&rt, alloc, &main, triple.as_slice(), [2, 5]);
+}
+
+#[test]
+fn rows_after_rows(rt: HostRuntime) {
+    assert!(&rt; next_row(0, 3) == 1);
+    assert!(&rt; next_row(2, 3) == 0);
+    assert!(&rt; next_row(0, 1) == 0);
+}
+
+#[test]
+fn lists_used_again(rt: HostRuntime) {
+    let alloc = rt.alloc();
+    let mut spare = Spare::new(alloc);
+    let mut list = spare.take(alloc, 4).expect(&rt, "memory");
+    list.push(F7::new(3)).expect(&rt, "memory");
+    spare.put(list).expect(&rt, "memory");
+    let again = spare.take(alloc, 2).expect(&rt, "memory");
+    assert!(&rt; again.is_empty() && again.capacity() == 4);
+    let other = spare.take(alloc, 3).expect(&rt, "memory");
+    assert!(&rt; other.is_empty() && other.capacity() == 3);
 }

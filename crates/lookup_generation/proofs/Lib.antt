@@ -10,4 +10,3 @@ pub mod SelectedColumns
 pub mod SelectedFractions
 pub mod SentMessageLaws
 pub mod SetFlags
-pub mod StepLaws

@@ -1,11 +1,11 @@
 -- The rows whose flags are not zero, row by row.
-use Rattle.std.proofs.Common.{◌≡◌, ◌≢◌, ℕ, zero, suc, ◌<◌, ◌≤◌, Some, inl, inr, List, [], ◌∷◌, ◌++◌, length, refl, sym, ap, subst, ◌∙◌, arith}
+use Rattle.std.proofs.Common.{◌≡◌, ◌≢◌, ℕ, zero, suc, ◌<◌, ◌≤◌, Bool, true, false, cond, not, Some, inl, inr, List, [], ◌∷◌, ◌++◌, length, map, refl, sym, ap, subst, ◌∙◌, arith}
 use Rattle.std.proofs.Math.Nat.{eq-or-lt_of_le}
 use Rattle.std.proofs.lemmas.List.{length_push}
 use Rattle.std.proofs.lemmas.Option.{slice_get_within}
-use Rattle.std.specs.List.{slice_get}
+use Rattle.std.specs.List.{filter, slice_get, zip}
 use Rattle.field.specs.Ring.{Ring}
-use Rattle.lookup_generation.specs.ChunkColumns.{ArePlaced, IsSelected}
+use Rattle.lookup_generation.specs.ChunkColumns.{ArePlaced, IsSelected, selected_rows}
 
 module _ {A : Type 0} where
   -- an item before the last one
@@ -18,6 +18,30 @@ module _ {A : Type 0} where
   pub push_last : (xs : List A) (x : A) → slice_get (xs ++ x ∷ []) (length xs) ≡ Some x
   push_last [] x = refl
   push_last (y ∷ xs) x = push_last xs x
+
+module _ {F : Type 0} (R : Ring F) (eq : F → F → Bool) where
+  abbrev nonzero : F × ℕ → Bool
+  nonzero p = not (eq p.0 R.zero)
+
+  -- one row alone
+  selected_alone : (f : F) (r : ℕ) (b : Bool) → map (λ (p : F × ℕ). p.1) (cond (not b) ((f, r) ∷ []) []) ≡ cond b [] (r ∷ [])
+  selected_alone f r true = refl
+  selected_alone f r false = refl
+
+  -- a row before others
+  selected_before : (g : F) (q : ℕ) (b : Bool) (xs ys : List (F × ℕ)) (last : List ℕ) → map (λ (p : F × ℕ). p.1) ys ≡ map (λ (p : F × ℕ). p.1) xs ++ last
+      → map (λ (p : F × ℕ). p.1) (cond b ((g, q) ∷ ys) ys) ≡ map (λ (p : F × ℕ). p.1) (cond b ((g, q) ∷ xs) xs) ++ last
+  selected_before g q true xs ys last later = ap (λ t. q ∷ t) later
+  selected_before g q false xs ys last later = later
+
+  -- one more row, which is among the selected ones unless its flag is zero
+  pub selected_push : (fs : List F) (rows : List ℕ) (f : F) (r : ℕ) → length fs ≡ length rows → selected_rows R eq (fs ++ f ∷ []) (rows ++ r ∷ []) ≡ selected_rows R eq fs rows ++ cond (eq f R.zero) [] (r ∷ [])
+  selected_push [] [] f r long = selected_alone f r (eq f R.zero)
+  selected_push [] (q ∷ rows) f r long = absurd (omega (arith, long))
+  selected_push (g ∷ fs) [] f r long = absurd (omega (arith, long))
+  selected_push (g ∷ fs) (q ∷ rows) f r long =
+      selected_before g q (nonzero (g, q)) (filter nonzero (zip fs rows)) (filter nonzero (zip (fs ++ f ∷ []) (rows ++ r ∷ []))) (cond (eq f R.zero) [] (r ∷ []))
+      (selected_push fs rows f r (omega (arith, long)))
 
 module _ {F : Type 0} (R : Ring F) (fs : List F) (rows places selected : List ℕ) (f : F) (r : ℕ) (flags_long : length fs ≡ length rows) (places_long : length places ≡ length rows) (so_far : ArePlaced R fs rows places selected) where
   -- a row before the last one

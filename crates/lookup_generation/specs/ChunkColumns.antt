@@ -1,12 +1,12 @@
 -- The columns of lookups on the rows of a chunk.
-use Rattle.std.specs.Prelude.{◌≡◌, ◌≢◌, ◌+◌, ◌*◌, ℕ, List, None, Some, map, slice_get, slice_index_or}
-use Rattle.std.specs.List.{AllZip}
+use Rattle.std.specs.Prelude.{◌≡◌, ◌≢◌, ◌+◌, ◌*◌, ℕ, Bool, List, None, Some, map, not, slice_get, slice_index_or}
+use Rattle.std.specs.List.{AllZip, filter, zip}
 use Rattle.std.specs.declared.alloc.Global.{Global}
 use Rattle.std.specs.declared.vec.Vec.{Vec}
-use Rattle.field.specs.Polynomial.{combined}
-use Rattle.field.specs.Ring.{Ring, sub_in}
+use Rattle.field.specs.Ring.{Ring}
 use Rattle.expressions.specs.Window.{Window}
 use Rattle.expressions.specs.declared.base_expression.SymbolicExpression.{SymbolicExpression}
+use Rattle.lookup_columns.specs.Columns.{denominator_of}
 use Rattle.lookup_model.specs.Message.{Key, Message}
 use Rattle.lookup_model.specs.Sent.{branches_at, values}
 use Rattle.lookup_model.specs.declared.types.Lookup.{Lookup}
@@ -27,7 +27,7 @@ module _ {F K : Type 0} where
   -- the denominator of a key whose id is a column, as `column_denominator` of an extension has it
   abbrev pub key_denominator : Ring K → (F → K) → List K → Key F → K
   key_denominator S embed challenges key =
-      sub_in S (slice_index_or challenges (2 * key.id) S.zero) (combined S (map embed key.tuple) (slice_index_or challenges (2 * key.id + 1) S.zero))
+      denominator_of S embed (slice_index_or challenges (2 * key.id) S.zero) (slice_index_or challenges (2 * key.id + 1) S.zero) key.tuple
 
   -- At this place, a column holds this flag.
   abbrev pub HasFlag : ℕ → BranchColumns F K → F → Type 0
@@ -68,6 +68,10 @@ module _ {F K : Type 0} where
   abbrev pub AreLookupColumns : Ring F → Ring K → (F → K) → List K → (ℕ → Window F) → List ℕ → List (Lookup F) → List (Vec (BranchColumns F K) Global) → Type 0
   AreLookupColumns R S embed challenges window rows =
       AllZip (λ lookup columns. AreColumns R S embed challenges window rows lookup columns.items)
+
+-- the rows whose flag is not zero
+abbrev pub selected_rows : {F : Type 0} → Ring F → (F → F → Bool) → List F → List ℕ → List ℕ
+selected_rows R eq flags rows = map (λ p. p.1) (filter (λ p. not (eq p.0 R.zero)) (zip flags rows))
 
 -- Each of these rows whose flag is not zero stands among the selected ones, at its place.
 pub record ArePlaced {F : Type 0} (R : Ring F) (flags : List F) (rows places selected : List ℕ) : Type 0 where

@@ -5,7 +5,7 @@ ghost use Rattle.std.specs.Option.{ForSome, option_copied};
 ghost use Rattle.expressions.specs.Layout.{layout_of_traces};
 ghost use Rattle.lookup_columns.specs.Columns.{windows_of};
 ghost use Rattle.lookup_columns.specs.Steps.{AreStepsOf};
-ghost use Rattle.lookup_generation.specs.ChunkColumns.{AreColumns, AreLookupColumns, ArePlaced, HoldSelected, IsHeld, key_denominator};
+ghost use Rattle.lookup_generation.specs.ChunkColumns.{AreColumns, AreLookupColumns, ArePlaced, HoldSelected, IsHeld, key_denominator, selected_rows};
 ghost use Rattle.lookup_generation.specs.LookupSteps.{AreLookupSteps};
 ghost use Rattle.lookup_model.specs.Records.{AllFit, DoFit, HasEqualLengths, IsWithin};
 ghost use Rattle.lookup_model.specs.Message.{Message};
@@ -45,7 +45,7 @@ pub(crate) fn rows_between(
     requires { first ≤ end }
     ensures { IfOk result (λ v. v.items ≡ range_with_len first (end - first)) }
 {
-    let mut rows = spare.take(alloc);
+    let mut rows = spare.take(alloc, end - first)?;
     for row in first..end {
         rows.push(row)?;
     }
@@ -61,12 +61,14 @@ fn selected_rows<F: Field>(
     rows: &[usize],
 ) -> Result<(Vec<usize>, Vec<usize>), AllocError>
     requires { length flags.now ≡ length rows.now }
+    ensures selected { IfOk result (λ v. v.1.items
+        ≡ selected_rows F.ring F.eq flags.now rows.now) }
     ensures places { IfOk result (λ v. ArePlaced F.ring flags.now rows.now v.0.items v.1.items) }
     ensures rows_exist { (n : ℕ) → All (λ r. r < n) rows.now
         → IfOk result (λ v. All (λ r. r < n) v.1.items) }
 {
-    let mut places = spare.take(alloc);
-    let mut selected = spare.take(alloc);
+    let mut places = spare.take(alloc, rows.len())?;
+    let mut selected = spare.take(alloc, rows.len())?;
     for i in 0..rows.len() {
         places.push(selected.len())?;
         if !flags[i].is_zero() {
@@ -213,9 +215,9 @@ fn exclusive_columns<F: Field, EF: ExtensionDomain<F>>(
         HoldSelected F.ring (key_denominator EF.ring EF.embed challenges.now) place v.items
         (values F.ring w flags.now) (branches_at F.ring w lookup.now.column lookup.now)) }
 {
-    let mut branches = Vec::with_capacity(alloc, lookup.elements.len())?;
-    for branch in 0..lookup.elements.len() {
-        let set = column_of(
+    let mut branches = Vec::with_capacity(alloc, flags.len())?;
+    for branch in 0..flags.len() {
+        let column = column_of(
             alloc,
             &mut memory.slots,
             &steps.flags[branch],
@@ -224,14 +226,14 @@ fn exclusive_columns<F: Field, EF: ExtensionDomain<F>>(
             public_values,
             rows,
         )?;
-        let (places, selected) = selected_rows(alloc, &mut memory.places, &set, rows)?;
+        let (places, selected) = selected_rows(alloc, &mut memory.places, &column, rows)?;
         let columns = branch_columns(
             alloc,
             memory,
             lookup,
             steps,
             branch,
-            set,
+            column,
             places,
             main,
             preprocessed,

@@ -27,6 +27,7 @@ use crate::ratio::{Ratio, values_of};
 use crate::steps::{LookupSteps, steps_of_lookups};
 use crate::trace_builder::LookupTraceBuilder;
 use field::{Domain, ExtensionDomain, ExtensionField, Field, InverseCount, Inverter};
+use lookup_columns::next_row;
 use lookup_model::{Lookup, LookupError, LookupTerminal};
 use matrix::{RowMajorMatrix, ViewPair};
 use std::alloc::{AllocError, Global};
@@ -61,15 +62,6 @@ fn push_ratios<F: Field, EF: ExtensionDomain<F>>(
         ratios.push(ratio)?;
     }
     Ok(())
-}
-
-/// The row after a row; the first one comes after the last.
-fn next_row(row: usize, height: usize) -> usize
-    requires { row < height }
-    ensures next { result ≡ (row + 1) % height }
-    ensures exists { result < height }
-{
-    if row + 1 == height { 0 } else { row + 1 }
 }
 
 /// The builder of one row of an AIR's traces, which have `rows` rows, together with the next row; the
@@ -166,8 +158,7 @@ fn ratios_of<F: Field, EF: ExtensionDomain<F>>(
         .len()
         .checked_mul(lookups.len())
         .ok_or(LookupError::Memory)?;
-    let mut ratios = memory.ratios.take(alloc);
-    ratios.reserve(size)?;
+    let mut ratios = memory.ratios.take(alloc, size)?;
     let height = main.height();
     for row in first..end {
         let builder = row_builder(main, preprocessed, public_values, challenges, height, row);

@@ -79,7 +79,7 @@ pub(crate) fn values_of<K: Domain, I: Inverter<K>>(
     ensures not_counted_whole { AllByRecursion (λ r. r.denominator ≡ K.ring.one) ratios.now
         → I.count inverter.new ≡ I.count inverter.old }
 {
-    let mut values = spare.take(alloc);
+    let mut values = spare.take(alloc, ratios.len())?;
     if are_whole(ratios) {
         push_numerators(&mut values, ratios)?;
         return Ok(values);

@@ -28,7 +28,7 @@ loop-left-init g c =
       λ es are.
           let nothing = sym (drop-length es) ∙ ap (λ n. drop n es) (AllZip-long AreStepsOf steps es are) in
           column_of_none R g.EF.PrimeCharacteristicRing.lawful g.EF.ExtensionDomain.embed c.args.alpha c.args.beta ws c.args.rows.now
-          (c.in_ok-push_alike.ensures ∙ ap (λ v. v ++ map (λ _. c.args.alpha) c.args.rows.now) c.take-denominators.ensures.empty)
+          (c.in_ok-push_alike.ensures ∙ ap (λ v. v ++ map (λ _. c.args.alpha) c.args.rows.now) c.in_ok-denominators.ensures.empty)
           ∙ ap (denominator_column R S g.EF.ExtensionDomain.embed ws c.args.alpha c.args.beta c.args.rows.now) nothing,
     )
 
@@ -70,7 +70,7 @@ loop-left-preserved g c =
           (c.deref-in-loop-left.ensures.value ∙ so_far.2 es are)
           (c.deref-in-loop-left-2.ensures.value ∙ c.in_ok-column.ensures (tree_of e) (c.deref.ensures.value ∙ other.holds))
           (c.in_ok-push_lessened.ensures
-          ∙ ap (λ v. v ++ map (λ p. sub_in S p.0 (S.mul c.loop-left.power (embed p.1))) (zip c.deref-in-loop-left.result.now c.deref-in-loop-left-2.result.now)) c.take-lessened.ensures.empty
+          ∙ ap (λ v. v ++ map (λ p. sub_in S p.0 (S.mul c.loop-left.power (embed p.1))) (zip c.deref-in-loop-left.result.now c.deref-in-loop-left-2.result.now)) c.in_ok-lessened.ensures.empty
           ∙ ap (λ q. map (λ p. sub_in S p.0 (S.mul q (embed p.1))) (zip c.deref-in-loop-left.result.now c.deref-in-loop-left-2.result.now)) (so_far.1 ∙ ap (power S beta) many))
           ∙ ap (denominator_column R S embed ws c.args.alpha beta c.args.rows.now) (sym (drop_read es (left - 1) e other.within other.there ∙ ap (λ n. e ∷ drop n es) one_more)),
     )

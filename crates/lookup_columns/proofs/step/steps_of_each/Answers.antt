@@ -1,9 +1,10 @@
-use Rattle.std.proofs.Common.{◌∷◌, ◌++◌, [], All, List, take, sym, subst, subst₂, arith}
-use Rattle.std.proofs.lemmas.List.Elements.{All-push}
+use Rattle.std.proofs.Common.{List, take, sym, subst, subst₂, arith}
+use Rattle.std.proofs.lemmas.List.{take_all}
 use Rattle.std.specs.List.{AllZip}
-use Rattle.lookup_columns.specs.Steps.{AreStepsOf, DoStepsFit}
+use Rattle.expressions.specs.declared.base_expression.SymbolicExpression.{SymbolicExpression}
+use Rattle.lookup_columns.specs.Steps.{AreStepsOf}
+use Rattle.lookup_columns.proofs.StepLaws.{all_steps_fit}
 use Rattle.lookup_columns.proofs.ZipLaws.{taken_more, zip_push}
-use Rattle.lookup_model.proofs.RecordLaws.{Fits-at}
 use Rattle.lookup_columns.proofs.step.steps_of_each.Goals as goal
 
 pub loop-expression-preserved : goal.loop-expression-preserved
@@ -11,12 +12,18 @@ loop-expression-preserved g c =
     let es = c.args.expressions.now in
     let i = c.loop-expression.expression-index in
     let e = c.expression-item.result in
-    let all = c.loop-expression.all.items in
-    let new = c.in_ok-steps_of.field-0 in
-    let so_far = c.loop-expression.invariant in
-    let longer = sym c.in_ok-push.ensures.items in (
-      subst₂ (AllZip AreStepsOf) longer (sym (taken_more es i e c.loop-expression-test.true c.expression-item.is))
-          (zip_push AreStepsOf all (take i es) new e so_far.0 c.in_ok-steps_of.ensures.steps),
-      λ layout fit. subst (λ (l : List _). All (DoStepsFit layout) l) longer
-          (All-push (DoStepsFit layout) all new (so_far.1 layout fit) (c.in_ok-steps_of.ensures.fit layout (Fits-at layout es i e fit c.loop-expression-test.true c.expression-item.is))),
-    )
+    subst₂ (AllZip AreStepsOf) (sym c.in_ok-push.ensures.items) (sym (taken_more es i e c.loop-expression-test.true c.expression-item.is))
+    (zip_push AreStepsOf c.loop-expression.all.items (take i es) c.in_ok-steps_of.field-0 e c.loop-expression.invariant c.in_ok-steps_of.ensures.steps)
+
+pub returns-clause-steps : goal.returns-clause-steps
+returns-clause-steps g c =
+    let es = c.args.expressions.now in
+    let i = c.loop-expression.expression-index in
+    subst (λ (l : List (SymbolicExpression _)). AllZip AreStepsOf c.loop-expression.all.items l) (take_all i es (omega (arith, c.loop-expression-test.false))) c.loop-expression.invariant
+
+pub returns-clause-fit : goal.returns-clause-fit
+returns-clause-fit g c = λ layout.
+    let es = c.args.expressions.now in
+    let i = c.loop-expression.expression-index in
+    all_steps_fit layout c.loop-expression.all.items es
+    (subst (λ (l : List (SymbolicExpression _)). AllZip AreStepsOf c.loop-expression.all.items l) (take_all i es (omega (arith, c.loop-expression-test.false))) c.loop-expression.invariant)

@@ -13,7 +13,7 @@ use Rattle.lookup_columns.specs.Steps.{AreStepsOf, DoStepsFit, StepFits}
 use Rattle.lookup_generation.specs.ChunkColumns.{key_denominator}
 use Rattle.lookup_generation.specs.LookupSteps.{AreTupleSteps}
 use Rattle.lookup_generation.proofs.ChunkColumnLaws.{mapped_there}
-use Rattle.lookup_generation.proofs.StepLaws.{all_steps_fit}
+use Rattle.lookup_columns.proofs.StepLaws.{all_steps_fit}
 use Rattle.std.proofs.lemmas.Option.{get_or_from_slice_get}
 use Rattle.lookup_model.proofs.Branches.{zipped_at}
 use Rattle.lookup_model.proofs.RecordLaws.{All-at}

@@ -10,7 +10,7 @@ use Rattle.lookup_generation.proofs.ChunkColumnLaws.{mapped_there}
 use Rattle.std.proofs.lemmas.Slice.Zip.{AllZip-long}
 use Rattle.lookup_columns.proofs.ZipLaws.{beside, taken_more, zip_push}
 use Rattle.lookup_columns.specs.Steps.{AreStepsOf, DoStepsFit, StepFits}
-use Rattle.lookup_generation.proofs.StepLaws.{all_steps_fit}
+use Rattle.lookup_columns.proofs.StepLaws.{all_steps_fit}
 use Rattle.expressions.specs.Tree.{tree_of}
 use Rattle.lookup_model.proofs.Branches.{length-branches_at, mapped_more}
 use Rattle.lookup_model.proofs.RecordLaws.{All-at}
@@ -21,24 +21,24 @@ use Rattle.lookup_generation.proofs.columns.exclusive_columns.Goals as goal
 
 pub index-requires : goal.index-requires
 index-requires g c =
-    omega (arith, AllZip-long AreStepsOf c.args.steps.now.flags.items c.args.flags.now c.requires.flag_steps, c.args.steps.now.flags.ok.0, c.requires.flag_number, c.loop-branch-test.true, c.loop-branch.auto.branch-end, c.len-branch-end.ensures, c.args.lookup.now.elements.ok.0)
+    omega (arith, AllZip-long AreStepsOf c.args.steps.now.flags.items c.args.flags.now c.requires.flag_steps, c.args.steps.now.flags.ok.0, c.loop-branch-test.true, c.loop-branch.auto.branch-end)
 
 pub column_of-requires-clause-fits : goal.column_of-requires-clause-fits
 column_of-requires-clause-fits g c =
     let layout = layout_of_traces c.args.main.now (option_copied c.args.preprocessed) c.args.public_values.now in
     let steps = c.args.steps.now.flags.items in
-    let lt : c.loop-branch.branch < length steps = omega (arith, AllZip-long AreStepsOf steps c.args.flags.now c.requires.flag_steps, c.requires.flag_number, c.loop-branch-test.true, c.len-branch-end.ensures, c.args.lookup.now.elements.ok.0) in
+    let lt : c.loop-branch.branch < length steps = omega (arith, AllZip-long AreStepsOf steps c.args.flags.now c.requires.flag_steps, c.loop-branch-test.true) in
     subst (All (StepFits layout)) (sym c.deref.ensures.value)
     (All-at (DoStepsFit layout) steps c.loop-branch.branch c.index.result.now (all_steps_fit layout steps c.args.flags.now c.requires.flag_steps c.requires.flags_fit) lt c.index.ensures)
 
 pub selected_rows-requires : goal.selected_rows-requires
 selected_rows-requires g c =
     let steps = c.args.steps.now.flags.items in
-    let lt : c.loop-branch.branch < length steps = omega (arith, AllZip-long AreStepsOf steps c.args.flags.now c.requires.flag_steps, c.requires.flag_number, c.loop-branch-test.true, c.len-branch-end.ensures, c.args.lookup.now.elements.ok.0) in
+    let lt : c.loop-branch.branch < length steps = omega (arith, AllZip-long AreStepsOf steps c.args.flags.now c.requires.flag_steps, c.loop-branch-test.true) in
     let flag_beside = beside AreStepsOf steps c.args.flags.now c.loop-branch.branch c.index.result.now c.requires.flag_steps lt c.index.ensures in
     let e = flag_beside.item in
     let windows = windows_of c.args.main.now (option_copied c.args.preprocessed) c.args.public_values.now in
-    ap length c.deref-in-loop-branch.ensures.value ∙ ap length (c.in_ok-set.ensures (tree_of e) (c.deref.ensures.value ∙ flag_beside.holds)) ∙ length-map c.args.rows.now (λ row. value g.F.PrimeCharacteristicRing.ring (windows row) e)
+    ap length c.deref-in-loop-branch.ensures.value ∙ ap length (c.in_ok-column.ensures (tree_of e) (c.deref.ensures.value ∙ flag_beside.holds)) ∙ length-map c.args.rows.now (λ row. value g.F.PrimeCharacteristicRing.ring (windows row) e)
 
 pub branch_columns-requires-clause-rows_exist : goal.branch_columns-requires-clause-rows_exist
 branch_columns-requires-clause-rows_exist g c =
@@ -54,19 +54,19 @@ loop-branch-preserved g c = λ place r there.
     let flags = c.args.flags.now in
     let i = c.loop-branch.branch in
     let steps = c.args.steps.now.flags.items in
-    let lt_steps : i < length steps = omega (arith, AllZip-long AreStepsOf steps flags c.requires.flag_steps, c.requires.flag_number, c.loop-branch-test.true, c.len-branch-end.ensures, lookup.elements.ok.0) in
+    let lt_steps : i < length steps = omega (arith, AllZip-long AreStepsOf steps flags c.requires.flag_steps, c.loop-branch-test.true) in
     let flag_beside = beside AreStepsOf steps flags i c.index.result.now c.requires.flag_steps lt_steps c.index.ensures in
     let e = flag_beside.item in
     let ms = branches_at R w lookup.column lookup in
     let d : Message _ = record { key = record { id = 0; tuple = [] }; multiplicity = R.zero } in
     let m = get_or ms i d in
     let lt : i < length ms = omega (arith, length-branches_at R w lookup.column lookup c.requires.lengths) in
-    let set = c.in_ok-set.set.items in
+    let set = c.in_ok-column.column.items in
     let new = c.in_ok-columns.columns in
     let kept = c.in_ok-columns.ensures.flags in
     let so_far = c.loop-branch.invariant place r there in
     let flag : HasFlag place new (value R w e) =
-    ap (λ v. slice_get v.items place) kept.0 ∙ mapped_there (λ row. value R (windows row) e) c.args.rows.now set place r (c.in_ok-set.ensures (tree_of e) (c.deref.ensures.value ∙ flag_beside.holds)) there in
+    ap (λ v. slice_get v.items place) kept.0 ∙ mapped_there (λ row. value R (windows row) e) c.args.rows.now set place r (c.in_ok-column.ensures (tree_of e) (c.deref.ensures.value ∙ flag_beside.holds)) there in
     let held : IsHeldIfSet R D place new m =
     λ f has nonzero.
     let placed = c.in_ok-places.ensures.places.at place r f there (ap (λ l. slice_get l place) c.deref-in-loop-branch.ensures.value ∙ ap (λ v. slice_get v.items place) (sym kept.0) ∙ has) nonzero in

@@ -6,7 +6,7 @@ use Rattle.lookup_generation.proofs.columns.rows_between.Goals as goal
 pub loop-row-init : goal.loop-row-init
 loop-row-init c =
     let none : 0 ≡ c.args.first - c.args.first = omega arith in
-    c.take-rows.ensures.empty ∙ ap (range_with_len c.args.first) none
+    c.in_ok-rows.ensures.empty ∙ ap (range_with_len c.args.first) none
 
 pub loop-row-preserved : goal.loop-row-preserved
 loop-row-preserved c =

@@ -105,8 +105,8 @@ loop-row-init g c =
             embeds = g.met.EF.ExtensionDomain.embeds;
             inverse = is_inverse;
           } in
-          AreRatios-none laws (column_denominator E c.args.challenges.now) (sent_rows E.base E.base_eq c.args.main.now (option_copied c.args.preprocessed) c.args.public_values.now c.args.lookups.now) c.args.first _ (c.reserve.ensures.items ∙ c.take-ratios.ensures.empty) (c.requires.faultless inverse is_inverse),
-      sound_none _ c.reserve.new.self.items (c.reserve.ensures.items ∙ c.take-ratios.ensures.empty) nothing,
+          AreRatios-none laws (column_denominator E c.args.challenges.now) (sent_rows E.base E.base_eq c.args.main.now (option_copied c.args.preprocessed) c.args.public_values.now c.args.lookups.now) c.args.first _ (c.in_ok-ratios.ensures.empty) (c.requires.faultless inverse is_inverse),
+      sound_none _ c.in_ok-ratios.ratios.items (c.in_ok-ratios.ensures.empty) nothing,
     )
 
 pub loop-row-preserved : goal.loop-row-preserved

@@ -22,7 +22,7 @@ returns-in_err-push_row_messages g c =
     let id : Lookup g.row.F.Denot → ℕ = λ l. slice_index_or c.args.ids.now l.column 0 in
     let built = c.row_builder-builder.ensures in
     let r = c.loop-row.row in
-    let lt : r < height main = omega (arith, c.loop-row-test.true, c.height-row-end.ensures.height) in
+    let lt : r < height main = omega (arith, c.loop-row-test.true, c.height-height.ensures.height) in
     let p = err_from_is_err_and c.from_residual.result c.from_residual.ensures.1 in
     rw (p.1, p.2) (elim c.in_err-push_row_messages.ensures [
       | inl memory ↦ inl memory
@@ -43,7 +43,7 @@ loop-row-preserved g c =
     let r = c.loop-row.row in
     let before = c.loop-row.messages.items in
     let after = c.push_row_messages.new.messages.items in
-    let lt : r < height main = omega (arith, c.loop-row-test.true, c.height-row-end.ensures.height) in
+    let lt : r < height main = omega (arith, c.loop-row-test.true, c.height-height.ensures.height) in
     let w = window_at main prep c.args.public_values.now (height main) r in
     let has = λ (k : ℕ) (v : Window _). HasSentRow E k before after (sent_row_under E.base E.base_eq id v c.args.lookups.now) in
     let this : has r w =
@@ -60,4 +60,4 @@ returns g c =
     let id : Lookup g.row.F.Denot → ℕ = λ l. slice_index_or c.args.ids.now l.column 0 in
     let rows = sent_rows_under E.base E.base_eq id c.args.main.now prep c.args.public_values.now c.args.lookups.now in
     subst (λ (rs : List (List (Sent _))). HasSentRows E c.args.messages.now.items c.loop-row.messages.items rs)
-    (take_all c.loop-row.row rows (omega (arith, length-all_rows E.base E.base_eq id c.args.main.now prep c.args.public_values.now c.args.lookups.now, c.loop-row-test.false, c.height-row-end.ensures.height))) c.loop-row.invariant
+    (take_all c.loop-row.row rows (omega (arith, length-all_rows E.base E.base_eq id c.args.main.now prep c.args.public_values.now c.args.lookups.now, c.loop-row-test.false, c.height-height.ensures.height))) c.loop-row.invariant
