@@ -1,18 +1,13 @@
 -- Columns: what expressions and tuples give on some rows of the traces of an AIR.
-use Rattle.std.specs.Prelude.{ℕ, List, Option, map}
+use Rattle.std.specs.Prelude.{ℕ, List, map}
 use Rattle.field.specs.Polynomial.{combined}
 use Rattle.field.specs.Ring.{Ring, sub_in}
-use Rattle.matrix.specs.Matrix.{Matrix, height}
 use Rattle.expressions.specs.Meaning.{leaf_value, value_of}
 use Rattle.expressions.specs.Tree.{Tree}
-use Rattle.expressions.specs.Window.{Window, window_at}
+use Rattle.expressions.specs.Window.{Window}
 use Rattle.expressions.specs.declared.base_expression.BaseLeaf.{BaseLeaf}
 use Rattle.expressions.specs.declared.base_expression.SymbolicExpression.{SymbolicExpression}
 use Rattle.lookup_model.specs.Sent.{values}
-
--- the windows of the rows of traces
-abbrev pub windows_of : {F : Type 0} → Matrix F → Option (Matrix F) → List F → ℕ → Window F
-windows_of main preprocessed public_values r = window_at main preprocessed public_values (height main) r
 
 -- the denominator of a tuple of these values: `alpha - t`, where t is the tuple combined by beta
 abbrev pub denominator_of : {F K : Type 0} → Ring K → (F → K) → K → K → List F → K

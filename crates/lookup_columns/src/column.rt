@@ -1,18 +1,19 @@
 //! The values of an expression on some rows.
 ghost use Rattle.std.specs.Prelude.{◌≡◌, ◌<◌, ◌≤◌, ◌+◌, ◌%◌, ◌++◌, ◌==◌, ℕ, All, IfOk, List, OnOk, map, length, not, slice_index_or};
 ghost use Rattle.std.specs.List.{zip};
-ghost use Rattle.std.specs.Option.{ForSome, option_copied};
 ghost use Rattle.field.specs.Ring.{of_bool, sub_in};
-ghost use Rattle.expressions.specs.Layout.{LeafFits, layout_of_traces};
+ghost use Rattle.expressions.specs.Layout.{LeafFits};
 ghost use Rattle.expressions.specs.Meaning.{row_at};
 ghost use Rattle.expressions.specs.Tree.{Tree};
-ghost use Rattle.lookup_columns.specs.Columns.{column, leaf_column, windows_of};
+ghost use Rattle.lookup_columns.specs.Columns.{column, leaf_column};
 ghost use Rattle.lookup_columns.specs.Slots.{after, filled};
 ghost use Rattle.lookup_columns.specs.Steps.{StepFits, steps_in_order};
+ghost use Rattle.lookup_columns.specs.Traces.{layout_of, rows_of, window_of};
 ghost use Rattle.matrix.specs.Matrix.{height, row};
 
 use crate::slots::Slots;
 use crate::step::Step;
+use crate::traces::Traces;
 use expressions::{BaseEntry, BaseLeaf};
 use field::{Domain, Field};
 use matrix::RowMajorMatrix;
@@ -143,33 +144,29 @@ fn push_last_one<F: Field>(to: &mut Vec<F>, rows: &[usize], height: usize) -> Re
 fn push_leaf<F: Field>(
     to: &mut Vec<F>,
     leaf: BaseLeaf<F>,
-    main: &RowMajorMatrix<F>,
-    preprocessed: Option<&RowMajorMatrix<F>>,
-    public_values: &[F],
+    traces: &Traces<'_, F>,
     rows: &[usize],
 ) -> Result<(), AllocError>
-    requires heights { ForSome (option_copied preprocessed) (λ m. height m ≡ height main.now) }
-    requires fits { LeafFits (layout_of_traces main.now
-        (option_copied preprocessed) public_values.now) leaf }
-    requires rows_exist { All (λ r. r < height main.now) rows.now }
-    ensures { OnOk result (to.new.items ≡ to.old.items ++ leaf_column F.ring
-        (windows_of main.now (option_copied preprocessed.entry) public_values.now) rows.now leaf) }
+    requires fits { LeafFits (layout_of traces.now) leaf }
+    requires rows_exist { All (λ r. r < rows_of traces.now) rows.now }
+    ensures { OnOk result (to.new.items ≡ to.old.items
+        ++ leaf_column F.ring (window_of traces.now) rows.now leaf) }
 {
     match leaf {
         BaseLeaf::Variable(variable) => {
             let index = variable.index;
             match variable.entry {
-                BaseEntry::Main { offset } => push_cells_at(to, main, rows, offset, index),
-                BaseEntry::Preprocessed { offset } => match preprocessed {
+                BaseEntry::Main { offset } => push_cells_at(to, traces.main, rows, offset, index),
+                BaseEntry::Preprocessed { offset } => match traces.preprocessed {
                     Some(trace) => push_cells_at(to, trace, rows, offset, index),
                     None => unreachable!(),
                 },
-                BaseEntry::Public => push_alike(to, rows, public_values[index]),
+                BaseEntry::Public => push_alike(to, rows, traces.public_values[index]),
             }
         }
         BaseLeaf::IsFirstRow => push_only_on(to, rows, 0),
-        BaseLeaf::IsLastRow => push_last_one(to, rows, main.height()),
-        BaseLeaf::IsTransition => push_before_last(to, rows, main.height()),
+        BaseLeaf::IsLastRow => push_last_one(to, rows, traces.main.height()),
+        BaseLeaf::IsTransition => push_before_last(to, rows, traces.main.height()),
         BaseLeaf::Constant(x) => push_alike(to, rows, x),
     }
 }
@@ -210,23 +207,18 @@ fn work_out<F: Field>(
     alloc: Global,
     slots: &mut Slots<F>,
     step: Step<F>,
-    main: &RowMajorMatrix<F>,
-    preprocessed: Option<&RowMajorMatrix<F>>,
-    public_values: &[F],
+    traces: &Traces<'_, F>,
     rows: &[usize],
 ) -> Result<(), AllocError>
-    requires heights { ForSome (option_copied preprocessed) (λ m. height m ≡ height main.now) }
-    requires fits { StepFits (layout_of_traces main.now
-        (option_copied preprocessed) public_values.now) step }
-    requires rows_exist { All (λ r. r < height main.now) rows.now }
-    ensures { OnOk result (filled slots.new ≡ after F.ring
-        (windows_of main.now (option_copied preprocessed.entry) public_values.now) rows.now step
+    requires fits { StepFits (layout_of traces.now) step }
+    requires rows_exist { All (λ r. r < rows_of traces.now) rows.now }
+    ensures { OnOk result (filled slots.new ≡ after F.ring (window_of traces.now) rows.now step
         (filled slots.old)) }
 {
     let mut values = slots.take(alloc, rows.len())?;
     match step {
         Step::Leaf(leaf) => {
-            push_leaf(&mut values, leaf, main, preprocessed, public_values, rows)?;
+            push_leaf(&mut values, leaf, traces, rows)?;
             slots.push(values)
         }
         Step::Add => {
@@ -262,29 +254,23 @@ fn work_out<F: Field>(
 /// The values of the expression of these steps on rows of the traces of an AIR, in the order of
 /// `rows`. The next row of the last one is the first one.
 ///
-/// `preprocessed`, if there is one, is as high as `main`. Each step is worked out once, as a list over
-/// all rows. The list that is returned can be put away in `slots` after use. Fails only when out of
-/// memory.
+/// Each step is worked out once, as a list over all rows. The list that is returned can be put away in
+/// `slots` after use. Fails only when out of memory.
 pub fn column_of<F: Field>(
     alloc: Global,
     slots: &mut Slots<F>,
     steps: &[Step<F>],
-    main: &RowMajorMatrix<F>,
-    preprocessed: Option<&RowMajorMatrix<F>>,
-    public_values: &[F],
+    traces: &Traces<'_, F>,
     rows: &[usize],
 ) -> Result<Vec<F>, AllocError>
-    requires heights { ForSome (option_copied preprocessed) (λ m. height m ≡ height main.now) }
-    requires fits { All (StepFits (layout_of_traces main.now
-        (option_copied preprocessed) public_values.now)) steps.now }
-    requires rows_exist { All (λ r. r < height main.now) rows.now }
+    requires fits { All (StepFits (layout_of traces.now)) steps.now }
+    requires rows_exist { All (λ r. r < rows_of traces.now) rows.now }
     ensures { (tree : Tree F) → steps.now ≡ steps_in_order tree → IfOk result (λ v. v.items
-        ≡ column F.ring (windows_of main.now
-        (option_copied preprocessed.entry) public_values.now) rows.now tree) }
+        ≡ column F.ring (window_of traces.now) rows.now tree) }
 {
     slots.clear()?;
     for step in steps {
-        work_out(alloc, slots, *step, main, preprocessed, public_values, rows)?;
+        work_out(alloc, slots, *step, traces, rows)?;
     }
     Ok(slots.pop(alloc))
 }

@@ -1,20 +1,18 @@
 //! The denominators of a tuple on some rows.
 ghost use Rattle.std.specs.Prelude.{◌≡◌, ◌<◌, ◌++◌, All, IfOk, List, OnOk, map};
 ghost use Rattle.std.specs.List.{AllZip, zip};
-ghost use Rattle.std.specs.Option.{ForSome, option_copied};
 ghost use Rattle.field.specs.Ring.{sub_in};
-ghost use Rattle.expressions.specs.Layout.{layout_of_traces};
 ghost use Rattle.expressions.specs.declared.base_expression.SymbolicExpression.{SymbolicExpression};
-ghost use Rattle.lookup_columns.specs.Columns.{denominator_column, windows_of};
+ghost use Rattle.lookup_columns.specs.Columns.{denominator_column};
 ghost use Rattle.lookup_columns.specs.Steps.{AreStepsOf, DoStepsFit};
-ghost use Rattle.matrix.specs.Matrix.{height};
+ghost use Rattle.lookup_columns.specs.Traces.{layout_of, rows_of, window_of};
 
 use crate::column::{column_of, push_alike};
 use crate::slots::Slots;
 use crate::spare::Spare;
 use crate::step::Step;
+use crate::traces::Traces;
 use field::{Domain, ExtensionDomain, Field};
-use matrix::RowMajorMatrix;
 use std::alloc::{AllocError, Global};
 
 /// Appends `e - power * x` for each element `e`, where `x` stands beside it in `column`.
@@ -41,27 +39,23 @@ fn push_lessened<F: Field, EF: ExtensionDomain<F>>(
 /// (<https://eprint.iacr.org/2022/1530>).
 ///
 /// The last element of a tuple has the factor 1, each one before it a power of `beta` more. The next
-/// row of the last one is the first one. `preprocessed`, if there is one, is as high as `main`. The
-/// list that is returned can be put away in `spare` after use. Fails only when out of memory.
+/// row of the last one is the first one. The list that is returned can be put away in `spare` after
+/// use. Fails only when out of memory.
 pub fn denominators_of<F: Field, EF: ExtensionDomain<F>>(
     alloc: Global,
     slots: &mut Slots<F>,
     spare: &mut Spare<EF>,
     tuple: &[Vec<Step<F>>],
-    main: &RowMajorMatrix<F>,
-    preprocessed: Option<&RowMajorMatrix<F>>,
-    public_values: &[F],
+    traces: &Traces<'_, F>,
     rows: &[usize],
     alpha: EF,
     beta: EF,
 ) -> Result<Vec<EF>, AllocError>
-    requires heights { ForSome (option_copied preprocessed) (λ m. height m ≡ height main.now) }
-    requires fits { All (DoStepsFit (layout_of_traces main.now
-        (option_copied preprocessed) public_values.now)) tuple.now }
-    requires rows_exist { All (λ r. r < height main.now) rows.now }
+    requires fits { All (DoStepsFit (layout_of traces.now)) tuple.now }
+    requires rows_exist { All (λ r. r < rows_of traces.now) rows.now }
     ensures { (expressions : List (SymbolicExpression F)) → AllZip AreStepsOf tuple.now expressions
         → IfOk result (λ v. v.items ≡ denominator_column F.ring EF.ring EF.embed
-        (windows_of main.now (option_copied preprocessed.entry) public_values.now) alpha beta
+        (window_of traces.now) alpha beta
         rows.now expressions) }
 {
     let mut denominators = spare.take(alloc, rows.len())?;
@@ -70,15 +64,7 @@ pub fn denominators_of<F: Field, EF: ExtensionDomain<F>>(
     let mut left = tuple.len();
     while left > 0 {
         left -= 1;
-        let column = column_of(
-            alloc,
-            slots,
-            &tuple[left],
-            main,
-            preprocessed,
-            public_values,
-            rows,
-        )?;
+        let column = column_of(alloc, slots, &tuple[left], traces, rows)?;
         let mut lessened = spare.take(alloc, rows.len())?;
         push_lessened(&mut lessened, &denominators, power, &column)?;
         slots.put(column)?;

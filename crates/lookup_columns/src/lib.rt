@@ -8,9 +8,11 @@ mod spare;
 mod step;
 #[cfg(test)]
 mod tests;
+mod traces;
 
 pub use column::{column_of, next_row};
 pub use denominators::denominators_of;
 pub use slots::Slots;
 pub use spare::Spare;
 pub use step::{Step, steps_of, steps_of_each};
+pub use traces::Traces;

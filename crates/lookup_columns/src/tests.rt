@@ -6,7 +6,9 @@ ghost use Rattle.lookup_columns.specs.Steps.{DoStepsFit};
 ghost use Rattle.lookup_model.specs.Records.{AllFit};
 ghost use Rattle.matrix.specs.Matrix.{height};
 
-use super::{Slots, Spare, Step, column_of, denominators_of, next_row, steps_of, steps_of_each};
+use super::{
+    Slots, Spare, Step, Traces, column_of, denominators_of, next_row, steps_of, steps_of_each,
+};
 use expressions::{
     AirLayout, BaseEntry, BaseLeaf, Expression, SymbolicExpression, SymbolicVariable,
 };
@@ -65,13 +67,16 @@ fn expect_column(
     let steps = fitting_steps(rt, alloc, expression, &layout);
     assert!(rt; preprocessed.height() == main.height());
     assert!(rt; are_rows(rows.as_slice(), main));
+    let traces = Traces {
+        main,
+        preprocessed: Some(preprocessed),
+        public_values: public_values.as_slice(),
+    };
     let found = column_of(
         alloc,
         &mut Slots::new(alloc),
         &steps,
-        main,
-        Some(preprocessed),
-        public_values.as_slice(),
+        &traces,
         rows.as_slice(),
     )
     .expect(rt, "memory");
@@ -152,23 +157,28 @@ fn expect_denominators(
     rt: &impl Abort,
     alloc: Global,
     main: &RowMajorMatrix<F7>,
+    preprocessed: &RowMajorMatrix<F7>,
     tuple: &[SymbolicExpression<F7>],
     expected: [u32; 2],
 ) {
     let public_values = [F7::new(6)];
-    let layout = AirLayout::of_traces(main, None, public_values.as_slice());
+    let layout = AirLayout::of_traces(main, Some(preprocessed), public_values.as_slice());
     let rows: [usize; 2] = [2, 0];
     assert!(rt; are_within(tuple, &layout));
-    assert!(rt; rows.iter().all(|r| *r < main.height()));
+    assert!(rt; preprocessed.height() == main.height());
+    assert!(rt; are_rows(rows.as_slice(), main));
     let steps = steps_of_each(alloc, tuple).expect(rt, "memory");
+    let traces = Traces {
+        main,
+        preprocessed: Some(preprocessed),
+        public_values: public_values.as_slice(),
+    };
     let found = denominators_of(
         alloc,
         &mut Slots::new(alloc),
         &mut Spare::new(alloc),
         &steps,
-        main,
-        None,
-        public_values.as_slice(),
+        &traces,
         rows.as_slice(),
         F7::new(5),
         F7::new(2),
@@ -182,18 +192,19 @@ fn expect_denominators(
 fn denominators_of_tuples(rt: HostRuntime) {
     let alloc = rt.alloc();
     let main = trace(&rt, alloc, &[1, 2, 3, 4, 5, 6], 2);
-    expect_denominators(&rt, alloc, &main, &[], [5, 5]);
+    let preprocessed = trace(&rt, alloc, &[0, 2, 4], 1);
+    expect_denominators(&rt, alloc, &main, &preprocessed, &[], [5, 5]);
     let pair = [
         leaf(BaseEntry::Main { offset: 0 }, 0),
         leaf(BaseEntry::Main { offset: 0 }, 1),
     ];
-    expect_denominators(&rt, alloc, &main, pair.as_slice(), [3, 1]);
+    expect_denominators(&rt, alloc, &main, &preprocessed, pair.as_slice(), [3, 1]);
     let triple = [
         leaf(BaseEntry::Main { offset: 0 }, 0),
         leaf(BaseEntry::Main { offset: 0 }, 1),
         leaf(BaseEntry::Public, 0),
     ];
-    expect_denominators(&rt, alloc, &main, triple.as_slice(), [2, 5]);
+    expect_denominators(&rt, alloc, &main, &preprocessed, triple.as_slice(), [2, 5]);
 }
 
 #[test]

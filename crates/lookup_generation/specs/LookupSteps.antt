@@ -1,5 +1,5 @@
 -- The expressions of lookups as steps.
-use Rattle.std.specs.Prelude.{List, IfSome}
+use Rattle.std.specs.Prelude.{IfSome}
 use Rattle.std.specs.List.{AllZip}
 use Rattle.std.specs.declared.alloc.Global.{Global}
 use Rattle.std.specs.declared.vec.Vec.{Vec}

@@ -1,15 +1,24 @@
 -- An auxiliary trace while it is being made.
-use Rattle.std.specs.Prelude.{◌≡◌, ◌⊎◌, ◌+◌, ◌-◌, ◌/◌, ℕ, List, [], ◌++◌, map, take, slice_get, slice_index_or, Some, Result, MatchResult}
+use Rattle.std.specs.Prelude.{◌≡◌, ◌⊎◌, ◌+◌, ◌-◌, ◌/◌, ℕ, Bool, List, [], ◌++◌, map, take, slice_get, slice_index_or, Some, Result, MatchResult}
 use Rattle.std.specs.List.{AllZip, flat_map, range_with_len}
+use Rattle.std.specs.Option.{option_copied}
+use Rattle.field.specs.Ring.{Ring}
+use Rattle.lookup_columns.specs.declared.traces.Traces.{Traces}
 use Rattle.lookup_model.specs.Extension.{Extension}
 use Rattle.lookup_model.specs.Fault.{row_faults, trace_faults}
 use Rattle.lookup_model.specs.Message.{Key}
 use Rattle.lookup_model.specs.Plain.{plain_accumulator, plain_fraction, plain_row}
 use Rattle.lookup_model.specs.Sent.{Sent}
+use Rattle.lookup_model.specs.Trace.{sent_rows}
+use Rattle.lookup_model.specs.declared.types.Lookup.{Lookup}
 use Rattle.lookup_generation.specs.Fraction.{IsRatio}
 use Rattle.lookup_generation.specs.declared.ratio.Ratio.{Ratio}
 use Rattle.lookup_model.specs.declared.error.LookupError.{LookupError}
 use Rattle.lookup_model.specs.declared.error.LookupError.TheVariants.{Memory}
+
+-- what lookups send on each row of traces
+abbrev pub rows_sent : {F : Type 0} → Ring F → (F → F → Bool) → Traces F → List (Lookup F) → List (List (Sent F))
+rows_sent R eq traces = sent_rows R eq traces.main.now (option_copied traces.preprocessed) traces.public_values.now
 
 -- out of memory, or the first of these faults
 abbrev pub IsFirstOf : List LookupError → LookupError → Type 0

@@ -1,24 +1,20 @@
 //! The values of lookups on the rows of a chunk, a column at a time.
 ghost use Rattle.std.specs.Prelude.{◌≡◌, ◌+◌, ◌-◌, ◌*◌, ◌<◌, ◌≤◌, ℕ, All, IfOk, Some, length, slice_get};
 ghost use Rattle.std.specs.List.{AllZip, range_with_len};
-ghost use Rattle.std.specs.Option.{ForSome, option_copied};
-ghost use Rattle.expressions.specs.Layout.{layout_of_traces};
-ghost use Rattle.lookup_columns.specs.Columns.{windows_of};
 ghost use Rattle.lookup_columns.specs.Steps.{AreStepsOf};
+ghost use Rattle.lookup_columns.specs.Traces.{layout_of, rows_of, window_of};
 ghost use Rattle.lookup_generation.specs.ChunkColumns.{AreColumns, AreLookupColumns, ArePlaced, HoldSelected, IsHeld, key_denominator, selected_rows};
 ghost use Rattle.lookup_generation.specs.LookupSteps.{AreLookupSteps};
 ghost use Rattle.lookup_model.specs.Records.{AllFit, DoFit, HasEqualLengths, IsWithin};
 ghost use Rattle.lookup_model.specs.Message.{Message};
 ghost use Rattle.lookup_model.specs.Sent.{branches_at, values};
-ghost use Rattle.matrix.specs.Matrix.{height};
 
 use crate::memory::ChunkMemory;
 use crate::steps::LookupSteps;
 use air::SymbolicExpression;
 use field::{ExtensionDomain, Field};
-use lookup_columns::{Spare, column_of, denominators_of};
+use lookup_columns::{Spare, Traces, column_of, denominators_of};
 use lookup_model::Lookup;
-use matrix::RowMajorMatrix;
 use std::alloc::{AllocError, Global};
 
 /// One tuple of a lookup on the rows of a chunk.
@@ -87,25 +83,20 @@ fn branch_columns<F: Field, EF: ExtensionDomain<F>>(
     branch: usize,
     flags: Vec<F>,
     places: Vec<usize>,
-    main: &RowMajorMatrix<F>,
-    preprocessed: Option<&RowMajorMatrix<F>>,
-    public_values: &[F],
+    traces: &Traces<'_, F>,
     challenges: &[EF],
     rows: &[usize],
 ) -> Result<BranchColumns<F, EF>, AllocError>
-    requires heights { ForSome (option_copied preprocessed) (λ m. height m ≡ height main.now) }
     requires steps { AreLookupSteps steps.now lookup.now }
     requires lengths { HasEqualLengths lookup.now }
-    requires within { IsWithin (layout_of_traces main.now
-        (option_copied preprocessed) public_values.now) lookup.now }
+    requires within { IsWithin (layout_of traces.now) lookup.now }
     requires challenges { 2 * lookup.now.column + 1 < length challenges.now }
-    requires rows_exist { All (λ r. r < height main.now) rows.now }
+    requires rows_exist { All (λ r. r < rows_of traces.now) rows.now }
     requires branch_exists { branch < length lookup.now.elements.items }
     ensures flags { IfOk result (λ v. (v.flags ≡ flags) × (v.places ≡ places)) }
     ensures held { IfOk result (λ v. (place r : ℕ) (m : Message F)
         → slice_get rows.now place ≡ Some r
-        → slice_get (branches_at F.ring (windows_of main.now
-        (option_copied preprocessed.entry) public_values.now r) lookup.now.column lookup.now) branch
+        → slice_get (branches_at F.ring (window_of traces.now r) lookup.now.column lookup.now) branch
         ≡ Some m
         → IsHeld (key_denominator EF.ring EF.embed challenges.now) place v m) }
 {
@@ -115,9 +106,7 @@ fn branch_columns<F: Field, EF: ExtensionDomain<F>>(
         alloc,
         &mut memory.slots,
         &steps.multiplicities[branch],
-        main,
-        preprocessed,
-        public_values,
+        traces,
         rows,
     )?;
     let denominators = denominators_of(
@@ -125,9 +114,7 @@ fn branch_columns<F: Field, EF: ExtensionDomain<F>>(
         &mut memory.slots,
         &mut memory.denominators,
         &steps.elements[branch],
-        main,
-        preprocessed,
-        public_values,
+        traces,
         rows,
         alpha,
         beta,
@@ -146,23 +133,18 @@ fn additive_columns<F: Field, EF: ExtensionDomain<F>>(
     memory: &mut ChunkMemory<F, EF>,
     lookup: &Lookup<F>,
     steps: &LookupSteps<F>,
-    main: &RowMajorMatrix<F>,
-    preprocessed: Option<&RowMajorMatrix<F>>,
-    public_values: &[F],
+    traces: &Traces<'_, F>,
     challenges: &[EF],
     rows: &[usize],
 ) -> Result<Vec<BranchColumns<F, EF>>, AllocError>
-    requires heights { ForSome (option_copied preprocessed) (λ m. height m ≡ height main.now) }
     requires steps { AreLookupSteps steps.now lookup.now }
     requires lengths { HasEqualLengths lookup.now }
-    requires within { IsWithin (layout_of_traces main.now
-        (option_copied preprocessed) public_values.now) lookup.now }
+    requires within { IsWithin (layout_of traces.now) lookup.now }
     requires challenges { 2 * lookup.now.column + 1 < length challenges.now }
-    requires rows_exist { All (λ r. r < height main.now) rows.now }
+    requires rows_exist { All (λ r. r < rows_of traces.now) rows.now }
     ensures { IfOk result (λ v. (place r : ℕ) → slice_get rows.now place ≡ Some r
         → AllZip (IsHeld (key_denominator EF.ring EF.embed challenges.now) place) v.items
-        (branches_at F.ring (windows_of main.now
-        (option_copied preprocessed.entry) public_values.now r) lookup.now.column lookup.now)) }
+        (branches_at F.ring (window_of traces.now r) lookup.now.column lookup.now)) }
 {
     let mut branches = Vec::with_capacity(alloc, lookup.elements.len())?;
     for branch in 0..lookup.elements.len() {
@@ -174,9 +156,7 @@ fn additive_columns<F: Field, EF: ExtensionDomain<F>>(
             branch,
             Vec::new(alloc),
             Vec::new(alloc),
-            main,
-            preprocessed,
-            public_values,
+            traces,
             challenges,
             rows,
         )?;
@@ -193,53 +173,29 @@ fn exclusive_columns<F: Field, EF: ExtensionDomain<F>>(
     lookup: &Lookup<F>,
     steps: &LookupSteps<F>,
     flags: &[SymbolicExpression<F>],
-    main: &RowMajorMatrix<F>,
-    preprocessed: Option<&RowMajorMatrix<F>>,
-    public_values: &[F],
+    traces: &Traces<'_, F>,
     challenges: &[EF],
     rows: &[usize],
 ) -> Result<Vec<BranchColumns<F, EF>>, AllocError>
-    requires heights { ForSome (option_copied preprocessed) (λ m. height m ≡ height main.now) }
     requires steps { AreLookupSteps steps.now lookup.now }
     requires lengths { HasEqualLengths lookup.now }
-    requires within { IsWithin (layout_of_traces main.now
-        (option_copied preprocessed) public_values.now) lookup.now }
+    requires within { IsWithin (layout_of traces.now) lookup.now }
     requires challenges { 2 * lookup.now.column + 1 < length challenges.now }
-    requires rows_exist { All (λ r. r < height main.now) rows.now }
+    requires rows_exist { All (λ r. r < rows_of traces.now) rows.now }
     requires flag_steps { AllZip AreStepsOf steps.now.flags.items flags.now }
     requires flag_number { length flags.now ≡ length lookup.now.elements.items }
-    requires flags_fit { AllFit (layout_of_traces main.now
-        (option_copied preprocessed) public_values.now) flags.now }
+    requires flags_fit { AllFit (layout_of traces.now) flags.now }
     ensures { IfOk result (λ v. (place r : ℕ) → slice_get rows.now place ≡ Some r
-        → let w = windows_of main.now (option_copied preprocessed.entry) public_values.now r in
+        → let w = window_of traces.now r in
         HoldSelected F.ring (key_denominator EF.ring EF.embed challenges.now) place v.items
         (values F.ring w flags.now) (branches_at F.ring w lookup.now.column lookup.now)) }
 {
     let mut branches = Vec::with_capacity(alloc, flags.len())?;
     for branch in 0..flags.len() {
-        let column = column_of(
-            alloc,
-            &mut memory.slots,
-            &steps.flags[branch],
-            main,
-            preprocessed,
-            public_values,
-            rows,
-        )?;
+        let column = column_of(alloc, &mut memory.slots, &steps.flags[branch], traces, rows)?;
         let (places, selected) = selected_rows(alloc, &mut memory.places, &column, rows)?;
         let columns = branch_columns(
-            alloc,
-            memory,
-            lookup,
-            steps,
-            branch,
-            column,
-            places,
-            main,
-            preprocessed,
-            public_values,
-            challenges,
-            &selected,
+            alloc, memory, lookup, steps, branch, column, places, traces, challenges, &selected,
         )?;
         memory.places.put(selected)?;
         branches.push(columns)?;
@@ -253,46 +209,22 @@ fn columns_of_lookup<F: Field, EF: ExtensionDomain<F>>(
     memory: &mut ChunkMemory<F, EF>,
     lookup: &Lookup<F>,
     steps: &LookupSteps<F>,
-    main: &RowMajorMatrix<F>,
-    preprocessed: Option<&RowMajorMatrix<F>>,
-    public_values: &[F],
+    traces: &Traces<'_, F>,
     challenges: &[EF],
     rows: &[usize],
 ) -> Result<Vec<BranchColumns<F, EF>>, AllocError>
-    requires heights { ForSome (option_copied preprocessed) (λ m. height m ≡ height main.now) }
     requires steps { AreLookupSteps steps.now lookup.now }
     requires lengths { HasEqualLengths lookup.now }
-    requires within { IsWithin (layout_of_traces main.now
-        (option_copied preprocessed) public_values.now) lookup.now }
+    requires within { IsWithin (layout_of traces.now) lookup.now }
     requires challenges { 2 * lookup.now.column + 1 < length challenges.now }
-    requires rows_exist { All (λ r. r < height main.now) rows.now }
+    requires rows_exist { All (λ r. r < rows_of traces.now) rows.now }
     ensures { IfOk result (λ v. AreColumns F.ring EF.ring EF.embed challenges.now
-        (windows_of main.now (option_copied preprocessed.entry) public_values.now) rows.now
-        lookup.now v.items) }
+        (window_of traces.now) rows.now lookup.now v.items) }
 {
     match &lookup.flags {
-        None => additive_columns(
-            alloc,
-            memory,
-            lookup,
-            steps,
-            main,
-            preprocessed,
-            public_values,
-            challenges,
-            rows,
-        ),
+        None => additive_columns(alloc, memory, lookup, steps, traces, challenges, rows),
         Some(flags) => exclusive_columns(
-            alloc,
-            memory,
-            lookup,
-            steps,
-            flags,
-            main,
-            preprocessed,
-            public_values,
-            challenges,
-            rows,
+            alloc, memory, lookup, steps, flags, traces, challenges, rows,
         ),
     }
 }
@@ -303,21 +235,16 @@ pub(crate) fn columns_of_lookups<F: Field, EF: ExtensionDomain<F>>(
     memory: &mut ChunkMemory<F, EF>,
     lookups: &[Lookup<F>],
     steps: &[LookupSteps<F>],
-    main: &RowMajorMatrix<F>,
-    preprocessed: Option<&RowMajorMatrix<F>>,
-    public_values: &[F],
+    traces: &Traces<'_, F>,
     challenges: &[EF],
     rows: &[usize],
 ) -> Result<Vec<Vec<BranchColumns<F, EF>>>, AllocError>
-    requires heights { ForSome (option_copied preprocessed) (λ m. height m ≡ height main.now) }
     requires steps { AllZip AreLookupSteps steps.now lookups.now }
-    requires fit { DoFit (layout_of_traces main.now (option_copied preprocessed) public_values.now)
-        lookups.now }
+    requires fit { DoFit (layout_of traces.now) lookups.now }
     requires challenges { 2 * length lookups.now ≤ length challenges.now }
-    requires rows_exist { All (λ r. r < height main.now) rows.now }
+    requires rows_exist { All (λ r. r < rows_of traces.now) rows.now }
     ensures { IfOk result (λ v. AreLookupColumns F.ring EF.ring EF.embed challenges.now
-        (windows_of main.now (option_copied preprocessed.entry) public_values.now) rows.now
-        lookups.now v.items) }
+        (window_of traces.now) rows.now lookups.now v.items) }
 {
     let mut columns = Vec::with_capacity(alloc, lookups.len())?;
     for lookup in lookups {
@@ -326,9 +253,7 @@ pub(crate) fn columns_of_lookups<F: Field, EF: ExtensionDomain<F>>(
             memory,
             lookup,
             &steps[lookup.column],
-            main,
-            preprocessed,
-            public_values,
+            traces,
             challenges,
             rows,
         )?;

@@ -5,6 +5,7 @@ ghost use Rattle.std.specs.List.{AllZip};
 ghost use Rattle.std.specs.Option.{ForSome, option_copied};
 ghost use Rattle.expressions.specs.Layout.{layout_of_traces};
 ghost use Rattle.expressions.specs.Window.{window_at};
+ghost use Rattle.lookup_columns.specs.Traces.{layout_of, rows_of};
 ghost use Rattle.lookup_model.specs.Denominators.{column_denominator};
 ghost use Rattle.lookup_model.specs.Extension.{extension};
 ghost use Rattle.lookup_model.specs.Fault.{trace_faults};
@@ -13,10 +14,10 @@ ghost use Rattle.lookup_generation.specs.Fraction.{AreSound};
 ghost use Rattle.lookup_generation.specs.Inverses.{ForInverses};
 ghost use Rattle.lookup_generation.specs.ChunkColumns.{HoldLookups};
 ghost use Rattle.lookup_generation.specs.LookupSteps.{AreLookupSteps};
-ghost use Rattle.lookup_generation.specs.Progress.{AnswersRow, AreRatios, HasRows, IsFirstOf, started_chunks};
+ghost use Rattle.lookup_generation.specs.Progress.{AnswersRow, AreRatios, HasRows, IsFirstOf, rows_sent, started_chunks};
 ghost use Rattle.lookup_model.specs.Records.{DoFit};
 ghost use Rattle.lookup_model.specs.Generation.{AnswersGeneration};
-ghost use Rattle.lookup_model.specs.Trace.{sent_row, sent_rows};
+ghost use Rattle.lookup_model.specs.Trace.{sent_row};
 ghost use Rattle.lookup_generation.specs.TraceBuilder.{builder_layout, builder_window};
 ghost use Rattle.matrix.specs.Matrix.{height};
 
@@ -27,7 +28,7 @@ use crate::ratio::{Ratio, values_of};
 use crate::steps::{LookupSteps, steps_of_lookups};
 use crate::trace_builder::LookupTraceBuilder;
 use field::{Domain, ExtensionDomain, ExtensionField, Field, InverseCount, Inverter};
-use lookup_columns::next_row;
+use lookup_columns::{Traces, next_row};
 use lookup_model::{Lookup, LookupError, LookupTerminal};
 use matrix::{RowMajorMatrix, ViewPair};
 use std::alloc::{AllocError, Global};
@@ -110,32 +111,26 @@ pub fn row_builder<'a, F: Field, EF: Domain>(
 fn ratios_of<F: Field, EF: ExtensionDomain<F>>(
     alloc: Global,
     memory: &mut ChunkMemory<F, EF>,
-    main: &RowMajorMatrix<F>,
-    preprocessed: Option<&RowMajorMatrix<F>>,
-    public_values: &[F],
+    traces: &Traces<'_, F>,
     lookups: &[Lookup<F>],
     steps: &[LookupSteps<F>],
     challenges: &[EF],
     first: usize,
     end: usize,
 ) -> Result<Vec<Ratio<EF>>, LookupError>
-    requires heights { ForSome (option_copied preprocessed) (λ m. height m ≡ height main.now) }
     requires steps { AllZip AreLookupSteps steps.now lookups.now }
-    requires fit { DoFit (layout_of_traces main.now (option_copied preprocessed) public_values.now)
-        lookups.now }
+    requires fit { DoFit (layout_of traces.now) lookups.now }
     requires challenges { 2 * length lookups.now ≤ length challenges.now }
     requires from { first ≤ end }
-    requires up_to { end ≤ height main.now }
+    requires up_to { end ≤ rows_of traces.now }
     requires faultless { ForInverses EF.ring (λ inverse.
         let E = extension F.ring F.eq EF.ring EF.eq EF.embed inverse in
         trace_faults E (column_denominator E challenges.now)
-        (take first (sent_rows F.ring F.eq main.now
-        (option_copied preprocessed) public_values.now lookups.now)) ≡ []) }
+        (take first (rows_sent F.ring F.eq traces.now lookups.now)) ≡ []) }
     ensures answers { ForInverses EF.ring (λ inverse.
         let E = extension F.ring F.eq EF.ring EF.eq EF.embed inverse in
         let denominator = column_denominator E challenges.now in
-        let rows = sent_rows F.ring F.eq main.now
-        (option_copied preprocessed.entry) public_values.now lookups.now in
+        let rows = rows_sent F.ring F.eq traces.now lookups.now in
         MatchResult result
         (λ v. AreRatios E denominator rows first end v.items)
         (IsFirstOf (trace_faults E denominator rows))) }
@@ -143,25 +138,22 @@ fn ratios_of<F: Field, EF: ExtensionDomain<F>>(
         ((end - first) * length lookups.now) v.items) }
 {
     let rows = rows_between(alloc, &mut memory.places, first, end)?;
-    let columns = columns_of_lookups(
-        alloc,
-        memory,
-        lookups,
-        steps,
-        main,
-        preprocessed,
-        public_values,
-        challenges,
-        &rows,
-    )?;
+    let columns = columns_of_lookups(alloc, memory, lookups, steps, traces, challenges, &rows)?;
     let size = rows
         .len()
         .checked_mul(lookups.len())
         .ok_or(LookupError::Memory)?;
     let mut ratios = memory.ratios.take(alloc, size)?;
-    let height = main.height();
+    let height = traces.main.height();
     for row in first..end {
-        let builder = row_builder(main, preprocessed, public_values, challenges, height, row);
+        let builder = row_builder(
+            traces.main,
+            traces.preprocessed,
+            traces.public_values,
+            challenges,
+            height,
+            row,
+        );
         push_ratios(&mut ratios, lookups, &columns, row - first, &builder)?;
     }
     memory.places.put(rows)?;
@@ -194,9 +186,7 @@ fn push_chunk<F: Field, EF: ExtensionDomain<F>, I: Inverter<EF>>(
     memory: &mut ChunkMemory<F, EF>,
     cells: &mut Vec<EF>,
     accumulator: EF,
-    main: &RowMajorMatrix<F>,
-    preprocessed: Option<&RowMajorMatrix<F>>,
-    public_values: &[F],
+    traces: &Traces<'_, F>,
     lookups: &[Lookup<F>],
     steps: &[LookupSteps<F>],
     challenges: &[EF],
@@ -204,25 +194,21 @@ fn push_chunk<F: Field, EF: ExtensionDomain<F>, I: Inverter<EF>>(
     end: usize,
     inverter: &mut I,
 ) -> Result<EF, LookupError>
-    requires heights { ForSome (option_copied preprocessed) (λ m. height m ≡ height main.now) }
     requires steps { AllZip AreLookupSteps steps.now lookups.now }
-    requires fit { DoFit (layout_of_traces main.now (option_copied preprocessed) public_values.now)
-        lookups.now }
+    requires fit { DoFit (layout_of traces.now) lookups.now }
     requires challenges { 2 * length lookups.now ≤ length challenges.now }
     requires some { 0 < length lookups.now }
     requires from { first ≤ end }
-    requires up_to { end ≤ height main.now }
+    requires up_to { end ≤ rows_of traces.now }
     requires so_far { ForInverses EF.ring (λ inverse.
         let E = extension F.ring F.eq EF.ring EF.eq EF.embed inverse in
         let denominator = column_denominator E challenges.now in
-        let rows = sent_rows F.ring F.eq main.now
-        (option_copied preprocessed) public_values.now lookups.now in
+        let rows = rows_sent F.ring F.eq traces.now lookups.now in
         HasRows E denominator rows first cells.now.items accumulator) }
     ensures rows { ForInverses EF.ring (λ inverse.
         let E = extension F.ring F.eq EF.ring EF.eq EF.embed inverse in
         let denominator = column_denominator E challenges.now in
-        let rows = sent_rows F.ring F.eq main.now
-        (option_copied preprocessed.entry) public_values.now lookups.now in
+        let rows = rows_sent F.ring F.eq traces.now lookups.now in
         MatchResult result
         (HasRows E denominator rows end cells.new.items)
         (IsFirstOf (trace_faults E denominator rows))) }
@@ -233,16 +219,7 @@ fn push_chunk<F: Field, EF: ExtensionDomain<F>, I: Inverter<EF>>(
         ⊎ (I.count inverter.new ≡ I.count inverter.old)) }
 {
     let ratios = ratios_of(
-        alloc,
-        memory,
-        main,
-        preprocessed,
-        public_values,
-        lookups,
-        steps,
-        challenges,
-        first,
-        end,
+        alloc, memory, traces, lookups, steps, challenges, first, end,
     )?;
     let values = values_of(alloc, &mut memory.fractions, &ratios, inverter)?;
     memory.ratios.put(ratios)?;
@@ -275,34 +252,29 @@ fn chunk_end(first: usize, height: usize) -> usize
 /// Refuses the first fault in the order row, lookup.
 fn generate<F: Field, EF: ExtensionDomain<F>, I: Inverter<EF>>(
     alloc: Global,
-    main: &RowMajorMatrix<F>,
-    preprocessed: Option<&RowMajorMatrix<F>>,
-    public_values: &[F],
+    traces: &Traces<'_, F>,
     lookups: &[Lookup<F>],
     challenges: &[EF],
     inverter: &mut I,
 ) -> Result<(Vec<EF>, EF), LookupError>
-    requires heights { ForSome (option_copied preprocessed) (λ m. height m ≡ height main.now) }
-    requires fit { DoFit (layout_of_traces main.now (option_copied preprocessed) public_values.now)
-        lookups.now }
+    requires fit { DoFit (layout_of traces.now) lookups.now }
     requires challenges { 2 * length lookups.now ≤ length challenges.now }
     requires some { 0 < length lookups.now }
     ensures rows { ForInverses EF.ring (λ inverse.
         let E = extension F.ring F.eq EF.ring EF.eq EF.embed inverse in
         let denominator = column_denominator E challenges.now in
-        let rows = sent_rows F.ring F.eq main.now
-        (option_copied preprocessed.entry) public_values.now lookups.now in
+        let rows = rows_sent F.ring F.eq traces.now lookups.now in
         MatchResult result
-        (λ r. HasRows E denominator rows (height main.now) r.0.items r.1)
+        (λ r. HasRows E denominator rows (rows_of traces.now) r.0.items r.1)
         (IsFirstOf (trace_faults E denominator rows))) }
     ensures many { IfOk result (λ r. length r.0.items
-        ≡ height main.now * (length lookups.now + 1)) }
+        ≡ rows_of traces.now * (length lookups.now + 1)) }
     ensures counted { I.count inverter.new ≤ I.count inverter.old + started_chunks
-        (height main.now) }
+        (rows_of traces.now) }
     ensures spared { IfErr result (λ e. (e ≡ LookupError.Memory)
-        ⊎ (I.count inverter.new < I.count inverter.old + started_chunks (height main.now))) }
+        ⊎ (I.count inverter.new < I.count inverter.old + started_chunks (rows_of traces.now))) }
 {
-    let height = main.height();
+    let height = traces.main.height();
     let size = height
         .checked_mul(lookups.len() + 1)
         .ok_or(LookupError::Memory)?;
@@ -318,9 +290,7 @@ fn generate<F: Field, EF: ExtensionDomain<F>, I: Inverter<EF>>(
             &mut memory,
             &mut cells,
             accumulator,
-            main,
-            preprocessed,
-            public_values,
+            traces,
             lookups,
             &steps,
             challenges,
@@ -362,15 +332,12 @@ pub fn generate_counted<'a, F: Field, EF: ExtensionDomain<F>, I: Inverter<EF>>(
     if lookups.is_empty() {
         return Ok((RowMajorMatrix::new(Vec::new(alloc), 0), None));
     }
-    let (cells, terminal) = generate(
-        alloc,
+    let traces = Traces {
         main,
         preprocessed,
         public_values,
-        lookups,
-        challenges,
-        inverter,
-    )?;
+    };
+    let (cells, terminal) = generate(alloc, &traces, lookups, challenges, inverter)?;
     Ok((
         RowMajorMatrix::new(cells, lookups.len() + 1),
         Some(LookupTerminal(terminal)),

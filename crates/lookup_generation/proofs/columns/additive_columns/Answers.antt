@@ -2,20 +2,19 @@ use Rattle.std.proofs.Common.{◌<◌, [], List, length, take, get_or, sym, subs
 use Rattle.std.proofs.lemmas.List.{get_or_default, take_all}
 use Rattle.std.proofs.lemmas.Option.{slice_get-get_or}
 use Rattle.std.specs.List.{AllZip}
-use Rattle.std.specs.Option.{option_copied}
-use Rattle.lookup_columns.specs.Columns.{windows_of}
 use Rattle.lookup_generation.specs.ChunkColumns.{IsHeld, key_denominator}
 use Rattle.lookup_columns.proofs.ZipLaws.{taken_more, zip_push}
 use Rattle.lookup_model.proofs.Branches.{length-branches_at}
 use Rattle.lookup_model.specs.Message.{Message}
 use Rattle.lookup_model.specs.Sent.{branches_at}
+use Rattle.lookup_columns.specs.Traces.{window_of}
 use Rattle.lookup_generation.proofs.columns.additive_columns.Goals as goal
 
 pub loop-branch-preserved : goal.loop-branch-preserved
 loop-branch-preserved g c = λ place r there.
     let R = g.F.PrimeCharacteristicRing.ring in
     let held = IsHeld (key_denominator g.EF.PrimeCharacteristicRing.ring g.EF.ExtensionDomain.embed c.args.challenges.now) place in
-    let w = windows_of c.args.main.now (option_copied c.args.preprocessed) c.args.public_values.now r in
+    let w = window_of c.args.traces.now r in
     let lookup = c.args.lookup.now in
     let i = c.loop-branch.branch in
     let ms = branches_at R w lookup.column lookup in
@@ -30,7 +29,7 @@ pub returns : goal.returns
 returns g c = λ place r there.
     let R = g.F.PrimeCharacteristicRing.ring in
     let held = IsHeld (key_denominator g.EF.PrimeCharacteristicRing.ring g.EF.ExtensionDomain.embed c.args.challenges.now) place in
-    let w = windows_of c.args.main.now (option_copied c.args.preprocessed) c.args.public_values.now r in
+    let w = window_of c.args.traces.now r in
     let lookup = c.args.lookup.now in
     let ms = branches_at R w lookup.column lookup in
     subst (λ (t : List (Message _)). AllZip held c.loop-branch.branches.items t)

@@ -1,14 +1,12 @@
 use Rattle.std.proofs.Common.{◌≡◌, ◌<◌, ap, ◌+◌, ◌*◌, All, Some, List, length, map, sym, subst, ◌∙◌, arith}
 use Rattle.std.proofs.lemmas.List.{get_or_read}
 use Rattle.std.specs.List.{AllZip}
-use Rattle.std.specs.Option.{option_copied}
 use Rattle.field.specs.Polynomial.{combined}
 use Rattle.field.specs.Ring.{sub_in}
-use Rattle.expressions.specs.Layout.{layout_of_traces}
 use Rattle.expressions.specs.Tree.{tree_of}
 use Rattle.std.proofs.lemmas.Slice.Zip.{AllZip-long}
 use Rattle.lookup_columns.proofs.ZipLaws.{beside}
-use Rattle.lookup_columns.specs.Columns.{denominator_at, windows_of}
+use Rattle.lookup_columns.specs.Columns.{denominator_at}
 use Rattle.lookup_columns.specs.Steps.{AreStepsOf, DoStepsFit, StepFits}
 use Rattle.lookup_generation.specs.ChunkColumns.{key_denominator}
 use Rattle.lookup_generation.specs.LookupSteps.{AreTupleSteps}
@@ -20,6 +18,7 @@ use Rattle.lookup_model.proofs.RecordLaws.{All-at}
 use Rattle.lookup_model.specs.Message.{Message}
 use Rattle.lookup_model.specs.Records.{AllFit, IsWithin}
 use Rattle.lookup_model.specs.Sent.{branch_at, branches_at, value, values}
+use Rattle.lookup_columns.specs.Traces.{layout_of, window_of}
 use Rattle.lookup_generation.proofs.columns.branch_columns.Goals as goal
 
 pub index-requires : goal.index-requires
@@ -33,7 +32,7 @@ index-requires-2 g c =
 pub column_of-requires-clause-fits : goal.column_of-requires-clause-fits
 unfolding IsWithin
 column_of-requires-clause-fits g c =
-    let layout = layout_of_traces c.args.main.now (option_copied c.args.preprocessed) c.args.public_values.now in
+    let layout = layout_of c.args.traces.now in
     let steps = c.args.steps.now.multiplicities.items in
     let es = c.args.lookup.now.multiplicities.items in
     let lt : c.args.branch < length steps = omega (arith, AllZip-long AreStepsOf steps es c.requires.steps.multiplicities, c.requires.lengths.multiplicities, c.requires.branch_exists) in
@@ -43,7 +42,7 @@ column_of-requires-clause-fits g c =
 pub denominators_of-requires-clause-fits : goal.denominators_of-requires-clause-fits
 unfolding IsWithin
 denominators_of-requires-clause-fits g c =
-    let layout = layout_of_traces c.args.main.now (option_copied c.args.preprocessed) c.args.public_values.now in
+    let layout = layout_of c.args.traces.now in
     let steps = c.args.steps.now.elements.items in
     let tuples = c.args.lookup.now.elements.items in
     let lt : c.args.branch < length steps = omega (arith, AllZip-long AreTupleSteps steps tuples c.requires.steps.elements, c.requires.branch_exists) in
@@ -59,7 +58,7 @@ returns-clause-held g c = λ place r m there m_there.
     let embed = g.EF.ExtensionDomain.embed in
     let challenges = c.args.challenges.now in
     let D = key_denominator S embed challenges in
-    let windows = windows_of c.args.main.now (option_copied c.args.preprocessed) c.args.public_values.now in
+    let windows = window_of c.args.traces.now in
     let w = windows r in
     let lookup = c.args.lookup.now in
     let column = lookup.column in

@@ -1,10 +1,8 @@
 use Rattle.std.proofs.Common.{◌≡◌, ap, arith, get_or, take, sym, subst, subst₂, ◌∙◌}
 use Rattle.std.proofs.lemmas.List.{get_or_default}
 use Rattle.std.specs.List.{AllZip}
-use Rattle.std.specs.Option.{option_copied}
 use Rattle.std.specs.declared.alloc.Global.{Global}
 use Rattle.std.specs.declared.vec.Vec.{Vec}
-use Rattle.lookup_columns.specs.Columns.{windows_of}
 use Rattle.lookup_generation.specs.ChunkColumns.{AreColumns}
 use Rattle.lookup_generation.specs.declared.columns.BranchColumns.{BranchColumns}
 use Rattle.std.proofs.lemmas.Slice.Zip.{AllZip-long}
@@ -12,6 +10,7 @@ use Rattle.lookup_columns.proofs.ZipLaws.{beside, taken_more, zip_push}
 use Rattle.lookup_generation.specs.LookupSteps.{AreLookupSteps}
 use Rattle.lookup_laws.proofs.SentRows.{column_is}
 use Rattle.lookup_model.specs.declared.types.Lookup.{Lookup}
+use Rattle.lookup_columns.specs.Traces.{window_of}
 use Rattle.lookup_generation.proofs.columns.columns_of_lookups.Goals as goal
 
 pub bounds-steps-lookup : goal.bounds-steps-lookup
@@ -34,7 +33,7 @@ columns_of_lookup-requires-clause-steps g c =
 
 pub loop-lookup-preserved : goal.loop-lookup-preserved
 loop-lookup-preserved g c =
-    let windows = windows_of c.args.main.now (option_copied c.args.preprocessed) c.args.public_values.now in
+    let windows = window_of c.args.traces.now in
     let held = λ (lookup : Lookup _) (columns : Vec (BranchColumns _ _) Global). AreColumns g.F.PrimeCharacteristicRing.ring g.EF.PrimeCharacteristicRing.ring g.EF.ExtensionDomain.embed c.args.challenges.now windows c.args.rows.now lookup columns.items in
     let i = c.loop-lookup.lookup-index in
     subst₂ (AllZip held) (sym (taken_more c.args.lookups.now i c.lookup-item.result c.loop-lookup-test.true c.lookup-item.is)) (sym c.in_ok-push.ensures.items)

@@ -1,22 +1,20 @@
 use Rattle.std.proofs.Common.{◌≡◌, ◌≤◌, ◌+◌, ◌-◌, ◌*◌, ◌%◌, ◌⊎◌, length}
-use Rattle.std.specs.Option.{option_copied}
 use Rattle.lookup_model.specs.Denominators.{column_denominator}
 use Rattle.lookup_model.specs.Extension.{extension}
-use Rattle.lookup_model.specs.Trace.{sent_rows}
-use Rattle.lookup_generation.specs.Progress.{HasRows, started_chunks}
+use Rattle.lookup_generation.specs.Progress.{HasRows, rows_sent, started_chunks}
 use Rattle.matrix.specs.Matrix.{height}
 use Rattle.lookup_generation.specs.Inverses.{ForInverses}
 use Rattle.lookup_generation.proofs.generation.generate.Given as goal
 
 abbrev pub invariant-loop-first : goal.invariant-loop-first
 invariant-loop-first g l =
-    (l.first ≤ height l.main)
-    × ((l.first % 1024 ≡ 0) ⊎ (l.first ≡ height l.main))
+    (l.first ≤ height l.traces.main.now)
+    × ((l.first % 1024 ≡ 0) ⊎ (l.first ≡ height l.traces.main.now))
     × (g.I.Inverter.count l.inverter ≤ g.I.Inverter.count l.fn.inverter + started_chunks l.first)
     × (length l.cells.items ≡ l.first * (length l.lookups + 1))
     × ForInverses g.EF.PrimeCharacteristicRing.ring (λ inverse.
     let E = extension g.F.PrimeCharacteristicRing.ring g.F.PartialEq.eq g.EF.PrimeCharacteristicRing.ring g.EF.PartialEq.eq g.EF.ExtensionDomain.embed inverse in
-    HasRows E (column_denominator E l.challenges) (sent_rows E.base E.base_eq l.main (option_copied l.preprocessed) l.public_values l.lookups) l.first l.cells.items l.accumulator)
+    HasRows E (column_denominator E l.challenges) (rows_sent E.base E.base_eq l.traces l.lookups) l.first l.cells.items l.accumulator)
 
 abbrev pub decreases-loop-first : goal.decreases-loop-first
-decreases-loop-first g l = height l.main - l.first
+decreases-loop-first g l = height l.traces.main.now - l.first

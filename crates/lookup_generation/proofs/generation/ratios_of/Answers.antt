@@ -3,14 +3,13 @@ use Rattle.std.proofs.lemmas.Result.{err_from_is_err_and}
 use Rattle.std.specs.List.{slice_get}
 use Rattle.std.specs.Option.{option_copied}
 use Rattle.expressions.specs.declared.layout.AirLayout.{AirLayout}
-use Rattle.expressions.specs.Layout.{layout_of_traces}
 use Rattle.expressions.specs.Window.{Window, window_at}
 use Rattle.matrix.specs.Matrix.{height}
 use Rattle.lookup_model.specs.Denominators.{column_denominator}
 use Rattle.lookup_model.specs.Extension.{extension, IsLawful}
 use Rattle.lookup_model.specs.Fault.{row_faults}
 use Rattle.lookup_generation.specs.Fraction.{AreSound}
-use Rattle.lookup_generation.specs.Progress.{AreRatios, HasRatios}
+use Rattle.lookup_generation.specs.Progress.{AreRatios, HasRatios, rows_sent}
 use Rattle.lookup_model.specs.Records.{DoFit}
 use Rattle.lookup_model.specs.Trace.{sent_row, sent_rows}
 use Rattle.lookup_generation.specs.TraceBuilder.{builder_window}
@@ -19,17 +18,17 @@ use Rattle.lookup_generation.proofs.ProgressLaws.{AreRatios-more, AreRatios-none
 use Rattle.lookup_laws.proofs.SentRows.{sent_rows-at, length-sent_rows}
 use Rattle.std.specs.declared.alloc.Global.{Global}
 use Rattle.std.specs.declared.vec.Vec.{Vec}
-use Rattle.lookup_columns.specs.Columns.{windows_of}
 use Rattle.lookup_generation.specs.ChunkColumns.{AreColumns, HoldLookup, HoldLookups}
 use Rattle.lookup_generation.specs.declared.columns.BranchColumns.{BranchColumns}
 use Rattle.lookup_generation.proofs.ChunkColumnLaws.{range_at, range_below, zip_weaker}
 use Rattle.lookup_model.specs.declared.types.Lookup.{Lookup}
+use Rattle.lookup_columns.specs.Traces.{layout_of, window_of}
 use Rattle.lookup_generation.proofs.generation.ratios_of.Goals as goal
 
 pub columns_of_lookups-requires-clause-rows_exist :
     goal.columns_of_lookups-requires-clause-rows_exist
 columns_of_lookups-requires-clause-rows_exist g c =
-    range_below c.args.first (c.args.end - c.args.first) (height c.args.main.now) c.deref.result.now (c.deref.ensures.value ∙ c.in_ok-rows.ensures) (omega (arith, c.requires.from, c.requires.up_to))
+    range_below c.args.first (c.args.end - c.args.first) (height c.args.traces.now.main.now) c.deref.result.now (c.deref.ensures.value ∙ c.in_ok-rows.ensures) (omega (arith, c.requires.from, c.requires.up_to))
 
 pub push_ratios-requires-clause-columns : goal.push_ratios-requires-clause-columns
 push_ratios-requires-clause-columns g c =
@@ -38,7 +37,7 @@ push_ratios-requires-clause-columns g c =
     let embed = g.EF.ExtensionDomain.embed in
     let lookups = c.args.lookups.now in
     let challenges = c.args.challenges.now in
-    let windows = windows_of c.args.main.now (option_copied c.args.preprocessed) c.args.public_values.now in
+    let windows = window_of c.args.traces.now in
     let row = c.loop-row.row in
     let place = row - c.args.first in
     let rows = c.deref.result.now in
@@ -56,7 +55,7 @@ push_ratios-requires-clause-columns g c =
 
 pub push_ratios-requires-clause-fit : goal.push_ratios-requires-clause-fit
 push_ratios-requires-clause-fit g c =
-    let layout = layout_of_traces c.args.main.now (option_copied c.args.preprocessed) c.args.public_values.now in
+    let layout = layout_of c.args.traces.now in
     subst (λ (l : AirLayout). DoFit l c.args.lookups.now) (sym c.row_builder-builder.ensures.layout) (DoFit-with_challenges layout (length c.args.challenges.now) c.args.lookups.now c.requires.fit)
 
 pub returns-in_err-push_ratios-clause-answers : goal.returns-in_err-push_ratios-clause-answers
@@ -71,16 +70,16 @@ returns-in_err-push_ratios-clause-answers g c = λ inverse is_inverse.
       embeds = g.met.EF.ExtensionDomain.embeds;
       inverse = is_inverse;
     } in
-    let prep = option_copied c.args.preprocessed in
+    let prep = option_copied c.args.traces.now.preprocessed in
     let built = c.row_builder-builder.ensures in
     let denominator = column_denominator E c.args.challenges.now in
-    let rows = sent_rows E.base E.base_eq c.args.main.now prep c.args.public_values.now c.args.lookups.now in
+    let rows = sent_rows E.base E.base_eq c.args.traces.now.main.now prep c.args.traces.now.public_values.now c.args.lookups.now in
     let r = c.loop-row.row in
-    let w = window_at c.args.main.now prep c.args.public_values.now (height c.args.main.now) r in
-    let below : r < height c.args.main.now = omega (arith, c.loop-row-test.true, c.requires.up_to) in
-    let lt : r < length rows = omega (arith, length-sent_rows E.base E.base_eq c.args.main.now prep c.args.public_values.now c.args.lookups.now, below) in
+    let w = window_at c.args.traces.now.main.now prep c.args.traces.now.public_values.now (height c.args.traces.now.main.now) r in
+    let below : r < height c.args.traces.now.main.now = omega (arith, c.loop-row-test.true, c.requires.up_to) in
+    let lt : r < length rows = omega (arith, length-sent_rows E.base E.base_eq c.args.traces.now.main.now prep c.args.traces.now.public_values.now c.args.lookups.now, below) in
     let sents = sent_row E.base E.base_eq w c.args.lookups.now in
-    let at = sent_rows-at E.base E.base_eq c.args.main.now prep c.args.public_values.now c.args.lookups.now r below in
+    let at = sent_rows-at E.base E.base_eq c.args.traces.now.main.now prep c.args.traces.now.public_values.now c.args.lookups.now r below in
     let p = err_from_is_err_and c.from_residual-in_err-push_ratios.result c.from_residual-in_err-push_ratios.ensures.1 in
     rw (p.1, p.2) (elim (c.in_err-push_ratios.ensures.answers inverse is_inverse) [
       | inl memory ↦ inl memory
@@ -105,7 +104,7 @@ loop-row-init g c =
             embeds = g.met.EF.ExtensionDomain.embeds;
             inverse = is_inverse;
           } in
-          AreRatios-none laws (column_denominator E c.args.challenges.now) (sent_rows E.base E.base_eq c.args.main.now (option_copied c.args.preprocessed) c.args.public_values.now c.args.lookups.now) c.args.first _ (c.in_ok-ratios.ensures.empty) (c.requires.faultless inverse is_inverse),
+          AreRatios-none laws (column_denominator E c.args.challenges.now) (rows_sent E.base E.base_eq c.args.traces.now c.args.lookups.now) c.args.first _ (c.in_ok-ratios.ensures.empty) (c.requires.faultless inverse is_inverse),
       sound_none _ c.in_ok-ratios.ratios.items (c.in_ok-ratios.ensures.empty) nothing,
     )
 
@@ -125,16 +124,16 @@ loop-row-preserved g c =
             embeds = g.met.EF.ExtensionDomain.embeds;
             inverse = is_inverse;
           } in
-          let prep = option_copied c.args.preprocessed in
+          let prep = option_copied c.args.traces.now.preprocessed in
           let built = c.row_builder-builder.ensures in
           let denominator = column_denominator E c.args.challenges.now in
-          let rows = sent_rows E.base E.base_eq c.args.main.now prep c.args.public_values.now c.args.lookups.now in
+          let rows = sent_rows E.base E.base_eq c.args.traces.now.main.now prep c.args.traces.now.public_values.now c.args.lookups.now in
           let r = c.loop-row.row in
-          let w = window_at c.args.main.now prep c.args.public_values.now (height c.args.main.now) r in
-          let below : r < height c.args.main.now = omega (arith, c.loop-row-test.true, c.requires.up_to) in
-          let lt : r < length rows = omega (arith, length-sent_rows E.base E.base_eq c.args.main.now prep c.args.public_values.now c.args.lookups.now, below) in
+          let w = window_at c.args.traces.now.main.now prep c.args.traces.now.public_values.now (height c.args.traces.now.main.now) r in
+          let below : r < height c.args.traces.now.main.now = omega (arith, c.loop-row-test.true, c.requires.up_to) in
+          let lt : r < length rows = omega (arith, length-sent_rows E.base E.base_eq c.args.traces.now.main.now prep c.args.traces.now.public_values.now c.args.lookups.now, below) in
           let sents = sent_row E.base E.base_eq w c.args.lookups.now in
-          let at = sent_rows-at E.base E.base_eq c.args.main.now prep c.args.public_values.now c.args.lookups.now r below in
+          let at = sent_rows-at E.base E.base_eq c.args.traces.now.main.now prep c.args.traces.now.public_values.now c.args.lookups.now r below in
           let b = c.row_builder-builder.result in
           let before = c.loop-row.ratios.items in
           let after = c.push_ratios.new.ratios.items in
@@ -150,7 +149,7 @@ loop-row-preserved g c =
 pub returns-clause-answers : goal.returns-clause-answers
 returns-clause-answers g c = λ inverse is_inverse.
     let E = extension g.F.PrimeCharacteristicRing.ring g.F.PartialEq.eq g.EF.PrimeCharacteristicRing.ring g.EF.PartialEq.eq g.EF.ExtensionDomain.embed inverse in
-    let rows = sent_rows E.base E.base_eq c.args.main.now (option_copied c.args.preprocessed) c.args.public_values.now c.args.lookups.now in
+    let rows = rows_sent E.base E.base_eq c.args.traces.now c.args.lookups.now in
     let all : c.loop-row.row ≡ c.args.end = omega (arith, c.loop-row-test.false, c.loop-row.auto.row-end c.requires.from) in
     subst (λ n. AreRatios E (column_denominator E c.args.challenges.now) rows c.args.first n c.loop-row.ratios.items) all (c.loop-row.invariant.0 inverse is_inverse)
 

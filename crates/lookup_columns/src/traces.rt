@@ -1,0 +1,18 @@
+//! The traces of an AIR.
+ghost use Rattle.std.specs.Prelude.{◌≡◌};
+ghost use Rattle.std.specs.Option.{ForSome, option_copied};
+ghost use Rattle.matrix.specs.Matrix.{height};
+
+use matrix::RowMajorMatrix;
+
+/// The traces of an AIR and its public values.
+#[derive(Drop)]
+pub struct Traces<'a, F> {
+    /// The main trace.
+    pub main: &'a RowMajorMatrix<F>,
+    /// The preprocessed trace, if there is one. It is as high as the main trace.
+    pub preprocessed: Option<&'a RowMajorMatrix<F>>,
+    /// The public values.
+    pub public_values: &'a [F],
+    pub ghost heights: { ForSome (option_copied preprocessed) (λ m. height m ≡ height main.now) },
+}
