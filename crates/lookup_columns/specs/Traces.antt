@@ -12,10 +12,10 @@ module _ {F : Type 0} (traces : Traces F) where
   abbrev pub layout_of : AirLayout
   layout_of = layout_of_traces traces.main.now (option_copied traces.preprocessed) traces.public_values.now
 
-  -- how many rows they have
-  abbrev pub rows_of : ℕ
-  rows_of = height traces.main.now
+  -- their height
+  abbrev pub height_of : ℕ
+  height_of = height traces.main.now
 
   -- the window of a row; the next row of the last one is the first one
   abbrev pub window_of : ℕ → Window F
-  window_of r = window_at traces.main.now (option_copied traces.preprocessed) traces.public_values.now (height traces.main.now) r
+  window_of r = window_at traces.main.now (option_copied traces.preprocessed) traces.public_values.now height_of r

@@ -1,5 +1,5 @@
 //! The values of an expression on some rows.
-ghost use Rattle.std.specs.Prelude.{◌≡◌, ◌<◌, ◌≤◌, ◌+◌, ◌%◌, ◌++◌, ◌==◌, ℕ, All, IfOk, List, OnOk, map, length, not, slice_index_or};
+ghost use Rattle.std.specs.Prelude.{◌≡◌, ◌<◌, ◌≤◌, ◌+◌, ◌%◌, ◌++◌, ◌==◌, All, IfOk, OnOk, map, not, slice_index_or};
 ghost use Rattle.std.specs.List.{zip};
 ghost use Rattle.field.specs.Ring.{of_bool, sub_in};
 ghost use Rattle.expressions.specs.Layout.{LeafFits};
@@ -8,7 +8,7 @@ ghost use Rattle.expressions.specs.Tree.{Tree};
 ghost use Rattle.lookup_columns.specs.Columns.{column, leaf_column};
 ghost use Rattle.lookup_columns.specs.Slots.{after, filled};
 ghost use Rattle.lookup_columns.specs.Steps.{StepFits, steps_in_order};
-ghost use Rattle.lookup_columns.specs.Traces.{layout_of, rows_of, window_of};
+ghost use Rattle.lookup_columns.specs.Traces.{layout_of, height_of, window_of};
 ghost use Rattle.matrix.specs.Matrix.{height, row};
 
 use crate::slots::Slots;
@@ -29,23 +29,23 @@ fn cell_of<F: Field>(trace: &RowMajorMatrix<F>, r: usize, index: usize) -> F
 }
 
 /// The row after a row of a trace that has this many rows; the first one comes after the last.
-pub fn next_row(row: usize, rows: usize) -> usize
-    requires { row < rows }
-    ensures next { result ≡ (row + 1) % rows }
-    ensures exists { result < rows }
+pub fn next_row(row: usize, num_rows: usize) -> usize
+    requires { row < num_rows }
+    ensures next { result ≡ (row + 1) % num_rows }
+    ensures exists { result < num_rows }
 {
-    if row + 1 == rows { 0 } else { row + 1 }
+    if row + 1 == num_rows { 0 } else { row + 1 }
 }
 
-/// A cell of the row after a row, in a trace of this height.
-fn next_cell<F: Field>(trace: &RowMajorMatrix<F>, end: usize, r: usize, index: usize) -> F
-    requires end { end ≡ height trace.now }
-    requires row_exists { r < end }
+/// A cell of the row after a row, in a trace that has this many rows.
+fn next_cell<F: Field>(trace: &RowMajorMatrix<F>, num_rows: usize, r: usize, index: usize) -> F
+    requires rows { num_rows ≡ height trace.now }
+    requires row_exists { r < num_rows }
     requires column_exists { index < trace.now.width }
     ensures { result ≡ slice_index_or (row trace.now ((r + 1) % height trace.now)) index
         F.ring.zero }
 {
-    cell_of(trace, next_row(r, end), index)
+    cell_of(trace, next_row(r, num_rows), index)
 }
 
 /// Appends the cells of a column on these rows.
@@ -76,8 +76,8 @@ fn push_next_cells<F: Field>(
         (λ r. slice_index_or (row trace.now ((r + 1) % height trace.now)) index F.ring.zero)
         rows.now) }
 {
-    let end = trace.height();
-    to.extend(rows.iter().map(|r| next_cell(trace, end, *r, index)))
+    let num_rows = trace.height();
+    to.extend(rows.iter().map(|r| next_cell(trace, num_rows, *r, index)))
 }
 
 /// Appends the cells of a column on the rows that are so far from these: 0 for the rows themselves, 1
@@ -148,7 +148,7 @@ fn push_leaf<F: Field>(
     rows: &[usize],
 ) -> Result<(), AllocError>
     requires fits { LeafFits (layout_of traces.now) leaf }
-    requires rows_exist { All (λ r. r < rows_of traces.now) rows.now }
+    requires rows_exist { All (λ r. r < height_of traces.now) rows.now }
     ensures { OnOk result (to.new.items ≡ to.old.items
         ++ leaf_column F.ring (window_of traces.now) rows.now leaf) }
 {
@@ -211,7 +211,7 @@ fn work_out<F: Field>(
     rows: &[usize],
 ) -> Result<(), AllocError>
     requires fits { StepFits (layout_of traces.now) step }
-    requires rows_exist { All (λ r. r < rows_of traces.now) rows.now }
+    requires rows_exist { All (λ r. r < height_of traces.now) rows.now }
     ensures { OnOk result (filled slots.new ≡ after F.ring (window_of traces.now) rows.now step
         (filled slots.old)) }
 {
@@ -264,7 +264,7 @@ pub fn column_of<F: Field>(
     rows: &[usize],
 ) -> Result<Vec<F>, AllocError>
     requires fits { All (StepFits (layout_of traces.now)) steps.now }
-    requires rows_exist { All (λ r. r < rows_of traces.now) rows.now }
+    requires rows_exist { All (λ r. r < height_of traces.now) rows.now }
     ensures { (tree : Tree F) → steps.now ≡ steps_in_order tree → IfOk result (λ v. v.items
         ≡ column F.ring (window_of traces.now) rows.now tree) }
 {

@@ -5,7 +5,7 @@ ghost use Rattle.field.specs.Ring.{sub_in};
 ghost use Rattle.expressions.specs.declared.base_expression.SymbolicExpression.{SymbolicExpression};
 ghost use Rattle.lookup_columns.specs.Columns.{denominator_column};
 ghost use Rattle.lookup_columns.specs.Steps.{AreStepsOf, DoStepsFit};
-ghost use Rattle.lookup_columns.specs.Traces.{layout_of, rows_of, window_of};
+ghost use Rattle.lookup_columns.specs.Traces.{layout_of, height_of, window_of};
 
 use crate::column::{column_of, push_alike};
 use crate::slots::Slots;
@@ -52,7 +52,7 @@ pub fn denominators_of<F: Field, EF: ExtensionDomain<F>>(
     beta: EF,
 ) -> Result<Vec<EF>, AllocError>
     requires fits { All (DoStepsFit (layout_of traces.now)) tuple.now }
-    requires rows_exist { All (λ r. r < rows_of traces.now) rows.now }
+    requires rows_exist { All (λ r. r < height_of traces.now) rows.now }
     ensures { (expressions : List (SymbolicExpression F)) → AllZip AreStepsOf tuple.now expressions
         → IfOk result (λ v. v.items ≡ denominator_column F.ring EF.ring EF.embed
         (window_of traces.now) alpha beta

@@ -1,4 +1,5 @@
-//! Values of expressions and denominators of tuples over many rows of a trace, a column at a time.
+//! Values of expressions and denominators of tuples over many rows of the traces of an AIR, a column at
+//! a time, in lists whose memory is used again.
 #![tactic(auto)]
 
 mod column;

@@ -1,5 +1,5 @@
 //! The slots that steps fill and empty.
-ghost use Rattle.std.specs.Prelude.{◌≡◌, ◌<◌, ◌∷◌, [], IfOk, OnOk, drop, max, slice_index_or, vec_capacity};
+ghost use Rattle.std.specs.Prelude.{◌≡◌, ◌<◌, ◌∷◌, [], IfErr, IfOk, OnOk, drop, max, slice_index_or, vec_capacity};
 ghost use Rattle.lookup_columns.specs.Slots.{filled, last_of, spare_rooms, without_last};
 
 use crate::spare::Spare;
@@ -36,7 +36,8 @@ impl<F: Drop> Slots<F> {
 
     /// Fills one more slot.
     pub(crate) fn push(&mut self, list: Vec<F>) -> Result<(), AllocError>
-        ensures { OnOk result (filled self.new ≡ list.items ∷ filled self.old) }
+        ensures slots { OnOk result (filled self.new ≡ list.items ∷ filled self.old) }
+        ensures spare { spare_rooms self.new ≡ spare_rooms self.old }
     {
         self.lists.push(list)?;
         Ok(())
@@ -46,6 +47,7 @@ impl<F: Drop> Slots<F> {
     pub(crate) fn pop(&mut self, alloc: Global) -> Vec<F>
         ensures last { result.items ≡ last_of (filled self.old) }
         ensures others { filled self.new ≡ without_last (filled self.old) }
+        ensures spare { spare_rooms self.new ≡ spare_rooms self.old }
     {
         match self.lists.pop() {
             Some(list) => list,
@@ -58,6 +60,7 @@ impl<F: Drop> Slots<F> {
         ensures first { result.0.items ≡ last_of (without_last (filled self.old)) }
         ensures last { result.1.items ≡ last_of (filled self.old) }
         ensures others { filled self.new ≡ without_last (without_last (filled self.old)) }
+        ensures spare { spare_rooms self.new ≡ spare_rooms self.old }
     {
         let last = self.pop(alloc);
         let first = self.pop(alloc);
@@ -76,12 +79,14 @@ impl<F: Drop> Slots<F> {
         self.spare.take(alloc, room)
     }
 
-    /// Puts a list away that is no longer used, unless it has no memory. Fails only when out of memory.
+    /// Puts a list away that is no longer used, unless it has no memory. Fails only when out of memory;
+    /// the list is then freed.
     pub fn put(&mut self, used: Vec<F>) -> Result<(), AllocError>
         ensures none { vec_capacity used ≡ 0
             → OnOk result (spare_rooms self.new ≡ spare_rooms self.old) }
         ensures one { 0 < vec_capacity used
             → OnOk result (spare_rooms self.new ≡ vec_capacity used ∷ spare_rooms self.old) }
+        ensures refused { IfErr result (λ _. spare_rooms self.new ≡ spare_rooms self.old) }
         ensures others { filled self.new ≡ filled self.old }
     {
         self.spare.put(used)

@@ -1,5 +1,5 @@
 //! Lists whose memory is used again.
-ghost use Rattle.std.specs.Prelude.{◌≡◌, ◌<◌, ◌∷◌, [], IfOk, OnOk, drop, max, slice_index_or, vec_capacity};
+ghost use Rattle.std.specs.Prelude.{◌≡◌, ◌<◌, ◌∷◌, [], IfErr, IfOk, OnOk, drop, max, slice_index_or, vec_capacity};
 ghost use Rattle.lookup_columns.specs.Spare.{rooms};
 
 use std::alloc::{AllocError, Global};
@@ -21,8 +21,8 @@ impl<T: Drop> Spare<T> {
     }
 
     /// An empty list with room for this many items: the one that was put away last, if there is one,
-    /// with more room only where it has too little. Fails only when out of memory; the list that was
-    /// put away is then freed.
+    /// with more room only where it has too little. Fails only when out of memory; the list is then
+    /// freed.
     pub fn take(&mut self, alloc: Global, room: usize) -> Result<Vec<T>, AllocError>
         ensures empty { IfOk result (λ list. list.items ≡ []) }
         ensures used_again { IfOk result (λ list. vec_capacity list
@@ -44,6 +44,7 @@ impl<T: Drop> Spare<T> {
         ensures none { vec_capacity list ≡ 0 → OnOk result (rooms self.new ≡ rooms self.old) }
         ensures one { 0 < vec_capacity list
             → OnOk result (rooms self.new ≡ vec_capacity list ∷ rooms self.old) }
+        ensures refused { IfErr result (λ _. rooms self.new ≡ rooms self.old) }
     {
         if list.capacity() > 0 {
             self.lists.push(list)?;

@@ -14,5 +14,6 @@ pub struct Traces<'a, F> {
     pub preprocessed: Option<&'a RowMajorMatrix<F>>,
     /// The public values.
     pub public_values: &'a [F],
+    // Both traces, if there are two, are equally high.
     pub ghost heights: { ForSome (option_copied preprocessed) (λ m. height m ≡ height main.now) },
 }

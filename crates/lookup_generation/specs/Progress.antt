@@ -17,8 +17,8 @@ use Rattle.lookup_model.specs.declared.error.LookupError.{LookupError}
 use Rattle.lookup_model.specs.declared.error.LookupError.TheVariants.{Memory}
 
 -- what lookups send on each row of traces
-abbrev pub rows_sent : {F : Type 0} → Ring F → (F → F → Bool) → Traces F → List (Lookup F) → List (List (Sent F))
-rows_sent R eq traces = sent_rows R eq traces.main.now (option_copied traces.preprocessed) traces.public_values.now
+abbrev pub sent_rows_of : {F : Type 0} → Ring F → (F → F → Bool) → Traces F → List (Lookup F) → List (List (Sent F))
+sent_rows_of R eq traces = sent_rows R eq traces.main.now (option_copied traces.preprocessed) traces.public_values.now
 
 -- out of memory, or the first of these faults
 abbrev pub IsFirstOf : List LookupError → LookupError → Type 0

@@ -2,7 +2,7 @@
 ghost use Rattle.std.specs.Prelude.{◌≡◌, ◌+◌, ◌-◌, ◌*◌, ◌<◌, ◌≤◌, ℕ, All, IfOk, Some, length, slice_get};
 ghost use Rattle.std.specs.List.{AllZip, range_with_len};
 ghost use Rattle.lookup_columns.specs.Steps.{AreStepsOf};
-ghost use Rattle.lookup_columns.specs.Traces.{layout_of, rows_of, window_of};
+ghost use Rattle.lookup_columns.specs.Traces.{layout_of, height_of, window_of};
 ghost use Rattle.lookup_generation.specs.ChunkColumns.{AreColumns, AreLookupColumns, ArePlaced, HoldSelected, IsHeld, key_denominator, selected_rows};
 ghost use Rattle.lookup_generation.specs.LookupSteps.{AreLookupSteps};
 ghost use Rattle.lookup_model.specs.Records.{AllFit, DoFit, HasEqualLengths, IsWithin};
@@ -22,8 +22,8 @@ use std::alloc::{AllocError, Global};
 pub(crate) struct BranchColumns<F, EF> {
     /// The flag of each row, in an exclusive lookup.
     pub(crate) flags: Vec<F>,
-    /// For each row, how many rows before it have a flag that is not zero: its place among them, if its
-    /// own flag is not zero. Only in an exclusive lookup.
+    /// For each row whose flag is not zero, its place among these rows. What stands at the other rows
+    /// has no meaning. Only in an exclusive lookup.
     pub(crate) places: Vec<usize>,
     /// The multiplicities, of each row or of each row whose flag is not zero.
     pub(crate) multiplicities: Vec<F>,
@@ -48,8 +48,8 @@ pub(crate) fn rows_between(
     Ok(rows)
 }
 
-/// For each row, how many rows before it have a flag that is not zero, and then the rows whose flag
-/// is not zero: such a row stands among them at that place.
+/// For each row whose flag is not zero its place among these rows, and then these rows. What stands at
+/// the place of another row has no meaning.
 fn selected_rows<F: Field>(
     alloc: Global,
     spare: &mut Spare<usize>,
@@ -91,7 +91,7 @@ fn branch_columns<F: Field, EF: ExtensionDomain<F>>(
     requires lengths { HasEqualLengths lookup.now }
     requires within { IsWithin (layout_of traces.now) lookup.now }
     requires challenges { 2 * lookup.now.column + 1 < length challenges.now }
-    requires rows_exist { All (λ r. r < rows_of traces.now) rows.now }
+    requires rows_exist { All (λ r. r < height_of traces.now) rows.now }
     requires branch_exists { branch < length lookup.now.elements.items }
     ensures flags { IfOk result (λ v. (v.flags ≡ flags) × (v.places ≡ places)) }
     ensures held { IfOk result (λ v. (place r : ℕ) (m : Message F)
@@ -141,7 +141,7 @@ fn additive_columns<F: Field, EF: ExtensionDomain<F>>(
     requires lengths { HasEqualLengths lookup.now }
     requires within { IsWithin (layout_of traces.now) lookup.now }
     requires challenges { 2 * lookup.now.column + 1 < length challenges.now }
-    requires rows_exist { All (λ r. r < rows_of traces.now) rows.now }
+    requires rows_exist { All (λ r. r < height_of traces.now) rows.now }
     ensures { IfOk result (λ v. (place r : ℕ) → slice_get rows.now place ≡ Some r
         → AllZip (IsHeld (key_denominator EF.ring EF.embed challenges.now) place) v.items
         (branches_at F.ring (window_of traces.now r) lookup.now.column lookup.now)) }
@@ -181,7 +181,7 @@ fn exclusive_columns<F: Field, EF: ExtensionDomain<F>>(
     requires lengths { HasEqualLengths lookup.now }
     requires within { IsWithin (layout_of traces.now) lookup.now }
     requires challenges { 2 * lookup.now.column + 1 < length challenges.now }
-    requires rows_exist { All (λ r. r < rows_of traces.now) rows.now }
+    requires rows_exist { All (λ r. r < height_of traces.now) rows.now }
     requires flag_steps { AllZip AreStepsOf steps.now.flags.items flags.now }
     requires flag_number { length flags.now ≡ length lookup.now.elements.items }
     requires flags_fit { AllFit (layout_of traces.now) flags.now }
@@ -217,7 +217,7 @@ fn columns_of_lookup<F: Field, EF: ExtensionDomain<F>>(
     requires lengths { HasEqualLengths lookup.now }
     requires within { IsWithin (layout_of traces.now) lookup.now }
     requires challenges { 2 * lookup.now.column + 1 < length challenges.now }
-    requires rows_exist { All (λ r. r < rows_of traces.now) rows.now }
+    requires rows_exist { All (λ r. r < height_of traces.now) rows.now }
     ensures { IfOk result (λ v. AreColumns F.ring EF.ring EF.embed challenges.now
         (window_of traces.now) rows.now lookup.now v.items) }
 {
@@ -242,7 +242,7 @@ pub(crate) fn columns_of_lookups<F: Field, EF: ExtensionDomain<F>>(
     requires steps { AllZip AreLookupSteps steps.now lookups.now }
     requires fit { DoFit (layout_of traces.now) lookups.now }
     requires challenges { 2 * length lookups.now ≤ length challenges.now }
-    requires rows_exist { All (λ r. r < rows_of traces.now) rows.now }
+    requires rows_exist { All (λ r. r < height_of traces.now) rows.now }
     ensures { IfOk result (λ v. AreLookupColumns F.ring EF.ring EF.embed challenges.now
         (window_of traces.now) rows.now lookups.now v.items) }
 {

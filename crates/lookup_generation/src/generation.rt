@@ -5,7 +5,7 @@ ghost use Rattle.std.specs.List.{AllZip};
 ghost use Rattle.std.specs.Option.{ForSome, option_copied};
 ghost use Rattle.expressions.specs.Layout.{layout_of_traces};
 ghost use Rattle.expressions.specs.Window.{window_at};
-ghost use Rattle.lookup_columns.specs.Traces.{layout_of, rows_of};
+ghost use Rattle.lookup_columns.specs.Traces.{layout_of, height_of};
 ghost use Rattle.lookup_model.specs.Denominators.{column_denominator};
 ghost use Rattle.lookup_model.specs.Extension.{extension};
 ghost use Rattle.lookup_model.specs.Fault.{trace_faults};
@@ -14,7 +14,7 @@ ghost use Rattle.lookup_generation.specs.Fraction.{AreSound};
 ghost use Rattle.lookup_generation.specs.Inverses.{ForInverses};
 ghost use Rattle.lookup_generation.specs.ChunkColumns.{HoldLookups};
 ghost use Rattle.lookup_generation.specs.LookupSteps.{AreLookupSteps};
-ghost use Rattle.lookup_generation.specs.Progress.{AnswersRow, AreRatios, HasRows, IsFirstOf, rows_sent, started_chunks};
+ghost use Rattle.lookup_generation.specs.Progress.{AnswersRow, AreRatios, HasRows, IsFirstOf, sent_rows_of, started_chunks};
 ghost use Rattle.lookup_model.specs.Records.{DoFit};
 ghost use Rattle.lookup_model.specs.Generation.{AnswersGeneration};
 ghost use Rattle.lookup_model.specs.Trace.{sent_row};
@@ -65,18 +65,18 @@ fn push_ratios<F: Field, EF: ExtensionDomain<F>>(
     Ok(())
 }
 
-/// The builder of one row of an AIR's traces, which have `rows` rows, together with the next row; the
-/// last row comes with the first one.
+/// The builder of one row of an AIR's traces together with the next row; the last row comes with the
+/// first one. The caller counts the rows of the traces, `num_rows`, once for all of them.
 pub fn row_builder<'a, F: Field, EF: Domain>(
     main: &'a RowMajorMatrix<F>,
     preprocessed: Option<&'a RowMajorMatrix<F>>,
     public_values: &'a [F],
     challenges: &'a [EF],
-    rows: usize,
+    num_rows: usize,
     row: usize,
 ) -> LookupTraceBuilder<'a, F, EF>
-    requires rows { rows ≡ height main.now }
-    requires row_exists { row < rows }
+    requires rows { num_rows ≡ height main.now }
+    requires row_exists { row < num_rows }
     requires heights { ForSome (option_copied preprocessed) (λ m. height m ≡ height main.now) }
     ensures window { builder_window result ≡ window_at main.now
         (option_copied preprocessed.entry) public_values.now (height main.now) row }
@@ -87,7 +87,7 @@ pub fn row_builder<'a, F: Field, EF: Domain>(
     ensures challenges { result.permutation_challenges.now ≡ challenges.now }
     ensures row { result.row ≡ row }
 {
-    let next = next_row(row, rows);
+    let next = next_row(row, num_rows);
     let main = ViewPair {
         top: main.row_slice(row),
         bottom: main.row_slice(next),
@@ -102,7 +102,7 @@ pub fn row_builder<'a, F: Field, EF: Domain>(
             bottom: &[],
         },
     };
-    LookupTraceBuilder::new(main, preprocessed, public_values, challenges, rows, row)
+    LookupTraceBuilder::new(main, preprocessed, public_values, challenges, num_rows, row)
 }
 
 /// The fractions of all lookups on the rows from `first` up to `end`, row after row, as ratios.
@@ -122,15 +122,15 @@ fn ratios_of<F: Field, EF: ExtensionDomain<F>>(
     requires fit { DoFit (layout_of traces.now) lookups.now }
     requires challenges { 2 * length lookups.now ≤ length challenges.now }
     requires from { first ≤ end }
-    requires up_to { end ≤ rows_of traces.now }
+    requires up_to { end ≤ height_of traces.now }
     requires faultless { ForInverses EF.ring (λ inverse.
         let E = extension F.ring F.eq EF.ring EF.eq EF.embed inverse in
         trace_faults E (column_denominator E challenges.now)
-        (take first (rows_sent F.ring F.eq traces.now lookups.now)) ≡ []) }
+        (take first (sent_rows_of F.ring F.eq traces.now lookups.now)) ≡ []) }
     ensures answers { ForInverses EF.ring (λ inverse.
         let E = extension F.ring F.eq EF.ring EF.eq EF.embed inverse in
         let denominator = column_denominator E challenges.now in
-        let rows = rows_sent F.ring F.eq traces.now lookups.now in
+        let rows = sent_rows_of F.ring F.eq traces.now lookups.now in
         MatchResult result
         (λ v. AreRatios E denominator rows first end v.items)
         (IsFirstOf (trace_faults E denominator rows))) }
@@ -199,16 +199,16 @@ fn push_chunk<F: Field, EF: ExtensionDomain<F>, I: Inverter<EF>>(
     requires challenges { 2 * length lookups.now ≤ length challenges.now }
     requires some { 0 < length lookups.now }
     requires from { first ≤ end }
-    requires up_to { end ≤ rows_of traces.now }
+    requires up_to { end ≤ height_of traces.now }
     requires so_far { ForInverses EF.ring (λ inverse.
         let E = extension F.ring F.eq EF.ring EF.eq EF.embed inverse in
         let denominator = column_denominator E challenges.now in
-        let rows = rows_sent F.ring F.eq traces.now lookups.now in
+        let rows = sent_rows_of F.ring F.eq traces.now lookups.now in
         HasRows E denominator rows first cells.now.items accumulator) }
     ensures rows { ForInverses EF.ring (λ inverse.
         let E = extension F.ring F.eq EF.ring EF.eq EF.embed inverse in
         let denominator = column_denominator E challenges.now in
-        let rows = rows_sent F.ring F.eq traces.now lookups.now in
+        let rows = sent_rows_of F.ring F.eq traces.now lookups.now in
         MatchResult result
         (HasRows E denominator rows end cells.new.items)
         (IsFirstOf (trace_faults E denominator rows))) }
@@ -263,16 +263,16 @@ fn generate<F: Field, EF: ExtensionDomain<F>, I: Inverter<EF>>(
     ensures rows { ForInverses EF.ring (λ inverse.
         let E = extension F.ring F.eq EF.ring EF.eq EF.embed inverse in
         let denominator = column_denominator E challenges.now in
-        let rows = rows_sent F.ring F.eq traces.now lookups.now in
+        let rows = sent_rows_of F.ring F.eq traces.now lookups.now in
         MatchResult result
-        (λ r. HasRows E denominator rows (rows_of traces.now) r.0.items r.1)
+        (λ r. HasRows E denominator rows (height_of traces.now) r.0.items r.1)
         (IsFirstOf (trace_faults E denominator rows))) }
     ensures many { IfOk result (λ r. length r.0.items
-        ≡ rows_of traces.now * (length lookups.now + 1)) }
+        ≡ height_of traces.now * (length lookups.now + 1)) }
     ensures counted { I.count inverter.new ≤ I.count inverter.old + started_chunks
-        (rows_of traces.now) }
+        (height_of traces.now) }
     ensures spared { IfErr result (λ e. (e ≡ LookupError.Memory)
-        ⊎ (I.count inverter.new < I.count inverter.old + started_chunks (rows_of traces.now))) }
+        ⊎ (I.count inverter.new < I.count inverter.old + started_chunks (height_of traces.now))) }
 {
     let height = traces.main.height();
     let size = height

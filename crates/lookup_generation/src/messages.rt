@@ -1,5 +1,5 @@
 //! The messages of an AIR, collected row by row.
-ghost use Rattle.std.specs.Prelude.{◌≡◌, ◌<◌, ◌≤◌, ◌⊎◌, ◌∷◌, ◌++◌, [], None, Some, List, IfErr, OnOk, MatchResult, length, slice_get, slice_index_or};
+ghost use Rattle.std.specs.Prelude.{◌≡◌, ◌<◌, ◌⊎◌, ◌∷◌, ◌++◌, [], None, Some, MatchResult, length, slice_get, slice_index_or};
 ghost use Rattle.std.specs.Option.{ForSome, option_copied};
 ghost use Rattle.expressions.specs.Layout.{Fits, layout_of_traces};
 ghost use Rattle.expressions.specs.Tree.{tree_of};

@@ -13,7 +13,7 @@ returns-in_ok-put-in-Add-2 g c =
     let ws = window_of c.args.traces.now in
     let slots = filled c.args.slots.now in
     let is = joined_slots R.add c.take.ensures.others (c.deref.ensures.value ∙ c.pop_two-left.ensures.first) (c.deref-in-Add.ensures.value ∙ c.pop_two-left.ensures.last) (c.in_ok-put-in-Add-2.ensures.others ∙ c.in_ok-put-in-Add.ensures.others ∙ c.pop_two-left.ensures.others) (c.in_ok-push_sums-in-Add.ensures ∙ ap (λ v. v ++ map (λ p. R.add p.0 p.1) (zip c.deref.result.now c.deref-in-Add.result.now)) c.in_ok-values.ensures.empty) in
-    subst (λ s. OnOk c.push-in-Add.result (filled c.push-in-Add.new.self ≡ after R ws c.args.rows.now s slots)) (sym c.in-Add.is) (on_ok_weaker c.push-in-Add.result (λ pushed. pushed ∙ is) c.push-in-Add.ensures)
+    subst (λ s. OnOk c.push-in-Add.result (filled c.push-in-Add.new.self ≡ after R ws c.args.rows.now s slots)) (sym c.in-Add.is) (on_ok_weaker c.push-in-Add.result (λ pushed. pushed ∙ is) c.push-in-Add.ensures.slots)
 
 pub returns-in_ok-put-in-Sub-2 : goal.returns-in_ok-put-in-Sub-2
 returns-in_ok-put-in-Sub-2 g c =
@@ -21,7 +21,7 @@ returns-in_ok-put-in-Sub-2 g c =
     let ws = window_of c.args.traces.now in
     let slots = filled c.args.slots.now in
     let is = joined_slots (sub_in R) c.take.ensures.others (c.deref-in-Sub.ensures.value ∙ c.pop_two-left-in-Sub.ensures.first) (c.deref-in-Sub-2.ensures.value ∙ c.pop_two-left-in-Sub.ensures.last) (c.in_ok-put-in-Sub-2.ensures.others ∙ c.in_ok-put-in-Sub.ensures.others ∙ c.pop_two-left-in-Sub.ensures.others) (c.in_ok-push_differences-in-Sub.ensures ∙ ap (λ v. v ++ map (λ p. sub_in R p.0 p.1) (zip c.deref-in-Sub.result.now c.deref-in-Sub-2.result.now)) c.in_ok-values.ensures.empty) in
-    subst (λ s. OnOk c.push-in-Sub.result (filled c.push-in-Sub.new.self ≡ after R ws c.args.rows.now s slots)) (sym c.in-Sub.is) (on_ok_weaker c.push-in-Sub.result (λ pushed. pushed ∙ is) c.push-in-Sub.ensures)
+    subst (λ s. OnOk c.push-in-Sub.result (filled c.push-in-Sub.new.self ≡ after R ws c.args.rows.now s slots)) (sym c.in-Sub.is) (on_ok_weaker c.push-in-Sub.result (λ pushed. pushed ∙ is) c.push-in-Sub.ensures.slots)
 
 pub returns-in_ok-put-in-Mul-2 : goal.returns-in_ok-put-in-Mul-2
 returns-in_ok-put-in-Mul-2 g c =
@@ -29,4 +29,4 @@ returns-in_ok-put-in-Mul-2 g c =
     let ws = window_of c.args.traces.now in
     let slots = filled c.args.slots.now in
     let is = joined_slots R.mul c.take.ensures.others (c.deref-in-Mul.ensures.value ∙ c.pop_two-left-in-Mul.ensures.first) (c.deref-in-Mul-2.ensures.value ∙ c.pop_two-left-in-Mul.ensures.last) (c.in_ok-put-in-Mul-2.ensures.others ∙ c.in_ok-put-in-Mul.ensures.others ∙ c.pop_two-left-in-Mul.ensures.others) (c.in_ok-push_products-in-Mul.ensures ∙ ap (λ v. v ++ map (λ p. R.mul p.0 p.1) (zip c.deref-in-Mul.result.now c.deref-in-Mul-2.result.now)) c.in_ok-values.ensures.empty) in
-    subst (λ s. OnOk c.push-in-Mul.result (filled c.push-in-Mul.new.self ≡ after R ws c.args.rows.now s slots)) (sym c.in-Mul.is) (on_ok_weaker c.push-in-Mul.result (λ pushed. pushed ∙ is) c.push-in-Mul.ensures)
+    subst (λ s. OnOk c.push-in-Mul.result (filled c.push-in-Mul.new.self ≡ after R ws c.args.rows.now s slots)) (sym c.in-Mul.is) (on_ok_weaker c.push-in-Mul.result (λ pushed. pushed ∙ is) c.push-in-Mul.ensures.slots)

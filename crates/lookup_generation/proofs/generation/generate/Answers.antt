@@ -4,7 +4,7 @@ use Rattle.lookup_model.specs.Denominators.{column_denominator}
 use Rattle.lookup_model.specs.Extension.{extension}
 use Rattle.matrix.specs.Matrix.{height}
 use Rattle.lookup_generation.proofs.ProgressLaws.{product_joined}
-use Rattle.lookup_generation.specs.Progress.{HasRows, rows_sent, started_chunks}
+use Rattle.lookup_generation.specs.Progress.{HasRows, sent_rows_of, started_chunks}
 use Rattle.lookup_generation.proofs.generation.generate.Goals as goal
 
 pub loop-first-preserved : goal.loop-first-preserved
@@ -48,4 +48,4 @@ pub returns-clause-rows : goal.returns-clause-rows
 returns-clause-rows g c = λ inverse is_inverse.
     let E = extension g.F.PrimeCharacteristicRing.ring g.F.PartialEq.eq g.EF.PrimeCharacteristicRing.ring g.EF.PartialEq.eq g.EF.ExtensionDomain.embed inverse in
     let all : c.loop-first.first ≡ height c.args.traces.now.main.now = omega (arith, c.loop-first-test.false, c.loop-first.invariant.0, c.height-height.ensures.height) in
-    subst (λ r. HasRows E (column_denominator E c.args.challenges.now) (rows_sent E.base E.base_eq c.args.traces.now c.args.lookups.now) r c.loop-first.cells.items c.loop-first.accumulator) all (c.loop-first.invariant.4 inverse is_inverse)
+    subst (λ r. HasRows E (column_denominator E c.args.challenges.now) (sent_rows_of E.base E.base_eq c.args.traces.now c.args.lookups.now) r c.loop-first.cells.items c.loop-first.accumulator) all (c.loop-first.invariant.4 inverse is_inverse)

@@ -1,7 +1,7 @@
 use Rattle.std.proofs.Common.{◌≡◌, ◌≤◌, ◌+◌, ◌-◌, ◌*◌, ◌%◌, ◌⊎◌, length}
 use Rattle.lookup_model.specs.Denominators.{column_denominator}
 use Rattle.lookup_model.specs.Extension.{extension}
-use Rattle.lookup_generation.specs.Progress.{HasRows, rows_sent, started_chunks}
+use Rattle.lookup_generation.specs.Progress.{HasRows, sent_rows_of, started_chunks}
 use Rattle.matrix.specs.Matrix.{height}
 use Rattle.lookup_generation.specs.Inverses.{ForInverses}
 use Rattle.lookup_generation.proofs.generation.generate.Given as goal
@@ -14,7 +14,7 @@ invariant-loop-first g l =
     × (length l.cells.items ≡ l.first * (length l.lookups + 1))
     × ForInverses g.EF.PrimeCharacteristicRing.ring (λ inverse.
     let E = extension g.F.PrimeCharacteristicRing.ring g.F.PartialEq.eq g.EF.PrimeCharacteristicRing.ring g.EF.PartialEq.eq g.EF.ExtensionDomain.embed inverse in
-    HasRows E (column_denominator E l.challenges) (rows_sent E.base E.base_eq l.traces l.lookups) l.first l.cells.items l.accumulator)
+    HasRows E (column_denominator E l.challenges) (sent_rows_of E.base E.base_eq l.traces l.lookups) l.first l.cells.items l.accumulator)
 
 abbrev pub decreases-loop-first : goal.decreases-loop-first
 decreases-loop-first g l = height l.traces.main.now - l.first

@@ -5,7 +5,7 @@ use Rattle.std.specs.List.{AllZip, flat_map, range_with_len}
 use Rattle.std.specs.Option.{option_copied}
 use Rattle.lookup_generation.proofs.ProgressLaws.{HasCells-more, fractions_at, product_more}
 use Rattle.lookup_generation.specs.Fraction.{IsRatio}
-use Rattle.lookup_generation.specs.Progress.{HasCells, row_fractions, rows_sent}
+use Rattle.lookup_generation.specs.Progress.{HasCells, row_fractions, sent_rows_of}
 use Rattle.lookup_generation.specs.declared.ratio.Ratio.{Ratio}
 use Rattle.lookup_laws.proofs.PlainResults.{IsShaped-product, height_of}
 use Rattle.lookup_laws.proofs.SentRows.{length-sent_rows, length-sent_rows-at}
@@ -46,7 +46,7 @@ loop-i-init g c = (
   λ inverse is_inverse.
       let E = extension g.F.PrimeCharacteristicRing.ring g.F.PartialEq.eq g.EF.PrimeCharacteristicRing.ring g.EF.PartialEq.eq g.EF.ExtensionDomain.embed inverse in
       let here : c.args.first ≡ c.args.first + 0 = omega arith in
-      subst (λ r. HasCells E (column_denominator E c.args.challenges.now) (rows_sent E.base E.base_eq c.args.traces.now c.args.lookups.now) r c.args.cells.now.items c.args.accumulator) here (c.requires.so_far inverse is_inverse).made,
+      subst (λ r. HasCells E (column_denominator E c.args.challenges.now) (sent_rows_of E.base E.base_eq c.args.traces.now c.args.lookups.now) r c.args.cells.now.items c.args.accumulator) here (c.requires.so_far inverse is_inverse).made,
   omega arith,
 )
 
@@ -96,7 +96,7 @@ returns-clause-rows g c = λ inverse is_inverse.
     let E = extension g.F.PrimeCharacteristicRing.ring g.F.PartialEq.eq g.EF.PrimeCharacteristicRing.ring g.EF.PartialEq.eq g.EF.ExtensionDomain.embed inverse in
     let all : c.args.first + c.loop-i.i ≡ c.args.end = omega (arith, c.loop-i-test.false, c.loop-i.auto.i-end, c.requires.from) in
     record {
-      made = subst (λ r. HasCells E (column_denominator E c.args.challenges.now) (rows_sent E.base E.base_eq c.args.traces.now c.args.lookups.now) r c.loop-i.cells.items c.loop-i.next) all (c.loop-i.invariant.0 inverse is_inverse);
+      made = subst (λ r. HasCells E (column_denominator E c.args.challenges.now) (sent_rows_of E.base E.base_eq c.args.traces.now c.args.lookups.now) r c.loop-i.cells.items c.loop-i.next) all (c.loop-i.invariant.0 inverse is_inverse);
       faultless = (c.in_ok-ratios.ensures.answers inverse is_inverse).faultless;
     }
 

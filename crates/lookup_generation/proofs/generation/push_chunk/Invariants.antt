@@ -1,12 +1,12 @@
 use Rattle.std.proofs.Common.{◌≡◌, ◌+◌, ◌*◌, length}
 use Rattle.lookup_model.specs.Denominators.{column_denominator}
 use Rattle.lookup_model.specs.Extension.{extension}
-use Rattle.lookup_generation.specs.Progress.{HasCells, rows_sent}
+use Rattle.lookup_generation.specs.Progress.{HasCells, sent_rows_of}
 use Rattle.lookup_generation.specs.Inverses.{ForInverses}
 use Rattle.lookup_generation.proofs.generation.push_chunk.Given as goal
 
 abbrev pub invariant-loop-i : goal.invariant-loop-i
 invariant-loop-i g l = ForInverses g.EF.PrimeCharacteristicRing.ring (λ inverse.
     let E = extension g.F.PrimeCharacteristicRing.ring g.F.PartialEq.eq g.EF.PrimeCharacteristicRing.ring g.EF.PartialEq.eq g.EF.ExtensionDomain.embed inverse in
-    HasCells E (column_denominator E l.fn.challenges) (rows_sent E.base E.base_eq l.fn.traces l.fn.lookups) (l.fn.first + l.i) l.cells.items l.next)
+    HasCells E (column_denominator E l.fn.challenges) (sent_rows_of E.base E.base_eq l.fn.traces l.fn.lookups) (l.fn.first + l.i) l.cells.items l.next)
     × (length l.cells.items ≡ length l.fn.cells.items + l.i * (length l.fn.lookups + 1))

@@ -9,7 +9,7 @@ use Rattle.lookup_model.specs.Denominators.{column_denominator}
 use Rattle.lookup_model.specs.Extension.{extension, IsLawful}
 use Rattle.lookup_model.specs.Fault.{row_faults}
 use Rattle.lookup_generation.specs.Fraction.{AreSound}
-use Rattle.lookup_generation.specs.Progress.{AreRatios, HasRatios, rows_sent}
+use Rattle.lookup_generation.specs.Progress.{AreRatios, HasRatios, sent_rows_of}
 use Rattle.lookup_model.specs.Records.{DoFit}
 use Rattle.lookup_model.specs.Trace.{sent_row, sent_rows}
 use Rattle.lookup_generation.specs.TraceBuilder.{builder_window}
@@ -104,7 +104,7 @@ loop-row-init g c =
             embeds = g.met.EF.ExtensionDomain.embeds;
             inverse = is_inverse;
           } in
-          AreRatios-none laws (column_denominator E c.args.challenges.now) (rows_sent E.base E.base_eq c.args.traces.now c.args.lookups.now) c.args.first _ (c.in_ok-ratios.ensures.empty) (c.requires.faultless inverse is_inverse),
+          AreRatios-none laws (column_denominator E c.args.challenges.now) (sent_rows_of E.base E.base_eq c.args.traces.now c.args.lookups.now) c.args.first _ (c.in_ok-ratios.ensures.empty) (c.requires.faultless inverse is_inverse),
       sound_none _ c.in_ok-ratios.ratios.items (c.in_ok-ratios.ensures.empty) nothing,
     )
 
@@ -149,7 +149,7 @@ loop-row-preserved g c =
 pub returns-clause-answers : goal.returns-clause-answers
 returns-clause-answers g c = λ inverse is_inverse.
     let E = extension g.F.PrimeCharacteristicRing.ring g.F.PartialEq.eq g.EF.PrimeCharacteristicRing.ring g.EF.PartialEq.eq g.EF.ExtensionDomain.embed inverse in
-    let rows = rows_sent E.base E.base_eq c.args.traces.now c.args.lookups.now in
+    let rows = sent_rows_of E.base E.base_eq c.args.traces.now c.args.lookups.now in
     let all : c.loop-row.row ≡ c.args.end = omega (arith, c.loop-row-test.false, c.loop-row.auto.row-end c.requires.from) in
     subst (λ n. AreRatios E (column_denominator E c.args.challenges.now) rows c.args.first n c.loop-row.ratios.items) all (c.loop-row.invariant.0 inverse is_inverse)
 
