@@ -20,9 +20,9 @@ use Rattle.lookup_model.specs.declared.types.Lookup.{Lookup}
 use Rattle.matrix.specs.Matrix.{height}
 use Rattle.lookup_debug.specs.Appended.{Appends}
 use Rattle.lookup_debug.specs.Contributions.{Contribution, Place, Traced, amounts, contributions_at, contributions_from, contributions_on, nonzero}
+use Rattle.lookup_debug.specs.Walks.{IsWalk}
 use Rattle.lookup_debug.specs.declared.arena.Contributions.{Contributions}
 use Rattle.lookup_debug.proofs.CutLaws.{appends-more}
-use Rattle.lookup_debug.proofs.Walks.{IsWalk}
 
 -- the values of one more element of a tuple
 pub values_step : {F : Type 0} (R : Ring F) (w : Window F) (es : List (SymbolicExpression F)) (i : ℕ) (e : SymbolicExpression F) (v : F) (before now after : List F)
@@ -192,13 +192,13 @@ rows_more f n = ap (flat_map f) (range_more 0 n n (omega arith)) ∙ flat_map-ap
     range_more a n j is = sym (map-id (range_with_len a (n + 1))) ∙ map-range_with_len_more (λ k. k) a n j is ∙ ap (λ t. t ++ j ∷ []) (map-id (range_with_len a n))
 
 -- One more row, which is that of this window.
-pub row_step : {F A : Type 0} (Does : A → A → List (Contribution F) → Type 0) (walk : IsWalk Does) (R : Ring F) (eq : F → F → Bool) (instance place : ℕ) (t : Traced F) (lookup : Lookup F) (row : ℕ)
+pub row_step : {F A : Type 0} {Ready : A → Type 0} {Does : A → A → List (Contribution F) → Type 0} (walk : IsWalk Ready Does) (R : Ring F) (eq : F → F → Bool) (instance place : ℕ) (t : Traced F) (lookup : Lookup F) (row : ℕ)
     (before now after : A) (w : Window F)
     → w ≡ window_at t.main t.preprocessed t.public_values (height t.main) row
     → Does before now (flat_map (contributions_on R eq instance place t lookup) (range_with_len 0 row))
     → Does now after (contributions_at R eq (record { instance = instance; lookup = place; row = row }) w lookup)
     → Does before after (flat_map (contributions_on R eq instance place t lookup) (range_with_len 0 (row + 1)))
-row_step Does walk R eq instance place t lookup row before now after w w_is so_far this =
+row_step {Does = Does} walk R eq instance place t lookup row before now after w w_is so_far this =
     let f = contributions_on R eq instance place t lookup in
     let here = contributions_at R eq (record { instance = instance; lookup = place; row = row }) w lookup in
     subst (Does before after) (ap (λ v. flat_map f (range_with_len 0 row) ++ contributions_at R eq (record { instance = instance; lookup = place; row = row }) v lookup) w_is ∙ sym (rows_more f row))

@@ -12,7 +12,7 @@ use Rattle.lookup_model.specs.Outline.{bus_of}
 use Rattle.lookup_model.specs.declared.types.Lookup.{Lookup}
 use Rattle.lookup_debug.specs.Contributions.{Contribution, Traced, contributions_of}
 use Rattle.lookup_debug.specs.Groups.{Placed, is_named, is_on, placed_contributions, placed_in}
-use Rattle.lookup_debug.proofs.Walks.{IsWalk}
+use Rattle.lookup_debug.specs.Walks.{IsWalk}
 
 -- an item with its number
 module _ {A : Type 0} (xs : List A) (i : ℕ) (x : A) (lt : i < length xs) (is : x ≡ get_or xs i x) where
@@ -85,7 +85,7 @@ module _ {F : Type 0} where
       ∙ filter_map-append bus front (placed_in (i, t))
       ∙ ap (λ names. filter_map bus front ++ names) (buses_in i t)
 
-module _ {F A : Type 0} (Does : A → A → List (Contribution F) → Type 0) (walk : IsWalk Does) (R : Ring F) (eq : F → F → Bool) (name : List ℕ) where
+module _ {F A : Type 0} {Ready : A → Type 0} {Does : A → A → List (Contribution F) → Type 0} (walk : IsWalk Ready Does) (R : Ring F) (eq : F → F → Bool) (name : List ℕ) where
   -- what the lookups on the bus contribute
   abbrev chosen : List (Placed F) → List (Contribution F)
   chosen ps = flat_map (placed_contributions R eq) (filter (is_on name) ps)
@@ -111,7 +111,7 @@ module _ {F A : Type 0} (Does : A → A → List (Contribution F) → Type 0) (w
     -- or it is not
     pub step_off : (after : A) → after ≡ now → is_named name (bus_of l.kind) ≡ false
         → Does before after (chosen (take (j + 1) (placed_in (n, t))))
-    step_off after same off = step after false off (subst (λ c. Does now c []) (sym same) (walk.rests before now (chosen (take j (placed_in (n, t)))) so_far))
+    step_off after same off = step after false off (subst (λ c. Does now c []) (sym same) (walk.rests now (walk.leaves before now (chosen (take j (placed_in (n, t)))) so_far)))
 
   -- the lookups of one more AIR
   pub step_instance : (ts : List (Traced F)) (i : ℕ) (t : Traced F) → i < length ts

@@ -13,4 +13,3 @@ pub mod PlacedLaws
 pub mod SeenOrder
 pub mod SentContributionLaws
 pub mod TextLaws
-pub mod Walks

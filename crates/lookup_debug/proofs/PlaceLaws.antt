@@ -12,7 +12,7 @@ module _ {F : Type 0} (R : Ring F) (eq : F → F → Bool) (tuple : List F) wher
   abbrev pub places : List (Contribution F) → List Place
   places cs = map (λ c. c.place) (of_tuple R eq cs tuple)
 
-  pub places-append : (xs ys : List (Contribution F)) → places (xs ++ ys) ≡ places xs ++ places ys
+  places-append : (xs ys : List (Contribution F)) → places (xs ++ ys) ≡ places xs ++ places ys
   places-append xs ys =
       ap (map (λ (c : Contribution F). c.place)) (filter-append (λ (c : Contribution F). pointwise eq tuple c.tuple) xs ys)
       ∙ map-append (λ (c : Contribution F). c.place) (of_tuple R eq xs tuple) (of_tuple R eq ys tuple)

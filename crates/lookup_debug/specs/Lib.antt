@@ -8,3 +8,4 @@ pub mod Least
 pub mod Mismatch
 pub mod Nets
 pub mod SentContributions
+pub mod Walks

@@ -11,13 +11,13 @@ ghost use Rattle.lookup_model.specs.Records.{DoFit};
 ghost use Rattle.matrix.specs.Matrix.{height};
 
 use crate::arena::Contributions;
-use crate::contributions::collect_lookup;
 use crate::fault::{Location, LookupFault};
 use crate::first::first_mismatch;
-use crate::groups::{bus_names, collect_bus};
+use crate::groups::bus_names;
 use crate::instance::LookupDebugInstance;
 use crate::labels::{label_of_bus, label_of_local};
-use crate::places::{push_bus_places, push_lookup_places};
+use crate::places::Places;
+use crate::walk::{walk_bus, walk_lookup};
 use field::Field;
 use lookup_model::{Kind, Lookup};
 use std::alloc::{AllocError, Global};
@@ -122,14 +122,14 @@ fn check_local<F: Field>(
         (contributions_of F.ring F.eq instance place (traced_of traced.now) lookup.now) result }
 {
     contributions.clear();
-    collect_lookup(alloc, contributions, traced, lookup, instance, place)?;
+    walk_lookup(alloc, contributions, traced, lookup, instance, place)?;
     let Some(found) = first_mismatch(alloc, contributions)? else {
         return Ok(());
     };
     let label = label_of_local(alloc, instance, place)?;
-    let mut locations = Vec::new(alloc);
-    push_lookup_places(&mut locations, found.0, traced, lookup, instance, place)?;
-    Err(mismatch(alloc, label, found, locations)?)
+    let mut places = Places::new(alloc, found.0);
+    walk_lookup(alloc, &mut places, traced, lookup, instance, place)?;
+    Err(mismatch(alloc, label, found, places.into_locations())?)
 }
 
 /// Checks all buses.
@@ -167,14 +167,14 @@ fn check_bus<F: Field>(
         AnswersGroup F.ring F.eq F.text group.label group.contributions result }
 {
     contributions.clear();
-    collect_bus(alloc, contributions, instances, name)?;
+    walk_bus(alloc, contributions, instances, name)?;
     let Some(found) = first_mismatch(alloc, contributions)? else {
         return Ok(());
     };
     let label = label_of_bus(alloc, name)?;
-    let mut locations = Vec::new(alloc);
-    push_bus_places(&mut locations, found.0, instances, name)?;
-    Err(mismatch(alloc, label, found, locations)?)
+    let mut places = Places::new(alloc, found.0);
+    walk_bus(alloc, &mut places, instances, name)?;
+    Err(mismatch(alloc, label, found, places.into_locations())?)
 }
 
 /// The mismatch of a tuple with this net, in a group with this label.

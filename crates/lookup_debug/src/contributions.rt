@@ -1,21 +1,21 @@
 //! What a lookup contributes, row by row.
-ghost use Rattle.std.specs.Prelude.{◌≡◌, ◌++◌, [], ◌∷◌, None, Some, IfOk, OnOk, length, slice_get};
-ghost use Rattle.std.specs.Option.{ForSome, option_copied};
-ghost use Rattle.expressions.specs.Layout.{Fits, layout_of_traces};
+ghost use Rattle.std.specs.Prelude.{◌≡◌, ◌++◌, [], ◌∷◌, None, Some, List, OnOk, length, map};
+ghost use Rattle.expressions.specs.Layout.{Fits};
 ghost use Rattle.expressions.specs.Tree.{tree_of};
-ghost use Rattle.lookup_debug.specs.Appended.{Appends, Collects};
-ghost use Rattle.lookup_debug.specs.Arena.{AreWithin};
-ghost use Rattle.lookup_debug.specs.Contributions.{Place, amounts, contributions_at, contributions_from, contributions_of, nonzero, traced_of};
+ghost use Rattle.lookup_debug.specs.Appended.{Appends, Collects, placeless};
+ghost use Rattle.lookup_debug.specs.Arena.{AreWithin, amounts_in};
+ghost use Rattle.lookup_debug.specs.Contributions.{Contribution, Place, amounts, contributions_at, contributions_from, nonzero};
+ghost use Rattle.lookup_debug.specs.Nets.{amount_nets};
 ghost use Rattle.lookup_generation.specs.TraceBuilder.{builder_layout, builder_window};
-ghost use Rattle.lookup_model.specs.Records.{AllFit, DoFit, HasEqualLengths, IsWithin};
+ghost use Rattle.lookup_model.specs.Records.{AllFit, HasEqualLengths, IsWithin};
 ghost use Rattle.lookup_model.specs.Sent.{branches_at, value, values};
-ghost use Rattle.matrix.specs.Matrix.{height};
 
 use crate::arena::{Contributions, Cut, merge_at_limit};
-use crate::instance::LookupDebugInstance;
+use crate::fault::Location;
+use crate::walk::RowVisitor;
 use air::SymbolicExpression;
 use field::Field;
-use lookup_generation::{LookupTraceBuilder, row_builder};
+use lookup_generation::LookupTraceBuilder;
 use lookup_model::Lookup;
 use std::alloc::{AllocError, Global};
 
@@ -151,36 +151,40 @@ fn push_on_row<F: Field>(
     }
 }
 
-/// Collects the contributions of the lookup at `place` of an AIR on all rows of its traces, those of
-/// zero left out.
-pub(crate) fn collect_lookup<F: Field>(
-    alloc: Global,
-    contributions: &mut Contributions<F>,
-    traced: &LookupDebugInstance<'_, F>,
-    lookup: &Lookup<F>,
-    instance: usize,
-    place: usize,
-) -> Result<(), AllocError>
-    requires within { AreWithin contributions.now }
-    requires there { slice_get traced.now.lookups.now place ≡ Some lookup.now }
-    requires fit { DoFit (layout_of_traces traced.now.main_trace.now
-        (option_copied traced.now.preprocessed_trace) traced.now.public_values.now)
-        traced.now.lookups.now }
-    requires heights { ForSome (option_copied traced.now.preprocessed_trace)
-        (λ m. height m ≡ height traced.now.main_trace.now) }
-    ensures { OnOk result (Collects F.ring F.eq contributions.old contributions.new
-        (contributions_of F.ring F.eq instance place (traced_of traced.now) lookup.now)) }
-{
-    for row in 0..traced.main_trace.height() {
-        let builder = row_builder(
-            traced.main_trace,
-            traced.preprocessed_trace,
-            traced.public_values,
-            traced.permutation_challenges,
-            row,
-        );
-        push_on_row(contributions, lookup, &builder)?;
-        merge_at_limit(alloc, contributions)?;
+impl<F: Field> RowVisitor<F> for Contributions<F> {
+    ghost use Rattle.std.proofs.Common.{append_assoc, subst, sym};
+    ghost use Rattle.std.proofs.lemmas.List.{append-nil};
+
+    ghost ready = { AreWithin };
+
+    ghost does = { Collects F.ring F.eq };
+
+    ghost walks = { record {
+      leaves = λ a b xs done. done.0;
+      rests = λ a within. (
+        within,
+        λ cs same. subst
+            (λ (ds : List (Contribution F)). amount_nets F.ring F.eq (amounts_in a) ≡ amount_nets F.ring F.eq (map placeless ds))
+            (sym (append-nil cs)) same,
+      );
+      joins = λ a b c xs ys first then. (
+        then.0,
+        λ cs same. subst
+            (λ (ds : List (Contribution F)). amount_nets F.ring F.eq (amounts_in c) ≡ amount_nets F.ring F.eq (map placeless ds))
+            (append_assoc cs xs ys) (then.1 (cs ++ xs) (first.1 cs same)),
+      );
+    } };
+
+    /// Appends what the lookup contributes on the builder's row, and then merges equal tuples at the
+    /// limit.
+    fn visit(
+        &mut self,
+        alloc: Global,
+        lookup: &Lookup<F>,
+        builder: &LookupTraceBuilder<'_, F, F>,
+        _location: Location,
+    ) -> Result<(), AllocError> {
+        push_on_row(self, lookup, builder)?;
+        merge_at_limit(alloc, self)
     }
-    Ok(())
 }

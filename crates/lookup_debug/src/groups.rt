@@ -1,21 +1,13 @@
-//! Buses: their names, and what the lookups on one of them contribute.
-ghost use Rattle.std.specs.Prelude.{◌≡◌, ◌++◌, All, IfOk, List, OnOk, filter, map, nat_eq};
+//! Buses: their names, and which lookups are on one of them.
+ghost use Rattle.std.specs.Prelude.{◌≡◌, ◌++◌, IfOk, List, OnOk, map, nat_eq};
 ghost use Rattle.std.specs.Cmp.Lexicographic.{pointwise};
-ghost use Rattle.std.specs.List.{filter_map, flat_map};
-ghost use Rattle.std.specs.Option.{ForSome, option_copied};
-ghost use Rattle.expressions.specs.Layout.{layout_of_traces};
+ghost use Rattle.std.specs.List.{filter_map};
 ghost use Rattle.indexmap.specs.IndexSet.{keys};
-ghost use Rattle.lookup_debug.specs.Appended.{Collects};
-ghost use Rattle.lookup_debug.specs.Arena.{AreWithin};
 ghost use Rattle.lookup_debug.specs.Contributions.{traced_of};
-ghost use Rattle.lookup_debug.specs.Groups.{bus_names, is_named, is_on, placed, placed_contributions, placed_in};
+ghost use Rattle.lookup_debug.specs.Groups.{bus_names, is_named};
 ghost use Rattle.lookup_model.specs.Net.{first_seen};
 ghost use Rattle.lookup_model.specs.Outline.{bus_of};
-ghost use Rattle.lookup_model.specs.Records.{DoFit};
-ghost use Rattle.matrix.specs.Matrix.{height};
 
-use crate::arena::Contributions;
-use crate::contributions::collect_lookup;
 use crate::instance::LookupDebugInstance;
 use field::Field;
 use indexmap::IndexSet;
@@ -60,56 +52,6 @@ fn add_names<'a, F: Field>(
                 names.insert(name.as_str())?;
             }
             Kind::Local => {}
-        }
-    }
-    Ok(())
-}
-
-/// Collects the contributions of all lookups on a bus.
-pub(crate) fn collect_bus<F: Field>(
-    alloc: Global,
-    contributions: &mut Contributions<F>,
-    instances: &[LookupDebugInstance<'_, F>],
-    name: &str,
-) -> Result<(), AllocError>
-    requires within { AreWithin contributions.now }
-    requires fit { All (λ i. DoFit (layout_of_traces i.main_trace.now
-        (option_copied i.preprocessed_trace) i.public_values.now) i.lookups.now) instances.now }
-    requires heights { All (λ i. ForSome (option_copied i.preprocessed_trace)
-        (λ m. height m ≡ height i.main_trace.now)) instances.now }
-    ensures { OnOk result (Collects F.ring F.eq contributions.old contributions.new
-        (flat_map (placed_contributions F.ring F.eq)
-        (filter (is_on name.now) (placed (map traced_of instances.now))))) }
-{
-    for instance in 0..instances.len() {
-        let traced = &instances[instance];
-        collect_bus_of(alloc, contributions, traced, instance, name)?;
-    }
-    Ok(())
-}
-
-/// Collects the contributions of the lookups of one AIR on a bus.
-fn collect_bus_of<F: Field>(
-    alloc: Global,
-    contributions: &mut Contributions<F>,
-    traced: &LookupDebugInstance<'_, F>,
-    instance: usize,
-    name: &str,
-) -> Result<(), AllocError>
-    requires within { AreWithin contributions.now }
-    requires fit { DoFit (layout_of_traces traced.now.main_trace.now
-        (option_copied traced.now.preprocessed_trace) traced.now.public_values.now)
-        traced.now.lookups.now }
-    requires heights { ForSome (option_copied traced.now.preprocessed_trace)
-        (λ m. height m ≡ height traced.now.main_trace.now) }
-    ensures { OnOk result (Collects F.ring F.eq contributions.old contributions.new
-        (flat_map (placed_contributions F.ring F.eq)
-        (filter (is_on name.now) (placed_in (instance, traced_of traced.now))))) }
-{
-    for place in 0..traced.lookups.len() {
-        let lookup = &traced.lookups[place];
-        if is_on_bus(lookup, name) {
-            collect_lookup(alloc, contributions, traced, lookup, instance, place)?;
         }
     }
     Ok(())

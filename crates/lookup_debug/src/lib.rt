@@ -15,6 +15,7 @@ mod groups;
 mod instance;
 mod labels;
 mod places;
+mod walk;
 
 pub use check::check_lookups;
 pub use fault::{Location, LookupFault};

@@ -1,26 +1,21 @@
-//! The places of one tuple: a second walk over the rows of a group, which keeps nothing else.
-ghost use Rattle.std.specs.Prelude.{◌≡◌, ◌<◌, ◌++◌, [], ◌∷◌, All, List, OnOk, Some, length, map, slice_get};
+//! The places of one tuple, which a second walk over the rows of a group finds. It keeps nothing else.
+ghost use Rattle.std.specs.Prelude.{◌≡◌, ◌<◌, ◌++◌, [], ◌∷◌, Bool, List, OnOk, Some, filter, length, map, refl, slice_get, ⊤};
 ghost use Rattle.std.specs.Cmp.Lexicographic.{pointwise};
-ghost use Rattle.std.specs.List.{filter, flat_map};
-ghost use Rattle.std.specs.Option.{ForSome, option_copied};
-ghost use Rattle.expressions.specs.Layout.{layout_of_traces};
 ghost use Rattle.lookup_debug.specs.Appended.{AppendsPlaces};
-ghost use Rattle.lookup_debug.specs.Contributions.{amounts, contributions_at, contributions_of, nonzero, place_of, traced_of};
-ghost use Rattle.lookup_debug.specs.Groups.{is_on, placed, placed_contributions, placed_in};
+ghost use Rattle.lookup_debug.specs.Contributions.{Contribution, Place, amounts, contributions_at, nonzero, place_of};
+ghost use Rattle.lookup_debug.specs.Mismatch.{of_tuple};
 ghost use Rattle.lookup_generation.specs.TraceBuilder.{builder_layout, builder_window};
-ghost use Rattle.lookup_model.specs.Records.{AllFit, DoFit, HasEqualLengths, IsWithin};
+ghost use Rattle.lookup_model.specs.Records.{AllFit, HasEqualLengths, IsWithin};
 ghost use Rattle.lookup_model.specs.Sent.{branches_at, flags_at, values};
-ghost use Rattle.matrix.specs.Matrix.{height};
 
 use crate::contributions::flagged_amount;
 use crate::fault::Location;
-use crate::groups::is_on_bus;
-use crate::instance::LookupDebugInstance;
+use crate::walk::RowVisitor;
 use air::SymbolicExpression;
 use field::Field;
-use lookup_generation::{LookupTraceBuilder, row_builder};
+use lookup_generation::LookupTraceBuilder;
 use lookup_model::Lookup;
-use std::alloc::AllocError;
+use std::alloc::{AllocError, Global};
 
 /// Whether these elements have the values of a tuple on the builder's row. Nothing is evaluated past the
 /// first difference.
@@ -112,85 +107,68 @@ fn push_nonzero<F: Field>(
     Ok(())
 }
 
-/// Appends the places of a tuple in what the lookup at `place` of an AIR contributes, row by row.
-pub(crate) fn push_lookup_places<F: Field>(
-    locations: &mut Vec<Location>,
-    tuple: &[F],
-    traced: &LookupDebugInstance<'_, F>,
-    lookup: &Lookup<F>,
-    instance: usize,
-    place: usize,
-) -> Result<(), AllocError>
-    requires there { slice_get traced.now.lookups.now place ≡ Some lookup.now }
-    requires fit { DoFit (layout_of_traces traced.now.main_trace.now
-        (option_copied traced.now.preprocessed_trace) traced.now.public_values.now)
-        traced.now.lookups.now }
-    requires heights { ForSome (option_copied traced.now.preprocessed_trace)
-        (λ m. height m ≡ height traced.now.main_trace.now) }
-    ensures { OnOk result (AppendsPlaces F.ring F.eq tuple.now locations.old locations.new
-        (contributions_of F.ring F.eq instance place (traced_of traced.now) lookup.now)) }
-{
-    for row in 0..traced.main_trace.height() {
-        let builder = row_builder(
-            traced.main_trace,
-            traced.preprocessed_trace,
-            traced.public_values,
-            traced.permutation_challenges,
-            row,
-        );
-        let location = Location {
-            instance,
-            lookup: place,
-            row,
-        };
-        push_row_places(locations, tuple, lookup, &builder, location)?;
-    }
-    Ok(())
+/// The places of one tuple, as far as they are found.
+#[derive(Drop)]
+pub(crate) struct Places<'a, F> {
+    tuple: &'a [F],
+    locations: Vec<Location>,
 }
 
-/// Appends the places of a tuple in what all lookups on a bus contribute.
-pub(crate) fn push_bus_places<F: Field>(
-    locations: &mut Vec<Location>,
-    tuple: &[F],
-    instances: &[LookupDebugInstance<'_, F>],
-    name: &str,
-) -> Result<(), AllocError>
-    requires fit { All (λ i. DoFit (layout_of_traces i.main_trace.now
-        (option_copied i.preprocessed_trace) i.public_values.now) i.lookups.now) instances.now }
-    requires heights { All (λ i. ForSome (option_copied i.preprocessed_trace)
-        (λ m. height m ≡ height i.main_trace.now)) instances.now }
-    ensures { OnOk result (AppendsPlaces F.ring F.eq tuple.now locations.old locations.new
-        (flat_map (placed_contributions F.ring F.eq)
-        (filter (is_on name.now) (placed (map traced_of instances.now))))) }
-{
-    for instance in 0..instances.len() {
-        push_bus_places_of(locations, tuple, &instances[instance], instance, name)?;
-    }
-    Ok(())
-}
-
-/// Appends those of the lookups of one AIR.
-fn push_bus_places_of<F: Field>(
-    locations: &mut Vec<Location>,
-    tuple: &[F],
-    traced: &LookupDebugInstance<'_, F>,
-    instance: usize,
-    name: &str,
-) -> Result<(), AllocError>
-    requires fit { DoFit (layout_of_traces traced.now.main_trace.now
-        (option_copied traced.now.preprocessed_trace) traced.now.public_values.now)
-        traced.now.lookups.now }
-    requires heights { ForSome (option_copied traced.now.preprocessed_trace)
-        (λ m. height m ≡ height traced.now.main_trace.now) }
-    ensures { OnOk result (AppendsPlaces F.ring F.eq tuple.now locations.old locations.new
-        (flat_map (placed_contributions F.ring F.eq)
-        (filter (is_on name.now) (placed_in (instance, traced_of traced.now))))) }
-{
-    for place in 0..traced.lookups.len() {
-        let lookup = &traced.lookups[place];
-        if is_on_bus(lookup, name) {
-            push_lookup_places(locations, tuple, traced, lookup, instance, place)?;
+impl<'a, F> Places<'a, F> {
+    /// No places of this tuple.
+    pub(crate) fn new(alloc: Global, tuple: &'a [F]) -> Places<'a, F>
+        ensures tuple { result.tuple.now ≡ tuple.now }
+        ensures empty { result.locations.items ≡ [] }
+    {
+        Places {
+            tuple,
+            locations: Vec::new(alloc),
         }
     }
-    Ok(())
+
+    /// The places, in the order of the contributions.
+    pub(crate) fn into_locations(self) -> Vec<Location>
+        ensures { result ≡ self.entry.locations }
+    {
+        self.locations
+    }
+}
+
+impl<F: Field> RowVisitor<F> for Places<'_, F> {
+    ghost use Rattle.std.proofs.Common.{◌∙◌, ap, append_assoc, subst, sym};
+    ghost use Rattle.std.proofs.lemmas.List.{append-nil, map-append};
+    ghost use Rattle.std.proofs.lemmas.List.Elements.{filter-append};
+
+    ghost ready = { λ _. ⊤ };
+
+    ghost does = { λ a b cs. (b.tuple.now ≡ a.tuple.now)
+        × AppendsPlaces F.ring F.eq a.tuple.now a.locations b.locations cs };
+
+    ghost walks = { record {
+      leaves = λ a b xs done. tt;
+      rests = λ a ready. (refl, sym (append-nil (map place_of a.locations.items)));
+      joins = λ a b c xs ys first then.
+          let old = map place_of a.locations.items in
+          let tuple = a.tuple.now in
+          let has_tuple : Contribution F → Bool = λ k. pointwise F.eq tuple k.tuple in
+          let place : Contribution F → Place = λ k. k.place in
+          let places : List (Contribution F) → List Place = λ ks. map place (of_tuple F.ring F.eq ks tuple) in (
+            then.0 ∙ first.0,
+            subst (λ t. AppendsPlaces F.ring F.eq t b.locations c.locations ys) first.0 then.1
+                ∙ ap (λ ps. ps ++ places ys) first.1
+                ∙ append_assoc old (places xs) (places ys)
+                ∙ ap (λ ps. old ++ ps) (sym (ap (map place) (filter-append has_tuple xs ys) ∙ map-append place (filter has_tuple xs) (filter has_tuple ys))),
+          );
+    } };
+
+    /// Appends the places of the tuple on the builder's row.
+    fn visit(
+        &mut self,
+        _alloc: Global,
+        lookup: &Lookup<F>,
+        builder: &LookupTraceBuilder<'_, F, F>,
+        location: Location,
+    ) -> Result<(), AllocError> {
+        push_row_places(&mut self.locations, self.tuple, lookup, builder, location)
+    }
 }

@@ -11,7 +11,7 @@ returns-in_default g c =
     let R = g.F.PrimeCharacteristicRing.ring in
     let eq = g.F.PartialEq.eq in
     let cs = (bus_group R eq (map traced_of c.args.instances.now) c.args.name.now).contributions in
-    let same = c.in_ok-collect_bus.ensures.1 [] (ap (amount_nets R eq) c.clear.ensures.empty) in
+    let same = c.in_ok-walk_bus.ensures.1 [] (ap (amount_nets R eq) c.clear.ensures.empty) in
     subst (IsFound R eq g.F.Field.text cs) c.in_default.is (c.in_ok-found.ensures cs same)
 
 pub returns : goal.returns
@@ -21,8 +21,9 @@ returns g c =
     let text = g.F.Field.text in
     let label = bus_label c.args.name.now in
     let cs = (bus_group R eq (map traced_of c.args.instances.now) c.args.name.now).contributions in
-    let same = c.in_ok-collect_bus.ensures.1 [] (ap (amount_nets R eq) c.clear.ensures.empty) in
+    let same = c.in_ok-walk_bus.ensures.1 [] (ap (amount_nets R eq) c.clear.ensures.empty) in
     let found = subst (IsFound R eq text cs) c.in-Some.is (c.in_ok-found.ensures cs same) in
-    inr (mismatch_of R eq text (string_bytes c.in_ok-label.label) label cs c.in-Some.found.0.now c.in-Some.found.1 (map place_of c.push_bus_places.new.locations.items) c.in_ok-mismatch.field-0
+    inr (mismatch_of R eq text (string_bytes c.in_ok-label.label) label cs c.in-Some.found.0.now c.in-Some.found.1 (map place_of c.into_locations.result.items) c.in_ok-mismatch.field-0
     c.in_ok-label.ensures found
-    (c.in_ok-push_bus_places.ensures ∙ ap (λ ls. map place_of ls ++ map (λ k. k.place) (of_tuple R eq cs c.in-Some.found.0.now)) c.new-locations.ensures.items) c.in_ok-mismatch.ensures)
+    (ap (λ ls. map place_of ls.items) c.into_locations.ensures ∙ c.in_ok-walk_bus-2.ensures.1 ∙ (λ i. map place_of (c.new-places.ensures.empty i) ++ map (λ k. k.place) (of_tuple R eq cs (c.new-places.ensures.tuple i))))
+    c.in_ok-mismatch.ensures)

@@ -1,5 +1,4 @@
-use Rattle.std.proofs.Common.{length, map, subst, sym}
-use Rattle.std.proofs.lemmas.List.{append-nil}
+use Rattle.std.proofs.Common.{length, subst, sym}
 use Rattle.std.proofs.lemmas.Option.{get_or_from_slice_get, slice_get_within}
 use Rattle.std.specs.Option.{option_copied}
 use Rattle.expressions.specs.Layout.{layout_of_traces}
@@ -8,14 +7,15 @@ use Rattle.lookup_generation.proofs.Layouts.{DoFit-with_challenges, with_challen
 use Rattle.lookup_generation.specs.TraceBuilder.{builder_window}
 use Rattle.lookup_model.specs.Records.{IsWithin}
 use Rattle.lookup_model.specs.declared.types.Lookup.{Lookup}
-use Rattle.lookup_debug.specs.Appended.{AppendsPlaces}
-use Rattle.lookup_debug.specs.Contributions.{place_of, traced_of}
+use Rattle.lookup_debug.specs.Contributions.{traced_of}
 use Rattle.lookup_debug.proofs.AmountLaws.{row_step}
-use Rattle.lookup_debug.proofs.Walks.{finds}
-use Rattle.lookup_debug.proofs.places.push_lookup_places.Goals as goal
+use Rattle.lookup_debug.proofs.walk.walk_lookup.Goals as goal
 
-pub push_row_places-requires-clause-fits : goal.push_row_places-requires-clause-fits
-push_row_places-requires-clause-fits g c =
+pub visit-requires-clause-ready : goal.visit-requires-clause-ready
+visit-requires-clause-ready g c = g.met.V.RowVisitor.walks.leaves _ _ _ c.loop-row.invariant
+
+pub visit-requires-clause-fits : goal.visit-requires-clause-fits
+visit-requires-clause-fits g c =
     let i = c.args.traced.now in
     let lookups = i.lookups.now in
     let lookup = c.args.lookup.now in
@@ -27,12 +27,9 @@ push_row_places-requires-clause-fits g c =
     (fit.within c.args.place lookup (slice_get_within lookups c.args.place lookup c.requires.there)))
 
 pub loop-row-init : goal.loop-row-init
-loop-row-init g c = sym (append-nil (map place_of c.args.locations.now.items))
+loop-row-init g c = g.met.V.RowVisitor.walks.rests c.args.visitor.now c.requires.ready
 
 pub loop-row-preserved : goal.loop-row-preserved
 loop-row-preserved g c =
-    let R = g.F.PrimeCharacteristicRing.ring in
-    let eq = g.F.PartialEq.eq in
-    let tuple = c.args.tuple.now in
-    row_step (AppendsPlaces R eq tuple) (finds R eq tuple) R eq c.args.instance c.args.place (traced_of c.args.traced.now) c.args.lookup.now c.loop-row.row c.args.locations.now c.loop-row.locations c.push_row_places.new.locations
-    (builder_window c.row_builder-builder.result) c.row_builder-builder.ensures.window c.loop-row.invariant c.in_ok-push_row_places.ensures
+    row_step g.met.V.RowVisitor.walks g.F.PrimeCharacteristicRing.ring g.F.PartialEq.eq c.args.instance c.args.place (traced_of c.args.traced.now) c.args.lookup.now c.loop-row.row c.args.visitor.now c.loop-row.visitor c.visit.new.self
+    (builder_window c.row_builder-builder.result) c.row_builder-builder.ensures.window c.loop-row.invariant c.in_ok-visit.ensures

@@ -6,17 +6,22 @@ use Rattle.expressions.specs.Layout.{layout_of_traces}
 use Rattle.lookup_model.proofs.Branches.{mapped_at}
 use Rattle.lookup_model.proofs.RecordLaws.{All-at}
 use Rattle.lookup_model.specs.Records.{DoFit}
-use Rattle.lookup_debug.specs.Appended.{Collects}
 use Rattle.lookup_debug.specs.Contributions.{Traced, traced_of}
 use Rattle.lookup_debug.specs.Groups.{is_on, placed_contributions, placed_in}
 use Rattle.lookup_debug.specs.declared.instance.LookupDebugInstance.{LookupDebugInstance}
 use Rattle.lookup_debug.proofs.BusLaws.{numbered_all, step_instance}
-use Rattle.lookup_debug.proofs.Walks.{collects}
-use Rattle.lookup_debug.proofs.groups.collect_bus.Goals as goal
+use Rattle.lookup_debug.proofs.walk.walk_bus.Goals as goal
 
-pub collect_bus_of-requires-clause-fit : goal.collect_bus_of-requires-clause-fit
-collect_bus_of-requires-clause-fit g c =
+pub walk_bus_of-requires-clause-ready : goal.walk_bus_of-requires-clause-ready
+walk_bus_of-requires-clause-ready g c =
+    g.met.V.RowVisitor.walks.leaves _ _ _ c.loop-instance.invariant
+
+pub walk_bus_of-requires-clause-fit : goal.walk_bus_of-requires-clause-fit
+walk_bus_of-requires-clause-fit g c =
     All-at (λ (i : LookupDebugInstance _). DoFit (layout_of_traces i.main_trace.now (option_copied i.preprocessed_trace) i.public_values.now) i.lookups.now) c.args.instances.now c.loop-instance.instance c.index-instances-instance.result c.requires.fit c.loop-instance-test.true c.index-instances-instance.is
+
+pub loop-instance-init : goal.loop-instance-init
+loop-instance-init g c = g.met.V.RowVisitor.walks.rests c.args.visitor.now c.requires.ready
 
 pub loop-instance-preserved : goal.loop-instance-preserved
 loop-instance-preserved g c =
@@ -25,10 +30,8 @@ loop-instance-preserved g c =
     let i = c.loop-instance.instance in
     let t = traced_of c.index-instances-instance.result in
     let lt : i < length ts = omega (arith, c.loop-instance-test.true, length-map instances traced_of) in
-    let R = g.F.PrimeCharacteristicRing.ring in
-    let eq = g.F.PartialEq.eq in
-    step_instance (Collects R eq) (collects R eq) R eq c.args.name.now ts i t lt (mapped_at traced_of instances i c.index-instances-instance.result c.loop-instance-test.true c.index-instances-instance.is)
-    c.args.contributions.now c.loop-instance.contributions c.collect_bus_of.new.contributions c.loop-instance.invariant c.in_ok-collect_bus_of.ensures
+    step_instance g.met.V.RowVisitor.walks g.F.PrimeCharacteristicRing.ring g.F.PartialEq.eq c.args.name.now ts i t lt (mapped_at traced_of instances i c.index-instances-instance.result c.loop-instance-test.true c.index-instances-instance.is)
+    c.args.visitor.now c.loop-instance.visitor c.walk_bus_of.new.visitor c.loop-instance.invariant c.in_ok-walk_bus_of.ensures
 
 pub returns : goal.returns
 returns g c =
@@ -36,4 +39,4 @@ returns g c =
     let on = is_on c.args.name.now in
     let instances = c.args.instances.now in
     let ts = map traced_of instances in
-    subst (λ (ns : List (ℕ × Traced _)). Collects g.F.PrimeCharacteristicRing.ring g.F.PartialEq.eq c.args.contributions.now c.loop-instance.contributions (flat_map f (filter on (flat_map placed_in ns)))) (numbered_all ts c.loop-instance.instance (omega (arith, c.loop-instance-test.false, length-map instances traced_of))) c.loop-instance.invariant
+    subst (λ (ns : List (ℕ × Traced _)). g.V.RowVisitor.does c.args.visitor.now c.loop-instance.visitor (flat_map f (filter on (flat_map placed_in ns)))) (numbered_all ts c.loop-instance.instance (omega (arith, c.loop-instance-test.false, length-map instances traced_of))) c.loop-instance.invariant

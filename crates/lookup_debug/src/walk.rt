@@ -1,0 +1,135 @@
+//! The walk over what a group sends: the rows of its lookups, AIR by AIR. Both passes of the check
+//! take it.
+ghost use Rattle.std.specs.Prelude.{◌≡◌, All, List, OnOk, Some, filter, map, slice_get};
+ghost use Rattle.std.specs.List.{flat_map};
+ghost use Rattle.std.specs.Option.{ForSome, option_copied};
+ghost use Rattle.expressions.specs.Layout.{layout_of_traces};
+ghost use Rattle.lookup_debug.specs.Contributions.{Contribution, contributions_at, contributions_of, place_of, traced_of};
+ghost use Rattle.lookup_debug.specs.Groups.{is_on, placed, placed_contributions, placed_in};
+ghost use Rattle.lookup_debug.specs.Walks.{IsWalk};
+ghost use Rattle.lookup_generation.specs.TraceBuilder.{builder_layout, builder_window};
+ghost use Rattle.lookup_model.specs.Records.{DoFit, HasEqualLengths, IsWithin};
+ghost use Rattle.matrix.specs.Matrix.{height};
+
+use crate::fault::Location;
+use crate::groups::is_on_bus;
+use crate::instance::LookupDebugInstance;
+use field::Field;
+use lookup_generation::{LookupTraceBuilder, row_builder};
+use lookup_model::Lookup;
+use std::alloc::{AllocError, Global};
+
+/// What is shown the rows of lookups, one after another.
+///
+/// `ready` says what holds of a visitor before each row. `does` says what becomes of it: from before some
+/// rows to after them, where these are their contributions.
+pub(crate) trait RowVisitor<F: Field> {
+    ghost ready: { Self → Type 0 };
+
+    ghost does: { Self → Self → List (Contribution F) → Type 0 };
+
+    /// Takes in a lookup on the builder's row.
+    fn visit(
+        &mut self,
+        alloc: Global,
+        lookup: &Lookup<F>,
+        builder: &LookupTraceBuilder<'_, F, F>,
+        location: Location,
+    ) -> Result<(), AllocError>
+        requires ready { ready self.now }
+        requires lengths { HasEqualLengths lookup.now }
+        requires fits { IsWithin (builder_layout builder.now) lookup.now }
+        ensures { OnOk result (does self.old self.new
+            (contributions_at F.ring F.eq (place_of location) (builder_window builder.now)
+            lookup.now)) };
+
+    ghost walks: { IsWalk ready does };
+}
+
+/// Shows a visitor the lookup at `place` of an AIR on all rows of its traces.
+pub(crate) fn walk_lookup<F: Field, V: RowVisitor<F>>(
+    alloc: Global,
+    visitor: &mut V,
+    traced: &LookupDebugInstance<'_, F>,
+    lookup: &Lookup<F>,
+    instance: usize,
+    place: usize,
+) -> Result<(), AllocError>
+    requires ready { V.ready visitor.now }
+    requires there { slice_get traced.now.lookups.now place ≡ Some lookup.now }
+    requires fit { DoFit (layout_of_traces traced.now.main_trace.now
+        (option_copied traced.now.preprocessed_trace) traced.now.public_values.now)
+        traced.now.lookups.now }
+    requires heights { ForSome (option_copied traced.now.preprocessed_trace)
+        (λ m. height m ≡ height traced.now.main_trace.now) }
+    ensures { OnOk result (V.does visitor.old visitor.new
+        (contributions_of F.ring F.eq instance place (traced_of traced.now) lookup.now)) }
+{
+    let rows = traced.main_trace.height();
+    for row in 0..rows {
+        let builder = row_builder(
+            traced.main_trace,
+            traced.preprocessed_trace,
+            traced.public_values,
+            traced.permutation_challenges,
+            rows,
+            row,
+        );
+        let location = Location {
+            instance,
+            lookup: place,
+            row,
+        };
+        visitor.visit(alloc, lookup, &builder, location)?;
+    }
+    Ok(())
+}
+
+/// Shows a visitor all lookups on a bus.
+pub(crate) fn walk_bus<F: Field, V: RowVisitor<F>>(
+    alloc: Global,
+    visitor: &mut V,
+    instances: &[LookupDebugInstance<'_, F>],
+    name: &str,
+) -> Result<(), AllocError>
+    requires ready { V.ready visitor.now }
+    requires fit { All (λ i. DoFit (layout_of_traces i.main_trace.now
+        (option_copied i.preprocessed_trace) i.public_values.now) i.lookups.now) instances.now }
+    requires heights { All (λ i. ForSome (option_copied i.preprocessed_trace)
+        (λ m. height m ≡ height i.main_trace.now)) instances.now }
+    ensures { OnOk result (V.does visitor.old visitor.new
+        (flat_map (placed_contributions F.ring F.eq)
+        (filter (is_on name.now) (placed (map traced_of instances.now))))) }
+{
+    for instance in 0..instances.len() {
+        walk_bus_of(alloc, visitor, &instances[instance], instance, name)?;
+    }
+    Ok(())
+}
+
+/// Shows a visitor the lookups of one AIR on a bus.
+fn walk_bus_of<F: Field, V: RowVisitor<F>>(
+    alloc: Global,
+    visitor: &mut V,
+    traced: &LookupDebugInstance<'_, F>,
+    instance: usize,
+    name: &str,
+) -> Result<(), AllocError>
+    requires ready { V.ready visitor.now }
+    requires fit { DoFit (layout_of_traces traced.now.main_trace.now
+        (option_copied traced.now.preprocessed_trace) traced.now.public_values.now)
+        traced.now.lookups.now }
+    requires heights { ForSome (option_copied traced.now.preprocessed_trace)
+        (λ m. height m ≡ height traced.now.main_trace.now) }
+    ensures { OnOk result (V.does visitor.old visitor.new
+        (flat_map (placed_contributions F.ring F.eq)
+        (filter (is_on name.now) (placed_in (instance, traced_of traced.now))))) }
+{
+    for place in 0..traced.lookups.len() {
+        let lookup = &traced.lookups[place];
+        if is_on_bus(lookup, name) {
+            walk_lookup(alloc, visitor, traced, lookup, instance, place)?;
+        }
+    }
+    Ok(())
+}
