@@ -61,9 +61,6 @@ module _ {F : Type 0} (R : Ring F) (eq : F → F → Bool) (place : Place) where
     as_many_counts : length counts ≡ length branches
     as_many_counts = length-map branches (λ (m : Message F). m.multiplicity)
 
-    pub length-counted : length (contributions_from place branches counts) ≡ length lookup.elements.items
-    length-counted = length-from branches counts as_many_counts ∙ length-branches_at R w 0 lookup lengths
-
     module _ (flags : List (SymbolicExpression F)) (flag_number : length flags ≡ length lookup.elements.items) where
       abbrev flagged : List F
       flagged = amounts R (Some (values R w flags)) branches
@@ -73,9 +70,6 @@ module _ {F : Type 0} (R : Ring F) (eq : F → F → Bool) (place : Place) where
 
       as_many_flagged : length flagged ≡ length branches
       as_many_flagged = length-zipped (λ (b : F × Message F). R.mul b.0 b.1.multiplicity) (values R w flags) branches as_many_flags ∙ sym as_many_flags
-
-      pub length-flagged : length (contributions_from place branches flagged) ≡ length lookup.elements.items
-      length-flagged = length-from branches flagged as_many_flagged ∙ length-branches_at R w 0 lookup lengths
 
     -- the amounts with the flags of the lookup, if it has any
     abbrev sizes : List F
@@ -102,44 +96,6 @@ module _ {F : Type 0} (R : Ring F) (eq : F → F → Bool) (place : Place) where
       branch_is : branch ≡ get_or branches i branch
       branch_is = zipped_at (λ b. branch_at R w 0 b.0.items b.1) lookup.elements.items lookup.multiplicities.items lengths.multiplicities i tuple multiplicity lt tuple_is multiplicity_is
 
-      -- without flags a branch counts with its multiplicity
-      counted_more : nonzero R eq (take (i + 1) (contributions_from place branches counts)) ≡ nonzero R eq (take i (contributions_from place branches counts)) ++ nonzero R eq (record { tuple = values R w tuple.items; amount = value R w multiplicity; place = place } ∷ [])
-      counted_more =
-          from_more branches counts as_many_counts i branch (value R w multiplicity) within branch_is
-          (mapped_at (λ (m : Message F). m.multiplicity) branches i branch within branch_is)
-
-      -- with flags it counts with flag times multiplicity
-      flagged_more : (flags : List (SymbolicExpression F)) (flag_number : length flags ≡ length lookup.elements.items) (flag : SymbolicExpression F)
-          → flag ≡ get_or flags i flag
-          → nonzero R eq (take (i + 1) (contributions_from place branches (flagged flags flag_number))) ≡ nonzero R eq (take i (contributions_from place branches (flagged flags flag_number))) ++ nonzero R eq (record { tuple = values R w tuple.items; amount = R.mul (value R w flag) (value R w multiplicity); place = place } ∷ [])
-      flagged_more flags flag_number flag flag_is =
-          from_more branches (flagged flags flag_number) (as_many_flagged flags flag_number) i branch (R.mul (value R w flag) (value R w multiplicity)) within branch_is
-          (zipped_at (λ (b : F × Message F). R.mul b.0 b.1.multiplicity) (values R w flags) branches (as_many_flags flags flag_number) i (value R w flag) branch
-          (omega (arith, within, as_many_flags flags flag_number)) (mapped_at (value R w) flags i flag (omega (arith, lt, flag_number)) flag_is) branch_is)
-
-      -- so it is once the branch is appended
-      pub counted_step : (before now after : Contributions F) (es : List (SymbolicExpression F)) (amount : F)
-          → es ≡ tuple.items → amount ≡ value R w multiplicity
-          → Appends before now (nonzero R eq (take i (contributions_from place branches counts)))
-          → Appends now after (nonzero R eq (record { tuple = values R w es; amount = amount; place = place } ∷ []))
-          → Appends before after (nonzero R eq (take (i + 1) (contributions_from place branches counts)))
-      counted_step before now after es amount es_are amount_is so_far this =
-          let front = nonzero R eq (take i (contributions_from place branches counts)) in
-          subst (Appends before after) ((λ k. front ++ nonzero R eq (record { tuple = values R w (es_are k); amount = amount_is k; place = place } ∷ [])) ∙ sym counted_more)
-          (appends-more before now after front (nonzero R eq (record { tuple = values R w es; amount = amount; place = place } ∷ [])) so_far this)
-
-      pub flagged_step : (flags : List (SymbolicExpression F)) (flag_number : length flags ≡ length lookup.elements.items) (flag : SymbolicExpression F)
-          → flag ≡ get_or flags i flag
-          → (before now after : Contributions F) (es : List (SymbolicExpression F)) (amount : F)
-          → es ≡ tuple.items → amount ≡ R.mul (value R w flag) (value R w multiplicity)
-          → Appends before now (nonzero R eq (take i (contributions_from place branches (flagged flags flag_number))))
-          → Appends now after (nonzero R eq (record { tuple = values R w es; amount = amount; place = place } ∷ []))
-          → Appends before after (nonzero R eq (take (i + 1) (contributions_from place branches (flagged flags flag_number))))
-      flagged_step flags flag_number flag flag_is before now after es amount es_are amount_is so_far this =
-          let front = nonzero R eq (take i (contributions_from place branches (flagged flags flag_number))) in
-          subst (Appends before after) ((λ k. front ++ nonzero R eq (record { tuple = values R w (es_are k); amount = amount_is k; place = place } ∷ [])) ∙ sym (flagged_more flags flag_number flag flag_is))
-          (appends-more before now after front (nonzero R eq (record { tuple = values R w es; amount = amount; place = place } ∷ [])) so_far this)
-
     -- each branch has an amount
     pub size_there : (i : ℕ) → i < length lookup.elements.items → (amount : F) × (slice_get sizes i ≡ Some amount)
     size_there i lt = elim (slice_get_cases sizes i).1 [
@@ -156,6 +112,18 @@ module _ {F : Type 0} (R : Ring F) (eq : F → F → Bool) (place : Place) where
           from_more branches sizes as_many_sizes i (branch i tuple m.0 lt tuple_is (sym m.3)) amount (within i tuple m.0 lt tuple_is (sym m.3)) (branch_is i tuple m.0 lt tuple_is (sym m.3)) (sym (get_or_from_slice_get sizes i amount amount there))
       | inr past ↦ absurd (omega (arith, lt, past.0, lengths.multiplicities))
     ]
+
+    -- so it is once the branch is appended
+    pub sized_step : (i : ℕ) (tuple : Vec (SymbolicExpression F) Global) → i < length lookup.elements.items → tuple ≡ get_or lookup.elements.items i tuple
+        → (amount : F) → slice_get sizes i ≡ Some amount
+        → (before now after : Contributions F) (es : List (SymbolicExpression F)) → es ≡ tuple.items
+        → Appends before now (nonzero R eq (take i (contributions_from place branches sizes)))
+        → Appends now after (nonzero R eq (record { tuple = values R w es; amount = amount; place = place } ∷ []))
+        → Appends before after (nonzero R eq (take (i + 1) (contributions_from place branches sizes)))
+    sized_step i tuple lt tuple_is amount there before now after es es_are so_far this =
+        let front = nonzero R eq (take i (contributions_from place branches sizes)) in
+        subst (Appends before after) ((λ k. front ++ nonzero R eq (record { tuple = values R w (es_are k); amount = amount; place = place } ∷ [])) ∙ sym (sized_more i tuple lt tuple_is amount there))
+        (appends-more before now after front (nonzero R eq (record { tuple = values R w es; amount = amount; place = place } ∷ [])) so_far this)
 
     module _ (i : ℕ) (multiplicity : SymbolicExpression F) (lt : i < length lookup.elements.items) (multiplicity_is : multiplicity ≡ get_or lookup.multiplicities.items i multiplicity) where
       -- without flags the amount of a branch is its multiplicity

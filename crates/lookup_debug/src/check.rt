@@ -25,9 +25,9 @@ use std::alloc::{AllocError, Global};
 /// Checks that all tuples balance: those of each local lookup by itself, in the order instance,
 /// lookup, and then those of each bus, in the order of the first lookups on them.
 ///
-/// The lookups fit the traces and public values of their AIR, and a preprocessed trace is as high as
-/// the main trace. Contributions of zero are skipped. A branch of an exclusive lookup contributes
-/// flag times count, whatever the flag is.
+/// The lookups fit the traces and public values of their AIR, in the columns 0, 1, 2, …, and a
+/// preprocessed trace is as high as the main trace. Contributions of zero are skipped. A branch of an
+/// exclusive lookup contributes flag times count, whatever the flag is.
 ///
 /// Refuses the mismatch of the first group that has one, with its label, net and locations. It is
 /// about the tuple of nonzero net that is least by the texts of its elements, and among equal texts

@@ -1,14 +1,14 @@
 //! What a lookup contributes, row by row.
-ghost use Rattle.std.specs.Prelude.{◌≡◌, ◌++◌, [], ◌∷◌, None, Some, List, OnOk, length, map};
+ghost use Rattle.std.specs.Prelude.{◌≡◌, ◌<◌, ◌++◌, [], ◌∷◌, Some, List, OnOk, length, map, slice_get};
 ghost use Rattle.expressions.specs.Layout.{Fits};
 ghost use Rattle.expressions.specs.Tree.{tree_of};
 ghost use Rattle.lookup_debug.specs.Appended.{Appends, Collects, placeless};
 ghost use Rattle.lookup_debug.specs.Arena.{AreWithin, amounts_in};
-ghost use Rattle.lookup_debug.specs.Contributions.{Contribution, Place, amounts, contributions_at, contributions_from, nonzero};
+ghost use Rattle.lookup_debug.specs.Contributions.{Contribution, Place, amounts, contributions_at, nonzero};
 ghost use Rattle.lookup_debug.specs.Nets.{amount_nets};
 ghost use Rattle.lookup_generation.specs.TraceBuilder.{builder_layout, builder_window};
 ghost use Rattle.lookup_model.specs.Records.{AllFit, HasEqualLengths, IsWithin};
-ghost use Rattle.lookup_model.specs.Sent.{branches_at, value, values};
+ghost use Rattle.lookup_model.specs.Sent.{branches_at, flags_at, value, values};
 
 use crate::arena::{Contributions, Cut, merge_at_limit};
 use crate::fault::Location;
@@ -61,32 +61,8 @@ fn push_branch<F: Field>(
     Ok(())
 }
 
-/// Appends the contributions of a lookup without flags on the builder's row: each tuple with its
-/// multiplicity.
-fn push_counted<F: Field>(
-    contributions: &mut Contributions<F>,
-    lookup: &Lookup<F>,
-    builder: &LookupTraceBuilder<'_, F, F>,
-) -> Result<(), AllocError>
-    requires within { AreWithin contributions.now }
-    requires lengths { HasEqualLengths lookup.now }
-    requires fits { IsWithin (builder_layout builder.now) lookup.now }
-    ensures { let branches = branches_at F.ring (builder_window builder.now) 0 lookup.now in
-        (place : Place) → OnOk result (Appends contributions.old contributions.new
-        (nonzero F.ring F.eq
-        (contributions_from place branches (amounts F.ring None branches)))) }
-{
-    for branch in 0..lookup.elements.len() {
-        let tuple = &lookup.elements[branch];
-        let multiplicity = &lookup.multiplicities[branch];
-        let amount = builder.value_of(multiplicity);
-        push_branch(contributions, tuple, amount, builder)?;
-    }
-    Ok(())
-}
-
-/// Flag times count on the builder's row. The count under a flag of zero is not walked.
-pub(crate) fn flagged_amount<F: Field>(
+/// Flag times count on the builder's row. The count under a flag of zero is not evaluated.
+fn flagged_amount<F: Field>(
     flag: &SymbolicExpression<F>,
     count: &SymbolicExpression<F>,
     builder: &LookupTraceBuilder<'_, F, F>,
@@ -103,34 +79,27 @@ pub(crate) fn flagged_amount<F: Field>(
     flag * builder.value_of(count)
 }
 
-/// Appends the contributions of a lookup with flags on the builder's row: each tuple with flag times
-/// count, whatever the flags are.
-fn push_flagged<F: Field>(
-    contributions: &mut Contributions<F>,
+/// How much a lookup sends of one of its branches on the builder's row.
+pub(crate) fn amount_of<F: Field>(
     lookup: &Lookup<F>,
-    flags: &[SymbolicExpression<F>],
+    branch: usize,
     builder: &LookupTraceBuilder<'_, F, F>,
-) -> Result<(), AllocError>
-    requires within { AreWithin contributions.now }
+) -> F
+    requires branch { branch < length lookup.now.elements.items }
     requires lengths { HasEqualLengths lookup.now }
-    requires flag_number { length flags.now ≡ length lookup.now.elements.items }
     requires fits { IsWithin (builder_layout builder.now) lookup.now }
-    requires flags_fit { AllFit (builder_layout builder.now) flags.now }
     ensures { let w = builder_window builder.now in
-        let branches = branches_at F.ring w 0 lookup.now in
-        (place : Place) → OnOk result (Appends contributions.old contributions.new
-        (nonzero F.ring F.eq
-        (contributions_from place branches (amounts F.ring
-        (Some (values F.ring w flags.now)) branches)))) }
+        slice_get (amounts F.ring (flags_at F.ring w lookup.now)
+        (branches_at F.ring w 0 lookup.now)) branch ≡ Some result }
 {
-    for branch in 0..lookup.elements.len() {
-        let tuple = &lookup.elements[branch];
-        let multiplicity = &lookup.multiplicities[branch];
-        let flag = &flags[branch];
-        let amount = flagged_amount(flag, multiplicity, builder);
-        push_branch(contributions, tuple, amount, builder)?;
+    let multiplicity = &lookup.multiplicities[branch];
+    match &lookup.flags {
+        None => builder.value_of(multiplicity),
+        Some(flags) => {
+            let flag = &flags[branch];
+            flagged_amount(flag, multiplicity, builder)
+        }
     }
-    Ok(())
 }
 
 /// Appends the contributions of a lookup on the builder's row.
@@ -145,10 +114,12 @@ fn push_on_row<F: Field>(
     ensures { (place : Place) → OnOk result (Appends contributions.old contributions.new
         (contributions_at F.ring F.eq place (builder_window builder.now) lookup.now)) }
 {
-    match &lookup.flags {
-        None => push_counted(contributions, lookup, builder),
-        Some(flags) => push_flagged(contributions, lookup, flags, builder),
+    for branch in 0..lookup.elements.len() {
+        let tuple = &lookup.elements[branch];
+        let amount = amount_of(lookup, branch, builder);
+        push_branch(contributions, tuple, amount, builder)?;
     }
+    Ok(())
 }
 
 impl<F: Field> RowVisitor<F> for Contributions<F> {

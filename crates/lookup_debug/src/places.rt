@@ -1,14 +1,14 @@
-//! The places of one tuple, which a second walk over the rows of a group finds. It keeps nothing else.
-ghost use Rattle.std.specs.Prelude.{◌≡◌, ◌<◌, ◌++◌, [], ◌∷◌, Bool, List, OnOk, Some, filter, length, map, refl, slice_get, ⊤};
+//! The places of one tuple, which a second walk over the rows of a group finds. Nothing else is kept.
+ghost use Rattle.std.specs.Prelude.{◌≡◌, ◌<◌, ◌++◌, [], ◌∷◌, Bool, List, OnOk, filter, map, refl, ⊤};
 ghost use Rattle.std.specs.Cmp.Lexicographic.{pointwise};
 ghost use Rattle.lookup_debug.specs.Appended.{AppendsPlaces};
-ghost use Rattle.lookup_debug.specs.Contributions.{Contribution, Place, amounts, contributions_at, nonzero, place_of};
+ghost use Rattle.lookup_debug.specs.Contributions.{Contribution, Place, contributions_at, nonzero, place_of};
 ghost use Rattle.lookup_debug.specs.Mismatch.{of_tuple};
 ghost use Rattle.lookup_generation.specs.TraceBuilder.{builder_layout, builder_window};
 ghost use Rattle.lookup_model.specs.Records.{AllFit, HasEqualLengths, IsWithin};
-ghost use Rattle.lookup_model.specs.Sent.{branches_at, flags_at, values};
+ghost use Rattle.lookup_model.specs.Sent.{values};
 
-use crate::contributions::flagged_amount;
+use crate::contributions::amount_of;
 use crate::fault::Location;
 use crate::walk::RowVisitor;
 use air::SymbolicExpression;
@@ -38,29 +38,6 @@ fn has_values<F: Field>(
         }
     }
     true
-}
-
-/// How much a lookup sends of one of its branches on the builder's row.
-fn amount_of<F: Field>(
-    lookup: &Lookup<F>,
-    branch: usize,
-    builder: &LookupTraceBuilder<'_, F, F>,
-) -> F
-    requires branch { branch < length lookup.now.elements.items }
-    requires lengths { HasEqualLengths lookup.now }
-    requires fits { IsWithin (builder_layout builder.now) lookup.now }
-    ensures { let w = builder_window builder.now in
-        slice_get (amounts F.ring (flags_at F.ring w lookup.now)
-        (branches_at F.ring w 0 lookup.now)) branch ≡ Some result }
-{
-    let multiplicity = &lookup.multiplicities[branch];
-    match &lookup.flags {
-        None => builder.value_of(multiplicity),
-        Some(flags) => {
-            let flag = &flags[branch];
-            flagged_amount(flag, multiplicity, builder)
-        }
-    }
 }
 
 /// Appends the location for each contribution of a tuple on the builder's row.

@@ -1,5 +1,5 @@
-//! The walk over what a group sends: the rows of its lookups, AIR by AIR. Both passes of the check
-//! take it.
+//! The walk over what a group sends: the rows of its lookups, AIR by AIR. Both passes of the check use
+//! it.
 ghost use Rattle.std.specs.Prelude.{◌≡◌, All, List, OnOk, Some, filter, map, slice_get};
 ghost use Rattle.std.specs.List.{flat_map};
 ghost use Rattle.std.specs.Option.{ForSome, option_copied};
@@ -19,16 +19,16 @@ use lookup_generation::{LookupTraceBuilder, row_builder};
 use lookup_model::Lookup;
 use std::alloc::{AllocError, Global};
 
-/// What is shown the rows of lookups, one after another.
+/// Visits the rows of lookups, one by one.
 ///
-/// `ready` says what holds of a visitor before each row. `does` says what becomes of it: from before some
-/// rows to after them, where these are their contributions.
+/// `ready` says what holds of a visitor before each row. `does before after contributions` says how a
+/// visitor changes over rows that send these contributions.
 pub(crate) trait RowVisitor<F: Field> {
     ghost ready: { Self → Type 0 };
 
     ghost does: { Self → Self → List (Contribution F) → Type 0 };
 
-    /// Takes in a lookup on the builder's row.
+    /// Visits a lookup on the builder's row.
     fn visit(
         &mut self,
         alloc: Global,
@@ -46,7 +46,7 @@ pub(crate) trait RowVisitor<F: Field> {
     ghost walks: { IsWalk ready does };
 }
 
-/// Shows a visitor the lookup at `place` of an AIR on all rows of its traces.
+/// Visits the lookup at `place` of an AIR on all rows of its traces.
 pub(crate) fn walk_lookup<F: Field, V: RowVisitor<F>>(
     alloc: Global,
     visitor: &mut V,
@@ -85,7 +85,7 @@ pub(crate) fn walk_lookup<F: Field, V: RowVisitor<F>>(
     Ok(())
 }
 
-/// Shows a visitor all lookups on a bus.
+/// Visits all lookups on a bus.
 pub(crate) fn walk_bus<F: Field, V: RowVisitor<F>>(
     alloc: Global,
     visitor: &mut V,
@@ -107,7 +107,7 @@ pub(crate) fn walk_bus<F: Field, V: RowVisitor<F>>(
     Ok(())
 }
 
-/// Shows a visitor the lookups of one AIR on a bus.
+/// Visits the lookups of one AIR on a bus.
 fn walk_bus_of<F: Field, V: RowVisitor<F>>(
     alloc: Global,
     visitor: &mut V,

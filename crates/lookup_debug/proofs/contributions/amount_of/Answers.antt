@@ -3,7 +3,7 @@ use Rattle.lookup_generation.specs.TraceBuilder.{builder_layout, builder_window}
 use Rattle.lookup_model.proofs.RecordLaws.{Fits-at}
 use Rattle.lookup_model.specs.Records.{AllFit, IsWithin}
 use Rattle.lookup_debug.proofs.AmountLaws.{size_counted, size_flagged}
-use Rattle.lookup_debug.proofs.places.amount_of.Goals as goal
+use Rattle.lookup_debug.proofs.contributions.amount_of.Goals as goal
 
 pub value_of-requires : goal.value_of-requires
 unfolding IsWithin
