@@ -6,6 +6,8 @@ ghost use Rattle.expressions.specs.Layout.{layout_of_traces};
 ghost use Rattle.lookup_model.specs.Records.{DoFit};
 
 mod shapes;
+#[cfg(test)]
+mod tests;
 
 use crate::shapes::{challenges_of, element, lookups_of, width_of};
 use air::AirLayout;

@@ -193,7 +193,7 @@ fn merged_tuples_keep_their_order(rt: HostRuntime) {
     let alloc = rt.alloc();
     let mut numbers = Vec::new(alloc);
     numbers.extend_from_slice(&[1, 1]).expect(&rt, "memory");
-    for _ in 0..70_001 {
+    for _ in 0..280_001 {
         numbers.extend_from_slice(&[0, 1]).expect(&rt, "memory");
     }
     let main = trace::<Alike>(&rt, alloc, numbers.as_slice(), 2);
