@@ -5,10 +5,11 @@ use Rattle.std.specs.declared.vec.Vec.{Vec}
 use Rattle.field.specs.Ring.{Ring}
 use Rattle.lookup_debug.specs.Arena.{AreWithin, amounts_in}
 use Rattle.lookup_debug.specs.Contributions.{Contribution, place_of}
-use Rattle.lookup_debug.specs.Mismatch.{of_tuple}
+use Rattle.lookup_debug.specs.Mismatch.{places}
 use Rattle.lookup_debug.specs.Nets.{amount_nets}
 use Rattle.lookup_debug.specs.declared.arena.Contributions.{Contributions}
 use Rattle.lookup_debug.specs.declared.fault.Location.{Location}
+use Rattle.lookup_debug.specs.declared.places.Places.{Places}
 
 -- a contribution without its place
 abbrev pub placeless : {F : Type 0} → Contribution F → List F × F
@@ -26,4 +27,9 @@ Collects {F} R eq before after more =
 -- After the earlier locations come the places of those of these contributions that have this tuple.
 abbrev pub AppendsPlaces : {F : Type 0} → Ring F → (F → F → Bool) → List F → Vec Location Global → Vec Location Global → List (Contribution F) → Type 0
 AppendsPlaces R eq tuple before after more =
-    map place_of after.items ≡ map place_of before.items ++ map (λ c. c.place) (of_tuple R eq more tuple)
+    map place_of after.items ≡ map place_of before.items ++ places R eq tuple more
+
+-- The tuple stays, and after its earlier places come those of these contributions.
+abbrev pub FindsPlaces : {F : Type 0} → Ring F → (F → F → Bool) → Places F → Places F → List (Contribution F) → Type 0
+FindsPlaces R eq before after more =
+    (after.tuple.now ≡ before.tuple.now) × AppendsPlaces R eq before.tuple.now before.locations after.locations more

@@ -1,11 +1,13 @@
 -- What lookups contribute to the balance of tuples.
-use Rattle.std.specs.Prelude.{ℕ, Bool, List, Option, None, Some, map, not}
+use Rattle.std.specs.Prelude.{◌≡◌, ℕ, All, Bool, List, Option, None, Some, map, not}
 use Rattle.std.specs.List.{filter, flat_map, range_with_len, zip}
-use Rattle.std.specs.Option.{option_copied}
+use Rattle.std.specs.Option.{ForSome, option_copied}
 use Rattle.matrix.specs.Matrix.{Matrix, height}
 use Rattle.field.specs.Ring.{Ring}
+use Rattle.expressions.specs.Layout.{layout_of_traces}
 use Rattle.expressions.specs.Window.{Window, window_at}
 use Rattle.lookup_model.specs.Message.{Message}
+use Rattle.lookup_model.specs.Records.{DoFit}
 use Rattle.lookup_model.specs.Sent.{branches_at, flags_at}
 use Rattle.lookup_model.specs.declared.types.Lookup.{Lookup}
 use Rattle.lookup_debug.specs.declared.fault.Location.{Location}
@@ -26,6 +28,16 @@ traced_of i = record {
   public_values = i.public_values.now;
   lookups = i.lookups.now;
 }
+
+-- The lookups fit the traces and the public values, and a preprocessed trace is as high as the main
+-- trace.
+pub record IsFitting {F : Type 0} (traced : Traced F) : Type 0 where
+  pub fit : DoFit (layout_of_traces traced.main traced.preprocessed traced.public_values) traced.lookups
+  pub heights : ForSome traced.preprocessed (λ m. height m ≡ height traced.main)
+
+-- each of these AIRs is so
+abbrev pub AreFitting : {F : Type 0} → List (LookupDebugInstance F) → Type 0
+AreFitting is = All (λ i. IsFitting (traced_of i)) is
 
 -- where a tuple is sent: the place of the AIR in its list, of the lookup in its AIR, and the row
 pub record Place : Type 0 where

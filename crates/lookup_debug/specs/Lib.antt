@@ -8,4 +8,5 @@ pub mod Least
 pub mod Mismatch
 pub mod Nets
 pub mod SentContributions
+pub mod Visits
 pub mod Walks

@@ -37,10 +37,15 @@ pub record HasParts {F : Type 0} (label : List ℕ) (tuple : List (List ℕ)) (n
   pub places_are : map place_of locations.items ≡ places
 
 module _ {F : Type 0} (R : Ring F) (eq : F → F → Bool) where
-  -- the contributions of a tuple, and its net
+  -- the contributions of a tuple
   abbrev pub of_tuple : List (Contribution F) → List F → List (Contribution F)
   of_tuple cs tuple = filter (λ c. pointwise eq tuple c.tuple) cs
 
+  -- where a tuple is sent
+  abbrev pub places : List F → List (Contribution F) → List Place
+  places tuple cs = map (λ c. c.place) (of_tuple cs tuple)
+
+  -- and its net
   abbrev pub net_amount : List (Contribution F) → List F → F
   net_amount cs tuple = sum_in R (map (λ c. c.amount) (of_tuple cs tuple))
 
@@ -69,7 +74,7 @@ module _ {F : Type 0} (R : Ring F) (eq : F → F → Bool) where
     pub record IsMismatchOf (label : List ℕ) (cs : List (Contribution F)) (fault : LookupFault F) : Type 0 where
       pub tuple : List F
       pub first : IsFirst cs tuple
-      pub fault_is : HasParts label (map text tuple) (net_amount cs tuple) (map (λ c. c.place) (of_tuple cs tuple)) fault
+      pub fault_is : HasParts label (map text tuple) (net_amount cs tuple) (places tuple cs) fault
 
     -- A fault is the mismatch of the first of some groups that has one.
     pub record IsFirstMismatch (gs : List (Group F)) (fault : LookupFault F) : Type 0 where

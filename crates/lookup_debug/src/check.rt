@@ -3,7 +3,7 @@ ghost use Rattle.std.specs.Prelude.{◌≡◌, ◌⊎◌, All, IfOk, MatchResult
 ghost use Rattle.std.specs.Option.{ForSome, option_copied};
 ghost use Rattle.expressions.specs.Layout.{layout_of_traces};
 ghost use Rattle.lookup_debug.specs.Checks.{AnswersGroup, AnswersGroups, local_groups_in};
-ghost use Rattle.lookup_debug.specs.Contributions.{contributions_of, place_of, traced_of};
+ghost use Rattle.lookup_debug.specs.Contributions.{AreFitting, IsFitting, contributions_of, place_of, traced_of};
 ghost use Rattle.lookup_debug.specs.Groups.{bus_group, bus_names, is_missing, local_groups, local_label};
 ghost use Rattle.lookup_debug.specs.Mismatch.{AllBalance, HasParts, IsMismatch};
 ghost use Rattle.lookup_model.specs.Outline.{bus_of};
@@ -56,10 +56,7 @@ fn check_locals<F: Field>(
     contributions: &mut Contributions<F>,
     instances: &[LookupDebugInstance<'_, F>],
 ) -> Result<(), LookupFault<F>>
-    requires fit { All (λ i. DoFit (layout_of_traces i.main_trace.now
-        (option_copied i.preprocessed_trace) i.public_values.now) i.lookups.now) instances.now }
-    requires heights { All (λ i. ForSome (option_copied i.preprocessed_trace)
-        (λ m. height m ≡ height i.main_trace.now)) instances.now }
+    requires { AreFitting instances.now }
     ensures { AnswersGroups F.ring F.eq F.text
         (local_groups F.ring F.eq (map traced_of instances.now)) result }
 {
@@ -76,11 +73,7 @@ fn check_locals_of<F: Field>(
     traced: &LookupDebugInstance<'_, F>,
     instance: usize,
 ) -> Result<(), LookupFault<F>>
-    requires fit { DoFit (layout_of_traces traced.now.main_trace.now
-        (option_copied traced.now.preprocessed_trace) traced.now.public_values.now)
-        traced.now.lookups.now }
-    requires heights { ForSome (option_copied traced.now.preprocessed_trace)
-        (λ m. height m ≡ height traced.now.main_trace.now) }
+    requires { IsFitting (traced_of traced.now) }
     ensures { AnswersGroups F.ring F.eq F.text
         (local_groups_in F.ring F.eq (instance, traced_of traced.now)) result }
 {
@@ -113,11 +106,7 @@ fn check_local<F: Field>(
     place: usize,
 ) -> Result<(), LookupFault<F>>
     requires there { slice_get traced.now.lookups.now place ≡ Some lookup.now }
-    requires fit { DoFit (layout_of_traces traced.now.main_trace.now
-        (option_copied traced.now.preprocessed_trace) traced.now.public_values.now)
-        traced.now.lookups.now }
-    requires heights { ForSome (option_copied traced.now.preprocessed_trace)
-        (λ m. height m ≡ height traced.now.main_trace.now) }
+    requires fit { IsFitting (traced_of traced.now) }
     ensures { AnswersGroup F.ring F.eq F.text (local_label instance place)
         (contributions_of F.ring F.eq instance place (traced_of traced.now) lookup.now) result }
 {
@@ -138,10 +127,7 @@ fn check_buses<F: Field>(
     contributions: &mut Contributions<F>,
     instances: &[LookupDebugInstance<'_, F>],
 ) -> Result<(), LookupFault<F>>
-    requires fit { All (λ i. DoFit (layout_of_traces i.main_trace.now
-        (option_copied i.preprocessed_trace) i.public_values.now) i.lookups.now) instances.now }
-    requires heights { All (λ i. ForSome (option_copied i.preprocessed_trace)
-        (λ m. height m ≡ height i.main_trace.now)) instances.now }
+    requires { AreFitting instances.now }
     ensures { let all = map traced_of instances.now in
         AnswersGroups F.ring F.eq F.text (map (bus_group F.ring F.eq all) (bus_names all)) result }
 {
@@ -159,10 +145,7 @@ fn check_bus<F: Field>(
     instances: &[LookupDebugInstance<'_, F>],
     name: &str,
 ) -> Result<(), LookupFault<F>>
-    requires fit { All (λ i. DoFit (layout_of_traces i.main_trace.now
-        (option_copied i.preprocessed_trace) i.public_values.now) i.lookups.now) instances.now }
-    requires heights { All (λ i. ForSome (option_copied i.preprocessed_trace)
-        (λ m. height m ≡ height i.main_trace.now)) instances.now }
+    requires { AreFitting instances.now }
     ensures { let group = bus_group F.ring F.eq (map traced_of instances.now) name.now in
         AnswersGroup F.ring F.eq F.text group.label group.contributions result }
 {

@@ -1,11 +1,11 @@
 //! What a lookup contributes, row by row.
-ghost use Rattle.std.specs.Prelude.{◌≡◌, ◌<◌, ◌++◌, [], ◌∷◌, Some, List, OnOk, length, map, slice_get};
+ghost use Rattle.std.specs.Prelude.{◌≡◌, ◌<◌, ◌++◌, [], ◌∷◌, Some, OnOk, length, slice_get};
 ghost use Rattle.expressions.specs.Layout.{Fits};
 ghost use Rattle.expressions.specs.Tree.{tree_of};
-ghost use Rattle.lookup_debug.specs.Appended.{Appends, Collects, placeless};
-ghost use Rattle.lookup_debug.specs.Arena.{AreWithin, amounts_in};
-ghost use Rattle.lookup_debug.specs.Contributions.{Contribution, Place, amounts, contributions_at, nonzero};
-ghost use Rattle.lookup_debug.specs.Nets.{amount_nets};
+ghost use Rattle.lookup_debug.specs.Appended.{Appends, Collects};
+ghost use Rattle.lookup_debug.specs.Arena.{AreWithin};
+ghost use Rattle.lookup_debug.specs.Contributions.{Place, amounts, contributions_at, nonzero};
+ghost use Rattle.lookup_debug.specs.Visits.{collects_walk};
 ghost use Rattle.lookup_generation.specs.TraceBuilder.{builder_layout, builder_window};
 ghost use Rattle.lookup_model.specs.Records.{AllFit, HasEqualLengths, IsWithin};
 ghost use Rattle.lookup_model.specs.Sent.{branches_at, flags_at, value, values};
@@ -123,28 +123,11 @@ fn push_on_row<F: Field>(
 }
 
 impl<F: Field> RowVisitor<F> for Contributions<F> {
-    ghost use Rattle.std.proofs.Common.{append_assoc, subst, sym};
-    ghost use Rattle.std.proofs.lemmas.List.{append-nil};
-
     ghost ready = { AreWithin };
 
     ghost does = { Collects F.ring F.eq };
 
-    ghost walks = { record {
-      leaves = λ a b xs done. done.0;
-      rests = λ a within. (
-        within,
-        λ cs same. subst
-            (λ (ds : List (Contribution F)). amount_nets F.ring F.eq (amounts_in a) ≡ amount_nets F.ring F.eq (map placeless ds))
-            (sym (append-nil cs)) same,
-      );
-      joins = λ a b c xs ys first then. (
-        then.0,
-        λ cs same. subst
-            (λ (ds : List (Contribution F)). amount_nets F.ring F.eq (amounts_in c) ≡ amount_nets F.ring F.eq (map placeless ds))
-            (append_assoc cs xs ys) (then.1 (cs ++ xs) (first.1 cs same)),
-      );
-    } };
+    ghost walks = { collects_walk F.ring F.eq };
 
     /// Appends what the lookup contributes on the builder's row, and then merges equal tuples at the
     /// limit.

@@ -1,9 +1,9 @@
 //! The places of one tuple, which a second walk over the rows of a group finds. Nothing else is kept.
-ghost use Rattle.std.specs.Prelude.{◌≡◌, ◌<◌, ◌++◌, [], ◌∷◌, Bool, List, OnOk, filter, map, refl, ⊤};
+ghost use Rattle.std.specs.Prelude.{◌≡◌, ◌++◌, [], ◌∷◌, List, OnOk, map, ⊤};
 ghost use Rattle.std.specs.Cmp.Lexicographic.{pointwise};
-ghost use Rattle.lookup_debug.specs.Appended.{AppendsPlaces};
-ghost use Rattle.lookup_debug.specs.Contributions.{Contribution, Place, contributions_at, nonzero, place_of};
-ghost use Rattle.lookup_debug.specs.Mismatch.{of_tuple};
+ghost use Rattle.lookup_debug.specs.Appended.{AppendsPlaces, FindsPlaces};
+ghost use Rattle.lookup_debug.specs.Contributions.{contributions_at, nonzero, place_of};
+ghost use Rattle.lookup_debug.specs.Visits.{places_walk};
 ghost use Rattle.lookup_generation.specs.TraceBuilder.{builder_layout, builder_window};
 ghost use Rattle.lookup_model.specs.Records.{AllFit, HasEqualLengths, IsWithin};
 ghost use Rattle.lookup_model.specs.Sent.{values};
@@ -112,31 +112,11 @@ impl<'a, F> Places<'a, F> {
 }
 
 impl<F: Field> RowVisitor<F> for Places<'_, F> {
-    ghost use Rattle.std.proofs.Common.{◌∙◌, ap, append_assoc, subst, sym};
-    ghost use Rattle.std.proofs.lemmas.List.{append-nil, map-append};
-    ghost use Rattle.std.proofs.lemmas.List.Elements.{filter-append};
-
     ghost ready = { λ _. ⊤ };
 
-    ghost does = { λ a b cs. (b.tuple.now ≡ a.tuple.now)
-        × AppendsPlaces F.ring F.eq a.tuple.now a.locations b.locations cs };
+    ghost does = { FindsPlaces F.ring F.eq };
 
-    ghost walks = { record {
-      leaves = λ a b xs done. tt;
-      rests = λ a ready. (refl, sym (append-nil (map place_of a.locations.items)));
-      joins = λ a b c xs ys first then.
-          let old = map place_of a.locations.items in
-          let tuple = a.tuple.now in
-          let has_tuple : Contribution F → Bool = λ k. pointwise F.eq tuple k.tuple in
-          let place : Contribution F → Place = λ k. k.place in
-          let places : List (Contribution F) → List Place = λ ks. map place (of_tuple F.ring F.eq ks tuple) in (
-            then.0 ∙ first.0,
-            subst (λ t. AppendsPlaces F.ring F.eq t b.locations c.locations ys) first.0 then.1
-                ∙ ap (λ ps. ps ++ places ys) first.1
-                ∙ append_assoc old (places xs) (places ys)
-                ∙ ap (λ ps. old ++ ps) (sym (ap (map place) (filter-append has_tuple xs ys) ∙ map-append place (filter has_tuple xs) (filter has_tuple ys))),
-          );
-    } };
+    ghost walks = { places_walk F.ring F.eq };
 
     /// Appends the places of the tuple on the builder's row.
     fn visit(

@@ -1,15 +1,12 @@
 //! The walk over what a group sends: the rows of its lookups, AIR by AIR. Both passes of the check use
 //! it.
-ghost use Rattle.std.specs.Prelude.{◌≡◌, All, List, OnOk, Some, filter, map, slice_get};
+ghost use Rattle.std.specs.Prelude.{◌≡◌, List, OnOk, Some, filter, map, slice_get};
 ghost use Rattle.std.specs.List.{flat_map};
-ghost use Rattle.std.specs.Option.{ForSome, option_copied};
-ghost use Rattle.expressions.specs.Layout.{layout_of_traces};
-ghost use Rattle.lookup_debug.specs.Contributions.{Contribution, contributions_at, contributions_of, place_of, traced_of};
+ghost use Rattle.lookup_debug.specs.Contributions.{AreFitting, Contribution, IsFitting, contributions_at, contributions_of, place_of, traced_of};
 ghost use Rattle.lookup_debug.specs.Groups.{is_on, placed, placed_contributions, placed_in};
 ghost use Rattle.lookup_debug.specs.Walks.{IsWalk};
 ghost use Rattle.lookup_generation.specs.TraceBuilder.{builder_layout, builder_window};
-ghost use Rattle.lookup_model.specs.Records.{DoFit, HasEqualLengths, IsWithin};
-ghost use Rattle.matrix.specs.Matrix.{height};
+ghost use Rattle.lookup_model.specs.Records.{HasEqualLengths, IsWithin};
 
 use crate::fault::Location;
 use crate::groups::is_on_bus;
@@ -57,11 +54,7 @@ pub(crate) fn walk_lookup<F: Field, V: RowVisitor<F>>(
 ) -> Result<(), AllocError>
     requires ready { V.ready visitor.now }
     requires there { slice_get traced.now.lookups.now place ≡ Some lookup.now }
-    requires fit { DoFit (layout_of_traces traced.now.main_trace.now
-        (option_copied traced.now.preprocessed_trace) traced.now.public_values.now)
-        traced.now.lookups.now }
-    requires heights { ForSome (option_copied traced.now.preprocessed_trace)
-        (λ m. height m ≡ height traced.now.main_trace.now) }
+    requires fit { IsFitting (traced_of traced.now) }
     ensures { OnOk result (V.does visitor.old visitor.new
         (contributions_of F.ring F.eq instance place (traced_of traced.now) lookup.now)) }
 {
@@ -93,10 +86,7 @@ pub(crate) fn walk_bus<F: Field, V: RowVisitor<F>>(
     name: &str,
 ) -> Result<(), AllocError>
     requires ready { V.ready visitor.now }
-    requires fit { All (λ i. DoFit (layout_of_traces i.main_trace.now
-        (option_copied i.preprocessed_trace) i.public_values.now) i.lookups.now) instances.now }
-    requires heights { All (λ i. ForSome (option_copied i.preprocessed_trace)
-        (λ m. height m ≡ height i.main_trace.now)) instances.now }
+    requires fit { AreFitting instances.now }
     ensures { OnOk result (V.does visitor.old visitor.new
         (flat_map (placed_contributions F.ring F.eq)
         (filter (is_on name.now) (placed (map traced_of instances.now))))) }
@@ -116,11 +106,7 @@ fn walk_bus_of<F: Field, V: RowVisitor<F>>(
     name: &str,
 ) -> Result<(), AllocError>
     requires ready { V.ready visitor.now }
-    requires fit { DoFit (layout_of_traces traced.now.main_trace.now
-        (option_copied traced.now.preprocessed_trace) traced.now.public_values.now)
-        traced.now.lookups.now }
-    requires heights { ForSome (option_copied traced.now.preprocessed_trace)
-        (λ m. height m ≡ height traced.now.main_trace.now) }
+    requires fit { IsFitting (traced_of traced.now) }
     ensures { OnOk result (V.does visitor.old visitor.new
         (flat_map (placed_contributions F.ring F.eq)
         (filter (is_on name.now) (placed_in (instance, traced_of traced.now))))) }

@@ -1,7 +1,7 @@
 use Rattle.std.proofs.Common.{◌++◌, [], inr, map, string_bytes, subst, ap, ◌∙◌}
 use Rattle.lookup_debug.specs.Contributions.{place_of, traced_of}
 use Rattle.lookup_debug.specs.Groups.{bus_group, bus_label}
-use Rattle.lookup_debug.specs.Mismatch.{of_tuple}
+use Rattle.lookup_debug.specs.Mismatch.{places}
 use Rattle.lookup_debug.specs.Nets.{amount_nets}
 use Rattle.lookup_debug.proofs.MismatchLaws.{IsFound, mismatch_of}
 use Rattle.lookup_debug.proofs.check.check_bus.Goals as goal
@@ -25,5 +25,5 @@ returns g c =
     let found = subst (IsFound R eq text cs) c.in-Some.is (c.in_ok-found.ensures cs same) in
     inr (mismatch_of R eq text (string_bytes c.in_ok-label.label) label cs c.in-Some.found.0.now c.in-Some.found.1 (map place_of c.into_locations.result.items) c.in_ok-mismatch.field-0
     c.in_ok-label.ensures found
-    (ap (λ ls. map place_of ls.items) c.into_locations.ensures ∙ c.in_ok-walk_bus-2.ensures.1 ∙ (λ i. map place_of (c.new-places.ensures.empty i) ++ map (λ k. k.place) (of_tuple R eq cs (c.new-places.ensures.tuple i))))
+    (ap (λ ls. map place_of ls.items) c.into_locations.ensures ∙ c.in_ok-walk_bus-2.ensures.1 ∙ (λ i. map place_of (c.new-places.ensures.empty i) ++ places R eq (c.new-places.ensures.tuple i) cs))
     c.in_ok-mismatch.ensures)

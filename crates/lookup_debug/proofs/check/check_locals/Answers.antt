@@ -1,19 +1,16 @@
 use Rattle.std.proofs.Common.{inl, inr, map, subst, sym, arith}
 use Rattle.std.proofs.lemmas.List.{length-map}
 use Rattle.std.proofs.lemmas.Result.{err_from_is_err_and}
-use Rattle.std.specs.Option.{option_copied}
-use Rattle.expressions.specs.Layout.{layout_of_traces}
-use Rattle.lookup_model.specs.Records.{DoFit}
-use Rattle.lookup_debug.specs.Contributions.{traced_of}
+use Rattle.lookup_debug.specs.Contributions.{IsFitting, traced_of}
 use Rattle.lookup_debug.specs.declared.instance.LookupDebugInstance.{LookupDebugInstance}
 use Rattle.lookup_debug.proofs.PlacedLaws.{air_balances, air_mismatch, airs_balance, traced_at}
 use Rattle.lookup_debug.proofs.check.check_locals.Goals as goal
 
-pub check_locals_of-requires-clause-fit : goal.check_locals_of-requires-clause-fit
-check_locals_of-requires-clause-fit g c =
+pub check_locals_of-requires : goal.check_locals_of-requires
+check_locals_of-requires g c =
     let item = c.index-instances-instance in
-    subst (λ (i : LookupDebugInstance _). DoFit (layout_of_traces i.main_trace.now (option_copied i.preprocessed_trace) i.public_values.now) i.lookups.now) (sym item.is)
-    (c.requires.fit c.loop-instance.instance item.result c.loop-instance-test.true)
+    subst (λ (i : LookupDebugInstance _). IsFitting (traced_of i)) (sym item.is)
+    (c.requires c.loop-instance.instance item.result c.loop-instance-test.true)
 
 pub returns-in_err-check_locals_of : goal.returns-in_err-check_locals_of
 returns-in_err-check_locals_of g c =

@@ -5,6 +5,12 @@ use Rattle.lookup_debug.specs.Groups.{bus_group, bus_names, local_groups}
 use Rattle.lookup_debug.proofs.GroupSteps.{answers-after, mismatch-sooner}
 use Rattle.lookup_debug.proofs.check.check_lookups.Goals as goal
 
+pub check_locals-requires : goal.check_locals-requires
+check_locals-requires g c = λ n d lt. record { fit = c.requires.fit n d lt; heights = c.requires.heights n d lt }
+
+pub check_buses-requires : goal.check_buses-requires
+check_buses-requires g c = λ n d lt. record { fit = c.requires.fit n d lt; heights = c.requires.heights n d lt }
+
 pub returns-in_err-check_locals : goal.returns-in_err-check_locals
 returns-in_err-check_locals g c =
     let R = g.F.PrimeCharacteristicRing.ring in

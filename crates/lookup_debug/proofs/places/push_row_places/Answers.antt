@@ -7,8 +7,9 @@ use Rattle.lookup_model.proofs.RecordLaws.{All-at}
 use Rattle.lookup_model.specs.Records.{AllFit, IsWithin}
 use Rattle.lookup_model.specs.Sent.{branches_at, flags_at, values}
 use Rattle.lookup_debug.specs.Contributions.{Contribution, amounts, contributions_from, nonzero, place_of}
+use Rattle.lookup_debug.specs.Mismatch.{places}
 use Rattle.lookup_debug.proofs.AmountLaws.{length-sized, size_there, sized_more}
-use Rattle.lookup_debug.proofs.PlaceLaws.{other_step, own_step, places}
+use Rattle.lookup_debug.proofs.PlaceLaws.{other_step, own_step}
 use Rattle.lookup_debug.proofs.places.push_row_places.Goals.{else-has_values, then-has_values+in_ok-push_nonzero}
 use Rattle.lookup_debug.proofs.places.push_row_places.Goals as goal
 

@@ -20,9 +20,6 @@ walk_lookup-requires-clause-there g c =
 pub walk_lookup-requires-clause-fit : goal.walk_lookup-requires-clause-fit
 walk_lookup-requires-clause-fit g c = c.requires.fit
 
-pub walk_lookup-requires-clause-heights : goal.walk_lookup-requires-clause-heights
-walk_lookup-requires-clause-heights g c = c.requires.heights
-
 pub loop-place-init : goal.loop-place-init
 loop-place-init g c = g.met.V.RowVisitor.walks.rests c.args.visitor.now c.requires.ready
 
