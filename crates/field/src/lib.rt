@@ -17,7 +17,7 @@ mod traits;
 
 pub use baby_bear::BabyBear;
 pub use baby_bear4::BabyBear4;
-pub use batch_inverse::batch_multiplicative_inverse;
+pub use batch_inverse::{batch_multiplicative_inverse, batch_multiplicative_inverse_into};
 pub use integers_modulo_2::F2;
 pub use integers_modulo_7::F7;
 pub use inverter::{InverseCount, Inverter};

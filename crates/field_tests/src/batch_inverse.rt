@@ -2,7 +2,10 @@ ghost use Rattle.std.specs.Prelude.{◌≢◌, IfOk, All};
 ghost use Rattle.field.specs.IntegersModulo7.{f7_ring};
 
 use crate::cases::{holds, holds_at};
-use field::{BabyBear4, Domain, F7, Field, InverseCount, batch_multiplicative_inverse};
+use field::{
+    BabyBear4, Domain, F7, Field, InverseCount, batch_multiplicative_inverse,
+    batch_multiplicative_inverse_into,
+};
 use std::alloc::{AllocError, Global};
 
 /// Nine elements modulo 7, and the inverse of each: 2 * 4 and 3 * 5 are 8 and 15, and 6 * 6 is 36.
@@ -24,13 +27,18 @@ fn three_units() -> [F7; 3]
     [F7::new(2), F7::new(3), F7::new(4)]
 }
 
-/// Whether the inverses of a list are these, by so many counted inverses.
+/// Whether the inverses of a list are these, by so many counted inverses, both in a new list and in place
+/// of what a list holds.
 fn has_inverses<K: Field>(alloc: Global, xs: &[K], wanted: &[K], calls: u64) -> bool
     requires { All (λ x. x ≢ K.ring.zero) xs.now }
 {
-    let mut count = InverseCount::new();
+    let (mut count, mut again) = (InverseCount::new(), InverseCount::new());
     match batch_multiplicative_inverse(alloc, xs, &mut count) {
-        Ok(inverses) => inverses.as_slice() == wanted && count.get() == calls,
+        Ok(mut inverses) => {
+            let are_these = inverses.as_slice() == wanted && count.get() == calls;
+            let put = batch_multiplicative_inverse_into(xs, &mut inverses, &mut again);
+            are_these && put.is_ok() && inverses.as_slice() == wanted && again.get() == calls
+        }
         Err(_) => false,
     }
 }

@@ -14,6 +14,7 @@ use Rattle.lookup_model.specs.Sent.{Sent, branch_at, sent, sent_at, value, value
 use Rattle.lookup_model.specs.Trace.{sent_row_under}
 use Rattle.lookup_model.specs.declared.error.LookupError.{LookupError}
 use Rattle.lookup_model.specs.declared.types.Lookup.{Lookup}
+use Rattle.lookup_packing.proofs.JoinedMessages.{zip_mapped}
 use Rattle.lookup_builder.specs.Interaction.{ExclusiveInteraction, GlobalInteraction, Interaction, Tuple, exclusive, global, local}
 use Rattle.lookup_record.specs.RecordedAir.{RecordedAir, no_air_recorded, with_interaction}
 use Rattle.lookup.specs.Extraction.{IsFaultless, IsFirstLocalRefusal, IsLocalRefusal, exclusive_at, extraction, global_at, in_columns, local_at, tuple_widths}
@@ -59,12 +60,6 @@ module _ {E : Type 0} where
       behind =
           sym (outlines_append (length locals) (map global globals) (map exclusive exclusives)
           ∙ ap (λ k. outlines_from (length locals) (map global globals) ++ outlines_from (length locals + k) (map exclusive exclusives)) (length-map globals global))
-
--- pairs with a map of the first items
-zip_mapped : {A B C D : Type 0} (f : A → B) (g : B → C → D) (xs : List A) (ys : List C) → map (λ p. g (f p.0) p.1) (zip xs ys) ≡ map (λ p. g p.0 p.1) (zip (map f xs) ys)
-zip_mapped f g [] ys = refl
-zip_mapped f g (x ∷ xs) [] = refl
-zip_mapped f g (x ∷ xs) (y ∷ ys) = ap (λ t. g (f x) y ∷ t) (zip_mapped f g xs ys)
 
 -- pairs of two maps of one list
 zip_of_maps : {T A B C : Type 0} (f : T → A) (g : T → B) (h : A → B → C) (ts : List T) → map (λ p. h p.0 p.1) (zip (map f ts) (map g ts)) ≡ map (λ t. h (f t) (g t)) ts

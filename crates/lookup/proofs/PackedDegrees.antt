@@ -12,15 +12,11 @@ use Rattle.lookup_packing.specs.Buses.{bus_names, on_bus}
 use Rattle.lookup_packing.specs.Cuts.{AreClosed, IsGrown}
 use Rattle.lookup_packing.specs.Fewest.{AnswersDegree, HasFewestColumns, outline_degree}
 use Rattle.lookup_packing.specs.Packing.{additive, AreFilled, IsAbove, IsFilling, IsStuck, Joins, Packs}
+use Rattle.lookup_packing.proofs.JoinedMessages.{zip_mapped}
 
 flags_degrees : {F : Type 0} {V : Type 0} (items : V → List (SymbolicExpression F)) (flags : Option V) → option_map (λ fs. map (expression_degree 0) (items fs)) flags ≡ option_map (λ fs. map (expression_degree 0) fs) (option_map items flags)
 flags_degrees items None = refl
 flags_degrees items (Some fs) = refl
-
-zip_mapped : {A B C D : Type 0} (f : A → B) (g : B → C → D) (xs : List A) (ys : List C) → map (λ b. g (f b.0) b.1) (zip xs ys) ≡ map (λ b. g b.0 b.1) (zip (map f xs) ys)
-zip_mapped f g [] ys = refl
-zip_mapped f g (x ∷ xs) [] = refl
-zip_mapped f g (x ∷ xs) (y ∷ ys) = ap (λ t. g (f x) y ∷ t) (zip_mapped f g xs ys)
 
 -- the degree of a lookup is that of its fields
 pub same_degree : {F : Type 0} (l : Lookup F) (o : Outline (SymbolicExpression F)) → fields_of l ≡ o → lookup_degree 0 l ≡ outline_degree o

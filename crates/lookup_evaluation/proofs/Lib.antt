@@ -1,3 +1,2 @@
 pub mod Accumulators
 pub mod AssertedLaws
-pub mod CellLaws

@@ -7,7 +7,7 @@ use expressions::PermutationAirBuilder;
 use matrix::WindowAccess;
 
 /// The challenges of a column: its alpha and its beta.
-#[tactic(auto, using(crate::proofs::CellLaws::reads_at))]
+#[tactic(auto, using(expressions::proofs::Cells::reads_at))]
 pub(crate) fn column_challenges<AB: PermutationAirBuilder>(
     builder: &AB,
     column: usize,
@@ -30,7 +30,7 @@ pub(crate) fn column_challenges<AB: PermutationAirBuilder>(
 }
 
 /// The terminal, which is the first permutation value.
-#[tactic(auto, using(crate::proofs::CellLaws::reads_at))]
+#[tactic(auto, using(expressions::proofs::Cells::reads_at))]
 pub fn terminal<AB: PermutationAirBuilder>(builder: &AB) -> AB::ExprEF
     requires { 0 < (AB.layout builder.now).num_permutation_values }
     ensures means { (w : ExtWindow AB.F AB.EF) → AB.stands_for_ext builder.now w
@@ -42,7 +42,7 @@ pub fn terminal<AB: PermutationAirBuilder>(builder: &AB) -> AB::ExprEF
 }
 
 /// The accumulator on the current row.
-#[tactic(auto, using(crate::proofs::CellLaws::reads_at))]
+#[tactic(auto, using(expressions::proofs::Cells::reads_at))]
 pub(crate) fn accumulator_cell<AB: PermutationAirBuilder>(
     builder: &AB,
     permutation: &AB::MP,
@@ -60,7 +60,7 @@ pub(crate) fn accumulator_cell<AB: PermutationAirBuilder>(
 }
 
 /// The accumulator on the next row.
-#[tactic(auto, using(crate::proofs::CellLaws::reads_at))]
+#[tactic(auto, using(expressions::proofs::Cells::reads_at))]
 pub(crate) fn next_accumulator_cell<AB: PermutationAirBuilder>(
     builder: &AB,
     permutation: &AB::MP,
@@ -79,7 +79,7 @@ pub(crate) fn next_accumulator_cell<AB: PermutationAirBuilder>(
 }
 
 /// The fraction of the lookup in `column`, on the current row.
-#[tactic(auto, using(crate::proofs::CellLaws::reads_at))]
+#[tactic(auto, using(expressions::proofs::Cells::reads_at))]
 pub(crate) fn fraction_cell<AB: PermutationAirBuilder>(
     builder: &AB,
     permutation: &AB::MP,

@@ -3,7 +3,7 @@ ghost use Rattle.std.specs.Prelude.{◌≡◌, ◌≢◌, ◌≤◌, ◌+◌, �
 ghost use Rattle.std.specs.List.{AllByRecursion, AllZip, list_all, zip};
 ghost use Rattle.lookup_generation.specs.Fraction.{IsRatio};
 
-use field::{Domain, ExtensionDomain, Field, Inverter, batch_multiplicative_inverse};
+use field::{Domain, ExtensionDomain, Field, Inverter, batch_multiplicative_inverse_into};
 use lookup_columns::Spare;
 use std::alloc::{AllocError, Global};
 
@@ -85,9 +85,11 @@ pub(crate) fn values_of<K: Domain, I: Inverter<K>>(
         return Ok(values);
     }
     push_denominators(&mut values, ratios)?;
-    let inverses = batch_multiplicative_inverse(alloc, &values, inverter)?;
+    let mut inverses = spare.take(alloc, ratios.len())?;
+    batch_multiplicative_inverse_into(&values, &mut inverses, inverter)?;
     values.clear();
     push_products(&mut values, ratios, &inverses)?;
+    spare.put(inverses)?;
     Ok(values)
 }
 

@@ -5,6 +5,7 @@ pub mod ConstraintLaws
 pub mod DegreeBounds
 pub mod Degrees
 pub mod HornerRule
+pub mod Lawful
 pub mod Prefixes
 pub mod RecordLaws
 pub mod SumLaws

@@ -1,11 +1,9 @@
 //! Which lookups fit the traces of an AIR.
 ghost use Rattle.std.specs.Prelude.{◌↔◌, All, IsTrue, IfSome, MatchOption};
-ghost use Rattle.expressions.specs.Layout.{EntryFits, Fits};
-ghost use Rattle.expressions.specs.Tree.{tree_of};
 ghost use Rattle.lookup_model.specs.Records.{AllFit, AreRecords, DoFit, HasEqualLengths, IsFirstMalformed, IsRecordAt, IsWithin};
 
 use crate::types::Lookup;
-use expressions::{AirLayout, BaseEntry, BaseLeaf, SymbolicExpression};
+use expressions::{AirLayout, SymbolicExpression};
 
 /// Whether lookups fit an AIR of this layout:
 ///
@@ -83,36 +81,5 @@ fn flags_fit<F>(flags: &Option<Vec<SymbolicExpression<F>>>, layout: &AirLayout) 
 fn all_fit<F>(expressions: &[SymbolicExpression<F>], layout: &AirLayout) -> bool
     ensures { IsTrue result ↔ AllFit layout.now expressions.now }
 {
-    expressions
-        .iter()
-        .all(|expression| expression_fits(expression, layout))
-}
-
-fn expression_fits<F>(expression: &SymbolicExpression<F>, layout: &AirLayout) -> bool
-    ensures { IsTrue result ↔ Fits layout.now (tree_of expression.now) }
-{
-    match expression {
-        SymbolicExpression::Leaf(BaseLeaf::Variable(variable)) => entry_fits(
-            variable.entry,
-            variable.index,
-            layout,
-        ),
-        SymbolicExpression::Leaf(_) => true,
-        SymbolicExpression::Add(a, b)
-        | SymbolicExpression::Sub(a, b)
-        | SymbolicExpression::Mul(a, b) => {
-            expression_fits(a, layout) && expression_fits(b, layout)
-        }
-        SymbolicExpression::Neg(a) => expression_fits(a, layout),
-    }
-}
-
-fn entry_fits(entry: BaseEntry, index: usize, layout: &AirLayout) -> bool
-    ensures { IsTrue result ↔ EntryFits layout.now entry index }
-{
-    match entry {
-        BaseEntry::Preprocessed { offset } => offset <= 1 && index < layout.preprocessed_width,
-        BaseEntry::Main { offset } => offset <= 1 && index < layout.main_width,
-        BaseEntry::Public => index < layout.num_public_values,
-    }
+    expressions.iter().all(|expression| expression.fits(layout))
 }

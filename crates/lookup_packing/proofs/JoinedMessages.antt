@@ -20,12 +20,14 @@ use Rattle.lookup_packing.proofs.FewestColumns.{IsOn, IsPlain, members_on, zip-a
 use Rattle.lookup_packing.proofs.GroupLaws.{same_name-Decides}
 use Rattle.lookup_packing.proofs.ListLaws.{all_back, all_front}
 
-zip_mapped : {A B C D : Type 0} (f : A → B) (g : B → C → D) (xs : List A) (ys : List C) → map (λ b. g (f b.0) b.1) (zip xs ys) ≡ map (λ b. g b.0 b.1) (zip (map f xs) ys)
+-- pairs with a map of the first items
+pub zip_mapped : {A B C D : Type 0} (f : A → B) (g : B → C → D) (xs : List A) (ys : List C) → map (λ b. g (f b.0) b.1) (zip xs ys) ≡ map (λ b. g b.0 b.1) (zip (map f xs) ys)
 zip_mapped f g [] ys = refl
 zip_mapped f g (x ∷ xs) [] = refl
 zip_mapped f g (x ∷ xs) (y ∷ ys) = ap (λ t. g (f x) y ∷ t) (zip_mapped f g xs ys)
 
-option_mapped : {A B C : Type 0} (f : A → B) (g : B → C) (o : Option A) → option_map (λ x. g (f x)) o ≡ option_map g (option_map f o)
+-- a map of a mapped option
+pub option_mapped : {A B C : Type 0} (f : A → B) (g : B → C) (o : Option A) → option_map (λ x. g (f x)) o ≡ option_map g (option_map f o)
 option_mapped f g None = refl
 option_mapped f g (Some x) = refl
 

@@ -3,7 +3,7 @@ mod FewestParts
 mod FillLaws
 mod GroupLaws
 mod JoinedDegrees
-mod JoinedMessages
+pub mod JoinedMessages
 mod ListLaws
 pub mod OneLookup
 pub mod RecordLaws

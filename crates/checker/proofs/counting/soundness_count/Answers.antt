@@ -2,6 +2,7 @@ use Rattle.std.proofs.Common.{◌≡◌, ℕ, inr, length, subst, subst₂, sym,
 use Rattle.std.proofs.lemmas.Result.{MatchResult-weaker}
 use Rattle.field.specs.Characteristic.{HasCharacteristic}
 use Rattle.lookup_model.specs.Extension.{extension, IsLawful}
+use Rattle.lookup_model.proofs.Lawful.{lawful_extension}
 use Rattle.lookup_model.specs.Net.{keys, unbalanced_keys}
 use Rattle.lookup_generation.specs.SentMessages.{messages_of}
 use Rattle.batch_model.specs.Counts.{FewAcceptingAlphas, FewBadBetas, FewSharingBetas, message_count, unbalanced_count}
@@ -31,15 +32,7 @@ returns-clause-answer g c =
 pub returns-clause-few_sharing_betas : goal.returns-clause-few_sharing_betas
 returns-clause-few_sharing_betas g c =
     let E = extension g.F.PrimeCharacteristicRing.ring g.F.PartialEq.eq g.EF.PrimeCharacteristicRing.ring g.EF.PartialEq.eq g.EF.ExtensionDomain.embed g.EF.Field.inverse in
-    let laws : IsLawful E = record {
-      base = g.F.PrimeCharacteristicRing.lawful;
-      base_eq = g.met.F.PrimeCharacteristicRing.eq_is;
-      ring = g.EF.PrimeCharacteristicRing.lawful;
-      domain = g.met.EF.Domain.domain;
-      eq = g.met.EF.PrimeCharacteristicRing.eq_is;
-      embeds = g.met.EF.ExtensionDomain.embeds;
-      inverse = g.met.EF.Field.inverse_is;
-    } in
+    let laws : IsLawful E = lawful_extension g.F.PrimeCharacteristicRing.lawful g.met.F.PrimeCharacteristicRing.eq_is g.EF.PrimeCharacteristicRing.lawful g.met.EF.Domain.domain g.met.EF.PrimeCharacteristicRing.eq_is g.met.EF.ExtensionDomain.embeds g.met.EF.Field.inverse_is in
     let char : HasCharacteristic E.ring g.F.PrimeCharacteristicRing.CHARACTERISTIC =
     subst (HasCharacteristic E.ring) (sym g.met.EF.ExtensionDomain.same_characteristic) g.met.EF.PrimeCharacteristicRing.characteristic in
     let instances = instances_of c.args.instances.now in
@@ -50,15 +43,7 @@ returns-clause-few_sharing_betas g c =
 pub returns-clause-few_accepting_alphas : goal.returns-clause-few_accepting_alphas
 returns-clause-few_accepting_alphas g c =
     let E = extension g.F.PrimeCharacteristicRing.ring g.F.PartialEq.eq g.EF.PrimeCharacteristicRing.ring g.EF.PartialEq.eq g.EF.ExtensionDomain.embed g.EF.Field.inverse in
-    let laws : IsLawful E = record {
-      base = g.F.PrimeCharacteristicRing.lawful;
-      base_eq = g.met.F.PrimeCharacteristicRing.eq_is;
-      ring = g.EF.PrimeCharacteristicRing.lawful;
-      domain = g.met.EF.Domain.domain;
-      eq = g.met.EF.PrimeCharacteristicRing.eq_is;
-      embeds = g.met.EF.ExtensionDomain.embeds;
-      inverse = g.met.EF.Field.inverse_is;
-    } in
+    let laws : IsLawful E = lawful_extension g.F.PrimeCharacteristicRing.lawful g.met.F.PrimeCharacteristicRing.eq_is g.EF.PrimeCharacteristicRing.lawful g.met.EF.Domain.domain g.met.EF.PrimeCharacteristicRing.eq_is g.met.EF.ExtensionDomain.embeds g.met.EF.Field.inverse_is in
     let char : HasCharacteristic E.ring g.F.PrimeCharacteristicRing.CHARACTERISTIC =
     subst (HasCharacteristic E.ring) (sym g.met.EF.ExtensionDomain.same_characteristic) g.met.EF.PrimeCharacteristicRing.characteristic in
     let instances = instances_of c.args.instances.now in
@@ -69,15 +54,7 @@ returns-clause-few_accepting_alphas g c =
 pub returns-clause-few_bad_betas : goal.returns-clause-few_bad_betas
 returns-clause-few_bad_betas g c =
     let E = extension g.F.PrimeCharacteristicRing.ring g.F.PartialEq.eq g.EF.PrimeCharacteristicRing.ring g.EF.PartialEq.eq g.EF.ExtensionDomain.embed g.EF.Field.inverse in
-    let laws : IsLawful E = record {
-      base = g.F.PrimeCharacteristicRing.lawful;
-      base_eq = g.met.F.PrimeCharacteristicRing.eq_is;
-      ring = g.EF.PrimeCharacteristicRing.lawful;
-      domain = g.met.EF.Domain.domain;
-      eq = g.met.EF.PrimeCharacteristicRing.eq_is;
-      embeds = g.met.EF.ExtensionDomain.embeds;
-      inverse = g.met.EF.Field.inverse_is;
-    } in
+    let laws : IsLawful E = lawful_extension g.F.PrimeCharacteristicRing.lawful g.met.F.PrimeCharacteristicRing.eq_is g.EF.PrimeCharacteristicRing.lawful g.met.EF.Domain.domain g.met.EF.PrimeCharacteristicRing.eq_is g.met.EF.ExtensionDomain.embeds g.met.EF.Field.inverse_is in
     let char : HasCharacteristic E.ring g.F.PrimeCharacteristicRing.CHARACTERISTIC =
     subst (HasCharacteristic E.ring) (sym g.met.EF.ExtensionDomain.same_characteristic) g.met.EF.PrimeCharacteristicRing.characteristic in
     let instances = instances_of c.args.instances.now in

@@ -1,5 +1,6 @@
 use Rattle.std.proofs.Common.{List, length, ap, subst, ◌∙◌, arith}
 use Rattle.lookup_model.specs.Extension.{extension, IsLawful}
+use Rattle.lookup_model.proofs.Lawful.{lawful_extension}
 use Rattle.batch_model.specs.Instances.{instance_of}
 use Rattle.lookup_model.specs.Challenges.{table_of}
 use Rattle.witness_laws.proofs.TableResults.{ByColumns, by_table, length-column_challenges}
@@ -12,15 +13,7 @@ generate_permutation-requires-clause-challenges g c =
 pub returns : goal.returns
 returns g c =
     let E = extension g.F.PrimeCharacteristicRing.ring g.F.PartialEq.eq g.EF.PrimeCharacteristicRing.ring g.EF.PartialEq.eq g.EF.ExtensionDomain.embed g.EF.Field.inverse in
-    let laws : IsLawful E = record {
-      base = g.F.PrimeCharacteristicRing.lawful;
-      base_eq = g.met.F.PrimeCharacteristicRing.eq_is;
-      ring = g.EF.PrimeCharacteristicRing.lawful;
-      domain = g.met.EF.Domain.domain;
-      eq = g.met.EF.PrimeCharacteristicRing.eq_is;
-      embeds = g.met.EF.ExtensionDomain.embeds;
-      inverse = g.met.EF.Field.inverse_is;
-    } in
+    let laws : IsLawful E = lawful_extension g.F.PrimeCharacteristicRing.lawful g.met.F.PrimeCharacteristicRing.eq_is g.EF.PrimeCharacteristicRing.lawful g.met.EF.Domain.domain g.met.EF.PrimeCharacteristicRing.eq_is g.met.EF.ExtensionDomain.embeds g.met.EF.Field.inverse_is in
     let table = table_of c.args.challenges.now in
     let instance = instance_of c.args.instance.now in
     by_table laws table instance c.requires.fit c.generate_permutation.result

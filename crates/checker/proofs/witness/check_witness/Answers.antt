@@ -7,6 +7,7 @@ use Rattle.std.specs.List.{slice_get, zip}
 use Rattle.lookup_model.proofs.Branches.{mapped_at}
 use Rattle.lookup_model.specs.Challenges.{table_of}
 use Rattle.lookup_model.specs.Extension.{extension, IsLawful}
+use Rattle.lookup_model.proofs.Lawful.{lawful_extension}
 use Rattle.batch_model.specs.Instances.{instance_of, instances_of}
 use Rattle.batch_model.specs.Witnesses.{AreSatisfied, IsSatisfiedAt}
 use Rattle.witness_laws.proofs.RefusedWitness.{refuses_from}
@@ -72,15 +73,7 @@ returns-clause-refusal g c =
 pub returns-clause-only : goal.returns-clause-only
 returns-clause-only g c =
     let E = extension g.F.PrimeCharacteristicRing.ring g.F.PartialEq.eq g.EF.PrimeCharacteristicRing.ring g.EF.PartialEq.eq g.EF.ExtensionDomain.embed g.EF.Field.inverse in
-    let laws : IsLawful E = record {
-      base = g.F.PrimeCharacteristicRing.lawful;
-      base_eq = g.met.F.PrimeCharacteristicRing.eq_is;
-      ring = g.EF.PrimeCharacteristicRing.lawful;
-      domain = g.met.EF.Domain.domain;
-      eq = g.met.EF.PrimeCharacteristicRing.eq_is;
-      embeds = g.met.EF.ExtensionDomain.embeds;
-      inverse = g.met.EF.Field.inverse_is;
-    } in
+    let laws : IsLawful E = lawful_extension g.F.PrimeCharacteristicRing.lawful g.met.F.PrimeCharacteristicRing.eq_is g.EF.PrimeCharacteristicRing.lawful g.met.EF.Domain.domain g.met.EF.PrimeCharacteristicRing.eq_is g.met.EF.ExtensionDomain.embeds g.met.EF.Field.inverse_is in
     let table = table_of c.args.challenges.now in
     let instances = instances_of c.args.instances.now in
     let witness = zip c.args.aux.now c.args.terminals.now in

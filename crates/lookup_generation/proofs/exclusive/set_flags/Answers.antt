@@ -3,6 +3,7 @@ use Rattle.std.proofs.lemmas.List.{length-map, length-take, take_all}
 use Rattle.std.proofs.lemmas.Result.{err_from_is_err_and}
 use Rattle.lookup_model.proofs.Branches.{mapped_at, mapped_more}
 use Rattle.lookup_model.specs.Extension.{IsLawful}
+use Rattle.lookup_model.proofs.Lawful.{lawful_over_itself}
 use Rattle.lookup_model.specs.Fault.{are_boolean}
 use Rattle.lookup_model.proofs.RecordLaws.{Fits-at}
 use Rattle.lookup_laws.proofs.Rows.{split_at}
@@ -20,15 +21,7 @@ value_of-flag-requires g c = Fits-at (builder_layout c.args.builder.now) c.args.
 pub returns-in_err-set : goal.returns-in_err-set
 returns-in_err-set g c =
     let E = base_extension g.F.PrimeCharacteristicRing.ring g.F.PartialEq.eq g.F.Field.inverse in
-    let laws : IsLawful E = record {
-      base = g.F.PrimeCharacteristicRing.lawful;
-      base_eq = g.met.F.PrimeCharacteristicRing.eq_is;
-      ring = g.F.PrimeCharacteristicRing.lawful;
-      domain = g.met.F.Domain.domain;
-      eq = g.met.F.PrimeCharacteristicRing.eq_is;
-      embeds = record { zero = refl; one = refl; add = λ a b. refl; mul = λ a b. refl; injective = λ a b e. e };
-      inverse = g.met.F.Field.inverse_is;
-    } in
+    let laws : IsLawful E = lawful_over_itself g.F.PrimeCharacteristicRing.lawful g.met.F.PrimeCharacteristicRing.eq_is g.met.F.Domain.domain g.met.F.Field.inverse_is in
     let look = value E.base (builder_window c.args.builder.now) in
     let flags = c.args.flags.now in
     let vals = values E.base (builder_window c.args.builder.now) flags in

@@ -11,21 +11,14 @@ use Rattle.lookup_generation.specs.Inverses.{base_extension}
 use Rattle.lookup_generation.specs.Selection.{AreSetFlags}
 use Rattle.lookup_laws.proofs.Selections.{not_boolean}
 use Rattle.lookup_model.specs.Extension.{IsLawful}
+use Rattle.lookup_model.proofs.Lawful.{lawful_over_itself}
 use Rattle.lookup_model.specs.Fault.{are_boolean}
 use Rattle.lookup_generation.proofs.exclusive.set_flags_at.Goals as goal
 
 pub returns-in_err-set : goal.returns-in_err-set
 returns-in_err-set g c = λ flags held.
     let E = base_extension g.F.PrimeCharacteristicRing.ring g.F.PartialEq.eq g.F.Field.inverse in
-    let laws : IsLawful E = record {
-      base = g.F.PrimeCharacteristicRing.lawful;
-      base_eq = g.met.F.PrimeCharacteristicRing.eq_is;
-      ring = g.F.PrimeCharacteristicRing.lawful;
-      domain = g.met.F.Domain.domain;
-      eq = g.met.F.PrimeCharacteristicRing.eq_is;
-      embeds = record { zero = refl; one = refl; add = λ a b. refl; mul = λ a b. refl; injective = λ a b e. e };
-      inverse = g.met.F.Field.inverse_is;
-    } in
+    let laws : IsLawful E = lawful_over_itself g.F.PrimeCharacteristicRing.lawful g.met.F.PrimeCharacteristicRing.eq_is g.met.F.Domain.domain g.met.F.Field.inverse_is in
     let i = c.loop-branch.branch in
     let b : Beside (HasFlag c.args.place) flags i c.index-columns-branch.result =
     beside (HasFlag c.args.place) c.args.columns.now flags i c.index-columns-branch.result held (omega arith) c.index-columns-branch.is in

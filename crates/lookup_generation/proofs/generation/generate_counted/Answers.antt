@@ -7,6 +7,7 @@ use Rattle.std.specs.Option.{option_copied}
 use Rattle.matrix.specs.Matrix.{height}
 use Rattle.lookup_model.specs.Denominators.{column_denominator}
 use Rattle.lookup_model.specs.Extension.{extension, IsLawful}
+use Rattle.lookup_model.proofs.Lawful.{lawful_extension}
 use Rattle.lookup_model.specs.Fault.{trace_faults}
 use Rattle.lookup_model.specs.Generated.{plain_matrix, plain_terminal_of}
 use Rattle.lookup_model.specs.Trace.{sent_rows}
@@ -35,15 +36,7 @@ new-requires-2 g c = IsShaped-product c.in_ok-cells.cells.items (height c.args.m
 pub returns-clause-answers : goal.returns-clause-answers
 returns-clause-answers g c = λ inverse is_inverse.
     let E = extension g.F.PrimeCharacteristicRing.ring g.F.PartialEq.eq g.EF.PrimeCharacteristicRing.ring g.EF.PartialEq.eq g.EF.ExtensionDomain.embed inverse in
-    let laws : IsLawful E = record {
-      base = g.F.PrimeCharacteristicRing.lawful;
-      base_eq = g.met.F.PrimeCharacteristicRing.eq_is;
-      ring = g.EF.PrimeCharacteristicRing.lawful;
-      domain = g.met.EF.Domain.domain;
-      eq = g.met.EF.PrimeCharacteristicRing.eq_is;
-      embeds = g.met.EF.ExtensionDomain.embeds;
-      inverse = is_inverse;
-    } in
+    let laws : IsLawful E = lawful_extension g.F.PrimeCharacteristicRing.lawful g.met.F.PrimeCharacteristicRing.eq_is g.EF.PrimeCharacteristicRing.lawful g.met.EF.Domain.domain g.met.EF.PrimeCharacteristicRing.eq_is g.met.EF.ExtensionDomain.embeds is_inverse in
     let denominator = column_denominator E c.args.challenges.now in
     let prep = option_copied c.args.preprocessed in
     let rows = sent_rows E.base E.base_eq c.args.main.now prep c.args.public_values.now c.args.lookups.now in

@@ -11,6 +11,7 @@ use Rattle.lookup_laws.proofs.PlainResults.{IsShaped-product, height_of}
 use Rattle.lookup_laws.proofs.SentRows.{length-sent_rows, length-sent_rows-at}
 use Rattle.lookup_model.specs.Denominators.{column_denominator}
 use Rattle.lookup_model.specs.Extension.{extension, IsLawful}
+use Rattle.lookup_model.proofs.Lawful.{lawful_extension}
 use Rattle.lookup_model.specs.Trace.{sent_rows}
 use Rattle.matrix.specs.Matrix.{IsShaped, height, row}
 use Rattle.lookup_generation.proofs.generation.push_chunk.Goals as goal
@@ -54,15 +55,7 @@ pub loop-i-preserved : goal.loop-i-preserved
 loop-i-preserved g c = (
   λ inverse is_inverse.
       let E = extension g.F.PrimeCharacteristicRing.ring g.F.PartialEq.eq g.EF.PrimeCharacteristicRing.ring g.EF.PartialEq.eq g.EF.ExtensionDomain.embed inverse in
-      let laws : IsLawful E = record {
-        base = g.F.PrimeCharacteristicRing.lawful;
-        base_eq = g.met.F.PrimeCharacteristicRing.eq_is;
-        ring = g.EF.PrimeCharacteristicRing.lawful;
-        domain = g.met.EF.Domain.domain;
-        eq = g.met.EF.PrimeCharacteristicRing.eq_is;
-        embeds = g.met.EF.ExtensionDomain.embeds;
-        inverse = is_inverse;
-      } in
+      let laws : IsLawful E = lawful_extension g.F.PrimeCharacteristicRing.lawful g.met.F.PrimeCharacteristicRing.eq_is g.EF.PrimeCharacteristicRing.lawful g.met.EF.Domain.domain g.met.EF.PrimeCharacteristicRing.eq_is g.met.EF.ExtensionDomain.embeds is_inverse in
       let denominator = column_denominator E c.args.challenges.now in
       let prep = option_copied c.args.traces.now.preprocessed in
       let rows = sent_rows E.base E.base_eq c.args.traces.now.main.now prep c.args.traces.now.public_values.now c.args.lookups.now in

@@ -7,6 +7,7 @@ use Rattle.std.specs.declared.vec.Vec.{Vec}
 use Rattle.lookup_model.specs.declared.types.Lookup.{Lookup}
 use Rattle.lookup_model.specs.Denominators.{column_denominator}
 use Rattle.lookup_model.specs.Extension.{extension, IsLawful}
+use Rattle.lookup_model.proofs.Lawful.{lawful_extension}
 use Rattle.lookup_model.specs.Fault.{row_faults}
 use Rattle.lookup_generation.specs.Fraction.{AreSound, IsRatio}
 use Rattle.lookup_generation.specs.Progress.{HasRatios}
@@ -63,15 +64,7 @@ pub loop-lookup-preserved : goal.loop-lookup-preserved
 loop-lookup-preserved g c = (
   λ inverse is_inverse.
       let E = extension g.F.PrimeCharacteristicRing.ring g.F.PartialEq.eq g.EF.PrimeCharacteristicRing.ring g.EF.PartialEq.eq g.EF.ExtensionDomain.embed inverse in
-      let laws : IsLawful E = record {
-        base = g.F.PrimeCharacteristicRing.lawful;
-        base_eq = g.met.F.PrimeCharacteristicRing.eq_is;
-        ring = g.EF.PrimeCharacteristicRing.lawful;
-        domain = g.met.EF.Domain.domain;
-        eq = g.met.EF.PrimeCharacteristicRing.eq_is;
-        embeds = g.met.EF.ExtensionDomain.embeds;
-        inverse = is_inverse;
-      } in
+      let laws : IsLawful E = lawful_extension g.F.PrimeCharacteristicRing.lawful g.met.F.PrimeCharacteristicRing.eq_is g.EF.PrimeCharacteristicRing.lawful g.met.EF.Domain.domain g.met.EF.PrimeCharacteristicRing.eq_is g.met.EF.ExtensionDomain.embeds is_inverse in
       let denominator = column_denominator E c.args.builder.now.permutation_challenges.now in
       let w = builder_window c.args.builder.now in
       let lookups = c.args.lookups.now in

@@ -7,6 +7,7 @@ use Rattle.expressions.specs.Window.{Window, window_at}
 use Rattle.matrix.specs.Matrix.{height}
 use Rattle.lookup_model.specs.Denominators.{column_denominator}
 use Rattle.lookup_model.specs.Extension.{extension, IsLawful}
+use Rattle.lookup_model.proofs.Lawful.{lawful_extension}
 use Rattle.lookup_model.specs.Fault.{row_faults}
 use Rattle.lookup_generation.specs.Fraction.{AreSound}
 use Rattle.lookup_generation.specs.Progress.{AreRatios, HasRatios, sent_rows_of}
@@ -61,15 +62,7 @@ push_ratios-requires-clause-fit g c =
 pub returns-in_err-push_ratios-clause-answers : goal.returns-in_err-push_ratios-clause-answers
 returns-in_err-push_ratios-clause-answers g c = λ inverse is_inverse.
     let E = extension g.F.PrimeCharacteristicRing.ring g.F.PartialEq.eq g.EF.PrimeCharacteristicRing.ring g.EF.PartialEq.eq g.EF.ExtensionDomain.embed inverse in
-    let laws : IsLawful E = record {
-      base = g.F.PrimeCharacteristicRing.lawful;
-      base_eq = g.met.F.PrimeCharacteristicRing.eq_is;
-      ring = g.EF.PrimeCharacteristicRing.lawful;
-      domain = g.met.EF.Domain.domain;
-      eq = g.met.EF.PrimeCharacteristicRing.eq_is;
-      embeds = g.met.EF.ExtensionDomain.embeds;
-      inverse = is_inverse;
-    } in
+    let laws : IsLawful E = lawful_extension g.F.PrimeCharacteristicRing.lawful g.met.F.PrimeCharacteristicRing.eq_is g.EF.PrimeCharacteristicRing.lawful g.met.EF.Domain.domain g.met.EF.PrimeCharacteristicRing.eq_is g.met.EF.ExtensionDomain.embeds is_inverse in
     let prep = option_copied c.args.traces.now.preprocessed in
     let built = c.row_builder-builder.ensures in
     let denominator = column_denominator E c.args.challenges.now in
@@ -95,15 +88,7 @@ loop-row-init g c =
     let nothing : (c.args.first - c.args.first) * length c.args.lookups.now ≡ 0 = ap (λ n. n * length c.args.lookups.now) none ∙ omega arith in (
       λ inverse is_inverse.
           let E = extension g.F.PrimeCharacteristicRing.ring g.F.PartialEq.eq g.EF.PrimeCharacteristicRing.ring g.EF.PartialEq.eq g.EF.ExtensionDomain.embed inverse in
-          let laws : IsLawful E = record {
-            base = g.F.PrimeCharacteristicRing.lawful;
-            base_eq = g.met.F.PrimeCharacteristicRing.eq_is;
-            ring = g.EF.PrimeCharacteristicRing.lawful;
-            domain = g.met.EF.Domain.domain;
-            eq = g.met.EF.PrimeCharacteristicRing.eq_is;
-            embeds = g.met.EF.ExtensionDomain.embeds;
-            inverse = is_inverse;
-          } in
+          let laws : IsLawful E = lawful_extension g.F.PrimeCharacteristicRing.lawful g.met.F.PrimeCharacteristicRing.eq_is g.EF.PrimeCharacteristicRing.lawful g.met.EF.Domain.domain g.met.EF.PrimeCharacteristicRing.eq_is g.met.EF.ExtensionDomain.embeds is_inverse in
           AreRatios-none laws (column_denominator E c.args.challenges.now) (sent_rows_of E.base E.base_eq c.args.traces.now c.args.lookups.now) c.args.first _ (c.in_ok-ratios.ensures.empty) (c.requires.faultless inverse is_inverse),
       sound_none _ c.in_ok-ratios.ratios.items (c.in_ok-ratios.ensures.empty) nothing,
     )
@@ -115,15 +100,7 @@ loop-row-preserved g c =
     let one_more : rows_done * n + n ≡ (c.loop-row.row + 1 - c.args.first) * n = row_more c.args.first c.loop-row.row n c.loop-row.auto.row in (
       λ inverse is_inverse.
           let E = extension g.F.PrimeCharacteristicRing.ring g.F.PartialEq.eq g.EF.PrimeCharacteristicRing.ring g.EF.PartialEq.eq g.EF.ExtensionDomain.embed inverse in
-          let laws : IsLawful E = record {
-            base = g.F.PrimeCharacteristicRing.lawful;
-            base_eq = g.met.F.PrimeCharacteristicRing.eq_is;
-            ring = g.EF.PrimeCharacteristicRing.lawful;
-            domain = g.met.EF.Domain.domain;
-            eq = g.met.EF.PrimeCharacteristicRing.eq_is;
-            embeds = g.met.EF.ExtensionDomain.embeds;
-            inverse = is_inverse;
-          } in
+          let laws : IsLawful E = lawful_extension g.F.PrimeCharacteristicRing.lawful g.met.F.PrimeCharacteristicRing.eq_is g.EF.PrimeCharacteristicRing.lawful g.met.EF.Domain.domain g.met.EF.PrimeCharacteristicRing.eq_is g.met.EF.ExtensionDomain.embeds is_inverse in
           let prep = option_copied c.args.traces.now.preprocessed in
           let built = c.row_builder-builder.ensures in
           let denominator = column_denominator E c.args.challenges.now in
