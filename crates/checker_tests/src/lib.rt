@@ -1,4 +1,4 @@
-//! The tests of `batch_model` and `checker`, in a crate of their own: a test is proved like any other
+//! The tests of `batch_model`, `checker` and `lookup_program`, in a crate of their own: a test is proved like any other
 //! function, and a crate that has tests is proved twice.
 //!
 //! They show what no contract says: that calls succeed, and that the definitions mean what they

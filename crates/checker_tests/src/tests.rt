@@ -8,6 +8,7 @@ mod example;
 mod exhaustion;
 mod guards;
 mod ids;
+mod runs;
 mod single;
 
 use air::{BaseEntry, BaseLeaf, Expression, SymbolicExpression, SymbolicVariable};

@@ -7,8 +7,6 @@ mod denominators;
 mod slots;
 mod spare;
 mod step;
-#[cfg(test)]
-mod tests;
 mod traces;
 
 pub use column::{column_of, next_row};

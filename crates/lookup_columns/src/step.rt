@@ -33,30 +33,29 @@ fn push_steps<F: Field>(
 ) -> Result<(), AllocError>
     ensures { OnOk result (to.new.items ≡ to.old.items ++ steps_in_order (tree_of expression.now)) }
 {
-    match expression {
-        SymbolicExpression::Leaf(leaf) => {
-            to.push(Step::Leaf(*leaf))?;
-        }
+    let last = match expression {
+        SymbolicExpression::Leaf(leaf) => Step::Leaf(*leaf),
         SymbolicExpression::Add(a, b) => {
             push_steps(to, a)?;
             push_steps(to, b)?;
-            to.push(Step::Add)?;
+            Step::Add
         }
         SymbolicExpression::Sub(a, b) => {
             push_steps(to, a)?;
             push_steps(to, b)?;
-            to.push(Step::Sub)?;
+            Step::Sub
         }
         SymbolicExpression::Mul(a, b) => {
             push_steps(to, a)?;
             push_steps(to, b)?;
-            to.push(Step::Mul)?;
+            Step::Mul
         }
         SymbolicExpression::Neg(a) => {
             push_steps(to, a)?;
-            to.push(Step::Neg)?;
+            Step::Neg
         }
-    }
+    };
+    to.push(last)?;
     Ok(())
 }
 

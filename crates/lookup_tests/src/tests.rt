@@ -3,6 +3,7 @@ mod asserted;
 mod bus_widths;
 mod chunks;
 mod collisions;
+mod columns;
 mod comparison;
 mod debug;
 mod declaration;

@@ -1,0 +1,296 @@
+-- What a batch over the rows of a machine is, and what generation gives for it.
+use Rattle.std.proofs.Common.{◌≡◌, ◌⊎◌, ◌<◌, ◌≤◌, ◌+◌, ◌-◌, ◌*◌, ◌/◌, ◌%◌, ℕ, zero, suc, Bool, List, [], ◌∷◌, length, map, slice_get, slice_index_or, drop, None, Some, Result, Ok, Err, IfOk, MatchResult, All, inl, inr, refl, subst, subst₂, sym, ap, ap₂, arith, ◌∙◌}
+use Rattle.std.proofs.Math.Dec.{eqb-suc-zero}
+use Rattle.std.proofs.Math.Nat.{div-mul-le_self, mod-lt, mul-le-mul_left}
+use Rattle.std.proofs.lemmas.List.{length-append, length-drop, length-take-le}
+use Rattle.std.proofs.lemmas.List.Elements.{All-cons, All-map, All-nil}
+use Rattle.std.proofs.lemmas.Nat.{div-mul-add, le-div}
+use Rattle.std.proofs.lemmas.Option.{slice_get-map}
+use Rattle.std.specs.Box.{boxed_slice_items}
+use Rattle.std.specs.List.{AllZip, flat_map, range_with_len, slice_range}
+use Rattle.std.specs.Option.{option_map}
+use Rattle.field.specs.Ring.{Ring}
+use Rattle.matrix.specs.Matrix.{IsShaped, Matrix, height, row}
+use Rattle.expressions.specs.Layout.{layout_of_widths}
+use Rattle.expressions.specs.Window.{window_at}
+use Rattle.air.specs.Recorded.{HasWidths}
+use Rattle.batch_model.specs.Answers.{GivesOnlyFaultless, GivesPlainWitness}
+use Rattle.batch_model.specs.Faults.{AreFaultless as AreInstancesFaultless, IsFirstFault as IsFirstInstanceFault, IsOutOfMemory, instance_faults}
+use Rattle.batch_model.specs.Instances.{DoInstancesFit, HavePrefixes, Instance, IsFitting, instance_of, instances_of}
+use Rattle.batch_model.specs.Messages.{id_of, sent_rows_of}
+use Rattle.batch_model.specs.Witnesses.{HasOneOfEach, plain_result, plain_witness, results_of}
+use Rattle.batch_model.specs.declared.fault.BatchFault.{BatchFault}
+use Rattle.batch_model.specs.declared.instance.BatchInstance.{BatchInstance}
+use Rattle.batch_model.specs.declared.witness.Witness.{Witness}
+use Rattle.lookup_builder.proofs.Elements.{all_of_map}
+use Rattle.lookup_model.specs.Challenges.{ChallengeTable, prefix_of_bus, table_denominator, table_of}
+use Rattle.lookup_model.specs.declared.challenges.Challenges.{Challenges}
+use Rattle.lookup_model.specs.Extension.{Extension}
+use Rattle.lookup_model.specs.Generated.{plain_matrix, plain_terminal_of}
+use Rattle.lookup_model.specs.Fault.{trace_faults}
+use Rattle.lookup_model.specs.Records.{DoFit}
+use Rattle.lookup_model.specs.Trace.{sent_row_under}
+use Rattle.lookup_model.specs.declared.types.Lookup.{Lookup}
+use Rattle.lookup.specs.Lookups.{lookups_of}
+use Rattle.lookup.specs.Sends.{lookup_bus_and_weight}
+use Rattle.lookup_program.specs.Machines.{air_bus_and_weight, air_cells, air_sends, air_trace, airs_of, columns_of, first_column_of, width_of}
+use Rattle.lookup_program.specs.Program.{AreFaultless, IsBatchRefusal, IsFirstFault, air_faults, air_result, machine_witness, run_table}
+use Rattle.lookup_program.specs.Refusal.{of_batch, refusal_at}
+use Rattle.lookup_program.specs.Traces.{IsTraceOf, instance_over}
+use Rattle.lookup_program.specs.declared.airs.MachineAir.{MachineAir}
+use Rattle.lookup_program.specs.declared.airs.MachineAir.TheVariants.{Entries, Group, Keys, RangeCheck}
+use Rattle.lookup_program.specs.declared.error.RunError.{RunError}
+use Rattle.lookup_program.specs.declared.error.RunError.TheVariants.{Memory}
+use Rattle.lookup_program.specs.declared.machine.Machine.{Machine}
+use Rattle.lookup_program.specs.declared.machine.Machine.TheVariants.{Bus, Exclusive, Range}
+use Rattle.lookup_program.specs.declared.traces.AirTrace.{AirTrace}
+use Rattle.lookup_program.proofs.AirLaws.{one_item}
+
+-- a part of a list
+length_part : {T : Type 0} (values : List T) (first width : ℕ) → first + width ≤ length values → length (slice_range values first (first + width)) ≡ width
+length_part values first width fits =
+    let rest : length (drop first values) ≡ length values - first = length-drop first values in
+    length-take-le (first + width - first) (drop first values) (omega (arith, rest, fits)) ∙ omega arith
+
+-- a row of a matrix
+length_row : {T : Type 0} (values : List T) (width r : ℕ) → r < height (record { values = values; width = width }) → length (row (record { values = values; width = width }) r) ≡ width
+length_row values zero r lt = absurd (omega (arith, lt))
+length_row values (suc k) r lt =
+    let below : r < length values / suc k = rw eqb-suc-zero at lt in
+    let rows : suc k * (r + 1) ≤ suc k * (length values / suc k) = mul-le-mul_left (suc k) (omega (arith, below)) in
+    let next : (r + 1) * suc k ≡ r * suc k + suc k = omega arith in
+    ap (λ b. length (slice_range values (r * suc k) b)) next
+    ∙ length_part values (r * suc k) (suc k) (omega (arith, rows, next, div-mul-le_self (length values) (suc k)))
+
+-- parts of one length, one after another
+pub length_parts : {T : Type 0} (part : ℕ → List T) (width a n : ℕ) → ((r : ℕ) → r < a + n → length (part r) ≡ width) → length (flat_map part (range_with_len a n)) ≡ n * width
+length_parts part width a zero each = omega arith
+length_parts part width a (suc n) each =
+    let first : length (part a) ≡ width = each a (omega arith) in
+    let rest : length (flat_map part (range_with_len (a + 1) n)) ≡ n * width = length_parts part width (a + 1) n (λ r lt. each r (omega (arith, lt))) in
+    length-append (part a) (flat_map part (range_with_len (a + 1) n)) ∙ omega (arith, first, rest)
+
+-- some whole rows are a matrix
+pub shaped : {T : Type 0} (values : List T) (width n : ℕ) → 0 < width → length values ≡ n * width → IsShaped (record { values = values; width = width })
+shaped values zero n wide long = absurd (omega (arith, wide))
+shaped values (suc k) n wide long =
+    let whole : length values ≡ n * suc k + 0 = omega (arith, long) in
+    let quotient : length values / suc k ≡ n = ap (λ m. m / suc k) whole ∙ div-mul-add n (suc k) 0 (omega arith) in
+    rw eqb-suc-zero (long ∙ ap (λ m. m * suc k) (sym quotient))
+
+-- a matrix of some rows is not empty
+some_rows : {T : Type 0} (values : List T) (width n : ℕ) → 0 < width → 0 < n → length values ≡ n * width → 0 < height (record { values = values; width = width })
+some_rows values zero n wide some long = absurd (omega (arith, wide))
+some_rows values (suc k) n wide some long = rw eqb-suc-zero (div_some (length values) n k some long)
+  where
+    div_some : (m n k : ℕ) → 0 < n → m ≡ n * suc k → 0 < m / suc k
+    div_some m n k some long =
+        let least : n ≤ m / suc k = le-div n m (suc k) (omega arith) (omega (arith, long)) in
+        omega (arith, least, some)
+
+-- two maps over a range are the same where they give the same of each number
+same_over : {X : Type 0} (f g : ℕ → X) (a n : ℕ) → ((r : ℕ) → r < a + n → f r ≡ g r) → map f (range_with_len a n) ≡ map g (range_with_len a n)
+same_over f g a zero same = refl
+same_over f g a (suc n) same =
+    ap₂ (λ x xs. x ∷ xs) (same a (omega arith)) (same_over f g (a + 1) n (λ r lt. same r (omega (arith, lt))))
+
+-- the ids of an AIR's lookups, each of which is 0
+abbrev pub ids : List ℕ
+ids = 0 ∷ []
+
+zero_id : (column : ℕ) → slice_index_or ids column 0 ≡ 0
+zero_id zero = refl
+zero_id (suc column) = refl
+
+-- the AIRs of a machine hold columns of its input
+pub airs_within : (machine : Machine) → All (λ air. first_column_of air + width_of air ≤ columns_of machine) (airs_of machine)
+airs_within Range = All-cons (λ air. first_column_of air + width_of air ≤ 3) RangeCheck [] (omega arith) (All-nil (λ air. first_column_of air + width_of air ≤ 3))
+airs_within Bus = All-cons (λ air. first_column_of air + width_of air ≤ 3) Keys (Entries ∷ []) (omega arith)
+    (All-cons (λ air. first_column_of air + width_of air ≤ 3) Entries [] (omega arith) (All-nil (λ air. first_column_of air + width_of air ≤ 3)))
+airs_within Exclusive = All-cons (λ air. first_column_of air + width_of air ≤ 4) Group [] (omega arith) (All-nil (λ air. first_column_of air + width_of air ≤ 4))
+
+-- each AIR holds some columns
+pub wide : (air : MachineAir) → 0 < width_of air
+wide RangeCheck = omega arith
+wide Keys = omega arith
+wide Entries = omega arith
+wide Group = omega arith
+
+-- the parts of the rows that an AIR holds are as long as it is wide
+pub length_cells : {F : Type 0} (air : MachineAir) (input : Matrix F) (r : ℕ) → first_column_of air + width_of air ≤ input.width → r < height input → length (air_cells air (row input r)) ≡ width_of air
+length_cells air input r holds lt =
+    length_part (row input r) (first_column_of air) (width_of air) (omega (arith, holds, length_row input.values input.width r lt))
+
+-- the trace of an AIR has a row where the input has one
+trace_rows : {F : Type 0} (air : MachineAir) (input : Matrix F) → first_column_of air + width_of air ≤ input.width → 0 < height input → 0 < height (air_trace air input)
+trace_rows air input holds some =
+    some_rows (air_trace air input).values (width_of air) (height input) (wide air) some
+    (length_parts (λ r. air_cells air (row input r)) (width_of air) 0 (height input) (λ r lt. length_cells air input r holds (omega (arith, lt))))
+
+-- the batch's instance of an AIR: public values and ids are the same for all
+abbrev pub instance : {F : Type 0} → AirTrace F → Instance F
+instance trace = instance_over [] ids trace
+
+module _ {F : Type 0} (R : Ring F) (eq : F → F → Bool) (input : Matrix F) (air : MachineAir) (trace : AirTrace F) (is : IsTraceOf R eq input air trace) where
+  -- the AIR has one lookup
+  pub one_lookup : (l : Lookup F) × (lookups_of trace.lookups ≡ l ∷ [])
+  one_lookup =
+      let one = one_item lookup_bus_and_weight (lookups_of trace.lookups) (air_bus_and_weight air) is.lookups.one in
+      (one.0, one.1)
+
+  -- its instance makes a batch
+  fitting : first_column_of air + width_of air ≤ input.width → 0 < height input → IsFitting (instance trace)
+  fitting holds some = record {
+    fit = subst (λ (width : ℕ). DoFit (layout_of_widths width 0 0) (lookups_of trace.lookups)) (sym (ap (λ m. m.width) is.main)) is.lookups.fit;
+    heights = λ trace none. absurd (cc none);
+    nonempty = λ has. subst (λ (m : Matrix F). 0 < height m) (sym is.main) (trace_rows air input holds some);
+    ids = sym (ap length one_lookup.1);
+  }
+
+  -- the window of a row has the widths of the AIR
+  pub row_widths : (main : Matrix F) → main.width ≡ width_of air → (r : ℕ) → r < height main → HasWidths (layout_of_widths (width_of air) 0 0) (window_at main None [] (height main) r)
+  row_widths main same r lt =
+      let next : (r + 1) % height main < height main = mod-lt (r + 1) (omega (arith, lt)) in
+      record {
+        main = length_row main.values main.width r lt ∙ same;
+        main_next = length_row main.values main.width ((r + 1) % height main) next ∙ same;
+        preprocessed = refl;
+        preprocessed_next = refl;
+        public_values = refl;
+      }
+
+  -- its lookup sends what the AIR sends, on each row
+  sent_on_row : (main : Matrix F) → main.width ≡ width_of air → (r : ℕ) → r < height main
+      → sent_row_under R eq (id_of ids) (window_at main None [] (height main) r) (lookups_of trace.lookups) ≡ air_sends R eq air (row main r) ∷ []
+  sent_on_row main same r lt =
+      (λ i. sent_row_under R eq (λ l. zero_id l.column i) (window_at main None [] (height main) r) (lookups_of trace.lookups))
+      ∙ is.lookups.sends (window_at main None [] (height main) r) (row_widths main same r lt)
+
+  -- so it is of the whole trace
+  sent_by_air : sent_rows_of R eq (instance trace) ≡ map (λ r. air_sends R eq air (row (air_trace air input) r) ∷ []) (range_with_len 0 (height (air_trace air input)))
+  sent_by_air =
+      same_over _ _ 0 (height trace.main) (λ r lt. sent_on_row trace.main (ap (λ m. m.width) is.main) r (omega (arith, lt)))
+      ∙ ap (λ (m : Matrix F). map (λ r. air_sends R eq air (row m r) ∷ []) (range_with_len 0 (height m))) is.main
+
+module _ {F K : Type 0} (E : Extension F K) (alpha beta : K) (input : Matrix F) where
+  -- the table of a run
+  abbrev table : ChallengeTable K
+  table = run_table E alpha beta
+
+  -- the plain result of an instance is that of its AIR
+  result_is : (air : MachineAir) (trace : AirTrace F) → IsTraceOf E.base E.base_eq input air trace → plain_result E table (instance trace) ≡ air_result E alpha beta input air
+  result_is air trace is =
+      let one = one_lookup E.base E.base_eq input air trace is in
+      let rows = sent_by_air E.base E.base_eq input air trace is in
+      λ i. (plain_matrix E (table_denominator E table) (one.1 i) (rows i), plain_terminal_of E (table_denominator E table) (one.1 i) (rows i))
+
+  -- and so are its faults
+  faults_are : (air : MachineAir) (trace : AirTrace F) → IsTraceOf E.base E.base_eq input air trace → instance_faults E table (instance trace) ≡ air_faults E alpha beta input air
+  faults_are air trace is = ap (trace_faults E (table_denominator E table)) (sent_by_air E.base E.base_eq input air trace is)
+
+  -- likewise of all
+  results_are : (airs : List MachineAir) (traces : List (AirTrace F)) → AllZip (IsTraceOf E.base E.base_eq input) airs traces → plain_witness E table (map instance traces) ≡ map (air_result E alpha beta input) airs
+  results_are [] [] all = refl
+  results_are [] (t ∷ ts) all = absurd all
+  results_are (a ∷ later) [] all = absurd all
+  results_are (a ∷ later) (t ∷ ts) all = λ i. result_is a t all.0 i ∷ results_are later ts all.1 i
+
+  all_faults_are : (airs : List MachineAir) (traces : List (AirTrace F)) → AllZip (IsTraceOf E.base E.base_eq input) airs traces → map (instance_faults E table) (map instance traces) ≡ map (air_faults E alpha beta input) airs
+  all_faults_are [] [] all = refl
+  all_faults_are [] (t ∷ ts) all = absurd all
+  all_faults_are (a ∷ later) [] all = absurd all
+  all_faults_are (a ∷ later) (t ∷ ts) all = λ i. faults_are a t all.0 i ∷ all_faults_are later ts all.1 i
+
+  -- all of them make a batch
+  all_fitting : (airs : List MachineAir) (traces : List (AirTrace F)) → All (λ air. first_column_of air + width_of air ≤ input.width) airs → 0 < height input → AllZip (IsTraceOf E.base E.base_eq input) airs traces → All IsFitting (map instance traces)
+  all_fitting [] [] holds some all = All-nil IsFitting
+  all_fitting [] (t ∷ ts) holds some all = absurd all
+  all_fitting (a ∷ later) [] holds some all = absurd all
+  all_fitting (a ∷ later) (t ∷ ts) holds some all =
+      All-cons IsFitting (instance t) (map instance ts) (fitting E.base E.base_eq input a t all.0 (holds 0 a (omega arith)) some)
+      (all_fitting later ts (λ n d lt. holds (suc n) d (omega (arith, lt))) some all.1)
+
+  -- an item whose image stands at a place
+  item_at : {A B : Type 0} (f : A → B) (xs : List A) (i : ℕ) (y : B) → slice_get (map f xs) i ≡ Some y → (x : A) × (slice_get xs i ≡ Some x) × (f x ≡ y)
+  item_at f [] i y there = absurd (cc there)
+  item_at f (x ∷ xs) zero y there =
+      let same : f x ≡ y = cc there in
+      (x, refl, same)
+  item_at f (x ∷ xs) (suc i) y there = item_at f xs i y there
+
+  module _ (machine : Machine) (traces : List (AirTrace F)) (all : AllZip (IsTraceOf E.base E.base_eq input) (airs_of machine) traces) where
+    -- an AIR's faults are those of an instance at its place
+    instance_at : (i : ℕ) (air : MachineAir) → slice_get (airs_of machine) i ≡ Some air → (x : Instance F) × (slice_get (map instance traces) i ≡ Some x) × (instance_faults E table x ≡ air_faults E alpha beta input air)
+    instance_at i air there =
+        item_at (instance_faults E table) (map instance traces) i (air_faults E alpha beta input air)
+        (ap (λ l. slice_get l i) (all_faults_are (airs_of machine) traces all) ∙ slice_get-map (air_faults E alpha beta input) (airs_of machine) i ∙ ap (option_map (air_faults E alpha beta input)) there)
+
+    -- and the other way round
+    air_at : (i : ℕ) (x : Instance F) → slice_get (map instance traces) i ≡ Some x → (air : MachineAir) × (slice_get (airs_of machine) i ≡ Some air) × (air_faults E alpha beta input air ≡ instance_faults E table x)
+    air_at i x there =
+        item_at (air_faults E alpha beta input) (airs_of machine) i (instance_faults E table x)
+        (ap (λ l. slice_get l i) (sym (all_faults_are (airs_of machine) traces all)) ∙ slice_get-map (instance_faults E table) (map instance traces) i ∙ ap (option_map (instance_faults E table)) there)
+
+    -- what generation gives is the machine's witness
+    witness_is : plain_witness E table (map instance traces) ≡ machine_witness E machine alpha beta input
+    witness_is = results_are (airs_of machine) traces all
+
+    -- no AIR has a fault
+    faultless_is : AreInstancesFaultless E table (map instance traces) → AreFaultless E machine alpha beta input
+    faultless_is none i air there =
+        let x = instance_at i air there in
+        sym x.2 ∙ none i x.0 x.1
+
+    -- or the first fault is that of the machine
+    first_fault_is : (fault : BatchFault) → IsFirstInstanceFault E table (map instance traces) fault → IsFirstFault E machine alpha beta input fault
+    first_fault_is fault first =
+        let air = air_at first.place first.instance first.is_there in
+        record {
+          place = first.place;
+          air = air.0;
+          air_is = first.air_is;
+          is_there = air.1;
+          is_first = ap (λ l. slice_get l 0) air.2 ∙ first.is_first;
+          before = λ i other lt there. let x = instance_at i other there in sym x.2 ∙ first.before i x.0 lt x.1;
+        }
+
+    -- the instances make a batch
+    pub batch_fits : (bs : List (BatchInstance F)) → instances_of bs ≡ map instance traces → input.width ≡ columns_of machine → 0 < height input → DoInstancesFit bs
+    batch_fits bs are wide_enough some =
+        all_of_map IsFitting instance_of bs (subst (All IsFitting) (sym are)
+        (all_fitting (airs_of machine) traces (λ n d lt. omega (arith, airs_within machine n d lt, wide_enough)) some all))
+
+    -- their ids have prefixes
+    pub batch_has_prefixes : (bs : List (BatchInstance F)) (c : Challenges K) → instances_of bs ≡ map instance traces → boxed_slice_items c.bus_prefix ≡ map (prefix_of_bus E.ring alpha beta 1) (range_with_len 0 1) → HavePrefixes c bs
+    batch_has_prefixes bs c are prefixes =
+        let Has : List ℕ → Type 0 = All (λ id. id < length (boxed_slice_items c.bus_prefix)) in
+        let one : length (boxed_slice_items c.bus_prefix) ≡ 1 = ap length prefixes in
+        let each : Has ids = All-cons (λ id. id < length (boxed_slice_items c.bus_prefix)) 0 [] (omega (arith, one)) (All-nil (λ id. id < length (boxed_slice_items c.bus_prefix))) in
+        all_of_map (λ (x : Instance F). Has x.ids) instance_of bs
+        (subst (All (λ (x : Instance F). Has x.ids)) (sym are) (All-map (λ (x : Instance F). Has x.ids) instance traces (λ n d lt. each)))
+
+    -- what generation answers is the witness of the machine, or its first fault
+    pub machine_generated : (instances : List (Instance F)) (made : ChallengeTable K) (answer : Result (Witness K) BatchFault) → instances ≡ map instance traces → made ≡ table
+        → GivesPlainWitness E made instances answer → GivesOnlyFaultless E made instances answer → IfOk answer (λ w. HasOneOfEach instances w)
+        → MatchResult answer
+        (λ w. (results_of w ≡ machine_witness E machine alpha beta input) × (length w.aux.items ≡ length w.terminals.items) × AreFaultless E machine alpha beta input)
+        (λ fault. IsOutOfMemory fault ⊎ IsFirstFault E machine alpha beta input fault)
+    machine_generated instances made (Ok w) are same plain faultless one = (
+      plain ∙ (λ i. plain_witness E (same i) (are i)) ∙ witness_is,
+      one.0 ∙ sym one.1,
+      faultless_is (subst₂ (λ (t : ChallengeTable K) (is : List (Instance F)). AreInstancesFaultless E t is) same are faultless),
+    )
+    machine_generated instances made (Err fault) are same (inl memory) faultless one = inl memory
+    machine_generated instances made (Err fault) are same (inr first) faultless one =
+        inr (first_fault_is fault (subst₂ (λ (t : ChallengeTable K) (is : List (Instance F)). IsFirstInstanceFault E t is fault) same are first))
+
+-- the table that is made is that of a run
+pub table_is : {F K : Type 0} (E : Extension F K) (alpha beta : K) (c : Challenges K) → c.alpha ≡ alpha → c.beta ≡ beta → boxed_slice_items c.bus_prefix ≡ map (prefix_of_bus E.ring alpha beta 1) (range_with_len 0 1)
+    → table_of c ≡ run_table E alpha beta
+table_is E alpha beta c same_alpha same_beta prefixes i = record { prefix = λ id. slice_index_or (prefixes i) id (same_alpha i); beta = same_beta i }
+
+-- the refusal of a batch
+pub refusal_is : {F K : Type 0} (E : Extension F K) (machine : Machine) (alpha beta : K) (input : Matrix F) (fault : BatchFault) (e : RunError) → e ≡ of_batch fault → IsOutOfMemory fault ⊎ IsFirstFault E machine alpha beta input fault
+    → (e ≡ Memory) ⊎ IsBatchRefusal E machine alpha beta input e
+refusal_is E machine alpha beta input fault e is (inl memory) = inl (is ∙ ap (λ air. refusal_at air fault.error) memory.air)
+refusal_is E machine alpha beta input fault e is (inr first) = inr (fault, first, is)

@@ -1,0 +1,85 @@
+-- Which words write numbers, and which residues.
+use Rattle.std.proofs.Common.{◌≡◌, ◌<◌, ◌≤◌, ◌+◌, ◌*◌, ◌⊎◌, ◌&&◌, ℕ, Bool, true, false, cond, nat_lt, List, Option, Some, None, MatchOption, option_map, length, get_or, take, refl, ap, inl, inr, arith, sym, ◌∙◌, lit≤, ltb-true, lt-ltb}
+use Rattle.std.specs.Char.{digit_value}
+use Rattle.std.specs.Int.{IsInRange, IsOutOfRange}
+use Rattle.std.specs.Str.{all_ascii_digits}
+use Rattle.std.specs.Str.Parse.{digits_value}
+use Rattle.std.proofs.lemmas.Int.Digits.{digits_value_more}
+use Rattle.std.proofs.lemmas.Str.Parse.{IsNumeralModel, digit_at, digits_value-take-le, numerals_by_value, tells_all_ascii_digits}
+use native.Mathlib.Nat.{mod-eq_of_lt}
+use Rattle.field.specs.Residue.{Residue, residue_of}
+use Rattle.field.specs.ResidueRing.{residue_ring, of_nat_is}
+use Rattle.field.specs.Ring.{of_nat}
+use Rattle.lookup_program.specs.Words.{number_of, WritesResidue}
+
+-- the word is one or more decimal digits, and their value is below the bound
+pub record IsNumber (bound : ℕ) (word : List ℕ) : Type 0 where
+  pub some : 0 < length word
+  pub digits : all_ascii_digits word ≡ true
+  pub below : digits_value 10 word < bound
+
+-- a value stands exactly where three tests pass
+three_tests : {A : Type 0} (a b c : Bool) (x : A) → ((cond (a && b && c) (Some x) None ≡ Some x) × (a ≡ true) × (b ≡ true) × (c ≡ true)) ⊎ ((cond (a && b && c) (Some x) None ≡ None) × (a ≡ true → b ≡ true → c ≡ true → ⊥))
+three_tests true true true x = inl (refl, refl, refl, refl)
+three_tests true true false x = inr (refl, λ p q r. let e : false ≡ true = r in cc)
+three_tests true false c x = inr (refl, λ p q r. let e : false ≡ true = q in cc)
+three_tests false b c x = inr (refl, λ p q r. let e : false ≡ true = p in cc)
+
+-- a word that is a number writes its value, and another writes none
+pub number_of-cases : (bound : ℕ) (word : List ℕ) → ((number_of bound word ≡ Some (digits_value 10 word)) × IsNumber bound word) ⊎ ((number_of bound word ≡ None) × ¬ (IsNumber bound word))
+unfolding number_of
+number_of-cases bound word =
+    elim (three_tests (nat_lt 0 (length word)) (all_ascii_digits word) (nat_lt (digits_value 10 word) bound) (digits_value 10 word)) [
+      | inl w ↦ inl (w.0, record { some = ltb-true 0 (length word) w.1; digits = w.2; below = ltb-true (digits_value 10 word) bound w.3 })
+      | inr w ↦ inr (w.0, λ n. w.1 (lt-ltb 0 (length word) n.some) n.digits (lt-ltb (digits_value 10 word) bound n.below))
+    ]
+
+-- a word that is no number writes none
+pub number_of-none : (bound : ℕ) (word : List ℕ) → ¬ (IsNumber bound word) → number_of bound word ≡ None
+number_of-none bound word other = elim (number_of-cases bound word) [ inl w ↦ absurd (other w.1) | inr w ↦ w.0 ]
+
+-- a number writes its value
+pub number_of-some : (bound : ℕ) (word : List ℕ) → IsNumber bound word → number_of bound word ≡ Some (digits_value 10 word)
+number_of-some bound word is = elim (number_of-cases bound word) [ inl w ↦ w.0 | inr w ↦ absurd (w.1 is) ]
+
+-- the texts of ASCII digits are the texts of digits to the base 10
+pub ascii_digits : IsNumeralModel (λ ds. all_ascii_digits ds ≡ true) (digits_value 10)
+ascii_digits = numerals_by_value (λ ds. all_ascii_digits ds ≡ true) tells_all_ascii_digits
+
+-- nothing is in a range and out of it
+not_both : (low high c : ℕ) → IsInRange low high c → IsOutOfRange low high c → ⊥
+not_both low high c inside (inl below) = omega (arith, inside.0)
+not_both low high c inside (inr above) = omega (arith, inside.1)
+
+-- a word with a byte that is no digit writes no number
+pub number_of-other : (bound : ℕ) (word : List ℕ) (i : ℕ) → i < length word → IsOutOfRange 48 57 (get_or word i 0) → number_of bound word ≡ None
+number_of-other bound word i within other =
+    number_of-none bound word (λ n. not_both 48 57 (get_or word i 0) (digit_at word i (ascii_digits.to word n.digits) within) other)
+
+-- a word whose first digits have a value past the bound writes no number
+pub number_of-large : (bound : ℕ) (word : List ℕ) (i : ℕ) → i < length word → bound ≤ digits_value 10 (take i word) * 10 + digit_value (get_or word i 0) → number_of bound word ≡ None
+number_of-large bound word i within large =
+    number_of-none bound word
+    (λ n. let below : digits_value 10 word < bound = n.below in
+    let more : digits_value 10 (take (i + 1) word) ≡ digits_value 10 (take i word) * 10 + digit_value (get_or word i 0) = digits_value_more 10 word i within in
+    let less : digits_value 10 (take (i + 1) word) ≤ digits_value 10 word = digits_value-take-le 10 word (i + 1) (lit≤ tt) in
+    omega arith)
+
+module _ (p : ℕ) (positive : 0 < p) where
+  -- the element that a word's number gives, as a residue
+  pub residue-cases : (word : List ℕ) (answer : Option (Residue p)) → answer ≡ option_map (of_nat (residue_ring p positive)) (number_of p word) → MatchOption answer (number_of p word ≡ None) (λ x. number_of p word ≡ Some x.value)
+  residue-cases word answer given =
+      elim (number_of-cases p word) [
+        | inl w ↦
+            let n : ℕ = digits_value 10 word in
+            let is : answer ≡ Some (residue_of p positive n) = given ∙ ap (option_map (of_nat (residue_ring p positive))) w.0 ∙ ap Some (of_nat_is p positive n) in
+            rw is (w.0 ∙ ap Some (sym (mod-eq_of_lt w.1.below)))
+        | inr w ↦
+            let is : answer ≡ None = given ∙ ap (option_map (of_nat (residue_ring p positive))) w.0 in
+            rw is w.0
+      ]
+
+  -- so the answer is what the word writes
+  pub residue-written : (word : List ℕ) (answer : Option (Residue p)) → answer ≡ option_map (of_nat (residue_ring p positive)) (number_of p word) → MatchOption answer ((x : Residue p) → ¬ (WritesResidue word x)) (λ x. WritesResidue word x)
+  residue-written word None given = λ x writes. let e : ◌≡◌ {A = Option ℕ} None (Some x.value) = sym (residue-cases word None given) ∙ writes in cc
+  residue-written word (Some x) given = residue-cases word (Some x) given

@@ -1,0 +1,7 @@
+use Rattle.std.proofs.Common.{◌≡◌, ◌++◌, string_bytes, take}
+use Rattle.batch_model.specs.Witnesses.{results_of}
+use Rattle.lookup_program.specs.Report.{witness_lines}
+use Rattle.lookup_program.proofs.report.push_witness.Given as goal
+
+abbrev pub invariant-loop-air : goal.invariant-loop-air
+invariant-loop-air g l = string_bytes l.text ≡ string_bytes l.fn.text ++ witness_lines g.EF.Field.text (take l.air (results_of l.witness))

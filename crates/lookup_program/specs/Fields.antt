@@ -1,0 +1,24 @@
+-- The fields that a run works over.
+use Rattle.std.specs.Prelude.{ℕ, Bool, List}
+use Rattle.field.specs.Ring.{Ring}
+use Rattle.lookup_model.specs.Extension.{Extension, extension}
+use Rattle.lookup_program.specs.Words.{number_bound}
+
+-- The fields of a run: the field of the rows and the field of the challenges, the bound of the
+-- numbers in a row, which words are challenges, and how cells and values of rows are printed.
+pub record Fields (F K : Type 0) : Type 1 where
+  pub extension : Extension F K
+  pub bound : ℕ
+  pub written : List ℕ → K → Type 0
+  pub text : K → List ℕ
+  pub base_text : F → List ℕ
+
+-- these fields; the numbers of a row are below the characteristic, and below 2^32
+abbrev pub run_fields : {F K : Type 0} → Ring F → (F → F → Bool) → ℕ → Ring K → (K → K → Bool) → (F → K) → (K → K) → (List ℕ → K → Type 0) → (K → List ℕ) → (F → List ℕ) → Fields F K
+run_fields base base_eq characteristic ring eq embed inverse written text base_text = record {
+  extension = extension base base_eq ring eq embed inverse;
+  bound = number_bound characteristic;
+  written = written;
+  text = text;
+  base_text = base_text;
+}

@@ -1,0 +1,162 @@
+//! What a run prints.
+ghost use Rattle.std.specs.Prelude.{◌≡◌, ◌++◌, ◌<◌, ◌⊎◌, MatchResult, OnOk, codes, length, string_bytes};
+ghost use Rattle.std.specs.List.{AllZip, flat_map};
+ghost use Rattle.matrix.specs.Matrix.{height};
+ghost use Rattle.batch_model.specs.Witnesses.{results_of};
+ghost use Rattle.lookup_model.specs.Extension.{extension};
+ghost use Rattle.lookup_program.specs.Fields.{run_fields};
+ghost use Rattle.lookup_program.specs.Machines.{airs_of, columns_of};
+ghost use Rattle.lookup_program.specs.Program.{AreFaultless, IsBatchRefusal, IsReport, IsReportRefusal, machine_witness};
+ghost use Rattle.lookup_program.specs.Report.{air_lines, row_line, witness_lines};
+ghost use Rattle.lookup_program.specs.Traces.{IsTraceOf};
+
+use crate::challenge::Challenge;
+use crate::error::RunError;
+use crate::machine::Machine;
+use crate::mismatch::mismatch_line;
+use crate::rows::read_rows;
+use crate::traces::{AirTrace, air_traces, batch_of};
+use checker::{Witness, generate_batch};
+use field::{ExtensionField, Field};
+use lookup::{Challenges, LogUpGadget, LookupProtocol, LookupTerminal};
+use matrix::RowMajorMatrix;
+use std::alloc::{AllocError, Global};
+
+/// The result of a run that is not refused.
+#[derive(Debug, Drop)]
+pub struct Report {
+    /// What is written to standard output.
+    pub text: String,
+    /// Whether the terminals cancel.
+    pub balanced: bool,
+    /// What is written to standard error: the line of the first tuple that does not balance.
+    pub mismatch: Option<String>,
+}
+
+/// The report of a machine over the rows of `input`, with its alpha and its beta.
+///
+/// Refuses a faulty line, then an input without rows, then the first fault of the first AIR that
+/// has one.
+pub fn report_of<F: Field, EF: Challenge<F>>(
+    alloc: Global,
+    machine: Machine,
+    challenges: (EF, EF),
+    input: &[u8],
+) -> Result<Report, RunError>
+    ensures { let fields = run_fields F.ring F.eq F.CHARACTERISTIC EF.ring EF.eq EF.embed EF.inverse
+        EF.written EF.text F.text in MatchResult result
+        (λ report. IsReport fields machine challenges.0 challenges.1 input.now report)
+        (λ e. (e ≡ RunError.Memory)
+        ⊎ IsReportRefusal fields machine challenges.0 challenges.1 input.now e) }
+{
+    let rows = read_rows::<F>(alloc, input, machine.columns())?;
+    let traces = air_traces::<F, EF>(alloc, machine, &rows)?;
+    let witness = generated::<F, EF>(alloc, machine, challenges, &rows, traces.as_slice())?;
+    let mismatch = mismatch_line(alloc, traces.as_slice())?;
+    let balanced = LogUpGadget::new()
+        .verify_terminal_sum(witness.terminals.as_slice())
+        .is_ok();
+    let mut text = String::new(alloc);
+    push_witness(alloc, &mut text, &witness)?;
+    text.push_str(if balanced {
+        "balanced\n"
+    } else {
+        "unbalanced\n"
+    })?;
+    Ok(Report {
+        text,
+        balanced,
+        mismatch,
+    })
+}
+
+/// The witness of the batch of these traces, which are those of a machine over the rows of its input.
+fn generated<F: Field, EF: ExtensionField<F>>(
+    alloc: Global,
+    machine: Machine,
+    challenges: (EF, EF),
+    input: &RowMajorMatrix<F>,
+    traces: &[AirTrace<F>],
+) -> Result<Witness<EF>, RunError>
+    requires width { input.now.width ≡ columns_of machine }
+    requires rows { 0 < height input.now }
+    requires traces { AllZip (IsTraceOf F.ring F.eq input.now) (airs_of machine) traces.now }
+    ensures { let E = extension F.ring F.eq EF.ring EF.eq EF.embed EF.inverse in
+        let alpha = challenges.0 in let beta = challenges.1 in MatchResult result
+        (λ w. (results_of w ≡ machine_witness E machine alpha beta input.now)
+        × (length w.aux.items ≡ length w.terminals.items)
+        × AreFaultless E machine alpha beta input.now)
+        (λ e. (e ≡ RunError.Memory) ⊎ IsBatchRefusal E machine alpha beta input.now e) }
+{
+    let public_values = Vec::new(alloc);
+    let batch = batch_of(alloc, traces, public_values.as_slice(), &[0])?;
+    let (alpha, beta) = challenges;
+    let table = Challenges::new(alloc, alpha, beta, 1, 1)?;
+    match generate_batch(alloc, batch.as_slice(), &table) {
+        Ok(witness) => Ok(witness),
+        Err(fault) => Err(RunError::of_batch(fault)),
+    }
+}
+
+/// Appends the lines of all AIRs.
+fn push_witness<EF: Field>(
+    alloc: Global,
+    text: &mut String,
+    witness: &Witness<EF>,
+) -> Result<(), AllocError>
+    requires { length witness.now.aux.items ≡ length witness.now.terminals.items }
+    ensures { OnOk result (string_bytes text.new ≡ string_bytes text.old
+        ++ witness_lines EF.text (results_of witness.now)) }
+{
+    for air in 0..witness.aux.len() {
+        push_air(alloc, text, air, &witness.aux[air], witness.terminals[air])?;
+    }
+    Ok(())
+}
+
+/// Appends the lines of one AIR: its number, the rows of its auxiliary trace, and its terminal.
+fn push_air<EF: Field>(
+    alloc: Global,
+    text: &mut String,
+    air: usize,
+    trace: &RowMajorMatrix<EF>,
+    terminal: Option<LookupTerminal<EF>>,
+) -> Result<(), AllocError>
+    ensures { OnOk result (string_bytes text.new ≡ string_bytes text.old
+        ++ air_lines EF.text air trace.now terminal) }
+{
+    text.push_str(format!(in alloc; "air {air}\n")?.as_str())?;
+    for row in 0..trace.height() {
+        push_row(alloc, text, trace.row_slice(row))?;
+    }
+    if let Some(LookupTerminal(value)) = terminal {
+        text.push_str("terminal ")?;
+        text.push_str(value.text(alloc)?.as_str())?;
+        text.push_str("\n")?;
+    }
+    Ok(())
+}
+
+/// Appends the cells of a row, separated by one space.
+fn push_row<EF: Field>(alloc: Global, text: &mut String, cells: &[EF]) -> Result<(), AllocError>
+    ensures { OnOk result (string_bytes text.new ≡ string_bytes text.old
+        ++ row_line EF.text cells.now) }
+{
+    if let Some((first, rest)) = cells.split_first() {
+        text.push_str(first.text(alloc)?.as_str())?;
+        push_rest(alloc, text, rest)?;
+    }
+    text.push_str("\n")
+}
+
+/// Appends the remaining cells of a row, each after one space.
+fn push_rest<EF: Field>(alloc: Global, text: &mut String, cells: &[EF]) -> Result<(), AllocError>
+    ensures { OnOk result (string_bytes text.new ≡ string_bytes text.old
+        ++ flat_map (λ cell. codes " " ++ EF.text cell) cells.now) }
+{
+    for cell in cells {
+        text.push_str(" ")?;
+        text.push_str(cell.text(alloc)?.as_str())?;
+    }
+    Ok(())
+}

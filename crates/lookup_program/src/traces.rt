@@ -1,0 +1,144 @@
+//! The AIRs of a machine over the rows of its input.
+ghost use Rattle.std.specs.Prelude.{◌≡◌, ◌≤◌, ◌+◌, IfOk, MatchResult, map};
+ghost use Rattle.std.specs.List.{AllZip};
+ghost use Rattle.batch_model.specs.Instances.{instances_of};
+ghost use Rattle.lookup.specs.Lookups.{lookups_of};
+ghost use Rattle.lookup_debug.specs.Contributions.{traced_of};
+ghost use Rattle.lookup_program.specs.Machines.{AreLookupsOf, air_trace, airs_of, columns_of, first_column_of, width_of};
+ghost use Rattle.lookup_program.specs.Traces.{IsTraceOf, instance_over, traced_over};
+
+use crate::airs::MachineAir;
+use crate::error::RunError;
+use crate::machine::Machine;
+use checker::BatchInstance;
+use field::{ExtensionField, Field};
+use lookup::debug_util::LookupDebugInstance;
+use lookup::{LogUpGadget, LookupError, Lookups};
+use matrix::RowMajorMatrix;
+use std::alloc::{AllocError, Global};
+
+/// An AIR of a machine: its lookups, and its trace.
+#[derive(Debug, Drop)]
+pub struct AirTrace<F> {
+    lookups: Lookups<F>,
+    main: RowMajorMatrix<F>,
+}
+
+/// The AIRs of a machine with their traces, in order.
+///
+/// Fails only when out of memory.
+pub fn air_traces<F: Field, EF: ExtensionField<F>>(
+    alloc: Global,
+    machine: Machine,
+    input: &RowMajorMatrix<F>,
+) -> Result<Vec<AirTrace<F>>, RunError>
+    requires { input.now.width ≡ columns_of machine }
+    ensures { MatchResult result
+        (λ traces. AllZip (IsTraceOf F.ring F.eq input.now) (airs_of machine) traces.items)
+        (λ e. e ≡ RunError.Memory) }
+{
+    let mut traces = Vec::new(alloc);
+    for air in machine.airs() {
+        let lookups = match lookups_for::<F, EF>(alloc, *air) {
+            Ok(lookups) => lookups,
+            Err(_) => return Err(RunError::Memory),
+        };
+        let main = trace_for(alloc, *air, input)?;
+        traces.push(AirTrace { lookups, main })?;
+    }
+    Ok(traces)
+}
+
+/// The greatest degree of the constraint of a packed column.
+const MAX_DEGREE: usize = 3;
+
+/// The lookups that an AIR records, packed: one, which fits the AIR's trace.
+///
+/// Fails only when out of memory.
+fn lookups_for<F: Field, EF: ExtensionField<F>>(
+    alloc: Global,
+    air: MachineAir,
+) -> Result<Lookups<F>, LookupError>
+    ensures { MatchResult result
+        (λ lookups. AreLookupsOf F.ring F.eq air (lookups_of lookups))
+        (λ e. e ≡ LookupError.Memory) }
+{
+    let lookups = recorded_for::<F, EF>(alloc, air)?;
+    lookups.pack_same_bus(alloc, &LogUpGadget::new(), MAX_DEGREE)
+}
+
+/// The lookups that an AIR records.
+///
+/// Fails only when out of memory.
+fn recorded_for<F: Field, EF: ExtensionField<F>>(
+    alloc: Global,
+    air: MachineAir,
+) -> Result<Lookups<F>, LookupError>
+    ensures { MatchResult result
+        (λ lookups. AreLookupsOf F.ring F.eq air (lookups_of lookups))
+        (λ e. e ≡ LookupError.Memory) }
+{
+    Lookups::from_air::<EF, MachineAir>(alloc, &air)
+}
+
+/// The columns that an AIR holds of the rows of the input.
+fn trace_for<F: Field>(
+    alloc: Global,
+    air: MachineAir,
+    input: &RowMajorMatrix<F>,
+) -> Result<RowMajorMatrix<F>, AllocError>
+    requires { first_column_of air + width_of air ≤ input.now.width }
+    ensures { IfOk result (λ trace. trace ≡ air_trace air input.now) }
+{
+    let first = air.first_column();
+    let last = first + air.columns();
+    let mut values = Vec::new(alloc);
+    for row in 0..input.height() {
+        values.extend_from_slice(&input.row_slice(row)[first..last])?;
+    }
+    Ok(RowMajorMatrix::new(values, air.columns()))
+}
+
+/// The batch of these AIRs, all under the same ids.
+pub fn batch_of<'a, F: Field>(
+    alloc: Global,
+    traces: &'a [AirTrace<F>],
+    public_values: &'a [F],
+    ids: &'a [usize],
+) -> Result<Vec<BatchInstance<'a, F>>, AllocError>
+    ensures { IfOk result (λ batch. instances_of batch.items
+        ≡ map (instance_over public_values.now ids.now) traces.now) }
+{
+    let mut batch = Vec::new(alloc);
+    for trace in traces {
+        batch.push(BatchInstance {
+            lookups: trace.lookups.as_slice(),
+            main: &trace.main,
+            preprocessed: None,
+            public_values,
+            ids,
+        })?;
+    }
+    Ok(batch)
+}
+
+/// What the debug check is given of these AIRs.
+pub fn debug_instances<'a, F: Field>(
+    alloc: Global,
+    traces: &'a [AirTrace<F>],
+) -> Result<Vec<LookupDebugInstance<'a, F>>, AllocError>
+    ensures { IfOk result (λ instances. map traced_of instances.items
+        ≡ map traced_over traces.now) }
+{
+    let mut instances = Vec::new(alloc);
+    for trace in traces {
+        instances.push(LookupDebugInstance {
+            main_trace: &trace.main,
+            preprocessed_trace: None,
+            public_values: &[],
+            lookups: trace.lookups.as_slice(),
+            permutation_challenges: &[],
+        })?;
+    }
+    Ok(instances)
+}

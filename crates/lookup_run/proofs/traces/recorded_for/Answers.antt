@@ -1,6 +1,0 @@
-use Rattle.lookup_run.proofs.ExtractedLaws.{air_lookups}
-use Rattle.lookup_run.proofs.traces.recorded_for.Goals as goal
-
-pub returns : goal.returns
-returns g c =
-    air_lookups _ _ g.F.PrimeCharacteristicRing.ring g.F.PartialEq.eq c.args.air c.from_air.result c.from_air.ensures.extracts c.from_air.ensures.within
