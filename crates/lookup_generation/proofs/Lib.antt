@@ -1,4 +1,7 @@
 pub mod ChunkColumnLaws
+pub mod ChunkFaults
+pub mod ColumnLaws
+pub mod ColumnsOfMatrix
 pub mod Fractions
 pub mod Layouts
 pub mod MadeRows

@@ -70,13 +70,6 @@ module _ {K : Type 0} {S : Ring K} (laws : IsCommutativeRing S) (domain : IsDoma
       let is : r.numerator ≡ x = h.0.value ∙ ap (λ d. S.mul d x) (eq_is r.denominator one first ∙ one_is) ∙ laws.mul_comm S.one x ∙ laws.mul_one x in
       λ i. is i ∷ whole_values eq one eq_is one_is rs xs rest h.1 i
 
-  -- and none of them is over zero
-  pub all_nonzero : (rs : List (Ratio K)) (xs : List K) → AllZip (IsRatio S) rs xs → All (λ r. r.denominator ≢ S.zero) rs
-  all_nonzero [] xs h k d lt = absurd (omega (arith, lt))
-  all_nonzero (r ∷ rs) [] h k d lt = absurd h
-  all_nonzero (r ∷ rs) (x ∷ xs) h zero d lt = h.0.nonzero
-  all_nonzero (r ∷ rs) (x ∷ xs) h (suc k) d lt = all_nonzero rs xs h.1 k d (omega (arith, lt))
-
 -- ratios over one pass the test
 pub all_whole : {K : Type 0} (S : Ring K) (eq : K → K → Bool) (one : K) → ((a b : K) → a ≡ b → IsTrue (eq a b)) → one ≡ S.one → (rs : List (Ratio K)) → AllByRecursion (λ (r : Ratio K). r.denominator ≡ S.one) rs → list_all (λ (r : Ratio K). eq r.denominator one) rs ≡ true
 all_whole S eq one eq_is one_is [] h = refl

@@ -1,17 +1,20 @@
 -- An auxiliary trace while it is being made.
-use Rattle.std.specs.Prelude.{◌≡◌, ◌⊎◌, ◌+◌, ◌-◌, ◌/◌, ℕ, Bool, List, [], ◌++◌, map, take, slice_get, slice_index_or, Some, Result, MatchResult}
+use Rattle.std.specs.Prelude.{◌≡◌, ◌⊎◌, ◌<◌, ◌≤◌, ◌+◌, ◌-◌, ◌/◌, ℕ, Bool, List, [], ◌++◌, map, take, slice_get, slice_index_or, None, Option, Some, MatchOption}
 use Rattle.std.specs.List.{AllZip, flat_map, range_with_len}
 use Rattle.std.specs.Option.{option_copied}
 use Rattle.field.specs.Ring.{Ring}
+use Rattle.lookup_columns.specs.Traces.{window_of}
 use Rattle.lookup_columns.specs.declared.traces.Traces.{Traces}
+use Rattle.matrix.specs.Matrix.{Matrix, height, row}
 use Rattle.lookup_model.specs.Extension.{Extension}
-use Rattle.lookup_model.specs.Fault.{row_faults, trace_faults}
+use Rattle.lookup_model.specs.Fault.{fault_of, row_faults, trace_faults}
 use Rattle.lookup_model.specs.Message.{Key}
 use Rattle.lookup_model.specs.Plain.{plain_accumulator, plain_fraction, plain_row}
-use Rattle.lookup_model.specs.Sent.{Sent}
-use Rattle.lookup_model.specs.Trace.{sent_rows}
+use Rattle.lookup_model.specs.Sent.{Sent, sent_at}
+use Rattle.lookup_model.specs.Trace.{sent_row, sent_rows}
 use Rattle.lookup_model.specs.declared.types.Lookup.{Lookup}
 use Rattle.lookup_generation.specs.Fraction.{IsRatio}
+use Rattle.lookup_generation.specs.declared.generation.RowFault.{RowFault}
 use Rattle.lookup_generation.specs.declared.ratio.Ratio.{Ratio}
 use Rattle.lookup_model.specs.declared.error.LookupError.{LookupError}
 use Rattle.lookup_model.specs.declared.error.LookupError.TheVariants.{Memory}
@@ -24,22 +27,74 @@ sent_rows_of R eq traces = sent_rows R eq traces.main.now (option_copied traces.
 abbrev pub IsFirstOf : List LookupError → LookupError → Type 0
 IsFirstOf faults e = (e ≡ Memory) ⊎ (slice_get faults 0 ≡ Some e)
 
+-- what a lookup sends on each row of traces, under its column as its id
+abbrev pub sent_on : {F : Type 0} → Ring F → (F → F → Bool) → Traces F → Lookup F → ℕ → Sent F
+sent_on R eq traces lookup r = sent_at R eq (window_of traces r) lookup.column lookup
+
+-- the values at one place of each row of a matrix
+abbrev pub column_cells : {T : Type 0} → T → Matrix T → ℕ → List T
+column_cells default m place = map (λ r. slice_index_or (row m r) place default) (range_with_len 0 (height m))
+
 module _ {F K : Type 0} (E : Extension F K) (denominator : Key F → K) where
-  -- The ratios are these values, and then the fractions of these lookups of a row, which has no fault
-  -- in them.
-  pub record HasRatios (row : ℕ) (before after : List (Ratio K)) (sents : List (Sent F)) : Type 0 where
-    pub ratios : (fs : List K) → AllZip (IsRatio E.ring) before fs → AllZip (IsRatio E.ring) after (fs ++ map (plain_fraction E denominator) sents)
-    pub faultless : row_faults E denominator row sents ≡ []
+  -- the fractions of what is sent on n rows from `first` on
+  abbrev pub column_fractions : (ℕ → Sent F) → ℕ → ℕ → List K
+  column_fractions sends first n = map (λ i. plain_fraction E denominator (sends (first + i))) (range_with_len 0 n)
+
+  -- what a lookup in a column sends on these rows has no fault
+  abbrev pub HasNoFault : (ℕ → Sent F) → ℕ → ℕ → ℕ → Type 0
+  HasNoFault sends column first end = (r : ℕ) → first ≤ r → r < end → fault_of E denominator r column (sends r) ≡ None
+
+  -- The ratios are these values, and then the fractions of a lookup on the rows from `first` up to
+  -- `end`, on which it has no fault.
+  pub record HasColumn (sends : ℕ → Sent F) (column first end : ℕ) (before after : List (Ratio K)) : Type 0 where
+    pub ratios : (fs : List K) → AllZip (IsRatio E.ring) before fs → AllZip (IsRatio E.ring) after (fs ++ column_fractions sends first (end - first))
+    pub faultless : HasNoFault sends column first end
+
+  -- out of memory, or the fault of a lookup on a row, the first one from row `first` on
+  pub record IsFirstIn (sends : ℕ → Sent F) (column first : ℕ) (fault : RowFault) : Type 0 where
+    pub fault_is : (fault.error ≡ Memory) ⊎ (fault_of E denominator fault.row column (sends fault.row) ≡ Some fault.error)
+    pub faultless : HasNoFault sends column first fault.row
+
+  -- The ratios of a lookup are appended. Otherwise its first fault is found.
+  abbrev pub AnswersColumn : (ℕ → Sent F) → ℕ → ℕ → ℕ → List (Ratio K) → List (Ratio K) → Option RowFault → Type 0
+  AnswersColumn sends column first end before after found =
+      MatchOption found (HasColumn sends column first end before after) (IsFirstIn sends column first)
+
+  module _ (traces : Traces F) (lookups : List (Lookup F)) where
+    -- what lookups send on these rows has no fault
+    abbrev pub HaveNoFault : ℕ → ℕ → Type 0
+    HaveNoFault first end =
+        (r : ℕ) → first ≤ r → r < end → row_faults E denominator r (sent_row E.base E.base_eq (window_of traces r) lookups) ≡ []
+
+    -- the fractions of lookups on n rows from `first` on, lookup after lookup
+    abbrev pub all_fractions : ℕ → ℕ → List K
+    all_fractions first n = flat_map (λ lookup. column_fractions (sent_on E.base E.base_eq traces lookup) first n) lookups
+
+    -- The ratios are the fractions of lookups on the rows from `first` up to `end`, on which they have
+    -- no fault.
+    pub record HasColumns (first end : ℕ) (ratios : List (Ratio K)) : Type 0 where
+      pub ratios_are : AllZip (IsRatio E.ring) ratios (all_fractions first (end - first))
+      pub faultless : HaveNoFault first end
+
+    -- out of memory, or the first fault of lookups on a row, before which they have none from row
+    -- `first` on
+    pub record AreFirstIn (first : ℕ) (fault : RowFault) : Type 0 where
+      pub fault_is : (fault.error ≡ Memory) ⊎ (slice_get (row_faults E denominator fault.row (sent_row E.base E.base_eq (window_of traces fault.row) lookups)) 0 ≡ Some fault.error)
+      pub faultless : HaveNoFault first fault.row
+
+    -- The ratios are those of all lookups. Otherwise their first fault is found.
+    abbrev pub AnswersColumns : ℕ → ℕ → List (Ratio K) → Option RowFault → Type 0
+    AnswersColumns first end ratios found = MatchOption found (HasColumns first end ratios) (AreFirstIn first)
+
+    -- The ratios are the fractions of the rows from `first` up to `end`, lookup after lookup, and no row
+    -- before `end` has a fault.
+    pub record AreRatios (first end : ℕ) (ratios : List (Ratio K)) : Type 0 where
+      pub ratios_are : AllZip (IsRatio E.ring) ratios (all_fractions first (end - first))
+      pub faultless : trace_faults E denominator (take end (sent_rows_of E.base E.base_eq traces lookups)) ≡ []
 
   -- the fractions on a row of a trace
   abbrev pub row_fractions : List (List (Sent F)) → ℕ → List K
   row_fractions rows r = map (plain_fraction E denominator) (slice_index_or rows r [])
-
-  -- The ratios are the fractions of the rows from `first` up to `end`, and no row before `end` has a
-  -- fault.
-  pub record AreRatios (rows : List (List (Sent F))) (first end : ℕ) (ratios : List (Ratio K)) : Type 0 where
-    pub ratios_are : AllZip (IsRatio E.ring) ratios (flat_map (λ i. row_fractions rows (first + i)) (range_with_len 0 (end - first)))
-    pub faultless : trace_faults E denominator (take end rows) ≡ []
 
   -- the cells are those of the first r rows, and the accumulator is that of row r
   pub record HasCells (rows : List (List (Sent F))) (r : ℕ) (cells : List K) (accumulator : K) : Type 0 where
@@ -50,13 +105,6 @@ module _ {F K : Type 0} (E : Extension F K) (denominator : Key F → K) where
   pub record HasRows (rows : List (List (Sent F))) (r : ℕ) (cells : List K) (accumulator : K) : Type 0 where
     pub made : HasCells rows r cells accumulator
     pub faultless : trace_faults E denominator (take r rows) ≡ []
-
-  -- The ratios of a row are appended. Otherwise its first fault.
-  abbrev pub AnswersRow : ℕ → List (Ratio K) → List (Ratio K) → List (Sent F) → Result (Unit {0}) LookupError → Type 0
-  AnswersRow row before after sents result =
-      MatchResult result
-      (λ _. HasRatios row before after sents)
-      (IsFirstOf (row_faults E denominator row sents))
 
 -- how many chunks of 1024 rows are started in a trace of this height
 abbrev pub started_chunks : ℕ → ℕ

@@ -96,8 +96,8 @@ fn branch_columns<F: Field, EF: ExtensionDomain<F>>(
     ensures flags { IfOk result (λ v. (v.flags ≡ flags) × (v.places ≡ places)) }
     ensures held { IfOk result (λ v. (place r : ℕ) (m : Message F)
         → slice_get rows.now place ≡ Some r
-        → slice_get (branches_at F.ring (window_of traces.now r) lookup.now.column lookup.now) branch
-        ≡ Some m
+        → slice_get (branches_at F.ring (window_of traces.now r) lookup.now.column lookup.now)
+        branch ≡ Some m
         → IsHeld (key_denominator EF.ring EF.embed challenges.now) place v m) }
 {
     let alpha = challenges[2 * lookup.column];

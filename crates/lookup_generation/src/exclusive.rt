@@ -3,11 +3,10 @@ ghost use Rattle.std.specs.Prelude.{◌≡◌, ◌≢◌, ◌+◌, ◌<◌, All,
 ghost use Rattle.std.specs.List.{AllZip};
 ghost use Rattle.lookup_generation.specs.Selection.{ArePlaces, AreSetFlags};
 ghost use Rattle.lookup_generation.specs.TraceBuilder.{builder_layout, builder_window};
-ghost use Rattle.lookup_generation.specs.Inverses.{ForInverses, base_extension};
+ghost use Rattle.lookup_generation.specs.Inverses.{ForExtensions, base_extension};
 ghost use Rattle.lookup_generation.specs.ChunkColumns.{HasFlag, HoldSelected, key_denominator};
 ghost use Rattle.lookup_generation.specs.Fraction.{IsRatio};
 ghost use Rattle.lookup_generation.specs.RowAnswers.{AnswersExclusive, AnswersFlags};
-ghost use Rattle.lookup_model.specs.Extension.{extension};
 ghost use Rattle.lookup_model.specs.Records.{AllFit};
 ghost use Rattle.lookup_model.specs.Sent.{branches_at, values};
 
@@ -144,8 +143,7 @@ pub(crate) fn exclusive_fraction<F: Field, EF: ExtensionDomain<F>>(
         builder.now.permutation_challenges.now) place columns.now
         (values F.ring (builder_window builder.now) flags.now)
         (branches_at F.ring (builder_window builder.now) lookup.now.column lookup.now) }
-    ensures answers { ForInverses EF.ring (λ inverse.
-        let E = extension F.ring F.eq EF.ring EF.eq EF.embed inverse in
+    ensures answers { ForExtensions F.ring F.eq EF.ring EF.eq EF.embed (λ E.
         AnswersExclusive E builder.now lookup.now flags.now result) }
     ensures sound { IfOk result (λ r. r.denominator ≢ EF.ring.zero) }
 {

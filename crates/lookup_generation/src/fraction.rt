@@ -1,10 +1,9 @@
 //! The fraction of one lookup on one row, as a ratio: nothing is divided yet.
 ghost use Rattle.std.specs.Prelude.{◌≡◌, ◌≢◌, ◌+◌, ◌<◌, None, Some, IfOk, IfErr, List, [], ◌∷◌, ◌++◌};
 ghost use Rattle.std.specs.List.{AllZip};
-ghost use Rattle.lookup_generation.specs.Inverses.{ForInverses};
+ghost use Rattle.lookup_generation.specs.Inverses.{ForExtensions};
 ghost use Rattle.lookup_generation.specs.ChunkColumns.{HoldLookup, IsHeld, key_denominator};
 ghost use Rattle.lookup_generation.specs.RowAnswers.{AnswersAdditive, AnswersFraction};
-ghost use Rattle.lookup_model.specs.Extension.{extension};
 ghost use Rattle.lookup_generation.specs.Fraction.{IsFractionOf};
 ghost use Rattle.lookup_model.specs.Message.{Key, Message};
 ghost use Rattle.lookup_model.specs.Sent.{branches_at};
@@ -27,8 +26,7 @@ fn with_branch<F: Field, EF: ExtensionDomain<F>>(
     row: usize,
     column: usize,
 ) -> Result<Ratio<EF>, LookupError>
-    ensures next { ForInverses EF.ring (λ inverse.
-        let E = extension F.ring F.eq EF.ring EF.eq EF.embed inverse in
+    ensures next { ForExtensions F.ring F.eq EF.ring EF.eq EF.embed (λ E.
         IfOk result (λ next. (denominators : Key F → EF) (messages : List (Message F))
         (message : Message F)
         → message.multiplicity ≡ multiplicity → denominators message.key ≡ denominator
@@ -61,8 +59,7 @@ fn additive_fraction<F: Field, EF: ExtensionDomain<F>>(
     requires { AllZip (IsHeld (key_denominator EF.ring EF.embed
         builder.now.permutation_challenges.now) place) columns.now
         (branches_at F.ring (builder_window builder.now) lookup.now.column lookup.now) }
-    ensures answers { ForInverses EF.ring (λ inverse.
-        let E = extension F.ring F.eq EF.ring EF.eq EF.embed inverse in
+    ensures answers { ForExtensions F.ring F.eq EF.ring EF.eq EF.embed (λ E.
         AnswersAdditive E builder.now lookup.now result) }
     ensures sound { IfOk result (λ r. r.denominator ≢ EF.ring.zero) }
 {
@@ -92,8 +89,7 @@ pub(crate) fn fraction<F: Field, EF: ExtensionDomain<F>>(
 ) -> Result<Ratio<EF>, LookupError>
     requires { HoldLookup F.ring EF.ring EF.embed builder.now.permutation_challenges.now
         (builder_window builder.now) place lookup.now columns.now }
-    ensures answers { ForInverses EF.ring (λ inverse.
-        let E = extension F.ring F.eq EF.ring EF.eq EF.embed inverse in
+    ensures answers { ForExtensions F.ring F.eq EF.ring EF.eq EF.embed (λ E.
         AnswersFraction E builder.now lookup.now result) }
     ensures sound { IfOk result (λ r. r.denominator ≢ EF.ring.zero) }
 {

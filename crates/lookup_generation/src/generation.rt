@@ -1,23 +1,22 @@
-//! Generation of the auxiliary trace, in chunks of rows: a chunk's fractions are found as ratios, and
-//! divided by one inverse.
-ghost use Rattle.std.specs.Prelude.{◌≡◌, ◌+◌, ◌-◌, ◌*◌, ◌%◌, ℕ, ◌<◌, ◌≤◌, ◌⊎◌, ◌++◌, ◌∷◌, [], None, Some, IfErr, IfOk, MatchResult, length, take};
+//! Generation of the auxiliary trace, in chunks of rows: a chunk's fractions are found as ratios, a
+//! column at a time, and divided by one inverse.
+ghost use Rattle.std.specs.Prelude.{◌≡◌, ◌+◌, ◌-◌, ◌*◌, ◌%◌, ℕ, ◌<◌, ◌≤◌, ◌⊎◌, ◌++◌, ◌∷◌, [], None, IfErr, IfOk, IfSome, MatchResult, length, take};
 ghost use Rattle.std.specs.List.{AllZip};
-ghost use Rattle.std.specs.Option.{ForSome, option_copied};
+ghost use Rattle.std.specs.Option.{ForSome, option_copied, option_map_or};
 ghost use Rattle.expressions.specs.Layout.{layout_of_traces};
 ghost use Rattle.expressions.specs.Window.{window_at};
-ghost use Rattle.lookup_columns.specs.Traces.{layout_of, height_of};
+ghost use Rattle.lookup_columns.specs.Traces.{layout_of, height_of, window_of};
 ghost use Rattle.lookup_model.specs.Denominators.{column_denominator};
 ghost use Rattle.lookup_model.specs.Extension.{extension};
 ghost use Rattle.lookup_model.specs.Fault.{trace_faults};
 ghost use Rattle.field.specs.Sums.{sum_in};
 ghost use Rattle.lookup_generation.specs.Fraction.{AreSound};
-ghost use Rattle.lookup_generation.specs.Inverses.{ForInverses};
-ghost use Rattle.lookup_generation.specs.ChunkColumns.{HoldLookups};
+ghost use Rattle.lookup_generation.specs.Inverses.{ForExtensions};
+ghost use Rattle.lookup_generation.specs.ChunkColumns.{HoldLookup, HoldLookups};
 ghost use Rattle.lookup_generation.specs.LookupSteps.{AreLookupSteps};
-ghost use Rattle.lookup_generation.specs.Progress.{AnswersRow, AreRatios, HasRows, IsFirstOf, sent_rows_of, started_chunks};
+ghost use Rattle.lookup_generation.specs.Progress.{AnswersColumn, AnswersColumns, AreRatios, HasRows, IsFirstOf, column_cells, sent_on, sent_rows_of, started_chunks};
 ghost use Rattle.lookup_model.specs.Records.{DoFit};
 ghost use Rattle.lookup_model.specs.Generation.{AnswersGeneration};
-ghost use Rattle.lookup_model.specs.Trace.{sent_row};
 ghost use Rattle.lookup_generation.specs.TraceBuilder.{builder_layout, builder_window};
 ghost use Rattle.matrix.specs.Matrix.{height};
 
@@ -35,35 +34,6 @@ use std::alloc::{AllocError, Global};
 
 /// How many rows make a chunk. All fractions of a chunk are divided by one inverse.
 const CHUNK_ROWS: usize = 1024;
-
-/// Appends the fraction of each lookup on the builder's row, as a ratio. `place` is that of the row in
-/// its chunk, whose columns these are.
-///
-/// Refuses the first fault of the row; `ratios` may then hold a part of it.
-fn push_ratios<F: Field, EF: ExtensionDomain<F>>(
-    ratios: &mut Vec<Ratio<EF>>,
-    lookups: &[Lookup<F>],
-    columns: &[Vec<BranchColumns<F, EF>>],
-    place: usize,
-    builder: &LookupTraceBuilder<'_, F, EF>,
-) -> Result<(), LookupError>
-    requires fit { DoFit (builder_layout builder.now) lookups.now }
-    requires columns { HoldLookups F.ring EF.ring EF.embed builder.now.permutation_challenges.now
-        (builder_window builder.now) place lookups.now columns.now }
-    ensures answers { ForInverses EF.ring (λ inverse.
-        let E = extension F.ring F.eq EF.ring EF.eq EF.embed inverse in
-        AnswersRow E (column_denominator E builder.now.permutation_challenges.now) builder.now.row
-        ratios.old.items ratios.new.items (sent_row F.ring F.eq
-        (builder_window builder.now) lookups.now) result) }
-    ensures sound { IfOk result (λ _. (n : ℕ) → AreSound EF.ring n ratios.old.items
-        → AreSound EF.ring (n + length lookups.now) ratios.new.items) }
-{
-    for lookup in lookups {
-        let ratio = fraction(lookup, &columns[lookup.column], place, builder)?;
-        ratios.push(ratio)?;
-    }
-    Ok(())
-}
 
 /// The builder of one row of an AIR's traces together with the next row; the last row comes with the
 /// first one. The caller counts the rows of the traces, `num_rows`, once for all of them.
@@ -105,7 +75,111 @@ pub fn row_builder<'a, F: Field, EF: Domain>(
     LookupTraceBuilder::new(main, preprocessed, public_values, challenges, num_rows, row)
 }
 
-/// The fractions of all lookups on the rows from `first` up to `end`, row after row, as ratios.
+/// A fault of a lookup, and the row where it is.
+#[derive(Drop)]
+pub(crate) struct RowFault {
+    row: usize,
+    error: LookupError,
+}
+
+/// Appends the fractions of a lookup on the rows from `first` up to `end`, row after row, as ratios.
+/// `columns` are those of the lookup, from row `first` on.
+///
+/// Returns the lookup's first fault on these rows, if it has one; `ratios` then hold the fractions of
+/// the rows before.
+fn push_column<F: Field, EF: ExtensionDomain<F>>(
+    ratios: &mut Vec<Ratio<EF>>,
+    lookup: &Lookup<F>,
+    columns: &[BranchColumns<F, EF>],
+    traces: &Traces<'_, F>,
+    challenges: &[EF],
+    first: usize,
+    end: usize,
+) -> Result<Option<RowFault>, AllocError>
+    requires from { first ≤ end }
+    requires up_to { end ≤ height_of traces.now }
+    requires columns { (row : ℕ) → first ≤ row → row < end
+        → HoldLookup F.ring EF.ring EF.embed challenges.now (window_of traces.now row)
+        (row - first) lookup.now columns.now }
+    ensures answers { ForExtensions F.ring F.eq EF.ring EF.eq EF.embed (λ E.
+        IfOk result (λ found. AnswersColumn E (column_denominator E challenges.now)
+        (sent_on F.ring F.eq traces.now lookup.now) lookup.now.column first end
+        ratios.old.items ratios.new.items found)) }
+    ensures sound { IfOk result (λ found. found ≡ None → (n : ℕ)
+        → AreSound EF.ring n ratios.old.items
+        → AreSound EF.ring (n + (end - first)) ratios.new.items) }
+    ensures there { IfOk result (λ found. IfSome found
+        (λ fault. (first ≤ fault.row) × (fault.row < end))) }
+{
+    let height = traces.main.height();
+    for row in first..end {
+        let builder = row_builder(
+            traces.main,
+            traces.preprocessed,
+            traces.public_values,
+            challenges,
+            height,
+            row,
+        );
+        match fraction(lookup, columns, row - first, &builder) {
+            Ok(ratio) => ratios.push(ratio)?,
+            Err(error) => return Ok(Some(RowFault { row, error })),
+        }
+    }
+    Ok(None)
+}
+
+/// Where the rows end on which a fault would come before this one: all end at `end`.
+fn rows_before(fault: &Option<RowFault>, end: usize) -> usize
+    ensures { result ≡ option_map_or (λ f. f.row) fault.now end }
+{
+    match fault {
+        Some(fault) => fault.row,
+        None => end,
+    }
+}
+
+/// Appends the fractions of each lookup on the rows from `first` up to `end`, a column after the
+/// other, as ratios.
+///
+/// Returns the first fault in the order row, lookup, if there is one: after a fault, the rows before
+/// it are all that is looked at of further lookups.
+fn push_columns<F: Field, EF: ExtensionDomain<F>>(
+    ratios: &mut Vec<Ratio<EF>>,
+    lookups: &[Lookup<F>],
+    columns: &[Vec<BranchColumns<F, EF>>],
+    traces: &Traces<'_, F>,
+    challenges: &[EF],
+    first: usize,
+    end: usize,
+) -> Result<Option<RowFault>, AllocError>
+    requires fit { DoFit (layout_of traces.now) lookups.now }
+    requires from { first ≤ end }
+    requires up_to { end ≤ height_of traces.now }
+    requires columns { (row : ℕ) → first ≤ row → row < end
+        → HoldLookups F.ring EF.ring EF.embed challenges.now (window_of traces.now row)
+        (row - first) lookups.now columns.now }
+    requires wide { length columns.now ≡ length lookups.now }
+    requires none_yet { ratios.old.items ≡ [] }
+    ensures answers { ForExtensions F.ring F.eq EF.ring EF.eq EF.embed (λ E.
+        IfOk result (AnswersColumns E (column_denominator E challenges.now) traces.now lookups.now
+        first end ratios.new.items)) }
+    ensures sound { IfOk result (λ found. found ≡ None
+        → AreSound EF.ring (length lookups.now * (end - first)) ratios.new.items) }
+    ensures there { IfOk result (λ found. IfSome found
+        (λ fault. (first ≤ fault.row) × (fault.row < end))) }
+{
+    let mut fault: Option<RowFault> = None;
+    for lookup in lookups {
+        let until = rows_before(&fault, end);
+        let branches = &columns[lookup.column];
+        let found = push_column(ratios, lookup, branches, traces, challenges, first, until)?;
+        fault = found.or(fault);
+    }
+    Ok(fault)
+}
+
+/// The fractions of all lookups on the rows from `first` up to `end`, lookup after lookup, as ratios.
 ///
 /// Refuses the first fault in the order row, lookup.
 fn ratios_of<F: Field, EF: ExtensionDomain<F>>(
@@ -123,19 +197,17 @@ fn ratios_of<F: Field, EF: ExtensionDomain<F>>(
     requires challenges { 2 * length lookups.now ≤ length challenges.now }
     requires from { first ≤ end }
     requires up_to { end ≤ height_of traces.now }
-    requires faultless { ForInverses EF.ring (λ inverse.
-        let E = extension F.ring F.eq EF.ring EF.eq EF.embed inverse in
+    requires faultless { ForExtensions F.ring F.eq EF.ring EF.eq EF.embed (λ E.
         trace_faults E (column_denominator E challenges.now)
         (take first (sent_rows_of F.ring F.eq traces.now lookups.now)) ≡ []) }
-    ensures answers { ForInverses EF.ring (λ inverse.
-        let E = extension F.ring F.eq EF.ring EF.eq EF.embed inverse in
+    ensures answers { ForExtensions F.ring F.eq EF.ring EF.eq EF.embed (λ E.
         let denominator = column_denominator E challenges.now in
-        let rows = sent_rows_of F.ring F.eq traces.now lookups.now in
         MatchResult result
-        (λ v. AreRatios E denominator rows first end v.items)
-        (IsFirstOf (trace_faults E denominator rows))) }
+        (λ v. AreRatios E denominator traces.now lookups.now first end v.items)
+        (IsFirstOf (trace_faults E denominator
+        (sent_rows_of F.ring F.eq traces.now lookups.now)))) }
     ensures sound { IfOk result (λ v. AreSound EF.ring
-        ((end - first) * length lookups.now) v.items) }
+        (length lookups.now * (end - first)) v.items) }
 {
     let rows = rows_between(alloc, &mut memory.places, first, end)?;
     let columns = columns_of_lookups(alloc, memory, lookups, steps, traces, challenges, &rows)?;
@@ -144,35 +216,43 @@ fn ratios_of<F: Field, EF: ExtensionDomain<F>>(
         .checked_mul(lookups.len())
         .ok_or(LookupError::Memory)?;
     let mut ratios = memory.ratios.take(alloc, size)?;
-    let height = traces.main.height();
-    for row in first..end {
-        let builder = row_builder(
-            traces.main,
-            traces.preprocessed,
-            traces.public_values,
-            challenges,
-            height,
-            row,
-        );
-        push_ratios(&mut ratios, lookups, &columns, row - first, &builder)?;
-    }
+    let fault = push_columns(
+        &mut ratios,
+        lookups,
+        &columns,
+        traces,
+        challenges,
+        first,
+        end,
+    )?;
     memory.places.put(rows)?;
     memory.put_columns(columns)?;
-    Ok(ratios)
+    match fault {
+        Some(RowFault { row: _, error }) => Err(error),
+        None => Ok(ratios),
+    }
 }
 
-/// Appends a row of the auxiliary trace to `cells`: the accumulator and the fractions. Returns the
-/// accumulator of the next row.
-fn push_row<K: Domain>(cells: &mut Vec<K>, accumulator: K, fractions: &[K]) -> Result<K, AllocError>
+/// Appends a row of the auxiliary trace to `cells`: the accumulator, and the fraction of each lookup,
+/// which stands at `place` of a row of `fractions`. Returns the accumulator of the next row.
+fn push_row<K: Domain>(
+    cells: &mut Vec<K>,
+    accumulator: K,
+    fractions: &RowMajorMatrix<K>,
+    place: usize,
+) -> Result<K, AllocError>
+    requires { place < fractions.now.width }
     ensures { IfOk result (λ next. (cells.new.items ≡ cells.old.items
-        ++ accumulator ∷ fractions.now)
-        × (next ≡ K.ring.add accumulator (sum_in K.ring fractions.now))) }
+        ++ accumulator ∷ column_cells K.ring.zero fractions.now place)
+        × (next ≡ K.ring.add accumulator
+        (sum_in K.ring (column_cells K.ring.zero fractions.now place)))) }
 {
     cells.push(accumulator)?;
     let mut next = accumulator;
-    for fraction in fractions {
-        cells.push(*fraction)?;
-        next = next + *fraction;
+    for lookup in 0..fractions.height() {
+        let fraction = fractions.row_slice(lookup)[place];
+        cells.push(fraction)?;
+        next = next + fraction;
     }
     Ok(next)
 }
@@ -197,16 +277,13 @@ fn push_chunk<F: Field, EF: ExtensionDomain<F>, I: Inverter<EF>>(
     requires steps { AllZip AreLookupSteps steps.now lookups.now }
     requires fit { DoFit (layout_of traces.now) lookups.now }
     requires challenges { 2 * length lookups.now ≤ length challenges.now }
-    requires some { 0 < length lookups.now }
-    requires from { first ≤ end }
+    requires from { first < end }
     requires up_to { end ≤ height_of traces.now }
-    requires so_far { ForInverses EF.ring (λ inverse.
-        let E = extension F.ring F.eq EF.ring EF.eq EF.embed inverse in
+    requires so_far { ForExtensions F.ring F.eq EF.ring EF.eq EF.embed (λ E.
         let denominator = column_denominator E challenges.now in
         let rows = sent_rows_of F.ring F.eq traces.now lookups.now in
         HasRows E denominator rows first cells.now.items accumulator) }
-    ensures rows { ForInverses EF.ring (λ inverse.
-        let E = extension F.ring F.eq EF.ring EF.eq EF.embed inverse in
+    ensures rows { ForExtensions F.ring F.eq EF.ring EF.eq EF.embed (λ E.
         let denominator = column_denominator E challenges.now in
         let rows = sent_rows_of F.ring F.eq traces.now lookups.now in
         MatchResult result
@@ -223,10 +300,11 @@ fn push_chunk<F: Field, EF: ExtensionDomain<F>, I: Inverter<EF>>(
     )?;
     let values = values_of(alloc, &mut memory.fractions, &ratios, inverter)?;
     memory.ratios.put(ratios)?;
-    let fractions = RowMajorMatrix::new(values, lookups.len());
+    let num_rows = end - first;
+    let fractions = RowMajorMatrix::new(values, num_rows);
     let mut next = accumulator;
-    for i in 0..end - first {
-        next = push_row(cells, next, fractions.row_slice(i))?;
+    for place in 0..num_rows {
+        next = push_row(cells, next, &fractions, place)?;
     }
     memory.fractions.put(fractions.into_values())?;
     Ok(next)
@@ -260,8 +338,7 @@ fn generate<F: Field, EF: ExtensionDomain<F>, I: Inverter<EF>>(
     requires fit { DoFit (layout_of traces.now) lookups.now }
     requires challenges { 2 * length lookups.now ≤ length challenges.now }
     requires some { 0 < length lookups.now }
-    ensures rows { ForInverses EF.ring (λ inverse.
-        let E = extension F.ring F.eq EF.ring EF.eq EF.embed inverse in
+    ensures rows { ForExtensions F.ring F.eq EF.ring EF.eq EF.embed (λ E.
         let denominator = column_denominator E challenges.now in
         let rows = sent_rows_of F.ring F.eq traces.now lookups.now in
         MatchResult result
@@ -320,9 +397,9 @@ pub fn generate_counted<'a, F: Field, EF: ExtensionDomain<F>, I: Inverter<EF>>(
     requires fit { DoFit (layout_of_traces main.now (option_copied preprocessed) public_values.now)
         lookups.now }
     requires challenges { 2 * length lookups.now ≤ length challenges.now }
-    ensures answers { ForInverses EF.ring (λ inverse. AnswersGeneration
-        (extension F.ring F.eq EF.ring EF.eq EF.embed inverse) main.now
-        (option_copied preprocessed.entry) public_values.now lookups.now challenges.now result) }
+    ensures answers { ForExtensions F.ring F.eq EF.ring EF.eq EF.embed (λ E. AnswersGeneration E
+        main.now (option_copied preprocessed.entry) public_values.now lookups.now challenges.now
+        result) }
     ensures counted { I.count inverter.new ≤ I.count inverter.old + started_chunks
         (height main.now) }
     ensures spared { IfErr result (λ e. (e ≡ LookupError.Memory)

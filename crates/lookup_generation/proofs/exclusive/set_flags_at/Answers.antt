@@ -1,4 +1,4 @@
-use Rattle.std.proofs.Common.{◌∷◌, ◌++◌, [], List, take, drop, inr, refl, sym, ap, subst, ◌∙◌, ◌+◌, arith}
+use Rattle.std.proofs.Common.{◌∷◌, ◌++◌, [], List, take, drop, inr, sym, ap, subst, ◌∙◌, ◌+◌, arith}
 use Rattle.std.specs.List.{slice_index_or}
 use Rattle.lookup_generation.specs.declared.columns.BranchColumns.{BranchColumns}
 use Rattle.std.proofs.lemmas.List.{length-take, take_all}

@@ -1,4 +1,4 @@
-use Rattle.std.proofs.Common.{refl, sym, ◌∙◌}
+use Rattle.std.proofs.Common.{sym, ◌∙◌}
 use Rattle.lookup_model.specs.Extension.{IsLawful}
 use Rattle.lookup_model.proofs.Lawful.{lawful_over_itself}
 use Rattle.lookup_generation.specs.Inverses.{base_extension}

@@ -1,14 +1,16 @@
-use Rattle.std.proofs.Common.{◌≡◌, ◌≢◌, ◌<◌, ◌≤◌, ◌+◌, ◌-◌, ◌*◌, ◌∷◌, ℕ, suc, All, List, inr, length, refl, sym, ap, subst, ◌∙◌, arith}
+use Rattle.std.proofs.Common.{◌≡◌, ◌≢◌, ◌<◌, ◌+◌, ◌-◌, ◌*◌, ◌∷◌, suc, All, List, inr, length, refl, sym, ap, subst, ◌∙◌, arith}
 use Rattle.std.proofs.lemmas.List.{length-append}
+use Rattle.std.proofs.lemmas.List.FromFn.{length-map-range_with_len}
 use Rattle.std.proofs.lemmas.Result.{err_from_is_err_and}
-use Rattle.std.specs.List.{AllZip, flat_map, range_with_len}
+use Rattle.std.specs.List.{AllZip, slice_index_or}
 use Rattle.std.specs.Option.{option_copied}
-use Rattle.lookup_generation.proofs.ProgressLaws.{HasCells-more, fractions_at, product_more}
+use Rattle.lookup_generation.proofs.ColumnsOfMatrix.{column_cells-are}
+use Rattle.lookup_generation.proofs.ProgressLaws.{HasCells-more, product_more}
 use Rattle.lookup_generation.specs.Fraction.{IsRatio}
-use Rattle.lookup_generation.specs.Progress.{HasCells, row_fractions, sent_rows_of}
+use Rattle.lookup_generation.specs.Progress.{HasCells, all_fractions, column_cells, sent_rows_of}
 use Rattle.lookup_generation.specs.declared.ratio.Ratio.{Ratio}
 use Rattle.lookup_laws.proofs.PlainResults.{IsShaped-product, height_of}
-use Rattle.lookup_laws.proofs.SentRows.{length-sent_rows, length-sent_rows-at}
+use Rattle.lookup_laws.proofs.SentRows.{length-sent_rows}
 use Rattle.lookup_model.specs.Denominators.{column_denominator}
 use Rattle.lookup_model.specs.Extension.{extension, IsLawful}
 use Rattle.lookup_model.proofs.Lawful.{lawful_extension}
@@ -25,25 +27,18 @@ values_of-requires g c =
 
 pub new-fractions-requires : goal.new-fractions-requires
 new-fractions-requires g c =
-    let n = length c.args.lookups.now in
-    let m = c.args.end - c.args.first in
-    let one : n ≡ (n - 1) + 1 = omega (arith, c.requires.some) in
+    let n = c.args.end - c.args.first in
+    let m = length c.args.lookups.now in
+    let one : n ≡ (n - 1) + 1 = omega (arith, c.requires.from) in
     let values = c.in_ok-values.values.items in
     let long : length values ≡ m * ((n - 1) + 1) = c.in_ok-values.ensures.many ∙ ap length c.deref.ensures.value ∙ c.in_ok-ratios.ensures.sound.many ∙ ap (λ w. m * w) one in
     subst (λ w. IsShaped (record { values = values; width = w })) (sym one) (IsShaped-product values m (n - 1) long)
 
-pub row_slice-requires : goal.row_slice-requires
-row_slice-requires g c =
-    let n = length c.args.lookups.now in
-    let m = c.args.end - c.args.first in
-    let one : n ≡ (n - 1) + 1 = omega (arith, c.requires.some) in
-    let values = c.in_ok-values.values.items in
-    let long : length values ≡ m * ((n - 1) + 1) = c.in_ok-values.ensures.many ∙ ap length c.deref.ensures.value ∙ c.in_ok-ratios.ensures.sound.many ∙ ap (λ w. m * w) one in
-    let tall : height c.new-fractions.result ≡ m = ap height c.new-fractions.ensures ∙ ap (λ w. height (record { values = values; width = w })) one ∙ height_of values m (n - 1) long in
-    omega (arith, tall, c.loop-i-test.true)
+pub push_row-requires : goal.push_row-requires
+push_row-requires g c = omega (arith, ap (λ t. t.width) c.new-fractions.ensures, c.loop-place-test.true)
 
-pub loop-i-init : goal.loop-i-init
-loop-i-init g c = (
+pub loop-place-init : goal.loop-place-init
+loop-place-init g c = (
   λ inverse is_inverse.
       let E = extension g.F.PrimeCharacteristicRing.ring g.F.PartialEq.eq g.EF.PrimeCharacteristicRing.ring g.EF.PartialEq.eq g.EF.ExtensionDomain.embed inverse in
       let here : c.args.first ≡ c.args.first + 0 = omega arith in
@@ -51,8 +46,8 @@ loop-i-init g c = (
   omega arith,
 )
 
-pub loop-i-preserved : goal.loop-i-preserved
-loop-i-preserved g c = (
+pub loop-place-preserved : goal.loop-place-preserved
+loop-place-preserved g c = (
   λ inverse is_inverse.
       let E = extension g.F.PrimeCharacteristicRing.ring g.F.PartialEq.eq g.EF.PrimeCharacteristicRing.ring g.EF.PartialEq.eq g.EF.ExtensionDomain.embed inverse in
       let laws : IsLawful E = lawful_extension g.F.PrimeCharacteristicRing.lawful g.met.F.PrimeCharacteristicRing.eq_is g.EF.PrimeCharacteristicRing.lawful g.met.EF.Domain.domain g.met.EF.PrimeCharacteristicRing.eq_is g.met.EF.ExtensionDomain.embeds is_inverse in
@@ -60,36 +55,42 @@ loop-i-preserved g c = (
       let prep = option_copied c.args.traces.now.preprocessed in
       let rows = sent_rows E.base E.base_eq c.args.traces.now.main.now prep c.args.traces.now.public_values.now c.args.lookups.now in
       let first = c.args.first in
-      let m = c.args.end - first in
-      let n = length c.args.lookups.now in
-      let one : n ≡ (n - 1) + 1 = omega (arith, c.requires.some) in
+      let n = c.args.end - first in
+      let one : n ≡ (n - 1) + 1 = omega (arith, c.requires.from) in
       let high = length-sent_rows E.base E.base_eq c.args.traces.now.main.now prep c.args.traces.now.public_values.now c.args.lookups.now in
-      let within : first + m ≤ length rows = omega (arith, high, c.requires.up_to, c.requires.from) in
-      let wide = λ (k : ℕ) (lt : k < length rows). length-sent_rows-at E.base E.base_eq c.args.traces.now.main.now prep c.args.traces.now.public_values.now c.args.lookups.now k (omega (arith, high, lt)) in
-      let fs = flat_map (λ i. row_fractions E denominator rows (first + i)) (range_with_len 0 m) in
+      let fs = all_fractions E denominator c.args.traces.now c.args.lookups.now first n in
       let values = c.in_ok-values.values.items in
       let are : values ≡ fs = c.in_ok-values.ensures.values fs (subst (λ rs. AllZip (IsRatio E.ring) rs fs) (sym c.deref.ensures.value) (c.in_ok-ratios.ensures.answers inverse is_inverse).ratios_are) in
-      let i = c.loop-i.i in
-      let here : c.row_slice.result.now ≡ row_fractions E denominator rows (first + i) =
-      c.row_slice.ensures.row ∙ ap (λ t. row t i) c.new-fractions.ensures ∙ (λ k. row (record { values = are k; width = n }) i) ∙ fractions_at laws denominator rows n wide first m i within c.loop-i-test.true in
-      let lt : first + i < length rows = omega (arith, within, c.loop-i-test.true) in
-      let next : (first + i) + 1 ≡ first + (i + 1) = omega arith in
+      let long : length values ≡ length c.args.lookups.now * ((n - 1) + 1) = c.in_ok-values.ensures.many ∙ ap length c.deref.ensures.value ∙ c.in_ok-ratios.ensures.sound.many ∙ ap (λ w. length c.args.lookups.now * w) one in
+      let matrix = c.new-fractions.result in
+      let tall : height matrix ≡ length c.args.lookups.now = ap height c.new-fractions.ensures ∙ ap (λ w. height (record { values = values; width = w })) one ∙ height_of values (length c.args.lookups.now) (n - 1) long in
+      let place = c.loop-place.place in
+      let below : first + place < height c.args.traces.now.main.now = omega (arith, c.loop-place-test.true, c.requires.up_to, c.requires.from) in
+      let here = column_cells-are E denominator c.args.traces.now c.args.lookups.now matrix first n place (ap (λ t. t.width) c.new-fractions.ensures) tall (ap (λ t. t.values) c.new-fractions.ensures ∙ are) c.loop-place-test.true below in
+      let next : (first + place) + 1 ≡ first + (place + 1) = omega arith in
       subst (λ r. HasCells E denominator rows r c.push_row.new.cells.items c.in_ok-next.next) next
-      (HasCells-more laws denominator rows (first + i) c.loop-i.cells.items c.push_row.new.cells.items c.row_slice.result.now c.loop-i.next c.in_ok-next.next lt here c.in_ok-next.ensures.0 c.in_ok-next.ensures.1 (c.loop-i.invariant.0 inverse is_inverse)),
-  let n = length c.args.lookups.now in
-      let slice = c.row_slice.result.now in
-      let wide : length slice ≡ n = c.row_slice.ensures.len ∙ ap (λ t. t.width) c.new-fractions.ensures in
-      ap length c.in_ok-next.ensures.0 ∙ length-append c.loop-i.cells.items (c.loop-i.next ∷ slice)
-      ∙ (λ k. c.loop-i.invariant.1 k + suc (wide k))
-      ∙ omega (arith, product_more c.loop-i.i (n + 1)),
+      (HasCells-more laws denominator rows (first + place) c.loop-place.cells.items c.push_row.new.cells.items (column_cells E.ring.zero matrix place) c.loop-place.next c.in_ok-next.next (omega (arith, high, below)) here c.in_ok-next.ensures.0 c.in_ok-next.ensures.1 (c.loop-place.invariant.0 inverse is_inverse)),
+  let n = c.args.end - c.args.first in
+      let m = length c.args.lookups.now in
+      let one : n ≡ (n - 1) + 1 = omega (arith, c.requires.from) in
+      let values = c.in_ok-values.values.items in
+      let long : length values ≡ m * ((n - 1) + 1) = c.in_ok-values.ensures.many ∙ ap length c.deref.ensures.value ∙ c.in_ok-ratios.ensures.sound.many ∙ ap (λ w. m * w) one in
+      let matrix = c.new-fractions.result in
+      let tall : height matrix ≡ m = ap height c.new-fractions.ensures ∙ ap (λ w. height (record { values = values; width = w })) one ∙ height_of values m (n - 1) long in
+      let zero = g.EF.PrimeCharacteristicRing.ring.zero in
+      let place = c.loop-place.place in
+      let wide : length (column_cells zero matrix place) ≡ m = length-map-range_with_len (λ r. slice_index_or (row matrix r) place zero) 0 (height matrix) ∙ tall in
+      ap length c.in_ok-next.ensures.0 ∙ length-append c.loop-place.cells.items (c.loop-place.next ∷ column_cells zero matrix place)
+      ∙ (λ k. c.loop-place.invariant.1 k + suc (wide k))
+      ∙ omega (arith, product_more place (m + 1)),
 )
 
 pub returns-clause-rows : goal.returns-clause-rows
 returns-clause-rows g c = λ inverse is_inverse.
     let E = extension g.F.PrimeCharacteristicRing.ring g.F.PartialEq.eq g.EF.PrimeCharacteristicRing.ring g.EF.PartialEq.eq g.EF.ExtensionDomain.embed inverse in
-    let all : c.args.first + c.loop-i.i ≡ c.args.end = omega (arith, c.loop-i-test.false, c.loop-i.auto.i-end, c.requires.from) in
+    let all : c.args.first + c.loop-place.place ≡ c.args.end = omega (arith, c.loop-place-test.false, c.loop-place.auto.place-end, c.requires.from) in
     record {
-      made = subst (λ r. HasCells E (column_denominator E c.args.challenges.now) (sent_rows_of E.base E.base_eq c.args.traces.now c.args.lookups.now) r c.loop-i.cells.items c.loop-i.next) all (c.loop-i.invariant.0 inverse is_inverse);
+      made = subst (λ r. HasCells E (column_denominator E c.args.challenges.now) (sent_rows_of E.base E.base_eq c.args.traces.now c.args.lookups.now) r c.loop-place.cells.items c.loop-place.next) all (c.loop-place.invariant.0 inverse is_inverse);
       faultless = (c.in_ok-ratios.ensures.answers inverse is_inverse).faultless;
     }
 
@@ -100,8 +101,8 @@ returns-in_err-ratios-clause-rows g c = λ inverse is_inverse.
 
 pub returns-clause-many : goal.returns-clause-many
 returns-clause-many g c =
-    let all : c.loop-i.i ≡ c.args.end - c.args.first = omega (arith, c.loop-i-test.false, c.loop-i.auto.i-end) in
-    c.loop-i.invariant.1 ∙ ap (λ m. length c.args.cells.now.items + m * (length c.args.lookups.now + 1)) all
+    let all : c.loop-place.place ≡ c.args.end - c.args.first = omega (arith, c.loop-place-test.false, c.loop-place.auto.place-end) in
+    c.loop-place.invariant.1 ∙ ap (λ m. length c.args.cells.now.items + m * (length c.args.lookups.now + 1)) all
 
 pub returns-in_err-ratios-clause-spared : goal.returns-in_err-ratios-clause-spared
 returns-in_err-ratios-clause-spared g c =

@@ -1,9 +1,11 @@
-use Rattle.std.proofs.Common.{◌≡◌, ◌++◌, ◌∷◌, take}
+use Rattle.std.proofs.Common.{◌≡◌, ◌++◌, ◌∷◌, map, slice_index_or}
+use Rattle.std.specs.List.{range_with_len}
 use Rattle.field.specs.Sums.{sum_in}
+use Rattle.matrix.specs.Matrix.{row}
 use Rattle.lookup_generation.proofs.generation.push_row.Given as goal
 
-abbrev pub invariant-loop-fraction : goal.invariant-loop-fraction
-invariant-loop-fraction g l =
+abbrev pub invariant-loop-lookup : goal.invariant-loop-lookup
+invariant-loop-lookup g l =
     let S = g.K.PrimeCharacteristicRing.ring in
-    let so_far = take l.fraction-index l.fractions in
+    let so_far = map (λ r. slice_index_or (row l.fractions r) l.place S.zero) (range_with_len 0 l.lookup) in
     (l.cells.items ≡ l.fn.cells.items ++ l.fn.accumulator ∷ so_far) × (l.next ≡ S.add l.fn.accumulator (sum_in S so_far))

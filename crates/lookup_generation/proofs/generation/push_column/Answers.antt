@@ -1,0 +1,75 @@
+use Rattle.std.proofs.Common.{◌≡◌, ◌⊎◌, ◌+◌, ◌-◌, ℕ, List, None, Some, subst, sym, arith}
+use Rattle.expressions.specs.Window.{Window}
+use Rattle.lookup_columns.specs.Traces.{window_of}
+use Rattle.lookup_model.specs.Denominators.{column_denominator}
+use Rattle.lookup_model.specs.Extension.{extension}
+use Rattle.lookup_model.specs.Fault.{fault_of}
+use Rattle.lookup_model.specs.Plain.{plain_fraction}
+use Rattle.lookup_model.specs.Sent.{sent_at}
+use Rattle.lookup_model.specs.declared.error.LookupError.TheVariants.{Memory}
+use Rattle.lookup_generation.specs.Fraction.{AreSound, IsRatio}
+use Rattle.lookup_generation.specs.Progress.{HasColumn, sent_on}
+use Rattle.lookup_generation.proofs.ColumnLaws.{HasColumn-more, HasColumn-none, IsFirstIn-here}
+use Rattle.lookup_generation.proofs.ProgressLaws.{sound_more, sound_of}
+use Rattle.lookup_generation.proofs.generation.push_column.Goals as goal
+
+pub loop-row-init : goal.loop-row-init
+loop-row-init g c =
+    let none : c.args.first - c.args.first ≡ 0 = omega arith in (
+      λ inverse is_inverse.
+          let E = extension g.F.PrimeCharacteristicRing.ring g.F.PartialEq.eq g.EF.PrimeCharacteristicRing.ring g.EF.PartialEq.eq g.EF.ExtensionDomain.embed inverse in
+          HasColumn-none E (column_denominator E c.args.challenges.now) (sent_on E.base E.base_eq c.args.traces.now c.args.lookup.now) c.args.lookup.now.column c.args.first c.args.ratios.now.items,
+      λ n sound. subst (λ m. AreSound g.EF.PrimeCharacteristicRing.ring (n + m) c.args.ratios.now.items) (sym none) (sound_of n c.args.ratios.now.items sound),
+    )
+
+pub loop-row-preserved : goal.loop-row-preserved
+loop-row-preserved g c =
+    let r = c.loop-row.row in
+    let one_more : (r - c.args.first) + 1 ≡ r + 1 - c.args.first = omega (arith, c.loop-row.auto.row) in
+    let after = c.loop-row.ratios.items in
+    let longer = c.push.new.self.items in
+    let ratio = c.in-Ok.ratio in (
+      λ inverse is_inverse.
+          let E = extension g.F.PrimeCharacteristicRing.ring g.F.PartialEq.eq g.EF.PrimeCharacteristicRing.ring g.EF.PartialEq.eq g.EF.ExtensionDomain.embed inverse in
+          let lookup = c.args.lookup.now in
+          let built = c.row_builder-builder.ensures in
+          let b = c.row_builder-builder.result in
+          let is_for = λ (cs : List _) (n : ℕ) (w : Window _).
+          IsRatio E.ring ratio (plain_fraction E (column_denominator E cs) (sent_at E.base E.base_eq w lookup.column lookup))
+          × (fault_of E (column_denominator E cs) n lookup.column (sent_at E.base E.base_eq w lookup.column lookup) ≡ None) in
+          let row : is_for c.args.challenges.now r (window_of c.args.traces.now r) =
+          subst (λ (cs : List _). is_for cs r (window_of c.args.traces.now r)) built.challenges
+          (subst (λ (n : ℕ). is_for b.permutation_challenges.now n (window_of c.args.traces.now r)) built.row
+          (subst (λ (w : Window _). is_for b.permutation_challenges.now b.row w) built.window (c.in-Ok.ensures.answers inverse is_inverse))) in
+          HasColumn-more E (column_denominator E c.args.challenges.now) (sent_on E.base E.base_eq c.args.traces.now lookup) lookup.column c.args.first r c.args.ratios.now.items after longer ratio c.loop-row.auto.row c.in_ok-push-in-Ok.ensures.items row.0 row.1 (c.loop-row.invariant.0 inverse is_inverse),
+      λ n sound.
+          subst (λ m. AreSound g.EF.PrimeCharacteristicRing.ring (n + m) longer) one_more
+          (sound_more n (r - c.args.first) after longer ratio c.in_ok-push-in-Ok.ensures.items c.in-Ok.ensures.sound (c.loop-row.invariant.1 n sound)),
+    )
+
+pub returns-in-Err-clause-answers : goal.returns-in-Err-clause-answers
+returns-in-Err-clause-answers g c = λ inverse is_inverse.
+    let E = extension g.F.PrimeCharacteristicRing.ring g.F.PartialEq.eq g.EF.PrimeCharacteristicRing.ring g.EF.PartialEq.eq g.EF.ExtensionDomain.embed inverse in
+    let lookup = c.args.lookup.now in
+    let r = c.loop-row.row in
+    let error = c.in-Err.error in
+    let built = c.row_builder-builder.ensures in
+    let b = c.row_builder-builder.result in
+    let is_for = λ (cs : List _) (n : ℕ) (w : Window _).
+    (error ≡ Memory) ⊎ (fault_of E (column_denominator E cs) n lookup.column (sent_at E.base E.base_eq w lookup.column lookup) ≡ Some error) in
+    let row : is_for c.args.challenges.now r (window_of c.args.traces.now r) =
+    subst (λ (cs : List _). is_for cs r (window_of c.args.traces.now r)) built.challenges
+    (subst (λ (n : ℕ). is_for b.permutation_challenges.now n (window_of c.args.traces.now r)) built.row
+    (subst (λ (w : Window _). is_for b.permutation_challenges.now b.row w) built.window (c.in-Err.ensures.answers inverse is_inverse))) in
+    IsFirstIn-here E (column_denominator E c.args.challenges.now) (sent_on E.base E.base_eq c.args.traces.now lookup) lookup.column c.args.first c.args.ratios.now.items c.loop-row.ratios.items _ row (c.loop-row.invariant.0 inverse is_inverse)
+
+pub returns-clause-answers : goal.returns-clause-answers
+returns-clause-answers g c = λ inverse is_inverse.
+    let E = extension g.F.PrimeCharacteristicRing.ring g.F.PartialEq.eq g.EF.PrimeCharacteristicRing.ring g.EF.PartialEq.eq g.EF.ExtensionDomain.embed inverse in
+    let all : c.loop-row.row ≡ c.args.end = omega (arith, c.loop-row-test.false, c.loop-row.auto.row-end c.requires.from) in
+    subst (λ n. HasColumn E (column_denominator E c.args.challenges.now) (sent_on E.base E.base_eq c.args.traces.now c.args.lookup.now) c.args.lookup.now.column c.args.first n c.args.ratios.now.items c.loop-row.ratios.items) all (c.loop-row.invariant.0 inverse is_inverse)
+
+pub returns-clause-sound : goal.returns-clause-sound
+returns-clause-sound g c = λ none n sound.
+    let all : c.loop-row.row ≡ c.args.end = omega (arith, c.loop-row-test.false, c.loop-row.auto.row-end c.requires.from) in
+    subst (λ r. AreSound g.EF.PrimeCharacteristicRing.ring (n + (r - c.args.first)) c.loop-row.ratios.items) all (c.loop-row.invariant.1 n sound)
