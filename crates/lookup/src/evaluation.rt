@@ -1,6 +1,6 @@
 //! Evaluation of all lookups of an AIR, through the calls of a protocol.
 ghost use Rattle.std.specs.Prelude.{◌≡◌, ◌+◌, ◌*◌, ◌<◌, ◌≤◌, ◌⊎◌, All, length, map};
-ghost use Rattle.lookup_evaluation.specs.Asserted.{Evaluates, IsConstraint};
+ghost use Rattle.lookup_evaluation.specs.Asserted.{EvaluatesOn};
 ghost use Rattle.lookup_model.specs.Constraints.{accumulator_constraints, fraction_constraint, terminal_at};
 ghost use Rattle.lookup_model.specs.Extension.{extension};
 ghost use Rattle.lookup_model.specs.Records.{DoFit};
@@ -23,11 +23,9 @@ pub(crate) fn eval_fractions<P: LookupProtocol, AB: PermutationAirBuilder>(
         ≤ (AB.layout builder.old).num_permutation_challenges }
     requires cells { length lookups.now < (AB.layout builder.old).permutation_width }
     ensures { let E = extension AB.F.ring AB.F.eq AB.EF.ring AB.EF.eq AB.EF.embed AB.EF.inverse in
-        Evaluates AB.accepts_ext AB.refuses_ext (λ b e. (e ≡ AirError.Memory)
-        ⊎ AB.window_refuses b e)
-        (IsConstraint (λ x w. AB.ExprEF.value x (AB.seen_ext w)) AB.ExprEF.degree
-        (AB.stands_for_ext builder.old))
-        builder.old (map (fraction_constraint E) lookups.now) result builder.new }
+        EvaluatesOn AB.accepts_ext AB.refuses_ext AB.window_refuses AB.stands_for_ext
+        AB.ExprEF.value AB.seen_ext AB.ExprEF.degree builder.old
+        (map (fraction_constraint E) lookups.now) result builder.new }
 {
     for lookup in lookups {
         protocol.eval_fraction(alloc, builder, lookup)?;
@@ -46,12 +44,9 @@ pub(crate) fn eval_terminal<P: LookupProtocol, AB: PermutationAirBuilder>(
         < (AB.layout builder.old).permutation_width) lookups.now }
     requires terminal { 0 < (AB.layout builder.old).num_permutation_values }
     ensures { let E = extension AB.F.ring AB.F.eq AB.EF.ring AB.EF.eq AB.EF.embed AB.EF.inverse in
-        Evaluates AB.accepts_ext AB.refuses_ext (λ b e. (e ≡ AirError.Memory)
-        ⊎ AB.window_refuses b e)
-        (IsConstraint (λ x w. AB.ExprEF.value x (AB.seen_ext w)) AB.ExprEF.degree
-        (AB.stands_for_ext builder.old))
-        builder.old (accumulator_constraints E lookups.now (terminal_at E) (λ t. 0)) result
-        builder.new }
+        EvaluatesOn AB.accepts_ext AB.refuses_ext AB.window_refuses AB.stands_for_ext
+        AB.ExprEF.value AB.seen_ext AB.ExprEF.degree builder.old
+        (accumulator_constraints E lookups.now (terminal_at E) (λ t. 0)) result builder.new }
 {
     let terminal = terminal(&*builder);
     protocol.eval_accumulator(alloc, builder, lookups, terminal)

@@ -2,7 +2,7 @@
 ghost use Rattle.std.specs.Prelude.{◌≡◌, ◌≢◌, ◌+◌, ◌*◌, ◌≤◌, ◌<◌, ◌⊎◌, [], ◌∷◌, All, MatchResult, None, Some, length, slice_get};
 ghost use Rattle.std.specs.Option.{ForSome, option_copied};
 ghost use Rattle.expressions.specs.Layout.{layout_of_traces};
-ghost use Rattle.lookup_evaluation.specs.Asserted.{Evaluates, IsConstraint};
+ghost use Rattle.lookup_evaluation.specs.Asserted.{EvaluatesOn};
 ghost use Rattle.lookup_model.specs.Constraints.{accumulator_constraints, fraction_constraint, lookup_constraints};
 ghost use Rattle.lookup_model.specs.Extension.{extension};
 ghost use Rattle.lookup_model.specs.LookupDegree.{IsDegree, lookup_degree};
@@ -52,11 +52,9 @@ pub trait LookupProtocol: Sized {
         requires cell { lookup.now.column + 1 < (AB.layout builder.old).permutation_width }
         ensures { let E = extension AB.F.ring AB.F.eq AB.EF.ring AB.EF.eq AB.EF.embed
             AB.EF.inverse in
-            Evaluates AB.accepts_ext AB.refuses_ext (λ b e. (e ≡ AirError.Memory)
-            ⊎ AB.window_refuses b e)
-            (IsConstraint (λ x w. AB.ExprEF.value x (AB.seen_ext w)) AB.ExprEF.degree
-            (AB.stands_for_ext builder.old))
-            builder.old (fraction_constraint E lookup.now ∷ []) result builder.new };
+            EvaluatesOn AB.accepts_ext AB.refuses_ext AB.window_refuses AB.stands_for_ext
+            AB.ExprEF.value AB.seen_ext AB.ExprEF.degree builder.old
+            (fraction_constraint E lookup.now ∷ []) result builder.new };
 
     /// Asserts the accumulator's equations, where the accumulator is cell 0 of the auxiliary row.
     /// Nothing is asserted without lookups.
@@ -78,13 +76,10 @@ pub trait LookupProtocol: Sized {
             < (AB.layout builder.old).permutation_width) lookups.now }
         ensures { let E = extension AB.F.ring AB.F.eq AB.EF.ring AB.EF.eq AB.EF.embed
             AB.EF.inverse in
-            Evaluates AB.accepts_ext AB.refuses_ext (λ b e. (e ≡ AirError.Memory)
-            ⊎ AB.window_refuses b e)
-            (IsConstraint (λ x w. AB.ExprEF.value x (AB.seen_ext w)) AB.ExprEF.degree
-            (AB.stands_for_ext builder.old))
-            builder.old (accumulator_constraints E lookups.now
-            (λ w. AB.ExprEF.value terminal (AB.seen_ext w)) (AB.ExprEF.degree terminal)) result
-            builder.new };
+            EvaluatesOn AB.accepts_ext AB.refuses_ext AB.window_refuses AB.stands_for_ext
+            AB.ExprEF.value AB.seen_ext AB.ExprEF.degree builder.old
+            (accumulator_constraints E lookups.now (λ w. AB.ExprEF.value terminal (AB.seen_ext w))
+            (AB.ExprEF.degree terminal)) result builder.new };
 
     /// Asserts the equation of each lookup in order, and then the accumulator's three. The terminal
     /// is the first permutation value. Nothing is asserted without lookups.
@@ -106,11 +101,9 @@ pub trait LookupProtocol: Sized {
             → 0 < (AB.layout builder.old).num_permutation_values }
         ensures { let E = extension AB.F.ring AB.F.eq AB.EF.ring AB.EF.eq AB.EF.embed
             AB.EF.inverse in
-            Evaluates AB.accepts_ext AB.refuses_ext (λ b e. (e ≡ AirError.Memory)
-            ⊎ AB.window_refuses b e)
-            (IsConstraint (λ x w. AB.ExprEF.value x (AB.seen_ext w)) AB.ExprEF.degree
-            (AB.stands_for_ext builder.old))
-            builder.old (lookup_constraints E lookups.now) result builder.new }
+            EvaluatesOn AB.accepts_ext AB.refuses_ext AB.window_refuses AB.stands_for_ext
+            AB.ExprEF.value AB.seen_ext AB.ExprEF.degree builder.old
+            (lookup_constraints E lookups.now) result builder.new }
     {
         if lookups.is_empty() {
             return Ok(());
@@ -141,11 +134,9 @@ pub trait LookupProtocol: Sized {
         ensures { let E = extension AB.F.ring AB.F.eq AB.EF.ring AB.EF.eq AB.EF.embed
             AB.EF.inverse in
             EvaluatesBoth A.evaluates
-            (λ between answer after. Evaluates AB.accepts_ext AB.refuses_ext
-            (λ b e. (e ≡ AirError.Memory) ⊎ AB.window_refuses b e)
-            (IsConstraint (λ x w. AB.ExprEF.value x (AB.seen_ext w)) AB.ExprEF.degree
-            (AB.stands_for_ext between))
-            between (lookup_constraints E lookups.now) answer after)
+            (λ between answer after. EvaluatesOn AB.accepts_ext AB.refuses_ext AB.window_refuses
+            AB.stands_for_ext AB.ExprEF.value AB.seen_ext AB.ExprEF.degree between
+            (lookup_constraints E lookups.now) answer after)
             air.now builder.old result builder.new }
     {
         air.eval(alloc, builder)?;

@@ -3,7 +3,6 @@ use Rattle.std.proofs.Common.{◌≡◌, ◌⊎◌, ℕ, List, [], ◌∷◌, �
 use Rattle.expressions.specs.Window.{ExtWindow}
 use Rattle.expressions.specs.declared.error.AirError.{AirError}
 use Rattle.std.specs.List.{AllZip}
-use Rattle.std.specs.Result.{IfErr, IfOk}
 use Rattle.lookup_evaluation.specs.Asserted.{Asserts, Evaluates, Fails, IsConstraint}
 use Rattle.lookup_model.specs.Constraints.{Constraint}
 
@@ -100,9 +99,9 @@ module _ {B X C : Type 0} (accepts : B → X → B → Type 0) (refuses : B → 
   fails_here is k ks b c e (inr why) = inr (inl why)
 
   -- the answer for the last constraint is the answer for all
-  pub answers_here : (is : C → X → Type 0) (k : C) (b c : B) (r : Result (Unit {0}) AirError) → IfOk r (λ _. (x : X) × is k x × accepts b x c) → IfErr r (λ e. (stops b e × (c ≡ b)) ⊎ ((x : X) × is k x × refuses b x e c)) → Evaluates accepts refuses stops is b (k ∷ []) r c
-  answers_here is k b c (Ok u) (x, means, taken) failed = asserts_front accepts is k [] b c c x means taken (asserts_none accepts is c)
-  answers_here is k b c (Err e) done failed = fails_here is k [] b c e failed
+  pub answers_here : (is : C → X → Type 0) (k : C) (b c : B) (r : Result (Unit {0}) AirError) → MatchResult r (λ _. (x : X) × is k x × accepts b x c) (λ e. (stops b e × (c ≡ b)) ⊎ ((x : X) × is k x × refuses b x e c)) → Evaluates accepts refuses stops is b (k ∷ []) r c
+  answers_here is k b c (Ok u) (x, means, taken) = asserts_front accepts is k [] b c c x means taken (asserts_none accepts is c)
+  answers_here is k b c (Err e) failed = fails_here is k [] b c e failed
 
   pub evaluates_front : (is : C → X → Type 0) (k : C) (ks : List C) (b d c : B) (x : X) (r : Result (Unit {0}) AirError) → is k x → accepts b x d → Evaluates accepts refuses stops is d ks r c → Evaluates accepts refuses stops is b (k ∷ ks) r c
   evaluates_front is k ks b d c x (Ok u) means taken rest = asserts_front accepts is k ks b d c x means taken rest

@@ -1,9 +1,9 @@
 //! The constraints of the accumulator.
-ghost use Rattle.std.specs.Prelude.{◌≡◌, ◌≢◌, ◌+◌, ◌<◌, ◌≤◌, ◌⊎◌, ℕ, max, [], ◌∷◌, All, IfOk, IfErr, length};
+ghost use Rattle.std.specs.Prelude.{◌≡◌, ◌+◌, ◌<◌, ◌≤◌, ◌⊎◌, ℕ, max, [], ◌∷◌, All, IfOk, IfErr, length};
 ghost use Rattle.field.specs.Ring.{of_bool, sub_in};
 ghost use Rattle.expressions.specs.Builder.{MeansRow};
 ghost use Rattle.expressions.specs.Window.{ExtWindow};
-ghost use Rattle.lookup_evaluation.specs.Asserted.{Evaluates, IsConstraint};
+ghost use Rattle.lookup_evaluation.specs.Asserted.{AnswersSelected, EvaluatesOn};
 ghost use Rattle.lookup_model.specs.Constraints.{accumulator_at, accumulator_constraints, fractions_at, next_accumulator_at};
 ghost use Rattle.lookup_model.specs.Extension.{extension};
 
@@ -112,17 +112,10 @@ fn assert_first<AB: PermutationAirBuilder>(
     builder: &mut AB,
     x: AB::ExprEF,
 ) -> Result<(), AirError>
-    ensures accepted { IfOk result (λ _. (p : AB.ExprEF) × AB.accepts_ext builder.old p builder.new
-        × ((w : ExtWindow AB.F AB.EF) → AB.stands_for_ext builder.old w
-        → AB.ExprEF.value p (AB.seen_ext w) ≡ AB.EF.ring.mul
-        (AB.EF.embed (of_bool AB.F.ring w.base.is_first)) (AB.ExprEF.value x (AB.seen_ext w)))
-        × ((t : ℕ) → AB.ExprEF.degree p t ≤ 1 + AB.ExprEF.degree x t)) }
-    ensures refused { IfErr result (λ e. ((e ≡ AirError.Memory) × (builder.new ≡ builder.old))
-        ⊎ ((p : AB.ExprEF) × AB.refuses_ext builder.old p e builder.new
-        × ((w : ExtWindow AB.F AB.EF) → AB.stands_for_ext builder.old w
-        → AB.ExprEF.value p (AB.seen_ext w) ≡ AB.EF.ring.mul
-        (AB.EF.embed (of_bool AB.F.ring w.base.is_first)) (AB.ExprEF.value x (AB.seen_ext w)))
-        × ((t : ℕ) → AB.ExprEF.degree p t ≤ 1 + AB.ExprEF.degree x t))) }
+    ensures { AnswersSelected AB.accepts_ext AB.refuses_ext (AB.stands_for_ext builder.old)
+        AB.ExprEF.value AB.seen_ext AB.ExprEF.degree AB.EF.ring.mul
+        (λ w. AB.EF.embed (of_bool AB.F.ring w.base.is_first)) (λ t. 1) x builder.old result
+        builder.new }
 {
     builder.when_first_row().assert_zero_ext(alloc, x)
 }
@@ -133,17 +126,10 @@ fn assert_transition<AB: PermutationAirBuilder>(
     builder: &mut AB,
     x: AB::ExprEF,
 ) -> Result<(), AirError>
-    ensures accepted { IfOk result (λ _. (p : AB.ExprEF) × AB.accepts_ext builder.old p builder.new
-        × ((w : ExtWindow AB.F AB.EF) → AB.stands_for_ext builder.old w
-        → AB.ExprEF.value p (AB.seen_ext w) ≡ AB.EF.ring.mul
-        (AB.EF.embed (of_bool AB.F.ring w.base.is_transition)) (AB.ExprEF.value x (AB.seen_ext w)))
-        × ((t : ℕ) → AB.ExprEF.degree p t ≤ t + AB.ExprEF.degree x t)) }
-    ensures refused { IfErr result (λ e. ((e ≡ AirError.Memory) × (builder.new ≡ builder.old))
-        ⊎ ((p : AB.ExprEF) × AB.refuses_ext builder.old p e builder.new
-        × ((w : ExtWindow AB.F AB.EF) → AB.stands_for_ext builder.old w
-        → AB.ExprEF.value p (AB.seen_ext w) ≡ AB.EF.ring.mul
-        (AB.EF.embed (of_bool AB.F.ring w.base.is_transition)) (AB.ExprEF.value x (AB.seen_ext w)))
-        × ((t : ℕ) → AB.ExprEF.degree p t ≤ t + AB.ExprEF.degree x t))) }
+    ensures { AnswersSelected AB.accepts_ext AB.refuses_ext (AB.stands_for_ext builder.old)
+        AB.ExprEF.value AB.seen_ext AB.ExprEF.degree AB.EF.ring.mul
+        (λ w. AB.EF.embed (of_bool AB.F.ring w.base.is_transition)) (λ t. t) x builder.old result
+        builder.new }
 {
     builder.when_transition().assert_zero_ext(alloc, x)
 }
@@ -154,17 +140,10 @@ fn assert_last<AB: PermutationAirBuilder>(
     builder: &mut AB,
     x: AB::ExprEF,
 ) -> Result<(), AirError>
-    ensures accepted { IfOk result (λ _. (p : AB.ExprEF) × AB.accepts_ext builder.old p builder.new
-        × ((w : ExtWindow AB.F AB.EF) → AB.stands_for_ext builder.old w
-        → AB.ExprEF.value p (AB.seen_ext w) ≡ AB.EF.ring.mul
-        (AB.EF.embed (of_bool AB.F.ring w.base.is_last)) (AB.ExprEF.value x (AB.seen_ext w)))
-        × ((t : ℕ) → AB.ExprEF.degree p t ≤ 1 + AB.ExprEF.degree x t)) }
-    ensures refused { IfErr result (λ e. ((e ≡ AirError.Memory) × (builder.new ≡ builder.old))
-        ⊎ ((p : AB.ExprEF) × AB.refuses_ext builder.old p e builder.new
-        × ((w : ExtWindow AB.F AB.EF) → AB.stands_for_ext builder.old w
-        → AB.ExprEF.value p (AB.seen_ext w) ≡ AB.EF.ring.mul
-        (AB.EF.embed (of_bool AB.F.ring w.base.is_last)) (AB.ExprEF.value x (AB.seen_ext w)))
-        × ((t : ℕ) → AB.ExprEF.degree p t ≤ 1 + AB.ExprEF.degree x t))) }
+    ensures { AnswersSelected AB.accepts_ext AB.refuses_ext (AB.stands_for_ext builder.old)
+        AB.ExprEF.value AB.seen_ext AB.ExprEF.degree AB.EF.ring.mul
+        (λ w. AB.EF.embed (of_bool AB.F.ring w.base.is_last)) (λ t. 1) x builder.old result
+        builder.new }
 {
     builder.when_last_row().assert_zero_ext(alloc, x)
 }
@@ -180,13 +159,10 @@ pub fn eval_accumulator<AB: PermutationAirBuilder>(
     requires cells { All (λ lookup. lookup.column + 1
         < (AB.layout builder.old).permutation_width) lookups.now }
     ensures { let E = extension AB.F.ring AB.F.eq AB.EF.ring AB.EF.eq AB.EF.embed AB.EF.inverse in
-        Evaluates AB.accepts_ext AB.refuses_ext (λ b e. (e ≡ AirError.Memory)
-        ⊎ AB.window_refuses b e)
-        (IsConstraint (λ x w. AB.ExprEF.value x (AB.seen_ext w)) AB.ExprEF.degree
-        (AB.stands_for_ext builder.old))
-        builder.old (accumulator_constraints E lookups.now
-        (λ w. AB.ExprEF.value terminal (AB.seen_ext w)) (AB.ExprEF.degree terminal)) result
-        builder.new }
+        EvaluatesOn AB.accepts_ext AB.refuses_ext AB.window_refuses AB.stands_for_ext
+        AB.ExprEF.value AB.seen_ext AB.ExprEF.degree builder.old
+        (accumulator_constraints E lookups.now (λ w. AB.ExprEF.value terminal (AB.seen_ext w))
+        (AB.ExprEF.degree terminal)) result builder.new }
 {
     if lookups.is_empty() {
         return Ok(());

@@ -2,7 +2,7 @@
 ghost use Rattle.std.specs.Prelude.{◌≡◌, ◌+◌, ◌*◌, ◌<◌, ◌≤◌, ◌⊎◌, ℕ, max, [], ◌∷◌, IfOk, IfErr};
 ghost use Rattle.expressions.specs.Builder.{MeansRow};
 ghost use Rattle.expressions.specs.Window.{ExtWindow};
-ghost use Rattle.lookup_evaluation.specs.Asserted.{Evaluates, IsConstraint};
+ghost use Rattle.lookup_evaluation.specs.Asserted.{EvaluatesOn, IsConstraint};
 ghost use Rattle.lookup_model.specs.Constraints.{denominator_at, fraction_constraint, fraction_denominator, fraction_numerator};
 ghost use Rattle.lookup_model.specs.Extension.{extension};
 ghost use Rattle.lookup_model.specs.LookupDegree.{lookup_degree};
@@ -94,11 +94,9 @@ pub fn eval_fraction<AB: PermutationAirBuilder>(
         < (AB.layout builder.old).num_permutation_challenges }
     requires cell { lookup.now.column + 1 < (AB.layout builder.old).permutation_width }
     ensures { let E = extension AB.F.ring AB.F.eq AB.EF.ring AB.EF.eq AB.EF.embed AB.EF.inverse in
-        Evaluates AB.accepts_ext AB.refuses_ext (λ b e. (e ≡ AirError.Memory)
-        ⊎ AB.window_refuses b e)
-        (IsConstraint (λ x w. AB.ExprEF.value x (AB.seen_ext w)) AB.ExprEF.degree
-        (AB.stands_for_ext builder.old))
-        builder.old (fraction_constraint E lookup.now ∷ []) result builder.new }
+        EvaluatesOn AB.accepts_ext AB.refuses_ext AB.window_refuses AB.stands_for_ext
+        AB.ExprEF.value AB.seen_ext AB.ExprEF.degree builder.old (fraction_constraint E lookup.now ∷
+        []) result builder.new }
 {
     let constraint = fraction_expression(alloc, &*builder, lookup)?;
     builder.assert_zero_ext(alloc, constraint)

@@ -1,7 +1,7 @@
 use Rattle.std.proofs.Common.{◌≡◌, ◌<◌, [], length, List, max, sym, ◌∙◌, inl, inr, refl, subst, arith}
 use Rattle.std.proofs.lemmas.Bool.{eqb-true, eqb-false}
 use Rattle.std.proofs.lemmas.List.{nil_from_length}
-use Rattle.std.proofs.lemmas.Result.{err_from_is_err_and, IfErr-weaker, IfOk-weaker}
+use Rattle.std.proofs.lemmas.Result.{err_from_is_err_and, MatchResult-weaker}
 use Rattle.expressions.specs.Window.{ExtWindow}
 use Rattle.lookup_evaluation.specs.Asserted.{Asserts, IsConstraint}
 use Rattle.lookup_model.specs.Constraints.{accumulator_at, accumulator_constraints, first_constraint, fractions_at, last_constraint, next_accumulator_at, transition_constraint}
@@ -56,9 +56,9 @@ returns-in_err-assert_first g c =
     let facts = c.in_ok-sides.ensures in
     let first = is_selected E embeds value degree stands (λ w. w.base.is_first) (λ t. 1) (accumulator_at E) (λ t. 1) sides.first facts.first facts.first_degree in
     let p = err_from_is_err_and c.from_residual-in_err-assert_first.result c.from_residual-in_err-assert_first.ensures.1 in
-    rw (whole, p.1, p.2) (fails_here _ _ _ is (first_constraint E) _ c.args.builder.now c.assert_first.new.builder _ (elim c.in_err-assert_first.ensures.refused [
+    rw (whole, p.1, p.2) (fails_here _ _ _ is (first_constraint E) _ c.args.builder.now c.assert_first.new.builder _ (elim c.in_err-assert_first.ensures [
       | inl memory ↦ inl (inl memory.0, memory.1)
-      | inr why ↦ inr (why.0, first why.0 why.2 why.3, why.1)
+      | inr why ↦ inr (why.0, first why.0 why.2.0 why.2.1, why.1)
     ]))
 
 pub returns-in_err-assert_transition : goal.returns-in_err-assert_transition
@@ -77,13 +77,13 @@ returns-in_err-assert_transition g c =
     let facts = c.in_ok-sides.ensures in
     let first = is_selected E embeds value degree stands (λ w. w.base.is_first) (λ t. 1) (accumulator_at E) (λ t. 1) sides.first facts.first facts.first_degree in
     let second = is_selected E embeds value degree stands (λ w. w.base.is_transition) (λ t. t) (λ w. E.ring.add (E.ring.add (next_accumulator_at E w) (E.ring.neg (accumulator_at E w))) (E.ring.neg (fractions_at E lookups w))) (λ t. 1) sides.transition facts.transition facts.transition_degree in
-    let a = c.in_ok-assert_first.ensures.accepted in
+    let a = c.in_ok-assert_first.ensures in
     let kept = λ (w : ExtWindow _ _). (g.met.AB.ExtensionBuilder.keeps_ext c.args.builder.now a.0 c.assert_first.new.builder w a.1).0 in
     let p = err_from_is_err_and c.from_residual-in_err-assert_transition.result c.from_residual-in_err-assert_transition.ensures.1 in
-    rw (whole, p.1, p.2) (fails_front _ _ _ is (first_constraint E) _ c.args.builder.now c.assert_first.new.builder _ _ a.0 (first a.0 a.2 a.3) a.1
-    (fails_here _ _ _ is (transition_constraint E lookups) _ c.assert_first.new.builder c.assert_transition.new.builder _ (elim c.in_err-assert_transition.ensures.refused [
+    rw (whole, p.1, p.2) (fails_front _ _ _ is (first_constraint E) _ c.args.builder.now c.assert_first.new.builder _ _ a.0 (first a.0 a.2.0 a.2.1) a.1
+    (fails_here _ _ _ is (transition_constraint E lookups) _ c.assert_first.new.builder c.assert_transition.new.builder _ (elim c.in_err-assert_transition.ensures [
       | inl memory ↦ inl (inl memory.0, memory.1)
-      | inr why ↦ inr (why.0, second why.0 (λ w s. why.2 w (kept w s)) why.3, why.1)
+      | inr why ↦ inr (why.0, second why.0 (λ w s. why.2.0 w (kept w s)) why.2.1, why.1)
     ])))
 
 pub returns : goal.returns
@@ -103,15 +103,14 @@ returns g c =
     let first = is_selected E embeds value degree stands (λ w. w.base.is_first) (λ t. 1) (accumulator_at E) (λ t. 1) sides.first facts.first facts.first_degree in
     let second = is_selected E embeds value degree stands (λ w. w.base.is_transition) (λ t. t) (λ w. E.ring.add (E.ring.add (next_accumulator_at E w) (E.ring.neg (accumulator_at E w))) (E.ring.neg (fractions_at E lookups w))) (λ t. 1) sides.transition facts.transition facts.transition_degree in
     let third = is_selected E embeds value degree stands (λ w. w.base.is_last) (λ t. 1) (λ w. E.ring.add (E.ring.add (value c.args.terminal w) (E.ring.neg (accumulator_at E w))) (E.ring.neg (fractions_at E lookups w))) (λ t. max (degree c.args.terminal t) 1) sides.last facts.last facts.last_degree in
-    let a = c.in_ok-assert_first.ensures.accepted in
+    let a = c.in_ok-assert_first.ensures in
     let kept = λ (w : ExtWindow _ _). (g.met.AB.ExtensionBuilder.keeps_ext c.args.builder.now a.0 c.assert_first.new.builder w a.1).0 in
-    let b = c.in_ok-assert_transition.ensures.accepted in
+    let b = c.in_ok-assert_transition.ensures in
     let kept_on = λ (w : ExtWindow _ _) (s : stands w). (g.met.AB.ExtensionBuilder.keeps_ext c.assert_first.new.builder b.0 c.assert_transition.new.builder w b.1).0 (kept w s) in
-    rw whole (evaluates_front _ _ _ is (first_constraint E) _ c.args.builder.now c.assert_first.new.builder _ a.0 _ (first a.0 a.2 a.3) a.1
-    (evaluates_front _ _ _ is (transition_constraint E lookups) _ c.assert_first.new.builder c.assert_transition.new.builder _ b.0 _ (second b.0 (λ w s. b.2 w (kept w s)) b.3) b.1
+    rw whole (evaluates_front _ _ _ is (first_constraint E) _ c.args.builder.now c.assert_first.new.builder _ a.0 _ (first a.0 a.2.0 a.2.1) a.1
+    (evaluates_front _ _ _ is (transition_constraint E lookups) _ c.assert_first.new.builder c.assert_transition.new.builder _ b.0 _ (second b.0 (λ w s. b.2.0 w (kept w s)) b.2.1) b.1
     (answers_here _ _ _ is (last_constraint E lookups (value c.args.terminal) (degree c.args.terminal)) c.assert_transition.new.builder c.assert_last.new.builder c.assert_last.result
-    (IfOk-weaker c.assert_last.result _ _ (λ r h. (h.0, third h.0 (λ w s. h.2 w (kept_on w s)) h.3, h.1)) c.assert_last.ensures.accepted)
-    (IfErr-weaker c.assert_last.result _ _ (λ e h. elim h [
+    (MatchResult-weaker c.assert_last.result c.assert_last.ensures (λ _ h. (h.0, third h.0 (λ w s. h.2.0 w (kept_on w s)) h.2.1, h.1)) (λ e h. elim h [
       | inl memory ↦ inl (inl memory.0, memory.1)
-      | inr why ↦ inr (why.0, third why.0 (λ w s. why.2 w (kept_on w s)) why.3, why.1)
-    ]) c.assert_last.ensures.refused))))
+      | inr why ↦ inr (why.0, third why.0 (λ w s. why.2.0 w (kept_on w s)) why.2.1, why.1)
+    ])))))
