@@ -10,6 +10,7 @@ use crate::count::Count;
 use air::{AirError, Expression};
 use field::{Field, PrimeCharacteristicRing};
 use std::alloc::{AllocError, Global};
+use std::marker::Model;
 
 /// A bus between queries and a table: if all messages cancel, every query is an entry of the table.
 #[derive(Clone, Debug, Drop)]
@@ -17,17 +18,25 @@ pub struct LookupBus<'a> {
     name: &'a str,
 }
 
+impl<'a> Model for LookupBus<'a> {
+    ghost use Rattle.std.specs.Prelude.{ℕ, List};
+
+    ghost Value = { List ℕ };
+
+    ghost view = { λ b. b.name.now };
+}
+
 impl<'a> LookupBus<'a> {
     /// The bus of this name.
     pub fn new(name: &'a str) -> Self
-        ensures { result.name ≡ name.entry }
+        ensures { result ≡ name.now }
     {
         LookupBus { name }
     }
 
     /// The name of the bus.
     pub fn name(&self) -> &str
-        ensures { result.now ≡ self.now.name.now }
+        ensures { result.now ≡ self.now }
     {
         self.name
     }
@@ -43,10 +52,9 @@ impl<'a> LookupBus<'a> {
         count: Count<AB::Expr>,
     ) -> Result<(), AirError>
         ensures pushed { MatchResult result
-            (λ _. AB.pushes builder.old (pushed_global self.now.name.now key.items count)
-            builder.new)
-            (λ e. AB.refuses_push builder.old
-            (pushed_global self.now.name.now key.items count) e builder.new) }
+            (λ _. AB.pushes builder.old (pushed_global self.now key.items count) builder.new)
+            (λ e. AB.refuses_push builder.old (pushed_global self.now key.items count) e
+            builder.new) }
         ensures within { OnOk result (All (AB.Expr.within (AB.layout builder.old)) key.items
             → AB.Expr.within (AB.layout builder.old) count.expression → AB.pushed_within builder.old
             → AB.pushed_within builder.new) }
@@ -67,7 +75,7 @@ impl<'a> LookupBus<'a> {
         num_lookups: AB::Expr,
     ) -> Result<(), AirError>
         ensures pushed { PushesOne AB.pushes AB.refuses_push
-            (IsNegatedMessage AB.F.ring.neg AB.Expr.value AB.Expr.degree self.now.name.now key.items
+            (IsNegatedMessage AB.F.ring.neg AB.Expr.value AB.Expr.degree self.now key.items
             num_lookups 0)
             builder.old result builder.new }
         ensures within { OnOk result (All (AB.Expr.within (AB.layout builder.old)) key.items
@@ -91,8 +99,7 @@ impl<'a> LookupBus<'a> {
         branches: Vec<(AB::Expr, Vec<AB::Expr>)>,
     ) -> Result<(), AirError>
         ensures pushed { PushesOne AB.pushes AB.refuses_push
-            (IsExclusiveQuery AB.F.ring.one AB.Expr.value AB.Expr.degree self.now.name.now
-            branches.items)
+            (IsExclusiveQuery AB.F.ring.one AB.Expr.value AB.Expr.degree self.now branches.items)
             builder.old result builder.new }
         ensures within { OnOk result (All (KeyWithin AB.Expr.within (AB.layout builder.old))
             branches.items
@@ -110,17 +117,25 @@ pub struct PermutationCheckBus<'a> {
     name: &'a str,
 }
 
+impl<'a> Model for PermutationCheckBus<'a> {
+    ghost use Rattle.std.specs.Prelude.{ℕ, List};
+
+    ghost Value = { List ℕ };
+
+    ghost view = { λ b. b.name.now };
+}
+
 impl<'a> PermutationCheckBus<'a> {
     /// The bus of this name.
     pub fn new(name: &'a str) -> Self
-        ensures { result.name ≡ name.entry }
+        ensures { result ≡ name.now }
     {
         PermutationCheckBus { name }
     }
 
     /// The name of the bus.
     pub fn name(&self) -> &str
-        ensures { result.now ≡ self.now.name.now }
+        ensures { result.now ≡ self.now }
     {
         let PermutationCheckBus { name } = self;
         name
@@ -137,10 +152,9 @@ impl<'a> PermutationCheckBus<'a> {
         count: Count<AB::Expr>,
     ) -> Result<(), AirError>
         ensures pushed { MatchResult result
-            (λ _. AB.pushes builder.old (pushed_global self.now.name.now fields.items count)
-            builder.new)
-            (λ e. AB.refuses_push builder.old
-            (pushed_global self.now.name.now fields.items count) e builder.new) }
+            (λ _. AB.pushes builder.old (pushed_global self.now fields.items count) builder.new)
+            (λ e. AB.refuses_push builder.old (pushed_global self.now fields.items count) e
+            builder.new) }
         ensures within { OnOk result (All (AB.Expr.within (AB.layout builder.old)) fields.items
             → AB.Expr.within (AB.layout builder.old) count.expression → AB.pushed_within builder.old
             → AB.pushed_within builder.new) }
@@ -161,8 +175,8 @@ impl<'a> PermutationCheckBus<'a> {
         count: Count<AB::Expr>,
     ) -> Result<(), AirError>
         ensures pushed { PushesOne AB.pushes AB.refuses_push
-            (IsNegatedMessage AB.F.ring.neg AB.Expr.value AB.Expr.degree self.now.name.now
-            fields.items count.expression count.weight)
+            (IsNegatedMessage AB.F.ring.neg AB.Expr.value AB.Expr.degree self.now fields.items
+            count.expression count.weight)
             builder.old result builder.new }
         ensures within { OnOk result (All (AB.Expr.within (AB.layout builder.old)) fields.items
             → AB.Expr.within (AB.layout builder.old) count.expression → AB.pushed_within builder.old
