@@ -7,6 +7,7 @@ ghost use Rattle.lookup_builder.specs.Negation.{IsNegation};
 use air::{Expression, SymbolicExpression, WholeNumbers};
 use field::Field;
 use std::alloc::{AllocError, Global};
+use std::marker::Model;
 use std::ops::Neg;
 
 /// How many times a message is sent on a row, with a bound on that number.
@@ -18,6 +19,14 @@ use std::ops::Neg;
 pub struct Count<E> {
     expression: E,
     weight: u32,
+}
+
+impl<E> Model for Count<E> {
+    ghost use Rattle.lookup_builder.specs.SignedCount.{SignedCount};
+
+    ghost Value = { SignedCount E };
+
+    ghost view = { λ c. record { expression = c.expression; weight = c.weight } };
 }
 
 impl<E> Count<E> {

@@ -6,17 +6,15 @@
 #![tactic(auto)]
 
 mod builder;
+mod bus;
 mod count;
 mod debug;
 mod interaction;
-mod lookup_bus;
-mod permutation_bus;
 
 pub use builder::{IndexedLookupBuilder, InteractionBuilder};
+pub use bus::{LookupBus, PermutationCheckBus};
 pub use count::Count;
 pub use interaction::{
     LocalTuple, SymbolicExclusiveBranch, SymbolicExclusiveInteraction, SymbolicInteraction,
     SymbolicLocalInteraction,
 };
-pub use lookup_bus::LookupBus;
-pub use permutation_bus::PermutationCheckBus;

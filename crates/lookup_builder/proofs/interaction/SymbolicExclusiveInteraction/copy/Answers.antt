@@ -1,5 +1,3 @@
-use Rattle.std.proofs.Common.{◌∙◌, ap, arith, map}
-use Rattle.std.proofs.lemmas.List.{take_all}
 use Rattle.std.proofs.lemmas.Simd.{map-map}
 use Rattle.expressions.specs.Tree.{tree_of}
 use Rattle.field.proofs.Items.{copied_more}

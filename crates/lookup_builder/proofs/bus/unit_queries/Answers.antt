@@ -4,7 +4,7 @@ use Rattle.std.specs.Vec.Iter.{into_iter_items}
 use Rattle.field.proofs.Items.{moved_over}
 use Rattle.lookup_builder.specs.Messages.{IsUnitQuery, flag_and_fields, flag_and_key}
 use Rattle.lookup_builder.specs.Pushed.{pushed_branch}
-use Rattle.lookup_builder.proofs.lookup_bus.unit_queries.Goals as goal
+use Rattle.lookup_builder.proofs.bus.unit_queries.Goals as goal
 
 pub loop-flag-preserved : goal.loop-flag-preserved
 loop-flag-preserved g c = rw c.in_ok-push.ensures.items (

@@ -1,6 +1,6 @@
 use Rattle.expressions.proofs.Assertions.{on_ok}
 use Rattle.lookup_builder.proofs.Keys.{branches_within}
-use Rattle.lookup_builder.proofs.lookup_bus.LookupBus.lookup_key_exclusive.Goals as goal
+use Rattle.lookup_builder.proofs.bus.LookupBus.lookup_key_exclusive.Goals as goal
 
 pub returns-clause-layout : goal.returns-clause-layout
 returns-clause-layout g c = on_ok c.push_exclusive_interaction.result _ _ _ c.push_exclusive_interaction.ensures

@@ -1,5 +1,5 @@
 use Rattle.expressions.proofs.Assertions.{on_ok}
-use Rattle.lookup_builder.proofs.permutation_bus.PermutationCheckBus.receive.Goals as goal
+use Rattle.lookup_builder.proofs.bus.PermutationCheckBus.receive.Goals as goal
 
 pub returns-clause-within : goal.returns-clause-within
 returns-clause-within g c = on_ok c.push_interaction.result _ _ _ c.push_interaction.ensures

@@ -1,4 +1,4 @@
-//! The bus between queries and a table.
+//! The buses of AIRs: between queries and a table, and between senders and receivers.
 ghost use Rattle.std.specs.Prelude.{◌≡◌, All, IfOk, MatchResult, OnOk, map};
 ghost use Rattle.lookup_builder.specs.Messages.{IsExclusiveQuery, IsNegatedMessage, IsUnitQuery, PushesOne, flag_and_fields, flag_and_key};
 ghost use Rattle.lookup_builder.specs.Pushed.{pushed_branch, pushed_global};
@@ -10,6 +10,7 @@ use crate::count::Count;
 use air::{AirError, Expression};
 use field::{Field, PrimeCharacteristicRing};
 use std::alloc::{AllocError, Global};
+use std::marker::Model;
 
 /// A bus between queries and a table: if all messages cancel, every query is an entry of the table.
 #[derive(Clone, Debug, Drop)]
@@ -17,17 +18,25 @@ pub struct LookupBus<'a> {
     name: &'a str,
 }
 
+impl<'a> Model for LookupBus<'a> {
+    ghost use Rattle.std.specs.Prelude.{ℕ, List};
+
+    ghost Value = { List ℕ };
+
+    ghost view = { λ b. b.name.now };
+}
+
 impl<'a> LookupBus<'a> {
     /// The bus of this name.
     pub fn new(name: &'a str) -> Self
-        ensures { result.name ≡ name.entry }
+        ensures { result ≡ name.now }
     {
         LookupBus { name }
     }
 
     /// The name of the bus.
     pub fn name(&self) -> &str
-        ensures { result.now ≡ self.now.name.now }
+        ensures { result.now ≡ self.now }
     {
         self.name
     }
@@ -43,10 +52,9 @@ impl<'a> LookupBus<'a> {
         count: Count<AB::Expr>,
     ) -> Result<(), AirError>
         ensures pushed { MatchResult result
-            (λ _. AB.pushes builder.old (pushed_global self.now.name.now key.items count)
-            builder.new)
-            (λ e. AB.refuses_push builder.old
-            (pushed_global self.now.name.now key.items count) e builder.new) }
+            (λ _. AB.pushes builder.old (pushed_global self.now key.items count) builder.new)
+            (λ e. AB.refuses_push builder.old (pushed_global self.now key.items count) e
+            builder.new) }
         ensures within { OnOk result (All (AB.Expr.within (AB.layout builder.old)) key.items
             → AB.Expr.within (AB.layout builder.old) count.expression → AB.pushed_within builder.old
             → AB.pushed_within builder.new) }
@@ -67,7 +75,7 @@ impl<'a> LookupBus<'a> {
         num_lookups: AB::Expr,
     ) -> Result<(), AirError>
         ensures pushed { PushesOne AB.pushes AB.refuses_push
-            (IsNegatedMessage AB.F.ring.neg AB.Expr.value AB.Expr.degree self.now.name.now key.items
+            (IsNegatedMessage AB.F.ring.neg AB.Expr.value AB.Expr.degree self.now key.items
             num_lookups 0)
             builder.old result builder.new }
         ensures within { OnOk result (All (AB.Expr.within (AB.layout builder.old)) key.items
@@ -91,8 +99,7 @@ impl<'a> LookupBus<'a> {
         branches: Vec<(AB::Expr, Vec<AB::Expr>)>,
     ) -> Result<(), AirError>
         ensures pushed { PushesOne AB.pushes AB.refuses_push
-            (IsExclusiveQuery AB.F.ring.one AB.Expr.value AB.Expr.degree self.now.name.now
-            branches.items)
+            (IsExclusiveQuery AB.F.ring.one AB.Expr.value AB.Expr.degree self.now branches.items)
             builder.old result builder.new }
         ensures within { OnOk result (All (KeyWithin AB.Expr.within (AB.layout builder.old))
             branches.items
@@ -101,6 +108,83 @@ impl<'a> LookupBus<'a> {
     {
         let queries = unit_queries::<AB::F, AB::Expr>(alloc, branches)?;
         builder.push_exclusive_interaction(alloc, self.name, queries)
+    }
+}
+
+/// A bus between senders and receivers: if all messages cancel, what is sent is what is received.
+#[derive(Clone, Debug, Drop)]
+pub struct PermutationCheckBus<'a> {
+    name: &'a str,
+}
+
+impl<'a> Model for PermutationCheckBus<'a> {
+    ghost use Rattle.std.specs.Prelude.{ℕ, List};
+
+    ghost Value = { List ℕ };
+
+    ghost view = { λ b. b.name.now };
+}
+
+impl<'a> PermutationCheckBus<'a> {
+    /// The bus of this name.
+    pub fn new(name: &'a str) -> Self
+        ensures { result ≡ name.now }
+    {
+        PermutationCheckBus { name }
+    }
+
+    /// The name of the bus.
+    pub fn name(&self) -> &str
+        ensures { result.now ≡ self.now }
+    {
+        let PermutationCheckBus { name } = self;
+        name
+    }
+
+    /// Sends the message `fields`, `count` times on each row.
+    ///
+    /// Returns what the builder returns.
+    pub fn send<AB: InteractionBuilder>(
+        &self,
+        alloc: Global,
+        builder: &mut AB,
+        fields: Vec<AB::Expr>,
+        count: Count<AB::Expr>,
+    ) -> Result<(), AirError>
+        ensures pushed { MatchResult result
+            (λ _. AB.pushes builder.old (pushed_global self.now fields.items count) builder.new)
+            (λ e. AB.refuses_push builder.old (pushed_global self.now fields.items count) e
+            builder.new) }
+        ensures within { OnOk result (All (AB.Expr.within (AB.layout builder.old)) fields.items
+            → AB.Expr.within (AB.layout builder.old) count.expression → AB.pushed_within builder.old
+            → AB.pushed_within builder.new) }
+        ensures layout { OnOk result (AB.layout builder.new ≡ AB.layout builder.old) }
+    {
+        builder.push_interaction(alloc, self.name, fields, count)
+    }
+
+    /// Receives the message `fields`, `count` times on each row. The message counts down that
+    /// often, with the count's own weight.
+    ///
+    /// Returns what the builder returns, or fails out of memory with nothing pushed.
+    pub fn receive<AB: InteractionBuilder>(
+        &self,
+        alloc: Global,
+        builder: &mut AB,
+        fields: Vec<AB::Expr>,
+        count: Count<AB::Expr>,
+    ) -> Result<(), AirError>
+        ensures pushed { PushesOne AB.pushes AB.refuses_push
+            (IsNegatedMessage AB.F.ring.neg AB.Expr.value AB.Expr.degree self.now fields.items
+            count.expression count.weight)
+            builder.old result builder.new }
+        ensures within { OnOk result (All (AB.Expr.within (AB.layout builder.old)) fields.items
+            → AB.Expr.within (AB.layout builder.old) count.expression → AB.pushed_within builder.old
+            → AB.pushed_within builder.new) }
+        ensures layout { OnOk result (AB.layout builder.new ≡ AB.layout builder.old) }
+    {
+        let received = count.negate(alloc)?;
+        builder.push_interaction(alloc, self.name, fields, received)
     }
 }
 

@@ -3,7 +3,7 @@ use Rattle.std.specs.Vec.Iter.{into_iter_items}
 use Rattle.expressions.specs.declared.layout.AirLayout.{AirLayout}
 use Rattle.lookup_builder.specs.Messages.{IsUnitQuery, flag_and_fields, flag_and_key}
 use Rattle.lookup_builder.specs.Pushed.{pushed_branch}
-use Rattle.lookup_builder.proofs.lookup_bus.unit_queries.Given as goal
+use Rattle.lookup_builder.proofs.bus.unit_queries.Given as goal
 
 abbrev pub invariant-loop-flag : goal.invariant-loop-flag
 invariant-loop-flag g l =
