@@ -9,6 +9,10 @@ use Rattle.lookup_packing.specs.TupleWidths.{HasOtherWidth}
 use Rattle.lookup.proofs.ExtractionLaws.{same_lengths, same_widths, whole_list, widths_of_tuples}
 use Rattle.lookup.proofs.extraction.local_lookup.Goals as goal
 
+pub loop-fields-init : goal.loop-fields-init
+loop-fields-init g c = rw (c.new-elements.ensures.items, c.new-multiplicities.ensures.items, c.into_iter-fields-iterator.ensures.into_iter_gives.0)
+    (refl, refl, omega arith, omega arith)
+
 pub returns-in_err-assert_uniform_tuple_width : goal.returns-in_err-assert_uniform_tuple_width
 returns-in_err-assert_uniform_tuple_width g c =
     let left = map tuple_of (into_iter_items c.loop-fields.fields-iterator) in
