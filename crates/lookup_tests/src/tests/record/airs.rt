@@ -3,7 +3,7 @@ ghost use Rattle.std.specs.Prelude.{◌≡◌, [], OnOk};
 
 use super::super::evaluation::no_preprocessed;
 use super::super::extraction::{push_exclusive, push_range};
-use super::super::{holds, list};
+use super::super::{holds, trace};
 use super::{Recorder, declared_counts, recorded_counts};
 use air::{
     Air, AirError, AirLayout, BaseAir, DebugConstraintBuilder, LayoutPart, RowInputs, current_cells,
@@ -152,7 +152,7 @@ fn checked_counts(
 #[test]
 fn the_row_checker_records_nothing(rt: HostRuntime) {
     let alloc = rt.alloc();
-    let main = RowMajorMatrix::new(list(&rt, alloc, [F7::new(3)]), 1);
+    let main = trace::<F7>(&rt, alloc, &[3, 3, 1], 3);
     assert!(rt; main.height() == 1);
     let permutation = no_trace(alloc);
     let inputs: RowInputs<'_, F7, F7> = RowInputs {
