@@ -8,7 +8,7 @@ use air::{
 };
 use field::{Field, PrimeCharacteristicRing};
 use matrix::WindowAccess;
-use std::alloc::Global;
+use std::alloc::{AllocError, Global};
 
 /// What a machine asserts.
 #[derive(Clone, Copy)]
@@ -70,8 +70,8 @@ impl<AB: PermutationAirBuilder> Air<AB> for Machine {
             Claim::Counts { on_every_row } => assert_counted(alloc, builder, on_every_row),
             Claim::IsFibonacci => assert_fibonacci(alloc, builder),
             Claim::OnALoneRow(n) => assert_on_a_lone_row(alloc, builder, n),
-            Claim::OnFirstRow(n) => assert_on_first_row(alloc, builder, number::<AB>(n)),
-            Claim::OnLastRow(n) => assert_on_last_row(alloc, builder, number::<AB>(n)),
+            Claim::OnFirstRow(n) => assert_ext_on(alloc, builder, Rows::First, number::<AB>(n)),
+            Claim::OnLastRow(n) => assert_ext_on(alloc, builder, Rows::Last, number::<AB>(n)),
             Claim::IsSelected => assert_selected(alloc, builder),
             Claim::AddsUp => assert_sum_of_all(alloc, builder),
             Claim::IsRepeated => assert_repeated(alloc, builder),
@@ -82,55 +82,140 @@ impl<AB: PermutationAirBuilder> Air<AB> for Machine {
     ghost keeps_layout = { λ air before after h. h };
 }
 
+/// The rows on which something is asserted.
+#[derive(Clone, Copy)]
+enum Rows {
+    All,
+    First,
+    Last,
+    ButLast,
+}
+
+/// What an expression is built of.
+#[derive(Clone, Copy)]
+enum Value {
+    /// A cell of the current row.
+    Current(usize),
+    /// A cell of the next row.
+    Next(usize),
+    /// The first cell of the preprocessed trace.
+    Fixed,
+    /// The first public value.
+    Public,
+    /// The selector of the first row.
+    IsFirstRow,
+    /// A cell of the permutation trace's current row.
+    PermutationCurrent(usize),
+    /// A cell of the permutation trace's next row.
+    PermutationNext(usize),
+    /// A challenge.
+    Challenge(usize),
+    /// The first permutation value.
+    PermutationValue,
+}
+
+/// What is done with two values.
+#[derive(Clone, Copy)]
+enum Operation {
+    Add,
+    Sub,
+    Mul,
+}
+
 /// An expression, where there was one to be had.
 type Built<E> = Result<E, AirError>;
 
-fn sum<F: Field, E: Expression<F>>(alloc: Global, x: Built<E>, y: Built<E>) -> Built<E> {
-    Ok(x?.add(alloc, y?)?)
-}
-
-fn difference<F: Field, E: Expression<F>>(alloc: Global, x: Built<E>, y: Built<E>) -> Built<E> {
-    Ok(x?.sub(alloc, y?)?)
-}
-
-fn product<F: Field, E: Expression<F>>(alloc: Global, x: Built<E>, y: Built<E>) -> Built<E> {
-    Ok(x?.mul(alloc, y?)?)
-}
-
-fn too_narrow() -> AirError {
-    AirError::LayoutMismatch {
-        part: LayoutPart::Main,
-        expected: 2,
-        actual: 0,
+/// The expression of a value, where there is one.
+fn found<T: Into<E>, E>(value: Option<T>) -> Built<E> {
+    match value {
+        Some(value) => Ok(value.into()),
+        None => {
+            Err(AirError::LayoutMismatch {
+                part: LayoutPart::Main,
+                expected: 2,
+                actual: 0,
+            })
+        }
     }
 }
 
-/// A cell of the current row.
-fn current<AB: AirBuilder>(alloc: Global, builder: &AB, place: usize) -> Built<AB::Expr> {
-    match builder.main(alloc)?.current(place) {
-        Some(cell) => Ok(cell.into()),
-        None => Err(too_narrow()),
+fn combined<F: Field, E: Expression<F>>(
+    alloc: Global,
+    operation: Operation,
+    x: E,
+    y: E,
+) -> Result<E, AllocError> {
+    match operation {
+        Operation::Add => x.add(alloc, y),
+        Operation::Sub => x.sub(alloc, y),
+        Operation::Mul => x.mul(alloc, y),
     }
 }
 
-/// A cell of the next row.
-fn next<AB: AirBuilder>(alloc: Global, builder: &AB, place: usize) -> Built<AB::Expr> {
-    match builder.main(alloc)?.next(place) {
-        Some(cell) => Ok(cell.into()),
-        None => Err(too_narrow()),
+/// The expression of a value of the base field.
+fn expression_of<AB: AirBuilder>(alloc: Global, builder: &AB, value: Value) -> Built<AB::Expr> {
+    match value {
+        Value::Current(place) => found(builder.main(alloc)?.current(place)),
+        Value::Next(place) => found(builder.main(alloc)?.next(place)),
+        Value::Fixed => found(builder.preprocessed().current(0)),
+        Value::Public => found(builder.public_values().first().copied()),
+        Value::IsFirstRow => Ok(builder.is_first_row()),
+        _ => found(None::<AB::Var>),
     }
 }
 
-/// Asserts that this is zero, on every row but the last.
-fn assert_step<AB: AirBuilder>(
+/// A value, and then what is done with it and further values, in order.
+fn built<AB: AirBuilder>(
+    alloc: Global,
+    builder: &AB,
+    first: Value,
+    further: &[(Operation, Value)],
+) -> Built<AB::Expr> {
+    let mut all = expression_of(alloc, builder, first)?;
+    for (operation, value) in further {
+        let next = expression_of(alloc, builder, *value)?;
+        all = combined::<AB::F, AB::Expr>(alloc, *operation, all, next)?;
+    }
+    Ok(all)
+}
+
+/// Asserts that this is zero on these rows.
+fn assert_on<AB: AirBuilder>(
     alloc: Global,
     builder: &mut AB,
-    left: Built<AB::Expr>,
+    rows: Rows,
+    left: AB::Expr,
 ) -> Result<(), AirError>
     ensures { OnOk result (AB.layout builder.new ≡ AB.layout builder.old) }
 {
-    let left = left?;
-    builder.when_transition().assert_zero(alloc, left)
+    match rows {
+        Rows::All => builder.assert_zero(alloc, left),
+        Rows::First => builder.when_first_row().assert_zero(alloc, left),
+        Rows::Last => builder.when_last_row().assert_zero(alloc, left),
+        Rows::ButLast => builder.when_transition().assert_zero(alloc, left),
+    }
+}
+
+/// Asserts that what is built of these values is zero on these rows.
+fn assert_built<AB: AirBuilder>(
+    alloc: Global,
+    builder: &mut AB,
+    rows: Rows,
+    first: Value,
+    further: &[(Operation, Value)],
+) -> Result<(), AirError>
+    ensures { OnOk result (AB.layout builder.new ≡ AB.layout builder.old) }
+{
+    let left = built(alloc, &*builder, first, further)?;
+    assert_on(alloc, builder, rows, left)
+}
+
+/// The cell of the next row without that of the current one and without 1.
+fn step<AB: AirBuilder>(alloc: Global, builder: &AB) -> Built<AB::Expr> {
+    let above = current_cell(alloc, builder, 1, 0)?;
+    let below = next_cell(alloc, builder, 1, 0)?;
+    let difference = below.sub(alloc, above)?;
+    Ok(difference.sub(alloc, AB::Expr::constant(AB::F::ONE))?)
 }
 
 fn assert_counted<AB: AirBuilder>(
@@ -140,15 +225,13 @@ fn assert_counted<AB: AirBuilder>(
 ) -> Result<(), AirError>
     ensures { OnOk result (AB.layout builder.new ≡ AB.layout builder.old) }
 {
-    let above = current_cell(alloc, &*builder, 1, 0);
-    let below = next_cell(alloc, &*builder, 1, 0);
-    let step = difference::<AB::F, AB::Expr>(alloc, below, above);
-    let left = difference(alloc, step, Ok(AB::Expr::constant(AB::F::ONE)));
-    if on_every_row {
-        builder.assert_zero(alloc, left?)
+    let left = step(alloc, &*builder)?;
+    let rows = if on_every_row {
+        Rows::All
     } else {
-        assert_step(alloc, builder, left)
-    }
+        Rows::ButLast
+    };
+    assert_on(alloc, builder, rows, left)
 }
 
 /// A cell of the current row without this.
@@ -158,8 +241,8 @@ fn without<AB: AirBuilder>(
     place: usize,
     wanted: AB::F,
 ) -> Built<AB::Expr> {
-    let wanted = Ok(AB::Expr::constant(wanted));
-    difference(alloc, current(alloc, builder, place), wanted)
+    let cell = expression_of(alloc, builder, Value::Current(place))?;
+    Ok(cell.sub(alloc, AB::Expr::constant(wanted))?)
 }
 
 /// Both expressions, in order.
@@ -185,48 +268,6 @@ fn assert_row<AB: AirBuilder>(
     builder.assert_zeros(alloc, both)
 }
 
-/// Asserts that the next row's first cell is this row's second one.
-fn assert_moved<AB: AirBuilder>(alloc: Global, builder: &mut AB) -> Result<(), AirError>
-    ensures { OnOk result (AB.layout builder.new ≡ AB.layout builder.old) }
-{
-    let (moved, second) = (next(alloc, &*builder, 0), current(alloc, &*builder, 1));
-    let left = difference::<AB::F, AB::Expr>(alloc, moved, second);
-    assert_step(alloc, builder, left)
-}
-
-/// Asserts that the next row's second cell is the sum of this row's cells.
-fn assert_added<AB: AirBuilder>(alloc: Global, builder: &mut AB) -> Result<(), AirError>
-    ensures { OnOk result (AB.layout builder.new ≡ AB.layout builder.old) }
-{
-    let (first, second) = (current(alloc, &*builder, 0), current(alloc, &*builder, 1));
-    let sum = sum::<AB::F, AB::Expr>(alloc, first, second);
-    let left = difference(alloc, next(alloc, &*builder, 1), sum);
-    assert_step(alloc, builder, left)
-}
-
-fn public_value<AB: AirBuilder>(builder: &AB) -> Built<AB::Expr> {
-    match builder.public_values().first().copied() {
-        Some(value) => Ok(value.into()),
-        None => Err(too_narrow()),
-    }
-}
-
-/// Asserts that the second cell of the row is the public value.
-fn assert_result<AB: AirBuilder>(alloc: Global, builder: &mut AB) -> Result<(), AirError>
-    ensures { OnOk result ((x : AB.Expr) × AB.accepts builder.old x builder.new) }
-{
-    let (last, wanted) = (current(alloc, &*builder, 1), public_value(&*builder));
-    let left = difference::<AB::F, AB::Expr>(alloc, last, wanted)?;
-    builder.assert_zero(alloc, left)
-}
-
-/// Asserts the result, on the last row.
-fn assert_end<AB: AirBuilder>(alloc: Global, builder: &mut AB) -> Result<(), AirError>
-    ensures { OnOk result (AB.layout builder.new ≡ AB.layout builder.old) }
-{
-    assert_result(alloc, &mut builder.when_last_row())
-}
-
 /// Asserts that the cells of the first row are these.
 fn assert_first_row<AB: AirBuilder>(
     alloc: Global,
@@ -239,14 +280,21 @@ fn assert_first_row<AB: AirBuilder>(
     assert_row(alloc, &mut builder.when_first_row(), left, right)
 }
 
+/// The cells of the first row are 0 and 1. The next row's first cell is this row's second one, and
+/// its second cell the sum of this row's cells. The last row's second cell is the public value.
 fn assert_fibonacci<AB: AirBuilder>(alloc: Global, builder: &mut AB) -> Result<(), AirError>
     ensures { OnOk result (AB.layout builder.new ≡ AB.layout builder.old) }
 {
-    let (zero, one) = (AB::F::ZERO, AB::F::ONE);
-    assert_first_row(alloc, builder, zero, one)?;
-    assert_moved(alloc, builder)?;
-    assert_added(alloc, builder)?;
-    assert_end(alloc, builder)
+    assert_first_row(alloc, builder, AB::F::ZERO, AB::F::ONE)?;
+    let moved = [(Operation::Sub, Value::Current(1))];
+    assert_built(alloc, builder, Rows::ButLast, Value::Next(0), &moved)?;
+    let added = [
+        (Operation::Sub, Value::Current(0)),
+        (Operation::Sub, Value::Current(1)),
+    ];
+    assert_built(alloc, builder, Rows::ButLast, Value::Next(1), &added)?;
+    let result = [(Operation::Sub, Value::Public)];
+    assert_built(alloc, builder, Rows::Last, Value::Current(1), &result)
 }
 
 /// Asserts that both cells are this, on the last row.
@@ -272,103 +320,92 @@ fn number<AB: ExtensionBuilder>(n: u32) -> AB::ExprEF {
     AB::ExprEF::constant(AB::EF::from_u32(n))
 }
 
-fn assert_on_first_row<AB: ExtensionBuilder>(
+/// Asserts that this is zero in the extension on these rows.
+fn assert_ext_on<AB: ExtensionBuilder>(
     alloc: Global,
     builder: &mut AB,
+    rows: Rows,
     left: AB::ExprEF,
 ) -> Result<(), AirError>
     ensures { OnOk result (AB.layout builder.new ≡ AB.layout builder.old) }
 {
-    builder.when_first_row().assert_zero_ext(alloc, left)
-}
-
-fn assert_on_last_row<AB: ExtensionBuilder>(
-    alloc: Global,
-    builder: &mut AB,
-    left: AB::ExprEF,
-) -> Result<(), AirError>
-    ensures { OnOk result (AB.layout builder.new ≡ AB.layout builder.old) }
-{
-    builder.when_last_row().assert_zero_ext(alloc, left)
-}
-
-/// Asserts the product of a cell and one of the next row, on the first row.
-fn assert_product<AB: AirBuilder>(alloc: Global, builder: &mut AB) -> Result<(), AirError>
-    ensures { OnOk result (AB.layout builder.new ≡ AB.layout builder.old) }
-{
-    let (a, b) = (current(alloc, &*builder, 0), next(alloc, &*builder, 1));
-    let left = product::<AB::F, AB::Expr>(alloc, a, b)?;
-    builder.when_first_row().assert_zero(alloc, left)
-}
-
-/// Asserts their sum, on the last row.
-fn assert_sum<AB: AirBuilder>(alloc: Global, builder: &mut AB) -> Result<(), AirError>
-    ensures { OnOk result (AB.layout builder.new ≡ AB.layout builder.old) }
-{
-    let (a, b) = (current(alloc, &*builder, 0), next(alloc, &*builder, 1));
-    let left = sum::<AB::F, AB::Expr>(alloc, a, b)?;
-    builder.when_last_row().assert_zero(alloc, left)
-}
-
-/// Asserts their difference, on every row but the last.
-fn assert_difference<AB: AirBuilder>(alloc: Global, builder: &mut AB) -> Result<(), AirError>
-    ensures { OnOk result (AB.layout builder.new ≡ AB.layout builder.old) }
-{
-    let (a, b) = (current(alloc, &*builder, 0), next(alloc, &*builder, 1));
-    let left = difference::<AB::F, AB::Expr>(alloc, a, b);
-    assert_step(alloc, builder, left)
+    match rows {
+        Rows::All => builder.assert_zero_ext(alloc, left),
+        Rows::First => builder.when_first_row().assert_zero_ext(alloc, left),
+        Rows::Last => builder.when_last_row().assert_zero_ext(alloc, left),
+        Rows::ButLast => builder.when_transition().assert_zero_ext(alloc, left),
+    }
 }
 
 fn assert_selected<AB: AirBuilder>(alloc: Global, builder: &mut AB) -> Result<(), AirError>
     ensures { OnOk result (AB.layout builder.new ≡ AB.layout builder.old) }
 {
-    assert_product(alloc, builder)?;
-    assert_sum(alloc, builder)?;
-    assert_difference(alloc, builder)
+    let (current, next) = (Value::Current(0), Value::Next(1));
+    assert_built(
+        alloc,
+        builder,
+        Rows::First,
+        current,
+        &[(Operation::Mul, next)],
+    )?;
+    assert_built(
+        alloc,
+        builder,
+        Rows::Last,
+        current,
+        &[(Operation::Add, next)],
+    )?;
+    assert_built(
+        alloc,
+        builder,
+        Rows::ButLast,
+        current,
+        &[(Operation::Sub, next)],
+    )
 }
 
-/// A cell of the permutation trace's current row.
-fn permutation_current<AB: PermutationAirBuilder>(
+/// The expression of a value of the extension, or of one of the base field, embedded.
+fn ext_expression_of<AB: PermutationAirBuilder>(
     alloc: Global,
     builder: &AB,
-    place: usize,
+    value: Value,
 ) -> Built<AB::ExprEF> {
-    match builder.permutation(alloc)?.current(place) {
-        Some(cell) => Ok(cell.into()),
-        None => Err(too_narrow()),
+    match value {
+        Value::PermutationCurrent(place) => found(builder.permutation(alloc)?.current(place)),
+        Value::PermutationNext(place) => found(builder.permutation(alloc)?.next(place)),
+        Value::Challenge(place) => found(builder.permutation_randomness().get(place).copied()),
+        Value::PermutationValue => found(builder.permutation_values().first().copied()),
+        base => Ok(AB::lift(expression_of(alloc, builder, base)?)),
     }
 }
 
-/// A cell of the permutation trace's next row.
-fn permutation_next<AB: PermutationAirBuilder>(
+/// A value, and then what is done with it and further values, in order, in the extension.
+fn ext_built<AB: PermutationAirBuilder>(
     alloc: Global,
     builder: &AB,
-    place: usize,
+    first: Value,
+    further: &[(Operation, Value)],
 ) -> Built<AB::ExprEF> {
-    match builder.permutation(alloc)?.next(place) {
-        Some(cell) => Ok(cell.into()),
-        None => Err(too_narrow()),
+    let mut all = ext_expression_of(alloc, builder, first)?;
+    for (operation, value) in further {
+        let next = ext_expression_of(alloc, builder, *value)?;
+        all = combined::<AB::EF, AB::ExprEF>(alloc, *operation, all, next)?;
     }
+    Ok(all)
 }
 
-fn challenge<AB: PermutationAirBuilder>(builder: &AB, place: usize) -> Built<AB::ExprEF> {
-    match builder.permutation_randomness().get(place).copied() {
-        Some(challenge) => Ok(challenge.into()),
-        None => Err(too_narrow()),
-    }
-}
-
-fn permutation_value<AB: PermutationAirBuilder>(builder: &AB) -> Built<AB::ExprEF> {
-    match builder.permutation_values().first().copied() {
-        Some(value) => Ok(value.into()),
-        None => Err(too_narrow()),
-    }
-}
-
-/// The first cell, embedded.
-fn lifted_cell<AB: PermutationAirBuilder>(alloc: Global, builder: &AB) -> Built<AB::ExprEF> {
-    let cell = current(alloc, builder, 0)?;
-    Ok(AB::lift(cell))
+/// Asserts that what is built of these values is zero in the extension on these rows.
+fn assert_ext_built<AB: PermutationAirBuilder>(
+    alloc: Global,
+    builder: &mut AB,
+    rows: Rows,
+    first: Value,
+    further: &[(Operation, Value)],
+) -> Result<(), AirError>
+    ensures { OnOk result (AB.layout builder.new ≡ AB.layout builder.old) }
+{
+    let left = ext_built(alloc, &*builder, first, further)?;
+    assert_ext_on(alloc, builder, rows, left)
 }
 
 fn assert_sum_of_all<AB: PermutationAirBuilder>(
@@ -377,14 +414,19 @@ fn assert_sum_of_all<AB: PermutationAirBuilder>(
 ) -> Result<(), AirError>
     ensures { OnOk result (AB.layout builder.new ≡ AB.layout builder.old) }
 {
-    let above = permutation_current(alloc, &*builder, 0);
-    let below = permutation_next(alloc, &*builder, 0);
-    let cells = sum::<AB::EF, AB::ExprEF>(alloc, above, below);
-    let (challenge, value) = (challenge(&*builder, 0), permutation_value(&*builder));
-    let arguments = sum::<AB::EF, AB::ExprEF>(alloc, challenge, value);
-    let both = sum::<AB::EF, AB::ExprEF>(alloc, cells, arguments);
-    let all = sum(alloc, both, lifted_cell(alloc, &*builder))?;
-    builder.assert_zero_ext(alloc, all)
+    let further = [
+        (Operation::Add, Value::PermutationNext(0)),
+        (Operation::Add, Value::Challenge(0)),
+        (Operation::Add, Value::PermutationValue),
+        (Operation::Add, Value::Current(0)),
+    ];
+    assert_ext_built(
+        alloc,
+        builder,
+        Rows::All,
+        Value::PermutationCurrent(0),
+        &further,
+    )
 }
 
 fn assert_repeated<AB: PermutationAirBuilder>(
@@ -393,20 +435,14 @@ fn assert_repeated<AB: PermutationAirBuilder>(
 ) -> Result<(), AirError>
     ensures { OnOk result (AB.layout builder.new ≡ AB.layout builder.old) }
 {
-    let repeated = permutation_current(alloc, &*builder, 0);
-    let cell = lifted_cell(alloc, &*builder);
-    let left = difference::<AB::EF, AB::ExprEF>(alloc, repeated, cell)?;
-    builder.assert_zero_ext(alloc, left)
-}
-
-/// Asserts the first cell of the preprocessed trace.
-fn assert_fixed<AB: AirBuilder>(alloc: Global, builder: &mut AB) -> Result<(), AirError>
-    ensures { OnOk result (AB.layout builder.new ≡ AB.layout builder.old) }
-{
-    match builder.preprocessed().current(0) {
-        Some(cell) => builder.assert_zero(alloc, cell.into()),
-        None => Err(too_narrow()),
-    }
+    let cell = [(Operation::Sub, Value::Current(0))];
+    assert_ext_built(
+        alloc,
+        builder,
+        Rows::All,
+        Value::PermutationCurrent(0),
+        &cell,
+    )
 }
 
 /// Asserts the second cell of the next row of the permutation trace; the first preprocessed cell;
@@ -418,12 +454,9 @@ fn assert_both_kinds<AB: PermutationAirBuilder>(
 ) -> Result<(), AirError>
     ensures { OnOk result (AB.layout builder.new ≡ AB.layout builder.old) }
 {
-    let cell = permutation_next(alloc, &*builder, 1)?;
-    builder.assert_zero_ext(alloc, cell)?;
-    assert_fixed(alloc, builder)?;
-    let value = permutation_value(&*builder)?;
-    assert_on_last_row(alloc, builder, value)?;
-    let selector = Ok(AB::lift(builder.is_first_row()));
-    let left = product::<AB::EF, AB::ExprEF>(alloc, selector, challenge(&*builder, 1))?;
-    builder.assert_zero_ext(alloc, left)
+    assert_ext_built(alloc, builder, Rows::All, Value::PermutationNext(1), &[])?;
+    assert_built(alloc, builder, Rows::All, Value::Fixed, &[])?;
+    assert_ext_built(alloc, builder, Rows::Last, Value::PermutationValue, &[])?;
+    let challenge = [(Operation::Mul, Value::Challenge(1))];
+    assert_ext_built(alloc, builder, Rows::All, Value::IsFirstRow, &challenge)
 }

@@ -127,7 +127,9 @@ fn has_value(
         is_first: true,
         is_last: true,
     };
-    has_values(rt, alloc, &asserted, &at, &[expected])
+    let is_value = has_values(rt, alloc, &asserted, &at, &[expected]);
+    drop(asserted);
+    is_value
 }
 
 /// The lookup of the tuple of cells 0 and 1 in column 0, and the range lookup in column 1.
@@ -246,6 +248,7 @@ fn the_accumulator_is_asserted(rt: HostRuntime) {
             has_values(&rt, alloc, &asserted, &at, values.as_slice()),
         );
     }
+    drop(asserted);
 }
 
 #[test]
@@ -261,4 +264,5 @@ fn no_lookups_have_no_accumulator(rt: HostRuntime) {
         "no base constraints",
         asserted.base_constraints().is_empty(),
     );
+    drop(asserted);
 }

@@ -1,6 +1,7 @@
 //! Declarations written as JSON, read and copied.
 use super::{holds, list};
 use lookup_declaration::{IndexedRead, IndexedTable, TraceWindow};
+use serde::{Deserialize, Serialize};
 use std::alloc::Global;
 use std::process::Abort;
 
@@ -40,23 +41,32 @@ pub(super) fn table<const N: usize>(
     }
 }
 
+/// Ends the test where this is not written as this text, or not what the text holds.
+fn goes_round<'a, T: PartialEq + Serialize + Deserialize<'a>>(
+    rt: &impl Abort,
+    alloc: Global,
+    value: T,
+    text: &'a str,
+) {
+    let written = serde_json::to_string(alloc, &value).expect(rt, text);
+    holds(rt, text, written.as_str() == text);
+    let again = serde_json::from_str::<T>(alloc, text).expect(rt, text);
+    holds(rt, text, again == value);
+}
+
 #[test]
 fn declarations_go_round(rt: HostRuntime) {
     let alloc = rt.alloc();
-    let declared = read(&rt, alloc, "t", 0, [2, 1]);
-    let text = serde_json::to_string(alloc, &declared).expect(&rt, "a text");
-    holds(&rt, "the text of a read", text.as_str() == READ);
-    let again = serde_json::from_str::<IndexedRead>(alloc, READ).expect(&rt, "a read");
-    holds(&rt, "a read", again == declared);
+    goes_round(&rt, alloc, read(&rt, alloc, "t", 0, [2, 1]), READ);
     let declared = table(&rt, alloc, "t", TraceWindow::Preprocessed, [3, 0]);
-    let text = serde_json::to_string(alloc, &declared).expect(&rt, "a text");
-    holds(&rt, "the text of a table", text.as_str() == TABLE);
-    let again = serde_json::from_str::<IndexedTable>(alloc, TABLE).expect(&rt, "a table");
-    holds(&rt, "a table", again == declared);
-    let text = serde_json::to_string(alloc, &TraceWindow::Main).expect(&rt, "a text");
-    holds(&rt, "the text of a window", text.as_str() == r#""Main""#);
-    let again = serde_json::from_str::<TraceWindow>(alloc, r#""Main""#).expect(&rt, "a window");
-    holds(&rt, "a window", again == TraceWindow::Main);
+    goes_round(&rt, alloc, declared, TABLE);
+    goes_round(&rt, alloc, TraceWindow::Main, r#""Main""#);
+}
+
+/// Ends the test where a text holds one of these.
+pub(super) fn is_unreadable<'a, T: Deserialize<'a>>(rt: &impl Abort, alloc: Global, text: &'a str) {
+    let read = serde_json::from_str::<T>(alloc, text);
+    holds(rt, text, read.is_err());
 }
 
 #[test]
@@ -67,21 +77,13 @@ fn what_is_no_declaration_is_refused(rt: HostRuntime) {
         r#"{"table":"t","position":-1,"payload":[2,1]}"#,
         r#"{"table":"t","position":0,"payload":[2,[]]}"#,
     ] {
-        holds(
-            &rt,
-            text,
-            serde_json::from_str::<IndexedRead>(alloc, text).is_err(),
-        );
+        is_unreadable::<IndexedRead>(&rt, alloc, text);
     }
     for text in [
         r#"{"name":"t","window":"Auxiliary","columns":[3,0]}"#,
         r#"{"name":"t","window":{"Main":null},"columns":[3,0]}"#,
     ] {
-        holds(
-            &rt,
-            text,
-            serde_json::from_str::<IndexedTable>(alloc, text).is_err(),
-        );
+        is_unreadable::<IndexedTable>(&rt, alloc, text);
     }
 }
 

@@ -149,4 +149,5 @@ fn an_emitted_group_has_the_degree_of_its_formula(rt: HostRuntime) {
         "the degrees",
         have_degrees(&rt, &builder, 0, &[3, 2, 1, 2]),
     );
+    drop(builder);
 }

@@ -1,6 +1,7 @@
 //! Constraints of lookups, on witnesses and as expressions.
-ghost use Rattle.std.specs.Prelude.{◌≡◌, ◌+◌, ◌<◌, ◌↔◌, All, IfOk, IsTrue, None, OnOk};
+ghost use Rattle.std.specs.Prelude.{◌≡◌, ◌+◌, ◌*◌, ◌<◌, ◌≤◌, ◌↔◌, All, IfOk, IsTrue, None, OnOk, length};
 ghost use Rattle.air.specs.Row.{row_layout};
+ghost use Rattle.lookup_model.specs.Records.{DoFit};
 
 use super::{alone, are_numbers, generated, group, holds, range, single, trace};
 use air::{
@@ -33,6 +34,39 @@ pub(super) fn layout_of<AB: PermutationAirBuilder>(
     })
 }
 
+/// Whether a builder of these widths has room for lookups.
+fn has_room<F>(lookups: &[Lookup<F>], layout: &AirLayout) -> bool
+    ensures fit { IsTrue result → DoFit layout.now lookups.now }
+    ensures challenges { IsTrue result
+        → 2 * length lookups.now ≤ layout.now.num_permutation_challenges }
+    ensures cells { IsTrue result → length lookups.now < layout.now.permutation_width }
+    ensures terminal { IsTrue result → 0 < layout.now.num_permutation_values }
+{
+    fits(lookups, layout)
+        && lookups.len() <= layout.num_permutation_challenges / 2
+        && lookups.len() < layout.permutation_width
+        && 0 < layout.num_permutation_values
+}
+
+/// Ends the test where a builder has no room for lookups.
+pub(super) fn expect_room<AB: PermutationAirBuilder>(
+    rt: &impl Abort,
+    alloc: Global,
+    builder: &AB,
+    lookups: &[Lookup<AB::F>],
+) -> Result<(), AirError>
+    ensures fit { OnOk result (DoFit (AB.layout builder.now) lookups.now) }
+    ensures challenges { OnOk result
+        (2 * length lookups.now ≤ (AB.layout builder.now).num_permutation_challenges) }
+    ensures cells { OnOk result
+        (length lookups.now < (AB.layout builder.now).permutation_width) }
+    ensures terminal { OnOk result (0 < (AB.layout builder.now).num_permutation_values) }
+{
+    let layout = layout_of(alloc, builder)?;
+    assert!(rt; has_room(lookups, &layout));
+    Ok(())
+}
+
 /// Evaluates lookups, for which the builder has to have room.
 pub(super) fn evaluated<AB: PermutationAirBuilder>(
     rt: &impl Abort,
@@ -42,11 +76,7 @@ pub(super) fn evaluated<AB: PermutationAirBuilder>(
 ) -> Result<(), AirError>
     ensures { OnOk result (AB.layout builder.new ≡ AB.layout builder.old) }
 {
-    let layout = layout_of(alloc, &*builder)?;
-    assert!(rt; fits(lookups, &layout));
-    assert!(rt; lookups.len() <= layout.num_permutation_challenges / 2);
-    assert!(rt; lookups.len() < layout.permutation_width);
-    assert!(rt; 0 < layout.num_permutation_values);
+    expect_room(rt, alloc, &*builder, lookups)?;
     LogUpGadget::new().eval_all(alloc, builder, lookups)
 }
 
@@ -374,6 +404,7 @@ fn constraints_are_recorded_in_order(rt: HostRuntime) {
         "extension constraints",
         places == [0, 1, 2, 3, 4].as_slice(),
     );
+    drop(builder);
 }
 
 /// Whether recorded constraints have these degrees, where the transition selector has this one.
@@ -408,4 +439,5 @@ fn constraints_have_the_degrees_of_their_formula(rt: HostRuntime) {
         "at 1",
         have_degrees(&rt, &builder, 1, &[3, 2, 2, 2, 2]),
     );
+    drop(builder);
 }

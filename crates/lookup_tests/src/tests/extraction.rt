@@ -93,7 +93,11 @@ fn push_local<AB: InteractionBuilder>(
     builder.push_local_interaction(alloc, tuples)
 }
 
-fn push_range<AB: InteractionBuilder>(alloc: Global, builder: &mut AB) -> Result<(), AirError>
+/// Pushes the local lookup of cell 0 and of cell 1, which is provided as often as cell 2 says.
+pub(super) fn push_range<AB: InteractionBuilder>(
+    alloc: Global,
+    builder: &mut AB,
+) -> Result<(), AirError>
     ensures layout { OnOk result (AB.layout builder.new ≡ AB.layout builder.old) }
     ensures within { OnOk result (AB.pushed_within builder.old → AB.pushed_within builder.new) }
 {
@@ -106,7 +110,8 @@ fn push_range<AB: InteractionBuilder>(alloc: Global, builder: &mut AB) -> Result
     builder.push_local_interaction(alloc, tuples)
 }
 
-fn push_exclusive<AB: InteractionBuilder>(
+/// Pushes a group on a bus, whose branches have these weights.
+pub(super) fn push_exclusive<AB: InteractionBuilder>(
     alloc: Global,
     builder: &mut AB,
     name: &str,

@@ -170,4 +170,5 @@ fn items_are_reached_through_their_modules(rt: HostRuntime) {
         "traits",
         traits::LookupTerminal(F7::new(3)).0 == F7::new(3),
     );
+    drop(builder);
 }

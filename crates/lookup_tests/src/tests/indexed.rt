@@ -2,7 +2,7 @@
 //! JSON.
 ghost use Rattle.std.specs.Prelude.{◌≡◌, OnOk};
 
-use super::declaration::{read, table};
+use super::declaration::{is_unreadable, read, table};
 use super::{alone, holds, pair};
 use air::{Air, AirError, AirLayout, BaseAir};
 use field::F7;
@@ -89,58 +89,67 @@ fn table_refusal<const N: usize>(
     refusal(alloc, Vec::new(alloc), alone(rt, alloc, table))
 }
 
+/// Ends the test where this is not what is refused.
+fn is_refused(
+    rt: &impl Abort,
+    what: &str,
+    refused: Option<IndexedLookupError>,
+    expected: IndexedLookupError,
+) {
+    holds(rt, what, refused == Some(expected));
+}
+
+/// Ends the test where something is refused.
+fn is_accepted(rt: &impl Abort, what: &str, refused: Option<IndexedLookupError>) {
+    holds(rt, what, refused.is_none());
+}
+
 #[test]
 fn a_reader_has_its_position_then_its_payload_checked(rt: HostRuntime) {
     let alloc = rt.alloc();
     let refused = read_refusal(&rt, alloc, 4, [1]);
-    let expected = out_of_range(&rt, alloc, 4, 4);
-    holds(&rt, "position 4", refused == Some(expected));
+    is_refused(&rt, "position 4", refused, out_of_range(&rt, alloc, 4, 4));
     let refused = read_refusal(&rt, alloc, 9, []);
-    let expected = out_of_range(&rt, alloc, 9, 4);
-    holds(&rt, "no payload at 9", refused == Some(expected));
+    is_refused(
+        &rt,
+        "no payload at 9",
+        refused,
+        out_of_range(&rt, alloc, 9, 4),
+    );
     let refused = read_refusal(&rt, alloc, 0, []);
-    let expected = empty_payload(&rt, alloc);
-    holds(&rt, "no payload", refused == Some(expected));
-    holds(&rt, "0", read_refusal(&rt, alloc, 0, [0]).is_none());
-    holds(&rt, "3", read_refusal(&rt, alloc, 3, [3, 0]).is_none());
+    is_refused(&rt, "no payload", refused, empty_payload(&rt, alloc));
+    is_accepted(&rt, "0", read_refusal(&rt, alloc, 0, [0]));
+    is_accepted(&rt, "3", read_refusal(&rt, alloc, 3, [3, 0]));
 }
 
 #[test]
 fn columns_of_a_reader_are_checked_in_order(rt: HostRuntime) {
     let alloc = rt.alloc();
     let refused = read_refusal(&rt, alloc, 0, [1, 1]);
-    let expected = repeated(&rt, alloc, 1);
-    holds(&rt, "1, 1", refused == Some(expected));
+    is_refused(&rt, "1, 1", refused, repeated(&rt, alloc, 1));
     let refused = read_refusal(&rt, alloc, 0, [1, 1, 9]);
-    let expected = repeated(&rt, alloc, 1);
-    holds(&rt, "1, 1, 9", refused == Some(expected));
+    is_refused(&rt, "1, 1, 9", refused, repeated(&rt, alloc, 1));
     let refused = read_refusal(&rt, alloc, 0, [9, 1, 1]);
-    let expected = out_of_range(&rt, alloc, 9, 4);
-    holds(&rt, "9, 1, 1", refused == Some(expected));
+    is_refused(&rt, "9, 1, 1", refused, out_of_range(&rt, alloc, 9, 4));
     let refused = read_refusal(&rt, alloc, 0, [2, 1, 3, 2]);
-    let expected = repeated(&rt, alloc, 2);
-    holds(&rt, "2, 1, 3, 2", refused == Some(expected));
+    is_refused(&rt, "2, 1, 3, 2", refused, repeated(&rt, alloc, 2));
     let refused = read_refusal(&rt, alloc, 0, [2, 4]);
-    let expected = out_of_range(&rt, alloc, 4, 4);
-    holds(&rt, "2, 4", refused == Some(expected));
+    is_refused(&rt, "2, 4", refused, out_of_range(&rt, alloc, 4, 4));
 }
 
 #[test]
 fn columns_of_a_table_are_within_its_window(rt: HostRuntime) {
     let alloc = rt.alloc();
     let refused = table_refusal(&rt, alloc, TraceWindow::Main, [3]);
-    holds(&rt, "main", refused.is_none());
+    is_accepted(&rt, "main", refused);
     let refused = table_refusal(&rt, alloc, TraceWindow::Preprocessed, [3]);
-    let expected = out_of_range(&rt, alloc, 3, 2);
-    holds(&rt, "preprocessed", refused == Some(expected));
+    is_refused(&rt, "preprocessed", refused, out_of_range(&rt, alloc, 3, 2));
     let refused = table_refusal(&rt, alloc, TraceWindow::Preprocessed, [0, 1]);
-    holds(&rt, "both preprocessed columns", refused.is_none());
+    is_accepted(&rt, "both preprocessed columns", refused);
     let refused = table_refusal(&rt, alloc, TraceWindow::Main, []);
-    let expected = empty_table(&rt, alloc);
-    holds(&rt, "no columns", refused == Some(expected));
+    is_refused(&rt, "no columns", refused, empty_table(&rt, alloc));
     let refused = table_refusal(&rt, alloc, TraceWindow::Preprocessed, [1, 0, 1]);
-    let expected = repeated(&rt, alloc, 1);
-    holds(&rt, "1, 0, 1", refused == Some(expected));
+    is_refused(&rt, "1, 0, 1", refused, repeated(&rt, alloc, 1));
 }
 
 #[test]
@@ -149,18 +158,30 @@ fn readers_come_before_tables(rt: HostRuntime) {
     let reads = alone(&rt, alloc, read(&rt, alloc, "t", 0, []));
     let tables = alone(&rt, alloc, table(&rt, alloc, "t", TraceWindow::Main, []));
     let refused = refusal(alloc, reads, tables);
-    let expected = empty_payload(&rt, alloc);
-    holds(&rt, "a reader and a table", refused == Some(expected));
+    is_refused(
+        &rt,
+        "a reader and a table",
+        refused,
+        empty_payload(&rt, alloc),
+    );
     let good = read(&rt, alloc, "u", 0, [1]);
     let reads = pair(&rt, alloc, good, read(&rt, alloc, "t", 4, [1]));
     let refused = refusal(alloc, reads, Vec::new(alloc));
-    let expected = out_of_range(&rt, alloc, 4, 4);
-    holds(&rt, "the second reader", refused == Some(expected));
+    is_refused(
+        &rt,
+        "the second reader",
+        refused,
+        out_of_range(&rt, alloc, 4, 4),
+    );
     let first = table(&rt, alloc, "t", TraceWindow::Main, []);
     let second = table(&rt, alloc, "u", TraceWindow::Main, []);
     let refused = refusal(alloc, Vec::new(alloc), pair(&rt, alloc, first, second));
-    let expected = empty_table(&rt, alloc);
-    holds(&rt, "the first of two tables", refused == Some(expected));
+    is_refused(
+        &rt,
+        "the first of two tables",
+        refused,
+        empty_table(&rt, alloc),
+    );
 }
 
 /// A reader at column 0 of columns 1 and 2, and a table of the columns 1 and 3.
@@ -250,8 +271,12 @@ fn declarations_of_an_air_are_checked(rt: HostRuntime) {
     let tables = alone(&rt, alloc, table(&rt, alloc, "t", TraceWindow::Main, [1]));
     holds(&rt, "the table", set.tables() == tables.as_slice());
     let refused = declared(alloc, 2, None).err();
-    let expected = out_of_range(&rt, alloc, 2, 2);
-    holds(&rt, "position 2 of 2", refused == Some(expected));
+    is_refused(
+        &rt,
+        "position 2 of 2",
+        refused,
+        out_of_range(&rt, alloc, 2, 2),
+    );
 }
 
 #[test]
@@ -259,11 +284,14 @@ fn refusals_of_an_air_are_passed_on(rt: HostRuntime) {
     let alloc = rt.alloc();
     let overflow = AirError::DegreeOverflow;
     let refused = declared(alloc, 2, Some(overflow)).err();
-    let expected = IndexedLookupError::Air(overflow);
-    holds(&rt, "an overflow", refused == Some(expected));
+    is_refused(
+        &rt,
+        "an overflow",
+        refused,
+        IndexedLookupError::Air(overflow),
+    );
     let refused = declared(alloc, 0, Some(AirError::Memory)).err();
-    let expected = IndexedLookupError::Memory;
-    holds(&rt, "out of memory", refused == Some(expected));
+    is_refused(&rt, "out of memory", refused, IndexedLookupError::Memory);
 }
 
 /// Fails, with what is written, unless a refusal is written as this text.
@@ -415,8 +443,7 @@ fn what_are_no_declarations_is_refused(rt: HostRuntime) {
         r#"{"reads":[{"table":"t","position":0}],"tables":[]}"#,
         r#"{"reads":[],"tables":{}}"#,
     ] {
-        let read = serde_json::from_str::<IndexedDeclarations>(alloc, text);
-        holds(&rt, text, read.is_err());
+        is_unreadable::<IndexedDeclarations>(&rt, alloc, text);
     }
     let turned = r#"{"tables":[],"reads":[]}"#;
     let read = serde_json::from_str::<IndexedDeclarations>(alloc, turned);

@@ -6,7 +6,7 @@ mod counts;
 mod mock;
 mod recording;
 
-use air::{AirLayout, BaseLeaf, Expression, SymbolicExpression};
+use air::{AirBuilder, AirLayout, BaseLeaf, Expression, SymbolicExpression};
 use field::F7;
 use lookup_record::{
     Count, IndexedLookupBuilder, InteractionBuilder, InteractionSymbolicBuilder, LocalTuple,
@@ -20,6 +20,9 @@ type Recorder = InteractionSymbolicBuilder<F7, F7>;
 type Tree = SymbolicExpression<F7>;
 
 /// A recorder of an AIR with two columns.
+///
+/// Tests let go of it by `drop`, which is one call: at the end of a scope each of its many fields
+/// would be dropped there, and proved there.
 fn recorder(rt: &impl Abort, alloc: Global) -> Recorder {
     let layout = AirLayout {
         main_width: 2,
@@ -120,7 +123,7 @@ fn once() -> Count<Tree> {
     Count::from(1)
 }
 
-/// A call of a bus.
+/// A call of a bus, or an assertion.
 enum Call<E> {
     /// Queries a key once.
     Query(Vec<E>),
@@ -132,6 +135,8 @@ enum Call<E> {
     Send(Vec<E>),
     /// Receives a message once.
     Receive(Vec<E>),
+    /// Asserts, on no bus, that this is zero where the transition selector is set.
+    AssertOnTransitions(E),
 }
 
 /// Hands a builder what a call of the bus of this name asks for.
@@ -151,6 +156,7 @@ fn ask<AB: InteractionBuilder>(
         Call::QueryOneOf(branches) => lookup.lookup_key_exclusive(alloc, builder, branches),
         Call::Send(fields) => permutation.send(alloc, builder, fields, once),
         Call::Receive(fields) => permutation.receive(alloc, builder, fields, once),
+        Call::AssertOnTransitions(x) => builder.when_transition().assert_zero(alloc, x),
     };
     answer.expect(rt, "memory");
 }

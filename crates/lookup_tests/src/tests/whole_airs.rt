@@ -1,14 +1,14 @@
 //! AIRs that are evaluated with their lookups.
 ghost use Rattle.std.specs.Prelude.{◌≡◌, OnOk};
 
-use super::evaluation::{layout_of, no_preprocessed};
+use super::evaluation::{expect_room, no_preprocessed};
 use super::{alone, holds, single, trace};
 use air::{
     Air, AirBuilder, AirError, AirLayout, BaseAir, DebugConstraintBuilder, PermutationAirBuilder,
     RowInputs, SymbolicAirBuilder, current_cell,
 };
 use field::{F7, PrimeCharacteristicRing};
-use lookup::{LogUpGadget, Lookup, LookupProtocol, fits};
+use lookup::{LogUpGadget, Lookup, LookupProtocol};
 use std::alloc::Global;
 use std::process::Abort;
 
@@ -61,11 +61,7 @@ fn evaluated_both<AB: PermutationAirBuilder>(
     builder: &mut AB,
     lookups: &[Lookup<AB::F>],
 ) -> Result<(), AirError> {
-    let layout = layout_of(alloc, &*builder)?;
-    assert!(rt; fits(lookups, &layout));
-    assert!(rt; lookups.len() <= layout.num_permutation_challenges / 2);
-    assert!(rt; lookups.len() < layout.permutation_width);
-    assert!(rt; 0 < layout.num_permutation_values);
+    expect_room(rt, alloc, &*builder, lookups)?;
     LogUpGadget::new().eval_air_and_lookups(alloc, air, builder, lookups)
 }
 
@@ -109,9 +105,11 @@ fn lookups_are_recorded_after_the_air(rt: HostRuntime) {
     let (refused, builder) = recorded_both(&rt, alloc, None, lookups.as_slice());
     holds(&rt, "one lookup, accepted", refused.is_none());
     holds(&rt, "one lookup", are_at(&builder, &[0], &[1, 2, 3, 4]));
+    drop(builder);
     let (refused, builder) = recorded_both(&rt, alloc, None, &[]);
     holds(&rt, "no lookups, accepted", refused.is_none());
     holds(&rt, "no lookups", are_at(&builder, &[0], &[]));
+    drop(builder);
 }
 
 #[test]
@@ -122,6 +120,7 @@ fn an_air_that_refuses_leaves_no_constraints_of_lookups(rt: HostRuntime) {
     let (refused, builder) = recorded_both(&rt, alloc, refusal, lookups.as_slice());
     holds(&rt, "its refusal", refused == refusal);
     holds(&rt, "its constraint", are_at(&builder, &[0], &[]));
+    drop(builder);
 }
 
 /// What the row checker answers on one row of this cell, with this fraction as the second auxiliary

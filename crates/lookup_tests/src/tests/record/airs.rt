@@ -2,13 +2,13 @@
 ghost use Rattle.std.specs.Prelude.{◌≡◌, [], OnOk};
 
 use super::super::evaluation::no_preprocessed;
-use super::super::{holds, list};
+use super::super::extraction::{push_exclusive, push_range};
+use super::super::{holds, trace};
 use super::{Recorder, declared_counts, recorded_counts};
 use air::{
-    Air, AirError, AirLayout, BaseAir, DebugConstraintBuilder, Expression, LayoutPart, RowInputs,
-    current_cells,
+    Air, AirError, AirLayout, BaseAir, DebugConstraintBuilder, LayoutPart, RowInputs, current_cells,
 };
-use field::{F7, PrimeCharacteristicRing};
+use field::F7;
 use lookup_record::{
     Count, IndexedLookupBuilder, InteractionBuilder, LookupBus, PermutationCheckBus, TraceWindow,
 };
@@ -16,9 +16,9 @@ use matrix::RowMajorMatrix;
 use std::alloc::Global;
 use std::process::Abort;
 
-/// Three columns. The cell of the first is sent on `a`, looked up in itself, queried in the group
-/// `b` and received on `c`. It also names the entry that the second holds, of the table `t` that
-/// the third is.
+/// Three columns. The cell of the first is sent on `a`, looked up in the second and received on
+/// `c`. A group of one branch stands on `b`. The first also names the entry that the second holds,
+/// of the table `t` that the third is.
 struct Speaker;
 
 impl<F> BaseAir<F> for Speaker {
@@ -41,37 +41,14 @@ impl<F> BaseAir<F> for Speaker {
     }
 }
 
-fn look_up_itself<AB: InteractionBuilder>(alloc: Global, builder: &mut AB) -> Result<(), AirError>
-    ensures layout { OnOk result (AB.layout builder.new ≡ AB.layout builder.old) }
-    ensures within { OnOk result (AB.pushed_within builder.old → AB.pushed_within builder.new) }
-{
-    let mut tuples = Vec::new(alloc);
-    let read = current_cells(alloc, builder, 3, &[0])?;
-    tuples.push((read, Count::from(1)))?;
-    let entry = current_cells(alloc, builder, 3, &[0])?;
-    let provided = Count::provided(AB::Expr::constant(AB::F::ONE));
-    tuples.push((entry, provided.negate::<AB::F>(alloc)?))?;
-    builder.push_local_interaction(alloc, tuples)
-}
-
-fn query_one<AB: InteractionBuilder>(alloc: Global, builder: &mut AB) -> Result<(), AirError>
-    ensures layout { OnOk result (AB.layout builder.new ≡ AB.layout builder.old) }
-    ensures within { OnOk result (AB.pushed_within builder.old → AB.pushed_within builder.new) }
-{
-    let mut branches = Vec::new(alloc);
-    let key = current_cells(alloc, builder, 3, &[0])?;
-    branches.push((builder.is_first_row(), key))?;
-    LookupBus::new("b").lookup_key_exclusive(alloc, builder, branches)
-}
-
 fn speak<AB: InteractionBuilder>(alloc: Global, builder: &mut AB) -> Result<(), AirError>
     ensures layout { OnOk result (AB.layout builder.new ≡ AB.layout builder.old) }
     ensures within { OnOk result (AB.pushed_within builder.old → AB.pushed_within builder.new) }
 {
     let sent = current_cells(alloc, builder, 3, &[0])?;
     PermutationCheckBus::new("a").send(alloc, builder, sent, Count::from(1))?;
-    look_up_itself(alloc, builder)?;
-    query_one(alloc, builder)?;
+    push_range(alloc, builder)?;
+    push_exclusive(alloc, builder, "b", &[1])?;
     let received = current_cells(alloc, builder, 3, &[0])?;
     PermutationCheckBus::new("c").receive(alloc, builder, received, Count::from(1))
 }
@@ -132,6 +109,7 @@ fn an_air_is_recorded(rt: HostRuntime) {
         "the declarations",
         declared_counts(&recorder) == [1, 1],
     );
+    drop(recorder);
 }
 
 #[test]
@@ -174,7 +152,7 @@ fn checked_counts(
 #[test]
 fn the_row_checker_records_nothing(rt: HostRuntime) {
     let alloc = rt.alloc();
-    let main = RowMajorMatrix::new(list(&rt, alloc, [F7::new(3)]), 1);
+    let main = trace::<F7>(&rt, alloc, &[3, 3, 1], 3);
     assert!(rt; main.height() == 1);
     let permutation = no_trace(alloc);
     let inputs: RowInputs<'_, F7, F7> = RowInputs {

@@ -164,6 +164,7 @@ fn a_lookup_bus_is_recorded(rt: HostRuntime) {
         "the entry",
         is_recorded(&recorder, 1, "mem", &[1], 6, 0),
     );
+    drop(recorder);
 }
 
 #[test]
@@ -185,4 +186,5 @@ fn a_permutation_bus_is_recorded(rt: HostRuntime) {
         "what is received",
         is_recorded(&recorder, 1, "dispatch", &[2], 6, 1),
     );
+    drop(recorder);
 }

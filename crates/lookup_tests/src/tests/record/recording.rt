@@ -50,6 +50,7 @@ fn local_lookups_keep_their_tuples(rt: HostRuntime) {
     holds(&rt, "the query", has_tuple(&recorder, 0, &[3], 1));
     holds(&rt, "the entry", has_tuple(&recorder, 1, &[4, 5], 0));
     holds(&rt, "no third tuple", !has_tuple(&recorder, 2, &[], 0));
+    drop(recorder);
 }
 
 /// Records a group of these branches on this bus.
@@ -131,6 +132,7 @@ fn groups_keep_their_branches(rt: HostRuntime) {
         "the second branch",
         has_branch(&recorder, 1, 0, 5, &[6], 5),
     );
+    drop(recorder);
 }
 
 #[test]
@@ -153,6 +155,7 @@ fn exclusive_queries_are_recorded(rt: HostRuntime) {
         "the second branch",
         has_branch(&recorder, 1, 0, 1, &[5], 1),
     );
+    drop(recorder);
 }
 
 /// Declares a read of the columns 1 and 2 in the table `t`, and a table `t` of the preprocessed
@@ -187,6 +190,7 @@ fn declarations_are_recorded_in_order(rt: HostRuntime) {
         "the table",
         recorder.indexed_tables() == wanted.as_slice(),
     );
+    drop(recorder);
 }
 
 /// Asserts the first cell of the permutation trace.
@@ -195,14 +199,6 @@ fn assert_cell(rt: &impl Abort, alloc: Global, recorder: &mut Recorder) {
     let cell = rows.current(0).expect(rt, "a cell");
     recorder
         .assert_zero_ext(alloc, cell.into())
-        .expect(rt, "memory");
-}
-
-/// Asserts a base expression where the transition selector is set.
-fn assert_on_transitions(rt: &impl Abort, alloc: Global, recorder: &mut Recorder, base: Tree) {
-    recorder
-        .when_transition()
-        .assert_zero(alloc, base)
         .expect(rt, "memory");
 }
 
@@ -254,7 +250,8 @@ fn constraints_are_recorded_beside(rt: HostRuntime) {
     let alloc = rt.alloc();
     let mut recorder = recorder(&rt, alloc);
     assert_cell(&rt, alloc, &mut recorder);
-    assert_on_transitions(&rt, alloc, &mut recorder, constant(2));
+    let asserted = Call::AssertOnTransitions(constant(2));
+    record(&rt, alloc, &mut recorder, "no bus", asserted);
     assert_challenge(&rt, alloc, &mut recorder);
     assert_terminal(&rt, alloc, &mut recorder);
     holds(
@@ -267,6 +264,7 @@ fn constraints_are_recorded_beside(rt: HostRuntime) {
         "their places",
         has_places(&rt, alloc, &recorder, &[1], &[0, 2, 3]),
     );
+    drop(recorder);
 }
 
 /// The entry of the next row's cell in column 1 of the preprocessed trace.
@@ -301,4 +299,5 @@ fn variables_are_handed_out(rt: HostRuntime) {
     );
     holds(&rt, "a public value", public_index(&recorder) == Some(2));
     holds(&rt, "a lifted selector", is_lifted(&recorder));
+    drop(recorder);
 }
