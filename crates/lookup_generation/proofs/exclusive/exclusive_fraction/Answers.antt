@@ -1,9 +1,9 @@
-use Rattle.std.proofs.Common.{◌≢◌, inr, refl, Some, sym, ap, ◌∙◌, subst, arith}
+use Rattle.std.proofs.Common.{◌≢◌, inr, Some, sym, ap, ◌∙◌, subst, arith}
 use Rattle.std.proofs.lemmas.Option.{slice_get_within}
 use Rattle.std.proofs.lemmas.Result.{MatchResult-weaker}
 use Rattle.lookup_model.specs.Denominators.{column_denominator}
 use Rattle.lookup_model.specs.Extension.{extension, IsLawful}
-use Rattle.lookup_model.proofs.Lawful.{lawful_extension}
+use Rattle.lookup_model.proofs.Lawful.{lawful_extension, lawful_over_itself}
 use Rattle.lookup_model.specs.Plain.{quotient_of}
 use Rattle.lookup_model.specs.Sent.{branches_at, values}
 use Rattle.lookup_model.specs.declared.error.LookupError.TheVariants.{VanishingDenominator}
@@ -25,15 +25,7 @@ set_flags_at-requires g c = flags_there c.args.place c.args.columns.now _ c.requ
 pub offset_bounds-columns-branch : goal.offset_bounds-columns-branch
 offset_bounds-columns-branch g c =
     let E0 = base_extension g.F.PrimeCharacteristicRing.ring g.F.PartialEq.eq g.F.Field.inverse in
-    let base : IsLawful E0 = record {
-      base = g.F.PrimeCharacteristicRing.lawful;
-      base_eq = g.met.F.PrimeCharacteristicRing.eq_is;
-      ring = g.F.PrimeCharacteristicRing.lawful;
-      domain = g.met.F.Domain.domain;
-      eq = g.met.F.PrimeCharacteristicRing.eq_is;
-      embeds = record { zero = refl; one = refl; add = λ a b. refl; mul = λ a b. refl; injective = λ a b e. e };
-      inverse = g.met.F.Field.inverse_is;
-    } in
+    let base : IsLawful E0 = lawful_over_itself g.F.PrimeCharacteristicRing.lawful g.met.F.PrimeCharacteristicRing.eq_is g.met.F.Domain.domain g.met.F.Field.inverse_is in
     let one_not_zero : E0.base.one ≢ E0.base.zero = λ e. g.met.F.Domain.domain.zero_is_not_one (sym e) in
     let w = builder_window c.args.builder.now in
     let vals = values E0.base w c.args.flags.now in
@@ -47,15 +39,7 @@ offset_bounds-columns-branch g c =
 pub bounds-columns-branch : goal.bounds-columns-branch
 bounds-columns-branch g c =
     let E0 = base_extension g.F.PrimeCharacteristicRing.ring g.F.PartialEq.eq g.F.Field.inverse in
-    let base : IsLawful E0 = record {
-      base = g.F.PrimeCharacteristicRing.lawful;
-      base_eq = g.met.F.PrimeCharacteristicRing.eq_is;
-      ring = g.F.PrimeCharacteristicRing.lawful;
-      domain = g.met.F.Domain.domain;
-      eq = g.met.F.PrimeCharacteristicRing.eq_is;
-      embeds = record { zero = refl; one = refl; add = λ a b. refl; mul = λ a b. refl; injective = λ a b e. e };
-      inverse = g.met.F.Field.inverse_is;
-    } in
+    let base : IsLawful E0 = lawful_over_itself g.F.PrimeCharacteristicRing.lawful g.met.F.PrimeCharacteristicRing.eq_is g.met.F.Domain.domain g.met.F.Field.inverse_is in
     let one_not_zero : E0.base.one ≢ E0.base.zero = λ e. g.met.F.Domain.domain.zero_is_not_one (sym e) in
     let w = builder_window c.args.builder.now in
     let vals = values E0.base w c.args.flags.now in
@@ -69,15 +53,7 @@ bounds-columns-branch g c =
 pub index-at-requires : goal.index-at-requires
 index-at-requires g c =
     let E0 = base_extension g.F.PrimeCharacteristicRing.ring g.F.PartialEq.eq g.F.Field.inverse in
-    let base : IsLawful E0 = record {
-      base = g.F.PrimeCharacteristicRing.lawful;
-      base_eq = g.met.F.PrimeCharacteristicRing.eq_is;
-      ring = g.F.PrimeCharacteristicRing.lawful;
-      domain = g.met.F.Domain.domain;
-      eq = g.met.F.PrimeCharacteristicRing.eq_is;
-      embeds = record { zero = refl; one = refl; add = λ a b. refl; mul = λ a b. refl; injective = λ a b e. e };
-      inverse = g.met.F.Field.inverse_is;
-    } in
+    let base : IsLawful E0 = lawful_over_itself g.F.PrimeCharacteristicRing.lawful g.met.F.PrimeCharacteristicRing.eq_is g.met.F.Domain.domain g.met.F.Field.inverse_is in
     let one_not_zero : E0.base.one ≢ E0.base.zero = λ e. g.met.F.Domain.domain.zero_is_not_one (sym e) in
     let w = builder_window c.args.builder.now in
     let vals = values E0.base w c.args.flags.now in
@@ -94,15 +70,7 @@ index-at-requires g c =
 pub index-requires : goal.index-requires
 index-requires g c =
     let E0 = base_extension g.F.PrimeCharacteristicRing.ring g.F.PartialEq.eq g.F.Field.inverse in
-    let base : IsLawful E0 = record {
-      base = g.F.PrimeCharacteristicRing.lawful;
-      base_eq = g.met.F.PrimeCharacteristicRing.eq_is;
-      ring = g.F.PrimeCharacteristicRing.lawful;
-      domain = g.met.F.Domain.domain;
-      eq = g.met.F.PrimeCharacteristicRing.eq_is;
-      embeds = record { zero = refl; one = refl; add = λ a b. refl; mul = λ a b. refl; injective = λ a b e. e };
-      inverse = g.met.F.Field.inverse_is;
-    } in
+    let base : IsLawful E0 = lawful_over_itself g.F.PrimeCharacteristicRing.lawful g.met.F.PrimeCharacteristicRing.eq_is g.met.F.Domain.domain g.met.F.Field.inverse_is in
     let one_not_zero : E0.base.one ≢ E0.base.zero = λ e. g.met.F.Domain.domain.zero_is_not_one (sym e) in
     let w = builder_window c.args.builder.now in
     let vals = values E0.base w c.args.flags.now in
@@ -120,15 +88,7 @@ index-requires g c =
 pub index-requires-in-One : goal.index-requires-in-One
 index-requires-in-One g c =
     let E0 = base_extension g.F.PrimeCharacteristicRing.ring g.F.PartialEq.eq g.F.Field.inverse in
-    let base : IsLawful E0 = record {
-      base = g.F.PrimeCharacteristicRing.lawful;
-      base_eq = g.met.F.PrimeCharacteristicRing.eq_is;
-      ring = g.F.PrimeCharacteristicRing.lawful;
-      domain = g.met.F.Domain.domain;
-      eq = g.met.F.PrimeCharacteristicRing.eq_is;
-      embeds = record { zero = refl; one = refl; add = λ a b. refl; mul = λ a b. refl; injective = λ a b e. e };
-      inverse = g.met.F.Field.inverse_is;
-    } in
+    let base : IsLawful E0 = lawful_over_itself g.F.PrimeCharacteristicRing.lawful g.met.F.PrimeCharacteristicRing.eq_is g.met.F.Domain.domain g.met.F.Field.inverse_is in
     let one_not_zero : E0.base.one ≢ E0.base.zero = λ e. g.met.F.Domain.domain.zero_is_not_one (sym e) in
     let w = builder_window c.args.builder.now in
     let vals = values E0.base w c.args.flags.now in
@@ -160,15 +120,7 @@ returns-in-One-clause-answers g c = λ inverse is_inverse.
     let E = extension g.F.PrimeCharacteristicRing.ring g.F.PartialEq.eq g.EF.PrimeCharacteristicRing.ring g.EF.PartialEq.eq g.EF.ExtensionDomain.embed inverse in
     let laws : IsLawful E = lawful_extension g.F.PrimeCharacteristicRing.lawful g.met.F.PrimeCharacteristicRing.eq_is g.EF.PrimeCharacteristicRing.lawful g.met.EF.Domain.domain g.met.EF.PrimeCharacteristicRing.eq_is g.met.EF.ExtensionDomain.embeds is_inverse in
     let E0 = base_extension g.F.PrimeCharacteristicRing.ring g.F.PartialEq.eq g.F.Field.inverse in
-    let base : IsLawful E0 = record {
-      base = g.F.PrimeCharacteristicRing.lawful;
-      base_eq = g.met.F.PrimeCharacteristicRing.eq_is;
-      ring = g.F.PrimeCharacteristicRing.lawful;
-      domain = g.met.F.Domain.domain;
-      eq = g.met.F.PrimeCharacteristicRing.eq_is;
-      embeds = record { zero = refl; one = refl; add = λ a b. refl; mul = λ a b. refl; injective = λ a b e. e };
-      inverse = g.met.F.Field.inverse_is;
-    } in
+    let base : IsLawful E0 = lawful_over_itself g.F.PrimeCharacteristicRing.lawful g.met.F.PrimeCharacteristicRing.eq_is g.met.F.Domain.domain g.met.F.Field.inverse_is in
     let one_not_zero : E0.base.one ≢ E0.base.zero = λ e. g.met.F.Domain.domain.zero_is_not_one (sym e) in
     let w = builder_window c.args.builder.now in
     let vals = values E0.base w c.args.flags.now in
