@@ -1,5 +1,5 @@
 -- An auxiliary trace grows by fractions and rows.
-use Rattle.std.proofs.Common.{◌≡◌, ◌≢◌, ℕ, zero, suc, ◌+◌, ◌-◌, ◌*◌, ◌<◌, ◌≤◌, Some, List, [], ◌∷◌, ◌++◌, All, length, take, drop, get_or, refl, sym, ap, subst, ◌∙◌, arith}
+use Rattle.std.proofs.Common.{◌≡◌, ◌≢◌, ℕ, zero, suc, ◌+◌, ◌-◌, ◌*◌, ◌<◌, ◌≤◌, Some, List, [], ◌∷◌, ◌++◌, All, length, map, take, drop, get_or, refl, sym, ap, subst, ◌∙◌, arith}
 use native.Mathlib.Nat.{add-mul}
 use Rattle.std.proofs.lemmas.List.{append-nil, get_or_default, length-take, length_push, map-id, take_more}
 use Rattle.std.proofs.lemmas.List.FromFn.{map-range_with_len_more}
@@ -9,10 +9,10 @@ use Rattle.field.specs.Sums.{sum_in}
 use Rattle.lookup_model.specs.Extension.{Extension, IsLawful}
 use Rattle.lookup_model.specs.Fault.{row_faults, trace_faults}
 use Rattle.lookup_model.specs.Message.{Key}
-use Rattle.lookup_model.specs.Plain.{plain_row}
+use Rattle.lookup_model.specs.Plain.{plain_fraction, plain_row}
 use Rattle.field.specs.Ring.{Ring}
 use Rattle.lookup_generation.specs.Fraction.{AreSound}
-use Rattle.lookup_generation.specs.Progress.{HasCells, row_fractions}
+use Rattle.lookup_generation.specs.Progress.{HasCells}
 use Rattle.lookup_generation.specs.declared.ratio.Ratio.{Ratio}
 use Rattle.lookup_model.specs.Sent.{Sent}
 use Rattle.lookup_model.specs.declared.error.LookupError.{LookupError}
@@ -55,6 +55,10 @@ module _ {K : Type 0} {S : Ring K} where
     many = ap length is ∙ sym none;
     nonzero = subst (λ rs. All (λ r. r.denominator ≢ S.zero) rs) (sym is) (λ k d lt. absurd (omega (arith, lt)));
   }
+
+-- the fractions on a row of a trace
+abbrev pub row_fractions : {F K : Type 0} → Extension F K → (Key F → K) → List (List (Sent F)) → ℕ → List K
+row_fractions E denominator rows r = map (plain_fraction E denominator) (get_or rows r [])
 
 module _ {F K : Type 0} {E : Extension F K} (laws : IsLawful E) (denominator : Key F → K) where
   length_take : (rows : List (List (Sent F))) (r : ℕ) → r < length rows → length (take r rows) ≡ r

@@ -44,13 +44,14 @@ module _ {F K : Type 0} (E : Extension F K) (denominator : Key F → K) where
   abbrev pub HasNoFault : (ℕ → Sent F) → ℕ → ℕ → ℕ → Type 0
   HasNoFault sends column first end = (r : ℕ) → first ≤ r → r < end → fault_of E denominator r column (sends r) ≡ None
 
-  -- The ratios are these values, and then the fractions of a lookup on the rows from `first` up to
-  -- `end`, on which it has no fault.
+  -- Whatever values the ratios before have, those after have the same, and then the fractions of a
+  -- lookup on the rows from `first` up to `end`, on which it has no fault.
   pub record HasColumn (sends : ℕ → Sent F) (column first end : ℕ) (before after : List (Ratio K)) : Type 0 where
     pub ratios : (fs : List K) → AllZip (IsRatio E.ring) before fs → AllZip (IsRatio E.ring) after (fs ++ column_fractions sends first (end - first))
     pub faultless : HasNoFault sends column first end
 
-  -- out of memory, or the fault of a lookup on a row, the first one from row `first` on
+  -- Out of memory on a row, or the fault of a lookup there. It has none on the rows from `first` up to
+  -- that one.
   pub record IsFirstIn (sends : ℕ → Sent F) (column first : ℕ) (fault : RowFault) : Type 0 where
     pub fault_is : (fault.error ≡ Memory) ⊎ (fault_of E denominator fault.row column (sends fault.row) ≡ Some fault.error)
     pub faultless : HasNoFault sends column first fault.row
@@ -76,8 +77,8 @@ module _ {F K : Type 0} (E : Extension F K) (denominator : Key F → K) where
       pub ratios_are : AllZip (IsRatio E.ring) ratios (all_fractions first (end - first))
       pub faultless : HaveNoFault first end
 
-    -- out of memory, or the first fault of lookups on a row, before which they have none from row
-    -- `first` on
+    -- Out of memory on a row, or the first fault of lookups there. They have none on the rows from
+    -- `first` up to that one.
     pub record AreFirstIn (first : ℕ) (fault : RowFault) : Type 0 where
       pub fault_is : (fault.error ≡ Memory) ⊎ (slice_get (row_faults E denominator fault.row (sent_row E.base E.base_eq (window_of traces fault.row) lookups)) 0 ≡ Some fault.error)
       pub faultless : HaveNoFault first fault.row
@@ -91,10 +92,6 @@ module _ {F K : Type 0} (E : Extension F K) (denominator : Key F → K) where
     pub record AreRatios (first end : ℕ) (ratios : List (Ratio K)) : Type 0 where
       pub ratios_are : AllZip (IsRatio E.ring) ratios (all_fractions first (end - first))
       pub faultless : trace_faults E denominator (take end (sent_rows_of E.base E.base_eq traces lookups)) ≡ []
-
-  -- the fractions on a row of a trace
-  abbrev pub row_fractions : List (List (Sent F)) → ℕ → List K
-  row_fractions rows r = map (plain_fraction E denominator) (slice_index_or rows r [])
 
   -- the cells are those of the first r rows, and the accumulator is that of row r
   pub record HasCells (rows : List (List (Sent F))) (r : ℕ) (cells : List K) (accumulator : K) : Type 0 where

@@ -1,5 +1,5 @@
 //! Generation of the auxiliary trace, in chunks of rows: a chunk's fractions are found as ratios, a
-//! column at a time, and divided by one inverse.
+//! column at a time, and divided by at most one inverse.
 ghost use Rattle.std.specs.Prelude.{◌≡◌, ◌+◌, ◌-◌, ◌*◌, ◌%◌, ℕ, ◌<◌, ◌≤◌, ◌⊎◌, ◌++◌, ◌∷◌, [], None, IfErr, IfOk, IfSome, MatchResult, length, take};
 ghost use Rattle.std.specs.List.{AllZip};
 ghost use Rattle.std.specs.Option.{ForSome, option_copied, option_map_or};
@@ -32,7 +32,7 @@ use lookup_model::{Lookup, LookupError, LookupTerminal};
 use matrix::{RowMajorMatrix, ViewPair};
 use std::alloc::{AllocError, Global};
 
-/// How many rows make a chunk. All fractions of a chunk are divided by one inverse.
+/// How many rows make a chunk. All fractions of a chunk are divided by at most one inverse.
 const CHUNK_ROWS: usize = 1024;
 
 /// The builder of one row of an AIR's traces together with the next row; the last row comes with the
@@ -85,8 +85,8 @@ pub(crate) struct RowFault {
 /// Appends the fractions of a lookup on the rows from `first` up to `end`, row after row, as ratios.
 /// `columns` are those of the lookup, from row `first` on.
 ///
-/// Returns the lookup's first fault on these rows, if it has one; `ratios` then hold the fractions of
-/// the rows before.
+/// Returns the lookup's first fault on these rows, if it has one; the fractions of the rows before it
+/// are then appended.
 fn push_column<F: Field, EF: ExtensionDomain<F>>(
     ratios: &mut Vec<Ratio<EF>>,
     lookup: &Lookup<F>,
@@ -129,7 +129,8 @@ fn push_column<F: Field, EF: ExtensionDomain<F>>(
     Ok(None)
 }
 
-/// Where the rows end on which a fault would come before this one: all end at `end`.
+/// Where the rows end on which the fault of a further lookup would come first: at this fault's row, or
+/// at `end` if there is none.
 fn rows_before(fault: &Option<RowFault>, end: usize) -> usize
     ensures { result ≡ option_map_or (λ f. f.row) fault.now end }
 {
@@ -139,11 +140,11 @@ fn rows_before(fault: &Option<RowFault>, end: usize) -> usize
     }
 }
 
-/// Appends the fractions of each lookup on the rows from `first` up to `end`, a column after the
-/// other, as ratios.
+/// Fills `ratios`, which are empty so far, with the fractions of each lookup on the rows from `first` up
+/// to `end`, one column after the other.
 ///
-/// Returns the first fault in the order row, lookup, if there is one: after a fault, the rows before
-/// it are all that is looked at of further lookups.
+/// Returns the first fault in the order row, lookup, if there is one. Once a lookup has a fault, further
+/// ones are looked at only on the rows before it.
 fn push_columns<F: Field, EF: ExtensionDomain<F>>(
     ratios: &mut Vec<Ratio<EF>>,
     lookups: &[Lookup<F>],
@@ -225,11 +226,13 @@ fn ratios_of<F: Field, EF: ExtensionDomain<F>>(
         first,
         end,
     )?;
-    memory.places.put(rows)?;
-    memory.put_columns(columns)?;
     match fault {
         Some(RowFault { row: _, error }) => Err(error),
-        None => Ok(ratios),
+        None => {
+            memory.places.put(rows)?;
+            memory.put_columns(columns)?;
+            Ok(ratios)
+        }
     }
 }
 
@@ -257,8 +260,8 @@ fn push_row<K: Domain>(
     Ok(next)
 }
 
-/// Appends the rows from `first` up to `end` of the auxiliary trace to `cells`, by one inverse. Returns
-/// the accumulator of row `end`.
+/// Appends the rows from `first` up to `end` of the auxiliary trace to `cells`, by at most one inverse.
+/// Returns the accumulator of row `end`.
 ///
 /// Refuses the first fault in the order row, lookup. A fault is found before anything is inverted.
 fn push_chunk<F: Field, EF: ExtensionDomain<F>, I: Inverter<EF>>(
@@ -380,7 +383,7 @@ fn generate<F: Field, EF: ExtensionDomain<F>, I: Inverter<EF>>(
     Ok((cells, accumulator))
 }
 
-/// The auxiliary trace of one AIR and its terminal, by an inverse for each chunk of 1024 rows.
+/// The auxiliary trace of one AIR and its terminal, by at most one inverse for each chunk of 1024 rows.
 ///
 /// It answers as [`generate_permutation`] does. `inverter` is asked at most once for each chunk of rows
 /// that is started, at least once less where a fault is refused, and never where there are no lookups.

@@ -44,8 +44,8 @@ push_columns-requires-clause-wide g c =
     let all = λ (lookup : Lookup _) (columns : Vec (BranchColumns _ _) Global). AreColumns g.F.PrimeCharacteristicRing.ring g.EF.PrimeCharacteristicRing.ring g.EF.ExtensionDomain.embed c.args.challenges.now (window_of c.args.traces.now) c.deref.result.now lookup columns.items in
     ap length c.deref-2.ensures.value ∙ AllZip-long all c.args.lookups.now c.in_ok-columns.columns.items c.in_ok-columns.ensures
 
-pub returns-in-None-clause-answers : goal.returns-in-None-clause-answers
-returns-in-None-clause-answers g c = λ inverse is_inverse.
+pub returns-in_ok-put_columns-in-None-clause-answers : goal.returns-in_ok-put_columns-in-None-clause-answers
+returns-in_ok-put_columns-in-None-clause-answers g c = λ inverse is_inverse.
     let E = extension g.F.PrimeCharacteristicRing.ring g.F.PartialEq.eq g.EF.PrimeCharacteristicRing.ring g.EF.PartialEq.eq g.EF.ExtensionDomain.embed inverse in
     let laws : IsLawful E = lawful_extension g.F.PrimeCharacteristicRing.lawful g.met.F.PrimeCharacteristicRing.eq_is g.EF.PrimeCharacteristicRing.lawful g.met.EF.Domain.domain g.met.EF.PrimeCharacteristicRing.eq_is g.met.EF.ExtensionDomain.embeds is_inverse in
     let denominator = column_denominator E c.args.challenges.now in
