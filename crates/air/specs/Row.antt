@@ -1,9 +1,9 @@
 -- Rows of given traces, as constraints see them.
-use Rattle.std.specs.Prelude.{◌≡◌, ℕ, ◌+◌, ◌%◌, ◌==◌, not, ◌⊎◌, length, Option, None, Some, Result}
+use Rattle.std.specs.Prelude.{◌≡◌, ℕ, ◌+◌, ◌==◌, not, ◌⊎◌, length, Option, None, Some, Result}
 use Rattle.std.specs.Option.{option_copied}
-use Rattle.matrix.specs.Matrix.{Matrix, height, row}
+use Rattle.matrix.specs.Matrix.{Matrix, height}
 use Rattle.expressions.specs.Layout.{width_of_option}
-use Rattle.expressions.specs.Window.{ExtWindow, Window, window_at}
+use Rattle.expressions.specs.Window.{ExtWindow, Window, ext_window_at}
 use Rattle.air.specs.declared.debug.builder.DebugConstraintBuilder.{DebugConstraintBuilder}
 use Rattle.air.specs.declared.debug.inputs.RowInputs.{RowInputs}
 use Rattle.expressions.specs.declared.error.AirError.{AirError}
@@ -54,13 +54,8 @@ row_layout b = record {
 
 -- the window of row r of the inputs; the last row comes with the first one
 abbrev pub input_window : {F EF : Type 0} → RowInputs F EF → ℕ → ExtWindow F EF
-input_window x r = record {
-  base = window_at x.main.now (option_copied x.preprocessed) x.public_values.now (height x.main.now) r;
-  permutation = row x.permutation.now r;
-  permutation_next = row x.permutation.now ((r + 1) % height x.main.now);
-  challenges = x.challenges.now;
-  permutation_values = x.permutation_values.now;
-}
+input_window x r =
+    ext_window_at x.main.now (option_copied x.preprocessed) x.public_values.now x.permutation.now x.challenges.now x.permutation_values.now r
 
 -- the widths of the inputs
 abbrev pub input_layout : {F EF : Type 0} → RowInputs F EF → AirLayout

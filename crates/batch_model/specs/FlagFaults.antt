@@ -10,7 +10,7 @@ use Rattle.batch_model.specs.declared.fault.BatchFault.{BatchFault}
 module _ {F K : Type 0} (E : Extension F K) where
   -- the faults of the flags of an AIR, in the order of its rows and their lookups
   abbrev pub instance_flag_faults : Instance F → List LookupError
-  instance_flag_faults i = trace_flag_faults E (sent_rows_of E.base E.base_eq i)
+  instance_flag_faults i = trace_flag_faults E.base E.base_eq (sent_rows_of E.base E.base_eq i)
 
   -- the first fault of flags of the first AIR that has one
   pub record IsFirstFlagFault (instances : List (Instance F)) (fault : BatchFault) : Type 0 where

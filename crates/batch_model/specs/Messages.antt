@@ -1,10 +1,10 @@
 -- What the AIRs of a batch send, each lookup under its id.
-use Rattle.std.specs.Prelude.{◌≢◌, ◌≤◌, ℕ, Bool, IsTrue, List, IfSome, length, slice_index_or}
+use Rattle.std.specs.Prelude.{◌≢◌, ℕ, Bool, List, IfSome, slice_index_or}
 use Rattle.std.specs.List.{AllByRecursion, flat_map}
 use Rattle.field.specs.Ring.{Ring}
 use Rattle.lookup_model.specs.Challenges.{ChallengeTable, table_denominator}
 use Rattle.lookup_model.specs.Extension.{Extension}
-use Rattle.lookup_model.specs.Fault.{are_boolean, set_places}
+use Rattle.lookup_model.specs.Fault.{IsLawfulSelection}
 use Rattle.lookup_model.specs.Message.{Key, Message}
 use Rattle.lookup_model.specs.Plain.{trace_messages}
 use Rattle.lookup_model.specs.Sent.{Sent}
@@ -25,11 +25,11 @@ module _ {F : Type 0} (R : Ring F) (eq : F → F → Bool) where
   abbrev pub batch_messages : List (Instance F) → List (Message F)
   batch_messages instances = flat_map (λ i. trace_messages (sent_rows_of i)) instances
 
--- each flag of a lookup is zero or one, and at most one is set, counted in whole numbers
+-- the flags of a lookup are lawful, if it has flags
 abbrev pub HasLawfulFlags : {F K : Type 0} → Extension F K → Sent F → Type 0
-HasLawfulFlags E sent = IfSome sent.flags (λ flags. IsTrue (are_boolean E flags) × (length (set_places E 0 flags) ≤ 1))
+HasLawfulFlags E sent = IfSome sent.flags (IsLawfulSelection E.base E.base_eq)
 
--- so it is of all lookups on all rows of all AIRs
+-- so are those of all lookups on all rows of all AIRs
 abbrev pub AreFlagsLawful : {F K : Type 0} → Extension F K → List (Instance F) → Type 0
 AreFlagsLawful E instances =
     AllByRecursion (λ i. AllByRecursion (AllByRecursion (HasLawfulFlags E)) (sent_rows_of E.base E.base_eq i)) instances

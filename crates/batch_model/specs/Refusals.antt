@@ -1,35 +1,16 @@
 -- Why a witness is not accepted: AIR by AIR the presence of its terminal, the width and the height of
 -- its auxiliary trace and its constraints, row by row; then the sum of the terminals.
-use Rattle.std.specs.Prelude.{◌≡◌, ◌≢◌, ◌<◌, ◌+◌, ◌⊎◌, ℕ, Bool, true, false, length, List, [], ◌∷◌, Some, map, slice_get}
-use Rattle.std.specs.List.{AllByRecursion}
+use Rattle.std.specs.Prelude.{◌≡◌, ◌≢◌, ◌<◌, ◌⊎◌, ℕ, List, Some, map, slice_get}
 use Rattle.std.specs.Option.{is_some}
 use Rattle.matrix.specs.Matrix.{height}
 use Rattle.lookup_model.specs.Challenges.{ChallengeTable, column_challenges}
-use Rattle.lookup_model.specs.Constraints.{lookup_constraints}
 use Rattle.lookup_model.specs.Extension.{Extension}
 use Rattle.lookup_model.specs.Terminals.{terminal_sum}
-use Rattle.lookup_model.specs.Witness.{witness_window}
+use Rattle.lookup_model.specs.Witness.{HasShape, HoldsOnRow, auxiliary_height, auxiliary_width, has_terminal}
 use Rattle.lookup_model.specs.declared.error.LookupError.{LookupError}
 use Rattle.lookup_model.specs.declared.error.LookupError.TheVariants.{TerminalPresenceMismatch, PermutationWidthMismatch, PermutationHeightMismatch, ConstraintFailed, TerminalSumNonZero}
-use Rattle.lookup_model.specs.declared.types.Lookup.{Lookup}
 use Rattle.batch_model.specs.Instances.{Instance}
 use Rattle.batch_model.specs.Witnesses.{AirResult, AreSatisfied, IsSatisfiedAt}
-
-module _ {F : Type 0} where
-  -- whether an AIR with these lookups has a terminal
-  abbrev pub has_terminal : List (Lookup F) → Bool
-  has_terminal [] = false
-  has_terminal (l ∷ ls) = true
-
-  -- the width of its auxiliary trace
-  abbrev pub auxiliary_width : List (Lookup F) → ℕ
-  auxiliary_width [] = 0
-  auxiliary_width (l ∷ ls) = length (l ∷ ls) + 1
-
-  -- the height of its auxiliary trace, over traces of height h
-  abbrev pub auxiliary_height : List (Lookup F) → ℕ → ℕ
-  auxiliary_height [] h = 0
-  auxiliary_height (l ∷ ls) h = h
 
 module _ {F K : Type 0} where
   -- the refusal of the shape of one AIR's result: terminal, width, height
@@ -41,17 +22,15 @@ module _ {F K : Type 0} where
       ⊎ ((result.0.width ≡ auxiliary_width i.lookups)
       × ((height result.0 ≢ auxiliary_height i.lookups (height i.main)) × (e ≡ PermutationHeightMismatch air)))))
 
-  -- a result of the right shape
-  pub record IsRightShape (i : Instance F) (result : AirResult K) : Type 0 where
-    pub presence : has_terminal i.lookups ≡ is_some result.1
-    pub width : result.0.width ≡ auxiliary_width i.lookups
-    pub high : height result.0 ≡ auxiliary_height i.lookups (height i.main)
+  -- the result of an AIR has the shape that its lookups ask for
+  abbrev pub HasShapeAt : Instance F → AirResult K → Type 0
+  HasShapeAt i result = HasShape i.lookups (height i.main) result.0 result.1
 
 module _ {F K : Type 0} (E : Extension F K) (table : ChallengeTable K) where
   -- every constraint of an AIR is zero on row r
   abbrev pub HoldsAt : Instance F → AirResult K → ℕ → Type 0
   HoldsAt i result r =
-      AllByRecursion (λ constraint. constraint.meaning (witness_window i.main i.preprocessed i.public_values (column_challenges table i.ids) result.0 result.1 r) ≡ E.ring.zero) (lookup_constraints E i.lookups)
+      HoldsOnRow E i.main i.preprocessed i.public_values i.lookups (column_challenges table i.ids) result.0 result.1 r
 
   -- row r is the first on which a constraint is not zero
   pub record IsFirstFailing (i : Instance F) (result : AirResult K) (r : ℕ) : Type 0 where
@@ -63,7 +42,7 @@ module _ {F K : Type 0} (E : Extension F K) (table : ChallengeTable K) where
   abbrev pub IsAirRefusal : ℕ → Instance F → AirResult K → LookupError → Type 0
   IsAirRefusal air i result e =
       IsShapeRefusal air i result e
-      ⊎ (IsRightShape i result × ((r : ℕ) × IsFirstFailing i result r × (e ≡ ConstraintFailed air r)))
+      ⊎ (HasShapeAt i result × ((r : ℕ) × IsFirstFailing i result r × (e ≡ ConstraintFailed air r)))
 
   -- the refusal of the first AIR that has one
   pub record IsFirstRefusal (instances : List (Instance F)) (witness : List (AirResult K)) (e : LookupError) : Type 0 where

@@ -1,19 +1,16 @@
 -- The check of one AIR's result: from its shape and its rows to satisfied constraints.
-use Rattle.std.proofs.Common.{◌≡◌, ℕ, ◌+◌, ◌*◌, ◌%◌, ◌<◌, true, false, inl, inr, Option, None, Some, List, [], ◌∷◌, MatchOption, Result, Ok, Err, refl, sym, ap, subst, subst₂, arith}
-use Rattle.std.proofs.lemmas.List.{nil_from_length}
+use Rattle.std.proofs.Common.{◌≡◌, ℕ, ◌+◌, ◌%◌, ◌<◌, inl, inr, Option, None, Some, List, MatchOption, Result, Ok, Err, sym, subst, subst₂}
 use Rattle.std.specs.List.{AllByRecursion}
-use Rattle.std.specs.Option.{is_some}
-use Rattle.matrix.specs.Matrix.{IsShaped, Matrix, height, row}
+use Rattle.matrix.specs.Matrix.{Matrix, height, row}
 use Rattle.expressions.specs.Window.{ExtWindow, window_at}
 use Rattle.lookup_model.specs.Challenges.{ChallengeTable, column_challenges}
 use Rattle.lookup_model.specs.Constraints.{lookup_constraints}
 use Rattle.lookup_model.specs.Extension.{Extension}
-use Rattle.lookup_model.specs.Witness.{HasShape, values_of_terminal}
+use Rattle.lookup_model.specs.Witness.{values_of_terminal}
 use Rattle.lookup_model.specs.declared.error.LookupError.{LookupError}
-use Rattle.lookup_model.specs.declared.types.Lookup.{Lookup}
 use Rattle.lookup_model.specs.declared.types.LookupTerminal.{LookupTerminal}
 use Rattle.batch_model.specs.Instances.{Instance}
-use Rattle.batch_model.specs.Refusals.{HoldsAt, IsFirstFailing, IsRightShape, auxiliary_height, auxiliary_width, has_terminal}
+use Rattle.batch_model.specs.Refusals.{HasShapeAt, HoldsAt, IsFirstFailing}
 use Rattle.batch_model.specs.Witnesses.{AirResult}
 use Rattle.checker.specs.Checks.{ChecksResult, ChecksRows}
 
@@ -27,24 +24,6 @@ found_some A B (Some y) x e said =
 pub found_none : {X : Type 0} (A : Type 0) (B : X → Type 0) (found : Option X) → found ≡ None → MatchOption found A B → A
 found_none A B None e said = said
 found_none A B (Some y) e said = absurd (cc e)
-
-module _ {K : Type 0} where
-  no_terminal : (terminal : Option (LookupTerminal K)) → false ≡ is_some terminal → terminal ≡ None
-  no_terminal None e = refl
-  no_terminal (Some t) e = absurd (cc e)
-
-  a_terminal : (terminal : Option (LookupTerminal K)) → true ≡ is_some terminal → (t : LookupTerminal K) × (terminal ≡ Some t)
-  a_terminal None e = absurd (cc e)
-  a_terminal (Some t) e = (t, refl)
-
-module _ {F K : Type 0} where
-  -- a result of the right shape, by its lookups
-  shape_from : (lookups : List (Lookup F)) (h : ℕ) (auxiliary : Matrix K) (terminal : Option (LookupTerminal K)) → has_terminal lookups ≡ is_some terminal → auxiliary.width ≡ auxiliary_width lookups → height auxiliary ≡ auxiliary_height lookups h → IsShaped auxiliary → HasShape lookups h auxiliary terminal
-  shape_from [] h auxiliary terminal presence width high shaped =
-      let none : height auxiliary * auxiliary.width ≡ height auxiliary * 0 = ap (λ n. height auxiliary * n) width in
-      (width, nil_from_length auxiliary.values (omega (arith, shaped, none)), no_terminal terminal presence)
-  shape_from (l ∷ ls) h auxiliary terminal presence width high shaped =
-      (width, shaped, high, a_terminal terminal presence)
 
 module _ {F K : Type 0} (E : Extension F K) (table : ChallengeTable K) (i : Instance F) where
   -- every constraint is zero on a row, over these challenges and permutation values
@@ -71,11 +50,8 @@ module _ {F K : Type 0} (E : Extension F K) (table : ChallengeTable K) (i : Inst
       before = λ s earlier. holds_from s (before s earlier);
     }
 
-  -- the answer for the rows of a result of the right shape is the answer for the result
-  pub result_from : (air : ℕ) (result : AirResult K) (answer : Result (Unit {0}) LookupError) → IsRightShape i result → IsShaped result.0 → ChecksRows E table air i result answer → ChecksResult E table air i result answer
-  result_from air result (Ok u) right shaped rows = record {
-    shape = shape_from i.lookups (height i.main) result.0 result.1 right.presence right.width right.high shaped;
-    equations = rows;
-  }
-  result_from air result (Err e) right shaped (inl memory) = inl memory
-  result_from air result (Err e) right shaped (inr failing) = inr (inr (right, failing))
+  -- the answer for the rows of a result that has the shape is the answer for the result
+  pub result_from : (air : ℕ) (result : AirResult K) (answer : Result (Unit {0}) LookupError) → HasShapeAt i result → ChecksRows E table air i result answer → ChecksResult E table air i result answer
+  result_from air result (Ok u) shape rows = record { shape = shape; equations = rows }
+  result_from air result (Err e) shape (inl memory) = inl memory
+  result_from air result (Err e) shape (inr failing) = inr (inr (shape, failing))

@@ -28,9 +28,6 @@ AllZip-push P (a ∷ xs) [] x y all here = absurd all
 AllZip-push P (a ∷ xs) (b ∷ ys) x y all here = (all.0, AllZip-push P xs ys x y all.1 here)
 
 module _ {F K : Type 0} (E : Extension F K) (table : ChallengeTable K) (instances : List (Instance F)) where
-  pub no_results : HasResults E table instances 0 [] []
-  no_results = record { traces = refl; as_many = refl; results = refl; satisfied = tt; faultless = λ k other lt is. absurd (omega (arith, lt)) }
-
   pub results_more : (i : ℕ) (aux : List (Matrix K)) (terminals : List (Option (LookupTerminal K))) (instance : Instance F) (r : Matrix K × Option (LookupTerminal K)) → i < length instances → instance ≡ get_or instances i instance
       → r ≡ plain_result E table instance → IsSatisfiedAt E table instance r → instance_faults E table instance ≡ [] → HasResults E table instances i aux terminals → HasResults E table instances (i + 1) (aux ++ r.0 ∷ []) (terminals ++ r.1 ∷ [])
   results_more i aux terminals instance r lt is result satisfied none so_far =

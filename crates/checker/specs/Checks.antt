@@ -1,18 +1,18 @@
 -- The check of one AIR's result.
 use Rattle.std.specs.Prelude.{◌≡◌, ◌<◌, ◌⊎◌, ℕ, Result, MatchResult}
-use Rattle.matrix.specs.Matrix.{IsShaped, height}
+use Rattle.matrix.specs.Matrix.{height}
 use Rattle.lookup_model.specs.Challenges.{ChallengeTable}
 use Rattle.lookup_model.specs.Extension.{Extension}
 use Rattle.lookup_model.specs.declared.error.LookupError.{LookupError}
 use Rattle.lookup_model.specs.declared.error.LookupError.TheVariants.{ConstraintFailed, Memory}
 use Rattle.batch_model.specs.Instances.{Instance}
-use Rattle.batch_model.specs.Refusals.{HoldsAt, IsAirRefusal, IsFirstFailing, IsRightShape, IsShapeRefusal}
+use Rattle.batch_model.specs.Refusals.{HasShapeAt, HoldsAt, IsAirRefusal, IsFirstFailing, IsShapeRefusal}
 use Rattle.batch_model.specs.Witnesses.{AirResult, IsSatisfiedAt}
 
 module _ {F K : Type 0} (air : ℕ) (i : Instance F) (result : AirResult K) where
-  -- a result of the right shape, with whole rows, or the refusal of its shape
+  -- a result of the shape that the lookups ask for, or the refusal of its shape
   abbrev pub ChecksShape : Result (Unit {0}) LookupError → Type 0
-  ChecksShape answer = MatchResult answer (λ _. IsRightShape i result × IsShaped result.0) (IsShapeRefusal air i result)
+  ChecksShape answer = MatchResult answer (λ _. HasShapeAt i result) (IsShapeRefusal air i result)
 
 module _ {F K : Type 0} (E : Extension F K) (table : ChallengeTable K) (air : ℕ) (i : Instance F) (result : AirResult K) where
   -- the constraints hold on all rows, or the first row where one fails; or memory runs out

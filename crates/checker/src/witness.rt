@@ -6,7 +6,7 @@ ghost use Rattle.lookup_model.specs.Extension.{extension};
 ghost use Rattle.lookup_model.specs.Witness.{values_of_terminal};
 ghost use Rattle.batch_model.specs.Answers.{ChecksWitness, PassesOnlyPlain, RefusesUnaccepted};
 ghost use Rattle.batch_model.specs.Instances.{DoInstancesFit, HasPrefixes, HavePrefixes, IsFitting, instance_of, instances_of};
-ghost use Rattle.batch_model.specs.Refusals.{IsRightShape};
+ghost use Rattle.batch_model.specs.Refusals.{HasShapeAt};
 ghost use Rattle.checker.specs.Checks.{ChecksResult, ChecksRows, ChecksShape};
 
 use crate::rows::first_failing_row;
@@ -127,7 +127,7 @@ fn check_rows<F: Field, EF: ExtensionField<F>>(
 ) -> Result<(), LookupError>
     requires fit { IsFitting (instance_of instance.now) }
     requires ids { HasPrefixes challenges.now instance.now }
-    requires shape { IsRightShape (instance_of instance.now) (aux.now, terminal.now) }
+    requires shape { HasShapeAt (instance_of instance.now) (aux.now, terminal.now) }
     ensures { ChecksRows (extension F.ring F.eq EF.ring EF.eq EF.embed EF.inverse)
         (table_of challenges.now) air (instance_of instance.now) (aux.now, terminal.now) result }
 {

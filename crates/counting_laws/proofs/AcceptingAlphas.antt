@@ -1,7 +1,6 @@
 -- At a beta at which no two unbalanced keys share a point few alphas are accepting: at most n are
 -- points of keys, and the others are roots of a nonzero polynomial of k coefficients.
-use Rattle.std.proofs.Common.{◌≡◌, ◌≢◌, ℕ, ◌+◌, ◌*◌, ◌<◌, ◌≤◌, List, [], ◌∷◌, map, length, refl, sym, ap, ◌∙◌, arith, Bool, true, false, not, inl, inr, Decides}
-use Rattle.std.proofs.lemmas.Bool.{cases_lt}
+use Rattle.std.proofs.Common.{◌≡◌, ◌≢◌, ℕ, ◌+◌, ◌*◌, ◌<◌, ◌≤◌, List, [], ◌∷◌, map, length, refl, sym, ap, ◌∙◌, arith, Bool, true, false, not, Decides}
 use Rattle.std.proofs.lemmas.List.{length-map}
 use Rattle.std.specs.List.{AllByRecursion, filter, list_any}
 use Rattle.field.specs.Distinct.{IsDistinct, all_both, all_map, all_weaker}
@@ -10,7 +9,7 @@ use Rattle.field.specs.Ring.{of_nat, power, sub_in}
 use Rattle.field.specs.RingFacts.{mul_zero, same_from_difference}
 use Rattle.field.specs.RingSolver.{var, ◌:+◌, ◌:-◌, ◌:*◌, ring_law}
 use Rattle.field.specs.Sums.{sum_in}
-use Rattle.field.proofs.Roots.{many_roots}
+use Rattle.field.proofs.Roots.{few_roots}
 use Rattle.lookup_model.specs.Extension.{Extension, IsLawful}
 use Rattle.lookup_model.specs.Message.{Key, Message, same_key}
 use Rattle.lookup_model.specs.Net.{keys, net}
@@ -134,12 +133,6 @@ module _ {F K : Type 0} {E : Extension F K} (laws : IsLawful E) (W : ℕ) (beta 
     one_each [] = tt
     one_each (key ∷ ks) = (one_alpha key, one_each ks)
 
-    few_of : (xs : List K) → ¬ IsZeroPolynomial E.ring poly → IsDistinct xs → AreRoots E.ring poly xs → length xs < length poly
-    few_of xs nonzero d roots = elim (cases_lt (length xs) (length poly)) [
-      | inl few ↦ few
-      | inr many ↦ absurd (nonzero (many_roots laws.ring laws.domain xs poly many d roots))
-    ]
-
     -- fewer than n + k in all
     pub few_accepting : 0 < unbalanced_count E instances → ¬ IsSharing E instances W beta → (alphas : List K) → IsDistinct alphas → AllByRecursion (IsAccepting E instances W beta) alphas → length alphas < message_count E instances + unbalanced_count E instances
     few_accepting some unshared alphas d accepting =
@@ -147,7 +140,7 @@ module _ {F K : Type 0} {E : Extension F K} (laws : IsLawful E) (W : ℕ) (beta 
         let on : length (filter is_point alphas) ≤ 1 * length all_keys =
         union_bound (λ key alpha. E.eq alpha (point key)) 1 all_keys (one_each all_keys) (filter is_point alphas) (IsDistinct-filter is_point alphas d) (filter_passes is_point alphas) in
         let off : length off_points < length poly =
-        few_of off_points (λ zero. unshared (λ apart. poly_nonzero open_keys some apart open_nonzero zero)) (IsDistinct-filter (λ alpha. not (is_point alpha)) alphas d)
+        few_roots laws.ring laws.domain poly off_points (λ zero. unshared (λ apart. poly_nonzero open_keys some apart open_nonzero zero)) (IsDistinct-filter (λ alpha. not (is_point alpha)) alphas d)
         (all_both (λ alpha. not (is_point alpha) ≡ true) (IsAccepting E instances W beta) (IsRoot E.ring poly) root off_points (filter_passes (λ alpha. not (is_point alpha)) alphas) (All-filter (IsAccepting E instances W beta) (λ alpha. not (is_point alpha)) alphas accepting)) in
         let coefficients : length poly ≡ length open_keys = length-numerator_poly laws point (map as_message open_keys) ∙ length-map open_keys as_message in
         omega (arith, filter-split is_point alphas, on, off, coefficients)

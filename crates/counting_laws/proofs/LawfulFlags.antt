@@ -2,10 +2,12 @@
 use Rattle.std.proofs.Common.{◌≡◌, ℕ, ◌+◌, zero, suc, Option, None, Some, List, [], ◌∷◌, ◌++◌, refl}
 use Rattle.std.specs.List.{AllByRecursion, cons_option, enumerate_from, filter_map, flat_map, slice_get}
 use Rattle.lookup_model.specs.Extension.{Extension}
-use Rattle.lookup_model.specs.Fault.{fault_of, row_faults, trace_faults}
-use Rattle.lookup_model.specs.Message.{Key, Message}
+use Rattle.lookup_model.specs.Fault.{fault_of, faults_of_row, trace_faults}
+use Rattle.lookup_model.specs.FlagFault.{sent_flag_fault}
+use Rattle.lookup_model.specs.Message.{Key}
 use Rattle.lookup_model.specs.Sent.{Sent}
-use Rattle.lookup_laws.proofs.LookupFaults.{exclusive_none}
+use Rattle.lookup_model.specs.declared.error.LookupError.{LookupError}
+use Rattle.lookup_laws.proofs.LookupFaults.{flags_none, no_flag_fault}
 use Rattle.batch_model.specs.FlagFaults.{instance_flag_faults}
 use Rattle.batch_model.specs.Instances.{Instance}
 use Rattle.batch_model.specs.Messages.{AreFlagsLawful, HasLawfulFlags, sent_rows_of}
@@ -21,33 +23,31 @@ module _ {A : Type 0} where
   none_before None xs e = (refl, e)
   none_before (Some x) xs e = absurd (cc e)
 
-module _ {F K : Type 0} (E : Extension F K) (denominator : Key F → K) where
-  of_one : (row column : ℕ) (s : Sent F) → fault_of E denominator row column s ≡ None → HasLawfulFlags E s
-  of_one row column s none = by_flags s.flags s.messages none
-    where
-      by_flags : (flags : Option (List F)) (ms : List (Message F)) → fault_of E denominator row column (record { flags = flags; messages = ms }) ≡ None → HasLawfulFlags E (record { flags = flags; messages = ms })
-      by_flags None ms none = tt
-      by_flags (Some fs) ms none = let passed = exclusive_none E denominator row column fs ms none in (passed.0, passed.1)
-
-  of_row : (row place : ℕ) (sents : List (Sent F)) → filter_map (λ p. fault_of E denominator row p.0 p.1) (enumerate_from place sents) ≡ [] → AllByRecursion (HasLawfulFlags E) sents
+-- Whatever the fault of a lookup is, if one without a fault has lawful flags, so has each of a row and
+-- of a trace without faults.
+module _ {F K : Type 0} (E : Extension F K) (lookup_fault : ℕ → ℕ → Sent F → Option LookupError) (of_one : (row column : ℕ) (s : Sent F) → lookup_fault row column s ≡ None → HasLawfulFlags E s) where
+  of_row : (row place : ℕ) (sents : List (Sent F)) → filter_map (λ p. lookup_fault row p.0 p.1) (enumerate_from place sents) ≡ [] → AllByRecursion (HasLawfulFlags E) sents
   of_row row place [] none = tt
   of_row row place (s ∷ ss) none =
-      let parts = none_before (fault_of E denominator row place s) (filter_map (λ (p : ℕ × Sent F). fault_of E denominator row p.0 p.1) (enumerate_from (place + 1) ss)) none in
+      let parts = none_before (lookup_fault row place s) (filter_map (λ (p : ℕ × Sent F). lookup_fault row p.0 p.1) (enumerate_from (place + 1) ss)) none in
       (of_one row place s parts.0, of_row row (place + 1) ss parts.1)
 
-  of_rows : (place : ℕ) (rows : List (List (Sent F))) → flat_map (λ p. row_faults E denominator p.0 p.1) (enumerate_from place rows) ≡ [] → AllByRecursion (AllByRecursion (HasLawfulFlags E)) rows
+  of_rows : (place : ℕ) (rows : List (List (Sent F))) → flat_map (λ p. faults_of_row lookup_fault p.0 p.1) (enumerate_from place rows) ≡ [] → AllByRecursion (AllByRecursion (HasLawfulFlags E)) rows
   of_rows place [] none = tt
   of_rows place (row ∷ rows) none =
-      let parts = both_empty (row_faults E denominator place row) (flat_map (λ (p : ℕ × List (Sent F)). row_faults E denominator p.0 p.1) (enumerate_from (place + 1) rows)) none in
+      let parts = both_empty (faults_of_row lookup_fault place row) (flat_map (λ (p : ℕ × List (Sent F)). faults_of_row lookup_fault p.0 p.1) (enumerate_from (place + 1) rows)) none in
       (of_row place 0 row parts.0, of_rows (place + 1) rows parts.1)
 
-  -- so it is of rows without a fault
-  pub lawful_rows : (rows : List (List (Sent F))) → trace_faults E denominator rows ≡ [] → AllByRecursion (AllByRecursion (HasLawfulFlags E)) rows
-  lawful_rows rows none = of_rows 0 rows none
-
 module _ {F K : Type 0} (E : Extension F K) where
-  -- and of the flags of a batch
+  -- the flags of rows without a fault are lawful
+  pub lawful_rows : (denominator : Key F → K) (rows : List (List (Sent F))) → trace_faults E denominator rows ≡ [] → AllByRecursion (AllByRecursion (HasLawfulFlags E)) rows
+  lawful_rows denominator rows none =
+      of_rows E (fault_of E denominator) (λ row column s e. flags_none E.base E.base_eq row column s.flags (no_flag_fault E denominator row column s e)) 0 rows none
+
+  -- and so are those of a batch whose flags have no fault
   pub lawful_flags : (instances : List (Instance F)) → ((i : ℕ) (other : Instance F) → slice_get instances i ≡ Some other → instance_flag_faults E other ≡ []) → AreFlagsLawful E instances
   lawful_flags [] none = tt
-  lawful_flags (instance ∷ instances) none =
-      (lawful_rows E (λ _. E.ring.one) (sent_rows_of E.base E.base_eq instance) (none zero instance refl), lawful_flags instances (λ i other is. none (suc i) other is))
+  lawful_flags (instance ∷ instances) none = (
+    of_rows E (sent_flag_fault E.base E.base_eq) (λ row column s e. flags_none E.base E.base_eq row column s.flags e) 0 (sent_rows_of E.base E.base_eq instance) (none zero instance refl),
+    lawful_flags instances (λ i other is. none (suc i) other is),
+  )

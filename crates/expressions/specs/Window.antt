@@ -1,6 +1,6 @@
 -- Windows: what constraints see of a trace on one row.
 use Rattle.std.specs.Prelude.{ℕ, ◌+◌, ◌%◌, ◌==◌, Bool, false, not, List, [], Option, None, Some}
-use Rattle.matrix.specs.Matrix.{Matrix, row}
+use Rattle.matrix.specs.Matrix.{Matrix, height, row}
 
 -- The current row and the next one of the main and the preprocessed trace, the public values, and
 -- whether the row is the first, the last, or one with a next row. This is the window of an
@@ -65,4 +65,15 @@ window_at main preprocessed public_values h r = record {
   is_first = r == 0;
   is_last = r + 1 == h;
   is_transition = not (r + 1 == h);
+}
+
+-- The window of row r with the rows of a permutation trace, the challenges and the permutation
+-- values.
+abbrev pub ext_window_at : {F EF : Type 0} → Matrix F → Option (Matrix F) → List F → Matrix EF → List EF → List EF → ℕ → ExtWindow F EF
+ext_window_at main preprocessed public_values permutation challenges permutation_values r = record {
+  base = window_at main preprocessed public_values (height main) r;
+  permutation = row permutation r;
+  permutation_next = row permutation ((r + 1) % height main);
+  challenges = challenges;
+  permutation_values = permutation_values;
 }

@@ -5,7 +5,7 @@ use Rattle.std.proofs.Common.{sym, ap, ap₂, ◌∙◌, inl, inr, arith}
 use Rattle.std.proofs.lemmas.Bool.{cases_lt}
 use Rattle.field.specs.Ring.{Ring, IsCommutativeRing, IsDomain, sub_in}
 use Rattle.field.specs.Distinct.{IsDistinct, all_both, all_weaker}
-use Rattle.field.specs.Polynomial.{AreRoots, IsNonzeroPolynomial, IsRoot, IsZeroPolynomial, value_at}
+use Rattle.field.specs.Polynomial.{AreRoots, IsRoot, IsZeroPolynomial, value_at}
 use Rattle.field.specs.RingFacts.{mul_zero, same_from_difference}
 use Rattle.field.specs.RingSolver.{var, con, :neg, ◌:+◌, ◌:-◌, ◌:*◌, ring_law, ring_given}
 
@@ -101,17 +101,11 @@ module _ {A : Type 0} {R : Ring A} (laws : IsCommutativeRing R) (domain : IsDoma
       let rest = zero_from_quotient laws a cs (many_roots others (quotient R a cs) (omega (arith, length-quotient R a cs)) distinct.1 below) in
       (first_zero laws c cs a rest roots.0, rest)
 
-  -- A polynomial isn't both zero and nonzero.
-  pub nonzero_is_not_zero : (cs : List A) → IsNonzeroPolynomial R cs → ¬ IsZeroPolynomial R cs
-  nonzero_is_not_zero [] nonzero zero = absurd nonzero
-  nonzero_is_not_zero (c ∷ cs) (inl nonzero) zero = nonzero zero.0
-  nonzero_is_not_zero (c ∷ cs) (inr nonzero) zero = nonzero_is_not_zero cs nonzero zero.1
-
-  -- A nonzero polynomial of d + 1 coefficients has at most d distinct roots.
-  pub few_roots : (cs xs : List A) → IsNonzeroPolynomial R cs → IsDistinct xs → AreRoots R cs xs → length xs < length cs
+  -- A polynomial that is not zero has fewer distinct roots than coefficients.
+  pub few_roots : (cs xs : List A) → ¬ IsZeroPolynomial R cs → IsDistinct xs → AreRoots R cs xs → length xs < length cs
   few_roots cs xs nonzero distinct roots = elim (cases_lt (length xs) (length cs)) [
     | inl few ↦ few
-    | inr many ↦ absurd (nonzero_is_not_zero cs nonzero (many_roots xs cs many distinct roots))
+    | inr many ↦ absurd (nonzero (many_roots xs cs many distinct roots))
   ]
 
   -- Polynomials that agree at as many points as they have coefficients are the same.

@@ -1,7 +1,6 @@
 -- Lists without repeats.
 use Rattle.std.specs.Prelude.{◌≡◌, ◌≢◌, ◌⊎◌, List, [], ◌∷◌, map}
 use Rattle.std.specs.List.{AllByRecursion}
-use Rattle.std.proofs.Common.{inl, inr}
 
 -- no two elements of the list are equal
 abbrev pub IsDistinct : {A : Type 0} → List A → Type 0
@@ -12,12 +11,6 @@ IsDistinct (x ∷ xs) = AllByRecursion (λ y. x ≢ y) xs × IsDistinct xs
 abbrev pub IsAmong : {A : Type 0} → A → List A → Type 0
 IsAmong x [] = ⊥
 IsAmong x (y ∷ ys) = (x ≡ y) ⊎ IsAmong x ys
-
--- What holds for every element of a list holds for each one among them.
-pub from_among : {A : Type 0} (P : A → Type 0) (xs : List A) (x : A) → AllByRecursion P xs → IsAmong x xs → P x
-from_among P [] x all among = absurd among
-from_among P (y ∷ ys) x all (inl e) = rw e all.0
-from_among P (y ∷ ys) x all (inr among) = from_among P ys x all.1 among
 
 -- If P implies S, and P holds for all elements, then so does S.
 pub all_weaker : {A : Type 0} (P S : A → Type 0) → ((x : A) → P x → S x) → (xs : List A) → AllByRecursion P xs → AllByRecursion S xs

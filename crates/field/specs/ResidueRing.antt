@@ -22,10 +22,6 @@ module _ (p : ℕ) (positive : 0 < p) where
   abbrev pub residue_inverse : Residue p → Residue p
   residue_inverse a = power residue_ring a (p - 2)
 
-  -- A residue is the residue of its value.
-  pub of_value : (a : Residue p) → residue_of p positive a.value ≡ a
-  of_value a = residue_same _ a (mod-eq_of_lt a.below)
-
   -- Taking the residue of a residue changes nothing.
   pub residue_of_mod : (n : ℕ) → residue_of p positive (n % p) ≡ residue_of p positive n
   residue_of_mod n = residue_same _ _ (mod-mod n p)

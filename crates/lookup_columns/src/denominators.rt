@@ -41,6 +41,8 @@ fn push_lessened<F: Field, EF: ExtensionDomain<F>>(
 /// The last element of a tuple has the factor 1, each one before it a power of `beta` more. The next
 /// row of the last one is the first one. The list that is returned can be put away in `spare` after
 /// use. Fails only when out of memory.
+///
+/// Constraints combine tuples as expressions of a builder, in `lookup_evaluation`.
 pub fn denominators_of<F: Field, EF: ExtensionDomain<F>>(
     alloc: Global,
     slots: &mut Slots<F>,

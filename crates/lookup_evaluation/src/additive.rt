@@ -1,6 +1,6 @@
 //! The numerator and the denominator of an additive lookup.
 ghost use Rattle.std.specs.Prelude.{◌≡◌, ◌+◌, ◌≤◌, ℕ, max, IfOk};
-ghost use Rattle.expressions.specs.Builder.{MeansRow};
+ghost use Rattle.expressions.specs.Builder.{IsMainWindow};
 ghost use Rattle.expressions.specs.Layout.{Fits};
 ghost use Rattle.expressions.specs.Tree.{tree_of};
 ghost use Rattle.expressions.specs.Window.{ExtWindow};
@@ -32,11 +32,8 @@ fn with_tuple<AB: PermutationAirBuilder>(
     requires multiplicity_fits { Fits (AB.layout builder.now) (tree_of multiplicity.now) }
     requires alpha { (t : ℕ) → AB.ExprEF.degree alpha.now t ≡ 0 }
     requires beta { (t : ℕ) → AB.ExprEF.degree beta.now t ≡ 0 }
-    requires readable { AB.MainWindow.readable main.now }
-    requires current { MeansRow (AB.stands_for builder.now) AB.variable
-        (AB.layout builder.now).main_width (λ w. w.main) (AB.MainWindow.current main.now) }
-    requires next { MeansRow (AB.stands_for builder.now) AB.variable
-        (AB.layout builder.now).main_width (λ w. w.main_next) (AB.MainWindow.next main.now) }
+    requires main { IsMainWindow AB.layout AB.stands_for AB.variable AB.MainWindow.readable
+        AB.MainWindow.current AB.MainWindow.next builder.now main.now }
     ensures numerator { IfOk result (λ r. (w : ExtWindow AB.F AB.EF)
         → AB.stands_for_ext builder.now w
         → let E = extension AB.F.ring AB.F.eq AB.EF.ring AB.EF.eq AB.EF.embed AB.EF.inverse in
@@ -78,11 +75,8 @@ pub(crate) fn additive_quotient<AB: PermutationAirBuilder>(
     requires fits { IsWithin (AB.layout builder.now) lookup.now }
     requires alpha { (t : ℕ) → AB.ExprEF.degree alpha.now t ≡ 0 }
     requires beta { (t : ℕ) → AB.ExprEF.degree beta.now t ≡ 0 }
-    requires readable { AB.MainWindow.readable main.now }
-    requires current { MeansRow (AB.stands_for builder.now) AB.variable
-        (AB.layout builder.now).main_width (λ w. w.main) (AB.MainWindow.current main.now) }
-    requires next { MeansRow (AB.stands_for builder.now) AB.variable
-        (AB.layout builder.now).main_width (λ w. w.main_next) (AB.MainWindow.next main.now) }
+    requires main { IsMainWindow AB.layout AB.stands_for AB.variable AB.MainWindow.readable
+        AB.MainWindow.current AB.MainWindow.next builder.now main.now }
     ensures numerator { IfOk result (λ r. (w : ExtWindow AB.F AB.EF)
         → AB.stands_for_ext builder.now w
         → let E = extension AB.F.ring AB.F.eq AB.EF.ring AB.EF.eq AB.EF.embed AB.EF.inverse in

@@ -2,7 +2,7 @@
 ghost use Rattle.std.specs.Prelude.{◌≡◌, ◌+◌, ◌≤◌, ℕ, Some, max, IfOk, length, map};
 ghost use Rattle.field.specs.Ring.{sub_in};
 ghost use Rattle.field.specs.Sums.{sum_in};
-ghost use Rattle.expressions.specs.Builder.{MeansRow};
+ghost use Rattle.expressions.specs.Builder.{IsMainWindow};
 ghost use Rattle.expressions.specs.Layout.{Fits};
 ghost use Rattle.expressions.specs.Tree.{tree_of};
 ghost use Rattle.expressions.specs.Window.{ExtWindow};
@@ -112,11 +112,8 @@ fn with_branch<AB: PermutationAirBuilder>(
     requires multiplicity_fits { Fits (AB.layout builder.now) (tree_of multiplicity.now) }
     requires alpha { (t : ℕ) → AB.ExprEF.degree alpha.now t ≡ 0 }
     requires beta { (t : ℕ) → AB.ExprEF.degree beta.now t ≡ 0 }
-    requires readable { AB.MainWindow.readable main.now }
-    requires current { MeansRow (AB.stands_for builder.now) AB.variable
-        (AB.layout builder.now).main_width (λ w. w.main) (AB.MainWindow.current main.now) }
-    requires next { MeansRow (AB.stands_for builder.now) AB.variable
-        (AB.layout builder.now).main_width (λ w. w.main_next) (AB.MainWindow.next main.now) }
+    requires main { IsMainWindow AB.layout AB.stands_for AB.variable AB.MainWindow.readable
+        AB.MainWindow.current AB.MainWindow.next builder.now main.now }
     ensures numerator { IfOk result (λ r. (w : ExtWindow AB.F AB.EF)
         → AB.stands_for_ext builder.now w
         → AB.ExprEF.value r.numerator (AB.seen_ext w)
@@ -166,11 +163,8 @@ fn selection_of<AB: PermutationAirBuilder>(
     requires flags_fit { AllFit (AB.layout builder.now) flags.now }
     requires alpha { (t : ℕ) → AB.ExprEF.degree alpha.now t ≡ 0 }
     requires beta { (t : ℕ) → AB.ExprEF.degree beta.now t ≡ 0 }
-    requires readable { AB.MainWindow.readable main.now }
-    requires current { MeansRow (AB.stands_for builder.now) AB.variable
-        (AB.layout builder.now).main_width (λ w. w.main) (AB.MainWindow.current main.now) }
-    requires next { MeansRow (AB.stands_for builder.now) AB.variable
-        (AB.layout builder.now).main_width (λ w. w.main_next) (AB.MainWindow.next main.now) }
+    requires main { IsMainWindow AB.layout AB.stands_for AB.variable AB.MainWindow.readable
+        AB.MainWindow.current AB.MainWindow.next builder.now main.now }
     ensures numerator { IfOk result (λ r. (w : ExtWindow AB.F AB.EF)
         → AB.stands_for_ext builder.now w
         → let E = extension AB.F.ring AB.F.eq AB.EF.ring AB.EF.eq AB.EF.embed AB.EF.inverse in
@@ -233,11 +227,8 @@ pub(crate) fn exclusive_quotient<AB: PermutationAirBuilder>(
     requires flags_fit { AllFit (AB.layout builder.now) flags.now }
     requires alpha { (t : ℕ) → AB.ExprEF.degree alpha.now t ≡ 0 }
     requires beta { (t : ℕ) → AB.ExprEF.degree beta.now t ≡ 0 }
-    requires readable { AB.MainWindow.readable main.now }
-    requires current { MeansRow (AB.stands_for builder.now) AB.variable
-        (AB.layout builder.now).main_width (λ w. w.main) (AB.MainWindow.current main.now) }
-    requires next { MeansRow (AB.stands_for builder.now) AB.variable
-        (AB.layout builder.now).main_width (λ w. w.main_next) (AB.MainWindow.next main.now) }
+    requires main { IsMainWindow AB.layout AB.stands_for AB.variable AB.MainWindow.readable
+        AB.MainWindow.current AB.MainWindow.next builder.now main.now }
     ensures numerator { IfOk result (λ r. (w : ExtWindow AB.F AB.EF)
         → AB.stands_for_ext builder.now w
         → let E = extension AB.F.ring AB.F.eq AB.EF.ring AB.EF.eq AB.EF.embed AB.EF.inverse in

@@ -1,6 +1,6 @@
 //! The constraint of one lookup's fraction.
 ghost use Rattle.std.specs.Prelude.{◌≡◌, ◌+◌, ◌*◌, ◌<◌, ◌≤◌, ◌⊎◌, ℕ, max, [], ◌∷◌, IfOk, IfErr};
-ghost use Rattle.expressions.specs.Builder.{MeansRow};
+ghost use Rattle.expressions.specs.Builder.{IsMainWindow};
 ghost use Rattle.expressions.specs.Window.{ExtWindow};
 ghost use Rattle.lookup_evaluation.specs.Asserted.{EvaluatesOn, IsConstraint};
 ghost use Rattle.lookup_model.specs.Constraints.{denominator_at, fraction_constraint, fraction_denominator, fraction_numerator};
@@ -28,11 +28,8 @@ fn quotient_of<AB: PermutationAirBuilder>(
     requires fits { IsWithin (AB.layout builder.now) lookup.now }
     requires challenges { 2 * lookup.now.column + 1
         < (AB.layout builder.now).num_permutation_challenges }
-    requires readable { AB.MainWindow.readable main.now }
-    requires current { MeansRow (AB.stands_for builder.now) AB.variable
-        (AB.layout builder.now).main_width (λ w. w.main) (AB.MainWindow.current main.now) }
-    requires next { MeansRow (AB.stands_for builder.now) AB.variable
-        (AB.layout builder.now).main_width (λ w. w.main_next) (AB.MainWindow.next main.now) }
+    requires main { IsMainWindow AB.layout AB.stands_for AB.variable AB.MainWindow.readable
+        AB.MainWindow.current AB.MainWindow.next builder.now main.now }
     ensures numerator { IfOk result (λ r. (w : ExtWindow AB.F AB.EF)
         → AB.stands_for_ext builder.now w
         → let E = extension AB.F.ring AB.F.eq AB.EF.ring AB.EF.eq AB.EF.embed AB.EF.inverse in

@@ -96,17 +96,17 @@ module _ {F K : Type 0} (E : Extension F K) (denominator : Key F → K) where
     at r = omega (arith, length-map (take c lookups) (λ l. sent_on E.base E.base_eq traces l r), length-take c lookups, lt, column_is lookups c lookup records lt is)
 
     none-more : (r : ℕ) → row_faults E denominator r (sents (take c lookups) r) ≡ [] → fault_of E denominator r lookup.column (sends r) ≡ None → row_faults E denominator r (sents (take (c + 1) lookups) r) ≡ []
-    none-more r none here = ap (row_faults E denominator r) (sents-more r) ∙ row_faults-none E denominator r lookup.column (sents (take c lookups) r) (sends r) (at r) here none
+    none-more r none here = ap (row_faults E denominator r) (sents-more r) ∙ row_faults-none (fault_of E denominator) r lookup.column (sents (take c lookups) r) (sends r) (at r) here none
 
     first-stays : (r : ℕ) (e : LookupError) → slice_get (row_faults E denominator r (sents (take c lookups) r)) 0 ≡ Some e → slice_get (row_faults E denominator r (sents (take (c + 1) lookups) r)) 0 ≡ Some e
     first-stays r e fault =
-        ap (λ t. slice_get t 0) (ap (row_faults E denominator r) (sents-more r) ∙ row_faults-append E denominator r (sents (take c lookups) r) (sends r ∷ []))
+        ap (λ t. slice_get t 0) (ap (row_faults E denominator r) (sents-more r) ∙ row_faults-append (fault_of E denominator) r (sents (take c lookups) r) (sends r ∷ []))
         ∙ first_stays (row_faults E denominator r (sents (take c lookups) r)) _ e fault
 
     first-here : (r : ℕ) (e : LookupError) → row_faults E denominator r (sents (take c lookups) r) ≡ [] → fault_of E denominator r lookup.column (sends r) ≡ Some e → slice_get (row_faults E denominator r (sents (take (c + 1) lookups) r)) 0 ≡ Some e
     first-here r e none fault =
         ap (λ t. slice_get (row_faults E denominator r t) 0) (sents-more r ∙ sym (append-nil (sents (take c lookups) r ++ sends r ∷ [])))
-        ∙ row_faults-first E denominator r lookup.column (sents (take c lookups) r) [] (sends r) e (at r) fault none
+        ∙ row_faults-first (fault_of E denominator) r lookup.column (sents (take c lookups) r) [] (sends r) e (at r) fault none
 
     -- no fault is found, and there was none
     neither : (first end : ℕ) (before after : List (Ratio K)) → HasColumns E denominator traces (take c lookups) first end before → HasColumn E denominator sends lookup.column first end before after → HasColumns E denominator traces (take (c + 1) lookups) first end after

@@ -48,9 +48,6 @@ module _ {F K : Type 0} (E : Extension F K) (denominator : Key F → K) (traces 
   length-column : (first n : ℕ) (lookup : Lookup F) → length (column_fractions E denominator (sent_on E.base E.base_eq traces lookup) first n) ≡ n
   length-column first n lookup = length-map-range_with_len (λ i. plain_fraction E denominator (sent_on E.base E.base_eq traces lookup (first + i))) 0 n
 
-  pub length-all_fractions : (first n : ℕ) → length (all_fractions E denominator traces lookups first n) ≡ length lookups * n
-  length-all_fractions first n = length-parts (λ l. column_fractions E denominator (sent_on E.base E.base_eq traces l) first n) n (length-column first n) lookups
-
   -- what stands at one place of each column are the fractions of one row
   pub column_cells-are : (m : Matrix K) (first n place : ℕ) → m.width ≡ n → height m ≡ length lookups → m.values ≡ all_fractions E denominator traces lookups first n → place < n → first + place < height_of traces
       → column_cells E.ring.zero m place ≡ row_fractions E denominator (sent_rows_of E.base E.base_eq traces lookups) (first + place)

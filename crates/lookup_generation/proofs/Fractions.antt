@@ -17,10 +17,10 @@ use Rattle.lookup_model.proofs.SumLaws.{sum_in-push}
 use Rattle.std.proofs.lemmas.List.Elements.{filter-append}
 
 module _ {F K : Type 0} {E : Extension F K} (laws : IsLawful E) (denominator : Key F → K) where
-  counted_nonzero : (ms : List (Message F)) (m : Message F) → m.multiplicity ≢ E.base.zero → counted E (ms ++ m ∷ []) ≡ counted E ms ++ m ∷ []
+  counted_nonzero : (ms : List (Message F)) (m : Message F) → m.multiplicity ≢ E.base.zero → counted E.base E.base_eq (ms ++ m ∷ []) ≡ counted E.base E.base_eq ms ++ m ∷ []
   counted_nonzero ms m ne = filter-append (λ n. not (E.base_eq n.multiplicity E.base.zero)) ms (m ∷ []) ∙ by_test (E.base_eq m.multiplicity E.base.zero) refl
     where
-      by_test : (b : Bool) → E.base_eq m.multiplicity E.base.zero ≡ b → counted E ms ++ cond (not b) (m ∷ []) [] ≡ counted E ms ++ m ∷ []
+      by_test : (b : Bool) → E.base_eq m.multiplicity E.base.zero ≡ b → counted E.base E.base_eq ms ++ cond (not b) (m ∷ []) [] ≡ counted E.base E.base_eq ms ++ m ∷ []
       by_test true f = absurd (ne ((laws.base_eq m.multiplicity E.base.zero).0 f))
       by_test false f = refl
 
@@ -31,15 +31,15 @@ module _ {F K : Type 0} {E : Extension F K} (laws : IsLawful E) (denominator : K
   fraction_of_added ms m f next counts divides plus so_far =
       let same = counted_nonzero ms m counts in
       let q = quotient_of E denominator m in
-      let qs = map (quotient_of E denominator) (counted E ms) in
+      let qs = map (quotient_of E denominator) (counted E.base E.base_eq ms) in
       record {
         is =
             subst (IsRatio E.ring next)
-            (sym (sum_in-push laws.ring qs q) ∙ ap (sum_in E.ring) (sym (map_push (quotient_of E denominator) (counted E ms) m)) ∙ ap (λ ns. sum_in E.ring (map (quotient_of E denominator) ns)) (sym same))
+            (sym (sum_in-push laws.ring qs q) ∙ ap (sum_in E.ring) (sym (map_push (quotient_of E denominator) (counted E.base E.base_eq ms) m)) ∙ ap (λ ns. sum_in E.ring (map (quotient_of E denominator) ns)) (sym same))
             (plus (sum_in E.ring qs) q so_far.is (divides_one laws denominator m divides));
         divides =
             ap (vanishes E denominator) same
-            ∙ list_any-append (λ n. E.eq (denominator n.key) E.ring.zero) (counted E ms) (m ∷ [])
+            ∙ list_any-append (λ n. E.eq (denominator n.key) E.ring.zero) (counted E.base E.base_eq ms) (m ∷ [])
             ∙ (λ i. so_far.divides i || (not_zero i || false));
       }
     where
@@ -47,14 +47,14 @@ module _ {F K : Type 0} {E : Extension F K} (laws : IsLawful E) (denominator : K
       not_zero = false_from_ne_true (E.eq (denominator m.key) E.ring.zero) (λ e. divides ((laws.eq (denominator m.key) E.ring.zero).0 e))
 
   -- a message that counts and whose denominator is zero makes the lookup vanish
-  pub vanishes_at : (ms rest : List (Message F)) (m : Message F) → m.multiplicity ≢ E.base.zero → denominator m.key ≡ E.ring.zero → vanishes E denominator (counted E ((ms ++ m ∷ []) ++ rest)) ≡ true
+  pub vanishes_at : (ms rest : List (Message F)) (m : Message F) → m.multiplicity ≢ E.base.zero → denominator m.key ≡ E.ring.zero → vanishes E denominator (counted E.base E.base_eq ((ms ++ m ∷ []) ++ rest)) ≡ true
   vanishes_at ms rest m counts e =
       let is_zero = λ (n : Message F). E.eq (denominator n.key) E.ring.zero in
-      let front = counted E (ms ++ m ∷ []) in
+      let front = counted E.base E.base_eq (ms ++ m ∷ []) in
       let found : list_any is_zero front ≡ true =
       ap (list_any is_zero) (counted_nonzero ms m counts)
-      ∙ list_any-append is_zero (counted E ms) (m ∷ [])
-      ∙ or_right (list_any is_zero (counted E ms)) (is_zero m || false) (or_left (is_zero m) false ((laws.eq (denominator m.key) E.ring.zero).1 e)) in
+      ∙ list_any-append is_zero (counted E.base E.base_eq ms) (m ∷ [])
+      ∙ or_right (list_any is_zero (counted E.base E.base_eq ms)) (is_zero m || false) (or_left (is_zero m) false ((laws.eq (denominator m.key) E.ring.zero).1 e)) in
       ap (list_any is_zero) (filter-append (λ n. not (E.base_eq n.multiplicity E.base.zero)) (ms ++ m ∷ []) rest)
-      ∙ list_any-append is_zero front (counted E rest)
-      ∙ or_left (list_any is_zero front) (list_any is_zero (counted E rest)) found
+      ∙ list_any-append is_zero front (counted E.base E.base_eq rest)
+      ∙ or_left (list_any is_zero front) (list_any is_zero (counted E.base E.base_eq rest)) found

@@ -7,7 +7,7 @@ use Rattle.std.proofs.lemmas.Grind.{flat_map-append}
 use Rattle.std.specs.List.{flat_map, range_with_len, slice_get}
 use Rattle.field.specs.Sums.{sum_in}
 use Rattle.lookup_model.specs.Extension.{Extension, IsLawful}
-use Rattle.lookup_model.specs.Fault.{row_faults, trace_faults}
+use Rattle.lookup_model.specs.Fault.{fault_of, row_faults, trace_faults}
 use Rattle.lookup_model.specs.Message.{Key}
 use Rattle.lookup_model.specs.Plain.{plain_fraction, plain_row}
 use Rattle.field.specs.Ring.{Ring}
@@ -84,7 +84,7 @@ module _ {F K : Type 0} {E : Extension F K} (laws : IsLawful E) (denominator : K
       → trace_faults E denominator (take r rows) ≡ [] → slice_get (trace_faults E denominator rows) 0 ≡ Some e
   first_fault rows r sents e lt is fault faultless =
       ap (λ t. slice_get (trace_faults E denominator t) 0) (split_at rows r sents lt is)
-      ∙ trace_faults-first E denominator r (take r rows) (drop (r + 1) rows) sents e (length_take rows r lt) fault faultless
+      ∙ trace_faults-first (fault_of E denominator) r (take r rows) (drop (r + 1) rows) sents e (length_take rows r lt) fault faultless
 
   -- a trace that has no fault before row `first`, nor on the k rows from there on, has none before
   -- their end
@@ -97,4 +97,4 @@ module _ {F K : Type 0} {E : Extension F K} (laws : IsLawful E) (denominator : K
       let next : r + 1 ≡ first + suc k = omega arith in
       subst (λ n. trace_faults E denominator (take n rows) ≡ []) next
       (ap (trace_faults E denominator) (take_more rows r (sents r) lt ∙ ap (λ t. take r rows ++ t ∷ []) (sym (at r lt)))
-      ∙ trace_faults-none E denominator r (take r rows) (sents r) (length_take rows r lt) (each r (omega arith) (omega arith)) (faultless_rows rows sents at first k (omega (arith, le)) before (λ i low high. each i low (omega (arith, high)))))
+      ∙ trace_faults-none (fault_of E denominator) r (take r rows) (sents r) (length_take rows r lt) (each r (omega arith) (omega arith)) (faultless_rows rows sents at first k (omega (arith, le)) before (λ i low high. each i low (omega (arith, high)))))

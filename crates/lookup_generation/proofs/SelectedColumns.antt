@@ -13,20 +13,20 @@ use Rattle.lookup_laws.proofs.Selections.{place_within}
 
 module _ {F K : Type 0} (E : Extension F K) where
   -- no place is before the first one
-  place_least : (n : ℕ) (fs : List F) (p : ℕ) (ps : List ℕ) → set_places E n fs ≡ p ∷ ps → n ≤ p
+  place_least : (n : ℕ) (fs : List F) (p : ℕ) (ps : List ℕ) → set_places E.base E.base_eq n fs ≡ p ∷ ps → n ≤ p
   place_least n [] p ps e = absurd (cc e)
   place_least n (f ∷ fs) p ps e = by_test (E.base_eq f E.base.one) e (place_least (n + 1) fs p ps)
     where
-      by_test : (b : Bool) → map (λ (q : ℕ × F). q.0) (cond b ((n, f) ∷ filter (λ q. E.base_eq q.1 E.base.one) (enumerate_from (n + 1) fs)) (filter (λ q. E.base_eq q.1 E.base.one) (enumerate_from (n + 1) fs))) ≡ p ∷ ps → (set_places E (n + 1) fs ≡ p ∷ ps → n + 1 ≤ p) → n ≤ p
+      by_test : (b : Bool) → map (λ (q : ℕ × F). q.0) (cond b ((n, f) ∷ filter (λ q. E.base_eq q.1 E.base.one) (enumerate_from (n + 1) fs)) (filter (λ q. E.base_eq q.1 E.base.one) (enumerate_from (n + 1) fs))) ≡ p ∷ ps → (set_places E.base E.base_eq (n + 1) fs ≡ p ∷ ps → n + 1 ≤ p) → n ≤ p
       by_test true at later = let first : n ≡ p = cc at in omega (arith, first)
       by_test false at later = omega (arith, later at)
 
   -- the flag at the first place is set
-  pub place_is_set : (n k : ℕ) (fs : List F) (ps : List ℕ) (f : F) → set_places E n fs ≡ (n + k) ∷ ps → f ≡ get_or fs k f → k < length fs → E.base_eq f E.base.one ≡ true
+  pub place_is_set : (n k : ℕ) (fs : List F) (ps : List ℕ) (f : F) → set_places E.base E.base_eq n fs ≡ (n + k) ∷ ps → f ≡ get_or fs k f → k < length fs → E.base_eq f E.base.one ≡ true
   place_is_set n k [] ps f e is lt = absurd (cc e)
   place_is_set n k (g ∷ fs) ps f e is lt = by_test k (E.base_eq g E.base.one) refl e is lt (λ j. place_is_set (n + 1) j fs ps f)
     where
-      by_test : (k : ℕ) (b : Bool) → E.base_eq g E.base.one ≡ b → map (λ (q : ℕ × F). q.0) (cond b ((n, g) ∷ filter (λ q. E.base_eq q.1 E.base.one) (enumerate_from (n + 1) fs)) (filter (λ q. E.base_eq q.1 E.base.one) (enumerate_from (n + 1) fs))) ≡ (n + k) ∷ ps → f ≡ get_or (g ∷ fs) k f → k < suc (length fs) → ((j : ℕ) → set_places E (n + 1) fs ≡ (n + 1 + j) ∷ ps → f ≡ get_or fs j f → j < length fs → E.base_eq f E.base.one ≡ true) → E.base_eq f E.base.one ≡ true
+      by_test : (k : ℕ) (b : Bool) → E.base_eq g E.base.one ≡ b → map (λ (q : ℕ × F). q.0) (cond b ((n, g) ∷ filter (λ q. E.base_eq q.1 E.base.one) (enumerate_from (n + 1) fs)) (filter (λ q. E.base_eq q.1 E.base.one) (enumerate_from (n + 1) fs))) ≡ (n + k) ∷ ps → f ≡ get_or (g ∷ fs) k f → k < suc (length fs) → ((j : ℕ) → set_places E.base E.base_eq (n + 1) fs ≡ (n + 1 + j) ∷ ps → f ≡ get_or fs j f → j < length fs → E.base_eq f E.base.one ≡ true) → E.base_eq f E.base.one ≡ true
       by_test zero true test at here lt later = ap (λ x. E.base_eq x E.base.one) here ∙ test
       by_test zero false test at here lt later = let least = place_least (n + 1) fs (n + 0) ps at in absurd (omega (arith, least))
       by_test (suc j) true test at here lt later = let first : n ≡ n + suc j = cc at in absurd (omega (arith, first))
@@ -39,7 +39,7 @@ flags_there place (c ∷ columns) [] h k d lt = absurd h
 flags_there place (c ∷ columns) (f ∷ flags) h zero d lt = slice_get_within c.flags.items place f h.0
 flags_there place (c ∷ columns) (f ∷ flags) h (suc k) d lt = flags_there place columns flags h.1 k d (omega (arith, lt))
 
-module _ {F K : Type 0} {E : Extension F F} (laws : IsLawful E) (one_not_zero : E.base.one ≢ E.base.zero) (denominator : Key F → K) (place : ℕ) (columns : List (BranchColumns F K)) (flags : List F) (messages : List (Message F)) (selected : HoldSelected E.base denominator place columns flags messages) (k : ℕ) (one : set_places E 0 flags ≡ k ∷ []) where
+module _ {F K : Type 0} {E : Extension F F} (laws : IsLawful E) (one_not_zero : E.base.one ≢ E.base.zero) (denominator : Key F → K) (place : ℕ) (columns : List (BranchColumns F K)) (flags : List F) (messages : List (Message F)) (selected : HoldSelected E.base denominator place columns flags messages) (k : ℕ) (one : set_places E.base E.base_eq 0 flags ≡ k ∷ []) where
   -- its columns are there
   pub columns_there : k < length columns
   columns_there = omega (arith, place_within E 0 flags k [] one, AllZip-long (HasFlag place) columns flags selected.flags_are)

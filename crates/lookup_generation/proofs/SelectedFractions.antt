@@ -13,19 +13,19 @@ use Rattle.lookup_laws.proofs.LookupFaults.{exclusive_faultless, vanishing_fault
 use Rattle.lookup_laws.proofs.Selections.{chosen_none, chosen_one}
 use Rattle.lookup_laws.proofs.Terminals.{plain_fraction-all}
 
-module _ {F K : Type 0} {E : Extension F K} (laws : IsLawful E) (denominator : Key F → K) (row column : ℕ) (flags : List F) (branches : List (Message F)) (lawful : are_boolean E flags ≡ true) where
+module _ {F K : Type 0} {E : Extension F K} (laws : IsLawful E) (denominator : Key F → K) (row column : ℕ) (flags : List F) (branches : List (Message F)) (lawful : are_boolean E.base E.base_eq flags ≡ true) where
   abbrev selected : Sent F
   selected = sent E.base E.base_eq (Some flags) branches
 
   -- no set flag gives zero, and no fault
-  pub none_selected : set_places E 0 flags ≡ [] → (E.ring.zero ≡ plain_fraction E denominator selected) × (fault_of E denominator row column selected ≡ None)
+  pub none_selected : set_places E.base E.base_eq 0 flags ≡ [] → (E.ring.zero ≡ plain_fraction E denominator selected) × (fault_of E denominator row column selected ≡ None)
   none_selected none =
       let empty = chosen_none E 0 flags branches none in (
         ap (λ ms. plain_fraction E denominator (record { flags = Some flags; messages = ms })) (sym empty),
         exclusive_faultless E denominator row column flags (chosen E.base E.base_eq flags branches) lawful (omega (arith, ap length none)) (ap (vanishes E denominator) empty),
       )
 
-  module _ (place : ℕ) (m : Message F) (one : set_places E 0 flags ≡ place ∷ []) (within : place < length branches) (is : m ≡ get_or branches place m) where
+  module _ (place : ℕ) (m : Message F) (one : set_places E.base E.base_eq 0 flags ≡ place ∷ []) (within : place < length branches) (is : m ≡ get_or branches place m) where
     -- the message of the one set flag is what is sent
     only : chosen E.base E.base_eq flags branches ≡ m ∷ []
     only = chosen_one E 0 place flags branches m (one ∙ ap (λ p. p ∷ []) (omega arith)) within is

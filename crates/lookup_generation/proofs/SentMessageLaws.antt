@@ -1,74 +1,54 @@
 -- Collected messages grow by lookups and rows, and the faults of flags by themselves.
-use Rattle.std.proofs.Common.{◌≡◌, ℕ, ◌+◌, ◌<◌, ◌||◌, Bool, false, true, Option, None, Some, List, [], ◌∷◌, ◌++◌, length, take, drop, get_or, refl, sym, ap, ◌∙◌, arith}
-use Rattle.std.proofs.lemmas.Bool.{false_from_ne_true}
+use Rattle.std.proofs.Common.{◌≡◌, ℕ, ◌+◌, ◌<◌, Bool, true, Option, None, Some, List, [], ◌∷◌, ◌++◌, length, take, drop, get_or, refl, sym, ap, ◌∙◌, arith}
 use Rattle.std.proofs.lemmas.List.{append-nil, flat_map_more, length-take}
 use Rattle.std.proofs.lemmas.List.FromFn.{get_or-map-range_with_len, length-map-range_with_len}
 use Rattle.std.specs.List.{flat_map, slice_get}
 use Rattle.field.specs.Ring.{Ring}
 use Rattle.matrix.specs.Matrix.{Matrix, height}
 use Rattle.expressions.specs.Window.{window_at}
-use Rattle.lookup_model.specs.Extension.{Extension, IsLawful}
-use Rattle.lookup_model.specs.Fault.{are_boolean, fault_of, set_places, vanishes}
-use Rattle.lookup_model.specs.FlagFault.{row_flag_faults, trace_flag_faults}
+use Rattle.lookup_model.specs.Extension.{Extension}
+use Rattle.lookup_model.specs.Fault.{are_boolean, flag_fault_of, set_places}
+use Rattle.lookup_model.specs.FlagFault.{row_flag_faults, sent_flag_fault, trace_flag_faults}
 use Rattle.lookup_model.specs.Message.{Message}
-use Rattle.lookup_model.specs.Plain.{counted}
-use Rattle.lookup_model.specs.Sent.{Sent, chosen, sent}
+use Rattle.lookup_model.specs.Sent.{Sent, chosen}
 use Rattle.lookup_model.specs.Trace.{sent_row_under, sent_rows_under}
 use Rattle.lookup_model.specs.declared.error.LookupError.{LookupError}
 use Rattle.lookup_model.specs.declared.types.Lookup.{Lookup}
-use Rattle.lookup_laws.proofs.LookupFaults.{additive_faultless, exclusive_faultless}
+use Rattle.lookup_laws.proofs.LookupFaults.{flags_faultless}
 use Rattle.lookup_laws.proofs.Rows.{row_faults-none, split_at, take_item, trace_faults-first, trace_faults-none}
 use Rattle.lookup_laws.proofs.Selections.{chosen_none, chosen_one}
 use Rattle.lookup_generation.specs.SentMessages.{HasSentRow, HasSentRows, messages_of}
 use Rattle.lookup_generation.specs.declared.messages.SentMessage.{SentMessage}
 
-module _ {F K : Type 0} {E : Extension F K} (laws : IsLawful E) where
-  -- no denominator is zero where each is one
-  one_apart : E.eq E.ring.one E.ring.zero ≡ false
-  one_apart = false_from_ne_true (E.eq E.ring.one E.ring.zero) (λ e. laws.domain.zero_is_not_one (sym ((laws.eq E.ring.one E.ring.zero).0 e)))
+module _ {F K : Type 0} (E : Extension F K) (row column : ℕ) (branches : List (Message F)) (flags : List F) (boolean : are_boolean E.base E.base_eq flags ≡ true) where
+  -- flags of which none is set choose nothing
+  pub no_flag : set_places E.base E.base_eq 0 flags ≡ [] → (chosen E.base E.base_eq flags branches ≡ []) × (flag_fault_of E.base E.base_eq row column (Some flags) ≡ None)
+  no_flag none = (
+    chosen_none E 0 flags branches none,
+    flags_faultless E.base E.base_eq row column flags boolean (omega (arith, ap length none)),
+  )
 
-  never_vanishes : (ms : List (Message F)) → vanishes E (λ _. E.ring.one) ms ≡ false
-  never_vanishes [] = refl
-  never_vanishes (m ∷ ms) = ap (λ b. b || vanishes E (λ _. E.ring.one) ms) one_apart ∙ never_vanishes ms
-
-  module _ (row column : ℕ) (branches : List (Message F)) where
-    -- an additive lookup has no flags that could have a fault
-    pub additive_flags : fault_of E (λ _. E.ring.one) row column (sent E.base E.base_eq None branches) ≡ None
-    additive_flags = additive_faultless E (λ _. E.ring.one) row column branches (never_vanishes (counted E branches))
-
-    module _ (flags : List F) (boolean : are_boolean E flags ≡ true) where
-      -- flags of which none is set choose nothing
-      pub no_flag : set_places E 0 flags ≡ [] → (chosen E.base E.base_eq flags branches ≡ []) × (fault_of E (λ _. E.ring.one) row column (sent E.base E.base_eq (Some flags) branches) ≡ None)
-      no_flag none = (
-        chosen_none E 0 flags branches none,
-        exclusive_faultless E (λ _. E.ring.one) row column flags (chosen E.base E.base_eq flags branches) boolean (omega (arith, ap length none)) (never_vanishes (chosen E.base E.base_eq flags branches)),
-      )
-
-      -- one set flag chooses its branch
-      pub one_flag : (place : ℕ) (m : Message F) → set_places E 0 flags ≡ place ∷ [] → place < length branches → m ≡ get_or branches place m → (chosen E.base E.base_eq flags branches ≡ m ∷ []) × (fault_of E (λ _. E.ring.one) row column (sent E.base E.base_eq (Some flags) branches) ≡ None)
-      one_flag place m one within is = (
-        chosen_one E 0 place flags branches m (one ∙ ap (λ p. p ∷ []) (omega arith)) within is,
-        exclusive_faultless E (λ _. E.ring.one) row column flags (chosen E.base E.base_eq flags branches) boolean (omega (arith, ap length one)) (never_vanishes (chosen E.base E.base_eq flags branches)),
-      )
+  -- one set flag chooses its branch
+  pub one_flag : (place : ℕ) (m : Message F) → set_places E.base E.base_eq 0 flags ≡ place ∷ [] → place < length branches → m ≡ get_or branches place m → (chosen E.base E.base_eq flags branches ≡ m ∷ []) × (flag_fault_of E.base E.base_eq row column (Some flags) ≡ None)
+  one_flag place m one within is = (
+    chosen_one E 0 place flags branches m (one ∙ ap (λ p. p ∷ []) (omega arith)) within is,
+    flags_faultless E.base E.base_eq row column flags boolean (omega (arith, ap length one)),
+  )
 
 module _ {F K : Type 0} (E : Extension F K) where
   -- nothing is collected of no lookups
   pub no_sent : (row : ℕ) (before : List (SentMessage F)) → HasSentRow E row before before []
   no_sent row before = record { messages = sym (append-nil (messages_of before)); faultless = refl }
 
-  -- and of no rows
-  pub no_rows : (before : List (SentMessage F)) → HasSentRows E before before []
-  no_rows before = record { messages = sym (append-nil (messages_of before)); faultless = refl }
-
   -- a row goes on by a lookup
   pub sent_more : (row column : ℕ) (before after longer : List (SentMessage F)) (sents : List (Sent F)) (next : Sent F) → length sents ≡ column
-      → messages_of longer ≡ messages_of after ++ next.messages → fault_of E (λ _. E.ring.one) row column next ≡ None
+      → messages_of longer ≡ messages_of after ++ next.messages → flag_fault_of E.base E.base_eq row column next.flags ≡ None
       → HasSentRow E row before after sents → HasSentRow E row before longer (sents ++ next ∷ [])
   sent_more row column before after longer sents next at longer_is none so_far = record {
     messages =
         longer_is ∙ ap (λ t. t ++ next.messages) so_far.messages
         ∙ flat_map_more (λ (s : Sent F). s.messages) (messages_of before) sents next;
-    faultless = row_faults-none E (λ _. E.ring.one) row column sents next at none so_far.faultless;
+    faultless = row_faults-none (sent_flag_fault E.base E.base_eq) row column sents next at none so_far.faultless;
   }
 
   -- a trace goes on by a row
@@ -78,7 +58,7 @@ module _ {F K : Type 0} (E : Extension F K) where
     messages =
         this.messages ∙ ap (λ t. t ++ flat_map (λ (s : Sent F). s.messages) next) so_far.messages
         ∙ flat_map_more (λ (r : List (Sent F)). flat_map (λ (s : Sent F). s.messages) r) (messages_of before) rows next;
-    faultless = trace_faults-none E (λ _. E.ring.one) row rows next at this.faultless so_far.faultless;
+    faultless = trace_faults-none (sent_flag_fault E.base E.base_eq) row rows next at this.faultless so_far.faultless;
   }
 
 -- row r is what the window of row r sends
@@ -102,7 +82,7 @@ module _ {F : Type 0} (R : Ring F) (eq : F → F → Bool) (id : Lookup F → �
   one_more_row r lt = take_item all_rows r (row_at r) (omega (arith, length-all_rows, lt)) (here r lt)
 
   -- where its flags have a fault, the first one of it is the first one of the trace
-  pub first_row_fault : (r : ℕ) → r < height main → {K : Type 0} (E : Extension F K) (e : LookupError) → trace_flag_faults E (take r all_rows) ≡ [] → slice_get (row_flag_faults E r (row_at r)) 0 ≡ Some e → slice_get (trace_flag_faults E all_rows) 0 ≡ Some e
-  first_row_fault r lt E e so_far fault =
-      ap (λ t. slice_get (trace_flag_faults E t) 0) (split_at all_rows r (row_at r) (omega (arith, length-all_rows, lt)) (here r lt))
-      ∙ trace_faults-first E (λ _. E.ring.one) r (take r all_rows) (drop (r + 1) all_rows) (row_at r) e (length-take-rows r lt) fault so_far
+  pub first_row_fault : (r : ℕ) → r < height main → (e : LookupError) → trace_flag_faults R eq (take r all_rows) ≡ [] → slice_get (row_flag_faults R eq r (row_at r)) 0 ≡ Some e → slice_get (trace_flag_faults R eq all_rows) 0 ≡ Some e
+  first_row_fault r lt e so_far fault =
+      ap (λ t. slice_get (trace_flag_faults R eq t) 0) (split_at all_rows r (row_at r) (omega (arith, length-all_rows, lt)) (here r lt))
+      ∙ trace_faults-first (sent_flag_fault R eq) r (take r all_rows) (drop (r + 1) all_rows) (row_at r) e (length-take-rows r lt) fault so_far

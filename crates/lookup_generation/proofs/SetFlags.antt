@@ -16,12 +16,12 @@ module _ {F K : Type 0} {E : Extension F K} (laws : IsLawful E) where
   pub zero_flag : (fs : List F) (f : F) (set : SetFlags) → f ≡ E.base.zero → AreSetFlags E fs set → AreSetFlags E (fs ++ f ∷ []) set
   zero_flag fs f set e so_far = record {
     boolean = boolean-more laws fs f (or_left (E.base_eq f E.base.zero) (E.base_eq f E.base.one) ((laws.base_eq f E.base.zero).1 e)) so_far.boolean;
-    places = subst (ArePlaces set) (sym (places-more is_one fs f false (zero_is_unset laws f e) ∙ append-nil (set_places E 0 fs))) so_far.places;
+    places = subst (ArePlaces set) (sym (places-more is_one fs f false (zero_is_unset laws f e) ∙ append-nil (set_places E.base E.base_eq 0 fs))) so_far.places;
   }
 
   -- one more that is one
   pub one_flag : (fs : List F) (f : F) (set next : SetFlags) (place : ℕ) → length fs ≡ place → f ≡ E.base.one → ((places : List ℕ) → ArePlaces set places → ArePlaces next (places ++ place ∷ [])) → AreSetFlags E fs set → AreSetFlags E (fs ++ f ∷ []) next
   one_flag fs f set next place at e further so_far = record {
     boolean = boolean-more laws fs f (or_right (E.base_eq f E.base.zero) (E.base_eq f E.base.one) (set_is_one laws f e)) so_far.boolean;
-    places = subst (ArePlaces next) (sym (places-more is_one fs f true (set_is_one laws f e) ∙ (λ i. set_places E 0 fs ++ at i ∷ []))) (further (set_places E 0 fs) so_far.places);
+    places = subst (ArePlaces next) (sym (places-more is_one fs f true (set_is_one laws f e) ∙ (λ i. set_places E.base E.base_eq 0 fs ++ at i ∷ []))) (further (set_places E.base E.base_eq 0 fs) so_far.places);
   }

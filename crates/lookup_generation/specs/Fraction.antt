@@ -23,5 +23,5 @@ module _ {F K : Type 0} (E : Extension F K) (denominator : Key F → K) where
   -- the ratio is the sum of the quotients of the counted messages, and none of their denominators
   -- vanishes
   pub record IsFractionOf (ms : List (Message F)) (ratio : Ratio K) : Type 0 where
-    pub is : IsRatio E.ring ratio (sum_in E.ring (map (quotient_of E denominator) (counted E ms)))
-    pub divides : vanishes E denominator (counted E ms) ≡ false
+    pub is : IsRatio E.ring ratio (sum_in E.ring (map (quotient_of E denominator) (counted E.base E.base_eq ms)))
+    pub divides : vanishes E denominator (counted E.base E.base_eq ms) ≡ false

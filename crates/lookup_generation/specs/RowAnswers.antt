@@ -22,7 +22,7 @@ abbrev pub AnswersFlags : {F K : Type 0} → Extension F K → ℕ → ℕ → L
 AnswersFlags E row column flags result =
     MatchResult result
     (AreSetFlags E flags)
-    (λ e. (e ≡ Memory) ⊎ ((e ≡ FlagNotBoolean row column) × (are_boolean E flags ≡ false)))
+    (λ e. (e ≡ Memory) ⊎ ((e ≡ FlagNotBoolean row column) × (are_boolean E.base E.base_eq flags ≡ false)))
 
 module _ {F K : Type 0} (E : Extension F K) (builder : LookupTraceBuilder F K) where
   -- the denominator of a key whose id is a column, over the builder's challenges
@@ -46,7 +46,7 @@ module _ {F K : Type 0} (E : Extension F K) (builder : LookupTraceBuilder F K) w
   AnswersAdditive lookup result =
       MatchResult result
       (IsFractionOf E denominator_on (branches_on lookup))
-      (IsVanishing lookup.column (IsTrue (vanishes E denominator_on (counted E (branches_on lookup)))))
+      (IsVanishing lookup.column (IsTrue (vanishes E denominator_on (counted E.base E.base_eq (branches_on lookup)))))
 
   -- The plain fraction of what is sent, which has no fault. Otherwise its fault.
   abbrev pub AnswersSent : ℕ → Sent F → Result (Ratio K) LookupError → Type 0

@@ -13,5 +13,5 @@ ArePlaces Several places = 1 < length places
 
 -- Each flag is zero or one, and these are the indices of the set ones.
 pub record AreSetFlags {F K : Type 0} (E : Extension F K) (flags : List F) (set : SetFlags) : Type 0 where
-  pub boolean : are_boolean E flags ≡ true
-  pub places : ArePlaces set (set_places E 0 flags)
+  pub boolean : are_boolean E.base E.base_eq flags ≡ true
+  pub places : ArePlaces set (set_places E.base E.base_eq 0 flags)

@@ -20,9 +20,9 @@ module _ {F K : Type 0} (E : Extension F K) where
   -- After the earlier messages come those that the lookups of a row send, whose flags have no fault.
   pub record HasSentRow (row : ℕ) (before after : List (SentMessage F)) (sents : List (Sent F)) : Type 0 where
     pub messages : messages_of after ≡ messages_of before ++ flat_map (λ s. s.messages) sents
-    pub faultless : row_flag_faults E row sents ≡ []
+    pub faultless : row_flag_faults E.base E.base_eq row sents ≡ []
 
   -- The same for some rows.
   pub record HasSentRows (before after : List (SentMessage F)) (rows : List (List (Sent F))) : Type 0 where
     pub messages : messages_of after ≡ messages_of before ++ trace_messages rows
-    pub faultless : trace_flag_faults E rows ≡ []
+    pub faultless : trace_flag_faults E.base E.base_eq rows ≡ []

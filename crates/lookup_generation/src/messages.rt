@@ -6,7 +6,7 @@ ghost use Rattle.expressions.specs.Tree.{tree_of};
 ghost use Rattle.lookup_generation.specs.SentMessages.{HasSentRow, HasSentRows, messages_of};
 ghost use Rattle.lookup_generation.specs.TraceBuilder.{builder_layout, builder_window};
 ghost use Rattle.lookup_model.specs.Extension.{extension};
-ghost use Rattle.lookup_model.specs.Fault.{fault_of};
+ghost use Rattle.lookup_model.specs.Fault.{flag_fault_of};
 ghost use Rattle.lookup_model.specs.FlagFault.{row_flag_faults, trace_flag_faults};
 ghost use Rattle.lookup_model.specs.Records.{AllFit, DoFit, HasEqualLengths, IsWithin};
 ghost use Rattle.lookup_model.specs.Sent.{branch_at, branches_at, sent, sent_at, values};
@@ -112,11 +112,10 @@ fn push_selected<F: Field, EF: ExtensionField<F>>(
     requires flag_number { length flags.now ≡ length lookup.now.elements.items }
     requires within { IsWithin (builder_layout builder.now) lookup.now }
     requires flags_fit { AllFit (builder_layout builder.now) flags.now }
-    ensures { let E = extension F.ring F.eq EF.ring EF.eq EF.embed EF.inverse in
-        let w = builder_window builder.now in
+    ensures { let w = builder_window builder.now in
         let sent = sent F.ring F.eq (Some (values F.ring w flags.now))
         (branches_at F.ring w id lookup.now) in
-        let fault = fault_of E (λ _. EF.ring.one) builder.now.row lookup.now.column sent in
+        let fault = flag_fault_of F.ring F.eq builder.now.row lookup.now.column sent.flags in
         MatchResult result
         (λ _. (messages_of messages.new.items ≡ messages_of messages.old.items ++ sent.messages)
         × (fault ≡ None))
@@ -148,9 +147,8 @@ fn push_sent<F: Field, EF: ExtensionField<F>>(
 ) -> Result<(), LookupError>
     requires lengths { HasEqualLengths lookup.now }
     requires within { IsWithin (builder_layout builder.now) lookup.now }
-    ensures { let E = extension F.ring F.eq EF.ring EF.eq EF.embed EF.inverse in
-        let sent = sent_at F.ring F.eq (builder_window builder.now) id lookup.now in
-        let fault = fault_of E (λ _. EF.ring.one) builder.now.row lookup.now.column sent in
+    ensures { let sent = sent_at F.ring F.eq (builder_window builder.now) id lookup.now in
+        let fault = flag_fault_of F.ring F.eq builder.now.row lookup.now.column sent.flags in
         MatchResult result
         (λ _. (messages_of messages.new.items ≡ messages_of messages.old.items ++ sent.messages)
         × (fault ≡ None))
@@ -180,7 +178,7 @@ fn push_row_messages<F: Field, EF: ExtensionField<F>>(
         MatchResult result
         (λ _. HasSentRow E builder.now.row messages.old.items messages.new.items sents)
         (λ e. (e ≡ LookupError.Memory)
-        ⊎ (slice_get (row_flag_faults E builder.now.row sents) 0 ≡ Some e)) }
+        ⊎ (slice_get (row_flag_faults F.ring F.eq builder.now.row sents) 0 ≡ Some e)) }
 {
     for lookup in lookups {
         let id = ids[lookup.column];
@@ -212,7 +210,8 @@ pub fn push_messages<F: Field, EF: ExtensionField<F>>(
         (option_copied preprocessed.entry) public_values.now lookups.now in
         MatchResult result
         (λ _. HasSentRows E messages.old.items messages.new.items rows)
-        (λ e. (e ≡ LookupError.Memory) ⊎ (slice_get (trace_flag_faults E rows) 0 ≡ Some e)) }
+        (λ e. (e ≡ LookupError.Memory)
+        ⊎ (slice_get (trace_flag_faults F.ring F.eq rows) 0 ≡ Some e)) }
 {
     let challenges: &[EF] = &[];
     let height = main.height();

@@ -10,4 +10,5 @@ pub mod SatisfiedRows
 pub mod SatisfiedSelections
 pub mod Selections
 pub mod SentRows
+pub mod Shapes
 pub mod Terminals

@@ -1,13 +1,12 @@
 -- The plain result: its shape, and that without lookups it is empty.
 use Rattle.std.proofs.Common.{◌≡◌, ℕ, zero, suc, ◌≤◌, ◌+◌, ◌*◌, ◌/◌, ◌<◌, ◌==◌, Some, List, [], ◌∷◌, length, map, get_or, refl, sym, ap, ◌∙◌, arith, cond}
 use Rattle.std.proofs.lemmas.Bool.{ne_eqb}
-use Rattle.std.proofs.lemmas.List.{length-append, length-map, take_all}
+use Rattle.std.proofs.lemmas.List.{length-append, length-map}
 use Rattle.std.proofs.lemmas.Nat.{div-mul-add}
 use Rattle.std.specs.List.{enumerate_from, flat_map, range_with_len}
-use Rattle.field.specs.Sums.{sum_in}
 use Rattle.matrix.specs.Matrix.{IsShaped, height}
-use Rattle.lookup_model.specs.Extension.{Extension, IsLawful}
-use Rattle.lookup_model.specs.Fault.{row_faults, trace_faults}
+use Rattle.lookup_model.specs.Extension.{Extension}
+use Rattle.lookup_model.specs.Fault.{row_faults}
 use Rattle.lookup_model.specs.Generated.{plain_matrix, plain_terminal_of}
 use Rattle.lookup_model.specs.Message.{Key}
 use Rattle.lookup_model.specs.Plain.{plain_cells, plain_fraction, plain_row, plain_terminal}

@@ -1,12 +1,12 @@
 -- The auxiliary trace, row by row and lookup by lookup.
-use Rattle.std.proofs.Common.{◌≡◌, ℕ, ◌+◌, ◌<◌, None, Some, List, [], ◌∷◌, ◌++◌, length, map, take, drop, get_or, sym, ap, ◌∙◌, arith}
+use Rattle.std.proofs.Common.{◌≡◌, ℕ, ◌+◌, ◌<◌, Option, None, Some, List, [], ◌∷◌, ◌++◌, length, map, take, drop, get_or, sym, ap, ◌∙◌, arith}
 use Rattle.std.proofs.lemmas.List.{append-nil, take_more, take-append-drop}
 use Rattle.std.proofs.lemmas.List.Elements.{filter_map-append}
 use Rattle.std.proofs.lemmas.Grind.{flat_map-append}
 use Rattle.std.specs.List.{enumerate_from, filter_map, cons_option, flat_map, slice_get}
 use Rattle.field.specs.Sums.{sum_in}
 use Rattle.lookup_model.specs.Extension.{Extension, IsLawful}
-use Rattle.lookup_model.specs.Fault.{fault_of, row_faults, trace_faults}
+use Rattle.lookup_model.specs.Fault.{faults_of_row, faults_of_trace}
 use Rattle.lookup_model.specs.Message.{Key}
 use Rattle.lookup_model.specs.Plain.{plain_fraction, plain_accumulator}
 use Rattle.lookup_model.specs.Sent.{Sent}
@@ -33,50 +33,51 @@ module _ {A : Type 0} where
   pub split_at : (xs : List A) (i : ℕ) (x : A) → i < length xs → x ≡ get_or xs i x → xs ≡ (take i xs ++ x ∷ []) ++ drop (i + 1) xs
   split_at xs i x lt is = sym (take-append-drop (i + 1) xs) ∙ ap (λ t. t ++ drop (i + 1) xs) (take_item xs i x lt is)
 
-module _ {F K : Type 0} (E : Extension F K) (denominator : Key F → K) where
+module _ {F : Type 0} (lookup_fault : ℕ → ℕ → Sent F → Option LookupError) where
   -- the faults of a longer row
-  pub row_faults-append : (row : ℕ) (xs ys : List (Sent F)) → row_faults E denominator row (xs ++ ys) ≡ row_faults E denominator row xs ++ filter_map (λ p. fault_of E denominator row p.0 p.1) (enumerate_from (length xs) ys)
+  pub row_faults-append : (row : ℕ) (xs ys : List (Sent F)) → faults_of_row lookup_fault row (xs ++ ys) ≡ faults_of_row lookup_fault row xs ++ filter_map (λ p. lookup_fault row p.0 p.1) (enumerate_from (length xs) ys)
   row_faults-append row xs ys =
-      let f = λ (p : ℕ × Sent F). fault_of E denominator row p.0 p.1 in
+      let f = λ (p : ℕ × Sent F). lookup_fault row p.0 p.1 in
       ap (filter_map f) (enumerate_from-append 0 xs ys ∙ ap (λ k. enumerate_from 0 xs ++ enumerate_from k ys) (omega arith)) ∙ filter_map-append f (enumerate_from 0 xs) (enumerate_from (length xs) ys)
 
   -- one more lookup without a fault
-  pub row_faults-none : (row column : ℕ) (xs : List (Sent F)) (x : Sent F) → length xs ≡ column → fault_of E denominator row column x ≡ None → row_faults E denominator row xs ≡ [] → row_faults E denominator row (xs ++ x ∷ []) ≡ []
+  pub row_faults-none : (row column : ℕ) (xs : List (Sent F)) (x : Sent F) → length xs ≡ column → lookup_fault row column x ≡ None → faults_of_row lookup_fault row xs ≡ [] → faults_of_row lookup_fault row (xs ++ x ∷ []) ≡ []
   row_faults-none row column xs x at none so_far =
       row_faults-append row xs (x ∷ [])
-      ∙ (λ i. so_far i ++ cons_option (fault_of E denominator row (at i) x) [])
+      ∙ (λ i. so_far i ++ cons_option (lookup_fault row (at i) x) [])
       ∙ ap (λ o. cons_option o []) none
 
   -- the first lookup with a fault decides
-  pub row_faults-first : (row column : ℕ) (xs rest : List (Sent F)) (x : Sent F) (e : LookupError) → length xs ≡ column → fault_of E denominator row column x ≡ Some e → row_faults E denominator row xs ≡ [] → slice_get (row_faults E denominator row ((xs ++ x ∷ []) ++ rest)) 0 ≡ Some e
+  pub row_faults-first : (row column : ℕ) (xs rest : List (Sent F)) (x : Sent F) (e : LookupError) → length xs ≡ column → lookup_fault row column x ≡ Some e → faults_of_row lookup_fault row xs ≡ [] → slice_get (faults_of_row lookup_fault row ((xs ++ x ∷ []) ++ rest)) 0 ≡ Some e
   row_faults-first row column xs rest x e at fault so_far =
       ap (λ t. slice_get t 0) (row_faults-append row (xs ++ x ∷ []) rest
-      ∙ ap (λ t. t ++ filter_map (λ p. fault_of E denominator row p.0 p.1) (enumerate_from (length (xs ++ x ∷ [])) rest)) (row_faults-append row xs (x ∷ [])
-      ∙ (λ i. so_far i ++ cons_option (fault_of E denominator row (at i) x) [])
+      ∙ ap (λ t. t ++ filter_map (λ p. lookup_fault row p.0 p.1) (enumerate_from (length (xs ++ x ∷ [])) rest)) (row_faults-append row xs (x ∷ [])
+      ∙ (λ i. so_far i ++ cons_option (lookup_fault row (at i) x) [])
       ∙ ap (λ o. cons_option o []) fault))
 
   -- the faults of a longer trace
-  pub trace_faults-append : (xs ys : List (List (Sent F))) → trace_faults E denominator (xs ++ ys) ≡ trace_faults E denominator xs ++ flat_map (λ p. row_faults E denominator p.0 p.1) (enumerate_from (length xs) ys)
+  pub trace_faults-append : (xs ys : List (List (Sent F))) → faults_of_trace lookup_fault (xs ++ ys) ≡ faults_of_trace lookup_fault xs ++ flat_map (λ p. faults_of_row lookup_fault p.0 p.1) (enumerate_from (length xs) ys)
   trace_faults-append xs ys =
-      let f = λ (p : ℕ × List (Sent F)). row_faults E denominator p.0 p.1 in
+      let f = λ (p : ℕ × List (Sent F)). faults_of_row lookup_fault p.0 p.1 in
       ap (flat_map f) (enumerate_from-append 0 xs ys ∙ ap (λ k. enumerate_from 0 xs ++ enumerate_from k ys) (omega arith)) ∙ flat_map-append f (enumerate_from 0 xs) (enumerate_from (length xs) ys)
 
   -- one more row without a fault
-  pub trace_faults-none : (row : ℕ) (xs : List (List (Sent F))) (x : List (Sent F)) → length xs ≡ row → row_faults E denominator row x ≡ [] → trace_faults E denominator xs ≡ [] → trace_faults E denominator (xs ++ x ∷ []) ≡ []
+  pub trace_faults-none : (row : ℕ) (xs : List (List (Sent F))) (x : List (Sent F)) → length xs ≡ row → faults_of_row lookup_fault row x ≡ [] → faults_of_trace lookup_fault xs ≡ [] → faults_of_trace lookup_fault (xs ++ x ∷ []) ≡ []
   trace_faults-none row xs x at none so_far =
       trace_faults-append xs (x ∷ [])
-      ∙ (λ i. so_far i ++ (row_faults E denominator (at i) x ++ []))
+      ∙ (λ i. so_far i ++ (faults_of_row lookup_fault (at i) x ++ []))
       ∙ ap (λ t. t ++ []) none
 
   -- the first row with a fault decides
-  pub trace_faults-first : (row : ℕ) (xs rest : List (List (Sent F))) (x : List (Sent F)) (e : LookupError) → length xs ≡ row → slice_get (row_faults E denominator row x) 0 ≡ Some e → trace_faults E denominator xs ≡ [] → slice_get (trace_faults E denominator ((xs ++ x ∷ []) ++ rest)) 0 ≡ Some e
+  pub trace_faults-first : (row : ℕ) (xs rest : List (List (Sent F))) (x : List (Sent F)) (e : LookupError) → length xs ≡ row → slice_get (faults_of_row lookup_fault row x) 0 ≡ Some e → faults_of_trace lookup_fault xs ≡ [] → slice_get (faults_of_trace lookup_fault ((xs ++ x ∷ []) ++ rest)) 0 ≡ Some e
   trace_faults-first row xs rest x e at fault so_far =
-      let f = λ (p : ℕ × List (Sent F)). row_faults E denominator p.0 p.1 in
-      let here : trace_faults E denominator (xs ++ x ∷ []) ≡ row_faults E denominator row x ++ [] =
-      trace_faults-append xs (x ∷ []) ∙ (λ i. so_far i ++ (row_faults E denominator (at i) x ++ [])) in
+      let f = λ (p : ℕ × List (Sent F)). faults_of_row lookup_fault p.0 p.1 in
+      let here : faults_of_trace lookup_fault (xs ++ x ∷ []) ≡ faults_of_row lookup_fault row x ++ [] =
+      trace_faults-append xs (x ∷ []) ∙ (λ i. so_far i ++ (faults_of_row lookup_fault (at i) x ++ [])) in
       ap (λ t. slice_get t 0) (trace_faults-append (xs ++ x ∷ []) rest ∙ ap (λ t. t ++ flat_map f (enumerate_from (length (xs ++ x ∷ [])) rest)) here)
-      ∙ slice_get-first (row_faults E denominator row x ++ []) (flat_map f (enumerate_from (length (xs ++ x ∷ [])) rest)) e (slice_get-first (row_faults E denominator row x) [] e fault)
+      ∙ slice_get-first (faults_of_row lookup_fault row x ++ []) (flat_map f (enumerate_from (length (xs ++ x ∷ [])) rest)) e (slice_get-first (faults_of_row lookup_fault row x) [] e fault)
 
+module _ {F K : Type 0} (E : Extension F K) (denominator : Key F → K) where
   -- the accumulator of the next row
   pub plain_accumulator-more : IsLawful E → (rows : List (List (Sent F))) (r : ℕ) (x : List (Sent F)) → r < length rows → x ≡ get_or rows r x → plain_accumulator E denominator rows (r + 1) ≡ E.ring.add (plain_accumulator E denominator rows r) (sum_in E.ring (map (plain_fraction E denominator) x))
   plain_accumulator-more laws rows r x lt is =

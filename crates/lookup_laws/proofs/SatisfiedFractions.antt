@@ -55,11 +55,11 @@ module _ {F K : Type 0} {E : Extension F K} (laws : IsLawful E) (denominator : K
       ∙ mul_zero laws.ring (denominator m.key) ∙ sym (ap E.embed e ∙ laws.embeds.zero)
 
   -- so it is of all messages, where no denominator that counts vanishes
-  pub divides_each : (ms : List (Message F)) → vanishes E denominator (counted E ms) ≡ false → AllByRecursion (λ m. E.ring.mul (denominator m.key) (quotient_of E denominator m) ≡ E.embed m.multiplicity) ms
+  pub divides_each : (ms : List (Message F)) → vanishes E denominator (counted E.base E.base_eq ms) ≡ false → AllByRecursion (λ m. E.ring.mul (denominator m.key) (quotient_of E denominator m) ≡ E.embed m.multiplicity) ms
   divides_each [] none = tt
   divides_each (m ∷ ms) none = by_test (E.base_eq m.multiplicity E.base.zero) refl none (divides_each ms)
     where
-      by_denominator : (b : Bool) → E.eq (denominator m.key) E.ring.zero ≡ b → (b || vanishes E denominator (counted E ms)) ≡ false → (E.ring.mul (denominator m.key) (quotient_of E denominator m) ≡ E.embed m.multiplicity) × (vanishes E denominator (counted E ms) ≡ false)
+      by_denominator : (b : Bool) → E.eq (denominator m.key) E.ring.zero ≡ b → (b || vanishes E denominator (counted E.base E.base_eq ms)) ≡ false → (E.ring.mul (denominator m.key) (quotient_of E denominator m) ≡ E.embed m.multiplicity) × (vanishes E denominator (counted E.base E.base_eq ms) ≡ false)
       by_denominator true e bad = absurd (true≢false bad)
       by_denominator false e rest =
           (divides_one m (λ z. true≢false (sym ((laws.eq (denominator m.key) E.ring.zero).1 z) ∙ e)), rest)
@@ -67,7 +67,7 @@ module _ {F K : Type 0} {E : Extension F K} (laws : IsLawful E) (denominator : K
       AllDivide : List (Message F) → Type 0
       AllDivide ns = AllByRecursion (λ n. E.ring.mul (denominator n.key) (quotient_of E denominator n) ≡ E.embed n.multiplicity) ns
 
-      by_test : (b : Bool) → E.base_eq m.multiplicity E.base.zero ≡ b → vanishes E denominator (cond (not b) (m ∷ counted E ms) (counted E ms)) ≡ false → (vanishes E denominator (counted E ms) ≡ false → AllDivide ms) → AllDivide (m ∷ ms)
+      by_test : (b : Bool) → E.base_eq m.multiplicity E.base.zero ≡ b → vanishes E denominator (cond (not b) (m ∷ counted E.base E.base_eq ms) (counted E.base E.base_eq ms)) ≡ false → (vanishes E denominator (counted E.base E.base_eq ms) ≡ false → AllDivide ms) → AllDivide (m ∷ ms)
       by_test true e rest further = (zero_divides m ((laws.base_eq m.multiplicity E.base.zero).0 e), further rest)
       by_test false e rest further =
           let (here, left) = by_denominator (E.eq (denominator m.key) E.ring.zero) refl rest in (here, further left)
@@ -88,7 +88,7 @@ module _ {F K : Type 0} {E : Extension F K} (laws : IsLawful E) (challenges : Li
   by_column (z ∷ zs) each = (each.0, by_column zs each.1)
 
   -- the plain fraction of an additive lookup satisfies its constraint
-  pub additive_satisfied : (zs : List (Vec (SymbolicExpression F) Global × SymbolicExpression F)) (f : K) → f ≡ plain_fraction E of_key (record { flags = None; messages = branches_of zs }) → vanishes E of_key (counted E (branches_of zs)) ≡ false → fraction_left E denominator_of None (branches_of zs) f ≡ E.ring.zero
+  pub additive_satisfied : (zs : List (Vec (SymbolicExpression F) Global × SymbolicExpression F)) (f : K) → f ≡ plain_fraction E of_key (record { flags = None; messages = branches_of zs }) → vanishes E of_key (counted E.base E.base_eq (branches_of zs)) ≡ false → fraction_left E denominator_of None (branches_of zs) f ≡ E.ring.zero
   additive_satisfied zs f f_is none =
       let ms = branches_of zs in
       let p = λ (m : Message F). E.embed m.multiplicity in

@@ -94,8 +94,8 @@ module _ {F K : Type 0} (E : Extension F K) (denominator : Key F → K) where
       let back = drop (r + 1) rows in
       let at : length front ≡ r = omega (arith, length-take r rows, lt) in
       let upto : trace_faults E denominator (front ++ x ∷ []) ≡ [] =
-      nothing_before (trace_faults E denominator (front ++ x ∷ [])) _ (sym (trace_faults-append E denominator (front ++ x ∷ []) back) ∙ ap (trace_faults E denominator) (sym (split_at rows r x lt is)) ∙ none) in
-      let last : row_faults E denominator (length front) x ++ [] ≡ [] = nothing_after (trace_faults E denominator front) _ (sym (trace_faults-append E denominator front (x ∷ [])) ∙ upto) in
+      nothing_before (trace_faults E denominator (front ++ x ∷ [])) _ (sym (trace_faults-append (fault_of E denominator) (front ++ x ∷ []) back) ∙ ap (trace_faults E denominator) (sym (split_at rows r x lt is)) ∙ none) in
+      let last : row_faults E denominator (length front) x ++ [] ≡ [] = nothing_after (trace_faults E denominator front) _ (sym (trace_faults-append (fault_of E denominator) front (x ∷ [])) ∙ upto) in
       ap (λ n. row_faults E denominator n x) (sym at) ∙ nothing_before (row_faults E denominator (length front) x) [] last
 
   -- and none of a lookup
@@ -105,8 +105,8 @@ module _ {F K : Type 0} (E : Extension F K) (denominator : Key F → K) where
       let back = drop (k + 1) sents in
       let at : length front ≡ k = omega (arith, length-take k sents, lt) in
       let upto : row_faults E denominator r (front ++ s ∷ []) ≡ [] =
-      nothing_before (row_faults E denominator r (front ++ s ∷ [])) _ (sym (row_faults-append E denominator r (front ++ s ∷ []) back) ∙ ap (row_faults E denominator r) (sym (split_at sents k s lt is)) ∙ none) in
-      let last : cons_option (fault_of E denominator r (length front) s) [] ≡ [] = nothing_after (row_faults E denominator r front) _ (sym (row_faults-append E denominator r front (s ∷ [])) ∙ upto) in
+      nothing_before (row_faults E denominator r (front ++ s ∷ [])) _ (sym (row_faults-append (fault_of E denominator) r (front ++ s ∷ []) back) ∙ ap (row_faults E denominator r) (sym (split_at sents k s lt is)) ∙ none) in
+      let last : cons_option (fault_of E denominator r (length front) s) [] ≡ [] = nothing_after (row_faults E denominator r front) _ (sym (row_faults-append (fault_of E denominator) r front (s ∷ [])) ∙ upto) in
       ap (λ n. fault_of E denominator r n s) (sym at) ∙ no_option (fault_of E denominator r (length front) s) [] last
 
 module _ {F K : Type 0} {E : Extension F K} (laws : IsLawful E) (challenges : List K) (main : Matrix F) (preprocessed : Option (Matrix F)) (public_values : List F) (lookups : List (Lookup F)) (records : AreRecords lookups) (some : 0 < length lookups) where
@@ -234,10 +234,16 @@ module _ {F K : Type 0} {E : Extension F K} (laws : IsLawful E) (challenges : Li
 
         shape : (ls : List (Lookup F)) → 0 < length ls → length ls ≡ length lookups → HasShape ls (height main) auxiliary terminal
         shape [] nonempty same = absurd (omega (arith, nonempty))
-        shape (l ∷ ls) nonempty same = (ap (λ n. n + 1) (sym same), IsShaped-product (plain_cells E den rows) (height main) (length lookups) long, height_of (plain_cells E den rows) (height main) (length lookups) long, (record { 0 = plain_terminal E den rows }, refl))
+        shape (l ∷ ls) nonempty same = record {
+          presence = refl;
+          width = ap (λ n. n + 1) (sym same);
+          high = height_of (plain_cells E den rows) (height main) (length lookups) long;
+          whole = IsShaped-product (plain_cells E den rows) (height main) (length lookups) long;
+        }
 
 -- without lookups no cell and no terminal are a satisfied witness
 pub none_satisfied : {F K : Type 0} (E : Extension F K) (main : Matrix F) (preprocessed : Option (Matrix F)) (public_values : List F) (challenges : List K) (lookups : List (Lookup F)) (auxiliary : Matrix K) → lookups ≡ [] → auxiliary ≡ record { values = []; width = 0 } → IsSatisfied E main preprocessed public_values lookups challenges auxiliary None
 none_satisfied {F} {K} E main preprocessed public_values challenges lookups auxiliary none is =
     subst (λ (ls : List (Lookup F)). IsSatisfied E main preprocessed public_values ls challenges auxiliary None) (sym none)
-    (record { shape = (ap (λ m. m.width) is, ap (λ m. m.values) is, refl); equations = λ r lt. tt })
+    (subst (λ m. IsSatisfied E main preprocessed public_values [] challenges m None) (sym is)
+    (record { shape = record { presence = refl; width = refl; high = refl; whole = refl }; equations = λ r lt. tt }))

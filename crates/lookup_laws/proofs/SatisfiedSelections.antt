@@ -27,13 +27,13 @@ module _ {F K : Type 0} {E : Extension F K} (laws : IsLawful E) where
 
   module _ {X : Type 0} (g : X → K) where
     -- Of lawful flags, the sum of flag times value is the sum over the branches that they choose.
-    pub selected_sum : (fs : List F) (bs : List X) → are_boolean E fs ≡ true → sum_in E.ring (map (λ b. E.ring.mul (E.embed b.0) (g b.1)) (zip fs bs)) ≡ sum_in E.ring (map g (chosen E.base E.base_eq fs bs))
+    pub selected_sum : (fs : List F) (bs : List X) → are_boolean E.base E.base_eq fs ≡ true → sum_in E.ring (map (λ b. E.ring.mul (E.embed b.0) (g b.1)) (zip fs bs)) ≡ sum_in E.ring (map g (chosen E.base E.base_eq fs bs))
     selected_sum [] bs lawful = refl
     selected_sum (f ∷ fs) [] lawful = refl
     selected_sum (f ∷ fs) (b ∷ bs) lawful = by_test (E.base_eq f E.base.one) refl (selected_sum fs bs parts.1)
       where
-        parts : ((E.base_eq f E.base.zero || E.base_eq f E.base.one) ≡ true) × (are_boolean E fs ≡ true)
-        parts = and_parts (E.base_eq f E.base.zero || E.base_eq f E.base.one) (are_boolean E fs) lawful
+        parts : ((E.base_eq f E.base.zero || E.base_eq f E.base.one) ≡ true) × (are_boolean E.base E.base_eq fs ≡ true)
+        parts = and_parts (E.base_eq f E.base.zero || E.base_eq f E.base.one) (are_boolean E.base E.base_eq fs) lawful
 
         total : K
         total = sum_in E.ring (map (λ (q : F × X). E.ring.mul (E.embed q.0) (g q.1)) (zip fs bs))
@@ -49,7 +49,7 @@ module _ {F K : Type 0} {E : Extension F K} (laws : IsLawful E) where
 
   module _ {X : Type 0} where
     -- The sum of lawful flags counts the branches that they choose.
-    pub flags_sum : (fs : List F) (bs : List X) → length fs ≡ length bs → are_boolean E fs ≡ true → sum_in E.ring (map E.embed fs) ≡ sum_in E.ring (map (λ b. E.ring.one) (chosen E.base E.base_eq fs bs))
+    pub flags_sum : (fs : List F) (bs : List X) → length fs ≡ length bs → are_boolean E.base E.base_eq fs ≡ true → sum_in E.ring (map E.embed fs) ≡ sum_in E.ring (map (λ b. E.ring.one) (chosen E.base E.base_eq fs bs))
     flags_sum fs bs same lawful = as_products fs bs same ∙ selected_sum (λ b. E.ring.one) fs bs lawful
       where
         as_products : (es : List F) (cs : List X) → length es ≡ length cs → sum_in E.ring (map E.embed es) ≡ sum_in E.ring (map (λ (q : F × X). E.ring.mul (E.embed q.0) E.ring.one) (zip es cs))
@@ -78,7 +78,7 @@ module _ {F K : Type 0} {E : Extension F K} (laws : IsLawful E) where
     by_chosen (m ∷ n ∷ ms) D f N few divides D_is f_is N_is = absurd (omega (arith, few))
 
     -- the plain fraction of an exclusive lookup satisfies its equation
-    pub selection_satisfied : (fs : List F) (bs : List (Message F)) (D f : K) → length fs ≡ length bs → are_boolean E fs ≡ true → length (chosen E.base E.base_eq fs bs) ≤ 1 → vanishes E denominator (chosen E.base E.base_eq fs bs) ≡ false
+    pub selection_satisfied : (fs : List F) (bs : List (Message F)) (D f : K) → length fs ≡ length bs → are_boolean E.base E.base_eq fs ≡ true → length (chosen E.base E.base_eq fs bs) ≤ 1 → vanishes E denominator (chosen E.base E.base_eq fs bs) ≡ false
         → D ≡ E.ring.add (sum_in E.ring (map (λ b. E.ring.mul (E.embed b.0) (denominator b.1.key)) (zip fs bs))) (sub_in E.ring E.ring.one (sum_in E.ring (map E.embed fs)))
         → f ≡ plain_fraction E denominator (record { flags = Some fs; messages = chosen E.base E.base_eq fs bs })
         → sub_in E.ring (E.ring.mul D f) (exclusive_numerator E fs bs) ≡ E.ring.zero

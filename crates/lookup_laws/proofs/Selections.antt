@@ -1,6 +1,6 @@
 -- The set flags of a row, and the branches that they choose.
-use Rattle.std.proofs.Common.{◌≡◌, ◌≢◌, ℕ, zero, suc, ◌+◌, ◌<◌, ◌≤◌, Bool, true, false, cond, ◌||◌, ◌&&◌, List, [], ◌∷◌, ◌++◌, length, map, get_or, refl, sym, ap, subst, ◌∙◌, arith}
-use Rattle.std.proofs.lemmas.Bool.{false_from_ne_true, or_left, or_right}
+use Rattle.std.proofs.Common.{◌≡◌, ◌≢◌, ℕ, zero, suc, ◌+◌, ◌<◌, ◌≤◌, Bool, true, false, cond, ◌||◌, ◌&&◌, List, [], ◌∷◌, ◌++◌, length, map, get_or, refl, sym, ap, ◌∙◌, arith}
+use Rattle.std.proofs.lemmas.Bool.{false_from_ne_true}
 use Rattle.std.proofs.lemmas.List.{map-append}
 use Rattle.std.proofs.lemmas.List.Elements.{filter-append}
 use Rattle.std.proofs.lemmas.List.Folds.{list_all-append}
@@ -33,37 +33,37 @@ module _ {F : Type 0} (is_set : F → Bool) where
 
 module _ {F K : Type 0} (E : Extension F K) where
   -- a place is not before the first one
-  places_from : (n : ℕ) (fs : List F) (p : ℕ) (ps : List ℕ) → set_places E n fs ≡ p ∷ ps → n ≤ p
+  places_from : (n : ℕ) (fs : List F) (p : ℕ) (ps : List ℕ) → set_places E.base E.base_eq n fs ≡ p ∷ ps → n ≤ p
   places_from n [] p ps e = absurd (cc e)
   places_from n (f ∷ fs) p ps e = by_test (E.base_eq f E.base.one) e (places_from (n + 1) fs p ps)
     where
-      by_test : (b : Bool) → map (λ (q : ℕ × F). q.0) (cond b ((n, f) ∷ filter (λ q. E.base_eq q.1 E.base.one) (enumerate_from (n + 1) fs)) (filter (λ q. E.base_eq q.1 E.base.one) (enumerate_from (n + 1) fs))) ≡ p ∷ ps → (set_places E (n + 1) fs ≡ p ∷ ps → n + 1 ≤ p) → n ≤ p
+      by_test : (b : Bool) → map (λ (q : ℕ × F). q.0) (cond b ((n, f) ∷ filter (λ q. E.base_eq q.1 E.base.one) (enumerate_from (n + 1) fs)) (filter (λ q. E.base_eq q.1 E.base.one) (enumerate_from (n + 1) fs))) ≡ p ∷ ps → (set_places E.base E.base_eq (n + 1) fs ≡ p ∷ ps → n + 1 ≤ p) → n ≤ p
       by_test true at later = let first : n ≡ p = cc at in omega (arith, first)
       by_test false at later = omega (arith, later at)
 
   -- and within the flags
-  pub place_within : (n : ℕ) (fs : List F) (p : ℕ) (ps : List ℕ) → set_places E n fs ≡ p ∷ ps → p < n + length fs
+  pub place_within : (n : ℕ) (fs : List F) (p : ℕ) (ps : List ℕ) → set_places E.base E.base_eq n fs ≡ p ∷ ps → p < n + length fs
   place_within n [] p ps e = absurd (cc e)
   place_within n (f ∷ fs) p ps e = by_test (E.base_eq f E.base.one) e (place_within (n + 1) fs p ps)
     where
-      by_test : (b : Bool) → map (λ (q : ℕ × F). q.0) (cond b ((n, f) ∷ filter (λ q. E.base_eq q.1 E.base.one) (enumerate_from (n + 1) fs)) (filter (λ q. E.base_eq q.1 E.base.one) (enumerate_from (n + 1) fs))) ≡ p ∷ ps → (set_places E (n + 1) fs ≡ p ∷ ps → p < n + 1 + length fs) → p < n + suc (length fs)
+      by_test : (b : Bool) → map (λ (q : ℕ × F). q.0) (cond b ((n, f) ∷ filter (λ q. E.base_eq q.1 E.base.one) (enumerate_from (n + 1) fs)) (filter (λ q. E.base_eq q.1 E.base.one) (enumerate_from (n + 1) fs))) ≡ p ∷ ps → (set_places E.base E.base_eq (n + 1) fs ≡ p ∷ ps → p < n + 1 + length fs) → p < n + suc (length fs)
       by_test true at later = let first : n ≡ p = cc at in omega (arith, first)
       by_test false at later = omega (arith, later at)
 
   module _ {X : Type 0} where
     -- no more branches are chosen than flags are set
-    pub chosen_few : (n : ℕ) (fs : List F) (bs : List X) → length (chosen E.base E.base_eq fs bs) ≤ length (set_places E n fs)
+    pub chosen_few : (n : ℕ) (fs : List F) (bs : List X) → length (chosen E.base E.base_eq fs bs) ≤ length (set_places E.base E.base_eq n fs)
     chosen_few n [] bs = omega arith
     chosen_few n (f ∷ fs) [] = omega arith
     chosen_few n (f ∷ fs) (b ∷ bs) = by_test (E.base_eq f E.base.one) (chosen_few (n + 1) fs bs)
       where
-        by_test : (t : Bool) → length (chosen E.base E.base_eq fs bs) ≤ length (set_places E (n + 1) fs) → length (map (λ (q : F × X). q.1) (cond t ((f, b) ∷ filter (λ q. E.base_eq q.0 E.base.one) (zip fs bs)) (filter (λ q. E.base_eq q.0 E.base.one) (zip fs bs))))
+        by_test : (t : Bool) → length (chosen E.base E.base_eq fs bs) ≤ length (set_places E.base E.base_eq (n + 1) fs) → length (map (λ (q : F × X). q.1) (cond t ((f, b) ∷ filter (λ q. E.base_eq q.0 E.base.one) (zip fs bs)) (filter (λ q. E.base_eq q.0 E.base.one) (zip fs bs))))
             ≤ length (map (λ (q : ℕ × F). q.0) (cond t ((n, f) ∷ filter (λ q. E.base_eq q.1 E.base.one) (enumerate_from (n + 1) fs)) (filter (λ q. E.base_eq q.1 E.base.one) (enumerate_from (n + 1) fs))))
         by_test true few = omega (arith, few)
         by_test false few = few
 
     -- where no flag is set none is chosen
-    pub chosen_none : (n : ℕ) (fs : List F) (bs : List X) → set_places E n fs ≡ [] → chosen E.base E.base_eq fs bs ≡ []
+    pub chosen_none : (n : ℕ) (fs : List F) (bs : List X) → set_places E.base E.base_eq n fs ≡ [] → chosen E.base E.base_eq fs bs ≡ []
     chosen_none n fs bs none = empty (chosen E.base E.base_eq fs bs) (omega (arith, chosen_few n fs bs, ap length none))
       where
         empty : (xs : List X) → length xs ≤ 0 → xs ≡ []
@@ -71,7 +71,7 @@ module _ {F K : Type 0} (E : Extension F K) where
         empty (x ∷ xs) le = absurd (omega (arith, le))
 
     -- where one is set, the branch at its place is chosen
-    pub chosen_one : (n k : ℕ) (fs : List F) (bs : List X) (b : X) → set_places E n fs ≡ (n + k) ∷ [] → k < length bs → b ≡ get_or bs k b → chosen E.base E.base_eq fs bs ≡ b ∷ []
+    pub chosen_one : (n k : ℕ) (fs : List F) (bs : List X) (b : X) → set_places E.base E.base_eq n fs ≡ (n + k) ∷ [] → k < length bs → b ≡ get_or bs k b → chosen E.base E.base_eq fs bs ≡ b ∷ []
     chosen_one n k [] bs b one lt is = absurd (cc one)
     chosen_one n k (f ∷ fs) [] b one lt is = absurd (omega (arith, lt))
     chosen_one n zero (f ∷ fs) (x ∷ bs) b one lt is = by_test (E.base_eq f E.base.one) one
@@ -79,12 +79,12 @@ module _ {F K : Type 0} (E : Extension F K) where
         by_test : (t : Bool) → map (λ (q : ℕ × F). q.0) (cond t ((n, f) ∷ filter (λ q. E.base_eq q.1 E.base.one) (enumerate_from (n + 1) fs)) (filter (λ q. E.base_eq q.1 E.base.one) (enumerate_from (n + 1) fs))) ≡ (n + 0) ∷ []
             → map (λ (q : F × X). q.1) (cond t ((f, x) ∷ filter (λ q. E.base_eq q.0 E.base.one) (zip fs bs)) (filter (λ q. E.base_eq q.0 E.base.one) (zip fs bs))) ≡ b ∷ []
         by_test true at =
-            let rest : set_places E (n + 1) fs ≡ [] = cc at in λ i. sym is i ∷ chosen_none (n + 1) fs bs rest i
+            let rest : set_places E.base E.base_eq (n + 1) fs ≡ [] = cc at in λ i. sym is i ∷ chosen_none (n + 1) fs bs rest i
         by_test false at = absurd (omega (arith, places_from (n + 1) fs (n + 0) [] at))
-    chosen_one n (suc j) (f ∷ fs) (x ∷ bs) b one lt is = by_test (E.base_eq f E.base.one) one (λ (at : set_places E (n + 1) fs ≡ (n + 1 + j) ∷ []). chosen_one (n + 1) j fs bs b at (omega (arith, lt)) is)
+    chosen_one n (suc j) (f ∷ fs) (x ∷ bs) b one lt is = by_test (E.base_eq f E.base.one) one (λ (at : set_places E.base E.base_eq (n + 1) fs ≡ (n + 1 + j) ∷ []). chosen_one (n + 1) j fs bs b at (omega (arith, lt)) is)
       where
         by_test : (t : Bool) → map (λ (q : ℕ × F). q.0) (cond t ((n, f) ∷ filter (λ q. E.base_eq q.1 E.base.one) (enumerate_from (n + 1) fs)) (filter (λ q. E.base_eq q.1 E.base.one) (enumerate_from (n + 1) fs))) ≡ (n + suc j) ∷ []
-            → (set_places E (n + 1) fs ≡ (n + 1 + j) ∷ [] → chosen E.base E.base_eq fs bs ≡ b ∷ [])
+            → (set_places E.base E.base_eq (n + 1) fs ≡ (n + 1 + j) ∷ [] → chosen E.base E.base_eq fs bs ≡ b ∷ [])
             → map (λ (q : F × X). q.1) (cond t ((f, x) ∷ filter (λ q. E.base_eq q.0 E.base.one) (zip fs bs)) (filter (λ q. E.base_eq q.0 E.base.one) (zip fs bs))) ≡ b ∷ []
         by_test true at further = let first : n ≡ n + suc j = cc at in absurd (omega (arith, first))
         by_test false at further = further (at ∙ ap (λ p. p ∷ []) (omega arith))
@@ -104,13 +104,13 @@ module _ {F K : Type 0} {E : Extension F K} (laws : IsLawful E) where
       false_from_ne_true (E.base_eq f E.base.one) (λ set. one_is_not_zero (sym e ∙ (laws.base_eq f E.base.one).0 set))
 
   -- one more flag that is zero or one keeps all of them so
-  pub boolean-more : (fs : List F) (f : F) → (E.base_eq f E.base.zero || E.base_eq f E.base.one) ≡ true → are_boolean E fs ≡ true → are_boolean E (fs ++ f ∷ []) ≡ true
+  pub boolean-more : (fs : List F) (f : F) → (E.base_eq f E.base.zero || E.base_eq f E.base.one) ≡ true → are_boolean E.base E.base_eq fs ≡ true → are_boolean E.base E.base_eq (fs ++ f ∷ []) ≡ true
   boolean-more fs f is so_far =
       let passes = λ (g : F). E.base_eq g E.base.zero || E.base_eq g E.base.one in
       list_all-append passes fs (f ∷ []) ∙ (λ i. so_far i && (is i && true))
 
   -- a flag that is neither is found among all of them
-  pub not_boolean : (fs rest : List F) (f : F) → f ≢ E.base.zero → f ≢ E.base.one → are_boolean E ((fs ++ f ∷ []) ++ rest) ≡ false
+  pub not_boolean : (fs rest : List F) (f : F) → f ≢ E.base.zero → f ≢ E.base.one → are_boolean E.base E.base_eq ((fs ++ f ∷ []) ++ rest) ≡ false
   not_boolean fs rest f not_zero not_one =
       let passes = λ (g : F). E.base_eq g E.base.zero || E.base_eq g E.base.one in
       list_all-append passes (fs ++ f ∷ []) rest

@@ -1,16 +1,15 @@
 -- What a row sends, lookup by lookup.
-use Rattle.std.proofs.Common.{◌≡◌, ℕ, ◌+◌, ◌<◌, Bool, Option, List, [], ◌∷◌, ◌++◌, length, take, drop, get_or, sym, ap, ◌∙◌, arith}
-use Rattle.std.proofs.lemmas.List.{get_or-map, length-map, length-take, take_more}
+use Rattle.std.proofs.Common.{◌≡◌, ℕ, ◌<◌, Bool, Option, List, [], length, get_or, sym, ap, ◌∙◌, arith}
+use Rattle.std.proofs.lemmas.List.{length-map}
 use Rattle.std.proofs.lemmas.List.FromFn.{get_or-map-range_with_len, length-map-range_with_len}
 use Rattle.std.proofs.lemmas.Option.{slice_get_read}
 use Rattle.field.specs.Ring.{Ring}
-use Rattle.expressions.specs.Window.{Window, window_at}
+use Rattle.expressions.specs.Window.{window_at}
 use Rattle.lookup_model.specs.Records.{AreRecords, HasEqualLengths}
 use Rattle.lookup_model.specs.Sent.{sent_at}
 use Rattle.matrix.specs.Matrix.{Matrix, height}
 use Rattle.lookup_model.specs.Trace.{sent_row, sent_rows}
 use Rattle.lookup_model.specs.declared.types.Lookup.{Lookup}
-use Rattle.lookup_laws.proofs.Rows.{split_at}
 
 -- the column of a well formed record is its index
 pub column_is : {F : Type 0} (lookups : List (Lookup F)) (i : ℕ) (lookup : Lookup F) → AreRecords lookups → i < length lookups → lookup ≡ get_or lookups i lookup → lookup.column ≡ i
@@ -19,24 +18,6 @@ column_is lookups i lookup records lt is = (records i lookup lt (slice_get_read 
 -- and its lists have equal lengths
 pub equal_lengths : {F : Type 0} (lookups : List (Lookup F)) (i : ℕ) (lookup : Lookup F) → AreRecords lookups → i < length lookups → lookup ≡ get_or lookups i lookup → HasEqualLengths lookup
 equal_lengths lookups i lookup records lt is = (records i lookup lt (slice_get_read lookups (length lookups) i lookup (λ _. length lookups) lt is)).1
-
-module _ {F : Type 0} (R : Ring F) (eq : F → F → Bool) (w : Window F) (lookups : List (Lookup F)) (i : ℕ) (lookup : Lookup F) (lt : i < length lookups) (is : lookup ≡ get_or lookups i lookup) where
-  within : i < length (sent_row R eq w lookups)
-  within = omega (arith, length-map lookups (λ l. sent_at R eq w l.column l))
-
-  there : get_or (sent_row R eq w lookups) i (sent_at R eq w lookup.column lookup) ≡ sent_at R eq w lookup.column lookup
-  there = get_or-map (λ l. sent_at R eq w l.column l) lookups i lookup (sent_at R eq w lookup.column lookup) lt ∙ ap (λ l. sent_at R eq w l.column l) (sym is)
-
-  -- one more lookup
-  pub sent_row-more : take (i + 1) (sent_row R eq w lookups) ≡ take i (sent_row R eq w lookups) ++ sent_at R eq w lookup.column lookup ∷ []
-  sent_row-more = take_more (sent_row R eq w lookups) i (sent_at R eq w lookup.column lookup) within ∙ ap (λ t. take i (sent_row R eq w lookups) ++ t ∷ []) there
-
-  -- the lookups before one, that one, and the rest
-  pub sent_row-split : sent_row R eq w lookups ≡ (take i (sent_row R eq w lookups) ++ sent_at R eq w lookup.column lookup ∷ []) ++ drop (i + 1) (sent_row R eq w lookups)
-  sent_row-split = split_at (sent_row R eq w lookups) i (sent_at R eq w lookup.column lookup) within (sym there)
-
-  pub length-take-sent_row : length (take i (sent_row R eq w lookups)) ≡ i
-  length-take-sent_row = omega (arith, length-take i (sent_row R eq w lookups), within)
 
 -- row r is what the window of row r sends
 pub sent_rows-at : {F : Type 0} (R : Ring F) (eq : F → F → Bool) (main : Matrix F) (preprocessed : Option (Matrix F)) (public_values : List F) (lookups : List (Lookup F)) (r : ℕ) → r < height main

@@ -1,6 +1,6 @@
 -- The branches of a lookup, one after another.
-use Rattle.std.proofs.Common.{◌≡◌, ℕ, ◌+◌, ◌<◌, List, [], ◌∷◌, ◌++◌, length, map, take, drop, get_or, ap, sym, ◌∙◌, arith}
-use Rattle.std.proofs.lemmas.List.{get_or-map, length-map, take-append-drop, take_more}
+use Rattle.std.proofs.Common.{◌≡◌, ℕ, ◌+◌, ◌<◌, List, [], ◌∷◌, ◌++◌, length, map, take, get_or, ap, sym, ◌∙◌, arith}
+use Rattle.std.proofs.lemmas.List.{get_or-map, length-map, take_more}
 use Rattle.std.proofs.lemmas.Slice.Zip.{get_or-zip, length-zip}
 use Rattle.std.specs.List.{zip}
 use Rattle.std.specs.declared.alloc.Global.{Global}
@@ -61,9 +61,3 @@ module _ {F : Type 0} (R : Ring F) (w : Window F) (id : ℕ) (lookup : Lookup F)
       → take (i + 1) (branches_at R w id lookup) ≡ take i (branches_at R w id lookup) ++ branch_at R w id tuple.items multiplicity ∷ []
   branches_more i tuple multiplicity lt tuple_is multiplicity_is =
       zipped_more (λ b. branch_at R w id b.0.items b.1) lookup.elements.items lookup.multiplicities.items lengths.multiplicities i tuple multiplicity lt tuple_is multiplicity_is
-
-  -- the branches before one, that one, and the rest
-  pub branches_split : (i : ℕ) (tuple : Vec (SymbolicExpression F) Global) (multiplicity : SymbolicExpression F) → i < length lookup.elements.items → tuple ≡ get_or lookup.elements.items i tuple → multiplicity ≡ get_or lookup.multiplicities.items i multiplicity
-      → branches_at R w id lookup ≡ (take i (branches_at R w id lookup) ++ branch_at R w id tuple.items multiplicity ∷ []) ++ drop (i + 1) (branches_at R w id lookup)
-  branches_split i tuple multiplicity lt tuple_is multiplicity_is =
-      sym (take-append-drop (i + 1) (branches_at R w id lookup)) ∙ ap (λ t. t ++ drop (i + 1) (branches_at R w id lookup)) (branches_more i tuple multiplicity lt tuple_is multiplicity_is)

@@ -1,6 +1,7 @@
 pub mod Branches
 pub mod Coefficients
 pub mod CollisionLaws
+pub mod ColumnChallenges
 pub mod ConstraintLaws
 pub mod DegreeBounds
 pub mod Degrees

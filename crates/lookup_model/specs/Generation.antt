@@ -12,8 +12,8 @@ use Rattle.lookup_model.specs.declared.error.LookupError.TheVariants.{Memory}
 use Rattle.lookup_model.specs.declared.types.Lookup.{Lookup}
 use Rattle.lookup_model.specs.declared.types.LookupTerminal.{LookupTerminal}
 
--- The generation of one AIR answers its plain result, which satisfies the constraints, where no row
--- has a fault. Otherwise it refuses the first fault. It may refuse want of memory.
+-- The generation of one AIR answers its plain result, which satisfies the constraints, if no row has
+-- a fault. Otherwise it refuses the first fault. It may also run out of memory.
 abbrev pub AnswersGeneration : {F K : Type 0} → Extension F K → Matrix F → Option (Matrix F) → List F → List (Lookup F) → List K → Result (Matrix K × Option (LookupTerminal K)) LookupError → Type 0
 AnswersGeneration E main preprocessed public_values lookups challenges result =
     let denominator = column_denominator E challenges in

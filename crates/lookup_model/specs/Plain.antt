@@ -1,7 +1,8 @@
 -- The plain result of generation (LogUp, eprint 2022/1530): plain quotients and their sums, and a
 -- terminal from the nets of the keys. A row of a trace is the list of what its lookups send.
-use Rattle.std.specs.Prelude.{ℕ, List, ◌∷◌, length, map, not, take, slice_index_or, []}
+use Rattle.std.specs.Prelude.{ℕ, Bool, List, ◌∷◌, length, map, not, take, slice_index_or, []}
 use Rattle.std.specs.List.{filter, flat_map, range_with_len}
+use Rattle.field.specs.Ring.{Ring}
 use Rattle.field.specs.Sums.{sum_in}
 use Rattle.lookup_model.specs.Extension.{Extension}
 use Rattle.lookup_model.specs.Message.{Key, Message}
@@ -13,8 +14,8 @@ abbrev pub trace_messages : {F : Type 0} → List (List (Sent F)) → List (Mess
 trace_messages rows = flat_map (λ row. flat_map (λ sent. sent.messages) row) rows
 
 -- the messages whose multiplicity is not zero
-abbrev pub counted : {F K : Type 0} → Extension F K → List (Message F) → List (Message F)
-counted E messages = filter (λ m. not (E.base_eq m.multiplicity E.base.zero)) messages
+abbrev pub counted : {F : Type 0} → Ring F → (F → F → Bool) → List (Message F) → List (Message F)
+counted R eq messages = filter (λ m. not (eq m.multiplicity R.zero)) messages
 
 module _ {F K : Type 0} (E : Extension F K) (denominator : Key F → K) where
   -- a multiplicity over the denominator of its key
@@ -28,7 +29,7 @@ module _ {F K : Type 0} (E : Extension F K) (denominator : Key F → K) where
   -- the fraction of a lookup on a row: the sum of the quotients of its messages with nonzero
   -- multiplicity
   abbrev pub plain_fraction : Sent F → K
-  plain_fraction sent = sum_in E.ring (map (λ m. quotient m.multiplicity m.key) (counted E sent.messages))
+  plain_fraction sent = sum_in E.ring (map (λ m. quotient m.multiplicity m.key) (counted E.base E.base_eq sent.messages))
 
   -- the accumulator of row r: the sum of all fractions of the rows before it
   abbrev pub plain_accumulator : List (List (Sent F)) → ℕ → K

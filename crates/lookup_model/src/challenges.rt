@@ -1,5 +1,5 @@
 //! The denominators of every bus, from one pair of challenges.
-ghost use Rattle.std.specs.Prelude.{◌≡◌, ◌<◌, ◌≤◌, All, IfOk, length, map};
+ghost use Rattle.std.specs.Prelude.{◌≡◌, ◌*◌, ◌<◌, ◌≤◌, All, IfOk, length, map};
 ghost use Rattle.std.specs.Box.{boxed_slice_items};
 ghost use Rattle.std.specs.List.{range_with_len};
 ghost use Rattle.lookup_model.specs.Challenges.{column_challenges, prefix_of_bus, table_of};
@@ -77,7 +77,9 @@ impl<EF: Field> Challenges<EF> {
     /// Fails only when out of memory.
     pub fn for_columns(&self, alloc: Global, ids: &[usize]) -> Result<Vec<EF>, AllocError>
         requires { All (λ id. id < length (boxed_slice_items self.now.bus_prefix)) ids.now }
-        ensures { IfOk result (λ v. v.items ≡ column_challenges (table_of self.now) ids.now) }
+        ensures challenges { IfOk result (λ v. v.items
+            ≡ column_challenges (table_of self.now) ids.now) }
+        ensures len { IfOk result (λ v. length v.items ≡ 2 * length ids.now) }
     {
         let mut challenges = Vec::new(alloc);
         for id in ids {

@@ -3,7 +3,7 @@ use Rattle.std.proofs.Common.{◌≡◌, ◌+◌, ◌<◌, ◌≤◌, ◌⊎◌,
 use Rattle.std.proofs.Math.ListN.{get_or-append}
 use Rattle.std.proofs.Math.Seq.{get_or-append_seam}
 use Rattle.std.proofs.lemmas.Bool.{cases_lt}
-use Rattle.std.proofs.lemmas.List.{append_assoc, append-nil, length-append, map_push}
+use Rattle.std.proofs.lemmas.List.{append_assoc, length-append, map_push}
 use Rattle.std.proofs.lemmas.Option.{get_or_from_slice_get, slice_get-get_or}
 use Rattle.lookup_model.specs.Outline.{Outline}
 use Rattle.lookup_model.specs.Records.{AreRecords, IsRecordAt}
@@ -42,7 +42,3 @@ next_numbered seen before after l x left later pushed next is =
     ∙ append_assoc (map seen before) (seen l ∷ []) (numbered_from (length before + 1) (map seen later))
     ∙ ap (λ o. map seen before ++ o ∷ numbered_from (length before + 1) (map seen later)) is
     ∙ ap (λ t. map seen before ++ numbered_from (length before) (map seen t)) (sym next)
-
-pub all_numbered : {L E : Type 0} (seen : L → Outline E) (columns left : List L) (all : List (Outline E)) → left ≡ [] → map seen columns ++ numbered_from (length columns) (map seen left) ≡ all → map seen columns ≡ all
-all_numbered seen columns left all none e =
-    sym (append-nil (map seen columns)) ∙ ap (λ t. map seen columns ++ numbered_from (length columns) (map seen t)) (sym none) ∙ e

@@ -5,7 +5,6 @@ use Rattle.std.proofs.lemmas.Bool.Decides.{Decides-eqb}
 use Rattle.std.proofs.lemmas.List.{append-nil, append_assoc}
 use Rattle.std.proofs.lemmas.Option.{slice_get-get_or, slice_get-map}
 use Rattle.std.specs.List.{AllByRecursion, flat_map}
-use Rattle.lookup_packing.specs.BusWidths.{HasOneWidth}
 use Rattle.lookup_packing.specs.TupleWidths.{HasOtherWidth}
 
 -- the test of a width that is not this one
@@ -85,11 +84,6 @@ pub has_other : (width other : ℕ) (ws : List ℕ) → slice_get ws 0 ≡ Some 
 has_other width other ws first found =
     let at = other_place width other ws found in
     record { place = at.place; first = first; differs = at.differs; found = at.found; before = at.before }
-
--- lists of widths that all have one width
-pub no_width : (ws : List ℕ) → slice_get ws 0 ≡ None → HasOneWidth ws
-no_width [] e = (0, tt)
-no_width (w ∷ ws) e = absurd (cc e)
 
 -- the first list whose length differs from that of the first one
 pub other_width : {A : Type 0} (f : A → ℕ) (xs : List A) (i : ℕ) (first x : A) (width other : ℕ) → slice_get xs 0 ≡ Some first → f first ≡ width → slice_get xs i ≡ Some x → f x ≡ other → other ≢ width

@@ -88,7 +88,7 @@ module _ (F EF : Type 0) (R : Ring F) (eq : F → F → Bool) (air : MachineAir)
   }
   leaves b (before, empty, (inr refused, within)) = absurd (cc refused.1)
 
-  -- a refusal of a cell is want of memory, since no row has fewer columns than the layout
+  -- a cell is refused only when out of memory, since no row has fewer columns than the layout
   cell_memory : (before : Builder) (e : AirError) → recorded_air before ≡ no_air_recorded layout → IsCellRefusal (λ b e. e ≡ AirMemory) (λ b. (recorded b.inner).layout) (width_of air) before e → e ≡ AirMemory
   cell_memory before e empty (inl memory) = memory
   cell_memory before e empty (inr (inl memory)) = memory
@@ -96,7 +96,7 @@ module _ (F EF : Type 0) (R : Ring F) (eq : F → F → Bool) (air : MachineAir)
       let wide : (recorded before.inner).layout.main_width ≡ width_of air = ap (λ r. r.constraints.layout.main_width) empty in
       absurd (omega (arith, wide, narrow.0))
 
-  -- so its one refusal is want of memory
+  -- so the AIR is refused only when out of memory
   memory_alone : (e : AirError) → EvaluatesNew {A = MachineAir} (λ _. air_evaluates) air layout (Err e) → e ≡ AirMemory
   memory_alone e (inl memory) = memory
   memory_alone e (inr (before, after, empty, (inl (inl (memory, kept)), within))) = memory

@@ -1,5 +1,5 @@
 -- The line of the first tuple of a machine that does not balance.
-use Rattle.std.proofs.Common.{◌≡◌, ◌<◌, ◌≤◌, ◌+◌, ◌++◌, ℕ, zero, suc, Bool, true, Option, None, Some, IfSome, IsTrue, List, [], ◌∷◌, All, codes, length, map, nat_eq, slice_get, refl, sym, ap, ap₂, subst, arith, ◌∙◌, Decides}
+use Rattle.std.proofs.Common.{◌≡◌, ◌<◌, ◌+◌, ◌++◌, ℕ, zero, suc, Bool, true, Option, None, Some, IfSome, List, [], ◌∷◌, All, codes, map, nat_eq, slice_get, refl, sym, ap, ap₂, subst, arith, ◌∙◌, Decides}
 use Rattle.std.proofs.lemmas.List.{append-nil}
 use Rattle.std.proofs.lemmas.List.Elements.{All-cons, All-map, All-nil}
 use Rattle.std.specs.List.{AllByRecursion, AllZip, enumerate_from, filter, filter_map, flat_map, range_with_len}
@@ -11,7 +11,7 @@ use Rattle.expressions.specs.Layout.{layout_of_traces, layout_of_widths}
 use Rattle.expressions.specs.Window.{window_at}
 use Rattle.lookup_model.specs.Extension.{Extension}
 use Rattle.lookup_model.specs.Challenges.{table_denominator}
-use Rattle.lookup_model.specs.Fault.{are_boolean, set_places}
+use Rattle.lookup_model.specs.Fault.{IsLawfulSelection, are_boolean}
 use Rattle.lookup_model.specs.Net.{first_seen}
 use Rattle.lookup_model.specs.Outline.{bus_of}
 use Rattle.lookup_model.specs.Records.{DoFit}
@@ -66,7 +66,7 @@ flags_boolean {F} E machine alpha beta input faultless i air is r lt =
     let same : 0 + r ≡ r = omega arith in
     boolean (sends r) (subst (λ k. HasLawfulFlags E (sends k)) same here)
   where
-    by_flags : (flags : Option (List F)) → IfSome flags (λ fs. IsTrue (are_boolean E fs) × (length (set_places E 0 fs) ≤ 1)) → IfSome flags (λ fs. are_boolean E fs ≡ true)
+    by_flags : (flags : Option (List F)) → IfSome flags (IsLawfulSelection E.base E.base_eq) → IfSome flags (λ fs. are_boolean E.base E.base_eq fs ≡ true)
     by_flags None lawful = tt
     by_flags (Some fs) lawful = lawful.0
 

@@ -37,5 +37,5 @@ net_message R eq messages key = record { key = key; multiplicity = net R eq mess
 
 -- f is the sum of the quotients of the counted messages, and none of their denominators vanishes
 pub record IsFractionOf {F K : Type 0} (E : Extension F K) (denominator : Key F → K) (ms : List (Message F)) (f : K) : Type 0 where
-  pub value : f ≡ sum_in E.ring (map (quotient_of E denominator) (counted E ms))
-  pub divides : vanishes E denominator (counted E ms) ≡ false
+  pub value : f ≡ sum_in E.ring (map (quotient_of E denominator) (counted E.base E.base_eq ms))
+  pub divides : vanishes E denominator (counted E.base E.base_eq ms) ≡ false

@@ -33,7 +33,7 @@ pub fn fraction_of<F: Field, EF: ExtensionField<F>>(
     requires { All (λ m. 2 * m.id + 1 < length challenges.now) messages.now }
     ensures { let E = extension F.ring F.eq EF.ring EF.eq EF.embed EF.inverse in
         let denominator = column_denominator E challenges.now in
-        let vanishing = vanishes E denominator (counted E (messages_of messages.now)) in
+        let vanishing = vanishes E denominator (counted F.ring F.eq (messages_of messages.now)) in
         MatchOption result (IsTrue vanishing)
         (λ f. (f ≡ plain_fraction E denominator (sent_of messages.now)) × (vanishing ≡ false)) }
 {
@@ -171,7 +171,7 @@ fn quotient_of<F: Field, EF: ExtensionField<F>>(
         let denominator = column_denominator E challenges.now in
         let alone : List (Message F) = record
         { key = (message_of message.now).key; multiplicity = multiplicity } ∷ [] in
-        MatchOption result (IsTrue (vanishes E denominator (counted E alone)))
+        MatchOption result (IsTrue (vanishes E denominator (counted F.ring F.eq alone)))
         (λ q. IsFractionOf E denominator alone q) }
 {
     if multiplicity.is_zero() {

@@ -35,7 +35,7 @@ module _ {F K : Type 0} {E : Extension F K} (laws : IsLawful E) where
         each.0 (ring_law laws.ring (denominator m.key.tuple ∷ []) (var 0) ((var 0 :+ con 0) :+ (con 1 :- (con 1 :+ con 0))) refl ∙ e)
     by_chosen (m ∷ n ∷ ms) few each e = absurd (omega (arith, few))
 
-    exclusive_nonzero : (fs : List F) (bs : List (Message F)) → length fs ≡ length bs → are_boolean E fs ≡ true → length (chosen E.base E.base_eq fs bs) ≤ 1 → AreNonzero (chosen E.base E.base_eq fs bs) → exclusive_denominator E denominator fs bs ≢ E.ring.zero
+    exclusive_nonzero : (fs : List F) (bs : List (Message F)) → length fs ≡ length bs → are_boolean E.base E.base_eq fs ≡ true → length (chosen E.base E.base_eq fs bs) ≤ 1 → AreNonzero (chosen E.base E.base_eq fs bs) → exclusive_denominator E denominator fs bs ≢ E.ring.zero
     exclusive_nonzero fs bs same lawful few each e =
         by_chosen (chosen E.base E.base_eq fs bs) few each
         ((λ i. E.ring.add (sym (selected_sum laws (λ (m : Message F). denominator m.key.tuple) fs bs lawful) i) (sub_in E.ring E.ring.one (sym (flags_sum laws fs bs same lawful) i))) ∙ e)
@@ -67,5 +67,5 @@ module _ {F K : Type 0} {E : Extension F K} (laws : IsLawful E) where
       where
         by_flags : (flags : Option (List F)) (ms : List (Message F)) → HasLawfulFlags E (record { flags = flags; messages = ms }) → NoneVanishes E denominator ms → fault_of E denominator row column (record { flags = flags; messages = ms }) ≡ None
         by_flags None ms lawful each =
-            additive_faultless E denominator row column ms (none_vanish (counted E ms) (All-filter (λ m. denominator m.key ≢ E.ring.zero) _ ms each))
+            additive_faultless E denominator row column ms (none_vanish (counted E.base E.base_eq ms) (All-filter (λ m. denominator m.key ≢ E.ring.zero) _ ms each))
         by_flags (Some fs) ms lawful each = exclusive_faultless E denominator row column fs ms lawful.0 lawful.1 (none_vanish ms each)

@@ -9,7 +9,7 @@ use Rattle.field.specs.Ring.{of_bool, sub_in}
 use Rattle.field.specs.RingFacts.{one_mul}
 use Rattle.field.specs.RingSolver.{var, con, ◌:+◌, ◌:-◌, ring_given}
 use Rattle.field.specs.Sums.{sum_in}
-use Rattle.matrix.specs.Matrix.{Matrix, IsShaped, height, row}
+use Rattle.matrix.specs.Matrix.{Matrix, height, row}
 use Rattle.expressions.specs.Window.{ExtWindow, Window, window_at}
 use Rattle.lookup_model.proofs.Branches.{length-branches_at, mapped_at}
 use Rattle.lookup_model.proofs.ConstraintLaws.{accumulator_constraints-some}
@@ -25,12 +25,13 @@ use Rattle.lookup_laws.proofs.Rows.{plain_accumulator-more}
 use Rattle.lookup_model.specs.Sent.{Sent, branches_at, flags_at, sent_at}
 use Rattle.lookup_laws.proofs.SentRows.{column_is, equal_lengths, length-sent_rows, sent_rows-at}
 use Rattle.lookup_model.specs.Trace.{sent_row, sent_rows}
-use Rattle.lookup_model.specs.Witness.{HasShape, IsSatisfied, values_of_terminal, witness_window}
+use Rattle.lookup_model.specs.Witness.{IsSatisfied, values_of_terminal, witness_window}
 use Rattle.lookup_model.specs.declared.types.Lookup.{Lookup}
 use Rattle.lookup_model.specs.declared.types.LookupTerminal.{LookupTerminal}
 use Rattle.lookup_laws.proofs.PlainResults.{plain_matrix-some, plain_terminal_of-some}
 use Rattle.lookup_laws.proofs.SatisfiedLookups.{as_many_flags, lookup_satisfied}
 use Rattle.lookup_laws.proofs.SatisfiedRows.{all_indexed}
+use Rattle.lookup_laws.proofs.Shapes.{shape-some}
 use Rattle.lookup_laws.proofs.Terminals.{plain_terminal-sum}
 use Rattle.batch_model.specs.Messages.{HasLawfulFlags, NoneVanishes}
 use Rattle.witness_laws.proofs.Lists.{all_front, all_back, all_here, all_of_map, all_parts, item_at, joined_rows, same_map, same_parts}
@@ -149,19 +150,13 @@ module _ {F K : Type 0} {E : Extension F K} (laws : IsLawful E) (challenges : Li
         ∙ sym (plain_accumulator-more E den laws rows r (sents_of r) (omega (arith, high, below)) (sent_rows-at E.base E.base_eq main preprocessed public_values lookups r below))
         ∙ ap (plain_accumulator E den rows) more
 
-    abbrev Shape : Type 0
-    Shape = (auxiliary.width ≡ length lookups + 1) × IsShaped auxiliary × (height auxiliary ≡ height main) × ((t : LookupTerminal K) × (terminal ≡ Some t))
-
-    shape : Shape
-    shape = by_lookups lookups some satisfied.shape
-      where
-        by_lookups : (ls : List (Lookup F)) → 0 < length ls → HasShape ls (height main) auxiliary terminal → (auxiliary.width ≡ length ls + 1) × IsShaped auxiliary × (height auxiliary ≡ height main) × ((t : LookupTerminal K) × (terminal ≡ Some t))
-        by_lookups [] nonempty has = absurd (omega (arith, nonempty))
-        by_lookups (l ∷ ls) nonempty has = has
+    -- the width, the height and the terminal
+    shape : (auxiliary.width ≡ length lookups + 1) × (height auxiliary ≡ height main) × ((t : LookupTerminal K) × (terminal ≡ Some t))
+    shape = shape-some lookups (height main) auxiliary terminal some satisfied.shape
 
     -- the length of a row
     long : length auxiliary.values ≡ height main * auxiliary.width
-    long = shape.1 ∙ ap (λ n. n * auxiliary.width) shape.2
+    long = satisfied.shape.whole ∙ ap (λ n. n * auxiliary.width) shape.1
 
     length-row : (r : ℕ) → r < height main → length (row auxiliary r) ≡ suc (length lookups)
     length-row r lt =
@@ -216,8 +211,8 @@ module _ {F K : Type 0} {E : Extension F K} (laws : IsLawful E) (challenges : Li
 
       pub only_plain : (auxiliary ≡ plain_matrix E den lookups rows) × (terminal ≡ plain_terminal_of E den lookups rows)
       only_plain =
-          let t = shape.3.0 in
-          let value : t.0 ≡ plain_terminal E den rows = terminal_is t shape.3.1 in (
+          let t = shape.2.0 in
+          let value : t.0 ≡ plain_terminal E den rows = terminal_is t shape.2.1 in (
             (λ i. record { values = values_are i; width = shape.0 i }) ∙ sym (plain_matrix-some E den lookups rows some),
-            shape.3.1 ∙ (λ i. Some (record { 0 = value i })) ∙ sym (plain_terminal_of-some E den lookups rows some),
+            shape.2.1 ∙ (λ i. Some (record { 0 = value i })) ∙ sym (plain_terminal_of-some E den lookups rows some),
           )

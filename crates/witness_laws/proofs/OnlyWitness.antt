@@ -1,5 +1,5 @@
 -- Where no denominator vanishes the plain result of a batch is its only satisfied witness.
-use Rattle.std.proofs.Common.{◌≡◌, ◌≢◌, ◌<◌, Option, List, [], ◌∷◌, length, refl, sym, ap, subst, ◌∙◌, arith}
+use Rattle.std.proofs.Common.{◌≡◌, ◌≢◌, ◌<◌, Option, List, [], ◌∷◌, length, refl, sym, ap, ◌∙◌, arith}
 use Rattle.std.specs.List.{AllByRecursion}
 use Rattle.matrix.specs.Matrix.{Matrix, height}
 use Rattle.lookup_model.specs.Extension.{Extension, IsLawful}
@@ -8,13 +8,13 @@ use Rattle.lookup_model.specs.Message.{Message}
 use Rattle.lookup_model.specs.Plain.{trace_messages}
 use Rattle.lookup_model.specs.Sent.{Sent}
 use Rattle.lookup_model.specs.Trace.{sent_rows}
-use Rattle.lookup_model.specs.Witness.{HasShape}
 use Rattle.lookup_model.specs.declared.types.Lookup.{Lookup}
 use Rattle.lookup_model.specs.declared.types.LookupTerminal.{LookupTerminal}
 use Rattle.batch_model.specs.Instances.{Instance, IsFitting}
 use Rattle.batch_model.specs.Messages.{AreFlagsLawful, HasLawfulFlags, NoneVanishes, batch_messages, sent_rows_of}
 use Rattle.batch_model.specs.Witnesses.{AirResult, AreSatisfied, IsSatisfiedAt, plain_result, plain_witness}
 use Rattle.lookup_model.specs.Challenges.{ChallengeTable, column_challenges, table_denominator}
+use Rattle.lookup_laws.proofs.Shapes.{shape-none}
 use Rattle.witness_laws.proofs.ByTable.{alike_rows, column_den, den}
 use Rattle.witness_laws.proofs.Lists.{all_front, all_back}
 use Rattle.witness_laws.proofs.OnlyRows.{only_plain}
@@ -34,8 +34,8 @@ module _ {F K : Type 0} {E : Extension F K} (laws : IsLawful E) (table : Challen
 
       by_lookups : (ls : List (Lookup F)) → instance.lookups ≡ ls → (auxiliary, terminal) ≡ plain_result E table instance
       by_lookups [] is =
-          let has : HasShape {F = F} [] (height instance.main) auxiliary terminal = subst (λ (ls : List (Lookup F)). HasShape ls (height instance.main) auxiliary terminal) is satisfied.shape in
-          (λ i. (record { values = has.1 i; width = has.0 i }, has.2 i))
+          let none = shape-none instance.lookups (height instance.main) auxiliary terminal is satisfied.shape in
+          (λ i. (none.0 i, none.1 i))
           ∙ (λ i. (plain_matrix E (table_denominator E table) (sym is i) others, plain_terminal_of E (table_denominator E table) (sym is i) others))
       by_lookups (l ∷ ls) is =
           let some : 0 < length instance.lookups = omega (arith, ap length is) in

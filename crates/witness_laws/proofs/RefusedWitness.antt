@@ -1,17 +1,12 @@
 -- A refused witness is not accepted.
-use Rattle.std.proofs.Common.{◌≡◌, ℕ, zero, suc, inl, inr, Option, Some, List, [], ◌∷◌, Result, Ok, Err, sym, ap, subst₂}
+use Rattle.std.proofs.Common.{◌≡◌, ℕ, zero, suc, inl, inr, Some, List, [], ◌∷◌, Result, Ok, Err, subst₂}
 use Rattle.std.specs.List.{AllZip, slice_get}
-use Rattle.std.specs.Option.{is_some}
-use Rattle.matrix.specs.Matrix.{Matrix, height}
 use Rattle.lookup_model.specs.Challenges.{ChallengeTable}
 use Rattle.lookup_model.specs.Extension.{Extension}
-use Rattle.lookup_model.specs.Witness.{HasShape}
 use Rattle.lookup_model.specs.declared.error.LookupError.{LookupError}
-use Rattle.lookup_model.specs.declared.types.Lookup.{Lookup}
-use Rattle.lookup_model.specs.declared.types.LookupTerminal.{LookupTerminal}
 use Rattle.batch_model.specs.Answers.{ChecksWitness, RefusesUnaccepted}
 use Rattle.batch_model.specs.Instances.{Instance}
-use Rattle.batch_model.specs.Refusals.{IsAirRefusal, IsShapeRefusal, IsWitnessRefusal, auxiliary_height, auxiliary_width, has_terminal}
+use Rattle.batch_model.specs.Refusals.{HasShapeAt, IsAirRefusal, IsShapeRefusal, IsWitnessRefusal}
 use Rattle.batch_model.specs.Witnesses.{AirResult, IsAccepted, IsSatisfiedAt}
 
 -- what holds of two lists holds at each place
@@ -25,17 +20,11 @@ at_place P (a ∷ xs) (b ∷ ys) zero x y all x_there y_there =
 at_place P (a ∷ xs) (b ∷ ys) (suc i) x y all x_there y_there = at_place P xs ys i x y all.1 x_there y_there
 
 module _ {F K : Type 0} where
-  -- the terminal, the width and the height of a result that has the shape of its lookups
-  shape_parts : (lookups : List (Lookup F)) (h : ℕ) (auxiliary : Matrix K) (terminal : Option (LookupTerminal K)) → HasShape lookups h auxiliary terminal
-      → (has_terminal lookups ≡ is_some terminal) × (auxiliary.width ≡ auxiliary_width lookups) × (height auxiliary ≡ auxiliary_height lookups h)
-  shape_parts [] h auxiliary terminal has =
-      (ap is_some (sym has.2), has.0, ap (λ n. height (record { values = auxiliary.values; width = n })) has.0)
-  shape_parts (l ∷ ls) h auxiliary terminal has = (ap is_some (sym has.3.1), has.0, has.2)
-
-  shape_refused : (air : ℕ) (i : Instance F) (result : AirResult K) (e : LookupError) → IsShapeRefusal air i result e → HasShape i.lookups (height i.main) result.0 result.1 → ⊥
-  shape_refused air i result e (inl (presence, is)) has = presence (shape_parts i.lookups (height i.main) result.0 result.1 has).0
-  shape_refused air i result e (inr (same, inl (width, is))) has = width (shape_parts i.lookups (height i.main) result.0 result.1 has).1
-  shape_refused air i result e (inr (same, inr (wide, (high, is)))) has = high (shape_parts i.lookups (height i.main) result.0 result.1 has).2
+  -- a result whose shape is refused does not have the shape
+  shape_refused : (air : ℕ) (i : Instance F) (result : AirResult K) (e : LookupError) → IsShapeRefusal air i result e → HasShapeAt i result → ⊥
+  shape_refused air i result e (inl (presence, is)) has = presence has.presence
+  shape_refused air i result e (inr (same, inl (width, is))) has = width has.width
+  shape_refused air i result e (inr (same, inr (wide, (high, is)))) has = high has.high
 
 module _ {F K : Type 0} (E : Extension F K) (table : ChallengeTable K) where
   -- a result that is refused is not satisfied

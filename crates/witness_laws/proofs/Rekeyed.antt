@@ -1,18 +1,19 @@
 -- Messages under other keys with the same multiplicities and the same denominators have the same
 -- plain result and the same faults.
-use Rattle.std.proofs.Common.{◌≡◌, ℕ, zero, suc, ◌+◌, Bool, true, false, cond, not, ◌||◌, IfSome, IsTrue, ◌≤◌, Option, None, Some, List, [], ◌∷◌, ◌++◌, length, map, nat_lt, take, get_or, refl, sym, ap, subst, ◌∙◌}
+use Rattle.std.proofs.Common.{◌≡◌, ℕ, zero, suc, ◌+◌, Bool, true, false, cond, not, ◌||◌, IfSome, Option, None, Some, List, [], ◌∷◌, ◌++◌, length, map, take, get_or, refl, sym, ap, subst, ◌∙◌}
 use Rattle.std.proofs.lemmas.List.{take-map}
 use Rattle.std.proofs.lemmas.List.Folds.{flat_map-map}
 use Rattle.std.specs.Prelude.{if◌then◌else◌}
+use Rattle.std.specs.Option.{option_or}
 use Rattle.std.specs.List.{AllByRecursion, AllZip, cons_option, enumerate_from, filter_map, flat_map, range_with_len}
 use Rattle.field.specs.Sums.{sum_in}
 use Rattle.lookup_model.specs.Extension.{Extension, IsLawful}
-use Rattle.lookup_model.specs.Fault.{are_boolean, fault_of, row_faults, set_places, trace_faults, vanishes}
+use Rattle.lookup_model.specs.Fault.{IsLawfulSelection, dividing, fault_of, flag_fault_of, row_faults, trace_faults, vanishes}
 use Rattle.lookup_model.specs.Generated.{plain_matrix, plain_terminal_of}
 use Rattle.lookup_model.specs.Message.{Key, Message}
 use Rattle.lookup_model.specs.Plain.{counted, plain_cells, plain_fraction, plain_row, plain_terminal, quotient, trace_messages}
 use Rattle.lookup_model.specs.Sent.{Sent}
-use Rattle.lookup_model.specs.declared.error.LookupError.TheVariants.{VanishingDenominator, FlagNotBoolean, FlagsNotExclusive}
+use Rattle.lookup_model.specs.declared.error.LookupError.TheVariants.{VanishingDenominator}
 use Rattle.lookup_model.specs.declared.types.Lookup.{Lookup}
 use Rattle.lookup_laws.proofs.Terminals.{plain_fraction-all, plain_terminal-sum}
 use Rattle.batch_model.specs.Messages.{HasLawfulFlags, NoneVanishes}
@@ -116,25 +117,30 @@ module _ {F K : Type 0} {E : Extension F K} (laws : IsLawful E) (den den' : Key 
   same_vanishing (m ∷ ms) [] same = absurd same
   same_vanishing (m ∷ ms) (n ∷ ns) same = λ i. E.eq (same.0.1 i) E.ring.zero || same_vanishing ms ns same.1 i
 
-  same_counted : (ms ns : List (Message F)) → AreRekeyed ms ns → AreRekeyed (counted E ms) (counted E ns)
+  same_counted : (ms ns : List (Message F)) → AreRekeyed ms ns → AreRekeyed (counted E.base E.base_eq ms) (counted E.base E.base_eq ns)
   same_counted [] [] same = tt
   same_counted [] (n ∷ ns) same = absurd same
   same_counted (m ∷ ms) [] same = absurd same
   same_counted (m ∷ ms) (n ∷ ns) same = by_tests (E.base_eq m.multiplicity E.base.zero) (E.base_eq n.multiplicity E.base.zero) (ap (λ x. E.base_eq x E.base.zero) same.0.0) same.0 (same_counted ms ns same.1)
     where
-      by_tests : (b d : Bool) → b ≡ d → IsRekeyed m n → AreRekeyed (counted E ms) (counted E ns) → AreRekeyed (cond (not b) (m ∷ counted E ms) (counted E ms)) (cond (not d) (n ∷ counted E ns) (counted E ns))
+      by_tests : (b d : Bool) → b ≡ d → IsRekeyed m n → AreRekeyed (counted E.base E.base_eq ms) (counted E.base E.base_eq ns) → AreRekeyed (cond (not b) (m ∷ counted E.base E.base_eq ms) (counted E.base E.base_eq ms)) (cond (not d) (n ∷ counted E.base E.base_eq ns) (counted E.base E.base_eq ns))
       by_tests true true e here rest = rest
       by_tests true false e here rest = absurd (cc e)
       by_tests false true e here rest = absurd (cc e)
       by_tests false false e here rest = (here, rest)
 
+  -- the denominators that count vanish alike
+  same_dividing : (flags : Option (List F)) (ms ns : List (Message F)) → AreRekeyed ms ns → vanishes E den (dividing E.base E.base_eq flags ms) ≡ vanishes E den' (dividing E.base E.base_eq flags ns)
+  same_dividing None ms ns keyed = same_vanishing (counted E.base E.base_eq ms) (counted E.base E.base_eq ns) (same_counted ms ns keyed)
+  same_dividing (Some _) ms ns keyed = same_vanishing ms ns keyed
+
   pub same_fault : (row column : ℕ) (s t : Sent F) → IsAlike s t → fault_of E den row column s ≡ fault_of E den' row column t
   same_fault row column s t same =
-      by_flags s.flags s.messages t.messages same.1 ∙ ap (λ flags. fault_of E den' row column (record { flags = flags; messages = t.messages })) same.0
+      with_flags s.flags s.messages t.messages same.1 ∙ ap (λ flags. fault_of E den' row column (record { flags = flags; messages = t.messages })) same.0
     where
-      by_flags : (flags : Option (List F)) (ms ns : List (Message F)) → AreRekeyed ms ns → fault_of E den row column (record { flags = flags; messages = ms }) ≡ fault_of E den' row column (record { flags = flags; messages = ns })
-      by_flags None ms ns keyed = ap (λ b. if b then Some (VanishingDenominator row column) else None) (same_vanishing (counted E ms) (counted E ns) (same_counted ms ns keyed))
-      by_flags (Some fs) ms ns keyed = ap (λ b. if not (are_boolean E fs) then Some (FlagNotBoolean row column) else (if nat_lt 1 (length (set_places E 0 fs)) then Some (FlagsNotExclusive row column) else (if b then Some (VanishingDenominator row column) else None))) (same_vanishing ms ns keyed)
+      with_flags : (flags : Option (List F)) (ms ns : List (Message F)) → AreRekeyed ms ns → fault_of E den row column (record { flags = flags; messages = ms }) ≡ fault_of E den' row column (record { flags = flags; messages = ns })
+      with_flags flags ms ns keyed =
+          ap (λ b. option_or (flag_fault_of E.base E.base_eq row column flags) (if b then Some (VanishingDenominator row column) else None)) (same_dividing flags ms ns keyed)
 
   same_row_faults : (row place : ℕ) (ss ts : List (Sent F)) → AllZip IsAlike ss ts → filter_map (λ p. fault_of E den row p.0 p.1) (enumerate_from place ss) ≡ filter_map (λ p. fault_of E den' row p.0 p.1) (enumerate_from place ts)
   same_row_faults row place [] [] same = refl
@@ -163,7 +169,7 @@ module _ {F K : Type 0} {E : Extension F K} (laws : IsLawful E) (den den' : Key 
       in_row [] (y ∷ ys) alike each = absurd alike
       in_row (x ∷ xs) [] alike each = absurd alike
       in_row (x ∷ xs) (y ∷ ys) alike each =
-          (subst (λ (flags : Option (List F)). IfSome flags (λ fs. IsTrue (are_boolean E fs) × (length (set_places E 0 fs) ≤ 1))) (sym alike.0.0) each.0, in_row xs ys alike.1 each.1)
+          (subst (λ (flags : Option (List F)). IfSome flags (IsLawfulSelection E.base E.base_eq)) (sym alike.0.0) each.0, in_row xs ys alike.1 each.1)
 
   rekeyed_none : (ms ns : List (Message F)) → AreRekeyed ms ns → NoneVanishes E den' ns → NoneVanishes E den ms
   rekeyed_none [] [] same all = tt

@@ -1,5 +1,5 @@
 -- The answer over the challenges of columns is the answer over the table.
-use Rattle.std.proofs.Common.{◌≡◌, ◌⊎◌, ℕ, ◌*◌, inl, inr, Option, Some, List, [], ◌∷◌, length, Result, Ok, Err, MatchResult, sym, ap, ◌∙◌, arith}
+use Rattle.std.proofs.Common.{◌≡◌, ◌⊎◌, inl, inr, Option, Some, List, [], Result, Ok, Err, MatchResult, sym, ap, ◌∙◌}
 use Rattle.std.specs.List.{slice_get}
 use Rattle.matrix.specs.Matrix.{Matrix}
 use Rattle.lookup_model.specs.Denominators.{column_denominator}
@@ -20,11 +20,6 @@ use Rattle.batch_model.specs.Witnesses.{IsSatisfiedAt, plain_result}
 use Rattle.lookup_model.specs.Challenges.{ChallengeTable, column_challenges, table_denominator}
 use Rattle.witness_laws.proofs.ByTable.{alike_rows}
 use Rattle.witness_laws.proofs.Rekeyed.{same_faults, same_matrix, same_terminal_of}
-
--- two challenges for each id
-pub length-column_challenges : {K : Type 0} (table : ChallengeTable K) (ids : List ℕ) → length (column_challenges table ids) ≡ 2 * length ids
-length-column_challenges table [] = omega arith
-length-column_challenges table (id ∷ ids) = omega (arith, length-column_challenges table ids)
 
 module _ {F K : Type 0} {E : Extension F K} (laws : IsLawful E) (table : ChallengeTable K) (instance : Instance F) (fitting : IsFitting instance) where
   abbrev cold : List K → Key F → K

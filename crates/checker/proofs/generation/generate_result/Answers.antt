@@ -3,12 +3,12 @@ use Rattle.lookup_model.specs.Extension.{extension, IsLawful}
 use Rattle.lookup_model.proofs.Lawful.{lawful_extension}
 use Rattle.batch_model.specs.Instances.{instance_of}
 use Rattle.lookup_model.specs.Challenges.{table_of}
-use Rattle.witness_laws.proofs.TableResults.{ByColumns, by_table, length-column_challenges}
+use Rattle.witness_laws.proofs.TableResults.{ByColumns, by_table}
 use Rattle.checker.proofs.generation.generate_result.Goals as goal
 
 pub generate_permutation-requires-clause-challenges : goal.generate_permutation-requires-clause-challenges
 generate_permutation-requires-clause-challenges g c =
-    omega (arith, ap length (c.as_slice.ensures.value ∙ c.in_ok-columns.ensures), length-column_challenges (table_of c.args.challenges.now) c.args.instance.now.ids.now, c.requires.fit.ids)
+    omega (arith, ap length c.as_slice.ensures.value, c.in_ok-columns.ensures.len, c.requires.fit.ids)
 
 pub returns : goal.returns
 returns g c =
@@ -17,4 +17,4 @@ returns g c =
     let table = table_of c.args.challenges.now in
     let instance = instance_of c.args.instance.now in
     by_table laws table instance c.requires.fit c.generate_permutation.result
-    (subst (λ (challenges : List _). ByColumns laws table instance c.requires.fit challenges c.generate_permutation.result) (c.as_slice.ensures.value ∙ c.in_ok-columns.ensures) c.generate_permutation.ensures)
+    (subst (λ (challenges : List _). ByColumns laws table instance c.requires.fit challenges c.generate_permutation.result) (c.as_slice.ensures.value ∙ c.in_ok-columns.ensures.challenges) c.generate_permutation.ensures)

@@ -7,5 +7,4 @@ use Rattle.checker.proofs.witness.check_result.Goals as goal
 pub returns : goal.returns
 returns g c =
     let E = extension g.F.PrimeCharacteristicRing.ring g.F.PartialEq.eq g.EF.PrimeCharacteristicRing.ring g.EF.PartialEq.eq g.EF.ExtensionDomain.embed g.EF.Field.inverse in
-    let checked = c.in_ok-check_shape.ensures in
-    result_from E (table_of c.args.challenges.now) (instance_of c.args.instance.now) c.args.air (c.args.aux.now, c.args.terminal.now) c.check_rows.result checked.0 checked.1 c.check_rows.ensures
+    result_from E (table_of c.args.challenges.now) (instance_of c.args.instance.now) c.args.air (c.args.aux.now, c.args.terminal.now) c.check_rows.result c.in_ok-check_shape.ensures c.check_rows.ensures

@@ -4,7 +4,6 @@ use Rattle.expressions.specs.Layout.{layout_of_traces}
 use Rattle.lookup_model.specs.Challenges.{table_of}
 use Rattle.lookup_model.specs.Extension.{extension}
 use Rattle.batch_model.specs.Instances.{instance_of}
-use Rattle.witness_laws.proofs.TableResults.{length-column_challenges}
 use Rattle.checker.proofs.CheckLaws.{fails_from, found_none, found_some, holds_from}
 use Rattle.checker.proofs.Layouts.{DoFit-with_auxiliary}
 use Rattle.checker.proofs.witness.check_rows.Goals as goal
@@ -16,15 +15,15 @@ first_failing_row-requires-clause-fit g c =
 
 pub first_failing_row-requires-clause-challenges : goal.first_failing_row-requires-clause-challenges
 first_failing_row-requires-clause-challenges g c =
-    omega (arith, ap length (c.as_slice.ensures.value ∙ c.in_ok-columns.ensures), length-column_challenges (table_of c.args.challenges.now) c.args.instance.now.ids.now, c.requires.fit.ids)
+    omega (arith, ap length c.as_slice.ensures.value, c.in_ok-columns.ensures.len, c.requires.fit.ids)
 
 pub returns-in-Some : goal.returns-in-Some
 returns-in-Some g c =
     let E = extension g.F.PrimeCharacteristicRing.ring g.F.PartialEq.eq g.EF.PrimeCharacteristicRing.ring g.EF.PartialEq.eq g.EF.ExtensionDomain.embed g.EF.Field.inverse in
     let failing = found_some _ _ c.in_ok-row.field-0 c.in-Some.row c.in-Some.is c.in_ok-row.ensures in
-    inr (c.in-Some.row, fails_from E (table_of c.args.challenges.now) (instance_of c.args.instance.now) c.args.aux.now c.args.terminal.now c.as_slice.result.now c.as_slice-2.result.now (c.as_slice.ensures.value ∙ c.in_ok-columns.ensures) (c.as_slice-2.ensures.value ∙ c.in_ok-values.ensures) c.in-Some.row failing.within failing.fails failing.before, refl)
+    inr (c.in-Some.row, fails_from E (table_of c.args.challenges.now) (instance_of c.args.instance.now) c.args.aux.now c.args.terminal.now c.as_slice.result.now c.as_slice-2.result.now (c.as_slice.ensures.value ∙ c.in_ok-columns.ensures.challenges) (c.as_slice-2.ensures.value ∙ c.in_ok-values.ensures) c.in-Some.row failing.within failing.fails failing.before, refl)
 
 pub returns : goal.returns
 returns g c = λ r lt.
     let E = extension g.F.PrimeCharacteristicRing.ring g.F.PartialEq.eq g.EF.PrimeCharacteristicRing.ring g.EF.PartialEq.eq g.EF.ExtensionDomain.embed g.EF.Field.inverse in
-    holds_from E (table_of c.args.challenges.now) (instance_of c.args.instance.now) c.args.aux.now c.args.terminal.now c.as_slice.result.now c.as_slice-2.result.now (c.as_slice.ensures.value ∙ c.in_ok-columns.ensures) (c.as_slice-2.ensures.value ∙ c.in_ok-values.ensures) r (found_none _ _ c.in_ok-row.field-0 c.in-None.is c.in_ok-row.ensures r lt)
+    holds_from E (table_of c.args.challenges.now) (instance_of c.args.instance.now) c.args.aux.now c.args.terminal.now c.as_slice.result.now c.as_slice-2.result.now (c.as_slice.ensures.value ∙ c.in_ok-columns.ensures.challenges) (c.as_slice-2.ensures.value ∙ c.in_ok-values.ensures) r (found_none _ _ c.in_ok-row.field-0 c.in-None.is c.in_ok-row.ensures r lt)

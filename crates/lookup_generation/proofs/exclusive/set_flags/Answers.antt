@@ -33,7 +33,7 @@ returns-in_err-set g c =
     let why = c.in_err-set.ensures.refused in
     rw (p.1, p.2) (inr (
       why.0 ∙ ap (λ r. FlagNotBoolean r c.args.column) c.row.ensures,
-      ap (are_boolean E) split ∙ not_boolean laws (take i vals) (drop (i + 1) vals) (look flag) (λ e. why.1 (c.value_of-flag.ensures ∙ e)) (λ e. why.2 (c.value_of-flag.ensures ∙ e)),
+      ap (are_boolean E.base E.base_eq) split ∙ not_boolean laws (take i vals) (drop (i + 1) vals) (look flag) (λ e. why.1 (c.value_of-flag.ensures ∙ e)) (λ e. why.2 (c.value_of-flag.ensures ∙ e)),
     ))
 
 pub loop-place-preserved : goal.loop-place-preserved

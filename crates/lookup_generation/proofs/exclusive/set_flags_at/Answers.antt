@@ -27,7 +27,7 @@ returns-in_err-set g c = λ flags held.
     let why = c.in_err-set.ensures.refused in
     rw (p.1, p.2) (inr (
       why.0,
-      ap (are_boolean E) (taken_split flags i b.item b.within b.there)
+      ap (are_boolean E.base E.base_eq) (taken_split flags i b.item b.within b.there)
           ∙ not_boolean laws (take i flags) (drop (i + 1) flags) b.item (λ e. why.1 (sym here ∙ e)) (λ e. why.2 (sym here ∙ e)),
     ))
 

@@ -45,7 +45,7 @@ returns-in_err-fraction-clause-answers g c = λ inverse is_inverse.
     let why = c.in_err-fraction.ensures.refused in
     rw (p.1, p.2) (inr (
       why.0 ∙ ap (λ r. VanishingDenominator r lookup.column) c.row.ensures,
-      ap (λ t. vanishes E denominator (counted E t)) (taken_split ms i b.item b.within b.there)
+      ap (λ t. vanishes E denominator (counted E.base E.base_eq t)) (taken_split ms i b.item b.within b.there)
           ∙ vanishes_at laws denominator (take i ms) (drop (i + 1) ms) b.item
           (λ e. why.1 (sym (read_is _ c.args.place c.index-multiplicity.result.now b.item.multiplicity b.holds.0 c.index-multiplicity.ensures) ∙ e))
           (read_is _ c.args.place c.index-denominator.result.now (denominator b.item.key) b.holds.1 c.index-denominator.ensures ∙ why.2),

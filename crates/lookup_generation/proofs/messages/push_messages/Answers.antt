@@ -27,9 +27,9 @@ returns-in_err-push_row_messages g c =
     rw (p.1, p.2) (elim c.in_err-push_row_messages.ensures [
       | inl memory ↦ inl memory
       | inr fault ↦
-          let here : slice_get (row_flag_faults E r (sent_row_under E.base E.base_eq id (window_at main prep c.args.public_values.now (height main) r) c.args.lookups.now)) 0 ≡ Some _ =
-          (λ i. slice_get (row_flag_faults E (sym built.row i) (sent_row_under E.base E.base_eq id (sym built.window i) c.args.lookups.now)) 0) ∙ fault in
-          inr (first_row_fault E.base E.base_eq id main prep c.args.public_values.now c.args.lookups.now r lt E _ c.loop-row.invariant.faultless here)
+          let here : slice_get (row_flag_faults E.base E.base_eq r (sent_row_under E.base E.base_eq id (window_at main prep c.args.public_values.now (height main) r) c.args.lookups.now)) 0 ≡ Some _ =
+          (λ i. slice_get (row_flag_faults E.base E.base_eq (sym built.row i) (sent_row_under E.base E.base_eq id (sym built.window i) c.args.lookups.now)) 0) ∙ fault in
+          inr (first_row_fault E.base E.base_eq id main prep c.args.public_values.now c.args.lookups.now r lt _ c.loop-row.invariant.faultless here)
     ])
 
 pub loop-row-preserved : goal.loop-row-preserved

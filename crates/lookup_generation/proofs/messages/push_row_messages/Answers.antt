@@ -4,7 +4,7 @@ use Rattle.std.proofs.lemmas.Result.{err_from_is_err_and}
 use Rattle.std.specs.List.{slice_get}
 use Rattle.lookup_model.proofs.Branches.{mapped_at, mapped_more}
 use Rattle.lookup_model.specs.Extension.{extension}
-use Rattle.lookup_model.specs.FlagFault.{row_flag_faults}
+use Rattle.lookup_model.specs.FlagFault.{row_flag_faults, sent_flag_fault}
 use Rattle.lookup_model.specs.Sent.{Sent, sent_at}
 use Rattle.lookup_model.specs.Trace.{sent_row_under}
 use Rattle.lookup_model.specs.declared.types.Lookup.{Lookup}
@@ -51,5 +51,5 @@ returns-in_err-push_sent g c =
     let p = err_from_is_err_and c.from_residual.result c.from_residual.ensures.1 in
     rw (p.1, p.2) (elim c.in_err-push_sent.ensures [
       | inl memory ↦ inl memory
-      | inr fault ↦ inr (ap (λ t. slice_get (row_flag_faults E c.args.builder.now.row t) 0) split ∙ row_faults-first E (λ _. E.ring.one) c.args.builder.now.row lookup.column (take i row) (drop (i + 1) row) (f lookup) _ at fault c.loop-lookup.invariant.faultless)
+      | inr fault ↦ inr (ap (λ t. slice_get (row_flag_faults E.base E.base_eq c.args.builder.now.row t) 0) split ∙ row_faults-first (sent_flag_fault E.base E.base_eq) c.args.builder.now.row lookup.column (take i row) (drop (i + 1) row) (f lookup) _ at fault c.loop-lookup.invariant.faultless)
     ])

@@ -4,8 +4,7 @@ use Rattle.std.proofs.lemmas.Result.{MatchResult-weaker}
 use Rattle.expressions.specs.declared.base_expression.SymbolicExpression.{SymbolicExpression}
 use Rattle.lookup_model.proofs.Branches.{length-branches_at, zipped_at}
 use Rattle.lookup_model.proofs.RecordLaws.{All-at, Fits-at}
-use Rattle.lookup_model.specs.Extension.{extension, IsLawful}
-use Rattle.lookup_model.proofs.Lawful.{lawful_extension}
+use Rattle.lookup_model.specs.Extension.{extension}
 use Rattle.lookup_model.specs.Records.{AllFit, IsWithin}
 use Rattle.lookup_model.specs.Sent.{branch_at, branches_at, value, values}
 use Rattle.lookup_laws.proofs.Selections.{place_within}
@@ -56,20 +55,18 @@ push_branch-requires-clause-multiplicity_fits g c =
 pub returns-in-Nothing : goal.returns-in-Nothing
 returns-in-Nothing g c =
     let E = extension g.F.PrimeCharacteristicRing.ring g.F.PartialEq.eq g.EF.PrimeCharacteristicRing.ring g.EF.PartialEq.eq g.EF.ExtensionDomain.embed g.EF.Field.inverse in
-    let laws : IsLawful E = lawful_extension g.F.PrimeCharacteristicRing.lawful g.met.F.PrimeCharacteristicRing.eq_is g.EF.PrimeCharacteristicRing.lawful g.met.EF.Domain.domain g.met.EF.PrimeCharacteristicRing.eq_is g.met.EF.ExtensionDomain.embeds g.met.EF.Field.inverse_is in
     let w = builder_window c.args.builder.now in
     let vals = values E.base w c.args.flags.now in
     let lookup = c.args.lookup.now in
     let before = messages_of c.args.messages.now.items in
     let base = base_extension g.F.PrimeCharacteristicRing.ring g.F.PartialEq.eq g.F.Field.inverse in
     let set : AreSetFlags base vals Nothing = subst (AreSetFlags base vals) c.in-Nothing.is c.in_ok-set_flags.ensures in
-    let is = no_flag laws c.args.builder.now.row lookup.column (branches_at E.base w c.args.id lookup) vals set.boolean set.places in
+    let is = no_flag E c.args.builder.now.row lookup.column (branches_at E.base w c.args.id lookup) vals set.boolean set.places in
     (sym (append-nil before) ∙ ap (λ t. before ++ t) (sym is.0), is.1)
 
 pub returns-in-One : goal.returns-in-One
 returns-in-One g c =
     let E = extension g.F.PrimeCharacteristicRing.ring g.F.PartialEq.eq g.EF.PrimeCharacteristicRing.ring g.EF.PartialEq.eq g.EF.ExtensionDomain.embed g.EF.Field.inverse in
-    let laws : IsLawful E = lawful_extension g.F.PrimeCharacteristicRing.lawful g.met.F.PrimeCharacteristicRing.eq_is g.EF.PrimeCharacteristicRing.lawful g.met.EF.Domain.domain g.met.EF.PrimeCharacteristicRing.eq_is g.met.EF.ExtensionDomain.embeds g.met.EF.Field.inverse_is in
     let w = builder_window c.args.builder.now in
     let vals = values E.base w c.args.flags.now in
     let lookup = c.args.lookup.now in
@@ -85,7 +82,7 @@ returns-in-One g c =
     let lt : k < length lookup.elements.items = omega (arith, place_within E 0 vals k [] set.places, length-map c.args.flags.now (value E.base w), c.requires.flag_number) in
     let within : k < length branches = omega (arith, lt, length-branches_at E.base w id lookup c.requires.lengths) in
     let at : m ≡ get_or branches k m = zipped_at (λ b. branch_at E.base w id b.0.items b.1) lookup.elements.items lookup.multiplicities.items c.requires.lengths.multiplicities k tuple multiplicity lt c.index-tuple.ensures c.index-multiplicity.ensures in
-    let is = one_flag laws c.args.builder.now.row lookup.column branches vals set.boolean k m set.places within at in
+    let is = one_flag E c.args.builder.now.row lookup.column branches vals set.boolean k m set.places within at in
     MatchResult-weaker c.push_branch.result c.push_branch.ensures
     (λ _ h. (h ∙ (λ i. before ++ branch_at E.base w id (c.deref.ensures.value i) multiplicity ∷ []) ∙ ap (λ t. before ++ t) (sym is.0), is.1))
     (λ e h. inl h)

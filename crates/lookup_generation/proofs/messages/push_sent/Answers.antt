@@ -2,20 +2,17 @@ use Rattle.std.proofs.Common.{◌≡◌, ◌++◌, inl, inr, List, Option, IfSom
 use Rattle.std.proofs.lemmas.Result.{MatchResult-weaker}
 use Rattle.std.specs.Option.{option_map}
 use Rattle.expressions.specs.declared.base_expression.SymbolicExpression.{SymbolicExpression}
-use Rattle.lookup_model.specs.Extension.{extension, IsLawful}
-use Rattle.lookup_model.proofs.Lawful.{lawful_extension}
-use Rattle.lookup_model.specs.Fault.{fault_of}
+use Rattle.lookup_model.specs.Extension.{extension}
+use Rattle.lookup_model.specs.Fault.{flag_fault_of}
 use Rattle.lookup_model.specs.Records.{AllFit, IsWithin}
 use Rattle.lookup_model.specs.Sent.{Sent, branches_at, sent, sent_at, values}
 use Rattle.lookup_generation.specs.SentMessages.{messages_of}
 use Rattle.lookup_generation.specs.TraceBuilder.{builder_layout, builder_window}
-use Rattle.lookup_generation.proofs.SentMessageLaws.{additive_flags}
 use Rattle.lookup_generation.proofs.messages.push_sent.Goals as goal
 
 pub returns-in-None : goal.returns-in-None
 returns-in-None g c =
     let E = extension g.F.PrimeCharacteristicRing.ring g.F.PartialEq.eq g.EF.PrimeCharacteristicRing.ring g.EF.PartialEq.eq g.EF.ExtensionDomain.embed g.EF.Field.inverse in
-    let laws : IsLawful E = lawful_extension g.F.PrimeCharacteristicRing.lawful g.met.F.PrimeCharacteristicRing.eq_is g.EF.PrimeCharacteristicRing.lawful g.met.EF.Domain.domain g.met.EF.PrimeCharacteristicRing.eq_is g.met.EF.ExtensionDomain.embeds g.met.EF.Field.inverse_is in
     let row = c.args.builder.now.row in
     let lookup = c.args.lookup.now in
     let w = builder_window c.args.builder.now in
@@ -25,7 +22,7 @@ returns-in-None g c =
     MatchResult-weaker c.push_branches.result c.push_branches.ensures
     (λ _ h. (
       h ∙ ap (λ (s : Sent _). messages_of c.args.messages.now.items ++ s.messages) sent_is,
-      ap (fault_of E (λ _. E.ring.one) row lookup.column) (sym sent_is) ∙ additive_flags laws row lookup.column branches,
+      ap (λ (s : Sent _). flag_fault_of E.base E.base_eq row lookup.column s.flags) (sym sent_is),
     ))
     (λ e memory. inl memory)
 
@@ -39,7 +36,7 @@ returns-in-Some g c =
     let sent_is : sent E.base E.base_eq (Some (values E.base w c.deref.result.now)) branches ≡ sent_at E.base E.base_eq w c.args.id lookup =
     ap (λ t. sent E.base E.base_eq (Some (values E.base w t)) branches) c.deref.ensures.value
     ∙ ap (λ o. sent E.base E.base_eq (option_map (λ flags. values E.base w flags.items) o) branches) (sym c.in-Some.is) in
-    let fault_is = ap (fault_of E (λ _. E.ring.one) row lookup.column) (sym sent_is) in
+    let fault_is = ap (λ (s : Sent _). flag_fault_of E.base E.base_eq row lookup.column s.flags) (sym sent_is) in
     MatchResult-weaker c.push_selected.result c.push_selected.ensures
     (λ _ h. (h.0 ∙ ap (λ (s : Sent _). messages_of c.args.messages.now.items ++ s.messages) sent_is, fault_is ∙ h.1))
     (λ e refused. elim refused [

@@ -21,7 +21,7 @@ returns-in_err-quotient_of g c =
     let i = c.loop-message.message-index in
     let m = c.message-item.result in
     let split = split_at (messages_of ms) i (message_of m) (omega (arith, c.loop-message-test.true, length-map ms message_of)) (mapped_at message_of ms i m c.loop-message-test.true c.message-item.is) in
-    rw c.from_residual.ensures (ap (λ ns. vanishes E denominator (counted E ns)) split ∙ vanishes_among laws denominator (take i (messages_of ms)) (message_of m ∷ []) (drop (i + 1) (messages_of ms)) c.in_err-quotient_of.ensures)
+    rw c.from_residual.ensures (ap (λ ns. vanishes E denominator (counted E.base E.base_eq ns)) split ∙ vanishes_among laws denominator (take i (messages_of ms)) (message_of m ∷ []) (drop (i + 1) (messages_of ms)) c.in_err-quotient_of.ensures)
 
 pub loop-message-preserved : goal.loop-message-preserved
 loop-message-preserved g c =

@@ -20,7 +20,7 @@ returns-in_err-quotient_of g c =
     let ms = c.args.messages.now in
     let i = c.loop-place.place in
     let m = c.index-messages-place.result in
-    let alone = λ (n : _). vanishes E denominator (counted E (record { key = (message_of m).key; multiplicity = n } ∷ [])) in
+    let alone = λ (n : _). vanishes E denominator (counted E.base E.base_eq (record { key = (message_of m).key; multiplicity = n } ∷ [])) in
     rw c.from_residual.ensures (vanishing_net laws denominator (messages_of ms) i (message_of m) (omega (arith, c.loop-place-test.true, length-map ms message_of)) (mapped_at message_of ms i m c.loop-place-test.true c.index-messages-place.is) (ap alone (sym c.net_of.ensures) ∙ c.in_err-quotient_of.ensures))
 
 pub loop-place-preserved : goal.loop-place-preserved
