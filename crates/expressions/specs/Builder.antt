@@ -11,7 +11,8 @@ pub record MeansRow {V W A : Type 0} (stands_for : W → Type 0) (meaning : V �
   pub reads : (w : W) → stands_for w → map (λ v. meaning v w) variables ≡ cells w
 
 -- A main window of a builder: it can be read, and its variables mean the current row of the main
--- trace and the next one.
+-- trace and the next one. All but the last two arguments are ghost members, of the builder and of its
+-- window.
 pub record IsMainWindow {B M V F : Type 0} (layout : B → AirLayout) (stands_for : B → Window F → Type 0) (variable : V → Window F → F) (readable : M → Type 0) (current next : M → List V) (builder : B) (main : M) : Type 0 where
   pub can_be_read : readable main
   pub current_row : MeansRow (stands_for builder) variable (layout builder).main_width (λ w. w.main) (current main)
