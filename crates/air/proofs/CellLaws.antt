@@ -2,6 +2,7 @@
 use Rattle.std.proofs.Common.{◌≡◌, ◌<◌, ◌+◌, List, [], ◌∷◌, ◌++◌, length, ℕ, None, Some, get_or, slice_get, take, ap, inl, inr, arith, refl, subst, sym, ◌∙◌}
 use Rattle.std.proofs.lemmas.List.{take_more}
 use Rattle.std.proofs.lemmas.Option.{slice_get_cases, slice_get-map}
+use Rattle.std.proofs.lemmas.Slice.Zip.{all_zipped_more}
 use Rattle.std.specs.List.{AllZip}
 use Rattle.expressions.specs.Builder.{MeansRow}
 
@@ -22,14 +23,8 @@ no_cell stands meaning width cells variables i row none =
       | inr past ↦ omega (arith, past.0, row.len)
     ]
 
-AllZip-push : {A B : Type 0} (P : A → B → Type 0) (xs : List A) (ys : List B) (x : A) (y : B) → AllZip P xs ys → P x y → AllZip P (xs ++ x ∷ []) (ys ++ y ∷ [])
-AllZip-push P [] [] x y all here = (here, tt)
-AllZip-push P [] (b ∷ ys) x y all here = absurd all
-AllZip-push P (a ∷ xs) [] x y all here = absurd all
-AllZip-push P (a ∷ xs) (b ∷ ys) x y all here = (all.0, AllZip-push P xs ys x y all.1 here)
-
 -- one more item beside the next one of a list
 pub one_more_beside : {A B : Type 0} (P : A → B → Type 0) (xs : List A) (ys : List B) (i : ℕ) (d x : A) (y : B) → AllZip P (take i xs) ys → i < length xs → x ≡ get_or xs i d → P x y → AllZip P (take (i + 1) xs) (ys ++ y ∷ [])
 one_more_beside P xs ys i d x y so_far below is here =
     let longer : take (i + 1) xs ≡ take i xs ++ x ∷ [] = take_more xs i d below ∙ ap (λ z. take i xs ++ z ∷ []) (sym is) in
-    subst (λ (l : List _). AllZip P l (ys ++ y ∷ [])) (sym longer) (AllZip-push P (take i xs) ys x y so_far here)
+    subst (λ (l : List _). AllZip P l (ys ++ y ∷ [])) (sym longer) (all_zipped_more P (take i xs) ys x y so_far here)

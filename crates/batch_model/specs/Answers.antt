@@ -63,5 +63,5 @@ module _ {F K : Type 0} (E : Extension F K) (instances : List (Instance F)) (W :
   -- there is none, a bound that does not fit; or memory runs out.
   abbrev pub GivesCounts : Result SoundnessCount BatchFault → Type 0
   GivesCounts answer = MatchResult answer
-      (λ count. AreFlagsLawful E instances × AreCounts E instances W count)
-      (λ fault. IsOutOfMemory fault ⊎ (IsFirstFlagFault E instances fault ⊎ (AreFlagsLawful E instances × IsCountOverflow E instances W fault)))
+      (λ count. AreFlagsLawful E.base E.base_eq instances × AreCounts E instances W count)
+      (λ fault. IsOutOfMemory fault ⊎ (IsFirstFlagFault E.base E.base_eq instances fault ⊎ (AreFlagsLawful E.base E.base_eq instances × IsCountOverflow E instances W fault)))

@@ -1,16 +1,16 @@
 -- The faults that counting can meet in a batch: those of flags.
-use Rattle.std.specs.Prelude.{◌≡◌, ◌<◌, ℕ, List, [], Some, slice_get}
-use Rattle.lookup_model.specs.Extension.{Extension}
+use Rattle.std.specs.Prelude.{◌≡◌, ◌<◌, ℕ, Bool, List, [], Some, slice_get}
+use Rattle.field.specs.Ring.{Ring}
 use Rattle.lookup_model.specs.FlagFault.{trace_flag_faults}
 use Rattle.lookup_model.specs.declared.error.LookupError.{LookupError}
 use Rattle.batch_model.specs.Instances.{Instance}
 use Rattle.batch_model.specs.Messages.{sent_rows_of}
 use Rattle.batch_model.specs.declared.fault.BatchFault.{BatchFault}
 
-module _ {F K : Type 0} (E : Extension F K) where
+module _ {F : Type 0} (R : Ring F) (eq : F → F → Bool) where
   -- the faults of the flags of an AIR, in the order of its rows and their lookups
   abbrev pub instance_flag_faults : Instance F → List LookupError
-  instance_flag_faults i = trace_flag_faults E.base E.base_eq (sent_rows_of E.base E.base_eq i)
+  instance_flag_faults i = trace_flag_faults R eq (sent_rows_of R eq i)
 
   -- the first fault of flags of the first AIR that has one
   pub record IsFirstFlagFault (instances : List (Instance F)) (fault : BatchFault) : Type 0 where

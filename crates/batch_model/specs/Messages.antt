@@ -25,14 +25,13 @@ module _ {F : Type 0} (R : Ring F) (eq : F → F → Bool) where
   abbrev pub batch_messages : List (Instance F) → List (Message F)
   batch_messages instances = flat_map (λ i. trace_messages (sent_rows_of i)) instances
 
--- the flags of a lookup are lawful, if it has flags
-abbrev pub HasLawfulFlags : {F K : Type 0} → Extension F K → Sent F → Type 0
-HasLawfulFlags E sent = IfSome sent.flags (IsLawfulSelection E.base E.base_eq)
+  -- the flags of a lookup are lawful, if it has flags
+  abbrev pub HasLawfulFlags : Sent F → Type 0
+  HasLawfulFlags sent = IfSome sent.flags (IsLawfulSelection R eq)
 
--- so are those of all lookups on all rows of all AIRs
-abbrev pub AreFlagsLawful : {F K : Type 0} → Extension F K → List (Instance F) → Type 0
-AreFlagsLawful E instances =
-    AllByRecursion (λ i. AllByRecursion (AllByRecursion (HasLawfulFlags E)) (sent_rows_of E.base E.base_eq i)) instances
+  -- so are those of all lookups on all rows of all AIRs
+  abbrev pub AreFlagsLawful : List (Instance F) → Type 0
+  AreFlagsLawful instances = AllByRecursion (λ i. AllByRecursion (AllByRecursion HasLawfulFlags) (sent_rows_of i)) instances
 
 -- the denominator of no message is zero, of those with multiplicity zero neither
 abbrev pub NoneVanishes : {F K : Type 0} → Extension F K → (Key F → K) → List (Message F) → Type 0
@@ -40,5 +39,5 @@ NoneVanishes E denominator messages = AllByRecursion (λ m. denominator m.key �
 
 -- A batch is regular at a challenge table: its flags are lawful, and no denominator vanishes.
 pub record IsRegular {F K : Type 0} (E : Extension F K) (table : ChallengeTable K) (instances : List (Instance F)) : Type 0 where
-  pub flags : AreFlagsLawful E instances
+  pub flags : AreFlagsLawful E.base E.base_eq instances
   pub denominators : NoneVanishes E (table_denominator E table) (batch_messages E.base E.base_eq instances)

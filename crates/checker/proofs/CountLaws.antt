@@ -1,12 +1,12 @@
 -- The counts of a batch: its messages AIR by AIR, and the bound of bad betas.
-use Rattle.std.proofs.Common.{◌≡◌, ◌⊎◌, ℕ, ◌+◌, ◌-◌, ◌*◌, ◌/◌, ◌^◌, ◌<◌, ◌≤◌, inl, inr, Option, None, Some, Result, Ok, Err, IfOk, List, [], ◌∷◌, ◌++◌, length, take, get_or, refl, sym, ap, subst, ◌∙◌, arith, mul_comm}
+use Rattle.std.proofs.Common.{◌≡◌, ◌⊎◌, ℕ, Bool, ◌+◌, ◌-◌, ◌*◌, ◌/◌, ◌^◌, ◌<◌, ◌≤◌, inl, inr, Option, None, Some, Result, Ok, Err, IfOk, List, [], ◌∷◌, ◌++◌, length, take, get_or, refl, sym, ap, subst, ◌∙◌, arith, mul_comm}
 use Rattle.std.proofs.lemmas.Bool.{cases_lt}
 use Rattle.std.proofs.lemmas.Grind.{flat_map-append}
 use Rattle.std.proofs.lemmas.List.{append-nil, take_more, take_all}
 use Rattle.std.proofs.lemmas.Option.{slice_get_read, slice_get_within}
 use Rattle.std.specs.List.{slice_get}
 use Rattle.std.specs.Option.{SomeIff}
-use Rattle.lookup_model.specs.Extension.{Extension}
+use Rattle.field.specs.Ring.{Ring}
 use Rattle.lookup_model.specs.Plain.{trace_messages}
 use Rattle.lookup_generation.specs.SentMessages.{HasSentRows, messages_of}
 use Rattle.lookup_generation.specs.declared.messages.SentMessage.{SentMessage}
@@ -16,38 +16,38 @@ use Rattle.batch_model.specs.Messages.{batch_messages, sent_rows_of}
 use Rattle.counting_laws.proofs.SharingBetas.{half_of, half_product, number_of_pairs}
 use Rattle.checker.specs.Collected.{HasMessages}
 
-module _ {F K : Type 0} (E : Extension F K) (instances : List (Instance F)) where
-  pub no_messages : HasMessages E instances 0 []
+module _ {F : Type 0} (R : Ring F) (eq : F → F → Bool) (instances : List (Instance F)) where
+  pub no_messages : HasMessages R eq instances 0 []
   no_messages = record { messages_are = refl; faultless = λ i other lt is. absurd (omega (arith, lt)) }
 
   -- one more AIR
   pub messages_more : (n : ℕ) (before after : List (SentMessage F)) (instance : Instance F) → n < length instances → instance ≡ get_or instances n instance
-      → HasSentRows E before after (sent_rows_of E.base E.base_eq instance) → HasMessages E instances n before → HasMessages E instances (n + 1) after
+      → HasSentRows R eq before after (sent_rows_of R eq instance) → HasMessages R eq instances n before → HasMessages R eq instances (n + 1) after
   messages_more n before after instance lt is this so_far =
-      let of = λ (i : Instance F). trace_messages (sent_rows_of E.base E.base_eq i) in
+      let of = λ (i : Instance F). trace_messages (sent_rows_of R eq i) in
       record {
         messages_are =
             this.messages ∙ ap (λ t. t ++ of instance) so_far.messages_are
-            ∙ ap (λ t. batch_messages E.base E.base_eq (take n instances) ++ t) (sym (append-nil (of instance)))
+            ∙ ap (λ t. batch_messages R eq (take n instances) ++ t) (sym (append-nil (of instance)))
             ∙ sym (flat_map-append of (take n instances) (instance ∷ []))
-            ∙ ap (batch_messages E.base E.base_eq) (sym (take_more instances n instance lt ∙ ap (λ t. take n instances ++ t ∷ []) (sym is)));
+            ∙ ap (batch_messages R eq) (sym (take_more instances n instance lt ∙ ap (λ t. take n instances ++ t ∷ []) (sym is)));
         faultless = λ i other below there. by_place i other there (cases_lt i n) below;
       }
     where
-      by_place : (i : ℕ) (other : Instance F) → slice_get instances i ≡ Some other → (i < n) ⊎ (n ≤ i) → i < n + 1 → instance_flag_faults E other ≡ []
+      by_place : (i : ℕ) (other : Instance F) → slice_get instances i ≡ Some other → (i < n) ⊎ (n ≤ i) → i < n + 1 → instance_flag_faults R eq other ≡ []
       by_place i other there (inl earlier) below = so_far.faultless i other earlier there
       by_place i other there (inr late) below =
           let at : i ≡ n = omega (arith, late, below) in
           let same : slice_get instances n ≡ Some other = subst (λ (j : ℕ). slice_get instances j ≡ Some other) at there in
           let here : slice_get instances n ≡ Some instance = slice_get_read instances (length instances) n instance (λ _. length instances) lt is in
           let other_is : instance ≡ other = cc (sym here ∙ same) in
-          ap (instance_flag_faults E) (sym other_is) ∙ this.faultless
+          ap (instance_flag_faults R eq) (sym other_is) ∙ this.faultless
 
   -- when all are done
-  pub all_messages : (messages : List (SentMessage F)) → HasMessages E instances (length instances) messages
-      → (messages_of messages ≡ batch_messages E.base E.base_eq instances) × ((i : ℕ) (other : Instance F) → slice_get instances i ≡ Some other → instance_flag_faults E other ≡ [])
+  pub all_messages : (messages : List (SentMessage F)) → HasMessages R eq instances (length instances) messages
+      → (messages_of messages ≡ batch_messages R eq instances) × ((i : ℕ) (other : Instance F) → slice_get instances i ≡ Some other → instance_flag_faults R eq other ≡ [])
   all_messages messages has = (
-    has.messages_are ∙ ap (batch_messages E.base E.base_eq) (take_all (length instances) instances (omega arith)),
+    has.messages_are ∙ ap (batch_messages R eq) (take_all (length instances) instances (omega arith)),
     λ i other is. has.faultless i other (slice_get_within instances i other is) is,
   )
 

@@ -4,6 +4,7 @@ use Rattle.std.proofs.lemmas.Bool.{cases_lt}
 use Rattle.std.proofs.lemmas.List.{map_push, take_more, take_all}
 use Rattle.std.proofs.lemmas.List.Elements.{All-map, recursion_from_All}
 use Rattle.std.proofs.lemmas.Option.{slice_get_read}
+use Rattle.std.proofs.lemmas.Slice.Zip.{all_zipped_more}
 use Rattle.std.specs.List.{AllByRecursion, AllZip, slice_get, zip}
 use Rattle.matrix.specs.Matrix.{Matrix}
 use Rattle.lookup_model.specs.Extension.{Extension}
@@ -21,12 +22,6 @@ zip-push [] (b ∷ ys) x y same = absurd (omega (arith, same))
 zip-push (a ∷ xs) [] x y same = absurd (omega (arith, same))
 zip-push (a ∷ xs) (b ∷ ys) x y same = ap (λ t. (a, b) ∷ t) (zip-push xs ys x y (omega (arith, same)))
 
-AllZip-push : {A B : Type 0} (P : A → B → Type 0) (xs : List A) (ys : List B) (x : A) (y : B) → AllZip P xs ys → P x y → AllZip P (xs ++ x ∷ []) (ys ++ y ∷ [])
-AllZip-push P [] [] x y all here = (here, tt)
-AllZip-push P [] (b ∷ ys) x y all here = absurd all
-AllZip-push P (a ∷ xs) [] x y all here = absurd all
-AllZip-push P (a ∷ xs) (b ∷ ys) x y all here = (all.0, AllZip-push P xs ys x y all.1 here)
-
 module _ {F K : Type 0} (E : Extension F K) (table : ChallengeTable K) (instances : List (Instance F)) where
   pub results_more : (i : ℕ) (aux : List (Matrix K)) (terminals : List (Option (LookupTerminal K))) (instance : Instance F) (r : Matrix K × Option (LookupTerminal K)) → i < length instances → instance ≡ get_or instances i instance
       → r ≡ plain_result E table instance → IsSatisfiedAt E table instance r → instance_faults E table instance ≡ [] → HasResults E table instances i aux terminals → HasResults E table instances (i + 1) (aux ++ r.0 ∷ []) (terminals ++ r.1 ∷ [])
@@ -37,7 +32,7 @@ module _ {F K : Type 0} (E : Extension F K) (table : ChallengeTable K) (instance
         traces = omega (arith, length-append aux (r.0 ∷ []), so_far.traces);
         as_many = omega (arith, length-append terminals (r.1 ∷ []), so_far.as_many);
         results = zipped ∙ (λ j. so_far.results j ++ result j ∷ []) ∙ sym (map_push (plain_result E table) (take i instances) instance) ∙ ap (map (plain_result E table)) (sym longer);
-        satisfied = subst₂ (AllZip (IsSatisfiedAt E table)) (sym longer) (sym zipped) (AllZip-push (IsSatisfiedAt E table) (take i instances) (zip aux terminals) instance r so_far.satisfied satisfied);
+        satisfied = subst₂ (AllZip (IsSatisfiedAt E table)) (sym longer) (sym zipped) (all_zipped_more (IsSatisfiedAt E table) (take i instances) (zip aux terminals) instance r so_far.satisfied satisfied);
         faultless = λ k other below there. by_place k other there (cases_lt k i) below;
       }
     where

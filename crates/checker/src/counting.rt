@@ -44,23 +44,22 @@ pub fn soundness_count<F: Field, EF: ExtensionField<F>>(
         (extension F.ring F.eq EF.ring EF.eq EF.embed EF.inverse)
         (instances_of instances.now) max_message_width) }
 {
-    let messages = collected::<F, EF>(alloc, instances)?;
+    let messages = collected(alloc, instances)?;
     let (keys, unbalanced) = key_counts(alloc, messages.as_slice())?;
     counted(keys, unbalanced, max_message_width)
 }
 
 /// All messages of a batch.
-fn collected<F: Field, EF: ExtensionField<F>>(
+fn collected<F: Field>(
     alloc: Global,
     instances: &[BatchInstance<'_, F>],
 ) -> Result<Vec<SentMessage<F>>, BatchFault>
     requires fit { DoInstancesFit instances.now }
-    ensures { GivesMessages (extension F.ring F.eq EF.ring EF.eq EF.embed EF.inverse)
-        (instances_of instances.now) result }
+    ensures { GivesMessages F.ring F.eq (instances_of instances.now) result }
 {
     let mut messages = Vec::new(alloc);
     for air in 0..instances.len() {
-        match push_instance::<F, EF>(alloc, &mut messages, &instances[air]) {
+        match push_instance(alloc, &mut messages, &instances[air]) {
             Ok(()) => {}
             Err(error) => return Err(BatchFault::of_air(air, error)),
         }
@@ -69,16 +68,16 @@ fn collected<F: Field, EF: ExtensionField<F>>(
 }
 
 /// Appends the messages of one AIR.
-fn push_instance<F: Field, EF: ExtensionField<F>>(
+fn push_instance<F: Field>(
     alloc: Global,
     messages: &mut Vec<SentMessage<F>>,
     instance: &BatchInstance<'_, F>,
 ) -> Result<(), LookupError>
     requires { IsFitting (instance_of instance.now) }
-    ensures { PushesMessages (extension F.ring F.eq EF.ring EF.eq EF.embed EF.inverse)
-        (instance_of instance.now) messages.old.items messages.new.items result }
+    ensures { PushesMessages F.ring F.eq (instance_of instance.now) messages.old.items
+        messages.new.items result }
 {
-    push_messages::<F, EF>(
+    push_messages(
         alloc,
         messages,
         instance.main,

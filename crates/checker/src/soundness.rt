@@ -23,7 +23,7 @@ use field::{ExtensionField, Field};
 pub fn counted_soundness<F: Field, EF: ExtensionField<F>>()
     ensures { (W m : ℕ) (instances : List (Instance F))
         → All IsFitting instances → AreLawfulIds W m F.CHARACTERISTIC instances
-        → AreFlagsLawful (extension F.ring F.eq EF.ring EF.eq EF.embed EF.inverse) instances
+        → AreFlagsLawful F.ring F.eq instances
         → IsCountedSound (extension F.ring F.eq EF.ring EF.eq EF.embed EF.inverse) instances W }
 {}
 

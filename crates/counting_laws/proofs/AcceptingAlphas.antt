@@ -35,7 +35,7 @@ module _ {F K : Type 0} {E : Extension F K} (laws : IsLawful E) (W : ℕ) (beta 
       ring_law laws.ring (alpha ∷ of_nat E.ring (key.id + 1) ∷ power E.ring beta W ∷ combined E.ring (map E.embed key.tuple) beta ∷ [])
       ((var 0 :+ var 1 :* var 2) :- var 3) (var 0 :- (var 3 :- var 1 :* var 2)) refl
 
-  module _ (instances : List (Instance F)) (fitting : AllByRecursion IsFitting instances) (lawful : AreFlagsLawful E instances) where
+  module _ (instances : List (Instance F)) (fitting : AllByRecursion IsFitting instances) (lawful : AreFlagsLawful E.base E.base_eq instances) where
     abbrev messages : List (Message F)
     messages = batch_messages E.base E.base_eq instances
 

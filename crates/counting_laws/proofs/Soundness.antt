@@ -57,7 +57,7 @@ module _ {F K : Type 0} {E : Extension F K} (laws : IsLawful E) (W m p : ℕ) (c
       (λ beta shares apart. shares (subst IsDistinct (map-map (point_in E.ring W beta) (lifted E) keys_left) apart)) betas sharing) in
       subst (λ (n : ℕ). length betas ≤ W * n * (n - 1) / 2) (length-map keys_left (lifted E)) few
 
-  module _ (lawful : AreFlagsLawful E instances) where
+  module _ (lawful : AreFlagsLawful E.base E.base_eq instances) where
     pub few_accepting_alphas : FewAcceptingAlphas E instances W
     few_accepting_alphas some beta unshared alphas d accepting =
         few_accepting laws W beta instances fitting lawful some unshared alphas d accepting

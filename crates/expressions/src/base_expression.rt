@@ -40,6 +40,20 @@ pub enum SymbolicExpression<F> {
     Neg(Box<SymbolicExpression<F>>),
 }
 
+/// Both operands of a node, each in a box.
+pub(crate) fn boxed_pair<E: Drop>(
+    alloc: Global,
+    left: E,
+    right: E,
+) -> Result<(Box<E>, Box<E>), AllocError>
+    ensures left { IfOk result (λ boxes. boxes.0.value ≡ left) }
+    ensures right { IfOk result (λ boxes. boxes.1.value ≡ right) }
+{
+    let left = Box::new(alloc, left)?;
+    let right = Box::new(alloc, right)?;
+    Ok((left, right))
+}
+
 /// What a base expression is evaluated at; contracts see a window. Never constructed.
 pub struct Seen<F>(PhantomData<F>);
 
@@ -107,24 +121,21 @@ impl<F: Field> Expression<F> for SymbolicExpression<F> {
     fn add(self, alloc: Global, other: Self) -> Result<Self, AllocError>
         ensures { IfOk result (λ r. tree_of r ≡ add (tree_of self) (tree_of other)) }
     {
-        let left = Box::new(alloc, self)?;
-        let right = Box::new(alloc, other)?;
+        let (left, right) = boxed_pair(alloc, self, other)?;
         Ok(SymbolicExpression::Add(left, right))
     }
 
     fn sub(self, alloc: Global, other: Self) -> Result<Self, AllocError>
         ensures { IfOk result (λ r. tree_of r ≡ sub (tree_of self) (tree_of other)) }
     {
-        let left = Box::new(alloc, self)?;
-        let right = Box::new(alloc, other)?;
+        let (left, right) = boxed_pair(alloc, self, other)?;
         Ok(SymbolicExpression::Sub(left, right))
     }
 
     fn mul(self, alloc: Global, other: Self) -> Result<Self, AllocError>
         ensures { IfOk result (λ r. tree_of r ≡ mul (tree_of self) (tree_of other)) }
     {
-        let left = Box::new(alloc, self)?;
-        let right = Box::new(alloc, other)?;
+        let (left, right) = boxed_pair(alloc, self, other)?;
         Ok(SymbolicExpression::Mul(left, right))
     }
 
@@ -140,25 +151,10 @@ impl<F: Field> Expression<F> for SymbolicExpression<F> {
     {
         match self {
             SymbolicExpression::Leaf(leaf) => Ok(SymbolicExpression::Leaf(*leaf)),
-            SymbolicExpression::Add(a, b) => {
-                let first = Box::new(alloc, a.copy(alloc)?)?;
-                let second = Box::new(alloc, b.copy(alloc)?)?;
-                Ok(SymbolicExpression::Add(first, second))
-            }
-            SymbolicExpression::Sub(a, b) => {
-                let first = Box::new(alloc, a.copy(alloc)?)?;
-                let second = Box::new(alloc, b.copy(alloc)?)?;
-                Ok(SymbolicExpression::Sub(first, second))
-            }
-            SymbolicExpression::Mul(a, b) => {
-                let first = Box::new(alloc, a.copy(alloc)?)?;
-                let second = Box::new(alloc, b.copy(alloc)?)?;
-                Ok(SymbolicExpression::Mul(first, second))
-            }
-            SymbolicExpression::Neg(a) => {
-                let only = Box::new(alloc, a.copy(alloc)?)?;
-                Ok(SymbolicExpression::Neg(only))
-            }
+            SymbolicExpression::Add(a, b) => a.copy(alloc)?.add(alloc, b.copy(alloc)?),
+            SymbolicExpression::Sub(a, b) => a.copy(alloc)?.sub(alloc, b.copy(alloc)?),
+            SymbolicExpression::Mul(a, b) => a.copy(alloc)?.mul(alloc, b.copy(alloc)?),
+            SymbolicExpression::Neg(a) => a.copy(alloc)?.neg(alloc),
         }
     }
 

@@ -1,7 +1,7 @@
 //! Expressions over an extension.
 ghost use Rattle.std.specs.Prelude.{◌≡◌, IfOk};
 
-use crate::base_expression::SymbolicExpression;
+use crate::base_expression::{SymbolicExpression, boxed_pair};
 use crate::expression::{Expression, WholeNumbers};
 use crate::variable::SymbolicVariableExt;
 use field::{ExtensionField, Field};
@@ -115,24 +115,21 @@ impl<F: Field, EF: ExtensionField<F>> Expression<EF> for SymbolicExpressionExt<F
     fn add(self, alloc: Global, other: Self) -> Result<Self, AllocError>
         ensures { IfOk result (λ r. ext_tree_of r ≡ add (ext_tree_of self) (ext_tree_of other)) }
     {
-        let left = Box::new(alloc, self)?;
-        let right = Box::new(alloc, other)?;
+        let (left, right) = boxed_pair(alloc, self, other)?;
         Ok(SymbolicExpressionExt::Add(left, right))
     }
 
     fn sub(self, alloc: Global, other: Self) -> Result<Self, AllocError>
         ensures { IfOk result (λ r. ext_tree_of r ≡ sub (ext_tree_of self) (ext_tree_of other)) }
     {
-        let left = Box::new(alloc, self)?;
-        let right = Box::new(alloc, other)?;
+        let (left, right) = boxed_pair(alloc, self, other)?;
         Ok(SymbolicExpressionExt::Sub(left, right))
     }
 
     fn mul(self, alloc: Global, other: Self) -> Result<Self, AllocError>
         ensures { IfOk result (λ r. ext_tree_of r ≡ mul (ext_tree_of self) (ext_tree_of other)) }
     {
-        let left = Box::new(alloc, self)?;
-        let right = Box::new(alloc, other)?;
+        let (left, right) = boxed_pair(alloc, self, other)?;
         Ok(SymbolicExpressionExt::Mul(left, right))
     }
 
@@ -148,25 +145,10 @@ impl<F: Field, EF: ExtensionField<F>> Expression<EF> for SymbolicExpressionExt<F
     {
         match self {
             SymbolicExpressionExt::Leaf(leaf) => Ok(SymbolicExpressionExt::Leaf(leaf.copy(alloc)?)),
-            SymbolicExpressionExt::Add(a, b) => {
-                let first = Box::new(alloc, a.copy(alloc)?)?;
-                let second = Box::new(alloc, b.copy(alloc)?)?;
-                Ok(SymbolicExpressionExt::Add(first, second))
-            }
-            SymbolicExpressionExt::Sub(a, b) => {
-                let first = Box::new(alloc, a.copy(alloc)?)?;
-                let second = Box::new(alloc, b.copy(alloc)?)?;
-                Ok(SymbolicExpressionExt::Sub(first, second))
-            }
-            SymbolicExpressionExt::Mul(a, b) => {
-                let first = Box::new(alloc, a.copy(alloc)?)?;
-                let second = Box::new(alloc, b.copy(alloc)?)?;
-                Ok(SymbolicExpressionExt::Mul(first, second))
-            }
-            SymbolicExpressionExt::Neg(a) => {
-                let only = Box::new(alloc, a.copy(alloc)?)?;
-                Ok(SymbolicExpressionExt::Neg(only))
-            }
+            SymbolicExpressionExt::Add(a, b) => a.copy(alloc)?.add(alloc, b.copy(alloc)?),
+            SymbolicExpressionExt::Sub(a, b) => a.copy(alloc)?.sub(alloc, b.copy(alloc)?),
+            SymbolicExpressionExt::Mul(a, b) => a.copy(alloc)?.mul(alloc, b.copy(alloc)?),
+            SymbolicExpressionExt::Neg(a) => a.copy(alloc)?.neg(alloc),
         }
     }
 

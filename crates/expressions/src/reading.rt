@@ -3,7 +3,7 @@
 //! A variant with data is a map with one member, named for it. A variant without data is its name.
 //! A variable is a map of its members. Missing and duplicate members are refused, as are names that
 //! stand for no variant; members with other names are ignored.
-ghost use Rattle.std.specs.Prelude.{◌≤◌, IfOk};
+ghost use Rattle.std.specs.Prelude.{◌≡◌, ◌≤◌, IfOk};
 ghost use Rattle.expressions.specs.Depth.{depth_of};
 ghost use Rattle.expressions.specs.Tree.{tree_of};
 
@@ -15,11 +15,13 @@ use std::alloc::Global;
 /// How deep an expression that is read may nest; a leaf has depth 1.
 const DEPTH: u32 = 128;
 
-/// Reads the end of the map that holds a variant's data.
-fn end_variant<R: Format>(from: &mut Deserializer<'_, '_, R>) -> Result<(), R::Error> {
+/// The value that was read, after the end of the map that holds a variant's data.
+fn ended<T: Drop, R: Format>(from: &mut Deserializer<'_, '_, R>, value: T) -> Result<T, R::Error>
+    ensures { IfOk result (λ v. v ≡ value) }
+{
     match from.next_key(&[])? {
         Some(_) => Err(from.invalid()),
-        None => Ok(()),
+        None => Ok(value),
     }
 }
 
@@ -66,8 +68,7 @@ impl DeserializeOwned for BaseEntry {
             Some(_) => return Err(from.unknown_variant()),
             None => return Err(from.invalid()),
         };
-        end_variant(from)?;
-        Ok(entry)
+        ended(from, entry)
     }
 }
 
@@ -121,8 +122,7 @@ impl<F: DeserializeOwned> DeserializeOwned for BaseLeaf<F> {
             Some(_) => return Err(from.unknown_variant()),
             None => return Err(from.invalid()),
         };
-        end_variant(from)?;
-        Ok(leaf)
+        ended(from, leaf)
     }
 }
 
@@ -164,8 +164,21 @@ fn read_expression<F: DeserializeOwned, R: Format>(
         Some(_) => return Err(from.unknown_variant()),
         None => return Err(from.invalid()),
     };
-    end_variant(from)?;
-    Ok(expression)
+    ended(from, expression)
+}
+
+/// The value in a box.
+fn boxed<T: Drop, R: Format>(
+    alloc: Global,
+    value: T,
+    from: &mut Deserializer<'_, '_, R>,
+) -> Result<Box<T>, R::Error>
+    ensures { IfOk result (λ b. b.value ≡ value) }
+{
+    match Box::new(alloc, value) {
+        Ok(boxed) => Ok(boxed),
+        Err(_) => Err(from.no_memory()),
+    }
 }
 
 /// As `read_expression`, in a box.
@@ -178,10 +191,7 @@ fn read_boxed<F: DeserializeOwned, R: Format>(
     ensures { IfOk result (λ e. depth_of (tree_of e.value) ≤ depth) }
 {
     let expression = read_expression(alloc, depth, from)?;
-    match Box::new(alloc, expression) {
-        Ok(boxed) => Ok(boxed),
-        Err(_) => Err(from.no_memory()),
-    }
+    boxed(alloc, expression, from)
 }
 
 /// Reads the list of two operands.

@@ -1,28 +1,28 @@
 -- Packing by the degree of the gadget.
 use Rattle.std.proofs.Common.{◌≡◌, inl, inr, ℕ, List, [], ◌∷◌, Option, None, Some, Result, Ok, Err, IfOk, map, refl, ap, ◌∙◌}
-use Rattle.std.specs.List.{AllByRecursion, zip}
+use Rattle.std.specs.List.{AllByRecursion}
 use Rattle.std.specs.Option.{option_map}
 use Rattle.expressions.specs.declared.base_expression.SymbolicExpression.{SymbolicExpression}
-use Rattle.lookup_model.specs.LookupDegree.{branch_degrees, constraint_degree_of, expression_degree, lookup_degree}
+use Rattle.lookup_model.specs.LookupDegree.{branch_degrees, constraint_degree_of, expression_degree, lookup_degree, outline_degree}
 use Rattle.lookup_model.specs.Outline.{Outline, fields_of}
 use Rattle.lookup_model.specs.declared.error.LookupError.{LookupError}
 use Rattle.lookup_model.specs.declared.types.Lookup.{Lookup}
 use Rattle.lookup_packing.proofs.FewestColumns.{IsPlain, fewest_columns}
 use Rattle.lookup_packing.specs.Buses.{bus_names, on_bus}
 use Rattle.lookup_packing.specs.Cuts.{AreClosed, IsGrown}
-use Rattle.lookup_packing.specs.Fewest.{AnswersDegree, HasFewestColumns, outline_degree}
+use Rattle.lookup_packing.specs.Fewest.{AnswersDegree, HasFewestColumns}
 use Rattle.lookup_packing.specs.Packing.{additive, AreFilled, IsAbove, IsFilling, IsStuck, Joins, Packs}
 use Rattle.lookup_packing.proofs.JoinedMessages.{zip_mapped}
 
-flags_degrees : {F : Type 0} {V : Type 0} (items : V → List (SymbolicExpression F)) (flags : Option V) → option_map (λ fs. map (expression_degree 0) (items fs)) flags ≡ option_map (λ fs. map (expression_degree 0) fs) (option_map items flags)
+flags_degrees : {F : Type 0} {V : Type 0} (items : V → List (SymbolicExpression F)) (flags : Option V) → option_map (λ fs. map (expression_degree 0) (items fs)) flags ≡ option_map (map (expression_degree 0)) (option_map items flags)
 flags_degrees items None = refl
 flags_degrees items (Some fs) = refl
 
 -- the degree of a lookup is that of its fields
-pub same_degree : {F : Type 0} (l : Lookup F) (o : Outline (SymbolicExpression F)) → fields_of l ≡ o → lookup_degree 0 l ≡ outline_degree o
+pub same_degree : {F : Type 0} (l : Lookup F) (o : Outline (SymbolicExpression F)) → fields_of l ≡ o → lookup_degree 0 l ≡ outline_degree 0 o
 same_degree l o is =
     (λ i. constraint_degree_of (flags_degrees (λ fs. fs.items) l.flags i) (zip_mapped (λ tuple. tuple.items) (branch_degrees 0) l.elements.items l.multiplicities.items i))
-    ∙ ap outline_degree is
+    ∙ ap (outline_degree 0) is
 
 module _ {E : Type 0} (A B : Outline E → Result ℕ LookupError → Type 0) (carry : (o : Outline E) (r : Result ℕ LookupError) → A o r → B o r) (most : ℕ) where
   joins_along : (part : Outline E × List (Outline E)) (o : Outline E) → Joins A most part o → Joins B most part o

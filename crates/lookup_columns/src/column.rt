@@ -1,5 +1,5 @@
 //! The values of an expression on some rows.
-ghost use Rattle.std.specs.Prelude.{◌≡◌, ◌<◌, ◌≤◌, ◌+◌, ◌%◌, ◌++◌, ◌==◌, All, IfOk, OnOk, map, not, slice_index_or};
+ghost use Rattle.std.specs.Prelude.{◌≡◌, ◌<◌, ◌≤◌, ◌+◌, ◌%◌, ◌∷◌, ◌++◌, ◌==◌, All, IfOk, OnOk, map, not, slice_index_or};
 ghost use Rattle.std.specs.List.{zip};
 ghost use Rattle.field.specs.Ring.{of_bool, sub_in};
 ghost use Rattle.expressions.specs.Layout.{LeafFits};
@@ -202,6 +202,20 @@ fn push_negatives<F: Field>(to: &mut Vec<F>, a: &[F]) -> Result<(), AllocError>
     to.extend(a.iter().map(|x| -*x))
 }
 
+/// Fills a slot with what was made of two lists, and puts both away.
+fn push_made<F: Field>(
+    slots: &mut Slots<F>,
+    values: Vec<F>,
+    left: Vec<F>,
+    right: Vec<F>,
+) -> Result<(), AllocError>
+    ensures { OnOk result (filled slots.new ≡ values.items ∷ filled slots.old) }
+{
+    slots.put(left)?;
+    slots.put(right)?;
+    slots.push(values)
+}
+
 /// Works out one step on these rows.
 fn work_out<F: Field>(
     alloc: Global,
@@ -224,23 +238,17 @@ fn work_out<F: Field>(
         Step::Add => {
             let (left, right) = slots.pop_two(alloc);
             push_sums(&mut values, &left, &right)?;
-            slots.put(left)?;
-            slots.put(right)?;
-            slots.push(values)
+            push_made(slots, values, left, right)
         }
         Step::Sub => {
             let (left, right) = slots.pop_two(alloc);
             push_differences(&mut values, &left, &right)?;
-            slots.put(left)?;
-            slots.put(right)?;
-            slots.push(values)
+            push_made(slots, values, left, right)
         }
         Step::Mul => {
             let (left, right) = slots.pop_two(alloc);
             push_products(&mut values, &left, &right)?;
-            slots.put(left)?;
-            slots.put(right)?;
-            slots.push(values)
+            push_made(slots, values, left, right)
         }
         Step::Neg => {
             let inner = slots.pop(alloc);

@@ -20,7 +20,7 @@ module _ {F K : Type 0} {E : Extension F K} (laws : IsLawful E) (denominator : K
   -- no set flag gives zero, and no fault
   pub none_selected : set_places E.base E.base_eq 0 flags ≡ [] → (E.ring.zero ≡ plain_fraction E denominator selected) × (fault_of E denominator row column selected ≡ None)
   none_selected none =
-      let empty = chosen_none E 0 flags branches none in (
+      let empty = chosen_none E.base E.base_eq 0 flags branches none in (
         ap (λ ms. plain_fraction E denominator (record { flags = Some flags; messages = ms })) (sym empty),
         exclusive_faultless E denominator row column flags (chosen E.base E.base_eq flags branches) lawful (omega (arith, ap length none)) (ap (vanishes E denominator) empty),
       )
@@ -28,7 +28,7 @@ module _ {F K : Type 0} {E : Extension F K} (laws : IsLawful E) (denominator : K
   module _ (place : ℕ) (m : Message F) (one : set_places E.base E.base_eq 0 flags ≡ place ∷ []) (within : place < length branches) (is : m ≡ get_or branches place m) where
     -- the message of the one set flag is what is sent
     only : chosen E.base E.base_eq flags branches ≡ m ∷ []
-    only = chosen_one E 0 place flags branches m (one ∙ ap (λ p. p ∷ []) (omega arith)) within is
+    only = chosen_one E.base E.base_eq 0 place flags branches m (one ∙ ap (λ p. p ∷ []) (omega arith)) within is
 
     -- its quotient is the fraction, where its denominator is not zero
     pub one_selected : denominator m.key ≢ E.ring.zero → (quotient_of E denominator m ≡ plain_fraction E denominator selected) × (fault_of E denominator row column selected ≡ None)

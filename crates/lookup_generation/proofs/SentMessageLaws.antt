@@ -6,7 +6,6 @@ use Rattle.std.specs.List.{flat_map, slice_get}
 use Rattle.field.specs.Ring.{Ring}
 use Rattle.matrix.specs.Matrix.{Matrix, height}
 use Rattle.expressions.specs.Window.{window_at}
-use Rattle.lookup_model.specs.Extension.{Extension}
 use Rattle.lookup_model.specs.Fault.{are_boolean, flag_fault_of, set_places}
 use Rattle.lookup_model.specs.FlagFault.{row_flag_faults, sent_flag_fault, trace_flag_faults}
 use Rattle.lookup_model.specs.Message.{Message}
@@ -20,45 +19,45 @@ use Rattle.lookup_laws.proofs.Selections.{chosen_none, chosen_one}
 use Rattle.lookup_generation.specs.SentMessages.{HasSentRow, HasSentRows, messages_of}
 use Rattle.lookup_generation.specs.declared.messages.SentMessage.{SentMessage}
 
-module _ {F K : Type 0} (E : Extension F K) (row column : ℕ) (branches : List (Message F)) (flags : List F) (boolean : are_boolean E.base E.base_eq flags ≡ true) where
+module _ {F : Type 0} (R : Ring F) (eq : F → F → Bool) (row column : ℕ) (branches : List (Message F)) (flags : List F) (boolean : are_boolean R eq flags ≡ true) where
   -- flags of which none is set choose nothing
-  pub no_flag : set_places E.base E.base_eq 0 flags ≡ [] → (chosen E.base E.base_eq flags branches ≡ []) × (flag_fault_of E.base E.base_eq row column (Some flags) ≡ None)
+  pub no_flag : set_places R eq 0 flags ≡ [] → (chosen R eq flags branches ≡ []) × (flag_fault_of R eq row column (Some flags) ≡ None)
   no_flag none = (
-    chosen_none E 0 flags branches none,
-    flags_faultless E.base E.base_eq row column flags boolean (omega (arith, ap length none)),
+    chosen_none R eq 0 flags branches none,
+    flags_faultless R eq row column flags boolean (omega (arith, ap length none)),
   )
 
   -- one set flag chooses its branch
-  pub one_flag : (place : ℕ) (m : Message F) → set_places E.base E.base_eq 0 flags ≡ place ∷ [] → place < length branches → m ≡ get_or branches place m → (chosen E.base E.base_eq flags branches ≡ m ∷ []) × (flag_fault_of E.base E.base_eq row column (Some flags) ≡ None)
+  pub one_flag : (place : ℕ) (m : Message F) → set_places R eq 0 flags ≡ place ∷ [] → place < length branches → m ≡ get_or branches place m → (chosen R eq flags branches ≡ m ∷ []) × (flag_fault_of R eq row column (Some flags) ≡ None)
   one_flag place m one within is = (
-    chosen_one E 0 place flags branches m (one ∙ ap (λ p. p ∷ []) (omega arith)) within is,
-    flags_faultless E.base E.base_eq row column flags boolean (omega (arith, ap length one)),
+    chosen_one R eq 0 place flags branches m (one ∙ ap (λ p. p ∷ []) (omega arith)) within is,
+    flags_faultless R eq row column flags boolean (omega (arith, ap length one)),
   )
 
-module _ {F K : Type 0} (E : Extension F K) where
+module _ {F : Type 0} (R : Ring F) (eq : F → F → Bool) where
   -- nothing is collected of no lookups
-  pub no_sent : (row : ℕ) (before : List (SentMessage F)) → HasSentRow E row before before []
+  pub no_sent : (row : ℕ) (before : List (SentMessage F)) → HasSentRow R eq row before before []
   no_sent row before = record { messages = sym (append-nil (messages_of before)); faultless = refl }
 
   -- a row goes on by a lookup
   pub sent_more : (row column : ℕ) (before after longer : List (SentMessage F)) (sents : List (Sent F)) (next : Sent F) → length sents ≡ column
-      → messages_of longer ≡ messages_of after ++ next.messages → flag_fault_of E.base E.base_eq row column next.flags ≡ None
-      → HasSentRow E row before after sents → HasSentRow E row before longer (sents ++ next ∷ [])
+      → messages_of longer ≡ messages_of after ++ next.messages → flag_fault_of R eq row column next.flags ≡ None
+      → HasSentRow R eq row before after sents → HasSentRow R eq row before longer (sents ++ next ∷ [])
   sent_more row column before after longer sents next at longer_is none so_far = record {
     messages =
         longer_is ∙ ap (λ t. t ++ next.messages) so_far.messages
         ∙ flat_map_more (λ (s : Sent F). s.messages) (messages_of before) sents next;
-    faultless = row_faults-none (sent_flag_fault E.base E.base_eq) row column sents next at none so_far.faultless;
+    faultless = row_faults-none (sent_flag_fault R eq) row column sents next at none so_far.faultless;
   }
 
   -- a trace goes on by a row
   pub rows_more : (row : ℕ) (before after longer : List (SentMessage F)) (rows : List (List (Sent F))) (next : List (Sent F)) → length rows ≡ row
-      → HasSentRow E row after longer next → HasSentRows E before after rows → HasSentRows E before longer (rows ++ next ∷ [])
+      → HasSentRow R eq row after longer next → HasSentRows R eq before after rows → HasSentRows R eq before longer (rows ++ next ∷ [])
   rows_more row before after longer rows next at this so_far = record {
     messages =
         this.messages ∙ ap (λ t. t ++ flat_map (λ (s : Sent F). s.messages) next) so_far.messages
         ∙ flat_map_more (λ (r : List (Sent F)). flat_map (λ (s : Sent F). s.messages) r) (messages_of before) rows next;
-    faultless = trace_faults-none (sent_flag_fault E.base E.base_eq) row rows next at this.faultless so_far.faultless;
+    faultless = trace_faults-none (sent_flag_fault R eq) row rows next at this.faultless so_far.faultless;
   }
 
 -- row r is what the window of row r sends

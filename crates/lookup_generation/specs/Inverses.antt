@@ -1,4 +1,4 @@
--- What holds for every inverse that a domain may have, and a field as an extension of itself.
+-- What holds for every inverse that a domain may have.
 use Rattle.std.specs.Prelude.{◌≢◌, Bool}
 use Rattle.field.specs.Ring.{Ring, IsInverse}
 use Rattle.lookup_model.specs.Extension.{Extension, extension}
@@ -10,7 +10,3 @@ ForInverses {K} S Holds = (inverse : K → K) → ((a : K) → a ≢ S.zero → 
 -- It holds of this domain as an extension of this ring, with each such function as its inverse.
 abbrev pub ForExtensions : {F K : Type 0} → Ring F → (F → F → Bool) → Ring K → (K → K → Bool) → (F → K) → (Extension F K → Type 0) → Type 0
 ForExtensions R eq S is_same embed Holds = ForInverses S (λ inverse. Holds (extension R eq S is_same embed inverse))
-
--- a field as an extension of itself
-abbrev pub base_extension : {F : Type 0} → Ring F → (F → F → Bool) → (F → F) → Extension F F
-base_extension R eq inverse = extension R eq R eq (λ x. x) inverse

@@ -1,5 +1,6 @@
 -- What the steps of a row answer, over the builder of that row.
-use Rattle.std.specs.Prelude.{◌≡◌, ◌⊎◌, ℕ, None, Some, IsTrue, List, Result, MatchResult, false}
+use Rattle.std.specs.Prelude.{◌≡◌, ◌⊎◌, ℕ, None, Some, Bool, IsTrue, List, Result, MatchResult, false}
+use Rattle.field.specs.Ring.{Ring}
 use Rattle.expressions.specs.declared.base_expression.SymbolicExpression.{SymbolicExpression}
 use Rattle.lookup_model.specs.Denominators.{column_denominator}
 use Rattle.lookup_model.specs.Extension.{Extension}
@@ -18,11 +19,11 @@ use Rattle.lookup_generation.specs.declared.ratio.Ratio.{Ratio}
 use Rattle.lookup_generation.specs.declared.trace_builder.LookupTraceBuilder.{LookupTraceBuilder}
 
 -- The set flags among these, in a column on a row. Otherwise one is neither zero nor one.
-abbrev pub AnswersFlags : {F K : Type 0} → Extension F K → ℕ → ℕ → List F → Result SetFlags LookupError → Type 0
-AnswersFlags E row column flags result =
+abbrev pub AnswersFlags : {F : Type 0} → Ring F → (F → F → Bool) → ℕ → ℕ → List F → Result SetFlags LookupError → Type 0
+AnswersFlags R eq row column flags result =
     MatchResult result
-    (AreSetFlags E flags)
-    (λ e. (e ≡ Memory) ⊎ ((e ≡ FlagNotBoolean row column) × (are_boolean E.base E.base_eq flags ≡ false)))
+    (AreSetFlags R eq flags)
+    (λ e. (e ≡ Memory) ⊎ ((e ≡ FlagNotBoolean row column) × (are_boolean R eq flags ≡ false)))
 
 module _ {F K : Type 0} (E : Extension F K) (builder : LookupTraceBuilder F K) where
   -- the denominator of a key whose id is a column, over the builder's challenges

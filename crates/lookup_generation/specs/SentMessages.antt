@@ -1,7 +1,7 @@
 -- Messages while they are collected.
-use Rattle.std.specs.Prelude.{◌≡◌, ◌++◌, ℕ, List, [], map}
+use Rattle.std.specs.Prelude.{◌≡◌, ◌++◌, ℕ, Bool, List, [], map}
 use Rattle.std.specs.List.{flat_map}
-use Rattle.lookup_model.specs.Extension.{Extension}
+use Rattle.field.specs.Ring.{Ring}
 use Rattle.lookup_model.specs.FlagFault.{row_flag_faults, trace_flag_faults}
 use Rattle.lookup_model.specs.Message.{Message}
 use Rattle.lookup_model.specs.Plain.{trace_messages}
@@ -16,13 +16,13 @@ message_of m = record { key = record { id = m.id; tuple = m.tuple.items }; multi
 abbrev pub messages_of : {F : Type 0} → List (SentMessage F) → List (Message F)
 messages_of ms = map message_of ms
 
-module _ {F K : Type 0} (E : Extension F K) where
+module _ {F : Type 0} (R : Ring F) (eq : F → F → Bool) where
   -- After the earlier messages come those that the lookups of a row send, whose flags have no fault.
   pub record HasSentRow (row : ℕ) (before after : List (SentMessage F)) (sents : List (Sent F)) : Type 0 where
     pub messages : messages_of after ≡ messages_of before ++ flat_map (λ s. s.messages) sents
-    pub faultless : row_flag_faults E.base E.base_eq row sents ≡ []
+    pub faultless : row_flag_faults R eq row sents ≡ []
 
   -- The same for some rows.
   pub record HasSentRows (before after : List (SentMessage F)) (rows : List (List (Sent F))) : Type 0 where
     pub messages : messages_of after ≡ messages_of before ++ trace_messages rows
-    pub faultless : trace_flag_faults E.base E.base_eq rows ≡ []
+    pub faultless : trace_flag_faults R eq rows ≡ []

@@ -3,7 +3,7 @@ ghost use Rattle.std.specs.Prelude.{◌≡◌, ◌≢◌, ◌+◌, ◌<◌, All,
 ghost use Rattle.std.specs.List.{AllZip};
 ghost use Rattle.lookup_generation.specs.Selection.{ArePlaces, AreSetFlags};
 ghost use Rattle.lookup_generation.specs.TraceBuilder.{builder_layout, builder_window};
-ghost use Rattle.lookup_generation.specs.Inverses.{ForExtensions, base_extension};
+ghost use Rattle.lookup_generation.specs.Inverses.{ForExtensions};
 ghost use Rattle.lookup_generation.specs.ChunkColumns.{HasFlag, HoldSelected, key_denominator};
 ghost use Rattle.lookup_generation.specs.Fraction.{IsRatio};
 ghost use Rattle.lookup_generation.specs.RowAnswers.{AnswersExclusive, AnswersFlags};
@@ -43,10 +43,9 @@ fn with_flag<F: Field>(
     row: usize,
     column: usize,
 ) -> Result<SetFlags, LookupError>
-    ensures next { IfOk result (λ next.
-        let E = base_extension F.ring F.eq F.inverse in
-        (flags : List F) → length flags ≡ place → AreSetFlags E flags set
-        → AreSetFlags E (flags ++ flag ∷ []) next) }
+    ensures next { IfOk result (λ next. (flags : List F) → length flags ≡ place
+        → AreSetFlags F.ring F.eq flags set
+        → AreSetFlags F.ring F.eq (flags ++ flag ∷ []) next) }
     ensures refused { IfErr result (λ e. (e ≡ LookupError.FlagNotBoolean row column)
         × (flag ≢ F.ring.zero) × (flag ≢ F.ring.one)) }
 {
@@ -69,8 +68,7 @@ pub(crate) fn set_flags<F: Field, EF: Domain>(
     column: usize,
 ) -> Result<SetFlags, LookupError>
     requires { AllFit (builder_layout builder.now) flags.now }
-    ensures { let E = base_extension F.ring F.eq F.inverse in
-        AnswersFlags E builder.now.row column
+    ensures { AnswersFlags F.ring F.eq builder.now.row column
         (values F.ring (builder_window builder.now) flags.now) result }
 {
     let mut set = SetFlags::Nothing;
@@ -89,9 +87,8 @@ fn set_flags_at<F: Field, EF: ExtensionDomain<F>>(
     column: usize,
 ) -> Result<SetFlags, LookupError>
     requires { All (λ c. place < length c.flags.items) columns.now }
-    ensures { let E = base_extension F.ring F.eq F.inverse in
-        (flags : List F) → AllZip (HasFlag place) columns.now flags
-        → AnswersFlags E row column flags result }
+    ensures { (flags : List F) → AllZip (HasFlag place) columns.now flags
+        → AnswersFlags F.ring F.eq row column flags result }
 {
     let mut set = SetFlags::Nothing;
     for branch in 0..columns.len() {

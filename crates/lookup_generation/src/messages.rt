@@ -5,7 +5,6 @@ ghost use Rattle.expressions.specs.Layout.{Fits, layout_of_traces};
 ghost use Rattle.expressions.specs.Tree.{tree_of};
 ghost use Rattle.lookup_generation.specs.SentMessages.{HasSentRow, HasSentRows, messages_of};
 ghost use Rattle.lookup_generation.specs.TraceBuilder.{builder_layout, builder_window};
-ghost use Rattle.lookup_model.specs.Extension.{extension};
 ghost use Rattle.lookup_model.specs.Fault.{flag_fault_of};
 ghost use Rattle.lookup_model.specs.FlagFault.{row_flag_faults, trace_flag_faults};
 ghost use Rattle.lookup_model.specs.Records.{AllFit, DoFit, HasEqualLengths, IsWithin};
@@ -17,7 +16,7 @@ use crate::exclusive::{SetFlags, set_flags};
 use crate::generation::row_builder;
 use crate::trace_builder::LookupTraceBuilder;
 use air::SymbolicExpression;
-use field::{ExtensionField, Field};
+use field::Field;
 use lookup_model::{Lookup, LookupError};
 use matrix::RowMajorMatrix;
 use std::alloc::Global;
@@ -31,10 +30,10 @@ pub struct SentMessage<F> {
 }
 
 /// The values of a tuple on the builder's row.
-fn tuple_values<F: Field, EF: Field>(
+fn tuple_values<F: Field>(
     alloc: Global,
     tuple: &[SymbolicExpression<F>],
-    builder: &LookupTraceBuilder<'_, F, EF>,
+    builder: &LookupTraceBuilder<'_, F, F>,
 ) -> Result<Vec<F>, LookupError>
     requires { AllFit (builder_layout builder.now) tuple.now }
     ensures { MatchResult result
@@ -49,13 +48,13 @@ fn tuple_values<F: Field, EF: Field>(
 }
 
 /// Appends the message of one branch.
-fn push_branch<F: Field, EF: Field>(
+fn push_branch<F: Field>(
     alloc: Global,
     messages: &mut Vec<SentMessage<F>>,
     id: usize,
     tuple: &[SymbolicExpression<F>],
     multiplicity: &SymbolicExpression<F>,
-    builder: &LookupTraceBuilder<'_, F, EF>,
+    builder: &LookupTraceBuilder<'_, F, F>,
 ) -> Result<(), LookupError>
     requires tuple_fits { AllFit (builder_layout builder.now) tuple.now }
     requires multiplicity_fits { Fits (builder_layout builder.now) (tree_of multiplicity.now) }
@@ -75,12 +74,12 @@ fn push_branch<F: Field, EF: Field>(
 }
 
 /// Appends the messages of all branches of a lookup.
-fn push_branches<F: Field, EF: Field>(
+fn push_branches<F: Field>(
     alloc: Global,
     messages: &mut Vec<SentMessage<F>>,
     id: usize,
     lookup: &Lookup<F>,
-    builder: &LookupTraceBuilder<'_, F, EF>,
+    builder: &LookupTraceBuilder<'_, F, F>,
 ) -> Result<(), LookupError>
     requires lengths { HasEqualLengths lookup.now }
     requires within { IsWithin (builder_layout builder.now) lookup.now }
@@ -100,13 +99,13 @@ fn push_branches<F: Field, EF: Field>(
 /// Appends the message of the branch whose flag is set, if one is.
 ///
 /// Refuses a flag that is neither zero nor one, and then more than one set flag.
-fn push_selected<F: Field, EF: ExtensionField<F>>(
+fn push_selected<F: Field>(
     alloc: Global,
     messages: &mut Vec<SentMessage<F>>,
     id: usize,
     lookup: &Lookup<F>,
     flags: &[SymbolicExpression<F>],
-    builder: &LookupTraceBuilder<'_, F, EF>,
+    builder: &LookupTraceBuilder<'_, F, F>,
 ) -> Result<(), LookupError>
     requires lengths { HasEqualLengths lookup.now }
     requires flag_number { length flags.now ≡ length lookup.now.elements.items }
@@ -138,12 +137,12 @@ fn push_selected<F: Field, EF: ExtensionField<F>>(
 /// Appends the messages that a lookup sends on the builder's row.
 ///
 /// Refuses the fault of its flags, if they have one.
-fn push_sent<F: Field, EF: ExtensionField<F>>(
+fn push_sent<F: Field>(
     alloc: Global,
     messages: &mut Vec<SentMessage<F>>,
     id: usize,
     lookup: &Lookup<F>,
-    builder: &LookupTraceBuilder<'_, F, EF>,
+    builder: &LookupTraceBuilder<'_, F, F>,
 ) -> Result<(), LookupError>
     requires lengths { HasEqualLengths lookup.now }
     requires within { IsWithin (builder_layout builder.now) lookup.now }
@@ -163,20 +162,19 @@ fn push_sent<F: Field, EF: ExtensionField<F>>(
 /// Appends the messages that the lookups of an AIR send on the builder's row.
 ///
 /// Refuses the first fault of their flags.
-fn push_row_messages<F: Field, EF: ExtensionField<F>>(
+fn push_row_messages<F: Field>(
     alloc: Global,
     messages: &mut Vec<SentMessage<F>>,
     ids: &[usize],
     lookups: &[Lookup<F>],
-    builder: &LookupTraceBuilder<'_, F, EF>,
+    builder: &LookupTraceBuilder<'_, F, F>,
 ) -> Result<(), LookupError>
     requires fit { DoFit (builder_layout builder.now) lookups.now }
     requires ids { length ids.now ≡ length lookups.now }
-    ensures { let E = extension F.ring F.eq EF.ring EF.eq EF.embed EF.inverse in
-        let sents = sent_row_under F.ring F.eq (λ l. slice_index_or ids.now l.column 0)
+    ensures { let sents = sent_row_under F.ring F.eq (λ l. slice_index_or ids.now l.column 0)
         (builder_window builder.now) lookups.now in
         MatchResult result
-        (λ _. HasSentRow E builder.now.row messages.old.items messages.new.items sents)
+        (λ _. HasSentRow F.ring F.eq builder.now.row messages.old.items messages.new.items sents)
         (λ e. (e ≡ LookupError.Memory)
         ⊎ (slice_get (row_flag_faults F.ring F.eq builder.now.row sents) 0 ≡ Some e)) }
 {
@@ -192,7 +190,7 @@ fn push_row_messages<F: Field, EF: ExtensionField<F>>(
 ///
 /// Refuses the first fault of flags, in the order row, lookup: a flag that is neither zero nor one,
 /// then more than one set flag. Also fails when out of memory.
-pub fn push_messages<F: Field, EF: ExtensionField<F>>(
+pub fn push_messages<F: Field>(
     alloc: Global,
     messages: &mut Vec<SentMessage<F>>,
     main: &RowMajorMatrix<F>,
@@ -205,15 +203,14 @@ pub fn push_messages<F: Field, EF: ExtensionField<F>>(
     requires fit { DoFit (layout_of_traces main.now (option_copied preprocessed) public_values.now)
         lookups.now }
     requires ids { length ids.now ≡ length lookups.now }
-    ensures { let E = extension F.ring F.eq EF.ring EF.eq EF.embed EF.inverse in
-        let rows = sent_rows_under F.ring F.eq (λ l. slice_index_or ids.now l.column 0) main.now
+    ensures { let rows = sent_rows_under F.ring F.eq (λ l. slice_index_or ids.now l.column 0) main.now
         (option_copied preprocessed.entry) public_values.now lookups.now in
         MatchResult result
-        (λ _. HasSentRows E messages.old.items messages.new.items rows)
+        (λ _. HasSentRows F.ring F.eq messages.old.items messages.new.items rows)
         (λ e. (e ≡ LookupError.Memory)
         ⊎ (slice_get (trace_flag_faults F.ring F.eq rows) 0 ≡ Some e)) }
 {
-    let challenges: &[EF] = &[];
+    let challenges: &[F] = &[];
     let height = main.height();
     for row in 0..height {
         let builder = row_builder(main, preprocessed, public_values, challenges, height, row);

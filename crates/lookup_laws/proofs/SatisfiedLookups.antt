@@ -49,7 +49,7 @@ module _ {F K : Type 0} {E : Extension F K} (laws : IsLawful E) (challenges : Li
       additive_satisfied laws challenges column w zs f f_is (additive_none E of_key row column (branches_of zs) none)
   by_flags (Some fs) zs f same f_is none =
       let passed = exclusive_none E of_key row column fs (chosen E.base E.base_eq fs (branches_of zs)) none in
-      selection_satisfied laws of_key fs (branches_of zs) _ f same passed.0 (omega (arith, passed.1, chosen_few E 0 fs (branches_of zs))) passed.2
+      selection_satisfied laws of_key fs (branches_of zs) _ f same passed.0 (omega (arith, passed.1, chosen_few E.base E.base_eq 0 fs (branches_of zs))) passed.2
       (ap (λ t. E.ring.add t (sub_in E.ring E.ring.one (sum_in E.ring (map E.embed fs)))) (by_column fs zs)) f_is
 
   -- there are as many flags as branches

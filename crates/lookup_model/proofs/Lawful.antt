@@ -1,5 +1,5 @@
 -- Lawful extensions from the laws of their parts.
-use Rattle.std.specs.Prelude.{◌≡◌, ◌≢◌, Bool, IsTrue, ◌↔◌, refl}
+use Rattle.std.specs.Prelude.{◌≡◌, ◌≢◌, Bool, IsTrue, ◌↔◌}
 use Rattle.field.specs.Ring.{Ring, IsCommutativeRing, IsDomain, IsEmbedding, IsInverse}
 use Rattle.lookup_model.specs.Extension.{IsLawful, extension}
 
@@ -16,10 +16,3 @@ lawful_extension base base_eq ring domain eq embeds inverse = record {
   embeds = embeds;
   inverse = inverse;
 }
-
--- a lawful field is an extension of itself
-pub lawful_over_itself : {F : Type 0} {R : Ring F} {eq : F → F → Bool} {inverse : F → F}
-    → IsCommutativeRing R → ((a b : F) → IsTrue (eq a b) ↔ (a ≡ b)) → IsDomain R → ((a : F) → a ≢ R.zero → IsInverse R a (inverse a))
-    → IsLawful (extension R eq R eq (λ x. x) inverse)
-lawful_over_itself ring eq domain inverse =
-    lawful_extension ring eq ring domain eq (record { zero = refl; one = refl; add = λ a b. refl; mul = λ a b. refl; injective = λ a b e. e }) inverse

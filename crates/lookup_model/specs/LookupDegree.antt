@@ -6,6 +6,7 @@ use Rattle.field.specs.Sums.{taken_out}
 use Rattle.expressions.specs.Degree.{degree_of}
 use Rattle.expressions.specs.Tree.{tree_of}
 use Rattle.expressions.specs.declared.base_expression.SymbolicExpression.{SymbolicExpression}
+use Rattle.lookup_model.specs.Outline.{Outline}
 use Rattle.lookup_model.specs.declared.error.LookupError.{LookupError}
 use Rattle.lookup_model.specs.declared.error.LookupError.TheVariants.{DegreeOverflow}
 use Rattle.lookup_model.specs.declared.types.Lookup.{Lookup}
@@ -42,6 +43,10 @@ module _ {F : Type 0} (t : ℕ) where
   abbrev pub lookup_branch_degrees : Lookup F → List BranchDegrees
   lookup_branch_degrees lookup = map (λ b. branch_degrees b.0.items b.1) (zip lookup.elements.items lookup.multiplicities.items)
 
+  -- those of a lookup by its fields
+  abbrev pub outline_branch_degrees : Outline (SymbolicExpression F) → List BranchDegrees
+  outline_branch_degrees o = map (λ b. branch_degrees b.0 b.1) (zip o.elements o.multiplicities)
+
 -- the degree of the product of all denominators
 abbrev pub additive_denominator_degree : List BranchDegrees → ℕ
 additive_denominator_degree bs = total (map (λ b. b.tuple) bs)
@@ -68,6 +73,10 @@ constraint_degree_of (Some flags) bs = max (1 + exclusive_denominator_degree fla
 abbrev pub lookup_degree : {F : Type 0} → ℕ → Lookup F → ℕ
 lookup_degree t lookup =
     constraint_degree_of (option_map (λ flags. map (expression_degree t) flags.items) lookup.flags) (lookup_branch_degrees t lookup)
+
+-- the degree of each lookup with these fields
+abbrev pub outline_degree : {F : Type 0} → ℕ → Outline (SymbolicExpression F) → ℕ
+outline_degree t o = constraint_degree_of (option_map (map (expression_degree t)) o.flags) (outline_branch_degrees t o)
 
 -- The answer of a call for a degree: the degree if it fits 64 bits, otherwise the refusal. Every
 -- sum of degrees that a degree is made of is at most that degree. So one of them does not fit

@@ -6,11 +6,11 @@ use Rattle.std.specs.List.{AllByRecursion, filter, filter_map, flat_map, zip}
 use Rattle.std.specs.Option.{option_map}
 use Rattle.expressions.specs.declared.base_expression.SymbolicExpression.{SymbolicExpression}
 use Rattle.lookup_laws.proofs.Regrouping.{All-filter, IsSeparate, filter_passes, first_seen_separate}
-use Rattle.lookup_model.specs.LookupDegree.{branch_degrees, constraint_degree_of, expression_degree}
+use Rattle.lookup_model.specs.LookupDegree.{branch_degrees, constraint_degree_of, expression_degree, outline_branch_degrees, outline_degree}
 use Rattle.lookup_model.specs.Outline.{Outline}
 use Rattle.lookup_packing.specs.Buses.{bus_names, is_named, on_bus, same_name}
 use Rattle.lookup_packing.specs.Cuts.{AreClosed, IsCut, part_items}
-use Rattle.lookup_packing.specs.Fewest.{AnswersDegree, HasFewestColumns, outline_branches, outline_degree}
+use Rattle.lookup_packing.specs.Fewest.{AnswersDegree, HasFewestColumns}
 use Rattle.lookup_packing.specs.Packing.{AreFilled, IsAbove, IsFilling, IsPacking, additive, is_additive, joined, numbered_from, passing, trial}
 use Rattle.lookup_packing.proofs.FewestParts.{AreFull, fewest_parts}
 use Rattle.lookup_packing.proofs.FillLaws.{joined_more, with_next}
@@ -33,22 +33,22 @@ module _ {F : Type 0} where
 
   -- the branches of several lookups in one
   branches_joined : (os : List (Outline (SymbolicExpression F))) → AllByRecursion IsPlain os
-      → map (λ b. branch_degrees 0 b.0 b.1) (zip (flat_map (λ o. o.elements) os) (flat_map (λ o. o.multiplicities) os)) ≡ flat_map outline_branches os
+      → map (λ b. branch_degrees 0 b.0 b.1) (zip (flat_map (λ o. o.elements) os) (flat_map (λ o. o.multiplicities) os)) ≡ flat_map (outline_branch_degrees 0) os
   branches_joined [] plain = refl
   branches_joined (o ∷ os) plain =
       ap (map (λ b. branch_degrees 0 b.0 b.1)) (zip-append o.elements (flat_map (λ p. p.elements) os) o.multiplicities (flat_map (λ p. p.multiplicities) os) (plain.0).lengths)
       ∙ map-append (λ b. branch_degrees 0 b.0 b.1) (zip o.elements o.multiplicities) (zip (flat_map (λ p. p.elements) os) (flat_map (λ p. p.multiplicities) os))
-      ∙ ap (λ t. outline_branches o ++ t) (branches_joined os plain.1)
+      ∙ ap (λ t. outline_branch_degrees 0 o ++ t) (branches_joined os plain.1)
 
   -- so the degree of a part is that of all its branches
-  joined_degree : (part : Outline (SymbolicExpression F) × List (Outline (SymbolicExpression F))) → AllByRecursion IsPlain (part_items part) → outline_degree (joined part) ≡ constraint_degree_of None (flat_map outline_branches (part_items part))
+  joined_degree : (part : Outline (SymbolicExpression F) × List (Outline (SymbolicExpression F))) → AllByRecursion IsPlain (part_items part) → outline_degree 0 (joined part) ≡ constraint_degree_of None (flat_map (outline_branch_degrees 0) (part_items part))
   joined_degree part plain =
-      ap (λ flags. constraint_degree_of (option_map (λ fs. map (expression_degree 0) fs) flags) (outline_branches (joined part))) (plain.0).no_flags
+      ap (λ flags. constraint_degree_of (option_map (map (expression_degree 0)) flags) (outline_branch_degrees 0 (joined part))) (plain.0).no_flags
       ∙ ap (constraint_degree_of None) (branches_joined (part_items part) plain)
 
   module _ (most : ℕ) where
     abbrev Fits : List (Outline (SymbolicExpression F)) → Type 0
-    Fits os = constraint_degree_of None (flat_map outline_branches os) ≤ most
+    Fits os = constraint_degree_of None (flat_map (outline_branch_degrees 0) os) ≤ most
 
     -- parts of a greedy filling are full
     full : (parts : List (Outline (SymbolicExpression F) × List (Outline (SymbolicExpression F)))) → AllByRecursion IsPlain (flat_map part_items parts) → AreClosed (IsAbove AnswersDegree most) parts → AreFull Fits parts
@@ -61,24 +61,24 @@ module _ {F : Type 0} where
       where
         not_fit : (p : Outline (SymbolicExpression F) × List (Outline (SymbolicExpression F))) (o : Outline (SymbolicExpression F)) → AllByRecursion IsPlain (part_items (with_next p o)) → IsAbove AnswersDegree most p o → Fits (part_items p ++ o ∷ []) → ⊥
         not_fit p o plain above fits =
-            let degree : outline_degree (trial (joined p) o) ≡ constraint_degree_of None (flat_map outline_branches (part_items p ++ o ∷ [])) = sym (ap outline_degree (joined_more p o)) ∙ joined_degree (with_next p o) plain in
+            let degree : outline_degree 0 (trial (joined p) o) ≡ constraint_degree_of None (flat_map (outline_branch_degrees 0) (part_items p ++ o ∷ [])) = sym (ap (outline_degree 0) (joined_more p o)) ∙ joined_degree (with_next p o) plain in
             omega (arith, above.1, above.2, fits, degree)
 
     -- what a split asks of its parts is that they fit
     split_fits : (split : List (Outline (SymbolicExpression F) × List (Outline (SymbolicExpression F)))) → AllByRecursion IsPlain (flat_map part_items split)
-        → AllByRecursion (λ part. (part.1 ≡ []) ⊎ (outline_degree (joined part) ≤ most)) split → AllByRecursion (λ part. (part.1 ≡ []) ⊎ Fits (part_items part)) split
+        → AllByRecursion (λ part. (part.1 ≡ []) ⊎ (outline_degree 0 (joined part) ≤ most)) split → AllByRecursion (λ part. (part.1 ≡ []) ⊎ Fits (part_items part)) split
     split_fits [] plain within = tt
     split_fits (p ∷ ps) plain within = (here within.0, split_fits ps (all_back IsPlain (part_items p) (flat_map part_items ps) plain) within.1)
       where
-        here : (p.1 ≡ []) ⊎ (outline_degree (joined p) ≤ most) → (p.1 ≡ []) ⊎ Fits (part_items p)
+        here : (p.1 ≡ []) ⊎ (outline_degree 0 (joined p) ≤ most) → (p.1 ≡ []) ⊎ Fits (part_items p)
         here (inl one) = inl one
         here (inr le) = inr (subst (λ n. n ≤ most) (joined_degree p (all_front IsPlain (part_items p) (flat_map part_items ps) plain)) le)
 
     -- a greedy filling of a bus has no more columns than any split of its lookups has parts
     pub fewest_of_bus : (members : List (Outline (SymbolicExpression F))) (cut split : List (Outline (SymbolicExpression F) × List (Outline (SymbolicExpression F)))) → AllByRecursion IsPlain members → IsFilling AnswersDegree most cut members
-        → IsCut split members → AllByRecursion (λ part. (part.1 ≡ []) ⊎ (outline_degree (joined part) ≤ most)) split → length cut ≤ length split
+        → IsCut split members → AllByRecursion (λ part. (part.1 ≡ []) ⊎ (outline_degree 0 (joined part) ≤ most)) split → length cut ≤ length split
     fewest_of_bus members cut split plain filling is_cut within =
-        fewest_parts Fits (degree_hereditary outline_branches most) members cut split filling.0
+        fewest_parts Fits (degree_hereditary (outline_branch_degrees 0) most) members cut split filling.0
         (full cut (subst (λ (os : List (Outline (SymbolicExpression F))). AllByRecursion IsPlain os) (sym filling.0) plain) filling.1.1)
         (is_cut, split_fits split (subst (λ (os : List (Outline (SymbolicExpression F))). AllByRecursion IsPlain os) (sym is_cut) plain) within)
 
@@ -165,7 +165,7 @@ module _ {F : Type 0} (most : ℕ) (before : List (Outline (SymbolicExpression F
       ∙ (λ i. other_columns name n apart.0 cut (members_cut n cut filled.0) i ++ none_on ns cuts apart.1 filled.1 i)
 
   fewest_in : (names : List (List ℕ)) (cuts : List (List (Outline (SymbolicExpression F) × List (Outline (SymbolicExpression F))))) → IsSeparate same_name names → AreFilled AnswersDegree most (additive before) names cuts
-      → AllByRecursion IsPlain (on_bus name (additive before)) → (split : List (Outline (SymbolicExpression F) × List (Outline (SymbolicExpression F)))) → IsCut split (on_bus name (additive before)) → AllByRecursion (λ part. (part.1 ≡ []) ⊎ (outline_degree (joined part) ≤ most)) split
+      → AllByRecursion IsPlain (on_bus name (additive before)) → (split : List (Outline (SymbolicExpression F) × List (Outline (SymbolicExpression F)))) → IsCut split (on_bus name (additive before)) → AllByRecursion (λ part. (part.1 ≡ []) ⊎ (outline_degree 0 (joined part) ≤ most)) split
       → length (on_bus name (additive (flat_map (λ cut. map joined cut) cuts))) ≤ length split
   fewest_in [] [] separate filled plain split is_cut within = omega arith
   fewest_in [] (cut ∷ cuts) separate filled plain split is_cut within = absurd filled

@@ -38,12 +38,6 @@ module _ {A B : Type 0} where
   AllZip-map R f (x ∷ xs) [] h = absurd h
   AllZip-map R f (x ∷ xs) (c ∷ cs) h = (h.0, AllZip-map R f xs cs h.1)
 
-  pub AllZip-push : (R : A → B → Type 0) (xs : List A) (ys : List B) (x : A) (y : B) → AllZip R xs ys → R x y → AllZip R (xs ++ x ∷ []) (ys ++ y ∷ [])
-  AllZip-push R [] [] x y all r = (r, tt)
-  AllZip-push R [] (b ∷ vs) x y all r = absurd all
-  AllZip-push R (a ∷ us) [] x y all r = absurd all
-  AllZip-push R (a ∷ us) (b ∷ vs) x y all r = (all.0, AllZip-push R us vs x y all.1 r)
-
 module _ {A : Type 0} where
   -- an item of a list with one more at the end is that one, or stands before it
   pub snoc_split : (xs front back : List A) (x y : A) → xs ++ x ∷ [] ≡ front ++ y ∷ back → ((xs ≡ front) × (x ≡ y)) ⊎ ((rest : List A) × (xs ≡ front ++ y ∷ rest))

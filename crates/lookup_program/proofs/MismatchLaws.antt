@@ -62,15 +62,15 @@ flags_boolean {F} E machine alpha beta input faultless i air is r lt =
     let trace = air_trace air input in
     let sends : ℕ → Sent F = λ k. air_sends E.base E.base_eq air (row trace k) in
     let lawful = lawful_rows E (table_denominator E (run_table E alpha beta)) (air_rows E alpha beta input air) (faultless i air is) in
-    let here : HasLawfulFlags E (sends (0 + r)) = at_row (HasLawfulFlags E) sends 0 (height trace) lawful r lt in
+    let here : HasLawfulFlags E.base E.base_eq (sends (0 + r)) = at_row (HasLawfulFlags E.base E.base_eq) sends 0 (height trace) lawful r lt in
     let same : 0 + r ≡ r = omega arith in
-    boolean (sends r) (subst (λ k. HasLawfulFlags E (sends k)) same here)
+    boolean (sends r) (subst (λ k. HasLawfulFlags E.base E.base_eq (sends k)) same here)
   where
     by_flags : (flags : Option (List F)) → IfSome flags (IsLawfulSelection E.base E.base_eq) → IfSome flags (λ fs. are_boolean E.base E.base_eq fs ≡ true)
     by_flags None lawful = tt
     by_flags (Some fs) lawful = lawful.0
 
-    boolean : (s : Sent F) → HasLawfulFlags E s → HasBooleanFlags E.base E.base_eq s
+    boolean : (s : Sent F) → HasLawfulFlags E.base E.base_eq s → HasBooleanFlags E.base E.base_eq s
     boolean s lawful = by_flags s.flags lawful
 
 module _ {F : Type 0} {R : Ring F} (laws : IsCommutativeRing R) (eq : F → F → Bool) (decides : (a b : F) → Decides (eq a b) (a ≡ b)) (input : Matrix F) where

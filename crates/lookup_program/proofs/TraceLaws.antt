@@ -3,14 +3,7 @@ use Rattle.std.proofs.Common.{◌≡◌, ℕ, ◌+◌, List, [], ◌∷◌, ◌+
 use Rattle.std.proofs.lemmas.Grind.{flat_map-append}
 use Rattle.std.proofs.lemmas.List.{append-nil, map-id}
 use Rattle.std.proofs.lemmas.List.FromFn.{map-range_with_len_more}
-use Rattle.std.specs.List.{AllZip, flat_map, range_with_len}
-
--- one more pair
-pub AllZip-push : {A B : Type 0} (P : A → B → Type 0) (xs : List A) (ys : List B) (x : A) (y : B) → AllZip P xs ys → P x y → AllZip P (xs ++ x ∷ []) (ys ++ y ∷ [])
-AllZip-push P [] [] x y all here = (here, tt)
-AllZip-push P [] (b ∷ ys) x y all here = absurd all
-AllZip-push P (a ∷ xs) [] x y all here = absurd all
-AllZip-push P (a ∷ xs) (b ∷ ys) x y all here = (all.0, AllZip-push P xs ys x y all.1 here)
+use Rattle.std.specs.List.{flat_map, range_with_len}
 
 -- one more part
 pub more_parts : {T : Type 0} (part : ℕ → List T) (n : ℕ) → flat_map part (range_with_len 0 (n + 1)) ≡ flat_map part (range_with_len 0 n) ++ part n

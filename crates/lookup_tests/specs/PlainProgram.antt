@@ -1,6 +1,6 @@
 -- What the plain program's messages mean.
 use Rattle.std.specs.Prelude.{◌≡◌, ℕ, Bool, false, List, None, map}
-use Rattle.std.specs.List.{enumerate_from, filter, list_any}
+use Rattle.std.specs.List.{list_any}
 use Rattle.field.specs.Ring.{Ring}
 use Rattle.field.specs.Sums.{sum_in}
 use Rattle.lookup_model.specs.Extension.{Extension}
@@ -26,10 +26,6 @@ sent_of ms = record { flags = None; messages = messages_of ms }
 -- whether the denominator of a key whose net is not zero is zero
 abbrev pub net_vanishes : {F K : Type 0} → Extension F K → (Key F → K) → List (Message F) → Bool
 net_vanishes E denominator messages = list_any (λ key. E.eq (denominator key) E.ring.zero) (unbalanced_keys E.base E.base_eq messages)
-
--- the indices of the elements that are one
-abbrev pub places_of_ones : {F : Type 0} → Ring F → (F → F → Bool) → List F → List ℕ
-places_of_ones R eq xs = map (λ p. p.0) (filter (λ p. eq p.1 R.one) (enumerate_from 0 xs))
 
 -- a key with its net, as a message
 abbrev pub net_message : {F : Type 0} → Ring F → (F → F → Bool) → List (Message F) → Key F → Message F

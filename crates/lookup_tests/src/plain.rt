@@ -3,10 +3,10 @@
 ghost use Rattle.std.specs.Prelude.{◌≡◌, ◌≢◌, ◌+◌, ◌*◌, ◌<◌, ◌⊎◌, ◌||◌, All, IfOk, IsTrue, List, [], ◌∷◌, Some, false, length, map, MatchOption, MatchResult};
 ghost use Rattle.std.specs.List.{list_all, list_any};
 ghost use Rattle.field.specs.Polynomial.{combined};
-ghost use Rattle.lookup_tests.specs.PlainProgram.{IsFractionOf, message_of, messages_of, net_vanishes, places_of_ones, sent_of};
+ghost use Rattle.lookup_tests.specs.PlainProgram.{IsFractionOf, message_of, messages_of, net_vanishes, sent_of};
 ghost use Rattle.lookup_model.specs.Denominators.{column_denominator};
 ghost use Rattle.lookup_model.specs.Extension.{extension};
-ghost use Rattle.lookup_model.specs.Fault.{fault_of, vanishes};
+ghost use Rattle.lookup_model.specs.Fault.{fault_of, set_places, vanishes};
 ghost use Rattle.lookup_model.specs.Message.{Message, same_key};
 ghost use Rattle.lookup_model.specs.Net.{net};
 ghost use Rattle.lookup_model.specs.Plain.{counted, net_sum, plain_fraction, quotient};
@@ -148,7 +148,7 @@ fn is_boolean<F: Field>(flag: F) -> bool
 
 /// The places of the flags that are one, in order.
 fn set_places<F: Field>(alloc: Global, flags: &[F]) -> Result<Vec<usize>, AllocError>
-    ensures { IfOk result (λ places. places.items ≡ places_of_ones F.ring F.eq flags.now) }
+    ensures { IfOk result (λ places. places.items ≡ set_places F.ring F.eq 0 flags.now) }
 {
     let mut places = Vec::new(alloc);
     for place in 0..flags.len() {

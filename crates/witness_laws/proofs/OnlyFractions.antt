@@ -41,10 +41,10 @@ module _ {F K : Type 0} {E : Extension F K} (laws : IsLawful E) where
         ((λ i. E.ring.add (sym (selected_sum laws (λ (m : Message F). denominator m.key.tuple) fs bs lawful) i) (sub_in E.ring E.ring.one (sym (flags_sum laws fs bs same lawful) i))) ∙ e)
 
     -- with flags or without
-    pub denominator_nonzero : (flags : Option (List F)) (bs : List (Message F)) → IfSome flags (λ fs. length fs ≡ length bs) → HasLawfulFlags E (sent E.base E.base_eq flags bs) → AreNonzero (sent E.base E.base_eq flags bs).messages → fraction_denominator E denominator flags bs ≢ E.ring.zero
+    pub denominator_nonzero : (flags : Option (List F)) (bs : List (Message F)) → IfSome flags (λ fs. length fs ≡ length bs) → HasLawfulFlags E.base E.base_eq (sent E.base E.base_eq flags bs) → AreNonzero (sent E.base E.base_eq flags bs).messages → fraction_denominator E denominator flags bs ≢ E.ring.zero
     denominator_nonzero None bs same lawful each = additive_nonzero bs each
     denominator_nonzero (Some fs) bs same lawful each =
-        exclusive_nonzero fs bs same lawful.0 (omega (arith, lawful.1, chosen_few E 0 fs bs)) each
+        exclusive_nonzero fs bs same lawful.0 (omega (arith, lawful.1, chosen_few E.base E.base_eq 0 fs bs)) each
 
   -- two fractions that satisfy one equation are one
   pub one_fraction : (u v f g : K) → u ≢ E.ring.zero → sub_in E.ring (E.ring.mul u f) v ≡ E.ring.zero → sub_in E.ring (E.ring.mul u g) v ≡ E.ring.zero → f ≡ g
@@ -62,10 +62,10 @@ module _ {F K : Type 0} {E : Extension F K} (laws : IsLawful E) where
         by_test false e rest = rest
 
     -- so a lookup with lawful flags has no fault
-    pub no_fault : (s : Sent F) → HasLawfulFlags E s → NoneVanishes E denominator s.messages → fault_of E denominator row column s ≡ None
+    pub no_fault : (s : Sent F) → HasLawfulFlags E.base E.base_eq s → NoneVanishes E denominator s.messages → fault_of E denominator row column s ≡ None
     no_fault s lawful each = by_flags s.flags s.messages lawful each
       where
-        by_flags : (flags : Option (List F)) (ms : List (Message F)) → HasLawfulFlags E (record { flags = flags; messages = ms }) → NoneVanishes E denominator ms → fault_of E denominator row column (record { flags = flags; messages = ms }) ≡ None
+        by_flags : (flags : Option (List F)) (ms : List (Message F)) → HasLawfulFlags E.base E.base_eq (record { flags = flags; messages = ms }) → NoneVanishes E denominator ms → fault_of E denominator row column (record { flags = flags; messages = ms }) ≡ None
         by_flags None ms lawful each =
             additive_faultless E denominator row column ms (none_vanish (counted E.base E.base_eq ms) (All-filter (λ m. denominator m.key ≢ E.ring.zero) _ ms each))
         by_flags (Some fs) ms lawful each = exclusive_faultless E denominator row column fs ms lawful.0 lawful.1 (none_vanish ms each)

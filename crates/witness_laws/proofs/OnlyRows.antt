@@ -73,7 +73,7 @@ module _ {F K : Type 0} {E : Extension F K} (laws : IsLawful E) (challenges : Li
   put_together a b c e =
       ring_given laws.ring (a ∷ b ∷ c ∷ []) ((con 1, (var 2 :- var 0) :- var 1, con 0) ∷ []) (var 2) (var 0 :+ var 1) (e, tt) refl
 
-  module _ (lawful : AllByRecursion (AllByRecursion (HasLawfulFlags E)) rows) (none : NoneVanishes E den (trace_messages rows)) (auxiliary : Matrix K) (terminal : Option (LookupTerminal K)) (satisfied : IsSatisfied E main preprocessed public_values lookups challenges auxiliary terminal) where
+  module _ (lawful : AllByRecursion (AllByRecursion (HasLawfulFlags E.base E.base_eq)) rows) (none : NoneVanishes E den (trace_messages rows)) (auxiliary : Matrix K) (terminal : Option (LookupTerminal K)) (satisfied : IsSatisfied E main preprocessed public_values lookups challenges auxiliary terminal) where
     abbrev window_of : ℕ → ExtWindow F K
     window_of r = witness_window main preprocessed public_values challenges auxiliary terminal r
 
@@ -81,11 +81,11 @@ module _ {F K : Type 0} {E : Extension F K} (laws : IsLawful E) (challenges : Li
     IsZeroAt r constraint = constraint.meaning (window_of r) ≡ E.ring.zero
 
     -- the flags of one lookup on one row, and the denominators of its messages
-    lawful_at : (r : ℕ) → r < height main → (k : ℕ) (lookup : Lookup F) → k < length lookups → lookup ≡ get_or lookups k lookup → HasLawfulFlags E (sent_of r lookup)
+    lawful_at : (r : ℕ) → r < height main → (k : ℕ) (lookup : Lookup F) → k < length lookups → lookup ≡ get_or lookups k lookup → HasLawfulFlags E.base E.base_eq (sent_of r lookup)
     lawful_at r lt k lookup below is =
-        let row_lawful : AllByRecursion (HasLawfulFlags E) (sents_of r) =
-        subst (AllByRecursion (HasLawfulFlags E)) (sents_at r lt) (all_here (AllByRecursion (HasLawfulFlags E)) rows r [] (omega (arith, high, lt)) lawful) in
-        subst (HasLawfulFlags E) (sym (mapped_at (sent_of r) lookups k lookup below is)) (all_here (HasLawfulFlags E) (sents_of r) k (sent_of r lookup) (omega (arith, length-map lookups (sent_of r), below)) row_lawful)
+        let row_lawful : AllByRecursion (HasLawfulFlags E.base E.base_eq) (sents_of r) =
+        subst (AllByRecursion (HasLawfulFlags E.base E.base_eq)) (sents_at r lt) (all_here (AllByRecursion (HasLawfulFlags E.base E.base_eq)) rows r [] (omega (arith, high, lt)) lawful) in
+        subst (HasLawfulFlags E.base E.base_eq) (sym (mapped_at (sent_of r) lookups k lookup below is)) (all_here (HasLawfulFlags E.base E.base_eq) (sents_of r) k (sent_of r lookup) (omega (arith, length-map lookups (sent_of r), below)) row_lawful)
 
     none_at : (r : ℕ) → r < height main → (k : ℕ) (lookup : Lookup F) → k < length lookups → lookup ≡ get_or lookups k lookup → NoneVanishes E den (sent_of r lookup).messages
     none_at r lt k lookup below is =

@@ -22,7 +22,7 @@ use Rattle.witness_laws.proofs.Rekeyed.{lawful_alike, none_alike, same_matrix, s
 
 module _ {F K : Type 0} {E : Extension F K} (laws : IsLawful E) (table : ChallengeTable K) where
   -- the only witness of one AIR
-  pub only_result : (instance : Instance F) → IsFitting instance → AllByRecursion (AllByRecursion (HasLawfulFlags E)) (sent_rows_of E.base E.base_eq instance) → NoneVanishes E (table_denominator E table) (trace_messages (sent_rows_of E.base E.base_eq instance))
+  pub only_result : (instance : Instance F) → IsFitting instance → AllByRecursion (AllByRecursion (HasLawfulFlags E.base E.base_eq)) (sent_rows_of E.base E.base_eq instance) → NoneVanishes E (table_denominator E table) (trace_messages (sent_rows_of E.base E.base_eq instance))
       → (w : Matrix K × Option (LookupTerminal K)) → IsSatisfiedAt E table instance w → w ≡ plain_result E table instance
   only_result instance fitting lawful none (auxiliary, terminal) satisfied = by_lookups instance.lookups refl
     where
@@ -47,7 +47,7 @@ module _ {F K : Type 0} {E : Extension F K} (laws : IsLawful E) (table : Challen
           λ i. ((both.0 ∙ same_matrix laws cold d instance.lookups _ _ alike) i, (both.1 ∙ same_terminal_of laws cold d instance.lookups _ _ alike) i)
 
   -- and of all of them
-  pub only_witness : (instances : List (Instance F)) → AllByRecursion IsFitting instances → AreFlagsLawful E instances → NoneVanishes E (table_denominator E table) (batch_messages E.base E.base_eq instances)
+  pub only_witness : (instances : List (Instance F)) → AllByRecursion IsFitting instances → AreFlagsLawful E.base E.base_eq instances → NoneVanishes E (table_denominator E table) (batch_messages E.base E.base_eq instances)
       → (witness : List (AirResult K)) → AreSatisfied E table instances witness → witness ≡ plain_witness E table instances
   only_witness [] fitting lawful none [] satisfied = refl
   only_witness [] fitting lawful none (w ∷ ws) satisfied = absurd satisfied

@@ -158,13 +158,13 @@ module _ {F K : Type 0} {E : Extension F K} (laws : IsLawful E) (den den' : Key 
   same_faults rows others same = same_faults_from 0 rows others same
 
   -- what is asked of the ones is asked of the others
-  pub lawful_alike : (rows others : List (List (Sent F))) → AreRowsAlike rows others → AllByRecursion (AllByRecursion (HasLawfulFlags E)) others → AllByRecursion (AllByRecursion (HasLawfulFlags E)) rows
+  pub lawful_alike : (rows others : List (List (Sent F))) → AreRowsAlike rows others → AllByRecursion (AllByRecursion (HasLawfulFlags E.base E.base_eq)) others → AllByRecursion (AllByRecursion (HasLawfulFlags E.base E.base_eq)) rows
   lawful_alike [] [] same all = tt
   lawful_alike [] (t ∷ ts) same all = absurd same
   lawful_alike (s ∷ ss) [] same all = absurd same
   lawful_alike (s ∷ ss) (t ∷ ts) same all = (in_row s t same.0 all.0, lawful_alike ss ts same.1 all.1)
     where
-      in_row : (row other : List (Sent F)) → AllZip IsAlike row other → AllByRecursion (HasLawfulFlags E) other → AllByRecursion (HasLawfulFlags E) row
+      in_row : (row other : List (Sent F)) → AllZip IsAlike row other → AllByRecursion (HasLawfulFlags E.base E.base_eq) other → AllByRecursion (HasLawfulFlags E.base E.base_eq) row
       in_row [] [] alike each = tt
       in_row [] (y ∷ ys) alike each = absurd alike
       in_row (x ∷ xs) [] alike each = absurd alike

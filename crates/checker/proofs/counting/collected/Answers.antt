@@ -3,8 +3,8 @@ use Rattle.std.proofs.lemmas.List.{length-map}
 use Rattle.std.proofs.lemmas.Option.{slice_get_read}
 use Rattle.std.specs.List.{slice_get}
 use Rattle.lookup_model.proofs.Branches.{mapped_at}
-use Rattle.lookup_model.specs.Extension.{extension}
-use Rattle.batch_model.specs.Instances.{instance_of, instances_of}
+use Rattle.lookup_model.proofs.RecordLaws.{All-at}
+use Rattle.batch_model.specs.Instances.{IsFitting, instance_of, instances_of}
 use Rattle.checker.specs.Collected.{HasMessages}
 use Rattle.checker.proofs.CountLaws.{all_messages, messages_more}
 use Rattle.checker.proofs.counting.collected.Goals as goal
@@ -33,17 +33,28 @@ returns-in-Err g c =
 
 pub loop-air-preserved : goal.loop-air-preserved
 loop-air-preserved g c =
-    let E = extension g.F.PrimeCharacteristicRing.ring g.F.PartialEq.eq g.EF.PrimeCharacteristicRing.ring g.EF.PartialEq.eq g.EF.ExtensionDomain.embed g.EF.Field.inverse in
+    let R = g.F.PrimeCharacteristicRing.ring in
+    let eq = g.F.PartialEq.eq in
     let instance = c.index-instances-air.result in
     let instances = c.args.instances.now in
     let lt : c.loop-air.air < length instances = c.loop-air-test.true in
-    messages_more E (instances_of instances) c.loop-air.air c.loop-air.messages.items c.push_instance.new.messages.items (instance_of instance) (omega (arith, length-map instances instance_of, lt))
+    messages_more R eq (instances_of instances) c.loop-air.air c.loop-air.messages.items c.push_instance.new.messages.items (instance_of instance) (omega (arith, length-map instances instance_of, lt))
     (mapped_at instance_of instances c.loop-air.air instance lt c.index-instances-air.is) c.in-Ok.ensures c.loop-air.invariant
 
 pub returns : goal.returns
 returns g c =
-    let E = extension g.F.PrimeCharacteristicRing.ring g.F.PartialEq.eq g.EF.PrimeCharacteristicRing.ring g.EF.PartialEq.eq g.EF.ExtensionDomain.embed g.EF.Field.inverse in
+    let R = g.F.PrimeCharacteristicRing.ring in
+    let eq = g.F.PartialEq.eq in
     let instances = instances_of c.args.instances.now in
-    let done : HasMessages E instances (length instances) c.loop-air.messages.items =
-    subst (λ (n : ℕ). HasMessages E instances n c.loop-air.messages.items) (omega (arith, length-map c.args.instances.now instance_of, c.loop-air-test.false, c.loop-air.auto.air-end)) c.loop-air.invariant in
-    all_messages E instances c.loop-air.messages.items done
+    let done : HasMessages R eq instances (length instances) c.loop-air.messages.items =
+    subst (λ (n : ℕ). HasMessages R eq instances n c.loop-air.messages.items) (omega (arith, length-map c.args.instances.now instance_of, c.loop-air-test.false, c.loop-air.auto.air-end)) c.loop-air.invariant in
+    all_messages R eq instances c.loop-air.messages.items done
+
+pub offset_bounds-instances-air : goal.offset_bounds-instances-air
+offset_bounds-instances-air g c = omega (arith, c.loop-air-test.true)
+
+pub bounds-instances-air : goal.bounds-instances-air
+bounds-instances-air g c = omega (arith, c.loop-air-test.true)
+
+pub push_instance-requires : goal.push_instance-requires
+push_instance-requires g c = All-at (λ b. IsFitting (instance_of b)) c.args.instances.now c.loop-air.air c.index-instances-air.result c.requires.fit c.loop-air-test.true c.index-instances-air.is

@@ -20,7 +20,7 @@ returns-clause-answer g c =
     let E = extension g.F.PrimeCharacteristicRing.ring g.F.PartialEq.eq g.EF.PrimeCharacteristicRing.ring g.EF.PartialEq.eq g.EF.ExtensionDomain.embed g.EF.Field.inverse in
     let instances = instances_of c.args.instances.now in
     let is = ap messages_of c.as_slice.ensures.value ∙ c.in_ok-messages.ensures.0 in
-    let lawful : AreFlagsLawful E instances = lawful_flags E instances c.in_ok-messages.ensures.1 in
+    let lawful : AreFlagsLawful E.base E.base_eq instances = lawful_flags E.base E.base_eq instances c.in_ok-messages.ensures.1 in
     let n : c.in_ok-keys.keys ≡ message_count E instances = c.in_ok-keys.ensures.all ∙ ap (λ ms. length (keys E.base_eq ms)) is in
     let k : c.in_ok-keys.unbalanced ≡ unbalanced_count E instances = c.in_ok-keys.ensures.unbalanced ∙ ap (λ ms. length (unbalanced_keys E.base E.base_eq ms)) is in
     let counted : IsCountOf (message_count E instances) (unbalanced_count E instances) c.args.max_message_width c.counted.result =
@@ -48,7 +48,7 @@ returns-clause-few_accepting_alphas g c =
     subst (HasCharacteristic E.ring) (sym g.met.EF.ExtensionDomain.same_characteristic) g.met.EF.PrimeCharacteristicRing.characteristic in
     let instances = instances_of c.args.instances.now in
     let W = c.args.max_message_width in
-    let law : FewAcceptingAlphas E instances W = few_accepting_alphas laws W c.requires.ids.0 g.F.PrimeCharacteristicRing.CHARACTERISTIC char instances (fitting_all c.args.instances.now c.requires.fit) c.requires.ids.1 (lawful_flags E instances c.in_ok-messages.ensures.1) in
+    let law : FewAcceptingAlphas E instances W = few_accepting_alphas laws W c.requires.ids.0 g.F.PrimeCharacteristicRing.CHARACTERISTIC char instances (fitting_all c.args.instances.now c.requires.fit) c.requires.ids.1 (lawful_flags E.base E.base_eq instances c.in_ok-messages.ensures.1) in
     if_ok c.counted.result law
 
 pub returns-clause-few_bad_betas : goal.returns-clause-few_bad_betas
@@ -59,5 +59,5 @@ returns-clause-few_bad_betas g c =
     subst (HasCharacteristic E.ring) (sym g.met.EF.ExtensionDomain.same_characteristic) g.met.EF.PrimeCharacteristicRing.characteristic in
     let instances = instances_of c.args.instances.now in
     let W = c.args.max_message_width in
-    let law : FewBadBetas E instances W = few_bad_betas laws W c.requires.ids.0 g.F.PrimeCharacteristicRing.CHARACTERISTIC char instances (fitting_all c.args.instances.now c.requires.fit) c.requires.ids.1 (lawful_flags E instances c.in_ok-messages.ensures.1) in
+    let law : FewBadBetas E instances W = few_bad_betas laws W c.requires.ids.0 g.F.PrimeCharacteristicRing.CHARACTERISTIC char instances (fitting_all c.args.instances.now c.requires.fit) c.requires.ids.1 (lawful_flags E.base E.base_eq instances c.in_ok-messages.ensures.1) in
     if_ok c.counted.result law

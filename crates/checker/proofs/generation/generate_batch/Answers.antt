@@ -5,8 +5,9 @@ use Rattle.std.specs.List.{slice_get}
 use Rattle.lookup_model.proofs.Branches.{mapped_at}
 use Rattle.lookup_model.specs.Extension.{extension, IsLawful}
 use Rattle.lookup_model.proofs.Lawful.{lawful_extension}
+use Rattle.lookup_model.proofs.RecordLaws.{All-at}
 use Rattle.lookup_model.specs.Terminals.{terminal_sum}
-use Rattle.batch_model.specs.Instances.{instance_of, instances_of}
+use Rattle.batch_model.specs.Instances.{HasPrefixes, IsFitting, instance_of, instances_of}
 use Rattle.batch_model.specs.Witnesses.{AirResult}
 use Rattle.checker.specs.Results.{HasResults}
 use Rattle.lookup_model.specs.Challenges.{table_of}
@@ -102,3 +103,17 @@ pub returns-clause-faultless : goal.returns-clause-faultless
 returns-clause-faultless g c = λ i instance there.
     let within = slice_get_within (instances_of c.args.instances.now) i instance there in
     c.loop-air.invariant.faultless i instance (omega (arith, within, length-map c.args.instances.now instance_of, c.loop-air-test.false, c.loop-air.auto.air-end)) there
+
+pub offset_bounds-instances-air : goal.offset_bounds-instances-air
+offset_bounds-instances-air g c = omega (arith, c.loop-air-test.true)
+
+pub bounds-instances-air : goal.bounds-instances-air
+bounds-instances-air g c = omega (arith, c.loop-air-test.true)
+
+pub generate_result-requires-clause-fit : goal.generate_result-requires-clause-fit
+generate_result-requires-clause-fit g c =
+    All-at (λ b. IsFitting (instance_of b)) c.args.instances.now c.loop-air.air c.index-instances-air.result c.requires.fit c.loop-air-test.true c.index-instances-air.is
+
+pub generate_result-requires-clause-ids : goal.generate_result-requires-clause-ids
+generate_result-requires-clause-ids g c =
+    All-at (HasPrefixes c.args.challenges.now) c.args.instances.now c.loop-air.air c.index-instances-air.result c.requires.ids c.loop-air-test.true c.index-instances-air.is

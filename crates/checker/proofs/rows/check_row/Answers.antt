@@ -17,3 +17,12 @@ returns g c =
     subst₂ (λ (w : ExtWindow _ _) (row : ℕ). MatchResult c.eval_all.result (λ _. AllByRecursion (λ k. k.meaning w ≡ E.ring.zero) ks) (λ e. (e ≡ Memory) ⊎ ((e ≡ Assertion row) × (AllByRecursion (λ k. k.meaning w ≡ E.ring.zero) ks → ⊥))))
     built.window built.row_is
     (checked E.ring.zero (λ s. s.row) (λ x w. x) (λ x w. refl) (λ x t. 0) (ext_row_window b) b ks c.eval_all.result c.eval_all.new.builder c.eval_all.ensures)
+
+pub new-builder-requires-clause-row : goal.new-builder-requires-clause-row
+new-builder-requires-clause-row g c = c.requires.row
+
+pub new-builder-requires-clause-preprocessed : goal.new-builder-requires-clause-preprocessed
+new-builder-requires-clause-preprocessed g c = c.requires.preprocessed
+
+pub new-builder-requires-clause-permutation : goal.new-builder-requires-clause-permutation
+new-builder-requires-clause-permutation g c = c.requires.permutation

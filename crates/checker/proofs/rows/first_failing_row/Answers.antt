@@ -16,3 +16,21 @@ loop-row-preserved g c = λ s lt.
 
 pub returns : goal.returns
 returns g c = λ r lt. c.loop-row.invariant r (omega (arith, lt, c.loop-row-test.false, c.height-row-end.ensures.height))
+
+pub check_row-requires-clause-preprocessed : goal.check_row-requires-clause-preprocessed
+check_row-requires-clause-preprocessed g c = c.requires.preprocessed
+
+pub check_row-requires-clause-permutation : goal.check_row-requires-clause-permutation
+check_row-requires-clause-permutation g c = c.requires.permutation
+
+pub check_row-requires-clause-fit : goal.check_row-requires-clause-fit
+check_row-requires-clause-fit g c = c.requires.fit
+
+pub check_row-requires-clause-challenges : goal.check_row-requires-clause-challenges
+check_row-requires-clause-challenges g c = c.requires.challenges
+
+pub check_row-requires-clause-cells : goal.check_row-requires-clause-cells
+check_row-requires-clause-cells g c = c.requires.cells
+
+pub check_row-requires-clause-terminal : goal.check_row-requires-clause-terminal
+check_row-requires-clause-terminal g c = c.requires.terminal

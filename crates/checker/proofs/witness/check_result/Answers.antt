@@ -8,3 +8,9 @@ pub returns : goal.returns
 returns g c =
     let E = extension g.F.PrimeCharacteristicRing.ring g.F.PartialEq.eq g.EF.PrimeCharacteristicRing.ring g.EF.PartialEq.eq g.EF.ExtensionDomain.embed g.EF.Field.inverse in
     result_from E (table_of c.args.challenges.now) (instance_of c.args.instance.now) c.args.air (c.args.aux.now, c.args.terminal.now) c.check_rows.result c.in_ok-check_shape.ensures c.check_rows.ensures
+
+pub check_rows-requires-clause-fit : goal.check_rows-requires-clause-fit
+check_rows-requires-clause-fit g c = c.requires.fit
+
+pub check_rows-requires-clause-ids : goal.check_rows-requires-clause-ids
+check_rows-requires-clause-ids g c = c.requires.ids

@@ -81,3 +81,6 @@ returns g c = λ es are.
     let none_left : c.loop-left.left ≡ 0 = omega (arith, c.loop-left-test.false) in
     c.loop-left.invariant.2 es are
     ∙ ap (λ n. denominator_column g.F.PrimeCharacteristicRing.ring S g.EF.ExtensionDomain.embed ws c.args.alpha c.args.beta c.args.rows.now (drop n es)) none_left
+
+pub column_of-requires-clause-rows_exist : goal.column_of-requires-clause-rows_exist
+column_of-requires-clause-rows_exist g c = c.requires.rows_exist

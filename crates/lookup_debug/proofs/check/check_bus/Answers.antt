@@ -27,3 +27,9 @@ returns g c =
     c.in_ok-label.ensures found
     (ap (λ ls. map place_of ls.items) c.into_locations.ensures ∙ c.in_ok-walk_bus-2.ensures.1 ∙ (λ i. map place_of (c.new-places.ensures.empty i) ++ places R eq (c.new-places.ensures.tuple i) cs))
     c.in_ok-mismatch.ensures)
+
+pub walk_bus-requires-clause-fit : goal.walk_bus-requires-clause-fit
+walk_bus-requires-clause-fit g c = c.requires
+
+pub walk_bus-requires-2-clause-fit : goal.walk_bus-requires-2-clause-fit
+walk_bus-requires-2-clause-fit g c = c.requires

@@ -27,3 +27,15 @@ returns g c =
     c.in_ok-label.ensures found
     (ap (λ ls. map place_of ls.items) c.into_locations.ensures ∙ c.in_ok-walk_lookup-2.ensures.1 ∙ (λ i. map place_of (c.new-places.ensures.empty i) ++ places R eq (c.new-places.ensures.tuple i) cs))
     c.in_ok-mismatch.ensures)
+
+pub walk_lookup-requires-clause-there : goal.walk_lookup-requires-clause-there
+walk_lookup-requires-clause-there g c = c.requires.there
+
+pub walk_lookup-requires-2-clause-there : goal.walk_lookup-requires-2-clause-there
+walk_lookup-requires-2-clause-there g c = c.requires.there
+
+pub walk_lookup-requires-clause-fit : goal.walk_lookup-requires-clause-fit
+walk_lookup-requires-clause-fit g c = c.requires.fit
+
+pub walk_lookup-requires-2-clause-fit : goal.walk_lookup-requires-2-clause-fit
+walk_lookup-requires-2-clause-fit g c = c.requires.fit

@@ -46,3 +46,6 @@ returns g c =
     let eq = g.F.PartialEq.eq in
     let all : ℕ × Traced _ = (c.args.instance, traced_of c.args.traced.now) in
     locals_balance R eq all c.loop-place.place c.loop-place-test.false c.loop-place.invariant
+
+pub check_local-requires-clause-fit : goal.check_local-requires-clause-fit
+check_local-requires-clause-fit g c = c.requires

@@ -64,3 +64,9 @@ returns g c =
     let all = contributions_from place branches (amounts R (flags_at R w lookup) branches) in
     c.loop-branch.invariant
     ∙ ap (λ cs. map place_of c.args.locations.now.items ++ places R eq c.args.tuple.now (nonzero R eq cs)) (take_all c.loop-branch.branch all (omega (arith, length-sized R eq place w lookup c.requires.lengths)))
+
+pub amount_of-amount-requires-clause-lengths : goal.amount_of-amount-requires-clause-lengths
+amount_of-amount-requires-clause-lengths g c = c.requires.lengths
+
+pub amount_of-amount-requires-clause-fits : goal.amount_of-amount-requires-clause-fits
+amount_of-amount-requires-clause-fits g c = c.requires.fits

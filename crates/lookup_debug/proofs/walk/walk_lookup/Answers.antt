@@ -1,4 +1,6 @@
-use Rattle.std.proofs.Common.{length, subst, sym}
+use Rattle.std.specs.List.{flat_map, range_with_len}
+use Rattle.matrix.specs.Matrix.{height}
+use Rattle.std.proofs.Common.{◌≡◌, length, subst, sym, arith}
 use Rattle.std.proofs.lemmas.Option.{get_or_from_slice_get, slice_get_within}
 use Rattle.std.specs.Option.{option_copied}
 use Rattle.expressions.specs.Layout.{layout_of_traces}
@@ -7,7 +9,7 @@ use Rattle.lookup_generation.proofs.Layouts.{DoFit-with_challenges, with_challen
 use Rattle.lookup_generation.specs.TraceBuilder.{builder_window}
 use Rattle.lookup_model.specs.Records.{IsWithin}
 use Rattle.lookup_model.specs.declared.types.Lookup.{Lookup}
-use Rattle.lookup_debug.specs.Contributions.{traced_of}
+use Rattle.lookup_debug.specs.Contributions.{contributions_on, traced_of}
 use Rattle.lookup_debug.proofs.AmountLaws.{row_step}
 use Rattle.lookup_debug.proofs.walk.walk_lookup.Goals as goal
 
@@ -33,3 +35,18 @@ pub loop-row-preserved : goal.loop-row-preserved
 loop-row-preserved g c =
     row_step g.met.V.RowVisitor.walks g.F.PrimeCharacteristicRing.ring g.F.PartialEq.eq c.args.instance c.args.place (traced_of c.args.traced.now) c.args.lookup.now c.loop-row.row c.args.visitor.now c.loop-row.visitor c.visit.new.self
     (builder_window c.row_builder-builder.result) c.row_builder-builder.ensures.window c.loop-row.invariant c.in_ok-visit.ensures
+
+pub row_builder-builder-requires : goal.row_builder-builder-requires
+row_builder-builder-requires g c = record {
+  rows = c.height-rows.ensures.height;
+  row_exists = c.loop-row-test.true;
+  heights = c.requires.fit.heights;
+}
+
+pub visit-requires-clause-lengths : goal.visit-requires-clause-lengths
+visit-requires-clause-lengths g c = (c.requires.fit.fit.records c.args.place c.args.lookup.now (slice_get_within c.args.traced.now.lookups.now c.args.place c.args.lookup.now c.requires.there) c.requires.there).1
+
+pub returns : goal.returns
+returns g c =
+    let all : c.loop-row.row ≡ height c.args.traced.now.main_trace.now = omega (arith, c.loop-row-test.false, c.loop-row.auto.row-end, c.height-rows.ensures.height) in
+    subst (λ n. g.V.RowVisitor.does c.args.visitor.now c.loop-row.visitor (flat_map (contributions_on g.F.PrimeCharacteristicRing.ring g.F.PartialEq.eq c.args.instance c.args.place (traced_of c.args.traced.now) c.args.lookup.now) (range_with_len 0 n))) all c.loop-row.invariant

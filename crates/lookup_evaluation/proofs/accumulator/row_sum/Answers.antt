@@ -18,3 +18,9 @@ loop-lookup-preserved g c =
           (c.in_ok-sum.ensures.means seen ∙ ap (E.ring.add (g.AB.ExprEF.Expression.value c.loop-lookup.sum seen)) (c.fraction_cell-fraction.ensures.means w stands)),
       λ t. omega (arith, c.in_ok-sum.ensures.degree t, c.loop-lookup.invariant.1 t, c.fraction_cell-fraction.ensures.degree t),
     )
+
+pub fraction_cell-fraction-requires-clause-readable : goal.fraction_cell-fraction-requires-clause-readable
+fraction_cell-fraction-requires-clause-readable g c = c.requires.readable
+
+pub fraction_cell-fraction-requires-clause-current : goal.fraction_cell-fraction-requires-clause-current
+fraction_cell-fraction-requires-clause-current g c = c.requires.current

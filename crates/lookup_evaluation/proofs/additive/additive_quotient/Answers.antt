@@ -99,3 +99,12 @@ returns-clause-denominator_degree g c = λ t.
     subst (λ (ds : List BranchDegrees). g.AB.ExprEF.Expression.degree c.loop-branch.quotient.denominator t ≤ additive_denominator_degree ds)
     (take_all c.loop-branch.branch (lookup_branch_degrees t c.args.lookup.now) (omega (arith, length-degrees c.args.lookup.now c.requires.lengths t)))
     (c.loop-branch.invariant.1 t).1
+
+pub with_tuple-requires-clause-alpha : goal.with_tuple-requires-clause-alpha
+with_tuple-requires-clause-alpha g c = c.requires.alpha
+
+pub with_tuple-requires-clause-beta : goal.with_tuple-requires-clause-beta
+with_tuple-requires-clause-beta g c = c.requires.beta
+
+pub with_tuple-requires-clause-main : goal.with_tuple-requires-clause-main
+with_tuple-requires-clause-main g c = c.requires.main

@@ -47,3 +47,6 @@ returns-clause-means g c = λ w stands.
 pub returns-clause-degree : goal.returns-clause-degree
 returns-clause-degree g c = λ t.
     subst (λ (es : List _). g.AB.ExprEF.Expression.degree c.loop-element.sum t ≤ tuple_degree t es) (take_all c.loop-element.element-index c.args.tuple.now (omega arith)) (c.loop-element.invariant.1 t)
+
+pub lifted-requires-clause-main : goal.lifted-requires-clause-main
+lifted-requires-clause-main g c = c.requires.main

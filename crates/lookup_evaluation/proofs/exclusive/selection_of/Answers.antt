@@ -128,3 +128,18 @@ returns-clause-denominator_degree g c = λ t.
     subst (λ (ns : List ℕ). max (g.AB.ExprEF.Expression.degree c.loop-branch.selection.denominator t) (g.AB.ExprEF.Expression.degree c.loop-branch.selection.flags t) ≤ greatest ns)
     (take_all c.loop-branch.branch (map h (zip fds degrees)) (omega (arith, length-zipped h fds degrees same, length-map c.args.flags.now degree_of)))
     (c.loop-branch.invariant.1 t).1
+
+pub offset_bounds-flags-branch : goal.offset_bounds-flags-branch
+offset_bounds-flags-branch g c = omega arith
+
+pub bounds-flags-branch : goal.bounds-flags-branch
+bounds-flags-branch g c = omega arith
+
+pub with_branch-requires-clause-alpha : goal.with_branch-requires-clause-alpha
+with_branch-requires-clause-alpha g c = c.requires.alpha
+
+pub with_branch-requires-clause-beta : goal.with_branch-requires-clause-beta
+with_branch-requires-clause-beta g c = c.requires.beta
+
+pub with_branch-requires-clause-main : goal.with_branch-requires-clause-main
+with_branch-requires-clause-main g c = c.requires.main

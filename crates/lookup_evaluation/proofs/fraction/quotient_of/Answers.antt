@@ -45,3 +45,33 @@ returns-clause-denominator g c =
     means w stands
     ∙ (λ i. exclusive_denominator E (tuple_denominator E (c.column_challenges-alpha.ensures.alpha w stands i) (c.column_challenges-alpha.ensures.beta w stands i)) (values E.base w.base (c.deref.ensures.value i)) branches)
     ∙ ap (λ flags. fraction_denominator E (denominator_at E lookup.column w) (option_map (λ fs. values E.base w.base fs.items) flags) branches) (sym c.in-Some.is)) c.exclusive_quotient.ensures.denominator
+
+pub additive_quotient-requires-clause-lengths : goal.additive_quotient-requires-clause-lengths
+additive_quotient-requires-clause-lengths g c = c.requires.lengths
+
+pub additive_quotient-requires-clause-fits : goal.additive_quotient-requires-clause-fits
+additive_quotient-requires-clause-fits g c = c.requires.fits
+
+pub additive_quotient-requires-clause-alpha : goal.additive_quotient-requires-clause-alpha
+additive_quotient-requires-clause-alpha g c = c.column_challenges-alpha.ensures.alpha_degree
+
+pub additive_quotient-requires-clause-beta : goal.additive_quotient-requires-clause-beta
+additive_quotient-requires-clause-beta g c = c.column_challenges-alpha.ensures.beta_degree
+
+pub additive_quotient-requires-clause-main : goal.additive_quotient-requires-clause-main
+additive_quotient-requires-clause-main g c = c.requires.main
+
+pub exclusive_quotient-requires-clause-lengths : goal.exclusive_quotient-requires-clause-lengths
+exclusive_quotient-requires-clause-lengths g c = c.requires.lengths
+
+pub exclusive_quotient-requires-clause-fits : goal.exclusive_quotient-requires-clause-fits
+exclusive_quotient-requires-clause-fits g c = c.requires.fits
+
+pub exclusive_quotient-requires-clause-alpha : goal.exclusive_quotient-requires-clause-alpha
+exclusive_quotient-requires-clause-alpha g c = c.column_challenges-alpha.ensures.alpha_degree
+
+pub exclusive_quotient-requires-clause-beta : goal.exclusive_quotient-requires-clause-beta
+exclusive_quotient-requires-clause-beta g c = c.column_challenges-alpha.ensures.beta_degree
+
+pub exclusive_quotient-requires-clause-main : goal.exclusive_quotient-requires-clause-main
+exclusive_quotient-requires-clause-main g c = c.requires.main

@@ -35,3 +35,18 @@ returns g c = λ place r there.
     subst (λ (t : List (Message _)). AllZip held c.loop-branch.branches.items t)
     (take_all c.loop-branch.branch ms (omega (arith, c.loop-branch-test.false, length-branches_at R w lookup.column lookup c.requires.lengths)))
     (c.loop-branch.invariant place r there)
+
+pub branch_columns-requires-clause-steps : goal.branch_columns-requires-clause-steps
+branch_columns-requires-clause-steps g c = c.requires.steps
+
+pub branch_columns-requires-clause-lengths : goal.branch_columns-requires-clause-lengths
+branch_columns-requires-clause-lengths g c = c.requires.lengths
+
+pub branch_columns-requires-clause-within : goal.branch_columns-requires-clause-within
+branch_columns-requires-clause-within g c = c.requires.within
+
+pub branch_columns-requires-clause-challenges : goal.branch_columns-requires-clause-challenges
+branch_columns-requires-clause-challenges g c = c.requires.challenges
+
+pub branch_columns-requires-clause-rows_exist : goal.branch_columns-requires-clause-rows_exist
+branch_columns-requires-clause-rows_exist g c = c.requires.rows_exist

@@ -83,3 +83,9 @@ returns-clause-held g c = λ place r m there m_there.
       mapped_there (λ row. value R (windows row) multiplicity) c.args.rows.now c.in_ok-multiplicities.multiplicities.items place r (c.in_ok-multiplicities.ensures (tree_of multiplicity) (c.deref.ensures.value ∙ multiplicity_beside.holds)) there ∙ ap (λ (n : Message _). Some n.multiplicity) is,
       over ∙ (λ k. Some (sub_in S (alpha_is k) (combined S (map embed (values R w tuple.items)) (beta_is k)))) ∙ ap (λ (n : Message _). Some (D n.key)) is,
     )
+
+pub column_of-requires-clause-rows_exist : goal.column_of-requires-clause-rows_exist
+column_of-requires-clause-rows_exist g c = c.requires.rows_exist
+
+pub denominators_of-requires-clause-rows_exist : goal.denominators_of-requires-clause-rows_exist
+denominators_of-requires-clause-rows_exist g c = c.requires.rows_exist

@@ -42,3 +42,33 @@ returns-in-Some g c =
           let same : c.in-Some.flags ≡ flags = cc is in
           subst (λ (es : List (SymbolicExpression _)). HoldSelected R D place v.items (values R (windows r) es) (branches_at R (windows r) lookup.column lookup)) (c.deref.ensures.value ∙ ap (λ t. t.items) same) (are place r there);
     }) c.exclusive_columns.ensures
+
+pub additive_columns-requires-clause-steps : goal.additive_columns-requires-clause-steps
+additive_columns-requires-clause-steps g c = c.requires.steps
+
+pub additive_columns-requires-clause-lengths : goal.additive_columns-requires-clause-lengths
+additive_columns-requires-clause-lengths g c = c.requires.lengths
+
+pub additive_columns-requires-clause-within : goal.additive_columns-requires-clause-within
+additive_columns-requires-clause-within g c = c.requires.within
+
+pub additive_columns-requires-clause-challenges : goal.additive_columns-requires-clause-challenges
+additive_columns-requires-clause-challenges g c = c.requires.challenges
+
+pub additive_columns-requires-clause-rows_exist : goal.additive_columns-requires-clause-rows_exist
+additive_columns-requires-clause-rows_exist g c = c.requires.rows_exist
+
+pub exclusive_columns-requires-clause-steps : goal.exclusive_columns-requires-clause-steps
+exclusive_columns-requires-clause-steps g c = c.requires.steps
+
+pub exclusive_columns-requires-clause-lengths : goal.exclusive_columns-requires-clause-lengths
+exclusive_columns-requires-clause-lengths g c = c.requires.lengths
+
+pub exclusive_columns-requires-clause-within : goal.exclusive_columns-requires-clause-within
+exclusive_columns-requires-clause-within g c = c.requires.within
+
+pub exclusive_columns-requires-clause-challenges : goal.exclusive_columns-requires-clause-challenges
+exclusive_columns-requires-clause-challenges g c = c.requires.challenges
+
+pub exclusive_columns-requires-clause-rows_exist : goal.exclusive_columns-requires-clause-rows_exist
+exclusive_columns-requires-clause-rows_exist g c = c.requires.rows_exist

@@ -13,6 +13,11 @@ use Rattle.lookup_model.specs.declared.types.Lookup.{Lookup}
 use Rattle.lookup_columns.specs.Traces.{window_of}
 use Rattle.lookup_generation.proofs.columns.columns_of_lookups.Goals as goal
 
+pub offset_bounds-steps-lookup : goal.offset_bounds-steps-lookup
+offset_bounds-steps-lookup g c =
+    let at = column_is c.args.lookups.now c.loop-lookup.lookup-index c.lookup-item.result c.requires.fit.records c.loop-lookup-test.true c.lookup-item.is in
+    omega (arith, at, AllZip-long AreLookupSteps c.args.steps.now c.args.lookups.now c.requires.steps, c.loop-lookup-test.true)
+
 pub bounds-steps-lookup : goal.bounds-steps-lookup
 bounds-steps-lookup g c =
     let at = column_is c.args.lookups.now c.loop-lookup.lookup-index c.lookup-item.result c.requires.fit.records c.loop-lookup-test.true c.lookup-item.is in
@@ -38,3 +43,6 @@ loop-lookup-preserved g c =
     let i = c.loop-lookup.lookup-index in
     subst₂ (AllZip held) (sym (taken_more c.args.lookups.now i c.lookup-item.result c.loop-lookup-test.true c.lookup-item.is)) (sym c.in_ok-push.ensures.items)
     (zip_push held (take i c.args.lookups.now) c.loop-lookup.columns.items c.lookup-item.result c.in_ok-branches.branches c.loop-lookup.invariant c.in_ok-branches.ensures)
+
+pub columns_of_lookup-requires-clause-rows_exist : goal.columns_of_lookup-requires-clause-rows_exist
+columns_of_lookup-requires-clause-rows_exist g c = c.requires.rows_exist

@@ -96,3 +96,18 @@ returns g c = λ place r there.
       flags_are = subst (λ (t : List _). AllZip (HasFlag place) c.loop-branch.branches.items t) (take_all i vals (omega (arith, c.loop-branch-test.false, length-map c.args.flags.now (value R w), c.requires.flag_number))) so_far.flags_are;
       held = subst (λ (t : List (Message _)). AllZip (IsHeldIfSet R D place) c.loop-branch.branches.items t) (take_all i ms (omega (arith, c.loop-branch-test.false, length-branches_at R w lookup.column lookup c.requires.lengths))) so_far.held;
     }
+
+pub column_of-requires-clause-rows_exist : goal.column_of-requires-clause-rows_exist
+column_of-requires-clause-rows_exist g c = c.requires.rows_exist
+
+pub branch_columns-requires-clause-steps : goal.branch_columns-requires-clause-steps
+branch_columns-requires-clause-steps g c = c.requires.steps
+
+pub branch_columns-requires-clause-lengths : goal.branch_columns-requires-clause-lengths
+branch_columns-requires-clause-lengths g c = c.requires.lengths
+
+pub branch_columns-requires-clause-within : goal.branch_columns-requires-clause-within
+branch_columns-requires-clause-within g c = c.requires.within
+
+pub branch_columns-requires-clause-challenges : goal.branch_columns-requires-clause-challenges
+branch_columns-requires-clause-challenges g c = c.requires.challenges

@@ -3,14 +3,13 @@ use Rattle.std.proofs.lemmas.Option.{slice_get_within}
 use Rattle.std.proofs.lemmas.Result.{MatchResult-weaker}
 use Rattle.lookup_model.specs.Denominators.{column_denominator}
 use Rattle.lookup_model.specs.Extension.{extension, IsLawful}
-use Rattle.lookup_model.proofs.Lawful.{lawful_extension, lawful_over_itself}
+use Rattle.lookup_model.proofs.Lawful.{lawful_extension}
 use Rattle.lookup_model.specs.Plain.{quotient_of}
 use Rattle.lookup_model.specs.Sent.{branches_at, values}
 use Rattle.lookup_model.specs.declared.error.LookupError.TheVariants.{VanishingDenominator}
 use Rattle.lookup_generation.specs.ChunkColumns.{IsHeld, key_denominator}
 use Rattle.lookup_generation.specs.Fraction.{IsRatio}
 use Rattle.lookup_generation.specs.Selection.{AreSetFlags}
-use Rattle.lookup_generation.specs.Inverses.{base_extension}
 use Rattle.lookup_generation.specs.TraceBuilder.{builder_window}
 use Rattle.lookup_generation.specs.declared.exclusive.SetFlags.TheVariants.{Nothing, One}
 use Rattle.lookup_generation.proofs.ChunkColumnLaws.{read_is}
@@ -24,82 +23,77 @@ set_flags_at-requires g c = flags_there c.args.place c.args.columns.now _ c.requ
 
 pub offset_bounds-columns-branch : goal.offset_bounds-columns-branch
 offset_bounds-columns-branch g c =
-    let E0 = base_extension g.F.PrimeCharacteristicRing.ring g.F.PartialEq.eq g.F.Field.inverse in
-    let base : IsLawful E0 = lawful_over_itself g.F.PrimeCharacteristicRing.lawful g.met.F.PrimeCharacteristicRing.eq_is g.met.F.Domain.domain g.met.F.Field.inverse_is in
-    let one_not_zero : E0.base.one ≢ E0.base.zero = λ e. g.met.F.Domain.domain.zero_is_not_one (sym e) in
+    let R = g.F.PrimeCharacteristicRing.ring in
+    let eq = g.F.PartialEq.eq in
     let w = builder_window c.args.builder.now in
-    let vals = values E0.base w c.args.flags.now in
-    let ms = branches_at E0.base w c.args.lookup.now.column c.args.lookup.now in
+    let vals = values R w c.args.flags.now in
+    let ms = branches_at R w c.args.lookup.now.column c.args.lookup.now in
     let D = key_denominator g.EF.PrimeCharacteristicRing.ring g.EF.ExtensionDomain.embed c.args.builder.now.permutation_challenges.now in
     let columns = c.args.columns.now in
     let k = c.in-One.branch in
-    let set : AreSetFlags E0 vals (One k) = subst (AreSetFlags E0 vals) c.in-One.is (c.in_ok-set_flags_at.ensures vals c.requires.flags_are) in
-    omega (arith, columns_there base one_not_zero D c.args.place columns vals ms c.requires k set.places)
+    let set : AreSetFlags R eq vals (One k) = subst (AreSetFlags R eq vals) c.in-One.is (c.in_ok-set_flags_at.ensures vals c.requires.flags_are) in
+    omega (arith, columns_there g.met.F.PrimeCharacteristicRing.eq_is g.met.F.Domain.domain D c.args.place columns vals ms c.requires k set.places)
 
 pub bounds-columns-branch : goal.bounds-columns-branch
 bounds-columns-branch g c =
-    let E0 = base_extension g.F.PrimeCharacteristicRing.ring g.F.PartialEq.eq g.F.Field.inverse in
-    let base : IsLawful E0 = lawful_over_itself g.F.PrimeCharacteristicRing.lawful g.met.F.PrimeCharacteristicRing.eq_is g.met.F.Domain.domain g.met.F.Field.inverse_is in
-    let one_not_zero : E0.base.one ≢ E0.base.zero = λ e. g.met.F.Domain.domain.zero_is_not_one (sym e) in
+    let R = g.F.PrimeCharacteristicRing.ring in
+    let eq = g.F.PartialEq.eq in
     let w = builder_window c.args.builder.now in
-    let vals = values E0.base w c.args.flags.now in
-    let ms = branches_at E0.base w c.args.lookup.now.column c.args.lookup.now in
+    let vals = values R w c.args.flags.now in
+    let ms = branches_at R w c.args.lookup.now.column c.args.lookup.now in
     let D = key_denominator g.EF.PrimeCharacteristicRing.ring g.EF.ExtensionDomain.embed c.args.builder.now.permutation_challenges.now in
     let columns = c.args.columns.now in
     let k = c.in-One.branch in
-    let set : AreSetFlags E0 vals (One k) = subst (AreSetFlags E0 vals) c.in-One.is (c.in_ok-set_flags_at.ensures vals c.requires.flags_are) in
-    omega (arith, columns_there base one_not_zero D c.args.place columns vals ms c.requires k set.places)
+    let set : AreSetFlags R eq vals (One k) = subst (AreSetFlags R eq vals) c.in-One.is (c.in_ok-set_flags_at.ensures vals c.requires.flags_are) in
+    omega (arith, columns_there g.met.F.PrimeCharacteristicRing.eq_is g.met.F.Domain.domain D c.args.place columns vals ms c.requires k set.places)
 
 pub index-at-requires : goal.index-at-requires
 index-at-requires g c =
-    let E0 = base_extension g.F.PrimeCharacteristicRing.ring g.F.PartialEq.eq g.F.Field.inverse in
-    let base : IsLawful E0 = lawful_over_itself g.F.PrimeCharacteristicRing.lawful g.met.F.PrimeCharacteristicRing.eq_is g.met.F.Domain.domain g.met.F.Field.inverse_is in
-    let one_not_zero : E0.base.one ≢ E0.base.zero = λ e. g.met.F.Domain.domain.zero_is_not_one (sym e) in
+    let R = g.F.PrimeCharacteristicRing.ring in
+    let eq = g.F.PartialEq.eq in
     let w = builder_window c.args.builder.now in
-    let vals = values E0.base w c.args.flags.now in
-    let ms = branches_at E0.base w c.args.lookup.now.column c.args.lookup.now in
+    let vals = values R w c.args.flags.now in
+    let ms = branches_at R w c.args.lookup.now.column c.args.lookup.now in
     let D = key_denominator g.EF.PrimeCharacteristicRing.ring g.EF.ExtensionDomain.embed c.args.builder.now.permutation_challenges.now in
     let columns = c.args.columns.now in
     let k = c.in-One.branch in
-    let set : AreSetFlags E0 vals (One k) = subst (AreSetFlags E0 vals) c.in-One.is (c.in_ok-set_flags_at.ensures vals c.requires.flags_are) in
+    let set : AreSetFlags R eq vals (One k) = subst (AreSetFlags R eq vals) c.in-One.is (c.in_ok-set_flags_at.ensures vals c.requires.flags_are) in
     let branch = c.index-columns-branch.result in
-    let m = message base one_not_zero D c.args.place columns vals ms c.requires k set.places branch c.index-columns-branch.is in
-    let placed = message_placed base one_not_zero D c.args.place columns vals ms c.requires k set.places branch c.index-columns-branch.is in
+    let m = message g.met.F.PrimeCharacteristicRing.eq_is g.met.F.Domain.domain D c.args.place columns vals ms c.requires k set.places branch c.index-columns-branch.is in
+    let placed = message_placed g.met.F.PrimeCharacteristicRing.eq_is g.met.F.Domain.domain D c.args.place columns vals ms c.requires k set.places branch c.index-columns-branch.is in
     omega (arith, slice_get_within branch.places.items c.args.place placed.at placed.there)
 
 pub index-requires : goal.index-requires
 index-requires g c =
-    let E0 = base_extension g.F.PrimeCharacteristicRing.ring g.F.PartialEq.eq g.F.Field.inverse in
-    let base : IsLawful E0 = lawful_over_itself g.F.PrimeCharacteristicRing.lawful g.met.F.PrimeCharacteristicRing.eq_is g.met.F.Domain.domain g.met.F.Field.inverse_is in
-    let one_not_zero : E0.base.one ≢ E0.base.zero = λ e. g.met.F.Domain.domain.zero_is_not_one (sym e) in
+    let R = g.F.PrimeCharacteristicRing.ring in
+    let eq = g.F.PartialEq.eq in
     let w = builder_window c.args.builder.now in
-    let vals = values E0.base w c.args.flags.now in
-    let ms = branches_at E0.base w c.args.lookup.now.column c.args.lookup.now in
+    let vals = values R w c.args.flags.now in
+    let ms = branches_at R w c.args.lookup.now.column c.args.lookup.now in
     let D = key_denominator g.EF.PrimeCharacteristicRing.ring g.EF.ExtensionDomain.embed c.args.builder.now.permutation_challenges.now in
     let columns = c.args.columns.now in
     let k = c.in-One.branch in
-    let set : AreSetFlags E0 vals (One k) = subst (AreSetFlags E0 vals) c.in-One.is (c.in_ok-set_flags_at.ensures vals c.requires.flags_are) in
+    let set : AreSetFlags R eq vals (One k) = subst (AreSetFlags R eq vals) c.in-One.is (c.in_ok-set_flags_at.ensures vals c.requires.flags_are) in
     let branch = c.index-columns-branch.result in
-    let m = message base one_not_zero D c.args.place columns vals ms c.requires k set.places branch c.index-columns-branch.is in
-    let placed = message_placed base one_not_zero D c.args.place columns vals ms c.requires k set.places branch c.index-columns-branch.is in
+    let m = message g.met.F.PrimeCharacteristicRing.eq_is g.met.F.Domain.domain D c.args.place columns vals ms c.requires k set.places branch c.index-columns-branch.is in
+    let placed = message_placed g.met.F.PrimeCharacteristicRing.eq_is g.met.F.Domain.domain D c.args.place columns vals ms c.requires k set.places branch c.index-columns-branch.is in
     let held : IsHeld D c.index-at.result.now branch m.item = subst (λ n. IsHeld D n branch m.item) (read_is branch.places.items c.args.place c.index-at.result.now placed.at placed.there c.index-at.ensures) placed.held in
     omega (arith, slice_get_within branch.multiplicities.items c.index-at.result.now m.item.multiplicity held.0)
 
 pub index-requires-in-One : goal.index-requires-in-One
 index-requires-in-One g c =
-    let E0 = base_extension g.F.PrimeCharacteristicRing.ring g.F.PartialEq.eq g.F.Field.inverse in
-    let base : IsLawful E0 = lawful_over_itself g.F.PrimeCharacteristicRing.lawful g.met.F.PrimeCharacteristicRing.eq_is g.met.F.Domain.domain g.met.F.Field.inverse_is in
-    let one_not_zero : E0.base.one ≢ E0.base.zero = λ e. g.met.F.Domain.domain.zero_is_not_one (sym e) in
+    let R = g.F.PrimeCharacteristicRing.ring in
+    let eq = g.F.PartialEq.eq in
     let w = builder_window c.args.builder.now in
-    let vals = values E0.base w c.args.flags.now in
-    let ms = branches_at E0.base w c.args.lookup.now.column c.args.lookup.now in
+    let vals = values R w c.args.flags.now in
+    let ms = branches_at R w c.args.lookup.now.column c.args.lookup.now in
     let D = key_denominator g.EF.PrimeCharacteristicRing.ring g.EF.ExtensionDomain.embed c.args.builder.now.permutation_challenges.now in
     let columns = c.args.columns.now in
     let k = c.in-One.branch in
-    let set : AreSetFlags E0 vals (One k) = subst (AreSetFlags E0 vals) c.in-One.is (c.in_ok-set_flags_at.ensures vals c.requires.flags_are) in
+    let set : AreSetFlags R eq vals (One k) = subst (AreSetFlags R eq vals) c.in-One.is (c.in_ok-set_flags_at.ensures vals c.requires.flags_are) in
     let branch = c.index-columns-branch.result in
-    let m = message base one_not_zero D c.args.place columns vals ms c.requires k set.places branch c.index-columns-branch.is in
-    let placed = message_placed base one_not_zero D c.args.place columns vals ms c.requires k set.places branch c.index-columns-branch.is in
+    let m = message g.met.F.PrimeCharacteristicRing.eq_is g.met.F.Domain.domain D c.args.place columns vals ms c.requires k set.places branch c.index-columns-branch.is in
+    let placed = message_placed g.met.F.PrimeCharacteristicRing.eq_is g.met.F.Domain.domain D c.args.place columns vals ms c.requires k set.places branch c.index-columns-branch.is in
     let held : IsHeld D c.index-at.result.now branch m.item = subst (λ n. IsHeld D n branch m.item) (read_is branch.places.items c.args.place c.index-at.result.now placed.at placed.there c.index-at.ensures) placed.held in
     omega (arith, slice_get_within branch.denominators.items c.index-at.result.now (D m.item.key) held.1)
 
@@ -110,8 +104,7 @@ returns-in-Nothing-clause-answers g c = λ inverse is_inverse.
     let w = builder_window c.args.builder.now in
     let vals = values E.base w c.args.flags.now in
     let lookup = c.args.lookup.now in
-    let base = base_extension g.F.PrimeCharacteristicRing.ring g.F.PartialEq.eq g.F.Field.inverse in
-    let set : AreSetFlags base vals Nothing = subst (AreSetFlags base vals) c.in-Nothing.is (c.in_ok-set_flags_at.ensures vals c.requires.flags_are) in
+    let set : AreSetFlags E.base E.base_eq vals Nothing = subst (AreSetFlags E.base E.base_eq vals) c.in-Nothing.is (c.in_ok-set_flags_at.ensures vals c.requires.flags_are) in
     let is = none_selected laws (column_denominator E c.args.builder.now.permutation_challenges.now) c.args.builder.now.row lookup.column vals (branches_at E.base w lookup.column lookup) set.boolean set.places in
     (subst (IsRatio E.ring c.zero.result) is.0 c.zero.ensures.value, is.1)
 
@@ -119,19 +112,18 @@ pub returns-in-One-clause-answers : goal.returns-in-One-clause-answers
 returns-in-One-clause-answers g c = λ inverse is_inverse.
     let E = extension g.F.PrimeCharacteristicRing.ring g.F.PartialEq.eq g.EF.PrimeCharacteristicRing.ring g.EF.PartialEq.eq g.EF.ExtensionDomain.embed inverse in
     let laws : IsLawful E = lawful_extension g.F.PrimeCharacteristicRing.lawful g.met.F.PrimeCharacteristicRing.eq_is g.EF.PrimeCharacteristicRing.lawful g.met.EF.Domain.domain g.met.EF.PrimeCharacteristicRing.eq_is g.met.EF.ExtensionDomain.embeds is_inverse in
-    let E0 = base_extension g.F.PrimeCharacteristicRing.ring g.F.PartialEq.eq g.F.Field.inverse in
-    let base : IsLawful E0 = lawful_over_itself g.F.PrimeCharacteristicRing.lawful g.met.F.PrimeCharacteristicRing.eq_is g.met.F.Domain.domain g.met.F.Field.inverse_is in
-    let one_not_zero : E0.base.one ≢ E0.base.zero = λ e. g.met.F.Domain.domain.zero_is_not_one (sym e) in
+    let R = g.F.PrimeCharacteristicRing.ring in
+    let eq = g.F.PartialEq.eq in
     let w = builder_window c.args.builder.now in
-    let vals = values E0.base w c.args.flags.now in
-    let ms = branches_at E0.base w c.args.lookup.now.column c.args.lookup.now in
+    let vals = values R w c.args.flags.now in
+    let ms = branches_at R w c.args.lookup.now.column c.args.lookup.now in
     let D = key_denominator g.EF.PrimeCharacteristicRing.ring g.EF.ExtensionDomain.embed c.args.builder.now.permutation_challenges.now in
     let columns = c.args.columns.now in
     let k = c.in-One.branch in
-    let set : AreSetFlags E0 vals (One k) = subst (AreSetFlags E0 vals) c.in-One.is (c.in_ok-set_flags_at.ensures vals c.requires.flags_are) in
+    let set : AreSetFlags R eq vals (One k) = subst (AreSetFlags R eq vals) c.in-One.is (c.in_ok-set_flags_at.ensures vals c.requires.flags_are) in
     let branch = c.index-columns-branch.result in
-    let m = message base one_not_zero D c.args.place columns vals ms c.requires k set.places branch c.index-columns-branch.is in
-    let placed = message_placed base one_not_zero D c.args.place columns vals ms c.requires k set.places branch c.index-columns-branch.is in
+    let m = message g.met.F.PrimeCharacteristicRing.eq_is g.met.F.Domain.domain D c.args.place columns vals ms c.requires k set.places branch c.index-columns-branch.is in
+    let placed = message_placed g.met.F.PrimeCharacteristicRing.eq_is g.met.F.Domain.domain D c.args.place columns vals ms c.requires k set.places branch c.index-columns-branch.is in
     let held : IsHeld D c.index-at.result.now branch m.item = subst (λ n. IsHeld D n branch m.item) (read_is branch.places.items c.args.place c.index-at.result.now placed.at placed.there c.index-at.ensures) placed.held in
     let row = c.args.builder.now.row in
     let column = c.args.lookup.now.column in

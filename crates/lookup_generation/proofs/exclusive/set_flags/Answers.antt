@@ -2,14 +2,11 @@ use Rattle.std.proofs.Common.{◌<◌, ◌+◌, List, length, ◌∷◌, ◌++�
 use Rattle.std.proofs.lemmas.List.{length-map, length-take, take_all}
 use Rattle.std.proofs.lemmas.Result.{err_from_is_err_and}
 use Rattle.lookup_model.proofs.Branches.{mapped_at, mapped_more}
-use Rattle.lookup_model.specs.Extension.{IsLawful}
-use Rattle.lookup_model.proofs.Lawful.{lawful_over_itself}
 use Rattle.lookup_model.specs.Fault.{are_boolean}
 use Rattle.lookup_model.proofs.RecordLaws.{Fits-at}
 use Rattle.lookup_laws.proofs.Rows.{split_at}
 use Rattle.lookup_model.specs.Sent.{value, values}
 use Rattle.lookup_generation.specs.Selection.{AreSetFlags}
-use Rattle.lookup_generation.specs.Inverses.{base_extension}
 use Rattle.lookup_generation.specs.TraceBuilder.{builder_layout, builder_window}
 use Rattle.lookup_laws.proofs.Selections.{not_boolean}
 use Rattle.lookup_model.specs.declared.error.LookupError.TheVariants.{FlagNotBoolean}
@@ -20,11 +17,11 @@ value_of-flag-requires g c = Fits-at (builder_layout c.args.builder.now) c.args.
 
 pub returns-in_err-set : goal.returns-in_err-set
 returns-in_err-set g c =
-    let E = base_extension g.F.PrimeCharacteristicRing.ring g.F.PartialEq.eq g.F.Field.inverse in
-    let laws : IsLawful E = lawful_over_itself g.F.PrimeCharacteristicRing.lawful g.met.F.PrimeCharacteristicRing.eq_is g.met.F.Domain.domain g.met.F.Field.inverse_is in
-    let look = value E.base (builder_window c.args.builder.now) in
+    let R = g.F.PrimeCharacteristicRing.ring in
+    let eq = g.F.PartialEq.eq in
+    let look = value R (builder_window c.args.builder.now) in
     let flags = c.args.flags.now in
-    let vals = values E.base (builder_window c.args.builder.now) flags in
+    let vals = values R (builder_window c.args.builder.now) flags in
     let i = c.loop-place.place in
     let flag = c.index-flags-place.result in
     let lt : i < length flags = omega arith in
@@ -33,23 +30,25 @@ returns-in_err-set g c =
     let why = c.in_err-set.ensures.refused in
     rw (p.1, p.2) (inr (
       why.0 ∙ ap (λ r. FlagNotBoolean r c.args.column) c.row.ensures,
-      ap (are_boolean E.base E.base_eq) split ∙ not_boolean laws (take i vals) (drop (i + 1) vals) (look flag) (λ e. why.1 (c.value_of-flag.ensures ∙ e)) (λ e. why.2 (c.value_of-flag.ensures ∙ e)),
+      ap (are_boolean R eq) split ∙ not_boolean R eq g.met.F.PrimeCharacteristicRing.eq_is (take i vals) (drop (i + 1) vals) (look flag) (λ e. why.1 (c.value_of-flag.ensures ∙ e)) (λ e. why.2 (c.value_of-flag.ensures ∙ e)),
     ))
 
 pub loop-place-preserved : goal.loop-place-preserved
 loop-place-preserved g c =
-    let E = base_extension g.F.PrimeCharacteristicRing.ring g.F.PartialEq.eq g.F.Field.inverse in
-    let look = value E.base (builder_window c.args.builder.now) in
+    let R = g.F.PrimeCharacteristicRing.ring in
+    let eq = g.F.PartialEq.eq in
+    let look = value R (builder_window c.args.builder.now) in
     let flags = c.args.flags.now in
     let i = c.loop-place.place in
     let flag = c.index-flags-place.result in
     let lt : i < length flags = omega arith in
     let more = mapped_more look flags i flag lt c.index-flags-place.is in
-    subst (λ (fs : List _). AreSetFlags E fs c.in_ok-set.set) ((λ k. take i (values E.base (builder_window c.args.builder.now) flags) ++ c.value_of-flag.ensures k ∷ []) ∙ sym more)
-    (c.in_ok-set.ensures.next (take i (values E.base (builder_window c.args.builder.now) flags)) (omega (arith, length-take i (values E.base (builder_window c.args.builder.now) flags), length-map flags look)) c.loop-place.invariant)
+    subst (λ (fs : List _). AreSetFlags R eq fs c.in_ok-set.set) ((λ k. take i (values R (builder_window c.args.builder.now) flags) ++ c.value_of-flag.ensures k ∷ []) ∙ sym more)
+    (c.in_ok-set.ensures.next (take i (values R (builder_window c.args.builder.now) flags)) (omega (arith, length-take i (values R (builder_window c.args.builder.now) flags), length-map flags look)) c.loop-place.invariant)
 
 pub returns : goal.returns
 returns g c =
-    let E = base_extension g.F.PrimeCharacteristicRing.ring g.F.PartialEq.eq g.F.Field.inverse in
-    let vals = values E.base (builder_window c.args.builder.now) c.args.flags.now in
-    subst (λ (fs : List _). AreSetFlags E fs c.loop-place.set) (take_all c.loop-place.place vals (omega (arith, c.loop-place-test.false, length-map c.args.flags.now (value E.base (builder_window c.args.builder.now))))) c.loop-place.invariant
+    let R = g.F.PrimeCharacteristicRing.ring in
+    let eq = g.F.PartialEq.eq in
+    let vals = values R (builder_window c.args.builder.now) c.args.flags.now in
+    subst (λ (fs : List _). AreSetFlags R eq fs c.loop-place.set) (take_all c.loop-place.place vals (omega (arith, c.loop-place-test.false, length-map c.args.flags.now (value R (builder_window c.args.builder.now))))) c.loop-place.invariant

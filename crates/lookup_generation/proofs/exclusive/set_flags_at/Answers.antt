@@ -7,18 +7,15 @@ use Rattle.std.proofs.lemmas.Slice.Zip.{AllZip-long}
 use Rattle.lookup_columns.proofs.ZipLaws.{Beside, beside, taken_more}
 use Rattle.lookup_generation.proofs.ChunkColumnLaws.{read_is, taken_split}
 use Rattle.lookup_generation.specs.ChunkColumns.{HasFlag}
-use Rattle.lookup_generation.specs.Inverses.{base_extension}
 use Rattle.lookup_generation.specs.Selection.{AreSetFlags}
 use Rattle.lookup_laws.proofs.Selections.{not_boolean}
-use Rattle.lookup_model.specs.Extension.{IsLawful}
-use Rattle.lookup_model.proofs.Lawful.{lawful_over_itself}
 use Rattle.lookup_model.specs.Fault.{are_boolean}
 use Rattle.lookup_generation.proofs.exclusive.set_flags_at.Goals as goal
 
 pub returns-in_err-set : goal.returns-in_err-set
 returns-in_err-set g c = λ flags held.
-    let E = base_extension g.F.PrimeCharacteristicRing.ring g.F.PartialEq.eq g.F.Field.inverse in
-    let laws : IsLawful E = lawful_over_itself g.F.PrimeCharacteristicRing.lawful g.met.F.PrimeCharacteristicRing.eq_is g.met.F.Domain.domain g.met.F.Field.inverse_is in
+    let R = g.F.PrimeCharacteristicRing.ring in
+    let eq = g.F.PartialEq.eq in
     let i = c.loop-branch.branch in
     let b : Beside (HasFlag c.args.place) flags i c.index-columns-branch.result =
     beside (HasFlag c.args.place) c.args.columns.now flags i c.index-columns-branch.result held (omega arith) c.index-columns-branch.is in
@@ -27,24 +24,26 @@ returns-in_err-set g c = λ flags held.
     let why = c.in_err-set.ensures.refused in
     rw (p.1, p.2) (inr (
       why.0,
-      ap (are_boolean E.base E.base_eq) (taken_split flags i b.item b.within b.there)
-          ∙ not_boolean laws (take i flags) (drop (i + 1) flags) b.item (λ e. why.1 (sym here ∙ e)) (λ e. why.2 (sym here ∙ e)),
+      ap (are_boolean R eq) (taken_split flags i b.item b.within b.there)
+          ∙ not_boolean R eq g.met.F.PrimeCharacteristicRing.eq_is (take i flags) (drop (i + 1) flags) b.item (λ e. why.1 (sym here ∙ e)) (λ e. why.2 (sym here ∙ e)),
     ))
 
 pub loop-branch-preserved : goal.loop-branch-preserved
 loop-branch-preserved g c = λ flags held.
-    let E = base_extension g.F.PrimeCharacteristicRing.ring g.F.PartialEq.eq g.F.Field.inverse in
+    let R = g.F.PrimeCharacteristicRing.ring in
+    let eq = g.F.PartialEq.eq in
     let i = c.loop-branch.branch in
     let b : Beside (HasFlag c.args.place) flags i c.index-columns-branch.result =
     beside (HasFlag c.args.place) c.args.columns.now flags i c.index-columns-branch.result held (omega arith) c.index-columns-branch.is in
     let here = read_is _ c.args.place c.index-flag.result.now b.item b.holds (c.index-flag.ensures ∙ ap (λ (t : BranchColumns _ _). slice_index_or t.flags.items c.args.place c.index-flag.result.now) (sym c.index-columns-branch.is)) in
-    subst (λ (fs : List _). AreSetFlags E fs c.in_ok-set.set)
+    subst (λ (fs : List _). AreSetFlags R eq fs c.in_ok-set.set)
     ((λ k. take i flags ++ sym here k ∷ []) ∙ sym (taken_more flags i b.item b.within b.there))
     (c.in_ok-set.ensures.next (take i flags) (omega (arith, length-take i flags, b.within)) (c.loop-branch.invariant flags held))
 
 pub returns : goal.returns
 returns g c = λ flags held.
-    let E = base_extension g.F.PrimeCharacteristicRing.ring g.F.PartialEq.eq g.F.Field.inverse in
-    subst (λ (fs : List _). AreSetFlags E fs c.loop-branch.set)
+    let R = g.F.PrimeCharacteristicRing.ring in
+    let eq = g.F.PartialEq.eq in
+    subst (λ (fs : List _). AreSetFlags R eq fs c.loop-branch.set)
     (take_all c.loop-branch.branch flags (omega (arith, AllZip-long (HasFlag c.args.place) c.args.columns.now flags held, c.loop-branch-test.false)))
     (c.loop-branch.invariant flags held)

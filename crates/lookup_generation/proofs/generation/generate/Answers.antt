@@ -49,3 +49,9 @@ returns-clause-rows g c = λ inverse is_inverse.
     let E = extension g.F.PrimeCharacteristicRing.ring g.F.PartialEq.eq g.EF.PrimeCharacteristicRing.ring g.EF.PartialEq.eq g.EF.ExtensionDomain.embed inverse in
     let all : c.loop-first.first ≡ height c.args.traces.now.main.now = omega (arith, c.loop-first-test.false, c.loop-first.invariant.0, c.height-height.ensures.height) in
     subst (λ r. HasRows E (column_denominator E c.args.challenges.now) (sent_rows_of E.base E.base_eq c.args.traces.now c.args.lookups.now) r c.loop-first.cells.items c.loop-first.accumulator) all (c.loop-first.invariant.4 inverse is_inverse)
+
+pub push_chunk-requires-clause-fit : goal.push_chunk-requires-clause-fit
+push_chunk-requires-clause-fit g c = c.requires.fit
+
+pub push_chunk-requires-clause-challenges : goal.push_chunk-requires-clause-challenges
+push_chunk-requires-clause-challenges g c = c.requires.challenges

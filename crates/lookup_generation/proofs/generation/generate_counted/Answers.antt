@@ -62,3 +62,9 @@ pub returns-in_err-cells-clause-spared : goal.returns-in_err-cells-clause-spared
 returns-in_err-cells-clause-spared g c =
     let p = err_from_is_err_and c.from_residual.result c.from_residual.ensures.1 in
     rw (p.1, p.2) c.in_err-cells.ensures.spared
+
+pub generate-requires-clause-fit : goal.generate-requires-clause-fit
+generate-requires-clause-fit g c = c.requires.fit
+
+pub generate-requires-clause-challenges : goal.generate-requires-clause-challenges
+generate-requires-clause-challenges g c = c.requires.challenges

@@ -108,3 +108,15 @@ pub returns-in_err-ratios-clause-spared : goal.returns-in_err-ratios-clause-spar
 returns-in_err-ratios-clause-spared g c =
     let p = err_from_is_err_and c.from_residual.result c.from_residual.ensures.1 in
     rw (p.1, p.2) (inr refl)
+
+pub ratios_of-requires-clause-steps : goal.ratios_of-requires-clause-steps
+ratios_of-requires-clause-steps g c = c.requires.steps
+
+pub ratios_of-requires-clause-fit : goal.ratios_of-requires-clause-fit
+ratios_of-requires-clause-fit g c = c.requires.fit
+
+pub ratios_of-requires-clause-challenges : goal.ratios_of-requires-clause-challenges
+ratios_of-requires-clause-challenges g c = c.requires.challenges
+
+pub ratios_of-requires-clause-up_to : goal.ratios_of-requires-clause-up_to
+ratios_of-requires-clause-up_to g c = c.requires.up_to

@@ -19,6 +19,10 @@ use Rattle.lookup_generation.proofs.ColumnLaws.{AnswersColumns-more, HasColumns-
 use Rattle.lookup_generation.proofs.ProgressLaws.{product_more, sound_none}
 use Rattle.lookup_generation.proofs.generation.push_columns.Goals as goal
 
+pub offset_bounds-columns-lookup : goal.offset_bounds-columns-lookup
+offset_bounds-columns-lookup g c =
+    omega (arith, column_is c.args.lookups.now c.loop-lookup.lookup-index c.lookup-item.result c.requires.fit.records c.loop-lookup-test.true c.lookup-item.is, c.requires.wide, c.loop-lookup-test.true)
+
 pub bounds-columns-lookup : goal.bounds-columns-lookup
 bounds-columns-lookup g c =
     omega (arith, column_is c.args.lookups.now c.loop-lookup.lookup-index c.lookup-item.result c.requires.fit.records c.loop-lookup-test.true c.lookup-item.is, c.requires.wide, c.loop-lookup-test.true)

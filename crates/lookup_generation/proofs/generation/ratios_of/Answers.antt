@@ -64,3 +64,24 @@ returns-in-Some-clause-answers g c = λ inverse is_inverse.
     let found : AreFirstIn E denominator c.args.traces.now c.args.lookups.now c.args.first fault =
     subst (AnswersColumns E denominator c.args.traces.now c.args.lookups.now c.args.first c.args.end c.push_columns.new.ratios.items) c.in-Some.is (c.in_ok-fault.ensures.answers inverse is_inverse) in
     first_found laws denominator c.args.traces.now c.args.lookups.now c.args.first fault there.0 (omega (arith, there.1, c.requires.up_to)) (c.requires.faultless inverse is_inverse) found
+
+pub rows_between-requires : goal.rows_between-requires
+rows_between-requires g c = c.requires.from
+
+pub columns_of_lookups-requires-clause-steps : goal.columns_of_lookups-requires-clause-steps
+columns_of_lookups-requires-clause-steps g c = c.requires.steps
+
+pub columns_of_lookups-requires-clause-fit : goal.columns_of_lookups-requires-clause-fit
+columns_of_lookups-requires-clause-fit g c = c.requires.fit
+
+pub columns_of_lookups-requires-clause-challenges : goal.columns_of_lookups-requires-clause-challenges
+columns_of_lookups-requires-clause-challenges g c = c.requires.challenges
+
+pub push_columns-requires-clause-fit : goal.push_columns-requires-clause-fit
+push_columns-requires-clause-fit g c = c.requires.fit
+
+pub push_columns-requires-clause-from : goal.push_columns-requires-clause-from
+push_columns-requires-clause-from g c = c.requires.from
+
+pub push_columns-requires-clause-up_to : goal.push_columns-requires-clause-up_to
+push_columns-requires-clause-up_to g c = c.requires.up_to

@@ -5,7 +5,6 @@ use Rattle.std.specs.List.{slice_get}
 use Rattle.std.specs.Option.{option_copied}
 use Rattle.matrix.specs.Matrix.{height}
 use Rattle.expressions.specs.Window.{Window, window_at}
-use Rattle.lookup_model.specs.Extension.{extension}
 use Rattle.lookup_model.specs.FlagFault.{row_flag_faults}
 use Rattle.lookup_model.specs.Sent.{Sent}
 use Rattle.lookup_model.specs.Trace.{sent_row_under, sent_rows_under}
@@ -16,7 +15,8 @@ use Rattle.lookup_generation.proofs.messages.push_messages.Goals as goal
 
 pub returns-in_err-push_row_messages : goal.returns-in_err-push_row_messages
 returns-in_err-push_row_messages g c =
-    let E = extension g.F.PrimeCharacteristicRing.ring g.F.PartialEq.eq g.EF.PrimeCharacteristicRing.ring g.EF.PartialEq.eq g.EF.ExtensionDomain.embed g.EF.Field.inverse in
+    let R = g.F.PrimeCharacteristicRing.ring in
+    let eq = g.F.PartialEq.eq in
     let prep = option_copied c.args.preprocessed in
     let main = c.args.main.now in
     let id : Lookup g.row.F.Denot → ℕ = λ l. slice_index_or c.args.ids.now l.column 0 in
@@ -27,14 +27,15 @@ returns-in_err-push_row_messages g c =
     rw (p.1, p.2) (elim c.in_err-push_row_messages.ensures [
       | inl memory ↦ inl memory
       | inr fault ↦
-          let here : slice_get (row_flag_faults E.base E.base_eq r (sent_row_under E.base E.base_eq id (window_at main prep c.args.public_values.now (height main) r) c.args.lookups.now)) 0 ≡ Some _ =
-          (λ i. slice_get (row_flag_faults E.base E.base_eq (sym built.row i) (sent_row_under E.base E.base_eq id (sym built.window i) c.args.lookups.now)) 0) ∙ fault in
-          inr (first_row_fault E.base E.base_eq id main prep c.args.public_values.now c.args.lookups.now r lt _ c.loop-row.invariant.faultless here)
+          let here : slice_get (row_flag_faults R eq r (sent_row_under R eq id (window_at main prep c.args.public_values.now (height main) r) c.args.lookups.now)) 0 ≡ Some _ =
+          (λ i. slice_get (row_flag_faults R eq (sym built.row i) (sent_row_under R eq id (sym built.window i) c.args.lookups.now)) 0) ∙ fault in
+          inr (first_row_fault R eq id main prep c.args.public_values.now c.args.lookups.now r lt _ c.loop-row.invariant.faultless here)
     ])
 
 pub loop-row-preserved : goal.loop-row-preserved
 loop-row-preserved g c =
-    let E = extension g.F.PrimeCharacteristicRing.ring g.F.PartialEq.eq g.EF.PrimeCharacteristicRing.ring g.EF.PartialEq.eq g.EF.ExtensionDomain.embed g.EF.Field.inverse in
+    let R = g.F.PrimeCharacteristicRing.ring in
+    let eq = g.F.PartialEq.eq in
     let prep = option_copied c.args.preprocessed in
     let main = c.args.main.now in
     let id : Lookup g.row.F.Denot → ℕ = λ l. slice_index_or c.args.ids.now l.column 0 in
@@ -45,19 +46,20 @@ loop-row-preserved g c =
     let after = c.push_row_messages.new.messages.items in
     let lt : r < height main = omega (arith, c.loop-row-test.true, c.height-height.ensures.height) in
     let w = window_at main prep c.args.public_values.now (height main) r in
-    let has = λ (k : ℕ) (v : Window _). HasSentRow E k before after (sent_row_under E.base E.base_eq id v c.args.lookups.now) in
+    let has = λ (k : ℕ) (v : Window _). HasSentRow R eq k before after (sent_row_under R eq id v c.args.lookups.now) in
     let this : has r w =
     subst (λ (k : ℕ). has k w) built.row (subst (λ (v : Window _). has b.row v) built.window c.in_ok-push_row_messages.ensures) in
-    let rows = sent_rows_under E.base E.base_eq id main prep c.args.public_values.now c.args.lookups.now in
-    subst (λ (rs : List (List (Sent _))). HasSentRows E c.args.messages.now.items after rs) (sym (one_more_row E.base E.base_eq id main prep c.args.public_values.now c.args.lookups.now r lt))
-    (rows_more E r c.args.messages.now.items before after (take r rows) (sent_row_under E.base E.base_eq id w c.args.lookups.now)
-    (length-take-rows E.base E.base_eq id main prep c.args.public_values.now c.args.lookups.now r lt) this c.loop-row.invariant)
+    let rows = sent_rows_under R eq id main prep c.args.public_values.now c.args.lookups.now in
+    subst (λ (rs : List (List (Sent _))). HasSentRows R eq c.args.messages.now.items after rs) (sym (one_more_row R eq id main prep c.args.public_values.now c.args.lookups.now r lt))
+    (rows_more R eq r c.args.messages.now.items before after (take r rows) (sent_row_under R eq id w c.args.lookups.now)
+    (length-take-rows R eq id main prep c.args.public_values.now c.args.lookups.now r lt) this c.loop-row.invariant)
 
 pub returns : goal.returns
 returns g c =
-    let E = extension g.F.PrimeCharacteristicRing.ring g.F.PartialEq.eq g.EF.PrimeCharacteristicRing.ring g.EF.PartialEq.eq g.EF.ExtensionDomain.embed g.EF.Field.inverse in
+    let R = g.F.PrimeCharacteristicRing.ring in
+    let eq = g.F.PartialEq.eq in
     let prep = option_copied c.args.preprocessed in
     let id : Lookup g.row.F.Denot → ℕ = λ l. slice_index_or c.args.ids.now l.column 0 in
-    let rows = sent_rows_under E.base E.base_eq id c.args.main.now prep c.args.public_values.now c.args.lookups.now in
-    subst (λ (rs : List (List (Sent _))). HasSentRows E c.args.messages.now.items c.loop-row.messages.items rs)
-    (take_all c.loop-row.row rows (omega (arith, length-all_rows E.base E.base_eq id c.args.main.now prep c.args.public_values.now c.args.lookups.now, c.loop-row-test.false, c.height-height.ensures.height))) c.loop-row.invariant
+    let rows = sent_rows_under R eq id c.args.main.now prep c.args.public_values.now c.args.lookups.now in
+    subst (λ (rs : List (List (Sent _))). HasSentRows R eq c.args.messages.now.items c.loop-row.messages.items rs)
+    (take_all c.loop-row.row rows (omega (arith, length-all_rows R eq id c.args.main.now prep c.args.public_values.now c.args.lookups.now, c.loop-row-test.false, c.height-height.ensures.height))) c.loop-row.invariant

@@ -1,11 +1,11 @@
 use Rattle.std.proofs.Common.{take, slice_index_or}
 use Rattle.std.specs.Option.{option_copied}
-use Rattle.lookup_model.specs.Extension.{extension}
 use Rattle.lookup_model.specs.Trace.{sent_rows_under}
 use Rattle.lookup_generation.specs.SentMessages.{HasSentRows}
 use Rattle.lookup_generation.proofs.messages.push_messages.Given as goal
 
 abbrev pub invariant-loop-row : goal.invariant-loop-row
 invariant-loop-row g l =
-    let E = extension g.F.PrimeCharacteristicRing.ring g.F.PartialEq.eq g.EF.PrimeCharacteristicRing.ring g.EF.PartialEq.eq g.EF.ExtensionDomain.embed g.EF.Field.inverse in
-    HasSentRows E l.fn.messages.items l.messages.items (take l.row (sent_rows_under E.base E.base_eq (λ k. slice_index_or l.ids k.column 0) l.main (option_copied l.preprocessed) l.public_values l.lookups))
+    let R = g.F.PrimeCharacteristicRing.ring in
+    let eq = g.F.PartialEq.eq in
+    HasSentRows R eq l.fn.messages.items l.messages.items (take l.row (sent_rows_under R eq (λ k. slice_index_or l.ids k.column 0) l.main (option_copied l.preprocessed) l.public_values l.lookups))

@@ -1,5 +1,4 @@
 use Rattle.std.proofs.Common.{take, slice_index_or}
-use Rattle.lookup_model.specs.Extension.{extension}
 use Rattle.lookup_model.specs.Trace.{sent_row_under}
 use Rattle.lookup_generation.specs.SentMessages.{HasSentRow}
 use Rattle.lookup_generation.specs.TraceBuilder.{builder_window}
@@ -7,5 +6,6 @@ use Rattle.lookup_generation.proofs.messages.push_row_messages.Given as goal
 
 abbrev pub invariant-loop-lookup : goal.invariant-loop-lookup
 invariant-loop-lookup g l =
-    let E = extension g.F.PrimeCharacteristicRing.ring g.F.PartialEq.eq g.EF.PrimeCharacteristicRing.ring g.EF.PartialEq.eq g.EF.ExtensionDomain.embed g.EF.Field.inverse in
-    HasSentRow E l.builder.row l.fn.messages.items l.messages.items (take l.lookup-index (sent_row_under E.base E.base_eq (λ k. slice_index_or l.ids k.column 0) (builder_window l.builder) l.lookups))
+    let R = g.F.PrimeCharacteristicRing.ring in
+    let eq = g.F.PartialEq.eq in
+    HasSentRow R eq l.builder.row l.fn.messages.items l.messages.items (take l.lookup-index (sent_row_under R eq (λ k. slice_index_or l.ids k.column 0) (builder_window l.builder) l.lookups))

@@ -2,7 +2,6 @@ use Rattle.std.proofs.Common.{◌≡◌, ◌++◌, inl, inr, List, Option, IfSom
 use Rattle.std.proofs.lemmas.Result.{MatchResult-weaker}
 use Rattle.std.specs.Option.{option_map}
 use Rattle.expressions.specs.declared.base_expression.SymbolicExpression.{SymbolicExpression}
-use Rattle.lookup_model.specs.Extension.{extension}
 use Rattle.lookup_model.specs.Fault.{flag_fault_of}
 use Rattle.lookup_model.specs.Records.{AllFit, IsWithin}
 use Rattle.lookup_model.specs.Sent.{Sent, branches_at, sent, sent_at, values}
@@ -12,31 +11,33 @@ use Rattle.lookup_generation.proofs.messages.push_sent.Goals as goal
 
 pub returns-in-None : goal.returns-in-None
 returns-in-None g c =
-    let E = extension g.F.PrimeCharacteristicRing.ring g.F.PartialEq.eq g.EF.PrimeCharacteristicRing.ring g.EF.PartialEq.eq g.EF.ExtensionDomain.embed g.EF.Field.inverse in
+    let R = g.F.PrimeCharacteristicRing.ring in
+    let eq = g.F.PartialEq.eq in
     let row = c.args.builder.now.row in
     let lookup = c.args.lookup.now in
     let w = builder_window c.args.builder.now in
-    let branches = branches_at E.base w c.args.id lookup in
-    let sent_is : sent E.base E.base_eq None branches ≡ sent_at E.base E.base_eq w c.args.id lookup =
-    ap (λ o. sent E.base E.base_eq (option_map (λ flags. values E.base w flags.items) o) branches) (sym c.in-None.is) in
+    let branches = branches_at R w c.args.id lookup in
+    let sent_is : sent R eq None branches ≡ sent_at R eq w c.args.id lookup =
+    ap (λ o. sent R eq (option_map (λ flags. values R w flags.items) o) branches) (sym c.in-None.is) in
     MatchResult-weaker c.push_branches.result c.push_branches.ensures
     (λ _ h. (
       h ∙ ap (λ (s : Sent _). messages_of c.args.messages.now.items ++ s.messages) sent_is,
-      ap (λ (s : Sent _). flag_fault_of E.base E.base_eq row lookup.column s.flags) (sym sent_is),
+      ap (λ (s : Sent _). flag_fault_of R eq row lookup.column s.flags) (sym sent_is),
     ))
     (λ e memory. inl memory)
 
 pub returns-in-Some : goal.returns-in-Some
 returns-in-Some g c =
-    let E = extension g.F.PrimeCharacteristicRing.ring g.F.PartialEq.eq g.EF.PrimeCharacteristicRing.ring g.EF.PartialEq.eq g.EF.ExtensionDomain.embed g.EF.Field.inverse in
+    let R = g.F.PrimeCharacteristicRing.ring in
+    let eq = g.F.PartialEq.eq in
     let row = c.args.builder.now.row in
     let lookup = c.args.lookup.now in
     let w = builder_window c.args.builder.now in
-    let branches = branches_at E.base w c.args.id lookup in
-    let sent_is : sent E.base E.base_eq (Some (values E.base w c.deref.result.now)) branches ≡ sent_at E.base E.base_eq w c.args.id lookup =
-    ap (λ t. sent E.base E.base_eq (Some (values E.base w t)) branches) c.deref.ensures.value
-    ∙ ap (λ o. sent E.base E.base_eq (option_map (λ flags. values E.base w flags.items) o) branches) (sym c.in-Some.is) in
-    let fault_is = ap (λ (s : Sent _). flag_fault_of E.base E.base_eq row lookup.column s.flags) (sym sent_is) in
+    let branches = branches_at R w c.args.id lookup in
+    let sent_is : sent R eq (Some (values R w c.deref.result.now)) branches ≡ sent_at R eq w c.args.id lookup =
+    ap (λ t. sent R eq (Some (values R w t)) branches) c.deref.ensures.value
+    ∙ ap (λ o. sent R eq (option_map (λ flags. values R w flags.items) o) branches) (sym c.in-Some.is) in
+    let fault_is = ap (λ (s : Sent _). flag_fault_of R eq row lookup.column s.flags) (sym sent_is) in
     MatchResult-weaker c.push_selected.result c.push_selected.ensures
     (λ _ h. (h.0 ∙ ap (λ (s : Sent _). messages_of c.args.messages.now.items ++ s.messages) sent_is, fault_is ∙ h.1))
     (λ e refused. elim refused [

@@ -1,4 +1,4 @@
-use Rattle.std.proofs.Common.{find, length, map, ap, sym, ◌∙◌, arith}
+use Rattle.std.proofs.Common.{refl, find, length, map, ap, sym, ◌∙◌, arith}
 use Rattle.std.proofs.lemmas.List.{take_all}
 use Rattle.std.specs.List.{flat_map}
 use Rattle.lookup_model.specs.Outline.{fields_of}
@@ -24,3 +24,6 @@ returns g c = (
   c.in_ok-width.width,
   all_same c.in_ok-width.width (flat_map widths_of (map (λ r. fields_of r.now) c.args.members.now)) (ap (λ t. find (is_other c.in_ok-width.width) (flat_map widths_of (map (λ r. fields_of r.now) t))) (sym (take_all c.loop-lookup.lookup-index c.args.members.now (omega (arith, c.loop-lookup-test.false)))) ∙ c.loop-lookup.invariant),
 )
+
+pub loop-lookup-init : goal.loop-lookup-init
+loop-lookup-init g c = refl

@@ -57,3 +57,6 @@ returns g c =
     let none = nil_from_length (into_iter_items c.loop-next.next-iterator) (omega (arith, c.in-None.ensures.steps.0, c.loop-next.next-iterator.rest.ok.0)) in
     let whole = all_seen fields_of inv.seen (map fields_of c.args.members.items) (into_iter_items c.loop-next.next-iterator) none inv.all in
     (inv.members, (inv.columns.cut, subst (λ (t : List (Outline (SymbolicExpression g.row.F.Denot))). IsFilling (Answers (FnReturnsAt g.D.Fn c.args.degree.now)) c.args.max_degree inv.columns.cut t) whole inv.columns.filling, inv.columns.columns_are))
+
+pub with_next-requires-clause-callable : goal.with_next-requires-clause-callable
+with_next-requires-clause-callable g c = c.requires.callable

@@ -27,3 +27,9 @@ returns g c =
       | in-Some+in_ok-both-in-Some+in-Joined+in_ok-push-in-Joined w ↦ subst Steps (sym w.columns-is) (joined_step (Answers (FnReturnsAt g.D.Fn c.args.degree.now)) c.args.max_degree c.args.columns.items c.pop.new.self.items _ w.in-Some.last c.args.next _ c.requires.columns w.in-Some.ensures.items (subst (λ (t : Trial g.row.F.Denot). IsTried (Answers (FnReturnsAt g.D.Fn c.args.degree.now)) c.args.max_degree w.in-Some.last c.args.next t) w.in-Joined.is w.in_ok-both-in-Some.ensures) w.in_ok-push-in-Joined.ensures.items)
       | in-Some+in_ok-both-in-Some+in-Apart+in_ok-push-in-Apart+in_ok-push-in-Apart-2 w ↦ subst Steps (sym w.columns-is) (next_step (Answers (FnReturnsAt g.D.Fn c.args.degree.now)) c.args.max_degree c.args.columns.items c.pop.new.self.items _ _ w.in-Some.last c.args.next _ _ c.requires.columns w.in-Some.ensures.items (subst (λ (t : Trial g.row.F.Denot). IsTried (Answers (FnReturnsAt g.D.Fn c.args.degree.now)) c.args.max_degree w.in-Some.last c.args.next t) w.in-Apart.is w.in_ok-both-in-Some.ensures) w.in_ok-push-in-Apart.ensures.items w.in_ok-push-in-Apart-2.ensures.items)
     ]
+
+pub tried-requires-clause-callable : goal.tried-requires-clause-callable
+tried-requires-clause-callable g c = c.requires.callable
+
+pub tried-requires-clause-next : goal.tried-requires-clause-next
+tried-requires-clause-next g c = c.requires.next

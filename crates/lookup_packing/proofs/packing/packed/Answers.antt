@@ -46,3 +46,9 @@ returns-clause-nets g c = kept_nets g.F.PrimeCharacteristicRing.lawful g.F.Parti
 
 pub returns-clause-keys : goal.returns-clause-keys
 returns-clause-keys g c = kept_keys g.F.PrimeCharacteristicRing.lawful g.F.PartialEq.eq g.met.F.PrimeCharacteristicRing.eq_is c.args.lookups.items c.in_ok-in_columns.field-0.items (returns-clause-messages g c)
+
+pub parted-requires : goal.parted-requires
+parted-requires g c = c.requires.lengths
+
+pub with_buses-requires-clause-callable : goal.with_buses-requires-clause-callable
+with_buses-requires-clause-callable g c = c.requires.callable

@@ -1,4 +1,4 @@
-use Rattle.std.proofs.Common.{◌≡◌, ◌<◌, ◌≤◌, ◌+◌, ◌^◌, inr, refl, length, arith}
+use Rattle.std.proofs.Common.{◌≡◌, ◌<◌, ◌≤◌, ◌+◌, ◌^◌, inl, inr, refl, length, arith}
 use Rattle.std.proofs.lemmas.Result.{err_from_is_err_and}
 use Rattle.std.specs.Fn.{FnReturnsAt}
 use Rattle.lookup_packing.proofs.TrialLaws.{joined_both, overflown, refused, set_apart}
@@ -26,3 +26,23 @@ returns-in_ok-next-2 g c =
     set_apart (FnReturnsAt g.D.Fn c.args.degree.now) c.args.max_degree c.args.column c.args.next c.requires.column c.requires.next c.append.new.self c.append-2.new.self c.in_ok-append.ensures.items c.in_ok-append-2.ensures.items c.in_ok-answer.answer c.len-pivot.result
     c.split_off.new.self c.split_off-else-answer-max_degree.new.self c.in_ok-next.field-0 c.in_ok-next-2.field-0 (record { shown = _; shows = refl; says = record { met = c.in_ok-answer.ensures } }) (omega (arith, c.if-answer-max_degree.false)) at
     c.in_ok-next.ensures.items c.in_ok-next.ensures.tail c.in_ok-next-2.ensures.items c.in_ok-next-2.ensures.tail
+
+pub returns-in_err-append : goal.returns-in_err-append
+returns-in_err-append g c =
+    let p = err_from_is_err_and c.from_residual.result c.from_residual.ensures.1 in
+    rw (p.1, p.2) (inl refl)
+
+pub returns-in_err-append-2 : goal.returns-in_err-append-2
+returns-in_err-append-2 g c =
+    let p = err_from_is_err_and c.from_residual-in_err-append-2.result c.from_residual-in_err-append-2.ensures.1 in
+    rw (p.1, p.2) (inl refl)
+
+pub returns-in_err-next : goal.returns-in_err-next
+returns-in_err-next g c =
+    let p = err_from_is_err_and c.from_residual-in_err-next.result c.from_residual-in_err-next.ensures.1 in
+    rw (p.1, p.2) (inl refl)
+
+pub returns-in_err-next-2 : goal.returns-in_err-next-2
+returns-in_err-next-2 g c =
+    let p = err_from_is_err_and c.from_residual-in_err-next-2.result c.from_residual-in_err-next-2.ensures.1 in
+    rw (p.1, p.2) (inl refl)

@@ -25,27 +25,24 @@ returns-then-is_empty g c =
 
 pub bounds-messages-index : goal.bounds-messages-index
 bounds-messages-index g c =
-    let E = extension g.F.PrimeCharacteristicRing.ring g.F.PartialEq.eq g.EF.PrimeCharacteristicRing.ring g.EF.PartialEq.eq g.EF.ExtensionDomain.embed g.EF.Field.inverse in
     let items = c.in_ok-places.places.items in
     let filled : length items ≢ 0 = λ e. eqb-false c.in_ok-places.places.len 0 (sym c.is_empty.ensures ∙ c.if-is_empty.false) (c.in_ok-places.places.ok.0 ∙ e) in
     let one = one_item items c.index.result.now (omega (arith, c.if-len-gt1.false, c.len.ensures, c.in_ok-places.places.ok.0)) filled c.index.ensures in
-    omega (arith, place_within E 0 c.args.flags.now c.index.result.now [] (sym c.in_ok-places.ensures ∙ one), c.requires.lengths)
+    omega (arith, place_within g.F.PrimeCharacteristicRing.ring g.F.PartialEq.eq 0 c.args.flags.now c.index.result.now [] (sym c.in_ok-places.ensures ∙ one), c.requires.lengths)
 
 pub offset_bounds-messages-index : goal.offset_bounds-messages-index
 offset_bounds-messages-index g c =
-    let E = extension g.F.PrimeCharacteristicRing.ring g.F.PartialEq.eq g.EF.PrimeCharacteristicRing.ring g.EF.PartialEq.eq g.EF.ExtensionDomain.embed g.EF.Field.inverse in
     let items = c.in_ok-places.places.items in
     let filled : length items ≢ 0 = λ e. eqb-false c.in_ok-places.places.len 0 (sym c.is_empty.ensures ∙ c.if-is_empty.false) (c.in_ok-places.places.ok.0 ∙ e) in
     let one = one_item items c.index.result.now (omega (arith, c.if-len-gt1.false, c.len.ensures, c.in_ok-places.places.ok.0)) filled c.index.ensures in
-    omega (arith, place_within E 0 c.args.flags.now c.index.result.now [] (sym c.in_ok-places.ensures ∙ one), c.requires.lengths)
+    omega (arith, place_within g.F.PrimeCharacteristicRing.ring g.F.PartialEq.eq 0 c.args.flags.now c.index.result.now [] (sym c.in_ok-places.ensures ∙ one), c.requires.lengths)
 
 pub single_quotient-requires : goal.single_quotient-requires
 single_quotient-requires g c =
-    let E = extension g.F.PrimeCharacteristicRing.ring g.F.PartialEq.eq g.EF.PrimeCharacteristicRing.ring g.EF.PartialEq.eq g.EF.ExtensionDomain.embed g.EF.Field.inverse in
     let items = c.in_ok-places.places.items in
     let filled : length items ≢ 0 = λ e. eqb-false c.in_ok-places.places.len 0 (sym c.is_empty.ensures ∙ c.if-is_empty.false) (c.in_ok-places.places.ok.0 ∙ e) in
     let one = one_item items c.index.result.now (omega (arith, c.if-len-gt1.false, c.len.ensures, c.in_ok-places.places.ok.0)) filled c.index.ensures in
-    let lt : c.index.result.now < length c.args.messages.now = omega (arith, place_within E 0 c.args.flags.now c.index.result.now [] (sym c.in_ok-places.ensures ∙ one), c.requires.lengths) in
+    let lt : c.index.result.now < length c.args.messages.now = omega (arith, place_within g.F.PrimeCharacteristicRing.ring g.F.PartialEq.eq 0 c.args.flags.now c.index.result.now [] (sym c.in_ok-places.ensures ∙ one), c.requires.lengths) in
     All-at (λ m. 2 * m.id + 1 < length c.args.challenges.now) c.args.messages.now c.index.result.now c.index-messages-index.result c.requires.ids lt c.index-messages-index.is
 
 pub returns : goal.returns
@@ -60,7 +57,7 @@ returns g c =
     let items = c.in_ok-places.places.items in
     let filled : length items ≢ 0 = λ e. eqb-false c.in_ok-places.places.len 0 (sym c.is_empty.ensures ∙ c.if-is_empty.false) (c.in_ok-places.places.ok.0 ∙ e) in
     let one = sym c.in_ok-places.ensures ∙ one_item items k (omega (arith, c.if-len-gt1.false, c.len.ensures, c.in_ok-places.places.ok.0)) filled c.index.ensures in
-    let lt : k < length ms = omega (arith, place_within E 0 c.args.flags.now k [] one, c.requires.lengths) in
+    let lt : k < length ms = omega (arith, place_within E.base E.base_eq 0 c.args.flags.now k [] one, c.requires.lengths) in
     let within : k < length (messages_of ms) = omega (arith, lt, length-map ms message_of) in
     let is = mapped_at message_of ms k message lt c.index-messages-index.is in
     MatchResult-weaker c.single_quotient.result c.single_quotient.ensures

@@ -8,3 +8,6 @@ packed-requires-clause-lengths g c = λ k d lt. (c.args.self.records k (get_or c
 
 pub returns-clause-fits : goal.returns-clause-fits
 returns-clause-fits g c = λ layout fit. packed_fit layout _ c.args.max_degree c.args.self.lookups.items c.in_ok-lookups.lookups.items c.in_ok-lookups.ensures.packs.1 c.in_ok-lookups.ensures.records fit
+
+pub packed-requires-clause-callable : goal.packed-requires-clause-callable
+packed-requires-clause-callable g c = c.requires.callable

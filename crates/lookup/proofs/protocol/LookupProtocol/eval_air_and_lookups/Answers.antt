@@ -1,0 +1,33 @@
+use Rattle.std.proofs.Common.{◌≡◌, ◌≤◌, ◌<◌, ◌*◌, inl, inr, refl, length, subst, sym}
+use Rattle.std.proofs.lemmas.Result.{err_from_is_err_and}
+use Rattle.expressions.specs.declared.layout.AirLayout.{AirLayout}
+use Rattle.lookup_model.specs.Records.{DoFit}
+use Rattle.lookup.proofs.protocol.LookupProtocol.eval_air_and_lookups.Goals as goal
+
+pub eval_all-requires-clause-fit : goal.eval_all-requires-clause-fit
+eval_all-requires-clause-fit g c =
+    let kept : g.AB.AirBuilder.layout c.eval.new.builder ≡ g.AB.AirBuilder.layout c.args.builder.now = g.met.A.Air.keeps_layout _ _ _ c.in_ok-eval.ensures in
+    subst (λ (l : AirLayout). DoFit l c.args.lookups.now) (sym kept) c.requires.fit
+
+pub eval_all-requires-clause-challenges : goal.eval_all-requires-clause-challenges
+eval_all-requires-clause-challenges g c =
+    let kept : g.AB.AirBuilder.layout c.eval.new.builder ≡ g.AB.AirBuilder.layout c.args.builder.now = g.met.A.Air.keeps_layout _ _ _ c.in_ok-eval.ensures in
+    subst (λ (l : AirLayout). 2 * length c.args.lookups.now ≤ l.num_permutation_challenges) (sym kept) c.requires.challenges
+
+pub eval_all-requires-clause-cells : goal.eval_all-requires-clause-cells
+eval_all-requires-clause-cells g c =
+    let kept : g.AB.AirBuilder.layout c.eval.new.builder ≡ g.AB.AirBuilder.layout c.args.builder.now = g.met.A.Air.keeps_layout _ _ _ c.in_ok-eval.ensures in
+    subst (λ (l : AirLayout). 0 < length c.args.lookups.now → length c.args.lookups.now < l.permutation_width) (sym kept) c.requires.cells
+
+pub eval_all-requires-clause-terminal : goal.eval_all-requires-clause-terminal
+eval_all-requires-clause-terminal g c =
+    let kept : g.AB.AirBuilder.layout c.eval.new.builder ≡ g.AB.AirBuilder.layout c.args.builder.now = g.met.A.Air.keeps_layout _ _ _ c.in_ok-eval.ensures in
+    subst (λ (l : AirLayout). 0 < length c.args.lookups.now → 0 < l.num_permutation_values) (sym kept) c.requires.terminal
+
+pub returns : goal.returns
+returns g c = inr (c.eval.new.builder, c.in_ok-eval.ensures, c.eval_all.ensures)
+
+pub returns-in_err-eval : goal.returns-in_err-eval
+returns-in_err-eval g c =
+    let p = err_from_is_err_and c.from_residual.result c.from_residual.ensures.1 in
+    rw (p.1, p.2) (inl (c.in_err-eval.field-0.0, refl, c.in_err-eval.ensures))

@@ -1,0 +1,19 @@
+use Rattle.lookup_evaluation.proofs.additive.with_tuple.Goals as goal
+
+pub denominator-requires-clause-fit : goal.denominator-requires-clause-fit
+denominator-requires-clause-fit g c = c.requires.tuple_fits
+
+pub denominator-requires-clause-alpha : goal.denominator-requires-clause-alpha
+denominator-requires-clause-alpha g c = c.requires.alpha
+
+pub denominator-requires-clause-beta : goal.denominator-requires-clause-beta
+denominator-requires-clause-beta g c = c.requires.beta
+
+pub denominator-requires-clause-main : goal.denominator-requires-clause-main
+denominator-requires-clause-main g c = c.requires.main
+
+pub lifted-requires-clause-fits : goal.lifted-requires-clause-fits
+lifted-requires-clause-fits g c = c.requires.multiplicity_fits
+
+pub lifted-requires-clause-main : goal.lifted-requires-clause-main
+lifted-requires-clause-main g c = c.requires.main
