@@ -1,5 +1,4 @@
 //! Why a call over a batch fails.
-ghost use Rattle.std.specs.Prelude.{◌≡◌};
 ghost use Rattle.batch_model.specs.Faults.{IsFaultOf, IsOutOfMemory};
 
 use lookup_model::LookupError;

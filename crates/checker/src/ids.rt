@@ -2,7 +2,7 @@
 ghost use Rattle.std.specs.Prelude.{◌≡◌, ◌↔◌, ◌<◌, ◌≤◌, ◌++◌, All, IfOk, IsTrue, length, map};
 ghost use Rattle.std.specs.List.{AllPairs, zip};
 ghost use Rattle.batch_model.specs.Ids.{AreLawfulIds, HaveOneWidth, ShareBus, identified};
-ghost use Rattle.batch_model.specs.Instances.{HaveIds, instance_of, instances_of};
+ghost use Rattle.batch_model.specs.Instances.{HaveIds, instances_of};
 ghost use Rattle.checker.specs.Identified.{AgreeOnBuses, AgreeOnWidths, AgreesBelow, AreLawful, IsWithinBounds, identified_of};
 
 use batch_model::BatchInstance;

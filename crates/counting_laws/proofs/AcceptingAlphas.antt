@@ -4,7 +4,7 @@ use Rattle.std.proofs.Common.{◌≡◌, ◌≢◌, ℕ, ◌+◌, ◌*◌, ◌<�
 use Rattle.std.proofs.lemmas.List.{length-map}
 use Rattle.std.specs.List.{AllByRecursion, filter, list_any}
 use Rattle.field.specs.Distinct.{IsDistinct, all_both, all_map, all_weaker}
-use Rattle.field.specs.Polynomial.{AreRoots, combined, IsRoot, IsZeroPolynomial}
+use Rattle.field.specs.Polynomial.{combined, IsRoot, IsZeroPolynomial}
 use Rattle.field.specs.Ring.{of_nat, power, sub_in}
 use Rattle.field.specs.RingFacts.{mul_zero, same_from_difference}
 use Rattle.field.specs.RingSolver.{var, ◌:+◌, ◌:-◌, ◌:*◌, ring_law}

@@ -1,7 +1,6 @@
 //! Base expressions.
-ghost use Rattle.std.specs.Prelude.{◌≡◌, ℕ, ◌+◌, max, IfOk, map};
+ghost use Rattle.std.specs.Prelude.{◌≡◌, IfOk, map};
 ghost use Rattle.expressions.specs.Tree.{tree_of};
-ghost use Rattle.field.specs.Ring.{sub_in};
 
 use crate::expression::{Expression, WholeNumbers};
 use crate::variable::SymbolicVariable;

@@ -1,6 +1,6 @@
 //! What field elements and expression trees have in common: both are built up from constants.
 ghost use Rattle.std.specs.Prelude.{◌≡◌, ℕ, ℤ, ◌+◌, max, IfOk, refl};
-ghost use Rattle.field.specs.Ring.{Ring, of_int, sub_in};
+ghost use Rattle.field.specs.Ring.{of_int, sub_in};
 ghost use Rattle.expressions.specs.declared.layout.AirLayout.{AirLayout};
 
 use field::Field;

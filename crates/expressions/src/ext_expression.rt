@@ -92,7 +92,6 @@ impl<F: Field, EF: ExtensionField<F>> Expression<EF> for SymbolicExpressionExt<F
     ghost use Rattle.expressions.specs.ExtLayout.{ExtFits};
     ghost use Rattle.expressions.specs.ExtMeaning.{ext_value_of};
     ghost use Rattle.expressions.specs.ExtTree.{ext_tree_of, constant, add, sub, mul, neg};
-    ghost use Rattle.expressions.specs.Window.{Window};
 
     type Seen = SeenExt<F, EF>;
 

@@ -1,5 +1,5 @@
 //! Evaluation of all lookups of an AIR, through the calls of a protocol.
-ghost use Rattle.std.specs.Prelude.{◌≡◌, ◌+◌, ◌*◌, ◌<◌, ◌≤◌, ◌⊎◌, All, length, map};
+ghost use Rattle.std.specs.Prelude.{◌+◌, ◌*◌, ◌<◌, ◌≤◌, All, length, map};
 ghost use Rattle.lookup_evaluation.specs.Asserted.{EvaluatesOn};
 ghost use Rattle.lookup_model.specs.Constraints.{accumulator_constraints, fraction_constraint, terminal_at};
 ghost use Rattle.lookup_model.specs.Extension.{extension};

@@ -1,5 +1,5 @@
 //! Guards on the lookups of all AIRs.
-ghost use Rattle.std.specs.Prelude.{◌≡◌, ◌<◌, ◌≤◌, ◌-◌, ◌^◌, ℕ, IfOk, MatchResult, length, map, min};
+ghost use Rattle.std.specs.Prelude.{◌≡◌, ◌<◌, ◌-◌, ◌^◌, IfOk, MatchResult, length, map, min};
 ghost use Rattle.lookup.specs.Guards.{IsBitLength, IsHeightRefusal, weighted_height_sum};
 ghost use Rattle.lookup.specs.Lookups.{lookups_of};
 ghost use Rattle.lookup.specs.Weights.{HeightLaws};

@@ -12,7 +12,6 @@ use Rattle.lookup_debug.specs.Mismatch.{of_tuple, places}
 use Rattle.lookup_debug.specs.Nets.{amount_nets}
 use Rattle.lookup_debug.specs.Walks.{IsWalk}
 use Rattle.lookup_debug.specs.declared.arena.Contributions.{Contributions}
-use Rattle.lookup_debug.specs.declared.places.Places.{Places}
 
 module _ {F : Type 0} (R : Ring F) (eq : F → F → Bool) where
   -- the nets of a list of contributions are those that the cuts have

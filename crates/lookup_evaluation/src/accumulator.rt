@@ -1,5 +1,5 @@
 //! The constraints of the accumulator.
-ghost use Rattle.std.specs.Prelude.{◌≡◌, ◌+◌, ◌<◌, ◌≤◌, ◌⊎◌, ℕ, max, [], ◌∷◌, All, IfOk, IfErr, length};
+ghost use Rattle.std.specs.Prelude.{◌≡◌, ◌+◌, ◌<◌, ◌≤◌, ◌⊎◌, ℕ, max, All, IfOk, IfErr};
 ghost use Rattle.field.specs.Ring.{of_bool, sub_in};
 ghost use Rattle.expressions.specs.Builder.{MeansRow};
 ghost use Rattle.expressions.specs.Window.{ExtWindow};

@@ -1,5 +1,5 @@
 //! The numerator and the denominator of an exclusive lookup.
-ghost use Rattle.std.specs.Prelude.{◌≡◌, ◌+◌, ◌≤◌, ℕ, Some, max, IfOk, length, map};
+ghost use Rattle.std.specs.Prelude.{◌≡◌, ◌+◌, ◌≤◌, ℕ, max, IfOk, length, map};
 ghost use Rattle.field.specs.Ring.{sub_in};
 ghost use Rattle.field.specs.Sums.{sum_in};
 ghost use Rattle.expressions.specs.Builder.{IsMainWindow};

@@ -1,6 +1,6 @@
 //! The degrees of the constraints of lookups.
 ghost use Rattle.std.specs.Prelude.{◌≡◌, ◌+◌, ◌-◌, ◌≤◌, None, Some, length, map, max};
-ghost use Rattle.lookup_model.specs.LookupDegree.{IsDegree, additive_denominator_degree, constraint_degree_of, expression_degree, lookup_branch_degrees, lookup_degree, total, tuple_degree};
+ghost use Rattle.lookup_model.specs.LookupDegree.{IsDegree, constraint_degree_of, expression_degree, lookup_branch_degrees, lookup_degree, total, tuple_degree};
 ghost use Rattle.lookup_model.specs.Records.{HasEqualLengths};
 
 use crate::error::LookupError;

@@ -1,9 +1,7 @@
 //! Trials: whether a lookup fits into the open column of its bus.
-ghost use Rattle.std.specs.Prelude.{◌≡◌, ◌+◌, ◌<◌, ◌≤◌, ◌^◌, ◌⊎◌, None, MatchResult, length};
+ghost use Rattle.std.specs.Prelude.{◌≡◌, ◌<◌, ◌⊎◌, None, MatchResult};
 ghost use Rattle.std.specs.Fn.{FnReturnsAt};
 ghost use Rattle.lookup_model.specs.Outline.{fields_of};
-ghost use Rattle.lookup_model.specs.Records.{HasEqualLengths};
-ghost use Rattle.lookup_packing.specs.Packing.{trial};
 ghost use Rattle.lookup_packing.specs.Trials.{Answers, IsMember, IsTried, IsTrialRefusal};
 
 use field::Field;

@@ -1,5 +1,5 @@
 //! The rows of the input.
-ghost use Rattle.std.specs.Prelude.{◌≡◌, ◌+◌, ◌%◌, ◌<◌, ◌++◌, ◌⊎◌, IfOk, MatchResult, OnOk, length, map, vec_len};
+ghost use Rattle.std.specs.Prelude.{◌≡◌, ◌+◌, ◌%◌, ◌<◌, ◌++◌, ◌⊎◌, IfOk, MatchResult, OnOk, map, vec_len};
 ghost use Rattle.std.specs.List.{list_all};
 ghost use Rattle.field.specs.Ring.{of_nat};
 ghost use Rattle.matrix.specs.Matrix.{height};

@@ -1,6 +1,6 @@
 //! A builder that records a whole AIR.
 ghost use Rattle.std.proofs.Common.{◌∙◌, ap, subst, sym};
-ghost use Rattle.std.specs.Prelude.{◌≡◌, ◌⊎◌, IfErr, IfOk, MatchResult, None, Some, Ok, Err, length, map};
+ghost use Rattle.std.specs.Prelude.{◌≡◌, IfErr, IfOk, MatchResult, None, Some, Ok, Err, length, map};
 ghost use Rattle.expressions.specs.ExtTree.{ext_tree_of};
 ghost use Rattle.expressions.specs.Layout.{first_mismatch};
 ghost use Rattle.expressions.specs.Tree.{tree_of};

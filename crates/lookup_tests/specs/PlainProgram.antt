@@ -1,5 +1,5 @@
 -- What the plain program's messages mean.
-use Rattle.std.specs.Prelude.{◌≡◌, ℕ, Bool, false, List, None, map}
+use Rattle.std.specs.Prelude.{◌≡◌, Bool, false, List, None, map}
 use Rattle.std.specs.List.{list_any}
 use Rattle.field.specs.Ring.{Ring}
 use Rattle.field.specs.Sums.{sum_in}

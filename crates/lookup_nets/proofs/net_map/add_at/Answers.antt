@@ -1,4 +1,4 @@
-use Rattle.std.proofs.Common.{ap, rules, sym, unwrap_or, ◌≡◌, ◌∙◌}
+use Rattle.std.proofs.Common.{ap, rules, unwrap_or, ◌≡◌, ◌∙◌}
 use Rattle.std.specs.HashMap.{get}
 use Rattle.lookup_nets.proofs.net_map.add_at.Goals as goal
 
