@@ -203,8 +203,8 @@ pub fn push_messages<F: Field>(
     requires fit { DoFit (layout_of_traces main.now (option_copied preprocessed) public_values.now)
         lookups.now }
     requires ids { length ids.now ≡ length lookups.now }
-    ensures { let rows = sent_rows_under F.ring F.eq (λ l. slice_index_or ids.now l.column 0) main.now
-        (option_copied preprocessed.entry) public_values.now lookups.now in
+    ensures { let rows = sent_rows_under F.ring F.eq (λ l. slice_index_or ids.now l.column 0)
+        main.now (option_copied preprocessed.entry) public_values.now lookups.now in
         MatchResult result
         (λ _. HasSentRows F.ring F.eq messages.old.items messages.new.items rows)
         (λ e. (e ≡ LookupError.Memory)
