@@ -2,7 +2,7 @@
 ghost use Rattle.std.specs.Prelude.{◌≡◌, IfOk, map};
 ghost use Rattle.expressions.specs.Tree.{tree_of};
 
-use crate::expression::{Expression, WholeNumbers};
+use crate::expression::{Expression, WholeNumbers, boxed_pair};
 use crate::variable::SymbolicVariable;
 use field::Field;
 use serde::{Case, Described, Serialize, Serializer};
@@ -37,20 +37,6 @@ pub enum SymbolicExpression<F> {
     Mul(Box<SymbolicExpression<F>>, Box<SymbolicExpression<F>>),
     /// A negation.
     Neg(Box<SymbolicExpression<F>>),
-}
-
-/// Both operands of a node, each in a box.
-pub(crate) fn boxed_pair<E: Drop>(
-    alloc: Global,
-    left: E,
-    right: E,
-) -> Result<(Box<E>, Box<E>), AllocError>
-    ensures left { IfOk result (λ boxes. boxes.0.value ≡ left) }
-    ensures right { IfOk result (λ boxes. boxes.1.value ≡ right) }
-{
-    let left = Box::new(alloc, left)?;
-    let right = Box::new(alloc, right)?;
-    Ok((left, right))
 }
 
 /// What a base expression is evaluated at; contracts see a window. Never constructed.

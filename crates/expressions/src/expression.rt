@@ -155,3 +155,17 @@ impl<F: Field> Expression<F> for F {
 
     ghost whole_within = { λ n x l h. tt };
 }
+
+/// Both operands of a node, each in a box.
+pub(crate) fn boxed_pair<E: Drop>(
+    alloc: Global,
+    left: E,
+    right: E,
+) -> Result<(Box<E>, Box<E>), AllocError>
+    ensures left { IfOk result (λ boxes. boxes.0.value ≡ left) }
+    ensures right { IfOk result (λ boxes. boxes.1.value ≡ right) }
+{
+    let left = Box::new(alloc, left)?;
+    let right = Box::new(alloc, right)?;
+    Ok((left, right))
+}

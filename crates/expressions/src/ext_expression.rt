@@ -1,8 +1,8 @@
 //! Expressions over an extension.
 ghost use Rattle.std.specs.Prelude.{◌≡◌, IfOk};
 
-use crate::base_expression::{SymbolicExpression, boxed_pair};
-use crate::expression::{Expression, WholeNumbers};
+use crate::base_expression::SymbolicExpression;
+use crate::expression::{Expression, WholeNumbers, boxed_pair};
 use crate::variable::SymbolicVariableExt;
 use field::{ExtensionField, Field};
 use std::alloc::{AllocError, Global};

@@ -16,7 +16,10 @@ use std::alloc::Global;
 const DEPTH: u32 = 128;
 
 /// The value that was read, after the end of the map that holds a variant's data.
-fn ended<T: Drop, R: Format>(from: &mut Deserializer<'_, '_, R>, value: T) -> Result<T, R::Error>
+fn after_end<T: Drop, R: Format>(
+    from: &mut Deserializer<'_, '_, R>,
+    value: T,
+) -> Result<T, R::Error>
     ensures { IfOk result (λ v. v ≡ value) }
 {
     match from.next_key(&[])? {
@@ -68,7 +71,7 @@ impl DeserializeOwned for BaseEntry {
             Some(_) => return Err(from.unknown_variant()),
             None => return Err(from.invalid()),
         };
-        ended(from, entry)
+        after_end(from, entry)
     }
 }
 
@@ -122,7 +125,7 @@ impl<F: DeserializeOwned> DeserializeOwned for BaseLeaf<F> {
             Some(_) => return Err(from.unknown_variant()),
             None => return Err(from.invalid()),
         };
-        ended(from, leaf)
+        after_end(from, leaf)
     }
 }
 
@@ -164,7 +167,7 @@ fn read_expression<F: DeserializeOwned, R: Format>(
         Some(_) => return Err(from.unknown_variant()),
         None => return Err(from.invalid()),
     };
-    ended(from, expression)
+    after_end(from, expression)
 }
 
 /// The value in a box.

@@ -14,15 +14,15 @@ use Rattle.lookup_packing.specs.Fewest.{AnswersDegree, HasFewestColumns}
 use Rattle.lookup_packing.specs.Packing.{additive, AreFilled, IsAbove, IsFilling, IsStuck, Joins, Packs}
 use Rattle.lookup_packing.proofs.JoinedMessages.{zip_mapped}
 
-flags_degrees : {F : Type 0} {V : Type 0} (items : V → List (SymbolicExpression F)) (flags : Option V) → option_map (λ fs. map (expression_degree 0) (items fs)) flags ≡ option_map (map (expression_degree 0)) (option_map items flags)
-flags_degrees items None = refl
-flags_degrees items (Some fs) = refl
+flags_degrees : {F : Type 0} {V : Type 0} (items : V → List (SymbolicExpression F)) (t : ℕ) (flags : Option V) → option_map (λ fs. map (expression_degree t) (items fs)) flags ≡ option_map (map (expression_degree t)) (option_map items flags)
+flags_degrees items t None = refl
+flags_degrees items t (Some fs) = refl
 
 -- the degree of a lookup is that of its fields
-pub same_degree : {F : Type 0} (l : Lookup F) (o : Outline (SymbolicExpression F)) → fields_of l ≡ o → lookup_degree 0 l ≡ outline_degree 0 o
-same_degree l o is =
-    (λ i. constraint_degree_of (flags_degrees (λ fs. fs.items) l.flags i) (zip_mapped (λ tuple. tuple.items) (branch_degrees 0) l.elements.items l.multiplicities.items i))
-    ∙ ap (outline_degree 0) is
+pub same_degree : {F : Type 0} (t : ℕ) (l : Lookup F) (o : Outline (SymbolicExpression F)) → fields_of l ≡ o → lookup_degree t l ≡ outline_degree t o
+same_degree t l o is =
+    (λ i. constraint_degree_of (flags_degrees (λ fs. fs.items) t l.flags i) (zip_mapped (λ tuple. tuple.items) (branch_degrees t) l.elements.items l.multiplicities.items i))
+    ∙ ap (outline_degree t) is
 
 module _ {E : Type 0} (A B : Outline E → Result ℕ LookupError → Type 0) (carry : (o : Outline E) (r : Result ℕ LookupError) → A o r → B o r) (most : ℕ) where
   joins_along : (part : Outline E × List (Outline E)) (o : Outline E) → Joins A most part o → Joins B most part o

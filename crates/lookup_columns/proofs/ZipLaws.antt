@@ -19,13 +19,6 @@ module _ {A B : Type 0} (R : A → B → Type 0) where
       let next = beside xs ys i x h.1 (omega (arith, lt)) is in
       record { item = next.item; there = next.there; within = omega (arith, next.within); holds = next.holds }
 
-  -- one more item in both lists
-  pub zip_push : (xs : List A) (ys : List B) (x : A) (y : B) → AllZip R xs ys → R x y → AllZip R (xs ++ x ∷ []) (ys ++ y ∷ [])
-  zip_push [] [] x y h r = (r, tt)
-  zip_push [] (b ∷ ys) x y h r = absurd h
-  zip_push (a ∷ xs) [] x y h r = absurd h
-  zip_push (a ∷ xs) (b ∷ ys) x y h r = (h.0, zip_push xs ys x y h.1 r)
-
 -- the items up to one, and that one
 pub taken_more : {A : Type 0} (xs : List A) (i : ℕ) (x : A) → i < length xs → x ≡ get_or xs i x → take (i + 1) xs ≡ take i xs ++ x ∷ []
 taken_more xs i x lt is = take_more xs i x lt ∙ ap (λ t. take i xs ++ t ∷ []) (sym is)

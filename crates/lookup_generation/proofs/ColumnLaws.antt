@@ -2,9 +2,10 @@
 use Rattle.std.proofs.Common.{◌≡◌, ◌⊎◌, ℕ, ◌+◌, ◌-◌, ◌<◌, ◌≤◌, Option, None, Some, IfSome, List, [], ◌∷◌, ◌++◌, length, map, take, get_or, inl, inr, refl, sym, ap, below_more, subst, subst₂, ◌∙◌, arith, append_assoc}
 use Rattle.std.proofs.lemmas.List.{append-nil, length-map, length-take, map_push}
 use Rattle.std.proofs.lemmas.Grind.{flat_map-append}
+use Rattle.std.proofs.lemmas.Slice.Zip.{all_zipped_more}
 use Rattle.std.specs.List.{AllZip, flat_map, range_with_len, slice_get}
 use Rattle.std.specs.Option.{option_map_or, option_or}
-use Rattle.lookup_columns.proofs.ZipLaws.{taken_more, zip_push}
+use Rattle.lookup_columns.proofs.ZipLaws.{taken_more}
 use Rattle.lookup_columns.specs.Traces.{window_of}
 use Rattle.lookup_columns.specs.declared.traces.Traces.{Traces}
 use Rattle.lookup_generation.proofs.ProgressLaws.{range-more}
@@ -60,7 +61,7 @@ module _ {F K : Type 0} (E : Extension F K) (denominator : Key F → K) where
         ratios = λ fs h.
             subst₂ (AllZip (IsRatio E.ring)) (sym longer_is)
             (append_assoc fs (column_fractions E denominator sends first n) (x ∷ []) ∙ ap (λ t. fs ++ t) (sym more))
-            (zip_push (IsRatio E.ring) after (fs ++ column_fractions E denominator sends first n) ratio x (so_far.ratios fs h) is);
+            (all_zipped_more (IsRatio E.ring) after (fs ++ column_fractions E denominator sends first n) ratio x (so_far.ratios fs h) is);
         faultless = λ k low high. below_more (λ (j : ℕ). first ≤ j → fault_of E denominator j column (sends j) ≡ None) r (λ j lt from. so_far.faultless j from lt) (λ _. none) k high low;
       }
 

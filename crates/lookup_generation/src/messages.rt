@@ -210,6 +210,7 @@ pub fn push_messages<F: Field>(
         (λ e. (e ≡ LookupError.Memory)
         ⊎ (slice_get (trace_flag_faults F.ring F.eq rows) 0 ≡ Some e)) }
 {
+    // messages need no challenges, so the field stands where its extension would
     let challenges: &[F] = &[];
     let height = main.height();
     for row in 0..height {

@@ -92,7 +92,7 @@ pub fn exclusive_fraction_of<F: Field, EF: ExtensionField<F>>(
     if !are_boolean(flags) {
         return Err(LookupError::FlagNotBoolean { row, lookup });
     }
-    let places = set_places(alloc, flags)?;
+    let places = places_of_set(alloc, flags)?;
     if places.len() > 1 {
         return Err(LookupError::FlagsNotExclusive { row, lookup });
     }
@@ -147,7 +147,7 @@ fn is_boolean<F: Field>(flag: F) -> bool
 }
 
 /// The places of the flags that are one, in order.
-fn set_places<F: Field>(alloc: Global, flags: &[F]) -> Result<Vec<usize>, AllocError>
+fn places_of_set<F: Field>(alloc: Global, flags: &[F]) -> Result<Vec<usize>, AllocError>
     ensures { IfOk result (λ places. places.items ≡ set_places F.ring F.eq 0 flags.now) }
 {
     let mut places = Vec::new(alloc);

@@ -1,9 +1,10 @@
 use Rattle.std.proofs.Common.{◌<◌, [], List, length, take, get_or, sym, subst, subst₂, arith}
 use Rattle.std.proofs.lemmas.List.{get_or_default, take_all}
 use Rattle.std.proofs.lemmas.Option.{slice_get-get_or}
+use Rattle.std.proofs.lemmas.Slice.Zip.{all_zipped_more}
 use Rattle.std.specs.List.{AllZip}
 use Rattle.lookup_generation.specs.ChunkColumns.{IsHeld, key_denominator}
-use Rattle.lookup_columns.proofs.ZipLaws.{taken_more, zip_push}
+use Rattle.lookup_columns.proofs.ZipLaws.{taken_more}
 use Rattle.lookup_model.proofs.Branches.{length-branches_at}
 use Rattle.lookup_model.specs.Message.{Message}
 use Rattle.lookup_model.specs.Sent.{branches_at}
@@ -22,7 +23,7 @@ loop-branch-preserved g c = λ place r there.
     let m = get_or ms i d in
     let lt : i < length ms = omega (arith, length-branches_at R w lookup.column lookup c.requires.lengths) in
     subst₂ (AllZip held) (sym c.in_ok-push.ensures.items) (sym (taken_more ms i m lt (get_or_default ms i d m lt)))
-    (zip_push held c.loop-branch.branches.items (take i ms) c.in_ok-columns.columns m (c.loop-branch.invariant place r there)
+    (all_zipped_more held c.loop-branch.branches.items (take i ms) c.in_ok-columns.columns m (c.loop-branch.invariant place r there)
     (c.in_ok-columns.ensures.held place r m there (slice_get-get_or ms i d lt)))
 
 pub returns : goal.returns

@@ -5,8 +5,8 @@ use Rattle.std.specs.declared.alloc.Global.{Global}
 use Rattle.std.specs.declared.vec.Vec.{Vec}
 use Rattle.lookup_generation.specs.ChunkColumns.{AreColumns}
 use Rattle.lookup_generation.specs.declared.columns.BranchColumns.{BranchColumns}
-use Rattle.std.proofs.lemmas.Slice.Zip.{AllZip-long}
-use Rattle.lookup_columns.proofs.ZipLaws.{beside, taken_more, zip_push}
+use Rattle.std.proofs.lemmas.Slice.Zip.{all_zipped_more, AllZip-long}
+use Rattle.lookup_columns.proofs.ZipLaws.{beside, taken_more}
 use Rattle.lookup_generation.specs.LookupSteps.{AreLookupSteps}
 use Rattle.lookup_laws.proofs.SentRows.{column_is}
 use Rattle.lookup_model.specs.declared.types.Lookup.{Lookup}
@@ -42,7 +42,7 @@ loop-lookup-preserved g c =
     let held = λ (lookup : Lookup _) (columns : Vec (BranchColumns _ _) Global). AreColumns g.F.PrimeCharacteristicRing.ring g.EF.PrimeCharacteristicRing.ring g.EF.ExtensionDomain.embed c.args.challenges.now windows c.args.rows.now lookup columns.items in
     let i = c.loop-lookup.lookup-index in
     subst₂ (AllZip held) (sym (taken_more c.args.lookups.now i c.lookup-item.result c.loop-lookup-test.true c.lookup-item.is)) (sym c.in_ok-push.ensures.items)
-    (zip_push held (take i c.args.lookups.now) c.loop-lookup.columns.items c.lookup-item.result c.in_ok-branches.branches c.loop-lookup.invariant c.in_ok-branches.ensures)
+    (all_zipped_more held (take i c.args.lookups.now) c.loop-lookup.columns.items c.lookup-item.result c.in_ok-branches.branches c.loop-lookup.invariant c.in_ok-branches.ensures)
 
 pub columns_of_lookup-requires-clause-rows_exist : goal.columns_of_lookup-requires-clause-rows_exist
 columns_of_lookup-requires-clause-rows_exist g c = c.requires.rows_exist

@@ -4,8 +4,8 @@ use Rattle.std.proofs.lemmas.Option.{slice_get-get_or}
 use Rattle.std.specs.List.{AllZip, slice_get}
 use Rattle.lookup_generation.specs.ChunkColumns.{HasFlag, IsHeldIfSet, key_denominator}
 use Rattle.lookup_generation.proofs.ChunkColumnLaws.{mapped_there}
-use Rattle.std.proofs.lemmas.Slice.Zip.{AllZip-long}
-use Rattle.lookup_columns.proofs.ZipLaws.{beside, taken_more, zip_push}
+use Rattle.std.proofs.lemmas.Slice.Zip.{all_zipped_more, AllZip-long}
+use Rattle.lookup_columns.proofs.ZipLaws.{beside, taken_more}
 use Rattle.lookup_columns.specs.Steps.{AreStepsOf, DoStepsFit, StepFits}
 use Rattle.lookup_columns.proofs.StepLaws.{all_steps_fit}
 use Rattle.expressions.specs.Tree.{tree_of}
@@ -76,10 +76,10 @@ loop-branch-preserved g c = λ place r there.
     record {
       flags_are =
           subst₂ (AllZip (HasFlag place)) (sym c.in_ok-push.ensures.items) (sym (mapped_more (value R w) flags i e (omega (arith, c.requires.flag_number)) flag_beside.there))
-          (zip_push (HasFlag place) c.loop-branch.branches.items (take i (values R w flags)) new (value R w e) so_far.flags_are flag);
+          (all_zipped_more (HasFlag place) c.loop-branch.branches.items (take i (values R w flags)) new (value R w e) so_far.flags_are flag);
       held =
           subst₂ (AllZip (IsHeldIfSet R D place)) (sym c.in_ok-push.ensures.items) (sym (taken_more ms i m lt (get_or_default ms i d m lt)))
-          (zip_push (IsHeldIfSet R D place) c.loop-branch.branches.items (take i ms) new m so_far.held held);
+          (all_zipped_more (IsHeldIfSet R D place) c.loop-branch.branches.items (take i ms) new m so_far.held held);
     }
 
 pub returns : goal.returns

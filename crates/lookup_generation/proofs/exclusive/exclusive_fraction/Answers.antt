@@ -59,7 +59,6 @@ index-at-requires g c =
     let k = c.in-One.branch in
     let set : AreSetFlags R eq vals (One k) = subst (AreSetFlags R eq vals) c.in-One.is (c.in_ok-set_flags_at.ensures vals c.requires.flags_are) in
     let branch = c.index-columns-branch.result in
-    let m = message g.met.F.PrimeCharacteristicRing.eq_is g.met.F.Domain.domain D c.args.place columns vals ms c.requires k set.places branch c.index-columns-branch.is in
     let placed = message_placed g.met.F.PrimeCharacteristicRing.eq_is g.met.F.Domain.domain D c.args.place columns vals ms c.requires k set.places branch c.index-columns-branch.is in
     omega (arith, slice_get_within branch.places.items c.args.place placed.at placed.there)
 

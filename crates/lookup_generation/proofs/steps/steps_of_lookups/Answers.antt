@@ -1,6 +1,7 @@
 use Rattle.std.proofs.Common.{sym, subst₂, take}
+use Rattle.std.proofs.lemmas.Slice.Zip.{all_zipped_more}
 use Rattle.std.specs.List.{AllZip}
-use Rattle.lookup_columns.proofs.ZipLaws.{taken_more, zip_push}
+use Rattle.lookup_columns.proofs.ZipLaws.{taken_more}
 use Rattle.lookup_generation.specs.LookupSteps.{AreLookupSteps}
 use Rattle.lookup_generation.proofs.steps.steps_of_lookups.Goals as goal
 
@@ -10,4 +11,4 @@ loop-lookup-preserved g c =
     let i = c.loop-lookup.lookup-index in
     let lookup = c.lookup-item.result in
     subst₂ (AllZip AreLookupSteps) (sym c.in_ok-push.ensures.items) (sym (taken_more lookups i lookup c.loop-lookup-test.true c.lookup-item.is))
-    (zip_push AreLookupSteps c.loop-lookup.steps.items (take i lookups) c.in_ok-steps_of_lookup.field-0 lookup c.loop-lookup.invariant c.in_ok-steps_of_lookup.ensures)
+    (all_zipped_more AreLookupSteps c.loop-lookup.steps.items (take i lookups) c.in_ok-steps_of_lookup.field-0 lookup c.loop-lookup.invariant c.in_ok-steps_of_lookup.ensures)

@@ -1,6 +1,7 @@
 use Rattle.std.proofs.Common.{◌+◌, ◌∷◌, ◌++◌, [], ap, sym, subst, subst₂, take, ◌∙◌}
+use Rattle.std.proofs.lemmas.Slice.Zip.{all_zipped_more}
 use Rattle.std.specs.List.{AllZip}
-use Rattle.lookup_columns.proofs.ZipLaws.{taken_more, zip_push}
+use Rattle.lookup_columns.proofs.ZipLaws.{taken_more}
 use Rattle.lookup_columns.specs.Steps.{AreStepsOf}
 use Rattle.lookup_generation.specs.LookupSteps.{AreTupleSteps}
 use Rattle.lookup_generation.proofs.steps.steps_of_tuples.Goals as goal
@@ -15,5 +16,5 @@ loop-tuple-preserved g c =
     let steps = c.in_ok-steps_of_each.field-0 in
     let more = ap (take (i + 1)) (sym same) ∙ taken_more seen i tuple c.loop-tuple-test.true c.tuple-item.is ∙ ap (λ l. take i l ++ tuple ∷ []) same in
     subst₂ (AllZip AreTupleSteps) (sym c.in_ok-push.ensures.items) (sym more)
-    (zip_push AreTupleSteps c.loop-tuple.tuples.items (take i tuples) steps tuple c.loop-tuple.invariant
+    (all_zipped_more AreTupleSteps c.loop-tuple.tuples.items (take i tuples) steps tuple c.loop-tuple.invariant
     (subst (AllZip AreStepsOf steps.items) c.deref.ensures.value c.in_ok-steps_of_each.ensures.steps))

@@ -13,7 +13,7 @@ use Rattle.lookup.proofs.lookups.Lookups.pack_same_bus.Goals as goal
 packs : (g : _) (c : goal.After-pack_same_bus_with_degree g) → Packs AnswersDegree c.args.max_degree (λ set. map fields_of (lookups_of set)) (map fields_of (lookups_of c.args.self)) c.pack_same_bus_with_degree.result
 packs g c =
     packs_along _ AnswersDegree c.args.max_degree (λ set. map fields_of (lookups_of set)) (map fields_of (lookups_of c.args.self)) c.pack_same_bus_with_degree.result c.pack_same_bus_with_degree.ensures.packs
-    (λ o r h. subst (IsDegree r) (same_degree h.0 o h.1) (subst (λ (l : Lookup g.row.F.Denot). IsDegree r (lookup_degree 0 l)) h.3.shows (let met = h.3.says.met in first_of (assumption met, search (rules, met)))))
+    (λ o r h. subst (IsDegree r) (same_degree 0 h.0 o h.1) (subst (λ (l : Lookup g.row.F.Denot). IsDegree r (lookup_degree 0 l)) h.3.shows (let met = h.3.says.met in first_of (assumption met, search (rules, met)))))
 
 pub returns-clause-packs : goal.returns-clause-packs
 returns-clause-packs g c = packs g c

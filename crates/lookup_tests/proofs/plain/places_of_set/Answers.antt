@@ -3,8 +3,8 @@ use Rattle.std.proofs.lemmas.List.{append-nil, length-take, take_all}
 use Rattle.lookup_laws.proofs.Rows.{take_item}
 use Rattle.lookup_model.specs.Fault.{set_places}
 use Rattle.lookup_laws.proofs.Selections.{places-more}
-use Rattle.lookup_tests.proofs.plain.set_places.Goals.{then-eq+in_ok-push, else-eq}
-use Rattle.lookup_tests.proofs.plain.set_places.Goals as goal
+use Rattle.lookup_tests.proofs.plain.places_of_set.Goals.{then-eq+in_ok-push, else-eq}
+use Rattle.lookup_tests.proofs.plain.places_of_set.Goals as goal
 
 pub loop-place-preserved : goal.loop-place-preserved
 loop-place-preserved g c =
