@@ -8,7 +8,10 @@ use Rattle.lookup_generation.specs.declared.columns.BranchColumns.{BranchColumns
 use Rattle.std.proofs.lemmas.Slice.Zip.{all_zipped_more, AllZip-long}
 use Rattle.lookup_columns.proofs.ZipLaws.{beside, taken_more}
 use Rattle.lookup_generation.specs.LookupSteps.{AreLookupSteps}
-use Rattle.lookup_laws.proofs.SentRows.{column_is}
+use Rattle.lookup_laws.proofs.SentRows.{column_is, equal_lengths}
+use Rattle.lookup_columns.specs.Traces.{layout_of}
+use Rattle.lookup_model.proofs.RecordLaws.{All-at}
+use Rattle.lookup_model.specs.Records.{IsWithin}
 use Rattle.lookup_model.specs.declared.types.Lookup.{Lookup}
 use Rattle.lookup_columns.specs.Traces.{window_of}
 use Rattle.lookup_generation.proofs.columns.columns_of_lookups.Goals as goal
@@ -46,3 +49,14 @@ loop-lookup-preserved g c =
 
 pub columns_of_lookup-requires-clause-rows_exist : goal.columns_of_lookup-requires-clause-rows_exist
 columns_of_lookup-requires-clause-rows_exist g c = c.requires.rows_exist
+
+pub columns_of_lookup-requires-clause-lengths : goal.columns_of_lookup-requires-clause-lengths
+columns_of_lookup-requires-clause-lengths g c = equal_lengths c.args.lookups.now c.loop-lookup.lookup-index c.lookup-item.result c.requires.fit.records c.loop-lookup-test.true c.lookup-item.is
+
+pub columns_of_lookup-requires-clause-within : goal.columns_of_lookup-requires-clause-within
+columns_of_lookup-requires-clause-within g c = All-at (IsWithin (layout_of c.args.traces.now)) c.args.lookups.now c.loop-lookup.lookup-index c.lookup-item.result c.requires.fit.within c.loop-lookup-test.true c.lookup-item.is
+
+pub columns_of_lookup-requires-clause-challenges : goal.columns_of_lookup-requires-clause-challenges
+columns_of_lookup-requires-clause-challenges g c =
+    let at = column_is c.args.lookups.now c.loop-lookup.lookup-index c.lookup-item.result c.requires.fit.records c.loop-lookup-test.true c.lookup-item.is in
+    omega (arith, at, c.requires.challenges, c.loop-lookup-test.true)
