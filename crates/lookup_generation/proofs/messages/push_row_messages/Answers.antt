@@ -8,10 +8,12 @@ use Rattle.lookup_model.specs.Sent.{Sent, sent_at}
 use Rattle.lookup_model.specs.Trace.{sent_row_under}
 use Rattle.lookup_model.specs.declared.types.Lookup.{Lookup}
 use Rattle.lookup_laws.proofs.Rows.{row_faults-first, split_at}
-use Rattle.lookup_laws.proofs.SentRows.{column_is}
+use Rattle.lookup_laws.proofs.SentRows.{column_is, equal_lengths}
 use Rattle.lookup_generation.specs.SentMessages.{HasSentRow}
-use Rattle.lookup_generation.specs.TraceBuilder.{builder_window}
+use Rattle.lookup_generation.specs.TraceBuilder.{builder_layout, builder_window}
 use Rattle.lookup_generation.proofs.SentMessageLaws.{no_sent, sent_more}
+use Rattle.lookup_model.proofs.RecordLaws.{All-at}
+use Rattle.lookup_model.specs.Records.{IsWithin}
 use Rattle.lookup_generation.proofs.messages.push_row_messages.Goals as goal
 
 pub loop-lookup-init : goal.loop-lookup-init
@@ -65,3 +67,9 @@ returns-in_err-push_sent g c =
       | inl memory ↦ inl memory
       | inr fault ↦ inr (ap (λ t. slice_get (row_flag_faults R eq c.args.builder.now.row t) 0) split ∙ row_faults-first (sent_flag_fault R eq) c.args.builder.now.row lookup.column (take i row) (drop (i + 1) row) (f lookup) _ at fault c.loop-lookup.invariant.faultless)
     ])
+
+pub push_sent-requires-clause-lengths : goal.push_sent-requires-clause-lengths
+push_sent-requires-clause-lengths g c = equal_lengths c.args.lookups.now c.loop-lookup.lookup-index c.lookup-item.result c.requires.fit.records c.loop-lookup-test.true c.lookup-item.is
+
+pub push_sent-requires-clause-within : goal.push_sent-requires-clause-within
+push_sent-requires-clause-within g c = All-at (IsWithin (builder_layout c.args.builder.now)) c.args.lookups.now c.loop-lookup.lookup-index c.lookup-item.result c.requires.fit.within c.loop-lookup-test.true c.lookup-item.is
