@@ -3,7 +3,7 @@
 //! A variant with data is a map with one member, named for it. A variant without data is its name.
 //! A variable is a map of its members. Missing and duplicate members are refused, as are names that
 //! stand for no variant; members with other names are ignored.
-ghost use Rattle.std.specs.Prelude.{◌≡◌, ◌+◌, ◌≤◌, max, IfOk};
+ghost use Rattle.std.specs.Prelude.{◌≡◌, ◌≤◌, IfOk};
 ghost use Rattle.expressions.specs.Depth.{depth_of};
 ghost use Rattle.expressions.specs.Tree.{tree_of};
 
@@ -14,18 +14,6 @@ use std::alloc::Global;
 
 /// How deep an expression that is read may nest; a leaf has depth 1.
 const DEPTH: u32 = 128;
-
-/// Begins the map of a variant with data: the place of its name among `names`, or a greater number.
-fn begin_variant<R: Format>(
-    from: &mut Deserializer<'_, '_, R>,
-    names: &[Name<'_>],
-) -> Result<usize, R::Error> {
-    from.begin_map()?;
-    match from.next_key(names)? {
-        Some(place) => Ok(place),
-        None => Err(from.invalid()),
-    }
-}
 
 /// The value that was read, after the end of the map that holds a variant's data.
 fn after_end<T: Drop, R: Format>(
@@ -40,32 +28,6 @@ fn after_end<T: Drop, R: Format>(
     }
 }
 
-/// Reads the member `name`, unless it has come before.
-fn read_member<T: Copy + DeserializeOwned, R: Format>(
-    alloc: Global,
-    from: &mut Deserializer<'_, '_, R>,
-    name: &str,
-    member: &mut Option<T>,
-) -> Result<(), R::Error> {
-    if member.is_some() {
-        return Err(from.duplicate(name));
-    }
-    *member = Some(T::deserialize_owned(alloc, from)?);
-    Ok(())
-}
-
-/// The value of the member `name`, unless it is missing.
-fn present<T: Copy, R: Format>(
-    from: &Deserializer<'_, '_, R>,
-    name: &str,
-    member: Option<T>,
-) -> Result<T, R::Error> {
-    match member {
-        Some(value) => Ok(value),
-        None => Err(from.missing(name)),
-    }
-}
-
 /// Reads the one member of an entry with data.
 fn read_offset<R: Format>(
     alloc: Global,
@@ -75,19 +37,15 @@ fn read_offset<R: Format>(
     from.begin_map()?;
     for _ in 0..u64::MAX {
         match from.next_key(&[Name::exact("offset")])? {
-            Some(0) => read_member(alloc, from, "offset", &mut offset)?,
+            Some(0) if offset.is_some() => return Err(from.duplicate("offset")),
+            Some(0) => offset = Some(usize::deserialize_owned(alloc, from)?),
             Some(_) => from.skip()?,
             None => break,
         }
     }
-    present(from, "offset", offset)
-}
-
-/// Reads an entry without data.
-fn read_plain_entry<R: Format>(from: &mut Deserializer<'_, '_, R>) -> Result<BaseEntry, R::Error> {
-    match from.variant(&[Name::exact("Public")])? {
-        0 => Ok(BaseEntry::Public),
-        _ => Err(from.unknown_variant()),
+    match offset {
+        Some(offset) => Ok(offset),
+        None => Err(from.missing("offset")),
     }
 }
 
@@ -97,19 +55,21 @@ impl DeserializeOwned for BaseEntry {
         from: &mut Deserializer<'_, '_, R>,
     ) -> Result<BaseEntry, R::Error> {
         if let Kind::Str = from.peek()? {
-            return read_plain_entry(from);
+            return match from.variant(&[Name::exact("Public")])? {
+                0 => Ok(BaseEntry::Public),
+                _ => Err(from.unknown_variant()),
+            };
         }
-        let entry = match begin_variant(
-            from,
-            &[Name::exact("Preprocessed"), Name::exact("Main")],
-        )? {
-            0 => BaseEntry::Preprocessed {
+        from.begin_map()?;
+        let entry = match from.next_key(&[Name::exact("Preprocessed"), Name::exact("Main")])? {
+            Some(0) => BaseEntry::Preprocessed {
                 offset: read_offset(alloc, from)?,
             },
-            1 => BaseEntry::Main {
+            Some(1) => BaseEntry::Main {
                 offset: read_offset(alloc, from)?,
             },
-            _ => return Err(from.unknown_variant()),
+            Some(_) => return Err(from.unknown_variant()),
+            None => return Err(from.invalid()),
         };
         after_end(from, entry)
     }
@@ -124,31 +84,19 @@ impl<F> DeserializeOwned for SymbolicVariable<F> {
         from.begin_map()?;
         for _ in 0..u64::MAX {
             match from.next_key(&[Name::exact("entry"), Name::exact("index")])? {
-                Some(0) => read_member(alloc, from, "entry", &mut entry)?,
-                Some(1) => read_member(alloc, from, "index", &mut index)?,
+                Some(0) if entry.is_some() => return Err(from.duplicate("entry")),
+                Some(0) => entry = Some(BaseEntry::deserialize_owned(alloc, from)?),
+                Some(1) if index.is_some() => return Err(from.duplicate("index")),
+                Some(1) => index = Some(usize::deserialize_owned(alloc, from)?),
                 Some(_) => from.skip()?,
                 None => break,
             }
         }
-        let entry = present(from, "entry", entry)?;
-        Ok(SymbolicVariable::new(entry, present(from, "index", index)?))
-    }
-}
-
-/// Reads a leaf without data.
-fn read_selector<F, R: Format>(
-    from: &mut Deserializer<'_, '_, R>,
-) -> Result<BaseLeaf<F>, R::Error> {
-    let names = [
-        Name::exact("IsFirstRow"),
-        Name::exact("IsLastRow"),
-        Name::exact("IsTransition"),
-    ];
-    match from.variant(&names)? {
-        0 => Ok(BaseLeaf::IsFirstRow),
-        1 => Ok(BaseLeaf::IsLastRow),
-        2 => Ok(BaseLeaf::IsTransition),
-        _ => Err(from.unknown_variant()),
+        match (entry, index) {
+            (Some(entry), Some(index)) => Ok(SymbolicVariable::new(entry, index)),
+            (None, _) => Err(from.missing("entry")),
+            (_, None) => Err(from.missing("index")),
+        }
     }
 }
 
@@ -158,66 +106,26 @@ impl<F: DeserializeOwned> DeserializeOwned for BaseLeaf<F> {
         from: &mut Deserializer<'_, '_, R>,
     ) -> Result<BaseLeaf<F>, R::Error> {
         if let Kind::Str = from.peek()? {
-            return read_selector(from);
+            let names = [
+                Name::exact("IsFirstRow"),
+                Name::exact("IsLastRow"),
+                Name::exact("IsTransition"),
+            ];
+            return match from.variant(&names)? {
+                0 => Ok(BaseLeaf::IsFirstRow),
+                1 => Ok(BaseLeaf::IsLastRow),
+                2 => Ok(BaseLeaf::IsTransition),
+                _ => Err(from.unknown_variant()),
+            };
         }
-        let leaf = match begin_variant(from, &[Name::exact("Variable"), Name::exact("Constant")])? {
-            0 => BaseLeaf::Variable(SymbolicVariable::deserialize_owned(alloc, from)?),
-            1 => BaseLeaf::Constant(F::deserialize_owned(alloc, from)?),
-            _ => return Err(from.unknown_variant()),
+        from.begin_map()?;
+        let leaf = match from.next_key(&[Name::exact("Variable"), Name::exact("Constant")])? {
+            Some(0) => BaseLeaf::Variable(SymbolicVariable::deserialize_owned(alloc, from)?),
+            Some(1) => BaseLeaf::Constant(F::deserialize_owned(alloc, from)?),
+            Some(_) => return Err(from.unknown_variant()),
+            None => return Err(from.invalid()),
         };
         after_end(from, leaf)
-    }
-}
-
-/// The operations on two operands.
-#[derive(Clone, Copy)]
-enum Operation {
-    Add,
-    Sub,
-    Mul,
-}
-
-impl Operation {
-    /// The node of this operation.
-    fn of<F>(
-        self,
-        left: Box<SymbolicExpression<F>>,
-        right: Box<SymbolicExpression<F>>,
-    ) -> SymbolicExpression<F>
-        ensures { depth_of (tree_of result)
-            ≡ 1 + max (depth_of (tree_of left.value)) (depth_of (tree_of right.value)) }
-    {
-        match self {
-            Operation::Add => SymbolicExpression::Add(left, right),
-            Operation::Sub => SymbolicExpression::Sub(left, right),
-            Operation::Mul => SymbolicExpression::Mul(left, right),
-        }
-    }
-}
-
-/// What a node holds.
-enum Node {
-    Leaf,
-    Two(Operation),
-    Neg,
-}
-
-/// Begins the map of an expression: its node, by name.
-fn begin_node<R: Format>(from: &mut Deserializer<'_, '_, R>) -> Result<Node, R::Error> {
-    let names = [
-        Name::exact("Leaf"),
-        Name::exact("Add"),
-        Name::exact("Sub"),
-        Name::exact("Mul"),
-        Name::exact("Neg"),
-    ];
-    match begin_variant(from, &names)? {
-        0 => Ok(Node::Leaf),
-        1 => Ok(Node::Two(Operation::Add)),
-        2 => Ok(Node::Two(Operation::Sub)),
-        3 => Ok(Node::Two(Operation::Mul)),
-        4 => Ok(Node::Neg),
-        _ => Err(from.unknown_variant()),
     }
 }
 
@@ -233,13 +141,31 @@ fn read_expression<F: DeserializeOwned, R: Format>(
     if depth == 0 {
         return Err(from.custom("nests too deep"));
     }
-    let expression = match begin_node(from)? {
-        Node::Leaf => SymbolicExpression::Leaf(BaseLeaf::deserialize_owned(alloc, from)?),
-        Node::Two(operation) => {
+    let names = [
+        Name::exact("Leaf"),
+        Name::exact("Add"),
+        Name::exact("Sub"),
+        Name::exact("Mul"),
+        Name::exact("Neg"),
+    ];
+    from.begin_map()?;
+    let expression = match from.next_key(&names)? {
+        Some(0) => SymbolicExpression::Leaf(BaseLeaf::deserialize_owned(alloc, from)?),
+        Some(1) => {
             let (left, right) = read_two(alloc, depth - 1, from)?;
-            operation.of(left, right)
+            SymbolicExpression::Add(left, right)
         }
-        Node::Neg => SymbolicExpression::Neg(read_boxed(alloc, depth - 1, from)?),
+        Some(2) => {
+            let (left, right) = read_two(alloc, depth - 1, from)?;
+            SymbolicExpression::Sub(left, right)
+        }
+        Some(3) => {
+            let (left, right) = read_two(alloc, depth - 1, from)?;
+            SymbolicExpression::Mul(left, right)
+        }
+        Some(4) => SymbolicExpression::Neg(read_boxed(alloc, depth - 1, from)?),
+        Some(_) => return Err(from.unknown_variant()),
+        None => return Err(from.invalid()),
     };
     after_end(from, expression)
 }
@@ -271,19 +197,6 @@ fn read_boxed<F: DeserializeOwned, R: Format>(
     boxed(alloc, expression, from)
 }
 
-/// Reads one operand of a list.
-#[cycle(reader)]
-fn read_operand<F: DeserializeOwned, R: Format>(
-    alloc: Global,
-    depth: u32,
-    from: &mut Deserializer<'_, '_, R>,
-) -> Result<Box<SymbolicExpression<F>>, R::Error>
-    ensures { IfOk result (λ e. depth_of (tree_of e.value) ≤ depth) }
-{
-    from.expect_item()?;
-    read_boxed(alloc, depth, from)
-}
-
 /// Reads the list of two operands.
 #[cycle(reader)]
 fn read_two<F: DeserializeOwned, R: Format>(
@@ -295,8 +208,10 @@ fn read_two<F: DeserializeOwned, R: Format>(
     ensures right { IfOk result (λ two. depth_of (tree_of two.1.value) ≤ depth) }
 {
     from.begin_seq()?;
-    let left = read_operand(alloc, depth, from)?;
-    let right = read_operand(alloc, depth, from)?;
+    from.expect_item()?;
+    let left = read_boxed(alloc, depth, from)?;
+    from.expect_item()?;
+    let right = read_boxed(alloc, depth, from)?;
     from.expect_end()?;
     Ok((left, right))
 }
