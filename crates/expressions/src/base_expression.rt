@@ -2,15 +2,15 @@
 ghost use Rattle.std.specs.Prelude.{◌≡◌, IfOk, map};
 ghost use Rattle.expressions.specs.Tree.{tree_of};
 
-use crate::expression::{Expression, WholeNumbers, boxed_pair};
-use crate::variable::SymbolicVariable;
+use crate::expression::{Expression, WholeNumbers, both, boxed_pair};
+use crate::variable::{SymbolicVariable, write_variant};
 use field::Field;
 use serde::{Case, Described, Serialize, Serializer};
 use std::alloc::{AllocError, Global};
 use std::marker::{Model, PhantomData};
 
 /// A base expression without operations.
-#[derive(Clone, Copy, Debug, Serialize)]
+#[derive(Clone, Copy, Debug)]
 pub enum BaseLeaf<F> {
     /// A cell of the window or a public value.
     Variable(SymbolicVariable<F>),
@@ -136,9 +136,18 @@ impl<F: Field> Expression<F> for SymbolicExpression<F> {
     {
         match self {
             SymbolicExpression::Leaf(leaf) => Ok(SymbolicExpression::Leaf(*leaf)),
-            SymbolicExpression::Add(a, b) => a.copy(alloc)?.add(alloc, b.copy(alloc)?),
-            SymbolicExpression::Sub(a, b) => a.copy(alloc)?.sub(alloc, b.copy(alloc)?),
-            SymbolicExpression::Mul(a, b) => a.copy(alloc)?.mul(alloc, b.copy(alloc)?),
+            SymbolicExpression::Add(a, b) => {
+                let (a, b) = both(a.copy(alloc)?, b.copy(alloc))?;
+                a.add(alloc, b)
+            }
+            SymbolicExpression::Sub(a, b) => {
+                let (a, b) = both(a.copy(alloc)?, b.copy(alloc))?;
+                a.sub(alloc, b)
+            }
+            SymbolicExpression::Mul(a, b) => {
+                let (a, b) = both(a.copy(alloc)?, b.copy(alloc))?;
+                a.mul(alloc, b)
+            }
             SymbolicExpression::Neg(a) => a.copy(alloc)?.neg(alloc),
         }
     }
@@ -166,59 +175,54 @@ pub fn copy_expressions<F: Field>(
     Ok(copies)
 }
 
+impl<F> Described for BaseLeaf<F> {}
+
+/// A leaf with data is written as a map with one member, named for it. A selector is its name.
+impl<F: Serialize> Serialize for BaseLeaf<F> {
+    fn serialize<S: Serializer>(&self, out: &mut S) -> Result<(), S::Error> {
+        match self {
+            BaseLeaf::Variable(variable) => write_variant("Variable", variable, out),
+            BaseLeaf::IsFirstRow => out.str_cased("IsFirstRow", Case::AsIs),
+            BaseLeaf::IsLastRow => out.str_cased("IsLastRow", Case::AsIs),
+            BaseLeaf::IsTransition => out.str_cased("IsTransition", Case::AsIs),
+            BaseLeaf::Constant(x) => write_variant("Constant", x, out),
+        }
+    }
+}
+
 impl<F> Described for SymbolicExpression<F> {}
+
+impl<F> SymbolicExpression<F> {
+    /// The name of the node.
+    fn name(&self) -> &'static str {
+        match self {
+            SymbolicExpression::Leaf(_) => "Leaf",
+            SymbolicExpression::Add(..) => "Add",
+            SymbolicExpression::Sub(..) => "Sub",
+            SymbolicExpression::Mul(..) => "Mul",
+            SymbolicExpression::Neg(_) => "Neg",
+        }
+    }
+}
 
 /// A node is written as a map with one member, named for the node. It holds the leaf, the operand,
 /// or the list of both operands.
 impl<F: Serialize> Serialize for SymbolicExpression<F> {
     fn serialize<S: Serializer>(&self, out: &mut S) -> Result<(), S::Error> {
+        out.begin_map(Some(1))?;
+        out.variant_key(self.name(), Case::AsIs)?;
         match self {
-            SymbolicExpression::Leaf(leaf) => {
-                begin_node("Leaf", out)?;
-                leaf.serialize(out)?;
-                out.end_map()
-            }
-            SymbolicExpression::Add(left, right) => {
-                begin_pair("Add", out)?;
+            SymbolicExpression::Leaf(leaf) => leaf.serialize(out)?,
+            SymbolicExpression::Add(left, right)
+            | SymbolicExpression::Sub(left, right)
+            | SymbolicExpression::Mul(left, right) => {
+                out.begin_seq(Some(2))?;
                 (**left).serialize(out)?;
                 (**right).serialize(out)?;
-                end_pair(out)
+                out.end_seq()?;
             }
-            SymbolicExpression::Sub(left, right) => {
-                begin_pair("Sub", out)?;
-                (**left).serialize(out)?;
-                (**right).serialize(out)?;
-                end_pair(out)
-            }
-            SymbolicExpression::Mul(left, right) => {
-                begin_pair("Mul", out)?;
-                (**left).serialize(out)?;
-                (**right).serialize(out)?;
-                end_pair(out)
-            }
-            SymbolicExpression::Neg(inner) => {
-                begin_node("Neg", out)?;
-                (**inner).serialize(out)?;
-                out.end_map()
-            }
+            SymbolicExpression::Neg(inner) => (**inner).serialize(out)?,
         }
+        out.end_map()
     }
-}
-
-/// Begins a node, before its contents.
-fn begin_node<S: Serializer>(name: &str, out: &mut S) -> Result<(), S::Error> {
-    out.begin_map(Some(1))?;
-    out.variant_key(name, Case::AsIs)
-}
-
-/// Begins a node with two operands.
-fn begin_pair<S: Serializer>(name: &str, out: &mut S) -> Result<(), S::Error> {
-    begin_node(name, out)?;
-    out.begin_seq(Some(2))
-}
-
-/// Ends a node with two operands.
-fn end_pair<S: Serializer>(out: &mut S) -> Result<(), S::Error> {
-    out.end_seq()?;
-    out.end_map()
 }

@@ -169,3 +169,14 @@ pub(crate) fn boxed_pair<E: Drop>(
     let right = Box::new(alloc, right)?;
     Ok((left, right))
 }
+
+/// Both values. Without the second one, the first is dropped.
+pub(crate) fn both<E: Drop>(first: E, second: Result<E, AllocError>) -> Result<(E, E), AllocError>
+    ensures first { IfOk result (λ two. two.0 ≡ first) }
+    ensures second { IfOk result (λ two. second ≡ Ok two.1) }
+{
+    match second {
+        Ok(second) => Ok((first, second)),
+        Err(error) => Err(error),
+    }
+}

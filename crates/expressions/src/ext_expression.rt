@@ -2,7 +2,7 @@
 ghost use Rattle.std.specs.Prelude.{◌≡◌, IfOk};
 
 use crate::base_expression::SymbolicExpression;
-use crate::expression::{Expression, WholeNumbers, boxed_pair};
+use crate::expression::{Expression, WholeNumbers, both, boxed_pair};
 use crate::variable::SymbolicVariableExt;
 use field::{ExtensionField, Field};
 use std::alloc::{AllocError, Global};
@@ -144,9 +144,18 @@ impl<F: Field, EF: ExtensionField<F>> Expression<EF> for SymbolicExpressionExt<F
     {
         match self {
             SymbolicExpressionExt::Leaf(leaf) => Ok(SymbolicExpressionExt::Leaf(leaf.copy(alloc)?)),
-            SymbolicExpressionExt::Add(a, b) => a.copy(alloc)?.add(alloc, b.copy(alloc)?),
-            SymbolicExpressionExt::Sub(a, b) => a.copy(alloc)?.sub(alloc, b.copy(alloc)?),
-            SymbolicExpressionExt::Mul(a, b) => a.copy(alloc)?.mul(alloc, b.copy(alloc)?),
+            SymbolicExpressionExt::Add(a, b) => {
+                let (a, b) = both(a.copy(alloc)?, b.copy(alloc))?;
+                a.add(alloc, b)
+            }
+            SymbolicExpressionExt::Sub(a, b) => {
+                let (a, b) = both(a.copy(alloc)?, b.copy(alloc))?;
+                a.sub(alloc, b)
+            }
+            SymbolicExpressionExt::Mul(a, b) => {
+                let (a, b) = both(a.copy(alloc)?, b.copy(alloc))?;
+                a.mul(alloc, b)
+            }
             SymbolicExpressionExt::Neg(a) => a.copy(alloc)?.neg(alloc),
         }
     }

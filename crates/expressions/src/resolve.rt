@@ -98,7 +98,6 @@ fn resolve_leaf<AB: AirBuilder>(
     }
 }
 
-#[tactic(auto, using(crate::proofs::Cells::reads_at))]
 fn resolve_variable<AB: AirBuilder>(
     variable: SymbolicVariable<AB::F>,
     builder: &AB,

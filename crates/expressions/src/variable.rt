@@ -1,11 +1,11 @@
 //! The variables of expressions.
 ghost use Rattle.std.specs.Prelude.{◌≡◌};
 
-use serde::Serialize;
+use serde::{Case, Described, Serialize, Serializer};
 use std::marker::PhantomData;
 
 /// Where a variable is read.
-#[derive(Clone, Copy, Debug, PartialEq, Eq, Hash, Serialize)]
+#[derive(Clone, Copy, Debug, PartialEq, Eq, Hash)]
 pub enum BaseEntry {
     /// A cell of the preprocessed trace, in the current row at offset 0 and the next one at 1.
     Preprocessed {
@@ -19,6 +19,39 @@ pub enum BaseEntry {
     },
     /// A public value.
     Public,
+}
+
+/// What an entry with data holds, as it is written.
+#[derive(Drop, Serialize)]
+struct Offset {
+    offset: usize,
+}
+
+impl Described for BaseEntry {}
+
+/// An entry with data is written as a map with one member, named for it. A public value is its name.
+impl Serialize for BaseEntry {
+    fn serialize<S: Serializer>(&self, out: &mut S) -> Result<(), S::Error> {
+        match self {
+            BaseEntry::Preprocessed { offset } => {
+                write_variant("Preprocessed", &Offset { offset: *offset }, out)
+            }
+            BaseEntry::Main { offset } => write_variant("Main", &Offset { offset: *offset }, out),
+            BaseEntry::Public => out.str_cased("Public", Case::AsIs),
+        }
+    }
+}
+
+/// Writes a variant with data: a map with one member, named for the variant.
+pub(crate) fn write_variant<T: Serialize, S: Serializer>(
+    name: &str,
+    data: &T,
+    out: &mut S,
+) -> Result<(), S::Error> {
+    out.begin_map(Some(1))?;
+    out.variant_key(name, Case::AsIs)?;
+    data.serialize(out)?;
+    out.end_map()
 }
 
 /// A cell of a window or a public value.
