@@ -22,7 +22,6 @@ fn narrow(width: usize, actual: usize) -> AirError
 ///
 /// Refuses what the builder refuses if it can't provide its window, and `LayoutMismatch` of the main
 /// width, with `width` and that of its rows, if they have no such column.
-#[tactic(auto, using(crate::proofs::CellLaws::cell_is, crate::proofs::CellLaws::no_cell))]
 pub fn current_cell<AB: AirBuilder>(
     alloc: Global,
     builder: &AB,
@@ -46,7 +45,6 @@ pub fn current_cell<AB: AirBuilder>(
 /// The expression of a cell of the next row of the main trace, for an AIR of `width` columns.
 ///
 /// Refuses as [`current_cell`] does.
-#[tactic(auto, using(crate::proofs::CellLaws::cell_is, crate::proofs::CellLaws::no_cell))]
 pub fn next_cell<AB: AirBuilder>(
     alloc: Global,
     builder: &AB,

@@ -62,7 +62,7 @@ pub fn variables<V: Place>(
 }
 
 /// The first `width` variables of one entry, above those of another.
-#[tactic(auto, using(crate::proofs::Places::rows_joined, matrix::proofs::Shapes::shaped_by_two))]
+#[tactic(auto, using(matrix::proofs::Shapes::shaped_by_two))]
 pub fn variable_rows<V: Place>(
     alloc: Global,
     current: V::Entry,

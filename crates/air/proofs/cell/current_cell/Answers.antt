@@ -1,0 +1,30 @@
+use Rattle.std.proofs.Common.{inl, inr, sym, ◌∙◌}
+use Rattle.std.proofs.lemmas.Result.{err_from_is_err_and}
+use Rattle.air.proofs.CellLaws.{cell_is, narrow_row}
+use Rattle.air.proofs.cell.current_cell.Goals as goal
+
+pub current-requires : goal.current-requires
+current-requires g c = c.in_ok-main.ensures.readable
+
+pub current_slice-requires : goal.current_slice-requires
+current_slice-requires g c = c.in_ok-main.ensures.readable
+
+pub returns-in_err-main-clause-refused : goal.returns-in_err-main-clause-refused
+returns-in_err-main-clause-refused g c =
+    let p = err_from_is_err_and c.from_residual.result c.from_residual.ensures.1 in
+    rw (p.1, p.2) (inr (inl c.in_err-main.ensures.refused))
+
+pub returns-in-Some-clause-cell : goal.returns-in-Some-clause-cell
+returns-in-Some-clause-cell g c =
+    cell_is _ _ _ _ _ c.args.column c.in-Some.variable c.into.result (λ x w. g.AB.Expr.Expression.value x (g.AB.AirBuilder.seen w)) c.in_ok-main.ensures.current (sym c.current.ensures ∙ c.in-Some.is) (λ w. g.met.AB.AirBuilder.variable_converts _ _ w c.into.ensures)
+
+pub returns-in-Some-clause-degree : goal.returns-in-Some-clause-degree
+returns-in-Some-clause-degree g c t = g.met.AB.AirBuilder.variable_degree _ _ t c.into.ensures
+
+pub returns-in-Some-clause-within : goal.returns-in-Some-clause-within
+returns-in-Some-clause-within g c =
+    c.in_ok-main.ensures.current_within _ _ _ (sym c.current.ensures ∙ c.in-Some.is) c.into.ensures
+
+pub returns-clause-refused : goal.returns-clause-refused
+returns-clause-refused g c =
+    inr (inr (narrow_row _ _ _ _ _ c.args.column c.args.width c.current_slice.result.now _ c.in_ok-main.ensures.current (sym c.current.ensures ∙ c.in-None.is) c.requires c.current_slice.ensures c.narrow.ensures))
