@@ -1,2 +1,3 @@
 pub mod Elements
 pub mod Keys
+pub mod Pushes

@@ -65,7 +65,6 @@ impl<E> Count<E> {
     /// The negated count, with the same weight. Negating twice gives the same value.
     ///
     /// Fails only when out of memory.
-    #[tactic(auto, using(field::specs::RingFacts::neg_neg))]
     pub fn negate<F: Field>(self, alloc: Global) -> Result<Self, AllocError>
     where
         E: Expression<F>,

@@ -1,9 +1,12 @@
-use Rattle.std.proofs.lemmas.List.Elements.{All-map, All-push}
+use Rattle.std.proofs.lemmas.List.Elements.{All-map, All-nil, All-push}
 use Rattle.std.proofs.lemmas.Simd.{map-map}
 use Rattle.std.specs.Vec.Iter.{into_iter_items}
 use Rattle.field.proofs.Items.{moved_over}
 use Rattle.lookup_builder.specs.Messages.{IsUnitQuery, flag_and_fields, flag_and_key}
 use Rattle.lookup_builder.specs.Pushed.{pushed_branch}
+use Rattle.std.proofs.Common.{ap, arith, map, refl}
+use Rattle.std.proofs.lemmas.List.{append-nil, nil_from_length}
+use Rattle.std.proofs.lemmas.Result.{err_from_is_err_and}
 use Rattle.lookup_builder.proofs.bus.unit_queries.Goals as goal
 
 pub loop-flag-preserved : goal.loop-flag-preserved
@@ -24,3 +27,30 @@ returns-clause-queries g c =
 pub returns-clause-counts : goal.returns-clause-counts
 returns-clause-counts g c layout =
     All-map (λ b. g.E.Expression.within layout b.count) pushed_branch c.loop-flag.queries.items (c.loop-flag.invariant.2 layout)
+
+pub loop-flag-init : goal.loop-flag-init
+loop-flag-init g c = rw (c.new-queries.ensures.items, c.into_iter-flag-iterator.ensures.into_iter_gives.0) (
+  refl,
+  All-nil (λ q. IsUnitQuery g.F.PrimeCharacteristicRing.ring.one g.E.Expression.value g.E.Expression.degree (pushed_branch q)),
+  λ layout. All-nil (λ q. g.E.Expression.within layout (pushed_branch q).count),
+)
+
+pub returns-clause-flags_and_fields : goal.returns-clause-flags_and_fields
+returns-clause-flags_and_fields g c =
+    let none = ap (map flag_and_key) (nil_from_length (into_iter_items c.loop-flag.flag-iterator) (omega (arith, c.in-None.ensures.steps.0, c.loop-flag.flag-iterator.rest.ok.0))) in
+    rw (none, append-nil) at c.loop-flag.invariant.0
+
+pub returns-in_err-push-clause-flags_and_fields : goal.returns-in_err-push-clause-flags_and_fields
+returns-in_err-push-clause-flags_and_fields g c =
+    let p = err_from_is_err_and c.from_residual.result c.from_residual.ensures.1 in
+    rw p.1 tt
+
+pub returns-in_err-push-clause-queries : goal.returns-in_err-push-clause-queries
+returns-in_err-push-clause-queries g c =
+    let p = err_from_is_err_and c.from_residual.result c.from_residual.ensures.1 in
+    rw p.1 tt
+
+pub returns-in_err-push-clause-counts : goal.returns-in_err-push-clause-counts
+returns-in_err-push-clause-counts g c =
+    let p = err_from_is_err_and c.from_residual.result c.from_residual.ensures.1 in
+    rw p.1 tt

@@ -8,3 +8,6 @@ returns-clause-layout g c = on_ok c.push_interaction.result _ _ _ c.push_interac
 pub returns-clause-within : goal.returns-clause-within
 returns-clause-within g c = on_ok c.push_interaction.result _ _ _ c.push_interaction.ensures
     (λ pushed fields count old. g.met.AB.InteractionBuilder.push_within _ _ _ pushed (record { fields = fields; count = count }) old)
+
+pub returns-clause-pushed : goal.returns-clause-pushed
+returns-clause-pushed g c = rw (← c.self.view_is) c.push_interaction.ensures
