@@ -1,5 +1,5 @@
 use Rattle.std.proofs.Common.{arith, take_all}
-use Rattle.std.proofs.lemmas.Result.{err_from_is_err_and}
+use Rattle.std.proofs.lemmas.Result.{IfOk-from_err}
 use Rattle.expressions.specs.Tree.{tree_of}
 use Rattle.field.proofs.Items.{copied_more}
 use Rattle.expressions.proofs.base_expression.copy_expressions.Goals as goal
@@ -11,13 +11,13 @@ pub bounds-expressions-expression-index : goal.bounds-expressions-expression-ind
 bounds-expressions-expression-index g c = omega arith
 
 pub returns-in_err-copies : goal.returns-in_err-copies
-returns-in_err-copies g c = rw (err_from_is_err_and c.from_residual.result c.from_residual.ensures.1).1 tt
+returns-in_err-copies g c = IfOk-from_err _ _ c.from_residual.ensures.0
 
 pub returns-in_err-copy : goal.returns-in_err-copy
-returns-in_err-copy g c = rw (err_from_is_err_and c.from_residual-in_err-copy.result c.from_residual-in_err-copy.ensures.1).1 tt
+returns-in_err-copy g c = IfOk-from_err _ _ c.from_residual-in_err-copy.ensures.0
 
 pub returns-in_err-push : goal.returns-in_err-push
-returns-in_err-push g c = rw (err_from_is_err_and c.from_residual-in_err-push.result c.from_residual-in_err-push.ensures.1).1 tt
+returns-in_err-push g c = IfOk-from_err _ _ c.from_residual-in_err-push.ensures.0
 
 pub loop-expression-preserved : goal.loop-expression-preserved
 loop-expression-preserved g c = rw c.in_ok-push.ensures.items

@@ -6,7 +6,7 @@ use Rattle.lookup_builder.specs.Messages.{IsUnitQuery, flag_and_fields, flag_and
 use Rattle.lookup_builder.specs.Pushed.{pushed_branch}
 use Rattle.std.proofs.Common.{ap, arith, map, refl}
 use Rattle.std.proofs.lemmas.List.{append-nil, nil_from_length}
-use Rattle.std.proofs.lemmas.Result.{err_from_is_err_and}
+use Rattle.std.proofs.lemmas.Result.{IfOk-from_err}
 use Rattle.lookup_builder.proofs.bus.unit_queries.Goals as goal
 
 pub loop-flag-preserved : goal.loop-flag-preserved
@@ -41,16 +41,10 @@ returns-clause-flags_and_fields g c =
     rw (none, append-nil) at c.loop-flag.invariant.0
 
 pub returns-in_err-push-clause-flags_and_fields : goal.returns-in_err-push-clause-flags_and_fields
-returns-in_err-push-clause-flags_and_fields g c =
-    let p = err_from_is_err_and c.from_residual.result c.from_residual.ensures.1 in
-    rw p.1 tt
+returns-in_err-push-clause-flags_and_fields g c = IfOk-from_err _ _ c.from_residual.ensures.0
 
 pub returns-in_err-push-clause-queries : goal.returns-in_err-push-clause-queries
-returns-in_err-push-clause-queries g c =
-    let p = err_from_is_err_and c.from_residual.result c.from_residual.ensures.1 in
-    rw p.1 tt
+returns-in_err-push-clause-queries g c = IfOk-from_err _ _ c.from_residual.ensures.0
 
 pub returns-in_err-push-clause-counts : goal.returns-in_err-push-clause-counts
-returns-in_err-push-clause-counts g c =
-    let p = err_from_is_err_and c.from_residual.result c.from_residual.ensures.1 in
-    rw p.1 tt
+returns-in_err-push-clause-counts g c = IfOk-from_err _ _ c.from_residual.ensures.0

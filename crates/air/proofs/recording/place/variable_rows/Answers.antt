@@ -1,4 +1,4 @@
-use Rattle.std.proofs.lemmas.Result.{err_from_is_err_and}
+use Rattle.std.proofs.lemmas.Result.{IfOk-from_err}
 use Rattle.air.proofs.Places.{rows_joined}
 use Rattle.air.proofs.recording.place.variable_rows.Goals as goal
 
@@ -7,16 +7,10 @@ returns g c = rw (c.new.ensures, c.in_ok-extend_from_slice.ensures.items, c.as_s
     (rows_joined _ _ _ _ _ _ _ c.in_ok-values.ensures c.in_ok-below.ensures)
 
 pub returns-in_err-values : goal.returns-in_err-values
-returns-in_err-values g c =
-    let p = err_from_is_err_and c.from_residual.result c.from_residual.ensures.1 in
-    rw p.1 tt
+returns-in_err-values g c = IfOk-from_err _ _ c.from_residual.ensures.0
 
 pub returns-in_err-below : goal.returns-in_err-below
-returns-in_err-below g c =
-    let p = err_from_is_err_and c.from_residual-in_err-below.result c.from_residual-in_err-below.ensures.1 in
-    rw p.1 tt
+returns-in_err-below g c = IfOk-from_err _ _ c.from_residual-in_err-below.ensures.0
 
 pub returns-in_err-extend_from_slice : goal.returns-in_err-extend_from_slice
-returns-in_err-extend_from_slice g c =
-    let p = err_from_is_err_and c.from_residual-in_err-extend_from_slice.result c.from_residual-in_err-extend_from_slice.ensures.1 in
-    rw p.1 tt
+returns-in_err-extend_from_slice g c = IfOk-from_err _ _ c.from_residual-in_err-extend_from_slice.ensures.0

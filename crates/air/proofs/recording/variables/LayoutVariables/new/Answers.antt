@@ -1,4 +1,4 @@
-use Rattle.std.proofs.lemmas.Result.{err_from_is_err_and}
+use Rattle.std.proofs.lemmas.Result.{IfOk-from_err}
 use Rattle.air.proofs.recording.variables.LayoutVariables.new.Goals as goal
 
 pub invariant_of-result : goal.invariant_of-result
@@ -12,31 +12,19 @@ invariant_of-result g c = record {
 }
 
 pub returns-in_err-variable_rows : goal.returns-in_err-variable_rows
-returns-in_err-variable_rows g c =
-    let p = err_from_is_err_and c.from_residual.result c.from_residual.ensures.1 in
-    rw p.1 tt
+returns-in_err-variable_rows g c = IfOk-from_err _ _ c.from_residual.ensures.0
 
 pub returns-in_err-variable_rows-2 : goal.returns-in_err-variable_rows-2
-returns-in_err-variable_rows-2 g c =
-    let p = err_from_is_err_and c.from_residual-in_err-variable_rows-2.result c.from_residual-in_err-variable_rows-2.ensures.1 in
-    rw p.1 tt
+returns-in_err-variable_rows-2 g c = IfOk-from_err _ _ c.from_residual-in_err-variable_rows-2.ensures.0
 
 pub returns-in_err-variables : goal.returns-in_err-variables
-returns-in_err-variables g c =
-    let p = err_from_is_err_and c.from_residual-in_err-variables.result c.from_residual-in_err-variables.ensures.1 in
-    rw p.1 tt
+returns-in_err-variables g c = IfOk-from_err _ _ c.from_residual-in_err-variables.ensures.0
 
 pub returns-in_err-variable_rows-3 : goal.returns-in_err-variable_rows-3
-returns-in_err-variable_rows-3 g c =
-    let p = err_from_is_err_and c.from_residual-in_err-variable_rows-3.result c.from_residual-in_err-variable_rows-3.ensures.1 in
-    rw p.1 tt
+returns-in_err-variable_rows-3 g c = IfOk-from_err _ _ c.from_residual-in_err-variable_rows-3.ensures.0
 
 pub returns-in_err-variables-2 : goal.returns-in_err-variables-2
-returns-in_err-variables-2 g c =
-    let p = err_from_is_err_and c.from_residual-in_err-variables-2.result c.from_residual-in_err-variables-2.ensures.1 in
-    rw p.1 tt
+returns-in_err-variables-2 g c = IfOk-from_err _ _ c.from_residual-in_err-variables-2.ensures.0
 
 pub returns-in_err-variables-3 : goal.returns-in_err-variables-3
-returns-in_err-variables-3 g c =
-    let p = err_from_is_err_and c.from_residual-in_err-variables-3.result c.from_residual-in_err-variables-3.ensures.1 in
-    rw p.1 tt
+returns-in_err-variables-3 g c = IfOk-from_err _ _ c.from_residual-in_err-variables-3.ensures.0
