@@ -1,0 +1,57 @@
+#!/usr/bin/env bash
+# tools/wrong-bodies tells what it has to, of a crate that is proved at once: an edit that the prover
+# refuses, one that changes nothing, one that can't be read, and whose wrong bodies the record has.
+set -eu
+top=$(cd "$(dirname "${BASH_SOURCE[0]}")/.." && pwd)
+room=$(mktemp -d)
+trap 'rm -rf "$room"' EXIT
+mkdir -p "$room/crates" "$room/tools" "$room/wrong-bodies/matrix"
+cp "$top/HANDLES" "$room/"
+cp "$top/tools/wrong-bodies" "$room/tools/"
+echo "matrix:" >"$room/crates.txt"
+cp -r "$top/crates/matrix" "$room/crates/"
+rm -rf "$room/crates/matrix/out"
+printf 'out/\n' >"$room/.gitignore"
+cd "$room"
+git init -q
+# what was tried is recorded only of a commit
+commit() {
+  git add -A
+  git -c user.name=none -c user.email=none commit -qm "$1"
+}
+(cd crates/matrix && rt check >/dev/null)
+rows=$'file: src/dense.rt\nold: &self.values[r * self.width..(r + 1) * self.width]\nnew: '
+printf '%s&self.values[0..self.width]\n' "$rows" >wrong-bodies/matrix/first_row.edit
+
+fail() {
+  echo "edits_are_judged: $1" >&2
+  exit 1
+}
+
+said=$(mktemp)
+trap 'rm -rf "$room" "$said"' EXIT
+tools/wrong-bodies matrix >"$said" || fail "a refused edit: $(cat "$said")"
+grep -q '^matrix/first_row: refused: dense::RowMajorMatrix::row_slice, `returns-clause-row`' "$said" || fail "$(cat "$said")"
+grep -q '^matrix: not recorded' "$said" || fail "no commit, and recorded: $(cat "$said")"
+commit "one edit"
+tools/wrong-bodies matrix >"$said" || fail "a refused edit again: $(cat "$said")"
+grep -q "^matrix [0-9a-f]* $(git rev-parse --short=12 HEAD)$" wrong-bodies/TRIED || fail "$(cat wrong-bodies/TRIED)"
+tools/wrong-bodies --tried >"$said" || fail "all edits can be made: $(cat "$said")"
+grep -q '^wrong bodies: those of 1 of 1 crates were tried on just these sources$' "$said" || fail "$(cat "$said")"
+
+printf '%s&self.values[r * self.width..(1 + r) * self.width]\n' "$rows" >wrong-bodies/matrix/same.edit
+printf '%s&self.values[r * self.width..\n' "$rows" >wrong-bodies/matrix/unreadable.edit
+printf 'file: src/dense.rt\nold: no such text\nnew: none\n' >wrong-bodies/matrix/misplaced.edit
+commit "four edits"
+if tools/wrong-bodies --tried >"$said"; then fail "an edit that can't be made"; fi
+grep -q '^wrong bodies: those of 0 of 1 crates were tried on just these sources$' "$said" || fail "$(cat "$said")"
+grep -q '^not tried on these sources: matrix$' "$said" || fail "$(cat "$said")"
+grep -q '^wrong-bodies/matrix/misplaced.edit: ' "$said" || fail "$(cat "$said")"
+before=$(cat wrong-bodies/TRIED)
+if tools/wrong-bodies matrix >"$said"; then fail "a wrong body that proves passes"; fi
+grep -q '^matrix/same: NOT REFUSED: ' "$said" || fail "$(cat "$said")"
+grep -q '^matrix/unreadable: UNREADABLE: ' "$said" || fail "$(cat "$said")"
+grep -q '^matrix/misplaced: UNREADABLE: ' "$said" || fail "$(cat "$said")"
+grep -q '^1 refused, 1 not refused, 2 unreadable' "$said" || fail "$(cat "$said")"
+[ "$(cat wrong-bodies/TRIED)" = "$before" ] || fail "a run with a failure is recorded"
+echo "edits_are_judged: tells refused, proved, unreadable and not tried"
