@@ -71,15 +71,15 @@ module _ {E : Type 0} where
 
   -- the weights of a local interaction have a sum that fits, and its tuples have the same width
   pub record IsFaultless (tuples : List (Tuple E)) : Type 0 where
-    pub weight : sum_by (λ t. t.weight) tuples < 4294967296
+    pub weight : sum_by (λ t. t.weight) tuples < 18446744073709551616
     pub width : ℕ
     pub widths : All (λ t. length t.fields ≡ width) tuples
 
   -- the refusal of a local interaction: for its weight first, then for its widths
   abbrev pub IsLocalRefusal : List (Tuple E) → LookupError → Type 0
   IsLocalRefusal tuples e =
-      ((4294967296 ≤ sum_by (λ t. t.weight) tuples) × (e ≡ CountWeightOverflow))
-      ⊎ ((sum_by (λ t. t.weight) tuples < 4294967296)
+      ((18446744073709551616 ≤ sum_by (λ t. t.weight) tuples) × (e ≡ CountWeightOverflow))
+      ⊎ ((sum_by (λ t. t.weight) tuples < 18446744073709551616)
       × ((width : ℕ) × (other : ℕ) × HasOtherWidth (tuple_widths tuples) width other × IsTupleWidths local_context width other e))
 
   -- the refusal of the first local interaction that has a fault

@@ -27,7 +27,7 @@ fn local_lookup<F: Field>(
 {
     let mut elements = Vec::new(alloc);
     let mut multiplicities = Vec::new(alloc);
-    let mut count_weight: u32 = 0;
+    let mut count_weight: u64 = 0;
     for (fields, count) in interaction.tuples {
         let (expression, weight) = count.into_parts();
         match count_weight.checked_add(weight) {
@@ -83,7 +83,7 @@ fn exclusive_lookup<F: Field>(
     let mut elements = Vec::new(alloc);
     let mut multiplicities = Vec::new(alloc);
     let mut flags = Vec::new(alloc);
-    let mut count_weight: u32 = 0;
+    let mut count_weight: u64 = 0;
     for branch in interaction.branches {
         count_weight = count_weight.max(branch.count_weight);
         elements.push(branch.fields)?;

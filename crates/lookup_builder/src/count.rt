@@ -18,7 +18,7 @@ use std::ops::Neg;
 #[derive(Debug, Drop)]
 pub struct Count<E> {
     expression: E,
-    weight: u32,
+    weight: u64,
 }
 
 impl<E> Model for Count<E> {
@@ -31,7 +31,7 @@ impl<E> Model for Count<E> {
 
 impl<E> Count<E> {
     /// This count, which is at most `weight` in absolute value on each row.
-    pub fn bounded(expression: E, weight: u32) -> Self
+    pub fn bounded(expression: E, weight: u64) -> Self
         ensures { result ≡ record { expression = expression; weight = weight } }
     {
         Count { expression, weight }
@@ -49,14 +49,14 @@ impl<E> Count<E> {
     }
 
     /// The most that one row adds in absolute value.
-    pub fn weight(&self) -> u32
+    pub fn weight(&self) -> u64
         ensures { result ≡ self.now.weight }
     {
         self.weight
     }
 
     /// The expression and the weight.
-    pub fn into_parts(self) -> (E, u32)
+    pub fn into_parts(self) -> (E, u64)
         ensures { result ≡ (self.expression, self.weight) }
     {
         (self.expression, self.weight)
@@ -129,7 +129,7 @@ impl<E: WholeNumbers> From<i32> for Count<E> {
     fn from(count: i32) -> Count<E> {
         Count {
             expression: E::whole(count),
-            weight: count.unsigned_abs(),
+            weight: u64::from(count.unsigned_abs()),
         }
     }
 }

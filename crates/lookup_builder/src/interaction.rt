@@ -20,7 +20,7 @@ pub struct SymbolicInteraction<F> {
     /// How often it is sent: positive for a send or a query, negative for a receive or an entry.
     pub count: SymbolicExpression<F>,
     /// The most that one row adds to the count in absolute value, 0 for a provided entry.
-    pub count_weight: u32,
+    pub count_weight: u64,
 }
 
 /// One tuple of a local lookup with its count.
@@ -54,7 +54,7 @@ pub struct SymbolicExclusiveBranch<F> {
     /// The message, first element first.
     pub fields: Vec<SymbolicExpression<F>>,
     /// The most that one row adds to the count in absolute value.
-    pub count_weight: u32,
+    pub count_weight: u64,
 }
 
 impl<F: Field> SymbolicInteraction<F> {

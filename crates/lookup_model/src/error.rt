@@ -54,7 +54,7 @@ pub enum LookupError {
         other: usize,
     },
     /// The weights of one lookup do not fit their type.
-    #[error("count_weight overflow: aggregate lookup weight exceeds u32::MAX")]
+    #[error("count_weight overflow: aggregate lookup weight exceeds u64::MAX")]
     CountWeightOverflow,
     /// Out of memory.
     #[error("out of memory")]

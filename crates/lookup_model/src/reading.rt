@@ -45,7 +45,7 @@ struct Members<F> {
     kind: Option<Kind>,
     elements: Option<Vec<Vec<SymbolicExpression<F>>>>,
     multiplicities: Option<Vec<SymbolicExpression<F>>>,
-    count_weight: Option<u32>,
+    count_weight: Option<u64>,
     column: Option<usize>,
     flags: Option<Option<Vec<SymbolicExpression<F>>>>,
 }

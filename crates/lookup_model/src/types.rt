@@ -27,7 +27,7 @@ pub struct Lookup<F> {
     /// One signed multiplicity for each tuple.
     pub multiplicities: Vec<SymbolicExpression<F>>,
     /// The most that the queries of one row add to a count, in absolute value.
-    pub count_weight: u32,
+    pub count_weight: u64,
     /// The index of the lookup in its AIR: its fractions are in auxiliary column `column + 1`.
     pub column: usize,
     /// One flag for each tuple, if the lookup is exclusive.

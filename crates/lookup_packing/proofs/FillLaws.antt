@@ -125,10 +125,10 @@ module _ {E : Type 0} (answers : Outline E → Result ℕ LookupError → Type 0
 
   -- a lookup joins the last column
   pub joined_column : (seen front after : List (Outline E)) (last next : Outline E) → HasLast seen front last
-      → ((n : ℕ) × answers (trial last next) (Ok n) × (n ≤ most)) → last.count_weight + next.count_weight < 2 ^ 32
+      → ((n : ℕ) × answers (trial last next) (Ok n) × (n ≤ most)) → last.count_weight + next.count_weight < 2 ^ 64
       → after ≡ front ++ record (trial last next) { count_weight = last.count_weight + next.count_weight } ∷ [] → AreColumns (seen ++ next ∷ []) after
   joined_column seen front after last next has low small after_is =
-      let joins : Joins answers most has.part next = subst (λ (o : Outline E). ((n : ℕ) × answers (trial o next) (Ok n) × (n ≤ most)) × (o.count_weight + next.count_weight < 2 ^ 32)) (sym has.last_is) (low, small) in
+      let joins : Joins answers most has.part next = subst (λ (o : Outline E). ((n : ℕ) × answers (trial o next) (Ok n) × (n ≤ most)) × (o.count_weight + next.count_weight < 2 ^ 64)) (sym has.last_is) (low, small) in
       record {
         cut = has.parts ++ with_next has.part next ∷ [];
         filling = (
@@ -162,7 +162,7 @@ module _ {E : Type 0} (answers : Outline E → Result ℕ LookupError → Type 0
 
   -- the filling comes to a trial that is refused
   pub stuck_at : (members seen front rest : List (Outline E)) (last next : Outline E) (e : LookupError) → HasLast seen front last → seen ++ next ∷ rest ≡ members
-      → (answers (trial last next) (Err e) ⊎ ((e ≡ CountWeightOverflow) × ((n : ℕ) × answers (trial last next) (Ok n) × (n ≤ most)) × (2 ^ 32 ≤ last.count_weight + next.count_weight)))
+      → (answers (trial last next) (Err e) ⊎ ((e ≡ CountWeightOverflow) × ((n : ℕ) × answers (trial last next) (Ok n) × (n ≤ most)) × (2 ^ 64 ≤ last.count_weight + next.count_weight)))
       → IsStuck answers most members e
   stuck_at members seen front rest last next e has all refusal = record {
     closed = has.parts;
@@ -171,5 +171,5 @@ module _ {E : Type 0} (answers : Outline E → Result ℕ LookupError → Type 0
     rest = rest;
     members_are = sym all ∙ ap (λ t. t ++ next ∷ rest) (sym has.filling.0);
     greedy = has.filling.1;
-    refusal = subst (λ (o : Outline E). answers (trial o next) (Err e) ⊎ ((e ≡ CountWeightOverflow) × ((n : ℕ) × answers (trial o next) (Ok n) × (n ≤ most)) × (2 ^ 32 ≤ o.count_weight + next.count_weight))) (sym has.last_is) refusal;
+    refusal = subst (λ (o : Outline E). answers (trial o next) (Err e) ⊎ ((e ≡ CountWeightOverflow) × ((n : ℕ) × answers (trial o next) (Ok n) × (n ≤ most)) × (2 ^ 64 ≤ o.count_weight + next.count_weight))) (sym has.last_is) refusal;
   }

@@ -61,11 +61,11 @@ module _ {F : Type 0} where
     refused e returned = inl (answer_is (Err e) returned)
 
     -- a sum of weights that does not fit
-    pub overflown : (n : ℕ) → returns (with_tuples column elements multiplicities) (Ok n) → n ≤ most → 2 ^ 32 ≤ column.count_weight + next.count_weight → IsTrialRefusal (Answers returns) most (fields_of column) (fields_of next) CountWeightOverflow
+    pub overflown : (n : ℕ) → returns (with_tuples column elements multiplicities) (Ok n) → n ≤ most → 2 ^ 64 ≤ column.count_weight + next.count_weight → IsTrialRefusal (Answers returns) most (fields_of column) (fields_of next) CountWeightOverflow
     overflown n returned le wide = inr (refl, (n, answer_is (Ok n) returned, le), wide)
 
     -- both in one
-    pub joined_both : (n sum : ℕ) → returns (with_tuples column elements multiplicities) (Ok n) → n ≤ most → sum ≡ column.count_weight + next.count_weight → column.count_weight + next.count_weight < 2 ^ 32
+    pub joined_both : (n sum : ℕ) → returns (with_tuples column elements multiplicities) (Ok n) → n ≤ most → sum ≡ column.count_weight + next.count_weight → column.count_weight + next.count_weight < 2 ^ 64
         → IsTried (Answers returns) most column next (Joined (record (with_tuples column elements multiplicities) { count_weight = sum }))
     joined_both n sum returned le sum_is small = (
       member_of (record (with_tuples column elements multiplicities) { count_weight = sum }) as_long first.no_flags,

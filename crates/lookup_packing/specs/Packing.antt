@@ -56,7 +56,7 @@ module _ {E : Type 0} where
 
     -- A lookup joins a part: the trial is within the degree, and the weights have a sum that fits.
     abbrev pub Joins : Outline E × List (Outline E) → Outline E → Type 0
-    Joins part next = IsWithin part next × ((joined part).count_weight + next.count_weight < 2 ^ 32)
+    Joins part next = IsWithin part next × ((joined part).count_weight + next.count_weight < 2 ^ 64)
 
     -- A greedy cut of the lookups of one bus, by the answers to its trials.
     abbrev pub IsFilling : List (Outline E × List (Outline E)) → List (Outline E) → Type 0
@@ -72,7 +72,7 @@ module _ {E : Type 0} where
       pub members_are : members ≡ flat_map part_items (closed ++ part ∷ []) ++ next ∷ rest
       pub greedy : AreGreedy Joins IsAbove (closed ++ part ∷ [])
       pub refusal : answers (trial (joined part) next) (Err e)
-          ⊎ ((e ≡ CountWeightOverflow) × IsWithin part next × (2 ^ 32 ≤ (joined part).count_weight + next.count_weight))
+          ⊎ ((e ≡ CountWeightOverflow) × IsWithin part next × (2 ^ 64 ≤ (joined part).count_weight + next.count_weight))
 
     -- Columns with those of each bus of a list behind them, each with its greedy cut; and the refusal
     -- of the first bus of a list whose filling is refused.

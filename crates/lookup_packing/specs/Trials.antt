@@ -31,7 +31,7 @@ module _ {F : Type 0} where
     -- two lookups are joined, or they stay as they are
     abbrev pub IsTried : Lookup F → Lookup F → Trial F → Type 0
     IsTried a b (Joined c) =
-        IsMember c × IsLow (fields_of a) (fields_of b) × ((fields_of a).count_weight + (fields_of b).count_weight < 2 ^ 32)
+        IsMember c × IsLow (fields_of a) (fields_of b) × ((fields_of a).count_weight + (fields_of b).count_weight < 2 ^ 64)
         × (fields_of c ≡ record (trial (fields_of a) (fields_of b)) { count_weight = (fields_of a).count_weight + (fields_of b).count_weight })
     IsTried a b (Apart c d) =
         IsMember c × IsMember d × IsHigh (fields_of a) (fields_of b) × (fields_of c ≡ fields_of a) × (fields_of d ≡ fields_of b)
@@ -39,13 +39,13 @@ module _ {F : Type 0} where
     -- the refusal of a trial: the closure's, or that of a sum of weights that does not fit
     abbrev pub IsTrialRefusal : Outline (SymbolicExpression F) → Outline (SymbolicExpression F) → LookupError → Type 0
     IsTrialRefusal a b e =
-        answers (trial a b) (Err e) ⊎ ((e ≡ CountWeightOverflow) × IsLow a b × (2 ^ 32 ≤ a.count_weight + b.count_weight))
+        answers (trial a b) (Err e) ⊎ ((e ≡ CountWeightOverflow) × IsLow a b × (2 ^ 64 ≤ a.count_weight + b.count_weight))
 
     -- Columns with one more lookup: the first one, one that joins the last column, or one behind it.
     abbrev pub IsStep : List (Outline (SymbolicExpression F)) → Outline (SymbolicExpression F) → List (Outline (SymbolicExpression F)) → Type 0
     IsStep before next after =
         ((before ≡ []) × (after ≡ next ∷ []))
         ⊎ ((front : List (Outline (SymbolicExpression F))) × (last : Outline (SymbolicExpression F)) × (before ≡ front ++ last ∷ [])
-        × ((IsLow last next × (last.count_weight + next.count_weight < 2 ^ 32)
+        × ((IsLow last next × (last.count_weight + next.count_weight < 2 ^ 64)
         × (after ≡ front ++ record (trial last next) { count_weight = last.count_weight + next.count_weight } ∷ []))
         ⊎ (IsHigh last next × (after ≡ before ++ next ∷ []))))

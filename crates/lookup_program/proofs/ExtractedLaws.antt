@@ -34,7 +34,7 @@ use Rattle.lookup_program.specs.declared.airs.MachineAir.TheVariants.{Entries, G
 use Rattle.lookup_program.proofs.AirLaws.{one_item}
 
 -- the weight of an AIR's lookup is small
-light : (air : MachineAir) → (air_bus_and_weight air).1 < 4294967296
+light : (air : MachineAir) → (air_bus_and_weight air).1 < 18446744073709551616
 light RangeCheck = omega arith
 light Keys = omega arith
 light Entries = omega arith

@@ -19,13 +19,13 @@ use std::process::Abort;
 #[derive(Clone, Copy)]
 pub(super) enum Step<'a> {
     /// Pushes a local lookup of tuples of ones, each a width and a weight.
-    Local(&'a [(usize, u32)]),
+    Local(&'a [(usize, u64)]),
     /// Pushes the local lookup of cell 0 and of cell 1, which is provided as often as cell 2 says.
     Range,
     /// Queries the tuple of 1 on a bus.
     Global(&'a str),
     /// Pushes a group on a bus, whose branches have these weights.
-    Exclusive(&'a str, &'a [u32]),
+    Exclusive(&'a str, &'a [u64]),
     /// Queries, on a bus, cell 1 under the flag of cell 0, or cell 3 under that of cell 2.
     Keys(&'a str),
     /// Looks up cell 0 on a bus, as often as cell 1 says.
@@ -80,7 +80,7 @@ fn ones<AB: AirBuilder>(alloc: Global, width: usize) -> Result<Vec<AB::Expr>, Ai
 fn push_local<AB: InteractionBuilder>(
     alloc: Global,
     builder: &mut AB,
-    shapes: &[(usize, u32)],
+    shapes: &[(usize, u64)],
 ) -> Result<(), AirError>
     ensures layout { OnOk result (AB.layout builder.new ≡ AB.layout builder.old) }
     ensures within { OnOk result (AB.pushed_within builder.old → AB.pushed_within builder.new) }
@@ -115,7 +115,7 @@ pub(super) fn push_exclusive<AB: InteractionBuilder>(
     alloc: Global,
     builder: &mut AB,
     name: &str,
-    weights: &[u32],
+    weights: &[u64],
 ) -> Result<(), AirError>
     ensures layout { OnOk result (AB.layout builder.new ≡ AB.layout builder.old) }
     ensures within { OnOk result (AB.pushed_within builder.old → AB.pushed_within builder.new) }
@@ -243,7 +243,7 @@ fn is_lookup<F>(
     lookups: &[Lookup<F>],
     column: usize,
     bus: &str,
-    weight: u32,
+    weight: u64,
     tuples: usize,
     is_exclusive: bool,
 ) -> bool {
@@ -321,11 +321,11 @@ fn overflows(alloc: Global, steps: &[Step<'_>]) -> bool {
 #[test]
 fn the_first_local_lookup_with_a_fault_decides(rt: HostRuntime) {
     let alloc = rt.alloc();
-    let weights = [Step::Local(&[(1, 4294967295), (1, 1)])];
+    let weights = [Step::Local(&[(1, 18446744073709551615), (1, 1)])];
     holds(&rt, "weights", overflows(alloc, weights.as_slice()));
     let widths = [Step::Local(&[(1, 1), (2, 1)])];
     holds(&rt, "widths", has_two_widths(alloc, widths.as_slice()));
-    let both = [Step::Local(&[(1, 4294967295), (2, 1)])];
+    let both = [Step::Local(&[(1, 18446744073709551615), (2, 1)])];
     holds(
         &rt,
         "weights before widths",
@@ -333,7 +333,7 @@ fn the_first_local_lookup_with_a_fault_decides(rt: HostRuntime) {
     );
     let one_each = [
         Step::Local(&[(1, 1), (2, 1)]),
-        Step::Local(&[(1, 4294967295), (1, 1)]),
+        Step::Local(&[(1, 18446744073709551615), (1, 1)]),
     ];
     holds(
         &rt,
@@ -344,19 +344,19 @@ fn the_first_local_lookup_with_a_fault_decides(rt: HostRuntime) {
 
 #[test]
 fn weights_of_a_local_lookup_are_summed(rt: HostRuntime) {
-    let steps = [Step::Local(&[(2, 3), (2, 4294967292)]), Step::Global("a")];
+    let steps = [Step::Local(&[(2, 4294967295), (2, 1)]), Step::Global("a")];
     let lookups = lookups_of(&rt, rt.alloc(), steps.as_slice());
     holds(
         &rt,
         "the weight of both",
-        lookups.total_count_weight() == 4294967296,
+        lookups.total_count_weight() == 4294967297,
     );
     let lookups = lookups.as_slice();
     holds(&rt, "two lookups", lookups.len() == 2);
     holds(
         &rt,
         "the local one",
-        is_lookup(lookups, 0, "", 4294967295, 2, false),
+        is_lookup(lookups, 0, "", 4294967296, 2, false),
     );
     holds(
         &rt,

@@ -23,7 +23,7 @@ const ORDERED: &str =
 
 /// An exclusive lookup of two branches.
 const EXCLUSIVE: &str =
-    r#"[{"kind":{"Global":"b"},"elements":[[],[{"Leaf":{"Constant":3}},{"Leaf":{"Constant":4}}]],"multiplicities":[{"Leaf":{"Constant":5}},{"Leaf":{"Constant":6}}],"count_weight":4294967295,"column":0,"flags":[{"Leaf":{"Constant":0}},{"Leaf":{"Constant":1}}]}]"#;
+    r#"[{"kind":{"Global":"b"},"elements":[[],[{"Leaf":{"Constant":3}},{"Leaf":{"Constant":4}}]],"multiplicities":[{"Leaf":{"Constant":5}},{"Leaf":{"Constant":6}}],"count_weight":18446744073709551615,"column":0,"flags":[{"Leaf":{"Constant":0}},{"Leaf":{"Constant":1}}]}]"#;
 
 /// Every kind of node and leaf.
 const EXPRESSIONS: &str =
@@ -198,7 +198,7 @@ fn a_cut_text_is_refused(rt: HostRuntime) {
 fn what_is_no_lookup_is_refused(rt: HostRuntime) {
     let alloc = rt.alloc();
     for (old, new) in [
-        (r#""count_weight":1"#, r#""count_weight":4294967296"#),
+        (r#""count_weight":1"#, r#""count_weight":18446744073709551616"#),
         (r#""count_weight":1,"#, ""),
         (r#""column":0"#, r#""column":0,"column":0"#),
         (r#""Constant":1"#, r#""Constant":7"#),

@@ -12,7 +12,7 @@ pub(super) fn on_bus(
     alloc: Global,
     bus: &str,
     width: usize,
-    weight: u32,
+    weight: u64,
     column: usize,
 ) -> Lookup<F7> {
     let mut lookup = single(rt, alloc, width, column);
@@ -141,7 +141,7 @@ fn an_overflow_before_a_later_refusal(rt: HostRuntime) {
         &rt,
         alloc,
         [
-            on_bus(&rt, alloc, "b", 1, 4294967295, 0),
+            on_bus(&rt, alloc, "b", 1, 18446744073709551615, 0),
             on_bus(&rt, alloc, "c", 1, 1, 1),
             on_bus(&rt, alloc, "c", 1, 1, 2),
             on_bus(&rt, alloc, "b", 1, 1, 3),

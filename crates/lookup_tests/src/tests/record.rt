@@ -78,7 +78,7 @@ fn is_message(
     bus: &str,
     fields: &[u32],
     count: u32,
-    weight: u32,
+    weight: u64,
 ) -> bool {
     match message {
         Some(message) => {
@@ -92,7 +92,7 @@ fn is_message(
 }
 
 /// Whether a tuple has these fields and this weight.
-fn is_tuple(tuple: Option<&LocalTuple<F7>>, fields: &[u32], weight: u32) -> bool {
+fn is_tuple(tuple: Option<&LocalTuple<F7>>, fields: &[u32], weight: u64) -> bool {
     match tuple {
         Some(tuple) => have_values(tuple.0.as_slice(), fields) && tuple.1.weight() == weight,
         None => false,
@@ -105,7 +105,7 @@ fn is_branch(
     flag: u32,
     count: u32,
     fields: &[u32],
-    weight: u32,
+    weight: u64,
 ) -> bool {
     match branch {
         Some(branch) => {
@@ -187,7 +187,7 @@ fn is_recorded(
     bus: &str,
     fields: &[u32],
     count: u32,
-    weight: u32,
+    weight: u64,
 ) -> bool {
     is_message(
         recorder.global_interactions().get(place),

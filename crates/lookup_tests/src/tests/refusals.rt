@@ -86,7 +86,7 @@ fn texts_of_refusals(rt: HostRuntime) {
         &rt,
         alloc,
         LookupError::CountWeightOverflow,
-        "count_weight overflow: aggregate lookup weight exceeds u32::MAX",
+        "count_weight overflow: aggregate lookup weight exceeds u64::MAX",
     );
     is_written(&rt, alloc, LookupError::Memory, "out of memory");
     is_written(

@@ -45,7 +45,7 @@ fn malformed_records(rt: HostRuntime) {
 }
 
 /// A set of lookups of these weights, each of a tuple of two cells.
-fn with_weights(rt: &impl Abort, alloc: Global, weights: &[u32]) -> Lookups<F7> {
+fn with_weights(rt: &impl Abort, alloc: Global, weights: &[u64]) -> Lookups<F7> {
     let mut records = Vec::new(alloc);
     for (column, weight) in weights.iter().enumerate() {
         let mut record = single(rt, alloc, 2, column);

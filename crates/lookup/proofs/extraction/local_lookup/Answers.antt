@@ -21,7 +21,7 @@ returns-in_err-assert_uniform_tuple_width g c =
     let tuples = local_of c.args.interaction in
     let invariant = c.loop-fields.invariant in
     let elements = whole_list (λ t. t.fields) _ _ left none invariant.0 in
-    let weight : sum_by (λ t. t.weight) tuples < 4294967296 =
+    let weight : sum_by (λ t. t.weight) tuples < 18446744073709551616 =
     omega (arith, invariant.2, invariant.3, ap (λ ts. sum_by (λ t. t.weight) ts) none) in
     let p = err_from_is_err_and c.from_residual-in_err-assert_uniform_tuple_width.result c.from_residual-in_err-assert_uniform_tuple_width.ensures.1 in
     rw (p.1, p.2) (elim c.in_err-assert_uniform_tuple_width.ensures [

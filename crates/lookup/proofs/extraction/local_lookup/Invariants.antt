@@ -11,5 +11,5 @@ invariant-loop-fields g l =
     let all = local_of l.fn.interaction in
     (map (λ tuple. tuple.items) l.elements.items ++ map (λ t. t.fields) rest ≡ map (λ t. t.fields) all)
     × (l.multiplicities.items ++ map (λ t. t.count) rest ≡ map (λ t. t.count) all)
-    × (l.count_weight < 4294967296)
+    × (l.count_weight < 18446744073709551616)
     × (l.count_weight + sum_by (λ t. t.weight) rest ≡ sum_by (λ t. t.weight) all)

@@ -25,7 +25,7 @@ fn is_sent(
     flag: Option<u32>,
     num_fields: usize,
     count: i32,
-    weight: u32,
+    weight: u64,
 ) -> bool {
     match mock.sent.get(place) {
         Some(sent) => {

@@ -17,13 +17,13 @@ fn negated_twice<F: Field>(count: Count<F>) -> Count<F>
 }
 
 /// Fails unless a count is this element, with this weight.
-fn has_parts<F: Field>(rt: &impl Abort, what: &str, count: Count<F>, element: F, weight: u32) {
+fn has_parts<F: Field>(rt: &impl Abort, what: &str, count: Count<F>, element: F, weight: u64) {
     let (expression, own_weight) = count.into_parts();
     holds(rt, what, expression == element && own_weight == weight);
 }
 
 /// Fails unless a count is an expression of this value, with this weight.
-fn is_tree(rt: &impl Abort, what: &str, count: Count<Tree>, number: u32, weight: u32) {
+fn is_tree(rt: &impl Abort, what: &str, count: Count<Tree>, number: u32, weight: u64) {
     let (expression, own_weight) = count.into_parts();
     holds(
         rt,

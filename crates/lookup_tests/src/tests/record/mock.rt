@@ -15,7 +15,7 @@ pub struct Sent {
     pub flag: Option<BabyBear>,
     pub num_fields: usize,
     pub count: BabyBear,
-    pub weight: u32,
+    pub weight: u64,
 }
 
 #[derive(Drop)]

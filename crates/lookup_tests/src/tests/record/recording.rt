@@ -28,7 +28,7 @@ fn push_local(
 }
 
 /// Whether the one local lookup that is recorded has this tuple in this place.
-fn has_tuple(recorder: &Recorder, place: usize, fields: &[u32], weight: u32) -> bool {
+fn has_tuple(recorder: &Recorder, place: usize, fields: &[u32], weight: u64) -> bool {
     match recorder.local_interactions().first() {
         Some(local) => is_tuple(local.tuples.as_slice().get(place), fields, weight),
         None => false,
@@ -81,7 +81,7 @@ fn has_branch(
     flag: u32,
     count: u32,
     fields: &[u32],
-    weight: u32,
+    weight: u64,
 ) -> bool {
     match recorder.exclusive_interactions().first() {
         Some(group) => {
