@@ -18,4 +18,5 @@ pub mod Refusal
 pub mod Sent
 pub mod Terminals
 pub mod Trace
+pub mod Weight
 pub mod Witness

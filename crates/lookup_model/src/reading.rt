@@ -1,4 +1,6 @@
 //! Reading lookups from a format, as JSON.
+ghost use Rattle.std.specs.Prelude.{◌≡◌, IfOk, Some};
+
 use crate::types::{Kind, Lookup};
 use expressions::SymbolicExpression;
 use serde::{Deserialize, DeserializeOwned, Deserializer, Format, Name};
@@ -81,7 +83,13 @@ impl<F: DeserializeOwned> Members<F> {
     }
 
     /// The lookup with these members.
-    fn into_lookup<R: Format>(self, from: &Deserializer<'_, '_, R>) -> Result<Lookup<F>, R::Error> {
+    fn into_lookup<R: Format>(self, from: &Deserializer<'_, '_, R>) -> Result<Lookup<F>, R::Error>
+        ensures { IfOk result (λ lookup. (self.kind ≡ Some lookup.kind)
+            × (self.elements ≡ Some lookup.elements)
+            × (self.multiplicities ≡ Some lookup.multiplicities)
+            × (self.count_weight ≡ Some lookup.count_weight)
+            × (self.column ≡ Some lookup.column)) }
+    {
         Ok(Lookup {
             kind: present("kind", self.kind, from)?,
             elements: present("elements", self.elements, from)?,
@@ -112,7 +120,9 @@ fn present<T: Drop, R: Format>(
     name: &str,
     member: Option<T>,
     from: &Deserializer<'_, '_, R>,
-) -> Result<T, R::Error> {
+) -> Result<T, R::Error>
+    ensures { IfOk result (λ value. member ≡ Some value) }
+{
     match member {
         Some(value) => Ok(value),
         None => Err(from.missing(name)),
