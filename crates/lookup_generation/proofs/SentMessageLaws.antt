@@ -1,6 +1,7 @@
 -- Collected messages grow by lookups and rows, and the faults of flags by themselves.
 use Rattle.std.proofs.Common.{◌≡◌, ℕ, ◌+◌, ◌<◌, Bool, true, Option, None, Some, List, [], ◌∷◌, ◌++◌, length, take, drop, get_or, refl, sym, ap, ◌∙◌, arith}
-use Rattle.std.proofs.lemmas.List.{append-nil, flat_map_more, length-take}
+use Rattle.std.proofs.Math.Seq.{take-append_seam}
+use Rattle.std.proofs.lemmas.List.{append-nil, append_assoc, flat_map_more, length-take}
 use Rattle.std.proofs.lemmas.List.FromFn.{get_or-map-range_with_len, length-map-range_with_len}
 use Rattle.std.specs.List.{flat_map, slice_get}
 use Rattle.field.specs.Ring.{Ring}
@@ -16,7 +17,7 @@ use Rattle.lookup_model.specs.declared.types.Lookup.{Lookup}
 use Rattle.lookup_laws.proofs.LookupFaults.{flags_faultless}
 use Rattle.lookup_laws.proofs.Rows.{row_faults-none, split_at, take_item, trace_faults-first, trace_faults-none}
 use Rattle.lookup_laws.proofs.Selections.{chosen_none, chosen_one}
-use Rattle.lookup_generation.specs.SentMessages.{HasSentRow, HasSentRows, messages_of}
+use Rattle.lookup_generation.specs.SentMessages.{HasSentRow, HasSentRows, StayInFront, messages_of}
 use Rattle.lookup_generation.specs.declared.messages.SentMessage.{SentMessage}
 
 module _ {F : Type 0} (R : Ring F) (eq : F → F → Bool) (row column : ℕ) (branches : List (Message F)) (flags : List F) (boolean : are_boolean R eq flags ≡ true) where
@@ -33,6 +34,18 @@ module _ {F : Type 0} (R : Ring F) (eq : F → F → Bool) (row column : ℕ) (b
     chosen_one R eq 0 place flags branches m (one ∙ ap (λ p. p ∷ []) (omega arith)) within is,
     flags_faultless R eq row column flags boolean (omega (arith, ap length one)),
   )
+
+-- messages stay in front if nothing changes, and if more go behind them
+module _ {F : Type 0} where
+  pub in_front : (before after : List (SentMessage F)) → after ≡ before → StayInFront before after
+  in_front before after same = ([], same ∙ sym (append-nil before))
+
+  pub further_back : (before between after : List (SentMessage F)) → StayInFront before between → StayInFront between after → StayInFront before after
+  further_back before between after first second = (first.0 ++ second.0, second.1 ∙ ap (λ t. t ++ second.0) first.1 ∙ append_assoc before first.0 second.0)
+
+  -- without those behind them they are as they were
+  pub cut_off : (before after rest : List (SentMessage F)) (n : ℕ) → StayInFront before after → n ≡ length before → rest ≡ take n after → rest ≡ before
+  cut_off before after rest n front at is = is ∙ (λ i. take (at i) (front.1 i)) ∙ take-append_seam before front.0
 
 module _ {F : Type 0} (R : Ring F) (eq : F → F → Bool) where
   -- nothing is collected of no lookups

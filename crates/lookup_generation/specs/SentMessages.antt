@@ -16,6 +16,10 @@ message_of m = record { key = record { id = m.id; tuple = m.tuple.items }; multi
 abbrev pub messages_of : {F : Type 0} → List (SentMessage F) → List (Message F)
 messages_of ms = map message_of ms
 
+-- the earlier messages stay, in front of others
+abbrev pub StayInFront : {F : Type 0} → List (SentMessage F) → List (SentMessage F) → Type 0
+StayInFront {F} before after = (others : List (SentMessage F)) × (after ≡ before ++ others)
+
 module _ {F : Type 0} (R : Ring F) (eq : F → F → Bool) where
   -- After the earlier messages come those that the lookups of a row send, whose flags have no fault.
   pub record HasSentRow (row : ℕ) (before after : List (SentMessage F)) (sents : List (Sent F)) : Type 0 where

@@ -1,4 +1,4 @@
-use Rattle.std.proofs.Common.{◌≡◌, ◌<◌, ◌∷◌, ◌++◌, List, [], length, inl, get_or, sym, ap, ◌∙◌, subst, arith}
+use Rattle.std.proofs.Common.{◌≡◌, ◌<◌, ◌∷◌, ◌++◌, List, [], length, inl, refl, get_or, sym, ap, ◌∙◌, subst, arith}
 use Rattle.std.proofs.lemmas.List.{append-nil, length-map}
 use Rattle.std.proofs.lemmas.Result.{MatchResult-weaker}
 use Rattle.expressions.specs.declared.base_expression.SymbolicExpression.{SymbolicExpression}
@@ -11,7 +11,7 @@ use Rattle.lookup_generation.specs.Selection.{AreSetFlags}
 use Rattle.lookup_generation.specs.SentMessages.{messages_of}
 use Rattle.lookup_generation.specs.TraceBuilder.{builder_layout, builder_window}
 use Rattle.lookup_generation.specs.declared.exclusive.SetFlags.TheVariants.{Nothing, One}
-use Rattle.lookup_generation.proofs.SentMessageLaws.{no_flag, one_flag}
+use Rattle.lookup_generation.proofs.SentMessageLaws.{in_front, no_flag, one_flag}
 use Rattle.lookup_generation.proofs.messages.push_selected.Goals as goal
 
 pub index-tuple-requires : goal.index-tuple-requires
@@ -54,8 +54,8 @@ push_branch-requires-clause-multiplicity_fits g c =
     let set : AreSetFlags R eq vals (One c.in-One.branch) = subst (AreSetFlags R eq vals) c.in-One.is c.in_ok-set_flags.ensures in
     Fits-at (builder_layout c.args.builder.now) c.args.lookup.now.multiplicities.items c.in-One.branch _ c.requires.within.1 (omega (arith, place_within R eq 0 vals c.in-One.branch [] set.places, length-map c.args.flags.now (value R w), c.requires.flag_number, c.requires.lengths.multiplicities)) c.index-multiplicity.ensures
 
-pub returns-in-Nothing : goal.returns-in-Nothing
-returns-in-Nothing g c =
+pub returns-in-Nothing-clause-pushes : goal.returns-in-Nothing-clause-pushes
+returns-in-Nothing-clause-pushes g c =
     let R = g.F.PrimeCharacteristicRing.ring in
     let eq = g.F.PartialEq.eq in
     let w = builder_window c.args.builder.now in
@@ -66,8 +66,8 @@ returns-in-Nothing g c =
     let is = no_flag R eq c.args.builder.now.row lookup.column (branches_at R w c.args.id lookup) vals set.boolean set.places in
     (sym (append-nil before) ∙ ap (λ t. before ++ t) (sym is.0), is.1)
 
-pub returns-in-One : goal.returns-in-One
-returns-in-One g c =
+pub returns-in-One-clause-pushes : goal.returns-in-One-clause-pushes
+returns-in-One-clause-pushes g c =
     let R = g.F.PrimeCharacteristicRing.ring in
     let eq = g.F.PartialEq.eq in
     let w = builder_window c.args.builder.now in
@@ -85,6 +85,18 @@ returns-in-One g c =
     let within : k < length branches = omega (arith, lt, length-branches_at R w id lookup c.requires.lengths) in
     let at : m ≡ get_or branches k m = zipped_at (λ b. branch_at R w id b.0.items b.1) lookup.elements.items lookup.multiplicities.items c.requires.lengths.multiplicities k tuple multiplicity lt c.index-tuple.ensures c.index-multiplicity.ensures in
     let is = one_flag R eq c.args.builder.now.row lookup.column branches vals set.boolean k m set.places within at in
-    MatchResult-weaker c.push_branch.result c.push_branch.ensures
+    MatchResult-weaker c.push_branch.result c.push_branch.ensures.pushes
     (λ _ h. (h ∙ (λ i. before ++ branch_at R w id (c.deref.ensures.value i) multiplicity ∷ []) ∙ ap (λ t. before ++ t) (sym is.0), is.1))
     (λ e h. inl h)
+
+pub returns-in-Nothing-clause-front : goal.returns-in-Nothing-clause-front
+returns-in-Nothing-clause-front g c = in_front _ _ refl
+
+pub returns-in-One-clause-front : goal.returns-in-One-clause-front
+returns-in-One-clause-front g c = c.push_branch.ensures.front
+
+pub returns-in-Several-clause-front : goal.returns-in-Several-clause-front
+returns-in-Several-clause-front g c = in_front _ _ refl
+
+pub returns-in_err-set_flags-clause-front : goal.returns-in_err-set_flags-clause-front
+returns-in_err-set_flags-clause-front g c = in_front _ _ refl

@@ -9,8 +9,8 @@ use Rattle.lookup_generation.specs.SentMessages.{messages_of}
 use Rattle.lookup_generation.specs.TraceBuilder.{builder_layout, builder_window}
 use Rattle.lookup_generation.proofs.messages.push_sent.Goals as goal
 
-pub returns-in-None : goal.returns-in-None
-returns-in-None g c =
+pub returns-in-None-clause-pushes : goal.returns-in-None-clause-pushes
+returns-in-None-clause-pushes g c =
     let R = g.F.PrimeCharacteristicRing.ring in
     let eq = g.F.PartialEq.eq in
     let row = c.args.builder.now.row in
@@ -19,15 +19,15 @@ returns-in-None g c =
     let branches = branches_at R w c.args.id lookup in
     let sent_is : sent R eq None branches ≡ sent_at R eq w c.args.id lookup =
     ap (λ o. sent R eq (option_map (λ flags. values R w flags.items) o) branches) (sym c.in-None.is) in
-    MatchResult-weaker c.push_branches.result c.push_branches.ensures
+    MatchResult-weaker c.push_branches.result c.push_branches.ensures.pushes
     (λ _ h. (
       h ∙ ap (λ (s : Sent _). messages_of c.args.messages.now.items ++ s.messages) sent_is,
       ap (λ (s : Sent _). flag_fault_of R eq row lookup.column s.flags) (sym sent_is),
     ))
     (λ e memory. inl memory)
 
-pub returns-in-Some : goal.returns-in-Some
-returns-in-Some g c =
+pub returns-in-Some-clause-pushes : goal.returns-in-Some-clause-pushes
+returns-in-Some-clause-pushes g c =
     let R = g.F.PrimeCharacteristicRing.ring in
     let eq = g.F.PartialEq.eq in
     let row = c.args.builder.now.row in
@@ -38,7 +38,7 @@ returns-in-Some g c =
     ap (λ t. sent R eq (Some (values R w t)) branches) c.deref.ensures.value
     ∙ ap (λ o. sent R eq (option_map (λ flags. values R w flags.items) o) branches) (sym c.in-Some.is) in
     let fault_is = ap (λ (s : Sent _). flag_fault_of R eq row lookup.column s.flags) (sym sent_is) in
-    MatchResult-weaker c.push_selected.result c.push_selected.ensures
+    MatchResult-weaker c.push_selected.result c.push_selected.ensures.pushes
     (λ _ h. (h.0 ∙ ap (λ (s : Sent _). messages_of c.args.messages.now.items ++ s.messages) sent_is, fault_is ∙ h.1))
     (λ e refused. elim refused [
       | inl memory ↦ inl memory
@@ -55,3 +55,9 @@ unfolding IsWithin
 push_selected-requires-clause-flags_fit g c =
     let layout = builder_layout c.args.builder.now in
     subst (λ (es : List (SymbolicExpression _)). AllFit layout es) (sym c.deref.ensures.value) (subst (λ (o : Option _). IfSome o (λ flags. AllFit layout flags.items)) c.in-Some.is c.requires.within.2)
+
+pub returns-in-None-clause-front : goal.returns-in-None-clause-front
+returns-in-None-clause-front g c = c.push_branches.ensures.front
+
+pub returns-in-Some-clause-front : goal.returns-in-Some-clause-front
+returns-in-Some-clause-front g c = c.push_selected.ensures.front
