@@ -3,7 +3,7 @@ ghost use Rattle.std.specs.Prelude.{◌≡◌, ◌<◌, ◌+◌, ◌*◌, ◌≤
 ghost use Rattle.std.specs.Option.{ForSome, option_copied};
 ghost use Rattle.expressions.specs.Layout.{layout_of_traces};
 ghost use Rattle.lookup_generation.specs.Inverses.{ForInverses};
-ghost use Rattle.lookup_generation.specs.Progress.{started_chunks};
+ghost use Rattle.lookup_generation.specs.Progress.{HaveNoTuples, started_chunks};
 ghost use Rattle.lookup_model.specs.Extension.{extension};
 ghost use Rattle.lookup_model.specs.Generation.{AnswersGeneration};
 ghost use Rattle.lookup_model.specs.LookupDegree.{IsDegree, lookup_degree};
@@ -59,7 +59,7 @@ impl LogUpGadget {
     /// Rows are made in chunks of 1024, and all fractions of a chunk are divided by one inverse.
     /// `inverter` counts at most one call for each chunk that is started, also if the trace is
     /// refused: at most `height / 1024`, rounded up. It counts at least one call less where a fault is
-    /// refused, and none where there are no lookups. The challenges may lie in a domain that has no
+    /// refused, and none where no lookup has tuples. The challenges may lie in a domain that has no
     /// inverse of its own: whatever function inverts its elements, the answer is the one of that
     /// inverse.
     ///
@@ -87,7 +87,7 @@ impl LogUpGadget {
             ≤ I.count inverter.old + started_chunks (height main.now) }
         ensures spared { IfErr result (λ e. (e ≡ LookupError.Memory)
             ⊎ (I.count inverter.new < I.count inverter.old + started_chunks (height main.now))) }
-        ensures nothing_sent { length lookups.now ≡ 0
+        ensures nothing_sent { HaveNoTuples lookups.now
             → I.count inverter.new ≡ I.count inverter.old }
     {
         lookup_generation::generate_counted(

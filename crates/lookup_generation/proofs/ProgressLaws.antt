@@ -11,7 +11,7 @@ use Rattle.lookup_model.specs.Fault.{fault_of, row_faults, trace_faults}
 use Rattle.lookup_model.specs.Message.{Key}
 use Rattle.lookup_model.specs.Plain.{plain_fraction, plain_row}
 use Rattle.field.specs.Ring.{Ring}
-use Rattle.lookup_generation.specs.Fraction.{AreSound}
+use Rattle.lookup_generation.specs.Fraction.{AreSound, AreWhole}
 use Rattle.lookup_generation.specs.Progress.{HasCells}
 use Rattle.lookup_generation.specs.declared.ratio.Ratio.{Ratio}
 use Rattle.lookup_model.specs.Sent.{Sent}
@@ -55,6 +55,15 @@ module _ {K : Type 0} {S : Ring K} where
     many = ap length is ∙ sym none;
     nonzero = subst (λ rs. All (λ r. r.denominator ≢ S.zero) rs) (sym is) (λ k d lt. absurd (omega (arith, lt)));
   }
+
+module _ {K : Type 0} (S : Ring K) where
+  -- whole ratios go on by one more
+  pub whole_more : (before after : List (Ratio K)) (ratio : Ratio K) → after ≡ before ++ ratio ∷ [] → ratio.denominator ≡ S.one → AreWhole S before → AreWhole S after
+  whole_more before after ratio is one whole = subst (λ rs. AreWhole S rs) (sym is) (all_push (λ (r : Ratio K). r.denominator ≡ S.one) before ratio whole one)
+
+  -- no ratios are whole
+  pub whole_none : (ratios : List (Ratio K)) → ratios ≡ [] → AreWhole S ratios
+  whole_none ratios is = subst (λ rs. AreWhole S rs) (sym is) (λ k d lt. absurd (omega (arith, lt)))
 
 -- the fractions on a row of a trace
 abbrev pub row_fractions : {F K : Type 0} → Extension F K → (Key F → K) → List (List (Sent F)) → ℕ → List K

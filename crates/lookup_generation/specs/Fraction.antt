@@ -19,6 +19,10 @@ pub record AreSound {K : Type 0} (S : Ring K) (n : ℕ) (ratios : List (Ratio K)
   pub many : length ratios ≡ n
   pub nonzero : All (λ r. r.denominator ≢ S.zero) ratios
 
+-- every denominator is one
+abbrev pub AreWhole : {K : Type 0} → Ring K → List (Ratio K) → Type 0
+AreWhole S ratios = All (λ r. r.denominator ≡ S.one) ratios
+
 module _ {F K : Type 0} (E : Extension F K) (denominator : Key F → K) where
   -- the ratio is the sum of the quotients of the counted messages, and none of their denominators
   -- vanishes

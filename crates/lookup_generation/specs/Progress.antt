@@ -1,5 +1,5 @@
 -- An auxiliary trace while it is being made.
-use Rattle.std.specs.Prelude.{◌≡◌, ◌⊎◌, ◌<◌, ◌≤◌, ◌+◌, ◌-◌, ◌/◌, ℕ, Bool, List, [], ◌++◌, map, take, slice_get, slice_index_or, None, Option, Some, MatchOption}
+use Rattle.std.specs.Prelude.{◌≡◌, ◌⊎◌, ◌<◌, ◌≤◌, ◌+◌, ◌-◌, ◌/◌, ℕ, All, Bool, List, [], ◌++◌, map, take, slice_get, slice_index_or, None, Option, Some, MatchOption}
 use Rattle.std.specs.List.{AllZip, flat_map, range_with_len}
 use Rattle.std.specs.Option.{option_copied}
 use Rattle.field.specs.Ring.{Ring}
@@ -102,6 +102,10 @@ module _ {F K : Type 0} (E : Extension F K) (denominator : Key F → K) where
   pub record HasRows (rows : List (List (Sent F))) (r : ℕ) (cells : List K) (accumulator : K) : Type 0 where
     pub made : HasCells rows r cells accumulator
     pub faultless : trace_faults E denominator (take r rows) ≡ []
+
+-- lookups without tuples: they send nothing
+abbrev pub HaveNoTuples : {F : Type 0} → List (Lookup F) → Type 0
+HaveNoTuples lookups = All (λ lookup. lookup.elements.items ≡ []) lookups
 
 -- how many chunks of 1024 rows are started in a trace of this height
 abbrev pub started_chunks : ℕ → ℕ

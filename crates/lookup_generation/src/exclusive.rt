@@ -143,6 +143,8 @@ pub(crate) fn exclusive_fraction<F: Field, EF: ExtensionDomain<F>>(
     ensures answers { ForExtensions F.ring F.eq EF.ring EF.eq EF.embed (λ E.
         AnswersExclusive E builder.now lookup.now flags.now result) }
     ensures sound { IfOk result (λ r. r.denominator ≢ EF.ring.zero) }
+    ensures bare { lookup.now.elements.items ≡ []
+        → IfOk result (λ r. r.denominator ≡ EF.ring.one) }
 {
     let row = builder.row();
     let column = lookup.column;

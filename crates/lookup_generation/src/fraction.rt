@@ -62,6 +62,8 @@ fn additive_fraction<F: Field, EF: ExtensionDomain<F>>(
     ensures answers { ForExtensions F.ring F.eq EF.ring EF.eq EF.embed (λ E.
         AnswersAdditive E builder.now lookup.now result) }
     ensures sound { IfOk result (λ r. r.denominator ≢ EF.ring.zero) }
+    ensures bare { lookup.now.elements.items ≡ []
+        → IfOk result (λ r. r.denominator ≡ EF.ring.one) }
 {
     let mut fraction = Ratio::zero();
     for branch in columns {
@@ -92,6 +94,8 @@ pub(crate) fn fraction<F: Field, EF: ExtensionDomain<F>>(
     ensures answers { ForExtensions F.ring F.eq EF.ring EF.eq EF.embed (λ E.
         AnswersFraction E builder.now lookup.now result) }
     ensures sound { IfOk result (λ r. r.denominator ≢ EF.ring.zero) }
+    ensures bare { lookup.now.elements.items ≡ []
+        → IfOk result (λ r. r.denominator ≡ EF.ring.one) }
 {
     match &lookup.flags {
         None => additive_fraction(lookup, columns, place, builder),

@@ -10,11 +10,11 @@ ghost use Rattle.lookup_model.specs.Denominators.{column_denominator};
 ghost use Rattle.lookup_model.specs.Extension.{extension};
 ghost use Rattle.lookup_model.specs.Fault.{trace_faults};
 ghost use Rattle.field.specs.Sums.{sum_in};
-ghost use Rattle.lookup_generation.specs.Fraction.{AreSound};
+ghost use Rattle.lookup_generation.specs.Fraction.{AreSound, AreWhole};
 ghost use Rattle.lookup_generation.specs.Inverses.{ForExtensions};
 ghost use Rattle.lookup_generation.specs.ChunkColumns.{HoldLookup, HoldLookups};
 ghost use Rattle.lookup_generation.specs.LookupSteps.{AreLookupSteps};
-ghost use Rattle.lookup_generation.specs.Progress.{AnswersColumn, AnswersColumns, AreRatios, HasRows, IsFirstOf, column_cells, sent_on, sent_rows_of, started_chunks};
+ghost use Rattle.lookup_generation.specs.Progress.{AnswersColumn, AnswersColumns, AreRatios, HasRows, HaveNoTuples, IsFirstOf, column_cells, sent_on, sent_rows_of, started_chunks};
 ghost use Rattle.lookup_model.specs.Records.{DoFit};
 ghost use Rattle.lookup_model.specs.Generation.{AnswersGeneration};
 ghost use Rattle.lookup_generation.specs.TraceBuilder.{builder_layout, builder_window};
@@ -108,6 +108,8 @@ fn push_column<F: Field, EF: ExtensionDomain<F>>(
     ensures sound { IfOk result (λ found. found ≡ None → (n : ℕ)
         → AreSound EF.ring n ratios.old.items
         → AreSound EF.ring (n + (end - first)) ratios.new.items) }
+    ensures bare { lookup.now.elements.items ≡ [] → AreWhole EF.ring ratios.old.items
+        → IfOk result (λ _. AreWhole EF.ring ratios.new.items) }
     ensures there { IfOk result (λ found. IfSome found
         (λ fault. (first ≤ fault.row) × (fault.row < end))) }
 {
@@ -167,6 +169,8 @@ fn push_columns<F: Field, EF: ExtensionDomain<F>>(
         first end ratios.new.items)) }
     ensures sound { IfOk result (λ found. found ≡ None
         → AreSound EF.ring (length lookups.now * (end - first)) ratios.new.items) }
+    ensures bare { HaveNoTuples lookups.now
+        → IfOk result (λ _. AreWhole EF.ring ratios.new.items) }
     ensures there { IfOk result (λ found. IfSome found
         (λ fault. (first ≤ fault.row) × (fault.row < end))) }
 {
@@ -209,6 +213,7 @@ fn ratios_of<F: Field, EF: ExtensionDomain<F>>(
         (sent_rows_of F.ring F.eq traces.now lookups.now)))) }
     ensures sound { IfOk result (λ v. AreSound EF.ring
         (length lookups.now * (end - first)) v.items) }
+    ensures bare { HaveNoTuples lookups.now → IfOk result (λ v. AreWhole EF.ring v.items) }
 {
     let rows = rows_between(alloc, &mut memory.places, first, end)?;
     let columns = columns_of_lookups(alloc, memory, lookups, steps, traces, challenges, &rows)?;
@@ -297,6 +302,7 @@ fn push_chunk<F: Field, EF: ExtensionDomain<F>, I: Inverter<EF>>(
     ensures counted { I.count inverter.new ≤ I.count inverter.old + 1 }
     ensures spared { IfErr result (λ e. (e ≡ LookupError.Memory)
         ⊎ (I.count inverter.new ≡ I.count inverter.old)) }
+    ensures nothing_sent { HaveNoTuples lookups.now → I.count inverter.new ≡ I.count inverter.old }
 {
     let ratios = ratios_of(
         alloc, memory, traces, lookups, steps, challenges, first, end,
@@ -353,6 +359,7 @@ fn generate<F: Field, EF: ExtensionDomain<F>, I: Inverter<EF>>(
         (height_of traces.now) }
     ensures spared { IfErr result (λ e. (e ≡ LookupError.Memory)
         ⊎ (I.count inverter.new < I.count inverter.old + started_chunks (height_of traces.now))) }
+    ensures nothing_sent { HaveNoTuples lookups.now → I.count inverter.new ≡ I.count inverter.old }
 {
     let height = traces.main.height();
     let size = height
@@ -386,7 +393,7 @@ fn generate<F: Field, EF: ExtensionDomain<F>, I: Inverter<EF>>(
 /// The auxiliary trace of one AIR and its terminal, by at most one inverse for each chunk of 1024 rows.
 ///
 /// It answers as [`generate_permutation`] does. `inverter` is asked at most once for each chunk of rows
-/// that is started, at least once less where a fault is refused, and never where there are no lookups.
+/// that is started, at least once less where a fault is refused, and never where no lookup has tuples.
 pub fn generate_counted<'a, F: Field, EF: ExtensionDomain<F>, I: Inverter<EF>>(
     alloc: Global,
     main: &'a RowMajorMatrix<F>,
@@ -407,7 +414,7 @@ pub fn generate_counted<'a, F: Field, EF: ExtensionDomain<F>, I: Inverter<EF>>(
         (height main.now) }
     ensures spared { IfErr result (λ e. (e ≡ LookupError.Memory)
         ⊎ (I.count inverter.new < I.count inverter.old + started_chunks (height main.now))) }
-    ensures nothing_sent { length lookups.now ≡ 0 → I.count inverter.new ≡ I.count inverter.old }
+    ensures nothing_sent { HaveNoTuples lookups.now → I.count inverter.new ≡ I.count inverter.old }
 {
     if lookups.is_empty() {
         return Ok((RowMajorMatrix::new(Vec::new(alloc), 0), None));

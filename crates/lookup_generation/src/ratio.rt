@@ -19,6 +19,7 @@ impl<K: Domain> Ratio<K> {
     pub(crate) fn zero() -> Self
         ensures value { IsRatio K.ring result K.ring.zero }
         ensures sound { result.denominator ≢ K.ring.zero }
+        ensures whole { result.denominator ≡ K.ring.one }
     {
         Ratio {
             numerator: K::ZERO,

@@ -1,11 +1,12 @@
-use Rattle.std.proofs.Common.{◌≢◌, inr, Some, sym, ap, ◌∙◌, subst, arith}
+use Rattle.std.proofs.Common.{◌≡◌, ◌≢◌, inr, length, map, Some, sym, ap, ◌∙◌, subst, arith}
 use Rattle.std.proofs.lemmas.Option.{slice_get_within}
 use Rattle.std.proofs.lemmas.Result.{MatchResult-weaker}
+use Rattle.std.specs.List.{zip}
 use Rattle.lookup_model.specs.Denominators.{column_denominator}
 use Rattle.lookup_model.specs.Extension.{extension, IsLawful}
 use Rattle.lookup_model.proofs.Lawful.{lawful_extension}
 use Rattle.lookup_model.specs.Plain.{quotient_of}
-use Rattle.lookup_model.specs.Sent.{branches_at, values}
+use Rattle.lookup_model.specs.Sent.{branch_at, branches_at, values}
 use Rattle.lookup_model.specs.declared.error.LookupError.TheVariants.{VanishingDenominator}
 use Rattle.lookup_generation.specs.ChunkColumns.{IsHeld, key_denominator}
 use Rattle.lookup_generation.specs.Fraction.{IsRatio}
@@ -95,6 +96,26 @@ index-requires-in-One g c =
     let placed = message_placed g.met.F.PrimeCharacteristicRing.eq_is g.met.F.Domain.domain D c.args.place columns vals ms c.requires k set.places branch c.index-columns-branch.is in
     let held : IsHeld D c.index-at.result.now branch m.item = subst (λ n. IsHeld D n branch m.item) (read_is branch.places.items c.args.place c.index-at.result.now placed.at placed.there c.index-at.ensures) placed.held in
     omega (arith, slice_get_within branch.denominators.items c.index-at.result.now (D m.item.key) held.1)
+
+pub returns-in-Nothing-clause-bare : goal.returns-in-Nothing-clause-bare
+returns-in-Nothing-clause-bare g c = λ bare. c.zero.ensures.whole
+
+pub returns-in-One-clause-bare : goal.returns-in-One-clause-bare
+returns-in-One-clause-bare g c = λ bare.
+    let R = g.F.PrimeCharacteristicRing.ring in
+    let eq = g.F.PartialEq.eq in
+    let w = builder_window c.args.builder.now in
+    let lookup = c.args.lookup.now in
+    let vals = values R w c.args.flags.now in
+    let ms = branches_at R w lookup.column lookup in
+    let D = key_denominator g.EF.PrimeCharacteristicRing.ring g.EF.ExtensionDomain.embed c.args.builder.now.permutation_challenges.now in
+    let columns = c.args.columns.now in
+    let k = c.in-One.branch in
+    let set : AreSetFlags R eq vals (One k) = subst (AreSetFlags R eq vals) c.in-One.is (c.in_ok-set_flags_at.ensures vals c.requires.flags_are) in
+    let branch = c.index-columns-branch.result in
+    let m = message g.met.F.PrimeCharacteristicRing.eq_is g.met.F.Domain.domain D c.args.place columns vals ms c.requires k set.places branch c.index-columns-branch.is in
+    let none : length ms ≡ 0 = ap (λ es. length (map (λ b. branch_at R w lookup.column b.0.items b.1) (zip es lookup.multiplicities.items))) bare in
+    absurd (omega (arith, m.within, none))
 
 pub returns-in-Nothing-clause-answers : goal.returns-in-Nothing-clause-answers
 returns-in-Nothing-clause-answers g c = λ inverse is_inverse.

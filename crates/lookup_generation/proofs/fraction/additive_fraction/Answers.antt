@@ -1,8 +1,9 @@
-use Rattle.std.proofs.Common.{inr, refl, sym, ap, subst, ◌∙◌, take, drop, ◌+◌, arith, List}
-use Rattle.std.proofs.lemmas.List.{take_all}
+use Rattle.std.proofs.Common.{◌≡◌, [], inr, length, map, refl, sym, ap, subst, ◌∙◌, take, drop, ◌+◌, arith, List}
+use Rattle.std.proofs.lemmas.List.{nil_from_length, take_all}
 use Rattle.std.proofs.lemmas.Option.{slice_get_within}
 use Rattle.std.proofs.lemmas.Result.{err_from_is_err_and}
 use Rattle.std.proofs.lemmas.Slice.Zip.{AllZip-long}
+use Rattle.std.specs.List.{zip}
 use Rattle.lookup_model.specs.Denominators.{column_denominator}
 use Rattle.lookup_model.specs.Extension.{extension, IsLawful}
 use Rattle.lookup_model.proofs.Lawful.{lawful_extension}
@@ -11,7 +12,7 @@ use Rattle.lookup_generation.specs.Fraction.{IsFractionOf}
 use Rattle.lookup_model.specs.declared.error.LookupError.TheVariants.{VanishingDenominator}
 use Rattle.lookup_model.specs.Message.{Message}
 use Rattle.lookup_model.specs.Plain.{counted}
-use Rattle.lookup_model.specs.Sent.{branches_at}
+use Rattle.lookup_model.specs.Sent.{branch_at, branches_at}
 use Rattle.lookup_generation.specs.ChunkColumns.{IsHeld, key_denominator}
 use Rattle.lookup_generation.specs.TraceBuilder.{builder_window}
 use Rattle.lookup_columns.proofs.ZipLaws.{Beside, beside, taken_more}
@@ -68,6 +69,7 @@ loop-branch-preserved g c = (
       (read_is _ c.args.place c.index-denominator.result.now (denominator b.item.key) b.holds.1 c.index-denominator.ensures)
       (c.loop-branch.invariant.0 inverse is_inverse)),
   c.in_ok-fraction.ensures.sound c.loop-branch.invariant.1,
+  λ none. let empty : length c.args.columns.now ≡ 0 = ap length none in absurd (omega (arith, empty, c.loop-branch-test.true)),
 )
 
 pub returns-clause-answers : goal.returns-clause-answers
@@ -79,6 +81,15 @@ returns-clause-answers g c = λ inverse is_inverse.
     let long = AllZip-long (IsHeld denominator c.args.place) c.args.columns.now ms c.requires in
     subst (λ (t : List (Message _)). IsFractionOf E denominator t c.loop-branch.fraction) (take_all c.loop-branch.branch-index ms (omega (arith, long, c.loop-branch-test.false))) (c.loop-branch.invariant.0 inverse is_inverse)
 
+pub returns-clause-bare : goal.returns-clause-bare
+returns-clause-bare g c = λ bare.
+    let lookup = c.args.lookup.now in
+    let held = IsHeld (key_denominator g.EF.PrimeCharacteristicRing.ring g.EF.ExtensionDomain.embed c.args.builder.now.permutation_challenges.now) c.args.place in
+    let none : length (branches_at g.F.PrimeCharacteristicRing.ring (builder_window c.args.builder.now) lookup.column lookup) ≡ 0 =
+    ap (λ es. length (map (λ b. branch_at g.F.PrimeCharacteristicRing.ring (builder_window c.args.builder.now) lookup.column b.0.items b.1) (zip es lookup.multiplicities.items))) bare in
+    let long = AllZip-long held c.args.columns.now _ c.requires in
+    c.loop-branch.invariant.2 (nil_from_length c.args.columns.now (omega (arith, long, none)))
+
 pub loop-branch-init : goal.loop-branch-init
 loop-branch-init g c =
-    (λ inverse is_inverse. record { is = c.zero-fraction.ensures.value; divides = refl }, c.zero-fraction.ensures.sound)
+    (λ inverse is_inverse. record { is = c.zero-fraction.ensures.value; divides = refl }, c.zero-fraction.ensures.sound, λ _. c.zero-fraction.ensures.whole)

@@ -1,4 +1,4 @@
-use Rattle.std.proofs.Common.{◌≢◌, take}
+use Rattle.std.proofs.Common.{◌≡◌, ◌≢◌, [], take}
 use Rattle.lookup_model.specs.Denominators.{column_denominator}
 use Rattle.lookup_model.specs.Extension.{extension}
 use Rattle.lookup_generation.specs.Fraction.{IsFractionOf}
@@ -13,3 +13,4 @@ invariant-loop-branch g l =
     let E = extension g.F.PrimeCharacteristicRing.ring g.F.PartialEq.eq g.EF.PrimeCharacteristicRing.ring g.EF.PartialEq.eq g.EF.ExtensionDomain.embed inverse in
     IsFractionOf E (column_denominator E l.builder.permutation_challenges.now) (take l.branch-index (branches_at E.base (builder_window l.builder) l.lookup.column l.lookup)) l.fraction)
     × (l.fraction.denominator ≢ g.EF.PrimeCharacteristicRing.ring.zero)
+    × (l.columns ≡ [] → l.fraction.denominator ≡ g.EF.PrimeCharacteristicRing.ring.one)

@@ -50,6 +50,12 @@ returns-in-Some-clause-answers g c = λ inverse is_inverse.
       | inr fault ↦ inr (fault_is ∙ fault)
     ])
 
+pub returns-in-None-clause-bare : goal.returns-in-None-clause-bare
+returns-in-None-clause-bare g c = c.additive_fraction.ensures.bare
+
+pub returns-in-Some-clause-bare : goal.returns-in-Some-clause-bare
+returns-in-Some-clause-bare g c = c.exclusive_fraction.ensures.bare
+
 pub additive_fraction-requires : goal.additive_fraction-requires
 additive_fraction-requires g c = c.requires.additive c.in-None.is
 

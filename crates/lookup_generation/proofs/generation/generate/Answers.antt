@@ -23,6 +23,7 @@ loop-first-preserved g c =
       ],
       omega (arith, one, before.2, c.in_ok-accumulator.ensures.counted),
       c.in_ok-accumulator.ensures.many ∙ ap (λ m. m + (c.chunk_end-end.result - c.loop-first.first) * (length c.args.lookups.now + 1)) before.3 ∙ product_joined c.loop-first.first c.chunk_end-end.result (length c.args.lookups.now + 1) chunk.further,
+      λ bare. c.in_ok-accumulator.ensures.nothing_sent bare ∙ before.4 bare,
       c.in_ok-accumulator.ensures.rows,
     )
 
@@ -48,10 +49,16 @@ pub returns-clause-rows : goal.returns-clause-rows
 returns-clause-rows g c = λ inverse is_inverse.
     let E = extension g.F.PrimeCharacteristicRing.ring g.F.PartialEq.eq g.EF.PrimeCharacteristicRing.ring g.EF.PartialEq.eq g.EF.ExtensionDomain.embed inverse in
     let all : c.loop-first.first ≡ height c.args.traces.now.main.now = omega (arith, c.loop-first-test.false, c.loop-first.invariant.0, c.height-height.ensures.height) in
-    subst (λ r. HasRows E (column_denominator E c.args.challenges.now) (sent_rows_of E.base E.base_eq c.args.traces.now c.args.lookups.now) r c.loop-first.cells.items c.loop-first.accumulator) all (c.loop-first.invariant.4 inverse is_inverse)
+    subst (λ r. HasRows E (column_denominator E c.args.challenges.now) (sent_rows_of E.base E.base_eq c.args.traces.now c.args.lookups.now) r c.loop-first.cells.items c.loop-first.accumulator) all (c.loop-first.invariant.5 inverse is_inverse)
 
 pub push_chunk-requires-clause-fit : goal.push_chunk-requires-clause-fit
 push_chunk-requires-clause-fit g c = c.requires.fit
 
 pub push_chunk-requires-clause-challenges : goal.push_chunk-requires-clause-challenges
 push_chunk-requires-clause-challenges g c = c.requires.challenges
+
+pub returns-clause-nothing_sent : goal.returns-clause-nothing_sent
+returns-clause-nothing_sent g c = c.loop-first.invariant.4
+
+pub returns-in_err-accumulator-clause-nothing_sent : goal.returns-in_err-accumulator-clause-nothing_sent
+returns-in_err-accumulator-clause-nothing_sent g c = λ bare. c.in_err-accumulator.ensures.nothing_sent bare ∙ c.loop-first.invariant.4 bare

@@ -1,12 +1,13 @@
 use Rattle.std.proofs.Common.{◌≡◌, ◌≢◌, ◌<◌, ◌+◌, ◌-◌, ◌*◌, ◌∷◌, suc, All, List, inr, length, refl, sym, ap, subst, ◌∙◌, arith}
 use Rattle.std.proofs.lemmas.List.{length-append}
+use Rattle.std.proofs.lemmas.List.Elements.{recursion_from_All}
 use Rattle.std.proofs.lemmas.List.FromFn.{length-map-range_with_len}
 use Rattle.std.proofs.lemmas.Result.{err_from_is_err_and}
 use Rattle.std.specs.List.{AllZip, slice_index_or}
 use Rattle.std.specs.Option.{option_copied}
 use Rattle.lookup_generation.proofs.ColumnsOfMatrix.{column_cells-are}
 use Rattle.lookup_generation.proofs.ProgressLaws.{HasCells-more, product_more}
-use Rattle.lookup_generation.specs.Fraction.{IsRatio}
+use Rattle.lookup_generation.specs.Fraction.{AreWhole, IsRatio}
 use Rattle.lookup_generation.specs.Progress.{HasCells, all_fractions, column_cells, sent_rows_of}
 use Rattle.lookup_generation.specs.declared.ratio.Ratio.{Ratio}
 use Rattle.lookup_laws.proofs.PlainResults.{IsShaped-product, height_of}
@@ -120,3 +121,7 @@ ratios_of-requires-clause-challenges g c = c.requires.challenges
 
 pub ratios_of-requires-clause-up_to : goal.ratios_of-requires-clause-up_to
 ratios_of-requires-clause-up_to g c = c.requires.up_to
+
+pub returns-clause-nothing_sent : goal.returns-clause-nothing_sent
+returns-clause-nothing_sent g c = λ bare.
+    c.in_ok-values.ensures.not_counted_whole (recursion_from_All (λ r. r.denominator ≡ g.EF.PrimeCharacteristicRing.ring.one) _ (subst (λ (rs : List (Ratio _)). AreWhole g.EF.PrimeCharacteristicRing.ring rs) (sym c.deref.ensures.value) (c.in_ok-ratios.ensures.bare bare)))

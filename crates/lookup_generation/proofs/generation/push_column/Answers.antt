@@ -10,7 +10,7 @@ use Rattle.lookup_model.specs.declared.error.LookupError.TheVariants.{Memory}
 use Rattle.lookup_generation.specs.Fraction.{AreSound, IsRatio}
 use Rattle.lookup_generation.specs.Progress.{HasColumn, sent_on}
 use Rattle.lookup_generation.proofs.ColumnLaws.{HasColumn-more, HasColumn-none, IsFirstIn-here}
-use Rattle.lookup_generation.proofs.ProgressLaws.{sound_more, sound_of}
+use Rattle.lookup_generation.proofs.ProgressLaws.{sound_more, sound_of, whole_more}
 use Rattle.lookup_generation.proofs.generation.push_column.Goals as goal
 
 pub loop-row-init : goal.loop-row-init
@@ -20,6 +20,7 @@ loop-row-init g c =
           let E = extension g.F.PrimeCharacteristicRing.ring g.F.PartialEq.eq g.EF.PrimeCharacteristicRing.ring g.EF.PartialEq.eq g.EF.ExtensionDomain.embed inverse in
           HasColumn-none E (column_denominator E c.args.challenges.now) (sent_on E.base E.base_eq c.args.traces.now c.args.lookup.now) c.args.lookup.now.column c.args.first c.args.ratios.now.items,
       λ n sound. subst (λ m. AreSound g.EF.PrimeCharacteristicRing.ring (n + m) c.args.ratios.now.items) (sym none) (sound_of n c.args.ratios.now.items sound),
+      λ bare whole. whole,
     )
 
 pub loop-row-preserved : goal.loop-row-preserved
@@ -45,6 +46,7 @@ loop-row-preserved g c =
       λ n sound.
           subst (λ m. AreSound g.EF.PrimeCharacteristicRing.ring (n + m) longer) one_more
           (sound_more n (r - c.args.first) after longer ratio c.in_ok-push-in-Ok.ensures.items c.in-Ok.ensures.sound (c.loop-row.invariant.1 n sound)),
+      λ bare whole. whole_more g.EF.PrimeCharacteristicRing.ring after longer ratio c.in_ok-push-in-Ok.ensures.items (c.in-Ok.ensures.bare bare) (c.loop-row.invariant.2 bare whole),
     )
 
 pub returns-in-Err-clause-answers : goal.returns-in-Err-clause-answers
@@ -73,3 +75,9 @@ pub returns-clause-sound : goal.returns-clause-sound
 returns-clause-sound g c = λ none n sound.
     let all : c.loop-row.row ≡ c.args.end = omega (arith, c.loop-row-test.false, c.loop-row.auto.row-end c.requires.from) in
     subst (λ r. AreSound g.EF.PrimeCharacteristicRing.ring (n + (r - c.args.first)) c.loop-row.ratios.items) all (c.loop-row.invariant.1 n sound)
+
+pub returns-clause-bare : goal.returns-clause-bare
+returns-clause-bare g c = c.loop-row.invariant.2
+
+pub returns-in-Err-clause-bare : goal.returns-in-Err-clause-bare
+returns-in-Err-clause-bare g c = c.loop-row.invariant.2

@@ -1,4 +1,4 @@
-use Rattle.std.proofs.Common.{◌≡◌, ◌<◌, ◌≤◌, ◌+◌, ◌-◌, ◌*◌, Option, IfSome, List, take, sym, ap, subst, ◌∙◌, arith}
+use Rattle.std.proofs.Common.{◌≡◌, [], ◌<◌, ◌≤◌, ◌+◌, ◌-◌, ◌*◌, Option, IfSome, List, take, sym, ap, subst, ◌∙◌, arith}
 use Rattle.std.proofs.lemmas.List.{get_or_read, take_all}
 use Rattle.std.specs.List.{slice_index_or}
 use Rattle.std.specs.Option.{option_map_or}
@@ -6,6 +6,7 @@ use Rattle.std.specs.declared.alloc.Global.{Global}
 use Rattle.std.specs.declared.vec.Vec.{Vec}
 use Rattle.lookup_columns.proofs.ZipLaws.{Beside, beside}
 use Rattle.lookup_columns.specs.Traces.{window_of}
+use Rattle.lookup_model.proofs.RecordLaws.{All-at}
 use Rattle.lookup_model.specs.Denominators.{column_denominator}
 use Rattle.lookup_model.specs.Extension.{extension}
 use Rattle.lookup_model.specs.declared.types.Lookup.{Lookup}
@@ -16,7 +17,7 @@ use Rattle.lookup_generation.specs.Progress.{AnswersColumn, AnswersColumns, sent
 use Rattle.lookup_generation.specs.declared.columns.BranchColumns.{BranchColumns}
 use Rattle.lookup_generation.specs.declared.generation.RowFault.{RowFault}
 use Rattle.lookup_generation.proofs.ColumnLaws.{AnswersColumns-more, HasColumns-none, fault_there, neither_found, until_there}
-use Rattle.lookup_generation.proofs.ProgressLaws.{product_more, sound_none}
+use Rattle.lookup_generation.proofs.ProgressLaws.{product_more, sound_none, whole_none}
 use Rattle.lookup_generation.proofs.generation.push_columns.Goals as goal
 
 pub offset_bounds-columns-lookup : goal.offset_bounds-columns-lookup
@@ -28,11 +29,11 @@ bounds-columns-lookup g c =
     omega (arith, column_is c.args.lookups.now c.loop-lookup.lookup-index c.lookup-item.result c.requires.fit.records c.loop-lookup-test.true c.lookup-item.is, c.requires.wide, c.loop-lookup-test.true)
 
 pub push_column-requires-clause-from : goal.push_column-requires-clause-from
-push_column-requires-clause-from g c = (until_there c.args.first c.args.end c.loop-lookup.fault c.rows_before-until.result c.requires.from c.rows_before-until.ensures c.loop-lookup.invariant.2).0
+push_column-requires-clause-from g c = (until_there c.args.first c.args.end c.loop-lookup.fault c.rows_before-until.result c.requires.from c.rows_before-until.ensures c.loop-lookup.invariant.3).0
 
 pub push_column-requires-clause-up_to : goal.push_column-requires-clause-up_to
 push_column-requires-clause-up_to g c =
-    let within = until_there c.args.first c.args.end c.loop-lookup.fault c.rows_before-until.result c.requires.from c.rows_before-until.ensures c.loop-lookup.invariant.2 in
+    let within = until_there c.args.first c.args.end c.loop-lookup.fault c.rows_before-until.result c.requires.from c.rows_before-until.ensures c.loop-lookup.invariant.3 in
     omega (arith, within.1, c.requires.up_to)
 
 pub push_column-requires-clause-columns : goal.push_column-requires-clause-columns
@@ -42,7 +43,7 @@ push_column-requires-clause-columns g c = λ row low high.
     let place = row - c.args.first in
     let w = window_of c.args.traces.now row in
     let held = λ (lookup : Lookup _) (columns : Vec (BranchColumns _ _) Global). HoldLookup R S g.EF.ExtensionDomain.embed c.args.challenges.now w place lookup columns.items in
-    let within = until_there c.args.first c.args.end c.loop-lookup.fault c.rows_before-until.result c.requires.from c.rows_before-until.ensures c.loop-lookup.invariant.2 in
+    let within = until_there c.args.first c.args.end c.loop-lookup.fault c.rows_before-until.result c.requires.from c.rows_before-until.ensures c.loop-lookup.invariant.3 in
     let i = c.loop-lookup.lookup-index in
     let lookup = c.lookup-item.result in
     let columns = c.index-columns-lookup.result in
@@ -60,6 +61,7 @@ loop-lookup-init g c = (
       let E = extension g.F.PrimeCharacteristicRing.ring g.F.PartialEq.eq g.EF.PrimeCharacteristicRing.ring g.EF.PartialEq.eq g.EF.ExtensionDomain.embed inverse in
       HasColumns-none E (column_denominator E c.args.challenges.now) c.args.traces.now c.args.first c.args.end c.args.ratios.now.items c.requires.none_yet,
   λ _. sound_none _ c.args.ratios.now.items c.requires.none_yet (omega arith),
+  λ _. whole_none g.EF.PrimeCharacteristicRing.ring c.args.ratios.now.items c.requires.none_yet,
   tt,
 )
 
@@ -84,7 +86,8 @@ loop-lookup-preserved g c =
           let both = neither_found fault found (sym c.or-fault.ensures ∙ none) in
           let all : c.rows_before-until.result ≡ c.args.end = until_is ∙ ap (λ (f : Option RowFault). option_map_or (λ x. x.row) f c.args.end) both.0 in
           subst (λ m. AreSound g.EF.PrimeCharacteristicRing.ring m after) (ap (λ u. i * n + (u - c.args.first)) all ∙ product_more i n) (c.in_ok-found.ensures.sound both.1 (i * n) (c.loop-lookup.invariant.1 both.0)),
-      subst (λ (f : Option RowFault). IfSome f (λ x. (c.args.first ≤ x.row) × (x.row < c.args.end))) (sym c.or-fault.ensures) (fault_there c.args.first c.args.end fault found c.loop-lookup.invariant.2 there),
+      λ bare. c.in_ok-found.ensures.bare (All-at (λ lookup. lookup.elements.items ≡ []) c.args.lookups.now i c.lookup-item.result bare c.loop-lookup-test.true c.lookup-item.is) (c.loop-lookup.invariant.2 bare),
+      subst (λ (f : Option RowFault). IfSome f (λ x. (c.args.first ≤ x.row) × (x.row < c.args.end))) (sym c.or-fault.ensures) (fault_there c.args.first c.args.end fault found c.loop-lookup.invariant.3 there),
     )
 
 pub returns-clause-answers : goal.returns-clause-answers
@@ -92,3 +95,6 @@ returns-clause-answers g c = λ inverse is_inverse.
     let E = extension g.F.PrimeCharacteristicRing.ring g.F.PartialEq.eq g.EF.PrimeCharacteristicRing.ring g.EF.PartialEq.eq g.EF.ExtensionDomain.embed inverse in
     subst (λ (ls : List (Lookup _)). AnswersColumns E (column_denominator E c.args.challenges.now) c.args.traces.now ls c.args.first c.args.end c.loop-lookup.ratios.items c.loop-lookup.fault)
     (take_all c.loop-lookup.lookup-index c.args.lookups.now (omega (arith, c.loop-lookup-test.false))) (c.loop-lookup.invariant.0 inverse is_inverse)
+
+pub returns-clause-bare : goal.returns-clause-bare
+returns-clause-bare g c = c.loop-lookup.invariant.2

@@ -1,9 +1,9 @@
 use Rattle.std.proofs.Common.{◌≡◌, ◌-◌, ◌*◌, ◌<◌, ◌≤◌, IfSome, None, take}
 use Rattle.lookup_model.specs.Denominators.{column_denominator}
 use Rattle.lookup_model.specs.Extension.{extension}
-use Rattle.lookup_generation.specs.Fraction.{AreSound}
+use Rattle.lookup_generation.specs.Fraction.{AreSound, AreWhole}
 use Rattle.lookup_generation.specs.Inverses.{ForInverses}
-use Rattle.lookup_generation.specs.Progress.{AnswersColumns}
+use Rattle.lookup_generation.specs.Progress.{AnswersColumns, HaveNoTuples}
 use Rattle.lookup_generation.proofs.generation.push_columns.Given as goal
 
 abbrev pub invariant-loop-lookup : goal.invariant-loop-lookup
@@ -12,4 +12,5 @@ invariant-loop-lookup g l =
     let E = extension g.F.PrimeCharacteristicRing.ring g.F.PartialEq.eq g.EF.PrimeCharacteristicRing.ring g.EF.PartialEq.eq g.EF.ExtensionDomain.embed inverse in
     AnswersColumns E (column_denominator E l.challenges) l.traces (take l.lookup-index l.lookups) l.first l.end l.ratios.items l.fault)
     × (l.fault ≡ None → AreSound g.EF.PrimeCharacteristicRing.ring (l.lookup-index * (l.end - l.first)) l.ratios.items)
+    × (HaveNoTuples l.lookups → AreWhole g.EF.PrimeCharacteristicRing.ring l.ratios.items)
     × IfSome l.fault (λ f. (l.first ≤ f.row) × (f.row < l.end))

@@ -85,3 +85,6 @@ push_columns-requires-clause-from g c = c.requires.from
 
 pub push_columns-requires-clause-up_to : goal.push_columns-requires-clause-up_to
 push_columns-requires-clause-up_to g c = c.requires.up_to
+
+pub returns-in_ok-put_columns-in-None-clause-bare : goal.returns-in_ok-put_columns-in-None-clause-bare
+returns-in_ok-put_columns-in-None-clause-bare g c = c.in_ok-fault.ensures.bare
