@@ -34,7 +34,7 @@ impl<F: Field> Lookups<F> {
     ghost use Rattle.lookup_packing.specs.Fewest.{AnswersDegree, HasFewestColumns};
     ghost use Rattle.lookup_packing.specs.Kept.{KeepsKeys, KeepsMessages, KeepsNets, KeepsWeight};
     ghost use Rattle.lookup_packing.specs.Packing.{Packs};
-    ghost use Rattle.lookup_packing.specs.Trials.{Answers, IsMember};
+    ghost use Rattle.lookup_packing.specs.Trials.{Answers, IsBusTrial};
 
     /// The lookups that an AIR records in a new builder with its own layout: local ones, then those
     /// on buses, then groups, each in the order of their pushes, in the columns 0, 1, 2, …
@@ -97,7 +97,8 @@ impl<F: Field> Lookups<F> {
         max_degree: usize,
         degree: D,
     ) -> Result<Self, LookupError>
-        requires callable { (lookup : _) → IsMember lookup.now → D.pre degree lookup }
+        requires callable { (lookup : _) → IsBusTrial (map fields_of (lookups_of self)) lookup.now
+            → D.pre degree lookup }
         ensures packs { Packs (Answers (FnReturnsAt D.Fn degree)) max_degree
             (λ set. map fields_of (lookups_of set)) (map fields_of (lookups_of self)) result }
         ensures weight { IfOk result (λ set. KeepsWeight (lookups_of self) (lookups_of set)) }

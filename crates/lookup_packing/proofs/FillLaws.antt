@@ -1,10 +1,11 @@
 -- A greedy filling, lookup by lookup.
-use Rattle.std.proofs.Common.{◌≡◌, ◌<◌, ◌≤◌, ◌+◌, ◌^◌, ◌⊎◌, inl, inr, ℕ, List, [], ◌∷◌, ◌++◌, Result, Ok, Err, map, refl, sym, ap, subst, ◌∙◌, arith}
+use Rattle.std.proofs.Common.{◌≡◌, ◌<◌, ◌≤◌, ◌+◌, ◌⊎◌, inl, inr, ℕ, List, [], ◌∷◌, ◌++◌, Result, Ok, Err, map, refl, sym, ap, subst, ◌∙◌, arith}
 use Rattle.std.proofs.lemmas.Grind.{flat_map-append}
 use Rattle.std.proofs.lemmas.List.{append-nil, append_assoc, map-append}
 use Rattle.std.proofs.lemmas.List.Sums.{sum_by-append, sum_by-cons}
 use Rattle.std.specs.List.{AllByRecursion, flat_map, sum_by}
 use Rattle.lookup_model.specs.Outline.{Outline}
+use Rattle.lookup_model.specs.Weight.{weight_bound}
 use Rattle.lookup_model.specs.declared.error.LookupError.{LookupError}
 use Rattle.lookup_model.specs.declared.error.LookupError.TheVariants.{CountWeightOverflow}
 use Rattle.lookup_packing.specs.Cuts.{AreClosed, IsGrown, part_items}
@@ -125,10 +126,10 @@ module _ {E : Type 0} (answers : Outline E → Result ℕ LookupError → Type 0
 
   -- a lookup joins the last column
   pub joined_column : (seen front after : List (Outline E)) (last next : Outline E) → HasLast seen front last
-      → ((n : ℕ) × answers (trial last next) (Ok n) × (n ≤ most)) → last.count_weight + next.count_weight < 2 ^ 64
+      → ((n : ℕ) × answers (trial last next) (Ok n) × (n ≤ most)) → last.count_weight + next.count_weight < weight_bound
       → after ≡ front ++ record (trial last next) { count_weight = last.count_weight + next.count_weight } ∷ [] → AreColumns (seen ++ next ∷ []) after
   joined_column seen front after last next has low small after_is =
-      let joins : Joins answers most has.part next = subst (λ (o : Outline E). ((n : ℕ) × answers (trial o next) (Ok n) × (n ≤ most)) × (o.count_weight + next.count_weight < 2 ^ 64)) (sym has.last_is) (low, small) in
+      let joins : Joins answers most has.part next = subst (λ (o : Outline E). ((n : ℕ) × answers (trial o next) (Ok n) × (n ≤ most)) × (o.count_weight + next.count_weight < weight_bound)) (sym has.last_is) (low, small) in
       record {
         cut = has.parts ++ with_next has.part next ∷ [];
         filling = (
@@ -162,7 +163,7 @@ module _ {E : Type 0} (answers : Outline E → Result ℕ LookupError → Type 0
 
   -- the filling comes to a trial that is refused
   pub stuck_at : (members seen front rest : List (Outline E)) (last next : Outline E) (e : LookupError) → HasLast seen front last → seen ++ next ∷ rest ≡ members
-      → (answers (trial last next) (Err e) ⊎ ((e ≡ CountWeightOverflow) × ((n : ℕ) × answers (trial last next) (Ok n) × (n ≤ most)) × (2 ^ 64 ≤ last.count_weight + next.count_weight)))
+      → (answers (trial last next) (Err e) ⊎ ((e ≡ CountWeightOverflow) × ((n : ℕ) × answers (trial last next) (Ok n) × (n ≤ most)) × (weight_bound ≤ last.count_weight + next.count_weight)))
       → IsStuck answers most members e
   stuck_at members seen front rest last next e has all refusal = record {
     closed = has.parts;
@@ -171,5 +172,5 @@ module _ {E : Type 0} (answers : Outline E → Result ℕ LookupError → Type 0
     rest = rest;
     members_are = sym all ∙ ap (λ t. t ++ next ∷ rest) (sym has.filling.0);
     greedy = has.filling.1;
-    refusal = subst (λ (o : Outline E). answers (trial o next) (Err e) ⊎ ((e ≡ CountWeightOverflow) × ((n : ℕ) × answers (trial o next) (Ok n) × (n ≤ most)) × (2 ^ 64 ≤ o.count_weight + next.count_weight))) (sym has.last_is) refusal;
+    refusal = subst (λ (o : Outline E). answers (trial o next) (Err e) ⊎ ((e ≡ CountWeightOverflow) × ((n : ℕ) × answers (trial o next) (Ok n) × (n ≤ most)) × (weight_bound ≤ o.count_weight + next.count_weight))) (sym has.last_is) refusal;
   }

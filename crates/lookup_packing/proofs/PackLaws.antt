@@ -13,6 +13,7 @@ use Rattle.lookup_model.specs.declared.error.LookupError.{LookupError}
 use Rattle.lookup_model.specs.declared.types.Lookup.{Lookup}
 use Rattle.lookup_packing.specs.Buses.{bus_groups, bus_names, group_of, is_named, on_bus, owned_group}
 use Rattle.lookup_packing.specs.Packing.{AreColumnsAdded, IsFillRefusal, IsFilling, IsFirstStuck, IsPacking, IsStuck, additive, joined, numbered, passing}
+use Rattle.lookup_packing.specs.Trials.{IsBusTrial, IsTrialAmong}
 use Rattle.lookup_packing.proofs.ListLaws.{AllZip-map, map_split}
 
 -- an item at its place
@@ -66,6 +67,13 @@ module _ {E : Type 0} (answers : Outline E → Result ℕ LookupError → Type 0
     filled = AllZip-map (λ bus cut. IsFilling answers most cut bus) (λ n. on_bus n (additive before)) (bus_names (additive before)) added.0 (subst (λ (t : List (List (Outline E))). AllZip (λ bus cut. IsFilling answers most cut bus) t added.0) are added.1);
     columns = after_is ∙ ap numbered (added.2 ∙ ap (λ t. t ++ flat_map (λ cut. map joined cut) added.0) front_is);
   }
+
+-- a trial of one of the groups is a trial of a bus
+pub on_a_bus : {F : Type 0} (before : List (Outline (SymbolicExpression F))) (groups : List (List (Outline (SymbolicExpression F)))) (earlier : List (List (Outline (SymbolicExpression F)))) (bus : List (Outline (SymbolicExpression F))) (later : List (List (Outline (SymbolicExpression F)))) (lookup : Lookup F)
+    → groups ≡ map (λ name. on_bus name (additive before)) (bus_names (additive before)) → groups ≡ earlier ++ bus ∷ later → IsTrialAmong bus lookup → IsBusTrial before lookup
+on_a_bus {F} before groups earlier bus later lookup groups_are split is =
+    let (names, name, others, names_are, earlier_is, name_is, later_is) = map_split (λ name. on_bus name (additive before)) (bus_names (additive before)) earlier bus later (sym groups_are ∙ split) in
+    (name, subst (λ (os : List (Outline (SymbolicExpression F))). IsTrialAmong os lookup) (sym name_is) is)
 
 module _ {F : Type 0} where
   all_groups : (P : Outline (SymbolicExpression F) → Type 0) (os : List (Outline (SymbolicExpression F))) → AllByRecursion P os → (names : List (List ℕ)) → AllByRecursion (AllByRecursion P) (map (λ name. on_bus name os) names)

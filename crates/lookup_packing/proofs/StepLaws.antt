@@ -1,9 +1,10 @@
 -- Steps of a filling, and the lookups that it takes.
 use Rattle.std.proofs.Common.{◌≡◌, inl, inr, ◌&&◌, ℕ, Bool, true, false, cond, not, List, [], ◌∷◌, ◌++◌, Option, None, Some, Result, length, map, All, refl, sym, ap, subst, ◌∙◌, arith, length-append, true≢false}
 use Rattle.std.proofs.Math.ListN.{get_or-append}
-use Rattle.std.proofs.lemmas.List.{length-map, map-append}
+use Rattle.std.proofs.lemmas.Grind.{flat_map-append}
+use Rattle.std.proofs.lemmas.List.{append-nil, length-map, map-append}
 use Rattle.std.proofs.lemmas.List.Elements.{All-cons, All-from_recursion, All-push, recursion_from_All}
-use Rattle.std.specs.List.{AllByRecursion}
+use Rattle.std.specs.List.{AllByRecursion, flat_map}
 use Rattle.std.specs.declared.alloc.Global.{Global}
 use Rattle.std.specs.declared.vec.Vec.{Vec}
 use Rattle.std.specs.Option.{is_some, option_map}
@@ -14,12 +15,13 @@ use Rattle.lookup_model.specs.Records.{HasEqualLengths}
 use Rattle.lookup_model.specs.declared.error.LookupError.{LookupError}
 use Rattle.lookup_model.specs.declared.types.Lookup.{Lookup}
 use Rattle.lookup_packing.specs.Buses.{bus_groups, is_named, on_bus, owned_group}
+use Rattle.lookup_packing.specs.Cuts.{part_items}
 use Rattle.lookup_packing.specs.Packing.{additive, is_additive}
-use Rattle.lookup_packing.specs.Trials.{IsMember, IsStep, IsTried}
+use Rattle.lookup_packing.specs.Trials.{IsMember, IsStep, IsTrial, IsTrialAmong, IsTried}
 use Rattle.lookup_packing.specs.declared.trials.Trial.TheVariants.{Apart, Joined}
 use Rattle.lookup_packing.proofs.FewestColumns.{IsPlain}
 use Rattle.lookup_packing.proofs.PackLaws.{in_groups}
-use Rattle.lookup_packing.proofs.FillLaws.{AreColumns, first_column, joined_column, last_part, next_column}
+use Rattle.lookup_packing.proofs.FillLaws.{AreColumns, HasLast, first_column, joined_column, last_part, next_column}
 
 -- columns with one more lookup
 pub stepped : {F : Type 0} (answers : Outline (SymbolicExpression F) → Result ℕ LookupError → Type 0) (most : ℕ) (seen before after : List (Outline (SymbolicExpression F))) (next : Outline (SymbolicExpression F))
@@ -27,6 +29,20 @@ pub stepped : {F : Type 0} (answers : Outline (SymbolicExpression F) → Result 
 stepped answers most seen before after next columns (inl h) = first_column answers most seen before after next columns h.0 h.1
 stepped answers most seen before after next columns (inr (front, last, is, inl h)) = joined_column answers most seen front after last next (last_part answers most seen before front last columns is) h.0 h.1 h.2
 stepped answers most seen before after next columns (inr (front, last, is, inr h)) = next_column answers most seen before front after last next (last_part answers most seen before front last columns is) is h.0 h.1
+
+-- the trial of the last column with the next lookup, of lookups that are seen and those that are left
+pub trial_among : {F : Type 0} (answers : Outline (SymbolicExpression F) → Result ℕ LookupError → Type 0) (most : ℕ) (members seen front rest : List (Outline (SymbolicExpression F))) (last next : Outline (SymbolicExpression F)) (lookup : Lookup F)
+    → HasLast answers most seen front last → seen ++ next ∷ rest ≡ members → IsTrial last next lookup → IsTrialAmong members lookup
+trial_among {F} answers most members seen front rest last next lookup has all is = record {
+  front = flat_map part_items has.parts;
+  part = has.part;
+  next = next;
+  back = rest;
+  members_are =
+      sym all
+      ∙ ap (λ t. t ++ next ∷ rest) (sym has.filling.0 ∙ flat_map-append part_items has.parts (has.part ∷ []) ∙ ap (λ t. flat_map part_items has.parts ++ t) (append-nil (part_items has.part)));
+  is_trial = subst (λ (o : Outline (SymbolicExpression F)). IsTrial o next lookup) (sym has.last_is) is;
+}
 
 pub no_flags_of : {A B : Type 0} (f : A → B) (b : Bool) (flags : Option A) → (b && not (is_some (option_map f flags))) ≡ true → flags ≡ None
 no_flags_of f b None e = refl

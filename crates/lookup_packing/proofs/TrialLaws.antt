@@ -1,16 +1,17 @@
 -- Trials: lookups with the tuples of another one behind their own.
-use Rattle.std.proofs.Common.{◌≡◌, ◌<◌, ◌≤◌, ◌+◌, ◌^◌, inl, inr, ℕ, List, ◌++◌, None, Result, Ok, Err, length, map, take, drop, refl, sym, ap, ◌∙◌, arith, length-append}
+use Rattle.std.proofs.Common.{◌≡◌, ◌<◌, ◌≤◌, ◌+◌, inl, inr, ℕ, List, ◌++◌, None, Result, Ok, Err, length, map, take, drop, refl, sym, ap, ◌∙◌, arith, length-append}
 use Rattle.std.proofs.Math.Seq.{drop-append-add, take-append_seam}
 use Rattle.std.proofs.lemmas.List.{map-append}
 use Rattle.std.specs.declared.alloc.Global.{Global}
 use Rattle.std.specs.declared.vec.Vec.{Vec}
 use Rattle.expressions.specs.declared.base_expression.SymbolicExpression.{SymbolicExpression}
 use Rattle.lookup_model.specs.Outline.{fields_of}
+use Rattle.lookup_model.specs.Weight.{weight_bound}
 use Rattle.lookup_model.specs.declared.error.LookupError.{LookupError}
 use Rattle.lookup_model.specs.declared.error.LookupError.TheVariants.{CountWeightOverflow}
 use Rattle.lookup_model.specs.declared.types.Lookup.{Lookup}
 use Rattle.lookup_packing.specs.Packing.{trial}
-use Rattle.lookup_packing.specs.Trials.{Answers, IsMember, IsTrialRefusal, IsTried}
+use Rattle.lookup_packing.specs.Trials.{Answers, IsMember, IsTrial, IsTrialRefusal, IsTried}
 use Rattle.lookup_packing.specs.declared.trials.Trial.TheVariants.{Apart, Joined}
 
 module _ {A : Type 0} where
@@ -53,19 +54,19 @@ module _ {F : Type 0} where
     answer_is r returned = (with_tuples column elements multiplicities, trial_is, trial_member.lengths, returned)
 
     -- the closure may be asked about the trial
-    pub asked : IsMember (with_tuples column elements multiplicities)
-    asked = trial_member
+    pub asked : IsTrial (fields_of column) (fields_of next) (with_tuples column elements multiplicities)
+    asked = record { member = trial_member; fields_are = trial_is }
 
     -- what the closure refuses
     pub refused : (e : LookupError) → returns (with_tuples column elements multiplicities) (Err e) → IsTrialRefusal (Answers returns) most (fields_of column) (fields_of next) e
     refused e returned = inl (answer_is (Err e) returned)
 
     -- a sum of weights that does not fit
-    pub overflown : (n : ℕ) → returns (with_tuples column elements multiplicities) (Ok n) → n ≤ most → 2 ^ 64 ≤ column.count_weight + next.count_weight → IsTrialRefusal (Answers returns) most (fields_of column) (fields_of next) CountWeightOverflow
+    pub overflown : (n : ℕ) → returns (with_tuples column elements multiplicities) (Ok n) → n ≤ most → weight_bound ≤ column.count_weight + next.count_weight → IsTrialRefusal (Answers returns) most (fields_of column) (fields_of next) CountWeightOverflow
     overflown n returned le wide = inr (refl, (n, answer_is (Ok n) returned, le), wide)
 
     -- both in one
-    pub joined_both : (n sum : ℕ) → returns (with_tuples column elements multiplicities) (Ok n) → n ≤ most → sum ≡ column.count_weight + next.count_weight → column.count_weight + next.count_weight < 2 ^ 64
+    pub joined_both : (n sum : ℕ) → returns (with_tuples column elements multiplicities) (Ok n) → n ≤ most → sum ≡ column.count_weight + next.count_weight → column.count_weight + next.count_weight < weight_bound
         → IsTried (Answers returns) most column next (Joined (record (with_tuples column elements multiplicities) { count_weight = sum }))
     joined_both n sum returned le sum_is small = (
       member_of (record (with_tuples column elements multiplicities) { count_weight = sum }) as_long first.no_flags,

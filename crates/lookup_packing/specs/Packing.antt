@@ -1,8 +1,9 @@
 -- Packing: the lookups of each bus in as few columns as a greedy filling takes.
-use Rattle.std.specs.Prelude.{◌≡◌, ◌<◌, ◌≤◌, ◌+◌, ◌^◌, ◌⊎◌, ◌&&◌, ℕ, Bool, not, List, [], ◌∷◌, ◌++◌, map, Result, Ok, Err, MatchResult}
+use Rattle.std.specs.Prelude.{◌≡◌, ◌<◌, ◌≤◌, ◌+◌, ◌⊎◌, ◌&&◌, ℕ, Bool, not, List, [], ◌∷◌, ◌++◌, map, Result, Ok, Err, MatchResult}
 use Rattle.std.specs.List.{AllZip, enumerate_from, filter, flat_map, sum_by}
 use Rattle.std.specs.Option.{is_some}
 use Rattle.lookup_model.specs.Outline.{Outline}
+use Rattle.lookup_model.specs.Weight.{weight_bound}
 use Rattle.lookup_model.specs.declared.error.LookupError.{LookupError}
 use Rattle.lookup_model.specs.declared.error.LookupError.TheVariants.{Memory, CountWeightOverflow}
 use Rattle.lookup_packing.specs.Buses.{bus_names, on_bus}
@@ -56,7 +57,7 @@ module _ {E : Type 0} where
 
     -- A lookup joins a part: the trial is within the degree, and the weights have a sum that fits.
     abbrev pub Joins : Outline E × List (Outline E) → Outline E → Type 0
-    Joins part next = IsWithin part next × ((joined part).count_weight + next.count_weight < 2 ^ 64)
+    Joins part next = IsWithin part next × ((joined part).count_weight + next.count_weight < weight_bound)
 
     -- A greedy cut of the lookups of one bus, by the answers to its trials.
     abbrev pub IsFilling : List (Outline E × List (Outline E)) → List (Outline E) → Type 0
@@ -72,7 +73,7 @@ module _ {E : Type 0} where
       pub members_are : members ≡ flat_map part_items (closed ++ part ∷ []) ++ next ∷ rest
       pub greedy : AreGreedy Joins IsAbove (closed ++ part ∷ [])
       pub refusal : answers (trial (joined part) next) (Err e)
-          ⊎ ((e ≡ CountWeightOverflow) × IsWithin part next × (2 ^ 64 ≤ (joined part).count_weight + next.count_weight))
+          ⊎ ((e ≡ CountWeightOverflow) × IsWithin part next × (weight_bound ≤ (joined part).count_weight + next.count_weight))
 
     -- Columns with those of each bus of a list behind them, each with its greedy cut; and the refusal
     -- of the first bus of a list whose filling is refused.

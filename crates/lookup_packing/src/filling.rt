@@ -3,7 +3,7 @@ ghost use Rattle.std.specs.Prelude.{◌≡◌, ◌⊎◌, ◌∷◌, ◌++◌, [
 ghost use Rattle.std.specs.Fn.{FnReturnsAt};
 ghost use Rattle.lookup_model.specs.Outline.{fields_of};
 ghost use Rattle.lookup_packing.specs.Packing.{IsFilling, IsStuck, joined};
-ghost use Rattle.lookup_packing.specs.Trials.{Answers, IsMember, IsStep, IsTrialRefusal};
+ghost use Rattle.lookup_packing.specs.Trials.{Answers, IsMember, IsStep, IsTrial, IsTrialAmong, IsTrialRefusal};
 
 use crate::trials::{Trial, tried};
 use field::Field;
@@ -20,7 +20,8 @@ pub(crate) fn filled<F: Field, D: Fn(&Lookup<F>) -> Result<usize, LookupError>>(
     max_degree: usize,
     degree: &D,
 ) -> Result<Vec<Lookup<F>>, LookupError>
-    requires callable { (lookup : _) → IsMember lookup.now → D.pre degree.now lookup }
+    requires callable { (lookup : _) → IsTrialAmong (map fields_of members.items) lookup.now
+        → D.pre degree.now lookup }
     requires members { All IsMember members.items }
     ensures { MatchResult result
         (λ columns. All IsMember columns.items
@@ -44,7 +45,9 @@ fn with_next<F: Field, D: Fn(&Lookup<F>) -> Result<usize, LookupError>>(
     max_degree: usize,
     degree: &D,
 ) -> Result<Vec<Lookup<F>>, LookupError>
-    requires callable { (lookup : _) → IsMember lookup.now → D.pre degree.now lookup }
+    requires callable { (front : _) (last : _) (lookup : _)
+        → map fields_of columns.items ≡ front ++ last ∷ []
+        → IsTrial last (fields_of next) lookup.now → D.pre degree.now lookup }
     requires columns { All IsMember columns.items }
     requires next { IsMember next }
     ensures { MatchResult result

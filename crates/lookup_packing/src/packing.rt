@@ -1,12 +1,12 @@
 //! Packing a list of lookups.
-ghost use Rattle.std.specs.Prelude.{◌≡◌, ◌⊎◌, All, IfOk, MatchResult, map};
+ghost use Rattle.std.specs.Prelude.{◌≡◌, ◌⊎◌, ◌++◌, ◌∷◌, All, IfOk, MatchResult, map};
 ghost use Rattle.std.specs.Fn.{FnReturnsAt};
 ghost use Rattle.lookup_model.specs.Outline.{fields_of};
 ghost use Rattle.lookup_model.specs.Records.{AreRecords, HasEqualLengths};
 ghost use Rattle.lookup_packing.specs.Buses.{owned_group};
 ghost use Rattle.lookup_packing.specs.Kept.{KeepsKeys, KeepsMessages, KeepsNets, KeepsWeight};
 ghost use Rattle.lookup_packing.specs.Packing.{AreColumnsAdded, IsFirstStuck, Packs, additive, is_additive, numbered, passing};
-ghost use Rattle.lookup_packing.specs.Trials.{Answers, IsMember};
+ghost use Rattle.lookup_packing.specs.Trials.{Answers, IsBusTrial, IsMember, IsTrialAmong};
 
 use crate::bus_widths::assert_bus_widths;
 use crate::buses::moved_by_bus;
@@ -40,7 +40,8 @@ pub fn packed<F: Field, D: Fn(&Lookup<F>) -> Result<usize, LookupError>>(
     max_degree: usize,
     degree: D,
 ) -> Result<Vec<Lookup<F>>, LookupError>
-    requires callable { (lookup : _) → IsMember lookup.now → D.pre degree lookup }
+    requires callable { (lookup : _) → IsBusTrial (map fields_of lookups.items) lookup.now
+        → D.pre degree lookup }
     requires lengths { All HasEqualLengths lookups.items }
     ensures packs { Packs (Answers (FnReturnsAt D.Fn degree)) max_degree
         (λ v. map fields_of v.items) (map fields_of lookups.items) result }
@@ -100,7 +101,9 @@ fn with_buses<F: Field, D: Fn(&Lookup<F>) -> Result<usize, LookupError>>(
     max_degree: usize,
     degree: &D,
 ) -> Result<Vec<Lookup<F>>, LookupError>
-    requires callable { (lookup : _) → IsMember lookup.now → D.pre degree.now lookup }
+    requires callable { (earlier : _) (bus : _) (later : _) (lookup : _)
+        → map owned_group buses.items ≡ earlier ++ bus ∷ later → IsTrialAmong bus lookup.now
+        → D.pre degree.now lookup }
     requires columns { All HasEqualLengths columns.items }
     requires buses { All (λ bus. All IsMember bus.items) buses.items }
     ensures { MatchResult result

@@ -2,7 +2,7 @@
 ghost use Rattle.std.specs.Prelude.{◌≡◌, ◌<◌, ◌⊎◌, None, MatchResult};
 ghost use Rattle.std.specs.Fn.{FnReturnsAt};
 ghost use Rattle.lookup_model.specs.Outline.{fields_of};
-ghost use Rattle.lookup_packing.specs.Trials.{Answers, IsMember, IsTried, IsTrialRefusal};
+ghost use Rattle.lookup_packing.specs.Trials.{Answers, IsMember, IsTrial, IsTried, IsTrialRefusal};
 
 use field::Field;
 use lookup_model::{Lookup, LookupError};
@@ -28,7 +28,8 @@ pub(crate) fn tried<F: Field, D: Fn(&Lookup<F>) -> Result<usize, LookupError>>(
     max_degree: usize,
     degree: &D,
 ) -> Result<Trial<F>, LookupError>
-    requires callable { (lookup : _) → IsMember lookup.now → D.pre degree.now lookup }
+    requires callable { (lookup : _)
+        → IsTrial (fields_of column) (fields_of next) lookup.now → D.pre degree.now lookup }
     requires column { IsMember column }
     requires next { IsMember next }
     ensures { MatchResult result

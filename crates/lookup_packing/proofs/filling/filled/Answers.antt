@@ -11,7 +11,7 @@ use Rattle.lookup_packing.specs.Packing.{IsFilling}
 use Rattle.lookup_packing.specs.Trials.{Answers, IsMember}
 use Rattle.lookup_packing.proofs.FillLaws.{AreColumns, last_part, no_columns, stuck_at}
 use Rattle.lookup_packing.proofs.ListLaws.{all_seen, seen_more}
-use Rattle.lookup_packing.proofs.StepLaws.{stepped}
+use Rattle.lookup_packing.proofs.StepLaws.{stepped, trial_among}
 use Rattle.lookup_packing.proofs.filling.filled.Goals as goal
 
 pub loop-next-init : goal.loop-next-init
@@ -59,4 +59,7 @@ returns g c =
     (inv.members, (inv.columns.cut, subst (λ (t : List (Outline (SymbolicExpression g.row.F.Denot))). IsFilling (Answers (FnReturnsAt g.D.Fn c.args.degree.now)) c.args.max_degree inv.columns.cut t) whole inv.columns.filling, inv.columns.columns_are))
 
 pub with_next-requires-clause-callable : goal.with_next-requires-clause-callable
-with_next-requires-clause-callable g c = c.requires.callable
+with_next-requires-clause-callable g c =
+    let inv = c.loop-next.invariant in
+    λ front last lookup columns is. c.requires.callable lookup (trial_among (Answers (FnReturnsAt g.D.Fn c.args.degree.now)) c.args.max_degree (map fields_of c.args.members.items) inv.seen front (map fields_of (into_iter_items c.next.new.self)) last (fields_of c.in-Some.next) lookup.now
+    (last_part (Answers (FnReturnsAt g.D.Fn c.args.degree.now)) c.args.max_degree inv.seen (map fields_of c.loop-next.columns.items) front last inv.columns columns) (ap (λ t. inv.seen ++ map fields_of t) (sym c.in-Some.ensures.steps.0) ∙ inv.all) is)

@@ -29,7 +29,7 @@ returns g c =
     ]
 
 pub tried-requires-clause-callable : goal.tried-requires-clause-callable
-tried-requires-clause-callable g c = c.requires.callable
+tried-requires-clause-callable g c = λ lookup is. c.requires.callable (map fields_of c.pop.new.self.items) (fields_of c.in-Some.last) lookup (popped c.args.columns.items c.pop.new.self.items c.in-Some.last c.in-Some.ensures.items) is
 
 pub tried-requires-clause-next : goal.tried-requires-clause-next
 tried-requires-clause-next g c = c.requires.next

@@ -3,12 +3,12 @@ use Rattle.std.proofs.lemmas.Result.{err_from_is_err_and}
 use Rattle.std.specs.Fn.{FnReturnsAt}
 use Rattle.lookup_model.specs.Outline.{fields_of}
 use Rattle.lookup_model.specs.declared.types.Lookup.{Lookup}
-use Rattle.lookup_packing.specs.Buses.{bus_names, on_bus}
+use Rattle.lookup_packing.specs.Buses.{bus_names, on_bus, owned_group}
 use Rattle.lookup_packing.specs.BusWidths.{HaveBusWidths}
 use Rattle.lookup_packing.specs.Trials.{Answers}
 use Rattle.lookup_packing.proofs.KeptLaws.{kept_messages, kept_nets, kept_weight}
 use Rattle.lookup_packing.proofs.SameKeys.{kept_keys}
-use Rattle.lookup_packing.proofs.PackLaws.{all_packed, fill_refusal, groups_of}
+use Rattle.lookup_packing.proofs.PackLaws.{all_packed, fill_refusal, groups_of, on_a_bus}
 use Rattle.lookup_packing.proofs.StepLaws.{buses_members}
 use Rattle.lookup_packing.proofs.packing.packed.Goals as goal
 
@@ -51,4 +51,5 @@ pub parted-requires : goal.parted-requires
 parted-requires g c = c.requires.lengths
 
 pub with_buses-requires-clause-callable : goal.with_buses-requires-clause-callable
-with_buses-requires-clause-callable g c = c.requires.callable
+with_buses-requires-clause-callable g c =
+    λ earlier bus later lookup are is. c.requires.callable lookup (on_a_bus (map fields_of c.args.lookups.items) (map owned_group c.in_ok-buses.buses.items) earlier bus later lookup.now (c.in_ok-buses.ensures ∙ groups_of (map fields_of c.in_ok-columns.additive.items) ∙ ap (λ os. map (λ name. on_bus name os) (bus_names os)) c.in_ok-columns.ensures.2) are is)

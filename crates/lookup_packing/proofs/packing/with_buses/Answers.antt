@@ -68,4 +68,6 @@ returns g c =
     (inv.lengths, (inv.added.0, subst (λ (t : List (List (Outline (SymbolicExpression g.row.F.Denot)))). AllZip (λ bus cut. IsFilling (Answers (FnReturnsAt g.D.Fn c.args.degree.now)) c.args.max_degree cut bus) t inv.added.0) whole inv.added.1, inv.added.2))
 
 pub filled-requires-clause-callable : goal.filled-requires-clause-callable
-filled-requires-clause-callable g c = c.requires.callable
+filled-requires-clause-callable g c =
+    let inv = c.loop-members.invariant in
+    λ lookup is. c.requires.callable inv.seen (owned_group c.in-Some.members) (map owned_group (into_iter_items c.next.new.self)) lookup (sym (ap (λ t. inv.seen ++ map owned_group t) (sym c.in-Some.ensures.steps.0) ∙ inv.all)) is

@@ -1,6 +1,7 @@
-use Rattle.std.proofs.Common.{◌≡◌, ◌<◌, ◌≤◌, ◌+◌, ◌^◌, inl, inr, refl, length, arith}
+use Rattle.std.proofs.Common.{◌≡◌, ◌<◌, ◌≤◌, ◌+◌, inl, inr, refl, length, arith}
 use Rattle.std.proofs.lemmas.Result.{err_from_is_err_and}
 use Rattle.std.specs.Fn.{FnReturnsAt}
+use Rattle.lookup_model.specs.Weight.{weight_bound}
 use Rattle.lookup_packing.proofs.TrialLaws.{joined_both, overflown, refused, set_apart}
 use Rattle.lookup_packing.proofs.trials.tried.Goals as goal
 
@@ -12,12 +13,12 @@ returns-in_err-answer g c =
 pub returns-in-Some : goal.returns-in-Some
 returns-in-Some g c =
     let sum : c.in-Some.sum ≡ c.args.column.count_weight + c.args.next.count_weight = omega (arith, c.in-Some.ensures) in
-    let small : c.args.column.count_weight + c.args.next.count_weight < 2 ^ 64 = omega (arith, c.in-Some.ensures) in
+    let small : c.args.column.count_weight + c.args.next.count_weight < weight_bound = omega (arith, c.in-Some.ensures) in
     joined_both (FnReturnsAt g.D.Fn c.args.degree.now) c.args.max_degree c.args.column c.args.next c.requires.column c.requires.next c.append.new.self c.append-2.new.self c.in_ok-append.ensures.items c.in_ok-append-2.ensures.items c.in_ok-answer.answer c.in-Some.sum (record { shown = _; shows = refl; says = record { met = c.in_ok-answer.ensures } }) (omega (arith, c.if-answer-max_degree.true)) sum small
 
 pub returns-in-None : goal.returns-in-None
 returns-in-None g c =
-    let wide : 2 ^ 64 ≤ c.args.column.count_weight + c.args.next.count_weight = omega (arith, c.in-None.ensures) in
+    let wide : weight_bound ≤ c.args.column.count_weight + c.args.next.count_weight = omega (arith, c.in-None.ensures) in
     inr (overflown (FnReturnsAt g.D.Fn c.args.degree.now) c.args.max_degree c.args.column c.args.next c.requires.column c.requires.next c.append.new.self c.append-2.new.self c.in_ok-append.ensures.items c.in_ok-append-2.ensures.items c.in_ok-answer.answer (record { shown = _; shows = refl; says = record { met = c.in_ok-answer.ensures } }) (omega (arith, c.if-answer-max_degree.true)) wide)
 
 pub returns-in_ok-next-2 : goal.returns-in_ok-next-2
