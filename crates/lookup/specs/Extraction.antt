@@ -6,6 +6,7 @@ use Rattle.expressions.specs.declared.layout.AirLayout.{AirLayout}
 use Rattle.lookup_model.specs.LookupDegree.{greatest}
 use Rattle.lookup_model.specs.Outline.{Outline, fields_of}
 use Rattle.lookup_model.specs.Refusal.{from_air}
+use Rattle.lookup_model.specs.Weight.{weight_bound}
 use Rattle.lookup_model.specs.declared.error.LookupError.{LookupError}
 use Rattle.lookup_model.specs.declared.error.LookupError.TheVariants.{Memory, CountWeightOverflow}
 use Rattle.lookup_builder.specs.Interaction.{Tuple, GlobalInteraction, ExclusiveInteraction}
@@ -71,15 +72,15 @@ module _ {E : Type 0} where
 
   -- the weights of a local interaction have a sum that fits, and its tuples have the same width
   pub record IsFaultless (tuples : List (Tuple E)) : Type 0 where
-    pub weight : sum_by (λ t. t.weight) tuples < 18446744073709551616
+    pub weight : sum_by (λ t. t.weight) tuples < weight_bound
     pub width : ℕ
     pub widths : All (λ t. length t.fields ≡ width) tuples
 
   -- the refusal of a local interaction: for its weight first, then for its widths
   abbrev pub IsLocalRefusal : List (Tuple E) → LookupError → Type 0
   IsLocalRefusal tuples e =
-      ((18446744073709551616 ≤ sum_by (λ t. t.weight) tuples) × (e ≡ CountWeightOverflow))
-      ⊎ ((sum_by (λ t. t.weight) tuples < 18446744073709551616)
+      ((weight_bound ≤ sum_by (λ t. t.weight) tuples) × (e ≡ CountWeightOverflow))
+      ⊎ ((sum_by (λ t. t.weight) tuples < weight_bound)
       × ((width : ℕ) × (other : ℕ) × HasOtherWidth (tuple_widths tuples) width other × IsTupleWidths local_context width other e))
 
   -- the refusal of the first local interaction that has a fault

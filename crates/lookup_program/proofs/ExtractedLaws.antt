@@ -18,6 +18,7 @@ use Rattle.lookup_model.specs.declared.error.LookupError.{LookupError}
 use Rattle.lookup_model.specs.declared.error.LookupError.TheVariants.{Memory}
 use Rattle.lookup_builder.proofs.Elements.{all_of_map}
 use Rattle.lookup_builder.specs.Interaction.{Interaction, exclusive, global, local}
+use Rattle.lookup_model.specs.Weight.{weight_bound}
 use Rattle.lookup_record.specs.RecordedAir.{EvaluatesNew, RecordedAir, no_air_recorded, recorded_air, with_interaction}
 use Rattle.lookup_record.specs.RecordedWithin.{EvaluatesWithin, PushedWithin}
 use Rattle.lookup_record.specs.declared.symbolic.InteractionSymbolicBuilder.{InteractionSymbolicBuilder}
@@ -34,7 +35,7 @@ use Rattle.lookup_program.specs.declared.airs.MachineAir.TheVariants.{Entries, G
 use Rattle.lookup_program.proofs.AirLaws.{one_item}
 
 -- the weight of an AIR's lookup is small
-light : (air : MachineAir) → (air_bus_and_weight air).1 < 18446744073709551616
+light : (air : MachineAir) → (air_bus_and_weight air).1 < weight_bound
 light RangeCheck = omega arith
 light Keys = omega arith
 light Entries = omega arith

@@ -6,6 +6,7 @@ use Rattle.std.specs.List.{sum_by}
 use Rattle.std.specs.Vec.Iter.{into_iter_items}
 use Rattle.lookup_builder.specs.Pushed.{tuple_of}
 use Rattle.lookup_builder.specs.Records.{local_of}
+use Rattle.lookup_model.specs.Weight.{weight_bound}
 use Rattle.lookup_packing.specs.TupleWidths.{HasOtherWidth}
 use Rattle.lookup.proofs.ExtractionLaws.{passed, same_lengths, same_widths, whole_list, widths_of_tuples}
 use Rattle.lookup.proofs.extraction.local_lookup.Goals as goal
@@ -21,7 +22,7 @@ returns-in_err-assert_uniform_tuple_width g c =
     let tuples = local_of c.args.interaction in
     let invariant = c.loop-fields.invariant in
     let elements = whole_list (λ t. t.fields) _ _ left none invariant.0 in
-    let weight : sum_by (λ t. t.weight) tuples < 18446744073709551616 =
+    let weight : sum_by (λ t. t.weight) tuples < weight_bound =
     omega (arith, invariant.2, invariant.3, ap (λ ts. sum_by (λ t. t.weight) ts) none) in
     let p = err_from_is_err_and c.from_residual-in_err-assert_uniform_tuple_width.result c.from_residual-in_err-assert_uniform_tuple_width.ensures.1 in
     rw (p.1, p.2) (elim c.in_err-assert_uniform_tuple_width.ensures [
