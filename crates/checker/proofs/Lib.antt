@@ -3,6 +3,7 @@ pub mod CountLaws
 pub mod IdLaws
 pub mod Layouts
 pub mod MadeTables
+pub mod PackedBatches
 pub mod ResultLaws
 pub mod RowLaws
 pub mod WitnessLaws

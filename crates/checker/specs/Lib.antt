@@ -1,5 +1,6 @@
 pub mod Checks
 pub mod Collected
 pub mod Identified
+pub mod Packed
 pub mod Results
 pub mod Rows

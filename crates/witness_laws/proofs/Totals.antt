@@ -54,7 +54,7 @@ module _ {F K : Type 0} {E : Extension F K} (laws : IsLawful E) (table : Challen
   no_messages f none (r ∷ rs) = λ i. flat_map (λ s. s.messages) (none r i) ++ no_messages f none rs i
 
   -- the terminal of an AIR, zero without lookups
-  terminal_is : (instance : Instance F) → terminal_value E.ring (plain_result E table instance).1 ≡ message_sum laws den (messages_of instance)
+  pub terminal_is : (instance : Instance F) → terminal_value E.ring (plain_result E table instance).1 ≡ message_sum laws den (messages_of instance)
   terminal_is instance = by_lookups instance.lookups
     where
       rows : List (Lookup F) → List (List (Sent F))

@@ -1,0 +1,80 @@
+-- What packing keeps of the AIRs of a batch holds of the whole batch.
+use Rattle.std.proofs.Common.{◌≡◌, ◌≢◌, ◌⊎◌, inl, inr, Bool, List, [], ◌∷◌, Option, sym, ap, subst, ◌∙◌, Decides}
+use Rattle.std.proofs.lemmas.List.Elements.{All-from_recursion, recursion_from_All}
+use Rattle.std.proofs.lemmas.List.Sorted.{All-permutation, IsPermutation-append, IsPermutation-refl, length_permutation}
+use Rattle.std.specs.List.{AllByRecursion, AllZip}
+use Rattle.std.specs.List.Sorted.{IsPermutation}
+use Rattle.field.specs.Ring.{Ring}
+use Rattle.matrix.specs.Matrix.{Matrix}
+use Rattle.lookup_model.specs.Challenges.{ChallengeTable, table_denominator}
+use Rattle.lookup_model.specs.Extension.{Extension, IsLawful}
+use Rattle.lookup_model.specs.Message.{Message}
+use Rattle.lookup_model.specs.Plain.{quotient, trace_messages}
+use Rattle.lookup_model.specs.Terminals.{terminal_value}
+use Rattle.lookup_model.specs.Trace.{sent_rows_under}
+use Rattle.lookup_packing.proofs.KeptLaws.{trace_kept}
+use Rattle.lookup_packing.proofs.RearrangedSums.{sum_in-permutation}
+use Rattle.lookup_packing.proofs.SameKeys.{keys-permutation}
+use Rattle.batch_model.specs.Instances.{Instance, IsFitting}
+use Rattle.batch_model.specs.Messages.{NoneVanishes, batch_messages, id_of, sent_rows_of}
+use Rattle.batch_model.specs.Witnesses.{AirResult, plain_result, plain_witness}
+use Rattle.witness_laws.proofs.OnlyWitness.{only_witness}
+use Rattle.witness_laws.proofs.Totals.{terminal_is}
+use Rattle.checker.specs.Packed.{ArePacked, IsPacked, KeepsCounts, KeepsTerminals}
+
+module _ {F : Type 0} (R : Ring F) (eq : F → F → Bool) where
+  -- an AIR sends the messages of before, in some order
+  one_kept : (before after : Instance F) → (after ≡ before) ⊎ IsPacked R eq before after → IsPermutation (trace_messages (sent_rows_of R eq before)) (trace_messages (sent_rows_of R eq after))
+  one_kept before after (inl same) =
+      subst (λ (i : Instance F). IsPermutation (trace_messages (sent_rows_of R eq before)) (trace_messages (sent_rows_of R eq i))) (sym same) (IsPermutation-refl (trace_messages (sent_rows_of R eq before)))
+  one_kept before after (inr packed) =
+      let Same : Matrix F → Option (Matrix F) → List F → Type 0 = λ main preprocessed public_values.
+      IsPermutation (trace_messages (sent_rows_of R eq before)) (trace_messages (sent_rows_under R eq (id_of after.ids) main preprocessed public_values after.lookups)) in
+      subst (λ (m : Matrix F). Same m after.preprocessed after.public_values) (sym packed.main)
+      (subst (λ (p : Option (Matrix F)). Same before.main p after.public_values) (sym packed.preprocessed)
+      (subst (λ (v : List F). Same before.main before.preprocessed v) (sym packed.public_values)
+      (trace_kept R eq before.lookups after.lookups packed.messages (id_of before.ids) (id_of after.ids) packed.ids before.main before.preprocessed before.public_values)))
+
+  -- so does the whole batch
+  batch_kept : (before after : List (Instance F)) → ArePacked R eq before after → IsPermutation (batch_messages R eq before) (batch_messages R eq after)
+  batch_kept [] [] packed = IsPermutation-refl []
+  batch_kept [] (a ∷ as) packed = absurd packed
+  batch_kept (b ∷ bs) [] packed = absurd packed
+  batch_kept (b ∷ bs) (a ∷ as) packed = IsPermutation-append _ _ _ _ (one_kept b a packed.0) (batch_kept bs as packed.1)
+
+module _ {F K : Type 0} {E : Extension F K} (laws : IsLawful E) where
+  -- the counts stay
+  pub kept_counts : (before after : List (Instance F)) → ArePacked E.base E.base_eq before after → KeepsCounts E before after
+  kept_counts before after packed =
+      let same = keys-permutation laws.base E.base_eq laws.base_eq (batch_messages E.base E.base_eq before) (batch_messages E.base E.base_eq after) (batch_kept E.base E.base_eq before after packed) in record {
+        messages = length_permutation _ _ same.all;
+        unbalanced = length_permutation _ _ same.unbalanced;
+      }
+
+  module _ (table : ChallengeTable K) where
+    -- the plain terminal of each AIR stays
+    plain_kept : (before after : List (Instance F)) → ArePacked E.base E.base_eq before after
+        → AllZip (λ r s. terminal_value E.ring s.1 ≡ terminal_value E.ring r.1) (plain_witness E table before) (plain_witness E table after)
+    plain_kept [] [] packed = tt
+    plain_kept [] (a ∷ as) packed = absurd packed
+    plain_kept (b ∷ bs) [] packed = absurd packed
+    plain_kept (b ∷ bs) (a ∷ as) packed = (
+      terminal_is laws table a
+          ∙ sum_in-permutation laws.ring (λ (m : Message F). quotient E (table_denominator E table) m.multiplicity m.key) _ _ (one_kept E.base E.base_eq b a packed.0)
+          ∙ sym (terminal_is laws table b),
+      plain_kept bs as packed.1,
+    )
+
+    -- no denominator of the packed batch vanishes
+    none_kept : (before after : List (Instance F)) → ArePacked E.base E.base_eq before after → NoneVanishes E (table_denominator E table) (batch_messages E.base E.base_eq before) → NoneVanishes E (table_denominator E table) (batch_messages E.base E.base_eq after)
+    none_kept before after packed none =
+        let Nonzero = λ (m : Message F). table_denominator E table m.key ≢ E.ring.zero in
+        recursion_from_All Nonzero _ (All-permutation Nonzero _ _ (batch_kept E.base E.base_eq before after packed) (All-from_recursion Nonzero _ none))
+
+  -- the terminals stay
+  pub kept_terminals : (before after : List (Instance F)) → AllByRecursion IsFitting before → AllByRecursion IsFitting after → ArePacked E.base E.base_eq before after → KeepsTerminals E before after
+  kept_terminals before after fitting fitting_after packed table regular lawful witness other satisfied satisfied_after =
+      let first : witness ≡ plain_witness E table before = only_witness laws table before fitting regular.flags regular.denominators witness satisfied in
+      let second : other ≡ plain_witness E table after = only_witness laws table after fitting_after lawful (none_kept table before after packed regular.denominators) other satisfied_after in
+      let Same = λ (r s : AirResult K). terminal_value E.ring s.1 ≡ terminal_value E.ring r.1 in
+      subst (λ (w : List (AirResult K)). AllZip Same w other) (sym first) (subst (λ (w : List (AirResult K)). AllZip Same (plain_witness E table before) w) (sym second) (plain_kept table before after packed))
