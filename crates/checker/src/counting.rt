@@ -23,7 +23,8 @@ use std::alloc::Global;
 ///
 /// Refuses the first fault of flags of the first AIR that has one, in the order row, lookup: a flag
 /// that is neither zero nor one, then more than one set flag. Refuses `CountOverflow`, of no AIR,
-/// if the bound of bad betas does not fit. Out of memory is refused for no AIR.
+/// if the bound of bad betas does not fit. Out of memory is refused for no AIR; once the messages are
+/// counted, `soundness_of_counts` answers, which needs none.
 pub fn soundness_count<F: Field, EF: ExtensionField<F>>(
     alloc: Global,
     instances: &[BatchInstance<'_, F>],
@@ -46,7 +47,7 @@ pub fn soundness_count<F: Field, EF: ExtensionField<F>>(
 {
     let messages = collected(alloc, instances)?;
     let (keys, unbalanced) = key_counts(alloc, messages.as_slice())?;
-    counted(keys, unbalanced, max_message_width)
+    soundness_of_counts(keys, unbalanced, max_message_width)
 }
 
 /// All messages of a batch.
@@ -88,8 +89,16 @@ fn push_instance<F: Field>(
     )
 }
 
-/// The counts from the two numbers of keys.
-fn counted(keys: usize, unbalanced: usize, width: usize) -> Result<SoundnessCount, BatchFault>
+/// The counts of a batch whose messages are counted: the last step of `soundness_count`, which needs no
+/// memory. `keys` is the number of distinct messages, and `unbalanced` that of those that do not
+/// balance; the challenges are made for tuples of at most `width` elements.
+///
+/// Refuses `CountOverflow`, of no AIR, exactly if the bound of bad betas does not fit.
+pub fn soundness_of_counts(
+    keys: usize,
+    unbalanced: usize,
+    width: usize,
+) -> Result<SoundnessCount, BatchFault>
     ensures { IsCountOf keys unbalanced width result }
 {
     let messages = keys as u128;

@@ -3,21 +3,24 @@
 //! `instances_fit` and `ids_are_lawful` test what the other calls require. `generate_batch` makes the
 //! witness of a batch, and `check_witness` says whether a witness, whoever made it, is accepted.
 //! `soundness_count` bounds the challenges at which one can be, if the messages do not balance;
-//! `counted_soundness` says the same of every batch. docs/HEADLINE.md joins their contracts.
+//! `counted_soundness` says the same of every batch, and `packing_keeps_batch` that packing changes neither
+//! count. docs/HEADLINE.md joins their contracts.
 #![tactic(auto)]
 
 mod counting;
 mod generation;
 mod ids;
 mod instances;
+mod packing;
 mod rows;
 mod soundness;
 mod witness;
 
 pub use batch_model::{BatchFault, BatchInstance, SoundnessCount, Witness};
-pub use counting::soundness_count;
+pub use counting::{soundness_count, soundness_of_counts};
 pub use generation::generate_batch;
 pub use ids::ids_are_lawful;
 pub use instances::instances_fit;
+pub use packing::packing_keeps_batch;
 pub use soundness::{accepted_is_accepting, counted_soundness};
 pub use witness::check_witness;

@@ -23,9 +23,9 @@ returns-clause-answer g c =
     let lawful : AreFlagsLawful E.base E.base_eq instances = lawful_flags E.base E.base_eq instances c.in_ok-messages.ensures.1 in
     let n : c.in_ok-keys.keys ≡ message_count E instances = c.in_ok-keys.ensures.all ∙ ap (λ ms. length (keys E.base_eq ms)) is in
     let k : c.in_ok-keys.unbalanced ≡ unbalanced_count E instances = c.in_ok-keys.ensures.unbalanced ∙ ap (λ ms. length (unbalanced_keys E.base E.base_eq ms)) is in
-    let counted : IsCountOf (message_count E instances) (unbalanced_count E instances) c.args.max_message_width c.counted.result =
-    subst₂ (λ (a b : ℕ). IsCountOf a b c.args.max_message_width c.counted.result) n k c.counted.ensures in
-    MatchResult-weaker c.counted.result counted
+    let counted : IsCountOf (message_count E instances) (unbalanced_count E instances) c.args.max_message_width c.soundness_of_counts.result =
+    subst₂ (λ (a b : ℕ). IsCountOf a b c.args.max_message_width c.soundness_of_counts.result) n k c.soundness_of_counts.ensures in
+    MatchResult-weaker c.soundness_of_counts.result counted
     (λ count h. (lawful, record { messages = h.0; unbalanced_is = h.1; bad_betas = h.2; accepting_alphas = h.3 }))
     (λ fault h. inr (inr (lawful, record { air = h.0; error = h.1; large = h.2 })))
 
@@ -38,7 +38,7 @@ returns-clause-few_sharing_betas g c =
     let instances = instances_of c.args.instances.now in
     let W = c.args.max_message_width in
     let law : FewSharingBetas E instances W = few_sharing_betas laws W c.requires.ids.0 g.F.PrimeCharacteristicRing.CHARACTERISTIC char instances (fitting_all c.args.instances.now c.requires.fit) c.requires.ids.1 in
-    if_ok c.counted.result law
+    if_ok c.soundness_of_counts.result law
 
 pub returns-clause-few_accepting_alphas : goal.returns-clause-few_accepting_alphas
 returns-clause-few_accepting_alphas g c =
@@ -49,7 +49,7 @@ returns-clause-few_accepting_alphas g c =
     let instances = instances_of c.args.instances.now in
     let W = c.args.max_message_width in
     let law : FewAcceptingAlphas E instances W = few_accepting_alphas laws W c.requires.ids.0 g.F.PrimeCharacteristicRing.CHARACTERISTIC char instances (fitting_all c.args.instances.now c.requires.fit) c.requires.ids.1 (lawful_flags E.base E.base_eq instances c.in_ok-messages.ensures.1) in
-    if_ok c.counted.result law
+    if_ok c.soundness_of_counts.result law
 
 pub returns-clause-few_bad_betas : goal.returns-clause-few_bad_betas
 returns-clause-few_bad_betas g c =
@@ -60,4 +60,4 @@ returns-clause-few_bad_betas g c =
     let instances = instances_of c.args.instances.now in
     let W = c.args.max_message_width in
     let law : FewBadBetas E instances W = few_bad_betas laws W c.requires.ids.0 g.F.PrimeCharacteristicRing.CHARACTERISTIC char instances (fitting_all c.args.instances.now c.requires.fit) c.requires.ids.1 (lawful_flags E.base E.base_eq instances c.in_ok-messages.ensures.1) in
-    if_ok c.counted.result law
+    if_ok c.soundness_of_counts.result law
