@@ -1,12 +1,12 @@
 //! The counts of batches of one AIR with one lookup, and the refusals of its flags.
-use super::{cell, generated, have_ids, holds, instance, list, range, table, trace};
+use super::{cell, generated, have_ids, holds, instance, list, lookup, range, table, trace};
 use air::{Expression, SymbolicExpression};
 use checker::{
     BatchFault, BatchInstance, SoundnessCount, accepted_is_accepting, counted_soundness,
-    ids_are_lawful, instances_fit, soundness_count,
+    ids_are_lawful, instances_fit, packing_keeps_batch, soundness_count, soundness_of_counts,
 };
 use field::{F7, PrimeCharacteristicRing};
-use lookup::{Kind, Lookup, LookupError};
+use lookup::{Kind, LogUpGadget, Lookup, LookupError, Lookups};
 use std::alloc::Global;
 use std::process::Abort;
 
@@ -86,6 +86,46 @@ fn laws_of_the_headline_are_there(rt: HostRuntime) {
     accepted_is_accepting::<F7, F7>();
     let none = counts(&rt, alloc, &[], 1);
     holds(&rt, "no AIR", none.ok() == Some(count(0, 0, 0, None)));
+}
+
+/// Two lookups on one bus: of cell 0 and of cell 1, each with count 1.
+fn two_reads(rt: &impl Abort, alloc: Global) -> Vec<Lookup<F7>> {
+    let first = lookup(rt, alloc, Some("a"), [(0, None)]);
+    let mut second = lookup(rt, alloc, Some("a"), [(1, None)]);
+    second.column = 1;
+    list(rt, alloc, [first, second])
+}
+
+#[test]
+fn packing_keeps_the_counts_of_a_batch(rt: HostRuntime) {
+    let alloc = rt.alloc();
+    packing_keeps_batch::<F7, F7>();
+    let reads = trace(&rt, alloc, &[1, 2, 3, 1], 2);
+    let entries = trace(&rt, alloc, &[1, 2, 5, 1], 2);
+    let provided = [lookup(&rt, alloc, Some("a"), [(0, Some(1))])];
+    let apart = two_reads(&rt, alloc);
+    let before = [
+        instance(apart.as_slice(), &reads, &[0, 0]),
+        instance(provided.as_slice(), &entries, &[0]),
+    ];
+    let packed = Lookups::from_records(alloc, two_reads(&rt, alloc))
+        .expect(&rt, "records")
+        .pack_same_bus(alloc, &LogUpGadget::new(), 3)
+        .expect(&rt, "packed");
+    let after = [
+        instance(packed.as_slice(), &reads, &[0]),
+        instance(provided.as_slice(), &entries, &[0]),
+    ];
+    let expected = count(4, 3, 3, Some(6));
+    let first = counts(&rt, alloc, before.as_slice(), 1);
+    holds(&rt, "before", first.ok() == Some(expected));
+    let second = counts(&rt, alloc, after.as_slice(), 1);
+    holds(&rt, "after", second.ok() == Some(expected));
+    let again = soundness_of_counts(4, 3, 1);
+    holds(&rt, "counted", again.ok() == Some(expected));
+    let large = soundness_of_counts(4, usize::MAX, usize::MAX).err();
+    let refused = large.map(|fault| fault.error);
+    holds(&rt, "too large", refused == Some(LookupError::CountOverflow));
 }
 
 /// The lookup of a group on a bus: for each branch a flag and a key of one cell, with this count.
