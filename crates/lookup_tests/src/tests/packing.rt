@@ -4,6 +4,7 @@ use super::{alone, cell, holds, list, single};
 use field::F7;
 use lookup::{Kind, LogUpGadget, Lookup, LookupError, Lookups, messages_keep_terminals};
 use std::alloc::Global;
+use std::cell::Cell;
 use std::process::Abort;
 
 /// A lookup on a bus, of one tuple of the first `width` cells with count 1.
@@ -105,6 +106,38 @@ fn weights_add(rt: HostRuntime) {
     holds(&rt, "5 and 7", columns[0].count_weight == 12);
     holds(&rt, "9", columns[1].count_weight == 9);
     holds(&rt, "the column", columns[1].column == 1);
+}
+
+/// How often the closure is asked for a degree, which it answers to each trial alike.
+fn asked(rt: &impl Abort, alloc: Global, lookups: Lookups<F7>, answer: usize) -> usize {
+    let number: Cell<usize> = Cell::new(0);
+    lookups
+        .pack_same_bus_with_degree(alloc, 3, |_| {
+            number.set(number.get().saturating_add(1));
+            Ok(answer)
+        })
+        .expect(rt, "packed");
+    number.get()
+}
+
+#[test]
+fn trials_alone_are_asked_about(rt: HostRuntime) {
+    let alloc = rt.alloc();
+    let lone = list(
+        &rt,
+        alloc,
+        [
+            on_bus(&rt, alloc, "a", 1, 1, 0),
+            on_bus(&rt, alloc, "b", 2, 1, 1),
+            on_bus(&rt, alloc, "c", 1, 1, 2),
+        ],
+    );
+    let lone = Lookups::from_records(alloc, lone).expect(&rt, "records");
+    holds(&rt, "no lone one", asked(&rt, alloc, lone, 9) == 0);
+    let joined = alike(&rt, alloc, 4);
+    holds(&rt, "3 that join", asked(&rt, alloc, joined, 3) == 3);
+    let apart = alike(&rt, alloc, 4);
+    holds(&rt, "3 that do not", asked(&rt, alloc, apart, 4) == 3);
 }
 
 #[test]
