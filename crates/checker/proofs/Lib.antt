@@ -6,4 +6,5 @@ pub mod MadeTables
 pub mod PackedBatches
 pub mod ResultLaws
 pub mod RowLaws
+pub mod SameIdLaws
 pub mod WitnessLaws

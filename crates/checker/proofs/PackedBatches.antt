@@ -38,9 +38,9 @@ module _ {F : Type 0} (R : Ring F) (eq : F → F → Bool) where
   -- so does the whole batch
   batch_kept : (before after : List (Instance F)) → ArePacked R eq before after → IsPermutation (batch_messages R eq before) (batch_messages R eq after)
   batch_kept [] [] packed = IsPermutation-refl []
-  batch_kept [] (a ∷ as) packed = absurd packed
+  batch_kept [] (a ∷ later) packed = absurd packed
   batch_kept (b ∷ bs) [] packed = absurd packed
-  batch_kept (b ∷ bs) (a ∷ as) packed = IsPermutation-append _ _ _ _ (one_kept b a packed.0) (batch_kept bs as packed.1)
+  batch_kept (b ∷ bs) (a ∷ later) packed = IsPermutation-append _ _ _ _ (one_kept b a packed.0) (batch_kept bs later packed.1)
 
 module _ {F K : Type 0} {E : Extension F K} (laws : IsLawful E) where
   -- the counts stay
@@ -56,13 +56,13 @@ module _ {F K : Type 0} {E : Extension F K} (laws : IsLawful E) where
     plain_kept : (before after : List (Instance F)) → ArePacked E.base E.base_eq before after
         → AllZip (λ r s. terminal_value E.ring s.1 ≡ terminal_value E.ring r.1) (plain_witness E table before) (plain_witness E table after)
     plain_kept [] [] packed = tt
-    plain_kept [] (a ∷ as) packed = absurd packed
+    plain_kept [] (a ∷ later) packed = absurd packed
     plain_kept (b ∷ bs) [] packed = absurd packed
-    plain_kept (b ∷ bs) (a ∷ as) packed = (
+    plain_kept (b ∷ bs) (a ∷ later) packed = (
       terminal_is laws table a
           ∙ sum_in-permutation laws.ring (λ (m : Message F). quotient E (table_denominator E table) m.multiplicity m.key) _ _ (one_kept E.base E.base_eq b a packed.0)
           ∙ sym (terminal_is laws table b),
-      plain_kept bs as packed.1,
+      plain_kept bs later packed.1,
     )
 
     -- no denominator of the packed batch vanishes

@@ -4,3 +4,4 @@ pub mod Identified
 pub mod Packed
 pub mod Results
 pub mod Rows
+pub mod SameIds

@@ -175,7 +175,7 @@ fn agree_on_buses<F>(one: &Identified<'_, F>, other: &Identified<'_, F>) -> bool
     (one.id == other.id) == share_bus(one.lookup, other.lookup)
 }
 
-fn share_bus<F>(one: &Lookup<F>, other: &Lookup<F>) -> bool
+pub(crate) fn share_bus<F>(one: &Lookup<F>, other: &Lookup<F>) -> bool
     ensures { IsTrue result ↔ ShareBus one.now other.now }
 {
     match (&one.kind, &other.kind) {

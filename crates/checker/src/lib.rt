@@ -13,6 +13,7 @@ mod ids;
 mod instances;
 mod packing;
 mod rows;
+mod same_ids;
 mod soundness;
 mod witness;
 
@@ -22,5 +23,6 @@ pub use generation::generate_batch;
 pub use ids::ids_are_lawful;
 pub use instances::instances_fit;
 pub use packing::packing_keeps_batch;
+pub use same_ids::ids_are_kept;
 pub use soundness::{accepted_is_accepting, counted_soundness};
 pub use witness::check_witness;

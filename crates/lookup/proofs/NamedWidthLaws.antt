@@ -67,14 +67,15 @@ first_push (w ∷ ws) name width q = by_test (same_name q w.0) (first_push ws na
 
 module _ {K : Type 0} (name_of : K → List ℕ) where
   -- what a map has under a name
-  abbrev at : List (K × ℕ) → List ℕ → Option ℕ
+  abbrev pub at : List (K × ℕ) → List ℕ → Option ℕ
   at es q = lookup (λ k. same_name q (name_of k)) es
 
   -- the map with a value at a key
-  abbrev inserted : List (K × ℕ) → K → ℕ → List (K × ℕ)
+  abbrev pub inserted : List (K × ℕ) → K → ℕ → List (K × ℕ)
   inserted es k v = insert_entry (λ a b. same_name (name_of a) (name_of b)) es k v
 
-  at_inserted : (es : List (K × ℕ)) (k : K) (v : ℕ) (q : List ℕ) → at (inserted es k v) q ≡ cond (same_name q (name_of k)) (Some v) (at es q)
+  -- what it has then
+  pub at_inserted : (es : List (K × ℕ)) (k : K) (v : ℕ) (q : List ℕ) → at (inserted es k v) q ≡ cond (same_name q (name_of k)) (Some v) (at es q)
   at_inserted [] k v q = refl
   at_inserted (e ∷ es) k v q = by_test (same_name (name_of k) (name_of e.0)) refl (at_inserted es k v q)
     where

@@ -253,7 +253,15 @@ pub fn push_messages<F: Field>(
     ensures unchanged { IfErr result (λ _. messages.new.items ≡ messages.old.items) }
 {
     let before = messages.len();
-    match push_rows(alloc, messages, main, preprocessed, public_values, lookups, ids) {
+    match push_rows(
+        alloc,
+        messages,
+        main,
+        preprocessed,
+        public_values,
+        lookups,
+        ids,
+    ) {
         Ok(()) => Ok(()),
         Err(error) => {
             messages.truncate(before);

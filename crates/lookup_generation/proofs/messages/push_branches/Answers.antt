@@ -35,11 +35,11 @@ loop-branch-preserved g c =
     let branches = branches_at R w c.args.id lookup in
     let m = branch_at R w c.args.id c.index-tuple.result.now.items c.index-multiplicity.result.now in
     let more = branches_more R w c.args.id lookup c.requires.lengths i c.index-tuple.result.now c.index-multiplicity.result.now (omega arith) c.index-tuple.ensures c.index-multiplicity.ensures in (
-    c.in_ok-push_branch.ensures.pushes
-    ∙ (λ k. c.loop-branch.invariant.0 k ++ branch_at R w c.args.id (c.deref.ensures.value k) c.index-multiplicity.result.now ∷ [])
-    ∙ append_assoc before (take i branches) (m ∷ [])
-    ∙ ap (λ t. before ++ t) (sym more),
-    further_back _ _ _ c.loop-branch.invariant.1 c.in_ok-push_branch.ensures.front,
+      c.in_ok-push_branch.ensures.pushes
+          ∙ (λ k. c.loop-branch.invariant.0 k ++ branch_at R w c.args.id (c.deref.ensures.value k) c.index-multiplicity.result.now ∷ [])
+          ∙ append_assoc before (take i branches) (m ∷ [])
+          ∙ ap (λ t. before ++ t) (sym more),
+      further_back _ _ _ c.loop-branch.invariant.1 c.in_ok-push_branch.ensures.front,
     )
 
 pub returns-clause-pushes : goal.returns-clause-pushes

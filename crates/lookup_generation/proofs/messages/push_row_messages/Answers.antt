@@ -44,10 +44,10 @@ loop-lookup-preserved g c =
     let lt : i < length lookups = c.loop-lookup-test.true in
     let row = sent_row_under R eq (λ l. slice_index_or c.args.ids.now l.column 0) w lookups in
     let column : lookup.column ≡ i = column_is lookups i lookup c.requires.fit.records lt c.lookup-item.is in (
-    subst (λ (sents : List (Sent _)). HasSentRow R eq c.args.builder.now.row c.args.messages.now.items c.push_sent.new.messages.items sents) (sym (mapped_more f lookups i lookup lt c.lookup-item.is))
-    (sent_more R eq c.args.builder.now.row lookup.column c.args.messages.now.items c.loop-lookup.messages.items c.push_sent.new.messages.items (take i row) (f lookup)
-    (omega (arith, column, length-take i row, length-map lookups f, lt)) c.in_ok-push_sent.ensures.pushes.0 c.in_ok-push_sent.ensures.pushes.1 c.loop-lookup.invariant.0),
-    further_back _ _ _ c.loop-lookup.invariant.1 c.in_ok-push_sent.ensures.front,
+      subst (λ (sents : List (Sent _)). HasSentRow R eq c.args.builder.now.row c.args.messages.now.items c.push_sent.new.messages.items sents) (sym (mapped_more f lookups i lookup lt c.lookup-item.is))
+          (sent_more R eq c.args.builder.now.row lookup.column c.args.messages.now.items c.loop-lookup.messages.items c.push_sent.new.messages.items (take i row) (f lookup)
+          (omega (arith, column, length-take i row, length-map lookups f, lt)) c.in_ok-push_sent.ensures.pushes.0 c.in_ok-push_sent.ensures.pushes.1 c.loop-lookup.invariant.0),
+      further_back _ _ _ c.loop-lookup.invariant.1 c.in_ok-push_sent.ensures.front,
     )
 
 pub returns-in_err-push_sent-clause-pushes : goal.returns-in_err-push_sent-clause-pushes

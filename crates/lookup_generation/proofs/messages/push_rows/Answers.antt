@@ -50,10 +50,10 @@ loop-row-preserved g c =
     let this : has r w =
     subst (λ (k : ℕ). has k w) built.row (subst (λ (v : Window _). has b.row v) built.window c.in_ok-push_row_messages.ensures.pushes) in
     let rows = sent_rows_under R eq id main prep c.args.public_values.now c.args.lookups.now in (
-    subst (λ (rs : List (List (Sent _))). HasSentRows R eq c.args.messages.now.items after rs) (sym (one_more_row R eq id main prep c.args.public_values.now c.args.lookups.now r lt))
-    (rows_more R eq r c.args.messages.now.items before after (take r rows) (sent_row_under R eq id w c.args.lookups.now)
-    (length-take-rows R eq id main prep c.args.public_values.now c.args.lookups.now r lt) this c.loop-row.invariant.0),
-    further_back _ _ _ c.loop-row.invariant.1 c.in_ok-push_row_messages.ensures.front,
+      subst (λ (rs : List (List (Sent _))). HasSentRows R eq c.args.messages.now.items after rs) (sym (one_more_row R eq id main prep c.args.public_values.now c.args.lookups.now r lt))
+          (rows_more R eq r c.args.messages.now.items before after (take r rows) (sent_row_under R eq id w c.args.lookups.now)
+          (length-take-rows R eq id main prep c.args.public_values.now c.args.lookups.now r lt) this c.loop-row.invariant.0),
+      further_back _ _ _ c.loop-row.invariant.1 c.in_ok-push_row_messages.ensures.front,
     )
 
 pub returns-clause-pushes : goal.returns-clause-pushes
