@@ -1,77 +1,22 @@
 //! Compares generation of auxiliary traces with plain Rust that does what the Rust crate does, on
 //! the same traces.
 //!
-//! The plain side goes through chunks of 1024 rows. For each chunk it walks the expressions row by
-//! row, collects denominators and multiplicities, inverts all denominators by prefix products and
-//! one inverse, and adds up the fractions. It combines a tuple with powers of beta, as the Rust crate
-//! does today, or by Horner's rule. A line for each shape and height has the nanoseconds for a row
-//! of the proved and of both plain bodies, the least of several runs, and both ratios.
+//! The plain side combines a tuple with powers of beta, as the Rust crate does today, or by Horner's
+//! rule. A line for each shape and height has the nanoseconds for a row of the proved and of both
+//! plain bodies, the least of several runs, and both ratios.
 mod plain;
+mod plain_lookups;
 
-use plain::{Base, Quartic, inverses};
+use plain::{Base, Quartic};
+use plain_lookups::{
+    Combine, Lookup, Tree, checksum, column, columns, difference, generate, local, negative, number_of,
+    product, sum,
+};
 use std::hint::black_box;
 use std::time::Instant;
 
 unsafe extern "C" {
     fn lookup_generate(numbers: *const u32, length: usize, shape: u32, rounds: u32, skip: u32) -> u32;
-}
-
-const CHUNK: usize = 1024;
-
-enum Tree {
-    Column(usize),
-    One,
-    Sum(Box<Tree>, Box<Tree>),
-    Difference(Box<Tree>, Box<Tree>),
-    Product(Box<Tree>, Box<Tree>),
-    Negative(Box<Tree>),
-}
-
-impl Tree {
-    fn value(&self, row: &[Base]) -> Base {
-        match self {
-            Tree::Column(index) => row[*index],
-            Tree::One => Base::ONE,
-            Tree::Sum(a, b) => a.value(row) + b.value(row),
-            Tree::Difference(a, b) => a.value(row) - b.value(row),
-            Tree::Product(a, b) => a.value(row) * b.value(row),
-            Tree::Negative(a) => -a.value(row),
-        }
-    }
-}
-
-fn column(index: usize) -> Tree {
-    Tree::Column(index)
-}
-
-fn columns(first: usize, width: usize) -> Vec<Tree> {
-    (first..first + width).map(column).collect()
-}
-
-fn sum(a: Tree, b: Tree) -> Tree {
-    Tree::Sum(Box::new(a), Box::new(b))
-}
-
-fn difference(a: Tree, b: Tree) -> Tree {
-    Tree::Difference(Box::new(a), Box::new(b))
-}
-
-fn product(a: Tree, b: Tree) -> Tree {
-    Tree::Product(Box::new(a), Box::new(b))
-}
-
-fn negative(a: Tree) -> Tree {
-    Tree::Negative(Box::new(a))
-}
-
-struct Lookup {
-    tuples: Vec<(Vec<Tree>, Tree)>,
-    flags: Option<Vec<Tree>>,
-    id: u32,
-}
-
-fn local(tuples: Vec<(Vec<Tree>, Tree)>) -> Lookup {
-    Lookup { tuples, flags: None, id: 0 }
 }
 
 /// The width and the lookups of a shape.
@@ -102,142 +47,18 @@ fn shape_of(shape: u32) -> (usize, Vec<Lookup>) {
     }
 }
 
-fn element(coefficients: [u32; 4]) -> Quartic {
-    Quartic(coefficients.map(Base::new))
-}
-
-/// How a tuple becomes one element.
-#[derive(Clone, Copy)]
-enum Combine {
-    Powers,
-    Horner,
-}
-
-/// The challenges of one lookup: its alpha, and the powers of beta from 0 on.
-struct Challenge {
-    alpha: Quartic,
-    powers: Vec<Quartic>,
-}
-
-impl Challenge {
-    fn new(lookup: &Lookup) -> Challenge {
-        let beta = element([3, 1, 4, 15]);
-        let mut powers = vec![Quartic::ONE];
-        for i in 0..4 {
-            powers.push(powers[i] * beta);
-        }
-        let alpha = element([9, 2, 6, 5]) + powers[4] * Base::new(lookup.id + 1);
-        Challenge { alpha, powers }
-    }
-
-    fn denominator(&self, combine: Combine, tuple: &[Tree], row: &[Base]) -> Quartic {
-        let (last, leading) = tuple.split_last().expect("no tuple is empty");
-        let combined = match combine {
-            Combine::Powers => leading
-                .iter()
-                .zip(self.powers[1..tuple.len()].iter().rev())
-                .fold(Quartic::from(last.value(row)), |sum, (x, power)| sum + *power * x.value(row)),
-            Combine::Horner => tuple
-                .iter()
-                .fold(Quartic::ZERO, |sum, x| sum * self.powers[1] + Quartic::from(x.value(row))),
-        };
-        self.alpha - combined
-    }
-}
-
-/// How many fractions a lookup has on a row.
-fn fractions_of(lookup: &Lookup) -> usize {
-    if lookup.flags.is_some() { 1 } else { lookup.tuples.len() }
-}
-
-/// Appends the denominators of a lookup on a row, and their multiplicities.
-fn push(
-    lookup: &Lookup,
-    challenge: &Challenge,
-    combine: Combine,
-    row: &[Base],
-    denominators: &mut Vec<Quartic>,
-    multiplicities: &mut Vec<Base>,
-) {
-    let Some(flags) = &lookup.flags else {
-        for (tuple, count) in &lookup.tuples {
-            let multiplicity = count.value(row);
-            multiplicities.push(multiplicity);
-            denominators.push(if multiplicity == Base::ZERO {
-                Quartic::ONE
-            } else {
-                challenge.denominator(combine, tuple, row)
-            });
-        }
-        return;
-    };
-    let (mut numerator, mut flag_sum, mut denominator) = (Base::ZERO, Base::ZERO, Quartic::ZERO);
-    for (flag, (tuple, count)) in flags.iter().zip(&lookup.tuples) {
-        let flag = flag.value(row);
-        assert!(flag == Base::ZERO || flag == Base::ONE, "a flag is zero or one");
-        flag_sum = flag_sum + flag;
-        if flag != Base::ZERO {
-            numerator = numerator + flag * count.value(row);
-            denominator = denominator + challenge.denominator(combine, tuple, row) * flag;
-        }
-    }
-    assert!(flag_sum == Base::ZERO || flag_sum == Base::ONE, "at most one flag is set");
-    denominators.push(denominator + Quartic::from(Base::ONE - flag_sum));
-    multiplicities.push(numerator);
-}
-
-/// The auxiliary trace, row after row, and the terminal.
-fn generate(main: &[Base], shape: u32, combine: Combine) -> (Vec<Quartic>, Quartic) {
-    let (main_width, lookups) = shape_of(shape);
-    let challenges: Vec<Challenge> = lookups.iter().map(Challenge::new).collect();
-    let height = main.len() / main_width;
-    let width = lookups.len() + 1;
-    let fractions: usize = lookups.iter().map(fractions_of).sum();
-    let mut auxiliary = vec![Quartic::ZERO; height * width];
-    let mut totals = vec![Quartic::ZERO; height];
-    let chunks = auxiliary.chunks_mut(CHUNK * width).zip(totals.chunks_mut(CHUNK));
-    for ((auxiliary, totals), main) in chunks.zip(main.chunks(CHUNK * main_width)) {
-        let size = main.len() / main_width * fractions;
-        let (mut denominators, mut multiplicities) =
-            (Vec::with_capacity(size), Vec::with_capacity(size));
-        for row in main.chunks(main_width) {
-            for (lookup, challenge) in lookups.iter().zip(&challenges) {
-                push(lookup, challenge, combine, row, &mut denominators, &mut multiplicities);
-            }
-        }
-        let inverses = inverses(&denominators).expect("no denominator is zero");
-        let mut place = 0;
-        for (cells, total) in auxiliary.chunks_mut(width).zip(totals.iter_mut()) {
-            for (cell, lookup) in cells[1..].iter_mut().zip(&lookups) {
-                for _ in 0..fractions_of(lookup) {
-                    *cell = *cell + inverses[place] * multiplicities[place];
-                    place += 1;
-                }
-                *total = *total + *cell;
-            }
-        }
-    }
-    let mut accumulator = Quartic::ZERO;
-    for (cells, total) in auxiliary.chunks_mut(width).zip(&totals) {
-        cells[0] = accumulator;
-        accumulator = accumulator + *total;
-    }
-    (auxiliary, accumulator)
-}
-
 /// The same answer as `lookup_generate`.
 fn answer(numbers: &[u32], shape: u32, combine: Combine, rounds: u32, skip: u32) -> u32 {
     let main: Vec<Base> = numbers.iter().map(|n| Base::new(*n)).collect();
-    let point = element([2, 3, 5, 7]);
+    let (width, lookups) = shape_of(shape);
     let mut sum = Quartic::ZERO;
     for _ in 0..rounds {
-        let (auxiliary, terminal) = black_box(generate(&main, shape, combine));
+        let (auxiliary, terminal) = black_box(generate(&main, width, &lookups, combine));
         if skip != 1 {
-            sum = auxiliary.iter().fold(Quartic::ZERO, |sum, x| sum * point + *x) * point + terminal;
+            sum = checksum(Quartic::ZERO, &auxiliary, terminal);
         }
     }
-    let [c0, c1, c2, c3] = sum.0;
-    (c0 + c1 + c2 + c3).number()
+    number_of(sum)
 }
 
 /// Rows of random numbers; flags are those of one branch, or of none.

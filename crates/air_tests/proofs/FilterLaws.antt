@@ -13,12 +13,7 @@ module _ {S B N X Y : Type 0} (above : S → X → S → Type 0) (below : B → 
       let later = chain_below chain.0 xs t chain.2 in
       (later.0 ∙ first.0, (first.1.0 ∷ later.1.0, (inner chain.0, first.1.1, later.1.1)))
 
--- so it is where the answer is an acceptance
-pub filtered : {S B N X Y : Type 0} (r : Result (Unit {0}) AirError) (above : S → X → S → Type 0) (s t : S) → OnOk r ((xs : List X) × AcceptsAll above s xs t) → (below : B → Y → B → Type 0) (name : S → N) (inner : S → B) → ((s : S) (x : X) (t : S) → above s x t → (name t ≡ name s) × ((y : Y) × below (inner s) y (inner t))) → OnOk r ((name t ≡ name s) × ((ys : List Y) × AcceptsAll below (inner s) ys (inner t)))
-filtered (Ok u) above s t chain below name inner step = chain_below above below name inner step s chain.0 t chain.1
-filtered (Err e) above s t chain below name inner step = tt
-
--- and what each assertion keeps is kept
+-- where the answer is an acceptance, the reference is kept, and what each assertion keeps
 pub filtered_keeps : {S B N X Y L : Type 0} (r : Result (Unit {0}) AirError) (above : S → X → S → Type 0) (s t : S) → OnOk r ((xs : List X) × AcceptsAll above s xs t) → (below : B → Y → B → Type 0) (name : S → N) (inner : S → B) → ((s : S) (x : X) (t : S) → above s x t → (name t ≡ name s) × ((y : Y) × below (inner s) y (inner t))) → (layout : B → L) → ((b : B) (y : Y) (c : B) → below b y c → layout c ≡ layout b) → OnOk r ((name t ≡ name s) × (layout (inner t) ≡ layout (inner s)))
 filtered_keeps (Ok u) above s t chain below name inner step layout keeps =
     let under = chain_below above below name inner step s chain.0 t chain.1 in

@@ -9,37 +9,15 @@ fn asserted(alloc: Global, values: &[u32], row: usize, claim: Claim) -> Answer {
 }
 
 #[test]
-fn filters_multiply(rt: HostRuntime) {
-    let alloc = rt.alloc();
-    // Of two rows none is both first and last.
-    let of_two = asserted(alloc, &[1, 2, 3, 4], 0, Claim::OnALoneRow(5));
-    passes(&rt, "one of two rows", of_two);
-    let lone = asserted(alloc, &[1, 2], 0, Claim::OnALoneRow(1));
-    fails_at(&rt, "a lone row", lone, 0);
-}
-
-#[test]
 fn filters_multiply_over_an_extension(rt: HostRuntime) {
     let (alloc, rows) = (rt.alloc(), [1, 2, 3, 4]);
-    passes(
-        &rt,
-        "last at 0",
-        asserted(alloc, &rows, 0, Claim::OnLastRow(3)),
-    );
-    passes(
-        &rt,
-        "zero at 0",
-        asserted(alloc, &rows, 0, Claim::OnFirstRow(0)),
-    );
-    passes(
-        &rt,
-        "first at 1",
-        asserted(alloc, &rows, 1, Claim::OnFirstRow(3)),
-    );
-    fails_at(
-        &rt,
-        "last at 1",
-        asserted(alloc, &rows, 1, Claim::OnLastRow(3)),
-        1,
-    );
+    for (what, row, claim) in [
+        ("last at 0", 0, Claim::OnLastRow(3)),
+        ("zero at 0", 0, Claim::OnFirstRow(0)),
+        ("first at 1", 1, Claim::OnFirstRow(3)),
+    ] {
+        passes(&rt, what, asserted(alloc, &rows, row, claim));
+    }
+    let last = asserted(alloc, &rows, 1, Claim::OnLastRow(3));
+    fails_at(&rt, "last at 1", last, 1);
 }

@@ -9,8 +9,6 @@ mod base_expressions;
 #[cfg(test)]
 mod cases;
 #[cfg(test)]
-mod embedding;
-#[cfg(test)]
 mod errors;
 #[cfg(test)]
 mod ext_expressions;

@@ -17,8 +17,6 @@ pub enum Claim {
     Counts { on_every_row: bool },
     /// Two columns go through the Fibonacci numbers from 0 and 1 to the public value.
     IsFibonacci,
-    /// Both cells are this, where the row is the first and the last.
-    OnALoneRow(u32),
     /// This is zero in the extension, on the first row.
     OnFirstRow(u32),
     /// This is zero in the extension, on the last row.
@@ -28,8 +26,6 @@ pub enum Claim {
     IsSelected,
     /// Both cells of the permutation trace, the challenge, the value and the cell add up to zero.
     AddsUp,
-    /// The permutation trace repeats the column in the extension.
-    IsRepeated,
     /// One constraint of the preprocessed trace, and three over the extension.
     IsOfBothKinds,
 }
@@ -69,12 +65,10 @@ impl<AB: PermutationAirBuilder> Air<AB> for Machine {
         match self.claim {
             Claim::Counts { on_every_row } => assert_counted(alloc, builder, on_every_row),
             Claim::IsFibonacci => assert_fibonacci(alloc, builder),
-            Claim::OnALoneRow(n) => assert_on_a_lone_row(alloc, builder, n),
             Claim::OnFirstRow(n) => assert_ext_on(alloc, builder, Rows::First, number::<AB>(n)),
             Claim::OnLastRow(n) => assert_ext_on(alloc, builder, Rows::Last, number::<AB>(n)),
             Claim::IsSelected => assert_selected(alloc, builder),
             Claim::AddsUp => assert_sum_of_all(alloc, builder),
-            Claim::IsRepeated => assert_repeated(alloc, builder),
             Claim::IsOfBothKinds => assert_both_kinds(alloc, builder),
         }
     }
@@ -297,25 +291,6 @@ fn assert_fibonacci<AB: AirBuilder>(alloc: Global, builder: &mut AB) -> Result<(
     assert_built(alloc, builder, Rows::Last, Value::Current(1), &result)
 }
 
-/// Asserts that both cells are this, on the last row.
-fn assert_last_row<AB: AirBuilder>(alloc: Global, builder: &mut AB, n: u32) -> Result<(), AirError>
-    ensures { OnOk result ((xs : List AB.Expr) × AcceptsAll AB.accepts builder.old xs builder.new) }
-{
-    let wanted = AB::F::from_u32(n);
-    assert_row(alloc, &mut builder.when_last_row(), wanted, wanted)
-}
-
-/// Asserts a row under two selectors, one inside the other.
-fn assert_on_a_lone_row<AB: AirBuilder>(
-    alloc: Global,
-    builder: &mut AB,
-    n: u32,
-) -> Result<(), AirError>
-    ensures { OnOk result (AB.layout builder.new ≡ AB.layout builder.old) }
-{
-    assert_last_row(alloc, &mut builder.when_first_row(), n)
-}
-
 fn number<AB: ExtensionBuilder>(n: u32) -> AB::ExprEF {
     AB::ExprEF::constant(AB::EF::from_u32(n))
 }
@@ -426,22 +401,6 @@ fn assert_sum_of_all<AB: PermutationAirBuilder>(
         Rows::All,
         Value::PermutationCurrent(0),
         &further,
-    )
-}
-
-fn assert_repeated<AB: PermutationAirBuilder>(
-    alloc: Global,
-    builder: &mut AB,
-) -> Result<(), AirError>
-    ensures { OnOk result (AB.layout builder.new ≡ AB.layout builder.old) }
-{
-    let cell = [(Operation::Sub, Value::Current(0))];
-    assert_ext_built(
-        alloc,
-        builder,
-        Rows::All,
-        Value::PermutationCurrent(0),
-        &cell,
     )
 }
 

@@ -10,11 +10,17 @@ use std::process::Abort;
 
 pub type Recorder = SymbolicAirBuilder<F7, F7>;
 
-/// The constraints of a machine over a layout.
+/// The constraints of a machine over a layout. A recorder is let go of by `drop`, which is one call: at the
+/// end of a scope each of its many fields would be dropped there, and proved there.
 pub fn recorded(alloc: Global, machine: &Machine, layout: AirLayout) -> Result<Recorder, AirError> {
     let mut recorder = Recorder::new(alloc, layout)?;
-    machine.eval(alloc, &mut recorder)?;
-    Ok(recorder)
+    match machine.eval(alloc, &mut recorder) {
+        Ok(()) => Ok(recorder),
+        Err(error) => {
+            drop(recorder);
+            Err(error)
+        }
+    }
 }
 
 fn record_fibonacci(alloc: Global) -> Result<Recorder, AirError> {
@@ -65,7 +71,10 @@ fn is_in_order(rt: &impl Abort, recorder: &Recorder) {
 #[test]
 fn an_air_is_recorded_in_order(rt: HostRuntime) {
     match record_fibonacci(rt.alloc()) {
-        Ok(recorder) => is_in_order(&rt, &recorder),
+        Ok(recorder) => {
+            is_in_order(&rt, &recorder);
+            drop(recorder);
+        }
         Err(_) => holds(&rt, "the machine is recorded", false),
     }
 }
@@ -86,7 +95,10 @@ fn has_selectors(rt: &impl Abort, recorder: &Recorder) {
 #[test]
 fn filters_put_the_selector_first(rt: HostRuntime) {
     match record_fibonacci(rt.alloc()) {
-        Ok(recorder) => has_selectors(&rt, &recorder),
+        Ok(recorder) => {
+            has_selectors(&rt, &recorder);
+            drop(recorder);
+        }
         Err(_) => holds(&rt, "the machine is recorded", false),
     }
 }
@@ -128,7 +140,10 @@ fn has_both_kinds(rt: &impl Abort, recorder: &Recorder) {
 #[test]
 fn both_kinds_of_constraints_share_one_order(rt: HostRuntime) {
     match record_both_kinds(rt.alloc()) {
-        Ok(recorder) => has_both_kinds(&rt, &recorder),
+        Ok(recorder) => {
+            has_both_kinds(&rt, &recorder);
+            drop(recorder);
+        }
         Err(_) => holds(&rt, "the machine is recorded", false),
     }
 }

@@ -74,10 +74,14 @@ fn values_on(alloc: Global, main: &RowMajorMatrix<F7>, constraint: &Base) -> [Op
 
 /// The values of the constraint of this place on the rows of a trace of three rows.
 fn values_of(alloc: Global, place: usize) -> Option<[Option<F7>; 3]> {
-    let recorder = record_selected(alloc).ok()?;
     let main = trace_of(alloc, &[1, 3, 3, 4, 5, 6], 2)?;
-    let constraint = recorder.base_constraints().get(place)?;
-    Some(values_on(alloc, &main, constraint))
+    let recorder = record_selected(alloc).ok()?;
+    let values = match recorder.base_constraints().get(place) {
+        Some(constraint) => Some(values_on(alloc, &main, constraint)),
+        None => None,
+    };
+    drop(recorder);
+    values
 }
 
 /// Whether the constraint of this place has these values.

@@ -1,24 +1,8 @@
 //! Generation of auxiliary traces as a C function, for the comparison in `bench/`.
 #![tactic(auto)]
 
-ghost use Rattle.std.specs.Prelude.{◌↔◌, ◌*◌, ◌≤◌, [], IsTrue, None, length};
-ghost use Rattle.expressions.specs.Layout.{layout_of_traces};
-ghost use Rattle.lookup_model.specs.Records.{DoFit};
-
-mod shapes;
-#[cfg(test)]
-mod tests;
-
-use crate::shapes::{challenges_of, element, lookups_of, width_of};
-use air::AirLayout;
-use field::{BabyBear, BabyBear4, Field, PrimeCharacteristicRing};
-use lookup_generation::generate_permutation;
-use lookup_model::{Lookup, LookupError, LookupTerminal, fits};
-use matrix::RowMajorMatrix;
-use std::alloc::{AllocError, Global};
-
-/// The answer where generation is refused.
-const REFUSED: u32 = u32::MAX;
+use bench_shapes::{REFUSED, generate};
+use std::alloc::Global;
 
 /// Generates the auxiliary trace of a shape over `BabyBear` and `BabyBear4`, `rounds` times. The main
 /// trace has `numbers`, row after row.
@@ -49,87 +33,4 @@ pub extern "C" fn lookup_generate(
     skip: u32,
 ) -> u32 {
     generate(alloc, numbers, shape, rounds, skip).unwrap_or(REFUSED)
-}
-
-fn generate(
-    alloc: Global,
-    numbers: &[u32],
-    shape: u32,
-    rounds: u32,
-    skip: u32,
-) -> Result<u32, LookupError> {
-    let Some(main) = trace(alloc, numbers, width_of(shape))? else {
-        return Ok(REFUSED);
-    };
-    let lookups = lookups_of(alloc, shape)?;
-    let challenges = challenges_of(alloc, shape)?;
-    if lookups.len() > challenges.len() / 2 || !do_fit(&main, &lookups) {
-        return Ok(REFUSED);
-    }
-    let mut sum = BabyBear4::ZERO;
-    for _ in 0..rounds {
-        let (auxiliary, terminal) = generated(alloc, &main, &lookups, &challenges)?;
-        if skip != 1 {
-            sum = checksum(&auxiliary, terminal);
-        }
-    }
-    Ok(number(alloc, sum)?)
-}
-
-/// The matrix of these numbers, or `None` unless they make whole rows of `width`.
-fn trace(
-    alloc: Global,
-    numbers: &[u32],
-    width: usize,
-) -> Result<Option<RowMajorMatrix<BabyBear>>, AllocError> {
-    let mut values = Vec::with_capacity(alloc, numbers.len())?;
-    for n in numbers {
-        values.push(BabyBear::new(*n))?;
-    }
-    if width == 0 || values.len() % width != 0 {
-        return Ok(None);
-    }
-    Ok(Some(RowMajorMatrix::new(values, width)))
-}
-
-/// Whether the lookups fit the trace.
-fn do_fit(main: &RowMajorMatrix<BabyBear>, lookups: &[Lookup<BabyBear>]) -> bool
-    ensures { IsTrue result ↔ DoFit (layout_of_traces main.now None []) lookups.now }
-{
-    fits(lookups, &AirLayout::of_traces(main, None, &[]))
-}
-
-/// The auxiliary trace and the terminal, over a main trace alone.
-fn generated(
-    alloc: Global,
-    main: &RowMajorMatrix<BabyBear>,
-    lookups: &[Lookup<BabyBear>],
-    challenges: &[BabyBear4],
-) -> Result<(RowMajorMatrix<BabyBear4>, Option<LookupTerminal<BabyBear4>>), LookupError>
-    requires fit { DoFit (layout_of_traces main.now None []) lookups.now }
-    requires challenges { 2 * length lookups.now ≤ length challenges.now }
-{
-    generate_permutation(alloc, main, None, &[], lookups, challenges)
-}
-
-fn checksum(
-    auxiliary: &RowMajorMatrix<BabyBear4>,
-    terminal: Option<LookupTerminal<BabyBear4>>,
-) -> BabyBear4 {
-    let point = element([2, 3, 5, 7]);
-    let mut sum = BabyBear4::ZERO;
-    for x in auxiliary.values() {
-        sum = sum * point + *x;
-    }
-    match terminal {
-        Some(LookupTerminal(x)) => sum * point + x,
-        None => sum,
-    }
-}
-
-/// The sum of the coefficients as a number below the modulus, from its text.
-fn number(alloc: Global, x: BabyBear4) -> Result<u32, AllocError> {
-    let [c0, c1, c2, c3] = x.coefficients();
-    let sum = c0 + c1 + c2 + c3;
-    Ok(sum.text(alloc)?.as_str().parse().unwrap_or(0))
 }

@@ -5,9 +5,9 @@ ghost use Rattle.expressions.specs.Layout.{layout_of_traces};
 ghost use Rattle.lookup_model.specs.Records.{DoFit};
 ghost use Rattle.matrix.specs.Matrix.{height};
 
-use super::{alone, cell, group, list, local, one, range, single, trace};
+use super::{cell, list, local, one, single, text, trace};
 use air::{AirLayout, BaseEntry, BaseLeaf, Expression, SymbolicExpression, SymbolicVariable};
-use field::{BabyBear, F2, F7, Field, PrimeCharacteristicRing};
+use field::{BabyBear, F7, Field, PrimeCharacteristicRing};
 use lookup::debug_util::{Location, LookupDebugInstance, LookupFault, check_lookups};
 use lookup::{Kind, Lookup, fits};
 use matrix::RowMajorMatrix;
@@ -38,7 +38,7 @@ fn has_one_height<F: Field>(instance: &LookupDebugInstance<'_, F>) -> bool
 }
 
 /// An AIR without preprocessed trace and public values.
-pub(super) fn instance<'a, F: Field>(
+fn instance<'a, F: Field>(
     main: &'a RowMajorMatrix<F>,
     lookups: &'a [Lookup<F>],
 ) -> LookupDebugInstance<'a, F> {
@@ -67,7 +67,7 @@ fn checked<F: Field>(
 }
 
 /// The text of the mismatch has to be this one, and `""` stands for none.
-pub(super) fn expect<F: Field>(
+fn expect<F: Field>(
     rt: &impl Abort,
     alloc: Global,
     instances: &[LookupDebugInstance<'_, F>],
@@ -80,27 +80,33 @@ pub(super) fn expect<F: Field>(
     assert!(rt; found.as_str() == text, "{found} in place of {text}");
 }
 
-/// A local lookup of cell 0, as often as cell `count` says.
-pub(super) fn counted<F: Field>(
+/// The text of the mismatch of one AIR has to be this one, and `""` stands for none.
+fn expect_of_air<F: Field>(
     rt: &impl Abort,
     alloc: Global,
-    count: usize,
-    column: usize,
-) -> Lookup<F> {
-    let tuples = alone(rt, alloc, alone(rt, alloc, cell(0)));
-    local(tuples, alone(rt, alloc, cell(count)), column)
+    lookups: &[Lookup<F>],
+    numbers: &[u32],
+    width: usize,
+    text: &str,
+) {
+    let main: RowMajorMatrix<F> = trace(rt, alloc, numbers, width);
+    expect(rt, alloc, &[instance(&main, lookups)], text);
+}
+
+/// A local lookup of cell 0, as often as cell `count` says.
+fn counted<F: Field>(rt: &impl Abort, alloc: Global, count: usize, column: usize) -> Lookup<F> {
+    let tuple = list(rt, alloc, [cell(0)]);
+    local(
+        list(rt, alloc, [tuple]),
+        list(rt, alloc, [cell(count)]),
+        column,
+    )
 }
 
 /// The same on a bus.
-fn on_bus<F: Field>(
-    rt: &impl Abort,
-    alloc: Global,
-    bus: &str,
-    count: usize,
-    column: usize,
-) -> Lookup<F> {
+fn on_bus(rt: &impl Abort, alloc: Global, bus: &str, count: usize, column: usize) -> Lookup<F7> {
     let mut lookup = counted(rt, alloc, count, column);
-    lookup.kind = Kind::Global(String::from_str(alloc, bus).expect(rt, "memory"));
+    lookup.kind = Kind::Global(text(rt, alloc, bus));
     lookup
 }
 
@@ -135,9 +141,32 @@ fn the_fields_of_a_mismatch(rt: HostRuntime) {
     assert!(rt; locations.len() == 1 && locations[0] == place);
 }
 
+/// A list of one lookup of two tuples, each of some cells, with these multiplicities.
+fn two_tuples(
+    rt: &impl Abort,
+    alloc: Global,
+    first: &[usize],
+    second: &[usize],
+    multiplicities: [SymbolicExpression<F7>; 2],
+) -> Vec<Lookup<F7>> {
+    let mut elements = Vec::new(alloc);
+    for cells in [first, second] {
+        let mut tuple = Vec::new(alloc);
+        for index in cells {
+            tuple.push(cell(*index)).expect(rt, "memory");
+        }
+        elements.push(tuple).expect(rt, "memory");
+    }
+    let multiplicities = list(rt, alloc, multiplicities);
+    list(rt, alloc, [local(elements, multiplicities, 0)])
+}
+
+/// The lookup of the range machine reads cell 0 once, and provides cell 1 as often as cell 2 says.
 #[test]
 fn rows_of_the_range_machine(rt: HostRuntime) {
     let alloc = rt.alloc();
+    let taken = cell(2).neg(alloc).expect(&rt, "memory");
+    let range = two_tuples(&rt, alloc, &[0], &[1], [one(), taken]);
     let seven: [u32; 21] = [
         3, 4, 0, 3, 4, 0, 3, 4, 0, 3, 4, 0, 3, 4, 0, 3, 4, 0, 3, 4, 0,
     ];
@@ -158,9 +187,7 @@ fn rows_of_the_range_machine(rt: HostRuntime) {
         (seven.as_slice(), ""),
     ];
     for (numbers, text) in cases {
-        let main: RowMajorMatrix<F7> = trace(&rt, alloc, numbers, 3);
-        let lookups = [range(&rt, alloc, 0)];
-        expect(&rt, alloc, &[instance(&main, lookups.as_slice())], text);
+        expect_of_air(&rt, alloc, range.as_slice(), numbers, 3, text);
     }
 }
 
@@ -168,6 +195,10 @@ fn rows_of_the_range_machine(rt: HostRuntime) {
 #[test]
 fn branches_count_by_their_flags(rt: HostRuntime) {
     let alloc = rt.alloc();
+    let mut branches = two_tuples(&rt, alloc, &[1], &[3], [one(), one()]);
+    if let Some(lookup) = branches.get_mut(0) {
+        lookup.flags = Some(list(&rt, alloc, [cell(0), cell(2)]));
+    }
     let cases: [(&[u32], &str); 3] = [
         (&[0, 3, 0, 5], ""),
         (
@@ -180,9 +211,7 @@ fn branches_count_by_their_flags(rt: HostRuntime) {
         ),
     ];
     for (numbers, text) in cases {
-        let main: RowMajorMatrix<F7> = trace(&rt, alloc, numbers, 4);
-        let lookups = [group(&rt, alloc, 2, 0)];
-        expect(&rt, alloc, &[instance(&main, lookups.as_slice())], text);
+        expect_of_air(&rt, alloc, branches.as_slice(), numbers, 4, text);
     }
 }
 
@@ -197,7 +226,7 @@ fn expect_on_buses(
     text: &str,
 ) {
     let traces = (trace(rt, alloc, first, 3), trace(rt, alloc, second, 3));
-    let lookups: [Lookup<F7>; 2] = [
+    let lookups = [
         on_bus(rt, alloc, names.0, 1, 0),
         on_bus(rt, alloc, names.1, 2, 1),
     ];
@@ -211,30 +240,30 @@ fn expect_on_buses(
 #[test]
 fn two_airs_on_buses(rt: HostRuntime) {
     let alloc = rt.alloc();
-    expect_on_buses(&rt, alloc, &[3, 1, 2], &[3, 6, 5], ("a", "b"), "");
-    let other =
-        "Lookup mismatch (global lookup 'b'): tuple [4] has net multiplicity 3 at instance 0 lookup 1 row 1; instance 1 lookup 1 row 0";
-    expect_on_buses(
-        &rt,
-        alloc,
-        &[3, 0, 0, 4, 0, 1],
-        &[4, 0, 2],
-        ("a", "b"),
-        other,
-    );
-    let late =
-        "Lookup mismatch (global lookup 'z'): tuple [4] has net multiplicity 1 at instance 1 lookup 0 row 0";
-    expect_on_buses(&rt, alloc, &[3, 0, 0], &[4, 1, 1], ("z", "a"), late);
-    let one_bus =
-        "Lookup mismatch (global lookup 'a'): tuple [3] has net multiplicity 6 at instance 0 lookup 0 row 0; instance 0 lookup 0 row 1; instance 0 lookup 1 row 0; instance 1 lookup 1 row 0";
-    expect_on_buses(
-        &rt,
-        alloc,
-        &[3, 1, 2, 3, 1, 0],
-        &[3, 0, 2],
-        ("a", "a"),
-        one_bus,
-    );
+    let cases: [(&[u32], &[u32], (&str, &str), &str); 4] = [
+        (&[3, 1, 2], &[3, 6, 5], ("a", "b"), ""),
+        (
+            &[3, 0, 0, 4, 0, 1],
+            &[4, 0, 2],
+            ("a", "b"),
+            "Lookup mismatch (global lookup 'b'): tuple [4] has net multiplicity 3 at instance 0 lookup 1 row 1; instance 1 lookup 1 row 0",
+        ),
+        (
+            &[3, 0, 0],
+            &[4, 1, 1],
+            ("z", "a"),
+            "Lookup mismatch (global lookup 'z'): tuple [4] has net multiplicity 1 at instance 1 lookup 0 row 0",
+        ),
+        (
+            &[3, 1, 2, 3, 1, 0],
+            &[3, 0, 2],
+            ("a", "a"),
+            "Lookup mismatch (global lookup 'a'): tuple [3] has net multiplicity 6 at instance 0 lookup 0 row 0; instance 0 lookup 0 row 1; instance 0 lookup 1 row 0; instance 1 lookup 1 row 0",
+        ),
+    ];
+    for (first, second, names, text) in cases {
+        expect_on_buses(&rt, alloc, first, second, names, text);
+    }
 }
 
 /// Local lookups come before buses, each by itself.
@@ -271,37 +300,40 @@ fn tuples_of_two_rows(rt: HostRuntime) {
     )));
     let tuple = list(&rt, alloc, [cell(0), next]);
     let lookups = [local(list(&rt, alloc, [tuple]), list(&rt, alloc, [one()]), 0)];
-    let main: RowMajorMatrix<BabyBear> = trace(&rt, alloc, &[20, 3, 100], 1);
     let text =
         "Lookup mismatch (instance 0 local lookup 0): tuple [100, 20] has net multiplicity 1 at instance 0 lookup 0 row 2";
-    expect(&rt, alloc, &[instance(&main, lookups.as_slice())], text);
+    expect_of_air::<BabyBear>(&rt, alloc, lookups.as_slice(), &[20, 3, 100], 1, text);
 }
 
-/// Each row sends the tuple of its two cells once.
-fn expect_of_cells(rt: &impl Abort, alloc: Global, numbers: &[u32], text: &str) {
-    let main: RowMajorMatrix<F7> = trace(rt, alloc, numbers, 2);
-    let lookups = [single(rt, alloc, 2, 0)];
-    expect(rt, alloc, &[instance(&main, lookups.as_slice())], text);
-}
-
-/// Texts are compared element by element, and a shorter tuple comes before a longer one.
+/// Texts are compared element by element, and a shorter tuple comes before a longer one; the empty one
+/// before all others.
 #[test]
 fn tuples_in_the_order_of_their_texts(rt: HostRuntime) {
     let alloc = rt.alloc();
-    let second =
-        "Lookup mismatch (instance 0 local lookup 0): tuple [1, 3] has net multiplicity 1 at instance 0 lookup 0 row 1";
-    expect_of_cells(&rt, alloc, &[1, 5, 1, 3], second);
-    let main: RowMajorMatrix<F7> = trace(&rt, alloc, &[1, 2], 2);
-    let long = list(&rt, alloc, [cell(0), cell(1)]);
-    let short = list(&rt, alloc, [cell(0)]);
-    let lookups = [local(
-        list(&rt, alloc, [long, short]),
-        list(&rt, alloc, [one(), one()]),
-        0,
-    )];
-    let shorter =
-        "Lookup mismatch (instance 0 local lookup 0): tuple [1] has net multiplicity 1 at instance 0 lookup 0 row 0";
-    expect(&rt, alloc, &[instance(&main, lookups.as_slice())], shorter);
+    let cases: [(&[usize], &[usize], &[u32], &str); 3] = [
+        (
+            &[0, 1],
+            &[0, 1],
+            &[1, 5, 1, 3],
+            "Lookup mismatch (instance 0 local lookup 0): tuple [1, 3] has net multiplicity 2 at instance 0 lookup 0 row 1; instance 0 lookup 0 row 1",
+        ),
+        (
+            &[0, 1],
+            &[0],
+            &[1, 2],
+            "Lookup mismatch (instance 0 local lookup 0): tuple [1] has net multiplicity 1 at instance 0 lookup 0 row 0",
+        ),
+        (
+            &[0],
+            &[],
+            &[0, 2],
+            "Lookup mismatch (instance 0 local lookup 0): tuple [] has net multiplicity 1 at instance 0 lookup 0 row 0",
+        ),
+    ];
+    for (first, second, numbers, text) in cases {
+        let lookups = two_tuples(&rt, alloc, first, second, [one(), one()]);
+        expect_of_air(&rt, alloc, lookups.as_slice(), numbers, 2, text);
+    }
 }
 
 /// A variable of this entry.
@@ -349,137 +381,23 @@ fn out_of_memory_as_text(rt: HostRuntime) {
     assert!(rt; text.as_str() == "out of memory");
 }
 
-/// The first key below `modulus` whose counts do not sum to zero, with their sum. Each of the two rows
-/// has a key and a count below `modulus`.
-fn first_unbalanced(rows: [(u32, u32); 2], modulus: u32) -> Option<(u32, u32)> {
-    for key in 0..modulus {
-        let mut net = 0u32;
-        for row in rows {
-            if row.0 == key {
-                net = net.saturating_add(row.1);
-            }
-        }
-        if net >= modulus {
-            net -= modulus;
-        }
-        if net > 0 {
-            return Some((key, net));
-        }
-    }
-    None
-}
-
-/// The places of the rows that send a key.
-fn places(rows: [(u32, u32); 2], key: u32) -> &'static str {
-    let first = rows[0].0 == key && rows[0].1 > 0;
-    let second = rows[1].0 == key && rows[1].1 > 0;
-    if first && second {
-        "instance 0 lookup 0 row 0; instance 0 lookup 0 row 1"
-    } else if first {
-        "instance 0 lookup 0 row 0"
-    } else {
-        "instance 0 lookup 0 row 1"
-    }
-}
-
-/// What the check has to say of two rows.
-fn plain_text(rt: &impl Abort, alloc: Global, rows: [(u32, u32); 2], modulus: u32) -> String {
-    match first_unbalanced(rows, modulus) {
-        None => String::new(alloc),
-        Some((key, sum)) => {
-            let places = places(rows, key);
-            format!(in alloc;
-                "Lookup mismatch (instance 0 local lookup 0): tuple [{key}] has net multiplicity {sum} at {places}"
-            ).expect(rt, "memory")
-        }
-    }
-}
-
-/// Each row over `F2` sends its first cell as often as its second cell says.
-fn expect_of_bits(rt: &impl Abort, alloc: Global, numbers: &[u32], text: &str) {
-    let main: RowMajorMatrix<F2> = trace(rt, alloc, numbers, 2);
-    let lookups = [counted(rt, alloc, 1, 0)];
-    expect(rt, alloc, &[instance(&main, lookups.as_slice())], text);
-}
-
-/// The same over `F7`.
-fn expect_of_rows(rt: &impl Abort, alloc: Global, numbers: &[u32], text: &str) {
-    let main: RowMajorMatrix<F7> = trace(rt, alloc, numbers, 2);
-    let lookups = [counted(rt, alloc, 1, 0)];
-    expect(rt, alloc, &[instance(&main, lookups.as_slice())], text);
-}
-
-#[test]
-fn two_rows_over_f2(rt: HostRuntime) {
-    let alloc = rt.alloc();
-    for number in 0..16u32 {
-        let numbers = [number % 2, number / 2 % 2, number / 4 % 2, number / 8];
-        let rows = [(numbers[0], numbers[1]), (numbers[2], numbers[3])];
-        let text = plain_text(&rt, alloc, rows, 2);
-        expect_of_bits(&rt, alloc, numbers.as_slice(), text.as_str());
-    }
-}
-
-#[test]
-fn two_rows_over_f7(rt: HostRuntime) {
-    let alloc = rt.alloc();
-    for number in 0..2401u32 {
-        let numbers = [number % 7, number / 7 % 7, number / 49 % 7, number / 343];
-        let rows = [(numbers[0], numbers[1]), (numbers[2], numbers[3])];
-        let text = plain_text(&rt, alloc, rows, 7);
-        expect_of_rows(&rt, alloc, numbers.as_slice(), text.as_str());
-    }
-}
-
-/// Rows of a tuple with its count, more than twice as many as are collected before equal tuples are
-/// merged. The first row sends 7 and the last one `last`, both once; between them each of 0 to 4 is
-/// sent as often with count 1 as with count -1.
-fn many_rows(rt: &impl Abort, alloc: Global, last: u32) -> Vec<u32> {
-    let mut numbers = Vec::new(alloc);
-    numbers.extend_from_slice(&[7, 1]).expect(rt, "memory");
-    for pair in 0..280_000 {
-        let tuple: u32 = pair % 5;
-        numbers
-            .extend_from_slice(&[tuple, 1, tuple, 2_013_265_920])
-            .expect(rt, "memory");
-    }
-    numbers.extend_from_slice(&[last, 1]).expect(rt, "memory");
-    numbers
-}
-
-/// The text of the mismatch has to be this one, after its label.
-fn expect_under(
-    rt: &impl Abort,
-    alloc: Global,
-    main: &RowMajorMatrix<BabyBear>,
-    lookups: &[Lookup<BabyBear>],
-    label: &str,
-    rest: &str,
-) {
-    let text = format!(in alloc; "Lookup mismatch ({label}): {rest}").expect(rt, "memory");
-    expect(rt, alloc, &[instance(main, lookups)], text.as_str());
-}
-
-/// Equal tuples are merged on the way, and the rows of the one that is named are all there.
+/// More rows than are collected before equal tuples are merged. The first row and the last one send 7,
+/// both once; between them each of 0 to 4 is sent as often with count 1 as with count -1. The rows of
+/// the tuple that is named are both there.
 #[test]
 fn more_rows_than_are_kept(rt: HostRuntime) {
     let alloc = rt.alloc();
-    let cases: [(u32, &str); 2] = [
-        (
-            7,
-            "tuple [7] has net multiplicity 2 at instance 0 lookup 0 row 0; instance 0 lookup 0 row 560001",
-        ),
-        (
-            60,
-            "tuple [60] has net multiplicity 1 at instance 0 lookup 0 row 560001",
-        ),
-    ];
-    for (last, rest) in cases {
-        let numbers = many_rows(&rt, alloc, last);
-        let main: RowMajorMatrix<BabyBear> = trace(&rt, alloc, numbers.as_slice(), 2);
-        let local = [counted(&rt, alloc, 1, 0)];
-        expect_under(&rt, alloc, &main, &local, "instance 0 local lookup 0", rest);
-        let bus = [on_bus(&rt, alloc, "a", 1, 0)];
-        expect_under(&rt, alloc, &main, &bus, "global lookup 'a'", rest);
+    let mut numbers = Vec::new(alloc);
+    numbers.extend_from_slice(&[7, 1]).expect(&rt, "memory");
+    for pair in 0..140_000u32 {
+        let tuple = pair % 5;
+        numbers
+            .extend_from_slice(&[tuple, 1, tuple, 2_013_265_920])
+            .expect(&rt, "memory");
     }
+    numbers.extend_from_slice(&[7, 1]).expect(&rt, "memory");
+    let lookups = [counted(&rt, alloc, 1, 0)];
+    let text =
+        "Lookup mismatch (instance 0 local lookup 0): tuple [7] has net multiplicity 2 at instance 0 lookup 0 row 0; instance 0 lookup 0 row 280001";
+    expect_of_air::<BabyBear>(&rt, alloc, lookups.as_slice(), numbers.as_slice(), 2, text);
 }

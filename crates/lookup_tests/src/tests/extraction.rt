@@ -3,21 +3,23 @@ ghost use Rattle.std.specs.Prelude.{◌≡◌, ◌<◌, All, IfOk, OnOk};
 ghost use Rattle.expressions.specs.declared.layout.AirLayout.{AirLayout};
 ghost use Rattle.lookup_builder.specs.Within.{KeyWithin};
 
-use super::{holds, list, one};
+use super::{holds, list, one, text};
 use air::{
-    Air, AirBuilder, AirError, BaseAir, Expression, SymbolicExpression, current_cell, current_cells,
+    Air, AirBuilder, AirError, AirLayout, BaseAir, Expression, SymbolicExpression, current_cell,
+    current_cells,
 };
 use field::{BabyBear, BabyBear4, ExtensionField, F7, Field, PrimeCharacteristicRing};
 use lookup::{
     Count, InteractionBuilder, Kind, Lookup, LookupBus, LookupError, Lookups,
     assert_uniform_tuple_width,
 };
+use matrix::WindowAccess;
 use std::alloc::Global;
 use std::process::Abort;
 
 /// What an AIR does in its evaluation.
 #[derive(Clone, Copy)]
-pub(super) enum Step<'a> {
+enum Step<'a> {
     /// Pushes a local lookup of tuples of ones, each a width and a weight.
     Local(&'a [(usize, u64)]),
     /// Pushes the local lookup of cell 0 and of cell 1, which is provided as often as cell 2 says.
@@ -28,10 +30,6 @@ pub(super) enum Step<'a> {
     Exclusive(&'a str, &'a [u64]),
     /// Queries, on a bus, cell 1 under the flag of cell 0, or cell 3 under that of cell 2.
     Keys(&'a str),
-    /// Looks up cell 0 on a bus, as often as cell 1 says.
-    Key(&'a str),
-    /// Provides cell 0 on a bus, as often as cell 1 says.
-    Entry(&'a str),
     /// Refuses an assertion on this row.
     Assertion(usize),
     /// Refuses a degree.
@@ -94,10 +92,7 @@ fn push_local<AB: InteractionBuilder>(
 }
 
 /// Pushes the local lookup of cell 0 and of cell 1, which is provided as often as cell 2 says.
-pub(super) fn push_range<AB: InteractionBuilder>(
-    alloc: Global,
-    builder: &mut AB,
-) -> Result<(), AirError>
+fn push_range<AB: InteractionBuilder>(alloc: Global, builder: &mut AB) -> Result<(), AirError>
     ensures layout { OnOk result (AB.layout builder.new ≡ AB.layout builder.old) }
     ensures within { OnOk result (AB.pushed_within builder.old → AB.pushed_within builder.new) }
 {
@@ -111,7 +106,7 @@ pub(super) fn push_range<AB: InteractionBuilder>(
 }
 
 /// Pushes a group on a bus, whose branches have these weights.
-pub(super) fn push_exclusive<AB: InteractionBuilder>(
+fn push_exclusive<AB: InteractionBuilder>(
     alloc: Global,
     builder: &mut AB,
     name: &str,
@@ -169,26 +164,6 @@ fn query_one<AB: InteractionBuilder>(
     LookupBus::new(name).lookup_key(alloc, builder, key, Count::from(1))
 }
 
-/// Looks up cell 0 on a bus, or provides it there, as often as cell 1 says.
-fn push_counted<AB: InteractionBuilder>(
-    alloc: Global,
-    builder: &mut AB,
-    name: &str,
-    is_provided: bool,
-) -> Result<(), AirError>
-    ensures layout { OnOk result (AB.layout builder.new ≡ AB.layout builder.old) }
-    ensures within { OnOk result (AB.pushed_within builder.old → AB.pushed_within builder.new) }
-{
-    let bus = LookupBus::new(name);
-    let tuple = current_cells(alloc, builder, 2, &[0])?;
-    let count = current_cell(alloc, builder, 2, 1)?;
-    if is_provided {
-        bus.table_entry(alloc, builder, tuple, count)
-    } else {
-        bus.lookup_key(alloc, builder, tuple, Count::bounded(count, 1))
-    }
-}
-
 fn take_step<AB: InteractionBuilder>(
     alloc: Global,
     builder: &mut AB,
@@ -203,8 +178,6 @@ fn take_step<AB: InteractionBuilder>(
         Step::Global(name) => query_one(alloc, builder, name),
         Step::Exclusive(name, weights) => push_exclusive(alloc, builder, name, weights),
         Step::Keys(name) => query_keys(alloc, builder, name),
-        Step::Key(name) => push_counted(alloc, builder, name, false),
-        Step::Entry(name) => push_counted(alloc, builder, name, true),
         Step::Assertion(row) => Err(AirError::Assertion { row: *row }),
         Step::Overflow => Err(AirError::DegreeOverflow),
     }
@@ -232,11 +205,6 @@ fn extracted<F: Field, EF: ExtensionField<F>>(
     Lookups::from_air::<EF, Steps<'_>>(alloc, &Steps { width: 4, steps })
 }
 
-/// The same over F7, where none of the steps is refused.
-pub(super) fn lookups_of(rt: &impl Abort, alloc: Global, steps: &[Step<'_>]) -> Lookups<F7> {
-    extracted::<F7, F7>(alloc, steps).expect(rt, "lookups")
-}
-
 /// Whether the lookup in a column stands on this bus, or is local where that is empty, and has this
 /// weight and as many tuples, each with a multiplicity, and with a flag if it is exclusive.
 fn is_lookup<F>(
@@ -262,150 +230,167 @@ fn is_lookup<F>(
     has_bus && has_flags && has_tuples && lookup.column == column && lookup.count_weight == weight
 }
 
-#[test]
-fn locals_come_first_and_groups_last(rt: HostRuntime) {
-    let steps = [
-        Step::Global("a"),
-        Step::Local(&[(1, 1)]),
-        Step::Exclusive("b", &[2, 5]),
-        Step::Global("c"),
-    ];
-    let lookups = lookups_of(&rt, rt.alloc(), steps.as_slice());
-    let lookups = lookups.as_slice();
-    holds(&rt, "four lookups", lookups.len() == 4);
-    holds(&rt, "the local one", is_lookup(lookups, 0, "", 1, 1, false));
-    holds(
-        &rt,
-        "the first on a bus",
-        is_lookup(lookups, 1, "a", 1, 1, false),
-    );
-    holds(
-        &rt,
-        "the second on a bus",
-        is_lookup(lookups, 2, "c", 1, 1, false),
-    );
-    holds(&rt, "the group", is_lookup(lookups, 3, "b", 5, 2, true));
-}
-
-#[test]
-fn a_group_without_branches_has_no_weight(rt: HostRuntime) {
-    let steps = [Step::Exclusive("b", &[])];
-    let lookups = lookups_of(&rt, rt.alloc(), steps.as_slice());
-    let lookups = lookups.as_slice();
-    holds(&rt, "one lookup", lookups.len() == 1);
-    holds(&rt, "the group", is_lookup(lookups, 0, "b", 0, 0, true));
-}
-
-/// Whether these steps are refused for their tuples' widths, 1 and then 2.
-fn has_two_widths(alloc: Global, steps: &[Step<'_>]) -> bool {
-    match extracted::<F7, F7>(alloc, steps) {
-        Err(
-            LookupError::TupleWidths {
-                context,
-                width,
-                other,
-            },
-        ) => context.as_str() == "local lookup" && width == 1 && other == 2,
-        _ => false,
+/// Whether lookups have these buses, weights and numbers of tuples, and are groups or not, in order.
+fn are_lookups<F>(lookups: &[Lookup<F>], expected: &[(&str, u64, usize, bool)]) -> bool {
+    for (column, (bus, weight, tuples, is_exclusive)) in expected.iter().enumerate() {
+        if !is_lookup(lookups, column, bus, *weight, *tuples, *is_exclusive) {
+            return false;
+        }
     }
+    lookups.len() == expected.len()
 }
 
-/// Whether these steps are refused for their weights.
-fn overflows(alloc: Global, steps: &[Step<'_>]) -> bool {
-    matches!(
-        extracted::<F7, F7>(alloc, steps),
-        Err(LookupError::CountWeightOverflow)
-    )
-}
-
+/// Local lookups come first and groups last. The weights of a local lookup are summed, and a group has
+/// the greatest of its weights.
 #[test]
-fn the_first_local_lookup_with_a_fault_decides(rt: HostRuntime) {
+fn lookups_of_pushes(rt: HostRuntime) {
     let alloc = rt.alloc();
-    let weights = [Step::Local(&[(1, 18446744073709551615), (1, 1)])];
-    holds(&rt, "weights", overflows(alloc, weights.as_slice()));
-    let widths = [Step::Local(&[(1, 1), (2, 1)])];
-    holds(&rt, "widths", has_two_widths(alloc, widths.as_slice()));
-    let both = [Step::Local(&[(1, 18446744073709551615), (2, 1)])];
-    holds(
-        &rt,
-        "weights before widths",
-        overflows(alloc, both.as_slice()),
-    );
-    let one_each = [
-        Step::Local(&[(1, 1), (2, 1)]),
-        Step::Local(&[(1, 18446744073709551615), (1, 1)]),
+    let cases: [(&str, &[Step<'_>], &[(&str, u64, usize, bool)], u128); 4] = [
+        (
+            "four pushes",
+            &[
+                Step::Global("a"),
+                Step::Local(&[(1, 1)]),
+                Step::Exclusive("b", &[2, 5]),
+                Step::Global("c"),
+            ],
+            &[
+                ("", 1, 1, false),
+                ("a", 1, 1, false),
+                ("c", 1, 1, false),
+                ("b", 5, 2, true),
+            ],
+            8,
+        ),
+        (
+            "no branches",
+            &[Step::Exclusive("b", &[])],
+            &[("b", 0, 0, true)],
+            0,
+        ),
+        (
+            "a sum of 33 bits",
+            &[Step::Local(&[(2, 4294967295), (2, 1)]), Step::Global("a")],
+            &[("", 4294967296, 2, false), ("a", 1, 1, false)],
+            4294967297,
+        ),
+        (
+            "a group of keys",
+            &[Step::Keys("rc")],
+            &[("rc", 1, 2, true)],
+            1,
+        ),
     ];
-    holds(
-        &rt,
-        "the first lookup",
-        has_two_widths(alloc, one_each.as_slice()),
-    );
+    for (what, steps, expected, total) in cases {
+        let lookups = extracted::<F7, F7>(alloc, steps).expect(&rt, what);
+        holds(&rt, what, are_lookups(lookups.as_slice(), expected));
+        holds(&rt, what, lookups.total_count_weight() == total);
+    }
+    let three = [Step::Range, Step::Range, Step::Range];
+    let lookups = extracted::<BabyBear, BabyBear4>(alloc, three.as_slice());
+    let lookups = lookups.expect(&rt, "range lookups");
+    let are_three = are_lookups(lookups.as_slice(), &[("", 1, 2, false); 3]);
+    holds(&rt, "three range lookups", are_three);
 }
 
+/// The first local lookup with a fault decides, and its weights come before its widths. What an AIR
+/// refuses is handed on.
 #[test]
-fn weights_of_a_local_lookup_are_summed(rt: HostRuntime) {
-    let steps = [Step::Local(&[(2, 4294967295), (2, 1)]), Step::Global("a")];
-    let lookups = lookups_of(&rt, rt.alloc(), steps.as_slice());
-    holds(
+fn refused_extractions(rt: HostRuntime) {
+    let alloc = rt.alloc();
+    let cases: [(&str, &[Step<'_>]); 6] = [
+        (
+            "weights",
+            &[Step::Local(&[(1, 18446744073709551615), (1, 1)])],
+        ),
+        (
+            "weights before widths",
+            &[Step::Local(&[(1, 18446744073709551615), (2, 1)])],
+        ),
+        ("widths", &[Step::Local(&[(1, 1), (2, 1)])]),
+        (
+            "the first lookup",
+            &[
+                Step::Local(&[(1, 1), (2, 1)]),
+                Step::Local(&[(1, 18446744073709551615), (1, 1)]),
+            ],
+        ),
+        ("a degree", &[Step::Overflow]),
+        ("an assertion", &[Step::Assertion(3)]),
+    ];
+    let widths = || LookupError::TupleWidths {
+        context: text(&rt, alloc, "local lookup"),
+        width: 1,
+        other: 2,
+    };
+    let refusals = list(
         &rt,
-        "the weight of both",
-        lookups.total_count_weight() == 4294967297,
+        alloc,
+        [
+            LookupError::CountWeightOverflow,
+            LookupError::CountWeightOverflow,
+            widths(),
+            widths(),
+            LookupError::DegreeOverflow,
+            LookupError::Air(AirError::Assertion { row: 3 }),
+        ],
     );
-    let lookups = lookups.as_slice();
-    holds(&rt, "two lookups", lookups.len() == 2);
-    holds(
-        &rt,
-        "the local one",
-        is_lookup(lookups, 0, "", 4294967296, 2, false),
-    );
-    holds(
-        &rt,
-        "the one on a bus",
-        is_lookup(lookups, 1, "a", 1, 1, false),
-    );
-}
-
-#[test]
-fn each_local_lookup_has_a_column(rt: HostRuntime) {
-    let steps = [Step::Range, Step::Range, Step::Range];
-    let lookups = extracted::<BabyBear, BabyBear4>(rt.alloc(), steps.as_slice());
-    let lookups = lookups.expect(&rt, "lookups");
-    let lookups = lookups.as_slice();
-    holds(&rt, "three lookups", lookups.len() == 3);
-    for column in 0..3 {
-        holds(
-            &rt,
-            "a range lookup",
-            is_lookup(lookups, column, "", 1, 2, false),
-        );
+    for ((what, steps), refusal) in cases.iter().zip(refusals) {
+        let refused = extracted::<F7, F7>(alloc, steps).err();
+        holds(&rt, what, refused == Some(refusal));
     }
 }
 
-#[test]
-fn a_group_is_one_lookup(rt: HostRuntime) {
-    let steps = [Step::Keys("rc")];
-    let lookups = lookups_of(&rt, rt.alloc(), steps.as_slice());
-    let lookups = lookups.as_slice();
-    holds(&rt, "one lookup", lookups.len() == 1);
-    holds(&rt, "the group", is_lookup(lookups, 0, "rc", 1, 2, true));
+/// An AIR of one preprocessed column, whose cell is the tuple of a local lookup.
+struct Fixed;
+
+impl<F> BaseAir<F> for Fixed {
+    ghost width = { λ _. 1 };
+
+    ghost preprocessed_width = { λ _. 1 };
+
+    ghost num_public_values = { λ _. 0 };
+
+    fn width(&self) -> usize {
+        1
+    }
+
+    fn preprocessed_width(&self) -> usize {
+        1
+    }
+
+    fn num_public_values(&self) -> usize {
+        0
+    }
 }
 
-/// The refusal of an AIR that does these.
-fn refused(alloc: Global, steps: &[Step<'_>]) -> Option<LookupError> {
-    extracted::<F7, F7>(alloc, steps).err()
+impl<AB: InteractionBuilder> Air<AB> for Fixed {
+    ghost evaluates = { λ _ before answer after. OnOk answer (AB.layout after ≡ AB.layout before) };
+
+    fn eval(&self, alloc: Global, builder: &mut AB) -> Result<(), AirError> {
+        let Some(fixed) = builder.preprocessed().current(0) else {
+            return Err(AirError::DegreeOverflow);
+        };
+        let mut tuple = Vec::new(alloc);
+        tuple.push(fixed.into())?;
+        let mut tuples = Vec::new(alloc);
+        tuples.push((tuple, Count::from(1)))?;
+        builder.push_local_interaction(alloc, tuples)
+    }
+
+    ghost keeps_layout = { λ air before after h. h };
 }
 
 #[test]
-fn a_refusal_of_an_air_is_handed_on(rt: HostRuntime) {
-    let overflow = refused(rt.alloc(), &[Step::Overflow]);
-    holds(
-        &rt,
-        "a degree",
-        overflow == Some(LookupError::DegreeOverflow),
-    );
-    let assertion = refused(rt.alloc(), &[Step::Assertion(3)]);
-    let wanted = LookupError::Air(AirError::Assertion { row: 3 });
-    holds(&rt, "an assertion", assertion == Some(wanted));
+fn a_preprocessed_cell_is_extracted(rt: HostRuntime) {
+    let lookups = Lookups::<F7>::from_air::<F7, Fixed>(rt.alloc(), &Fixed);
+    let lookups = lookups.expect(&rt, "a lookup");
+    let is_one = are_lookups(lookups.as_slice(), &[("", 1, 1, false)]);
+    holds(&rt, "one lookup", is_one);
+    let mut layout = AirLayout::default();
+    holds(&rt, "no column", !lookups.fits(&layout));
+    layout.preprocessed_width = 1;
+    holds(&rt, "one column", lookups.fits(&layout));
 }
 
 /// The common width of tuples of these widths, or the refusal.
@@ -424,21 +409,15 @@ fn common_width(rt: &impl Abort, alloc: Global, widths: &[usize]) -> Result<usiz
 #[test]
 fn tuples_of_one_width(rt: HostRuntime) {
     let alloc = rt.alloc();
-    holds(&rt, "no tuples", common_width(&rt, alloc, &[]) == Ok(0));
-    holds(
-        &rt,
-        "three tuples",
-        common_width(&rt, alloc, &[2, 2, 2]) == Ok(2),
-    );
-    let context = String::from_str(alloc, "here").expect(&rt, "memory");
+    let none = common_width(&rt, alloc, &[]);
+    holds(&rt, "no tuples", none == Ok(0));
+    let three = common_width(&rt, alloc, &[2, 2, 2]);
+    holds(&rt, "three tuples", three == Ok(2));
     let refusal = LookupError::TupleWidths {
-        context,
+        context: text(&rt, alloc, "here"),
         width: 2,
         other: 1,
     };
-    holds(
-        &rt,
-        "the third differs",
-        common_width(&rt, alloc, &[2, 2, 1, 3]) == Err(refusal),
-    );
+    let refused = common_width(&rt, alloc, &[2, 2, 1, 3]);
+    holds(&rt, "the third differs", refused == Err(refusal));
 }

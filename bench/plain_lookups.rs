@@ -1,0 +1,206 @@
+//! Lookups and their generation in plain Rust, as the Rust crate does it.
+//!
+//! Generation goes through chunks of 1024 rows. For each chunk it walks the expressions row by row,
+//! collects denominators and multiplicities, inverts all denominators by prefix products and one
+//! inverse, and adds up the fractions. It combines a tuple with powers of beta, as the Rust crate does
+//! today, or by Horner's rule.
+#![allow(dead_code)]
+
+use crate::plain::{Base, Quartic, inverses};
+
+const CHUNK: usize = 1024;
+
+pub enum Tree {
+    Column(usize),
+    One,
+    Sum(Box<Tree>, Box<Tree>),
+    Difference(Box<Tree>, Box<Tree>),
+    Product(Box<Tree>, Box<Tree>),
+    Negative(Box<Tree>),
+}
+
+impl Tree {
+    pub fn value(&self, row: &[Base]) -> Base {
+        match self {
+            Tree::Column(index) => row[*index],
+            Tree::One => Base::ONE,
+            Tree::Sum(a, b) => a.value(row) + b.value(row),
+            Tree::Difference(a, b) => a.value(row) - b.value(row),
+            Tree::Product(a, b) => a.value(row) * b.value(row),
+            Tree::Negative(a) => -a.value(row),
+        }
+    }
+}
+
+pub fn column(index: usize) -> Tree {
+    Tree::Column(index)
+}
+
+pub fn columns(first: usize, width: usize) -> Vec<Tree> {
+    (first..first + width).map(column).collect()
+}
+
+pub fn sum(a: Tree, b: Tree) -> Tree {
+    Tree::Sum(Box::new(a), Box::new(b))
+}
+
+pub fn difference(a: Tree, b: Tree) -> Tree {
+    Tree::Difference(Box::new(a), Box::new(b))
+}
+
+pub fn product(a: Tree, b: Tree) -> Tree {
+    Tree::Product(Box::new(a), Box::new(b))
+}
+
+pub fn negative(a: Tree) -> Tree {
+    Tree::Negative(Box::new(a))
+}
+
+pub struct Lookup {
+    pub tuples: Vec<(Vec<Tree>, Tree)>,
+    pub flags: Option<Vec<Tree>>,
+    pub id: u32,
+}
+
+pub fn local(tuples: Vec<(Vec<Tree>, Tree)>) -> Lookup {
+    Lookup { tuples, flags: None, id: 0 }
+}
+
+pub fn element(coefficients: [u32; 4]) -> Quartic {
+    Quartic(coefficients.map(Base::new))
+}
+
+/// How a tuple becomes one element.
+#[derive(Clone, Copy)]
+pub enum Combine {
+    Powers,
+    Horner,
+}
+
+/// The challenges of one lookup: its alpha, and the powers of beta from 0 on.
+pub struct Challenge {
+    alpha: Quartic,
+    powers: Vec<Quartic>,
+}
+
+impl Challenge {
+    pub fn new(lookup: &Lookup) -> Challenge {
+        let beta = element([3, 1, 4, 15]);
+        let mut powers = vec![Quartic::ONE];
+        for i in 0..4 {
+            powers.push(powers[i] * beta);
+        }
+        let alpha = element([9, 2, 6, 5]) + powers[4] * Base::new(lookup.id + 1);
+        Challenge { alpha, powers }
+    }
+
+    pub fn denominator(&self, combine: Combine, tuple: &[Tree], row: &[Base]) -> Quartic {
+        let (last, leading) = tuple.split_last().expect("no tuple is empty");
+        let combined = match combine {
+            Combine::Powers => leading
+                .iter()
+                .zip(self.powers[1..tuple.len()].iter().rev())
+                .fold(Quartic::from(last.value(row)), |sum, (x, power)| sum + *power * x.value(row)),
+            Combine::Horner => tuple
+                .iter()
+                .fold(Quartic::ZERO, |sum, x| sum * self.powers[1] + Quartic::from(x.value(row))),
+        };
+        self.alpha - combined
+    }
+}
+
+/// How many fractions a lookup has on a row.
+fn fractions_of(lookup: &Lookup) -> usize {
+    if lookup.flags.is_some() { 1 } else { lookup.tuples.len() }
+}
+
+/// Appends the denominators of a lookup on a row, and their multiplicities.
+fn push(
+    lookup: &Lookup,
+    challenge: &Challenge,
+    combine: Combine,
+    row: &[Base],
+    denominators: &mut Vec<Quartic>,
+    multiplicities: &mut Vec<Base>,
+) {
+    let Some(flags) = &lookup.flags else {
+        for (tuple, count) in &lookup.tuples {
+            let multiplicity = count.value(row);
+            multiplicities.push(multiplicity);
+            denominators.push(if multiplicity == Base::ZERO {
+                Quartic::ONE
+            } else {
+                challenge.denominator(combine, tuple, row)
+            });
+        }
+        return;
+    };
+    let (mut numerator, mut flag_sum, mut denominator) = (Base::ZERO, Base::ZERO, Quartic::ZERO);
+    for (flag, (tuple, count)) in flags.iter().zip(&lookup.tuples) {
+        let flag = flag.value(row);
+        assert!(flag == Base::ZERO || flag == Base::ONE, "a flag is zero or one");
+        flag_sum = flag_sum + flag;
+        if flag != Base::ZERO {
+            numerator = numerator + flag * count.value(row);
+            denominator = denominator + challenge.denominator(combine, tuple, row) * flag;
+        }
+    }
+    assert!(flag_sum == Base::ZERO || flag_sum == Base::ONE, "at most one flag is set");
+    denominators.push(denominator + Quartic::from(Base::ONE - flag_sum));
+    multiplicities.push(numerator);
+}
+
+/// The auxiliary trace, row after row, and the terminal.
+pub fn generate(
+    main: &[Base],
+    main_width: usize,
+    lookups: &[Lookup],
+    combine: Combine,
+) -> (Vec<Quartic>, Quartic) {
+    let challenges: Vec<Challenge> = lookups.iter().map(Challenge::new).collect();
+    let height = main.len() / main_width;
+    let width = lookups.len() + 1;
+    let fractions: usize = lookups.iter().map(fractions_of).sum();
+    let mut auxiliary = vec![Quartic::ZERO; height * width];
+    let mut totals = vec![Quartic::ZERO; height];
+    let chunks = auxiliary.chunks_mut(CHUNK * width).zip(totals.chunks_mut(CHUNK));
+    for ((auxiliary, totals), main) in chunks.zip(main.chunks(CHUNK * main_width)) {
+        let size = main.len() / main_width * fractions;
+        let (mut denominators, mut multiplicities) =
+            (Vec::with_capacity(size), Vec::with_capacity(size));
+        for row in main.chunks(main_width) {
+            for (lookup, challenge) in lookups.iter().zip(&challenges) {
+                push(lookup, challenge, combine, row, &mut denominators, &mut multiplicities);
+            }
+        }
+        let inverses = inverses(&denominators).expect("no denominator is zero");
+        let mut place = 0;
+        for (cells, total) in auxiliary.chunks_mut(width).zip(totals.iter_mut()) {
+            for (cell, lookup) in cells[1..].iter_mut().zip(lookups) {
+                for _ in 0..fractions_of(lookup) {
+                    *cell = *cell + inverses[place] * multiplicities[place];
+                    place += 1;
+                }
+                *total = *total + *cell;
+            }
+        }
+    }
+    let mut accumulator = Quartic::ZERO;
+    for (cells, total) in auxiliary.chunks_mut(width).zip(&totals) {
+        cells[0] = accumulator;
+        accumulator = accumulator + *total;
+    }
+    (auxiliary, accumulator)
+}
+
+/// A checksum over all cells and then the terminal, on from another one.
+pub fn checksum(before: Quartic, auxiliary: &[Quartic], terminal: Quartic) -> Quartic {
+    let point = element([2, 3, 5, 7]);
+    auxiliary.iter().fold(before, |sum, x| sum * point + *x) * point + terminal
+}
+
+/// The sum of the coefficients, as a number below the modulus.
+pub fn number_of(x: Quartic) -> u32 {
+    let [c0, c1, c2, c3] = x.0;
+    (c0 + c1 + c2 + c3).number()
+}

@@ -1,0 +1,65 @@
+use Rattle.std.proofs.Common.{◌≡◌, ◌≢◌, ◌+◌, ◌*◌, ◌<◌, [], length, inr, Some, ap, sym, ◌∙◌, arith}
+use Rattle.std.proofs.lemmas.Bool.{eqb-true, eqb-false}
+use Rattle.std.proofs.lemmas.List.{length-map, nil_from_length}
+use Rattle.std.proofs.lemmas.Result.{MatchResult-weaker}
+use Rattle.lookup_model.proofs.Branches.{mapped_at}
+use Rattle.lookup_model.specs.Denominators.{column_denominator}
+use Rattle.lookup_model.specs.Extension.{extension, IsLawful}
+use Rattle.lookup_model.proofs.Lawful.{lawful_extension}
+use Rattle.lookup_model.proofs.RecordLaws.{All-at}
+use Rattle.generation_tests.specs.PlainProgram.{message_of, messages_of}
+use Rattle.generation_tests.proofs.PlainProgramLaws.{one_item}
+use Rattle.lookup_generation.proofs.SelectedFractions.{none_selected, one_selected, one_vanishing}
+use Rattle.lookup_laws.proofs.Selections.{place_within}
+use Rattle.generation_tests.proofs.plain.exclusive_fraction_of.Goals as goal
+
+pub returns-then-is_empty : goal.returns-then-is_empty
+returns-then-is_empty g c =
+    let E = extension g.F.PrimeCharacteristicRing.ring g.F.PartialEq.eq g.EF.PrimeCharacteristicRing.ring g.EF.PartialEq.eq g.EF.ExtensionDomain.embed g.EF.Field.inverse in
+    let laws : IsLawful E = lawful_extension g.F.PrimeCharacteristicRing.lawful g.met.F.PrimeCharacteristicRing.eq_is g.EF.PrimeCharacteristicRing.lawful g.met.EF.Domain.domain g.met.EF.PrimeCharacteristicRing.eq_is g.met.EF.ExtensionDomain.embeds g.met.EF.Field.inverse_is in
+    let lawful = sym c.are_boolean.ensures ∙ c.if-not-are_boolean.false in
+    let items = c.in_ok-places.places.items in
+    let none : items ≡ [] = nil_from_length items (sym c.in_ok-places.places.ok.0 ∙ eqb-true c.in_ok-places.places.len 0 (sym c.is_empty.ensures ∙ c.if-is_empty.true)) in
+    let is = none_selected laws (column_denominator E c.args.challenges.now) c.args.row c.args.lookup c.args.flags.now (messages_of c.args.messages.now) lawful (sym c.in_ok-places.ensures ∙ none) in
+    (c.ZERO.ensures ∙ g.met.EF.PrimeCharacteristicRing.zero_is ∙ is.0, is.1)
+
+pub bounds-messages-index : goal.bounds-messages-index
+bounds-messages-index g c =
+    let items = c.in_ok-places.places.items in
+    let filled : length items ≢ 0 = λ e. eqb-false c.in_ok-places.places.len 0 (sym c.is_empty.ensures ∙ c.if-is_empty.false) (c.in_ok-places.places.ok.0 ∙ e) in
+    let one = one_item items c.index.result.now (omega (arith, c.if-len-gt1.false, c.len.ensures, c.in_ok-places.places.ok.0)) filled c.index.ensures in
+    omega (arith, place_within g.F.PrimeCharacteristicRing.ring g.F.PartialEq.eq 0 c.args.flags.now c.index.result.now [] (sym c.in_ok-places.ensures ∙ one), c.requires.lengths)
+
+pub offset_bounds-messages-index : goal.offset_bounds-messages-index
+offset_bounds-messages-index g c =
+    let items = c.in_ok-places.places.items in
+    let filled : length items ≢ 0 = λ e. eqb-false c.in_ok-places.places.len 0 (sym c.is_empty.ensures ∙ c.if-is_empty.false) (c.in_ok-places.places.ok.0 ∙ e) in
+    let one = one_item items c.index.result.now (omega (arith, c.if-len-gt1.false, c.len.ensures, c.in_ok-places.places.ok.0)) filled c.index.ensures in
+    omega (arith, place_within g.F.PrimeCharacteristicRing.ring g.F.PartialEq.eq 0 c.args.flags.now c.index.result.now [] (sym c.in_ok-places.ensures ∙ one), c.requires.lengths)
+
+pub single_quotient-requires : goal.single_quotient-requires
+single_quotient-requires g c =
+    let items = c.in_ok-places.places.items in
+    let filled : length items ≢ 0 = λ e. eqb-false c.in_ok-places.places.len 0 (sym c.is_empty.ensures ∙ c.if-is_empty.false) (c.in_ok-places.places.ok.0 ∙ e) in
+    let one = one_item items c.index.result.now (omega (arith, c.if-len-gt1.false, c.len.ensures, c.in_ok-places.places.ok.0)) filled c.index.ensures in
+    let lt : c.index.result.now < length c.args.messages.now = omega (arith, place_within g.F.PrimeCharacteristicRing.ring g.F.PartialEq.eq 0 c.args.flags.now c.index.result.now [] (sym c.in_ok-places.ensures ∙ one), c.requires.lengths) in
+    All-at (λ m. 2 * m.id + 1 < length c.args.challenges.now) c.args.messages.now c.index.result.now c.index-messages-index.result c.requires.ids lt c.index-messages-index.is
+
+pub returns : goal.returns
+returns g c =
+    let E = extension g.F.PrimeCharacteristicRing.ring g.F.PartialEq.eq g.EF.PrimeCharacteristicRing.ring g.EF.PartialEq.eq g.EF.ExtensionDomain.embed g.EF.Field.inverse in
+    let laws : IsLawful E = lawful_extension g.F.PrimeCharacteristicRing.lawful g.met.F.PrimeCharacteristicRing.eq_is g.EF.PrimeCharacteristicRing.lawful g.met.EF.Domain.domain g.met.EF.PrimeCharacteristicRing.eq_is g.met.EF.ExtensionDomain.embeds g.met.EF.Field.inverse_is in
+    let lawful = sym c.are_boolean.ensures ∙ c.if-not-are_boolean.false in
+    let denominator = column_denominator E c.args.challenges.now in
+    let ms = c.args.messages.now in
+    let k = c.index.result.now in
+    let message = c.index-messages-index.result in
+    let items = c.in_ok-places.places.items in
+    let filled : length items ≢ 0 = λ e. eqb-false c.in_ok-places.places.len 0 (sym c.is_empty.ensures ∙ c.if-is_empty.false) (c.in_ok-places.places.ok.0 ∙ e) in
+    let one = sym c.in_ok-places.ensures ∙ one_item items k (omega (arith, c.if-len-gt1.false, c.len.ensures, c.in_ok-places.places.ok.0)) filled c.index.ensures in
+    let lt : k < length ms = omega (arith, place_within E.base E.base_eq 0 c.args.flags.now k [] one, c.requires.lengths) in
+    let within : k < length (messages_of ms) = omega (arith, lt, length-map ms message_of) in
+    let is = mapped_at message_of ms k message lt c.index-messages-index.is in
+    MatchResult-weaker c.single_quotient.result c.single_quotient.ensures
+    (λ q h. let right = one_selected laws denominator c.args.row c.args.lookup c.args.flags.now (messages_of ms) lawful k (message_of message) one within is h.0 in (h.1 ∙ right.0, right.1))
+    (λ e h. inr (one_vanishing laws denominator c.args.row c.args.lookup c.args.flags.now (messages_of ms) lawful k (message_of message) one within is h.1 ∙ ap Some (sym h.0)))

@@ -1,0 +1,177 @@
+//! Generation in chunks of 1024 rows: what stands where chunks meet, and how many inverses are counted.
+use super::comparison::ranges;
+use super::{Made, are_numbers, holds, list, local, range, trace};
+use air::AirLayout;
+use field::{
+    BabyBear, BabyBear4, ExtensionDomain, F7, Field, InverseCount, Inverter,
+    PrimeCharacteristicRing,
+};
+use lookup::{LogUpGadget, Lookup, LookupError, fits};
+use matrix::RowMajorMatrix;
+use std::alloc::Global;
+use std::process::Abort;
+
+/// What generation makes of lookups over a main trace, by an inverter.
+pub(super) fn counted<F: Field, EF: ExtensionDomain<F>, I: Inverter<EF>>(
+    rt: &impl Abort,
+    alloc: Global,
+    main: &RowMajorMatrix<F>,
+    lookups: &[Lookup<F>],
+    challenges: &[EF],
+    inverter: &mut I,
+) -> Result<Made<EF>, LookupError> {
+    let no_values: Vec<F> = Vec::new(alloc);
+    let layout = AirLayout::of_traces(main, None, no_values.as_slice());
+    assert!(rt; fits(lookups, &layout));
+    assert!(rt; lookups.len() <= challenges.len() / 2);
+    let answer = LogUpGadget::new().generate_counted(
+        alloc,
+        main,
+        None,
+        no_values.as_slice(),
+        lookups,
+        challenges,
+        inverter,
+    );
+    match answer {
+        Ok((auxiliary, terminal)) => Ok(Made::new(auxiliary, terminal)),
+        Err(fault) => Err(fault),
+    }
+}
+
+/// The same over F7, with how many inverses are counted.
+fn with_count(
+    rt: &impl Abort,
+    alloc: Global,
+    main: &RowMajorMatrix<F7>,
+    lookups: &[Lookup<F7>],
+    challenges: &[F7],
+) -> (Result<Made<F7>, LookupError>, u64) {
+    let mut count = InverseCount::new();
+    let made = counted(rt, alloc, main, lookups, challenges, &mut count);
+    (made, count.get())
+}
+
+/// A main trace of as many copies of a row, but for one row.
+fn copies(
+    rt: &impl Abort,
+    alloc: Global,
+    height: usize,
+    row: [u32; 3],
+    other: usize,
+    other_row: [u32; 3],
+) -> RowMajorMatrix<F7> {
+    let mut numbers = Vec::new(alloc);
+    for index in 0..height {
+        let row = if index == other { other_row } else { row };
+        for number in row {
+            numbers.push(number).expect(rt, "memory");
+        }
+    }
+    trace(rt, alloc, numbers.as_slice(), 3)
+}
+
+/// Generation over as many rows of range lookups makes the plain program's trace, with this count. The
+/// elements are below 6, so that no denominator vanishes at the prefix 6. On the rows 0, 1024 and 2048,
+/// which may be alone in their chunk, the denominators are 5, then 1 and 4, then 3 and 1, so that
+/// something is left to invert.
+#[test]
+fn heights_around_whole_chunks(rt: HostRuntime) {
+    let alloc = rt.alloc();
+    let challenges = [F7::new(6), F7::new(2)];
+    let lookups = [range(&rt, alloc, 0)];
+    for (height, wanted) in [
+        (1u32, 1),
+        (1023, 1),
+        (1024, 1),
+        (1025, 2),
+        (2047, 2),
+        (2048, 2),
+        (2049, 3),
+    ] {
+        let mut rows = Vec::new(alloc);
+        for index in 0..height {
+            let row = [(index + 1) % 6, index / 6 % 6, index % 7];
+            rows.push(row).expect(&rt, "memory");
+        }
+        let ranges = ranges(&rt, alloc, rows.as_slice(), &challenges);
+        let (made, count) = with_count(&rt, alloc, &ranges.main, lookups.as_slice(), &challenges);
+        holds(&rt, "no fault", made.is_ok());
+        ranges.expected.compare(&rt, made, ranges.terminal);
+        holds(&rt, "the count", count == wanted);
+    }
+}
+
+/// Each of 1025 rows reads 3, and provides 4 no time.
+///
+/// - At the prefix 0 it adds 1 / (0 - 3) = 1 / 4 = 2. The accumulator of row 1024 is 1024 * 2 = 2048 = 4,
+///   and the sum of all rows is 1025 * 2 = 2050 = 6.
+/// - A lookup in column 1 is at the prefix 1, and adds 1 / (1 - 3) = 1 / 5 = 3. With the 2 of column 0
+///   the accumulator of row 1024 is 1024 * 5 = 5120 = 3, and the sum of all rows is 1025 * 5 = 5125 = 1.
+/// - Without tuples nothing is added, and nothing inverted.
+#[test]
+fn a_chunk_goes_on_where_the_one_before_ends(rt: HostRuntime) {
+    let alloc = rt.alloc();
+    let main = copies(&rt, alloc, 1025, [3, 4, 0], 0, [3, 4, 0]);
+    let challenges = [F7::new(0), F7::new(2), F7::new(1), F7::new(2)];
+    let one = list(&rt, alloc, [range(&rt, alloc, 0)]);
+    let two = list(&rt, alloc, [range(&rt, alloc, 0), range(&rt, alloc, 1)]);
+    let none: Lookup<F7> = local(Vec::new(alloc), Vec::new(alloc), 0);
+    let none = list(&rt, alloc, [none]);
+    let cases: [(&str, &[Lookup<F7>], &[u32], u32, u64); 3] = [
+        ("one lookup", one.as_slice(), &[4, 2], 6, 2),
+        ("two lookups", two.as_slice(), &[3, 2, 3], 1, 2),
+        ("no tuples", none.as_slice(), &[0, 0], 0, 0),
+    ];
+    for (what, lookups, last, terminal, wanted) in cases {
+        let (made, count) = with_count(&rt, alloc, &main, lookups, &challenges);
+        let made = made.expect(&rt, "no fault");
+        let cells = made.auxiliary.values();
+        assert!(rt; last.len() <= cells.len());
+        let start = cells.len() - last.len();
+        holds(&rt, what, start == last.len().saturating_mul(1024));
+        holds(&rt, what, are_numbers(&cells[start..], last));
+        holds(&rt, what, made.terminal == Some(F7::new(terminal)));
+        holds(&rt, what, count == wanted);
+    }
+}
+
+/// At the prefix 3 the read tuple 4 has the denominator 3 - 4 = 6, and the read tuple 3 has 0. The tuple 3
+/// that is provided has the multiplicity 0, and is not looked at. The first chunk alone is inverted.
+#[test]
+fn a_fault_in_the_second_chunk(rt: HostRuntime) {
+    let alloc = rt.alloc();
+    let main = copies(&rt, alloc, 1200, [4, 3, 0], 1030, [3, 4, 0]);
+    let lookups = [range(&rt, alloc, 0)];
+    let challenges = [F7::new(3), F7::new(2)];
+    let (made, count) = with_count(&rt, alloc, &main, lookups.as_slice(), &challenges);
+    let fault = LookupError::VanishingDenominator {
+        row: 1030,
+        lookup: 0,
+    };
+    holds(&rt, "the fault", made.err() == Some(fault));
+    holds(&rt, "the count", count == 1);
+}
+
+/// Over the quartic extension the row `0 1 0` adds 1 / X = X^3 / 11.
+#[test]
+fn an_extension_counts_as_well(rt: HostRuntime) {
+    let alloc = rt.alloc();
+    let main = trace::<BabyBear>(&rt, alloc, &[0, 1, 0], 3);
+    let lookups = [range(&rt, alloc, 0)];
+    let x = BabyBear4::new([0, 1, 0, 0].map(BabyBear::new));
+    let challenges = [x, BabyBear4::ZERO];
+    let mut count = InverseCount::new();
+    let made = counted(
+        &rt,
+        alloc,
+        &main,
+        lookups.as_slice(),
+        &challenges,
+        &mut count,
+    );
+    let inverse = BabyBear4::new([0, 0, 0, 549072524].map(BabyBear::new));
+    let made = made.expect(&rt, "no fault");
+    holds(&rt, "the terminal", made.terminal == Some(inverse));
+    holds(&rt, "one inverse", count.get() == 1);
+}

@@ -1,6 +1,0 @@
-use Rattle.field.specs.IntegersModulo2.{f2_positive}
-use Rattle.field.specs.ResidueRing.{residue_of_mod}
-use Rattle.lookup_tests.proofs.tests.equal_texts.Alike.new.Goals as goal
-
-pub returns : goal.returns
-returns c = residue_of_mod 2 f2_positive c.args.n

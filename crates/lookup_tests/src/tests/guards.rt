@@ -1,0 +1,174 @@
+//! One width for all tuples of a bus, and the bound on weights times heights, over all AIRs.
+use super::{cell, holds, list, local, single, text};
+use field::{BabyBear, F7, Field};
+use lookup::{
+    Kind, Lookup, LookupError, Lookups, check_bus_widths, check_multiplicity_height_bound,
+};
+use std::alloc::Global;
+use std::process::Abort;
+
+/// A lookup of one tuple: the name of its bus, or nothing for a local one; its width; and whether it
+/// has a flag.
+type Shape<'a> = (&'a str, usize, bool);
+
+/// The lookups of an AIR of these shapes.
+fn air(rt: &impl Abort, alloc: Global, shapes: &[Shape<'_>]) -> Lookups<F7> {
+    let mut records = Vec::new(alloc);
+    for (bus, width, has_flag) in shapes {
+        let mut lookup = single(rt, alloc, *width, records.len());
+        if !bus.is_empty() {
+            lookup.kind = Kind::Global(text(rt, alloc, bus));
+        }
+        if *has_flag {
+            lookup.flags = Some(list(rt, alloc, [cell(0)]));
+        }
+        records.push(lookup).expect(rt, "memory");
+    }
+    Lookups::from_records(alloc, records).expect(rt, "records")
+}
+
+/// The greatest width of AIRs of these shapes, or the bus that is refused with its two widths.
+fn widest(
+    rt: &impl Abort,
+    alloc: Global,
+    shapes: &[&[Shape<'_>]],
+) -> Result<usize, (String, usize, usize)> {
+    let mut airs = Vec::new(alloc);
+    for own in shapes {
+        airs.push(air(rt, alloc, own)).expect(rt, "memory");
+    }
+    match check_bus_widths(alloc, airs.as_slice()) {
+        Ok(width) => Ok(width),
+        Err(
+            LookupError::BusWidthMismatch {
+                bus,
+                expected,
+                actual,
+            },
+        ) => Err((bus, expected, actual)),
+        Err(_) => panic!(rt; "another refusal"),
+    }
+}
+
+#[test]
+fn widths_on_buses(rt: HostRuntime) {
+    let alloc = rt.alloc();
+    let accepted: [(&str, &[&[Shape<'_>]], usize); 3] = [
+        ("no AIR", &[], 0),
+        (
+            "3, and a local one",
+            &[&[("a", 1, false), ("", 5, false)], &[("b", 3, false)]],
+            3,
+        ),
+        ("a group", &[&[("a", 1, false)], &[("b", 2, true)]], 2),
+    ];
+    for (what, shapes, width) in accepted {
+        holds(&rt, what, widest(&rt, alloc, shapes) == Ok(width));
+    }
+    let refused: [(&str, &[&[Shape<'_>]], &str, usize, usize); 3] = [
+        (
+            "bus a before bus b",
+            &[&[
+                ("a", 1, false),
+                ("b", 1, false),
+                ("b", 2, false),
+                ("a", 2, false),
+            ]],
+            "a",
+            1,
+            2,
+        ),
+        (
+            "2 in AIR 0, 1 in AIR 2",
+            &[&[("a", 2, false)], &[("b", 1, false)], &[("a", 1, false)]],
+            "a",
+            2,
+            1,
+        ),
+        (
+            "a group of another width",
+            &[&[("a", 1, false)], &[("a", 2, true)]],
+            "a",
+            1,
+            2,
+        ),
+    ];
+    for (what, shapes, bus, expected, actual) in refused {
+        let answer = Err((text(&rt, alloc, bus), expected, actual));
+        holds(&rt, what, widest(&rt, alloc, shapes) == answer);
+    }
+}
+
+/// The refusal of AIRs with lookups of these weights over these heights, where there is one.
+fn refusal<F: Field>(
+    rt: &impl Abort,
+    alloc: Global,
+    weights: &[&[u64]],
+    heights: &[usize],
+) -> Option<LookupError> {
+    let mut airs = Vec::new(alloc);
+    for own in weights {
+        let mut records = Vec::new(alloc);
+        for weight in *own {
+            let column = records.len();
+            let mut lookup: Lookup<F> = local(Vec::new(alloc), Vec::new(alloc), column);
+            lookup.count_weight = *weight;
+            records.push(lookup).expect(rt, "memory");
+        }
+        let lookups = Lookups::from_records(alloc, records).expect(rt, "records");
+        airs.push(lookups).expect(rt, "memory");
+    }
+    assert!(rt; airs.len() == heights.len());
+    check_multiplicity_height_bound(airs.as_slice(), heights).err()
+}
+
+/// The refusal of this sum, in a field of so many bits.
+fn reached(weighted_height_sum: u128, field_bits: usize) -> Option<LookupError> {
+    Some(LookupError::MultiplicityHeightBoundExceeded {
+        weighted_height_sum,
+        field_bits,
+    })
+}
+
+#[test]
+fn weights_times_heights(rt: HostRuntime) {
+    let alloc = rt.alloc();
+    let half: usize = 1073741824;
+    let accepted: [(&str, &[&[u64]], &[usize]); 3] = [
+        ("one less", &[&[1], &[1]], &[2013265919, 1]),
+        ("small heights", &[&[1], &[1]], &[1048576, 1048576]),
+        ("weights of zero", &[&[0], &[0]], &[half, half]),
+    ];
+    for (what, weights, heights) in accepted {
+        let answer = refusal::<BabyBear>(&rt, alloc, weights, heights);
+        holds(&rt, what, answer.is_none());
+    }
+    let (all, high) = (18446744073709551615u64, 18446744073709551615usize);
+    let refused: [(&str, &[&[u64]], &[usize], u128); 4] = [
+        (
+            "the characteristic",
+            &[&[1], &[1]],
+            &[2013265920, 1],
+            2013265921,
+        ),
+        ("more", &[&[1], &[1]], &[half, half], 2147483648),
+        (
+            "128 bits",
+            &[&[all]],
+            &[high],
+            340282366920938463426481119284349108225,
+        ),
+        (
+            "the greatest sum",
+            &[&[all, all]],
+            &[high],
+            340282366920938463463374607431768211455,
+        ),
+    ];
+    for (what, weights, heights, sum) in refused {
+        let answer = refusal::<BabyBear>(&rt, alloc, weights, heights);
+        holds(&rt, what, answer == reached(sum, 31));
+    }
+    let seven = refusal::<F7>(&rt, alloc, &[&[1]], &[7]);
+    holds(&rt, "7 over F7", seven == reached(7, 3));
+}
