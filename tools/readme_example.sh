@@ -2,7 +2,7 @@
 # Each block of the README's example stands, line by line, in the test that runs it.
 set -eu
 cd "$(dirname "${BASH_SOURCE[0]}")/.."
-test=crates/checker_tests/src/tests/example.rt
+test=crates/batch_tests/src/tests/example.rt
 source=$(tr -d ' \n' <"$test")
 blocks=$(mktemp -d)
 trap 'rm -r "$blocks"' EXIT

@@ -42,14 +42,16 @@ expect "full errors" 2 ""
 try bash -c '"$0" range f7 5 2 2>&-' "$program" <<<"3 4"
 expect "no errors" 2 ""
 
-# 3000 rows whose fractions are 3 and 4 in turn
+# 3000 rows whose fractions are 1/12 and -1/12 in turn
 for ((i = 0; i < 1500; i++)); do printf '4 3 1\n3 4 1\n'; done >"$room/rows"
 {
   echo 'air 0'
-  for ((i = 0; i < 1500; i++)); do printf '0 3\n3 4\n'; done
-  printf 'terminal 0\nbalanced\n'
+  for ((i = 0; i < 1500; i++)); do
+    printf '0,0,0,0 1845493761,0,0,0\n1845493761,0,0,0 167772160,0,0,0\n'
+  done
+  printf 'terminal 0,0,0,0\nbalanced\n'
 } >"$room/wanted"
-try "$program" range f7 5 2 <"$room/rows"
+try "$program" range babybear4 5,0,0,0 2,0,0,0 <"$room/rows"
 if [ "$status" != 0 ] || ! cmp -s "$room/output" "$room/wanted" || [ -s "$room/errors" ]; then
   echo "streams: 3000 rows: status $status" >&2
   exit 1

@@ -2,18 +2,17 @@
 ghost use Rattle.std.specs.Prelude.{◌≡◌, ◌↔◌, ◌<◌, All, IsTrue, length};
 
 mod batches;
-mod binary;
 mod counts;
-mod example;
 mod exhaustion;
-mod guards;
 mod ids;
-mod runs;
+mod memory;
+mod program;
 mod single;
+mod witnesses;
 
 use air::{BaseEntry, BaseLeaf, Expression, SymbolicExpression, SymbolicVariable};
 use checker::{BatchFault, BatchInstance, Witness, check_witness, generate_batch, instances_fit};
-use field::{F7, Field, PrimeCharacteristicRing};
+use field::{ExtensionField, F7, Field, PrimeCharacteristicRing};
 use lookup::{Challenges, Kind, Lookup, LookupError, LookupTerminal};
 use matrix::RowMajorMatrix;
 use std::alloc::Global;
@@ -30,7 +29,7 @@ fn list<T: Drop, const N: usize>(rt: &impl Abort, alloc: Global, values: [T; N])
 }
 
 /// A cell of the current row of the main trace.
-fn cell(index: usize) -> SymbolicExpression<F7> {
+fn cell<F: Field>(index: usize) -> SymbolicExpression<F> {
     SymbolicExpression::Leaf(BaseLeaf::Variable(SymbolicVariable::new(
         BaseEntry::Main { offset: 0 },
         index,
@@ -38,20 +37,20 @@ fn cell(index: usize) -> SymbolicExpression<F7> {
 }
 
 /// A multiplicity: 1, or the negative of a cell.
-fn count(rt: &impl Abort, alloc: Global, taken: Option<usize>) -> SymbolicExpression<F7> {
+fn count<F: Field>(rt: &impl Abort, alloc: Global, taken: Option<usize>) -> SymbolicExpression<F> {
     match taken {
-        Some(index) => cell(index).neg(alloc).expect(rt, "memory"),
-        None => SymbolicExpression::constant(F7::ONE),
+        Some(index) => cell::<F>(index).neg(alloc).expect(rt, "memory"),
+        None => SymbolicExpression::constant(F::ONE),
     }
 }
 
 /// The lookup in column 0 of the tuples of one cell each, with these multiplicities.
-fn lookup<const N: usize>(
+fn lookup<F: Field, const N: usize>(
     rt: &impl Abort,
     alloc: Global,
     bus: Option<&str>,
     branches: [(usize, Option<usize>); N],
-) -> Lookup<F7> {
+) -> Lookup<F> {
     let mut elements = Vec::new(alloc);
     let mut multiplicities = Vec::new(alloc);
     for (index, taken) in branches.as_slice() {
@@ -77,29 +76,58 @@ fn lookup<const N: usize>(
 }
 
 /// The local lookup of cell 0 with count 1, and of cell 1 with the count of cell 2 taken away.
-fn range(rt: &impl Abort, alloc: Global) -> Lookup<F7> {
+fn range<F: Field>(rt: &impl Abort, alloc: Global) -> Lookup<F> {
     lookup(rt, alloc, None, [(0, None), (1, Some(2))])
 }
 
 /// A matrix of these numbers, row after row.
-fn trace(rt: &impl Abort, alloc: Global, numbers: &[u32], width: usize) -> RowMajorMatrix<F7> {
+fn trace<F: Field>(
+    rt: &impl Abort,
+    alloc: Global,
+    numbers: &[u32],
+    width: usize,
+) -> RowMajorMatrix<F> {
     let mut values = Vec::new(alloc);
     for number in numbers {
-        values.push(F7::from_u32(*number)).expect(rt, "memory");
+        values.push(F::from_u32(*number)).expect(rt, "memory");
     }
     assert!(rt; width > 0 && values.len() % width == 0);
     RowMajorMatrix::new(values, width)
 }
 
-/// A matrix without columns.
-fn no_cells(alloc: Global) -> RowMajorMatrix<F7> {
-    RowMajorMatrix::new(Vec::new(alloc), 0)
+/// The lookup of a group on a bus: for each branch a flag and a key of one cell, with this count.
+fn group<F: Field, const N: usize>(
+    rt: &impl Abort,
+    alloc: Global,
+    branches: [(usize, usize); N],
+    count: F,
+) -> Lookup<F> {
+    let mut flags = Vec::new(alloc);
+    let mut elements = Vec::new(alloc);
+    let mut multiplicities = Vec::new(alloc);
+    for (flag, key) in branches.as_slice() {
+        flags.push(cell(*flag)).expect(rt, "memory");
+        elements
+            .push(list(rt, alloc, [cell(*key)]))
+            .expect(rt, "memory");
+        multiplicities
+            .push(SymbolicExpression::constant(count))
+            .expect(rt, "memory");
+    }
+    Lookup {
+        kind: Kind::Global(String::from_str(alloc, "keys").expect(rt, "memory")),
+        elements,
+        multiplicities,
+        count_weight: 1,
+        column: 0,
+        flags: Some(flags),
+    }
 }
 
 /// Whether values are these numbers.
-fn are_numbers(values: &[F7], numbers: &[u32]) -> bool {
+fn are_numbers<F: Field>(values: &[F], numbers: &[u32]) -> bool {
     for (value, number) in values.iter().zip(numbers) {
-        if *value != F7::from_u32(*number) {
+        if *value != F::from_u32(*number) {
             return false;
         }
     }
@@ -107,11 +135,11 @@ fn are_numbers(values: &[F7], numbers: &[u32]) -> bool {
 }
 
 /// An AIR of a batch without preprocessed trace or public values.
-fn instance<'a>(
-    lookups: &'a [Lookup<F7>],
-    main: &'a RowMajorMatrix<F7>,
+fn instance<'a, F: Field>(
+    lookups: &'a [Lookup<F>],
+    main: &'a RowMajorMatrix<F>,
     ids: &'a [usize],
-) -> BatchInstance<'a, F7> {
+) -> BatchInstance<'a, F> {
     BatchInstance {
         lookups,
         main,
@@ -150,25 +178,25 @@ fn have_prefixes<F: Field>(instances: &[BatchInstance<'_, F>], count: usize) -> 
 }
 
 /// What generation makes of a batch, which has to fit.
-fn generated(
+fn generated<F: Field, EF: ExtensionField<F>>(
     rt: &impl Abort,
     alloc: Global,
-    instances: &[BatchInstance<'_, F7>],
-    challenges: &Challenges<F7>,
-) -> Result<Witness<F7>, BatchFault> {
+    instances: &[BatchInstance<'_, F>],
+    challenges: &Challenges<EF>,
+) -> Result<Witness<EF>, BatchFault> {
     assert!(rt; instances_fit(instances));
     assert!(rt; have_prefixes(instances, challenges.bus_prefix.len()));
     generate_batch(alloc, instances, challenges)
 }
 
 /// What the check says of a witness of a batch, which has to fit.
-fn checked(
+fn checked<F: Field, EF: ExtensionField<F>>(
     rt: &impl Abort,
     alloc: Global,
-    instances: &[BatchInstance<'_, F7>],
-    challenges: &Challenges<F7>,
-    aux: &[RowMajorMatrix<F7>],
-    terminals: &[Option<LookupTerminal<F7>>],
+    instances: &[BatchInstance<'_, F>],
+    challenges: &Challenges<EF>,
+    aux: &[RowMajorMatrix<EF>],
+    terminals: &[Option<LookupTerminal<EF>>],
 ) -> Result<(), LookupError> {
     assert!(rt; instances_fit(instances));
     assert!(rt; have_prefixes(instances, challenges.bus_prefix.len()));
@@ -189,4 +217,16 @@ fn has_result(witness: &Witness<F7>, air: usize, cells: &[u32], value: u32) -> b
         }
         _ => false,
     }
+}
+
+/// The answer to a witness that was generated.
+fn rechecked<F: Field, EF: ExtensionField<F>>(
+    rt: &impl Abort,
+    alloc: Global,
+    instances: &[BatchInstance<'_, F>],
+    challenges: &Challenges<EF>,
+    made: &Witness<EF>,
+) -> Result<(), LookupError> {
+    let (aux, terminals) = (made.aux.as_slice(), made.terminals.as_slice());
+    checked(rt, alloc, instances, challenges, aux, terminals)
 }

@@ -48,7 +48,7 @@ one_item f (x ∷ z ∷ xs) y e =
     absurd (cc rest)
 
 -- a list whose image is two items has two items
-two_items : {A B : Type 0} (f : A → B) (xs : List A) (y z : B) → map f xs ≡ y ∷ z ∷ [] → (a : A) × (b : A) × (xs ≡ a ∷ b ∷ []) × (f a ≡ y) × (f b ≡ z)
+pub two_items : {A B : Type 0} (f : A → B) (xs : List A) (y z : B) → map f xs ≡ y ∷ z ∷ [] → (a : A) × (b : A) × (xs ≡ a ∷ b ∷ []) × (f a ≡ y) × (f b ≡ z)
 two_items f [] y z e = absurd (cc e)
 two_items f (a ∷ xs) y z e =
     let first : f a ≡ y = cc e in

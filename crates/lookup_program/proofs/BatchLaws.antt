@@ -6,7 +6,6 @@ use Rattle.std.proofs.lemmas.List.{length-append, length-drop, length-take-le}
 use Rattle.std.proofs.lemmas.List.Elements.{All-cons, All-map, All-nil}
 use Rattle.std.proofs.lemmas.Nat.{div-mul-add, le-div}
 use Rattle.std.proofs.lemmas.Option.{slice_get-map}
-use Rattle.std.specs.Box.{boxed_slice_items}
 use Rattle.std.specs.List.{AllZip, flat_map, range_with_len, slice_range}
 use Rattle.std.specs.Option.{option_map}
 use Rattle.field.specs.Ring.{Ring}
@@ -14,17 +13,13 @@ use Rattle.matrix.specs.Matrix.{IsShaped, Matrix, height, row}
 use Rattle.expressions.specs.Layout.{layout_of_widths}
 use Rattle.expressions.specs.Window.{window_at}
 use Rattle.air.specs.Recorded.{HasWidths}
-use Rattle.batch_model.specs.Answers.{GivesOnlyFaultless, GivesPlainWitness}
-use Rattle.batch_model.specs.Faults.{AreFaultless as AreInstancesFaultless, IsFirstFault as IsFirstInstanceFault, IsOutOfMemory, instance_faults}
-use Rattle.batch_model.specs.Instances.{DoInstancesFit, HavePrefixes, Instance, IsFitting, instance_of, instances_of}
+use Rattle.batch.specs.Refusals.{of_fault, refusal_at}
+use Rattle.batch_model.specs.Faults.{AreFaultless as AreInstancesFaultless, IsFirstFault as IsFirstInstanceFault, instance_faults}
+use Rattle.batch_model.specs.Instances.{Instance, IsFitting}
 use Rattle.batch_model.specs.Messages.{id_of, sent_rows_of}
-use Rattle.batch_model.specs.Witnesses.{HasOneOfEach, plain_result, plain_witness, results_of}
+use Rattle.batch_model.specs.Witnesses.{plain_result, plain_witness}
 use Rattle.batch_model.specs.declared.fault.BatchFault.{BatchFault}
-use Rattle.batch_model.specs.declared.instance.BatchInstance.{BatchInstance}
-use Rattle.batch_model.specs.declared.witness.Witness.{Witness}
-use Rattle.lookup_builder.proofs.Elements.{all_of_map}
-use Rattle.lookup_model.specs.Challenges.{ChallengeTable, prefix_of_bus, table_denominator, table_of}
-use Rattle.lookup_model.specs.declared.challenges.Challenges.{Challenges}
+use Rattle.lookup_model.specs.Challenges.{ChallengeTable, table_denominator}
 use Rattle.lookup_model.specs.Extension.{Extension}
 use Rattle.lookup_model.specs.Generated.{plain_matrix, plain_terminal_of}
 use Rattle.lookup_model.specs.Fault.{trace_faults}
@@ -34,13 +29,11 @@ use Rattle.lookup_model.specs.declared.types.Lookup.{Lookup}
 use Rattle.lookup.specs.Lookups.{lookups_of}
 use Rattle.lookup.specs.Sends.{lookup_bus_and_weight}
 use Rattle.lookup_program.specs.Machines.{air_bus_and_weight, air_cells, air_sends, air_trace, airs_of, columns_of, first_column_of, width_of}
-use Rattle.lookup_program.specs.Program.{AreFaultless, IsBatchRefusal, IsFirstFault, air_faults, air_result, machine_witness, run_table}
-use Rattle.lookup_program.specs.Refusal.{of_batch, refusal_at}
+use Rattle.lookup_program.specs.Program.{AreFaultless, IsFirstFault, air_faults, air_result, machine_witness, run_table}
+use Rattle.lookup_program.specs.Refusal.{of_batch}
 use Rattle.lookup_program.specs.Traces.{IsTraceOf, instance_over}
 use Rattle.lookup_program.specs.declared.airs.MachineAir.{MachineAir}
 use Rattle.lookup_program.specs.declared.airs.MachineAir.TheVariants.{Entries, Group, Keys, RangeCheck}
-use Rattle.lookup_program.specs.declared.error.RunError.{RunError}
-use Rattle.lookup_program.specs.declared.error.RunError.TheVariants.{Memory}
 use Rattle.lookup_program.specs.declared.machine.Machine.{Machine}
 use Rattle.lookup_program.specs.declared.machine.Machine.TheVariants.{Bus, Exclusive, Range}
 use Rattle.lookup_program.specs.declared.traces.AirTrace.{AirTrace}
@@ -139,7 +132,7 @@ module _ {F : Type 0} (R : Ring F) (eq : F → F → Bool) (input : Matrix F) (a
       (one.0, one.1)
 
   -- its instance makes a batch
-  fitting : first_column_of air + width_of air ≤ input.width → 0 < height input → IsFitting (instance trace)
+  pub fitting : first_column_of air + width_of air ≤ input.width → 0 < height input → IsFitting (instance trace)
   fitting holds some = record {
     fit = subst (λ (width : ℕ). DoFit (layout_of_widths width 0 0) (lookups_of trace.lookups)) (sym (ap (λ m. m.width) is.main)) is.lookups.fit;
     heights = λ trace none. absurd (cc none);
@@ -201,15 +194,6 @@ module _ {F K : Type 0} (E : Extension F K) (alpha beta : K) (input : Matrix F) 
   all_faults_are (a ∷ later) [] all = absurd all
   all_faults_are (a ∷ later) (t ∷ ts) all = λ i. faults_are a t all.0 i ∷ all_faults_are later ts all.1 i
 
-  -- all of them make a batch
-  all_fitting : (airs : List MachineAir) (traces : List (AirTrace F)) → All (λ air. first_column_of air + width_of air ≤ input.width) airs → 0 < height input → AllZip (IsTraceOf E.base E.base_eq input) airs traces → All IsFitting (map instance traces)
-  all_fitting [] [] holds some all = All-nil IsFitting
-  all_fitting [] (t ∷ ts) holds some all = absurd all
-  all_fitting (a ∷ later) [] holds some all = absurd all
-  all_fitting (a ∷ later) (t ∷ ts) holds some all =
-      All-cons IsFitting (instance t) (map instance ts) (fitting E.base E.base_eq input a t all.0 (holds 0 a (omega arith)) some)
-      (all_fitting later ts (λ n d lt. holds (suc n) d (omega (arith, lt))) some all.1)
-
   -- an item whose image stands at a place
   item_at : {A B : Type 0} (f : A → B) (xs : List A) (i : ℕ) (y : B) → slice_get (map f xs) i ≡ Some y → (x : A) × (slice_get xs i ≡ Some x) × (f x ≡ y)
   item_at f [] i y there = absurd (cc there)
@@ -232,65 +216,25 @@ module _ {F K : Type 0} (E : Extension F K) (alpha beta : K) (input : Matrix F) 
         (ap (λ l. slice_get l i) (sym (all_faults_are (airs_of machine) traces all)) ∙ slice_get-map (instance_faults E table) (map instance traces) i ∙ ap (option_map (instance_faults E table)) there)
 
     -- what generation gives is the machine's witness
-    witness_is : plain_witness E table (map instance traces) ≡ machine_witness E machine alpha beta input
+    pub witness_is : plain_witness E table (map instance traces) ≡ machine_witness E machine alpha beta input
     witness_is = results_are (airs_of machine) traces all
 
     -- no AIR has a fault
-    faultless_is : AreInstancesFaultless E table (map instance traces) → AreFaultless E machine alpha beta input
+    pub faultless_is : AreInstancesFaultless E table (map instance traces) → AreFaultless E machine alpha beta input
     faultless_is none i air there =
         let x = instance_at i air there in
         sym x.2 ∙ none i x.0 x.1
 
     -- or the first fault is that of the machine
-    first_fault_is : (fault : BatchFault) → IsFirstInstanceFault E table (map instance traces) fault → IsFirstFault E machine alpha beta input fault
+    pub first_fault_is : (fault : BatchFault) → IsFirstInstanceFault E table (map instance traces) fault → IsFirstFault E machine alpha beta input (of_batch (of_fault fault))
     first_fault_is fault first =
         let air = air_at first.place first.instance first.is_there in
         record {
           place = first.place;
           air = air.0;
-          air_is = first.air_is;
+          error = fault.error;
           is_there = air.1;
           is_first = ap (λ l. slice_get l 0) air.2 ∙ first.is_first;
           before = λ i other lt there. let x = instance_at i other there in sym x.2 ∙ first.before i x.0 lt x.1;
+          error_is = ap (λ at. of_batch (refusal_at at fault.error)) first.air_is;
         }
-
-    -- the instances make a batch
-    pub batch_fits : (bs : List (BatchInstance F)) → instances_of bs ≡ map instance traces → input.width ≡ columns_of machine → 0 < height input → DoInstancesFit bs
-    batch_fits bs are wide_enough some =
-        all_of_map IsFitting instance_of bs (subst (All IsFitting) (sym are)
-        (all_fitting (airs_of machine) traces (λ n d lt. omega (arith, airs_within machine n d lt, wide_enough)) some all))
-
-    -- their ids have prefixes
-    pub batch_has_prefixes : (bs : List (BatchInstance F)) (c : Challenges K) → instances_of bs ≡ map instance traces → boxed_slice_items c.bus_prefix ≡ map (prefix_of_bus E.ring alpha beta 1) (range_with_len 0 1) → HavePrefixes c bs
-    batch_has_prefixes bs c are prefixes =
-        let Has : List ℕ → Type 0 = All (λ id. id < length (boxed_slice_items c.bus_prefix)) in
-        let one : length (boxed_slice_items c.bus_prefix) ≡ 1 = ap length prefixes in
-        let each : Has ids = All-cons (λ id. id < length (boxed_slice_items c.bus_prefix)) 0 [] (omega (arith, one)) (All-nil (λ id. id < length (boxed_slice_items c.bus_prefix))) in
-        all_of_map (λ (x : Instance F). Has x.ids) instance_of bs
-        (subst (All (λ (x : Instance F). Has x.ids)) (sym are) (All-map (λ (x : Instance F). Has x.ids) instance traces (λ n d lt. each)))
-
-    -- what generation answers is the witness of the machine, or its first fault
-    pub machine_generated : (instances : List (Instance F)) (made : ChallengeTable K) (answer : Result (Witness K) BatchFault) → instances ≡ map instance traces → made ≡ table
-        → GivesPlainWitness E made instances answer → GivesOnlyFaultless E made instances answer → IfOk answer (λ w. HasOneOfEach instances w)
-        → MatchResult answer
-        (λ w. (results_of w ≡ machine_witness E machine alpha beta input) × (length w.aux.items ≡ length w.terminals.items) × AreFaultless E machine alpha beta input)
-        (λ fault. IsOutOfMemory fault ⊎ IsFirstFault E machine alpha beta input fault)
-    machine_generated instances made (Ok w) are same plain faultless one = (
-      plain ∙ (λ i. plain_witness E (same i) (are i)) ∙ witness_is,
-      one.0 ∙ sym one.1,
-      faultless_is (subst₂ (λ (t : ChallengeTable K) (is : List (Instance F)). AreInstancesFaultless E t is) same are faultless),
-    )
-    machine_generated instances made (Err fault) are same (inl memory) faultless one = inl memory
-    machine_generated instances made (Err fault) are same (inr first) faultless one =
-        inr (first_fault_is fault (subst₂ (λ (t : ChallengeTable K) (is : List (Instance F)). IsFirstInstanceFault E t is fault) same are first))
-
--- the table that is made is that of a run
-pub table_is : {F K : Type 0} (E : Extension F K) (alpha beta : K) (c : Challenges K) → c.alpha ≡ alpha → c.beta ≡ beta → boxed_slice_items c.bus_prefix ≡ map (prefix_of_bus E.ring alpha beta 1) (range_with_len 0 1)
-    → table_of c ≡ run_table E alpha beta
-table_is E alpha beta c same_alpha same_beta prefixes i = record { prefix = λ id. slice_index_or (prefixes i) id (same_alpha i); beta = same_beta i }
-
--- the refusal of a batch
-pub refusal_is : {F K : Type 0} (E : Extension F K) (machine : Machine) (alpha beta : K) (input : Matrix F) (fault : BatchFault) (e : RunError) → e ≡ of_batch fault → IsOutOfMemory fault ⊎ IsFirstFault E machine alpha beta input fault
-    → (e ≡ Memory) ⊎ IsBatchRefusal E machine alpha beta input e
-refusal_is E machine alpha beta input fault e is (inl memory) = inl (is ∙ ap (λ air. refusal_at air fault.error) memory.air)
-refusal_is E machine alpha beta input fault e is (inr first) = inr (fault, first, is)

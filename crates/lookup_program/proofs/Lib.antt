@@ -6,6 +6,9 @@ pub mod InputLaws
 pub mod MismatchLaws
 pub mod PackedAir
 pub mod PartLaws
+pub mod PlannedAirs
+pub mod PlannedBatches
+pub mod PlannedWidths
 pub mod ReportLaws
 pub mod TraceLaws
 pub mod VerdictLaws

@@ -1,5 +1,5 @@
 -- What a report says.
-use Rattle.std.proofs.Common.{◌≡◌, ◌≢◌, ◌↔◌, ◌++◌, ℕ, Bool, IsTrue, List, [], ◌∷◌, Option, Result, Ok, Err, MatchResult, is_ok, length, map, string_bytes, refl, subst, sym, ap, ap₂, arith, ◌∙◌}
+use Rattle.std.proofs.Common.{◌≡◌, ◌≢◌, ◌↔◌, ◌++◌, ◌<◌, ℕ, Bool, IsTrue, List, [], ◌∷◌, Option, Result, Ok, Err, MatchResult, is_ok, length, map, string_bytes, refl, subst, sym, ap, ap₂, arith, ◌∙◌}
 use Rattle.std.specs.List.{zip}
 use Rattle.std.specs.declared.alloc.Global.{Global}
 use Rattle.std.specs.declared.string.String.{String}
@@ -14,7 +14,7 @@ use Rattle.lookup_program.specs.Fields.{Fields}
 use Rattle.lookup_program.specs.Input.{IsInput}
 use Rattle.lookup_program.specs.Machines.{columns_of}
 use Rattle.lookup_program.specs.Mismatches.{IsMismatchLine}
-use Rattle.lookup_program.specs.Program.{AreFaultless, IsReport, machine_witness}
+use Rattle.lookup_program.specs.Program.{AreFaultless, IsReport, height_sum, machine_witness}
 use Rattle.lookup_program.specs.Report.{verdict_line, witness_lines}
 use Rattle.lookup_program.specs.declared.machine.Machine.{Machine}
 
@@ -38,7 +38,7 @@ module _ {F K : Type 0} (fields : Fields F K) (machine : Machine) (alpha beta : 
   -- the report of rows without a fault
   pub report_is : (w : Witness K) (terminals : List (Option (LookupTerminal K))) (cancel : Result (Unit {0}) LookupError) (balanced : Bool) (lines verdict : List ℕ) (text : String Global) (mismatch : Option (String Global))
       → IsInput fields.extension.base (columns_of machine) fields.bound input rows
-      → (results_of w ≡ machine_witness fields.extension machine alpha beta rows) × (length w.aux.items ≡ length w.terminals.items) × AreFaultless fields.extension machine alpha beta rows
+      → (results_of w ≡ machine_witness fields.extension machine alpha beta rows) × (length w.aux.items ≡ length w.terminals.items) × AreFaultless fields.extension machine alpha beta rows × (height_sum machine rows < fields.characteristic)
       → terminals ≡ w.terminals.items → MatchResult cancel (λ _. terminal_sum fields.extension.ring terminals ≡ fields.extension.ring.zero) (λ e. (e ≡ TerminalSumNonZero) × (terminal_sum fields.extension.ring terminals ≢ fields.extension.ring.zero))
       → balanced ≡ is_ok cancel → lines ≡ witness_lines fields.text (results_of w) → verdict ≡ verdict_line balanced → string_bytes text ≡ lines ++ verdict
       → IsMismatchLine fields.extension.base fields.extension.base_eq fields.base_text machine rows mismatch
@@ -46,6 +46,7 @@ module _ {F K : Type 0} (fields : Fields F K) (machine : Machine) (alpha beta : 
   report_is w terminals cancel balanced lines verdict text mismatch read made are sum is lines_are verdict_is text_is mismatch_is = record {
     rows = rows;
     read = read;
+    light = made.3;
     faultless = made.2;
     balanced =
         let S = fields.extension.ring in

@@ -1,12 +1,13 @@
 -- The result of a run: a report, or the first refusal in the order of the checks.
-use Rattle.std.specs.Prelude.{◌≡◌, ◌≢◌, ◌⊎◌, ◌↔◌, ◌++◌, ◌<◌, ℕ, IsTrue, List, [], ◌∷◌, Option, None, Some, codes, cond, length, map, slice_get, slice_index_or, string_bytes, Result, Err, MatchResult}
+use Rattle.std.specs.Prelude.{◌≡◌, ◌≢◌, ◌⊎◌, ◌↔◌, ◌++◌, ◌<◌, ◌*◌, ℕ, IsTrue, List, [], ◌∷◌, Option, None, Some, codes, cond, length, map, slice_get, slice_index_or, string_bytes, Result, Err, MatchResult}
 use Rattle.std.specs.Io.KnownBytes.{Appends}
-use Rattle.std.specs.List.{range_with_len}
+use Rattle.std.specs.List.{range_with_len, sum_by}
 use Rattle.std.specs.declared.alloc.Global.{Global}
 use Rattle.std.specs.declared.string.String.{String}
 use Rattle.matrix.specs.Matrix.{Matrix, height, row}
+use Rattle.batch.specs.declared.error.BatchError.TheVariants.{Air as OfAir, Lookup as OfLookup}
 use Rattle.batch_model.specs.Witnesses.{AirResult}
-use Rattle.batch_model.specs.declared.fault.BatchFault.{BatchFault}
+use Rattle.lookup.specs.Guards.{IsHeightRefusal}
 use Rattle.lookup_model.specs.Challenges.{ChallengeTable, prefix_of_bus, table_denominator}
 use Rattle.lookup_model.specs.Extension.{Extension}
 use Rattle.lookup_model.specs.Fault.{trace_faults}
@@ -16,15 +17,23 @@ use Rattle.lookup_model.specs.Terminals.{terminal_sum}
 use Rattle.lookup_model.specs.declared.error.LookupError.{LookupError}
 use Rattle.lookup_program.specs.Fields.{Fields}
 use Rattle.lookup_program.specs.Input.{IsInput, IsInputRefusal}
-use Rattle.lookup_program.specs.Machines.{air_sends, air_trace, airs_of, columns_of, name_of}
+use Rattle.lookup_program.specs.Machines.{air_bus_and_weight, air_sends, air_trace, airs_of, columns_of, name_of}
 use Rattle.lookup_program.specs.Mismatches.{IsMismatchLine}
-use Rattle.lookup_program.specs.Refusal.{ShowsWord, of_batch}
+use Rattle.lookup_program.specs.Refusal.{ShowsWord}
 use Rattle.lookup_program.specs.Report.{verdict_line, witness_lines}
 use Rattle.lookup_program.specs.declared.airs.MachineAir.{MachineAir}
 use Rattle.lookup_program.specs.declared.error.RunError.{RunError}
-use Rattle.lookup_program.specs.declared.error.RunError.TheVariants.{Usage, UnknownMachine, UnknownField, BadChallenge, CannotReadInput, Memory}
+use Rattle.lookup_program.specs.declared.error.RunError.TheVariants.{Usage, UnknownMachine, UnknownField, BadChallenge, Batch, CannotReadInput, Memory}
 use Rattle.lookup_program.specs.declared.machine.Machine.{Machine}
 use Rattle.lookup_program.specs.declared.report.Report.{Report}
+
+-- the weights of a machine's AIRs, each times the height of its trace, added up
+abbrev pub height_sum : {F : Type 0} → Machine → Matrix F → ℕ
+height_sum machine input = sum_by (λ air. (air_bus_and_weight air).1 * height (air_trace air input)) (airs_of machine)
+
+-- the refusal of an input whose height sum reaches the characteristic
+abbrev pub IsHeavy : {F : Type 0} → ℕ → Machine → Matrix F → RunError → Type 0
+IsHeavy p machine input e = (error : LookupError) × IsHeightRefusal p (height_sum machine input) error × (e ≡ Batch (OfLookup error))
 
 -- the challenge table of a run: tuples have one value, and the one id is 0
 abbrev pub run_table : {F K : Type 0} → Extension F K → K → K → ChallengeTable K
@@ -56,18 +65,15 @@ module _ {F K : Type 0} (E : Extension F K) (machine : Machine) (alpha beta : K)
   abbrev pub AreFaultless : Type 0
   AreFaultless = (i : ℕ) (air : MachineAir) → slice_get (airs_of machine) i ≡ Some air → air_faults E alpha beta input air ≡ []
 
-  -- the first fault of the first AIR that has one
-  pub record IsFirstFault (fault : BatchFault) : Type 0 where
+  -- why there is no witness: the first fault of the first AIR that has one
+  pub record IsFirstFault (e : RunError) : Type 0 where
     pub place : ℕ
     pub air : MachineAir
-    pub air_is : fault.air ≡ Some place
+    pub error : LookupError
     pub is_there : slice_get (airs_of machine) place ≡ Some air
-    pub is_first : slice_get (air_faults E alpha beta input air) 0 ≡ Some fault.error
+    pub is_first : slice_get (air_faults E alpha beta input air) 0 ≡ Some error
     pub before : (i : ℕ) (other : MachineAir) → i < place → slice_get (airs_of machine) i ≡ Some other → air_faults E alpha beta input other ≡ []
-
-  -- why there is no witness: that fault
-  abbrev pub IsBatchRefusal : RunError → Type 0
-  IsBatchRefusal e = (fault : BatchFault) × IsFirstFault fault × (e ≡ of_batch fault)
+    pub error_is : e ≡ Batch (OfAir place error)
 
 -- a word that gives no challenge is refused
 abbrev pub IsBadChallenge : {K : Type 0} → (List ℕ → K → Type 0) → List ℕ → RunError → Type 0
@@ -75,11 +81,12 @@ IsBadChallenge {K} written word e = ((x : K) → ¬ written word x) × ShowsWord
 
 module _ {F K : Type 0} (fields : Fields F K) (machine : Machine) where
   -- The report of an input at a pair of challenges: the lines of the plain witness over the input's
-  -- rows, whether its terminals cancel, and the line of the first tuple that does not balance. No AIR
-  -- has a fault.
+  -- rows, whether its terminals cancel, and the line of the first tuple that does not balance. The
+  -- height sum is below the characteristic, and no AIR has a fault.
   pub record IsReport (alpha beta : K) (input : List ℕ) (report : Report) : Type 0 where
     pub rows : Matrix F
     pub read : IsInput fields.extension.base (columns_of machine) fields.bound input rows
+    pub light : height_sum machine rows < fields.characteristic
     pub faultless : AreFaultless fields.extension machine alpha beta rows
     pub balanced : IsTrue report.balanced
         ↔ (terminal_sum fields.extension.ring (map (λ r. r.1) (machine_witness fields.extension machine alpha beta rows)) ≡ fields.extension.ring.zero)
@@ -87,12 +94,14 @@ module _ {F K : Type 0} (fields : Fields F K) (machine : Machine) where
         ≡ witness_lines fields.text (machine_witness fields.extension machine alpha beta rows) ++ verdict_line report.balanced
     pub mismatch : IsMismatchLine fields.extension.base fields.extension.base_eq fields.base_text machine rows report.mismatch
 
-  -- the refusal of an input at a pair of challenges: that of its lines, or that of the batch
+  -- the refusal of an input at a pair of challenges: that of its lines, then that of its height sum,
+  -- then that of the first AIR that has a fault
   abbrev pub IsReportRefusal : K → K → List ℕ → RunError → Type 0
   IsReportRefusal alpha beta input e =
       IsInputRefusal (columns_of machine) fields.bound input e
       ⊎ ((rows : Matrix F) × IsInput fields.extension.base (columns_of machine) fields.bound input rows
-      × IsBatchRefusal fields.extension machine alpha beta rows e)
+      × (IsHeavy fields.characteristic machine rows e
+      ⊎ ((height_sum machine rows < fields.characteristic) × IsFirstFault fields.extension machine alpha beta rows e)))
 
   -- The answer to the words of two challenges and the bytes of an input. Alpha is checked before
   -- beta, and both before the input is read. Out of memory may come at any point.

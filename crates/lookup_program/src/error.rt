@@ -2,8 +2,7 @@
 ghost use Rattle.std.specs.Prelude.{◌≡◌};
 ghost use Rattle.lookup_program.specs.declared.error.RunError.TheVariants.{Memory};
 
-use checker::BatchFault;
-use lookup::LookupError;
+use batch::BatchError;
 use std::alloc::{AllocError, AllocFailed};
 use thiserror::Error;
 
@@ -34,29 +33,12 @@ pub enum RunError {
     /// The input has no row.
     #[error("no rows")]
     NoRows,
-    /// The auxiliary trace of an AIR cannot be made.
-    #[error("air {air}: {error}")]
-    Air { air: usize, error: LookupError },
+    /// The counts of the rows may wrap, or the auxiliary trace of an AIR cannot be made.
+    #[error("{0}")]
+    Batch(BatchError),
     /// Out of memory.
     #[error("out of memory")]
     Memory,
-}
-
-impl RunError {
-    ghost use Rattle.lookup_program.specs.Refusal.{of_batch};
-
-    /// A refusal of a batch. One of no AIR is out of memory.
-    pub fn of_batch(fault: BatchFault) -> RunError
-        ensures { result ≡ of_batch fault }
-    {
-        match fault.air {
-            Some(air) => RunError::Air {
-                air,
-                error: fault.error,
-            },
-            None => RunError::Memory,
-        }
-    }
 }
 
 impl From<AllocError> for RunError {
@@ -72,5 +54,19 @@ impl<T: Drop> From<AllocFailed<T>> for RunError {
 
     fn from(_error: AllocFailed<T>) -> RunError {
         RunError::Memory
+    }
+}
+
+/// Out of memory keeps its name.
+impl From<BatchError> for RunError {
+    ghost use Rattle.lookup_program.specs.Refusal.{of_batch};
+
+    ghost from_gives = { λ error e. e ≡ of_batch error };
+
+    fn from(error: BatchError) -> RunError {
+        match error {
+            BatchError::Memory => RunError::Memory,
+            other => RunError::Batch(other),
+        }
     }
 }

@@ -6,7 +6,7 @@ ghost use Rattle.batch_model.specs.Witnesses.{results_of};
 ghost use Rattle.lookup_model.specs.Extension.{extension};
 ghost use Rattle.lookup_program.specs.Fields.{run_fields};
 ghost use Rattle.lookup_program.specs.Machines.{airs_of, columns_of};
-ghost use Rattle.lookup_program.specs.Program.{AreFaultless, IsBatchRefusal, IsReport, IsReportRefusal, machine_witness};
+ghost use Rattle.lookup_program.specs.Program.{AreFaultless, IsFirstFault, IsHeavy, IsReport, IsReportRefusal, height_sum, machine_witness};
 ghost use Rattle.lookup_program.specs.Report.{air_lines, row_line, witness_lines};
 ghost use Rattle.lookup_program.specs.Traces.{IsTraceOf};
 
@@ -15,10 +15,11 @@ use crate::error::RunError;
 use crate::machine::Machine;
 use crate::mismatch::mismatch_line;
 use crate::rows::read_rows;
-use crate::traces::{AirTrace, air_traces, batch_of};
-use checker::{Witness, generate_batch};
+use crate::traces::{AirParts, AirTrace, air_parts, air_traces, plan_traces};
+use batch::BatchPlan;
+use checker::Witness;
 use field::{ExtensionField, Field};
-use lookup::{Challenges, LogUpGadget, LookupProtocol, LookupTerminal};
+use lookup::{LogUpGadget, LookupProtocol, LookupTerminal};
 use matrix::RowMajorMatrix;
 use std::alloc::{AllocError, Global};
 
@@ -35,8 +36,8 @@ pub struct Report {
 
 /// The report of a machine over the rows of `input`, with its alpha and its beta.
 ///
-/// Refuses a faulty line, then an input without rows, then the first fault of the first AIR that
-/// has one.
+/// Refuses a faulty line, then an input without rows, then one whose weights times heights reach the
+/// characteristic, then the first fault of the first AIR that has one.
 pub fn report_of<F: Field, EF: Challenge<F>>(
     alloc: Global,
     machine: Machine,
@@ -51,8 +52,8 @@ pub fn report_of<F: Field, EF: Challenge<F>>(
 {
     let rows = read_rows::<F>(alloc, input, machine.columns())?;
     let traces = air_traces::<F, EF>(alloc, machine, &rows)?;
-    let witness = generated::<F, EF>(alloc, machine, challenges, &rows, traces.as_slice())?;
     let mismatch = mismatch_line(alloc, traces.as_slice())?;
+    let witness = prove_machine::<F, EF>(alloc, machine, challenges, &rows, traces)?;
     let balanced = LogUpGadget::new()
         .verify_terminal_sum(witness.terminals.as_slice())
         .is_ok();
@@ -70,32 +71,37 @@ pub fn report_of<F: Field, EF: Challenge<F>>(
     })
 }
 
-/// The witness of the batch of these traces, which are those of a machine over the rows of its input.
-fn generated<F: Field, EF: ExtensionField<F>>(
+/// The witness of a plan of these AIRs, which are those of a machine over the rows of its input.
+fn prove_machine<F: Field, EF: ExtensionField<F>>(
     alloc: Global,
     machine: Machine,
     challenges: (EF, EF),
     input: &RowMajorMatrix<F>,
-    traces: &[AirTrace<F>],
+    traces: Vec<AirTrace<F>>,
 ) -> Result<Witness<EF>, RunError>
     requires width { input.now.width ≡ columns_of machine }
     requires rows { 0 < height input.now }
-    requires traces { AllZip (IsTraceOf F.ring F.eq input.now) (airs_of machine) traces.now }
+    requires traces { AllZip (IsTraceOf F.ring F.eq input.now) (airs_of machine) traces.items }
     ensures { let E = extension F.ring F.eq EF.ring EF.eq EF.embed EF.inverse in
         let alpha = challenges.0 in let beta = challenges.1 in MatchResult result
         (λ w. (results_of w ≡ machine_witness E machine alpha beta input.now)
         × (length w.aux.items ≡ length w.terminals.items)
-        × AreFaultless E machine alpha beta input.now)
-        (λ e. (e ≡ RunError.Memory) ⊎ IsBatchRefusal E machine alpha beta input.now e) }
+        × AreFaultless E machine alpha beta input.now
+        × (height_sum machine input.now < F.CHARACTERISTIC))
+        (λ e. (e ≡ RunError.Memory) ⊎ (IsHeavy F.CHARACTERISTIC machine input.now e
+        ⊎ ((height_sum machine input.now < F.CHARACTERISTIC)
+        × IsFirstFault E machine alpha beta input.now e))) }
 {
-    let public_values = Vec::new(alloc);
-    let batch = batch_of(alloc, traces, public_values.as_slice(), &[0])?;
+    let AirParts {
+        lookups,
+        mains,
+        heights,
+    } = air_parts(alloc, traces)?;
+    let plan = BatchPlan::new(alloc, lookups, heights)?;
+    let traces = plan_traces(alloc, mains.as_slice())?;
     let (alpha, beta) = challenges;
-    let table = Challenges::new(alloc, alpha, beta, 1, 1)?;
-    match generate_batch(alloc, batch.as_slice(), &table) {
-        Ok(witness) => Ok(witness),
-        Err(fault) => Err(RunError::of_batch(fault)),
-    }
+    let witness = plan.prove(alloc, traces.as_slice(), alpha, beta)?;
+    Ok(witness)
 }
 
 /// Appends the lines of all AIRs.

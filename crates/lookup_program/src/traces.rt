@@ -1,16 +1,17 @@
 //! The AIRs of a machine over the rows of its input.
-ghost use Rattle.std.specs.Prelude.{◌≡◌, ◌≤◌, ◌+◌, IfOk, MatchResult, map};
+ghost use Rattle.std.specs.Prelude.{◌≡◌, ◌≤◌, ◌+◌, [], None, IfOk, MatchResult, map};
 ghost use Rattle.std.specs.List.{AllZip};
-ghost use Rattle.batch_model.specs.Instances.{instances_of};
 ghost use Rattle.lookup.specs.Lookups.{lookups_of};
 ghost use Rattle.lookup_debug.specs.Contributions.{traced_of};
 ghost use Rattle.lookup_program.specs.Machines.{AreLookupsOf, air_trace, airs_of, columns_of, first_column_of, width_of};
-ghost use Rattle.lookup_program.specs.Traces.{IsTraceOf, instance_over, traced_over};
+ghost use Rattle.batch.specs.Traces.{shown_of};
+ghost use Rattle.lookup_program.specs.Traces.{IsTraceOf, traced_over};
+ghost use Rattle.matrix.specs.Matrix.{height};
 
 use crate::airs::MachineAir;
 use crate::error::RunError;
 use crate::machine::Machine;
-use checker::BatchInstance;
+use batch::BatchTrace;
 use field::{ExtensionField, Field};
 use lookup::debug_util::LookupDebugInstance;
 use lookup::{LogUpGadget, LookupError, Lookups};
@@ -99,27 +100,55 @@ fn trace_for<F: Field>(
     Ok(RowMajorMatrix::new(values, air.columns()))
 }
 
-/// The batch of these AIRs, all under the same ids.
-pub fn batch_of<'a, F: Field>(
+/// Some AIRs in parts: the lookups, the traces, and how high these are.
+#[derive(Debug, Drop)]
+pub struct AirParts<F> {
+    pub lookups: Vec<Lookups<F>>,
+    pub mains: Vec<RowMajorMatrix<F>>,
+    pub heights: Vec<usize>,
+}
+
+/// The parts of these AIRs, in order.
+pub fn air_parts<F: Field>(
     alloc: Global,
-    traces: &'a [AirTrace<F>],
-    public_values: &'a [F],
-    ids: &'a [usize],
-) -> Result<Vec<BatchInstance<'a, F>>, AllocError>
-    ensures { IfOk result (λ batch. instances_of batch.items
-        ≡ map (instance_over public_values.now ids.now) traces.now) }
+    traces: Vec<AirTrace<F>>,
+) -> Result<AirParts<F>, AllocError>
+    ensures { IfOk result (λ parts. (parts.lookups.items ≡ map (λ t. t.lookups) traces.items)
+        × (parts.mains.items ≡ map (λ t. t.main) traces.items)
+        × (parts.heights.items ≡ map (λ t. height t.main) traces.items)) }
 {
-    let mut batch = Vec::new(alloc);
+    let mut lookups = Vec::new(alloc);
+    let mut mains = Vec::new(alloc);
+    let mut heights = Vec::new(alloc);
     for trace in traces {
-        batch.push(BatchInstance {
-            lookups: trace.lookups.as_slice(),
-            main: &trace.main,
+        heights.push(trace.main.height())?;
+        lookups.push(trace.lookups)?;
+        mains.push(trace.main)?;
+    }
+    Ok(AirParts {
+        lookups,
+        mains,
+        heights,
+    })
+}
+
+/// What a plan is given of these main traces, which stand alone.
+pub fn plan_traces<'a, F: Field>(
+    alloc: Global,
+    mains: &'a [RowMajorMatrix<F>],
+) -> Result<Vec<BatchTrace<'a, F>>, AllocError>
+    ensures { IfOk result (λ traces. map shown_of traces.items
+        ≡ map (λ main. (main, None, [])) mains.now) }
+{
+    let mut traces = Vec::new(alloc);
+    for main in mains {
+        traces.push(BatchTrace {
+            main,
             preprocessed: None,
-            public_values,
-            ids,
+            public_values: &[],
         })?;
     }
-    Ok(batch)
+    Ok(traces)
 }
 
 /// What the debug check is given of these AIRs.

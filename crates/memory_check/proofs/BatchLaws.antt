@@ -1,116 +1,112 @@
--- The batch of a memory check: it fits, and its ids have prefixes.
-use Rattle.std.proofs.Common.{◌≡◌, ◌<◌, ℕ, Bool, true, false, List, [], ◌∷◌, All, IfErr, OnOk, MatchResult, Option, None, Some, Result, Ok, Err, codes, if◌then◌else◌, length, map, nat_eq, slice_index_or, inr, subst, subst₂, sym, ap, arith}
+-- The batch of a memory check over a plan.
+use Rattle.std.proofs.Common.{◌≡◌, ◌≢◌, ℕ, inl, inr, List, [], None, All, Result, Ok, Err, IfErr, OnOk, length, map, refl, sym, ap, subst, ◌∙◌}
 use Rattle.std.proofs.lemmas.List.{length-map}
-use Rattle.std.proofs.lemmas.List.Elements.{All-cons, All-map, All-nil}
-use Rattle.std.specs.Box.{boxed_slice_items}
-use Rattle.std.specs.Cmp.Lexicographic.{pointwise}
-use Rattle.std.specs.List.{range_with_len}
+use Rattle.std.specs.List.{zip}
+use Rattle.std.specs.declared.alloc.Global.{Global}
+use Rattle.std.specs.declared.vec.Vec.{Vec}
 use Rattle.matrix.specs.Matrix.{Matrix}
-use Rattle.expressions.specs.Layout.{layout_of_widths}
-use Rattle.lookup_model.specs.Challenges.{ChallengeTable, prefix_of_bus, table_of}
+use Rattle.lookup_model.specs.Challenges.{ChallengeTable}
 use Rattle.lookup_model.specs.Extension.{Extension}
-use Rattle.lookup_model.specs.Outline.{bus_of}
-use Rattle.lookup_model.specs.Records.{DoFit}
-use Rattle.lookup_model.specs.declared.challenges.Challenges.{Challenges}
-use Rattle.lookup_model.specs.declared.types.Lookup.{Lookup}
-use Rattle.lookup.specs.Lookups.{lookups_of}
+use Rattle.lookup_model.specs.Net.{IsBalanced}
 use Rattle.lookup.specs.declared.lookups.Lookups.{Lookups}
 use Rattle.batch_model.specs.Counts.{IsAccepting}
-use Rattle.batch_model.specs.Instances.{DoInstancesFit, HavePrefixes, Instance, IsFitting, instance_of, instances_of}
-use Rattle.batch_model.specs.Witnesses.{plain_witness}
-use Rattle.batch_model.specs.declared.instance.BatchInstance.{BatchInstance}
-use Rattle.checker.proofs.IdLaws.{all_unmapped}
-use Rattle.checker.proofs.MadeTables.{accepting}
-use Rattle.memory_check.specs.Batch.{IsBatchRefusal, IsFaultlessAndAccepted, bus_id_of, id_of_bus, instance_over}
-use Rattle.memory_check.specs.Memory.{AreTraces, DoLookupsFit, IsAcceptedMemory, IsMemoryRefusal, memory_batch, memory_table}
-use Rattle.memory_check.specs.Traces.{IsTrace}
-use Rattle.memory_check.specs.declared.error.MemoryError.{MemoryError}
-use Rattle.memory_check.specs.declared.memory.MemoryLookups.{MemoryLookups}
-use Rattle.memory_check.specs.declared.memory.MemoryTraces.{MemoryTraces}
+use Rattle.batch_model.specs.Faults.{AreFaultless, IsFirstFault}
+use Rattle.batch_model.specs.Instances.{Instance}
+use Rattle.batch_model.specs.Messages.{batch_messages}
+use Rattle.batch_model.specs.Refusals.{IsWitnessRefusal}
+use Rattle.batch_model.specs.Witnesses.{AirResult, HasOneOfEach, IsAccepted, plain_witness, results_of}
+use Rattle.batch_model.specs.declared.fault.BatchFault.{BatchFault}
+use Rattle.batch_model.specs.declared.witness.Witness.{Witness}
+use Rattle.batch.proofs.PlanCalls.{unfit_traces, wrong_count}
+use Rattle.batch.proofs.TraceLaws.{alone_is}
+use Rattle.batch.specs.Lists.{lists_of}
+use Rattle.batch.specs.Plans.{PassIsCounted, Proves, RefusesUnaccepted, Verifies, plan_batch}
+use Rattle.batch.specs.Tables.{made_table}
+use Rattle.batch.specs.Traces.{AreTraces as ArePlanTraces, FitsAt, IsFirstUnfit, IsTraceRefusal, batch_alone, shown_of}
+use Rattle.batch.specs.declared.error.BatchError.{BatchError}
+use Rattle.batch.specs.declared.error.BatchError.TheVariants.{LengthMismatch, Lookup as OfLookup, Memory}
+use Rattle.batch.specs.declared.trace.BatchTrace.{BatchTrace}
+use Rattle.memory_check.specs.Memory.{AreTraces, IsAcceptedMemory, IsMemoryRefusal}
 
--- what holds of three items holds of all
-all_three : {T : Type 0} (P : T → Type 0) (a b c : T) → P a → P b → P c → All P (a ∷ b ∷ c ∷ [])
-all_three P a b c of_a of_b of_c =
-    All-cons P a (b ∷ c ∷ []) of_a (All-cons P b (c ∷ []) of_b (All-cons P c [] of_c (All-nil P)))
+module _ {F K : Type 0} (E : Extension F K) (alpha beta : K) (airs : List (Lookups F)) (heights : List ℕ) (ids : List (Vec ℕ Global)) (W m : ℕ) (mains : List (Matrix F))
+    (traces : List (BatchTrace F)) (shown : map shown_of traces ≡ map (λ main. (main, None, [])) mains) where
+  abbrev own : List (Instance F)
+  own = plan_batch airs ids traces
 
--- the id of a bus is 0 or 1
-id_below : (bus : Option (List ℕ)) → id_of_bus bus < 2
-id_below None = omega arith
-id_below (Some name) = by_test (pointwise nat_eq name (codes "memory"))
-  where
-    by_test : (b : Bool) → (if b then 0 else 1) < 2
-    by_test true = omega arith
-    by_test false = omega arith
+  abbrev batch : List (Instance F)
+  batch = batch_alone (lists_of ids) airs mains
 
--- the table that is made
-table_is : {F K : Type 0} (E : Extension F K) (alpha beta : K) (c : Challenges K) → c.alpha ≡ alpha → c.beta ≡ beta
-    → boxed_slice_items c.bus_prefix ≡ map (prefix_of_bus E.ring alpha beta 3) (range_with_len 0 2) → table_of c ≡ memory_table E alpha beta
-table_is E alpha beta c same_alpha same_beta prefixes i = record { prefix = λ id. slice_index_or (prefixes i) id (same_alpha i); beta = same_beta i }
+  abbrev table : ChallengeTable K
+  table = made_table E.ring alpha beta W m
 
-module _ {F : Type 0} where
-  -- so are all ids
-  ids_below : (lookups : List (Lookup F)) → All (λ id. id < 2) (map bus_id_of lookups)
-  ids_below lookups =
-      All-map (λ id. id < 2) bus_id_of lookups (λ k d lt. id_below (bus_of (slice_index_or lookups k d).kind))
+  -- the plan's batch is that of the main traces
+  same : own ≡ batch
+  same = alone_is (zip (lists_of ids) airs) traces mains shown
 
-  -- an AIR over a trace of its width fits
-  instance_fits : (set : Lookups F) (main : Matrix F) (columns : ℕ) → IsTrace columns main → DoFit (layout_of_widths columns 0 0) (lookups_of set) → IsFitting (instance_over set main)
-  instance_fits set main columns trace fit = record {
-    fit = subst (λ (n : ℕ). DoFit (layout_of_widths n 0 0) (lookups_of set)) (sym trace.width) fit;
-    heights = λ m none. absurd (cc none);
-    nonempty = λ some. trace.rows;
-    ids = length-map (lookups_of set) bus_id_of;
+  as_many : length traces ≡ length mains
+  as_many = sym (length-map traces shown_of) ∙ ap length shown ∙ length-map mains (λ main. (main, None, []))
+
+  traces_are : ArePlanTraces heights traces own → AreTraces E alpha beta airs heights ids W m mains
+  traces_are are = record {
+    as_many = sym as_many ∙ are.as_many;
+    fit = subst (λ (is : List (Instance F)). All FitsAt (zip is heights)) same are.fit;
   }
 
-  module _ (lookups : MemoryLookups F) (traces : MemoryTraces F) (bs : List (BatchInstance F)) (batch_is : instances_of bs ≡ memory_batch lookups traces) where
-    -- the instances fit
-    pub batch_fits : DoLookupsFit lookups → AreTraces traces → DoInstancesFit bs
-    batch_fits fit are =
-        all_unmapped instance_of bs IsFitting (subst (All IsFitting) (sym batch_is)
-        (all_three IsFitting (instance_over lookups.accesses traces.accesses) (instance_over lookups.boundary traces.boundary) (instance_over lookups.gaps traces.gaps)
-        (instance_fits lookups.accesses traces.accesses 5 are.accesses fit.accesses)
-        (instance_fits lookups.boundary traces.boundary 4 are.boundary fit.boundary)
-        (instance_fits lookups.gaps traces.gaps 2 are.gaps fit.gaps)))
+  -- what `prove` refuses
+  pub prove_refused : (e : BatchError) → (answer : Result (Witness K) BatchError) → answer ≡ Err e → Proves E table heights traces own answer → IsMemoryRefusal E alpha beta airs heights ids W m mains e
+  prove_refused e (Ok w) is proves = absurd (cc is)
+  prove_refused e (Err f) is proves =
+      let same_error : f ≡ e = cc is in
+      subst (λ (g : BatchError). IsMemoryRefusal E alpha beta airs heights ids W m mains g) same_error (elim proves [
+        | inl memory ↦ inl memory
+        | inr (inl (inl (other, is))) ↦ inr (inl (inl ((λ fit. other (as_many ∙ fit)), is ∙ ap (LengthMismatch (length heights)) as_many)))
+        | inr (inl (inr (fit, first))) ↦ inr (inl (inr (sym as_many ∙ fit, subst (λ (is : List (Instance F)). IsFirstUnfit heights is f) same first)))
+        | inr (inr (are, (fault, first, is))) ↦ inr (inr (traces_are are, inl (fault, subst (λ (is : List (Instance F)). IsFirstFault E table is fault) same first, is)))
+      ])
 
-    module _ {K : Type 0} (E : Extension F K) (alpha beta : K) (challenges : Challenges K)
-        (prefixes : boxed_slice_items challenges.bus_prefix ≡ map (prefix_of_bus E.ring alpha beta 3) (range_with_len 0 2)) where
-      -- the ids of an AIR have prefixes
-      abbrev Has : Instance F → Type 0
-      Has x = All (λ id. id < length (boxed_slice_items challenges.bus_prefix)) x.ids
+  -- a witness that is proved
+  module _ (w : Witness K) (are : ArePlanTraces heights traces own) (plain : results_of w ≡ plain_witness E table own) (complete : HasOneOfEach own w) (faultless : AreFaultless E table own)
+      (balanced : IsBalanced E.base E.base_eq (batch_messages E.base E.base_eq own) → IsAccepted E table own (results_of w)) where
+    no_fault : AreFaultless E table batch
+    no_fault = subst (λ (is : List (Instance F)). AreFaultless E table is) same faultless
 
-      each_has : (set : Lookups F) (main : Matrix F) → Has (instance_over set main)
-      each_has set main =
-          let two : length (boxed_slice_items challenges.bus_prefix) ≡ 2 = ap length prefixes in
-          λ k d lt. omega (arith, two, ids_below (lookups_of set) k d lt)
+    -- what is said of it is said of the plain witness of the batch
+    plain_is : results_of w ≡ plain_witness E table batch
+    plain_is = plain ∙ ap (plain_witness E table) same
 
-      -- so it is of all
-      pub batch_has_prefixes : HavePrefixes challenges bs
-      batch_has_prefixes =
-          all_unmapped instance_of bs Has (subst (All Has) (sym batch_is)
-          (all_three Has (instance_over lookups.accesses traces.accesses) (instance_over lookups.boundary traces.boundary) (instance_over lookups.gaps traces.gaps)
-          (each_has lookups.accesses traces.accesses) (each_has lookups.boundary traces.boundary) (each_has lookups.gaps traces.gaps)))
+    of_plain : (P : List (Instance F) → List (AirResult K) → Type 0) → P own (results_of w) → P batch (plain_witness E table batch)
+    of_plain P holds = subst (P batch) plain_is (subst (λ (is : List (Instance F)). P is (results_of w)) same holds)
 
-      module _ (alpha_is : challenges.alpha ≡ alpha) (beta_is : challenges.beta ≡ beta) (are : AreTraces traces) where
-        -- the batch is checked over the table of alpha and beta
-        table_made : table_of challenges ≡ memory_table E alpha beta
-        table_made = table_is E alpha beta challenges alpha_is beta_is prefixes
+    to_own : IsAccepted E table batch (plain_witness E table batch) → IsAccepted E table own (results_of w)
+    to_own accepted = subst (λ (is : List (Instance F)). IsAccepted E table is (results_of w)) (sym same) (subst (IsAccepted E table batch) (sym plain_is) accepted)
 
-        -- what the check of the batch answers, answers of the memory
-        abbrev Checked : Result (Unit {0}) MemoryError → Type 0
-        Checked answer = MatchResult answer
-            (λ _. IsFaultlessAndAccepted E (table_of challenges) (instances_of bs))
-            (λ e. IsBatchRefusal E (table_of challenges) (instances_of bs) e)
+    -- what passes is an accepted memory
+    pub memory_accepted : (answer : Result (Unit {0}) BatchError) → Verifies E table heights traces own w answer → PassIsCounted E own alpha beta W answer → OnOk answer (IsAcceptedMemory E alpha beta airs heights ids W m mains)
+    memory_accepted (Ok u) verifies counted = record {
+      traces_are = traces_are are;
+      faultless = no_fault;
+      accepted = of_plain (λ is rs. IsAccepted E table is rs) verifies.2;
+      accepting = subst (λ (is : List (Instance F)). IsAccepting E is W beta alpha) same counted.0;
+    }
+    memory_accepted (Err e) verifies counted = tt
 
-        pub memory_accepted : (answer : Result (Unit {0}) MemoryError) → Checked answer → OnOk answer (IsAcceptedMemory E alpha beta lookups traces)
-        memory_accepted (Ok u) checked = record {
-          traces_are = are;
-          batch_is = subst₂ (λ (t : ChallengeTable K) (is : List (Instance F)). IsFaultlessAndAccepted E t is) table_made batch_is checked;
-          accepting = subst (λ (is : List (Instance F)). IsAccepting E is 3 beta alpha) batch_is
-              (accepting E 3 2 alpha beta challenges bs beta_is prefixes batch_has_prefixes (plain_witness E (table_of challenges) (instances_of bs)) checked.accepted);
-        }
-        memory_accepted (Err e) checked = tt
-
-        pub memory_refused : (answer : Result (Unit {0}) MemoryError) → Checked answer → IfErr answer (IsMemoryRefusal E alpha beta lookups traces)
-        memory_refused (Ok u) checked = tt
-        memory_refused (Err e) checked =
-            inr (are, subst₂ (λ (t : ChallengeTable K) (is : List (Instance F)). IsBatchRefusal E t is e) table_made batch_is checked)
+    -- and what is refused does not balance
+    pub memory_refused : (answer : Result (Unit {0}) BatchError) → Verifies E table heights traces own w answer → RefusesUnaccepted E table heights traces own w answer → IfErr answer (IsMemoryRefusal E alpha beta airs heights ids W m mains)
+    memory_refused (Ok u) verifies refuses = tt
+    memory_refused (Err e) (inl memory) refuses = inl memory
+    memory_refused (Err e) (inr (inl unfit)) refuses = absurd (unfit_traces heights traces own e unfit are)
+    memory_refused (Err e) (inr (inr (fit, inl count))) refuses = absurd (wrong_count (length own) w e count complete)
+    memory_refused (Err e) (inr (inr (fit, inr (one, (error, refusal, is))))) refuses =
+        let not_memory : e ≢ Memory = λ memory. absurd (cc (sym is ∙ memory)) in
+        let unaccepted : ¬ IsAccepted E table own (results_of w) = refuses not_memory are complete in
+        inr (inr (
+          traces_are are,
+          inr (record {
+            error = error;
+            error_is = is;
+            faultless = no_fault;
+            refusal = of_plain (λ is rs. IsWitnessRefusal E table is rs error) refusal;
+            refused = λ accepted. unaccepted (to_own accepted);
+            unbalanced = λ even. unaccepted (balanced (subst (λ (is : List (Instance F)). IsBalanced E.base E.base_eq (batch_messages E.base E.base_eq is)) (sym same) even));
+          }),
+        ))

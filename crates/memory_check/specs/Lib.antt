@@ -1,3 +1,1 @@
-pub mod Batch
 pub mod Memory
-pub mod Traces

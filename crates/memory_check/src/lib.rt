@@ -6,16 +6,12 @@
 //! - [`BoundaryAir`]: each row has an address, what it holds at first and what it holds at last;
 //! - [`GapsAir`]: the gaps between the times of two accesses that are allowed.
 //!
-//! [`memory_lookups`] extracts what they look up. [`check_memory`] generates the witness of their
-//! traces and checks it.
+//! [`memory_plan`] makes a plan of what they look up. [`check_memory`] proves their traces over it, and
+//! verifies the witness.
 #![tactic(auto)]
 
 mod airs;
-mod error;
 mod memory;
-#[cfg(test)]
-mod tests;
 
 pub use airs::{AccessesAir, BoundaryAir, GapsAir};
-pub use error::MemoryError;
-pub use memory::{MemoryLookups, MemoryTraces, check_memory, memory_lookups};
+pub use memory::{MemoryTraces, check_memory, memory_plan};

@@ -1,9 +1,9 @@
 //! All witnesses over `F7` at all challenges: at which of them some witness is accepted, and what the
 //! counts say of that.
-use super::counts::counts;
+use super::counts::{count, counts};
 use super::{cell, checked, holds, instance, list, lookup, range, terminal, trace};
 use air::{Expression, SymbolicExpression};
-use checker::{BatchInstance, SoundnessCount};
+use checker::BatchInstance;
 use field::{F7, PrimeCharacteristicRing};
 use lookup::{Challenges, Kind, Lookup};
 use std::alloc::Global;
@@ -82,15 +82,6 @@ fn expect_accepted(
     }
 }
 
-fn count(messages: u128, unbalanced: u128, bad_betas: u128, most: u128) -> SoundnessCount {
-    SoundnessCount {
-        messages,
-        unbalanced,
-        bad_betas,
-        accepting_alphas: Some(most),
-    }
-}
-
 /// Two queries of one key: their fraction is zero only where the denominator vanishes.
 #[test]
 fn one_key_queried_twice(rt: HostRuntime) {
@@ -101,8 +92,8 @@ fn one_key_queried_twice(rt: HostRuntime) {
     let instances = instances.as_slice();
     let pairs: [(u32, u32); 7] = [(3, 0), (2, 1), (1, 2), (0, 3), (6, 4), (5, 5), (4, 6)];
     expect_accepted(&rt, alloc, instances, 1, 1, 7, pairs.as_slice());
-    let counted = counts(&rt, alloc, instances, 1).ok();
-    holds(&rt, "the counts", counted == Some(count(1, 1, 0, 1)));
+    let counted = counts::<F7, F7>(&rt, alloc, instances, 1).ok();
+    holds(&rt, "the counts", counted == Some(count(1, 1, 0, Some(1))));
 }
 
 /// The local lookup of `[1, 0]` with count 1 and of `[0, 1]` with count -1.
@@ -132,8 +123,8 @@ fn two_pairs_that_collide_at_one_beta(rt: HostRuntime) {
     let instances = instances.as_slice();
     let pairs: [(u32, u32); 7] = [(0, 1), (1, 1), (2, 1), (3, 1), (4, 1), (5, 1), (6, 1)];
     expect_accepted(&rt, alloc, instances, 2, 1, 7, pairs.as_slice());
-    let counted = counts(&rt, alloc, instances, 2).ok();
-    holds(&rt, "the counts", counted == Some(count(2, 2, 2, 3)));
+    let counted = counts::<F7, F7>(&rt, alloc, instances, 2).ok();
+    holds(&rt, "the counts", counted == Some(count(2, 2, 2, Some(3))));
 }
 
 /// Two keys that are read and not provided, over two rows. A terminal that is not zero cannot cancel,
@@ -162,8 +153,8 @@ fn two_keys_that_nothing_provides(rt: HostRuntime) {
         (2, 6),
     ];
     expect_accepted(&rt, alloc, instances, 1, 2, 1, pairs.as_slice());
-    let counted = counts(&rt, alloc, instances, 1).ok();
-    holds(&rt, "the counts", counted == Some(count(3, 2, 1, 4)));
+    let counted = counts::<F7, F7>(&rt, alloc, instances, 1).ok();
+    holds(&rt, "the counts", counted == Some(count(3, 2, 1, Some(4))));
 }
 
 /// At how many alphas some witness of one row is accepted.
@@ -189,33 +180,28 @@ fn accepting_alphas(
 #[test]
 fn rows_drawn_at_random(rt: HostRuntime) {
     let alloc = rt.alloc();
-    let rows: [([u32; 3], u128, u128, u128, Option<u128>); 6] = [
-        ([3, 5, 2], 2, 2, 1, Some(3)),
-        ([0, 0, 1], 1, 0, 0, None),
-        ([6, 1, 0], 2, 1, 0, Some(2)),
-        ([2, 2, 6], 1, 1, 0, Some(1)),
-        ([5, 4, 6], 2, 2, 1, Some(3)),
-        ([4, 4, 0], 1, 1, 0, Some(1)),
+    let rows: [([u32; 3], u128, u128, u128, u128); 6] = [
+        ([3, 5, 2], 2, 2, 1, 3),
+        ([1, 6, 3], 2, 2, 1, 3),
+        ([6, 1, 0], 2, 1, 0, 2),
+        ([2, 2, 6], 1, 1, 0, 1),
+        ([5, 4, 6], 2, 2, 1, 3),
+        ([4, 4, 0], 1, 1, 0, 1),
     ];
-    for (numbers, messages, unbalanced, bad_betas, accepting) in rows {
+    for (numbers, messages, unbalanced, bad_betas, most) in rows {
         let main = trace(&rt, alloc, numbers.as_slice(), 3);
         let lookups = [range(&rt, alloc)];
         let instances = [instance(lookups.as_slice(), &main, &[0])];
         let instances = instances.as_slice();
-        let counted = counts(&rt, alloc, instances, 1).expect(&rt, "no fault");
-        holds(&rt, "the keys", counted.messages == messages);
-        holds(&rt, "the unbalanced", counted.unbalanced == unbalanced);
-        holds(&rt, "the bound of betas", counted.bad_betas == bad_betas);
-        holds(&rt, "the alphas", counted.accepting_alphas == accepting);
-        let Some(most) = counted.accepting_alphas else {
-            continue;
-        };
+        let counted = counts::<F7, F7>(&rt, alloc, instances, 1).expect(&rt, "no fault");
+        let expected = count(messages, unbalanced, bad_betas, Some(most));
+        holds(&rt, "the counts", counted == expected);
         let mut bad = 0u128;
         for beta in 0..7u32 {
             if accepting_alphas(&rt, alloc, instances, beta) > most {
                 bad = bad.saturating_add(1);
             }
         }
-        holds(&rt, "the bad betas", bad <= counted.bad_betas);
+        holds(&rt, "the bad betas", bad <= bad_betas);
     }
 }

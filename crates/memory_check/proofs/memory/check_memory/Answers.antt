@@ -1,26 +1,35 @@
-use Rattle.std.proofs.Common.{ap, ◌∙◌}
-use Rattle.batch_model.specs.Instances.{instances_of}
+use Rattle.std.proofs.Common.{◌≡◌, List, [], ◌∷◌, Err, None, map, refl, ap, ◌∙◌}
+use Rattle.std.proofs.lemmas.Result.{err_from_is_err_and}
 use Rattle.lookup_model.specs.Extension.{extension}
-use Rattle.memory_check.proofs.BatchLaws.{batch_fits, batch_has_prefixes, memory_accepted, memory_refused}
+use Rattle.batch.specs.Traces.{shown_of}
+use Rattle.memory_check.specs.Memory.{mains_of}
+use Rattle.memory_check.proofs.BatchLaws.{memory_accepted, memory_refused, prove_refused}
 use Rattle.memory_check.proofs.memory.check_memory.Goals as goal
 
-pub check_batch-requires-clause-fit : goal.check_batch-requires-clause-fit
-check_batch-requires-clause-fit g c =
-    batch_fits c.args.lookups.now c.args.traces.now c.as_slice-4.result.now (ap instances_of c.as_slice-4.ensures.value ∙ c.in_ok-batch.ensures) c.requires c.in_ok-check_traces.ensures
-
-pub check_batch-requires-clause-ids : goal.check_batch-requires-clause-ids
-check_batch-requires-clause-ids g c =
+pub returns-in_err-witness-clause-refused : goal.returns-in_err-witness-clause-refused
+returns-in_err-witness-clause-refused g c =
     let E = extension g.F.PrimeCharacteristicRing.ring g.F.PartialEq.eq g.EF.PrimeCharacteristicRing.ring g.EF.PartialEq.eq g.EF.ExtensionDomain.embed g.EF.Field.inverse in
-    batch_has_prefixes c.args.lookups.now c.args.traces.now c.as_slice-4.result.now (ap instances_of c.as_slice-4.ensures.value ∙ c.in_ok-batch.ensures) E c.args.alpha c.args.beta c.in_ok-challenges.challenges c.in_ok-challenges.ensures.prefixes
+    let plan = c.args.plan.now in
+    let shown : map shown_of c.as_slice-traces.result.now ≡ map (λ main. (main, None, [])) (mains_of c.args.traces.now) = ap (map shown_of) c.as_slice-traces.ensures ∙ (λ i. c.alone.ensures i ∷ c.alone-2.ensures i ∷ c.alone-3.ensures i ∷ []) in
+    let e = c.in_err-witness.field-0.0 in
+    let p = err_from_is_err_and c.from_residual.result c.from_residual.ensures.1 in
+    rw (p.1, p.2) (prove_refused E c.args.alpha c.args.beta plan.airs.items plan.heights.items plan.ids.items plan.max_message_width plan.num_ids (mains_of c.args.traces.now) c.as_slice-traces.result.now shown
+    e (Err e) refl c.in_err-witness.ensures.answer)
 
 pub returns-clause-accepted : goal.returns-clause-accepted
 returns-clause-accepted g c =
     let E = extension g.F.PrimeCharacteristicRing.ring g.F.PartialEq.eq g.EF.PrimeCharacteristicRing.ring g.EF.PartialEq.eq g.EF.ExtensionDomain.embed g.EF.Field.inverse in
-    memory_accepted c.args.lookups.now c.args.traces.now c.as_slice-4.result.now (ap instances_of c.as_slice-4.ensures.value ∙ c.in_ok-batch.ensures) E c.args.alpha c.args.beta c.in_ok-challenges.challenges c.in_ok-challenges.ensures.prefixes
-    c.in_ok-challenges.ensures.alpha c.in_ok-challenges.ensures.beta c.in_ok-check_traces.ensures c.check_batch.result c.check_batch.ensures
+    let plan = c.args.plan.now in
+    let shown : map shown_of c.as_slice-traces.result.now ≡ map (λ main. (main, None, [])) (mains_of c.args.traces.now) = ap (map shown_of) c.as_slice-traces.ensures ∙ (λ i. c.alone.ensures i ∷ c.alone-2.ensures i ∷ c.alone-3.ensures i ∷ []) in
+    let made = c.in_ok-witness.ensures in
+    memory_accepted E c.args.alpha c.args.beta plan.airs.items plan.heights.items plan.ids.items plan.max_message_width plan.num_ids (mains_of c.args.traces.now) c.as_slice-traces.result.now shown
+    c.in_ok-witness.witness made.answer.0 made.answer.1 made.answer.2 made.answer.3 made.balanced c.verify.result c.verify.ensures.answer c.verify.ensures.counted
 
 pub returns-clause-refused : goal.returns-clause-refused
 returns-clause-refused g c =
     let E = extension g.F.PrimeCharacteristicRing.ring g.F.PartialEq.eq g.EF.PrimeCharacteristicRing.ring g.EF.PartialEq.eq g.EF.ExtensionDomain.embed g.EF.Field.inverse in
-    memory_refused c.args.lookups.now c.args.traces.now c.as_slice-4.result.now (ap instances_of c.as_slice-4.ensures.value ∙ c.in_ok-batch.ensures) E c.args.alpha c.args.beta c.in_ok-challenges.challenges c.in_ok-challenges.ensures.prefixes
-    c.in_ok-challenges.ensures.alpha c.in_ok-challenges.ensures.beta c.in_ok-check_traces.ensures c.check_batch.result c.check_batch.ensures
+    let plan = c.args.plan.now in
+    let shown : map shown_of c.as_slice-traces.result.now ≡ map (λ main. (main, None, [])) (mains_of c.args.traces.now) = ap (map shown_of) c.as_slice-traces.ensures ∙ (λ i. c.alone.ensures i ∷ c.alone-2.ensures i ∷ c.alone-3.ensures i ∷ []) in
+    let made = c.in_ok-witness.ensures in
+    memory_refused E c.args.alpha c.args.beta plan.airs.items plan.heights.items plan.ids.items plan.max_message_width plan.num_ids (mains_of c.args.traces.now) c.as_slice-traces.result.now shown
+    c.in_ok-witness.witness made.answer.0 made.answer.1 made.answer.2 made.answer.3 made.balanced c.verify.result c.verify.ensures.answer c.verify.ensures.refusal

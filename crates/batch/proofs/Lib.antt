@@ -1,0 +1,9 @@
+pub mod AssignedLaws
+pub mod GivenLaws
+pub mod LawfulPlans
+pub mod OneWidths
+pub mod PlanCalls
+pub mod PlanLaws
+pub mod Places
+pub mod TableLaws
+pub mod TraceLaws

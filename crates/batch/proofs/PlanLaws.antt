@@ -1,0 +1,79 @@
+-- The checks of a plan, and how refusals are passed on.
+use Rattle.std.proofs.Common.{◌≡◌, ◌<◌, ◌≤◌, ◌+◌, ◌++◌, ◌∷◌, ℕ, inl, inr, List, [], get_or, length, map, max, take, sym, ap, ◌∙◌, arith}
+use Rattle.std.proofs.lemmas.Grind.{flat_map-append}
+use Rattle.std.proofs.lemmas.List.{append-nil, map_push, take_more}
+use Rattle.std.specs.List.{flat_map}
+use Rattle.batch_model.specs.Faults.{IsOutOfMemory}
+use Rattle.batch_model.specs.Instances.{Instance}
+use Rattle.batch_model.specs.Refusals.{IsAirRefusal, IsWitnessRefusal}
+use Rattle.batch_model.specs.Witnesses.{AirResult}
+use Rattle.batch_model.specs.declared.fault.BatchFault.{BatchFault}
+use Rattle.lookup_model.specs.Challenges.{ChallengeTable}
+use Rattle.lookup_model.specs.Extension.{Extension}
+use Rattle.lookup_model.specs.LookupDegree.{greatest}
+use Rattle.lookup_model.specs.declared.error.LookupError.{LookupError}
+use Rattle.lookup_packing.specs.TupleWidths.{IsTupleWidths}
+use Rattle.lookup.proofs.NamedWidthLaws.{greatest_push}
+use Rattle.lookup.specs.Guards.{IsHeightRefusal, weighted_height_sum}
+use Rattle.lookup.specs.Lookups.{lookups_of}
+use Rattle.lookup.specs.NamedWidths.{AgreeOnWidths, IsFirstMismatch}
+use Rattle.lookup.specs.declared.lookups.Lookups.{Lookups}
+use Rattle.batch.proofs.LawfulPlans.{greatest_append}
+use Rattle.batch.proofs.OneWidths.{one_widths}
+use Rattle.batch.specs.Checks.{AreLocallyEven, IsFirstLocalMismatch, bus_widths_of}
+use Rattle.batch.specs.PlanFacts.{AreNumbered, IsPlan, message_width}
+use Rattle.batch.specs.Refusals.{of_fault, of_lookup, refusal_at}
+use Rattle.batch.specs.declared.error.BatchError.TheVariants.{Lookup as OfLookup, Memory}
+
+-- where every check passes, it is a plan
+pub plan_is : {F : Type 0} (p : ℕ) (airs : List (Lookups F)) (heights : List ℕ) (ids : List (List ℕ)) (W m : ℕ) → length heights ≡ length airs → AgreeOnWidths (bus_widths_of airs) → AreLocallyEven airs → AreNumbered ids airs m → m ≤ p → weighted_height_sum (map lookups_of airs) heights < p → W ≡ message_width airs → IsPlan p airs heights ids W m
+plan_is p airs heights ids W m heights_are agree even numbered few light width = record {
+  heights_are = heights_are;
+  numbered = numbered;
+  few = few;
+  widths = one_widths ids airs m numbered agree even;
+  width = width;
+  light = light;
+}
+
+-- refusals that keep their names
+pub bus_passed : (widths : List (List ℕ × ℕ)) (e : LookupError) → IsFirstMismatch widths e → of_lookup e ≡ OfLookup e
+bus_passed widths e first = ap of_lookup first.refusal.error_is ∙ ap OfLookup (sym first.refusal.error_is)
+
+pub widths_passed : (context : List ℕ) (width other : ℕ) (e : LookupError) → IsTupleWidths context width other e → of_lookup e ≡ OfLookup e
+widths_passed context width other e is = ap of_lookup is.error_is ∙ ap OfLookup (sym is.error_is)
+
+pub local_passed : {F : Type 0} (airs : List (Lookups F)) (e : LookupError) → IsFirstLocalMismatch airs e → of_lookup e ≡ OfLookup e
+local_passed airs e first = widths_passed _ _ _ e first.mismatch.mismatch.refusal
+
+pub height_passed : (p sum : ℕ) (e : LookupError) → IsHeightRefusal p sum e → of_lookup e ≡ OfLookup e
+height_passed p sum e is = ap of_lookup is.error_is ∙ ap OfLookup (sym is.error_is)
+
+module _ {F K : Type 0} (E : Extension F K) (table : ChallengeTable K) where
+  air_passed : (air : ℕ) (i : Instance F) (r : AirResult K) (e : LookupError) → IsAirRefusal E table air i r e → of_lookup e ≡ OfLookup e
+  air_passed air i r e (inl (inl (other, is))) = ap of_lookup is ∙ ap OfLookup (sym is)
+  air_passed air i r e (inl (inr (same, inl (other, is)))) = ap of_lookup is ∙ ap OfLookup (sym is)
+  air_passed air i r e (inl (inr (same, inr (width, (other, is))))) = ap of_lookup is ∙ ap OfLookup (sym is)
+  air_passed air i r e (inr (shape, (row, failing, is))) = ap of_lookup is ∙ ap OfLookup (sym is)
+
+  pub witness_passed : (batch : List (Instance F)) (witness : List (AirResult K)) (e : LookupError) → IsWitnessRefusal E table batch witness e → of_lookup e ≡ OfLookup e
+  witness_passed batch witness e (inl first) = air_passed first.air first.instance first.result e first.refusal
+  witness_passed batch witness e (inr sum) = ap of_lookup sum.error_is ∙ ap OfLookup (sym sum.error_is)
+
+-- the fault of no AIR
+pub fault_of_none : (fault : BatchFault) → IsOutOfMemory fault → of_fault fault ≡ Memory
+fault_of_none fault memory i = refusal_at (memory.air i) (memory.error i)
+
+-- the widest of one more part
+pub widest_more : {X : Type 0} (f : X → List ℕ) (xs : List X) (i : ℕ) (x : X) (start now next : ℕ) → i < length xs → x ≡ get_or xs i x → now ≡ max start (greatest (flat_map f (take i xs))) → next ≡ max now (greatest (f x)) → next ≡ max start (greatest (flat_map f (take (i + 1) xs)))
+widest_more f xs i x start now next lt is so_far next_is =
+    let longer : flat_map f (take (i + 1) xs) ≡ flat_map f (take i xs) ++ f x = ap (flat_map f) (take_more xs i x lt ∙ ap (λ y. take i xs ++ y ∷ []) (sym is)) ∙ flat_map-append f (take i xs) (x ∷ []) ∙ ap (λ t. flat_map f (take i xs) ++ t) (append-nil (f x)) in
+    let whole : greatest (flat_map f (take (i + 1) xs)) ≡ max (greatest (flat_map f (take i xs))) (greatest (f x)) = ap greatest longer ∙ greatest_append (flat_map f (take i xs)) (f x) in
+    omega (arith, next_is, so_far, whole)
+
+-- of one more number
+pub widest_next : {X : Type 0} (f : X → ℕ) (xs : List X) (i : ℕ) (x : X) (start now next : ℕ) → i < length xs → x ≡ get_or xs i x → now ≡ max start (greatest (map f (take i xs))) → next ≡ max now (f x) → next ≡ max start (greatest (map f (take (i + 1) xs)))
+widest_next f xs i x start now next lt is so_far next_is =
+    let longer : map f (take (i + 1) xs) ≡ map f (take i xs) ++ f x ∷ [] = ap (map f) (take_more xs i x lt ∙ ap (λ y. take i xs ++ y ∷ []) (sym is)) ∙ map_push f (take i xs) x in
+    let whole : greatest (map f (take (i + 1) xs)) ≡ max (greatest (map f (take i xs))) (f x) = ap greatest longer ∙ greatest_push (map f (take i xs)) (f x) in
+    omega (arith, next_is, so_far, whole)

@@ -1,0 +1,130 @@
+-- The batch of a plan over its traces.
+use Rattle.std.proofs.Common.{◌≡◌, ◌↔◌, ◌<◌, ◌≤◌, ◌+◌, ◌-◌, ◌++◌, ◌∷◌, ℕ, zero, suc, Bool, true, false, true≢false, IsTrue, List, [], None, Some, All, drop, get_or, length, map, take, refl, sym, ap, ap₂, subst, ◌∙◌, arith}
+use Rattle.std.proofs.lemmas.List.{get_or-map, length-map, map_push, take_more}
+use Rattle.std.proofs.lemmas.List.Elements.{All-cons, All-nil}
+use Rattle.std.proofs.lemmas.Slice.Zip.{get_or-zip, length-zip}
+use Rattle.std.specs.Box.{boxed_slice_items}
+use Rattle.std.specs.List.{AllByRecursion, slice_get, slice_range, zip}
+use Rattle.std.specs.declared.alloc.Global.{Global}
+use Rattle.std.specs.declared.vec.Vec.{Vec}
+use Rattle.matrix.specs.Matrix.{Matrix}
+use Rattle.batch_model.specs.Ids.{identified}
+use Rattle.batch_model.specs.Instances.{DoInstancesFit, HasPrefixes, HavePrefixes, IsFitting, instance_of, instances_of}
+use Rattle.batch_model.specs.declared.instance.BatchInstance.{BatchInstance}
+use Rattle.lookup_model.specs.declared.challenges.Challenges.{Challenges}
+use Rattle.lookup_model.specs.declared.types.Lookup.{Lookup}
+use Rattle.lookup.specs.Lookups.{lookups_of}
+use Rattle.lookup.specs.declared.lookups.Lookups.{Lookups}
+use Rattle.witness_laws.proofs.Lists.{all_back, all_front}
+use Rattle.batch.proofs.Places.{HoldsBelow, holds_next}
+use Rattle.batch.specs.Lists.{lists_of}
+use Rattle.batch.specs.Plans.{plan_batch}
+use Rattle.batch.specs.Traces.{FitsAt, IsFirstUnfit, instance_alone, instance_over, shown_of}
+use Rattle.batch.specs.declared.error.BatchError.TheVariants.{TraceMismatch}
+use Rattle.batch.specs.declared.trace.BatchTrace.{BatchTrace}
+
+-- a part of one item
+pub one_part : {A : Type 0} (xs : List A) (i : ℕ) (d : A) → i < length xs → slice_range xs i (i + 1) ≡ get_or xs i d ∷ []
+one_part [] i d lt = absurd (omega (arith, lt))
+one_part (x ∷ xs) zero d lt = refl
+one_part (x ∷ xs) (suc i) d lt =
+    let less : suc i + 1 - suc i ≡ i + 1 - i = omega arith in
+    ap (λ n. take n (drop i xs)) less ∙ one_part xs i d (omega (arith, lt))
+
+-- what holds of its items holds of that item
+pub all_of_one : {A : Type 0} (P : A → Type 0) (xs : List A) (i : ℕ) (x : A) → i < length xs → x ≡ get_or xs i x → All P (slice_range xs i (i + 1)) ↔ P x
+all_of_one P xs i x lt is =
+    let part : slice_range xs i (i + 1) ≡ x ∷ [] = one_part xs i x lt ∙ ap (λ y. y ∷ []) (sym is) in (
+      (λ all. subst (All P) part all 0 x (omega arith)),
+      (λ here. subst (All P) (sym part) (All-cons P x [] here (All-nil P))),
+    )
+
+module _ {F : Type 0} where
+  -- AIRs that fit their heights fit
+  pub fits_from : (bs : List (BatchInstance F)) (heights : List ℕ) → length heights ≡ length bs → All FitsAt (zip (instances_of bs) heights) → DoInstancesFit bs
+  fits_from [] heights same all = All-nil (λ b. IsFitting (instance_of b))
+  fits_from (b ∷ bs) [] same all = absurd (omega (arith, same))
+  fits_from (b ∷ bs) (h ∷ hs) same all =
+      All-cons (λ c. IsFitting (instance_of c)) b bs (all 0 (instance_of b, h) (omega arith)).1 (fits_from bs hs (omega (arith, same)) (λ k d lt. all (suc k) d (omega (arith, lt))))
+
+  ids_below : (m n : ℕ) (ids : List ℕ) (lookups : List (Lookup F)) → length ids ≡ length lookups → m ≤ n → AllByRecursion (λ a. a.0 < m) (zip ids lookups) → All (λ id. id < n) ids
+  ids_below m n [] lookups same le all = All-nil (λ id. id < n)
+  ids_below m n (id ∷ ids) [] same le all = absurd (omega (arith, same))
+  ids_below m n (id ∷ ids) (l ∷ ls) same le all = All-cons (λ i. i < n) id ids (omega (arith, all.0, le)) (ids_below m n ids ls (omega (arith, same)) le all.1)
+
+  -- the ids of a batch, below m, have prefixes
+  pub have_prefixes : {K : Type 0} (c : Challenges K) (m : ℕ) (bs : List (BatchInstance F)) → m ≤ length (boxed_slice_items c.bus_prefix) → DoInstancesFit bs → AllByRecursion (λ a. a.0 < m) (identified (instances_of bs)) → HavePrefixes c bs
+  have_prefixes c m [] le fit all = All-nil (HasPrefixes c)
+  have_prefixes c m (b ∷ bs) le fit all =
+      All-cons (HasPrefixes c) b bs
+      (ids_below m (length (boxed_slice_items c.bus_prefix)) b.ids.now b.lookups.now (fit 0 b (omega arith)).ids le (all_front (λ a. a.0 < m) (zip b.ids.now b.lookups.now) (identified (instances_of bs)) all))
+      (have_prefixes c m bs le (λ k d lt. fit (suc k) d (omega (arith, lt))) (all_back (λ a. a.0 < m) (zip b.ids.now b.lookups.now) (identified (instances_of bs)) all))
+
+  module _ (airs : List (Lookups F)) (ids : List (Vec ℕ Global)) (traces : List (BatchTrace F)) (ids_are : length ids ≡ length airs) (traces_are : length traces ≡ length airs) where
+    -- the AIRs with their ids and traces
+    abbrev pub parts : List ((List ℕ × Lookups F) × BatchTrace F)
+    parts = zip (zip (lists_of ids) airs) traces
+
+    pub length_parts : length parts ≡ length airs
+    length_parts = omega (arith, length-zip (zip (lists_of ids) airs) traces, length-zip (lists_of ids) airs, length-map ids (λ list. list.items), ids_are, traces_are)
+
+    -- one AIR more
+    pub batch_more : (bs : List (BatchInstance F)) (b : BatchInstance F) (i : ℕ) (list : Vec ℕ Global) (air : Lookups F) (trace : BatchTrace F) → i < length airs
+        → list ≡ get_or ids i list → air ≡ get_or airs i air → trace ≡ get_or traces i trace → instance_of b ≡ instance_over (list.items, air) trace
+        → instances_of bs ≡ map (λ t. instance_over t.0 t.1) (take i parts) → instances_of (bs ++ b ∷ []) ≡ map (λ t. instance_over t.0 t.1) (take (i + 1) parts)
+    batch_more bs b i list air trace lt list_is air_is trace_is b_is so_far =
+        let pair : get_or parts i ((list.items, air), trace) ≡ ((list.items, air), trace) =
+        get_or-zip (zip (lists_of ids) airs) traces i ((list.items, air), trace) (omega (arith, length-zip (lists_of ids) airs, length-map ids (λ l. l.items), ids_are, lt)) (omega (arith, traces_are, lt))
+        ∙ (λ j. (
+          (get_or-zip (lists_of ids) airs i (list.items, air) (omega (arith, length-map ids (λ l. l.items), ids_are, lt)) lt
+              ∙ (λ k. ((get_or-map (λ l. l.items) ids i list list.items (omega (arith, ids_are, lt)) ∙ ap (λ l. l.items) (sym list_is)) k, sym air_is k))) j,
+          sym trace_is j,
+        )) in
+        map_push instance_of bs b
+        ∙ (λ j. so_far j ++ b_is j ∷ [])
+        ∙ sym (map_push (λ (t : (List ℕ × Lookups F) × BatchTrace F). instance_over t.0 t.1) (take i parts) ((list.items, air), trace))
+        ∙ ap (map (λ (t : (List ℕ × Lookups F) × BatchTrace F). instance_over t.0 t.1)) (ap (λ t. take i parts ++ t ∷ []) (sym pair) ∙ sym (take_more parts i ((list.items, air), trace) (omega (arith, length_parts, lt))))
+
+    pub length_batch : (bs : List (BatchInstance F)) → instances_of bs ≡ plan_batch airs ids traces → length bs ≡ length airs
+    length_batch bs are = sym (length-map bs instance_of) ∙ ap length are ∙ length-map parts (λ t. instance_over t.0 t.1) ∙ length_parts
+
+  -- an AIR of a batch with its height
+  pub trace_there : (bs : List (BatchInstance F)) (heights : List ℕ) (i : ℕ) → length heights ≡ length bs → i < length bs → (b : BatchInstance F) × (b ≡ get_or bs i b) × (slice_get (zip (instances_of bs) heights) i ≡ Some (instance_of b, get_or heights i 0))
+  trace_there [] heights i same lt = absurd (omega (arith, lt))
+  trace_there (b ∷ bs) [] i same lt = absurd (omega (arith, same))
+  trace_there (b ∷ bs) (h ∷ hs) zero same lt = (b, refl, refl)
+  trace_there (b ∷ bs) (h ∷ hs) (suc i) same lt = trace_there bs hs i (omega (arith, same)) (omega (arith, lt))
+
+  module _ (bs : List (BatchInstance F)) (heights : List ℕ) (i : ℕ) (same : length heights ≡ length bs) (lt : i < length bs) (fits : Bool)
+      (told : IsTrue fits ↔ All (λ b. FitsAt (instance_of b, get_or heights i 0)) (slice_range bs i (i + 1)))
+      (so_far : HoldsBelow FitsAt (zip (instances_of bs) heights) i) where
+    -- one AIR more that fits
+    pub fits_next : fits ≡ true → HoldsBelow FitsAt (zip (instances_of bs) heights) (i + 1)
+    fits_next yes_fits =
+        let (b, is, there) = trace_there bs heights i same lt in
+        holds_next FitsAt (zip (instances_of bs) heights) i (instance_of b, get_or heights i 0) there ((all_of_one (λ c. FitsAt (instance_of c, get_or heights i 0)) bs i b lt is).0 (told.0 yes_fits)) so_far
+
+    -- one that does not
+    pub first_unfit : fits ≡ false → IsFirstUnfit heights (instances_of bs) (TraceMismatch i)
+    first_unfit unfit =
+        let (b, is, there) = trace_there bs heights i same lt in
+        record {
+          place = i;
+          unfit = (instance_of b, get_or heights i 0);
+          is_there = there;
+          fails = λ here. absurd (true≢false (sym (told.1 ((all_of_one (λ c. FitsAt (instance_of c, get_or heights i 0)) bs i b lt is).1 here)) ∙ unfit));
+          before = so_far;
+          error_is = refl;
+        }
+
+-- over main traces alone, the batch of a plan is that of these
+pub alone_is : {F : Type 0} (airs : List (List ℕ × Lookups F)) (traces : List (BatchTrace F)) (mains : List (Matrix F)) → map shown_of traces ≡ map (λ main. (main, None, [])) mains
+    → map (λ t. instance_over t.0 t.1) (zip airs traces) ≡ map (λ t. instance_alone t.0 t.1) (zip airs mains)
+alone_is [] traces mains same = refl
+alone_is (a ∷ airs) [] [] same = refl
+alone_is (a ∷ airs) [] (m ∷ ms) same = absurd (cc same)
+alone_is (a ∷ airs) (t ∷ ts) [] same = absurd (cc same)
+alone_is (a ∷ airs) (t ∷ ts) (m ∷ ms) same =
+    let head : shown_of t ≡ (m, None, []) = cc same in
+    let rest : map shown_of ts ≡ map (λ main. (main, None, [])) ms = cc same in
+    ap₂ (λ x xs. x ∷ xs) (λ i. record { lookups = lookups_of a.1; main = (head i).0; preprocessed = (head i).1; public_values = (head i).2; ids = a.0 }) (alone_is airs ts ms rest)

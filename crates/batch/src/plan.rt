@@ -1,0 +1,225 @@
+//! Plans of batches.
+ghost use Rattle.std.specs.Prelude.{◌≡◌, ◌⊎◌, ℕ, List, MatchResult, length, map};
+ghost use Rattle.batch.specs.PlanFacts.{IsPlan};
+ghost use Rattle.batch.specs.Lists.{lists_of};
+ghost use Rattle.batch.specs.WitnessCounts.{IsCountRefusal};
+
+use crate::batch::fitted_batch;
+use crate::error::BatchError;
+use crate::ids::{PlanIds, plan_ids};
+use crate::trace::BatchTrace;
+use crate::widths::{check_local_widths, widest_tuple};
+use checker::{Witness, check_witness, generate_batch};
+use field::{ExtensionField, Field};
+use lookup::{Challenges, Lookups, check_bus_widths, check_multiplicity_height_bound};
+use std::alloc::{AllocError, Global};
+
+/// The lookups of the AIRs of a batch with their ids, and the heights of the traces.
+///
+/// The ids are given from 0 in the order of AIRs and lookups: a local lookup takes the next one, and
+/// a lookup on a bus that of its bus, or the next one if the bus is new. So they are lawful for
+/// challenges of `num_ids` prefixes and tuples of at most `max_message_width` elements; there are at
+/// most as many as the characteristic, and all tuples under one id have the same width. No count of
+/// queries can wrap as long as they stay within their weights: the sum of weights times heights is
+/// below the characteristic.
+#[derive(Debug, Drop)]
+pub struct BatchPlan<F: Field> {
+    airs: Vec<Lookups<F>>,
+    heights: Vec<usize>,
+    ids: Vec<Vec<usize>>,
+    max_message_width: usize,
+    num_ids: usize,
+    pub ghost facts: { IsPlan F.CHARACTERISTIC airs.items heights.items (lists_of ids.items) max_message_width num_ids },
+}
+
+impl<F: Field> BatchPlan<F> {
+    ghost use Rattle.batch.specs.Checks.{HaveEvenWidths, IsPlanRefusal};
+    ghost use Rattle.batch.specs.Plans.{PassIsCounted, PassesOnlyPlain, Proves, ProvesBalanced, ProvesOnly, ProvesRegular, ProvesSatisfied, RefusesUnaccepted, Verifies, plan_batch};
+    ghost use Rattle.batch.specs.Tables.{made_table};
+    ghost use Rattle.lookup_model.specs.Extension.{extension};
+
+    /// The plan of these AIRs, whose traces have these heights.
+    ///
+    /// Refuses the first of these that fails:
+    ///
+    /// - `LengthMismatch`: there is a height for each AIR;
+    /// - `Lookup` of `BusWidthMismatch`, by [`check_bus_widths`];
+    /// - `Lookup` of `TupleWidths` with the context `air A local lookup L`: the tuples of a local
+    ///   lookup have one width;
+    /// - `TooManyIds`: there are at most as many ids as the characteristic;
+    /// - `Lookup` of `MultiplicityHeightBoundExceeded`, by [`check_multiplicity_height_bound`].
+    ///
+    /// Also fails when out of memory. The AIRs are dropped if it is refused.
+    pub fn new(
+        alloc: Global,
+        airs: Vec<Lookups<F>>,
+        heights: Vec<usize>,
+    ) -> Result<Self, BatchError>
+        ensures { MatchResult result
+            (λ plan. (plan.airs.items ≡ airs.items) × (plan.heights.items ≡ heights.items)
+            × HaveEvenWidths airs.items)
+            (λ e. (e ≡ BatchError.Memory)
+            ⊎ IsPlanRefusal F.CHARACTERISTIC airs.items heights.items e) }
+    {
+        if heights.len() != airs.len() {
+            return Err(BatchError::LengthMismatch {
+                expected: airs.len(),
+                actual: heights.len(),
+            });
+        }
+        check_bus_widths(alloc, airs.as_slice())?;
+        check_local_widths(alloc, airs.as_slice())?;
+        let PlanIds { ids, count } = plan_ids(alloc, airs.as_slice())?;
+        if count as u128 > F::CHARACTERISTIC {
+            return Err(BatchError::TooManyIds { ids: count });
+        }
+        check_multiplicity_height_bound(airs.as_slice(), heights.as_slice())?;
+        let max_message_width = widest_tuple(airs.as_slice()).max(1);
+        Ok(BatchPlan {
+            airs,
+            heights,
+            ids,
+            max_message_width,
+            num_ids: count,
+        })
+    }
+
+    /// The id of each lookup, AIR by AIR.
+    pub fn ids(&self) -> &[Vec<usize>]
+        ensures { result.now ≡ self.now.ids.items }
+    {
+        self.ids.as_slice()
+    }
+
+    /// The greatest width of all tuples, at least 1.
+    pub fn max_message_width(&self) -> usize
+        ensures { result ≡ self.now.max_message_width }
+    {
+        self.max_message_width
+    }
+
+    /// The number of ids.
+    pub fn num_ids(&self) -> usize
+        ensures { result ≡ self.now.num_ids }
+    {
+        self.num_ids
+    }
+
+    /// The auxiliary traces and the terminals of the AIRs over these traces, at a pair of challenges;
+    /// see [`generate_batch`](checker::generate_batch).
+    ///
+    /// They satisfy the constraints of all lookups. If all flags are lawful and no denominator
+    /// vanishes, there are no others that do. If all messages balance, the terminals sum to zero.
+    ///
+    /// Refuses `LengthMismatch` if the traces are not as many as the AIRs, then `TraceMismatch` at the
+    /// first AIR whose traces do not have the height of the plan or do not fit its lookups, then
+    /// `Air` with the first fault of generation. Also fails when out of memory.
+    pub fn prove<EF: ExtensionField<F>>(
+        &self,
+        alloc: Global,
+        traces: &[BatchTrace<'_, F>],
+        alpha: EF,
+        beta: EF,
+    ) -> Result<Witness<EF>, BatchError>
+        ensures answer { Proves (extension F.ring F.eq EF.ring EF.eq EF.embed EF.inverse)
+            (made_table EF.ring alpha beta self.now.max_message_width self.now.num_ids)
+            self.now.heights.items traces.now
+            (plan_batch self.now.airs.items self.now.ids.items traces.now) result }
+        ensures succeeds { ProvesRegular (extension F.ring F.eq EF.ring EF.eq EF.embed EF.inverse)
+            (made_table EF.ring alpha beta self.now.max_message_width self.now.num_ids)
+            self.now.heights.items traces.now
+            (plan_batch self.now.airs.items self.now.ids.items traces.now) result }
+        ensures satisfied { ProvesSatisfied (extension F.ring F.eq EF.ring EF.eq EF.embed EF.inverse)
+            (made_table EF.ring alpha beta self.now.max_message_width self.now.num_ids)
+            (plan_batch self.now.airs.items self.now.ids.items traces.now) result }
+        ensures only { ProvesOnly (extension F.ring F.eq EF.ring EF.eq EF.embed EF.inverse)
+            (made_table EF.ring alpha beta self.now.max_message_width self.now.num_ids)
+            (plan_batch self.now.airs.items self.now.ids.items traces.now) result }
+        ensures balanced { ProvesBalanced (extension F.ring F.eq EF.ring EF.eq EF.embed EF.inverse)
+            (made_table EF.ring alpha beta self.now.max_message_width self.now.num_ids)
+            (plan_batch self.now.airs.items self.now.ids.items traces.now) result }
+    {
+        let batch = fitted_batch(
+            alloc,
+            self.airs.as_slice(),
+            self.ids.as_slice(),
+            self.heights.as_slice(),
+            traces,
+        )?;
+        let challenges = Challenges::new(alloc, alpha, beta, self.max_message_width, self.num_ids)?;
+        let witness = generate_batch(alloc, batch.as_slice(), &challenges)?;
+        Ok(witness)
+    }
+
+    /// Whether a witness is accepted over these traces, at a pair of challenges; see
+    /// [`check_witness`](checker::check_witness).
+    ///
+    /// If it is, alpha is one of those that [`soundness_count`](checker::soundness_count) counts. If
+    /// all flags are lawful and no denominator vanishes, only the witness of `prove` can be.
+    ///
+    /// Refuses traces as `prove` does, then `LengthMismatch` if the auxiliary traces or the terminals
+    /// are not as many as the AIRs, then `Lookup` with the first refusal of the witness. Also fails
+    /// when out of memory.
+    pub fn verify<EF: ExtensionField<F>>(
+        &self,
+        alloc: Global,
+        traces: &[BatchTrace<'_, F>],
+        alpha: EF,
+        beta: EF,
+        witness: &Witness<EF>,
+    ) -> Result<(), BatchError>
+        ensures answer { Verifies (extension F.ring F.eq EF.ring EF.eq EF.embed EF.inverse)
+            (made_table EF.ring alpha beta self.now.max_message_width self.now.num_ids)
+            self.now.heights.items traces.now
+            (plan_batch self.now.airs.items self.now.ids.items traces.now) witness.now result }
+        ensures refusal { RefusesUnaccepted (extension F.ring F.eq EF.ring EF.eq EF.embed EF.inverse)
+            (made_table EF.ring alpha beta self.now.max_message_width self.now.num_ids)
+            self.now.heights.items traces.now
+            (plan_batch self.now.airs.items self.now.ids.items traces.now) witness.now result }
+        ensures only { PassesOnlyPlain (extension F.ring F.eq EF.ring EF.eq EF.embed EF.inverse)
+            (made_table EF.ring alpha beta self.now.max_message_width self.now.num_ids)
+            (plan_batch self.now.airs.items self.now.ids.items traces.now) witness.now result }
+        ensures counted { PassIsCounted (extension F.ring F.eq EF.ring EF.eq EF.embed EF.inverse)
+            (plan_batch self.now.airs.items self.now.ids.items traces.now) alpha beta
+            self.now.max_message_width result }
+    {
+        let batch = fitted_batch(
+            alloc,
+            self.airs.as_slice(),
+            self.ids.as_slice(),
+            self.heights.as_slice(),
+            traces,
+        )?;
+        check_counts(self.airs.len(), witness)?;
+        let challenges = Challenges::new(alloc, alpha, beta, self.max_message_width, self.num_ids)?;
+        check_witness(
+            alloc,
+            batch.as_slice(),
+            &challenges,
+            witness.aux.as_slice(),
+            witness.terminals.as_slice(),
+        )?;
+        Ok(())
+    }
+}
+
+/// Whether a witness has an auxiliary trace and a terminal for each AIR.
+fn check_counts<EF>(airs: usize, witness: &Witness<EF>) -> Result<(), BatchError>
+    ensures { MatchResult result
+        (λ _. (length witness.now.aux.items ≡ airs) × (length witness.now.terminals.items ≡ airs))
+        (IsCountRefusal airs witness.now) }
+{
+    if witness.aux.len() != airs {
+        return Err(BatchError::LengthMismatch {
+            expected: airs,
+            actual: witness.aux.len(),
+        });
+    }
+    if witness.terminals.len() != airs {
+        return Err(BatchError::LengthMismatch {
+            expected: airs,
+            actual: witness.terminals.len(),
+        });
+    }
+    Ok(())
+}

@@ -1,0 +1,150 @@
+//! What the tests share: sets of lookups, traces, and plans of them.
+mod example;
+mod numbering;
+mod proving;
+mod refusals;
+
+use air::{BaseEntry, BaseLeaf, Expression, SymbolicExpression, SymbolicVariable};
+use batch::{BatchError, BatchPlan, BatchTrace};
+use checker::Witness;
+use field::{F7, Field, PrimeCharacteristicRing};
+use lookup::{Kind, Lookup, LookupTerminal, Lookups};
+use matrix::RowMajorMatrix;
+use std::alloc::Global;
+use std::process::Abort;
+
+/// The name of a lookup's bus, none if it is local, and the widths of its tuples.
+type Shape<'a> = (Option<&'a str>, &'a [usize]);
+
+/// Fails with this text unless the condition holds.
+fn holds(rt: &impl Abort, what: &str, condition: bool) {
+    assert!(rt; condition, "{what}");
+}
+
+/// A cell of the current row of the main trace.
+fn cell<F: Field>(index: usize) -> SymbolicExpression<F> {
+    SymbolicExpression::Leaf(BaseLeaf::Variable(SymbolicVariable::new(
+        BaseEntry::Main { offset: 0 },
+        index,
+    )))
+}
+
+fn kind(rt: &impl Abort, alloc: Global, bus: Option<&str>) -> Kind {
+    match bus {
+        Some(name) => Kind::Global(String::from_str(alloc, name).expect(rt, "memory")),
+        None => Kind::Local,
+    }
+}
+
+/// A tuple of so many copies of cell 0.
+fn tuple<F: Field>(rt: &impl Abort, alloc: Global, width: usize) -> Vec<SymbolicExpression<F>> {
+    let mut elements = Vec::new(alloc);
+    for _ in 0..width {
+        elements.push(cell(0)).expect(rt, "memory");
+    }
+    elements
+}
+
+/// A lookup whose tuples have these widths, with counts 1.
+fn shaped<F: Field>(
+    rt: &impl Abort,
+    alloc: Global,
+    shape: Shape<'_>,
+    weight: u64,
+    column: usize,
+) -> Lookup<F> {
+    let mut elements = Vec::new(alloc);
+    let mut multiplicities = Vec::new(alloc);
+    for width in shape.1 {
+        elements.push(tuple(rt, alloc, *width)).expect(rt, "memory");
+        multiplicities
+            .push(SymbolicExpression::constant(F::ONE))
+            .expect(rt, "memory");
+    }
+    Lookup {
+        kind: kind(rt, alloc, shape.0),
+        elements,
+        multiplicities,
+        count_weight: weight,
+        column,
+        flags: None,
+    }
+}
+
+/// A set of such lookups, all of one weight.
+fn set<F: Field>(rt: &impl Abort, alloc: Global, shapes: &[Shape<'_>], weight: u64) -> Lookups<F> {
+    let mut records = Vec::new(alloc);
+    for (column, shape) in shapes.iter().enumerate() {
+        records
+            .push(shaped(rt, alloc, *shape, weight, column))
+            .expect(rt, "memory");
+    }
+    Lookups::from_records(alloc, records).expect(rt, "well formed")
+}
+
+/// The plan of sets of such lookups.
+fn plan<F: Field>(
+    rt: &impl Abort,
+    alloc: Global,
+    sets: &[&[Shape<'_>]],
+    weight: u64,
+    heights: &[usize],
+) -> Result<BatchPlan<F>, BatchError> {
+    let mut airs = Vec::new(alloc);
+    for shapes in sets {
+        airs.push(set(rt, alloc, shapes, weight))
+            .expect(rt, "memory");
+    }
+    let mut planned = Vec::new(alloc);
+    planned.extend_from_slice(heights).expect(rt, "memory");
+    BatchPlan::new(alloc, airs, planned)
+}
+
+/// Whether the ids of a plan are these.
+fn has_ids<F: Field>(plan: &BatchPlan<F>, ids: &[&[usize]]) -> bool {
+    for (own, wanted) in plan.ids().iter().zip(ids) {
+        if own.as_slice() != *wanted {
+            return false;
+        }
+    }
+    plan.ids().len() == ids.len()
+}
+
+/// A matrix of these numbers, row after row.
+fn trace<F: Field>(
+    rt: &impl Abort,
+    alloc: Global,
+    numbers: &[u32],
+    width: usize,
+) -> RowMajorMatrix<F> {
+    let mut values = Vec::new(alloc);
+    for number in numbers {
+        values.push(F::from_u32(*number)).expect(rt, "memory");
+    }
+    assert!(rt; width > 0 && values.len() % width == 0);
+    RowMajorMatrix::new(values, width)
+}
+
+/// A main trace alone.
+fn alone<F>(main: &RowMajorMatrix<F>) -> BatchTrace<'_, F> {
+    BatchTrace {
+        main,
+        preprocessed: None,
+        public_values: &[],
+    }
+}
+
+/// Whether an AIR's auxiliary trace and terminal are these.
+fn has_result<EF: Field>(witness: &Witness<EF>, air: usize, cells: &[EF], terminal: EF) -> bool {
+    match (witness.aux.get(air), witness.terminals.get(air)) {
+        (Some(aux), Some(Some(LookupTerminal(value)))) => {
+            aux.values() == cells && *value == terminal
+        }
+        _ => false,
+    }
+}
+
+/// Numbers as elements.
+fn numbers<const N: usize>(values: [u32; N]) -> [F7; N] {
+    values.map(F7::from_u32)
+}

@@ -1,0 +1,202 @@
+//! The ids of plans.
+use super::{Shape, has_ids, holds, plan, shaped};
+use batch::BatchPlan;
+use field::{BabyBear, F7};
+use lookup::{Lookup, Lookups};
+use std::alloc::Global;
+use std::process::Abort;
+
+/// The ids and their number, by hand: a local lookup takes the next id, and a name keeps its first.
+#[test]
+fn ids_in_the_order_in_which_buses_are_seen(rt: HostRuntime) {
+    let alloc = rt.alloc();
+    let one: &[usize] = &[1];
+    let rows: [(&[&[Shape<'_>]], &[&[usize]], usize); 6] = [
+        (
+            &[
+                &[(None, one), (Some("a"), one)],
+                &[(None, one), (Some("b"), one), (Some("a"), one)],
+            ],
+            &[&[0, 1], &[2, 3, 1]],
+            4,
+        ),
+        // an AIR without lookups between two others
+        (
+            &[&[(Some("a"), one)], &[], &[(Some("a"), one)]],
+            &[&[0], &[], &[0]],
+            1,
+        ),
+        // names that differ in one byte, and the empty name
+        (
+            &[&[
+                (Some("ab"), one),
+                (Some("ac"), one),
+                (Some(""), one),
+                (Some("ab"), one),
+            ]],
+            &[&[0, 1, 2, 0]],
+            3,
+        ),
+        // the same letters in another order, and a name that another begins with
+        (
+            &[
+                &[(Some("abc"), one), (Some("cab"), one)],
+                &[(Some("ab"), one), (Some("abc"), one)],
+            ],
+            &[&[0, 1], &[2, 0]],
+            3,
+        ),
+        // the empty name is not that of a local lookup
+        (
+            &[&[(Some(""), one), (None, one), (Some(""), one)]],
+            &[&[0, 1, 0]],
+            2,
+        ),
+        (&[&[], &[]], &[&[], &[]], 0),
+    ];
+    for (sets, ids, count) in rows {
+        let heights: &[usize] = &[1, 1, 1];
+        let made = plan::<F7>(
+            &rt,
+            alloc,
+            sets,
+            0,
+            heights.get(..sets.len()).unwrap_or(&[]),
+        )
+        .expect(&rt, "a plan");
+        holds(&rt, "the ids", has_ids(&made, ids));
+        holds(&rt, "their number", made.num_ids() == count);
+    }
+}
+
+/// The greatest width of a tuple, 1 if no tuple is wider.
+#[test]
+fn the_width_of_the_widest_tuple(rt: HostRuntime) {
+    let alloc = rt.alloc();
+    let rows: [(&[&[Shape<'_>]], usize); 4] = [
+        (&[&[]], 1),
+        (&[&[(Some("a"), &[])]], 1),
+        (&[&[(None, &[0, 0])]], 1),
+        (
+            &[
+                &[(Some("a"), &[2]), (None, &[1, 1])],
+                &[(Some("b"), &[3]), (Some("a"), &[2])],
+            ],
+            3,
+        ),
+    ];
+    for (sets, width) in rows {
+        let heights: &[usize] = &[1, 1];
+        let made = plan::<F7>(
+            &rt,
+            alloc,
+            sets,
+            0,
+            heights.get(..sets.len()).unwrap_or(&[]),
+        )
+        .expect(&rt, "a plan");
+        holds(&rt, "the width", made.max_message_width() == width);
+    }
+}
+
+/// What a number draws: no name, or one of five.
+fn name_of(number: u32) -> Option<&'static str> {
+    match number % 6 {
+        0 => None,
+        1 => Some("a"),
+        2 => Some("b"),
+        3 => Some("ab"),
+        4 => Some("ba"),
+        _ => Some(""),
+    }
+}
+
+/// The ids of these names by a plain search: that of the first lookup with the name, or the next one.
+fn plain_ids(rt: &impl Abort, alloc: Global, names: &[Option<&str>]) -> Vec<usize> {
+    let mut ids: Vec<usize> = Vec::new(alloc);
+    let mut next = 0usize;
+    for name in names {
+        let mut known = None;
+        for (id, other) in ids.iter().zip(names) {
+            if name.is_some() && name == other {
+                known = Some(*id);
+            }
+        }
+        ids.push(known.unwrap_or(next)).expect(rt, "memory");
+        if known.is_none() {
+            next = next.saturating_add(1);
+        }
+    }
+    ids
+}
+
+/// Whether a plan's ids, AIR after AIR, are these.
+fn are_ids(plan: &BatchPlan<BabyBear>, ids: &[usize]) -> bool {
+    let mut wanted = ids.iter();
+    for own in plan.ids() {
+        for id in own {
+            if wanted.next() != Some(id) {
+                return false;
+            }
+        }
+    }
+    wanted.next().is_none()
+}
+
+/// A thousand plans of three AIRs with two lookups each, drawn at random.
+#[test]
+fn plans_drawn_at_random(rt: HostRuntime) {
+    let alloc = rt.alloc();
+    let one: &[usize] = &[1];
+    let mut drawn = 12345u32;
+    for _ in 0..1000 {
+        let mut names = [None; 6];
+        for name in &mut names {
+            drawn = drawn.wrapping_mul(1664525).wrapping_add(1013904223);
+            *name = name_of(drawn >> 16);
+        }
+        let [a, b, c, d, e, f] = names;
+        let first: &[Shape<'_>] = &[(a, one), (b, one)];
+        let second: &[Shape<'_>] = &[(c, one), (d, one)];
+        let third: &[Shape<'_>] = &[(e, one), (f, one)];
+        let made = plan::<BabyBear>(&rt, alloc, &[first, second, third], 0, &[1, 1, 1]).expect(
+            &rt, "a plan",
+        );
+        let ids = plain_ids(&rt, alloc, names.as_slice());
+        holds(&rt, "the ids", are_ids(&made, ids.as_slice()));
+    }
+}
+
+/// The number of the bus of a lookup: 0 to 299, and back again.
+fn there_and_back(column: usize) -> usize {
+    if column < 300 {
+        column
+    } else {
+        599usize.saturating_sub(column)
+    }
+}
+
+/// One AIR with two lookups on each of 300 buses.
+#[test]
+fn three_hundred_buses(rt: HostRuntime) {
+    let alloc = rt.alloc();
+    let mut records: Vec<Lookup<BabyBear>> = Vec::new(alloc);
+    for column in 0..600usize {
+        let bus = there_and_back(column);
+        let name = format!(in alloc; "bus {bus}").expect(&rt, "memory");
+        let record = shaped(&rt, alloc, (Some(name.as_str()), &[1]), 0, column);
+        records.push(record).expect(&rt, "memory");
+    }
+    let set = Lookups::from_records(alloc, records).expect(&rt, "well formed");
+    let airs = Vec::from_array(alloc, [set]).expect(&rt, "memory");
+    let heights = Vec::from_array(alloc, [1]).expect(&rt, "memory");
+    let made = BatchPlan::new(alloc, airs, heights).expect(&rt, "a plan");
+    let mut as_named = true;
+    for ids in made.ids() {
+        for (column, id) in ids.iter().enumerate() {
+            as_named = as_named && *id == there_and_back(column);
+        }
+    }
+    holds(&rt, "their ids", as_named && made.ids().len() == 1);
+    holds(&rt, "their number", made.num_ids() == 300);
+}
