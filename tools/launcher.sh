@@ -2,13 +2,14 @@
 # Tries the launcher ./lookup-run as a user meets it: unbuilt and built, from another folder, through
 # a link, with a space in its path, two at once, with input from a pipe and from one that stays open,
 # after a file was touched, after a source or the program changed, and where nothing can be written.
-set -eu
+set -euo pipefail
+umask 022
 top=$(cd "$(dirname "${BASH_SOURCE[0]}")/.." && pwd)
 room=$(mktemp -d)
 trap 'chmod -R u+w "$room"; rm -rf "$room"' EXIT
 folder="$room/a clone"
 mkdir "$folder"
-(cd "$top" && git ls-files -z | tar cf - --null -T -) | tar xf - -C "$folder"
+tar cf - -C "$top" --exclude=./.git --exclude=out . | tar xf - -C "$folder"
 printf 'air 0\n0 4\n4 3\nterminal 0\nbalanced\n' >"$room/balanced"
 unproved='lookup-run: this run is not proved: ./prove proves the program and builds it'
 
@@ -65,7 +66,7 @@ chmod -R a-w "$folder"
 expect "built, read only" "$folder/lookup-run" ""
 chmod -R u+w "$folder"
 echo '// changed' >>"$folder/crates/field/src/lib.rt"
-timeout 3 "$folder/lookup-run" range f7 5 2 </dev/null >"$room/out" 2>"$room/err" || true
+timeout 20 "$folder/lookup-run" range f7 5 2 </dev/null >"$room/out" 2>"$room/err" || true
 [ "$(head -n 1 "$room/err")" = "$unproved" ] || fail "a source changed: $(cat "$room/err")"
 cp "$top/crates/field/src/lib.rt" "$folder/crates/field/src/lib.rt"
 "$folder/tools/built" || fail "a source changed back"

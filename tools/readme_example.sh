@@ -1,5 +1,6 @@
 #!/usr/bin/env bash
-# Each block of the README's example stands, line by line, in the test that runs it.
+# Each block of the README's example stands, apart from layout, in the test that runs it, and its first
+# run is the program's stored one.
 set -eu
 cd "$(dirname "${BASH_SOURCE[0]}")/.."
 test=crates/batch_tests/src/tests/example.rt
@@ -18,3 +19,10 @@ for block in "$blocks"/*; do
 done
 [ "$count" -eq 3 ] || { echo "the README has $count blocks of its example, and not 3" >&2; exit 1; }
 echo "the README's example is what $test runs"
+run=crates/lookup_run
+rows=$(awk '{ printf "%s\\n", $0 }' "$run/stdin")
+words=$(tr '\n' ' ' <"$run/args")
+first="    printf '$rows' | ./lookup-run ${words% }"
+grep -qxF -- "$first" README.md || { echo "the README does not show the first run: $first" >&2; exit 1; }
+shown=$(grep -A 5 -xF -- "    air 0" README.md | head -n "$(wc -l <"$run/stdout")" | sed 's/^    //')
+[ "$shown" = "$(cat "$run/stdout")" ] || { echo "the README shows another output of the first run" >&2; exit 1; }
