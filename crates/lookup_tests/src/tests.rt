@@ -24,6 +24,13 @@ fn list<T: Drop, const N: usize>(rt: &impl Abort, alloc: Global, values: [T; N])
     Vec::from_array(alloc, values).expect(rt, "memory")
 }
 
+/// A list of one value. Over any field, where no size of an array is known, `list` is not proved.
+fn alone<T: Drop>(rt: &impl Abort, alloc: Global, value: T) -> Vec<T> {
+    let mut values = Vec::new(alloc);
+    values.push(value).expect(rt, "memory");
+    values
+}
+
 /// A text of its own.
 fn text(rt: &impl Abort, alloc: Global, text: &str) -> String {
     String::from_str(alloc, text).expect(rt, "memory")
@@ -64,7 +71,7 @@ fn single<F: Field>(rt: &impl Abort, alloc: Global, width: usize, column: usize)
     for index in 0..width {
         tuple.push(cell(index)).expect(rt, "memory");
     }
-    local(list(rt, alloc, [tuple]), list(rt, alloc, [one()]), column)
+    local(alone(rt, alloc, tuple), alone(rt, alloc, one()), column)
 }
 
 /// A matrix of these numbers, row after row.

@@ -5,7 +5,7 @@ ghost use Rattle.expressions.specs.Layout.{layout_of_traces};
 ghost use Rattle.lookup_model.specs.Records.{DoFit};
 ghost use Rattle.matrix.specs.Matrix.{height};
 
-use super::{cell, list, local, one, single, text, trace};
+use super::{alone, cell, list, local, one, single, text, trace};
 use air::{AirLayout, BaseEntry, BaseLeaf, Expression, SymbolicExpression, SymbolicVariable};
 use field::{BabyBear, F7, Field, PrimeCharacteristicRing};
 use lookup::debug_util::{Location, LookupDebugInstance, LookupFault, check_lookups};
@@ -95,10 +95,10 @@ fn expect_of_air<F: Field>(
 
 /// A local lookup of cell 0, as often as cell `count` says.
 fn counted<F: Field>(rt: &impl Abort, alloc: Global, count: usize, column: usize) -> Lookup<F> {
-    let tuple = list(rt, alloc, [cell(0)]);
+    let tuple = alone(rt, alloc, cell(0));
     local(
-        list(rt, alloc, [tuple]),
-        list(rt, alloc, [cell(count)]),
+        alone(rt, alloc, tuple),
+        alone(rt, alloc, cell(count)),
         column,
     )
 }
