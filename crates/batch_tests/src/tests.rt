@@ -143,8 +143,3 @@ fn has_result<EF: Field>(witness: &Witness<EF>, air: usize, cells: &[EF], termin
         _ => false,
     }
 }
-
-/// Numbers as elements.
-fn numbers<const N: usize>(values: [u32; N]) -> [F7; N] {
-    values.map(F7::from_u32)
-}

@@ -1,7 +1,7 @@
 //! The example of the README: two AIRs on one bus, from their evaluation to an accepted witness.
 ghost use Rattle.std.specs.Prelude.{◌≡◌, OnOk};
 
-use super::{alone, has_result, holds, numbers, trace};
+use super::{alone, has_result, holds, trace};
 use air::{Air, AirError, BaseAir, current_cell, current_cells};
 use batch::BatchPlan;
 use checker::Witness;
@@ -106,7 +106,7 @@ fn keys_are_found_in_the_entries(rt: HostRuntime) -> Result<(), Fail> {
     let keys = trace(&rt, alloc, &[3, 3], 1);
     let entries = trace(&rt, alloc, &[3, 2, 4, 0], 2);
     let witness = accepted(alloc, keys, entries)?;
-    let (first, second) = (numbers([0, 2, 2, 2]), numbers([0, 3, 3, 0]));
+    let (first, second) = ([0, 2, 2, 2].map(F7::new), [0, 3, 3, 0].map(F7::new));
     holds(
         &rt,
         "the keys",

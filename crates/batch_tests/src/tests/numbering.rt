@@ -6,102 +6,93 @@ use lookup::{Lookup, Lookups};
 use std::alloc::Global;
 use std::process::Abort;
 
+/// Fails unless the plan of these sets has these ids, and so many.
+fn expect_ids(
+    rt: &impl Abort,
+    alloc: Global,
+    sets: &[&[Shape<'_>]],
+    ids: &[&[usize]],
+    count: usize,
+) {
+    let heights: &[usize] = &[1, 1, 1];
+    let own = heights.get(..sets.len()).unwrap_or(&[]);
+    let made = plan::<F7>(rt, alloc, sets, 0, own).expect(rt, "a plan");
+    holds(rt, "the ids", has_ids(&made, ids));
+    holds(rt, "their number", made.num_ids() == count);
+}
+
 /// The ids and their number, by hand: a local lookup takes the next id, and a name keeps its first.
 #[test]
 fn ids_in_the_order_in_which_buses_are_seen(rt: HostRuntime) {
     let alloc = rt.alloc();
     let one: &[usize] = &[1];
-    let rows: [(&[&[Shape<'_>]], &[&[usize]], usize); 6] = [
-        (
-            &[
-                &[(None, one), (Some("a"), one)],
-                &[(None, one), (Some("b"), one), (Some("a"), one)],
-            ],
-            &[&[0, 1], &[2, 3, 1]],
-            4,
-        ),
-        // an AIR without lookups between two others
-        (
-            &[&[(Some("a"), one)], &[], &[(Some("a"), one)]],
-            &[&[0], &[], &[0]],
-            1,
-        ),
-        // names that differ in one byte, and the empty name
-        (
-            &[&[
-                (Some("ab"), one),
-                (Some("ac"), one),
-                (Some(""), one),
-                (Some("ab"), one),
-            ]],
-            &[&[0, 1, 2, 0]],
-            3,
-        ),
-        // the same letters in another order, and a name that another begins with
-        (
-            &[
-                &[(Some("abc"), one), (Some("cab"), one)],
-                &[(Some("ab"), one), (Some("abc"), one)],
-            ],
-            &[&[0, 1], &[2, 0]],
-            3,
-        ),
-        // the empty name is not that of a local lookup
-        (
-            &[&[(Some(""), one), (None, one), (Some(""), one)]],
-            &[&[0, 1, 0]],
-            2,
-        ),
-        (&[&[], &[]], &[&[], &[]], 0),
+    let sets: &[&[Shape<'_>]] = &[
+        &[(None, one), (Some("a"), one)],
+        &[(None, one), (Some("b"), one), (Some("a"), one)],
     ];
-    for (sets, ids, count) in rows {
-        let heights: &[usize] = &[1, 1, 1];
-        let made = plan::<F7>(
-            &rt,
-            alloc,
-            sets,
-            0,
-            heights.get(..sets.len()).unwrap_or(&[]),
-        )
-        .expect(&rt, "a plan");
-        holds(&rt, "the ids", has_ids(&made, ids));
-        holds(&rt, "their number", made.num_ids() == count);
-    }
+    expect_ids(&rt, alloc, sets, &[&[0, 1], &[2, 3, 1]], 4);
+    // an AIR without lookups between two others
+    let sets: &[&[Shape<'_>]] = &[&[(Some("a"), one)], &[], &[(Some("a"), one)]];
+    expect_ids(&rt, alloc, sets, &[&[0], &[], &[0]], 1);
+    expect_ids(&rt, alloc, &[&[], &[]], &[&[], &[]], 0);
+}
+
+/// Names are told apart by their bytes.
+#[test]
+fn names_that_are_alike(rt: HostRuntime) {
+    let alloc = rt.alloc();
+    let one: &[usize] = &[1];
+    // names that differ in one byte, and the empty name
+    let names: &[Shape<'_>] = &[
+        (Some("ab"), one),
+        (Some("ac"), one),
+        (Some(""), one),
+        (Some("ab"), one),
+    ];
+    expect_ids(&rt, alloc, &[names], &[&[0, 1, 2, 0]], 3);
+    // the same letters in another order, and a name that another begins with
+    let sets: &[&[Shape<'_>]] = &[
+        &[(Some("abc"), one), (Some("cab"), one)],
+        &[(Some("ab"), one), (Some("abc"), one)],
+    ];
+    expect_ids(&rt, alloc, sets, &[&[0, 1], &[2, 0]], 3);
+    // the empty name is not that of a local lookup
+    let names: &[Shape<'_>] = &[(Some(""), one), (None, one), (Some(""), one)];
+    expect_ids(&rt, alloc, &[names], &[&[0, 1, 0]], 2);
+}
+
+/// Fails unless this is the greatest width of a tuple of the plan of these sets.
+fn expect_width(rt: &impl Abort, alloc: Global, sets: &[&[Shape<'_>]], width: usize) {
+    let heights: &[usize] = &[1, 1];
+    let own = heights.get(..sets.len()).unwrap_or(&[]);
+    let made = plan::<F7>(rt, alloc, sets, 0, own).expect(rt, "a plan");
+    holds(rt, "the width", made.max_message_width() == width);
 }
 
 /// The greatest width of a tuple, 1 if no tuple is wider.
 #[test]
 fn the_width_of_the_widest_tuple(rt: HostRuntime) {
     let alloc = rt.alloc();
-    let rows: [(&[&[Shape<'_>]], usize); 4] = [
-        (&[&[]], 1),
-        (&[&[(Some("a"), &[])]], 1),
-        (&[&[(None, &[0, 0])]], 1),
-        (
-            &[
-                &[(Some("a"), &[2]), (None, &[1, 1])],
-                &[(Some("b"), &[3]), (Some("a"), &[2])],
-            ],
-            3,
-        ),
+    let (none, empty): (&[usize], &[usize]) = (&[], &[0, 0]);
+    let (ones, two, three): (&[usize], &[usize], &[usize]) = (&[1, 1], &[2], &[3]);
+    expect_width(&rt, alloc, &[&[]], 1);
+    expect_width(&rt, alloc, &[&[(Some("a"), none)]], 1);
+    expect_width(&rt, alloc, &[&[(None, empty)]], 1);
+    let sets: &[&[Shape<'_>]] = &[
+        &[(Some("a"), two), (None, ones)],
+        &[(Some("b"), three), (Some("a"), two)],
     ];
-    for (sets, width) in rows {
-        let heights: &[usize] = &[1, 1];
-        let made = plan::<F7>(
-            &rt,
-            alloc,
-            sets,
-            0,
-            heights.get(..sets.len()).unwrap_or(&[]),
-        )
-        .expect(&rt, "a plan");
-        holds(&rt, "the width", made.max_message_width() == width);
-    }
+    expect_width(&rt, alloc, sets, 3);
 }
 
-/// What a number draws: no name, or one of five.
+/// The number after this one in a sequence that looks like chance.
+fn next(number: u32) -> u32 {
+    number.wrapping_mul(1664525).wrapping_add(1013904223)
+}
+
+/// What a number draws by its upper half: no name, or one of five.
 fn name_of(number: u32) -> Option<&'static str> {
-    match number % 6 {
+    match (number >> 16) % 6 {
         0 => None,
         1 => Some("a"),
         2 => Some("b"),
@@ -150,18 +141,17 @@ fn plans_drawn_at_random(rt: HostRuntime) {
     let one: &[usize] = &[1];
     let mut drawn = 12345u32;
     for _ in 0..1000 {
-        let mut names = [None; 6];
-        for name in &mut names {
-            drawn = drawn.wrapping_mul(1664525).wrapping_add(1013904223);
-            *name = name_of(drawn >> 16);
-        }
-        let [a, b, c, d, e, f] = names;
-        let first: &[Shape<'_>] = &[(a, one), (b, one)];
-        let second: &[Shape<'_>] = &[(c, one), (d, one)];
-        let third: &[Shape<'_>] = &[(e, one), (f, one)];
+        let a = next(drawn);
+        let (b, c) = (next(a), next(next(a)));
+        let (d, e) = (next(c), next(next(c)));
+        drawn = next(e);
+        let first: &[Shape<'_>] = &[(name_of(a), one), (name_of(b), one)];
+        let second: &[Shape<'_>] = &[(name_of(c), one), (name_of(d), one)];
+        let third: &[Shape<'_>] = &[(name_of(e), one), (name_of(drawn), one)];
         let made = plan::<BabyBear>(&rt, alloc, &[first, second, third], 0, &[1, 1, 1]).expect(
             &rt, "a plan",
         );
+        let names = [a, b, c, d, e, drawn].map(name_of);
         let ids = plain_ids(&rt, alloc, names.as_slice());
         holds(&rt, "the ids", are_ids(&made, ids.as_slice()));
     }

@@ -1,5 +1,5 @@
 //! Witnesses that plans make and check, by values calculated by hand.
-use super::{alone, cell, has_result, holds, kind, numbers, trace};
+use super::{alone, cell, has_result, holds, kind, trace};
 use air::{Expression, SymbolicExpression};
 use batch::{BatchError, BatchPlan};
 use field::{BabyBear, BabyBear4, F7, Field, PrimeCharacteristicRing};
@@ -22,7 +22,9 @@ fn one_lookup<F: Field>(
     let mut elements = Vec::new(alloc);
     let mut multiplicities = Vec::new(alloc);
     for (column, taken) in branches {
-        let tuple = Vec::from_array(alloc, [cell(*column)]).expect(rt, "memory");
+        // over any field no size of an array is known, so the tuple grows by a push
+        let mut tuple = Vec::new(alloc);
+        tuple.push(cell(*column)).expect(rt, "memory");
         elements.push(tuple).expect(rt, "memory");
         let count = match taken {
             Some(index) => cell::<F>(*index).neg(alloc).expect(rt, "memory"),
@@ -71,7 +73,7 @@ fn a_bus_that_balances(rt: HostRuntime) {
     let made = plan
         .prove(alloc, traces.as_slice(), alpha, beta)
         .expect(&rt, "no fault");
-    let (first, second) = (numbers([0, 2, 2, 2]), numbers([0, 3, 3, 0]));
+    let (first, second) = ([0, 2, 2, 2].map(F7::new), [0, 3, 3, 0].map(F7::new));
     holds(
         &rt,
         "the keys",
@@ -163,7 +165,7 @@ fn flags_of_a_group(rt: HostRuntime) {
     let made = plan
         .prove(alloc, &[alone(&first)], alpha, beta)
         .expect(&rt, "no fault");
-    let cells = numbers([0, 2]);
+    let cells = [0, 2].map(F7::new);
     holds(
         &rt,
         "one set",
@@ -182,7 +184,7 @@ fn the_first_refusal_of_a_witness(rt: HostRuntime) {
     let mut made = plan
         .prove(alloc, &[alone(&main)], alpha, beta)
         .expect(&rt, "no fault");
-    let cells = numbers([0, 4, 4, 3]);
+    let cells = [0, 4, 4, 3].map(F7::new);
     holds(
         &rt,
         "the result",
@@ -195,7 +197,7 @@ fn the_first_refusal_of_a_witness(rt: HostRuntime) {
             .is_ok(),
     );
     let spoiled = RowMajorMatrix::new(
-        Vec::from_array(alloc, numbers([0, 4, 4, 4])).expect(&rt, "memory"),
+        Vec::from_array(alloc, [0, 4, 4, 4].map(F7::new)).expect(&rt, "memory"),
         2,
     );
     made.aux = Vec::from_array(alloc, [spoiled]).expect(&rt, "memory");

@@ -1,5 +1,5 @@
 //! Why plans and traces are refused.
-use super::{Shape, alone, has_result, holds, numbers, plan, trace};
+use super::{Shape, alone, has_result, holds, plan, trace};
 use air::{BaseEntry, BaseLeaf, SymbolicExpression, SymbolicVariable};
 use batch::{BatchError, BatchPlan, BatchTrace};
 use checker::BatchFault;
@@ -197,7 +197,7 @@ fn all_traces_of_an_air_have_to_fit(rt: HostRuntime) {
         }];
         match plan.prove(alloc, traces.as_slice(), alpha, beta) {
             Ok(made) => {
-                let cells = numbers([0, 2, 2, 5]);
+                let cells = [0, 2, 2, 5].map(F7::new);
                 let right = has_result(&made, 0, cells.as_slice(), F7::ZERO);
                 holds(&rt, "the witness", fits && right);
             }
