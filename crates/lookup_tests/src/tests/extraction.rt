@@ -3,7 +3,7 @@ ghost use Rattle.std.specs.Prelude.{◌≡◌, ◌<◌, All, IfOk, OnOk};
 ghost use Rattle.expressions.specs.declared.layout.AirLayout.{AirLayout};
 ghost use Rattle.lookup_builder.specs.Within.{KeyWithin};
 
-use super::{holds, list, one, text};
+use super::{holds, one, text};
 use air::{
     Air, AirBuilder, AirError, AirLayout, BaseAir, Expression, SymbolicExpression, current_cell,
     current_cells,
@@ -293,52 +293,41 @@ fn lookups_of_pushes(rt: HostRuntime) {
     holds(&rt, "three range lookups", are_three);
 }
 
+/// Fails unless an AIR that does these steps is refused for this.
+fn expect_refusal(rt: &impl Abort, alloc: Global, steps: &[Step<'_>], refusal: LookupError) {
+    let refused = extracted::<F7, F7>(alloc, steps).err();
+    assert!(rt; refused == Some(refusal));
+}
+
+/// The refusal of a local lookup with tuples of widths 1 and 2.
+fn two_widths(rt: &impl Abort, alloc: Global) -> LookupError {
+    LookupError::TupleWidths {
+        context: text(rt, alloc, "local lookup"),
+        width: 1,
+        other: 2,
+    }
+}
+
 /// The first local lookup with a fault decides, and its weights come before its widths. What an AIR
 /// refuses is handed on.
 #[test]
 fn refused_extractions(rt: HostRuntime) {
     let alloc = rt.alloc();
-    let cases: [(&str, &[Step<'_>]); 6] = [
-        (
-            "weights",
-            &[Step::Local(&[(1, 18446744073709551615), (1, 1)])],
-        ),
-        (
-            "weights before widths",
-            &[Step::Local(&[(1, 18446744073709551615), (2, 1)])],
-        ),
-        ("widths", &[Step::Local(&[(1, 1), (2, 1)])]),
-        (
-            "the first lookup",
-            &[
-                Step::Local(&[(1, 1), (2, 1)]),
-                Step::Local(&[(1, 18446744073709551615), (1, 1)]),
-            ],
-        ),
-        ("a degree", &[Step::Overflow]),
-        ("an assertion", &[Step::Assertion(3)]),
+    let weights: &[Step<'_>] = &[Step::Local(&[(1, 18446744073709551615), (1, 1)])];
+    expect_refusal(&rt, alloc, weights, LookupError::CountWeightOverflow);
+    let both: &[Step<'_>] = &[Step::Local(&[(1, 18446744073709551615), (2, 1)])];
+    expect_refusal(&rt, alloc, both, LookupError::CountWeightOverflow);
+    let widths: &[Step<'_>] = &[Step::Local(&[(1, 1), (2, 1)])];
+    expect_refusal(&rt, alloc, widths, two_widths(&rt, alloc));
+    let in_order: &[Step<'_>] = &[
+        Step::Local(&[(1, 1), (2, 1)]),
+        Step::Local(&[(1, 18446744073709551615), (1, 1)]),
     ];
-    let widths = || LookupError::TupleWidths {
-        context: text(&rt, alloc, "local lookup"),
-        width: 1,
-        other: 2,
-    };
-    let refusals = list(
-        &rt,
-        alloc,
-        [
-            LookupError::CountWeightOverflow,
-            LookupError::CountWeightOverflow,
-            widths(),
-            widths(),
-            LookupError::DegreeOverflow,
-            LookupError::Air(AirError::Assertion { row: 3 }),
-        ],
-    );
-    for ((what, steps), refusal) in cases.iter().zip(refusals) {
-        let refused = extracted::<F7, F7>(alloc, steps).err();
-        holds(&rt, what, refused == Some(refusal));
-    }
+    expect_refusal(&rt, alloc, in_order, two_widths(&rt, alloc));
+    let degree = LookupError::DegreeOverflow;
+    expect_refusal(&rt, alloc, &[Step::Overflow], degree);
+    let assertion = LookupError::Air(AirError::Assertion { row: 3 });
+    expect_refusal(&rt, alloc, &[Step::Assertion(3)], assertion);
 }
 
 /// An AIR of one preprocessed column, whose cell is the tuple of a local lookup.

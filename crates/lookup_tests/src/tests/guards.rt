@@ -130,45 +130,42 @@ fn reached(weighted_height_sum: u128, field_bits: usize) -> Option<LookupError> 
     })
 }
 
+/// Fails unless AIRs with lookups of these weights over these heights reach this sum over `BabyBear`, or
+/// are accepted where there is none.
+fn expect_sum(
+    rt: &impl Abort,
+    alloc: Global,
+    weights: &[&[u64]],
+    heights: &[usize],
+    sum: Option<u128>,
+) {
+    let answer = refusal::<BabyBear>(rt, alloc, weights, heights);
+    let wanted = match sum {
+        Some(sum) => reached(sum, 31),
+        None => None,
+    };
+    holds(rt, "the sum", answer == wanted);
+}
+
 #[test]
 fn weights_times_heights(rt: HostRuntime) {
     let alloc = rt.alloc();
     let half: usize = 1073741824;
-    let accepted: [(&str, &[&[u64]], &[usize]); 3] = [
-        ("one less", &[&[1], &[1]], &[2013265919, 1]),
-        ("small heights", &[&[1], &[1]], &[1048576, 1048576]),
-        ("weights of zero", &[&[0], &[0]], &[half, half]),
-    ];
-    for (what, weights, heights) in accepted {
-        let answer = refusal::<BabyBear>(&rt, alloc, weights, heights);
-        holds(&rt, what, answer.is_none());
-    }
+    // one less than the characteristic, small heights, and weights of zero
+    expect_sum(&rt, alloc, &[&[1], &[1]], &[2013265919, 1], None);
+    expect_sum(&rt, alloc, &[&[1], &[1]], &[1048576, 1048576], None);
+    expect_sum(&rt, alloc, &[&[0], &[0]], &[half, half], None);
+    // the characteristic, and more
+    let sum = Some(2013265921);
+    expect_sum(&rt, alloc, &[&[1], &[1]], &[2013265920, 1], sum);
+    let sum = Some(2147483648);
+    expect_sum(&rt, alloc, &[&[1], &[1]], &[half, half], sum);
+    // a product of 128 bits, and the greatest sum
     let (all, high) = (18446744073709551615u64, 18446744073709551615usize);
-    let refused: [(&str, &[&[u64]], &[usize], u128); 4] = [
-        (
-            "the characteristic",
-            &[&[1], &[1]],
-            &[2013265920, 1],
-            2013265921,
-        ),
-        ("more", &[&[1], &[1]], &[half, half], 2147483648),
-        (
-            "128 bits",
-            &[&[all]],
-            &[high],
-            340282366920938463426481119284349108225,
-        ),
-        (
-            "the greatest sum",
-            &[&[all, all]],
-            &[high],
-            340282366920938463463374607431768211455,
-        ),
-    ];
-    for (what, weights, heights, sum) in refused {
-        let answer = refusal::<BabyBear>(&rt, alloc, weights, heights);
-        holds(&rt, what, answer == reached(sum, 31));
-    }
+    let sum = Some(340282366920938463426481119284349108225);
+    expect_sum(&rt, alloc, &[&[all]], &[high], sum);
+    let sum = Some(340282366920938463463374607431768211455);
+    expect_sum(&rt, alloc, &[&[all, all]], &[high], sum);
     let seven = refusal::<F7>(&rt, alloc, &[&[1]], &[7]);
     holds(&rt, "7 over F7", seven == reached(7, 3));
 }
