@@ -28,6 +28,13 @@ fn list<T: Drop, const N: usize>(rt: &impl Abort, alloc: Global, values: [T; N])
     Vec::from_array(alloc, values).expect(rt, "memory")
 }
 
+/// A list of one value. Over any field, where no size of an array is known, `list` is not proved.
+fn alone<T: Drop>(rt: &impl Abort, alloc: Global, value: T) -> Vec<T> {
+    let mut values = Vec::new(alloc);
+    values.push(value).expect(rt, "memory");
+    values
+}
+
 /// A cell of the current row of the main trace.
 fn cell<F: Field>(index: usize) -> SymbolicExpression<F> {
     SymbolicExpression::Leaf(BaseLeaf::Variable(SymbolicVariable::new(
@@ -55,7 +62,7 @@ fn lookup<F: Field, const N: usize>(
     let mut multiplicities = Vec::new(alloc);
     for (index, taken) in branches.as_slice() {
         elements
-            .push(list(rt, alloc, [cell(*index)]))
+            .push(alone(rt, alloc, cell(*index)))
             .expect(rt, "memory");
         multiplicities
             .push(count(rt, alloc, *taken))
@@ -108,7 +115,7 @@ fn group<F: Field, const N: usize>(
     for (flag, key) in branches.as_slice() {
         flags.push(cell(*flag)).expect(rt, "memory");
         elements
-            .push(list(rt, alloc, [cell(*key)]))
+            .push(alone(rt, alloc, cell(*key)))
             .expect(rt, "memory");
         multiplicities
             .push(SymbolicExpression::constant(count))

@@ -24,16 +24,19 @@ pub(super) fn counts<F: Field, EF: ExtensionField<F>>(
 }
 
 /// Those of the range machine over these rows.
-fn of_rows<F: Field, EF: ExtensionField<F>>(
-    rt: &impl Abort,
-    alloc: Global,
-    numbers: &[u32],
-    width: usize,
-) -> SoundnessCount {
-    let main = trace::<F>(rt, alloc, numbers, 3);
+fn of_rows(rt: &impl Abort, alloc: Global, numbers: &[u32], width: usize) -> SoundnessCount {
+    let main = trace(rt, alloc, numbers, 3);
     let lookups = [range(rt, alloc)];
     let instances = [instance(lookups.as_slice(), &main, &[0])];
-    counts::<F, EF>(rt, alloc, instances.as_slice(), width).expect(rt, "no fault")
+    counts::<F7, F7>(rt, alloc, instances.as_slice(), width).expect(rt, "no fault")
+}
+
+/// The same over BabyBear, with challenges of its quartic extension, for the width 1.
+fn of_large_rows(rt: &impl Abort, alloc: Global, numbers: &[u32]) -> SoundnessCount {
+    let main = trace(rt, alloc, numbers, 3);
+    let lookups = [range(rt, alloc)];
+    let instances = [instance(lookups.as_slice(), &main, &[0])];
+    counts::<BabyBear, BabyBear4>(rt, alloc, instances.as_slice(), 1).expect(rt, "no fault")
 }
 
 /// These four counts.
@@ -72,10 +75,10 @@ fn counts_of_the_range_machine(rt: HostRuntime) {
         ("seven reads", seven.as_slice(), 1, count(2, 0, 0, None)),
     ];
     for (what, numbers, width, expected) in cases {
-        let counted = of_rows::<F7, F7>(&rt, alloc, numbers, width);
+        let counted = of_rows(&rt, alloc, numbers, width);
         holds(&rt, what, counted == expected);
     }
-    let counted = of_rows::<BabyBear, BabyBear4>(&rt, alloc, seven.as_slice(), 1);
+    let counted = of_large_rows(&rt, alloc, seven.as_slice());
     holds(&rt, "over BabyBear", counted == count(2, 1, 0, Some(2)));
 }
 
@@ -103,36 +106,71 @@ fn two_reads(rt: &impl Abort, alloc: Global) -> Vec<Lookup<F7>> {
     list(rt, alloc, [first, second])
 }
 
+/// The same two, packed into one column.
+fn packed_reads(rt: &impl Abort, alloc: Global) -> Lookups<F7> {
+    Lookups::from_records(alloc, two_reads(rt, alloc))
+        .expect(rt, "records")
+        .pack_same_bus(alloc, &LogUpGadget::new(), 3)
+        .expect(rt, "packed")
+}
+
+/// What the two reads look up.
+const READS: [u32; 4] = [1, 2, 3, 1];
+
+/// Entries, each with the count by which it is provided.
+const ENTRIES: [u32; 4] = [1, 2, 5, 1];
+
+/// The counts of the reads apart, beside their provider.
+fn counts_apart(rt: &impl Abort, alloc: Global) -> Option<SoundnessCount> {
+    let reads = trace(rt, alloc, READS.as_slice(), 2);
+    let entries = trace(rt, alloc, ENTRIES.as_slice(), 2);
+    let apart = two_reads(rt, alloc);
+    let provided = [lookup(rt, alloc, Some("a"), [(0, Some(1))])];
+    let instances = [
+        instance(apart.as_slice(), &reads, &[0, 0]),
+        instance(provided.as_slice(), &entries, &[0]),
+    ];
+    counts::<F7, F7>(rt, alloc, instances.as_slice(), 1).ok()
+}
+
+/// The counts of the reads packed, beside their provider.
+fn counts_packed(rt: &impl Abort, alloc: Global) -> Option<SoundnessCount> {
+    let reads = trace(rt, alloc, READS.as_slice(), 2);
+    let entries = trace(rt, alloc, ENTRIES.as_slice(), 2);
+    let packed = packed_reads(rt, alloc);
+    let provided = [lookup(rt, alloc, Some("a"), [(0, Some(1))])];
+    let instances = [
+        instance(packed.as_slice(), &reads, &[0]),
+        instance(provided.as_slice(), &entries, &[0]),
+    ];
+    counts::<F7, F7>(rt, alloc, instances.as_slice(), 1).ok()
+}
+
+/// Whether the reads keep their ids if the packed lookup has this one.
+fn are_kept(rt: &impl Abort, alloc: Global, id: usize) -> Option<bool> {
+    let before = trace(rt, alloc, READS.as_slice(), 2);
+    let after = trace(rt, alloc, READS.as_slice(), 2);
+    let apart = two_reads(rt, alloc);
+    let packed = packed_reads(rt, alloc);
+    let ids = [id];
+    let first = instance(apart.as_slice(), &before, &[0, 0]);
+    let second = instance(packed.as_slice(), &after, ids.as_slice());
+    ids_are_kept(alloc, &first, &second).ok()
+}
+
 #[test]
 fn packing_keeps_the_counts_of_a_batch(rt: HostRuntime) {
     let alloc = rt.alloc();
     packing_keeps_batch::<F7, F7>();
-    let reads = trace(&rt, alloc, &[1, 2, 3, 1], 2);
-    let entries = trace(&rt, alloc, &[1, 2, 5, 1], 2);
-    let provided = [lookup(&rt, alloc, Some("a"), [(0, Some(1))])];
-    let apart = two_reads(&rt, alloc);
-    let before = [
-        instance(apart.as_slice(), &reads, &[0, 0]),
-        instance(provided.as_slice(), &entries, &[0]),
-    ];
-    let packed = Lookups::from_records(alloc, two_reads(&rt, alloc))
-        .expect(&rt, "records")
-        .pack_same_bus(alloc, &LogUpGadget::new(), 3)
-        .expect(&rt, "packed");
-    let after = [
-        instance(packed.as_slice(), &reads, &[0]),
-        instance(provided.as_slice(), &entries, &[0]),
-    ];
-    let kept = ids_are_kept(alloc, &before[0], &after[0]).ok();
+    let kept = are_kept(&rt, alloc, 0);
     holds(&rt, "the ids of before", kept == Some(true));
-    let moved = instance(packed.as_slice(), &reads, &[1]);
-    let kept = ids_are_kept(alloc, &before[0], &moved).ok();
+    let kept = are_kept(&rt, alloc, 1);
     holds(&rt, "another id", kept == Some(false));
     let expected = count(4, 3, 3, Some(6));
-    let first = counts::<F7, F7>(&rt, alloc, before.as_slice(), 1);
-    holds(&rt, "before", first.ok() == Some(expected));
-    let second = counts::<F7, F7>(&rt, alloc, after.as_slice(), 1);
-    holds(&rt, "after", second.ok() == Some(expected));
+    let before = counts_apart(&rt, alloc);
+    holds(&rt, "before", before == Some(expected));
+    let after = counts_packed(&rt, alloc);
+    holds(&rt, "after", after == Some(expected));
     let again = soundness_of_counts(4, 3, 1);
     holds(&rt, "counted", again.ok() == Some(expected));
     let large = soundness_of_counts(4, usize::MAX, usize::MAX).err();

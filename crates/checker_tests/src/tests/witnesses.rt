@@ -1,5 +1,5 @@
 //! Witnesses of whole traces over BabyBear, as its own extension and over its quartic one.
-use super::{cell, checked, generated, group, holds, instance, list, range, rechecked, trace};
+use super::{alone, cell, generated, group, holds, instance, list, range, rechecked, trace};
 use air::{Expression, SymbolicExpression};
 use checker::Witness;
 use field::{BabyBear, BabyBear4, ExtensionDomain, ExtensionField, Field, PrimeCharacteristicRing};
@@ -231,18 +231,11 @@ fn broken_answer<EF: ExtensionField<BabyBear>>(
         values.push(EF::from_u32(number)).expect(rt, "memory");
     }
     assert!(rt; values.len() % 2 == 0);
-    let aux = [RowMajorMatrix::new(values, 2)];
-    let terminals = [Some(LookupTerminal(EF::ZERO))];
-    let lookups = batch.lookups.as_slice();
-    let instances = [instance(lookups, &batch.main, batch.ids.as_slice())];
-    checked(
-        rt,
-        alloc,
-        instances.as_slice(),
-        &batch.challenges,
-        aux.as_slice(),
-        terminals.as_slice(),
-    )
+    let witness = Witness {
+        aux: alone(rt, alloc, RowMajorMatrix::new(values, 2)),
+        terminals: alone(rt, alloc, Some(LookupTerminal(EF::ZERO))),
+    };
+    batch.answer(rt, alloc, &witness)
 }
 
 /// A changed accumulator is refused at the row before it, which leads to it, or on the first row
