@@ -194,7 +194,7 @@ fn a_read_without_a_provider_stays<EF: ExtensionField<BabyBear>>(rt: &impl Abort
     let quotients = [(1, 0), (113, 1), (113, 1), (1, 0)];
     let are_these = are_quotients(cells(&made), quotients.as_slice());
     holds(rt, "the cells", are_these);
-    let last = [terminal(rt, &made)];
+    let last = alone(rt, alloc, terminal(rt, &made));
     let is_first = are_quotients(last.as_slice(), &[(113, 1)]);
     holds(rt, "the terminal", is_first);
     let unbalanced = batch.answer(rt, alloc, &made);
