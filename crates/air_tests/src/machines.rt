@@ -1,10 +1,9 @@
 //! The AIRs of the tests.
-ghost use Rattle.std.specs.Prelude.{◌≡◌, List, OnOk};
-ghost use Rattle.expressions.specs.Builder.{AcceptsAll};
+ghost use Rattle.std.specs.Prelude.{◌≡◌, OnOk};
 
 use air::{
     Air, AirBuilder, AirError, BaseAir, Expression, ExtensionBuilder, LayoutPart,
-    PermutationAirBuilder, current_cell, next_cell,
+    PermutationAirBuilder, next_cell,
 };
 use field::{Field, PrimeCharacteristicRing};
 use matrix::WindowAccess;
@@ -15,16 +14,13 @@ use std::alloc::{AllocError, Global};
 pub enum Claim {
     /// The next cell is the current one and 1, on each row or on each but the last.
     Counts { on_every_row: bool },
-    /// Two columns go through the Fibonacci numbers from 0 and 1 to the public value.
-    IsFibonacci,
-    /// This is zero in the extension, on the first row.
-    OnFirstRow(u32),
     /// This is zero in the extension, on the last row.
     OnLastRow(u32),
     /// The product, the sum and the difference of a cell of the current row and one of the next
     /// are zero: on the first row, on the last row, and on each but the last.
     IsSelected,
-    /// Both cells of the permutation trace, the challenge, the value and the cell add up to zero.
+    /// Both cells of the permutation trace, the challenge, the value, the cell and the public value add up
+    /// to zero.
     AddsUp,
     /// One constraint of the preprocessed trace, and three over the extension.
     IsOfBothKinds,
@@ -64,9 +60,7 @@ impl<AB: PermutationAirBuilder> Air<AB> for Machine {
     fn eval(&self, alloc: Global, builder: &mut AB) -> Result<(), AirError> {
         match self.claim {
             Claim::Counts { on_every_row } => assert_counted(alloc, builder, on_every_row),
-            Claim::IsFibonacci => assert_fibonacci(alloc, builder),
-            Claim::OnFirstRow(n) => assert_ext_on(alloc, builder, Rows::First, number::<AB>(n)),
-            Claim::OnLastRow(n) => assert_ext_on(alloc, builder, Rows::Last, number::<AB>(n)),
+            Claim::OnLastRow(n) => assert_ext_on(alloc, builder, true, number::<AB>(n)),
             Claim::IsSelected => assert_selected(alloc, builder),
             Claim::AddsUp => assert_sum_of_all(alloc, builder),
             Claim::IsOfBothKinds => assert_both_kinds(alloc, builder),
@@ -90,8 +84,10 @@ enum Rows {
 enum Value {
     /// A cell of the current row.
     Current(usize),
-    /// A cell of the next row.
+    /// One of the first two cells of the next row.
     Next(usize),
+    /// The constant 1.
+    One,
     /// The first cell of the preprocessed trace.
     Fixed,
     /// The first public value.
@@ -150,7 +146,8 @@ fn combined<F: Field, E: Expression<F>>(
 fn expression_of<AB: AirBuilder>(alloc: Global, builder: &AB, value: Value) -> Built<AB::Expr> {
     match value {
         Value::Current(place) => found(builder.main(alloc)?.current(place)),
-        Value::Next(place) => found(builder.main(alloc)?.next(place)),
+        Value::Next(place) if place < 2 => next_cell(alloc, builder, 2, place),
+        Value::One => Ok(AB::Expr::constant(AB::F::ONE)),
         Value::Fixed => found(builder.preprocessed().current(0)),
         Value::Public => found(builder.public_values().first().copied()),
         Value::IsFirstRow => Ok(builder.is_first_row()),
@@ -204,14 +201,7 @@ fn assert_built<AB: AirBuilder>(
     assert_on(alloc, builder, rows, left)
 }
 
-/// The cell of the next row without that of the current one and without 1.
-fn step<AB: AirBuilder>(alloc: Global, builder: &AB) -> Built<AB::Expr> {
-    let above = current_cell(alloc, builder, 1, 0)?;
-    let below = next_cell(alloc, builder, 1, 0)?;
-    let difference = below.sub(alloc, above)?;
-    Ok(difference.sub(alloc, AB::Expr::constant(AB::F::ONE))?)
-}
-
+/// The cell of the next row without that of the current one and without 1 is zero.
 fn assert_counted<AB: AirBuilder>(
     alloc: Global,
     builder: &mut AB,
@@ -219,96 +209,35 @@ fn assert_counted<AB: AirBuilder>(
 ) -> Result<(), AirError>
     ensures { OnOk result (AB.layout builder.new ≡ AB.layout builder.old) }
 {
-    let left = step(alloc, &*builder)?;
+    let further = [
+        (Operation::Sub, Value::Current(0)),
+        (Operation::Sub, Value::One),
+    ];
     let rows = if on_every_row {
         Rows::All
     } else {
         Rows::ButLast
     };
-    assert_on(alloc, builder, rows, left)
-}
-
-/// A cell of the current row without this.
-fn without<AB: AirBuilder>(
-    alloc: Global,
-    builder: &AB,
-    place: usize,
-    wanted: AB::F,
-) -> Built<AB::Expr> {
-    let cell = expression_of(alloc, builder, Value::Current(place))?;
-    Ok(cell.sub(alloc, AB::Expr::constant(wanted))?)
-}
-
-/// Both expressions, in order.
-fn pair<E: Drop>(alloc: Global, first: Built<E>, second: Built<E>) -> Built<Vec<E>> {
-    let mut both = Vec::new(alloc);
-    both.push(first?)?;
-    both.push(second?)?;
-    Ok(both)
-}
-
-/// Asserts that the cells of the row are these.
-fn assert_row<AB: AirBuilder>(
-    alloc: Global,
-    builder: &mut AB,
-    left: AB::F,
-    right: AB::F,
-) -> Result<(), AirError>
-    ensures { OnOk result ((xs : List AB.Expr) × AcceptsAll AB.accepts builder.old xs builder.new) }
-{
-    let first = without(alloc, &*builder, 0, left);
-    let second = without(alloc, &*builder, 1, right);
-    let both = pair(alloc, first, second)?;
-    builder.assert_zeros(alloc, both)
-}
-
-/// Asserts that the cells of the first row are these.
-fn assert_first_row<AB: AirBuilder>(
-    alloc: Global,
-    builder: &mut AB,
-    left: AB::F,
-    right: AB::F,
-) -> Result<(), AirError>
-    ensures { OnOk result (AB.layout builder.new ≡ AB.layout builder.old) }
-{
-    assert_row(alloc, &mut builder.when_first_row(), left, right)
-}
-
-/// The cells of the first row are 0 and 1. The next row's first cell is this row's second one, and
-/// its second cell the sum of this row's cells. The last row's second cell is the public value.
-fn assert_fibonacci<AB: AirBuilder>(alloc: Global, builder: &mut AB) -> Result<(), AirError>
-    ensures { OnOk result (AB.layout builder.new ≡ AB.layout builder.old) }
-{
-    assert_first_row(alloc, builder, AB::F::ZERO, AB::F::ONE)?;
-    let moved = [(Operation::Sub, Value::Current(1))];
-    assert_built(alloc, builder, Rows::ButLast, Value::Next(0), &moved)?;
-    let added = [
-        (Operation::Sub, Value::Current(0)),
-        (Operation::Sub, Value::Current(1)),
-    ];
-    assert_built(alloc, builder, Rows::ButLast, Value::Next(1), &added)?;
-    let result = [(Operation::Sub, Value::Public)];
-    assert_built(alloc, builder, Rows::Last, Value::Current(1), &result)
+    assert_built(alloc, builder, rows, Value::Next(0), &further)
 }
 
 fn number<AB: ExtensionBuilder>(n: u32) -> AB::ExprEF {
     AB::ExprEF::constant(AB::EF::from_u32(n))
 }
 
-/// Asserts that this is zero in the extension on these rows.
+/// Asserts that this is zero in the extension, on each row or on the last one.
 fn assert_ext_on<AB: ExtensionBuilder>(
     alloc: Global,
     builder: &mut AB,
-    rows: Rows,
+    on_last_row: bool,
     left: AB::ExprEF,
 ) -> Result<(), AirError>
     ensures { OnOk result (AB.layout builder.new ≡ AB.layout builder.old) }
 {
-    match rows {
-        Rows::All => builder.assert_zero_ext(alloc, left),
-        Rows::First => builder.when_first_row().assert_zero_ext(alloc, left),
-        Rows::Last => builder.when_last_row().assert_zero_ext(alloc, left),
-        Rows::ButLast => builder.when_transition().assert_zero_ext(alloc, left),
+    if on_last_row {
+        builder.when_last_row().assert_zero_ext(alloc, left)
+    } else {
+        builder.assert_zero_ext(alloc, left)
     }
 }
 
@@ -369,18 +298,19 @@ fn ext_built<AB: PermutationAirBuilder>(
     Ok(all)
 }
 
-/// Asserts that what is built of these values is zero in the extension on these rows.
+/// Asserts that what is built of these values is zero in the extension, on each row or on the
+/// last one.
 fn assert_ext_built<AB: PermutationAirBuilder>(
     alloc: Global,
     builder: &mut AB,
-    rows: Rows,
+    on_last_row: bool,
     first: Value,
     further: &[(Operation, Value)],
 ) -> Result<(), AirError>
     ensures { OnOk result (AB.layout builder.new ≡ AB.layout builder.old) }
 {
     let left = ext_built(alloc, &*builder, first, further)?;
-    assert_ext_on(alloc, builder, rows, left)
+    assert_ext_on(alloc, builder, on_last_row, left)
 }
 
 fn assert_sum_of_all<AB: PermutationAirBuilder>(
@@ -394,11 +324,12 @@ fn assert_sum_of_all<AB: PermutationAirBuilder>(
         (Operation::Add, Value::Challenge(0)),
         (Operation::Add, Value::PermutationValue),
         (Operation::Add, Value::Current(0)),
+        (Operation::Add, Value::Public),
     ];
     assert_ext_built(
         alloc,
         builder,
-        Rows::All,
+        false,
         Value::PermutationCurrent(0),
         &further,
     )
@@ -413,9 +344,9 @@ fn assert_both_kinds<AB: PermutationAirBuilder>(
 ) -> Result<(), AirError>
     ensures { OnOk result (AB.layout builder.new ≡ AB.layout builder.old) }
 {
-    assert_ext_built(alloc, builder, Rows::All, Value::PermutationNext(1), &[])?;
+    assert_ext_built(alloc, builder, false, Value::PermutationNext(1), &[])?;
     assert_built(alloc, builder, Rows::All, Value::Fixed, &[])?;
-    assert_ext_built(alloc, builder, Rows::Last, Value::PermutationValue, &[])?;
+    assert_ext_built(alloc, builder, true, Value::PermutationValue, &[])?;
     let challenge = [(Operation::Mul, Value::Challenge(1))];
-    assert_ext_built(alloc, builder, Rows::All, Value::IsFirstRow, &challenge)
+    assert_ext_built(alloc, builder, false, Value::IsFirstRow, &challenge)
 }

@@ -1,7 +1,7 @@
 use crate::cases::{Answer, fails_at, holds, passes};
 use crate::machines::Claim;
 use crate::rows::answer;
-use crate::traces::trace_of;
+use crate::traces::{no_preprocessed, no_trace, trace_of};
 use air::{AirBuilder, DebugConstraintBuilder, RowInputs};
 use field::{F7, PrimeCharacteristicRing};
 use matrix::{RowMajorMatrix, WindowAccess};
@@ -20,10 +20,10 @@ fn asserted_on(
     let inputs: RowInputs<'_, F7, F7> = RowInputs {
         main,
         preprocessed: Some(main),
-        public_values: &[],
+        public_values: &[F7::new(3)],
         permutation,
         challenges: &[F7::new(4)],
-        permutation_values: &[F7::new(5)],
+        permutation_values: &[F7::new(2)],
     };
     answer(alloc, Claim::AddsUp, &inputs, Some(row))
 }
@@ -37,7 +37,7 @@ fn asserted(alloc: Global, row: usize) -> Answer {
 #[test]
 fn permutation_windows_are_cyclic(rt: HostRuntime) {
     let alloc = rt.alloc();
-    // 5 + 6 + 4 + 5 + 1 = 21, 6 + 1 + 4 + 5 + 2 = 18 and 1 + 5 + 4 + 5 + 3 = 18 modulo 7
+    // 5 + 6 + 4 + 2 + 1 + 3 = 21, 6 + 1 + 4 + 2 + 2 + 3 = 18 and 1 + 5 + 4 + 2 + 3 + 3 = 18 modulo 7
     passes(&rt, "row 0", asserted(alloc, 0));
     fails_at(&rt, "row 1", asserted(alloc, 1), 1);
     fails_at(&rt, "row 2", asserted(alloc, 2), 2);
@@ -69,4 +69,30 @@ fn cyclic(alloc: Global) -> Option<bool> {
 #[test]
 fn preprocessed_windows_are_cyclic(rt: HostRuntime) {
     holds(&rt, "row 2", cyclic(rt.alloc()) == Some(true));
+}
+
+/// What is answered to the assertion that all cells of a trace are zero, on its first row.
+fn all_asserted(alloc: Global, values: &[u32]) -> Answer {
+    let main = trace_of(alloc, values, 1)?;
+    if main.height() == 0 {
+        return None;
+    }
+    let permutation = no_trace(alloc);
+    let inputs: RowInputs<'_, F7, F7> = RowInputs {
+        main: &main,
+        preprocessed: no_preprocessed(&main),
+        public_values: &[],
+        permutation: &permutation,
+        challenges: &[],
+        permutation_values: &[],
+    };
+    let cells = Vec::from_slice(alloc, main.values()).ok()?;
+    Some(DebugConstraintBuilder::new(&inputs, 0).assert_zeros(alloc, cells))
+}
+
+#[test]
+fn one_assertion_for_each_of_a_list(rt: HostRuntime) {
+    let alloc = rt.alloc();
+    passes(&rt, "zeros", all_asserted(alloc, &[0, 7, 14]));
+    fails_at(&rt, "a one", all_asserted(alloc, &[0, 1]), 0);
 }

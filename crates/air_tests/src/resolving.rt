@@ -2,10 +2,9 @@ ghost use Rattle.std.specs.Prelude.{◌≡◌, ◌<◌, None, []};
 ghost use Rattle.matrix.specs.Matrix.{height};
 
 use crate::cases::holds;
-use crate::machines::{Claim, Machine};
-use crate::recording::{Recorder, recorded};
+use crate::recording::record_selected;
 use crate::traces::{no_preprocessed, no_trace, trace_of};
-use air::{AirError, AirLayout, DebugConstraintBuilder, RowInputs, SymbolicExpression};
+use air::{AirLayout, DebugConstraintBuilder, RowInputs, SymbolicExpression};
 use field::F7;
 use matrix::RowMajorMatrix;
 use std::alloc::Global;
@@ -48,19 +47,6 @@ fn value_at(alloc: Global, main: &RowMajorMatrix<F7>, row: usize, constraint: &B
         permutation_values: &[],
     };
     value_on(alloc, &inputs, row, constraint)
-}
-
-fn record_selected(alloc: Global) -> Result<Recorder, AirError> {
-    let machine = Machine {
-        width: 2,
-        num_public_values: 0,
-        claim: Claim::IsSelected,
-    };
-    recorded(
-        alloc,
-        &machine,
-        AirLayout::from_air::<F7, Machine>(&machine),
-    )
 }
 
 /// The values of a constraint on the first three rows of a trace.

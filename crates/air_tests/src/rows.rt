@@ -41,7 +41,6 @@ pub fn answered(
     claim: Claim,
     values: &[u32],
     width: usize,
-    last: u32,
     row: Option<usize>,
 ) -> Answer {
     let main = trace_of(alloc, values, width)?;
@@ -49,7 +48,7 @@ pub fn answered(
     let inputs: RowInputs<'_, F7, F7> = RowInputs {
         main: &main,
         preprocessed: no_preprocessed(&main),
-        public_values: &[F7::new(last)],
+        public_values: &[],
         permutation: &permutation,
         challenges: &[],
         permutation_values: &[],
@@ -59,7 +58,7 @@ pub fn answered(
 
 /// What the counter answers on a trace of one column.
 fn counted(alloc: Global, on_every_row: bool, values: &[u32]) -> Answer {
-    answered(alloc, Claim::Counts { on_every_row }, values, 1, 0, None)
+    answered(alloc, Claim::Counts { on_every_row }, values, 1, None)
 }
 
 #[test]
@@ -70,37 +69,7 @@ fn a_counter_is_checked_row_by_row(rt: HostRuntime) {
     passes(&rt, "a cycle", counted(alloc, true, &[0, 1, 2, 3, 4, 5, 6]));
     passes(&rt, "three steps", counted(alloc, false, &[0, 1, 2]));
     passes(&rt, "no row", counted(alloc, false, &[]));
-}
-
-/// What the Fibonacci numbers answer on a trace of two columns with this result.
-fn followed(alloc: Global, values: &[u32], last: u32) -> Answer {
-    answered(alloc, Claim::IsFibonacci, values, 2, last, None)
-}
-
-#[test]
-fn fibonacci_traces_are_checked_at_height_one(rt: HostRuntime) {
-    let alloc = rt.alloc();
-    // The row is first and last and has no step.
-    passes(&rt, "0, 1", followed(alloc, &[0, 1], 1));
-    fails_at(&rt, "1, 1", followed(alloc, &[1, 1], 1), 0);
-    fails_at(&rt, "another result", followed(alloc, &[0, 1], 2), 0);
-}
-
-#[test]
-fn fibonacci_traces_are_checked_at_height_two(rt: HostRuntime) {
-    let alloc = rt.alloc();
-    passes(&rt, "0, 1, 1", followed(alloc, &[0, 1, 1, 1], 1));
-    fails_at(&rt, "a row twice", followed(alloc, &[0, 1, 0, 1], 1), 0);
-    fails_at(&rt, "another result", followed(alloc, &[0, 1, 1, 1], 0), 1);
-}
-
-#[test]
-fn fibonacci_traces_are_checked_at_height_five(rt: HostRuntime) {
-    let alloc = rt.alloc();
-    // 0, 1, 1, 2, 3, 5
-    let numbers = [0, 1, 1, 1, 1, 2, 2, 3, 3, 5];
-    let broken = [0, 1, 1, 1, 1, 2, 2, 4, 4, 6];
-    passes(&rt, "up to 5", followed(alloc, &numbers, 5));
-    fails_at(&rt, "another result", followed(alloc, &numbers, 4), 4);
-    fails_at(&rt, "4 for 3", followed(alloc, &broken, 6), 2);
+    // One row is first and last, has no step, and is its own next row.
+    passes(&rt, "one row", counted(alloc, false, &[5]));
+    fails_at(&rt, "one row, itself", counted(alloc, true, &[5]), 0);
 }

@@ -1,7 +1,5 @@
 use crate::cases::{has_text, holds, holds_at, inverts, is, zero_has_no_inverse};
 use field::{BabyBear, Domain, PrimeCharacteristicRing};
-use std::alloc::Global;
-use std::fmt::Write;
 
 #[test]
 fn whole_numbers_are_reduced(rt: HostRuntime) {
@@ -83,15 +81,4 @@ fn inverses(rt: HostRuntime) {
     zero_has_no_inverse(&rt, BabyBear::new(2_013_265_921));
     inverts(&rt, "2", BabyBear::new(2), half);
     inverts(&rt, "11", BabyBear::new(11), BabyBear::new(549_072_524));
-}
-
-/// Whether an element is shown as this text where code is read.
-fn is_shown(alloc: Global, x: BabyBear, wanted: &str) -> bool {
-    let mut text = String::new(alloc);
-    write!(text, "{x:?}").is_ok() && text.as_str() == wanted
-}
-
-#[test]
-fn an_element_is_shown_as_its_number(rt: HostRuntime) {
-    holds(&rt, "17", is_shown(rt.alloc(), BabyBear::new(17), "17"));
 }

@@ -1,7 +1,5 @@
 use crate::cases::{has_text, holds, holds_at, inverts, is, zero_has_no_inverse};
-use field::{
-    BabyBear, BabyBear4, Domain, ExtensionDomain, ExtensionField, Field, PrimeCharacteristicRing,
-};
+use field::{BabyBear, BabyBear4, Domain, ExtensionDomain, Field, PrimeCharacteristicRing};
 
 /// The polynomial with these coefficients, lowest power first.
 fn quartic(c0: u32, c1: u32, c2: u32, c3: u32) -> BabyBear4 {
@@ -84,22 +82,6 @@ fn numbers_are_embedded(rt: HostRuntime) {
         BabyBear4::from_bool(false),
         quartic(0, 0, 0, 0),
     );
-}
-
-fn affine<F: Field, EF: ExtensionField<F>>(x: EF, a: F, b: F) -> EF {
-    x * EF::embed(a) + EF::embed(b)
-}
-
-#[test]
-fn generic_code_runs_over_both(rt: HostRuntime) {
-    let (two, three) = (BabyBear::new(2), BabyBear::new(3));
-    let mixed = affine(quartic(1, 5, 0, 0), two, three);
-    is(&rt, "an extension", mixed, quartic(5, 10, 0, 0));
-    let alone: BabyBear = affine(two, two, three);
-    is(&rt, "a field over itself", alone, BabyBear::new(7));
-    let x = quartic(0, 1, 0, 0);
-    let wide: BabyBear4 = affine(x, x, quartic(2, 0, 0, 0));
-    is(&rt, "an extension over itself", wide, quartic(2, 0, 1, 0));
 }
 
 fn scaled<F: Field, EF: ExtensionDomain<F>>(x: EF, by: F) -> EF {

@@ -17,7 +17,7 @@ use lookup_model::LookupError;
 use std::alloc::{AllocError, Global};
 
 /// A message: an id, which is a column, the values of a tuple, and a multiplicity.
-#[derive(Debug, Drop)]
+#[derive(Drop)]
 pub struct PlainMessage<F> {
     pub id: usize,
     pub tuple: Vec<F>,

@@ -74,6 +74,14 @@ fn single<F: Field>(rt: &impl Abort, alloc: Global, width: usize, column: usize)
     local(alone(rt, alloc, tuple), alone(rt, alloc, one()), column)
 }
 
+/// Whether a lookup stands on this bus, or is local if that is empty.
+fn is_on<F>(lookup: &Lookup<F>, bus: &str) -> bool {
+    match &lookup.kind {
+        Kind::Global(name) => name.as_str() == bus,
+        Kind::Local => bus.is_empty(),
+    }
+}
+
 /// A matrix of these numbers, row after row.
 fn trace<F: PrimeCharacteristicRing>(
     rt: &impl Abort,

@@ -8,7 +8,7 @@ mod recording;
 mod row_checker;
 
 use air::{AirLayout, BaseLeaf, Expression, SymbolicExpression};
-use field::F7;
+use field::{ExtensionField, F7, Field, PrimeCharacteristicRing};
 use lookup_record::{
     Count, IndexedLookupBuilder, InteractionBuilder, InteractionSymbolicBuilder, LocalTuple,
     LookupBus, PermutationCheckBus, SymbolicExclusiveBranch, SymbolicInteraction,
@@ -134,45 +134,102 @@ fn once() -> Count<Tree> {
     Count::from(1)
 }
 
-/// A call of a bus.
-#[derive(Drop)]
-enum Call<E> {
+/// A call of a bus, by the numbers that its keys and messages are.
+#[derive(Clone, Copy)]
+enum Call<'a> {
     /// Queries a key once.
-    Query(Vec<E>),
+    Query(&'a [u32]),
     /// Provides a key this many times.
-    Provide(Vec<E>, E),
-    /// Queries one of several keys, each under its flag.
-    QueryOneOf(Vec<(E, Vec<E>)>),
+    Provide(&'a [u32], u32),
+    /// Queries one of several keys of one element, each after its flag.
+    QueryOneOf(&'a [(u32, u32)]),
     /// Sends a message once.
-    Send(Vec<E>),
+    Send(&'a [u32]),
     /// Receives a message once.
-    Receive(Vec<E>),
+    Receive(&'a [u32]),
 }
 
-/// Hands a builder what a call of the bus of this name asks for.
+/// The constant of a number.
+fn number<AB: InteractionBuilder>(value: u32) -> AB::Expr {
+    AB::Expr::constant(AB::F::from_u32(value))
+}
+
+/// The constants of numbers.
+fn numbers<AB: InteractionBuilder>(
+    rt: &impl Abort,
+    alloc: Global,
+    values: &[u32],
+) -> Vec<AB::Expr> {
+    let mut all = Vec::new(alloc);
+    for value in values {
+        all.push(number::<AB>(*value)).expect(rt, "memory");
+    }
+    all
+}
+
+/// The branches of flags and keys.
+fn branches<AB: InteractionBuilder>(
+    rt: &impl Abort,
+    alloc: Global,
+    keys: &[(u32, u32)],
+) -> Vec<(AB::Expr, Vec<AB::Expr>)> {
+    let mut all = Vec::new(alloc);
+    for (flag, key) in keys {
+        let key = numbers::<AB>(rt, alloc, &[*key]);
+        all.push((number::<AB>(*flag), key)).expect(rt, "memory");
+    }
+    all
+}
+
+/// Hands a builder what calls of buses ask for, each with the name of its bus.
 fn ask<AB: InteractionBuilder>(
     rt: &impl Abort,
     alloc: Global,
     builder: &mut AB,
-    bus: &str,
-    call: Call<AB::Expr>,
+    calls: &[(&str, Call<'_>)],
 ) {
-    let lookup = LookupBus::new(bus);
-    let permutation = PermutationCheckBus::new(bus);
-    let once = Count::from(1);
-    let answer = match call {
-        Call::Query(key) => lookup.lookup_key(alloc, builder, key, once),
-        Call::Provide(key, times) => lookup.table_entry(alloc, builder, key, times),
-        Call::QueryOneOf(branches) => lookup.lookup_key_exclusive(alloc, builder, branches),
-        Call::Send(fields) => permutation.send(alloc, builder, fields, once),
-        Call::Receive(fields) => permutation.receive(alloc, builder, fields, once),
-    };
-    answer.expect(rt, "memory");
+    for (bus, call) in calls {
+        let lookup = LookupBus::new(bus);
+        let permutation = PermutationCheckBus::new(bus);
+        let once = Count::from(1);
+        let answer = match call {
+            Call::Query(key) => {
+                lookup.lookup_key(alloc, builder, numbers::<AB>(rt, alloc, key), once)
+            }
+            Call::Provide(key, times) => {
+                let key = numbers::<AB>(rt, alloc, key);
+                lookup.table_entry(alloc, builder, key, number::<AB>(*times))
+            }
+            Call::QueryOneOf(keys) => {
+                lookup.lookup_key_exclusive(alloc, builder, branches::<AB>(rt, alloc, keys))
+            }
+            Call::Send(fields) => {
+                permutation.send(alloc, builder, numbers::<AB>(rt, alloc, fields), once)
+            }
+            Call::Receive(fields) => {
+                permutation.receive(alloc, builder, numbers::<AB>(rt, alloc, fields), once)
+            }
+        };
+        answer.expect(rt, "memory");
+    }
 }
 
-/// The same on a recorder.
-fn record(rt: &impl Abort, alloc: Global, recorder: &mut Recorder, bus: &str, call: Call<Tree>) {
-    ask(rt, alloc, recorder, bus, call);
+/// Hands a recorder what calls of buses ask for. Over any field, since the recorder's types cost much to
+/// prove over a given one.
+fn record<F: Field, EF: ExtensionField<F>>(
+    rt: &impl Abort,
+    alloc: Global,
+    recorder: &mut InteractionSymbolicBuilder<F, EF>,
+    calls: &[(&str, Call<'_>)],
+) {
+    ask(rt, alloc, recorder, calls);
+}
+
+/// A recorder after these calls, each with the name of its bus.
+fn recorded(rt: &impl Abort, alloc: Global, calls: &[(&str, Call<'_>)]) -> Recorder {
+    let mut recorder = recorder(rt, alloc);
+    record(rt, alloc, &mut recorder, calls);
+    recorder
 }
 
 /// How many messages, local lookups and groups a recorder counts, and how many reads and tables.

@@ -1,6 +1,6 @@
 //! Generation in chunks of 1024 rows: what stands where chunks meet, and how many inverses are counted.
 use super::comparison::ranges;
-use super::{Made, are_numbers, holds, list, local, range, trace};
+use super::{Made, are_numbers, holds, local, range, trace};
 use air::AirLayout;
 use field::{
     BabyBear, BabyBear4, ExtensionDomain, F7, Field, InverseCount, Inverter,
@@ -75,13 +75,25 @@ fn copies(
 /// elements are below 6, so that no denominator vanishes at the prefix 6. On the rows 0, 1024 and 2048,
 /// which may be alone in their chunk, the denominators are 5, then 1 and 4, then 3 and 1, so that
 /// something is left to invert.
+fn expect_plain(rt: &impl Abort, alloc: Global, height: u32, wanted: u64) {
+    let challenges = [F7::new(6), F7::new(2)];
+    let lookups = [range(rt, alloc, 0)];
+    let mut rows = Vec::new(alloc);
+    for index in 0..height {
+        let row = [(index + 1) % 6, index / 6 % 6, index % 7];
+        rows.push(row).expect(rt, "memory");
+    }
+    let ranges = ranges(rt, alloc, rows.as_slice(), &challenges);
+    let (made, count) = with_count(rt, alloc, &ranges.main, lookups.as_slice(), &challenges);
+    holds(rt, "no fault", made.is_ok());
+    ranges.expected.compare(rt, made, ranges.terminal);
+    holds(rt, "the count", count == wanted);
+}
+
 #[test]
 fn heights_around_whole_chunks(rt: HostRuntime) {
-    let alloc = rt.alloc();
-    let challenges = [F7::new(6), F7::new(2)];
-    let lookups = [range(&rt, alloc, 0)];
     for (height, wanted) in [
-        (1u32, 1),
+        (1, 1),
         (1023, 1),
         (1024, 1),
         (1025, 2),
@@ -89,17 +101,30 @@ fn heights_around_whole_chunks(rt: HostRuntime) {
         (2048, 2),
         (2049, 3),
     ] {
-        let mut rows = Vec::new(alloc);
-        for index in 0..height {
-            let row = [(index + 1) % 6, index / 6 % 6, index % 7];
-            rows.push(row).expect(&rt, "memory");
-        }
-        let ranges = ranges(&rt, alloc, rows.as_slice(), &challenges);
-        let (made, count) = with_count(&rt, alloc, &ranges.main, lookups.as_slice(), &challenges);
-        holds(&rt, "no fault", made.is_ok());
-        ranges.expected.compare(&rt, made, ranges.terminal);
-        holds(&rt, "the count", count == wanted);
+        expect_plain(&rt, rt.alloc(), height, wanted);
     }
+}
+
+/// Fails unless 1025 such rows have these cells in the last row, this terminal and this count.
+fn expect_end(
+    rt: &impl Abort,
+    alloc: Global,
+    lookups: &[Lookup<F7>],
+    last: &[u32],
+    terminal: u32,
+    wanted: u64,
+) {
+    let main = copies(rt, alloc, 1025, [3, 4, 0], 0, [3, 4, 0]);
+    let challenges = [F7::new(0), F7::new(2), F7::new(1), F7::new(2)];
+    let (made, count) = with_count(rt, alloc, &main, lookups, &challenges);
+    let made = made.expect(rt, "no fault");
+    let cells = made.auxiliary.values();
+    assert!(rt; last.len() <= cells.len());
+    let start = cells.len() - last.len();
+    holds(rt, "the rows", start == last.len().saturating_mul(1024));
+    holds(rt, "the last row", are_numbers(&cells[start..], last));
+    let is_right = made.terminal == Some(F7::new(terminal)) && count == wanted;
+    holds(rt, "the terminal and the count", is_right);
 }
 
 /// Each of 1025 rows reads 3, and provides 4 no time.
@@ -112,28 +137,12 @@ fn heights_around_whole_chunks(rt: HostRuntime) {
 #[test]
 fn a_chunk_goes_on_where_the_one_before_ends(rt: HostRuntime) {
     let alloc = rt.alloc();
-    let main = copies(&rt, alloc, 1025, [3, 4, 0], 0, [3, 4, 0]);
-    let challenges = [F7::new(0), F7::new(2), F7::new(1), F7::new(2)];
-    let one = list(&rt, alloc, [range(&rt, alloc, 0)]);
-    let two = list(&rt, alloc, [range(&rt, alloc, 0), range(&rt, alloc, 1)]);
-    let none: Lookup<F7> = local(Vec::new(alloc), Vec::new(alloc), 0);
-    let none = list(&rt, alloc, [none]);
-    let cases: [(&str, &[Lookup<F7>], &[u32], u32, u64); 3] = [
-        ("one lookup", one.as_slice(), &[4, 2], 6, 2),
-        ("two lookups", two.as_slice(), &[3, 2, 3], 1, 2),
-        ("no tuples", none.as_slice(), &[0, 0], 0, 0),
-    ];
-    for (what, lookups, last, terminal, wanted) in cases {
-        let (made, count) = with_count(&rt, alloc, &main, lookups, &challenges);
-        let made = made.expect(&rt, "no fault");
-        let cells = made.auxiliary.values();
-        assert!(rt; last.len() <= cells.len());
-        let start = cells.len() - last.len();
-        holds(&rt, what, start == last.len().saturating_mul(1024));
-        holds(&rt, what, are_numbers(&cells[start..], last));
-        holds(&rt, what, made.terminal == Some(F7::new(terminal)));
-        holds(&rt, what, count == wanted);
-    }
+    let one = [range(&rt, alloc, 0)];
+    expect_end(&rt, alloc, one.as_slice(), &[4, 2], 6, 2);
+    let two = [range(&rt, alloc, 0), range(&rt, alloc, 1)];
+    expect_end(&rt, alloc, two.as_slice(), &[3, 2, 3], 1, 2);
+    let none = [local(Vec::new(alloc), Vec::new(alloc), 0)];
+    expect_end(&rt, alloc, none.as_slice(), &[0, 0], 0, 0);
 }
 
 /// At the prefix 3 the read tuple 4 has the denominator 3 - 4 = 6, and the read tuple 3 has 0. The tuple 3

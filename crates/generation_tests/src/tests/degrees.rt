@@ -75,31 +75,46 @@ fn degree_of(rt: &impl Abort, lookup: &Lookup<F7>, transition: usize) -> Option<
     }
 }
 
-/// The second number is the degree of the transition selector, the third that of the lookup, where it
-/// fits.
+/// Fails unless a lookup has this degree, where it fits, if the transition selector has this one.
+fn expect(
+    rt: &impl Abort,
+    what: &str,
+    lookup: Lookup<F7>,
+    transition: usize,
+    degree: Option<usize>,
+) {
+    holds(rt, what, degree_of(rt, &lookup, transition) == degree);
+}
+
 #[test]
 fn degrees_of_lookups(rt: HostRuntime) {
     let alloc = rt.alloc();
+    let two = of_degrees(&rt, alloc, &[1, 1]);
+    expect(&rt, "1 and 1", two, 0, Some(3));
+    let three = of_degrees(&rt, alloc, &[1, 2, 3]);
+    expect(&rt, "1, 2, 3", three, 0, Some(7));
+    let none = of_degrees(&rt, alloc, &[]);
+    expect(&rt, "no tuples", none, 0, Some(1));
+    for (branches, degree) in [(0, 1), (1, 3), (8, 3)] {
+        let branches = group(&rt, alloc, branches, 0);
+        expect(&rt, "branches", branches, 0, Some(degree));
+    }
+}
+
+#[test]
+fn degrees_by_that_of_the_transition_selector(rt: HostRuntime) {
+    let alloc = rt.alloc();
     let (most, less) = (usize::MAX, usize::MAX - 1);
-    for (what, lookup, transition, degree) in list(
-        &rt,
-        alloc,
-        [
-            ("1 and 1", of_degrees(&rt, alloc, &[1, 1]), 0, Some(3)),
-            ("1, 2, 3", of_degrees(&rt, alloc, &[1, 2, 3]), 0, Some(7)),
-            ("no tuples", of_degrees(&rt, alloc, &[]), 0, Some(1)),
-            ("no branches", group(&rt, alloc, 0, 0), 0, Some(1)),
-            ("a branch", group(&rt, alloc, 1, 0), 0, Some(3)),
-            ("8 branches", group(&rt, alloc, 8, 0), 0, Some(3)),
-            ("at 0", by_selector(&rt, alloc, 2, 5), 0, Some(1)),
-            ("at 1", by_selector(&rt, alloc, 2, 5), 1, Some(5)),
-            ("flag, at 0", under_selector(&rt, alloc, 2, 5), 0, Some(1)),
-            ("flag, at 1", under_selector(&rt, alloc, 2, 5), 1, Some(6)),
-            ("the greatest", by_selector(&rt, alloc, 1, 0), most, None),
-            ("one less", by_selector(&rt, alloc, 1, 0), less, Some(most)),
-            ("squares", by_selector(&rt, alloc, 2, 5), most, None),
-        ],
-    ) {
-        holds(&rt, what, degree_of(&rt, &lookup, transition) == degree);
+    for (transition, degree) in [(0, Some(1)), (1, Some(5)), (most, None)] {
+        let lookup = by_selector(&rt, alloc, 2, 5);
+        expect(&rt, "squares", lookup, transition, degree);
+    }
+    for (transition, degree) in [(0, 1), (1, 6)] {
+        let lookup = under_selector(&rt, alloc, 2, 5);
+        expect(&rt, "a flag", lookup, transition, Some(degree));
+    }
+    for (transition, degree) in [(most, None), (less, Some(most))] {
+        let lookup = by_selector(&rt, alloc, 1, 0);
+        expect(&rt, "the greatest", lookup, transition, degree);
     }
 }

@@ -7,7 +7,7 @@ use air::{
     Air, AirBuilder, AirError, AirLayout, BaseAir, PermutationAirBuilder, SymbolicAirBuilder,
     current_cell,
 };
-use field::F7;
+use field::{ExtensionField, F7, Field};
 use lookup::{LogUpGadget, Lookup, LookupProtocol, fits};
 use matrix::WindowAccess;
 use std::alloc::Global;
@@ -100,13 +100,13 @@ fn evaluated<AB: PermutationAirBuilder>(
 }
 
 /// What a recorder refuses, if anything, and the recorder after it has evaluated such an AIR with
-/// these lookups.
-fn recorded(
+/// these lookups. Over any field, since the recorder's types cost more to prove over a given one.
+fn recorded<F: Field, EF: ExtensionField<F>>(
     rt: &impl Abort,
     alloc: Global,
     refused: Option<AirError>,
-    lookups: &[Lookup<F7>],
-) -> (Option<AirError>, Recorder) {
+    lookups: &[Lookup<F>],
+) -> (Option<AirError>, SymbolicAirBuilder<F, EF>) {
     let layout = AirLayout {
         preprocessed_width: 0,
         main_width: 8,
@@ -162,49 +162,22 @@ fn expect(
 #[test]
 fn constraints_are_recorded_after_those_of_the_air(rt: HostRuntime) {
     let alloc = rt.alloc();
-    let none = list(&rt, alloc, []);
     let one = list(&rt, alloc, [single(&rt, alloc, 1, 0)]);
     let two = list(&rt, alloc, [range(&rt, alloc, 0), single(&rt, alloc, 1, 1)]);
     let branches = list(&rt, alloc, [group(&rt, alloc, 4, 0)]);
     let refusal = Some(AirError::DegreeOverflow);
-    let cases: [(
-        &str,
-        Option<AirError>,
-        &[Lookup<F7>],
-        &[usize],
-        (&[usize], &[usize]),
-    ); 5] = [
-        (
-            "one lookup",
-            None,
-            one.as_slice(),
-            &[1, 2, 3, 4],
-            (&[2, 2, 1, 2], &[2, 2, 2, 2]),
-        ),
-        (
-            "two lookups",
-            None,
-            two.as_slice(),
-            &[1, 2, 3, 4, 5],
-            (&[3, 2, 2, 1, 2], &[3, 2, 2, 2, 2]),
-        ),
-        (
-            "a group",
-            None,
-            branches.as_slice(),
-            &[1, 2, 3, 4],
-            (&[3, 2, 1, 2], &[3, 2, 2, 2]),
-        ),
-        ("no lookups", None, none.as_slice(), &[], (&[], &[])),
-        (
-            "an AIR that refuses",
-            refusal,
-            one.as_slice(),
-            &[],
-            (&[], &[]),
-        ),
-    ];
-    for (what, refused, lookups, places, degrees) in cases {
-        expect(&rt, alloc, what, refused, lookups, places, degrees);
-    }
+    let degrees: (&[usize], &[usize]) = (&[2, 2, 1, 2], &[2, 2, 2, 2]);
+    let places: &[usize] = &[1, 2, 3, 4];
+    let one = one.as_slice();
+    expect(&rt, alloc, "one lookup", None, one, places, degrees);
+    let degrees: (&[usize], &[usize]) = (&[3, 2, 1, 2], &[3, 2, 2, 2]);
+    let group = branches.as_slice();
+    expect(&rt, alloc, "a group", None, group, places, degrees);
+    let degrees: (&[usize], &[usize]) = (&[3, 2, 2, 1, 2], &[3, 2, 2, 2, 2]);
+    let places: &[usize] = &[1, 2, 3, 4, 5];
+    let two = two.as_slice();
+    expect(&rt, alloc, "two lookups", None, two, places, degrees);
+    let nothing: (&[usize], &[usize]) = (&[], &[]);
+    expect(&rt, alloc, "no lookups", None, &[], &[], nothing);
+    expect(&rt, alloc, "a refusal", refusal, one, &[], nothing);
 }

@@ -121,30 +121,19 @@ fn expect<F: Field>(
 #[test]
 fn one_row_of_branches(rt: HostRuntime) {
     let alloc = rt.alloc();
-    let three: [[u32; 3]; 3] = [[1, 1, 0], [1, 1, 0], [1, 1, 0]];
-    expect::<F2>(
-        &rt,
-        alloc,
-        "three of F2",
-        three.as_slice(),
-        1,
-        Some(NOT_EXCLUSIVE),
-    );
-    let cases: [(&str, &[[u32; 3]], u32); 3] = [
-        ("a count of zero elsewhere", &[[1, 0, 3]], 4),
-        ("no flag is set", &[[0, 0, 3], [0, 1, 3]], 3),
-        ("no branches", &[], 3),
-    ];
-    for (what, branches, prefix) in cases {
-        expect::<F7>(&rt, alloc, what, branches, prefix, None);
-    }
-    let faults: [(&str, &[[u32; 3]]); 3] = [
-        ("on its point", &[[1, 0, 3]]),
-        ("2 in the last place", &[[1, 1, 3], [1, 1, 3], [2, 1, 3]]),
-        ("the first and the last", &[[1, 1, 3], [0, 1, 3], [1, 1, 3]]),
-    ];
-    let faults = faults.iter().zip([VANISHING, NOT_BOOLEAN, NOT_EXCLUSIVE]);
-    for ((what, branches), fault) in faults {
-        expect::<F7>(&rt, alloc, what, branches, 3, Some(fault));
-    }
+    let three: &[[u32; 3]] = &[[1, 1, 0], [1, 1, 0], [1, 1, 0]];
+    let fault = Some(NOT_EXCLUSIVE);
+    expect::<F2>(&rt, alloc, "three of F2", three, 1, fault);
+    let zero: &[[u32; 3]] = &[[1, 0, 3]];
+    expect::<F7>(&rt, alloc, "on its point", zero, 3, Some(VANISHING));
+    expect::<F7>(&rt, alloc, "a count of zero", zero, 4, None);
+    let idle: &[[u32; 3]] = &[[0, 0, 3], [0, 1, 3]];
+    expect::<F7>(&rt, alloc, "no flag is set", idle, 3, None);
+    expect::<F7>(&rt, alloc, "no branches", &[], 3, None);
+    let two: &[[u32; 3]] = &[[1, 1, 3], [1, 1, 3], [2, 1, 3]];
+    let fault = Some(NOT_BOOLEAN);
+    expect::<F7>(&rt, alloc, "2 in the last place", two, 3, fault);
+    let both: &[[u32; 3]] = &[[1, 1, 3], [0, 1, 3], [1, 1, 3]];
+    let fault = Some(NOT_EXCLUSIVE);
+    expect::<F7>(&rt, alloc, "the first and the last", both, 3, fault);
 }

@@ -1,5 +1,5 @@
 //! Challenges, generated traces and sums of terminals, at values calculated by hand.
-use super::{Made, are_numbers, generated, holds, list, pair, single, trace};
+use super::{Made, are_numbers, generated, holds, pair, single, trace};
 use air::AirLayout;
 use field::{BabyBear, BabyBear4, ExtensionField, F7, PrimeCharacteristicRing};
 use lookup::{
@@ -37,23 +37,25 @@ fn of_one_row<EF: ExtensionField<BabyBear>>(
     generated(rt, alloc, &main, lookups.as_slice(), challenges.as_slice()).expect(rt, "no fault")
 }
 
+/// Fails unless the fraction and the terminal of such a row are this number.
+fn expect(rt: &impl Abort, alloc: Global, row: &[u32], alpha: u32, beta: u32, fraction: u32) {
+    let (alpha, beta) = (BabyBear::new(alpha), BabyBear::new(beta));
+    let made = of_one_row(rt, alloc, row, alpha, beta);
+    let are_these = are_numbers(made.auxiliary.values(), &[0, fraction]);
+    holds(rt, "the cells", made.auxiliary.width() == 2 && are_these);
+    let is_this = made.terminal == Some(BabyBear::new(fraction));
+    holds(rt, "the terminal", is_this);
+}
+
 /// At alpha 7 the tuple 5 has the denominator 2. At alpha 17 and beta 2 the tuple `1 2 3` combines to 11,
 /// and has the denominator 6. At alpha X the tuple 0 has X, and 1 / X is X^3 / 11.
 #[test]
 fn one_tuple_over_one_row(rt: HostRuntime) {
-    let cases: [(&str, &[u32], u32, u32, u32); 2] = [
-        ("5", &[5], 7, 3, 1006632961),
-        ("1 2 3", &[1, 2, 3], 17, 2, 1677721601),
-    ];
-    for (what, row, alpha, beta, fraction) in cases {
-        let (alpha, beta) = (BabyBear::new(alpha), BabyBear::new(beta));
-        let made = of_one_row(&rt, rt.alloc(), row, alpha, beta);
-        let are_these = are_numbers(made.auxiliary.values(), &[0, fraction]);
-        holds(&rt, what, made.auxiliary.width() == 2 && are_these);
-        holds(&rt, what, made.terminal == Some(BabyBear::new(fraction)));
-    }
+    let alloc = rt.alloc();
+    expect(&rt, alloc, &[5], 7, 3, 1006632961);
+    expect(&rt, alloc, &[1, 2, 3], 17, 2, 1677721601);
     let x = BabyBear4::new([0, 1, 0, 0].map(BabyBear::new));
-    let made = of_one_row(&rt, rt.alloc(), &[0], x, x);
+    let made = of_one_row(&rt, alloc, &[0], x, x);
     let inverse = BabyBear4::new([0, 0, 0, 549072524].map(BabyBear::new));
     holds(&rt, "X", made.terminal == Some(inverse));
 }
@@ -87,32 +89,28 @@ fn terminal(number: i32) -> Option<LookupTerminal<F7>> {
     Some(LookupTerminal(F7::from_i32(number)))
 }
 
+/// Whether these terminals cancel. The refusal of others has to be that of their sum.
+fn cancel(rt: &impl Abort, terminals: &[Option<LookupTerminal<F7>>]) -> bool {
+    match LogUpGadget::new().verify_terminal_sum(terminals) {
+        Ok(()) => true,
+        Err(error) => {
+            holds(rt, "the sum", error == LookupError::TerminalSumNonZero);
+            false
+        }
+    }
+}
+
 #[test]
 fn terminals_that_cancel(rt: HostRuntime) {
-    let alloc = rt.alloc();
-    let gadget = LogUpGadget::new();
-    holds(&rt, "alpha and beta", gadget.num_challenges() == 2);
-    let unbalanced = Err(LookupError::TerminalSumNonZero);
-    for (what, terminals, answer) in list(
+    let three = [terminal(5), terminal(-5), None];
+    holds(
         &rt,
-        alloc,
-        [
-            (
-                "5, -5 and an absent one",
-                list(&rt, alloc, [terminal(5), terminal(-5), None]),
-                Ok(()),
-            ),
-            (
-                "5 and 3",
-                pair(&rt, alloc, terminal(5), terminal(3)),
-                unbalanced,
-            ),
-            ("none", Vec::new(alloc), Ok(())),
-        ],
-    ) {
-        let found = gadget.verify_terminal_sum(terminals.as_slice());
-        holds(&rt, what, found == answer);
-    }
+        "5, -5 and an absent one",
+        cancel(&rt, three.as_slice()),
+    );
+    let two = [terminal(5), terminal(3)];
+    holds(&rt, "5 and 3", !cancel(&rt, two.as_slice()));
+    holds(&rt, "none", cancel(&rt, &[]));
     let zero = LookupTerminal::<F7>::default();
     holds(&rt, "the default", zero.0 == F7::ZERO);
 }

@@ -106,40 +106,33 @@ fn main_cell(offset: usize) -> Tree {
     entry(BaseEntry::Main { offset })
 }
 
-/// Over the main cells 3, 4 and 6. At the prefix 0 the elements 1 to 6 add 6, 3, 2, 5, 4 and 1.
+/// Fails unless the element makes these cells over the main cells 3, 4 and 6.
+fn expect(rt: &impl Abort, alloc: Global, what: &str, element: Tree, cells: [u32; 6]) {
+    let made = made_of(rt, alloc, element, &[3, 4, 6], &[4, 4, 4]);
+    let are_these = are_numbers(made.auxiliary.values(), cells.as_slice());
+    holds(rt, what, are_these);
+}
+
+/// At the prefix 0 the elements 1 to 6 add 6, 3, 2, 5, 4 and 1.
 #[test]
 fn elements_of_each_kind(rt: HostRuntime) {
     let alloc = rt.alloc();
+    expect(&rt, alloc, "3, 4, 6", main_cell(0), [0, 2, 2, 5, 0, 1]);
     let negated = main_cell(0).neg(alloc).expect(&rt, "memory");
+    expect(&rt, alloc, "4, 3, 1", negated, [0, 5, 5, 2, 0, 6]);
     let product = main_cell(0).mul(alloc, main_cell(1)).expect(&rt, "memory");
+    expect(&rt, alloc, "5, 3, 4", product, [0, 4, 4, 2, 6, 5]);
     let difference = main_cell(0).sub(alloc, main_cell(1)).expect(&rt, "memory");
-    for (what, element, cells) in list(
-        &rt,
-        alloc,
-        [
-            ("3, 4, 6", main_cell(0), [0, 2, 2, 5, 0, 1]),
-            ("4, 3, 1", negated, [0, 5, 5, 2, 0, 6]),
-            ("5, 3, 4", product, [0, 4, 4, 2, 6, 5]),
-            ("6, 5, 3", difference, [0, 1, 1, 4, 5, 2]),
-            (
-                "4, 3, 3",
-                past_three(&rt, alloc, BaseLeaf::IsFirstRow),
-                [0, 5, 5, 2, 0, 2],
-            ),
-            (
-                "3, 3, 4",
-                past_three(&rt, alloc, BaseLeaf::IsLastRow),
-                [0, 2, 2, 2, 4, 5],
-            ),
-            (
-                "4, 4, 3",
-                past_three(&rt, alloc, BaseLeaf::IsTransition),
-                [0, 5, 5, 5, 3, 2],
-            ),
-        ],
-    ) {
-        let made = made_of(&rt, alloc, element, &[3, 4, 6], &[4, 4, 4]);
-        let are_these = are_numbers(made.auxiliary.values(), cells.as_slice());
-        holds(&rt, what, are_these);
-    }
+    expect(&rt, alloc, "6, 5, 3", difference, [0, 1, 1, 4, 5, 2]);
+}
+
+#[test]
+fn elements_of_each_selector(rt: HostRuntime) {
+    let alloc = rt.alloc();
+    let first = past_three(&rt, alloc, BaseLeaf::IsFirstRow);
+    expect(&rt, alloc, "4, 3, 3", first, [0, 5, 5, 2, 0, 2]);
+    let last = past_three(&rt, alloc, BaseLeaf::IsLastRow);
+    expect(&rt, alloc, "3, 3, 4", last, [0, 2, 2, 2, 4, 5]);
+    let step = past_three(&rt, alloc, BaseLeaf::IsTransition);
+    expect(&rt, alloc, "4, 4, 3", step, [0, 5, 5, 5, 3, 2]);
 }

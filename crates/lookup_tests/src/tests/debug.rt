@@ -110,35 +110,42 @@ fn on_bus(rt: &impl Abort, alloc: Global, bus: &str, count: usize, column: usize
     lookup
 }
 
+/// Whether a fault is the mismatch of the tuple 10 on row 1, with the net multiplicity 1.
+fn is_ten(fault: &LookupFault<BabyBear>) -> bool {
+    match fault {
+        LookupFault::Mismatch {
+            label,
+            tuple,
+            net,
+            locations,
+        } => {
+            let place = Location {
+                instance: 0,
+                lookup: 0,
+                row: 1,
+            };
+            let is_tuple = tuple.len() == 1 && tuple[0].as_str() == "10";
+            let is_place = locations.len() == 1 && locations[0] == place;
+            label.as_str() == "instance 0 local lookup 0"
+                && is_tuple
+                && is_place
+                && *net == BabyBear::ONE
+        }
+        _ => false,
+    }
+}
+
+/// The text 10 is before 9.
 #[test]
 fn the_fields_of_a_mismatch(rt: HostRuntime) {
     let alloc = rt.alloc();
     let main: RowMajorMatrix<BabyBear> = trace(&rt, alloc, &[9, 10], 1);
     let lookups = [single(&rt, alloc, 1, 0)];
     let instances = [instance(&main, lookups.as_slice())];
-    let Err(
-        LookupFault::Mismatch {
-            label,
-            tuple,
-            net,
-            locations,
-        },
-    ) = checked(&rt, alloc, instances.as_slice())
-    else {
-        panic!(rt; "no mismatch");
-    };
-    assert!(rt; label.as_str() == "instance 0 local lookup 0");
-    assert!(rt;
-        tuple.len() == 1 && tuple[0].as_str() == "10",
-        "10 is before 9"
-    );
-    assert!(rt; net == BabyBear::ONE);
-    let place = Location {
-        instance: 0,
-        lookup: 0,
-        row: 1,
-    };
-    assert!(rt; locations.len() == 1 && locations[0] == place);
+    match checked(&rt, alloc, instances.as_slice()) {
+        Ok(()) => panic!(rt; "no mismatch"),
+        Err(fault) => assert!(rt; is_ten(&fault)),
+    }
 }
 
 /// A list of one lookup of two tuples, each of some cells, with these multiplicities.

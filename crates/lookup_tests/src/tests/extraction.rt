@@ -3,15 +3,14 @@ ghost use Rattle.std.specs.Prelude.{◌≡◌, ◌<◌, All, IfOk, OnOk};
 ghost use Rattle.expressions.specs.declared.layout.AirLayout.{AirLayout};
 ghost use Rattle.lookup_builder.specs.Within.{KeyWithin};
 
-use super::{holds, one, text};
+use super::{holds, is_on, one, text};
 use air::{
     Air, AirBuilder, AirError, AirLayout, BaseAir, Expression, SymbolicExpression, current_cell,
     current_cells,
 };
 use field::{BabyBear, BabyBear4, ExtensionField, F7, Field, PrimeCharacteristicRing};
 use lookup::{
-    Count, InteractionBuilder, Kind, Lookup, LookupBus, LookupError, Lookups,
-    assert_uniform_tuple_width,
+    Count, InteractionBuilder, Lookup, LookupBus, LookupError, Lookups, assert_uniform_tuple_width,
 };
 use matrix::WindowAccess;
 use std::alloc::Global;
@@ -218,16 +217,16 @@ fn is_lookup<F>(
     let Some(lookup) = lookups.get(column) else {
         return false;
     };
-    let has_bus = match &lookup.kind {
-        Kind::Local => bus.is_empty(),
-        Kind::Global(name) => name.as_str() == bus,
-    };
     let has_flags = match &lookup.flags {
         Some(flags) => is_exclusive && flags.len() == tuples,
         None => !is_exclusive,
     };
     let has_tuples = lookup.elements.len() == tuples && lookup.multiplicities.len() == tuples;
-    has_bus && has_flags && has_tuples && lookup.column == column && lookup.count_weight == weight
+    is_on(lookup, bus)
+        && has_flags
+        && has_tuples
+        && lookup.column == column
+        && lookup.count_weight == weight
 }
 
 /// Whether lookups have these buses, weights and numbers of tuples, and are groups or not, in order.
@@ -240,52 +239,50 @@ fn are_lookups<F>(lookups: &[Lookup<F>], expected: &[(&str, u64, usize, bool)]) 
     lookups.len() == expected.len()
 }
 
+/// Fails unless an AIR that does these steps has such lookups, of this weight in all.
+fn expect_lookups(
+    rt: &impl Abort,
+    alloc: Global,
+    steps: &[Step<'_>],
+    expected: &[(&str, u64, usize, bool)],
+    total: u128,
+) {
+    let lookups = extracted::<F7, F7>(alloc, steps).expect(rt, "lookups");
+    holds(rt, "the lookups", are_lookups(lookups.as_slice(), expected));
+    holds(rt, "the weight", lookups.total_count_weight() == total);
+}
+
 /// Local lookups come first and groups last. The weights of a local lookup are summed, and a group has
 /// the greatest of its weights.
 #[test]
 fn lookups_of_pushes(rt: HostRuntime) {
     let alloc = rt.alloc();
-    let cases: [(&str, &[Step<'_>], &[(&str, u64, usize, bool)], u128); 4] = [
-        (
-            "four pushes",
-            &[
-                Step::Global("a"),
-                Step::Local(&[(1, 1)]),
-                Step::Exclusive("b", &[2, 5]),
-                Step::Global("c"),
-            ],
-            &[
-                ("", 1, 1, false),
-                ("a", 1, 1, false),
-                ("c", 1, 1, false),
-                ("b", 5, 2, true),
-            ],
-            8,
-        ),
-        (
-            "no branches",
-            &[Step::Exclusive("b", &[])],
-            &[("b", 0, 0, true)],
-            0,
-        ),
-        (
-            "a sum of 33 bits",
-            &[Step::Local(&[(2, 4294967295), (2, 1)]), Step::Global("a")],
-            &[("", 4294967296, 2, false), ("a", 1, 1, false)],
-            4294967297,
-        ),
-        (
-            "a group of keys",
-            &[Step::Keys("rc")],
-            &[("rc", 1, 2, true)],
-            1,
-        ),
-    ];
-    for (what, steps, expected, total) in cases {
-        let lookups = extracted::<F7, F7>(alloc, steps).expect(&rt, what);
-        holds(&rt, what, are_lookups(lookups.as_slice(), expected));
-        holds(&rt, what, lookups.total_count_weight() == total);
-    }
+    let one: (&str, u64, usize, bool) = ("", 1, 1, false);
+    expect_lookups(
+        &rt,
+        alloc,
+        &[
+            Step::Global("a"),
+            Step::Local(&[(1, 1)]),
+            Step::Exclusive("b", &[2, 5]),
+            Step::Global("c"),
+        ],
+        &[
+            one,
+            ("a", 1, 1, false),
+            ("c", 1, 1, false),
+            ("b", 5, 2, true),
+        ],
+        8,
+    );
+    let no_branches = &[Step::Exclusive("b", &[])];
+    expect_lookups(&rt, alloc, no_branches, &[("b", 0, 0, true)], 0);
+    // a sum of 33 bits
+    let heavy = &[Step::Local(&[(2, 4294967295), (2, 1)]), Step::Global("a")];
+    let sum = &[("", 4294967296, 2, false), ("a", 1, 1, false)];
+    expect_lookups(&rt, alloc, heavy, sum, 4294967297);
+    let keys = &[("rc", 1, 2, true)];
+    expect_lookups(&rt, alloc, &[Step::Keys("rc")], keys, 1);
     let three = [Step::Range, Step::Range, Step::Range];
     let lookups = extracted::<BabyBear, BabyBear4>(alloc, three.as_slice());
     let lookups = lookups.expect(&rt, "range lookups");
@@ -370,10 +367,16 @@ impl<AB: InteractionBuilder> Air<AB> for Fixed {
     ghost keeps_layout = { λ air before after h. h };
 }
 
+/// The lookups of this AIR. Over any field, since the recorder's types cost much to prove over a given one.
+fn extracted_fixed<F: Field, EF: ExtensionField<F>>(
+    alloc: Global,
+) -> Result<Lookups<F>, LookupError> {
+    Lookups::from_air::<EF, Fixed>(alloc, &Fixed)
+}
+
 #[test]
 fn a_preprocessed_cell_is_extracted(rt: HostRuntime) {
-    let lookups = Lookups::<F7>::from_air::<F7, Fixed>(rt.alloc(), &Fixed);
-    let lookups = lookups.expect(&rt, "a lookup");
+    let lookups = extracted_fixed::<F7, F7>(rt.alloc()).expect(&rt, "a lookup");
     let is_one = are_lookups(lookups.as_slice(), &[("", 1, 1, false)]);
     holds(&rt, "one lookup", is_one);
     let mut layout = AirLayout::default();

@@ -50,53 +50,48 @@ fn widest(
     }
 }
 
+/// Fails unless this is the greatest width of AIRs of these shapes.
+fn expect_width(rt: &impl Abort, alloc: Global, what: &str, shapes: &[&[Shape<'_>]], width: usize) {
+    holds(rt, what, widest(rt, alloc, shapes) == Ok(width));
+}
+
 #[test]
 fn widths_on_buses(rt: HostRuntime) {
     let alloc = rt.alloc();
-    let accepted: [(&str, &[&[Shape<'_>]], usize); 3] = [
-        ("no AIR", &[], 0),
-        (
-            "3, and a local one",
-            &[&[("a", 1, false), ("", 5, false)], &[("b", 3, false)]],
-            3,
-        ),
-        ("a group", &[&[("a", 1, false)], &[("b", 2, true)]], 2),
-    ];
-    for (what, shapes, width) in accepted {
-        holds(&rt, what, widest(&rt, alloc, shapes) == Ok(width));
-    }
-    let refused: [(&str, &[&[Shape<'_>]], &str, usize, usize); 3] = [
-        (
-            "bus a before bus b",
-            &[&[
-                ("a", 1, false),
-                ("b", 1, false),
-                ("b", 2, false),
-                ("a", 2, false),
-            ]],
-            "a",
-            1,
-            2,
-        ),
-        (
-            "2 in AIR 0, 1 in AIR 2",
-            &[&[("a", 2, false)], &[("b", 1, false)], &[("a", 1, false)]],
-            "a",
-            2,
-            1,
-        ),
-        (
-            "a group of another width",
-            &[&[("a", 1, false)], &[("a", 2, true)]],
-            "a",
-            1,
-            2,
-        ),
-    ];
-    for (what, shapes, bus, expected, actual) in refused {
-        let answer = Err((text(&rt, alloc, bus), expected, actual));
-        holds(&rt, what, widest(&rt, alloc, shapes) == answer);
-    }
+    expect_width(&rt, alloc, "no AIR", &[], 0);
+    let apart: &[&[Shape<'_>]] = &[&[("a", 1, false), ("", 5, false)], &[("b", 3, false)]];
+    expect_width(&rt, alloc, "3, and a local one", apart, 3);
+    let grouped: &[&[Shape<'_>]] = &[&[("a", 1, false)], &[("b", 2, true)]];
+    expect_width(&rt, alloc, "a group", grouped, 2);
+}
+
+/// Fails unless AIRs of these shapes are refused for two widths on bus `a`.
+fn expect_two_widths(
+    rt: &impl Abort,
+    alloc: Global,
+    what: &str,
+    shapes: &[&[Shape<'_>]],
+    expected: usize,
+    actual: usize,
+) {
+    let answer = Err((text(rt, alloc, "a"), expected, actual));
+    holds(rt, what, widest(rt, alloc, shapes) == answer);
+}
+
+#[test]
+fn two_widths_on_a_bus(rt: HostRuntime) {
+    let alloc = rt.alloc();
+    let both: &[&[Shape<'_>]] = &[&[
+        ("a", 1, false),
+        ("b", 1, false),
+        ("b", 2, false),
+        ("a", 2, false),
+    ]];
+    expect_two_widths(&rt, alloc, "bus a before bus b", both, 1, 2);
+    let apart: &[&[Shape<'_>]] = &[&[("a", 2, false)], &[("b", 1, false)], &[("a", 1, false)]];
+    expect_two_widths(&rt, alloc, "2 in AIR 0, 1 in AIR 2", apart, 2, 1);
+    let grouped: &[&[Shape<'_>]] = &[&[("a", 1, false)], &[("a", 2, true)]];
+    expect_two_widths(&rt, alloc, "a group of another width", grouped, 1, 2);
 }
 
 /// The refusal of AIRs with lookups of these weights over these heights, where there is one.

@@ -176,45 +176,59 @@ fn a_cut_text_is_refused(rt: HostRuntime) {
     }
 }
 
+/// Fails unless the first text is refused for what it holds, or is read where that is `is_good`, with a part
+/// of it changed into another.
+fn expect_changes(rt: &impl Abort, alloc: Global, changes: &[(&str, &str)], is_good: bool) {
+    let wanted = if is_good { None } else { Some(Category::Data) };
+    for (old, new) in changes {
+        holds(rt, new, changed_refusal(rt, alloc, old, new) == wanted);
+    }
+}
+
+/// Parts of the first text, and what makes it none of lookups in their place.
+const BAD_CHANGES: [(&str, &str); 20] = [
+    (
+        r#""count_weight":1"#,
+        r#""count_weight":18446744073709551616"#,
+    ),
+    (r#""count_weight":1,"#, ""),
+    (r#""column":0"#, r#""column":0,"column":0"#),
+    (r#""Constant":1"#, r#""Constant":7"#),
+    (r#""Constant":1"#, r#""Constant":-1"#),
+    (r#""Constant":1"#, r#""Constant":1,"Constant":1"#),
+    (r#"{"Neg":"#, r#"{"Negation":"#),
+    (r#"{"offset":0}"#, "{}"),
+    (r#""index":1"#, r#""index":-1"#),
+    (r#""Local""#, r#""Global""#),
+    (r#""Local""#, r#"{"Local":null}"#),
+    (r#""kind":"Local","#, ""),
+    (r#""kind":"Local""#, r#""kind":"Local","kind":"Local""#),
+    (r#","flags":null"#, r#","flags":null,"flags":null"#),
+    (r#""column":0,"#, ""),
+    (r#""entry":{"Main":{"offset":0}},"#, ""),
+    (r#","index":1"#, ""),
+    (r#""index":1"#, r#""index":1,"index":1"#),
+    (r#""offset":0"#, r#""offset":0,"offset":0"#),
+    (r#""Main""#, r#""Permutation""#),
+];
+
+/// Parts of the first text, and what may stand in their place.
+const GOOD_CHANGES: [(&str, &str); 3] = [
+    (r#","flags":null"#, ""),
+    (r#""count_weight":1"#, r#""count_weight":4294967296"#),
+    (r#""column":0"#, r#""column":0,"other":[{}]"#),
+];
+
 #[test]
 fn what_is_no_lookup_is_refused(rt: HostRuntime) {
-    let alloc = rt.alloc();
-    for (old, new) in [
-        (
-            r#""count_weight":1"#,
-            r#""count_weight":18446744073709551616"#,
-        ),
-        (r#""count_weight":1,"#, ""),
-        (r#""column":0"#, r#""column":0,"column":0"#),
-        (r#""Constant":1"#, r#""Constant":7"#),
-        (r#""Constant":1"#, r#""Constant":-1"#),
-        (r#""Constant":1"#, r#""Constant":1,"Constant":1"#),
-        (r#"{"Neg":"#, r#"{"Negation":"#),
-        (r#"{"offset":0}"#, "{}"),
-        (r#""index":1"#, r#""index":-1"#),
-        (r#""Local""#, r#""Global""#),
-        (r#""Local""#, r#"{"Local":null}"#),
-        (r#""kind":"Local","#, ""),
-        (r#""kind":"Local""#, r#""kind":"Local","kind":"Local""#),
-        (r#","flags":null"#, r#","flags":null,"flags":null"#),
-        (r#""column":0,"#, ""),
-        (r#""entry":{"Main":{"offset":0}},"#, ""),
-        (r#","index":1"#, ""),
-        (r#""index":1"#, r#""index":1,"index":1"#),
-        (r#""offset":0"#, r#""offset":0,"offset":0"#),
-        (r#""Main""#, r#""Permutation""#),
-    ] {
-        let refused = changed_refusal(&rt, alloc, old, new);
-        holds(&rt, new, refused == Some(Category::Data));
-    }
-    for (old, new) in [
-        (r#","flags":null"#, ""),
-        (r#""count_weight":1"#, r#""count_weight":4294967296"#),
-        (r#""column":0"#, r#""column":0,"other":[{}]"#),
-    ] {
-        let refused = changed_refusal(&rt, alloc, old, new);
-        holds(&rt, new, refused.is_none());
-    }
+    expect_changes(&rt, rt.alloc(), BAD_CHANGES.as_slice(), false);
+    expect_changes(&rt, rt.alloc(), GOOD_CHANGES.as_slice(), true);
+}
+
+/// Whether the text of every node is read with a part of it changed into another.
+fn is_read_changed(rt: &impl Abort, alloc: Global, old: &str, new: &str) -> bool {
+    let text = EXPRESSIONS.replace(alloc, old, new).expect(rt, "memory");
+    serde_json::from_str::<Vec<SymbolicExpression<F7>>>(alloc, text.as_str()).is_ok()
 }
 
 #[test]
@@ -230,9 +244,7 @@ fn what_is_no_expression_is_refused(rt: HostRuntime) {
         (r#""Public""#, r#""Main""#),
         (r#"{"Leaf":{"Constant":6}}"#, r#"{"Constant":6}"#),
     ] {
-        let text = EXPRESSIONS.replace(alloc, old, new).expect(&rt, "memory");
-        let read = serde_json::from_str::<Vec<SymbolicExpression<F7>>>(alloc, text.as_str());
-        holds(&rt, new, read.is_err());
+        holds(&rt, new, !is_read_changed(&rt, alloc, old, new));
     }
 }
 
@@ -269,20 +281,4 @@ fn deep_expressions_are_refused(rt: HostRuntime) {
     holds(&rt, "126", is_read(&rt, alloc, 126));
     holds(&rt, "127", !is_read(&rt, alloc, 127));
     holds(&rt, "100000", !is_read(&rt, alloc, 100_000));
-}
-
-#[test]
-fn texts_whose_memory_may_run_out(rt: HostRuntime) {
-    let alloc = rt.alloc();
-    let lookups = match serde_json::from_str::<Vec<Lookup<F7>>>(alloc, EXCLUSIVE) {
-        Ok(lookups) => lookups,
-        Err(error) => {
-            assert!(rt; error.is_memory());
-            return;
-        }
-    };
-    match serde_json::to_string(alloc, &lookups) {
-        Ok(text) => holds(&rt, "the text", text.as_str() == EXCLUSIVE),
-        Err(error) => holds(&rt, "memory", error.is_memory()),
-    }
 }

@@ -1,5 +1,5 @@
 //! Packing: lookups on one bus in as few columns as a degree allows.
-use super::{cell, holds, list, local, one, text};
+use super::{cell, holds, is_on, list, local, one, text};
 use air::{Expression, SymbolicExpression};
 use field::F7;
 use lookup::{
@@ -110,14 +110,6 @@ fn packed(
     set(rt, alloc, members).pack_same_bus(alloc, &LogUpGadget::new(), budget)
 }
 
-/// Whether a lookup stands on this bus, or is local if that is empty.
-fn is_on(lookup: &Lookup<F7>, bus: &str) -> bool {
-    match &lookup.kind {
-        Kind::Global(name) => name.as_str() == bus,
-        Kind::Local => bus.is_empty(),
-    }
-}
-
 /// Whether columns have these buses, numbers of tuples and weights, and are numbered in order.
 fn are_columns(columns: &[Lookup<F7>], expected: &[(&str, usize, u64)]) -> bool {
     for (place, column) in columns.iter().enumerate() {
@@ -153,75 +145,97 @@ fn equal_lookups(rt: HostRuntime) {
     }
 }
 
-/// Locals and groups come first, and then the buses in the order of the first lookups that are joined,
-/// whatever group stands on them. A lookup above the degree stands alone. Weights add.
+/// Fails unless the gadget packs these within a degree into these columns.
+fn expect_columns(
+    rt: &impl Abort,
+    alloc: Global,
+    what: &str,
+    members: &[Member<'_>],
+    budget: usize,
+    expected: &[(&str, usize, u64)],
+) {
+    let columns = packed(rt, alloc, members, budget).expect(rt, what);
+    holds(rt, what, are_columns(columns.as_slice(), expected));
+}
+
+/// Locals come first. A lookup above the degree stands alone.
 #[test]
-fn columns_of_packed_lookups(rt: HostRuntime) {
+fn columns_within_a_degree(rt: HostRuntime) {
     let alloc = rt.alloc();
-    let (a, b, four) = (on("a"), on("b"), [on("a"); 4]);
-    let (cube, greatest) = (power("a", 3), weighing("a", 4294967295));
-    let cases: [(&str, &[Member<'_>], usize, &[(&str, usize, u64)]); 9] = [
-        (
-            "a local one",
-            &[on(""), a, a, a],
-            3,
-            &[("", 1, 1), ("a", 2, 2), ("a", 1, 1)],
-        ),
-        (
-            "two of two",
-            four.as_slice(),
-            3,
-            &[("a", 2, 2), ("a", 2, 2)],
-        ),
-        (
-            "four of one",
-            four.as_slice(),
-            2,
-            &[("a", 1, 1), ("a", 1, 1), ("a", 1, 1), ("a", 1, 1)],
-        ),
-        (
-            "a cube",
-            &[a, a, cube, a],
-            3,
-            &[("a", 2, 2), ("a", 1, 1), ("a", 1, 1)],
-        ),
-        ("two buses", &[a, b, a, b], 16, &[("a", 2, 2), ("b", 2, 2)]),
-        (
-            "and a group",
-            &[a, b, a, b, group("a", 1)],
-            16,
-            &[("a", 1, 1), ("a", 2, 2), ("b", 2, 2)],
-        ),
-        (
-            "a group first",
-            &[group("b", 1), a, b, a, b],
-            16,
-            &[("b", 1, 1), ("a", 2, 2), ("b", 2, 2)],
-        ),
-        (
-            "more than 32 bits",
-            &[greatest, a],
-            16,
-            &[("a", 2, 4294967296)],
-        ),
-        (
-            "apart",
-            &[greatest, a],
-            2,
-            &[("a", 1, 4294967295), ("a", 1, 1)],
-        ),
-    ];
-    for (what, members, budget, expected) in cases {
-        let columns = packed(&rt, alloc, members, budget).expect(&rt, what);
-        holds(&rt, what, are_columns(columns.as_slice(), expected));
-    }
-    let columns = packed(&rt, alloc, &[a, a, cube, a], 3).expect(&rt, "packed");
+    let (a, cube) = (on("a"), power("a", 3));
+    let one: (&str, usize, u64) = ("a", 1, 1);
+    let two: (&str, usize, u64) = ("a", 2, 2);
+    expect_columns(
+        &rt,
+        alloc,
+        "a local one",
+        &[on(""), a, a, a],
+        3,
+        &[("", 1, 1), two, one],
+    );
+    expect_columns(&rt, alloc, "two of two", &[a, a, a, a], 3, &[two, two]);
+    let four = &[one, one, one, one];
+    expect_columns(&rt, alloc, "four of one", &[a, a, a, a], 2, four);
+    let cubes = &[two, one, one];
+    expect_columns(&rt, alloc, "a cube", &[a, a, cube, a], 3, cubes);
+    let five = &[one, one, one, one, one];
+    expect_columns(&rt, alloc, "a budget of 0", &[a, a, a, a, a], 0, five);
+}
+
+/// Groups come first, and then the buses in the order of the first lookups that are joined, whatever group
+/// stands on them.
+#[test]
+fn columns_of_two_buses(rt: HostRuntime) {
+    let alloc = rt.alloc();
+    let (a, b) = (on("a"), on("b"));
+    let (two_a, two_b): ((&str, usize, u64), (&str, usize, u64)) = (("a", 2, 2), ("b", 2, 2));
+    expect_columns(&rt, alloc, "two buses", &[a, b, a, b], 16, &[two_a, two_b]);
+    let on_a = &[("a", 1, 1), two_a, two_b];
+    expect_columns(
+        &rt,
+        alloc,
+        "a group on a",
+        &[a, b, a, b, group("a", 1)],
+        16,
+        on_a,
+    );
+    let on_b = &[("b", 1, 1), two_a, two_b];
+    expect_columns(
+        &rt,
+        alloc,
+        "a group on b",
+        &[group("b", 1), a, b, a, b],
+        16,
+        on_b,
+    );
+}
+
+/// Weights add.
+#[test]
+fn weights_of_more_than_32_bits(rt: HostRuntime) {
+    let alloc = rt.alloc();
+    let members = [weighing("a", 4294967295), on("a")];
+    let sum = &[("a", 2, 4294967296)];
+    expect_columns(&rt, alloc, "joined", members.as_slice(), 16, sum);
+    let own = &[("a", 1, 4294967295), ("a", 1, 1)];
+    expect_columns(&rt, alloc, "apart", members.as_slice(), 2, own);
+}
+
+#[test]
+fn the_degree_of_a_cube(rt: HostRuntime) {
+    let alloc = rt.alloc();
+    let a = on("a");
+    let columns = packed(&rt, alloc, &[a, a, power("a", 3), a], 3).expect(&rt, "packed");
     let columns = columns.as_slice();
     assert!(rt; columns.len() == 3 && has_equal_lengths(&columns[1]));
     let degree = LogUpGadget::new().constraint_degree(&columns[1]);
-    holds(&rt, "the degree of a cube", degree == Ok(4));
-    let columns = packed(&rt, alloc, &[a, a, a, a, a], 0).expect(&rt, "packed");
-    holds(&rt, "a budget of 0", columns.as_slice().len() == 5);
+    holds(&rt, "4", degree == Ok(4));
+}
+
+/// Fails unless the gadget refuses to pack these for this.
+fn expect_refusal(rt: &impl Abort, alloc: Global, members: &[Member<'_>], refusal: LookupError) {
+    let refused = packed(rt, alloc, members, 16).err();
+    assert!(rt; refused == Some(refusal));
 }
 
 /// The refusal of two widths on a bus.
@@ -244,62 +258,71 @@ fn two_widths(
 #[test]
 fn refused_packings(rt: HostRuntime) {
     let alloc = rt.alloc();
-    let all = weighing("a", 18446744073709551615);
-    let (a, b, wide_a, wide_b) = (on("a"), on("b"), wide("a", 2), wide("b", 3));
-    for (what, members, refusal) in list(
-        &rt,
+    let (a, b, all) = (on("a"), on("b"), weighing("a", 18446744073709551615));
+    let on_a = two_widths(&rt, alloc, "bus \"a\"", 1, 2);
+    expect_refusal(&rt, alloc, &[a, group("a", 2)], on_a);
+    let on_b = two_widths(&rt, alloc, "bus \"b\"", 1, 3);
+    let members = [group("b", 1), a, b, wide("a", 2), wide("b", 3)];
+    expect_refusal(&rt, alloc, members.as_slice(), on_b);
+    expect_refusal(&rt, alloc, &[all, a], LookupError::CountWeightOverflow);
+}
+
+/// What is packed of these within the degree 3, with a closure that refuses each trial.
+fn packed_by_refusing(
+    rt: &impl Abort,
+    alloc: Global,
+    members: &[Member<'_>],
+) -> Result<Lookups<F7>, LookupError> {
+    set(rt, alloc, members).pack_same_bus_with_degree(
         alloc,
-        [
-            (
-                "a group of another width",
-                list(&rt, alloc, [a, group("a", 2)]),
-                two_widths(&rt, alloc, "bus \"a\"", 1, 2),
-            ),
-            (
-                "a group decides",
-                list(&rt, alloc, [group("b", 1), a, b, wide_a, wide_b]),
-                two_widths(&rt, alloc, "bus \"b\"", 1, 3),
-            ),
-            (
-                "more than 64 bits",
-                list(&rt, alloc, [all, a]),
-                LookupError::CountWeightOverflow,
-            ),
-        ],
-    ) {
-        let answer = packed(&rt, alloc, members.as_slice(), 16);
-        holds(&rt, what, answer.err() == Some(refusal));
-    }
+        3,
+        |_| Err(LookupError::BadRecord { lookup: 9 }),
+    )
+}
+
+#[test]
+fn a_closure_that_refuses(rt: HostRuntime) {
+    let alloc = rt.alloc();
+    let (a, b, c) = (on("a"), on("b"), on("c"));
+    let asked = packed_by_refusing(&rt, alloc, &[a, a]).err();
+    let refusal = LookupError::BadRecord { lookup: 9 };
+    holds(&rt, "its own error", asked == Some(refusal));
+    let alone = packed_by_refusing(&rt, alloc, &[a, b, c]).expect(&rt, "three buses");
+    let three = are_columns(alone.as_slice(), &[("a", 1, 1), ("b", 1, 1), ("c", 1, 1)]);
+    holds(&rt, "it is not asked", three);
+}
+
+/// What is packed of these within a degree, with a closure that answers the weight of a trial, or 0.
+fn packed_by_weight(
+    rt: &impl Abort,
+    alloc: Global,
+    members: &[Member<'_>],
+    degree: usize,
+    weighs: bool,
+) -> Lookups<F7> {
+    set(rt, alloc, members)
+        .pack_same_bus_with_degree(
+            alloc,
+            degree,
+            |lookup| Ok(if weighs {
+                lookup.count_weight as usize
+            } else {
+                0
+            }),
+        )
+        .expect(rt, "packed")
 }
 
 #[test]
 fn a_closure_for_the_degree(rt: HostRuntime) {
     let alloc = rt.alloc();
-    let (a, b, c) = (on("a"), on("b"), on("c"));
-    let refusing = |_: &Lookup<F7>| Err(LookupError::BadRecord { lookup: 9 });
-    let asked = set(&rt, alloc, &[a, a]).pack_same_bus_with_degree(alloc, 3, refusing);
-    let refusal = LookupError::BadRecord { lookup: 9 };
-    holds(&rt, "its own error", asked.err() == Some(refusal));
-    let refusing = |_: &Lookup<F7>| Err(LookupError::BadRecord { lookup: 9 });
-    let alone = set(&rt, alloc, &[a, b, c]).pack_same_bus_with_degree(alloc, 3, refusing);
-    let alone = alone.expect(&rt, "three buses");
-    let three = are_columns(alone.as_slice(), &[("a", 1, 1), ("b", 1, 1), ("c", 1, 1)]);
-    holds(&rt, "it is not asked", three);
-    let five = set(&rt, alloc, &[a, a, a, a, a]).pack_same_bus_with_degree(alloc, 0, |_| Ok(0));
-    let five = five.expect(&rt, "a degree of 0");
-    holds(
-        &rt,
-        "all joined",
-        are_columns(five.as_slice(), &[("a", 5, 5)]),
-    );
+    let a = on("a");
+    let five = packed_by_weight(&rt, alloc, &[a, a, a, a, a], 0, false);
+    let one = are_columns(five.as_slice(), &[("a", 5, 5)]);
+    holds(&rt, "all joined", one);
     let weights = [weighing("a", 5), weighing("a", 7), weighing("a", 9)];
-    let by_weight = set(&rt, alloc, &weights).pack_same_bus_with_degree(
-        alloc,
-        6,
-        |lookup| Ok(lookup.count_weight as usize),
-    );
-    let by_weight = by_weight.expect(&rt, "weights");
-    let two = are_columns(by_weight.as_slice(), &[("a", 2, 12), ("a", 1, 9)]);
+    let columns = packed_by_weight(&rt, alloc, weights.as_slice(), 6, true);
+    let two = are_columns(columns.as_slice(), &[("a", 2, 12), ("a", 1, 9)]);
     holds(&rt, "the weight of the trial", two);
 }
 

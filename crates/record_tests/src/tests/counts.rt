@@ -1,7 +1,7 @@
 //! What counts are, and that they keep their weight.
 ghost use Rattle.std.specs.Prelude.{◌≡◌};
 
-use super::{Tree, constant, has_value, holds, list};
+use super::{Tree, constant, has_value, holds};
 use air::Expression;
 use field::{BabyBear, F7, Field};
 use lookup_record::Count;
@@ -26,35 +26,18 @@ fn has_parts<F: Field>(rt: &impl Abort, what: &str, count: Count<F>, element: F,
 /// The weight of a whole number is its absolute value, and negation keeps a weight.
 #[test]
 fn elements_with_their_weights(rt: HostRuntime) {
-    for (what, count, element, weight) in list(
-        &rt,
-        rt.alloc(),
-        [
-            ("5", Count::from(5), 5, 5),
-            ("-3", Count::from(-3), 2013265918, 3),
-            (
-                "the least number",
-                Count::from(i32::MIN),
-                1879048194,
-                2147483648,
-            ),
-            (
-                "a bounded count",
-                Count::bounded(BabyBear::new(7), 16),
-                7,
-                16,
-            ),
-            ("a provided count", Count::provided(BabyBear::new(9)), 9, 0),
-            (
-                "a negated count",
-                -Count::bounded(BabyBear::new(4), 10),
-                2013265917,
-                10,
-            ),
-        ],
-    ) {
-        has_parts(&rt, what, count, BabyBear::new(element), weight);
-    }
+    let (three, least) = (BabyBear::new(2013265918), BabyBear::new(1879048194));
+    let (seven, nine) = (BabyBear::new(7), BabyBear::new(9));
+    has_parts(&rt, "5", Count::from(5), BabyBear::new(5), 5);
+    has_parts(&rt, "-3", Count::from(-3), three, 3);
+    let count = Count::from(i32::MIN);
+    has_parts(&rt, "the least number", count, least, 2147483648);
+    let count = Count::bounded(seven, 16);
+    has_parts(&rt, "a bounded count", count, seven, 16);
+    has_parts(&rt, "a provided count", Count::provided(nine), nine, 0);
+    let negated = -Count::bounded(BabyBear::new(4), 10);
+    let four = BabyBear::new(2013265917);
+    has_parts(&rt, "a negated count", negated, four, 10);
     let twice = negated_twice(Count::bounded(F7::new(4), 10));
     has_parts(&rt, "negated twice", twice, F7::new(4), 10);
     let called = Count::bounded(F7::new(4), 10).negate::<F7>(rt.alloc());

@@ -5,7 +5,7 @@ ghost use Rattle.std.specs.Prelude.{◌≡◌, OnOk};
 use super::declaration::{is_unreadable, read, table};
 use super::{holds, list};
 use air::{Air, AirError, AirLayout, BaseAir};
-use field::F7;
+use field::{ExtensionField, F7, Field};
 use lookup_record::{
     IndexedDeclarations, IndexedLookupBuilder, IndexedLookupError, IndexedLookups, IndexedRead,
     IndexedTable, TraceWindow,
@@ -63,6 +63,9 @@ fn empty_table(rt: &impl Abort, alloc: Global) -> IndexedLookupError {
 #[derive(Clone, Copy)]
 enum Fault {
     Nothing,
+    Memory,
+    /// What the AIR refuses.
+    OfAir(AirError),
     /// A column, and the width that it is not below.
     OutOfRange(usize, usize),
     Repeated(usize),
@@ -74,6 +77,8 @@ enum Fault {
 fn refusal_of(rt: &impl Abort, alloc: Global, fault: Fault) -> Option<IndexedLookupError> {
     match fault {
         Fault::Nothing => None,
+        Fault::Memory => Some(IndexedLookupError::Memory),
+        Fault::OfAir(error) => Some(IndexedLookupError::Air(error)),
         Fault::OutOfRange(column, width) => Some(out_of_range(rt, alloc, column, width)),
         Fault::Repeated(column) => Some(repeated(rt, alloc, column)),
         Fault::EmptyPayload => Some(empty_payload(rt, alloc)),
@@ -186,16 +191,35 @@ fn accepted(rt: &impl Abort, alloc: Global) -> IndexedLookups {
     IndexedLookups::new(alloc, reads, tables, &layout()).expect(rt, "no fault")
 }
 
+/// Ends the test where a set holds anything but a reader of `t` at 0 with this payload, and the table `t`
+/// of these columns.
+fn holds_one_of_each(
+    rt: &impl Abort,
+    alloc: Global,
+    set: &IndexedLookups,
+    payload: &[usize],
+    window: TraceWindow,
+    columns: &[usize],
+) {
+    let reads = [read(rt, alloc, "t", 0, payload)];
+    holds(rt, "the reader", set.reads() == reads.as_slice());
+    let tables = [table(rt, alloc, "t", window, columns)];
+    holds(rt, "the table", set.tables() == tables.as_slice());
+}
+
 #[test]
 fn accepted_declarations_are_held_as_given(rt: HostRuntime) {
     let alloc = rt.alloc();
     let set = accepted(&rt, alloc);
-    let reads = [read(&rt, alloc, "t", 0, &[1, 2])];
-    let tables = [table(&rt, alloc, "t", TraceWindow::Main, &[1, 3])];
-    let are_held = set.reads() == reads.as_slice() && set.tables() == tables.as_slice();
-    holds(&rt, "one of each", are_held && !set.is_empty());
+    holds_one_of_each(&rt, alloc, &set, &[1, 2], TraceWindow::Main, &[1, 3]);
+    holds(&rt, "not empty", !set.is_empty());
     let copy = set.copy(alloc).expect(&rt, "memory");
     holds(&rt, "a copy", copy == set);
+}
+
+#[test]
+fn no_declarations_are_empty(rt: HostRuntime) {
+    let alloc = rt.alloc();
     let none = IndexedLookups::new(alloc, Vec::new(alloc), Vec::new(alloc), &layout());
     holds(&rt, "none", none.expect(&rt, "no fault").is_empty());
 }
@@ -244,45 +268,50 @@ impl<AB: IndexedLookupBuilder> Air<AB> for Declarer {
     ghost keeps_layout = { λ air before after h. h };
 }
 
-/// The indexed lookups of such an AIR.
+/// The indexed lookups of such an AIR. Over any field, since the recorder's types cost much to prove over
+/// a given one.
+fn declared_over<F: Field, EF: ExtensionField<F>>(
+    alloc: Global,
+    air: &Declarer,
+) -> Result<IndexedLookups, IndexedLookupError> {
+    IndexedLookups::from_air::<F, EF, Declarer>(alloc, air)
+}
+
+/// The same over F7.
 fn declared(
     alloc: Global,
     position: usize,
     refused: Option<AirError>,
 ) -> Result<IndexedLookups, IndexedLookupError> {
-    IndexedLookups::from_air::<F7, F7, Declarer>(alloc, &Declarer { position, refused })
+    declared_over::<F7, F7>(alloc, &Declarer { position, refused })
+}
+
+/// Ends the test where such an AIR is refused otherwise.
+fn expect_of_air(
+    rt: &impl Abort,
+    alloc: Global,
+    what: &str,
+    position: usize,
+    refused: Option<AirError>,
+    fault: Fault,
+) {
+    let refused = declared(alloc, position, refused).err();
+    holds(rt, what, refused == refusal_of(rt, alloc, fault));
 }
 
 #[test]
 fn declarations_of_an_air_are_checked(rt: HostRuntime) {
     let alloc = rt.alloc();
     let set = declared(alloc, 0, None).expect(&rt, "no fault");
-    let reads = [read(&rt, alloc, "t", 0, &[1])];
-    holds(&rt, "the reader", set.reads() == reads.as_slice());
-    let tables = [table(&rt, alloc, "t", TraceWindow::Preprocessed, &[2])];
-    holds(&rt, "the table", set.tables() == tables.as_slice());
+    holds_one_of_each(&rt, alloc, &set, &[1], TraceWindow::Preprocessed, &[2]);
     let overflow = AirError::DegreeOverflow;
-    for (what, position, refused, expected) in list(
-        &rt,
-        alloc,
-        [
-            ("position 2 of 2", 2, None, out_of_range(&rt, alloc, 2, 2)),
-            (
-                "an overflow",
-                2,
-                Some(overflow),
-                IndexedLookupError::Air(overflow),
-            ),
-            (
-                "out of memory",
-                0,
-                Some(AirError::Memory),
-                IndexedLookupError::Memory,
-            ),
-        ],
-    ) {
-        let refused = declared(alloc, position, refused).err();
-        holds(&rt, what, refused == Some(expected));
+    let cases: [(&str, usize, Option<AirError>, Fault); 3] = [
+        ("position 2 of 2", 2, None, Fault::OutOfRange(2, 2)),
+        ("an overflow", 2, Some(overflow), Fault::OfAir(overflow)),
+        ("out of memory", 0, Some(AirError::Memory), Fault::Memory),
+    ];
+    for (what, position, refused, fault) in cases {
+        expect_of_air(&rt, alloc, what, position, refused, fault);
     }
 }
 
@@ -431,31 +460,4 @@ fn what_are_no_declarations_is_refused(rt: HostRuntime) {
     let turned = r#"{"tables":[],"reads":[]}"#;
     let read = serde_json::from_str::<IndexedDeclarations>(alloc, turned);
     holds(&rt, "members in the other order", read.is_ok());
-}
-
-#[test]
-fn checks_whose_memory_may_run_out(rt: HostRuntime) {
-    let alloc = rt.alloc();
-    let Ok(reads) = read_of_a_repetition(alloc) else {
-        return;
-    };
-    match IndexedLookups::new(alloc, reads, Vec::new(alloc), &layout()) {
-        Ok(_) => holds(&rt, "a refusal", false),
-        Err(IndexedLookupError::RepeatedColumn { table, column }) => {
-            holds(&rt, "the column", column == 1);
-            holds(&rt, "the table", table.as_str() == "t");
-        }
-        Err(error) => holds(&rt, "memory", error == IndexedLookupError::Memory),
-    }
-}
-
-/// A reader of `t` that names column 1 twice.
-fn read_of_a_repetition(alloc: Global) -> Result<Vec<IndexedRead>, IndexedLookupError> {
-    let mut reads = Vec::new(alloc);
-    reads.push(IndexedRead {
-        table: String::from_str(alloc, "t")?,
-        position: 0,
-        payload: Vec::from_slice(alloc, &[1, 2, 1])?,
-    })?;
-    Ok(reads)
 }
