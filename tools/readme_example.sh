@@ -17,7 +17,7 @@ for block in "$blocks"/*; do
   fi
   count=$((count + 1))
 done
-[ "$count" -eq 3 ] || { echo "the README has $count blocks of its example, and not 3" >&2; exit 1; }
+[ "$count" -eq 4 ] || { echo "the README has $count blocks of its example, and not 4" >&2; exit 1; }
 echo "the README's example is what $test runs"
 run=crates/lookup_run
 rows=$(awk '{ printf "%s\\n", $0 }' "$run/stdin")

@@ -1,5 +1,7 @@
 pub mod AssignedLaws
+pub mod DistinctLaws
 pub mod GivenLaws
+pub mod GridLaws
 pub mod LawfulPlans
 pub mod OneWidths
 pub mod PlanCalls

@@ -3,21 +3,20 @@ use Rattle.std.proofs.Common.{◌≡◌, ◌↔◌, ◌<◌, ◌≤◌, ◌+◌,
 use Rattle.std.proofs.lemmas.List.{get_or-map, length-map, map_push, take_more}
 use Rattle.std.proofs.lemmas.List.Elements.{All-cons, All-nil}
 use Rattle.std.proofs.lemmas.Slice.Zip.{get_or-zip, length-zip}
-use Rattle.std.specs.Box.{boxed_slice_items}
 use Rattle.std.specs.List.{AllByRecursion, slice_get, slice_range, zip}
 use Rattle.std.specs.declared.alloc.Global.{Global}
 use Rattle.std.specs.declared.vec.Vec.{Vec}
 use Rattle.matrix.specs.Matrix.{Matrix}
 use Rattle.batch_model.specs.Ids.{identified}
-use Rattle.batch_model.specs.Instances.{DoInstancesFit, HasPrefixes, HavePrefixes, IsFitting, instance_of, instances_of}
+use Rattle.batch_model.specs.Instances.{DoInstancesFit, IsFitting, instance_of, instances_of}
 use Rattle.batch_model.specs.declared.instance.BatchInstance.{BatchInstance}
-use Rattle.lookup_model.specs.declared.challenges.Challenges.{Challenges}
 use Rattle.lookup_model.specs.declared.types.Lookup.{Lookup}
 use Rattle.lookup.specs.Lookups.{lookups_of}
 use Rattle.lookup.specs.declared.lookups.Lookups.{Lookups}
 use Rattle.witness_laws.proofs.Lists.{all_back, all_front}
 use Rattle.batch.proofs.Places.{HoldsBelow, holds_next}
 use Rattle.batch.specs.Lists.{lists_of}
+use Rattle.batch.specs.Pairs.{HaveIdsBelow}
 use Rattle.batch.specs.Plans.{plan_batch}
 use Rattle.batch.specs.Traces.{FitsAt, IsFirstUnfit, instance_alone, instance_over, shown_of}
 use Rattle.batch.specs.declared.error.BatchError.TheVariants.{TraceMismatch}
@@ -47,18 +46,18 @@ module _ {F : Type 0} where
   fits_from (b ∷ bs) (h ∷ hs) same all =
       All-cons (λ c. IsFitting (instance_of c)) b bs (all 0 (instance_of b, h) (omega arith)).1 (fits_from bs hs (omega (arith, same)) (λ k d lt. all (suc k) d (omega (arith, lt))))
 
-  ids_below : (m n : ℕ) (ids : List ℕ) (lookups : List (Lookup F)) → length ids ≡ length lookups → m ≤ n → AllByRecursion (λ a. a.0 < m) (zip ids lookups) → All (λ id. id < n) ids
-  ids_below m n [] lookups same le all = All-nil (λ id. id < n)
-  ids_below m n (id ∷ ids) [] same le all = absurd (omega (arith, same))
-  ids_below m n (id ∷ ids) (l ∷ ls) same le all = All-cons (λ i. i < n) id ids (omega (arith, all.0, le)) (ids_below m n ids ls (omega (arith, same)) le all.1)
+  ids_below : (m : ℕ) (ids : List ℕ) (lookups : List (Lookup F)) → length ids ≡ length lookups → AllByRecursion (λ a. a.0 < m) (zip ids lookups) → All (λ id. id < m) ids
+  ids_below m [] lookups same all = All-nil (λ id. id < m)
+  ids_below m (id ∷ ids) [] same all = absurd (omega (arith, same))
+  ids_below m (id ∷ ids) (l ∷ ls) same all = All-cons (λ i. i < m) id ids all.0 (ids_below m ids ls (omega (arith, same)) all.1)
 
-  -- the ids of a batch, below m, have prefixes
-  pub have_prefixes : {K : Type 0} (c : Challenges K) (m : ℕ) (bs : List (BatchInstance F)) → m ≤ length (boxed_slice_items c.bus_prefix) → DoInstancesFit bs → AllByRecursion (λ a. a.0 < m) (identified (instances_of bs)) → HavePrefixes c bs
-  have_prefixes c m [] le fit all = All-nil (HasPrefixes c)
-  have_prefixes c m (b ∷ bs) le fit all =
-      All-cons (HasPrefixes c) b bs
-      (ids_below m (length (boxed_slice_items c.bus_prefix)) b.ids.now b.lookups.now (fit 0 b (omega arith)).ids le (all_front (λ a. a.0 < m) (zip b.ids.now b.lookups.now) (identified (instances_of bs)) all))
-      (have_prefixes c m bs le (λ k d lt. fit (suc k) d (omega (arith, lt))) (all_back (λ a. a.0 < m) (zip b.ids.now b.lookups.now) (identified (instances_of bs)) all))
+  -- the ids of a batch are below m if those of its lookups are
+  pub have_below : (m : ℕ) (bs : List (BatchInstance F)) → DoInstancesFit bs → AllByRecursion (λ a. a.0 < m) (identified (instances_of bs)) → HaveIdsBelow m bs
+  have_below m [] fit all = All-nil (λ b. All (λ id. id < m) b.ids.now)
+  have_below m (b ∷ bs) fit all =
+      All-cons (λ b. All (λ id. id < m) b.ids.now) b bs
+      (ids_below m b.ids.now b.lookups.now (fit 0 b (omega arith)).ids (all_front (λ a. a.0 < m) (zip b.ids.now b.lookups.now) (identified (instances_of bs)) all))
+      (have_below m bs (λ k d lt. fit (suc k) d (omega (arith, lt))) (all_back (λ a. a.0 < m) (zip b.ids.now b.lookups.now) (identified (instances_of bs)) all))
 
   module _ (airs : List (Lookups F)) (ids : List (Vec ℕ Global)) (traces : List (BatchTrace F)) (ids_are : length ids ≡ length airs) (traces_are : length traces ≡ length airs) where
     -- the AIRs with their ids and traces

@@ -6,10 +6,11 @@ ghost use Rattle.batch.specs.WitnessCounts.{IsCountRefusal};
 
 use crate::batch::fitted_batch;
 use crate::error::BatchError;
+use crate::grid::{GridCount, counted_grid};
 use crate::ids::{PlanIds, plan_ids};
 use crate::trace::BatchTrace;
 use crate::widths::{check_local_widths, widest_tuple};
-use checker::{Witness, check_witness, generate_batch};
+use checker::{BatchInstance, Witness, check_witness, generate_batch};
 use field::{ExtensionField, Field};
 use lookup::{Challenges, Lookups, check_bus_widths, check_multiplicity_height_bound};
 use std::alloc::{AllocError, Global};
@@ -34,8 +35,11 @@ pub struct BatchPlan<F: Field> {
 
 impl<F: Field> BatchPlan<F> {
     ghost use Rattle.batch.specs.Checks.{HaveEvenWidths, IsPlanRefusal};
+    ghost use Rattle.batch.specs.Grids.{CountsPlanGrid, StaysWithinBound};
+    ghost use Rattle.batch.specs.PlanBatches.{IsPlanBatch};
     ghost use Rattle.batch.specs.Plans.{PassIsCounted, PassesOnlyPlain, Proves, ProvesBalanced, ProvesOnly, ProvesRegular, ProvesSatisfied, RefusesUnaccepted, Verifies, plan_batch};
     ghost use Rattle.batch.specs.Tables.{made_table};
+    ghost use Rattle.batch.specs.Traces.{IsTraceRefusal};
     ghost use Rattle.lookup_model.specs.Extension.{extension};
 
     /// The plan of these AIRs, whose traces have these heights.
@@ -109,7 +113,8 @@ impl<F: Field> BatchPlan<F> {
     /// see [`generate_batch`](checker::generate_batch).
     ///
     /// They satisfy the constraints of all lookups. If all flags are lawful and no denominator
-    /// vanishes, there are no others that do. If all messages balance, the terminals sum to zero.
+    /// vanishes, the call succeeds unless memory runs out, and there are no others that do. If all
+    /// messages balance, the terminals sum to zero.
     ///
     /// Refuses `LengthMismatch` if the traces are not as many as the AIRs, then `TraceMismatch` at the
     /// first AIR whose traces do not have the height of the plan or do not fit its lookups, then
@@ -139,13 +144,7 @@ impl<F: Field> BatchPlan<F> {
             (made_table EF.ring alpha beta self.now.max_message_width self.now.num_ids)
             (plan_batch self.now.airs.items self.now.ids.items traces.now) result }
     {
-        let batch = fitted_batch(
-            alloc,
-            self.airs.as_slice(),
-            self.ids.as_slice(),
-            self.heights.as_slice(),
-            traces,
-        )?;
+        let batch = self.batch_over(alloc, traces)?;
         let challenges = Challenges::new(alloc, alpha, beta, self.max_message_width, self.num_ids)?;
         let witness = generate_batch(alloc, batch.as_slice(), &challenges)?;
         Ok(witness)
@@ -183,13 +182,7 @@ impl<F: Field> BatchPlan<F> {
             (plan_batch self.now.airs.items self.now.ids.items traces.now) alpha beta
             self.now.max_message_width result }
     {
-        let batch = fitted_batch(
-            alloc,
-            self.airs.as_slice(),
-            self.ids.as_slice(),
-            self.heights.as_slice(),
-            traces,
-        )?;
+        let batch = self.batch_over(alloc, traces)?;
         check_counts(self.airs.len(), witness)?;
         let challenges = Challenges::new(alloc, alpha, beta, self.max_message_width, self.num_ids)?;
         check_witness(
@@ -200,6 +193,54 @@ impl<F: Field> BatchPlan<F> {
             witness.terminals.as_slice(),
         )?;
         Ok(())
+    }
+
+    /// At how many pairs of these alphas and betas the batch over these traces is accepted, whoever makes
+    /// the witness, and a bound on that number; see [`GridCount`].
+    ///
+    /// Refuses traces as `prove` does, then `RepeatedChallenge` if the alphas or the betas have one of
+    /// them twice, then `Air` with the first fault of flags, as
+    /// [`soundness_count`](checker::soundness_count) does, then `CountOverflow` if some messages do not
+    /// balance and `W * k * (k - 1) / 2` or the bound does not fit `u128`. Also fails when out of memory.
+    pub fn grid_count<EF: ExtensionField<F>>(
+        &self,
+        alloc: Global,
+        traces: &[BatchTrace<'_, F>],
+        alphas: &[EF],
+        betas: &[EF],
+    ) -> Result<GridCount, BatchError>
+        ensures answer { CountsPlanGrid (extension F.ring F.eq EF.ring EF.eq EF.embed EF.inverse)
+            (plan_batch self.now.airs.items self.now.ids.items traces.now)
+            self.now.max_message_width alphas.now betas.now self.now.heights.items traces.now result }
+        ensures within { StaysWithinBound result }
+    {
+        let batch = self.batch_over(alloc, traces)?;
+        let (width, num_ids) = (self.max_message_width, self.num_ids);
+        counted_grid(alloc, batch.as_slice(), width, num_ids, alphas, betas)
+    }
+
+    /// The batch of the AIRs over these traces, under their ids.
+    ///
+    /// Refuses traces that are not as many as the AIRs, then the first that do not fit.
+    fn batch_over<'a>(
+        &'a self,
+        alloc: Global,
+        traces: &'a [BatchTrace<'a, F>],
+    ) -> Result<Vec<BatchInstance<'a, F>>, BatchError>
+        ensures { MatchResult result
+            (λ batch. IsPlanBatch F.CHARACTERISTIC self.now.heights.items
+            self.now.max_message_width self.now.num_ids traces.now
+            (plan_batch self.now.airs.items self.now.ids.items traces.now) batch.items)
+            (λ e. (e ≡ BatchError.Memory) ⊎ IsTraceRefusal self.now.heights.items traces.now
+            (plan_batch self.now.airs.items self.now.ids.items traces.now) e) }
+    {
+        fitted_batch(
+            alloc,
+            self.airs.as_slice(),
+            self.ids.as_slice(),
+            self.heights.as_slice(),
+            traces,
+        )
     }
 }
 

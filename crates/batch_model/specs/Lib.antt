@@ -1,7 +1,10 @@
 pub mod Answers
 pub mod Counts
+pub mod Equations
+pub mod Existence
 pub mod Faults
 pub mod FlagFaults
+pub mod Grid
 pub mod Ids
 pub mod Instances
 pub mod Messages

@@ -1,5 +1,6 @@
 //! What the tests share: sets of lookups, traces, and plans of them.
 mod example;
+mod grids;
 mod numbering;
 mod proving;
 mod refusals;
@@ -98,16 +99,6 @@ fn plan<F: Field>(
     let mut planned = Vec::new(alloc);
     planned.extend_from_slice(heights).expect(rt, "memory");
     BatchPlan::new(alloc, airs, planned)
-}
-
-/// Whether the ids of a plan are these.
-fn has_ids<F: Field>(plan: &BatchPlan<F>, ids: &[&[usize]]) -> bool {
-    for (own, wanted) in plan.ids().iter().zip(ids) {
-        if own.as_slice() != *wanted {
-            return false;
-        }
-    }
-    plan.ids().len() == ids.len()
 }
 
 /// A matrix of these numbers, row after row.

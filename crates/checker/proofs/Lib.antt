@@ -2,9 +2,11 @@ pub mod CheckLaws
 pub mod CountLaws
 pub mod IdLaws
 pub mod Layouts
-pub mod MadeTables
 pub mod PackedBatches
 pub mod ResultLaws
 pub mod RowLaws
 pub mod SameIdLaws
+pub mod SumSteps
+pub mod SumWalk
+pub mod TablesAlike
 pub mod WitnessLaws

@@ -5,3 +5,4 @@ pub mod Packed
 pub mod Results
 pub mod Rows
 pub mod SameIds
+pub mod Sums

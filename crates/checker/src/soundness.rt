@@ -1,8 +1,9 @@
-//! Counted soundness: at how few challenges a batch that does not balance can be accepted.
+//! Counted and joint soundness: at how few challenges a batch that does not balance can be accepted.
 ghost use Rattle.std.specs.Prelude.{◌≡◌, ℕ, List, All, map};
 ghost use Rattle.std.specs.Box.{boxed_slice_items};
 ghost use Rattle.std.specs.List.{range_with_len};
 ghost use Rattle.batch_model.specs.Counts.{IsAccepting, IsCountedSound};
+ghost use Rattle.batch_model.specs.Grid.{FewAcceptedPairs, IsJointlySound};
 ghost use Rattle.batch_model.specs.Ids.{AreLawfulIds};
 ghost use Rattle.batch_model.specs.Instances.{HavePrefixes, Instance, IsFitting, instances_of};
 ghost use Rattle.batch_model.specs.Messages.{AreFlagsLawful};
@@ -26,6 +27,30 @@ pub fn counted_soundness<F: Field, EF: ExtensionField<F>>()
         → AreFlagsLawful F.ring F.eq instances
         → IsCountedSound (extension F.ring F.eq EF.ring EF.eq EF.embed EF.inverse) instances W }
 {}
+
+/// Joint soundness of every batch that fits, with lawful ids and flags: a theorem, as the contract of a
+/// function that does nothing. It follows from the last part of `counted_soundness`.
+///
+/// Let `n` be the number of distinct messages, `k` the number of those that do not balance, above zero,
+/// and `W` the width that the challenges are made for. A beta is bad if `n + k` distinct alphas are
+/// accepting at it; at most `W * k * (k - 1) / 2` betas are. At a bad beta all alphas may be accepting,
+/// and at every other one fewer than `n + k` are. So of the pairs of `a` distinct alphas with `b`
+/// distinct betas, some witness is accepted at no more than
+/// `W * k * (k - 1) / 2 * a + (n + k - 1) * b`.
+///
+/// `pairs` says so of every distinct list of accepted pairs, and `counts` of their number.
+pub fn joint_soundness<F: Field, EF: ExtensionField<F>>()
+    ensures pairs { (W m : ℕ) (instances : List (Instance F))
+        → All IsFitting instances → AreLawfulIds W m F.CHARACTERISTIC instances
+        → AreFlagsLawful F.ring F.eq instances
+        → IsJointlySound (extension F.ring F.eq EF.ring EF.eq EF.embed EF.inverse) instances W }
+    ensures counts { (W m : ℕ) (instances : List (Instance F))
+        → All IsFitting instances → AreLawfulIds W m F.CHARACTERISTIC instances
+        → AreFlagsLawful F.ring F.eq instances
+        → FewAcceptedPairs (extension F.ring F.eq EF.ring EF.eq EF.embed EF.inverse) instances W }
+{
+    counted_soundness::<F, EF>();
+}
 
 /// What joins `check_witness` to `counted_soundness`: a theorem, too.
 ///

@@ -4,8 +4,10 @@ ghost use Rattle.std.specs.Prelude.{◌≡◌, ◌↔◌, ◌<◌, All, IsTrue, 
 mod batches;
 mod counts;
 mod exhaustion;
+mod existence;
 mod ids;
 mod memory;
+mod pairs;
 mod program;
 mod single;
 mod witnesses;
@@ -236,4 +238,23 @@ fn rechecked<F: Field, EF: ExtensionField<F>>(
 ) -> Result<(), LookupError> {
     let (aux, terminals) = (made.aux.as_slice(), made.terminals.as_slice());
     checked(rt, alloc, instances, challenges, aux, terminals)
+}
+
+/// Fails unless the generated witness has these cells and terminals, for the AIRs from 0 on, and this is
+/// the answer to it.
+fn expect_made(
+    rt: &impl Abort,
+    alloc: Global,
+    instances: &[BatchInstance<'_, F7>],
+    challenges: &Challenges<F7>,
+    results: &[(&[u32], u32)],
+    answer: Result<(), LookupError>,
+) {
+    let made = generated(rt, alloc, instances, challenges).expect(rt, "no fault");
+    for (air, (cells, terminal)) in results.iter().enumerate() {
+        let right = has_result(&made, air, cells, *terminal);
+        holds(rt, "the result", right);
+    }
+    let own = rechecked(rt, alloc, instances, challenges, &made);
+    holds(rt, "the answer", own == answer);
 }

@@ -1,7 +1,10 @@
 pub mod AcceptingAlphas
 pub mod DistinctLists
+pub mod JointCount
+pub mod JointPairs
 pub mod LawfulFlags
 pub mod LawfulKeys
+pub mod Numbers
 pub mod NumeratorPolynomials
 pub mod SharingBetas
 pub mod Soundness

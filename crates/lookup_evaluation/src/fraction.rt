@@ -1,4 +1,4 @@
-//! The constraint of one lookup's fraction.
+//! The quotient that one lookup's fraction has to be, and the constraint that says so.
 ghost use Rattle.std.specs.Prelude.{◌≡◌, ◌+◌, ◌*◌, ◌<◌, ◌≤◌, ◌⊎◌, ℕ, max, [], ◌∷◌, IfOk, IfErr};
 ghost use Rattle.expressions.specs.Builder.{IsMainWindow};
 ghost use Rattle.expressions.specs.Window.{ExtWindow};
@@ -17,8 +17,15 @@ use expressions::{AirBuilder, AirError, ExtensionBuilder, PermutationAirBuilder}
 use lookup_model::Lookup;
 use std::alloc::{AllocError, Global};
 
-/// The quotient of a lookup, over the challenges of its column.
-fn quotient_of<AB: PermutationAirBuilder>(
+/// The quotient of a lookup on the builder's row, over the challenges of its column: `V / U` without
+/// flags, and `N / D` with flags, which need not be lawful. The lookup's fraction `f` has to solve
+/// `denominator * f = numerator`, and `eval_fraction` asserts just that. Nothing is divided here: the
+/// denominator may be zero.
+///
+/// `main` is the main window that `builder.main` gives. Requires as many multiplicities and flags as
+/// tuples, expressions within the builder's layout, and two challenges for each column up to the
+/// lookup's own. The builder needs no permutation window. Fails only when out of memory.
+pub fn quotient_of<AB: PermutationAirBuilder>(
     alloc: Global,
     builder: &AB,
     main: &AB::MainWindow,

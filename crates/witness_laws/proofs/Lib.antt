@@ -1,11 +1,16 @@
+pub mod Accepted
+pub mod AcceptedSums
 pub mod ByTable
 pub mod Lists
+pub mod MadeResults
 pub mod OnlyFractions
 pub mod OnlyRows
 pub mod OnlyWitness
 pub mod RefusedWitness
 pub mod Rekeyed
 pub mod SentFacts
+pub mod SolutionSums
 pub mod Succeeds
 pub mod TableResults
 pub mod Totals
+pub mod Zipped

@@ -82,18 +82,28 @@ impl<AB: InteractionBuilder> Air<AB> for EntriesAir {
     ghost keeps_layout = { λ air before after h. h.0 };
 }
 
-/// The witness of keys and entries, which has to be accepted.
-fn accepted(
+/// The plan of both AIRs for traces of these heights.
+fn planned(
     alloc: Global,
-    keys: RowMajorMatrix<F7>,
-    entries: RowMajorMatrix<F7>,
-) -> Result<Witness<F7>, Fail> {
+    keys: &RowMajorMatrix<F7>,
+    entries: &RowMajorMatrix<F7>,
+) -> Result<BatchPlan<F7>, Fail> {
     let asks = Lookups::from_air::<F7, KeysAir>(alloc, &KeysAir)?;
     let provides = Lookups::from_air::<F7, EntriesAir>(alloc, &EntriesAir)?;
     let airs = Vec::from_array(alloc, [asks, provides])?;
     let heights = Vec::from_array(alloc, [keys.height(), entries.height()])?;
     let plan = BatchPlan::new(alloc, airs, heights)?;
-    let traces = [alone(&keys), alone(&entries)];
+    Ok(plan)
+}
+
+/// The witness of keys and entries, which has to be accepted.
+fn accepted(
+    alloc: Global,
+    plan: &BatchPlan<F7>,
+    keys: &RowMajorMatrix<F7>,
+    entries: &RowMajorMatrix<F7>,
+) -> Result<Witness<F7>, Fail> {
+    let traces = [alone(keys), alone(entries)];
     let (alpha, beta) = (F7::new(5), F7::new(2));
     let witness = plan.prove(alloc, traces.as_slice(), alpha, beta)?;
     plan.verify(alloc, traces.as_slice(), alpha, beta, &witness)?;
@@ -105,7 +115,8 @@ fn keys_are_found_in_the_entries(rt: HostRuntime) -> Result<(), Fail> {
     let alloc = rt.alloc();
     let keys = trace(&rt, alloc, &[3, 3], 1);
     let entries = trace(&rt, alloc, &[3, 2, 4, 0], 2);
-    let witness = accepted(alloc, keys, entries)?;
+    let plan = planned(alloc, &keys, &entries)?;
+    let witness = accepted(alloc, &plan, &keys, &entries)?;
     let (first, second) = ([0, 2, 2, 2].map(F7::new), [0, 3, 3, 0].map(F7::new));
     holds(
         &rt,

@@ -1,5 +1,5 @@
 //! The ids of plans.
-use super::{Shape, has_ids, holds, plan, shaped};
+use super::{Shape, holds, plan, shaped};
 use batch::BatchPlan;
 use field::{BabyBear, F7};
 use lookup::{Lookup, Lookups};
@@ -17,8 +17,11 @@ fn expect_ids(
     let heights: &[usize] = &[1, 1, 1];
     let own = heights.get(..sets.len()).unwrap_or(&[]);
     let made = plan::<F7>(rt, alloc, sets, 0, own).expect(rt, "a plan");
-    holds(rt, "the ids", has_ids(&made, ids));
-    holds(rt, "their number", made.num_ids() == count);
+    for (own, wanted) in made.ids().iter().zip(ids) {
+        holds(rt, "the ids", own.as_slice() == *wanted);
+    }
+    let right = made.ids().len() == ids.len() && made.num_ids() == count;
+    holds(rt, "their number", right);
 }
 
 /// The ids and their number, by hand: a local lookup takes the next id, and a name keeps its first.
@@ -166,27 +169,43 @@ fn there_and_back(column: usize) -> usize {
     }
 }
 
-/// One AIR with two lookups on each of 300 buses.
+/// The name of a bus.
+fn name_of_bus(rt: &impl Abort, alloc: Global, bus: usize) -> String {
+    format!(in alloc; "bus {bus}").expect(rt, "memory")
+}
+
+/// Two lookups on each of 300 buses.
+fn two_of_each(rt: &impl Abort, alloc: Global) -> Lookups<BabyBear> {
+    let mut records: Vec<Lookup<BabyBear>> = Vec::new(alloc);
+    for column in 0..600usize {
+        let name = name_of_bus(rt, alloc, there_and_back(column));
+        let record = shaped(rt, alloc, (Some(name.as_str()), &[1]), 0, column);
+        records.push(record).expect(rt, "memory");
+    }
+    Lookups::from_records(alloc, records).expect(rt, "well formed")
+}
+
+/// Whether each id is the number of its bus.
+fn are_as_named(ids: &[usize]) -> bool {
+    for (column, id) in ids.iter().enumerate() {
+        if *id != there_and_back(column) {
+            return false;
+        }
+    }
+    true
+}
+
+/// One AIR with them.
 #[test]
 fn three_hundred_buses(rt: HostRuntime) {
     let alloc = rt.alloc();
-    let mut records: Vec<Lookup<BabyBear>> = Vec::new(alloc);
-    for column in 0..600usize {
-        let bus = there_and_back(column);
-        let name = format!(in alloc; "bus {bus}").expect(&rt, "memory");
-        let record = shaped(&rt, alloc, (Some(name.as_str()), &[1]), 0, column);
-        records.push(record).expect(&rt, "memory");
-    }
-    let set = Lookups::from_records(alloc, records).expect(&rt, "well formed");
-    let airs = Vec::from_array(alloc, [set]).expect(&rt, "memory");
+    let airs = Vec::from_array(alloc, [two_of_each(&rt, alloc)]).expect(&rt, "memory");
     let heights = Vec::from_array(alloc, [1]).expect(&rt, "memory");
     let made = BatchPlan::new(alloc, airs, heights).expect(&rt, "a plan");
-    let mut as_named = true;
     for ids in made.ids() {
-        for (column, id) in ids.iter().enumerate() {
-            as_named = as_named && *id == there_and_back(column);
-        }
+        let as_named = are_as_named(ids.as_slice());
+        holds(&rt, "their ids", as_named && ids.len() == 600);
     }
-    holds(&rt, "their ids", as_named && made.ids().len() == 1);
+    holds(&rt, "one AIR", made.ids().len() == 1);
     holds(&rt, "their number", made.num_ids() == 300);
 }

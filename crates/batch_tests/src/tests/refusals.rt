@@ -59,27 +59,19 @@ fn the_first_check_that_fails(rt: HostRuntime) {
     };
     let sets: &[&[Shape<'_>]] = &[&[(Some("a"), one)], &[(None, uneven), (Some("a"), one)]];
     refuses(&rt, alloc, sets, 7, &[1, 1], BatchError::Lookup(local));
-    let eight: &[Shape<'_>] = &[
-        (None, one),
-        (None, one),
-        (None, one),
-        (None, one),
-        (None, one),
-        (None, one),
-        (None, one),
-        (None, one),
-    ];
-    refuses(
-        &rt,
-        alloc,
-        &[eight],
-        7,
-        &[1],
-        BatchError::TooManyIds { ids: 8 },
-    );
+}
+
+/// More ids than `F7` has whole numbers come before weights times heights.
+#[test]
+fn plans_that_do_not_fit_the_field(rt: HostRuntime) {
+    let alloc = rt.alloc();
+    let one: &[usize] = &[1];
+    let eight: [Shape<'_>; 8] = [(None, one); 8];
+    let many = BatchError::TooManyIds { ids: 8 };
+    refuses(&rt, alloc, &[eight.as_slice()], 7, &[1], many);
     refuses(&rt, alloc, &[&eight[..7]], 1, &[1], heavy(7, 3));
-    refuses(&rt, alloc, &[&[(None, one)]], 1, &[7], heavy(7, 3));
-    let fits = plan::<F7>(&rt, alloc, &[&[(None, one)]], 1, &[6]).is_ok();
+    refuses(&rt, alloc, &[&eight[..1]], 1, &[7], heavy(7, 3));
+    let fits = plan::<F7>(&rt, alloc, &[&eight[..1]], 1, &[6]).is_ok();
     holds(&rt, "a sum of six", fits);
 }
 
@@ -104,44 +96,46 @@ fn refusals_over_other_fields(rt: HostRuntime) {
     );
 }
 
-/// Traces that are not as many as AIRs, and the first that does not fit.
+/// Fails unless a plan refuses these traces for this.
+fn expect_unfit(
+    rt: &impl Abort,
+    alloc: Global,
+    plan: &BatchPlan<F7>,
+    traces: &[BatchTrace<'_, F7>],
+    refusal: BatchError,
+) {
+    let (alpha, beta) = (F7::from_u32(5), F7::from_u32(2));
+    let refused = plan.prove(alloc, traces, alpha, beta).err();
+    assert!(rt; refused == Some(refusal));
+}
+
+/// Traces that are not as many as AIRs, and the first that does not fit: of an AIR without lookups, and of
+/// the one with a lookup. A plan of no rows takes no traces.
 #[test]
 fn the_first_trace_that_does_not_fit(rt: HostRuntime) {
     let alloc = rt.alloc();
     let one: &[usize] = &[1];
     let made = plan::<F7>(&rt, alloc, &[&[], &[(None, one)]], 1, &[1, 2]).expect(&rt, "a plan");
     let (low, high) = (trace(&rt, alloc, &[1], 1), trace(&rt, alloc, &[1, 2], 1));
-    let no_rows = trace(&rt, alloc, &[], 1);
-    let (alpha, beta) = (F7::from_u32(5), F7::from_u32(2));
-    let few = made.prove(alloc, &[alone(&low)], alpha, beta).err();
-    let wanted = BatchError::LengthMismatch {
+    let few = BatchError::LengthMismatch {
         expected: 2,
         actual: 1,
     };
-    holds(&rt, "one trace", few == Some(wanted));
-    let first = made
-        .prove(alloc, &[alone(&high), alone(&low)], alpha, beta)
-        .err();
-    holds(
-        &rt,
-        "without lookups",
-        first == Some(BatchError::TraceMismatch { air: 0 }),
-    );
-    let second = made
-        .prove(alloc, &[alone(&low), alone(&low)], alpha, beta)
-        .err();
-    holds(
-        &rt,
-        "too low",
-        second == Some(BatchError::TraceMismatch { air: 1 }),
-    );
+    expect_unfit(&rt, alloc, &made, &[alone(&low)], few);
+    let first = BatchError::TraceMismatch { air: 0 };
+    expect_unfit(&rt, alloc, &made, &[alone(&high), alone(&low)], first);
+    let second = BatchError::TraceMismatch { air: 1 };
+    expect_unfit(&rt, alloc, &made, &[alone(&low), alone(&low)], second);
+}
+
+#[test]
+fn a_trace_without_rows_does_not_fit(rt: HostRuntime) {
+    let alloc = rt.alloc();
+    let one: &[usize] = &[1];
     let none = plan::<F7>(&rt, alloc, &[&[(None, one)]], 1, &[0]).expect(&rt, "a plan");
-    let empty = none.prove(alloc, &[alone(&no_rows)], alpha, beta).err();
-    holds(
-        &rt,
-        "no rows",
-        empty == Some(BatchError::TraceMismatch { air: 0 }),
-    );
+    let no_rows = trace(&rt, alloc, &[], 1);
+    let unfit = BatchError::TraceMismatch { air: 0 };
+    expect_unfit(&rt, alloc, &none, &[alone(&no_rows)], unfit);
 }
 
 /// The plan of one lookup of a preprocessed cell and a public value, over two rows.
@@ -166,47 +160,54 @@ fn fixed_plan(rt: &impl Abort, alloc: Global) -> BatchPlan<F7> {
     BatchPlan::new(alloc, airs, heights).expect(rt, "a plan")
 }
 
-/// A preprocessed trace that is missing or too low, and public values that are missing. Over the cells
-/// 3 and 4 with the value 1 the fractions are 1/4 and 1/3, and the terminal is their sum, 0.
+/// Fails unless that plan refuses these traces.
+fn expect_mismatch(
+    rt: &impl Abort,
+    alloc: Global,
+    main: &RowMajorMatrix<F7>,
+    preprocessed: Option<&RowMajorMatrix<F7>>,
+    public_values: &[F7],
+) {
+    let traces = [BatchTrace {
+        main,
+        preprocessed,
+        public_values,
+    }];
+    let plan = fixed_plan(rt, alloc);
+    let unfit = BatchError::TraceMismatch { air: 0 };
+    expect_unfit(rt, alloc, &plan, traces.as_slice(), unfit);
+}
+
+/// A main trace that is too high, a preprocessed one that is missing or too low, and public values that
+/// are missing.
 #[test]
 fn all_traces_of_an_air_have_to_fit(rt: HostRuntime) {
     let alloc = rt.alloc();
-    let plan = fixed_plan(&rt, alloc);
     let (main, fixed) = (trace(&rt, alloc, &[0, 0], 1), trace(&rt, alloc, &[3, 4], 1));
     let (high, low) = (trace(&rt, alloc, &[0, 0, 0], 1), trace(&rt, alloc, &[3], 1));
     let one: &[F7] = &[F7::ONE];
-    let none: &[F7] = &[];
-    let rows: [(
-        &RowMajorMatrix<F7>,
-        Option<&RowMajorMatrix<F7>>,
-        &[F7],
-        bool,
-    ); 5] = [
-        (&main, Some(&fixed), one, true),
-        (&high, Some(&fixed), one, false),
-        (&main, None, one, false),
-        (&main, Some(&low), one, false),
-        (&main, Some(&fixed), none, false),
-    ];
+    expect_mismatch(&rt, alloc, &high, Some(&fixed), one);
+    expect_mismatch(&rt, alloc, &main, None, one);
+    expect_mismatch(&rt, alloc, &main, Some(&low), one);
+    expect_mismatch(&rt, alloc, &main, Some(&fixed), &[]);
+}
+
+/// Over the cells 3 and 4 with the value 1 the fractions are 1/4 and 1/3, and the terminal is their sum, 0.
+#[test]
+fn an_air_with_all_kinds_of_traces(rt: HostRuntime) {
+    let alloc = rt.alloc();
+    let (main, fixed) = (trace(&rt, alloc, &[0, 0], 1), trace(&rt, alloc, &[3, 4], 1));
+    let traces = [BatchTrace {
+        main: &main,
+        preprocessed: Some(&fixed),
+        public_values: &[F7::ONE],
+    }];
     let (alpha, beta) = (F7::from_u32(5), F7::from_u32(2));
-    for (main, preprocessed, public_values, fits) in rows {
-        let traces = [BatchTrace {
-            main,
-            preprocessed,
-            public_values,
-        }];
-        match plan.prove(alloc, traces.as_slice(), alpha, beta) {
-            Ok(made) => {
-                let cells = [0, 2, 2, 5].map(F7::new);
-                let right = has_result(&made, 0, cells.as_slice(), F7::ZERO);
-                holds(&rt, "the witness", fits && right);
-            }
-            Err(error) => {
-                let unfit = error == BatchError::TraceMismatch { air: 0 };
-                holds(&rt, "the refusal", !fits && unfit);
-            }
-        }
-    }
+    let made = fixed_plan(&rt, alloc).prove(alloc, traces.as_slice(), alpha, beta);
+    let made = made.expect(&rt, "no fault");
+    let cells = [0, 2, 2, 5].map(F7::new);
+    let right = has_result(&made, 0, cells.as_slice(), F7::ZERO);
+    holds(&rt, "the witness", right);
 }
 
 /// A fault of no AIR is out of memory, or a count that does not fit.

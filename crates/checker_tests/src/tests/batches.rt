@@ -2,7 +2,7 @@
 //! and one AIR with all kinds of traces.
 use super::counts::{count, counts};
 use super::{
-    cell, checked, generated, group, has_result, holds, instance, list, lookup, rechecked, table,
+    cell, checked, expect_made, generated, group, holds, instance, list, lookup, rechecked, table,
     terminal, trace,
 };
 use air::{BaseEntry, BaseLeaf, Expression, SymbolicExpression, SymbolicVariable};
@@ -50,12 +50,16 @@ fn two_airs_on_one_bus(rt: HostRuntime) {
     ];
     let instances = instances.as_slice();
     let challenges = table(&rt, alloc, 5, 2, 1);
-    let made = generated(&rt, alloc, instances, &challenges).expect(&rt, "no fault");
-    holds(&rt, "the keys", has_result(&made, 0, &[0, 2, 2, 2], 4));
-    holds(&rt, "the entries", has_result(&made, 1, &[0, 3, 3, 0], 3));
-    let accepted = rechecked(&rt, alloc, instances, &challenges, &made);
-    holds(&rt, "accepted", accepted.is_ok());
     let keys: (&[u32], u32) = (&[0, 2, 2, 2], 4);
+    let results: [(&[u32], u32); 2] = [keys, (&[0, 3, 3, 0], 3)];
+    expect_made(
+        &rt,
+        alloc,
+        instances,
+        &challenges,
+        results.as_slice(),
+        Ok(()),
+    );
     let changed = answer(&rt, alloc, instances, &challenges, keys, (&[0, 4, 3, 0], 3));
     let failed = LookupError::ConstraintFailed { air: 1, row: 0 };
     holds(&rt, "the first row of AIR 1", changed == Err(failed));
@@ -76,14 +80,18 @@ fn a_group_and_its_provider(rt: HostRuntime) {
     ];
     let instances = instances.as_slice();
     let challenges = table(&rt, alloc, 5, 2, 1);
-    let made = generated(&rt, alloc, instances, &challenges).expect(&rt, "no fault");
-    let is_selected = has_result(&made, 0, &[0, 2, 2, 4, 6, 0], 6);
-    holds(&rt, "the group", is_selected);
-    holds(&rt, "the entries", has_result(&made, 1, &[0, 5, 5, 3], 1));
-    let accepted = rechecked(&rt, alloc, instances, &challenges, &made);
-    holds(&rt, "accepted", accepted.is_ok());
+    let entries: (&[u32], u32) = (&[0, 5, 5, 3], 1);
+    let results: [(&[u32], u32); 2] = [(&[0, 2, 2, 4, 6, 0], 6), entries];
+    expect_made(
+        &rt,
+        alloc,
+        instances,
+        &challenges,
+        results.as_slice(),
+        Ok(()),
+    );
     let idle: (&[u32], u32) = (&[0, 2, 2, 4, 6, 1], 0);
-    let changed = answer(&rt, alloc, instances, &challenges, idle, (&[0, 5, 5, 3], 1));
+    let changed = answer(&rt, alloc, instances, &challenges, idle, entries);
     let failed = LookupError::ConstraintFailed { air: 0, row: 2 };
     holds(&rt, "a fraction on an idle row", changed == Err(failed));
 }
@@ -197,10 +205,15 @@ fn an_air_with_all_kinds_of_traces(rt: HostRuntime) {
     }];
     let instances = instances.as_slice();
     let challenges = table(&rt, alloc, 5, 2, 1);
-    let made = generated(&rt, alloc, instances, &challenges).expect(&rt, "no fault");
-    holds(&rt, "the result", has_result(&made, 0, &[0, 4, 4, 3], 0));
-    let accepted = rechecked(&rt, alloc, instances, &challenges, &made);
-    holds(&rt, "accepted", accepted.is_ok());
+    let results: [(&[u32], u32); 1] = [(&[0, 4, 4, 3], 0)];
+    expect_made(
+        &rt,
+        alloc,
+        instances,
+        &challenges,
+        results.as_slice(),
+        Ok(()),
+    );
     let counted = counts::<F7, F7>(&rt, alloc, instances, 1).ok();
     holds(&rt, "the counts", counted == Some(count(2, 0, 0, None)));
 }

@@ -2,8 +2,8 @@
 use super::{generated, group, have_ids, holds, instance, list, lookup, range, table, trace};
 use checker::{
     BatchFault, BatchInstance, SoundnessCount, accepted_is_accepting, counted_soundness,
-    ids_are_kept, ids_are_lawful, instances_fit, packing_keeps_batch, soundness_count,
-    soundness_of_counts,
+    ids_are_kept, ids_are_lawful, instances_fit, joint_soundness, packing_keeps_batch,
+    soundness_count, soundness_of_counts,
 };
 use field::{BabyBear, BabyBear4, ExtensionField, F2, F7, Field, PrimeCharacteristicRing};
 use lookup::{LogUpGadget, Lookup, LookupError, Lookups};
@@ -85,6 +85,7 @@ fn counts_of_the_range_machine(rt: HostRuntime) {
 #[test]
 fn laws_of_the_headline_are_there(rt: HostRuntime) {
     let alloc = rt.alloc();
+    joint_soundness::<F7, F7>();
     counted_soundness::<F7, F7>();
     accepted_is_accepting::<F7, F7>();
     let none = counts::<F7, F7>(&rt, alloc, &[], 1);
@@ -199,9 +200,6 @@ fn set_flags_are_refused(rt: HostRuntime) {
     let refused = LookupError::FlagsNotExclusive { row: 0, lookup: 0 };
     let made = generated(&rt, alloc, instances.as_slice(), &challenges);
     holds(&rt, "by generation", is_of_air_zero(made.err(), refused));
-    let refused = LookupError::FlagsNotExclusive { row: 0, lookup: 0 };
-    let counted = counts::<F7, F7>(&rt, alloc, instances.as_slice(), 1);
-    holds(&rt, "by counting", is_of_air_zero(counted.err(), refused));
 }
 
 #[test]

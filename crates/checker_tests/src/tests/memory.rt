@@ -87,27 +87,31 @@ fn a_consistent_memory_is_accepted(rt: HostRuntime) {
     assert!(rt; answer == Ok(()));
 }
 
+/// Fails unless the messages of the memory do not balance with these changes of each trace.
+fn is_unbalanced(
+    rt: &impl Abort,
+    alloc: Global,
+    what: &str,
+    accesses: &[(usize, u32)],
+    boundary: &[(usize, u32)],
+    gaps: &[(usize, u32)],
+) {
+    let answer = changed(rt, alloc, accesses, boundary, gaps);
+    let unbalanced = Err(BatchError::Lookup(LookupError::TerminalSumNonZero));
+    assert!(rt; answer == unbalanced, "{what}");
+}
+
 #[test]
 fn an_inconsistent_memory_is_refused(rt: HostRuntime) {
     let alloc = rt.alloc();
-    let unbalanced = Err(BatchError::Lookup(LookupError::TerminalSumNonZero));
-    let read = changed(&rt, alloc, &[(11, 7)], &[], &[]);
-    assert!(rt; read == unbalanced, "a row reads 7, where 6 was left");
-    let last = changed(&rt, alloc, &[], &[(6, 9)], &[]);
-    assert!(rt;
-        last == unbalanced,
-        "9 stands there at last, where 8 was left"
-    );
-    let uses = changed(&rt, alloc, &[], &[], &[(3, 1)]);
-    assert!(rt;
-        uses == unbalanced,
-        "a gap is provided once and queried twice"
-    );
-    let time = changed(&rt, alloc, &[(14, 1)], &[(3, 1)], &[(3, 1)]);
-    assert!(rt;
-        time == unbalanced,
-        "two accesses to an address at one time"
-    );
+    let what = "a row reads 7, where 6 was left";
+    is_unbalanced(&rt, alloc, what, &[(11, 7)], &[], &[]);
+    let what = "9 stands there at last, where 8 was left";
+    is_unbalanced(&rt, alloc, what, &[], &[(6, 9)], &[]);
+    let what = "a gap is provided once and queried twice";
+    is_unbalanced(&rt, alloc, what, &[], &[], &[(3, 1)]);
+    let what = "two accesses to an address at one time";
+    is_unbalanced(&rt, alloc, what, &[(14, 1)], &[(3, 1)], &[(3, 1)]);
 }
 
 #[test]

@@ -133,9 +133,17 @@ fn a_failing_read_is_refused(rt: HostRuntime) -> Result<(), Fail> {
     Ok(())
 }
 
-/// Runs of the program: its words, its input, what it writes to the output and to the errors, and its
+/// A run of the program: its words, its input, what it writes to the output and to the errors, and its
 /// status.
-const RUNS: [(&str, &[u8], &[u8], &[u8], u8); 38] = [
+type Run = (
+    &'static str,
+    &'static [u8],
+    &'static [u8],
+    &'static [u8],
+    u8,
+);
+
+const RUNS: [Run; 38] = [
     (
         "range f7 5 2",
         b"3 4 1\n4 3 1\n",
@@ -398,12 +406,11 @@ const RUNS: [(&str, &[u8], &[u8], &[u8], u8); 38] = [
     ),
 ];
 
-#[test]
-fn runs_of_the_program(rt: HostRuntime) -> Result<(), Fail> {
-    let alloc = rt.alloc();
-    for (line, input, output, errors, status) in RUNS {
+/// Fails unless each of these runs writes what it has to.
+fn expect_runs(rt: &impl Abort, alloc: Global, runs: &[Run]) -> Result<(), Fail> {
+    for (line, input, output, errors, status) in runs {
         let words = words_of(alloc, line)?;
-        let mut input = input;
+        let mut input = *input;
         let (mut written, mut refused) = (Vec::new(alloc), Vec::new(alloc));
         let code = run(
             alloc,
@@ -412,10 +419,15 @@ fn runs_of_the_program(rt: HostRuntime) -> Result<(), Fail> {
             &mut written,
             &mut refused,
         );
-        let is_written = written.as_slice() == output && refused.as_slice() == errors;
-        assert!(rt; is_written && code == ExitCode::from(status), "{line}");
+        let is_written = written.as_slice() == *output && refused.as_slice() == *errors;
+        assert!(rt; is_written && code == ExitCode::from(*status), "{line}");
     }
     Ok(())
+}
+
+#[test]
+fn runs_of_the_program(rt: HostRuntime) -> Result<(), Fail> {
+    expect_runs(&rt, rt.alloc(), RUNS.as_slice())
 }
 
 #[test]

@@ -131,6 +131,26 @@ fn are_quotients<EF: ExtensionField<BabyBear>>(cells: &[EF], quotients: &[(u32, 
     cells.len() == quotients.len()
 }
 
+/// Fails unless generation makes these cells and this terminal, each a divisor and a number, and this is
+/// the answer to them. What it makes.
+fn expect_quotients<EF: ExtensionField<BabyBear>>(
+    rt: &impl Abort,
+    alloc: Global,
+    batch: &Batch<EF>,
+    quotients: &[(u32, i32)],
+    last: (u32, i32),
+    answer: Result<(), LookupError>,
+) -> Witness<EF> {
+    let made = batch.generated(rt, alloc);
+    let are_these = are_quotients(cells(&made), quotients);
+    holds(rt, "the cells", are_these);
+    let is_last = terminal(rt, &made) * EF::from_u32(last.0) == EF::from_i32(last.1);
+    holds(rt, "the terminal", is_last);
+    let own = batch.answer(rt, alloc, &made);
+    holds(rt, "the answer", own == answer);
+    made
+}
+
 /// A row reads the tuple of its first three cells once, and provides that of the next three as often as
 /// its last cell says. The prefix is 31: alpha is that without `41^3` = 68921.
 ///
@@ -147,7 +167,6 @@ fn additions_have_their_fractions<EF: ExtensionField<BabyBear>>(rt: &impl Abort,
     let pair = (EF::from_i32(-68890), EF::from_u32(41));
     let main = trace(rt, alloc, ADDITIONS.as_slice(), 7);
     let batch = Batch::new(rt, alloc, main, list(rt, alloc, [lookup]), pair, 3);
-    let made = batch.generated(rt, alloc);
     let quotients = [
         (1, 0),
         (11, 1),
@@ -158,11 +177,7 @@ fn additions_have_their_fractions<EF: ExtensionField<BabyBear>>(rt: &impl Abort,
         (52483, -1724),
         (52483, 1724),
     ];
-    let are_these = are_quotients(cells(&made), quotients.as_slice());
-    holds(rt, "the cells", are_these);
-    holds(rt, "the terminal", terminal(rt, &made) == EF::ZERO);
-    let accepted = batch.answer(rt, alloc, &made);
-    holds(rt, "the witness", accepted.is_ok());
+    expect_quotients(rt, alloc, &batch, quotients.as_slice(), (1, 0), Ok(()));
 }
 
 #[test]
@@ -190,16 +205,9 @@ fn range_batch<EF: ExtensionField<BabyBear>>(
 /// At the prefix 123 the first fraction is 1/113 and the second zero, and so the terminal is 1/113.
 fn a_read_without_a_provider_stays<EF: ExtensionField<BabyBear>>(rt: &impl Abort, alloc: Global) {
     let batch: Batch<EF> = range_batch(rt, alloc, &[10, 10, 0, 20, 20, 1], 123, 111);
-    let mut made = batch.generated(rt, alloc);
     let quotients = [(1, 0), (113, 1), (113, 1), (1, 0)];
-    let are_these = are_quotients(cells(&made), quotients.as_slice());
-    holds(rt, "the cells", are_these);
-    let last = alone(rt, alloc, terminal(rt, &made));
-    let is_first = are_quotients(last.as_slice(), &[(113, 1)]);
-    holds(rt, "the terminal", is_first);
-    let unbalanced = batch.answer(rt, alloc, &made);
     let refused = Err(LookupError::TerminalSumNonZero);
-    holds(rt, "the sum of terminals", unbalanced == refused);
+    let mut made = expect_quotients(rt, alloc, &batch, quotients.as_slice(), (113, 1), refused);
     if let Some(place) = made.terminals.get_mut(0) {
         *place = Some(LookupTerminal(EF::ZERO));
     }
@@ -266,34 +274,44 @@ const KEYS: [([u32; 4], u32); 8] = [
     ([0, 107, 0, 207], 0),
 ];
 
-/// A row that sends a key has one over the prefix without it, and one that sends none has zero.
+/// The cells of these rows, and the accumulators and fractions at a prefix, with their sum in the end: a
+/// row that sends a key has one over the prefix without it, and one that sends none has zero.
+fn selected(
+    rt: &impl Abort,
+    alloc: Global,
+    rows: &[([u32; 4], u32)],
+    prefix: BabyBear4,
+) -> (Vec<u32>, Vec<BabyBear4>) {
+    let (mut numbers, mut expected) = (Vec::new(alloc), Vec::new(alloc));
+    let mut sum = BabyBear4::ZERO;
+    for (row, key) in rows {
+        numbers.extend_from_slice(row).expect(rt, "memory");
+        let denominator = prefix - BabyBear4::embed(BabyBear::new(*key));
+        let quotient = denominator.try_inverse().expect(rt, "an inverse");
+        let fraction = if *key == 0 { BabyBear4::ZERO } else { quotient };
+        expected
+            .extend_from_slice(&[sum, fraction])
+            .expect(rt, "memory");
+        sum = sum + fraction;
+    }
+    expected.push(sum).expect(rt, "memory");
+    (numbers, expected)
+}
+
 #[test]
 fn branches_are_selected_in_the_extension(rt: HostRuntime) {
     let alloc = rt.alloc();
     let prefix = BabyBear4::new([7, 1, 0, 0].map(BabyBear::new));
     let beta = BabyBear4::embed(BabyBear::new(11));
-    let (mut numbers, mut expected) = (Vec::new(alloc), Vec::new(alloc));
-    let mut sum = BabyBear4::ZERO;
-    for (row, key) in KEYS {
-        numbers.extend_from_slice(&row).expect(&rt, "memory");
-        let denominator = prefix - BabyBear4::embed(BabyBear::new(key));
-        let quotient = denominator.try_inverse().expect(&rt, "an inverse");
-        let fraction = if key == 0 { BabyBear4::ZERO } else { quotient };
-        expected
-            .extend_from_slice(&[sum, fraction])
-            .expect(&rt, "memory");
-        sum = sum + fraction;
-    }
+    let (numbers, mut expected) = selected(&rt, alloc, KEYS.as_slice(), prefix);
     let main = trace(&rt, alloc, numbers.as_slice(), 4);
-    let lookups = list(
-        &rt,
-        alloc,
-        [group(&rt, alloc, [(0, 1), (2, 3)], BabyBear::ONE)],
-    );
+    let lookup = group(&rt, alloc, [(0, 1), (2, 3)], BabyBear::ONE);
+    let lookups = alone(&rt, alloc, lookup);
     let batch = Batch::new(&rt, alloc, main, lookups, (prefix - beta, beta), 1);
     let made = batch.generated(&rt, alloc);
+    let sum = expected.pop();
     holds(&rt, "the cells", cells(&made) == expected.as_slice());
-    holds(&rt, "the terminal", terminal(&rt, &made) == sum);
+    holds(&rt, "the terminal", Some(terminal(&rt, &made)) == sum);
     let unbalanced = batch.answer(&rt, alloc, &made);
     let refused = Err(LookupError::TerminalSumNonZero);
     holds(&rt, "its terminal alone is refused", unbalanced == refused);

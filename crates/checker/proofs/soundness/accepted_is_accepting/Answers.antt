@@ -1,5 +1,5 @@
 use Rattle.lookup_model.specs.Extension.{extension}
-use Rattle.checker.proofs.MadeTables.{accepting}
+use Rattle.checker.proofs.TablesAlike.{accepting}
 use Rattle.checker.proofs.soundness.accepted_is_accepting.Goals as goal
 
 pub returns : goal.returns

@@ -1,0 +1,71 @@
+-- The bound of a grid, and the refusals of its count.
+use Rattle.std.proofs.Common.{◌≡◌, ◌≤◌, ◌<◌, ◌⊎◌, ◌+◌, ◌-◌, ◌*◌, ◌/◌, ◌^◌, ℕ, inl, inr, List, Option, None, Some, Ok, Err, MatchOption, length, refl, sym, ap, subst, ◌∙◌, arith}
+use Rattle.std.proofs.lemmas.Bool.{cases_lt}
+use Rattle.lookup_model.specs.Extension.{Extension}
+use Rattle.batch_model.specs.Counts.{AreCounts, FewBadBetas, IsCountOverflow, bad_beta_bound, message_count, unbalanced_count}
+use Rattle.batch_model.specs.Faults.{IsOutOfMemory}
+use Rattle.batch_model.specs.FlagFaults.{IsFirstFlagFault}
+use Rattle.batch_model.specs.Grid.{AcceptsPair, IsNumberOf, grid, joint_bound}
+use Rattle.batch_model.specs.Instances.{Instance}
+use Rattle.batch_model.specs.Messages.{AreFlagsLawful}
+use Rattle.batch_model.specs.declared.count.SoundnessCount.{SoundnessCount}
+use Rattle.batch_model.specs.declared.fault.BatchFault.{BatchFault}
+use Rattle.counting_laws.proofs.JointCount.{few_accepted_pairs}
+use Rattle.batch.proofs.PlanLaws.{fault_of_none}
+use Rattle.batch.specs.Grids.{HaveNoRepeat, IsBoundOf, IsGridOverflow, IsGridRefusal}
+use Rattle.batch.specs.Refusals.{of_fault, refusal_at}
+use Rattle.batch.specs.declared.error.BatchError.{BatchError}
+use Rattle.batch.specs.declared.error.BatchError.TheVariants.{CountOverflow, Memory}
+
+module _ {F K : Type 0} (E : Extension F K) (instances : List (Instance F)) (W : ℕ) (alphas betas : List K) where
+  -- what a bound from the counts of the batch is
+  abbrev pub IsJointBound : Option ℕ → Type 0
+  IsJointBound bound = MatchOption bound (unbalanced_count E instances ≡ 0)
+      (λ b. (0 < unbalanced_count E instances) × (b ≡ joint_bound E instances W (length alphas) (length betas)))
+
+  pub bound_holds : (counts : SoundnessCount) (bound : Option ℕ) → AreCounts E instances W counts
+      → IsBoundOf counts.bad_betas counts.accepting_alphas (length alphas) (length betas) (Ok bound) → IsJointBound bound
+  bound_holds counts bound are says = by_most counts.accepting_alphas are.accepting_alphas says
+    where
+      by_most : (o : Option ℕ) → MatchOption o (unbalanced_count E instances ≡ 0) (λ most. (0 < unbalanced_count E instances) × (most ≡ message_count E instances + unbalanced_count E instances - 1))
+          → IsBoundOf counts.bad_betas o (length alphas) (length betas) (Ok bound) → IsJointBound bound
+      by_most None none is = subst IsJointBound (sym is) none
+      by_most (Some most) (some, most_is) is = subst IsJointBound (sym is) (some, λ i. are.bad_betas i * length alphas + most_is i * length betas)
+
+  pub bound_overflows : (counts : SoundnessCount) (e : BatchError) → AreCounts E instances W counts
+      → IsBoundOf counts.bad_betas counts.accepting_alphas (length alphas) (length betas) (Err e) → IsGridOverflow E instances W alphas betas × (e ≡ CountOverflow)
+  bound_overflows counts e are says = by_most counts.accepting_alphas are.accepting_alphas says
+    where
+      by_most : (o : Option ℕ) → MatchOption o (unbalanced_count E instances ≡ 0) (λ most. (0 < unbalanced_count E instances) × (most ≡ message_count E instances + unbalanced_count E instances - 1))
+          → IsBoundOf counts.bad_betas o (length alphas) (length betas) (Err e) → IsGridOverflow E instances W alphas betas × (e ≡ CountOverflow)
+      by_most None none is = absurd is
+      by_most (Some most) (some, most_is) (is, large) = (
+        record { some = some; large = inr (subst (λ (n : ℕ). 2 ^ 128 ≤ n) (λ i. are.bad_betas i * length alphas + most_is i * length betas) large) },
+        is,
+      )
+
+  -- a bound of bad betas that does not fit is that of some unbalanced keys
+  some_unbalanced : 2 ^ 128 ≤ bad_beta_bound E instances W → 0 < unbalanced_count E instances
+  some_unbalanced large = elim (cases_lt 0 (unbalanced_count E instances)) [
+    | inl some ↦ some
+    | inr none ↦
+        let is : unbalanced_count E instances ≡ 0 = omega (arith, none) in
+        let no_pairs : W * 0 * (0 - 1) / 2 ≡ 0 = omega arith in
+        absurd (omega (arith, large, ap (λ k. W * k * (k - 1) / 2) is ∙ no_pairs))
+  ]
+
+  -- the refusal of the counts of the batch
+  pub counts_refused : (fault : BatchFault) → HaveNoRepeat alphas betas
+      → IsOutOfMemory fault ⊎ (IsFirstFlagFault E.base E.base_eq instances fault ⊎ (AreFlagsLawful E.base E.base_eq instances × IsCountOverflow E instances W fault))
+      → (of_fault fault ≡ Memory) ⊎ IsGridRefusal E instances W alphas betas (of_fault fault)
+  counts_refused fault distinct (inl memory) = inl (fault_of_none fault memory)
+  counts_refused fault distinct (inr (inl first)) = inr (inr (inl (distinct, (fault, first, refl))))
+  counts_refused fault distinct (inr (inr (lawful, overflow))) =
+      inr (inr (inr (distinct, lawful, record { some = some_unbalanced overflow.large; large = inl overflow.large }, λ i. refusal_at (overflow.air i) (overflow.error i))))
+
+  -- the number of accepted pairs stays within the bound
+  pub stays_within : FewBadBetas E instances W → HaveNoRepeat alphas betas → (accepted : ℕ) → IsNumberOf (AcceptsPair E instances W) (grid alphas betas) accepted
+      → (bound : Option ℕ) → IsJointBound bound → MatchOption bound (Unit {0}) (λ b. accepted ≤ b)
+  stays_within few distinct accepted number None none = tt
+  stays_within few distinct accepted number (Some b) (some, b_is) =
+      subst (λ (n : ℕ). accepted ≤ n) (sym b_is) (few_accepted_pairs E instances W few some alphas betas distinct.0 distinct.1 accepted number)

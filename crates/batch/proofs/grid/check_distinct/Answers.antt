@@ -1,0 +1,33 @@
+use Rattle.std.proofs.Common.{◌≡◌, ◌+◌, ◌++◌, ◌∷◌, [], inr, true, false, take, refl, sym, ap, subst, ◌∙◌}
+use Rattle.std.proofs.lemmas.List.{take_more}
+use Rattle.std.specs.List.{list_any}
+use Rattle.field.specs.Distinct.{IsDistinct}
+use Rattle.indexmap.specs.IndexSet.{insert_key}
+use Rattle.batch.proofs.DistinctLaws.{distinct_push, distinct_take, new_goes_last, repeated_push, was_found, was_unfound}
+use Rattle.batch.proofs.grid.check_distinct.Goals as goal
+
+pub returns-then-not-branch : goal.returns-then-not-branch
+returns-then-not-branch g c =
+    let same = g.K.PartialEq.eq in
+    let decides = g.met.K.PrimeCharacteristicRing.eq_is in
+    let list = c.args.list.now in
+    let place = c.loop-place.place in
+    let x = c.index-list-place.result in
+    let longer : take (place + 1) list ≡ take place list ++ x ∷ [] = take_more list place x c.loop-place-test.true ∙ ap (λ y. take place list ++ y ∷ []) (sym c.index-list-place.is) in
+    let found : list_any (same x) (take place list) ≡ true = ap (list_any (same x)) (sym c.loop-place.invariant.seen) ∙ was_found _ c.in_ok-insert.field-0 c.in_ok-insert.ensures.added c.if-not-branch.true in
+    inr ((λ distinct. repeated_push same decides x (take place list) found (subst IsDistinct longer (distinct_take (place + 1) list distinct))), refl)
+
+pub loop-place-preserved : goal.loop-place-preserved
+loop-place-preserved g c =
+    let same = g.K.PartialEq.eq in
+    let decides = g.met.K.PrimeCharacteristicRing.eq_is in
+    let list = c.args.list.now in
+    let place = c.loop-place.place in
+    let x = c.index-list-place.result in
+    let so_far = c.loop-place.invariant in
+    let longer : take (place + 1) list ≡ take place list ++ x ∷ [] = take_more list place x c.loop-place-test.true ∙ ap (λ y. take place list ++ y ∷ []) (sym c.index-list-place.is) in
+    let unfound : list_any (same x) (take place list) ≡ false = ap (list_any (same x)) (sym so_far.seen) ∙ was_unfound _ c.in_ok-insert.field-0 c.in_ok-insert.ensures.added c.if-not-branch.false in
+    record {
+      seen = c.in_ok-insert.ensures.keys ∙ ap (λ ks. insert_key same ks x) so_far.seen ∙ new_goes_last same x (take place list) unfound ∙ sym longer;
+      distinct = subst IsDistinct (sym longer) (distinct_push same decides x (take place list) unfound so_far.distinct);
+    }

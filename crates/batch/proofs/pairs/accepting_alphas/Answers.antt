@@ -1,0 +1,32 @@
+use Rattle.std.proofs.Common.{◌≡◌, ◌+◌, ◌≤◌, ◌++◌, ◌∷◌, [], List, length, take, sym, ap, subst, ◌∙◌, arith}
+use Rattle.std.proofs.lemmas.List.{length-take, take_more}
+use Rattle.lookup_model.specs.Extension.{extension}
+use Rattle.batch_model.specs.Counts.{IsAccepting}
+use Rattle.batch_model.specs.Instances.{instances_of}
+use Rattle.batch_model.specs.Grid.{IsNumberOf}
+use Rattle.counting_laws.proofs.Numbers.{number_having, number_lacking, number_within}
+use Rattle.batch.proofs.pairs.accepting_alphas.Goals.{then-branch, else-branch}
+use Rattle.batch.proofs.pairs.accepting_alphas.Goals as goal
+
+pub overflow_add-accepting : goal.overflow_add-accepting
+overflow_add-accepting g c =
+    let E = extension g.F.PrimeCharacteristicRing.ring g.F.PartialEq.eq g.EF.PrimeCharacteristicRing.ring g.EF.PartialEq.eq g.EF.ExtensionDomain.embed g.EF.Field.inverse in
+    let within : c.loop-place.accepting ≤ length (take c.loop-place.place c.args.alphas.now) = number_within (IsAccepting E (instances_of c.args.instances.now) c.args.max_message_width c.args.beta) (take c.loop-place.place c.args.alphas.now) c.loop-place.accepting c.loop-place.invariant in
+    omega (arith, within, length-take c.loop-place.place c.args.alphas.now, c.loop-place-test.true)
+
+pub loop-place-preserved : goal.loop-place-preserved
+loop-place-preserved g c =
+    let E = extension g.F.PrimeCharacteristicRing.ring g.F.PartialEq.eq g.EF.PrimeCharacteristicRing.ring g.EF.PartialEq.eq g.EF.ExtensionDomain.embed g.EF.Field.inverse in
+    let P = IsAccepting E (instances_of c.args.instances.now) c.args.max_message_width c.args.beta in
+    let alphas = c.args.alphas.now in
+    let place = c.loop-place.place in
+    let alpha = c.index-alphas-place.result in
+    let longer : take (place + 1) alphas ≡ take place alphas ++ alpha ∷ [] =
+    take_more alphas place alpha c.loop-place-test.true ∙ ap (λ t. take place alphas ++ t ∷ []) (sym c.index-alphas-place.is) in
+    let says = c.in_ok-accepts_pair.ensures in
+    elim c.if-branch.branch [
+      | then-branch w ↦ subst (IsNumberOf P (take (place + 1) alphas)) (sym w.accepting-is)
+          (subst (λ (xs : List _). IsNumberOf P xs (c.loop-place.accepting + 1)) (sym longer) (number_having P (take place alphas) alpha c.loop-place.accepting (says.0 w.if-branch.true) c.loop-place.invariant))
+      | else-branch w ↦ subst (IsNumberOf P (take (place + 1) alphas)) (sym w.accepting-is)
+          (subst (λ (xs : List _). IsNumberOf P xs c.loop-place.accepting) (sym longer) (number_lacking P (take place alphas) alpha c.loop-place.accepting (λ has. cc (w.if-branch.false, says.1 has)) c.loop-place.invariant))
+    ]

@@ -1,0 +1,67 @@
+-- What counting the accepted pairs of a grid of challenges answers.
+use Rattle.std.specs.Prelude.{◌≡◌, ◌⊎◌, ◌+◌, ◌*◌, ◌^◌, ◌<◌, ◌≤◌, ℕ, List, Option, None, Some, Result, IfOk, MatchOption, MatchResult, length}
+use Rattle.field.specs.Distinct.{IsDistinct}
+use Rattle.lookup_model.specs.Extension.{Extension}
+use Rattle.batch_model.specs.Counts.{bad_beta_bound, unbalanced_count}
+use Rattle.batch_model.specs.FlagFaults.{IsFirstFlagFault}
+use Rattle.batch_model.specs.Grid.{AcceptsPair, IsNumberOf, grid, joint_bound}
+use Rattle.batch_model.specs.Instances.{Instance}
+use Rattle.batch_model.specs.Messages.{AreFlagsLawful}
+use Rattle.batch_model.specs.declared.fault.BatchFault.{BatchFault}
+use Rattle.batch.specs.Refusals.{of_fault}
+use Rattle.batch.specs.Traces.{AreTraces, IsTraceRefusal}
+use Rattle.batch.specs.declared.error.BatchError.{BatchError}
+use Rattle.batch.specs.declared.error.BatchError.TheVariants.{CountOverflow, Memory, RepeatedChallenge}
+use Rattle.batch.specs.declared.grid.GridCount.{GridCount}
+use Rattle.batch.specs.declared.trace.BatchTrace.{BatchTrace}
+
+-- neither list of challenges has a repeat
+abbrev pub HaveNoRepeat : {K : Type 0} → List K → List K → Type 0
+HaveNoRepeat alphas betas = IsDistinct alphas × IsDistinct betas
+
+module _ {F K : Type 0} (E : Extension F K) (instances : List (Instance F)) (W : ℕ) (alphas betas : List K) where
+  -- The count of a grid: how many of its pairs are accepted, and the joint bound, or none if no key is
+  -- unbalanced. The bound of bad betas fits 128 bits.
+  pub record IsGridCount (count : GridCount) : Type 0 where
+    pub accepted : IsNumberOf (AcceptsPair E instances W) (grid alphas betas) count.accepted
+    pub bound : MatchOption count.bound (unbalanced_count E instances ≡ 0)
+        (λ bound. (0 < unbalanced_count E instances) × (bound ≡ joint_bound E instances W (length alphas) (length betas)))
+    pub fits : bad_beta_bound E instances W < 2 ^ 128
+
+  -- some key is unbalanced, and the bound of bad betas or the joint bound does not fit 128 bits
+  pub record IsGridOverflow : Type 0 where
+    pub some : 0 < unbalanced_count E instances
+    pub large : (2 ^ 128 ≤ bad_beta_bound E instances W) ⊎ (2 ^ 128 ≤ joint_bound E instances W (length alphas) (length betas))
+
+  -- The refusal of a count: a repeat among the challenges; or else the first fault of flags of the
+  -- first AIR that has one; or else a bound that does not fit.
+  abbrev pub IsGridRefusal : BatchError → Type 0
+  IsGridRefusal e =
+      ((¬ HaveNoRepeat alphas betas) × (e ≡ RepeatedChallenge))
+      ⊎ ((HaveNoRepeat alphas betas × ((fault : BatchFault) × IsFirstFlagFault E.base E.base_eq instances fault × (e ≡ of_fault fault)))
+      ⊎ (HaveNoRepeat alphas betas × AreFlagsLawful E.base E.base_eq instances × IsGridOverflow × (e ≡ CountOverflow)))
+
+  -- the count of the grid, over challenges without a repeat and lawful flags; or the refusal; or memory
+  -- runs out
+  abbrev pub CountsGrid : Result GridCount BatchError → Type 0
+  CountsGrid answer = MatchResult answer
+      (λ count. HaveNoRepeat alphas betas × AreFlagsLawful E.base E.base_eq instances × IsGridCount count)
+      (λ e. (e ≡ Memory) ⊎ IsGridRefusal e)
+
+  -- The same over the traces of a plan: they fit; or they are refused before anything else.
+  abbrev pub CountsPlanGrid : List ℕ → List (BatchTrace F) → Result GridCount BatchError → Type 0
+  CountsPlanGrid heights traces answer = MatchResult answer
+      (λ count. AreTraces heights traces instances × HaveNoRepeat alphas betas × AreFlagsLawful E.base E.base_eq instances × IsGridCount count)
+      (λ e. (e ≡ Memory) ⊎ (IsTraceRefusal heights traces instances e ⊎ (AreTraces heights traces instances × IsGridRefusal e)))
+
+-- at most as many pairs are accepted as the bound says, where there is one
+abbrev pub StaysWithinBound : Result GridCount BatchError → Type 0
+StaysWithinBound answer = IfOk answer (λ count. MatchOption count.bound (Unit {0}) (λ bound. count.accepted ≤ bound))
+
+-- the bound of a grid of a alphas and b betas from the counts of its batch: none where no message is
+-- unbalanced, and else a sum of two products, or the refusal where that does not fit
+abbrev pub IsBoundOf : ℕ → Option ℕ → ℕ → ℕ → Result (Option ℕ) BatchError → Type 0
+IsBoundOf bad_betas None a b answer = MatchResult answer (λ bound. bound ≡ None) (λ e. ⊥)
+IsBoundOf bad_betas (Some most) a b answer = MatchResult answer
+    (λ bound. bound ≡ Some (bad_betas * a + most * b))
+    (λ e. (e ≡ CountOverflow) × (2 ^ 128 ≤ bad_betas * a + most * b))

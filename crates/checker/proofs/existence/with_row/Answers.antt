@@ -1,0 +1,52 @@
+use Rattle.std.proofs.Common.{List, ◌+◌, ◌++◌, ◌∷◌, [], drop, subst, sym, take, arith}
+use Rattle.std.proofs.lemmas.List.{length-map, take-append-drop, take_all}
+use Rattle.lookup_model.proofs.Branches.{mapped_more}
+use Rattle.lookup_model.proofs.RecordLaws.{All-at}
+use Rattle.lookup_model.specs.Extension.{extension}
+use Rattle.lookup_model.specs.Records.{IsWithin}
+use Rattle.lookup_laws.proofs.SentRows.{column_is, equal_lengths}
+use Rattle.batch_model.specs.Equations.{Equation, equation_at, row_equations}
+use Rattle.lookup_generation.specs.TraceBuilder.{builder_layout, ext_builder_window}
+use Rattle.checker.specs.Sums.{AreSums}
+use Rattle.checker.proofs.SumWalk.{sums_further, sums_kept, sums_stay}
+use Rattle.checker.proofs.existence.with_row.Goals as goal
+
+pub loop-lookup-init : goal.loop-lookup-init
+loop-lookup-init g c = λ equations are. sums_kept g.EF.PrimeCharacteristicRing.ring equations c.args.sums are
+
+pub with_lookup-requires-clause-lengths : goal.with_lookup-requires-clause-lengths
+with_lookup-requires-clause-lengths g c =
+    equal_lengths c.args.lookups.now c.loop-lookup.lookup-index c.lookup-item.result c.requires.fit.records c.loop-lookup-test.true c.lookup-item.is
+
+pub with_lookup-requires-clause-within : goal.with_lookup-requires-clause-within
+with_lookup-requires-clause-within g c =
+    All-at (IsWithin (builder_layout c.args.builder.now)) c.args.lookups.now c.loop-lookup.lookup-index c.lookup-item.result c.requires.fit.within c.loop-lookup-test.true c.lookup-item.is
+
+pub with_lookup-requires-clause-challenges : goal.with_lookup-requires-clause-challenges
+with_lookup-requires-clause-challenges g c =
+    omega (arith, column_is c.args.lookups.now c.loop-lookup.lookup-index c.lookup-item.result c.requires.fit.records c.loop-lookup-test.true c.lookup-item.is, c.requires.challenges, c.loop-lookup-test.true)
+
+pub returns-then-is_nothing : goal.returns-then-is_nothing
+returns-then-is_nothing g c = λ equations are.
+    let E = extension g.F.PrimeCharacteristicRing.ring g.F.PartialEq.eq g.EF.PrimeCharacteristicRing.ring g.EF.PartialEq.eq g.EF.ExtensionDomain.embed g.EF.Field.inverse in
+    let es = row_equations E (ext_builder_window c.args.builder.now) c.args.lookups.now in
+    let i = c.loop-lookup.lookup-index in
+    sums_stay g.EF.PrimeCharacteristicRing.lawful equations (take i es) (drop i es) es c.loop-lookup.so_far (c.is_nothing.ensures.0 c.if-is_nothing.true) (sym (take-append-drop i es)) (c.loop-lookup.invariant equations are)
+
+pub loop-lookup-preserved : goal.loop-lookup-preserved
+loop-lookup-preserved g c = λ equations are.
+    let E = extension g.F.PrimeCharacteristicRing.ring g.F.PartialEq.eq g.EF.PrimeCharacteristicRing.ring g.EF.PartialEq.eq g.EF.ExtensionDomain.embed g.EF.Field.inverse in
+    let w = ext_builder_window c.args.builder.now in
+    let lookups = c.args.lookups.now in
+    let lookup = c.lookup-item.result in
+    let i = c.loop-lookup.lookup-index in
+    sums_further E.ring equations (take i (row_equations E w lookups)) (equation_at E w lookup ∷ []) (take (i + 1) (row_equations E w lookups)) c.loop-lookup.so_far _
+    (mapped_more (equation_at E w) lookups i lookup c.loop-lookup-test.true c.lookup-item.is) c.in_ok-so_far.ensures (c.loop-lookup.invariant equations are)
+
+pub returns : goal.returns
+returns g c = λ equations are.
+    let E = extension g.F.PrimeCharacteristicRing.ring g.F.PartialEq.eq g.EF.PrimeCharacteristicRing.ring g.EF.PartialEq.eq g.EF.ExtensionDomain.embed g.EF.Field.inverse in
+    let w = ext_builder_window c.args.builder.now in
+    let es = row_equations E w c.args.lookups.now in
+    subst (λ (further : List (Equation _)). AreSums E.ring (equations ++ further) c.loop-lookup.so_far)
+    (take_all c.loop-lookup.lookup-index es (omega (arith, length-map c.args.lookups.now (equation_at E w), c.loop-lookup-test.false))) (c.loop-lookup.invariant equations are)
