@@ -13,7 +13,12 @@ IsCell {W = W} value stands cells column x = (w : W) → stands w → slice_get 
 abbrev pub IsNarrow : ℕ → ℕ → AirError → Type 0
 IsNarrow width columns e = (width < columns) × (e ≡ LayoutMismatch Main columns width)
 
--- the refusal of a cell: out of memory, the builder's own for its window, or that of a narrow row
+-- the refusal of a cell: the builder's own for its window, or that of a narrow row
 abbrev pub IsCellRefusal : {B : Type 0} → (B → AirError → Type 0) → (B → AirLayout) → ℕ → B → AirError → Type 0
 IsCellRefusal window_refuses layout columns builder e =
-    (e ≡ Memory) ⊎ (window_refuses builder e ⊎ IsNarrow (layout builder).main_width columns e)
+    window_refuses builder e ⊎ IsNarrow (layout builder).main_width columns e
+
+-- the refusal of a list of cells: out of memory, or that of a cell
+abbrev pub IsCellsRefusal : {B : Type 0} → (B → AirError → Type 0) → (B → AirLayout) → ℕ → B → AirError → Type 0
+IsCellsRefusal window_refuses layout columns builder e =
+    (e ≡ Memory) ⊎ IsCellRefusal window_refuses layout columns builder e

@@ -1,7 +1,7 @@
 //! The cells of a row, as expressions to build with.
 ghost use Rattle.std.specs.Prelude.{◌<◌, ◌≤◌, ℕ, All, IfErr, IfOk};
 ghost use Rattle.std.specs.List.{AllZip};
-ghost use Rattle.air.specs.Cell.{IsCell, IsCellRefusal, IsNarrow};
+ghost use Rattle.air.specs.Cell.{IsCell, IsCellRefusal, IsCellsRefusal, IsNarrow};
 
 use expressions::{AirBuilder, AirError, LayoutPart};
 use matrix::WindowAccess;
@@ -80,7 +80,7 @@ pub fn current_cells<AB: AirBuilder>(
         (AB.stands_for builder.now) (λ w. w.main)) columns.now tuple.items) }
     ensures within { IfOk result (λ tuple. All
         (AB.Expr.within (AB.layout builder.now)) tuple.items) }
-    ensures refused { IfErr result (IsCellRefusal AB.window_refuses AB.layout width builder.now) }
+    ensures refused { IfErr result (IsCellsRefusal AB.window_refuses AB.layout width builder.now) }
 {
     let mut tuple = Vec::with_capacity(alloc, columns.len())?;
     for column in columns {

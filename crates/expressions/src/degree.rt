@@ -9,6 +9,8 @@ use crate::variable::BaseEntry;
 
 impl<F> SymbolicExpression<F> {
     /// The degree, if the transition selector has degree 0.
+    ///
+    /// Refuses `DegreeOverflow` if it does not fit `usize`. Takes no memory.
     pub fn degree_multiple(&self) -> Result<usize, AirError>
         ensures { MatchResult result (λ d. d ≡ degree_of 0 (tree_of self.now))
             (λ e. (e ≡ AirError.DegreeOverflow) × (2 ^ 64 ≤ degree_of 0 (tree_of self.now))) }
@@ -17,6 +19,8 @@ impl<F> SymbolicExpression<F> {
     }
 
     /// The degree, if the transition selector has degree `transition`.
+    ///
+    /// Refuses `DegreeOverflow` if it does not fit `usize`. Takes no memory.
     pub fn degree_multiple_with_transition(&self, transition: usize) -> Result<usize, AirError>
         ensures { MatchResult result (λ d. d ≡ degree_of transition (tree_of self.now))
             (λ e. (e ≡ AirError.DegreeOverflow)

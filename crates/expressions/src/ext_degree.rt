@@ -10,6 +10,8 @@ use crate::variable::ExtEntry;
 
 impl<F, EF> SymbolicExpressionExt<F, EF> {
     /// The degree, if the transition selector has degree 0.
+    ///
+    /// Refuses `DegreeOverflow` if it does not fit `usize`. Takes no memory.
     pub fn degree_multiple(&self) -> Result<usize, AirError>
         ensures { MatchResult result (λ d. d ≡ ext_degree_of 0 (ext_tree_of self.now))
             (λ e. (e ≡ AirError.DegreeOverflow)
@@ -19,6 +21,8 @@ impl<F, EF> SymbolicExpressionExt<F, EF> {
     }
 
     /// The degree, if the transition selector has degree `transition`.
+    ///
+    /// Refuses `DegreeOverflow` if it does not fit `usize`. Takes no memory.
     pub fn degree_multiple_with_transition(&self, transition: usize) -> Result<usize, AirError>
         ensures { MatchResult result (λ d. d ≡ ext_degree_of transition (ext_tree_of self.now))
             (λ e. (e ≡ AirError.DegreeOverflow)

@@ -39,6 +39,8 @@ impl<F> SymbolicExpression<F> {
 
 /// The expression over the builder's variables and selectors, where `main` is the builder's main
 /// window.
+///
+/// Fails only when out of memory.
 pub fn resolve_over<AB: AirBuilder>(
     alloc: Global,
     expression: &SymbolicExpression<AB::F>,

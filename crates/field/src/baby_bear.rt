@@ -27,9 +27,6 @@ const MODULUS_INVERSE: u32 = 2_281_701_377;
 /// 2^64 modulo the modulus.
 const RADIX_SQUARED: u64 = 1_172_168_163;
 
-/// The product of the modulus and 2^32.
-const MODULUS_TIMES_RADIX: u64 = 8_646_911_288_846_319_616;
-
 /// An integer modulo 2013265921 = 15 * 2^27 + 1.
 ///
 /// It is stored multiplied by 2^32, so that a product needs no division.
@@ -68,49 +65,56 @@ fn reduce(x: u64) -> u32
     ensures below { result < 2013265921 }
     ensures value { baby_bear_of result ≡ from_stored x }
 {
-    let low = (x % 4_294_967_296) as u32;
-    let multiple = low.wrapping_mul(MODULUS_INVERSE) as u64 * MODULUS as u64;
-    let high = (x / 4_294_967_296) as u32;
-    let taken = (multiple / 4_294_967_296) as u32;
-    if high < taken {
-        high + MODULUS - taken
-    } else {
-        high - taken
-    }
+    reduce_halves((x / 4_294_967_296) as u32, (x % 4_294_967_296) as u32)
 }
 
-/// `x`, minus the modulus times 2^32 unless `x` is below that. Chosen without a jump.
-#[inline]
-fn wrapped(x: u64) -> u64
-    requires { x < 17293822577692639232 }
-    ensures below { result < 8646911288846319616 }
-    ensures value { from_stored result ≡ from_stored x }
-{
-    if x < MODULUS_TIMES_RADIX {
-        x
-    } else {
-        x - MODULUS_TIMES_RADIX
-    }
-}
-
-/// As `reduce`, for a number up to twice as large.
+/// As `reduce`, for a number up to twice as large: its high half is reduced first.
 #[inline]
 fn reduce_wide(x: u64) -> u32
     requires { x < 17293822577692639232 }
     ensures below { result < 2013265921 }
     ensures value { baby_bear_of result ≡ from_stored x }
 {
-    reduce(wrapped(x))
+    reduce_halves(
+        reduce_once((x / 4_294_967_296) as u32),
+        (x % 4_294_967_296) as u32,
+    )
 }
 
-/// `x`, minus the modulus unless `x` is below it.
+/// As `reduce`, of a number in two halves.
+#[inline]
+fn reduce_halves(high: u32, low: u32) -> u32
+    requires { high < 2013265921 }
+    ensures below { result < 2013265921 }
+    ensures value { baby_bear_of result ≡ from_stored (high * 4294967296 + low) }
+{
+    let multiple = low.wrapping_mul(MODULUS_INVERSE) as u64 * MODULUS as u64;
+    difference(high, (multiple / 4_294_967_296) as u32)
+}
+
+/// `a - b`, plus the modulus if that is negative. Chosen without a jump, as the lesser of two numbers.
+#[inline]
+fn difference(a: u32, b: u32) -> u32
+    requires minuend { a < 2013265921 }
+    requires subtrahend { b < 2013265921 }
+    ensures below { result < 2013265921 }
+    ensures borrowing { a < b → result ≡ a + 2013265921 - b }
+    ensures plain { b ≤ a → result ≡ a - b }
+{
+    let wrapped = a.wrapping_sub(b);
+    wrapped.min(wrapped.wrapping_add(MODULUS))
+}
+
+/// `x`, minus the modulus unless `x` is below it. Chosen in the same way.
 #[inline]
 fn reduce_once(x: u32) -> u32
     requires { x < 4026531842 }
     ensures below { result < 2013265921 }
+    ensures kept { x < 2013265921 → result ≡ x }
+    ensures lowered { 2013265921 ≤ x → result ≡ x - 2013265921 }
     ensures value { baby_bear_of result ≡ baby_bear_of x }
 {
-    if x < MODULUS { x } else { x - MODULUS }
+    x.min(x.wrapping_sub(MODULUS))
 }
 
 impl BabyBear {
@@ -138,8 +142,8 @@ impl BabyBear {
         self.value
     }
 
-    /// The element's whole number below the modulus.
-    pub(crate) fn number(self) -> u32
+    /// The whole number below the modulus whose residue the element is.
+    pub fn as_canonical_u32(self) -> u32
         ensures value { result ≡ self.value }
         ensures below { result < 2013265921 }
     {
@@ -202,7 +206,7 @@ impl Sub for BabyBear {
 
     #[inline]
     fn sub(self, rhs: BabyBear) -> BabyBear {
-        BabyBear::from_stored(reduce_once(self.stored() + MODULUS - rhs.stored()))
+        BabyBear::from_stored(difference(self.stored(), rhs.stored()))
     }
 }
 
@@ -230,7 +234,7 @@ impl Neg for BabyBear {
 
 impl fmt::Debug for BabyBear {
     fn fmt<W: fmt::Write>(&self, f: &mut fmt::Formatter<W>) -> fmt::Result {
-        write!(f, "{}", self.number())
+        write!(f, "{}", self.as_canonical_u32())
     }
 }
 
@@ -302,7 +306,7 @@ impl Field for BabyBear {
     }
 
     fn text(self, alloc: Global) -> Result<String, AllocError> {
-        format!(in alloc; "{}", self.number())
+        format!(in alloc; "{}", self.as_canonical_u32())
     }
 
     ghost inverse_is = { residue_inverse_is 2013265921 baby_bear_positive baby_bear_prime };
@@ -315,7 +319,7 @@ impl Described for BabyBear {
 /// An element is written as its own number, unsigned and below the modulus.
 impl Serialize for BabyBear {
     fn serialize<S: Serializer>(&self, out: &mut S) -> Result<(), S::Error> {
-        self.number().serialize(out)
+        self.as_canonical_u32().serialize(out)
     }
 }
 

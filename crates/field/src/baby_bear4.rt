@@ -249,7 +249,13 @@ impl Field for BabyBear4 {
 
     fn text(self, alloc: Global) -> Result<String, AllocError> {
         let [c0, c1, c2, c3] = self.coefficients();
-        join_decimals(alloc, c0.number(), c1.number(), c2.number(), c3.number())
+        join_decimals(
+            alloc,
+            c0.as_canonical_u32(),
+            c1.as_canonical_u32(),
+            c2.as_canonical_u32(),
+            c3.as_canonical_u32(),
+        )
     }
 
     ghost inverse_is = { baby_bear4_inverse_is };

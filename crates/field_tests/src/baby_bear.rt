@@ -19,6 +19,19 @@ fn whole_numbers_are_reduced(rt: HostRuntime) {
 }
 
 #[test]
+fn the_number_of_an_element_is_below_the_modulus(rt: HostRuntime) {
+    for (n, number) in [
+        (0, 0),
+        (2_013_265_920, 2_013_265_920),
+        (2_013_265_921, 0),
+        (4_294_967_295, 268_435_453),
+    ] {
+        let found = BabyBear::new(n).as_canonical_u32();
+        holds_at(&rt, "as_canonical_u32", n, found == number);
+    }
+}
+
+#[test]
 fn sums_and_differences_wrap_at_the_modulus(rt: HostRuntime) {
     let (zero, one, last) = (BabyBear::ZERO, BabyBear::ONE, BabyBear::new(2_013_265_920));
     let (three, five) = (BabyBear::new(3), BabyBear::new(5));

@@ -150,6 +150,9 @@ fn assert_last<AB: PermutationAirBuilder>(
 
 /// Asserts that the accumulator starts at zero, that the next one is this one plus the fractions of
 /// the row, and that `terminal` is what comes after the last row. Asserts nothing without lookups.
+///
+/// Refused for want of memory or of the builder's windows, before anything is asserted; or at the first
+/// assertion that the builder refuses. Those before it stay.
 pub fn eval_accumulator<AB: PermutationAirBuilder>(
     alloc: Global,
     builder: &mut AB,

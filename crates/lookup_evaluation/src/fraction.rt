@@ -87,6 +87,9 @@ fn fraction_expression<AB: PermutationAirBuilder>(
 }
 
 /// Asserts the lookup's equation.
+///
+/// Refused for want of memory or of the builder's windows, before anything is asserted; or what the
+/// builder refuses of the assertion.
 pub fn eval_fraction<AB: PermutationAirBuilder>(
     alloc: Global,
     builder: &mut AB,

@@ -28,7 +28,7 @@ use Rattle.lookup.specs.Sends.{bus_and_weight, in_order, interaction_sends, inte
 use Rattle.lookup.specs.declared.lookups.Lookups.{Lookups}
 use Rattle.lookup.proofs.Extracted.{extracted_kinds, extracted_send, extracted_tuples, none_refused, one_in_order}
 use Rattle.lookup_program.specs.Machines.{AreLookupsOf, DoesSend, air_bus_and_weight, width_of}
-use Rattle.air.specs.Cell.{IsCellRefusal}
+use Rattle.air.specs.Cell.{IsCellsRefusal}
 use Rattle.lookup_program.specs.Pushes.{Evaluates}
 use Rattle.lookup_program.specs.declared.airs.MachineAir.{MachineAir}
 use Rattle.lookup_program.specs.declared.airs.MachineAir.TheVariants.{Entries, Group, Keys, RangeCheck}
@@ -90,7 +90,7 @@ module _ (F EF : Type 0) (R : Ring F) (eq : F → F → Bool) (air : MachineAir)
   leaves b (before, empty, (inr refused, within)) = absurd (cc refused.1)
 
   -- a cell is refused only when out of memory, since no row has fewer columns than the layout
-  cell_memory : (before : Builder) (e : AirError) → recorded_air before ≡ no_air_recorded layout → IsCellRefusal (λ b e. e ≡ AirMemory) (λ b. (recorded b.inner).layout) (width_of air) before e → e ≡ AirMemory
+  cell_memory : (before : Builder) (e : AirError) → recorded_air before ≡ no_air_recorded layout → IsCellsRefusal (λ b e. e ≡ AirMemory) (λ b. (recorded b.inner).layout) (width_of air) before e → e ≡ AirMemory
   cell_memory before e empty (inl memory) = memory
   cell_memory before e empty (inr (inl memory)) = memory
   cell_memory before e empty (inr (inr narrow)) =

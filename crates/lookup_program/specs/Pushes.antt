@@ -3,7 +3,7 @@ use Rattle.std.specs.Prelude.{◌≡◌, ◌⊎◌, ℕ, List, [], ◌∷◌, ma
 use Rattle.std.proofs.Common.{inl, inr, subst}
 use Rattle.std.specs.declared.alloc.Global.{Global}
 use Rattle.std.specs.declared.vec.Vec.{Vec}
-use Rattle.air.specs.Cell.{IsCell, IsCellRefusal}
+use Rattle.air.specs.Cell.{IsCell, IsCellsRefusal}
 use Rattle.expressions.specs.declared.error.AirError.{AirError}
 use Rattle.expressions.specs.declared.layout.AirLayout.{AirLayout}
 use Rattle.lookup_builder.specs.Messages.{PushesOne, flag_and_key}
@@ -11,7 +11,7 @@ use Rattle.lookup_builder.specs.Messages.{PushesOne, flag_and_key}
 -- there was the refusal of a cell, and the builder is unchanged
 abbrev pub IsRefusedBefore : {B : Type 0} → (B → AirError → Type 0) → (B → AirLayout) → ℕ → B → Result (Unit {0}) AirError → B → Type 0
 IsRefusedBefore window_refuses layout columns before answer after =
-    (e : AirError) × (answer ≡ Err e) × (after ≡ before) × IsCellRefusal window_refuses layout columns before e
+    (e : AirError) × (answer ≡ Err e) × (after ≡ before) × IsCellsRefusal window_refuses layout columns before e
 
 -- an AIR that reads so many columns pushes one interaction of a given meaning; or it is refused
 -- before, for a cell

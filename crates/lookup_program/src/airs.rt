@@ -1,6 +1,6 @@
 //! The AIRs of the machines, which say what each row looks up.
 ghost use Rattle.std.specs.Prelude.{◌≡◌, ◌<◌, All, IfErr, IfOk, OnOk};
-ghost use Rattle.air.specs.Cell.{IsCellRefusal};
+ghost use Rattle.air.specs.Cell.{IsCellsRefusal};
 ghost use Rattle.lookup_builder.specs.Pushed.{pushed_local};
 ghost use Rattle.lookup_builder.specs.Within.{IsWithin, KeyWithin};
 ghost use Rattle.lookup_program.specs.Machines.{DoesSend, first_column_of, width_of};
@@ -111,7 +111,7 @@ fn range_tuples<AB: InteractionBuilder>(
     alloc: Global,
     builder: &AB,
 ) -> Result<Vec<(Vec<AB::Expr>, Count<AB::Expr>)>, AirError>
-    ensures refused { IfErr result (IsCellRefusal AB.window_refuses AB.layout 3 builder.now) }
+    ensures refused { IfErr result (IsCellsRefusal AB.window_refuses AB.layout 3 builder.now) }
     ensures sends { IfOk result (λ tuples. DoesSend AB.F.ring AB.F.eq
         (λ x w. AB.Expr.value x (AB.seen w)) (AB.stands_for builder.now) (λ w. w.main) RangeCheck
         (pushed_local tuples.items)) }
@@ -130,7 +130,7 @@ fn two_keys<AB: InteractionBuilder>(
     alloc: Global,
     builder: &AB,
 ) -> Result<Vec<(AB::Expr, Vec<AB::Expr>)>, AirError>
-    ensures refused { IfErr result (IsCellRefusal AB.window_refuses AB.layout 4 builder.now) }
+    ensures refused { IfErr result (IsCellsRefusal AB.window_refuses AB.layout 4 builder.now) }
     ensures keys { IfOk result (λ branches. AreTwoKeys (λ x w. AB.Expr.value x (AB.seen w))
         (AB.stands_for builder.now) (λ w. w.main) branches.items) }
     ensures within { IfOk result (λ branches. All
@@ -156,7 +156,7 @@ fn tuple<AB: AirBuilder>(
     column: usize,
 ) -> Result<Vec<AB::Expr>, AirError>
     requires { column < columns }
-    ensures refused { IfErr result (IsCellRefusal AB.window_refuses AB.layout columns builder.now) }
+    ensures refused { IfErr result (IsCellsRefusal AB.window_refuses AB.layout columns builder.now) }
     ensures tuple { IfOk result (λ tuple. IsCellTuple (λ x w. AB.Expr.value x (AB.seen w))
         (AB.stands_for builder.now) (λ w. w.main) column tuple.items) }
     ensures within { IfOk result (λ tuple. All

@@ -37,6 +37,8 @@ impl<F: Field, EF: ExtensionField<F>> SymbolicAirBuilder<F, EF> {
     ghost use Rattle.air.specs.Recorded.{recorded, nothing_recorded};
 
     /// The builder for a layout, with nothing recorded.
+    ///
+    /// Fails only when out of memory.
     pub fn new(alloc: Global, layout: AirLayout) -> Result<Self, AirError>
         ensures new { IfOk result (λ b. recorded b ≡ nothing_recorded layout) }
         ensures refused { IfErr result (λ e. e ≡ AirError.Memory) }

@@ -12,7 +12,7 @@ current_slice-requires g c = c.in_ok-main.ensures.readable
 pub returns-in_err-main-clause-refused : goal.returns-in_err-main-clause-refused
 returns-in_err-main-clause-refused g c =
     let p = err_from_is_err_and c.from_residual.result c.from_residual.ensures.1 in
-    rw (p.1, p.2) (inr (inl c.in_err-main.ensures.refused))
+    rw (p.1, p.2) (inl c.in_err-main.ensures.refused)
 
 pub returns-in-Some-clause-cell : goal.returns-in-Some-clause-cell
 returns-in-Some-clause-cell g c =
@@ -27,4 +27,4 @@ returns-in-Some-clause-within g c =
 
 pub returns-clause-refused : goal.returns-clause-refused
 returns-clause-refused g c =
-    inr (inr (narrow_row _ _ _ _ _ c.args.column c.args.width c.current_slice.result.now _ c.in_ok-main.ensures.current (sym c.current.ensures ∙ c.in-None.is) c.requires c.current_slice.ensures c.narrow.ensures))
+    inr (narrow_row _ _ _ _ _ c.args.column c.args.width c.current_slice.result.now _ c.in_ok-main.ensures.current (sym c.current.ensures ∙ c.in-None.is) c.requires c.current_slice.ensures c.narrow.ensures)

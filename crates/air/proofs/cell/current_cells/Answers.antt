@@ -1,4 +1,4 @@
-use Rattle.std.proofs.Common.{arith, inl, refl}
+use Rattle.std.proofs.Common.{arith, inl, inr, refl}
 use Rattle.std.proofs.lemmas.List.Elements.{All-push}
 use Rattle.std.proofs.lemmas.Result.{err_from_is_err_and}
 use Rattle.air.proofs.CellLaws.{one_more_beside}
@@ -27,7 +27,7 @@ returns-in_err-tuple-clause-refused g c =
 pub returns-in_err-current_cell-clause-refused : goal.returns-in_err-current_cell-clause-refused
 returns-in_err-current_cell-clause-refused g c =
     let p = err_from_is_err_and c.from_residual-in_err-current_cell.result c.from_residual-in_err-current_cell.ensures.1 in
-    rw (p.1, p.2) c.in_err-current_cell.ensures.refused
+    rw (p.1, p.2) (inr c.in_err-current_cell.ensures.refused)
 
 pub returns-in_err-push-clause-refused : goal.returns-in_err-push-clause-refused
 returns-in_err-push-clause-refused g c =
