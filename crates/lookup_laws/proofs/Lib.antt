@@ -9,6 +9,7 @@ pub mod SatisfiedLookups
 pub mod SatisfiedRows
 pub mod SatisfiedSelections
 pub mod Selections
+pub mod Selectors
 pub mod SentRows
 pub mod Shapes
 pub mod Terminals

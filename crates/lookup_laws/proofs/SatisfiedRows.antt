@@ -1,5 +1,5 @@
 -- The plain result is a satisfied witness.
-use Rattle.std.proofs.Common.{◌≡◌, ℕ, zero, suc, ◌+◌, ◌*◌, ◌-◌, ◌%◌, ◌<◌, ◌≤◌, ◌==◌, Bool, true, false, not, Option, None, Some, List, [], ◌∷◌, ◌++◌, length, map, take, drop, get_or, slice_index_or, refl, sym, ap, subst, ◌∙◌, arith}
+use Rattle.std.proofs.Common.{◌≡◌, ℕ, zero, suc, ◌+◌, ◌*◌, ◌-◌, ◌%◌, ◌<◌, ◌≤◌, ◌==◌, not, Option, None, Some, List, [], ◌∷◌, ◌++◌, length, map, take, drop, get_or, slice_index_or, refl, sym, ap, subst, ◌∙◌, arith}
 use Rattle.std.proofs.Math.Nat.{mod-eq_of_lt}
 use Rattle.std.proofs.Math.Seq.{drop-append-add, take-append_seam}
 use Rattle.std.proofs.lemmas.Bool.{eqb-true, eqb-false, not-true}
@@ -7,8 +7,6 @@ use Rattle.std.proofs.lemmas.List.{get_or_default, length-map, length-take, take
 use Rattle.std.specs.List.{AllByRecursion, cons_option, flat_map, range_with_len, slice_range}
 use Rattle.field.specs.Distinct.{all_map}
 use Rattle.field.specs.Ring.{of_bool, sub_in}
-use Rattle.field.specs.RingFacts.{mul_zero, zero_mul}
-use Rattle.field.specs.RingSolver.{var, con, ◌:+◌, :neg, ring_law}
 use Rattle.field.specs.Sums.{sum_in}
 use Rattle.matrix.specs.Matrix.{Matrix, height, row}
 use Rattle.expressions.specs.Window.{ExtWindow, Window, window_at}
@@ -30,6 +28,7 @@ use Rattle.lookup_model.proofs.HornerRule.{map-map}
 use Rattle.lookup_laws.proofs.PlainResults.{IsShaped-product, height_of, length-plain_rows}
 use Rattle.lookup_laws.proofs.Rows.{plain_accumulator-more, row_faults-append, split_at, trace_faults-append}
 use Rattle.lookup_laws.proofs.SatisfiedLookups.{lookup_satisfied}
+use Rattle.lookup_laws.proofs.Selectors.{selected_zero, taken_apart}
 use Rattle.lookup_laws.proofs.SentRows.{column_is, equal_lengths, length-sent_rows, length-sent_rows-at, sent_rows-at}
 use Rattle.lookup_laws.proofs.Terminals.{plain_terminal-sum}
 
@@ -178,17 +177,6 @@ module _ {F K : Type 0} {E : Extension F K} (laws : IsLawful E) (challenges : Li
       plain_accumulator-more E den laws rows r (sents_of r) (omega (arith, high, lt)) (sent_rows-at E.base E.base_eq main preprocessed public_values lookups r lt)
       ∙ (λ i. E.ring.add (sym (accumulator_is r lt) i) (sym (fractions_are r lt) i))
 
-  -- what is left when the parts of a sum are taken from it
-  taken_apart : (a b c : K) → c ≡ E.ring.add a b → sub_in E.ring (sub_in E.ring c a) b ≡ E.ring.zero
-  taken_apart a b c e =
-      ap (λ t. sub_in E.ring (sub_in E.ring t a) b) e
-      ∙ ring_law laws.ring (a ∷ b ∷ []) (((var 0 :+ var 1) :+ :neg (var 0)) :+ :neg (var 1)) (con 0) refl
-
-  -- a constraint that is selected is zero where the selector is off, or its left side is zero
-  selected_zero : (b : Bool) (left : K) → (b ≡ true → left ≡ E.ring.zero) → E.ring.mul (of_bool E.ring b) left ≡ E.ring.zero
-  selected_zero true left on = ap (E.ring.mul E.ring.one) (on refl) ∙ mul_zero laws.ring E.ring.one
-  selected_zero false left on = zero_mul laws.ring left
-
   module _ (faultless : trace_faults E den rows ≡ []) where
     -- each lookup's constraint
     fraction_zero : (r : ℕ) → r < height main → (k : ℕ) (lookup : Lookup F) → k < length lookups → lookup ≡ get_or lookups k lookup → (fraction_constraint E lookup).meaning (window_of r) ≡ E.ring.zero
@@ -201,17 +189,17 @@ module _ {F K : Type 0} {E : Extension F K} (laws : IsLawful E) (challenges : Li
 
     first_zero : (r : ℕ) → r < height main → E.ring.mul (of_bool E.ring (r == 0)) (accumulator_at E (window_of r)) ≡ E.ring.zero
     first_zero r lt =
-        selected_zero (r == 0) (accumulator_at E (window_of r)) (λ e. accumulator_is r lt ∙ ap (plain_accumulator E den rows) (eqb-true r 0 e))
+        selected_zero laws.ring (r == 0) (accumulator_at E (window_of r)) (λ e. accumulator_is r lt ∙ ap (plain_accumulator E den rows) (eqb-true r 0 e))
 
     transition_zero : (r : ℕ) → r < height main → E.ring.mul (of_bool E.ring (not (r + 1 == height main))) (sub_in E.ring (sub_in E.ring (slice_index_or (row auxiliary ((r + 1) % height main)) 0 E.ring.zero) (accumulator_at E (window_of r))) (fractions_at E lookups (window_of r))) ≡ E.ring.zero
-    transition_zero r lt = selected_zero (not (r + 1 == height main)) _ (λ e.
+    transition_zero r lt = selected_zero laws.ring (not (r + 1 == height main)) _ (λ e.
         let inner : r + 1 < height main = omega (arith, lt, eqb-false (r + 1) (height main) (not-true (r + 1 == height main) e)) in
-        taken_apart (accumulator_at E (window_of r)) (fractions_at E lookups (window_of r)) (slice_index_or (row auxiliary ((r + 1) % height main)) 0 E.ring.zero)
+        taken_apart laws.ring (accumulator_at E (window_of r)) (fractions_at E lookups (window_of r)) (slice_index_or (row auxiliary ((r + 1) % height main)) 0 E.ring.zero)
         (ap (λ i. slice_index_or (row auxiliary i) 0 E.ring.zero) (mod-eq_of_lt inner) ∙ accumulator_is (r + 1) inner ∙ after_row r lt))
 
     last_zero : (r : ℕ) → r < height main → E.ring.mul (of_bool E.ring (r + 1 == height main)) (sub_in E.ring (sub_in E.ring (plain_terminal E den rows) (accumulator_at E (window_of r))) (fractions_at E lookups (window_of r))) ≡ E.ring.zero
-    last_zero r lt = selected_zero (r + 1 == height main) _ (λ e.
-        taken_apart (accumulator_at E (window_of r)) (fractions_at E lookups (window_of r)) (plain_terminal E den rows)
+    last_zero r lt = selected_zero laws.ring (r + 1 == height main) _ (λ e.
+        taken_apart laws.ring (accumulator_at E (window_of r)) (fractions_at E lookups (window_of r)) (plain_terminal E den rows)
         (plain_terminal-sum laws den rows
         ∙ ap (λ t. sum_in E.ring (flat_map (λ s. map pf s) t)) (sym (take_all (r + 1) rows (omega (arith, high, eqb-true (r + 1) (height main) e))))
         ∙ after_row r lt))

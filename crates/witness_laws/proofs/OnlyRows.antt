@@ -1,13 +1,10 @@
 -- Where no denominator vanishes the plain result is the only satisfied witness of an AIR.
-use Rattle.std.proofs.Common.{◌≡◌, ◌≢◌, ℕ, zero, suc, ◌+◌, ◌*◌, ◌-◌, ◌%◌, ◌<◌, ◌==◌, Bool, true, not, Option, Some, IfSome, List, [], ◌∷◌, length, map, drop, get_or, slice_index_or, refl, sym, ap, subst, ◌∙◌, arith}
+use Rattle.std.proofs.Common.{◌≡◌, ◌≢◌, ℕ, zero, suc, ◌+◌, ◌*◌, ◌-◌, ◌%◌, ◌<◌, ◌==◌, true, not, Option, Some, IfSome, List, [], ◌∷◌, length, map, drop, get_or, slice_index_or, refl, sym, ap, subst, ◌∙◌, arith}
 use Rattle.std.proofs.Math.Nat.{mod-eq_of_lt}
 use Rattle.std.proofs.lemmas.Bool.{eq-eqb, ne_eqb}
 use Rattle.std.proofs.lemmas.List.{ext_get_or, get_or_default, length-drop, length-map, length-take, take_all}
 use Rattle.std.specs.List.{AllByRecursion, flat_map, range_with_len}
 use Rattle.field.specs.Distinct.{all_both}
-use Rattle.field.specs.Ring.{of_bool, sub_in}
-use Rattle.field.specs.RingFacts.{one_mul}
-use Rattle.field.specs.RingSolver.{var, con, ◌:+◌, ◌:-◌, ring_given}
 use Rattle.field.specs.Sums.{sum_in}
 use Rattle.matrix.specs.Matrix.{Matrix, height, row}
 use Rattle.expressions.specs.Window.{ExtWindow, Window, window_at}
@@ -31,6 +28,7 @@ use Rattle.lookup_model.specs.declared.types.LookupTerminal.{LookupTerminal}
 use Rattle.lookup_laws.proofs.PlainResults.{plain_matrix-some, plain_terminal_of-some}
 use Rattle.lookup_laws.proofs.SatisfiedLookups.{as_many_flags, lookup_satisfied}
 use Rattle.lookup_laws.proofs.SatisfiedRows.{all_indexed}
+use Rattle.lookup_laws.proofs.Selectors.{put_together, zero_selected}
 use Rattle.lookup_laws.proofs.Shapes.{shape-some}
 use Rattle.lookup_laws.proofs.Terminals.{plain_terminal-sum}
 use Rattle.batch_model.specs.Messages.{HasLawfulFlags, NoneVanishes}
@@ -63,15 +61,6 @@ module _ {F K : Type 0} {E : Extension F K} (laws : IsLawful E) (challenges : Li
   sents_at : (r : ℕ) → r < height main → get_or rows r [] ≡ sents_of r
   sents_at r lt =
       get_or_default rows r [] (sents_of r) (omega (arith, high, lt)) ∙ sym (sent_rows-at E.base E.base_eq main preprocessed public_values lookups r lt)
-
-  -- what is zero under a selector that is on is zero
-  selected : (b : Bool) (left : K) → b ≡ true → E.ring.mul (of_bool E.ring b) left ≡ E.ring.zero → left ≡ E.ring.zero
-  selected b left on e = sym (one_mul laws.ring left) ∙ ap (λ t. E.ring.mul (of_bool E.ring t) left) (sym on) ∙ e
-
-  -- a difference that is zero
-  put_together : (a b c : K) → sub_in E.ring (sub_in E.ring c a) b ≡ E.ring.zero → c ≡ E.ring.add a b
-  put_together a b c e =
-      ring_given laws.ring (a ∷ b ∷ c ∷ []) ((con 1, (var 2 :- var 0) :- var 1, con 0) ∷ []) (var 2) (var 0 :+ var 1) (e, tt) refl
 
   module _ (lawful : AllByRecursion (AllByRecursion (HasLawfulFlags E.base E.base_eq)) rows) (none : NoneVanishes E den (trace_messages rows)) (auxiliary : Matrix K) (terminal : Option (LookupTerminal K)) (satisfied : IsSatisfied E main preprocessed public_values lookups challenges auxiliary terminal) where
     abbrev window_of : ℕ → ExtWindow F K
@@ -135,7 +124,7 @@ module _ {F K : Type 0} {E : Extension F K} (laws : IsLawful E) (challenges : Li
 
     -- the accumulator of each row
     accumulator_is : (r : ℕ) → r < height main → accumulator_at E (window_of r) ≡ plain_accumulator E den rows r
-    accumulator_is zero lt = selected (zero == 0) (accumulator_at E (window_of zero)) refl (three_zeros zero lt).0
+    accumulator_is zero lt = zero_selected laws.ring (zero == 0) (accumulator_at E (window_of zero)) refl (three_zeros zero lt).0
     accumulator_is (suc r) lt =
         let below : r < height main = omega (arith, lt) in
         let inner : r + 1 < height main = omega (arith, lt) in
@@ -144,8 +133,8 @@ module _ {F K : Type 0} {E : Extension F K} (laws : IsLawful E) (challenges : Li
         let on : not (r + 1 == height main) ≡ true = ap not (ne_eqb (r + 1) (height main) (λ e. absurd (omega (arith, e, lt)))) in
         let step : accumulator_at E (window_of (suc r)) ≡ E.ring.add (accumulator_at E (window_of r)) (fractions_at E lookups (window_of r)) =
         ap (λ i. slice_index_or (row auxiliary i) 0 E.ring.zero) (sym next)
-        ∙ put_together (accumulator_at E (window_of r)) (fractions_at E lookups (window_of r)) (slice_index_or (row auxiliary ((r + 1) % height main)) 0 E.ring.zero)
-        (selected (not (r + 1 == height main)) _ on (three_zeros r below).1.0) in
+        ∙ put_together laws.ring (accumulator_at E (window_of r)) (fractions_at E lookups (window_of r)) (slice_index_or (row auxiliary ((r + 1) % height main)) 0 E.ring.zero)
+        (zero_selected laws.ring (not (r + 1 == height main)) _ on (three_zeros r below).1.0) in
         step ∙ (λ i. E.ring.add (accumulator_is r below i) (fractions_are r below i))
         ∙ sym (plain_accumulator-more E den laws rows r (sents_of r) (omega (arith, high, below)) (sent_rows-at E.base E.base_eq main preprocessed public_values lookups r below))
         ∙ ap (plain_accumulator E den rows) more
@@ -202,8 +191,8 @@ module _ {F K : Type 0} {E : Extension F K} (laws : IsLawful E) (challenges : Li
           let lt : r < height main = omega (arith, nonempty) in
           let last : r + 1 ≡ height main = omega (arith, nonempty) in
           ap (λ o. slice_index_or (values_of_terminal o) 0 E.ring.zero) (sym is)
-          ∙ put_together (accumulator_at E (window_of r)) (fractions_at E lookups (window_of r)) (terminal_at E (window_of r))
-          (selected (r + 1 == height main) _ (eq-eqb (r + 1) (height main) last) (three_zeros r lt).1.1.0)
+          ∙ put_together laws.ring (accumulator_at E (window_of r)) (fractions_at E lookups (window_of r)) (terminal_at E (window_of r))
+          (zero_selected laws.ring (r + 1 == height main) _ (eq-eqb (r + 1) (height main) last) (three_zeros r lt).1.1.0)
           ∙ (λ i. E.ring.add (accumulator_is r lt i) (fractions_are r lt i))
           ∙ sym (plain_accumulator-more E den laws rows r (sents_of r) (omega (arith, high, lt)) (sent_rows-at E.base E.base_eq main preprocessed public_values lookups r lt))
           ∙ ap (λ t. sum_in E.ring (flat_map (λ s. map pf s) t)) (take_all (r + 1) rows (omega (arith, high, last)))
