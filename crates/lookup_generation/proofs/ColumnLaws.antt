@@ -8,7 +8,7 @@ use Rattle.std.specs.Option.{option_map_or, option_or}
 use Rattle.lookup_columns.proofs.ZipLaws.{taken_more}
 use Rattle.lookup_columns.specs.Traces.{window_of}
 use Rattle.lookup_columns.specs.declared.traces.Traces.{Traces}
-use Rattle.lookup_generation.proofs.ProgressLaws.{range-more}
+use Rattle.lookup_columns.proofs.ChunkColumnLaws.{range-more}
 use Rattle.lookup_generation.specs.Fraction.{IsRatio}
 use Rattle.lookup_generation.specs.Progress.{AnswersColumn, AnswersColumns, AreFirstIn, HasColumn, HasColumns, HaveNoFault, IsFirstIn, column_fractions, sent_on}
 use Rattle.lookup_generation.specs.declared.generation.RowFault.{RowFault}

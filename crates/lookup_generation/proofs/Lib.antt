@@ -1,4 +1,3 @@
-pub mod ChunkColumnLaws
 pub mod ChunkFaults
 pub mod ColumnLaws
 pub mod ColumnsOfMatrix
@@ -6,7 +5,6 @@ pub mod Fractions
 pub mod Layouts
 pub mod MadeRows
 pub mod OwnWindow
-pub mod PlacedLaws
 pub mod ProgressLaws
 pub mod Ratios
 pub mod SelectedColumns

@@ -1,8 +1,7 @@
 -- An auxiliary trace grows by fractions and rows.
-use Rattle.std.proofs.Common.{◌≡◌, ◌≢◌, ℕ, zero, suc, ◌+◌, ◌-◌, ◌*◌, ◌<◌, ◌≤◌, Some, List, [], ◌∷◌, ◌++◌, All, length, map, take, drop, get_or, refl, sym, ap, subst, ◌∙◌, arith}
+use Rattle.std.proofs.Common.{◌≡◌, ◌≢◌, ℕ, zero, suc, ◌+◌, ◌-◌, ◌*◌, ◌<◌, ◌≤◌, Some, List, [], ◌∷◌, ◌++◌, All, length, map, take, drop, get_or, sym, ap, subst, ◌∙◌, arith}
 use native.Mathlib.Nat.{add-mul}
-use Rattle.std.proofs.lemmas.List.{append-nil, get_or_default, length-take, length_push, map-id, take_more}
-use Rattle.std.proofs.lemmas.List.FromFn.{map-range_with_len_more}
+use Rattle.std.proofs.lemmas.List.{append-nil, get_or_default, length-take, length_push, take_more}
 use Rattle.std.proofs.lemmas.Grind.{flat_map-append}
 use Rattle.std.specs.List.{flat_map, range_with_len, slice_get}
 use Rattle.field.specs.Sums.{sum_in}
@@ -11,17 +10,13 @@ use Rattle.lookup_model.specs.Fault.{fault_of, row_faults, trace_faults}
 use Rattle.lookup_model.specs.Message.{Key}
 use Rattle.lookup_model.specs.Plain.{plain_fraction, plain_row}
 use Rattle.field.specs.Ring.{Ring}
+use Rattle.lookup_columns.proofs.ChunkColumnLaws.{range-more}
 use Rattle.lookup_generation.specs.Fraction.{AreSound, AreWhole}
 use Rattle.lookup_generation.specs.Progress.{HasCells}
 use Rattle.lookup_generation.specs.declared.ratio.Ratio.{Ratio}
 use Rattle.lookup_model.specs.Sent.{Sent}
 use Rattle.lookup_model.specs.declared.error.LookupError.{LookupError}
 use Rattle.lookup_laws.proofs.Rows.{plain_accumulator-more, split_at, trace_faults-first, trace_faults-none}
-
--- a range goes on
-pub range-more : (a n : ℕ) → range_with_len a (n + 1) ≡ range_with_len a n ++ (a + n) ∷ []
-range-more a n =
-    sym (map-id (range_with_len a (n + 1))) ∙ map-range_with_len_more (λ x. x) a n (a + n) refl ∙ ap (λ t. t ++ (a + n) ∷ []) (map-id (range_with_len a n))
 
 -- rows times a width, in two parts
 pub product_joined : (a b w : ℕ) → a < b → a * w + (b - a) * w ≡ b * w

@@ -6,8 +6,8 @@ use Rattle.std.specs.List.{AllZip, enumerate_from, filter}
 use Rattle.field.specs.Ring.{IsDomain, Ring}
 use Rattle.lookup_model.specs.Fault.{set_places}
 use Rattle.lookup_model.specs.Message.{Key, Message}
-use Rattle.lookup_generation.specs.ChunkColumns.{HasFlag, HoldSelected, IsHeldIfSet, IsPlaced}
-use Rattle.lookup_generation.specs.declared.columns.BranchColumns.{BranchColumns}
+use Rattle.lookup_columns.specs.ChunkColumns.{HasFlag, HoldSelected, IsHeldIfSet, IsPlaced}
+use Rattle.lookup_columns.specs.declared.branches.BranchColumns.{BranchColumns}
 use Rattle.lookup_columns.proofs.ZipLaws.{Beside, beside}
 use Rattle.lookup_laws.proofs.Selections.{place_within, places_from}
 

@@ -1,7 +1,5 @@
-pub mod ChunkColumns
 pub mod Fraction
 pub mod Inverses
-pub mod LookupSteps
 pub mod Progress
 pub mod RowAnswers
 pub mod Selection

@@ -4,17 +4,17 @@ ghost use Rattle.std.specs.List.{AllZip};
 ghost use Rattle.lookup_generation.specs.Selection.{ArePlaces, AreSetFlags};
 ghost use Rattle.lookup_generation.specs.TraceBuilder.{builder_layout, builder_window};
 ghost use Rattle.lookup_generation.specs.Inverses.{ForExtensions};
-ghost use Rattle.lookup_generation.specs.ChunkColumns.{HasFlag, HoldSelected, key_denominator};
+ghost use Rattle.lookup_columns.specs.ChunkColumns.{HasFlag, HoldSelected, key_denominator};
 ghost use Rattle.lookup_generation.specs.Fraction.{IsRatio};
 ghost use Rattle.lookup_generation.specs.RowAnswers.{AnswersExclusive, AnswersFlags};
 ghost use Rattle.lookup_model.specs.Records.{AllFit};
 ghost use Rattle.lookup_model.specs.Sent.{branches_at, values};
 
-use crate::columns::BranchColumns;
 use crate::ratio::Ratio;
 use crate::trace_builder::LookupTraceBuilder;
 use air::SymbolicExpression;
 use field::{Domain, ExtensionDomain, Field};
+use lookup_columns::BranchColumns;
 use lookup_model::{Lookup, LookupError};
 
 /// The indices of the set flags, counted in whole numbers.

@@ -2,18 +2,18 @@
 ghost use Rattle.std.specs.Prelude.{◌≡◌, ◌≢◌, ◌+◌, ◌<◌, None, Some, IfOk, IfErr, List, [], ◌∷◌, ◌++◌};
 ghost use Rattle.std.specs.List.{AllZip};
 ghost use Rattle.lookup_generation.specs.Inverses.{ForExtensions};
-ghost use Rattle.lookup_generation.specs.ChunkColumns.{HoldLookup, IsHeld, key_denominator};
+ghost use Rattle.lookup_columns.specs.ChunkColumns.{HoldLookup, IsHeld, key_denominator};
 ghost use Rattle.lookup_generation.specs.RowAnswers.{AnswersAdditive, AnswersFraction};
 ghost use Rattle.lookup_generation.specs.Fraction.{IsFractionOf};
 ghost use Rattle.lookup_model.specs.Message.{Key, Message};
 ghost use Rattle.lookup_model.specs.Sent.{branches_at};
 ghost use Rattle.lookup_generation.specs.TraceBuilder.{builder_window};
 
-use crate::columns::BranchColumns;
 use crate::exclusive::exclusive_fraction;
 use crate::ratio::Ratio;
 use crate::trace_builder::LookupTraceBuilder;
 use field::{ExtensionDomain, Field};
+use lookup_columns::BranchColumns;
 use lookup_model::{Lookup, LookupError};
 
 /// The fraction so far plus, if its multiplicity is not zero, the quotient of one more tuple.

@@ -12,22 +12,23 @@ ghost use Rattle.lookup_model.specs.Fault.{trace_faults};
 ghost use Rattle.field.specs.Sums.{sum_in};
 ghost use Rattle.lookup_generation.specs.Fraction.{AreSound, AreWhole};
 ghost use Rattle.lookup_generation.specs.Inverses.{ForExtensions};
-ghost use Rattle.lookup_generation.specs.ChunkColumns.{HoldLookup, HoldLookups};
-ghost use Rattle.lookup_generation.specs.LookupSteps.{AreLookupSteps};
+ghost use Rattle.lookup_columns.specs.ChunkColumns.{HoldLookup, HoldLookups};
+ghost use Rattle.lookup_columns.specs.LookupSteps.{AreLookupSteps};
 ghost use Rattle.lookup_generation.specs.Progress.{AnswersColumn, AnswersColumns, AreRatios, HasRows, HaveNoTuples, IsFirstOf, column_cells, sent_on, sent_rows_of, started_chunks};
 ghost use Rattle.lookup_model.specs.Records.{DoFit};
 ghost use Rattle.lookup_model.specs.Generation.{AnswersGeneration};
 ghost use Rattle.lookup_generation.specs.TraceBuilder.{builder_layout, builder_window};
 ghost use Rattle.matrix.specs.Matrix.{height};
 
-use crate::columns::{BranchColumns, columns_of_lookups, rows_between};
+use crate::columns::columns_of_lookups;
 use crate::fraction::fraction;
 use crate::memory::ChunkMemory;
 use crate::ratio::{Ratio, values_of};
-use crate::steps::{LookupSteps, steps_of_lookups};
 use crate::trace_builder::LookupTraceBuilder;
 use field::{Domain, ExtensionDomain, ExtensionField, Field, InverseCount, Inverter};
-use lookup_columns::{Traces, next_row};
+use lookup_columns::{
+    BranchColumns, LookupSteps, Traces, next_row, rows_between, steps_of_lookups,
+};
 use lookup_model::{Lookup, LookupError, LookupTerminal};
 use matrix::{RowMajorMatrix, ViewPair};
 use std::alloc::{AllocError, Global};
@@ -215,8 +216,16 @@ fn ratios_of<F: Field, EF: ExtensionDomain<F>>(
         (length lookups.now * (end - first)) v.items) }
     ensures bare { HaveNoTuples lookups.now → IfOk result (λ v. AreWhole EF.ring v.items) }
 {
-    let rows = rows_between(alloc, &mut memory.places, first, end)?;
-    let columns = columns_of_lookups(alloc, memory, lookups, steps, traces, challenges, &rows)?;
+    let rows = rows_between(alloc, &mut memory.columns.places, first, end)?;
+    let columns = columns_of_lookups(
+        alloc,
+        &mut memory.columns,
+        lookups,
+        steps,
+        traces,
+        challenges,
+        &rows,
+    )?;
     let size = rows
         .len()
         .checked_mul(lookups.len())
@@ -234,7 +243,7 @@ fn ratios_of<F: Field, EF: ExtensionDomain<F>>(
     match fault {
         Some(RowFault { row: _, error }) => Err(error),
         None => {
-            memory.places.put(rows)?;
+            memory.columns.places.put(rows)?;
             memory.put_columns(columns)?;
             Ok(ratios)
         }
@@ -319,8 +328,8 @@ fn push_chunk<F: Field, EF: ExtensionDomain<F>, I: Inverter<EF>>(
     Ok(next)
 }
 
-/// Where the chunk ends that starts at `first`.
-fn chunk_end(first: usize, height: usize) -> usize
+/// Where the chunk ends that starts at `first`, in a trace of this height.
+pub fn chunk_end(first: usize, height: usize) -> usize
     requires { first < height }
     ensures further { first < result }
     ensures up_to { result ≤ height }

@@ -1,18 +1,13 @@
 //! The lists of a chunk, whose memory is used again for the next one.
-use crate::columns::BranchColumns;
 use crate::ratio::Ratio;
-use lookup_columns::{Slots, Spare};
+use lookup_columns::{BranchColumns, ColumnMemory, Spare};
 use std::alloc::{AllocError, Global};
 
 /// Lists that a chunk has filled, put away for the next one.
 #[derive(Drop)]
 pub(crate) struct ChunkMemory<F, EF> {
-    /// For the values of expressions.
-    pub(crate) slots: Slots<F>,
-    /// For rows, and for places of rows.
-    pub(crate) places: Spare<usize>,
-    /// For the denominators of a tuple.
-    pub(crate) denominators: Spare<EF>,
+    /// For the columns of lookups.
+    pub(crate) columns: ColumnMemory<F, EF>,
     /// For the fractions of all lookups, as ratios.
     pub(crate) ratios: Spare<Ratio<EF>>,
     /// For the values of these ratios.
@@ -23,9 +18,7 @@ impl<F: Drop, EF: Drop> ChunkMemory<F, EF> {
     /// No lists.
     pub(crate) fn new(alloc: Global) -> ChunkMemory<F, EF> {
         ChunkMemory {
-            slots: Slots::new(alloc),
-            places: Spare::new(alloc),
-            denominators: Spare::new(alloc),
+            columns: ColumnMemory::new(alloc),
             ratios: Spare::new(alloc),
             fractions: Spare::new(alloc),
         }
@@ -37,24 +30,8 @@ impl<F: Drop, EF: Drop> ChunkMemory<F, EF> {
         columns: Vec<Vec<BranchColumns<F, EF>>>,
     ) -> Result<(), AllocError> {
         for branches in columns {
-            for branch in branches {
-                self.put_branch(branch)?;
-            }
+            self.columns.put_branches(branches)?;
         }
         Ok(())
-    }
-
-    /// Puts away the columns of one tuple.
-    fn put_branch(&mut self, branch: BranchColumns<F, EF>) -> Result<(), AllocError> {
-        let BranchColumns {
-            flags,
-            places,
-            multiplicities,
-            denominators,
-        } = branch;
-        self.slots.put(flags)?;
-        self.places.put(places)?;
-        self.slots.put(multiplicities)?;
-        self.denominators.put(denominators)
     }
 }

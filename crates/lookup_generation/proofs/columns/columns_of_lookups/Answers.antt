@@ -3,11 +3,11 @@ use Rattle.std.proofs.lemmas.List.{get_or_default}
 use Rattle.std.specs.List.{AllZip}
 use Rattle.std.specs.declared.alloc.Global.{Global}
 use Rattle.std.specs.declared.vec.Vec.{Vec}
-use Rattle.lookup_generation.specs.ChunkColumns.{AreColumns}
-use Rattle.lookup_generation.specs.declared.columns.BranchColumns.{BranchColumns}
+use Rattle.lookup_columns.specs.ChunkColumns.{AreColumns}
+use Rattle.lookup_columns.specs.declared.branches.BranchColumns.{BranchColumns}
 use Rattle.std.proofs.lemmas.Slice.Zip.{all_zipped_more, AllZip-long}
 use Rattle.lookup_columns.proofs.ZipLaws.{beside, taken_more}
-use Rattle.lookup_generation.specs.LookupSteps.{AreLookupSteps}
+use Rattle.lookup_columns.specs.LookupSteps.{AreLookupSteps}
 use Rattle.lookup_laws.proofs.SentRows.{column_is, equal_lengths}
 use Rattle.lookup_columns.specs.Traces.{layout_of}
 use Rattle.lookup_model.proofs.RecordLaws.{All-at}

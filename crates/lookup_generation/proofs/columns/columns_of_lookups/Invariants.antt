@@ -1,5 +1,5 @@
 use Rattle.std.proofs.Common.{take}
-use Rattle.lookup_generation.specs.ChunkColumns.{AreLookupColumns}
+use Rattle.lookup_columns.specs.ChunkColumns.{AreLookupColumns}
 use Rattle.lookup_columns.specs.Traces.{window_of}
 use Rattle.lookup_generation.proofs.columns.columns_of_lookups.Given as goal
 

@@ -1,12 +1,12 @@
 use Rattle.std.proofs.Common.{◌∷◌, ◌++◌, [], List, take, drop, inr, sym, ap, subst, ◌∙◌, ◌+◌, arith}
 use Rattle.std.specs.List.{slice_index_or}
-use Rattle.lookup_generation.specs.declared.columns.BranchColumns.{BranchColumns}
+use Rattle.lookup_columns.specs.declared.branches.BranchColumns.{BranchColumns}
 use Rattle.std.proofs.lemmas.List.{length-take, take_all}
 use Rattle.std.proofs.lemmas.Result.{err_from_is_err_and}
 use Rattle.std.proofs.lemmas.Slice.Zip.{AllZip-long}
 use Rattle.lookup_columns.proofs.ZipLaws.{Beside, beside, taken_more}
-use Rattle.lookup_generation.proofs.ChunkColumnLaws.{read_is, taken_split}
-use Rattle.lookup_generation.specs.ChunkColumns.{HasFlag}
+use Rattle.lookup_columns.proofs.ChunkColumnLaws.{read_is, taken_split}
+use Rattle.lookup_columns.specs.ChunkColumns.{HasFlag}
 use Rattle.lookup_generation.specs.Selection.{AreSetFlags}
 use Rattle.lookup_laws.proofs.Selections.{not_boolean}
 use Rattle.lookup_model.specs.Fault.{are_boolean}

@@ -11,10 +11,10 @@ use Rattle.lookup_model.specs.Denominators.{column_denominator}
 use Rattle.lookup_model.specs.Extension.{extension}
 use Rattle.lookup_model.specs.declared.types.Lookup.{Lookup}
 use Rattle.lookup_laws.proofs.SentRows.{column_is}
-use Rattle.lookup_generation.specs.ChunkColumns.{HoldLookup}
+use Rattle.lookup_columns.specs.ChunkColumns.{HoldLookup}
 use Rattle.lookup_generation.specs.Fraction.{AreSound}
 use Rattle.lookup_generation.specs.Progress.{AnswersColumn, AnswersColumns, sent_on}
-use Rattle.lookup_generation.specs.declared.columns.BranchColumns.{BranchColumns}
+use Rattle.lookup_columns.specs.declared.branches.BranchColumns.{BranchColumns}
 use Rattle.lookup_generation.specs.declared.generation.RowFault.{RowFault}
 use Rattle.lookup_generation.proofs.ColumnLaws.{AnswersColumns-more, HasColumns-none, fault_there, neither_found, until_there}
 use Rattle.lookup_generation.proofs.ProgressLaws.{product_more, sound_none, whole_none}

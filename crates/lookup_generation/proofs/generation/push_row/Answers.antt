@@ -4,7 +4,7 @@ use Rattle.std.specs.List.{range_with_len}
 use Rattle.field.specs.Sums.{sum_in}
 use Rattle.lookup_model.proofs.SumLaws.{sum_in-push}
 use Rattle.matrix.specs.Matrix.{row}
-use Rattle.lookup_generation.proofs.ProgressLaws.{range-more}
+use Rattle.lookup_columns.proofs.ChunkColumnLaws.{range-more}
 use Rattle.lookup_generation.proofs.generation.push_row.Goals as goal
 
 pub loop-lookup-preserved : goal.loop-lookup-preserved

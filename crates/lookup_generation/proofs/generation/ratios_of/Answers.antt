@@ -8,11 +8,11 @@ use Rattle.lookup_model.proofs.Lawful.{lawful_extension}
 use Rattle.lookup_model.specs.Denominators.{column_denominator}
 use Rattle.lookup_model.specs.Extension.{extension, IsLawful}
 use Rattle.lookup_model.specs.declared.types.Lookup.{Lookup}
-use Rattle.lookup_generation.proofs.ChunkColumnLaws.{range_at, range_below, zip_weaker}
+use Rattle.lookup_columns.proofs.ChunkColumnLaws.{range_at, range_below, zip_weaker}
 use Rattle.lookup_generation.proofs.ChunkFaults.{AreRatios-found, first_found}
-use Rattle.lookup_generation.specs.ChunkColumns.{AreColumns, HoldLookup, HoldLookups}
+use Rattle.lookup_columns.specs.ChunkColumns.{AreColumns, HoldLookup, HoldLookups}
 use Rattle.lookup_generation.specs.Progress.{AnswersColumns, AreFirstIn, HasColumns}
-use Rattle.lookup_generation.specs.declared.columns.BranchColumns.{BranchColumns}
+use Rattle.lookup_columns.specs.declared.branches.BranchColumns.{BranchColumns}
 use Rattle.lookup_generation.specs.declared.generation.RowFault.{RowFault}
 use Rattle.lookup_generation.proofs.generation.ratios_of.Goals as goal
 

@@ -1,0 +1,53 @@
+use Rattle.std.proofs.Common.{◌<◌, [], List, length, take, get_or, sym, subst, subst₂, arith}
+use Rattle.std.proofs.lemmas.List.{get_or_default, take_all}
+use Rattle.std.proofs.lemmas.Option.{slice_get-get_or}
+use Rattle.std.proofs.lemmas.Slice.Zip.{all_zipped_more}
+use Rattle.std.specs.List.{AllZip}
+use Rattle.lookup_columns.specs.ChunkColumns.{IsHeld, key_denominator}
+use Rattle.lookup_columns.proofs.ZipLaws.{taken_more}
+use Rattle.lookup_model.proofs.Branches.{length-branches_at}
+use Rattle.lookup_model.specs.Message.{Message}
+use Rattle.lookup_model.specs.Sent.{branches_at}
+use Rattle.lookup_columns.specs.Traces.{window_of}
+use Rattle.lookup_columns.proofs.branches.additive_columns.Goals as goal
+
+pub loop-branch-preserved : goal.loop-branch-preserved
+loop-branch-preserved g c = λ place r there.
+    let R = g.F.PrimeCharacteristicRing.ring in
+    let held = IsHeld (key_denominator g.EF.PrimeCharacteristicRing.ring g.EF.ExtensionDomain.embed c.args.challenges.now) place in
+    let w = window_of c.args.traces.now r in
+    let lookup = c.args.lookup.now in
+    let i = c.loop-branch.branch in
+    let ms = branches_at R w lookup.column lookup in
+    let d : Message _ = record { key = record { id = 0; tuple = [] }; multiplicity = R.zero } in
+    let m = get_or ms i d in
+    let lt : i < length ms = omega (arith, length-branches_at R w lookup.column lookup c.requires.lengths) in
+    subst₂ (AllZip held) (sym c.in_ok-push.ensures.items) (sym (taken_more ms i m lt (get_or_default ms i d m lt)))
+    (all_zipped_more held c.loop-branch.branches.items (take i ms) c.in_ok-columns.columns m (c.loop-branch.invariant place r there)
+    (c.in_ok-columns.ensures.held place r m there (slice_get-get_or ms i d lt)))
+
+pub returns : goal.returns
+returns g c = λ place r there.
+    let R = g.F.PrimeCharacteristicRing.ring in
+    let held = IsHeld (key_denominator g.EF.PrimeCharacteristicRing.ring g.EF.ExtensionDomain.embed c.args.challenges.now) place in
+    let w = window_of c.args.traces.now r in
+    let lookup = c.args.lookup.now in
+    let ms = branches_at R w lookup.column lookup in
+    subst (λ (t : List (Message _)). AllZip held c.loop-branch.branches.items t)
+    (take_all c.loop-branch.branch ms (omega (arith, c.loop-branch-test.false, length-branches_at R w lookup.column lookup c.requires.lengths)))
+    (c.loop-branch.invariant place r there)
+
+pub branch_columns-requires-clause-steps : goal.branch_columns-requires-clause-steps
+branch_columns-requires-clause-steps g c = c.requires.steps
+
+pub branch_columns-requires-clause-lengths : goal.branch_columns-requires-clause-lengths
+branch_columns-requires-clause-lengths g c = c.requires.lengths
+
+pub branch_columns-requires-clause-within : goal.branch_columns-requires-clause-within
+branch_columns-requires-clause-within g c = c.requires.within
+
+pub branch_columns-requires-clause-challenges : goal.branch_columns-requires-clause-challenges
+branch_columns-requires-clause-challenges g c = c.requires.challenges
+
+pub branch_columns-requires-clause-rows_exist : goal.branch_columns-requires-clause-rows_exist
+branch_columns-requires-clause-rows_exist g c = c.requires.rows_exist

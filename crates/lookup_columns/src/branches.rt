@@ -1,0 +1,196 @@
+//! The values of lookups on some rows, a column at a time.
+ghost use Rattle.std.specs.Prelude.{◌≡◌, ◌+◌, ◌*◌, ◌<◌, ℕ, All, IfOk, Some, length, slice_get};
+ghost use Rattle.std.specs.List.{AllZip};
+ghost use Rattle.lookup_columns.specs.ChunkColumns.{AreColumns, HoldSelected, IsHeld, key_denominator};
+ghost use Rattle.lookup_columns.specs.LookupSteps.{AreLookupSteps};
+ghost use Rattle.lookup_columns.specs.Steps.{AreStepsOf};
+ghost use Rattle.lookup_columns.specs.Traces.{layout_of, height_of, window_of};
+ghost use Rattle.lookup_model.specs.Message.{Message};
+ghost use Rattle.lookup_model.specs.Records.{AllFit, HasEqualLengths, IsWithin};
+ghost use Rattle.lookup_model.specs.Sent.{branches_at, values};
+
+use crate::column::column_of;
+use crate::denominators::denominators_of;
+use crate::lookup_steps::LookupSteps;
+use crate::memory::ColumnMemory;
+use crate::rows::selected_rows;
+use crate::traces::Traces;
+use expressions::SymbolicExpression;
+use field::{ExtensionDomain, Field};
+use lookup_model::Lookup;
+use std::alloc::{AllocError, Global};
+
+/// One tuple of a lookup on some rows.
+#[derive(Drop)]
+pub struct BranchColumns<F, EF> {
+    /// The flag of each row, in an exclusive lookup.
+    pub flags: Vec<F>,
+    /// For each row whose flag is not zero, its place among these rows. What stands at the other rows
+    /// has no meaning. Only in an exclusive lookup.
+    pub places: Vec<usize>,
+    /// The multiplicities, of each row or of each row whose flag is not zero.
+    pub multiplicities: Vec<F>,
+    /// The denominators of the same rows.
+    pub denominators: Vec<EF>,
+}
+
+/// The multiplicities and denominators of a tuple of a lookup on these rows.
+fn branch_columns<F: Field, EF: ExtensionDomain<F>>(
+    alloc: Global,
+    memory: &mut ColumnMemory<F, EF>,
+    lookup: &Lookup<F>,
+    steps: &LookupSteps<F>,
+    branch: usize,
+    flags: Vec<F>,
+    places: Vec<usize>,
+    traces: &Traces<'_, F>,
+    challenges: &[EF],
+    rows: &[usize],
+) -> Result<BranchColumns<F, EF>, AllocError>
+    requires steps { AreLookupSteps steps.now lookup.now }
+    requires lengths { HasEqualLengths lookup.now }
+    requires within { IsWithin (layout_of traces.now) lookup.now }
+    requires challenges { 2 * lookup.now.column + 1 < length challenges.now }
+    requires rows_exist { All (λ r. r < height_of traces.now) rows.now }
+    requires branch_exists { branch < length lookup.now.elements.items }
+    ensures flags { IfOk result (λ v. (v.flags ≡ flags) × (v.places ≡ places)) }
+    ensures held { IfOk result (λ v. (place r : ℕ) (m : Message F)
+        → slice_get rows.now place ≡ Some r
+        → slice_get (branches_at F.ring (window_of traces.now r) lookup.now.column lookup.now)
+        branch ≡ Some m
+        → IsHeld (key_denominator EF.ring EF.embed challenges.now) place v m) }
+{
+    let alpha = challenges[2 * lookup.column];
+    let beta = challenges[2 * lookup.column + 1];
+    let multiplicities = column_of(
+        alloc,
+        &mut memory.slots,
+        &steps.multiplicities[branch],
+        traces,
+        rows,
+    )?;
+    let denominators = denominators_of(
+        alloc,
+        &mut memory.slots,
+        &mut memory.denominators,
+        &steps.elements[branch],
+        traces,
+        rows,
+        alpha,
+        beta,
+    )?;
+    Ok(BranchColumns {
+        flags,
+        places,
+        multiplicities,
+        denominators,
+    })
+}
+
+/// The columns of each tuple of an additive lookup on these rows, in the order of its tuples.
+fn additive_columns<F: Field, EF: ExtensionDomain<F>>(
+    alloc: Global,
+    memory: &mut ColumnMemory<F, EF>,
+    lookup: &Lookup<F>,
+    steps: &LookupSteps<F>,
+    traces: &Traces<'_, F>,
+    challenges: &[EF],
+    rows: &[usize],
+) -> Result<Vec<BranchColumns<F, EF>>, AllocError>
+    requires steps { AreLookupSteps steps.now lookup.now }
+    requires lengths { HasEqualLengths lookup.now }
+    requires within { IsWithin (layout_of traces.now) lookup.now }
+    requires challenges { 2 * lookup.now.column + 1 < length challenges.now }
+    requires rows_exist { All (λ r. r < height_of traces.now) rows.now }
+    ensures { IfOk result (λ v. (place r : ℕ) → slice_get rows.now place ≡ Some r
+        → AllZip (IsHeld (key_denominator EF.ring EF.embed challenges.now) place) v.items
+        (branches_at F.ring (window_of traces.now r) lookup.now.column lookup.now)) }
+{
+    let mut branches = Vec::with_capacity(alloc, lookup.elements.len())?;
+    for branch in 0..lookup.elements.len() {
+        let columns = branch_columns(
+            alloc,
+            memory,
+            lookup,
+            steps,
+            branch,
+            Vec::new(alloc),
+            Vec::new(alloc),
+            traces,
+            challenges,
+            rows,
+        )?;
+        branches.push(columns)?;
+    }
+    Ok(branches)
+}
+
+/// The columns of each tuple of an exclusive lookup, in the order of its tuples: its flag on these
+/// rows, and its multiplicities and denominators on those of them whose flag is not zero.
+fn exclusive_columns<F: Field, EF: ExtensionDomain<F>>(
+    alloc: Global,
+    memory: &mut ColumnMemory<F, EF>,
+    lookup: &Lookup<F>,
+    steps: &LookupSteps<F>,
+    flags: &[SymbolicExpression<F>],
+    traces: &Traces<'_, F>,
+    challenges: &[EF],
+    rows: &[usize],
+) -> Result<Vec<BranchColumns<F, EF>>, AllocError>
+    requires steps { AreLookupSteps steps.now lookup.now }
+    requires lengths { HasEqualLengths lookup.now }
+    requires within { IsWithin (layout_of traces.now) lookup.now }
+    requires challenges { 2 * lookup.now.column + 1 < length challenges.now }
+    requires rows_exist { All (λ r. r < height_of traces.now) rows.now }
+    requires flag_steps { AllZip AreStepsOf steps.now.flags.items flags.now }
+    requires flag_number { length flags.now ≡ length lookup.now.elements.items }
+    requires flags_fit { AllFit (layout_of traces.now) flags.now }
+    ensures { IfOk result (λ v. (place r : ℕ) → slice_get rows.now place ≡ Some r
+        → let w = window_of traces.now r in
+        HoldSelected F.ring (key_denominator EF.ring EF.embed challenges.now) place v.items
+        (values F.ring w flags.now) (branches_at F.ring w lookup.now.column lookup.now)) }
+{
+    let mut branches = Vec::with_capacity(alloc, flags.len())?;
+    for branch in 0..flags.len() {
+        let column = column_of(alloc, &mut memory.slots, &steps.flags[branch], traces, rows)?;
+        let (places, selected) = selected_rows(alloc, &mut memory.places, &column, rows)?;
+        let columns = branch_columns(
+            alloc, memory, lookup, steps, branch, column, places, traces, challenges, &selected,
+        )?;
+        memory.places.put(selected)?;
+        branches.push(columns)?;
+    }
+    Ok(branches)
+}
+
+/// The columns of each tuple of a lookup on these rows, in the order of its tuples: of an exclusive
+/// lookup, its flag on these rows, and its multiplicity and denominator on those of them whose flag is
+/// not zero.
+///
+/// `steps` are those of the lookup (`steps_of_lookups`), and `challenges` are an alpha and a beta for
+/// each lookup of its AIR, in the order of their columns. The columns that are returned can be put away
+/// in `memory` after use. Fails only when out of memory.
+pub fn columns_of_lookup<F: Field, EF: ExtensionDomain<F>>(
+    alloc: Global,
+    memory: &mut ColumnMemory<F, EF>,
+    lookup: &Lookup<F>,
+    steps: &LookupSteps<F>,
+    traces: &Traces<'_, F>,
+    challenges: &[EF],
+    rows: &[usize],
+) -> Result<Vec<BranchColumns<F, EF>>, AllocError>
+    requires steps { AreLookupSteps steps.now lookup.now }
+    requires lengths { HasEqualLengths lookup.now }
+    requires within { IsWithin (layout_of traces.now) lookup.now }
+    requires challenges { 2 * lookup.now.column + 1 < length challenges.now }
+    requires rows_exist { All (λ r. r < height_of traces.now) rows.now }
+    ensures { IfOk result (λ v. AreColumns F.ring EF.ring EF.embed challenges.now
+        (window_of traces.now) rows.now lookup.now v.items) }
+{
+    match &lookup.flags {
+        None => additive_columns(alloc, memory, lookup, steps, traces, challenges, rows),
+        Some(flags) => exclusive_columns(
+            alloc, memory, lookup, steps, flags, traces, challenges, rows,
+        ),
+    }
+}

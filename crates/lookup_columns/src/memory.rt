@@ -1,0 +1,49 @@
+//! The lists of columns, whose memory is used again for the next ones.
+use crate::branches::BranchColumns;
+use crate::slots::Slots;
+use crate::spare::Spare;
+use std::alloc::{AllocError, Global};
+
+/// Lists that columns have filled, put away for the next ones.
+#[derive(Drop)]
+pub struct ColumnMemory<F, EF> {
+    /// For the values of expressions.
+    pub(crate) slots: Slots<F>,
+    /// For rows, and for places of rows.
+    pub places: Spare<usize>,
+    /// For the denominators of a tuple.
+    pub(crate) denominators: Spare<EF>,
+}
+
+impl<F: Drop, EF: Drop> ColumnMemory<F, EF> {
+    /// No lists.
+    pub fn new(alloc: Global) -> ColumnMemory<F, EF> {
+        ColumnMemory {
+            slots: Slots::new(alloc),
+            places: Spare::new(alloc),
+            denominators: Spare::new(alloc),
+        }
+    }
+
+    /// Puts away the columns of a lookup. Fails only when out of memory.
+    pub fn put_branches(&mut self, branches: Vec<BranchColumns<F, EF>>) -> Result<(), AllocError> {
+        for branch in branches {
+            self.put_branch(branch)?;
+        }
+        Ok(())
+    }
+
+    /// Puts away the columns of one tuple.
+    fn put_branch(&mut self, branch: BranchColumns<F, EF>) -> Result<(), AllocError> {
+        let BranchColumns {
+            flags,
+            places,
+            multiplicities,
+            denominators,
+        } = branch;
+        self.slots.put(flags)?;
+        self.places.put(places)?;
+        self.slots.put(multiplicities)?;
+        self.denominators.put(denominators)
+    }
+}

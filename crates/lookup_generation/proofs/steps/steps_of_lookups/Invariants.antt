@@ -1,7 +1,0 @@
-use Rattle.std.proofs.Common.{take}
-use Rattle.std.specs.List.{AllZip}
-use Rattle.lookup_generation.specs.LookupSteps.{AreLookupSteps}
-use Rattle.lookup_generation.proofs.steps.steps_of_lookups.Given as goal
-
-abbrev pub invariant-loop-lookup : goal.invariant-loop-lookup
-invariant-loop-lookup g l = AllZip AreLookupSteps l.steps.items (take l.lookup-index l.lookups)
