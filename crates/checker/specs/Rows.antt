@@ -1,20 +1,62 @@
--- Constraints of lookups on a row of given inputs.
-use Rattle.std.specs.Prelude.{◌≡◌, ◌<◌, ℕ, List}
+-- Constraints of lookups on the rows of given inputs.
+use Rattle.std.specs.Prelude.{◌≡◌, ◌<◌, ◌≤◌, ◌*◌, ℕ, List, Option, Result, MatchOption, MatchResult, length, ⊤}
 use Rattle.std.specs.List.{AllByRecursion}
+use Rattle.std.specs.Option.{ForSome, option_copied}
+use Rattle.std.specs.declared.alloc.AllocError.{AllocError}
 use Rattle.matrix.specs.Matrix.{height}
-use Rattle.air.specs.Row.{input_window}
+use Rattle.air.specs.Row.{input_layout, input_window}
 use Rattle.air.specs.declared.debug.inputs.RowInputs.{RowInputs}
-use Rattle.lookup_model.specs.Constraints.{lookup_constraints}
+use Rattle.lookup_model.specs.Constraints.{Constraint, accumulator_constraints, fraction_constraint, lookup_constraints, terminal_at}
 use Rattle.lookup_model.specs.Extension.{Extension}
+use Rattle.lookup_model.specs.Records.{DoFit}
 use Rattle.lookup_model.specs.declared.types.Lookup.{Lookup}
 
-module _ {F K : Type 0} (E : Extension F K) (inputs : RowInputs F K) (lookups : List (Lookup F)) where
-  -- every constraint of the lookups is zero on a row
-  abbrev pub HoldsOn : ℕ → Type 0
-  HoldsOn r = AllByRecursion (λ constraint. constraint.meaning (input_window inputs r) ≡ E.ring.zero) (lookup_constraints E lookups)
+-- On row `first` and all further ones before row r a property holds. It fails on row r, unless that is
+-- the end.
+pub record HoldsUntil (Holds : ℕ → Type 0) (first end r : ℕ) : Type 0 where
+  pub from : first ≤ r
+  pub up_to : r ≤ end
+  pub holds : (s : ℕ) → first ≤ s → s < r → Holds s
+  pub fails : r < end → ¬ Holds r
 
-  -- row r is the first on which one is not
-  pub record IsFirstFailingOn (r : ℕ) : Type 0 where
-    pub within : r < height inputs.main.now
-    pub fails : ¬ HoldsOn r
-    pub before : (s : ℕ) → s < r → HoldsOn s
+-- Inputs with all that the constraints of lookups read: traces of one height, and for each lookup two
+-- challenges and a cell beside the accumulator; and a terminal.
+pub record AreChecked {F K : Type 0} (inputs : RowInputs F K) (lookups : List (Lookup F)) : Type 0 where
+  pub preprocessed : ForSome (option_copied inputs.preprocessed) (λ m. height m ≡ height inputs.main.now)
+  pub permutation : height inputs.permutation.now ≡ height inputs.main.now
+  pub fit : DoFit (input_layout inputs) lookups
+  pub challenges : 2 * length lookups ≤ length inputs.challenges.now
+  pub some : 0 < length lookups
+  pub cells : length lookups < inputs.permutation.now.width
+  pub terminal : 0 < length inputs.permutation_values.now
+
+module _ {F K : Type 0} (E : Extension F K) (inputs : RowInputs F K) where
+  -- a constraint is zero on a row
+  abbrev pub IsZeroOn : ℕ → Constraint F K → Type 0
+  IsZeroOn r constraint = constraint.meaning (input_window inputs r) ≡ E.ring.zero
+
+  -- the constraint of a lookup's fraction is zero on a row
+  abbrev pub FractionHolds : Lookup F → ℕ → Type 0
+  FractionHolds lookup r = IsZeroOn r (fraction_constraint E lookup)
+
+  module _ (lookups : List (Lookup F)) where
+    -- the accumulator's constraints are zero on a row
+    abbrev pub AccumulatorHolds : ℕ → Type 0
+    AccumulatorHolds r = AllByRecursion (IsZeroOn r) (accumulator_constraints E lookups (terminal_at E) (λ t. 0))
+
+    -- every constraint of the lookups is zero on a row
+    abbrev pub HoldsOn : ℕ → Type 0
+    HoldsOn r = AllByRecursion (IsZeroOn r) (lookup_constraints E lookups)
+
+    -- row r is the first on which one is not
+    pub record IsFirstFailingOn (r : ℕ) : Type 0 where
+      pub within : r < height inputs.main.now
+      pub fails : ¬ HoldsOn r
+      pub before : (s : ℕ) → s < r → HoldsOn s
+
+    -- the first row on which a constraint is not zero, or all are zero on every row; or memory runs out
+    abbrev pub FindsFailing : Result (Option ℕ) AllocError → Type 0
+    FindsFailing result =
+        MatchResult result
+        (λ found. MatchOption found ((r : ℕ) → r < height inputs.main.now → HoldsOn r) IsFirstFailingOn)
+        (λ _. ⊤)

@@ -7,8 +7,11 @@
 //! `packing_keeps_batch` that packing changes neither count. docs/HEADLINE.md joins their contracts.
 #![tactic(auto)]
 
+mod accumulator;
+mod chunks;
 mod counting;
 mod existence;
+mod fractions;
 mod generation;
 mod ids;
 mod instances;

@@ -1,18 +1,25 @@
 //! The constraints of lookups on the rows of given traces.
 ghost use Rattle.std.specs.Prelude.{◌≡◌, ◌*◌, ◌<◌, ◌≤◌, ◌⊎◌, ℕ, MatchOption, MatchResult, length, ⊤};
-ghost use Rattle.std.specs.Option.{option_copied};
-ghost use Rattle.air.specs.Row.{HeightFits, OptionHeightFits, input_layout};
+ghost use Rattle.std.specs.Option.{ForSome, option_copied};
+ghost use Rattle.air.specs.Row.{HeightFits, input_layout};
 ghost use Rattle.lookup_model.specs.Extension.{extension};
 ghost use Rattle.lookup_model.specs.Records.{DoFit};
 ghost use Rattle.matrix.specs.Matrix.{height};
-ghost use Rattle.checker.specs.Rows.{HoldsOn, IsFirstFailingOn};
+ghost use Rattle.checker.specs.Rows.{AreChecked, FindsFailing, HoldsOn, IsFirstFailingOn};
 
+use crate::chunks::first_failing_in_chunks;
 use air::{AirError, DebugConstraintBuilder, RowInputs};
 use field::{ExtensionField, Field};
 use lookup::{LogUpGadget, Lookup, LookupProtocol};
 use std::alloc::{AllocError, Global};
 
+/// From how many rows on they are checked in chunks.
+const MANY_ROWS: usize = 8;
+
 /// The first row on which a constraint of the lookups is not zero.
+///
+/// The rows are checked in chunks. Fewer than 8 rows are checked one by one: for so few, making the
+/// columns of a chunk takes longer than walking the expressions on each row.
 ///
 /// Fails only when out of memory.
 pub(crate) fn first_failing_row<'a, F: Field, EF: ExtensionField<F>>(
@@ -20,8 +27,8 @@ pub(crate) fn first_failing_row<'a, F: Field, EF: ExtensionField<F>>(
     inputs: &'a RowInputs<'a, F, EF>,
     lookups: &[Lookup<F>],
 ) -> Result<Option<usize>, AllocError>
-    requires preprocessed { OptionHeightFits (height inputs.now.main.now)
-        (option_copied inputs.now.preprocessed) }
+    requires preprocessed { ForSome (option_copied inputs.now.preprocessed)
+        (λ m. height m ≡ height inputs.now.main.now) }
     requires permutation { HeightFits (height inputs.now.main.now) inputs.now.permutation.now }
     requires fit { DoFit (input_layout inputs.now) lookups.now }
     requires challenges { 2 * length lookups.now ≤ length inputs.now.challenges.now }
@@ -36,6 +43,25 @@ pub(crate) fn first_failing_row<'a, F: Field, EF: ExtensionField<F>>(
         (λ r. IsFirstFailingOn (extension F.ring F.eq EF.ring EF.eq EF.embed EF.inverse) inputs.now
         lookups.now r))
         (λ _. ⊤) }
+{
+    if lookups.is_empty() {
+        Ok(None)
+    } else if inputs.main.height() < MANY_ROWS {
+        first_failing_of_few(alloc, inputs, lookups)
+    } else {
+        first_failing_in_chunks(alloc, inputs, lookups)
+    }
+}
+
+/// The first row on which a constraint is not zero, by walking the expressions on each row.
+fn first_failing_of_few<'a, F: Field, EF: ExtensionField<F>>(
+    alloc: Global,
+    inputs: &'a RowInputs<'a, F, EF>,
+    lookups: &[Lookup<F>],
+) -> Result<Option<usize>, AllocError>
+    requires { AreChecked inputs.now lookups.now }
+    ensures { FindsFailing (extension F.ring F.eq EF.ring EF.eq EF.embed EF.inverse) inputs.now
+        lookups.now result }
 {
     for row in 0..inputs.main.height() {
         match check_row(alloc, inputs, lookups, row) {
@@ -55,14 +81,7 @@ fn check_row<'a, F: Field, EF: ExtensionField<F>>(
     row: usize,
 ) -> Result<(), AirError>
     requires row { row < height inputs.now.main.now }
-    requires preprocessed { OptionHeightFits (height inputs.now.main.now)
-        (option_copied inputs.now.preprocessed) }
-    requires permutation { HeightFits (height inputs.now.main.now) inputs.now.permutation.now }
-    requires fit { DoFit (input_layout inputs.now) lookups.now }
-    requires challenges { 2 * length lookups.now ≤ length inputs.now.challenges.now }
-    requires cells { 0 < length lookups.now
-        → length lookups.now < inputs.now.permutation.now.width }
-    requires terminal { 0 < length lookups.now → 0 < length inputs.now.permutation_values.now }
+    requires checked { AreChecked inputs.now lookups.now }
     ensures { MatchResult result
         (λ _. HoldsOn (extension F.ring F.eq EF.ring EF.eq EF.embed EF.inverse) inputs.now
         lookups.now row)

@@ -2,6 +2,7 @@
 ghost use Rattle.std.specs.Prelude.{◌≡◌, ◌↔◌, ◌<◌, All, IsTrue, length};
 
 mod batches;
+mod chunks;
 mod counts;
 mod exhaustion;
 mod existence;

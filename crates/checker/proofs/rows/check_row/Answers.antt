@@ -1,10 +1,13 @@
-use Rattle.std.proofs.Common.{◌≡◌, ◌⊎◌, ℕ, MatchResult, refl, subst₂}
+use Rattle.std.proofs.Common.{◌≡◌, ◌⊎◌, ℕ, MatchResult, inr, refl, subst₂}
 use Rattle.std.specs.List.{AllByRecursion}
+use Rattle.std.specs.Option.{option_copied}
 use Rattle.expressions.specs.Window.{ExtWindow}
 use Rattle.air.specs.Row.{ext_row_window}
 use Rattle.expressions.specs.declared.error.AirError.TheVariants.{Memory, Assertion}
 use Rattle.lookup_model.specs.Constraints.{lookup_constraints}
 use Rattle.lookup_model.specs.Extension.{extension}
+use Rattle.matrix.specs.Matrix.{height}
+use Rattle.checker.proofs.CheckedInputs.{option_fits}
 use Rattle.checker.proofs.RowLaws.{checked}
 use Rattle.checker.proofs.rows.check_row.Goals as goal
 
@@ -22,7 +25,8 @@ pub new-builder-requires-clause-row : goal.new-builder-requires-clause-row
 new-builder-requires-clause-row g c = c.requires.row
 
 pub new-builder-requires-clause-preprocessed : goal.new-builder-requires-clause-preprocessed
-new-builder-requires-clause-preprocessed g c = c.requires.preprocessed
+new-builder-requires-clause-preprocessed g c =
+    option_fits (height c.args.inputs.now.main.now) (option_copied c.args.inputs.now.preprocessed) c.requires.checked.preprocessed
 
 pub new-builder-requires-clause-permutation : goal.new-builder-requires-clause-permutation
-new-builder-requires-clause-permutation g c = c.requires.permutation
+new-builder-requires-clause-permutation g c = inr c.requires.checked.permutation

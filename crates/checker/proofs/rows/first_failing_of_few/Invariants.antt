@@ -1,7 +1,7 @@
 use Rattle.std.proofs.Common.{◌<◌, ℕ}
 use Rattle.lookup_model.specs.Extension.{extension}
 use Rattle.checker.specs.Rows.{HoldsOn}
-use Rattle.checker.proofs.rows.first_failing_row.Given as goal
+use Rattle.checker.proofs.rows.first_failing_of_few.Given as goal
 
 abbrev pub invariant-loop-row : goal.invariant-loop-row
 invariant-loop-row g l =

@@ -1,0 +1,28 @@
+-- Rows on which properties hold until one fails.
+use Rattle.std.proofs.Common.{◌≡◌, ◌⊎◌, ℕ, ◌<◌, ◌≤◌, inl, inr, subst, arith}
+use Rattle.std.proofs.lemmas.Bool.{cases_lt}
+use Rattle.checker.specs.Rows.{HoldsUntil}
+
+module _ {P Q : ℕ → Type 0} {first end : ℕ} where
+  -- a property that holds on the same rows
+  pub same_until : ((s : ℕ) → P s → Q s) → ((s : ℕ) → Q s → P s) → (r : ℕ) → HoldsUntil P first end r → HoldsUntil Q first end r
+  same_until to from r h = record {
+    from = h.from;
+    up_to = h.up_to;
+    holds = λ s low high. to s (h.holds s low high);
+    fails = λ lt q. h.fails lt (from r q);
+  }
+
+  -- a property that is looked at only up to where another one fails: both hold until then
+  pub both_until : (u r : ℕ) → HoldsUntil P first end u → HoldsUntil Q first u r → HoldsUntil (λ s. P s × Q s) first end r
+  both_until u r one other = record {
+    from = other.from;
+    up_to = omega (arith, one.up_to, other.up_to);
+    holds = λ s low high. (one.holds s low (omega (arith, high, other.up_to)), other.holds s low high);
+    fails = λ lt pq. by_place lt pq (cases_lt r u);
+  }
+    where
+      by_place : r < end → P r × Q r → (r < u) ⊎ (u ≤ r) → ⊥
+      by_place lt pq (inl earlier) = other.fails earlier pq.1
+      by_place lt pq (inr late) =
+          let same : r ≡ u = omega (arith, late, other.up_to) in one.fails (omega (arith, lt, same)) (subst P same pq.0)

@@ -1,0 +1,92 @@
+//! The first row on which a constraint is not zero, in chunks of rows.
+ghost use Rattle.std.specs.Prelude.{◌<◌, ◌≤◌, IfOk};
+ghost use Rattle.std.specs.List.{AllZip};
+ghost use Rattle.checker.specs.Rows.{AreChecked, FindsFailing, HoldsOn, HoldsUntil};
+ghost use Rattle.lookup_columns.specs.LookupSteps.{AreLookupSteps};
+ghost use Rattle.lookup_model.specs.Extension.{extension};
+ghost use Rattle.matrix.specs.Matrix.{height};
+
+use crate::accumulator::accumulator_holds_until;
+use crate::fractions::fraction_holds_until;
+use air::RowInputs;
+use field::{ExtensionField, Field};
+use lookup::Lookup;
+use lookup_columns::{
+    ColumnMemory, LookupSteps, Traces, columns_of_lookup, rows_between, steps_of_lookups,
+};
+use lookup_generation::chunk_end;
+use std::alloc::{AllocError, Global};
+
+/// The first row on which a constraint is not zero. The first chunk that has one ends the check.
+///
+/// All expressions are flattened once, and the lists of a chunk are filled again for the next one.
+pub(crate) fn first_failing_in_chunks<'a, F: Field, EF: ExtensionField<F>>(
+    alloc: Global,
+    inputs: &'a RowInputs<'a, F, EF>,
+    lookups: &[Lookup<F>],
+) -> Result<Option<usize>, AllocError>
+    requires { AreChecked inputs.now lookups.now }
+    ensures { FindsFailing (extension F.ring F.eq EF.ring EF.eq EF.embed EF.inverse) inputs.now
+        lookups.now result }
+{
+    let steps = steps_of_lookups(alloc, lookups)?;
+    let mut memory = ColumnMemory::new(alloc);
+    let height = inputs.main.height();
+    let mut first = 0;
+    while first < height {
+        let end = chunk_end(first, height);
+        let until = chunk_holds_until(alloc, &mut memory, inputs, lookups, &steps, first, end)?;
+        if until < end {
+            return Ok(Some(until));
+        }
+        first = end;
+    }
+    Ok(None)
+}
+
+/// Up to which of the rows from `first` up to `end` all constraints are zero: the first row on which one
+/// is not, or `end`.
+///
+/// The accumulator is looked at first. Each lookup is then looked at only before the row found so far,
+/// and its columns are put away before those of the next one are made.
+fn chunk_holds_until<'a, F: Field, EF: ExtensionField<F>>(
+    alloc: Global,
+    memory: &mut ColumnMemory<F, EF>,
+    inputs: &'a RowInputs<'a, F, EF>,
+    lookups: &[Lookup<F>],
+    steps: &[LookupSteps<F>],
+    first: usize,
+    end: usize,
+) -> Result<usize, AllocError>
+    requires checked { AreChecked inputs.now lookups.now }
+    requires steps { AllZip AreLookupSteps steps.now lookups.now }
+    requires from { first ≤ end }
+    requires up_to { end ≤ height inputs.now.main.now }
+    ensures { IfOk result (HoldsUntil
+        (HoldsOn (extension F.ring F.eq EF.ring EF.eq EF.embed EF.inverse) inputs.now lookups.now)
+        first end) }
+{
+    let traces = Traces {
+        main: inputs.main,
+        preprocessed: inputs.preprocessed,
+        public_values: inputs.public_values,
+    };
+    let rows = rows_between(alloc, &mut memory.places, first, end)?;
+    let mut until = accumulator_holds_until(inputs, lookups, first, end);
+    for i in 0..lookups.len() {
+        let lookup = &lookups[i];
+        let columns = columns_of_lookup(
+            alloc,
+            memory,
+            lookup,
+            &steps[i],
+            &traces,
+            inputs.challenges,
+            &rows,
+        )?;
+        until = fraction_holds_until(inputs, lookup, &columns, first, until);
+        memory.put_branches(columns)?;
+    }
+    memory.places.put(rows)?;
+    Ok(until)
+}

@@ -1,0 +1,317 @@
+//! Witnesses with spoiled cells, of more rows than a chunk has and of few: the row that is named.
+//!
+//! A cell is spoiled by one more. A spoiled fraction breaks the constraint of its lookup on its own row,
+//! whose denominator is not zero. A spoiled accumulator breaks the step that leads to it, on the row
+//! before; on the first row it breaks the start.
+use super::{alone, cell, checked, generated, group, holds, instance, list, range, trace};
+use air::{Expression, SymbolicExpression};
+use checker::Witness;
+use field::{BabyBear, BabyBear4, Field, PrimeCharacteristicRing};
+use lookup::{Challenges, Lookup, LookupError, LookupTerminal};
+use matrix::RowMajorMatrix;
+use std::alloc::Global;
+use std::process::Abort;
+
+/// The last of more rows than a chunk has.
+const LAST: usize = 1029;
+
+/// One AIR with an id for each lookup.
+#[derive(Drop)]
+struct Air {
+    main: RowMajorMatrix<BabyBear>,
+    lookups: Vec<Lookup<BabyBear>>,
+    ids: Vec<usize>,
+}
+
+/// A table of challenges for tuples of four.
+fn table(rt: &impl Abort, alloc: Global) -> Challenges<BabyBear4> {
+    let alpha = BabyBear4::new([9, 2, 6, 5].map(BabyBear::new));
+    let beta = BabyBear4::new([3, 1, 4, 15].map(BabyBear::new));
+    Challenges::new(alloc, alpha, beta, 4, 4).expect(rt, "memory")
+}
+
+/// What generation makes of the AIR.
+fn made(
+    rt: &impl Abort,
+    alloc: Global,
+    air: &Air,
+    challenges: &Challenges<BabyBear4>,
+) -> Witness<BabyBear4> {
+    let instances = [instance(air.lookups.as_slice(), &air.main, air.ids.as_slice())];
+    generated(rt, alloc, instances.as_slice(), challenges).expect(rt, "no fault")
+}
+
+/// The answer to this auxiliary trace, with this terminal.
+fn answer(
+    rt: &impl Abort,
+    alloc: Global,
+    air: &Air,
+    challenges: &Challenges<BabyBear4>,
+    aux: RowMajorMatrix<BabyBear4>,
+    terminal: Option<LookupTerminal<BabyBear4>>,
+) -> Result<(), LookupError> {
+    let instances = [instance(air.lookups.as_slice(), &air.main, air.ids.as_slice())];
+    let (aux, terminals) = ([aux], [terminal]);
+    let (aux, terminals) = (aux.as_slice(), terminals.as_slice());
+    checked(rt, alloc, instances.as_slice(), challenges, aux, terminals)
+}
+
+/// The auxiliary trace with one more in each of these cells, by row and column.
+fn spoiled<EF: Field>(
+    rt: &impl Abort,
+    alloc: Global,
+    made: &Witness<EF>,
+    cells: &[(usize, usize)],
+) -> RowMajorMatrix<EF> {
+    let Some(aux) = made.aux.first() else {
+        panic!(rt; "no auxiliary trace")
+    };
+    let width = aux.width();
+    let mut values = Vec::new(alloc);
+    values.extend_from_slice(aux.values()).expect(rt, "memory");
+    for (row, column) in cells {
+        let place = row.saturating_mul(width).saturating_add(*column);
+        match values.get_mut(place) {
+            Some(cell) => *cell = *cell + EF::ONE,
+            None => panic!(rt; "no such cell"),
+        }
+    }
+    assert!(rt; width > 0 && values.len() % width == 0);
+    RowMajorMatrix::new(values, width)
+}
+
+/// The terminal, plus this.
+fn terminal<EF: Field>(
+    rt: &impl Abort,
+    made: &Witness<EF>,
+    more: EF,
+) -> Option<LookupTerminal<EF>> {
+    match made.terminals.first() {
+        Some(Some(LookupTerminal(value))) => Some(LookupTerminal(*value + more)),
+        _ => panic!(rt; "no terminal"),
+    }
+}
+
+/// Spoiled cells, by row and column, and the row that has to be named. Column 0 is the accumulator.
+const SPOILED: [(&[(usize, usize)], usize); 17] = [
+    (&[(0, 0)], 0),
+    (&[(1023, 0)], 1022),
+    (&[(1024, 0)], 1023),
+    (&[(1025, 0)], 1024),
+    (&[(LAST, 0)], 1028),
+    (&[(0, 1)], 0),
+    (&[(1023, 1)], 1023),
+    (&[(1024, 1)], 1024),
+    (&[(1025, 1)], 1025),
+    (&[(LAST, 1)], LAST),
+    (&[(1024, 1), (1024, 2)], 1024),
+    (&[(1023, 2)], 1023),
+    (&[(1025, 1), (1023, 2)], 1023),
+    (&[(1022, 1), (1023, 1)], 1022),
+    (&[(LAST, 2), (0, 1)], 0),
+    (&[(1025, 0), (1023, 2)], 1023),
+    (&[(1024, 0), (1024, 1)], 1023),
+];
+
+/// Fails unless the generated witness is accepted and each spoiled one is refused at its row, and with
+/// a spoiled terminal at the last row.
+fn names_the_rows(
+    rt: &impl Abort,
+    alloc: Global,
+    air: &Air,
+    cases: &[(&[(usize, usize)], usize)],
+    last: usize,
+) {
+    let challenges = table(rt, alloc);
+    let witness = made(rt, alloc, air, &challenges);
+    let zero = terminal(rt, &witness, BabyBear4::ZERO);
+    let sound = spoiled(rt, alloc, &witness, &[]);
+    let accepted = answer(rt, alloc, air, &challenges, sound, zero);
+    holds(rt, "accepted", accepted.is_ok());
+    for (cells, row) in cases {
+        let aux = spoiled(rt, alloc, &witness, cells);
+        let zero = terminal(rt, &witness, BabyBear4::ZERO);
+        let refused = answer(rt, alloc, air, &challenges, aux, zero);
+        let failed = LookupError::ConstraintFailed { air: 0, row: *row };
+        holds(rt, "a spoiled cell", refused == Err(failed));
+    }
+    let sound = spoiled(rt, alloc, &witness, &[]);
+    let one = terminal(rt, &witness, BabyBear4::ONE);
+    let refused = answer(rt, alloc, air, &challenges, sound, one);
+    let failed = LookupError::ConstraintFailed { air: 0, row: last };
+    holds(rt, "a spoiled terminal", refused == Err(failed));
+}
+
+/// Two local lookups, each of which reads the number of a row on it and provides it on the row that is
+/// as far from the end.
+fn locals(rt: &impl Abort, alloc: Global, last: usize) -> Air {
+    assert!(rt; last < 2000);
+    let mut numbers = Vec::new(alloc);
+    for row in 0..last as u32 + 1 {
+        numbers
+            .extend_from_slice(&[row, last as u32 - row, 1])
+            .expect(rt, "memory");
+    }
+    let (first, mut second) = (range(rt, alloc), range(rt, alloc));
+    second.column = 1;
+    Air {
+        main: trace(rt, alloc, numbers.as_slice(), 3),
+        lookups: list(rt, alloc, [first, second]),
+        ids: list(rt, alloc, [0, 1]),
+    }
+}
+
+#[test]
+fn spoiled_cells_of_local_lookups(rt: HostRuntime) {
+    let air = locals(&rt, rt.alloc(), LAST);
+    names_the_rows(&rt, rt.alloc(), &air, SPOILED.as_slice(), LAST);
+}
+
+/// Eight lookups on four buses. The first four ask for a tuple of four cells, and the others provide it
+/// on the row that is as far from the end.
+fn buses(rt: &impl Abort, alloc: Global) -> Air {
+    let mut numbers = Vec::new(alloc);
+    for row in 0..LAST as u32 + 1 {
+        for cell in 0..16u32 {
+            numbers.push(row + cell).expect(rt, "memory");
+        }
+        for cell in 0..16u32 {
+            numbers.push(LAST as u32 - row + cell).expect(rt, "memory");
+        }
+    }
+    let mut lookups = Vec::new(alloc);
+    let mut ids = Vec::new(alloc);
+    for column in 0..8usize {
+        lookups
+            .push(bus_lookup(rt, alloc, column))
+            .expect(rt, "memory");
+        ids.push(column % 4).expect(rt, "memory");
+    }
+    let main = trace(rt, alloc, numbers.as_slice(), 32);
+    Air { main, lookups, ids }
+}
+
+/// The lookup in this column: four cells with count 1, in the last four columns with count -1.
+fn bus_lookup(rt: &impl Abort, alloc: Global, column: usize) -> Lookup<BabyBear> {
+    assert!(rt; column < 8);
+    let count = if column < 4 {
+        BabyBear::ONE
+    } else {
+        -BabyBear::ONE
+    };
+    let mut lookup = range(rt, alloc);
+    lookup.column = column;
+    let first = 4 * column;
+    let tuple = [first, first + 1, first + 2, first + 3].map(cell);
+    lookup.elements = alone(rt, alloc, list(rt, alloc, tuple));
+    lookup.multiplicities = alone(rt, alloc, SymbolicExpression::constant(count));
+    lookup
+}
+
+#[test]
+fn spoiled_cells_of_lookups_on_buses(rt: HostRuntime) {
+    let air = buses(&rt, rt.alloc());
+    names_the_rows(&rt, rt.alloc(), &air, SPOILED.as_slice(), LAST);
+}
+
+/// Two groups of four branches, which take back each other's keys. Of five rows the first four select a
+/// branch each, and the fifth none.
+fn groups(rt: &impl Abort, alloc: Global) -> Air {
+    let mut numbers = Vec::new(alloc);
+    for row in 0..LAST as u32 + 1 {
+        for branch in 0..4u32 {
+            numbers
+                .push(u32::from(row % 5 == branch))
+                .expect(rt, "memory");
+        }
+        for branch in 0..4u32 {
+            numbers.push(3 * row + branch).expect(rt, "memory");
+        }
+    }
+    let branches = [(0, 4), (1, 5), (2, 6), (3, 7)];
+    let first = group(rt, alloc, branches, BabyBear::ONE);
+    let mut second = group(rt, alloc, branches, -BabyBear::ONE);
+    second.column = 1;
+    Air {
+        main: trace(rt, alloc, numbers.as_slice(), 8),
+        lookups: list(rt, alloc, [first, second]),
+        ids: list(rt, alloc, [0, 0]),
+    }
+}
+
+#[test]
+fn spoiled_cells_of_exclusive_lookups(rt: HostRuntime) {
+    let air = groups(&rt, rt.alloc());
+    names_the_rows(&rt, rt.alloc(), &air, SPOILED.as_slice(), LAST);
+}
+
+/// The product of two cells.
+fn product(
+    rt: &impl Abort,
+    alloc: Global,
+    first: usize,
+    second: usize,
+) -> SymbolicExpression<BabyBear> {
+    cell::<BabyBear>(first)
+        .mul(alloc, cell(second))
+        .expect(rt, "memory")
+}
+
+/// A lookup of the tuple `[c0 * c1 + c2, c0 * c2 - c1]`, with the product of these cells as its count.
+fn product_lookup(
+    rt: &impl Abort,
+    alloc: Global,
+    column: usize,
+    count: (usize, usize),
+) -> Lookup<BabyBear> {
+    let sum = product(rt, alloc, 0, 1)
+        .add(alloc, cell(2))
+        .expect(rt, "memory");
+    let difference = product(rt, alloc, 0, 2)
+        .sub(alloc, cell(1))
+        .expect(rt, "memory");
+    let mut lookup = range(rt, alloc);
+    lookup.column = column;
+    lookup.elements = alone(rt, alloc, list(rt, alloc, [sum, difference]));
+    lookup.multiplicities = alone(rt, alloc, product(rt, alloc, count.0, count.1));
+    lookup
+}
+
+/// Two lookups of products, which take back each other's tuples: the counts are `c3 * c4` and `c3 * c5`,
+/// and `c5` is the negative of `c4`.
+fn products(rt: &impl Abort, alloc: Global) -> Air {
+    let mut numbers = Vec::new(alloc);
+    for row in 0..LAST as u32 + 1 {
+        let cells = [row, row + 1, 2 * row, row + 3, 2, 2013265919];
+        numbers.extend_from_slice(&cells).expect(rt, "memory");
+    }
+    let first = product_lookup(rt, alloc, 0, (3, 4));
+    let second = product_lookup(rt, alloc, 1, (3, 5));
+    Air {
+        main: trace(rt, alloc, numbers.as_slice(), 6),
+        lookups: list(rt, alloc, [first, second]),
+        ids: list(rt, alloc, [0, 0]),
+    }
+}
+
+#[test]
+fn spoiled_cells_of_products(rt: HostRuntime) {
+    let air = products(&rt, rt.alloc());
+    names_the_rows(&rt, rt.alloc(), &air, SPOILED.as_slice(), LAST);
+}
+
+/// Seven rows are checked one by one, and eight in a chunk: both name the same rows, as one row does.
+#[test]
+fn spoiled_cells_of_few_rows(rt: HostRuntime) {
+    let alloc = rt.alloc();
+    let one: [(&[(usize, usize)], usize); 2] = [(&[(0, 0)], 0), (&[(0, 2)], 0)];
+    names_the_rows(&rt, alloc, &locals(&rt, alloc, 0), one.as_slice(), 0);
+    let few: [(&[(usize, usize)], usize); 4] = [
+        (&[(0, 0)], 0),
+        (&[(3, 0)], 2),
+        (&[(6, 1)], 6),
+        (&[(6, 0), (6, 1)], 5),
+    ];
+    names_the_rows(&rt, alloc, &locals(&rt, alloc, 6), few.as_slice(), 6);
+    names_the_rows(&rt, alloc, &locals(&rt, alloc, 7), few.as_slice(), 7);
+}
