@@ -1,11 +1,11 @@
 //! The constraints of lookups on the rows of given traces.
-ghost use Rattle.std.specs.Prelude.{◌≡◌, ◌*◌, ◌<◌, ◌≤◌, ◌⊎◌, ℕ, MatchOption, MatchResult, length, ⊤};
+ghost use Rattle.std.specs.Prelude.{◌≡◌, ◌*◌, ◌<◌, ◌≤◌, ◌⊎◌, MatchResult, length};
 ghost use Rattle.std.specs.Option.{ForSome, option_copied};
 ghost use Rattle.air.specs.Row.{HeightFits, input_layout};
 ghost use Rattle.lookup_model.specs.Extension.{extension};
 ghost use Rattle.lookup_model.specs.Records.{DoFit};
 ghost use Rattle.matrix.specs.Matrix.{height};
-ghost use Rattle.checker.specs.Rows.{AreChecked, FindsFailing, HoldsOn, IsFirstFailingOn};
+ghost use Rattle.checker.specs.Rows.{AreChecked, FindsFailing, HoldsOn};
 
 use crate::chunks::first_failing_in_chunks;
 use air::{AirError, DebugConstraintBuilder, RowInputs};
@@ -35,14 +35,8 @@ pub(crate) fn first_failing_row<'a, F: Field, EF: ExtensionField<F>>(
     requires cells { 0 < length lookups.now
         → length lookups.now < inputs.now.permutation.now.width }
     requires terminal { 0 < length lookups.now → 0 < length inputs.now.permutation_values.now }
-    ensures { MatchResult result
-        (λ found. MatchOption found
-        ((r : ℕ) → r < height inputs.now.main.now
-        → HoldsOn (extension F.ring F.eq EF.ring EF.eq EF.embed EF.inverse) inputs.now lookups.now
-        r)
-        (λ r. IsFirstFailingOn (extension F.ring F.eq EF.ring EF.eq EF.embed EF.inverse) inputs.now
-        lookups.now r))
-        (λ _. ⊤) }
+    ensures { FindsFailing (extension F.ring F.eq EF.ring EF.eq EF.embed EF.inverse) inputs.now
+        lookups.now result }
 {
     if lookups.is_empty() {
         Ok(None)

@@ -29,8 +29,7 @@ use std::alloc::{AllocError, Global};
 ///   round;
 /// - `PermutationWidthMismatch`: the auxiliary trace does not have one column more than there are
 ///   lookups, or none without lookups;
-/// - `PermutationHeightMismatch`: it does not have the height of the main trace, or is not empty
-///   without lookups;
+/// - `PermutationHeightMismatch`: with lookups, it does not have the height of the main trace;
 /// - `ConstraintFailed`: a constraint is not zero on a row, of which the first is named;
 /// - `TerminalSumNonZero`: the terminals do not sum to zero.
 ///

@@ -28,9 +28,7 @@ impl<F: Field> Lookups<F> {
     ghost use Rattle.lookup.specs.Lookups.{DoesStillFit, lookups_of};
     ghost use Rattle.lookup_record.specs.RecordedWithin.{EvaluatesWithin};
     ghost use Rattle.std.specs.Fn.{FnReturnsAt};
-    ghost use Rattle.lookup_model.specs.LookupDegree.{IsDegree, lookup_degree};
     ghost use Rattle.lookup_model.specs.Outline.{fields_of};
-    ghost use Rattle.lookup_model.specs.Records.{HasEqualLengths};
     ghost use Rattle.lookup_packing.specs.Fewest.{AnswersDegree, HasFewestColumns};
     ghost use Rattle.lookup_packing.specs.Kept.{KeepsKeys, KeepsMessages, KeepsNets, KeepsWeight};
     ghost use Rattle.lookup_packing.specs.Packing.{Packs};
@@ -117,11 +115,13 @@ impl<F: Field> Lookups<F> {
     /// Likewise by the degree of the gadget at transition degree 0. No consecutive split of the
     /// additive lookups of a bus within `max_degree` has fewer columns.
     ///
-    /// A lookup alone is not refused for its degree.
+    /// It takes time linear in the size of the lookups. The gadget is not asked: its contract says what
+    /// it answers, so the degrees of an open column are kept. A lookup alone is not refused for its
+    /// degree.
     pub fn pack_same_bus<LG: LookupProtocol>(
         self,
         alloc: Global,
-        gadget: &LG,
+        _gadget: &LG,
         max_degree: usize,
     ) -> Result<Self, LookupError>
         ensures packs { Packs AnswersDegree max_degree (λ set. map fields_of (lookups_of set))
@@ -137,14 +137,8 @@ impl<F: Field> Lookups<F> {
             (lookups_of set)) }
         ensures fits { IfOk result (λ set. DoesStillFit (lookups_of self) (lookups_of set)) }
     {
-        self.pack_same_bus_with_degree(
-            alloc,
-            max_degree,
-            |lookup: &Lookup<F>| -> Result<usize, LookupError>
-                requires { HasEqualLengths lookup.now }
-                ensures { IsDegree result (lookup_degree 0 lookup.now) }
-            { gadget.constraint_degree(lookup) },
-        )
+        let lookups = lookup_packing::packed_by_degree(alloc, self.lookups, max_degree)?;
+        Ok(Lookups { lookups })
     }
 
     /// The lookups in the order of their columns.

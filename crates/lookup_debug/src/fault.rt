@@ -58,7 +58,7 @@ impl<F, T: Drop> From<AllocFailed<T>> for LookupFault<F> {
 }
 
 impl<F: Field> LookupFault<F> {
-    /// The fault in one line: `Lookup mismatch (LABEL): tuple [T, T] has net multiplicity N at instance
+    /// The fault as a sentence: `Lookup mismatch (LABEL): tuple [T, T] has net multiplicity N at instance
     /// I lookup L row R`, with further places after `; `, or `out of memory`.
     ///
     /// Fails only when out of memory.

@@ -9,5 +9,6 @@ pub mod HornerRule
 pub mod Lawful
 pub mod Prefixes
 pub mod RecordLaws
+pub mod SumDegreeLaws
 pub mod SumLaws
 pub mod TakenOut

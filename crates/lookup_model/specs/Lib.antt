@@ -16,6 +16,7 @@ pub mod Points
 pub mod Records
 pub mod Refusal
 pub mod Sent
+pub mod SumDegrees
 pub mod Terminals
 pub mod Trace
 pub mod Weight

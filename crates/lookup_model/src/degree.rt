@@ -1,9 +1,10 @@
 //! The degrees of the constraints of lookups.
-ghost use Rattle.std.specs.Prelude.{◌≡◌, ◌+◌, ◌-◌, ◌≤◌, None, Some, length, map, max};
-ghost use Rattle.lookup_model.specs.LookupDegree.{IsDegree, constraint_degree_of, expression_degree, lookup_branch_degrees, lookup_degree, total, tuple_degree};
+ghost use Rattle.std.specs.Prelude.{◌≡◌, ◌+◌, None, Some, length, map, max};
+ghost use Rattle.lookup_model.specs.LookupDegree.{IsDegree, constraint_degree_of, expression_degree, lookup_branch_degrees, lookup_degree, tuple_degree};
 ghost use Rattle.lookup_model.specs.Records.{HasEqualLengths};
 
 use crate::error::LookupError;
+use crate::sum_degrees::SumDegrees;
 use crate::types::Lookup;
 use expressions::SymbolicExpression;
 
@@ -30,51 +31,13 @@ pub fn constraint_degree<F>(lookup: &Lookup<F>, transition: usize) -> Result<usi
     }
 }
 
-/// The degree without flags, in time linear in the size of the lookup.
+/// The degree without flags.
 fn additive_degree<F>(lookup: &Lookup<F>, transition: usize) -> Result<usize, LookupError>
     requires { HasEqualLengths lookup.now }
     ensures { IsDegree result (constraint_degree_of None
         (lookup_branch_degrees transition lookup.now)) }
 {
-    let product = product_degree(&lookup.elements, transition)?;
-    let mut degree = sum_of_degrees(1, product)?;
-    for branch in 0..lookup.elements.len() {
-        let tuple = &lookup.elements[branch];
-        let multiplicity = &lookup.multiplicities[branch];
-        degree = degree.max(term_degree(tuple, multiplicity, product, transition)?);
-    }
-    Ok(degree)
-}
-
-/// The degree of a multiplicity times all denominators but that of its tuple, if the product of all
-/// denominators has degree `product`.
-fn term_degree<F>(
-    tuple: &[SymbolicExpression<F>],
-    multiplicity: &SymbolicExpression<F>,
-    product: usize,
-    transition: usize,
-) -> Result<usize, LookupError>
-    requires { tuple_degree transition tuple.now ≤ product }
-    ensures { IsDegree result (expression_degree transition multiplicity.now +
-        (product - tuple_degree transition tuple.now)) }
-{
-    let others = product - degree_of_tuple(tuple, transition)?;
-    sum_of_degrees(degree_of(multiplicity, transition)?, others)
-}
-
-/// The degree of the product of the denominators of these tuples.
-fn product_degree<F>(
-    elements: &[Vec<SymbolicExpression<F>>],
-    transition: usize,
-) -> Result<usize, LookupError>
-    ensures { IsDegree result (total (map (λ tuple. tuple_degree transition tuple.items)
-        elements.now)) }
-{
-    let mut sum = 0;
-    for tuple in elements {
-        sum = sum_of_degrees(sum, degree_of_tuple(tuple, transition)?)?;
-    }
-    Ok(sum)
+    SumDegrees::of_lookup(lookup, transition)?.degree()
 }
 
 /// The degree with flags.
@@ -118,7 +81,7 @@ fn branch_degree<F>(
 }
 
 /// The greatest degree of an element, which is that of the tuple's denominator.
-fn degree_of_tuple<F>(
+pub(crate) fn degree_of_tuple<F>(
     tuple: &[SymbolicExpression<F>],
     transition: usize,
 ) -> Result<usize, LookupError>
@@ -131,13 +94,18 @@ fn degree_of_tuple<F>(
     Ok(degree)
 }
 
-fn degree_of<F>(expression: &SymbolicExpression<F>, transition: usize) -> Result<usize, LookupError>
+/// The degree of an expression, if it fits `usize`.
+pub(crate) fn degree_of<F>(
+    expression: &SymbolicExpression<F>,
+    transition: usize,
+) -> Result<usize, LookupError>
     ensures { IsDegree result (expression_degree transition expression.now) }
 {
     Ok(expression.degree_multiple_with_transition(transition)?)
 }
 
-fn sum_of_degrees(left: usize, right: usize) -> Result<usize, LookupError>
+/// The sum, if it fits `usize`.
+pub(crate) fn sum_of_degrees(left: usize, right: usize) -> Result<usize, LookupError>
     ensures { IsDegree result (left + right) }
 {
     left.checked_add(right).ok_or(LookupError::DegreeOverflow)

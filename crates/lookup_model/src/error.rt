@@ -9,7 +9,7 @@ use thiserror::Error;
 /// A refusal of the lookup layer.
 #[derive(Debug, Drop, PartialEq, Eq, Error)]
 pub enum LookupError {
-    /// Two global lookups on one bus have tuples of different widths.
+    /// Two tuples on one bus have different widths, be they of one lookup or of two.
     #[error("bus {bus}: tuple widths {expected} and {actual} differ")]
     BusWidthMismatch {
         bus: String,
@@ -46,7 +46,7 @@ pub enum LookupError {
         weighted_height_sum: u128,
         field_bits: usize,
     },
-    /// Tuples that are folded into one lookup have different widths.
+    /// Tuples of one lookup, or of one bus whose lookups may share a column, have different widths.
     #[error("{context}: tuple widths {width} and {other} differ; every tuple folded into one lookup must share a payload width, or a shorter tuple can alias a longer one")]
     TupleWidths {
         context: String,

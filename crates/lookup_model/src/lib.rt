@@ -9,10 +9,12 @@ mod degree;
 mod error;
 mod fitting;
 mod reading;
+mod sum_degrees;
 mod types;
 
 pub use challenges::Challenges;
 pub use degree::constraint_degree;
 pub use error::LookupError;
 pub use fitting::{first_malformed, fits, has_equal_lengths};
+pub use sum_degrees::SumDegrees;
 pub use types::{Kind, Lookup, LookupTerminal};

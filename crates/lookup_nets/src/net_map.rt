@@ -1,5 +1,5 @@
 //! The net of each key.
-ghost use Rattle.std.specs.Prelude.{◌≡◌, IfOk, OnOk};
+ghost use Rattle.std.specs.Prelude.{◌≡◌, IfErr, IfOk, None, OnErr, OnOk};
 ghost use Rattle.std.specs.Option.{unwrap_or};
 ghost use Rattle.indexmap.specs.IndexMap.{get, insert_entry};
 ghost use Rattle.lookup_generation.specs.SentMessages.{messages_of};
@@ -43,15 +43,18 @@ pub fn nets<'a, F: Field>(
 
 /// Adds to the value at a key, which is zero where the key is new. A new key goes last.
 ///
-/// Fails only when out of memory.
+/// Fails only when out of memory, and only for a new key. Then the key comes back, and the map is as it
+/// was.
 #[inline(always)]
 pub fn add_at<K: Eq + Hash + Drop, F: Field>(
     nets: &mut IndexMap<K, F>,
     key: K,
     amount: F,
 ) -> Result<(), AllocFailed<K>>
-    ensures { OnOk result (nets.new.entries ≡ insert_entry K.eq nets.old.entries key
+    ensures adds { OnOk result (nets.new.entries ≡ insert_entry K.eq nets.old.entries key
         (F.ring.add (unwrap_or (get K.eq nets.old key) F.ring.zero) amount)) }
+    ensures refused { IfErr result (λ e. (e.value ≡ key) × (get K.eq nets.old key ≡ None)) }
+    ensures unchanged { OnErr result (nets.new.entries ≡ nets.old.entries) }
 {
     let net = nets.entry(key)?.or_insert(F::ZERO);
     *net = *net + amount;

@@ -12,25 +12,15 @@ use Rattle.lookup_packing.specs.Buses.{bus_names, is_named, on_bus, same_name}
 use Rattle.lookup_packing.specs.Cuts.{AreClosed, IsCut, part_items}
 use Rattle.lookup_packing.specs.Fewest.{AnswersDegree, HasFewestColumns}
 use Rattle.lookup_packing.specs.Packing.{AreFilled, IsAbove, IsFilling, IsPacking, additive, is_additive, joined, numbered_from, passing, trial}
+use Rattle.lookup_packing.specs.TrialDegrees.{IsPlain}
 use Rattle.lookup_packing.proofs.FewestParts.{AreFull, fewest_parts}
 use Rattle.lookup_packing.proofs.FillLaws.{joined_more, with_next}
 use Rattle.lookup_packing.proofs.GroupLaws.{same_name-Decides}
 use Rattle.lookup_packing.proofs.JoinedDegrees.{degree_hereditary}
 use Rattle.lookup_packing.proofs.ListLaws.{all_back, all_both, all_front}
-
--- lists of equal lengths one after the other, side by side
-pub zip-append : {A B : Type 0} (xs ys : List A) (us vs : List B) → length us ≡ length xs → zip (xs ++ ys) (us ++ vs) ≡ zip xs us ++ zip ys vs
-zip-append [] ys [] vs e = refl
-zip-append [] ys (u ∷ us) vs e = absurd (omega (arith, e))
-zip-append (x ∷ xs) ys [] vs e = absurd (omega (arith, e))
-zip-append (x ∷ xs) ys (u ∷ us) vs e = ap (λ t. (x, u) ∷ t) (zip-append xs ys us vs (omega (arith, e)))
+use Rattle.lookup_packing.proofs.ZippedLists.{zip-append}
 
 module _ {F : Type 0} where
-  -- a lookup without flags that has a multiplicity for each tuple
-  pub record IsPlain (o : Outline (SymbolicExpression F)) : Type 0 where
-    pub lengths : length o.multiplicities ≡ length o.elements
-    pub no_flags : o.flags ≡ None
-
   -- the branches of several lookups in one
   branches_joined : (os : List (Outline (SymbolicExpression F))) → AllByRecursion IsPlain os
       → map (λ b. branch_degrees 0 b.0 b.1) (zip (flat_map (λ o. o.elements) os) (flat_map (λ o. o.multiplicities) os)) ≡ flat_map (outline_branch_degrees 0) os

@@ -16,15 +16,11 @@ use Rattle.lookup_model.specs.declared.types.Lookup.{Lookup}
 use Rattle.lookup_packing.specs.Buses.{is_named, on_bus}
 use Rattle.lookup_packing.specs.Cuts.{part_items}
 use Rattle.lookup_packing.specs.Packing.{AreFilled, additive, is_additive, joined}
-use Rattle.lookup_packing.proofs.FewestColumns.{IsOn, IsPlain, members_on, zip-append}
+use Rattle.lookup_packing.proofs.FewestColumns.{IsOn, members_on}
+use Rattle.lookup_packing.specs.TrialDegrees.{IsPlain}
 use Rattle.lookup_packing.proofs.GroupLaws.{same_name-Decides}
 use Rattle.lookup_packing.proofs.ListLaws.{all_back, all_front}
-
--- pairs with a map of the first items
-pub zip_mapped : {A B C D : Type 0} (f : A → B) (g : B → C → D) (xs : List A) (ys : List C) → map (λ b. g (f b.0) b.1) (zip xs ys) ≡ map (λ b. g b.0 b.1) (zip (map f xs) ys)
-zip_mapped f g [] ys = refl
-zip_mapped f g (x ∷ xs) [] = refl
-zip_mapped f g (x ∷ xs) (y ∷ ys) = ap (λ t. g (f x) y ∷ t) (zip_mapped f g xs ys)
+use Rattle.lookup_packing.proofs.ZippedLists.{zip-append, zip_mapped}
 
 -- a map of a mapped option
 pub option_mapped : {A B C : Type 0} (f : A → B) (g : B → C) (o : Option A) → option_map (λ x. g (f x)) o ≡ option_map g (option_map f o)

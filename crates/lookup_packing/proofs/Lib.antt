@@ -1,3 +1,4 @@
+mod DegreeLaws
 pub mod FewestColumns
 mod FewestParts
 mod FillLaws
@@ -16,3 +17,4 @@ pub mod SameKeys
 pub mod StepLaws
 mod TrialLaws
 mod WidthLaws
+pub mod ZippedLists

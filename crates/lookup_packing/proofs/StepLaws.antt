@@ -1,5 +1,5 @@
 -- Steps of a filling, and the lookups that it takes.
-use Rattle.std.proofs.Common.{◌≡◌, inl, inr, ◌&&◌, ℕ, Bool, true, false, cond, not, List, [], ◌∷◌, ◌++◌, Option, None, Some, Result, length, map, All, refl, sym, ap, subst, ◌∙◌, arith, length-append, true≢false}
+use Rattle.std.proofs.Common.{◌≡◌, inl, inr, ◌&&◌, ℕ, Bool, true, false, cond, not, List, [], ◌∷◌, ◌++◌, Option, None, Some, MatchOption, Result, length, map, All, refl, sym, ap, subst, ◌∙◌, arith, length-append, true≢false}
 use Rattle.std.proofs.Math.ListN.{get_or-append}
 use Rattle.std.proofs.lemmas.Grind.{flat_map-append}
 use Rattle.std.proofs.lemmas.List.{append-nil, length-map, map-append}
@@ -16,10 +16,12 @@ use Rattle.lookup_model.specs.declared.error.LookupError.{LookupError}
 use Rattle.lookup_model.specs.declared.types.Lookup.{Lookup}
 use Rattle.lookup_packing.specs.Buses.{bus_groups, is_named, on_bus, owned_group}
 use Rattle.lookup_packing.specs.Cuts.{part_items}
-use Rattle.lookup_packing.specs.Packing.{additive, is_additive}
-use Rattle.lookup_packing.specs.Trials.{IsMember, IsStep, IsTrial, IsTrialAmong, IsTried}
+use Rattle.lookup_packing.specs.Packing.{additive, is_additive, trial}
+use Rattle.lookup_packing.specs.Trials.{IsColumns, IsMember, IsStep, IsTrial, IsTrialAmong, IsTried, columns_of, open_column}
+use Rattle.lookup_packing.specs.declared.filling.Column.{Column}
+use Rattle.lookup_packing.specs.declared.filling.Columns.{Columns}
 use Rattle.lookup_packing.specs.declared.trials.Trial.TheVariants.{Apart, Joined}
-use Rattle.lookup_packing.proofs.FewestColumns.{IsPlain}
+use Rattle.lookup_packing.specs.TrialDegrees.{IsPlain}
 use Rattle.lookup_packing.proofs.PackLaws.{in_groups}
 use Rattle.lookup_packing.proofs.FillLaws.{AreColumns, HasLast, first_column, joined_column, last_part, next_column}
 
@@ -56,38 +58,60 @@ additive_member l joins lengths = record {
   no_flags = no_flags_of (λ fs. fs.items) (is_some (bus_of l.kind)) l.flags joins;
 }
 
--- columns without the last one
-pub popped : {F : Type 0} (columns front : List (Lookup F)) (last : Lookup F) → columns ≡ front ++ last ∷ [] → map fields_of columns ≡ map fields_of front ++ fields_of last ∷ []
-popped columns front last is = ap (map fields_of) is ∙ map-append fields_of front (last ∷ [])
+-- columns with a further one behind them
+pushed_column : {F : Type 0} (front columns : List (Lookup F)) (last : Lookup F) → columns ≡ front ++ last ∷ [] → map fields_of columns ≡ map fields_of front ++ fields_of last ∷ []
+pushed_column front columns last is = ap (map fields_of) is ∙ map-append fields_of front (last ∷ [])
 
-module _ {F : Type 0} (answers : Outline (SymbolicExpression F) → Result ℕ LookupError → Type 0) (most : ℕ) where
-  front_members : (columns front : List (Lookup F)) (last : Lookup F) → All IsMember columns → columns ≡ front ++ last ∷ [] → All IsMember front
-  front_members columns front last all is =
-      let both = subst (λ (t : List (Lookup F)). All IsMember t) is all in
-      λ k d lt. subst (λ (l : Lookup F). IsMember l) (get_or-append front (last ∷ []) d k lt) (both k d (omega (arith, lt, length-append front (last ∷ []))))
+module _ {F K : Type 0} (keeps : K → Outline (SymbolicExpression F) → Type 0) (answers : Outline (SymbolicExpression F) → Result ℕ LookupError → Type 0) (most : ℕ) (before : Columns F K) (columns : IsColumns keeps before) where
+  -- a step of a filling, and what is kept after it
+  abbrev Steps : Lookup F → Columns F K → Type 0
+  Steps next after = IsColumns keeps after × IsStep answers most (columns_of before) (fields_of next) (columns_of after)
 
-  pub first_step : (columns front after : List (Lookup F)) (next : Lookup F) → length front ≡ 0 → columns ≡ front ++ [] → after ≡ front ++ next ∷ [] → IsMember next → All IsMember after × IsStep answers most (map fields_of columns) (fields_of next) (map fields_of after)
-  first_step columns [] after next none is pushed member = (subst (λ (t : List (Lookup F)). All IsMember t) (sym pushed) (All-cons IsMember next [] member (λ k d lt. absurd (omega (arith, lt)))), inl (ap (map fields_of) is, ap (map fields_of) pushed))
-  first_step columns (x ∷ xs) after next none is pushed member = absurd (omega (arith, none))
-
-  pub joined_step : (columns front after : List (Lookup F)) (last next both : Lookup F) → All IsMember columns → columns ≡ front ++ last ∷ [] → IsTried answers most last next (Joined both) → after ≡ front ++ both ∷ []
-      → All IsMember after × IsStep answers most (map fields_of columns) (fields_of next) (map fields_of after)
-  joined_step columns front after last next both members is joins pushed = (
-    subst (λ (t : List (Lookup F)). All IsMember t) (sym pushed) (All-push IsMember front both (front_members columns front last members is) joins.0),
-    inr (map fields_of front, fields_of last, popped columns front last is, inl (joins.1, joins.2, popped after front both pushed ∙ ap (λ o. map fields_of front ++ o ∷ []) joins.3)),
-  )
-
-  pub next_step : (columns front first after : List (Lookup F)) (last next a b : Lookup F) → All IsMember columns → columns ≡ front ++ last ∷ [] → IsTried answers most last next (Apart a b) → first ≡ front ++ a ∷ [] → after ≡ first ++ b ∷ []
-      → All IsMember after × IsStep answers most (map fields_of columns) (fields_of next) (map fields_of after)
-  next_step columns front first after last next a b members is apart put pushed =
-      let before = front_members columns front last members is in
-      let firsts = subst (λ (t : List (Lookup F)). All IsMember t) (sym put) (All-push IsMember front a before apart.0) in (
-        subst (λ (t : List (Lookup F)). All IsMember t) (sym pushed) (All-push IsMember first b firsts apart.1),
-        inr (map fields_of front, fields_of last, popped columns front last is, inr (apart.2, popped after first b pushed ∙ (λ i. (popped first front a put ∙ ap (λ o. map fields_of front ++ o ∷ []) apart.3 ∙ sym (popped columns front last is)) i ++ apart.4 i ∷ []))),
+  -- the first lookup
+  pub first_step : before.last ≡ None → (next : Lookup F) (kept : K) → IsMember next → keeps kept (fields_of next) → Steps next (record { closed = before.closed; last = Some (record { lookup = next; kept = kept }) })
+  first_step is next kept member has =
+      let none : before.closed.items ≡ [] = subst (λ (o : Option (Column F K)). MatchOption o (before.closed.items ≡ []) (λ column. IsMember column.lookup × keeps column.kept (fields_of column.lookup))) is columns.last in (
+        record { closed = columns.closed; last = (member, has) },
+        inl ((λ i. map fields_of (none i) ++ open_column (is i)), ap (λ t. map fields_of t ++ fields_of next ∷ []) none),
       )
 
+  module _ (column : Column F K) (is : before.last ≡ Some column) where
+    -- the open column, and what is kept of it
+    pub open_is : IsMember column.lookup × keeps column.kept (fields_of column.lookup)
+    open_is = subst (λ (o : Option (Column F K)). MatchOption o (before.closed.items ≡ []) (λ column. IsMember column.lookup × keeps column.kept (fields_of column.lookup))) is columns.last
+
+    pub columns_are : columns_of before ≡ map fields_of before.closed.items ++ fields_of column.lookup ∷ []
+    columns_are = ap (λ (o : Option (Column F K)). map fields_of before.closed.items ++ open_column o) is
+
+    -- a lookup that joins it
+    pub joined_step : (next both : Lookup F) (kept : K) → IsTried answers most column.lookup next (Joined both) → ((o : Outline (SymbolicExpression F)) (n : ℕ) → keeps kept o → keeps kept (record o { count_weight = n })) → keeps kept (trial (fields_of column.lookup) (fields_of next))
+        → Steps next (record { closed = before.closed; last = Some (record { lookup = both; kept = kept }) })
+    joined_step next both kept joins weighted has = (
+      record { closed = columns.closed; last = (joins.0, subst (keeps kept) (sym joins.3) (weighted _ _ has)) },
+      inr (map fields_of before.closed.items, fields_of column.lookup, columns_are, inl (joins.1, joins.2, ap (λ o. map fields_of before.closed.items ++ o ∷ []) joins.3)),
+    )
+
+    -- one that opens a new column
+    pub next_step : (after : Vec (Lookup F) Global) (next a b : Lookup F) (kept : K) → IsTried answers most column.lookup next (Apart a b) → after.items ≡ before.closed.items ++ a ∷ [] → keeps kept (fields_of next)
+        → Steps next (record { closed = after; last = Some (record { lookup = b; kept = kept }) })
+    next_step after next a b kept apart put has =
+        let closed : map fields_of after.items ≡ columns_of before = pushed_column before.closed.items after.items a put ∙ ap (λ o. map fields_of before.closed.items ++ o ∷ []) apart.3 ∙ sym columns_are in (
+          record {
+            closed = subst (λ (t : List (Lookup F)). All IsMember t) (sym put) (All-push IsMember before.closed.items a columns.closed apart.0);
+            last = (apart.1, subst (keeps kept) (sym apart.4) has);
+          },
+          inr (map fields_of before.closed.items, fields_of column.lookup, columns_are, inr (apart.2, λ i. closed i ++ apart.4 i ∷ [])),
+        )
+
+    -- the open column is closed in the end
+    pub all_closed : (after : List (Lookup F)) → after ≡ before.closed.items ++ column.lookup ∷ [] → All IsMember after × (map fields_of after ≡ columns_of before)
+    all_closed after put = (
+      subst (λ (t : List (Lookup F)). All IsMember t) (sym put) (All-push IsMember before.closed.items column.lookup columns.closed open_is.0),
+      pushed_column before.closed.items after column.lookup put ∙ sym columns_are,
+    )
+
 -- a lookup whose fields are those of a plain one is a member, and the other way
-plain_of : {F : Type 0} (l : Lookup F) → IsMember l → IsPlain (fields_of l)
+pub plain_of : {F : Type 0} (l : Lookup F) → IsMember l → IsPlain (fields_of l)
 plain_of l member = record {
   lengths = member.lengths.multiplicities ∙ sym (length-map l.elements.items (λ tuple. tuple.items));
   no_flags = ap (option_map (λ fs. fs.items)) member.no_flags;

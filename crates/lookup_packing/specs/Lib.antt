@@ -4,5 +4,6 @@ pub mod Cuts
 pub mod Fewest
 pub mod Kept
 pub mod Packing
+pub mod TrialDegrees
 pub mod Trials
 pub mod TupleWidths

@@ -1,5 +1,5 @@
 -- One step of a filling: an open column, and the lookup that is tried with it.
-use Rattle.std.specs.Prelude.{◌≡◌, ◌+◌, ◌<◌, ◌≤◌, ◌⊎◌, ℕ, List, [], ◌∷◌, ◌++◌, None, Result, Ok, Err}
+use Rattle.std.specs.Prelude.{◌≡◌, ◌+◌, ◌<◌, ◌≤◌, ◌⊎◌, ℕ, All, List, [], ◌∷◌, ◌++◌, Option, None, Some, MatchOption, Result, Ok, Err, map}
 use Rattle.expressions.specs.declared.base_expression.SymbolicExpression.{SymbolicExpression}
 use Rattle.lookup_model.specs.Outline.{Outline, fields_of}
 use Rattle.lookup_model.specs.Records.{HasEqualLengths}
@@ -10,6 +10,8 @@ use Rattle.lookup_model.specs.declared.types.Lookup.{Lookup}
 use Rattle.lookup_packing.specs.Buses.{on_bus}
 use Rattle.lookup_packing.specs.Cuts.{part_items}
 use Rattle.lookup_packing.specs.Packing.{additive, joined, trial}
+use Rattle.lookup_packing.specs.declared.filling.Column.{Column}
+use Rattle.lookup_packing.specs.declared.filling.Columns.{Columns}
 use Rattle.lookup_packing.specs.declared.trials.Trial.{Trial}
 use Rattle.lookup_packing.specs.declared.trials.Trial.TheVariants.{Apart, Joined}
 
@@ -70,3 +72,18 @@ module _ {F : Type 0} where
         × ((IsLow last next × (last.count_weight + next.count_weight < weight_bound)
         × (after ≡ front ++ record (trial last next) { count_weight = last.count_weight + next.count_weight } ∷ []))
         ⊎ (IsHigh last next × (after ≡ before ++ next ∷ []))))
+
+module _ {F K : Type 0} where
+  -- the open column, if there is one
+  abbrev pub open_column : Option (Column F K) → List (Outline (SymbolicExpression F))
+  open_column None = []
+  open_column (Some column) = fields_of column.lookup ∷ []
+
+  -- the columns of a bus while they are filled, those that are closed and then the open one
+  abbrev pub columns_of : Columns F K → List (Outline (SymbolicExpression F))
+  columns_of columns = map fields_of columns.closed.items ++ open_column columns.last
+
+  -- they hold lookups that may be joined; without an open one none is closed; something is kept of that one
+  pub record IsColumns (keeps : K → Outline (SymbolicExpression F) → Type 0) (columns : Columns F K) : Type 0 where
+    pub closed : All IsMember columns.closed.items
+    pub last : MatchOption columns.last (columns.closed.items ≡ []) (λ column. IsMember column.lookup × keeps column.kept (fields_of column.lookup))

@@ -4,12 +4,14 @@ ghost use Rattle.std.specs.Fn.{FnReturnsAt};
 ghost use Rattle.lookup_model.specs.Outline.{fields_of};
 ghost use Rattle.lookup_model.specs.Records.{AreRecords, HasEqualLengths};
 ghost use Rattle.lookup_packing.specs.Buses.{owned_group};
+ghost use Rattle.lookup_packing.specs.Fewest.{AnswersDegree};
 ghost use Rattle.lookup_packing.specs.Kept.{KeepsKeys, KeepsMessages, KeepsNets, KeepsWeight};
 ghost use Rattle.lookup_packing.specs.Packing.{AreColumnsAdded, IsFirstStuck, Packs, additive, is_additive, numbered, passing};
 ghost use Rattle.lookup_packing.specs.Trials.{Answers, IsBusTrial, IsMember, IsTrialAmong};
 
 use crate::bus_widths::assert_bus_widths;
 use crate::buses::moved_by_bus;
+use crate::degrees::{Asked, GadgetDegrees, TrialDegrees};
 use crate::filling::filled;
 use field::Field;
 use lookup_model::{Kind, Lookup, LookupError};
@@ -51,10 +53,53 @@ pub fn packed<F: Field, D: Fn(&Lookup<F>) -> Result<usize, LookupError>>(
     ensures nets { IfOk result (λ v. KeepsNets F.ring F.eq lookups.items v.items) }
     ensures keys { IfOk result (λ v. KeepsKeys F.ring F.eq lookups.items v.items) }
 {
+    packed_by(alloc, lookups, max_degree, &Asked { degree: &degree })
+}
+
+/// Likewise by the degree of the constraint that the gadget asserts for a lookup, where the
+/// transition selector has degree 0: in time linear in the size of the lookups.
+///
+/// What a trial refuses is `DegreeOverflow`, if its degree does not fit `usize`, or
+/// `CountWeightOverflow`.
+pub fn packed_by_degree<F: Field>(
+    alloc: Global,
+    lookups: Vec<Lookup<F>>,
+    max_degree: usize,
+) -> Result<Vec<Lookup<F>>, LookupError>
+    requires { All HasEqualLengths lookups.items }
+    ensures packs { Packs AnswersDegree max_degree
+        (λ v. map fields_of v.items) (map fields_of lookups.items) result }
+    ensures records { IfOk result (λ v. AreRecords v.items) }
+    ensures weight { IfOk result (λ v. KeepsWeight lookups.items v.items) }
+    ensures messages { IfOk result (λ v. KeepsMessages F.ring F.eq lookups.items v.items) }
+    ensures nets { IfOk result (λ v. KeepsNets F.ring F.eq lookups.items v.items) }
+    ensures keys { IfOk result (λ v. KeepsKeys F.ring F.eq lookups.items v.items) }
+{
+    packed_by(alloc, lookups, max_degree, &GadgetDegrees)
+}
+
+/// Packs by these degrees.
+fn packed_by<F: Field, T: TrialDegrees<F>>(
+    alloc: Global,
+    lookups: Vec<Lookup<F>>,
+    max_degree: usize,
+    degrees: &T,
+) -> Result<Vec<Lookup<F>>, LookupError>
+    requires callable { (lookup : _) → IsBusTrial (map fields_of lookups.items) lookup
+        → T.may_ask degrees.now lookup }
+    requires lengths { All HasEqualLengths lookups.items }
+    ensures packs { Packs (T.answers degrees.now) max_degree
+        (λ v. map fields_of v.items) (map fields_of lookups.items) result }
+    ensures records { IfOk result (λ v. AreRecords v.items) }
+    ensures weight { IfOk result (λ v. KeepsWeight lookups.items v.items) }
+    ensures messages { IfOk result (λ v. KeepsMessages F.ring F.eq lookups.items v.items) }
+    ensures nets { IfOk result (λ v. KeepsNets F.ring F.eq lookups.items v.items) }
+    ensures keys { IfOk result (λ v. KeepsKeys F.ring F.eq lookups.items v.items) }
+{
     assert_bus_widths(alloc, &lookups)?;
     let (columns, additive) = parted(alloc, lookups)?;
     let buses = moved_by_bus(alloc, additive)?;
-    let columns = with_buses(alloc, columns, buses, max_degree, &degree)?;
+    let columns = with_buses(alloc, columns, buses, max_degree, degrees)?;
     Ok(in_columns(alloc, columns)?)
 }
 
@@ -94,29 +139,29 @@ fn may_be_joined<F: Field>(lookup: &Lookup<F>) -> bool
 /// These columns, and behind them those of each bus in turn.
 ///
 /// Refuses at the first trial that is refused.
-fn with_buses<F: Field, D: Fn(&Lookup<F>) -> Result<usize, LookupError>>(
+fn with_buses<F: Field, T: TrialDegrees<F>>(
     alloc: Global,
     columns: Vec<Lookup<F>>,
     buses: Vec<Vec<Lookup<F>>>,
     max_degree: usize,
-    degree: &D,
+    degrees: &T,
 ) -> Result<Vec<Lookup<F>>, LookupError>
     requires callable { (earlier : _) (bus : _) (later : _) (lookup : _)
-        → map owned_group buses.items ≡ earlier ++ bus ∷ later → IsTrialAmong bus lookup.now
-        → D.pre degree.now lookup }
+        → map owned_group buses.items ≡ earlier ++ bus ∷ later → IsTrialAmong bus lookup
+        → T.may_ask degrees.now lookup }
     requires columns { All HasEqualLengths columns.items }
     requires buses { All (λ bus. All IsMember bus.items) buses.items }
     ensures { MatchResult result
         (λ after. All HasEqualLengths after.items
-        × AreColumnsAdded (Answers (FnReturnsAt D.Fn degree.now)) max_degree
+        × AreColumnsAdded (T.answers degrees.now) max_degree
         (map owned_group buses.items) (map fields_of columns.items) (map fields_of after.items))
         (λ e. (e ≡ LookupError.Memory)
-        ⊎ IsFirstStuck (Answers (FnReturnsAt D.Fn degree.now)) max_degree
+        ⊎ IsFirstStuck (T.answers degrees.now) max_degree
         (map owned_group buses.items) e) }
 {
     let mut columns = columns;
     for members in buses {
-        let mut filled = filled(alloc, members, max_degree, degree)?;
+        let mut filled = filled(alloc, members, max_degree, degrees)?;
         columns.append(&mut filled)?;
     }
     Ok(columns)

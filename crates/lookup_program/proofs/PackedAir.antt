@@ -16,7 +16,8 @@ use Rattle.lookup_packing.proofs.OneLookup.{packs_one}
 use Rattle.lookup_packing.specs.BusWidths.{widths_of}
 use Rattle.lookup_packing.specs.Fewest.{AnswersDegree}
 use Rattle.lookup_packing.specs.Packing.{Packs}
-use Rattle.lookup_packing.proofs.JoinedMessages.{option_mapped, zip_mapped}
+use Rattle.lookup_packing.proofs.JoinedMessages.{option_mapped}
+use Rattle.lookup_packing.proofs.ZippedLists.{zip_mapped}
 use Rattle.lookup.specs.Lookups.{DoesStillFit, lookups_of}
 use Rattle.lookup.specs.Sends.{lookup_bus_and_weight}
 use Rattle.lookup.specs.declared.lookups.Lookups.{Lookups}

@@ -156,7 +156,8 @@ fn tuple<AB: AirBuilder>(
     column: usize,
 ) -> Result<Vec<AB::Expr>, AirError>
     requires { column < columns }
-    ensures refused { IfErr result (IsCellsRefusal AB.window_refuses AB.layout columns builder.now) }
+    ensures refused { IfErr result
+        (IsCellsRefusal AB.window_refuses AB.layout columns builder.now) }
     ensures tuple { IfOk result (λ tuple. IsCellTuple (λ x w. AB.Expr.value x (AB.seen w))
         (AB.stands_for builder.now) (λ w. w.main) column tuple.items) }
     ensures within { IfOk result (λ tuple. All

@@ -18,9 +18,10 @@ use std::process::ExitCode;
 /// Runs `words`, which are `MACHINE FIELD ALPHA BETA`, over the rows of `input`.
 ///
 /// Writes the report to `output`, and then the line of the first tuple that does not balance to
-/// `errors`, if there is one. If the run is refused, it writes one line `error: TEXT` to `errors` and
-/// nothing to `output`. All text is made before anything is written. The status is 0 if the terminals
-/// cancel, 1 if they do not, and 2 if the run is refused or a write fails.
+/// `errors`, if there is one. If the run is refused, it writes `error: TEXT` and a line end to `errors`,
+/// and nothing to `output`; TEXT has a line end of its own where a refused word has one. All text is
+/// made before anything is written. The status is 0 if the terminals cancel, 1 if they do not, and 2 if
+/// the run is refused or a write fails.
 pub fn run<R: Read, W: Write, E: Write>(
     alloc: Global,
     words: &[String],
@@ -41,8 +42,8 @@ pub fn run<R: Read, W: Write, E: Write>(
     }
 }
 
-/// Writes the line of a refusal to `errors` or, if memory runs out, the line of that. The status is
-/// 2, whether or not it could be written.
+/// Writes `error: TEXT` of a refusal and a line end to `errors` or, if memory runs out, that of want of
+/// memory. The status is 2, whether or not it could be written.
 pub fn refuse<E: Write>(alloc: Global, error: RunError, errors: &mut E) -> ExitCode
     ensures { exit_status result ≡ 2 }
 {

@@ -1,1 +1,2 @@
 mod BatchLaws
+mod PushLaws

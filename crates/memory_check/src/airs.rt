@@ -1,5 +1,7 @@
 //! The AIRs of the memory check, which say what each row looks up.
-ghost use Rattle.std.specs.Prelude.{◌≡◌, All, IfOk, OnOk};
+ghost use Rattle.std.specs.Prelude.{◌≡◌, All, IfErr, IfOk, MatchResult};
+ghost use Rattle.air.specs.Cell.{IsCellsRefusal};
+ghost use Rattle.memory_check.specs.Pushes.{IsRefusedAfter};
 
 use air::{Air, AirBuilder, AirError, BaseAir, Expression, current_cell, current_cells};
 use field::PrimeCharacteristicRing;
@@ -37,8 +39,11 @@ impl<F> BaseAir<F> for AccessesAir {
 }
 
 impl<AB: InteractionBuilder> Air<AB> for AccessesAir {
-    ghost evaluates = { λ _ before answer after. OnOk answer ((AB.layout after ≡ AB.layout before)
-        × (AB.pushed_within before → AB.pushed_within after)) };
+    ghost evaluates = { λ _ before answer after. MatchResult answer
+        (λ _. (AB.layout after ≡ AB.layout before)
+        × (AB.pushed_within before → AB.pushed_within after))
+        (λ e. IsRefusedAfter AB.pushes AB.refuses_push AB.window_refuses AB.layout 5 before e
+        after) };
 
     fn eval(&self, alloc: Global, builder: &mut AB) -> Result<(), AirError> {
         let memory = PermutationCheckBus::new("memory");
@@ -55,7 +60,8 @@ impl<AB: InteractionBuilder> Air<AB> for AccessesAir {
 
 /// The tuple `[new_time - old_time - 1]` of an access.
 fn gap<AB: AirBuilder>(alloc: Global, builder: &AB) -> Result<Vec<AB::Expr>, AirError>
-    ensures { IfOk result (λ tuple. All (AB.Expr.within (AB.layout builder.now)) tuple.items) }
+    ensures within { IfOk result (λ tuple. All (AB.Expr.within (AB.layout builder.now)) tuple.items) }
+    ensures refused { IfErr result (IsCellsRefusal AB.window_refuses AB.layout 5 builder.now) }
 {
     let old_time = current_cell(alloc, builder, 5, 2)?;
     let new_time = current_cell(alloc, builder, 5, 4)?;
@@ -93,8 +99,11 @@ impl<F> BaseAir<F> for BoundaryAir {
 }
 
 impl<AB: InteractionBuilder> Air<AB> for BoundaryAir {
-    ghost evaluates = { λ _ before answer after. OnOk answer ((AB.layout after ≡ AB.layout before)
-        × (AB.pushed_within before → AB.pushed_within after)) };
+    ghost evaluates = { λ _ before answer after. MatchResult answer
+        (λ _. (AB.layout after ≡ AB.layout before)
+        × (AB.pushed_within before → AB.pushed_within after))
+        (λ e. IsRefusedAfter AB.pushes AB.refuses_push AB.window_refuses AB.layout 4 before e
+        after) };
 
     fn eval(&self, alloc: Global, builder: &mut AB) -> Result<(), AirError> {
         let memory = PermutationCheckBus::new("memory");
@@ -109,7 +118,8 @@ impl<AB: InteractionBuilder> Air<AB> for BoundaryAir {
 
 /// The tuple `[address, initial_value, 0]` of an address.
 fn initial<AB: AirBuilder>(alloc: Global, builder: &AB) -> Result<Vec<AB::Expr>, AirError>
-    ensures { IfOk result (λ tuple. All (AB.Expr.within (AB.layout builder.now)) tuple.items) }
+    ensures within { IfOk result (λ tuple. All (AB.Expr.within (AB.layout builder.now)) tuple.items) }
+    ensures refused { IfErr result (IsCellsRefusal AB.window_refuses AB.layout 4 builder.now) }
 {
     let mut tuple = current_cells(alloc, builder, 4, &[0, 1])?;
     tuple.push(AB::Expr::constant(AB::F::ZERO))?;
@@ -141,8 +151,11 @@ impl<F> BaseAir<F> for GapsAir {
 }
 
 impl<AB: InteractionBuilder> Air<AB> for GapsAir {
-    ghost evaluates = { λ _ before answer after. OnOk answer ((AB.layout after ≡ AB.layout before)
-        × (AB.pushed_within before → AB.pushed_within after)) };
+    ghost evaluates = { λ _ before answer after. MatchResult answer
+        (λ _. (AB.layout after ≡ AB.layout before)
+        × (AB.pushed_within before → AB.pushed_within after))
+        (λ e. IsRefusedAfter AB.pushes AB.refuses_push AB.window_refuses AB.layout 2 before e
+        after) };
 
     fn eval(&self, alloc: Global, builder: &mut AB) -> Result<(), AirError> {
         let entry = current_cells(alloc, builder, 2, &[0])?;

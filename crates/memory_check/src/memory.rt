@@ -56,11 +56,12 @@ fn memory_lookups<F: Field, EF: ExtensionField<F>>(
 /// Whether the messages of a memory cancel at a pair of challenges: makes the witness of the traces,
 /// as a prover does, and checks it, as a verifier does.
 ///
-/// Refuses what [`BatchPlan::prove`] refuses: traces that do not have the plan's heights or do not
-/// fit, then `Air` with the first denominator that vanishes; at most other challenges none does.
-/// Then it refuses what [`BatchPlan::verify`] refuses, and the messages do not balance. Also fails
-/// when out of memory. If messages balance and no denominator vanishes, they are accepted. If they
-/// do not, few challenges accept them: [`soundness_count`](checker::soundness_count) says how few.
+/// Refuses what [`BatchPlan::prove`] refuses: `LengthMismatch` for a plan of another number of AIRs,
+/// traces that do not have the plan's heights or do not fit, then `Air` with the first denominator
+/// that vanishes; at most other challenges none does. Then it refuses what [`BatchPlan::verify`]
+/// refuses, and the messages do not balance. Also fails when out of memory. If messages balance and no
+/// denominator vanishes, they are accepted. If they do not, few challenges accept them:
+/// [`soundness_count`](checker::soundness_count) says how few.
 pub fn check_memory<F: Field, EF: ExtensionField<F>>(
     alloc: Global,
     plan: &BatchPlan<F>,

@@ -6,7 +6,7 @@
 use super::{alone, cell, checked, generated, group, holds, instance, list, range, trace};
 use air::{Expression, SymbolicExpression};
 use checker::Witness;
-use field::{BabyBear, BabyBear4, Field, PrimeCharacteristicRing};
+use field::{BabyBear, BabyBear4, F7, Field, PrimeCharacteristicRing};
 use lookup::{Challenges, Lookup, LookupError, LookupTerminal};
 use matrix::RowMajorMatrix;
 use std::alloc::Global;
@@ -314,4 +314,33 @@ fn spoiled_cells_of_few_rows(rt: HostRuntime) {
     ];
     names_the_rows(&rt, alloc, &locals(&rt, alloc, 6), few.as_slice(), 6);
     names_the_rows(&rt, alloc, &locals(&rt, alloc, 7), few.as_slice(), 7);
+}
+
+/// On each of fourteen rows the flag is 2 and the key 2. At alpha 5 and beta 2 the prefix is 7, which is 0,
+/// and the denominator -2, which is 5. So the fraction f has to be such that `(1 + 2 * (5 - 1)) * f` is
+/// 2: `2 * f = 2`, and f is 1. Fourteen of them add up to 0.
+#[test]
+fn a_flag_of_two_counts_twice(rt: HostRuntime) {
+    let alloc = rt.alloc();
+    let (mut numbers, mut cells) = (Vec::new(alloc), Vec::new(alloc));
+    for row in 0..14u32 {
+        numbers.extend_from_slice(&[2, 2]).expect(&rt, "memory");
+        cells.extend_from_slice(&[row, 1]).expect(&rt, "memory");
+    }
+    let main = trace(&rt, alloc, numbers.as_slice(), 2);
+    let lookups = [group(&rt, alloc, [(0, 1)], F7::ONE)];
+    let instances = [instance(lookups.as_slice(), &main, &[0])];
+    let aux = [trace(&rt, alloc, cells.as_slice(), 2)];
+    let challenges = super::table(&rt, alloc, 5, 2, 1);
+    let terminals = [super::terminal(0)];
+    let (aux, terminals) = (aux.as_slice(), terminals.as_slice());
+    let answer = checked(
+        &rt,
+        alloc,
+        instances.as_slice(),
+        &challenges,
+        aux,
+        terminals,
+    );
+    holds(&rt, "accepted", answer.is_ok());
 }

@@ -16,7 +16,7 @@ loop-cut-preserved g c =
     let lt = subst (λ t. i < length t) all c.loop-cut-test.true in
     let is = c.cut-item.is ∙ ap (λ t. get_or t i cut) all in
     cut_more R.lawful g.F.PartialEq.eq g.met.F.PrimeCharacteristicRing.eq_is elements cuts i cut lt is c.loop-cut.nets.entries _ _
-    (λ j. slice_range (c.as_slice-elements.ensures.value j) cut.start cut.end) c.loop-cut.invariant c.in_ok-add_at.ensures
+    (λ j. slice_range (c.as_slice-elements.ensures.value j) cut.start cut.end) c.loop-cut.invariant c.in_ok-add_at.ensures.adds
 
 pub returns : goal.returns
 returns g c =

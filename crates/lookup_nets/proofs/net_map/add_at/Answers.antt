@@ -2,8 +2,8 @@ use Rattle.std.proofs.Common.{ap, rules, unwrap_or, ◌≡◌, ◌∙◌}
 use Rattle.std.specs.HashMap.{get}
 use Rattle.lookup_nets.proofs.net_map.add_at.Goals as goal
 
-pub returns : goal.returns
-returns g c =
+pub returns-clause-adds : goal.returns-clause-adds
+returns-clause-adds g c =
     let R = g.F.PrimeCharacteristicRing.ring in
     let found = get g.K.PartialEq.eq c.args.nets.now c.args.key in
     let now : c.or_insert-net.result.now ≡ unwrap_or found R.zero =

@@ -14,7 +14,7 @@ loop-message-preserved g c =
     let ms = c.args.messages.now in
     let i = c.loop-message.message-index in
     let m = c.message-item.result in
-    ap key_entries c.in_ok-add_at.ensures
+    ap key_entries c.in_ok-add_at.ensures.adds
     ∙ one_more (same_key eq) (same_key-Decides eq g.met.F.PrimeCharacteristicRing.eq_is) key_of g.F.PrimeCharacteristicRing.lawful (λ n. n.key) (λ n. n.multiplicity) (messages_of (take i ms)) (message_of m) c.loop-message.nets.entries _ _ _ c.loop-message.invariant
     (λ j. record { id = m.id; tuple = c.as_slice.ensures.value j }) refl refl
     ∙ ap (nets_of R eq) (sym (mapped-more message_of ms i m c.loop-message-test.true c.message-item.is))

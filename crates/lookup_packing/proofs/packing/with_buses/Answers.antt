@@ -3,7 +3,6 @@ use Rattle.std.proofs.lemmas.List.{append-nil, nil_from_length}
 use Rattle.std.proofs.lemmas.List.Elements.{All-append, All-tail}
 use Rattle.std.proofs.lemmas.Result.{err_from_is_err_and}
 use Rattle.std.proofs.lemmas.Slice.Zip.{all_zipped_more}
-use Rattle.std.specs.Fn.{FnReturnsAt}
 use Rattle.std.specs.List.{AllZip}
 use Rattle.std.specs.Vec.Iter.{into_iter_items}
 use Rattle.std.specs.declared.alloc.Global.{Global}
@@ -14,7 +13,7 @@ use Rattle.lookup_model.specs.Records.{HasEqualLengths}
 use Rattle.lookup_model.specs.declared.types.Lookup.{Lookup}
 use Rattle.lookup_packing.specs.Buses.{owned_group}
 use Rattle.lookup_packing.specs.Packing.{IsFilling, joined}
-use Rattle.lookup_packing.specs.Trials.{Answers, IsMember}
+use Rattle.lookup_packing.specs.Trials.{IsMember}
 use Rattle.lookup_packing.proofs.ListLaws.{all_seen, columns_behind, seen_more}
 use Rattle.lookup_packing.proofs.packing.with_buses.Goals as goal
 
@@ -55,7 +54,7 @@ loop-members-preserved g c =
       all = seen_more owned_group inv.seen _ _ _ c.in-Some.members c.in-Some.ensures.steps.0 inv.all;
       added = (
         inv.added.0 ++ made.1.0 ∷ [],
-        all_zipped_more (λ bus cut. IsFilling (Answers (FnReturnsAt g.D.Fn c.args.degree.now)) c.args.max_degree cut bus) inv.seen inv.added.0 (owned_group c.in-Some.members) made.1.0 inv.added.1 made.1.1,
+        all_zipped_more (λ bus cut. IsFilling (g.T.TrialDegrees.answers c.args.degrees.now) c.args.max_degree cut bus) inv.seen inv.added.0 (owned_group c.in-Some.members) made.1.0 inv.added.1 made.1.1,
         columns_behind fields_of joined (map fields_of c.args.columns.items) _ _ _ inv.added.0 made.1.0 c.in_ok-append.ensures.items inv.added.2 made.1.2,
       );
     }
@@ -65,7 +64,7 @@ returns g c =
     let inv = c.loop-members.invariant in
     let none = nil_from_length (into_iter_items c.loop-members.members-iterator) (omega (arith, c.in-None.ensures.steps.0, c.loop-members.members-iterator.rest.ok.0)) in
     let whole = all_seen owned_group inv.seen (map owned_group c.args.buses.items) (into_iter_items c.loop-members.members-iterator) none inv.all in
-    (inv.lengths, (inv.added.0, subst (λ (t : List (List (Outline (SymbolicExpression g.row.F.Denot)))). AllZip (λ bus cut. IsFilling (Answers (FnReturnsAt g.D.Fn c.args.degree.now)) c.args.max_degree cut bus) t inv.added.0) whole inv.added.1, inv.added.2))
+    (inv.lengths, (inv.added.0, subst (λ (t : List (List (Outline (SymbolicExpression g.row.F.Denot)))). AllZip (λ bus cut. IsFilling (g.T.TrialDegrees.answers c.args.degrees.now) c.args.max_degree cut bus) t inv.added.0) whole inv.added.1, inv.added.2))
 
 pub filled-requires-clause-callable : goal.filled-requires-clause-callable
 filled-requires-clause-callable g c =

@@ -1,12 +1,11 @@
 use Rattle.std.proofs.Common.{◌≡◌, ◌++◌, List, map, All}
-use Rattle.std.specs.Fn.{FnReturnsAt}
 use Rattle.std.specs.Vec.Iter.{into_iter_items}
 use Rattle.expressions.specs.declared.base_expression.SymbolicExpression.{SymbolicExpression}
 use Rattle.lookup_model.specs.Outline.{Outline, fields_of}
 use Rattle.lookup_model.specs.Records.{HasEqualLengths}
 use Rattle.lookup_packing.specs.Buses.{owned_group}
 use Rattle.lookup_packing.specs.Packing.{AreColumnsAdded}
-use Rattle.lookup_packing.specs.Trials.{Answers, IsMember}
+use Rattle.lookup_packing.specs.Trials.{IsMember}
 use Rattle.lookup_packing.proofs.packing.with_buses.Given as goal
 
 abbrev pub invariant-loop-members : goal.invariant-loop-members
@@ -15,5 +14,5 @@ invariant-loop-members g l = record {
   lengths : All HasEqualLengths l.columns.items;
   seen : List (List (Outline (SymbolicExpression g.row.F.Denot)));
   all : seen ++ map owned_group (into_iter_items l.members-iterator) ≡ map owned_group l.fn.buses.items;
-  added : AreColumnsAdded (Answers (FnReturnsAt g.D.Fn l.fn.degree)) l.fn.max_degree seen (map fields_of l.fn.columns.items) (map fields_of l.columns.items);
+  added : AreColumnsAdded (g.T.TrialDegrees.answers l.fn.degrees) l.fn.max_degree seen (map fields_of l.fn.columns.items) (map fields_of l.columns.items);
 }

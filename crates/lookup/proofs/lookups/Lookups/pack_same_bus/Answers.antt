@@ -1,25 +1,19 @@
-use Rattle.std.proofs.Common.{rules, get_or, map, subst}
+use Rattle.std.proofs.Common.{get_or, map, Ok}
 use Rattle.std.proofs.lemmas.Option.{slice_get-get_or}
-use Rattle.lookup_model.specs.LookupDegree.{IsDegree, lookup_degree}
-use Rattle.lookup_model.specs.declared.types.Lookup.{Lookup}
 use Rattle.lookup_model.specs.Outline.{fields_of}
-use Rattle.lookup.specs.Lookups.{lookups_of}
 use Rattle.lookup_packing.proofs.StepLaws.{plain_on}
-use Rattle.lookup_packing.specs.Fewest.{AnswersDegree}
-use Rattle.lookup_packing.specs.Packing.{Packs}
-use Rattle.lookup.proofs.PackedDegrees.{fewest_packed, packs_along, same_degree}
+use Rattle.lookup.proofs.PackedDegrees.{fewest_packed}
+use Rattle.lookup.proofs.PackedWithin.{packed_fit}
 use Rattle.lookup.proofs.lookups.Lookups.pack_same_bus.Goals as goal
 
-packs : (g : _) (c : goal.After-pack_same_bus_with_degree g) → Packs AnswersDegree c.args.max_degree (λ set. map fields_of (lookups_of set)) (map fields_of (lookups_of c.args.self)) c.pack_same_bus_with_degree.result
-packs g c =
-    packs_along _ AnswersDegree c.args.max_degree (λ set. map fields_of (lookups_of set)) (map fields_of (lookups_of c.args.self)) c.pack_same_bus_with_degree.result c.pack_same_bus_with_degree.ensures.packs
-    (λ o r h. subst (IsDegree r) (same_degree 0 h.0 o h.1) (subst (λ (l : Lookup g.row.F.Denot). IsDegree r (lookup_degree 0 l)) h.3.shows (let met = h.3.says.met in first_of (assumption met, search (rules, met)))))
-
-pub returns-clause-packs : goal.returns-clause-packs
-returns-clause-packs g c = packs g c
+pub packed_by_degree-requires : goal.packed_by_degree-requires
+packed_by_degree-requires g c = λ k d lt. (c.args.self.records k (get_or c.args.self.lookups.items k d) lt (slice_get-get_or c.args.self.lookups.items k d lt)).1
 
 pub returns-clause-fewest : goal.returns-clause-fewest
 returns-clause-fewest g c =
-    fewest_packed c.args.max_degree (λ set. map fields_of (lookups_of set)) (map fields_of (lookups_of c.args.self)) c.pack_same_bus_with_degree.result
-    (λ name. plain_on (lookups_of c.args.self) name (λ k d lt. (c.args.self.records k (get_or c.args.self.lookups.items k d) lt (slice_get-get_or c.args.self.lookups.items k d lt)).1))
-    (packs g c)
+    fewest_packed c.args.max_degree (λ v. map fields_of v.items) (map fields_of c.args.self.lookups.items) (Ok c.in_ok-lookups.lookups)
+    (λ name. plain_on c.args.self.lookups.items name (λ k d lt. (c.args.self.records k (get_or c.args.self.lookups.items k d) lt (slice_get-get_or c.args.self.lookups.items k d lt)).1))
+    c.in_ok-lookups.ensures.packs
+
+pub returns-clause-fits : goal.returns-clause-fits
+returns-clause-fits g c = λ layout fit. packed_fit layout _ c.args.max_degree c.args.self.lookups.items c.in_ok-lookups.lookups.items c.in_ok-lookups.ensures.packs.1 c.in_ok-lookups.ensures.records fit
