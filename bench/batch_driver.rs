@@ -11,7 +11,8 @@ mod plain_lookups;
 
 use plain::{Base, Quartic};
 use plain_lookups::{
-    Challenge, Combine, Lookup, checksum, column, columns, generate, local, negative, number_of,
+    Challenge, Combine, Lookup, checksum, column, columns, first_failing_row, generate, local,
+    negative, number_of,
 };
 use std::hint::black_box;
 use std::time::Instant;
@@ -60,6 +61,7 @@ struct Numbers {
 /// One AIR with its trace.
 struct Air {
     lookups: Vec<Lookup>,
+    challenges: Vec<Challenge>,
     main: Vec<Base>,
 }
 
@@ -80,20 +82,22 @@ enum Verdict {
 }
 
 fn airs(numbers: &Numbers) -> [Air; 2] {
-    let air = |numbers: &[u32], asks: bool| Air {
-        lookups: (0..LOOKUPS)
-            .map(|bus| {
-                let count = if asks { column(COUNT) } else { negative(column(COUNT)) };
-                Lookup { id: bus as u32, ..local(vec![(columns(4 * bus, 4), count)]) }
-            })
-            .collect(),
-        main: numbers.iter().map(|n| Base::new(*n)).collect(),
+    let air = |numbers: &[u32], asks: bool| {
+        let lookup = |bus: usize| {
+            let count = if asks { column(COUNT) } else { negative(column(COUNT)) };
+            Lookup { id: bus as u32, ..local(vec![(columns(4 * bus, 4), count)]) }
+        };
+        let lookups: Vec<Lookup> = (0..LOOKUPS).map(lookup).collect();
+        let challenges = Challenge::of_all(&lookups, 4);
+        Air { lookups, challenges, main: numbers.iter().map(|n| Base::new(*n)).collect() }
     };
     [air(&numbers.asked, true), air(&numbers.provided, false)]
 }
 
 fn prove(airs: &[Air]) -> Vec<Answer> {
-    airs.iter().map(|air| generate(&air.main, WIDTH, &air.lookups, Combine::Powers)).collect()
+    airs.iter()
+        .map(|air| generate(&air.main, WIDTH, &air.lookups, &air.challenges, Combine::Powers))
+        .collect()
 }
 
 /// The same answer as `batch_prove` gives after one round.
@@ -101,39 +105,10 @@ fn checksum_of(answers: &[Answer]) -> u32 {
     number_of(answers.iter().fold(Quartic::ZERO, |sum, (cells, end)| checksum(sum, cells, *end)))
 }
 
-/// Whether `U * f = V` for the fraction `f` of a lookup without flags: `U` is the product of all
-/// denominators, and `V` the sum of each multiplicity times the other denominators.
-fn is_fraction(lookup: &Lookup, challenge: &Challenge, row: &[Base], fraction: Quartic) -> bool {
-    let (mut u, mut v) = (Quartic::ONE, Quartic::ZERO);
-    for (tuple, count) in &lookup.tuples {
-        let denominator = challenge.denominator(Combine::Powers, tuple, row);
-        v = v * denominator + u * count.value(row);
-        u = u * denominator;
-    }
-    u * fraction == v
-}
-
-/// The first row on which a constraint of an AIR is not zero.
-fn first_failing_row(air: &Air, (cells, terminal): &Answer) -> Option<usize> {
-    let challenges: Vec<Challenge> = air.lookups.iter().map(Challenge::new).collect();
-    let (height, width) = (air.main.len() / WIDTH, LOOKUPS + 1);
-    let cells_of = |row: usize| &cells[row * width..(row + 1) * width];
-    (0..height).find(|row| {
-        let (current, next) = (cells_of(*row), cells_of((row + 1) % height));
-        let main = &air.main[row * WIDTH..(row + 1) * WIDTH];
-        let mut fractions = air.lookups.iter().zip(&challenges).zip(&current[1..]);
-        let are_fractions = fractions
-            .all(|((lookup, challenge), fraction)| is_fraction(lookup, challenge, main, *fraction));
-        let sum = current[1..].iter().fold(current[0], |sum, fraction| sum + *fraction);
-        let starts = *row > 0 || current[0] == Quartic::ZERO;
-        let goes_on = if row + 1 < height { next[0] == sum } else { *terminal == sum };
-        !(are_fractions && starts && goes_on)
-    })
-}
-
 fn verify(airs: &[Air], answers: &[Answer]) -> Verdict {
     for (place, (air, answer)) in airs.iter().zip(answers).enumerate() {
-        if let Some(row) = first_failing_row(air, answer) {
+        let failing = first_failing_row(&air.main, WIDTH, &air.lookups, &air.challenges, answer);
+        if let Some(row) = failing {
             return Verdict::ConstraintFailed { air: place, row };
         }
     }

@@ -8,10 +8,7 @@ mod plain;
 mod plain_lookups;
 
 use plain::{Base, Quartic};
-use plain_lookups::{
-    Combine, Lookup, Tree, checksum, column, columns, difference, generate, local, negative, number_of,
-    product, sum,
-};
+use plain_lookups::{Challenge, Combine, checksum, generate, number_of, numbers_of, shape_of};
 use std::hint::black_box;
 use std::time::Instant;
 
@@ -19,64 +16,20 @@ unsafe extern "C" {
     fn lookup_generate(numbers: *const u32, length: usize, shape: u32, rounds: u32, skip: u32) -> u32;
 }
 
-/// The width and the lookups of a shape.
-fn shape_of(shape: u32) -> (usize, Vec<Lookup>) {
-    match shape {
-        0 => {
-            let provided = (columns(1, 1), negative(column(2)));
-            (3, vec![local(vec![(columns(0, 1), Tree::One), provided])])
-        }
-        1 => {
-            let lookup = |i: usize| {
-                let count = if i < 4 { column(32) } else { negative(column(32)) };
-                Lookup { id: i as u32 % 4, ..local(vec![(columns(4 * i, 4), count)]) }
-            };
-            (33, (0..8).map(lookup).collect())
-        }
-        2 => {
-            let tuples = (0..4).map(|i| (columns(4 + 2 * i, 2), Tree::One)).collect();
-            (12, vec![Lookup { flags: Some(columns(0, 4)), ..local(tuples) }])
-        }
-        _ => {
-            let first = difference(sum(product(column(0), column(1)), column(2)), column(3));
-            let turned = product(column(0), difference(column(1), column(2)));
-            let second = sum(turned, product(column(3), column(4)));
-            let count = product(column(5), column(6));
-            (8, vec![local(vec![(vec![first, second], count)])])
-        }
-    }
-}
-
 /// The same answer as `lookup_generate`.
 fn answer(numbers: &[u32], shape: u32, combine: Combine, rounds: u32, skip: u32) -> u32 {
     let main: Vec<Base> = numbers.iter().map(|n| Base::new(*n)).collect();
-    let (width, lookups) = shape_of(shape);
+    let (width, lookups, _) = shape_of(shape);
+    let challenges = Challenge::of_all(&lookups, 4);
     let mut sum = Quartic::ZERO;
     for _ in 0..rounds {
-        let (auxiliary, terminal) = black_box(generate(&main, width, &lookups, combine));
+        let (auxiliary, terminal) =
+            black_box(generate(&main, width, &lookups, &challenges, combine));
         if skip != 1 {
             sum = checksum(Quartic::ZERO, &auxiliary, terminal);
         }
     }
     number_of(sum)
-}
-
-/// Rows of random numbers; flags are those of one branch, or of none.
-fn numbers_of(shape: u32, rows: usize) -> Vec<u32> {
-    let width = shape_of(shape).0;
-    let mut state: u32 = 1;
-    let mut next = || {
-        state = state.wrapping_mul(1_664_525).wrapping_add(1_013_904_223);
-        state >> 3
-    };
-    let mut numbers: Vec<u32> = (0..rows * width).map(|_| next()).collect();
-    if shape == 2 {
-        for row in numbers.chunks_mut(width) {
-            let selected = next() >> 8;
-            (0..4).for_each(|i| row[i] = u32::from(selected % 5 == i as u32));
-        }
-    }
-    numbers
 }
 
 fn nanoseconds(rows: usize, rounds: u32, work: impl FnOnce() -> u32) -> f64 {

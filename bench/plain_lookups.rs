@@ -1,9 +1,10 @@
-//! Lookups and their generation in plain Rust, as the Rust crate does it.
+//! Lookups in plain Rust, their generation and their check.
 //!
 //! Generation goes through chunks of 1024 rows. For each chunk it walks the expressions row by row,
 //! collects denominators and multiplicities, inverts all denominators by prefix products and one
 //! inverse, and adds up the fractions. It combines a tuple with powers of beta, as the Rust crate does
-//! today, or by Horner's rule.
+//! today, or by Horner's rule. To check, it walks the same expressions row by row, and combines with
+//! powers.
 #![allow(dead_code)]
 
 use crate::plain::{Base, Quartic, inverses};
@@ -84,14 +85,19 @@ pub struct Challenge {
 }
 
 impl Challenge {
-    pub fn new(lookup: &Lookup) -> Challenge {
+    /// Those of a lookup, where messages have up to `width` elements.
+    pub fn new(lookup: &Lookup, width: usize) -> Challenge {
         let beta = element([3, 1, 4, 15]);
         let mut powers = vec![Quartic::ONE];
-        for i in 0..4 {
+        for i in 0..width {
             powers.push(powers[i] * beta);
         }
-        let alpha = element([9, 2, 6, 5]) + powers[4] * Base::new(lookup.id + 1);
+        let alpha = element([9, 2, 6, 5]) + powers[width] * Base::new(lookup.id + 1);
         Challenge { alpha, powers }
+    }
+
+    pub fn of_all(lookups: &[Lookup], width: usize) -> Vec<Challenge> {
+        lookups.iter().map(|lookup| Challenge::new(lookup, width)).collect()
     }
 
     pub fn denominator(&self, combine: Combine, tuple: &[Tree], row: &[Base]) -> Quartic {
@@ -155,9 +161,9 @@ pub fn generate(
     main: &[Base],
     main_width: usize,
     lookups: &[Lookup],
+    challenges: &[Challenge],
     combine: Combine,
 ) -> (Vec<Quartic>, Quartic) {
-    let challenges: Vec<Challenge> = lookups.iter().map(Challenge::new).collect();
     let height = main.len() / main_width;
     let width = lookups.len() + 1;
     let fractions: usize = lookups.iter().map(fractions_of).sum();
@@ -169,7 +175,7 @@ pub fn generate(
         let (mut denominators, mut multiplicities) =
             (Vec::with_capacity(size), Vec::with_capacity(size));
         for row in main.chunks(main_width) {
-            for (lookup, challenge) in lookups.iter().zip(&challenges) {
+            for (lookup, challenge) in lookups.iter().zip(challenges) {
                 push(lookup, challenge, combine, row, &mut denominators, &mut multiplicities);
             }
         }
@@ -191,6 +197,104 @@ pub fn generate(
         accumulator = accumulator + *total;
     }
     (auxiliary, accumulator)
+}
+
+/// Whether the constraint of a lookup's fraction holds on a row. Without flags it is `U * f = V`: `U` is
+/// the product of all denominators, and `V` the sum of each multiplicity times the other denominators.
+/// With flags it is `D * f = N`: `D` is 1 and the sum of each flag times its denominator less 1, and `N`
+/// the sum of each flag times its multiplicity.
+fn is_fraction(lookup: &Lookup, challenge: &Challenge, row: &[Base], fraction: Quartic) -> bool {
+    let denominator = |tuple: &[Tree]| challenge.denominator(Combine::Powers, tuple, row);
+    let Some(flags) = &lookup.flags else {
+        let (mut u, mut v) = (Quartic::ONE, Quartic::ZERO);
+        for (place, (tuple, count)) in lookup.tuples.iter().enumerate() {
+            let (next, count) = (denominator(tuple), count.value(row));
+            if place == 0 {
+                (u, v) = (next, Quartic::from(count));
+            } else {
+                v = v * next + u * count;
+                u = u * next;
+            }
+        }
+        return u * fraction == v;
+    };
+    let (mut d, mut n) = (Quartic::ONE, Base::ZERO);
+    for (flag, (tuple, count)) in flags.iter().zip(&lookup.tuples) {
+        let flag = flag.value(row);
+        d = d + (denominator(tuple) - Quartic::ONE) * flag;
+        n = n + flag * count.value(row);
+    }
+    d * fraction == Quartic::from(n)
+}
+
+/// The first row on which a constraint of these lookups is not zero: that of a fraction, that the
+/// accumulator starts at zero, that it goes on by the fractions, and that it ends at the terminal.
+pub fn first_failing_row(
+    main: &[Base],
+    main_width: usize,
+    lookups: &[Lookup],
+    challenges: &[Challenge],
+    (cells, terminal): &(Vec<Quartic>, Quartic),
+) -> Option<usize> {
+    let (height, width) = (main.len() / main_width, lookups.len() + 1);
+    let cells_of = |row: usize| &cells[row * width..(row + 1) * width];
+    (0..height).find(|row| {
+        let (current, next) = (cells_of(*row), cells_of((row + 1) % height));
+        let main = &main[row * main_width..(row + 1) * main_width];
+        let mut fractions = lookups.iter().zip(challenges).zip(&current[1..]);
+        let are_fractions = fractions
+            .all(|((lookup, challenge), fraction)| is_fraction(lookup, challenge, main, *fraction));
+        let sum = current[1..].iter().fold(current[0], |sum, fraction| sum + *fraction);
+        let starts = *row > 0 || current[0] == Quartic::ZERO;
+        let goes_on = if row + 1 < height { next[0] == sum } else { *terminal == sum };
+        !(are_fractions && starts && goes_on)
+    })
+}
+
+/// The width and the lookups of a shape, and the greatest width of its tuples.
+pub fn shape_of(shape: u32) -> (usize, Vec<Lookup>, usize) {
+    match shape {
+        0 => {
+            let provided = (columns(1, 1), negative(column(2)));
+            (3, vec![local(vec![(columns(0, 1), Tree::One), provided])], 1)
+        }
+        1 => {
+            let lookup = |i: usize| {
+                let count = if i < 4 { column(32) } else { negative(column(32)) };
+                Lookup { id: i as u32 % 4, ..local(vec![(columns(4 * i, 4), count)]) }
+            };
+            (33, (0..8).map(lookup).collect(), 4)
+        }
+        2 => {
+            let tuples = (0..4).map(|i| (columns(4 + 2 * i, 2), Tree::One)).collect();
+            (12, vec![Lookup { flags: Some(columns(0, 4)), ..local(tuples) }], 2)
+        }
+        _ => {
+            let first = difference(sum(product(column(0), column(1)), column(2)), column(3));
+            let turned = product(column(0), difference(column(1), column(2)));
+            let second = sum(turned, product(column(3), column(4)));
+            let count = product(column(5), column(6));
+            (8, vec![local(vec![(vec![first, second], count)])], 2)
+        }
+    }
+}
+
+/// Rows of random numbers for a shape; flags are those of one branch, or of none.
+pub fn numbers_of(shape: u32, rows: usize) -> Vec<u32> {
+    let width = shape_of(shape).0;
+    let mut state: u32 = 1;
+    let mut next = || {
+        state = state.wrapping_mul(1_664_525).wrapping_add(1_013_904_223);
+        state >> 3
+    };
+    let mut numbers: Vec<u32> = (0..rows * width).map(|_| next()).collect();
+    if shape == 2 {
+        for row in numbers.chunks_mut(width) {
+            let selected = next() >> 8;
+            (0..4).for_each(|i| row[i] = u32::from(selected % 5 == i as u32));
+        }
+    }
+    numbers
 }
 
 /// A checksum over all cells and then the terminal, on from another one.

@@ -1,8 +1,9 @@
 //! The two AIRs: their lookups, traces, plan and challenges.
 ghost use Rattle.std.specs.Prelude.{◌<◌};
 
-use air::{BaseEntry, BaseLeaf, Expression, SymbolicExpression, SymbolicVariable};
+use air::Expression;
 use batch::{BatchError, BatchPlan, BatchTrace};
+use bench_shapes::{column, columns, element, trace};
 use field::{BabyBear, BabyBear4};
 use lookup::{Challenges, Kind, Lookup, LookupError, Lookups};
 use matrix::RowMajorMatrix;
@@ -35,10 +36,10 @@ impl Traces {
         asked: &[u32],
         provided: &[u32],
     ) -> Result<Option<Self>, AllocError> {
-        let Some(asks) = trace(alloc, asked)? else {
+        let Some(asks) = trace(alloc, asked, WIDTH)? else {
             return Ok(None);
         };
-        let Some(provides) = trace(alloc, provided)? else {
+        let Some(provides) = trace(alloc, provided, WIDTH)? else {
             return Ok(None);
         };
         Ok(Some(Traces { asks, provides }))
@@ -104,31 +105,8 @@ pub(crate) fn challenges(alloc: Global) -> Result<Vec<BabyBear4>, AllocError> {
     Challenges::new(alloc, alpha(), beta(), 4, 4)?.for_columns(alloc, &[0, 1, 2, 3])
 }
 
-/// The element with these coefficients, lowest power first.
-pub(crate) fn element(coefficients: [u32; 4]) -> BabyBear4 {
-    let [c0, c1, c2, c3] = coefficients;
-    BabyBear4::new([
-        BabyBear::new(c0),
-        BabyBear::new(c1),
-        BabyBear::new(c2),
-        BabyBear::new(c3),
-    ])
-}
-
-/// The matrix of these numbers, or `None` unless they make whole rows.
-fn trace(alloc: Global, numbers: &[u32]) -> Result<Option<RowMajorMatrix<BabyBear>>, AllocError> {
-    let mut values = Vec::with_capacity(alloc, numbers.len())?;
-    for n in numbers {
-        values.push(BabyBear::new(*n))?;
-    }
-    if values.len() % WIDTH != 0 {
-        return Ok(None);
-    }
-    Ok(Some(RowMajorMatrix::new(values, WIDTH)))
-}
-
 /// A main trace alone.
-fn alone(main: &RowMajorMatrix<BabyBear>) -> BatchTrace<'_, BabyBear> {
+pub(crate) fn alone(main: &RowMajorMatrix<BabyBear>) -> BatchTrace<'_, BabyBear> {
     BatchTrace {
         main,
         preprocessed: None,
@@ -146,29 +124,10 @@ fn bus_lookup(alloc: Global, side: Side, bus: usize) -> Result<Lookup<BabyBear>,
     };
     Ok(Lookup {
         kind: Kind::Global(format!(in alloc; "bus {bus}")?),
-        elements: Vec::from_array(alloc, [tuple(alloc, 4 * bus)?])?,
+        elements: Vec::from_array(alloc, [columns(alloc, 4 * bus, 4)?])?,
         multiplicities: Vec::from_array(alloc, [count])?,
         count_weight,
         column: bus,
         flags: None,
     })
-}
-
-/// The tuple of four columns from `first` on.
-fn tuple(alloc: Global, first: usize) -> Result<Vec<SymbolicExpression<BabyBear>>, AllocError>
-    requires { first < 16 }
-{
-    let mut tuple = Vec::with_capacity(alloc, 4)?;
-    for index in first..first + 4 {
-        tuple.push(column(index))?;
-    }
-    Ok(tuple)
-}
-
-/// A cell of the current row of the main trace.
-fn column(index: usize) -> SymbolicExpression<BabyBear> {
-    SymbolicExpression::Leaf(BaseLeaf::Variable(SymbolicVariable::new(
-        BaseEntry::Main { offset: 0 },
-        index,
-    )))
 }

@@ -1,10 +1,9 @@
 //! Checksums of auxiliary traces.
 
-use crate::airs::element;
-use field::{BabyBear4, Field};
+use bench_shapes::element;
+use field::BabyBear4;
 use lookup::LookupTerminal;
 use matrix::RowMajorMatrix;
-use std::alloc::{AllocError, Global};
 
 /// The checksum so far, taken over the cells of one AIR, row after row, and its terminal.
 pub(crate) fn checksum(
@@ -21,11 +20,4 @@ pub(crate) fn checksum(
         Some(terminal) => sum * point + terminal.0,
         None => sum,
     }
-}
-
-/// The sum of the coefficients as a number below the modulus, from its text.
-pub(crate) fn number(alloc: Global, x: BabyBear4) -> Result<u32, AllocError> {
-    let [c0, c1, c2, c3] = x.coefficients();
-    let sum = c0 + c1 + c2 + c3;
-    Ok(sum.text(alloc)?.as_str().parse().unwrap_or(0))
 }

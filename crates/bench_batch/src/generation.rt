@@ -3,10 +3,10 @@ ghost use Rattle.std.specs.Prelude.{◌↔◌, ◌*◌, ◌≤◌, [], IsTrue, N
 ghost use Rattle.expressions.specs.Layout.{layout_of_traces};
 ghost use Rattle.lookup_model.specs.Records.{DoFit};
 
-use crate::REFUSED;
 use crate::airs::{Side, Traces, challenges, lookups_of};
-use crate::checksums::{checksum, number};
+use crate::checksums::checksum;
 use air::AirLayout;
+use bench_shapes::{REFUSED, number};
 use field::{BabyBear, BabyBear4, PrimeCharacteristicRing};
 use lookup::{LogUpGadget, Lookup, LookupError, LookupProtocol, LookupTerminal, fits};
 use matrix::RowMajorMatrix;
@@ -45,7 +45,7 @@ pub(crate) fn generate(
             sum = checksum(sum, &other_aux, &other_terminal);
         }
     }
-    Ok(number(alloc, sum)?)
+    Ok(number(sum))
 }
 
 /// Whether the lookups fit the trace, and have an alpha and a beta each.

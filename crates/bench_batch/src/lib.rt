@@ -4,17 +4,19 @@
 mod airs;
 mod checksums;
 mod generation;
+mod packing;
+mod shapes;
 
 use crate::airs::{Planned, alpha, beta};
-use crate::checksums::{checksum, number};
+use crate::checksums::checksum;
 use crate::generation::generate;
+use crate::packing::pack;
+use crate::shapes::verify_shape;
 use batch::BatchError;
+use bench_shapes::{REFUSED, number};
 use field::{BabyBear4, PrimeCharacteristicRing};
 use lookup::LookupError;
 use std::alloc::Global;
-
-/// The answer where a call is refused.
-const REFUSED: u32 = u32::MAX;
 
 /// The answer where a witness is accepted.
 const ACCEPTED: u32 = 0;
@@ -67,6 +69,32 @@ pub extern "C" fn batch_verify(alloc: Global, asked: &[u32], provided: &[u32], r
     verify(alloc, asked, provided, rounds).unwrap_or(REFUSED)
 }
 
+/// Makes the witness of a plan of one AIR over `BabyBear` and `BabyBear4` once, and verifies it `rounds`
+/// times. The AIR has the lookups of a shape of `lookup_generate`, and its trace `numbers`, row after row.
+///
+/// Returns what `batch_verify` does, and `u32::MAX` for another shape.
+#[unsafe(no_mangle)]
+pub extern "C" fn shape_verify(alloc: Global, numbers: &[u32], shape: u32, rounds: u32) -> u32 {
+    verify_shape(alloc, numbers, shape, rounds).unwrap_or(REFUSED)
+}
+
+/// Packs a copy of `count` lookups over `BabyBear` within `max_degree`, `rounds` times. Lookup `i` is on
+/// bus `i % buses`, with a tuple of the four columns from `4 * (i % 8)` on, and its count is column 32.
+///
+/// Returns how many columns the last packed set has, and 0 without a round. With `skip` 1 the copies are
+/// made and not packed, and the answer is 0. It is `u32::MAX` without a bus, and if memory runs out.
+#[unsafe(no_mangle)]
+pub extern "C" fn lookups_pack(
+    alloc: Global,
+    count: u32,
+    buses: u32,
+    max_degree: u32,
+    rounds: u32,
+    skip: u32,
+) -> u32 {
+    pack(alloc, count, buses, max_degree, rounds, skip).unwrap_or(REFUSED)
+}
+
 fn prove(
     alloc: Global,
     asked: &[u32],
@@ -87,7 +115,7 @@ fn prove(
             }
         }
     }
-    Ok(number(alloc, sum)?)
+    Ok(number(sum))
 }
 
 fn verify(alloc: Global, asked: &[u32], provided: &[u32], rounds: u32) -> Result<u32, BatchError> {
@@ -109,6 +137,7 @@ fn verify(alloc: Global, asked: &[u32], provided: &[u32], rounds: u32) -> Result
     Ok(verdict)
 }
 
+/// What a verdict is as a number.
 fn verdict_of(verified: Result<(), BatchError>) -> u32 {
     match verified {
         Ok(()) => ACCEPTED,

@@ -1,5 +1,5 @@
-//! The shapes of the bench of generation, and checksums of their auxiliary traces. `bench_generation` makes
-//! a C function of this, for the comparison in `bench/`, and `generation_tests` tests it.
+//! The shapes that are measured, and checksums of their auxiliary traces. `bench_generation` and
+//! `bench_batch` make C functions of this, for the comparisons in `bench/`, and `generation_tests` tests it.
 #![tactic(auto)]
 
 ghost use Rattle.std.specs.Prelude.{◌↔◌, ◌*◌, ◌≤◌, [], IsTrue, None, length};
@@ -8,15 +8,16 @@ ghost use Rattle.lookup_model.specs.Records.{DoFit};
 
 mod shapes;
 
-use crate::shapes::{challenges_of, element, lookups_of, width_of};
+use crate::shapes::challenges_of;
 use air::AirLayout;
-use field::{BabyBear, BabyBear4, Field, PrimeCharacteristicRing};
+use field::{BabyBear, BabyBear4, PrimeCharacteristicRing};
 use lookup_generation::generate_permutation;
 use lookup_model::{Lookup, LookupError, LookupTerminal, fits};
 use matrix::RowMajorMatrix;
+pub use shapes::{column, columns, element, lookups_of, width_of};
 use std::alloc::{AllocError, Global};
 
-/// The answer where generation is refused.
+/// The answer where a call is refused.
 pub const REFUSED: u32 = u32::MAX;
 
 /// The checksum of a shape's auxiliary trace, as `lookup_generate` of `bench_generation` says it. Fails
@@ -43,11 +44,13 @@ pub fn generate(
             sum = checksum(&auxiliary, terminal);
         }
     }
-    Ok(number(alloc, sum)?)
+    Ok(number(sum))
 }
 
 /// The matrix of these numbers, or `None` unless they make whole rows of `width`.
-fn trace(
+///
+/// Fails only when out of memory.
+pub fn trace(
     alloc: Global,
     numbers: &[u32],
     width: usize,
@@ -97,9 +100,8 @@ fn checksum(
     }
 }
 
-/// The sum of the coefficients as a number below the modulus, from its text.
-fn number(alloc: Global, x: BabyBear4) -> Result<u32, AllocError> {
+/// The sum of the coefficients as a number below the modulus.
+pub fn number(x: BabyBear4) -> u32 {
     let [c0, c1, c2, c3] = x.coefficients();
-    let sum = c0 + c1 + c2 + c3;
-    Ok(sum.text(alloc)?.as_str().parse().unwrap_or(0))
+    (c0 + c1 + c2 + c3).as_canonical_u32()
 }

@@ -7,7 +7,7 @@ use lookup_model::{Challenges, Kind, Lookup};
 use std::alloc::{AllocError, Global};
 
 /// The width of a shape's rows, 0 for an unknown shape.
-pub(crate) fn width_of(shape: u32) -> usize {
+pub fn width_of(shape: u32) -> usize {
     match shape {
         0 => 3,
         1 => 33,
@@ -18,7 +18,9 @@ pub(crate) fn width_of(shape: u32) -> usize {
 }
 
 /// The lookups of a shape, none for an unknown one.
-pub(crate) fn lookups_of(alloc: Global, shape: u32) -> Result<Vec<Lookup<BabyBear>>, AllocError> {
+///
+/// Fails only when out of memory.
+pub fn lookups_of(alloc: Global, shape: u32) -> Result<Vec<Lookup<BabyBear>>, AllocError> {
     let mut lookups = Vec::new(alloc);
     match shape {
         0 => lookups.push(local_lookup(alloc)?)?,
@@ -46,7 +48,7 @@ pub(crate) fn challenges_of(alloc: Global, shape: u32) -> Result<Vec<BabyBear4>,
 }
 
 /// The element with these coefficients, lowest power first.
-pub(crate) fn element(coefficients: [u32; 4]) -> BabyBear4 {
+pub fn element(coefficients: [u32; 4]) -> BabyBear4 {
     let [c0, c1, c2, c3] = coefficients;
     BabyBear4::new([
         BabyBear::new(c0),
@@ -121,7 +123,9 @@ fn no_tuples(alloc: Global, kind: Kind, column: usize) -> Lookup<BabyBear> {
 }
 
 /// The tuple of `width` columns from `first` on.
-fn columns(
+///
+/// Fails only when out of memory.
+pub fn columns(
     alloc: Global,
     first: usize,
     width: usize,
@@ -137,7 +141,7 @@ fn columns(
 }
 
 /// A cell of the current row of the main trace.
-fn column(index: usize) -> SymbolicExpression<BabyBear> {
+pub fn column(index: usize) -> SymbolicExpression<BabyBear> {
     SymbolicExpression::Leaf(BaseLeaf::Variable(SymbolicVariable::new(
         BaseEntry::Main { offset: 0 },
         index,
