@@ -1,7 +1,7 @@
 -- The bound of a grid, and the refusals of its count.
 use Rattle.std.proofs.Common.{◌≡◌, ◌≤◌, ◌<◌, ◌⊎◌, ◌+◌, ◌-◌, ◌*◌, ◌/◌, ◌^◌, ℕ, inl, inr, List, Option, None, Some, Ok, Err, MatchOption, length, refl, sym, ap, subst, ◌∙◌, arith}
 use Rattle.std.proofs.lemmas.Bool.{cases_lt}
-use Rattle.lookup_model.specs.Extension.{Extension}
+use Rattle.field.specs.Extension.{Extension}
 use Rattle.batch_model.specs.Counts.{AreCounts, FewBadBetas, IsCountOverflow, bad_beta_bound, message_count, unbalanced_count}
 use Rattle.batch_model.specs.Faults.{IsOutOfMemory}
 use Rattle.batch_model.specs.FlagFaults.{IsFirstFlagFault}

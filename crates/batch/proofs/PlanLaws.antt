@@ -9,7 +9,7 @@ use Rattle.batch_model.specs.Refusals.{IsAirRefusal, IsWitnessRefusal}
 use Rattle.batch_model.specs.Witnesses.{AirResult}
 use Rattle.batch_model.specs.declared.fault.BatchFault.{BatchFault}
 use Rattle.lookup_model.specs.Challenges.{ChallengeTable}
-use Rattle.lookup_model.specs.Extension.{Extension}
+use Rattle.field.specs.Extension.{Extension}
 use Rattle.lookup_model.specs.LookupDegree.{greatest}
 use Rattle.lookup_model.specs.declared.error.LookupError.{LookupError}
 use Rattle.lookup_packing.specs.TupleWidths.{IsTupleWidths}

@@ -1,7 +1,7 @@
 -- What counting the accepted pairs of a grid of challenges answers.
 use Rattle.std.specs.Prelude.{◌≡◌, ◌⊎◌, ◌+◌, ◌*◌, ◌^◌, ◌<◌, ◌≤◌, ℕ, List, Option, None, Some, Result, IfOk, MatchOption, MatchResult, length}
 use Rattle.field.specs.Distinct.{IsDistinct}
-use Rattle.lookup_model.specs.Extension.{Extension}
+use Rattle.field.specs.Extension.{Extension}
 use Rattle.batch_model.specs.Counts.{bad_beta_bound, unbalanced_count}
 use Rattle.batch_model.specs.FlagFaults.{IsFirstFlagFault}
 use Rattle.batch_model.specs.Grid.{AcceptsPair, IsNumberOf, grid, joint_bound}

@@ -1,7 +1,6 @@
 //! The count of a grid of challenges, with its bound.
 ghost use Rattle.std.specs.Prelude.{◌≡◌, ◌⊎◌, ◌+◌, ◌*◌, ◌^◌, ◌<◌, ◌≤◌, MatchOption, MatchResult};
 ghost use Rattle.field.specs.Distinct.{IsDistinct};
-ghost use Rattle.lookup_model.specs.Extension.{extension};
 ghost use Rattle.batch_model.specs.Ids.{AreLawfulIds};
 ghost use Rattle.batch_model.specs.Instances.{DoInstancesFit, instances_of};
 ghost use Rattle.batch.specs.Grids.{CountsGrid, IsBoundOf, StaysWithinBound};
@@ -10,7 +9,7 @@ ghost use Rattle.batch.specs.Pairs.{HaveIdsBelow};
 use crate::error::BatchError;
 use crate::pairs::accepted_pairs;
 use checker::{BatchInstance, soundness_count};
-use field::{ExtensionField, Field};
+use field::{ExtensionField, Field, Over};
 use indexmap::IndexSet;
 use std::alloc::{AllocFailed, Global};
 
@@ -44,8 +43,8 @@ pub(crate) fn counted_grid<F: Field, EF: ExtensionField<F>>(
     requires ids { HaveIdsBelow num_ids batch.now }
     requires lawful { AreLawfulIds max_message_width num_ids F.CHARACTERISTIC
         (instances_of batch.now) }
-    ensures answer { CountsGrid (extension F.ring F.eq EF.ring EF.eq EF.embed EF.inverse)
-        (instances_of batch.now) max_message_width alphas.now betas.now result }
+    ensures answer { CountsGrid ⟦<EF as Over<F>>⟧.fields (instances_of batch.now) max_message_width
+        alphas.now betas.now result }
     ensures within { StaysWithinBound result }
 {
     check_distinct(alloc, alphas)?;

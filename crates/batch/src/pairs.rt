@@ -1,11 +1,10 @@
 //! How many pairs of a grid of challenges are accepted.
 ghost use Rattle.std.specs.Prelude.{◌<◌};
-ghost use Rattle.lookup_model.specs.Extension.{extension};
 ghost use Rattle.batch_model.specs.Instances.{DoInstancesFit, instances_of};
 ghost use Rattle.batch.specs.Pairs.{CountsAlphas, CountsPairs, DecidesPair, HaveIdsBelow};
 
 use checker::{BatchInstance, some_witness};
-use field::{ExtensionField, Field};
+use field::{ExtensionField, Field, Over};
 use lookup::{Challenges, LookupError};
 use std::alloc::Global;
 
@@ -21,8 +20,8 @@ fn accepts_pair<F: Field, EF: ExtensionField<F>>(
     requires fit { DoInstancesFit instances.now }
     requires ids { HaveIdsBelow num_ids instances.now }
     requires width { 0 < max_message_width }
-    ensures { DecidesPair (extension F.ring F.eq EF.ring EF.eq EF.embed EF.inverse)
-        (instances_of instances.now) max_message_width alpha beta result }
+    ensures { DecidesPair ⟦<EF as Over<F>>⟧.fields (instances_of instances.now) max_message_width
+        alpha beta result }
 {
     let challenges = Challenges::new(alloc, alpha, beta, max_message_width, num_ids)?;
     some_witness(alloc, instances, &challenges)
@@ -40,8 +39,8 @@ fn accepting_alphas<F: Field, EF: ExtensionField<F>>(
     requires fit { DoInstancesFit instances.now }
     requires ids { HaveIdsBelow num_ids instances.now }
     requires width { 0 < max_message_width }
-    ensures { CountsAlphas (extension F.ring F.eq EF.ring EF.eq EF.embed EF.inverse)
-        (instances_of instances.now) max_message_width alphas.now beta result }
+    ensures { CountsAlphas ⟦<EF as Over<F>>⟧.fields (instances_of instances.now) max_message_width
+        alphas.now beta result }
 {
     let mut accepting = 0;
     for place in 0..alphas.len() {
@@ -65,8 +64,8 @@ pub(crate) fn accepted_pairs<F: Field, EF: ExtensionField<F>>(
     requires fit { DoInstancesFit instances.now }
     requires ids { HaveIdsBelow num_ids instances.now }
     requires width { 0 < max_message_width }
-    ensures { CountsPairs (extension F.ring F.eq EF.ring EF.eq EF.embed EF.inverse)
-        (instances_of instances.now) max_message_width alphas.now betas.now result }
+    ensures { CountsPairs ⟦<EF as Over<F>>⟧.fields (instances_of instances.now) max_message_width
+        alphas.now betas.now result }
 {
     let mut accepted = 0;
     for place in 0..betas.len() {

@@ -11,7 +11,7 @@ use crate::ids::{PlanIds, plan_ids};
 use crate::trace::BatchTrace;
 use crate::widths::{check_local_widths, widest_tuple};
 use checker::{BatchInstance, Witness, check_witness, generate_batch};
-use field::{ExtensionField, Field};
+use field::{ExtensionField, Field, Over};
 use lookup::{Challenges, Lookups, check_bus_widths, check_multiplicity_height_bound};
 use std::alloc::{AllocError, Global};
 
@@ -40,7 +40,6 @@ impl<F: Field> BatchPlan<F> {
     ghost use Rattle.batch.specs.Plans.{PassIsCounted, PassesOnlyPlain, Proves, ProvesBalanced, ProvesOnly, ProvesRegular, ProvesSatisfied, RefusesUnaccepted, Verifies, plan_batch};
     ghost use Rattle.batch.specs.Tables.{made_table};
     ghost use Rattle.batch.specs.Traces.{IsTraceRefusal};
-    ghost use Rattle.lookup_model.specs.Extension.{extension};
 
     /// The plan of these AIRs, whose traces have these heights.
     ///
@@ -126,21 +125,21 @@ impl<F: Field> BatchPlan<F> {
         alpha: EF,
         beta: EF,
     ) -> Result<Witness<EF>, BatchError>
-        ensures answer { Proves (extension F.ring F.eq EF.ring EF.eq EF.embed EF.inverse)
+        ensures answer { Proves ⟦<EF as Over<F>>⟧.fields
             (made_table EF.ring alpha beta self.now.max_message_width self.now.num_ids)
             self.now.heights.items traces.now
             (plan_batch self.now.airs.items self.now.ids.items traces.now) result }
-        ensures succeeds { ProvesRegular (extension F.ring F.eq EF.ring EF.eq EF.embed EF.inverse)
+        ensures succeeds { ProvesRegular ⟦<EF as Over<F>>⟧.fields
             (made_table EF.ring alpha beta self.now.max_message_width self.now.num_ids)
             self.now.heights.items traces.now
             (plan_batch self.now.airs.items self.now.ids.items traces.now) result }
-        ensures satisfied { ProvesSatisfied (extension F.ring F.eq EF.ring EF.eq EF.embed EF.inverse)
+        ensures satisfied { ProvesSatisfied ⟦<EF as Over<F>>⟧.fields
             (made_table EF.ring alpha beta self.now.max_message_width self.now.num_ids)
             (plan_batch self.now.airs.items self.now.ids.items traces.now) result }
-        ensures only { ProvesOnly (extension F.ring F.eq EF.ring EF.eq EF.embed EF.inverse)
+        ensures only { ProvesOnly ⟦<EF as Over<F>>⟧.fields
             (made_table EF.ring alpha beta self.now.max_message_width self.now.num_ids)
             (plan_batch self.now.airs.items self.now.ids.items traces.now) result }
-        ensures balanced { ProvesBalanced (extension F.ring F.eq EF.ring EF.eq EF.embed EF.inverse)
+        ensures balanced { ProvesBalanced ⟦<EF as Over<F>>⟧.fields
             (made_table EF.ring alpha beta self.now.max_message_width self.now.num_ids)
             (plan_batch self.now.airs.items self.now.ids.items traces.now) result }
     {
@@ -167,18 +166,18 @@ impl<F: Field> BatchPlan<F> {
         beta: EF,
         witness: &Witness<EF>,
     ) -> Result<(), BatchError>
-        ensures answer { Verifies (extension F.ring F.eq EF.ring EF.eq EF.embed EF.inverse)
+        ensures answer { Verifies ⟦<EF as Over<F>>⟧.fields
             (made_table EF.ring alpha beta self.now.max_message_width self.now.num_ids)
             self.now.heights.items traces.now
             (plan_batch self.now.airs.items self.now.ids.items traces.now) witness.now result }
-        ensures refusal { RefusesUnaccepted (extension F.ring F.eq EF.ring EF.eq EF.embed EF.inverse)
+        ensures refusal { RefusesUnaccepted ⟦<EF as Over<F>>⟧.fields
             (made_table EF.ring alpha beta self.now.max_message_width self.now.num_ids)
             self.now.heights.items traces.now
             (plan_batch self.now.airs.items self.now.ids.items traces.now) witness.now result }
-        ensures only { PassesOnlyPlain (extension F.ring F.eq EF.ring EF.eq EF.embed EF.inverse)
+        ensures only { PassesOnlyPlain ⟦<EF as Over<F>>⟧.fields
             (made_table EF.ring alpha beta self.now.max_message_width self.now.num_ids)
             (plan_batch self.now.airs.items self.now.ids.items traces.now) witness.now result }
-        ensures counted { PassIsCounted (extension F.ring F.eq EF.ring EF.eq EF.embed EF.inverse)
+        ensures counted { PassIsCounted ⟦<EF as Over<F>>⟧.fields
             (plan_batch self.now.airs.items self.now.ids.items traces.now) alpha beta
             self.now.max_message_width result }
     {
@@ -209,7 +208,7 @@ impl<F: Field> BatchPlan<F> {
         alphas: &[EF],
         betas: &[EF],
     ) -> Result<GridCount, BatchError>
-        ensures answer { CountsPlanGrid (extension F.ring F.eq EF.ring EF.eq EF.embed EF.inverse)
+        ensures answer { CountsPlanGrid ⟦<EF as Over<F>>⟧.fields
             (plan_batch self.now.airs.items self.now.ids.items traces.now)
             self.now.max_message_width alphas.now betas.now self.now.heights.items traces.now result }
         ensures within { StaysWithinBound result }

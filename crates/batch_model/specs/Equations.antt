@@ -7,7 +7,7 @@ use Rattle.matrix.specs.Matrix.{height}
 use Rattle.expressions.specs.Window.{ExtWindow, window_at}
 use Rattle.lookup_model.specs.Challenges.{ChallengeTable, column_challenges}
 use Rattle.lookup_model.specs.Constraints.{denominator_at, fraction_denominator, fraction_numerator}
-use Rattle.lookup_model.specs.Extension.{Extension}
+use Rattle.field.specs.Extension.{Extension}
 use Rattle.lookup_model.specs.Sent.{branches_at, flags_at}
 use Rattle.lookup_model.specs.declared.types.Lookup.{Lookup}
 use Rattle.batch_model.specs.Instances.{Instance}

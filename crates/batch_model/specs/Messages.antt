@@ -3,7 +3,7 @@ use Rattle.std.specs.Prelude.{◌≢◌, ℕ, Bool, List, IfSome, slice_index_or
 use Rattle.std.specs.List.{AllByRecursion, flat_map}
 use Rattle.field.specs.Ring.{Ring}
 use Rattle.lookup_model.specs.Challenges.{ChallengeTable, table_denominator}
-use Rattle.lookup_model.specs.Extension.{Extension}
+use Rattle.field.specs.Extension.{Extension}
 use Rattle.lookup_model.specs.Fault.{IsLawfulSelection}
 use Rattle.lookup_model.specs.Message.{Key, Message}
 use Rattle.lookup_model.specs.Plain.{trace_messages}

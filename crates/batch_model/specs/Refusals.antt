@@ -4,7 +4,7 @@ use Rattle.std.specs.Prelude.{◌≡◌, ◌≢◌, ◌<◌, ◌⊎◌, ℕ, Lis
 use Rattle.std.specs.Option.{is_some}
 use Rattle.matrix.specs.Matrix.{height}
 use Rattle.lookup_model.specs.Challenges.{ChallengeTable, column_challenges}
-use Rattle.lookup_model.specs.Extension.{Extension}
+use Rattle.field.specs.Extension.{Extension}
 use Rattle.lookup_model.specs.Terminals.{terminal_sum}
 use Rattle.lookup_model.specs.Witness.{HasShape, HoldsOnRow, auxiliary_height, auxiliary_width, has_terminal}
 use Rattle.lookup_model.specs.declared.error.LookupError.{LookupError}

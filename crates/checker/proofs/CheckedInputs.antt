@@ -4,7 +4,7 @@ use Rattle.std.proofs.lemmas.List.{nil_from_length}
 use Rattle.std.specs.Option.{ForSome, option_copied}
 use Rattle.air.specs.Row.{HeightFits, OptionHeightFits, input_layout}
 use Rattle.air.specs.declared.debug.inputs.RowInputs.{RowInputs}
-use Rattle.lookup_model.specs.Extension.{Extension}
+use Rattle.field.specs.Extension.{Extension}
 use Rattle.lookup_model.specs.Records.{DoFit}
 use Rattle.lookup_model.specs.declared.types.Lookup.{Lookup}
 use Rattle.matrix.specs.Matrix.{Matrix, height}

@@ -12,7 +12,7 @@ use Rattle.lookup_columns.specs.declared.branches.BranchColumns.{BranchColumns}
 use Rattle.lookup_evaluation.specs.declared.quotient.Quotient.{Quotient}
 use Rattle.lookup_model.specs.Constraints.{fraction_denominator, fraction_left, fraction_numerator}
 use Rattle.lookup_model.specs.Denominators.{tuple_denominator}
-use Rattle.lookup_model.specs.Extension.{Extension}
+use Rattle.field.specs.Extension.{Extension}
 use Rattle.field.specs.Ring.{IsCommutativeRing}
 use Rattle.lookup_model.specs.Message.{Message}
 use Rattle.lookup_model.specs.Sent.{branch_at}

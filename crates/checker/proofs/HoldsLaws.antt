@@ -5,7 +5,7 @@ use Rattle.air.specs.declared.debug.inputs.RowInputs.{RowInputs}
 use Rattle.field.specs.Distinct.{all_map}
 use Rattle.lookup_columns.proofs.ZipLaws.{taken_more}
 use Rattle.lookup_model.specs.Constraints.{accumulator_constraints, fraction_constraint, terminal_at}
-use Rattle.lookup_model.specs.Extension.{Extension}
+use Rattle.field.specs.Extension.{Extension}
 use Rattle.lookup_model.specs.declared.types.Lookup.{Lookup}
 use Rattle.witness_laws.proofs.Lists.{all_back, all_both, all_front, all_of_map}
 use Rattle.checker.specs.Rows.{AccumulatorHolds, FractionHolds, HoldsOn, IsZeroOn}

@@ -7,7 +7,7 @@ use Rattle.std.specs.List.Sorted.{IsPermutation}
 use Rattle.field.specs.Ring.{Ring}
 use Rattle.matrix.specs.Matrix.{Matrix}
 use Rattle.lookup_model.specs.Challenges.{ChallengeTable, table_denominator}
-use Rattle.lookup_model.specs.Extension.{Extension, IsLawful}
+use Rattle.field.specs.Extension.{Extension, IsLawful}
 use Rattle.lookup_model.specs.Message.{Message}
 use Rattle.lookup_model.specs.Plain.{quotient, trace_messages}
 use Rattle.lookup_model.specs.Terminals.{terminal_value}

@@ -9,7 +9,7 @@ use Rattle.field.specs.Sums.{sum_in}
 use Rattle.lookup_model.proofs.Branches.{length-zipped, mapped_more, zipped_more}
 use Rattle.lookup_model.proofs.SumLaws.{sum_next}
 use Rattle.lookup_model.specs.Constraints.{exclusive_denominator, exclusive_numerator}
-use Rattle.lookup_model.specs.Extension.{Extension}
+use Rattle.field.specs.Extension.{Extension}
 use Rattle.lookup_model.specs.Message.{Message}
 
 module _ {F K : Type 0} (E : Extension F K) (denominator : List F → K) (flags : List F) (messages : List (Message F)) where

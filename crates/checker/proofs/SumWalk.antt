@@ -6,7 +6,7 @@ use Rattle.std.specs.List.{AllByRecursion, flat_map, range_with_len}
 use Rattle.field.specs.Ring.{Ring, IsCommutativeRing}
 use Rattle.lookup_model.proofs.Branches.{mapped_at}
 use Rattle.lookup_model.specs.Challenges.{ChallengeTable}
-use Rattle.lookup_model.specs.Extension.{Extension, IsLawful}
+use Rattle.field.specs.Extension.{Extension, IsLawful}
 use Rattle.batch_model.specs.Equations.{CanSumTo, Equation, air_equations, batch_equations}
 use Rattle.batch_model.specs.Existence.{HasAccepted}
 use Rattle.batch_model.specs.Instances.{Instance, IsFitting, instance_of, instances_of}

@@ -6,7 +6,7 @@ use Rattle.std.proofs.lemmas.List.FromFn.{get_or-map-range_with_len, length-map-
 use Rattle.std.specs.Box.{boxed_slice_items}
 use Rattle.std.specs.List.{AllByRecursion, range_with_len}
 use Rattle.lookup_model.specs.Challenges.{ChallengeTable, bus_table, column_challenges, prefix_of_bus, table_of}
-use Rattle.lookup_model.specs.Extension.{Extension}
+use Rattle.field.specs.Extension.{Extension}
 use Rattle.lookup_model.specs.Witness.{IsSatisfied}
 use Rattle.lookup_model.specs.declared.challenges.Challenges.{Challenges}
 use Rattle.batch_model.specs.Counts.{IsAccepting}

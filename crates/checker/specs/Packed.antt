@@ -3,7 +3,7 @@ use Rattle.std.specs.Prelude.{◌≡◌, ◌⊎◌, Bool, List}
 use Rattle.std.specs.List.{AllZip}
 use Rattle.field.specs.Ring.{Ring}
 use Rattle.lookup_model.specs.Challenges.{ChallengeTable}
-use Rattle.lookup_model.specs.Extension.{Extension}
+use Rattle.field.specs.Extension.{Extension}
 use Rattle.lookup_model.specs.Terminals.{terminal_value}
 use Rattle.lookup_packing.specs.Kept.{HaveSameIds, KeepsMessages}
 use Rattle.batch_model.specs.Counts.{message_count, unbalanced_count}

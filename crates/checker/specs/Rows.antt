@@ -7,7 +7,7 @@ use Rattle.matrix.specs.Matrix.{height}
 use Rattle.air.specs.Row.{input_layout, input_window}
 use Rattle.air.specs.declared.debug.inputs.RowInputs.{RowInputs}
 use Rattle.lookup_model.specs.Constraints.{Constraint, accumulator_constraints, fraction_constraint, lookup_constraints, terminal_at}
-use Rattle.lookup_model.specs.Extension.{Extension}
+use Rattle.field.specs.Extension.{Extension}
 use Rattle.lookup_model.specs.Records.{DoFit}
 use Rattle.lookup_model.specs.declared.types.Lookup.{Lookup}
 

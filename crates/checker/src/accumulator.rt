@@ -4,11 +4,10 @@ ghost use Rattle.air.specs.Row.{input_window};
 ghost use Rattle.checker.specs.Rows.{AccumulatorHolds, AreChecked, HoldsUntil};
 ghost use Rattle.field.specs.Sums.{sum_in};
 ghost use Rattle.lookup_model.specs.Constraints.{next_accumulator_at, terminal_at};
-ghost use Rattle.lookup_model.specs.Extension.{extension};
 ghost use Rattle.matrix.specs.Matrix.{height};
 
 use air::RowInputs;
-use field::{Domain, ExtensionField, Field};
+use field::{Domain, ExtensionField, Field, Over};
 use lookup::Lookup;
 
 /// Up to which of the rows from `first` up to `end` the accumulator's constraints are zero: the first
@@ -22,8 +21,8 @@ pub(crate) fn accumulator_holds_until<'a, F: Field, EF: ExtensionField<F>>(
     requires checked { AreChecked inputs.now lookups.now }
     requires from { first ≤ end }
     requires up_to { end ≤ height inputs.now.main.now }
-    ensures { HoldsUntil (AccumulatorHolds (extension F.ring F.eq EF.ring EF.eq EF.embed EF.inverse)
-        inputs.now lookups.now) first end result }
+    ensures { HoldsUntil (AccumulatorHolds ⟦<EF as Over<F>>⟧.fields inputs.now lookups.now)
+        first end result }
 {
     let num_rows = inputs.main.height();
     for row in first..end {
@@ -46,8 +45,7 @@ fn accumulator_holds<'a, F: Field, EF: ExtensionField<F>>(
     requires rows { num_rows ≡ height inputs.now.main.now }
     requires row_exists { row < num_rows }
     ensures { IsTrue result
-        ↔ AccumulatorHolds (extension F.ring F.eq EF.ring EF.eq EF.embed EF.inverse) inputs.now
-        lookups.now row }
+        ↔ AccumulatorHolds ⟦<EF as Over<F>>⟧.fields inputs.now lookups.now row }
 {
     let cells = inputs.permutation.row_slice(row);
     starts_at_zero(row, cells[0])
@@ -88,7 +86,7 @@ fn wanted_after<'a, F: Field, EF: ExtensionField<F>>(
     requires row_exists { row < num_rows }
     requires accumulator { 0 < inputs.now.permutation.now.width }
     requires terminal { 0 < length inputs.now.permutation_values.now }
-    ensures { let E = extension F.ring F.eq EF.ring EF.eq EF.embed EF.inverse in
+    ensures { let E = ⟦<EF as Over<F>>⟧.fields in
         let w = input_window inputs.now row in
         result ≡ (if w.base.is_last then terminal_at E w else next_accumulator_at E w) }
 {

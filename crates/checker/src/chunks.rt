@@ -3,13 +3,12 @@ ghost use Rattle.std.specs.Prelude.{◌<◌, ◌≤◌, IfOk};
 ghost use Rattle.std.specs.List.{AllZip};
 ghost use Rattle.checker.specs.Rows.{AreChecked, FindsFailing, HoldsOn, HoldsUntil};
 ghost use Rattle.lookup_columns.specs.LookupSteps.{AreLookupSteps};
-ghost use Rattle.lookup_model.specs.Extension.{extension};
 ghost use Rattle.matrix.specs.Matrix.{height};
 
 use crate::accumulator::accumulator_holds_until;
 use crate::fractions::fraction_holds_until;
 use air::RowInputs;
-use field::{ExtensionField, Field};
+use field::{ExtensionField, Field, Over};
 use lookup::Lookup;
 use lookup_columns::{
     ColumnMemory, LookupSteps, Traces, columns_of_lookup, rows_between, steps_of_lookups,
@@ -26,8 +25,7 @@ pub(crate) fn first_failing_in_chunks<'a, F: Field, EF: ExtensionField<F>>(
     lookups: &[Lookup<F>],
 ) -> Result<Option<usize>, AllocError>
     requires { AreChecked inputs.now lookups.now }
-    ensures { FindsFailing (extension F.ring F.eq EF.ring EF.eq EF.embed EF.inverse) inputs.now
-        lookups.now result }
+    ensures { FindsFailing ⟦<EF as Over<F>>⟧.fields inputs.now lookups.now result }
 {
     let steps = steps_of_lookups(alloc, lookups)?;
     let mut memory = ColumnMemory::new(alloc);
@@ -63,8 +61,7 @@ fn chunk_holds_until<'a, F: Field, EF: ExtensionField<F>>(
     requires from { first ≤ end }
     requires up_to { end ≤ height inputs.now.main.now }
     ensures { IfOk result (HoldsUntil
-        (HoldsOn (extension F.ring F.eq EF.ring EF.eq EF.embed EF.inverse) inputs.now lookups.now)
-        first end) }
+        (HoldsOn ⟦<EF as Over<F>>⟧.fields inputs.now lookups.now) first end) }
 {
     let traces = Traces {
         main: inputs.main,

@@ -5,10 +5,9 @@ ghost use Rattle.batch_model.specs.Counts.{FewAcceptingAlphas, FewBadBetas, FewS
 ghost use Rattle.batch_model.specs.Ids.{AreLawfulIds};
 ghost use Rattle.batch_model.specs.Instances.{DoInstancesFit, IsFitting, instance_of, instances_of};
 ghost use Rattle.checker.specs.Collected.{GivesMessages, IsCountOf, PushesMessages};
-ghost use Rattle.lookup_model.specs.Extension.{extension};
 
 use batch_model::{BatchFault, BatchInstance, SoundnessCount};
-use field::{ExtensionField, Field};
+use field::{ExtensionField, Field, Over};
 use lookup::LookupError;
 use lookup_generation::{SentMessage, push_messages};
 use lookup_nets::key_counts;
@@ -33,17 +32,14 @@ pub fn soundness_count<F: Field, EF: ExtensionField<F>>(
     requires fit { DoInstancesFit instances.now }
     requires ids { (m : ℕ) × AreLawfulIds max_message_width m F.CHARACTERISTIC
         (instances_of instances.now) }
-    ensures answer { GivesCounts (extension F.ring F.eq EF.ring EF.eq EF.embed EF.inverse)
-        (instances_of instances.now) max_message_width result }
+    ensures answer { GivesCounts ⟦<EF as Over<F>>⟧.fields (instances_of instances.now)
+        max_message_width result }
     ensures few_sharing_betas { IfOk result (λ _. FewSharingBetas
-        (extension F.ring F.eq EF.ring EF.eq EF.embed EF.inverse)
-        (instances_of instances.now) max_message_width) }
+        ⟦<EF as Over<F>>⟧.fields (instances_of instances.now) max_message_width) }
     ensures few_accepting_alphas { IfOk result (λ _. FewAcceptingAlphas
-        (extension F.ring F.eq EF.ring EF.eq EF.embed EF.inverse)
-        (instances_of instances.now) max_message_width) }
+        ⟦<EF as Over<F>>⟧.fields (instances_of instances.now) max_message_width) }
     ensures few_bad_betas { IfOk result (λ _. FewBadBetas
-        (extension F.ring F.eq EF.ring EF.eq EF.embed EF.inverse)
-        (instances_of instances.now) max_message_width) }
+        ⟦<EF as Over<F>>⟧.fields (instances_of instances.now) max_message_width) }
 {
     let messages = collected(alloc, instances)?;
     let (keys, unbalanced) = key_counts(alloc, messages.as_slice())?;

@@ -2,7 +2,6 @@
 ghost use Rattle.std.specs.Prelude.{◌*◌, ◌+◌, ◌<◌, ◌≤◌, ◌∷◌, [], length};
 ghost use Rattle.lookup_generation.specs.TraceBuilder.{builder_layout, ext_builder_window};
 ghost use Rattle.lookup_model.specs.Challenges.{table_of};
-ghost use Rattle.lookup_model.specs.Extension.{extension};
 ghost use Rattle.lookup_model.specs.Records.{DoFit, HasEqualLengths, IsWithin};
 ghost use Rattle.batch_model.specs.Instances.{DoInstancesFit, HasPrefixes, HavePrefixes, IsFitting, instance_of, instances_of};
 ghost use Rattle.batch_model.specs.Equations.{air_equations, equation_at, row_equations};
@@ -12,7 +11,7 @@ ghost use Rattle.checker.specs.Sums.{AddsEquations};
 use crate::sums::Sums;
 use air::AirBuilder;
 use batch_model::BatchInstance;
-use field::{ExtensionField, Field};
+use field::{ExtensionField, Field, Over};
 use lookup_evaluation::quotient_of;
 use lookup_generation::{LookupTraceBuilder, row_builder};
 use lookup_model::{Challenges, Lookup, LookupError};
@@ -33,8 +32,8 @@ pub fn some_witness<F: Field, EF: ExtensionField<F>>(
 ) -> Result<bool, LookupError>
     requires fit { DoInstancesFit instances.now }
     requires ids { HavePrefixes challenges.now instances.now }
-    ensures { DecidesAccepted (extension F.ring F.eq EF.ring EF.eq EF.embed EF.inverse)
-        (table_of challenges.now) (instances_of instances.now) result }
+    ensures { DecidesAccepted ⟦<EF as Over<F>>⟧.fields (table_of challenges.now)
+        (instances_of instances.now) result }
 {
     let mut sums = Sums::of_none();
     for air in 0..instances.len() {
@@ -56,8 +55,8 @@ fn with_air<F: Field, EF: ExtensionField<F>>(
     requires fit { IsFitting (instance_of instance.now) }
     requires ids { HasPrefixes challenges.now instance.now }
     ensures { AddsEquations EF.ring
-        (air_equations (extension F.ring F.eq EF.ring EF.eq EF.embed EF.inverse)
-        (table_of challenges.now) (instance_of instance.now)) sums result }
+        (air_equations ⟦<EF as Over<F>>⟧.fields (table_of challenges.now)
+        (instance_of instance.now)) sums result }
 {
     let columns = challenges.for_columns(alloc, instance.ids)?;
     let num_rows = instance.main.height();
@@ -90,8 +89,8 @@ fn with_row<F: Field, EF: ExtensionField<F>>(
     requires challenges { 2 * length lookups.now
         ≤ (builder_layout builder.now).num_permutation_challenges }
     ensures { AddsEquations EF.ring
-        (row_equations (extension F.ring F.eq EF.ring EF.eq EF.embed EF.inverse)
-        (ext_builder_window builder.now) lookups.now) sums result }
+        (row_equations ⟦<EF as Over<F>>⟧.fields (ext_builder_window builder.now) lookups.now)
+        sums result }
 {
     let mut so_far = sums;
     for lookup in lookups {
@@ -115,8 +114,8 @@ fn with_lookup<F: Field, EF: ExtensionField<F>>(
     requires challenges { 2 * lookup.now.column + 1
         < (builder_layout builder.now).num_permutation_challenges }
     ensures { AddsEquations EF.ring
-        (equation_at (extension F.ring F.eq EF.ring EF.eq EF.embed EF.inverse)
-        (ext_builder_window builder.now) lookup.now ∷ []) sums result }
+        (equation_at ⟦<EF as Over<F>>⟧.fields (ext_builder_window builder.now) lookup.now ∷ [])
+        sums result }
 {
     let main = builder.main(alloc)?;
     let quotient = quotient_of(alloc, builder, &main, lookup)?;

@@ -5,12 +5,11 @@ ghost use Rattle.air.specs.Row.{input_window};
 ghost use Rattle.checker.specs.Quotients.{IsQuotientOf, over_tuples};
 ghost use Rattle.checker.specs.Rows.{FractionHolds, HoldsUntil};
 ghost use Rattle.lookup_columns.specs.ChunkColumns.{HoldLookup, HoldSelected, IsHeld};
-ghost use Rattle.lookup_model.specs.Extension.{extension};
 ghost use Rattle.lookup_model.specs.Message.{Key, Message};
 ghost use Rattle.matrix.specs.Matrix.{height};
 
 use air::RowInputs;
-use field::{ExtensionField, Field};
+use field::{ExtensionField, Field, Over};
 use lookup::Lookup;
 use lookup_columns::BranchColumns;
 use lookup_evaluation::Quotient;
@@ -30,8 +29,8 @@ pub(crate) fn fraction_holds_until<'a, F: Field, EF: ExtensionField<F>>(
     requires columns { (row : ℕ) → first ≤ row → row < end
         → HoldLookup F.ring EF.ring EF.embed inputs.now.challenges.now
         (input_window inputs.now row).base (row - first) lookup.now columns.now }
-    ensures { HoldsUntil (FractionHolds (extension F.ring F.eq EF.ring EF.eq EF.embed EF.inverse)
-        inputs.now lookup.now) first end result }
+    ensures { HoldsUntil (FractionHolds ⟦<EF as Over<F>>⟧.fields inputs.now lookup.now)
+        first end result }
 {
     for row in first..end {
         if !fraction_holds(inputs, lookup, columns, row - first, row) {
@@ -55,8 +54,7 @@ fn fraction_holds<'a, F: Field, EF: ExtensionField<F>>(
     requires columns { HoldLookup F.ring EF.ring EF.embed inputs.now.challenges.now
         (input_window inputs.now row).base place lookup.now columns.now }
     ensures { IsTrue result
-        ↔ FractionHolds (extension F.ring F.eq EF.ring EF.eq EF.embed EF.inverse) inputs.now
-        lookup.now row }
+        ↔ FractionHolds ⟦<EF as Over<F>>⟧.fields inputs.now lookup.now row }
 {
     let fraction = inputs.permutation.row_slice(row)[lookup.column + 1];
     match &lookup.flags {
@@ -82,8 +80,7 @@ fn additive_quotient<F: Field, EF: ExtensionField<F>>(
         × AllZip (IsHeld denominator place) columns.now messages }
     ensures { (denominator : List F → EF) (messages : List (Message F))
         → AllZip (IsHeld (over_tuples denominator) place) columns.now messages
-        → IsQuotientOf (extension F.ring F.eq EF.ring EF.eq EF.embed EF.inverse) denominator None
-        messages result }
+        → IsQuotientOf ⟦<EF as Over<F>>⟧.fields denominator None messages result }
 {
     let Some((first, others)) = columns.split_first() else {
         return Quotient {
@@ -131,8 +128,7 @@ fn exclusive_quotient<F: Field, EF: ExtensionField<F>>(
         × HoldSelected F.ring denominator place columns.now flags messages }
     ensures { (denominator : List F → EF) (flags : List F) (messages : List (Message F))
         → HoldSelected F.ring (over_tuples denominator) place columns.now flags messages
-        → IsQuotientOf (extension F.ring F.eq EF.ring EF.eq EF.embed EF.inverse) denominator
-        (Some flags) messages result }
+        → IsQuotientOf ⟦<EF as Over<F>>⟧.fields denominator (Some flags) messages result }
 {
     let mut numerator = F::ZERO;
     let mut denominator = EF::ONE;

@@ -1,14 +1,13 @@
 //! The witness of a batch.
 ghost use Rattle.std.specs.Prelude.{IfOk};
 ghost use Rattle.lookup_model.specs.Challenges.{table_of};
-ghost use Rattle.lookup_model.specs.Extension.{extension};
 ghost use Rattle.batch_model.specs.Answers.{GivesAcceptedIfBalanced, GivesOnlyFaultless, GivesOnlySatisfied, GivesPlainWitness, GivesSatisfied, SucceedsIfRegular};
 ghost use Rattle.batch_model.specs.Instances.{DoInstancesFit, HasPrefixes, HavePrefixes, IsFitting, instance_of, instances_of};
 ghost use Rattle.batch_model.specs.Witnesses.{HasOneOfEach};
 ghost use Rattle.checker.specs.Results.{GivesPlainResult};
 
 use batch_model::{BatchFault, BatchInstance, Witness};
-use field::{ExtensionField, Field};
+use field::{ExtensionField, Field, Over};
 use lookup::{Challenges, LogUpGadget, LookupError, LookupProtocol, LookupTerminal};
 use matrix::RowMajorMatrix;
 use std::alloc::Global;
@@ -29,20 +28,19 @@ pub fn generate_batch<F: Field, EF: ExtensionField<F>>(
 ) -> Result<Witness<EF>, BatchFault>
     requires fit { DoInstancesFit instances.now }
     requires ids { HavePrefixes challenges.now instances.now }
-    ensures answer { GivesPlainWitness (extension F.ring F.eq EF.ring EF.eq EF.embed EF.inverse)
-        (table_of challenges.now) (instances_of instances.now) result }
-    ensures faultless { GivesOnlyFaultless (extension F.ring F.eq EF.ring EF.eq EF.embed EF.inverse)
-        (table_of challenges.now) (instances_of instances.now) result }
+    ensures answer { GivesPlainWitness ⟦<EF as Over<F>>⟧.fields (table_of challenges.now)
+        (instances_of instances.now) result }
+    ensures faultless { GivesOnlyFaultless ⟦<EF as Over<F>>⟧.fields (table_of challenges.now)
+        (instances_of instances.now) result }
     ensures complete { IfOk result (λ w. HasOneOfEach (instances_of instances.now) w) }
-    ensures succeeds { SucceedsIfRegular (extension F.ring F.eq EF.ring EF.eq EF.embed EF.inverse)
-        (table_of challenges.now) (instances_of instances.now) result }
-    ensures satisfied { GivesSatisfied (extension F.ring F.eq EF.ring EF.eq EF.embed EF.inverse)
-        (table_of challenges.now) (instances_of instances.now) result }
-    ensures only { GivesOnlySatisfied (extension F.ring F.eq EF.ring EF.eq EF.embed EF.inverse)
-        (table_of challenges.now) (instances_of instances.now) result }
+    ensures succeeds { SucceedsIfRegular ⟦<EF as Over<F>>⟧.fields (table_of challenges.now)
+        (instances_of instances.now) result }
+    ensures satisfied { GivesSatisfied ⟦<EF as Over<F>>⟧.fields (table_of challenges.now)
+        (instances_of instances.now) result }
+    ensures only { GivesOnlySatisfied ⟦<EF as Over<F>>⟧.fields (table_of challenges.now)
+        (instances_of instances.now) result }
     ensures balanced { GivesAcceptedIfBalanced
-        (extension F.ring F.eq EF.ring EF.eq EF.embed EF.inverse)
-        (table_of challenges.now) (instances_of instances.now) result }
+        ⟦<EF as Over<F>>⟧.fields (table_of challenges.now) (instances_of instances.now) result }
 {
     let mut aux = Vec::new(alloc);
     let mut terminals = Vec::new(alloc);
@@ -66,8 +64,8 @@ fn generate_result<F: Field, EF: ExtensionField<F>>(
 ) -> Result<(RowMajorMatrix<EF>, Option<LookupTerminal<EF>>), LookupError>
     requires fit { IsFitting (instance_of instance.now) }
     requires ids { HasPrefixes challenges.now instance.now }
-    ensures { GivesPlainResult (extension F.ring F.eq EF.ring EF.eq EF.embed EF.inverse)
-        (table_of challenges.now) (instance_of instance.now) result }
+    ensures { GivesPlainResult ⟦<EF as Over<F>>⟧.fields (table_of challenges.now)
+        (instance_of instance.now) result }
 {
     let columns = challenges.for_columns(alloc, instance.ids)?;
     LogUpGadget::new().generate_permutation(

@@ -2,9 +2,8 @@
 ghost use Rattle.std.specs.Prelude.{List, All};
 ghost use Rattle.batch_model.specs.Instances.{Instance, IsFitting};
 ghost use Rattle.checker.specs.Packed.{ArePacked, KeepsCounts, KeepsTerminals};
-ghost use Rattle.lookup_model.specs.Extension.{extension};
 
-use field::{ExtensionField, Field};
+use field::{ExtensionField, Field, Over};
 
 /// Packing AIRs of a batch keeps its counts and its terminals: a theorem, as the contract of a function
 /// that does nothing.
@@ -15,8 +14,8 @@ use field::{ExtensionField, Field};
 /// witnesses of both batches have the same terminals, AIR by AIR.
 pub fn packing_keeps_batch<F: Field, EF: ExtensionField<F>>()
     ensures counts { (before after : List (Instance F)) → ArePacked F.ring F.eq before after
-        → KeepsCounts (extension F.ring F.eq EF.ring EF.eq EF.embed EF.inverse) before after }
+        → KeepsCounts ⟦<EF as Over<F>>⟧.fields before after }
     ensures terminals { (before after : List (Instance F)) → All IsFitting before
         → All IsFitting after → ArePacked F.ring F.eq before after
-        → KeepsTerminals (extension F.ring F.eq EF.ring EF.eq EF.embed EF.inverse) before after }
+        → KeepsTerminals ⟦<EF as Over<F>>⟧.fields before after }
 {}

@@ -2,14 +2,13 @@
 ghost use Rattle.std.specs.Prelude.{◌≡◌, ◌*◌, ◌<◌, ◌≤◌, ◌⊎◌, MatchResult, length};
 ghost use Rattle.std.specs.Option.{ForSome, option_copied};
 ghost use Rattle.air.specs.Row.{HeightFits, input_layout};
-ghost use Rattle.lookup_model.specs.Extension.{extension};
 ghost use Rattle.lookup_model.specs.Records.{DoFit};
 ghost use Rattle.matrix.specs.Matrix.{height};
 ghost use Rattle.checker.specs.Rows.{AreChecked, FindsFailing, HoldsOn};
 
 use crate::chunks::first_failing_in_chunks;
 use air::{AirError, DebugConstraintBuilder, RowInputs};
-use field::{ExtensionField, Field};
+use field::{ExtensionField, Field, Over};
 use lookup::{LogUpGadget, Lookup, LookupProtocol};
 use std::alloc::{AllocError, Global};
 
@@ -35,8 +34,7 @@ pub(crate) fn first_failing_row<'a, F: Field, EF: ExtensionField<F>>(
     requires cells { 0 < length lookups.now
         → length lookups.now < inputs.now.permutation.now.width }
     requires terminal { 0 < length lookups.now → 0 < length inputs.now.permutation_values.now }
-    ensures { FindsFailing (extension F.ring F.eq EF.ring EF.eq EF.embed EF.inverse) inputs.now
-        lookups.now result }
+    ensures { FindsFailing ⟦<EF as Over<F>>⟧.fields inputs.now lookups.now result }
 {
     if lookups.is_empty() {
         Ok(None)
@@ -54,8 +52,7 @@ fn first_failing_of_few<'a, F: Field, EF: ExtensionField<F>>(
     lookups: &[Lookup<F>],
 ) -> Result<Option<usize>, AllocError>
     requires { AreChecked inputs.now lookups.now }
-    ensures { FindsFailing (extension F.ring F.eq EF.ring EF.eq EF.embed EF.inverse) inputs.now
-        lookups.now result }
+    ensures { FindsFailing ⟦<EF as Over<F>>⟧.fields inputs.now lookups.now result }
 {
     for row in 0..inputs.main.height() {
         match check_row(alloc, inputs, lookups, row) {
@@ -77,11 +74,9 @@ fn check_row<'a, F: Field, EF: ExtensionField<F>>(
     requires row { row < height inputs.now.main.now }
     requires checked { AreChecked inputs.now lookups.now }
     ensures { MatchResult result
-        (λ _. HoldsOn (extension F.ring F.eq EF.ring EF.eq EF.embed EF.inverse) inputs.now
-        lookups.now row)
+        (λ _. HoldsOn ⟦<EF as Over<F>>⟧.fields inputs.now lookups.now row)
         (λ e. (e ≡ AirError.Memory) ⊎ ((e ≡ AirError.Assertion row)
-        × (¬ HoldsOn (extension F.ring F.eq EF.ring EF.eq EF.embed EF.inverse) inputs.now
-        lookups.now row))) }
+        × (¬ HoldsOn ⟦<EF as Over<F>>⟧.fields inputs.now lookups.now row))) }
 {
     let mut builder = DebugConstraintBuilder::new(inputs, row);
     LogUpGadget::new().eval_all(alloc, &mut builder, lookups)

@@ -10,10 +10,9 @@ ghost use Rattle.batch_model.specs.Messages.{AreFlagsLawful};
 ghost use Rattle.batch_model.specs.Witnesses.{AirResult, IsAccepted};
 ghost use Rattle.batch_model.specs.declared.instance.BatchInstance.{BatchInstance};
 ghost use Rattle.lookup_model.specs.Challenges.{prefix_of_bus, table_of};
-ghost use Rattle.lookup_model.specs.Extension.{extension};
 ghost use Rattle.lookup_model.specs.declared.challenges.Challenges.{Challenges};
 
-use field::{ExtensionField, Field};
+use field::{ExtensionField, Field, Over};
 
 /// Counted soundness of every batch that fits, with lawful ids and flags: a theorem, as the contract of
 /// a function that does nothing.
@@ -25,7 +24,7 @@ pub fn counted_soundness<F: Field, EF: ExtensionField<F>>()
     ensures { (W m : ℕ) (instances : List (Instance F))
         → All IsFitting instances → AreLawfulIds W m F.CHARACTERISTIC instances
         → AreFlagsLawful F.ring F.eq instances
-        → IsCountedSound (extension F.ring F.eq EF.ring EF.eq EF.embed EF.inverse) instances W }
+        → IsCountedSound ⟦<EF as Over<F>>⟧.fields instances W }
 {}
 
 /// Joint soundness of every batch that fits, with lawful ids and flags: a theorem, as the contract of a
@@ -43,11 +42,11 @@ pub fn joint_soundness<F: Field, EF: ExtensionField<F>>()
     ensures pairs { (W m : ℕ) (instances : List (Instance F))
         → All IsFitting instances → AreLawfulIds W m F.CHARACTERISTIC instances
         → AreFlagsLawful F.ring F.eq instances
-        → IsJointlySound (extension F.ring F.eq EF.ring EF.eq EF.embed EF.inverse) instances W }
+        → IsJointlySound ⟦<EF as Over<F>>⟧.fields instances W }
     ensures counts { (W m : ℕ) (instances : List (Instance F))
         → All IsFitting instances → AreLawfulIds W m F.CHARACTERISTIC instances
         → AreFlagsLawful F.ring F.eq instances
-        → FewAcceptedPairs (extension F.ring F.eq EF.ring EF.eq EF.embed EF.inverse) instances W }
+        → FewAcceptedPairs ⟦<EF as Over<F>>⟧.fields instances W }
 {
     counted_soundness::<F, EF>();
 }
@@ -63,8 +62,6 @@ pub fn accepted_is_accepting<F: Field, EF: ExtensionField<F>>()
         → boxed_slice_items challenges.bus_prefix
         ≡ map (prefix_of_bus EF.ring alpha beta W) (range_with_len 0 m)
         → HavePrefixes challenges instances → (witness : List (AirResult EF))
-        → IsAccepted (extension F.ring F.eq EF.ring EF.eq EF.embed EF.inverse) (table_of challenges)
-        (instances_of instances) witness
-        → IsAccepting (extension F.ring F.eq EF.ring EF.eq EF.embed EF.inverse)
-        (instances_of instances) W beta alpha }
+        → IsAccepted ⟦<EF as Over<F>>⟧.fields (table_of challenges) (instances_of instances) witness
+        → IsAccepting ⟦<EF as Over<F>>⟧.fields (instances_of instances) W beta alpha }
 {}

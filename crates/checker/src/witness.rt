@@ -2,7 +2,6 @@
 ghost use Rattle.std.specs.Prelude.{◌≡◌, IfOk, length};
 ghost use Rattle.std.specs.List.{zip};
 ghost use Rattle.lookup_model.specs.Challenges.{table_of};
-ghost use Rattle.lookup_model.specs.Extension.{extension};
 ghost use Rattle.lookup_model.specs.Witness.{values_of_terminal};
 ghost use Rattle.batch_model.specs.Answers.{ChecksWitness, PassesOnlyPlain, RefusesUnaccepted};
 ghost use Rattle.batch_model.specs.Instances.{DoInstancesFit, HasPrefixes, HavePrefixes, IsFitting, instance_of, instances_of};
@@ -12,7 +11,7 @@ ghost use Rattle.checker.specs.Checks.{ChecksResult, ChecksRows, ChecksShape};
 use crate::rows::first_failing_row;
 use air::RowInputs;
 use batch_model::BatchInstance;
-use field::{ExtensionField, Field};
+use field::{ExtensionField, Field, Over};
 use lookup::{Challenges, LogUpGadget, LookupError, LookupProtocol, LookupTerminal};
 use matrix::RowMajorMatrix;
 use std::alloc::{AllocError, Global};
@@ -45,12 +44,12 @@ pub fn check_witness<F: Field, EF: ExtensionField<F>>(
     requires ids { HavePrefixes challenges.now instances.now }
     requires traces { length aux.now ≡ length instances.now }
     requires terminals { length terminals.now ≡ length instances.now }
-    ensures answer { ChecksWitness (extension F.ring F.eq EF.ring EF.eq EF.embed EF.inverse)
-        (table_of challenges.now) (instances_of instances.now) (zip aux.now terminals.now) result }
-    ensures refusal { RefusesUnaccepted (extension F.ring F.eq EF.ring EF.eq EF.embed EF.inverse)
-        (table_of challenges.now) (instances_of instances.now) (zip aux.now terminals.now) result }
-    ensures only { PassesOnlyPlain (extension F.ring F.eq EF.ring EF.eq EF.embed EF.inverse)
-        (table_of challenges.now) (instances_of instances.now) (zip aux.now terminals.now) result }
+    ensures answer { ChecksWitness ⟦<EF as Over<F>>⟧.fields (table_of challenges.now)
+        (instances_of instances.now) (zip aux.now terminals.now) result }
+    ensures refusal { RefusesUnaccepted ⟦<EF as Over<F>>⟧.fields (table_of challenges.now)
+        (instances_of instances.now) (zip aux.now terminals.now) result }
+    ensures only { PassesOnlyPlain ⟦<EF as Over<F>>⟧.fields (table_of challenges.now)
+        (instances_of instances.now) (zip aux.now terminals.now) result }
 {
     for air in 0..instances.len() {
         check_result(
@@ -76,8 +75,8 @@ fn check_result<F: Field, EF: ExtensionField<F>>(
 ) -> Result<(), LookupError>
     requires fit { IsFitting (instance_of instance.now) }
     requires ids { HasPrefixes challenges.now instance.now }
-    ensures { ChecksResult (extension F.ring F.eq EF.ring EF.eq EF.embed EF.inverse)
-        (table_of challenges.now) air (instance_of instance.now) (aux.now, terminal.now) result }
+    ensures { ChecksResult ⟦<EF as Over<F>>⟧.fields (table_of challenges.now) air
+        (instance_of instance.now) (aux.now, terminal.now) result }
 {
     check_shape(air, instance, aux, terminal)?;
     check_rows(alloc, air, instance, challenges, aux, terminal)
@@ -127,8 +126,8 @@ fn check_rows<F: Field, EF: ExtensionField<F>>(
     requires fit { IsFitting (instance_of instance.now) }
     requires ids { HasPrefixes challenges.now instance.now }
     requires shape { HasShapeAt (instance_of instance.now) (aux.now, terminal.now) }
-    ensures { ChecksRows (extension F.ring F.eq EF.ring EF.eq EF.embed EF.inverse)
-        (table_of challenges.now) air (instance_of instance.now) (aux.now, terminal.now) result }
+    ensures { ChecksRows ⟦<EF as Over<F>>⟧.fields (table_of challenges.now) air
+        (instance_of instance.now) (aux.now, terminal.now) result }
 {
     let columns = challenges.for_columns(alloc, instance.ids)?;
     let values = terminal_values(alloc, terminal)?;

@@ -10,7 +10,7 @@ use Rattle.field.specs.RingFacts.{mul_zero, same_from_difference}
 use Rattle.field.specs.RingSolver.{var, ◌:+◌, ◌:-◌, ◌:*◌, ring_law}
 use Rattle.field.specs.Sums.{sum_in}
 use Rattle.field.proofs.Roots.{few_roots}
-use Rattle.lookup_model.specs.Extension.{Extension, IsLawful}
+use Rattle.field.specs.Extension.{Extension, IsLawful}
 use Rattle.lookup_model.specs.Message.{Key, Message, same_key}
 use Rattle.lookup_model.specs.Net.{keys, net}
 use Rattle.lookup_model.specs.Plain.{quotient}

@@ -5,7 +5,7 @@ use Rattle.std.proofs.Math.Nat.{mul-le-mul_left}
 use Rattle.std.proofs.lemmas.Bool.{cases_lt}
 use Rattle.std.specs.List.{AllByRecursion}
 use Rattle.field.specs.Distinct.{IsDistinct}
-use Rattle.lookup_model.specs.Extension.{Extension}
+use Rattle.field.specs.Extension.{Extension}
 use Rattle.batch_model.specs.Counts.{FewBadBetas, IsAccepting, IsBadBeta, bad_beta_bound, message_count, unbalanced_count}
 use Rattle.batch_model.specs.Grid.{FewAcceptedPairs, IsNumberOf, grid}
 use Rattle.batch_model.specs.Instances.{Instance}

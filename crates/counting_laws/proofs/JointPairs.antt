@@ -5,7 +5,7 @@ use Rattle.std.proofs.lemmas.Bool.{cases_lt}
 use Rattle.std.proofs.lemmas.List.{length-map}
 use Rattle.std.specs.List.{AllByRecursion, filter, list_any}
 use Rattle.field.specs.Distinct.{IsAmong, IsDistinct, all_both, all_map, all_weaker}
-use Rattle.lookup_model.specs.Extension.{Extension, IsLawful}
+use Rattle.field.specs.Extension.{Extension, IsLawful}
 use Rattle.lookup_laws.proofs.Regrouping.{All-filter, filter_passes}
 use Rattle.batch_model.specs.Counts.{FewBadBetas, IsAccepting, bad_beta_bound, message_count, unbalanced_count}
 use Rattle.batch_model.specs.Grid.{IsJointlySound}

@@ -2,7 +2,7 @@
 use Rattle.std.proofs.Common.{◌≡◌, ℕ, Bool, ◌+◌, zero, suc, Option, None, Some, List, [], ◌∷◌, ◌++◌, refl}
 use Rattle.std.specs.List.{AllByRecursion, cons_option, enumerate_from, filter_map, flat_map, slice_get}
 use Rattle.field.specs.Ring.{Ring}
-use Rattle.lookup_model.specs.Extension.{Extension}
+use Rattle.field.specs.Extension.{Extension}
 use Rattle.lookup_model.specs.Fault.{fault_of, faults_of_row, trace_faults}
 use Rattle.lookup_model.specs.FlagFault.{sent_flag_fault}
 use Rattle.lookup_model.specs.Message.{Key}

@@ -7,7 +7,7 @@ use Rattle.field.specs.RingFacts.{mul_zero, product_nonzero, same_from_differenc
 use Rattle.field.specs.RingSolver.{var, con, ◌:+◌, ◌:-◌, ◌:*◌, ring_law, ring_given}
 use Rattle.field.specs.Sums.{sum_in}
 use Rattle.field.proofs.Roots.{value_at-zero}
-use Rattle.lookup_model.specs.Extension.{Extension, IsLawful}
+use Rattle.field.specs.Extension.{Extension, IsLawful}
 use Rattle.lookup_model.specs.Message.{Key, Message}
 use Rattle.lookup_model.specs.Plain.{quotient}
 

@@ -4,7 +4,7 @@ use Rattle.std.proofs.lemmas.List.{length-map}
 use Rattle.std.specs.List.{AllByRecursion, list_any}
 use Rattle.field.specs.Characteristic.{HasCharacteristic}
 use Rattle.field.specs.Distinct.{IsDistinct, all_weaker}
-use Rattle.lookup_model.specs.Extension.{Extension, IsLawful}
+use Rattle.field.specs.Extension.{Extension, IsLawful}
 use Rattle.lookup_model.specs.Message.{Key}
 use Rattle.lookup_model.specs.Collisions.{IsLawfulKey}
 use Rattle.lookup_model.specs.Points.{point_in}

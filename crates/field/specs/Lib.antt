@@ -17,3 +17,5 @@ pub mod QuarticField
 pub mod BabyBear
 pub mod BabyBear4
 pub mod Lists
+pub mod Extension
+pub mod laws

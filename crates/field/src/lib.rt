@@ -22,4 +22,4 @@ pub use integers_modulo_2::F2;
 pub use integers_modulo_7::F7;
 pub use inverter::{InverseCount, Inverter};
 pub use linear::{dot_product, powers};
-pub use traits::{Domain, ExtensionDomain, ExtensionField, Field, PrimeCharacteristicRing};
+pub use traits::{Domain, ExtensionDomain, ExtensionField, Field, Over, PrimeCharacteristicRing};

@@ -2,7 +2,9 @@
 ghost use Rattle.std.specs.Prelude.{◌≡◌, ◌≢◌, ◌≤◌, ◌<◌, ◌^◌, ◌↔◌, ℕ, List, IsTrue, IfOk, MatchOption, refl};
 ghost use Rattle.std.specs.String.{string_bytes};
 ghost use Rattle.field.specs.Characteristic.{HasCharacteristic, IsPrime};
+ghost use Rattle.field.specs.Extension.{Extension, IsLawful, extension};
 ghost use Rattle.field.specs.Ring.{Ring, IsCommutativeRing, IsDomain, IsEmbedding, IsInverse, of_bool, of_int, of_nat, power, sub_in};
+ghost use Rattle.field.specs.laws.LawfulExtension.{identity_embeds, lawful_extension};
 
 use std::alloc::{AllocError, Global};
 use std::hash::Hash;
@@ -176,7 +178,24 @@ pub trait ExtensionDomain<F: Field>: Domain {
 }
 
 /// A field that extends the field `F`.
-pub trait ExtensionField<F: Field>: ExtensionDomain<F> + Field {}
+pub trait ExtensionField<F: Field>: ExtensionDomain<F> + Field {
+    ghost lawful_fields: {
+        IsLawful (extension F.ring F.eq Self.ring Self.eq Self.embed Self.inverse)
+    };
+}
+
+/// A field over the field `F`, in one word for contracts: `⟦<EF as Over<F>>⟧.fields` are the
+/// operations and equality tests of `F` and `EF`, the embedding, and the inverse in `EF`.
+///
+/// Every extension is one, so bounds say `EF: ExtensionField<F>`. A bound `EF: Over<F>` would hide
+/// what `fields` are.
+pub trait Over<F: Field>: ExtensionField<F> {
+    ghost fields: { Extension F Self };
+}
+
+impl<F: Field, EF: ExtensionField<F>> Over<F> for EF {
+    ghost fields = { extension F.ring F.eq EF.ring EF.eq EF.embed EF.inverse };
+}
 
 /// Every field extends itself by the identity.
 impl<F: Field> ExtensionDomain<F> for F {
@@ -197,4 +216,7 @@ impl<F: Field> ExtensionDomain<F> for F {
     }
 }
 
-impl<F: Field> ExtensionField<F> for F {}
+impl<F: Field> ExtensionField<F> for F {
+    ghost lawful_fields = { lawful_extension F.lawful F.eq_is F.lawful F.domain F.eq_is
+        identity_embeds F.inverse_is };
+}

@@ -5,14 +5,13 @@ ghost use Rattle.std.specs.List.{list_all, list_any};
 ghost use Rattle.field.specs.Polynomial.{combined};
 ghost use Rattle.generation_tests.specs.PlainProgram.{IsFractionOf, message_of, messages_of, net_vanishes, sent_of};
 ghost use Rattle.lookup_model.specs.Denominators.{column_denominator};
-ghost use Rattle.lookup_model.specs.Extension.{extension};
 ghost use Rattle.lookup_model.specs.Fault.{fault_of, set_places, vanishes};
 ghost use Rattle.lookup_model.specs.Message.{Message, same_key};
 ghost use Rattle.lookup_model.specs.Net.{net};
 ghost use Rattle.lookup_model.specs.Plain.{counted, net_sum, plain_fraction, quotient};
 ghost use Rattle.lookup_model.specs.Sent.{sent};
 
-use field::{ExtensionField, Field};
+use field::{ExtensionField, Field, Over};
 use lookup_model::LookupError;
 use std::alloc::{AllocError, Global};
 
@@ -31,7 +30,7 @@ pub fn fraction_of<F: Field, EF: ExtensionField<F>>(
     challenges: &[EF],
 ) -> Option<EF>
     requires { All (λ m. 2 * m.id + 1 < length challenges.now) messages.now }
-    ensures { let E = extension F.ring F.eq EF.ring EF.eq EF.embed EF.inverse in
+    ensures { let E = ⟦<EF as Over<F>>⟧.fields in
         let denominator = column_denominator E challenges.now in
         let vanishing = vanishes E denominator (counted F.ring F.eq (messages_of messages.now)) in
         MatchOption result (IsTrue vanishing)
@@ -51,7 +50,7 @@ pub fn terminal_of<F: Field, EF: ExtensionField<F>>(
     challenges: &[EF],
 ) -> Option<EF>
     requires { All (λ m. 2 * m.id + 1 < length challenges.now) messages.now }
-    ensures { let E = extension F.ring F.eq EF.ring EF.eq EF.embed EF.inverse in
+    ensures { let E = ⟦<EF as Over<F>>⟧.fields in
         let denominator = column_denominator E challenges.now in
         let vanishing = net_vanishes E denominator (messages_of messages.now) in
         MatchOption result (IsTrue vanishing)
@@ -81,7 +80,7 @@ pub fn exclusive_fraction_of<F: Field, EF: ExtensionField<F>>(
 ) -> Result<EF, LookupError>
     requires ids { All (λ m. 2 * m.id + 1 < length challenges.now) messages.now }
     requires lengths { length messages.now ≡ length flags.now }
-    ensures { let E = extension F.ring F.eq EF.ring EF.eq EF.embed EF.inverse in
+    ensures { let E = ⟦<EF as Over<F>>⟧.fields in
         let denominator = column_denominator E challenges.now in
         let sent = sent F.ring F.eq (Some flags.now) (messages_of messages.now) in
         MatchResult result
@@ -110,7 +109,7 @@ fn single_quotient<F: Field, EF: ExtensionField<F>>(
     challenges: &[EF],
 ) -> Result<EF, LookupError>
     requires { 2 * message.now.id + 1 < length challenges.now }
-    ensures { let E = extension F.ring F.eq EF.ring EF.eq EF.embed EF.inverse in
+    ensures { let E = ⟦<EF as Over<F>>⟧.fields in
         let denominator = column_denominator E challenges.now in
         let key = (message_of message.now).key in
         MatchResult result
@@ -167,7 +166,7 @@ fn quotient_of<F: Field, EF: ExtensionField<F>>(
     challenges: &[EF],
 ) -> Option<EF>
     requires { 2 * message.now.id + 1 < length challenges.now }
-    ensures { let E = extension F.ring F.eq EF.ring EF.eq EF.embed EF.inverse in
+    ensures { let E = ⟦<EF as Over<F>>⟧.fields in
         let denominator = column_denominator E challenges.now in
         let alone : List (Message F) = record
         { key = (message_of message.now).key; multiplicity = multiplicity } ∷ [] in
@@ -191,8 +190,8 @@ fn denominator_of<F: Field, EF: ExtensionField<F>>(
     challenges: &[EF],
 ) -> EF
     requires { 2 * message.now.id + 1 < length challenges.now }
-    ensures { result ≡ column_denominator (extension F.ring F.eq EF.ring EF.eq EF.embed EF.inverse)
-        challenges.now (message_of message.now).key }
+    ensures { result ≡ column_denominator ⟦<EF as Over<F>>⟧.fields challenges.now
+        (message_of message.now).key }
 {
     challenges[2 * message.id] - combined_of(&message.tuple, challenges[2 * message.id + 1])
 }

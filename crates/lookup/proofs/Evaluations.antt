@@ -5,7 +5,7 @@ use Rattle.expressions.specs.Window.{ExtWindow}
 use Rattle.expressions.specs.declared.layout.AirLayout.{AirLayout}
 use Rattle.lookup_evaluation.specs.Asserted.{Asserts, IsConstraint}
 use Rattle.lookup_model.specs.Constraints.{Constraint, accumulator_at, accumulator_constraints, fractions_at}
-use Rattle.lookup_model.specs.Extension.{Extension}
+use Rattle.field.specs.Extension.{Extension}
 use Rattle.lookup_model.specs.declared.types.Lookup.{Lookup}
 use Rattle.lookup_evaluation.proofs.AssertedLaws.{Reads, asserts_keep, fewer_windows}
 

@@ -2,11 +2,11 @@
 ghost use Rattle.std.specs.Prelude.{◌+◌, ◌*◌, ◌<◌, ◌≤◌, All, length, map};
 ghost use Rattle.lookup_evaluation.specs.Asserted.{EvaluatesOn};
 ghost use Rattle.lookup_model.specs.Constraints.{accumulator_constraints, fraction_constraint, terminal_at};
-ghost use Rattle.lookup_model.specs.Extension.{extension};
 ghost use Rattle.lookup_model.specs.Records.{DoFit};
 
 use crate::protocol::LookupProtocol;
 use air::{AirBuilder, AirError, ExtensionBuilder, PermutationAirBuilder};
+use field::Over;
 use lookup_evaluation::terminal;
 use lookup_model::Lookup;
 use std::alloc::Global;
@@ -22,7 +22,7 @@ pub(crate) fn eval_fractions<P: LookupProtocol, AB: PermutationAirBuilder>(
     requires challenges { 2 * length lookups.now
         ≤ (AB.layout builder.old).num_permutation_challenges }
     requires cells { length lookups.now < (AB.layout builder.old).permutation_width }
-    ensures { let E = extension AB.F.ring AB.F.eq AB.EF.ring AB.EF.eq AB.EF.embed AB.EF.inverse in
+    ensures { let E = ⟦<AB::EF as Over<AB::F>>⟧.fields in
         EvaluatesOn AB.accepts_ext AB.refuses_ext AB.window_refuses AB.stands_for_ext
         AB.ExprEF.value AB.seen_ext AB.ExprEF.degree builder.old
         (map (fraction_constraint E) lookups.now) result builder.new }
@@ -43,7 +43,7 @@ pub(crate) fn eval_terminal<P: LookupProtocol, AB: PermutationAirBuilder>(
     requires cells { All (λ lookup. lookup.column + 1
         < (AB.layout builder.old).permutation_width) lookups.now }
     requires terminal { 0 < (AB.layout builder.old).num_permutation_values }
-    ensures { let E = extension AB.F.ring AB.F.eq AB.EF.ring AB.EF.eq AB.EF.embed AB.EF.inverse in
+    ensures { let E = ⟦<AB::EF as Over<AB::F>>⟧.fields in
         EvaluatesOn AB.accepts_ext AB.refuses_ext AB.window_refuses AB.stands_for_ext
         AB.ExprEF.value AB.seen_ext AB.ExprEF.degree builder.old
         (accumulator_constraints E lookups.now (terminal_at E) (λ t. 0)) result builder.new }

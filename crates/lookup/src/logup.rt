@@ -4,7 +4,7 @@ ghost use Rattle.std.specs.Option.{ForSome, option_copied};
 ghost use Rattle.expressions.specs.Layout.{layout_of_traces};
 ghost use Rattle.lookup_generation.specs.Inverses.{ForInverses};
 ghost use Rattle.lookup_generation.specs.Progress.{HaveNoTuples, started_chunks};
-ghost use Rattle.lookup_model.specs.Extension.{extension};
+ghost use Rattle.field.specs.Extension.{extension};
 ghost use Rattle.lookup_model.specs.Generation.{AnswersGeneration};
 ghost use Rattle.lookup_model.specs.LookupDegree.{IsDegree, lookup_degree};
 ghost use Rattle.lookup_model.specs.Records.{DoFit, HasEqualLengths};

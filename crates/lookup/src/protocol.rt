@@ -4,7 +4,6 @@ ghost use Rattle.std.specs.Option.{ForSome, option_copied};
 ghost use Rattle.expressions.specs.Layout.{layout_of_traces};
 ghost use Rattle.lookup_evaluation.specs.Asserted.{EvaluatesOn};
 ghost use Rattle.lookup_model.specs.Constraints.{accumulator_constraints, fraction_constraint, lookup_constraints};
-ghost use Rattle.lookup_model.specs.Extension.{extension};
 ghost use Rattle.lookup_model.specs.LookupDegree.{IsDegree, lookup_degree};
 ghost use Rattle.lookup_model.specs.Records.{DoFit, HasEqualLengths, IsWithin};
 ghost use Rattle.lookup.specs.WholeAir.{EvaluatesBoth};
@@ -14,7 +13,7 @@ ghost use Rattle.matrix.specs.Matrix.{height};
 
 use crate::evaluation::{eval_fractions, eval_terminal};
 use air::{Air, AirBuilder, AirError, ExtensionBuilder, PermutationAirBuilder};
-use field::{ExtensionField, Field};
+use field::{ExtensionField, Field, Over};
 use lookup_model::{Lookup, LookupError, LookupTerminal};
 use matrix::RowMajorMatrix;
 use std::alloc::Global;
@@ -50,8 +49,7 @@ pub trait LookupProtocol: Sized {
         requires challenges { 2 * lookup.now.column + 1
             < (AB.layout builder.old).num_permutation_challenges }
         requires cell { lookup.now.column + 1 < (AB.layout builder.old).permutation_width }
-        ensures { let E = extension AB.F.ring AB.F.eq AB.EF.ring AB.EF.eq AB.EF.embed
-            AB.EF.inverse in
+        ensures { let E = ⟦<AB::EF as Over<AB::F>>⟧.fields in
             EvaluatesOn AB.accepts_ext AB.refuses_ext AB.window_refuses AB.stands_for_ext
             AB.ExprEF.value AB.seen_ext AB.ExprEF.degree builder.old
             (fraction_constraint E lookup.now ∷ []) result builder.new };
@@ -74,8 +72,7 @@ pub trait LookupProtocol: Sized {
     ) -> Result<(), AirError>
         requires cells { All (λ lookup. lookup.column + 1
             < (AB.layout builder.old).permutation_width) lookups.now }
-        ensures { let E = extension AB.F.ring AB.F.eq AB.EF.ring AB.EF.eq AB.EF.embed
-            AB.EF.inverse in
+        ensures { let E = ⟦<AB::EF as Over<AB::F>>⟧.fields in
             EvaluatesOn AB.accepts_ext AB.refuses_ext AB.window_refuses AB.stands_for_ext
             AB.ExprEF.value AB.seen_ext AB.ExprEF.degree builder.old
             (accumulator_constraints E lookups.now (λ w. AB.ExprEF.value terminal (AB.seen_ext w))
@@ -99,8 +96,7 @@ pub trait LookupProtocol: Sized {
             → length lookups.now < (AB.layout builder.old).permutation_width }
         requires terminal { 0 < length lookups.now
             → 0 < (AB.layout builder.old).num_permutation_values }
-        ensures { let E = extension AB.F.ring AB.F.eq AB.EF.ring AB.EF.eq AB.EF.embed
-            AB.EF.inverse in
+        ensures { let E = ⟦<AB::EF as Over<AB::F>>⟧.fields in
             EvaluatesOn AB.accepts_ext AB.refuses_ext AB.window_refuses AB.stands_for_ext
             AB.ExprEF.value AB.seen_ext AB.ExprEF.degree builder.old
             (lookup_constraints E lookups.now) result builder.new }
@@ -131,8 +127,7 @@ pub trait LookupProtocol: Sized {
             → length lookups.now < (AB.layout builder.old).permutation_width }
         requires terminal { 0 < length lookups.now
             → 0 < (AB.layout builder.old).num_permutation_values }
-        ensures { let E = extension AB.F.ring AB.F.eq AB.EF.ring AB.EF.eq AB.EF.embed
-            AB.EF.inverse in
+        ensures { let E = ⟦<AB::EF as Over<AB::F>>⟧.fields in
             EvaluatesBoth A.evaluates
             (λ between answer after. EvaluatesOn AB.accepts_ext AB.refuses_ext AB.window_refuses
             AB.stands_for_ext AB.ExprEF.value AB.seen_ext AB.ExprEF.degree between
@@ -184,9 +179,9 @@ pub trait LookupProtocol: Sized {
         requires fit { DoFit (layout_of_traces main.now
             (option_copied preprocessed) public_values.now) lookups.now }
         requires challenges { 2 * length lookups.now ≤ length challenges.now }
-        ensures { AnswersGeneration (extension F.ring F.eq EF.ring EF.eq EF.embed EF.inverse)
-            main.now (option_copied preprocessed.entry) public_values.now lookups.now challenges.now
-            result };
+        ensures { AnswersGeneration ⟦<EF as Over<F>>⟧.fields main.now
+            (option_copied preprocessed.entry) public_values.now lookups.now
+            challenges.now result };
 
     /// Whether the terminals of all AIRs cancel.
     ///

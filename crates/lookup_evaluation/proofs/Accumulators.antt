@@ -4,7 +4,7 @@ use Rattle.field.specs.Ring.{IsEmbedding, of_bool}
 use Rattle.expressions.specs.Window.{ExtWindow}
 use Rattle.lookup_evaluation.specs.Asserted.{IsConstraint}
 use Rattle.lookup_model.specs.Constraints.{selected}
-use Rattle.lookup_model.specs.Extension.{Extension}
+use Rattle.field.specs.Extension.{Extension}
 use Rattle.lookup_model.specs.declared.types.Lookup.{Lookup}
 
 module _ {X F K : Type 0} (E : Extension F K) (embeds : IsEmbedding E.base E.ring E.embed) (value : X → ExtWindow F K → K) (degree : X → ℕ → ℕ) (stands : ExtWindow F K → Type 0) where

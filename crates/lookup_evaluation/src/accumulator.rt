@@ -5,11 +5,10 @@ ghost use Rattle.expressions.specs.Builder.{MeansRow};
 ghost use Rattle.expressions.specs.Window.{ExtWindow};
 ghost use Rattle.lookup_evaluation.specs.Asserted.{AnswersSelected, EvaluatesOn};
 ghost use Rattle.lookup_model.specs.Constraints.{accumulator_at, accumulator_constraints, fractions_at, next_accumulator_at};
-ghost use Rattle.lookup_model.specs.Extension.{extension};
 
 use crate::cells::{accumulator_cell, fraction_cell, next_accumulator_cell};
 use expressions::{AirBuilder, AirError, Expression, ExtensionBuilder, PermutationAirBuilder};
-use field::{Field, PrimeCharacteristicRing};
+use field::{Field, Over, PrimeCharacteristicRing};
 use lookup_model::Lookup;
 use std::alloc::{AllocError, Global};
 
@@ -27,7 +26,7 @@ fn row_sum<AB: PermutationAirBuilder>(
     requires cells { All (λ lookup. lookup.column + 1
         < (AB.layout builder.now).permutation_width) lookups.now }
     ensures means { IfOk result (λ r. (w : ExtWindow AB.F AB.EF) → AB.stands_for_ext builder.now w
-        → let E = extension AB.F.ring AB.F.eq AB.EF.ring AB.EF.eq AB.EF.embed AB.EF.inverse in
+        → let E = ⟦<AB::EF as Over<AB::F>>⟧.fields in
         AB.ExprEF.value r (AB.seen_ext w) ≡ fractions_at E lookups.now w) }
     ensures degree { IfOk result (λ r. (t : ℕ) → AB.ExprEF.degree r t ≤ 1) }
 {
@@ -74,16 +73,16 @@ fn sides_of<AB: PermutationAirBuilder>(
     requires fractions { All (λ lookup. lookup.column + 1
         < (AB.layout builder.now).permutation_width) lookups.now }
     ensures first { IfOk result (λ r. (w : ExtWindow AB.F AB.EF) → AB.stands_for_ext builder.now w
-        → let E = extension AB.F.ring AB.F.eq AB.EF.ring AB.EF.eq AB.EF.embed AB.EF.inverse in
+        → let E = ⟦<AB::EF as Over<AB::F>>⟧.fields in
         AB.ExprEF.value r.first (AB.seen_ext w) ≡ accumulator_at E w) }
     ensures transition { IfOk result (λ r. (w : ExtWindow AB.F AB.EF)
         → AB.stands_for_ext builder.now w
-        → let E = extension AB.F.ring AB.F.eq AB.EF.ring AB.EF.eq AB.EF.embed AB.EF.inverse in
+        → let E = ⟦<AB::EF as Over<AB::F>>⟧.fields in
         AB.ExprEF.value r.transition (AB.seen_ext w)
         ≡ sub_in E.ring (sub_in E.ring (next_accumulator_at E w) (accumulator_at E w))
         (fractions_at E lookups.now w)) }
     ensures last { IfOk result (λ r. (w : ExtWindow AB.F AB.EF) → AB.stands_for_ext builder.now w
-        → let E = extension AB.F.ring AB.F.eq AB.EF.ring AB.EF.eq AB.EF.embed AB.EF.inverse in
+        → let E = ⟦<AB::EF as Over<AB::F>>⟧.fields in
         AB.ExprEF.value r.last (AB.seen_ext w)
         ≡ sub_in E.ring (sub_in E.ring (AB.ExprEF.value terminal (AB.seen_ext w))
         (accumulator_at E w)) (fractions_at E lookups.now w)) }
@@ -161,7 +160,7 @@ pub fn eval_accumulator<AB: PermutationAirBuilder>(
 ) -> Result<(), AirError>
     requires cells { All (λ lookup. lookup.column + 1
         < (AB.layout builder.old).permutation_width) lookups.now }
-    ensures { let E = extension AB.F.ring AB.F.eq AB.EF.ring AB.EF.eq AB.EF.embed AB.EF.inverse in
+    ensures { let E = ⟦<AB::EF as Over<AB::F>>⟧.fields in
         EvaluatesOn AB.accepts_ext AB.refuses_ext AB.window_refuses AB.stands_for_ext
         AB.ExprEF.value AB.seen_ext AB.ExprEF.degree builder.old
         (accumulator_constraints E lookups.now (λ w. AB.ExprEF.value terminal (AB.seen_ext w))

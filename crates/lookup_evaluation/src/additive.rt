@@ -6,7 +6,6 @@ ghost use Rattle.expressions.specs.Tree.{tree_of};
 ghost use Rattle.expressions.specs.Window.{ExtWindow};
 ghost use Rattle.lookup_model.specs.Constraints.{additive_denominator, additive_numerator};
 ghost use Rattle.lookup_model.specs.Denominators.{tuple_denominator};
-ghost use Rattle.lookup_model.specs.Extension.{extension};
 ghost use Rattle.lookup_model.specs.LookupDegree.{additive_denominator_degree, additive_numerator_degree, expression_degree, lookup_branch_degrees, tuple_degree};
 ghost use Rattle.lookup_model.specs.Records.{AllFit, HasEqualLengths, IsWithin};
 ghost use Rattle.lookup_model.specs.Sent.{branches_at, value, values};
@@ -14,6 +13,7 @@ ghost use Rattle.lookup_model.specs.Sent.{branches_at, value, values};
 use crate::denominator::{denominator, lifted};
 use crate::quotient::{Quotient, add_quotient, no_quotient};
 use expressions::{PermutationAirBuilder, SymbolicExpression};
+use field::Over;
 use lookup_model::Lookup;
 use std::alloc::{AllocError, Global};
 
@@ -36,7 +36,7 @@ fn with_tuple<AB: PermutationAirBuilder>(
         AB.MainWindow.current AB.MainWindow.next builder.now main.now }
     ensures numerator { IfOk result (λ r. (w : ExtWindow AB.F AB.EF)
         → AB.stands_for_ext builder.now w
-        → let E = extension AB.F.ring AB.F.eq AB.EF.ring AB.EF.eq AB.EF.embed AB.EF.inverse in
+        → let E = ⟦<AB::EF as Over<AB::F>>⟧.fields in
         AB.ExprEF.value r.numerator (AB.seen_ext w)
         ≡ AB.EF.ring.add (AB.EF.ring.mul (AB.ExprEF.value quotient.numerator (AB.seen_ext w))
         (tuple_denominator E (AB.ExprEF.value alpha.now (AB.seen_ext w))
@@ -45,7 +45,7 @@ fn with_tuple<AB: PermutationAirBuilder>(
         (AB.ExprEF.value quotient.denominator (AB.seen_ext w)))) }
     ensures denominator { IfOk result (λ r. (w : ExtWindow AB.F AB.EF)
         → AB.stands_for_ext builder.now w
-        → let E = extension AB.F.ring AB.F.eq AB.EF.ring AB.EF.eq AB.EF.embed AB.EF.inverse in
+        → let E = ⟦<AB::EF as Over<AB::F>>⟧.fields in
         AB.ExprEF.value r.denominator (AB.seen_ext w)
         ≡ AB.EF.ring.mul (AB.ExprEF.value quotient.denominator (AB.seen_ext w))
         (tuple_denominator E (AB.ExprEF.value alpha.now (AB.seen_ext w))
@@ -79,7 +79,7 @@ pub(crate) fn additive_quotient<AB: PermutationAirBuilder>(
         AB.MainWindow.current AB.MainWindow.next builder.now main.now }
     ensures numerator { IfOk result (λ r. (w : ExtWindow AB.F AB.EF)
         → AB.stands_for_ext builder.now w
-        → let E = extension AB.F.ring AB.F.eq AB.EF.ring AB.EF.eq AB.EF.embed AB.EF.inverse in
+        → let E = ⟦<AB::EF as Over<AB::F>>⟧.fields in
         let denominator = tuple_denominator E (AB.ExprEF.value alpha.now (AB.seen_ext w))
         (AB.ExprEF.value beta.now (AB.seen_ext w)) in
         AB.ExprEF.value r.numerator (AB.seen_ext w)
@@ -87,7 +87,7 @@ pub(crate) fn additive_quotient<AB: PermutationAirBuilder>(
         lookup.now)) }
     ensures denominator { IfOk result (λ r. (w : ExtWindow AB.F AB.EF)
         → AB.stands_for_ext builder.now w
-        → let E = extension AB.F.ring AB.F.eq AB.EF.ring AB.EF.eq AB.EF.embed AB.EF.inverse in
+        → let E = ⟦<AB::EF as Over<AB::F>>⟧.fields in
         let denominator = tuple_denominator E (AB.ExprEF.value alpha.now (AB.seen_ext w))
         (AB.ExprEF.value beta.now (AB.seen_ext w)) in
         AB.ExprEF.value r.denominator (AB.seen_ext w)

@@ -8,7 +8,6 @@ ghost use Rattle.expressions.specs.Tree.{tree_of};
 ghost use Rattle.expressions.specs.Window.{ExtWindow};
 ghost use Rattle.lookup_model.specs.Constraints.{exclusive_denominator, exclusive_numerator, flagged_denominators};
 ghost use Rattle.lookup_model.specs.Denominators.{tuple_denominator};
-ghost use Rattle.lookup_model.specs.Extension.{extension};
 ghost use Rattle.lookup_model.specs.LookupDegree.{exclusive_denominator_degree, exclusive_numerator_degree, expression_degree, lookup_branch_degrees, tuple_degree};
 ghost use Rattle.lookup_model.specs.Records.{AllFit, HasEqualLengths, IsWithin};
 ghost use Rattle.lookup_model.specs.Sent.{branches_at, value, values};
@@ -16,7 +15,7 @@ ghost use Rattle.lookup_model.specs.Sent.{branches_at, value, values};
 use crate::denominator::{denominator, lifted};
 use crate::quotient::Quotient;
 use expressions::{Expression, PermutationAirBuilder, SymbolicExpression};
-use field::{Field, PrimeCharacteristicRing};
+use field::{Field, Over, PrimeCharacteristicRing};
 use lookup_model::Lookup;
 use std::alloc::{AllocError, Global};
 
@@ -122,7 +121,7 @@ fn with_branch<AB: PermutationAirBuilder>(
         (AB.EF.embed (value AB.F.ring w.base multiplicity.now)))) }
     ensures denominator { IfOk result (λ r. (w : ExtWindow AB.F AB.EF)
         → AB.stands_for_ext builder.now w
-        → let E = extension AB.F.ring AB.F.eq AB.EF.ring AB.EF.eq AB.EF.embed AB.EF.inverse in
+        → let E = ⟦<AB::EF as Over<AB::F>>⟧.fields in
         AB.ExprEF.value r.denominator (AB.seen_ext w)
         ≡ AB.EF.ring.add (AB.ExprEF.value selection.denominator (AB.seen_ext w))
         (AB.EF.ring.mul (AB.EF.embed (value AB.F.ring w.base flag.now))
@@ -167,13 +166,13 @@ fn selection_of<AB: PermutationAirBuilder>(
         AB.MainWindow.current AB.MainWindow.next builder.now main.now }
     ensures numerator { IfOk result (λ r. (w : ExtWindow AB.F AB.EF)
         → AB.stands_for_ext builder.now w
-        → let E = extension AB.F.ring AB.F.eq AB.EF.ring AB.EF.eq AB.EF.embed AB.EF.inverse in
+        → let E = ⟦<AB::EF as Over<AB::F>>⟧.fields in
         AB.ExprEF.value r.numerator (AB.seen_ext w)
         ≡ exclusive_numerator E (values AB.F.ring w.base flags.now)
         (branches_at AB.F.ring w.base lookup.now.column lookup.now)) }
     ensures denominator { IfOk result (λ r. (w : ExtWindow AB.F AB.EF)
         → AB.stands_for_ext builder.now w
-        → let E = extension AB.F.ring AB.F.eq AB.EF.ring AB.EF.eq AB.EF.embed AB.EF.inverse in
+        → let E = ⟦<AB::EF as Over<AB::F>>⟧.fields in
         let denominator = tuple_denominator E (AB.ExprEF.value alpha.now (AB.seen_ext w))
         (AB.ExprEF.value beta.now (AB.seen_ext w)) in
         AB.ExprEF.value r.denominator (AB.seen_ext w)
@@ -231,13 +230,13 @@ pub(crate) fn exclusive_quotient<AB: PermutationAirBuilder>(
         AB.MainWindow.current AB.MainWindow.next builder.now main.now }
     ensures numerator { IfOk result (λ r. (w : ExtWindow AB.F AB.EF)
         → AB.stands_for_ext builder.now w
-        → let E = extension AB.F.ring AB.F.eq AB.EF.ring AB.EF.eq AB.EF.embed AB.EF.inverse in
+        → let E = ⟦<AB::EF as Over<AB::F>>⟧.fields in
         AB.ExprEF.value r.numerator (AB.seen_ext w)
         ≡ exclusive_numerator E (values AB.F.ring w.base flags.now)
         (branches_at AB.F.ring w.base lookup.now.column lookup.now)) }
     ensures denominator { IfOk result (λ r. (w : ExtWindow AB.F AB.EF)
         → AB.stands_for_ext builder.now w
-        → let E = extension AB.F.ring AB.F.eq AB.EF.ring AB.EF.eq AB.EF.embed AB.EF.inverse in
+        → let E = ⟦<AB::EF as Over<AB::F>>⟧.fields in
         let denominator = tuple_denominator E (AB.ExprEF.value alpha.now (AB.seen_ext w))
         (AB.ExprEF.value beta.now (AB.seen_ext w)) in
         AB.ExprEF.value r.denominator (AB.seen_ext w)

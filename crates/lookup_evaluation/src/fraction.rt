@@ -4,7 +4,6 @@ ghost use Rattle.expressions.specs.Builder.{IsMainWindow};
 ghost use Rattle.expressions.specs.Window.{ExtWindow};
 ghost use Rattle.lookup_evaluation.specs.Asserted.{EvaluatesOn, IsConstraint};
 ghost use Rattle.lookup_model.specs.Constraints.{denominator_at, fraction_constraint, fraction_denominator, fraction_numerator};
-ghost use Rattle.lookup_model.specs.Extension.{extension};
 ghost use Rattle.lookup_model.specs.LookupDegree.{lookup_degree};
 ghost use Rattle.lookup_model.specs.Records.{HasEqualLengths, IsWithin};
 ghost use Rattle.lookup_model.specs.Sent.{branches_at, flags_at};
@@ -14,6 +13,7 @@ use crate::cells::{column_challenges, fraction_cell};
 use crate::exclusive::exclusive_quotient;
 use crate::quotient::{Quotient, pinned};
 use expressions::{AirBuilder, AirError, ExtensionBuilder, PermutationAirBuilder};
+use field::Over;
 use lookup_model::Lookup;
 use std::alloc::{AllocError, Global};
 
@@ -39,14 +39,14 @@ pub fn quotient_of<AB: PermutationAirBuilder>(
         AB.MainWindow.current AB.MainWindow.next builder.now main.now }
     ensures numerator { IfOk result (λ r. (w : ExtWindow AB.F AB.EF)
         → AB.stands_for_ext builder.now w
-        → let E = extension AB.F.ring AB.F.eq AB.EF.ring AB.EF.eq AB.EF.embed AB.EF.inverse in
+        → let E = ⟦<AB::EF as Over<AB::F>>⟧.fields in
         AB.ExprEF.value r.numerator (AB.seen_ext w)
         ≡ fraction_numerator E (denominator_at E lookup.now.column w)
         (flags_at AB.F.ring w.base lookup.now)
         (branches_at AB.F.ring w.base lookup.now.column lookup.now)) }
     ensures denominator { IfOk result (λ r. (w : ExtWindow AB.F AB.EF)
         → AB.stands_for_ext builder.now w
-        → let E = extension AB.F.ring AB.F.eq AB.EF.ring AB.EF.eq AB.EF.embed AB.EF.inverse in
+        → let E = ⟦<AB::EF as Over<AB::F>>⟧.fields in
         AB.ExprEF.value r.denominator (AB.seen_ext w)
         ≡ fraction_denominator E (denominator_at E lookup.now.column w)
         (flags_at AB.F.ring w.base lookup.now)
@@ -74,7 +74,7 @@ fn fraction_expression<AB: PermutationAirBuilder>(
         < (AB.layout builder.now).num_permutation_challenges }
     requires cell { lookup.now.column + 1 < (AB.layout builder.now).permutation_width }
     ensures means { IfOk result (λ r.
-        let E = extension AB.F.ring AB.F.eq AB.EF.ring AB.EF.eq AB.EF.embed AB.EF.inverse in
+        let E = ⟦<AB::EF as Over<AB::F>>⟧.fields in
         IsConstraint (λ x w. AB.ExprEF.value x (AB.seen_ext w)) AB.ExprEF.degree
         (AB.stands_for_ext builder.now) (fraction_constraint E lookup.now) r) }
     ensures refused { IfErr result (λ e. (e ≡ AirError.Memory) ⊎ AB.window_refuses builder.now e) }
@@ -100,7 +100,7 @@ pub fn eval_fraction<AB: PermutationAirBuilder>(
     requires challenges { 2 * lookup.now.column + 1
         < (AB.layout builder.old).num_permutation_challenges }
     requires cell { lookup.now.column + 1 < (AB.layout builder.old).permutation_width }
-    ensures { let E = extension AB.F.ring AB.F.eq AB.EF.ring AB.EF.eq AB.EF.embed AB.EF.inverse in
+    ensures { let E = ⟦<AB::EF as Over<AB::F>>⟧.fields in
         EvaluatesOn AB.accepts_ext AB.refuses_ext AB.window_refuses AB.stands_for_ext
         AB.ExprEF.value AB.seen_ext AB.ExprEF.degree builder.old (fraction_constraint E lookup.now ∷
         []) result builder.new }

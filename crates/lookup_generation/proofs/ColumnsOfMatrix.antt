@@ -11,7 +11,7 @@ use Rattle.lookup_generation.specs.Progress.{all_fractions, column_cells, column
 use Rattle.lookup_generation.proofs.ProgressLaws.{row_fractions}
 use Rattle.lookup_laws.proofs.SentRows.{length-sent_rows, sent_rows-at}
 use Rattle.lookup_model.proofs.HornerRule.{map-map}
-use Rattle.lookup_model.specs.Extension.{Extension}
+use Rattle.field.specs.Extension.{Extension}
 use Rattle.lookup_model.specs.Message.{Key}
 use Rattle.lookup_model.specs.Plain.{plain_fraction}
 use Rattle.lookup_model.specs.Trace.{sent_row}

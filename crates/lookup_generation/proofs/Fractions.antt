@@ -5,7 +5,7 @@ use Rattle.std.proofs.lemmas.List.{map_push}
 use Rattle.std.proofs.lemmas.List.Folds.{list_any-append}
 use Rattle.std.specs.List.{list_any}
 use Rattle.field.specs.Sums.{sum_in}
-use Rattle.lookup_model.specs.Extension.{Extension, IsLawful}
+use Rattle.field.specs.Extension.{Extension, IsLawful}
 use Rattle.lookup_model.specs.Fault.{vanishes}
 use Rattle.lookup_generation.specs.Fraction.{IsFractionOf, IsRatio}
 use Rattle.lookup_generation.specs.declared.ratio.Ratio.{Ratio}

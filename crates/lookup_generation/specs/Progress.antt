@@ -6,7 +6,7 @@ use Rattle.field.specs.Ring.{Ring}
 use Rattle.lookup_columns.specs.Traces.{window_of}
 use Rattle.lookup_columns.specs.declared.traces.Traces.{Traces}
 use Rattle.matrix.specs.Matrix.{Matrix, height, row}
-use Rattle.lookup_model.specs.Extension.{Extension}
+use Rattle.field.specs.Extension.{Extension}
 use Rattle.lookup_model.specs.Fault.{fault_of, row_faults, trace_faults}
 use Rattle.lookup_model.specs.Message.{Key}
 use Rattle.lookup_model.specs.Plain.{plain_accumulator, plain_fraction, plain_row}

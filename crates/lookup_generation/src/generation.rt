@@ -7,7 +7,6 @@ ghost use Rattle.expressions.specs.Layout.{layout_of_traces};
 ghost use Rattle.expressions.specs.Window.{window_at};
 ghost use Rattle.lookup_columns.specs.Traces.{layout_of, height_of, window_of};
 ghost use Rattle.lookup_model.specs.Denominators.{column_denominator};
-ghost use Rattle.lookup_model.specs.Extension.{extension};
 ghost use Rattle.lookup_model.specs.Fault.{trace_faults};
 ghost use Rattle.field.specs.Sums.{sum_in};
 ghost use Rattle.lookup_generation.specs.Fraction.{AreSound, AreWhole};
@@ -25,7 +24,7 @@ use crate::fraction::fraction;
 use crate::memory::ChunkMemory;
 use crate::ratio::{Ratio, values_of};
 use crate::trace_builder::LookupTraceBuilder;
-use field::{Domain, ExtensionDomain, ExtensionField, Field, InverseCount, Inverter};
+use field::{Domain, ExtensionDomain, ExtensionField, Field, InverseCount, Inverter, Over};
 use lookup_columns::{
     BranchColumns, LookupSteps, Traces, next_row, rows_between, steps_of_lookups,
 };
@@ -463,8 +462,8 @@ pub fn generate_permutation<'a, F: Field, EF: ExtensionField<F>>(
     requires fit { DoFit (layout_of_traces main.now (option_copied preprocessed) public_values.now)
         lookups.now }
     requires challenges { 2 * length lookups.now ≤ length challenges.now }
-    ensures { AnswersGeneration (extension F.ring F.eq EF.ring EF.eq EF.embed EF.inverse) main.now
-        (option_copied preprocessed.entry) public_values.now lookups.now challenges.now result }
+    ensures { AnswersGeneration ⟦<EF as Over<F>>⟧.fields main.now (option_copied preprocessed.entry)
+        public_values.now lookups.now challenges.now result }
 {
     let mut count = InverseCount::new();
     generate_counted(

@@ -12,7 +12,7 @@ use Rattle.expressions.specs.Window.{Window}
 use Rattle.expressions.specs.declared.base_expression.SymbolicExpression.{SymbolicExpression}
 use Rattle.lookup_model.specs.Constraints.{fraction_left}
 use Rattle.lookup_model.specs.Denominators.{column_denominator, tuple_denominator}
-use Rattle.lookup_model.specs.Extension.{Extension, IsLawful}
+use Rattle.field.specs.Extension.{Extension, IsLawful}
 use Rattle.lookup_model.specs.Fault.{vanishes}
 use Rattle.lookup_model.specs.Plain.{quotient_of}
 use Rattle.lookup_model.specs.Message.{Key, Message}

@@ -12,7 +12,7 @@ use Rattle.expressions.specs.declared.base_expression.SymbolicExpression.{Symbol
 use Rattle.lookup_model.proofs.Branches.{length-branches_at}
 use Rattle.lookup_model.specs.Constraints.{flagged_denominators, fraction_left}
 use Rattle.lookup_model.specs.Denominators.{column_denominator, tuple_denominator}
-use Rattle.lookup_model.specs.Extension.{Extension, IsLawful}
+use Rattle.field.specs.Extension.{Extension, IsLawful}
 use Rattle.lookup_model.specs.Fault.{fault_of}
 use Rattle.lookup_model.specs.Message.{Key, Message}
 use Rattle.lookup_model.specs.Plain.{plain_fraction}

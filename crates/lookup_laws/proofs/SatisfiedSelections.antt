@@ -7,7 +7,7 @@ use Rattle.field.specs.RingFacts.{one_mul, zero_add, zero_mul}
 use Rattle.field.specs.RingSolver.{var, con, ◌:*◌, ◌:+◌, ◌:-◌, ring_given, ring_law}
 use Rattle.field.specs.Sums.{sum_in}
 use Rattle.lookup_model.specs.Constraints.{exclusive_numerator}
-use Rattle.lookup_model.specs.Extension.{Extension, IsLawful}
+use Rattle.field.specs.Extension.{Extension, IsLawful}
 use Rattle.lookup_model.specs.Fault.{are_boolean, vanishes}
 use Rattle.lookup_model.specs.Message.{Key, Message}
 use Rattle.lookup_model.specs.Plain.{plain_fraction}

@@ -6,7 +6,6 @@ pub mod ConstraintLaws
 pub mod DegreeBounds
 pub mod Degrees
 pub mod HornerRule
-pub mod Lawful
 pub mod Prefixes
 pub mod RecordLaws
 pub mod SumDegreeLaws

@@ -4,7 +4,7 @@ use Rattle.std.specs.Box.{boxed_slice_items}
 use Rattle.std.specs.List.{flat_map}
 use Rattle.field.specs.Polynomial.{combined}
 use Rattle.field.specs.Ring.{Ring, of_nat, power, sub_in}
-use Rattle.lookup_model.specs.Extension.{Extension}
+use Rattle.field.specs.Extension.{Extension}
 use Rattle.lookup_model.specs.Message.{Key}
 use Rattle.lookup_model.specs.declared.challenges.Challenges.{Challenges}
 

@@ -6,7 +6,7 @@ use Rattle.field.specs.Ring.{of_bool, sub_in}
 use Rattle.field.specs.Sums.{sum_in, product_in, taken_out}
 use Rattle.expressions.specs.Window.{ExtWindow}
 use Rattle.lookup_model.specs.Denominators.{tuple_denominator}
-use Rattle.lookup_model.specs.Extension.{Extension}
+use Rattle.field.specs.Extension.{Extension}
 use Rattle.lookup_model.specs.LookupDegree.{lookup_degree}
 use Rattle.lookup_model.specs.Message.{Message}
 use Rattle.lookup_model.specs.Sent.{branches_at, flags_at}

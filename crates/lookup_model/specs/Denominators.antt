@@ -2,7 +2,7 @@
 use Rattle.std.specs.Prelude.{◌+◌, ◌*◌, List, map, slice_index_or}
 use Rattle.field.specs.Polynomial.{combined}
 use Rattle.field.specs.Ring.{sub_in}
-use Rattle.lookup_model.specs.Extension.{Extension}
+use Rattle.field.specs.Extension.{Extension}
 use Rattle.lookup_model.specs.Message.{Key}
 
 module _ {F K : Type 0} (E : Extension F K) where

@@ -3,7 +3,7 @@ use Rattle.std.specs.Prelude.{◌≤◌, ℕ, Bool, IsTrue, List, Option, None, 
 use Rattle.std.specs.List.{enumerate_from, filter, filter_map, flat_map, list_all, list_any}
 use Rattle.std.specs.Option.{option_or}
 use Rattle.field.specs.Ring.{Ring}
-use Rattle.lookup_model.specs.Extension.{Extension}
+use Rattle.field.specs.Extension.{Extension}
 use Rattle.lookup_model.specs.Message.{Key, Message}
 use Rattle.lookup_model.specs.Plain.{counted}
 use Rattle.lookup_model.specs.Sent.{Sent}

@@ -1,7 +1,7 @@
 -- What generation gives.
 use Rattle.std.specs.Prelude.{◌+◌, List, [], ◌∷◌, Option, None, Some, length}
 use Rattle.matrix.specs.Matrix.{Matrix}
-use Rattle.lookup_model.specs.Extension.{Extension}
+use Rattle.field.specs.Extension.{Extension}
 use Rattle.lookup_model.specs.Message.{Key}
 use Rattle.lookup_model.specs.Plain.{plain_cells, plain_terminal}
 use Rattle.lookup_model.specs.Sent.{Sent}

@@ -2,7 +2,7 @@
 use Rattle.std.specs.Prelude.{◌≡◌, ◌⊎◌, List, [], Option, Some, Result, MatchResult, slice_get}
 use Rattle.matrix.specs.Matrix.{Matrix}
 use Rattle.lookup_model.specs.Denominators.{column_denominator}
-use Rattle.lookup_model.specs.Extension.{Extension}
+use Rattle.field.specs.Extension.{Extension}
 use Rattle.lookup_model.specs.Fault.{trace_faults}
 use Rattle.lookup_model.specs.Generated.{plain_matrix, plain_terminal_of}
 use Rattle.lookup_model.specs.Trace.{sent_rows}

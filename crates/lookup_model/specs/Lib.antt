@@ -2,7 +2,6 @@ pub mod Challenges
 pub mod Collisions
 pub mod Constraints
 pub mod Denominators
-pub mod Extension
 pub mod Fault
 pub mod FlagFault
 pub mod Generated

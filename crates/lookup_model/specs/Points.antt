@@ -3,7 +3,7 @@ use Rattle.std.specs.Prelude.{◌≡◌, ◌+◌, ◌<◌, ℕ}
 use Rattle.field.specs.Polynomial.{combined}
 use Rattle.field.specs.Ring.{Ring, of_nat, power, sub_in}
 use Rattle.lookup_model.specs.Challenges.{ChallengeTable, denominator_in, lifted}
-use Rattle.lookup_model.specs.Extension.{Extension}
+use Rattle.field.specs.Extension.{Extension}
 use Rattle.lookup_model.specs.Message.{Key}
 
 -- the point of a key: its combined tuple minus (id + 1) * beta^width

@@ -6,7 +6,7 @@ use Rattle.std.specs.Option.{is_some}
 use Rattle.matrix.specs.Matrix.{IsShaped, Matrix, height}
 use Rattle.expressions.specs.Window.{ExtWindow, ext_window_at}
 use Rattle.lookup_model.specs.Constraints.{lookup_constraints}
-use Rattle.lookup_model.specs.Extension.{Extension}
+use Rattle.field.specs.Extension.{Extension}
 use Rattle.lookup_model.specs.declared.types.Lookup.{Lookup}
 use Rattle.lookup_model.specs.declared.types.LookupTerminal.{LookupTerminal}
 

@@ -20,7 +20,7 @@ use Rattle.batch_model.specs.Messages.{id_of, sent_rows_of}
 use Rattle.batch_model.specs.Witnesses.{plain_result, plain_witness}
 use Rattle.batch_model.specs.declared.fault.BatchFault.{BatchFault}
 use Rattle.lookup_model.specs.Challenges.{ChallengeTable, table_denominator}
-use Rattle.lookup_model.specs.Extension.{Extension}
+use Rattle.field.specs.Extension.{Extension}
 use Rattle.lookup_model.specs.Generated.{plain_matrix, plain_terminal_of}
 use Rattle.lookup_model.specs.Fault.{trace_faults}
 use Rattle.lookup_model.specs.Records.{DoFit}

@@ -9,7 +9,7 @@ use Rattle.field.specs.Ring.{Ring, IsCommutativeRing}
 use Rattle.matrix.specs.Matrix.{Matrix, height, row}
 use Rattle.expressions.specs.Layout.{layout_of_traces, layout_of_widths}
 use Rattle.expressions.specs.Window.{window_at}
-use Rattle.lookup_model.specs.Extension.{Extension}
+use Rattle.field.specs.Extension.{Extension}
 use Rattle.lookup_model.specs.Challenges.{table_denominator}
 use Rattle.lookup_model.specs.Fault.{IsLawfulSelection, are_boolean}
 use Rattle.lookup_model.specs.Net.{first_seen}

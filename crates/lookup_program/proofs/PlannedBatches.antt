@@ -14,7 +14,7 @@ use Rattle.batch_model.specs.declared.fault.BatchFault.{BatchFault}
 use Rattle.batch_model.specs.declared.witness.Witness.{Witness}
 use Rattle.lookup_model.proofs.HornerRule.{map-map}
 use Rattle.lookup_model.specs.Challenges.{ChallengeTable}
-use Rattle.lookup_model.specs.Extension.{Extension}
+use Rattle.field.specs.Extension.{Extension}
 use Rattle.lookup.specs.Guards.{weighted_height_sum}
 use Rattle.lookup.specs.Lookups.{lookups_of}
 use Rattle.lookup.specs.declared.lookups.Lookups.{Lookups}

@@ -1,7 +1,7 @@
 -- The fields that a run works over.
 use Rattle.std.specs.Prelude.{ℕ, Bool, List}
 use Rattle.field.specs.Ring.{Ring}
-use Rattle.lookup_model.specs.Extension.{Extension, extension}
+use Rattle.field.specs.Extension.{Extension, extension}
 use Rattle.lookup_program.specs.Words.{number_bound}
 
 -- The fields of a run: the field of the rows and the field of the challenges, their characteristic,

@@ -9,7 +9,7 @@ use Rattle.batch.specs.declared.error.BatchError.TheVariants.{Air as OfAir, Look
 use Rattle.batch_model.specs.Witnesses.{AirResult}
 use Rattle.lookup.specs.Guards.{IsHeightRefusal}
 use Rattle.lookup_model.specs.Challenges.{ChallengeTable, prefix_of_bus, table_denominator}
-use Rattle.lookup_model.specs.Extension.{Extension}
+use Rattle.field.specs.Extension.{Extension}
 use Rattle.lookup_model.specs.Fault.{trace_faults}
 use Rattle.lookup_model.specs.Plain.{plain_cells, plain_terminal}
 use Rattle.lookup_model.specs.Sent.{Sent}

@@ -3,7 +3,6 @@ ghost use Rattle.std.specs.Prelude.{◌≡◌, ◌++◌, ◌<◌, ◌⊎◌, Mat
 ghost use Rattle.std.specs.List.{AllZip, flat_map};
 ghost use Rattle.matrix.specs.Matrix.{height};
 ghost use Rattle.batch_model.specs.Witnesses.{results_of};
-ghost use Rattle.lookup_model.specs.Extension.{extension};
 ghost use Rattle.lookup_program.specs.Fields.{run_fields};
 ghost use Rattle.lookup_program.specs.Machines.{airs_of, columns_of};
 ghost use Rattle.lookup_program.specs.Program.{AreFaultless, IsFirstFault, IsHeavy, IsReport, IsReportRefusal, height_sum, machine_witness};
@@ -18,7 +17,7 @@ use crate::rows::read_rows;
 use crate::traces::{AirParts, AirTrace, air_parts, air_traces, plan_traces};
 use batch::BatchPlan;
 use checker::Witness;
-use field::{ExtensionField, Field};
+use field::{ExtensionField, Field, Over};
 use lookup::{LogUpGadget, LookupProtocol, LookupTerminal};
 use matrix::RowMajorMatrix;
 use std::alloc::{AllocError, Global};
@@ -82,7 +81,7 @@ fn prove_machine<F: Field, EF: ExtensionField<F>>(
     requires width { input.now.width ≡ columns_of machine }
     requires rows { 0 < height input.now }
     requires traces { AllZip (IsTraceOf F.ring F.eq input.now) (airs_of machine) traces.items }
-    ensures { let E = extension F.ring F.eq EF.ring EF.eq EF.embed EF.inverse in
+    ensures { let E = ⟦<EF as Over<F>>⟧.fields in
         let alpha = challenges.0 in let beta = challenges.1 in MatchResult result
         (λ w. (results_of w ≡ machine_witness E machine alpha beta input.now)
         × (length w.aux.items ≡ length w.terminals.items)

@@ -6,7 +6,7 @@ use Rattle.std.specs.declared.alloc.Global.{Global}
 use Rattle.std.specs.declared.vec.Vec.{Vec}
 use Rattle.matrix.specs.Matrix.{Matrix}
 use Rattle.lookup_model.specs.Challenges.{ChallengeTable}
-use Rattle.lookup_model.specs.Extension.{Extension}
+use Rattle.field.specs.Extension.{Extension}
 use Rattle.lookup_model.specs.Net.{IsBalanced}
 use Rattle.lookup.specs.declared.lookups.Lookups.{Lookups}
 use Rattle.batch_model.specs.Counts.{IsAccepting}

@@ -6,7 +6,7 @@ use Rattle.std.specs.declared.vec.Vec.{Vec}
 use Rattle.matrix.specs.Matrix.{Matrix}
 use Rattle.expressions.specs.Layout.{layout_of_widths}
 use Rattle.lookup_model.specs.Challenges.{ChallengeTable}
-use Rattle.lookup_model.specs.Extension.{Extension}
+use Rattle.field.specs.Extension.{Extension}
 use Rattle.lookup_model.specs.Net.{IsBalanced}
 use Rattle.lookup_model.specs.Records.{DoFit}
 use Rattle.lookup_model.specs.declared.error.LookupError.{LookupError}

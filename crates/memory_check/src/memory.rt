@@ -1,12 +1,11 @@
 //! The memory check: from its AIRs to a plan, and from traces to an accepted witness.
 ghost use Rattle.std.specs.Prelude.{◌≡◌, [], ◌∷◌, None, IfErr, IfOk, OnOk};
 ghost use Rattle.batch.specs.Traces.{shown_of};
-ghost use Rattle.lookup_model.specs.Extension.{extension};
 ghost use Rattle.memory_check.specs.Memory.{DoLookupsFit, IsAcceptedMemory, IsMemoryRefusal, mains_of};
 
 use crate::airs::{AccessesAir, BoundaryAir, GapsAir};
 use batch::{BatchError, BatchPlan, BatchTrace};
-use field::{ExtensionField, Field};
+use field::{ExtensionField, Field, Over};
 use lookup::Lookups;
 use matrix::RowMajorMatrix;
 use std::alloc::Global;
@@ -69,10 +68,10 @@ pub fn check_memory<F: Field, EF: ExtensionField<F>>(
     alpha: EF,
     beta: EF,
 ) -> Result<(), BatchError>
-    ensures accepted { let E = extension F.ring F.eq EF.ring EF.eq EF.embed EF.inverse in
+    ensures accepted { let E = ⟦<EF as Over<F>>⟧.fields in
         OnOk result (IsAcceptedMemory E alpha beta plan.now.airs.items plan.now.heights.items
         plan.now.ids.items plan.now.max_message_width plan.now.num_ids (mains_of traces.now)) }
-    ensures refused { let E = extension F.ring F.eq EF.ring EF.eq EF.embed EF.inverse in
+    ensures refused { let E = ⟦<EF as Over<F>>⟧.fields in
         IfErr result (IsMemoryRefusal E alpha beta plan.now.airs.items plan.now.heights.items
         plan.now.ids.items plan.now.max_message_width plan.now.num_ids (mains_of traces.now)) }
 {

@@ -2,7 +2,7 @@
 use Rattle.std.proofs.Common.{◌↔◌, List, subst}
 use Rattle.std.specs.List.{AllByRecursion}
 use Rattle.lookup_model.specs.Challenges.{ChallengeTable}
-use Rattle.lookup_model.specs.Extension.{Extension, IsLawful}
+use Rattle.field.specs.Extension.{Extension, IsLawful}
 use Rattle.batch_model.specs.Equations.{CanSumTo, batch_equations}
 use Rattle.batch_model.specs.Existence.{HasAccepted}
 use Rattle.batch_model.specs.Instances.{Instance, IsFitting}

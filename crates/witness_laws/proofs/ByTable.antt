@@ -7,7 +7,7 @@ use Rattle.matrix.specs.Matrix.{height}
 use Rattle.expressions.specs.Window.{Window, window_at}
 use Rattle.expressions.specs.declared.base_expression.SymbolicExpression.{SymbolicExpression}
 use Rattle.lookup_model.specs.Denominators.{column_denominator, tuple_denominator}
-use Rattle.lookup_model.specs.Extension.{Extension, IsLawful}
+use Rattle.field.specs.Extension.{Extension, IsLawful}
 use Rattle.lookup_model.specs.Message.{Key, Message}
 use Rattle.lookup_model.specs.Sent.{branch_at, chosen, flags_at, sent, sent_at}
 use Rattle.lookup_laws.proofs.SentRows.{column_is}

@@ -6,7 +6,7 @@ use Rattle.field.specs.RingFacts.{domain_cancel, product_nonzero, same_from_diff
 use Rattle.field.specs.RingSolver.{var, con, ◌:+◌, ◌:-◌, ring_law}
 use Rattle.field.specs.Sums.{sum_in}
 use Rattle.lookup_model.specs.Constraints.{additive_denominator, exclusive_denominator, fraction_denominator}
-use Rattle.lookup_model.specs.Extension.{Extension, IsLawful}
+use Rattle.field.specs.Extension.{Extension, IsLawful}
 use Rattle.lookup_model.specs.Fault.{are_boolean, fault_of, vanishes}
 use Rattle.lookup_model.specs.Message.{Key, Message}
 use Rattle.lookup_model.specs.Plain.{counted}

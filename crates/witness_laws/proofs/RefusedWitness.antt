@@ -2,7 +2,7 @@
 use Rattle.std.proofs.Common.{◌≡◌, ℕ, zero, suc, inl, inr, Some, List, [], ◌∷◌, Result, Ok, Err, subst₂}
 use Rattle.std.specs.List.{AllZip, slice_get}
 use Rattle.lookup_model.specs.Challenges.{ChallengeTable}
-use Rattle.lookup_model.specs.Extension.{Extension}
+use Rattle.field.specs.Extension.{Extension}
 use Rattle.lookup_model.specs.declared.error.LookupError.{LookupError}
 use Rattle.batch_model.specs.Answers.{ChecksWitness, RefusesUnaccepted}
 use Rattle.batch_model.specs.Instances.{Instance}

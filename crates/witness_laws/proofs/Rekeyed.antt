@@ -7,7 +7,7 @@ use Rattle.std.specs.Prelude.{if◌then◌else◌}
 use Rattle.std.specs.Option.{option_or}
 use Rattle.std.specs.List.{AllByRecursion, AllZip, cons_option, enumerate_from, filter_map, flat_map, range_with_len}
 use Rattle.field.specs.Sums.{sum_in}
-use Rattle.lookup_model.specs.Extension.{Extension, IsLawful}
+use Rattle.field.specs.Extension.{Extension, IsLawful}
 use Rattle.lookup_model.specs.Fault.{IsLawfulSelection, dividing, fault_of, flag_fault_of, row_faults, trace_faults, vanishes}
 use Rattle.lookup_model.specs.Generated.{plain_matrix, plain_terminal_of}
 use Rattle.lookup_model.specs.Message.{Key, Message}

@@ -3,7 +3,7 @@ use Rattle.std.proofs.Common.{◌≡◌, ◌⊎◌, inl, inr, Option, Some, List
 use Rattle.std.specs.List.{slice_get}
 use Rattle.matrix.specs.Matrix.{Matrix}
 use Rattle.lookup_model.specs.Denominators.{column_denominator}
-use Rattle.lookup_model.specs.Extension.{Extension, IsLawful}
+use Rattle.field.specs.Extension.{Extension, IsLawful}
 use Rattle.lookup_model.specs.Fault.{trace_faults}
 use Rattle.lookup_model.specs.Generated.{plain_matrix, plain_terminal_of}
 use Rattle.lookup_model.specs.Message.{Key}

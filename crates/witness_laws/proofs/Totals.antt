@@ -6,7 +6,7 @@ use Rattle.field.specs.Sums.{sum_in}
 use Rattle.matrix.specs.Matrix.{height}
 use Rattle.expressions.specs.Window.{window_at}
 use Rattle.lookup_model.specs.Generated.{plain_terminal_of}
-use Rattle.lookup_model.specs.Extension.{Extension, IsLawful}
+use Rattle.field.specs.Extension.{Extension, IsLawful}
 use Rattle.lookup_model.specs.Message.{Key, Message}
 use Rattle.lookup_model.specs.Net.{IsBalanced, keys, net}
 use Rattle.lookup_model.specs.Plain.{net_sum, quotient, trace_messages}

@@ -1,6 +1,6 @@
 use Rattle.std.proofs.Common.{◌<◌, ◌^◌, ℕ, inl, inr, subst}
 use Rattle.std.proofs.lemmas.Result.{err_from_is_err_and}
-use Rattle.lookup_model.specs.Extension.{extension}
+use Rattle.field.specs.laws.LawfulExtension.{of_laws}
 use Rattle.batch_model.specs.Instances.{instances_of}
 use Rattle.batch.proofs.GridLaws.{bound_holds, bound_overflows, counts_refused, stays_within}
 use Rattle.batch.specs.Grids.{HaveNoRepeat}
@@ -28,14 +28,14 @@ soundness_count-requires-clause-ids g c = (c.args.num_ids, c.requires.lawful)
 
 pub returns-in_err-counts-clause-answer : goal.returns-in_err-counts-clause-answer
 returns-in_err-counts-clause-answer g c =
-    let E = extension g.F.PrimeCharacteristicRing.ring g.F.PartialEq.eq g.EF.PrimeCharacteristicRing.ring g.EF.PartialEq.eq g.EF.ExtensionDomain.embed g.EF.Field.inverse in
+    let E = of_laws g.met.EF.ExtensionField.lawful_fields in
     let distinct : HaveNoRepeat c.args.alphas.now c.args.betas.now = (c.in_ok-check_distinct.ensures, c.in_ok-check_distinct-2.ensures) in
     let p = err_from_is_err_and c.from_residual-in_err-counts.result c.from_residual-in_err-counts.ensures.1 in
     rw (p.1, p.2) (counts_refused E (instances_of c.args.batch.now) c.args.max_message_width c.args.alphas.now c.args.betas.now c.in_err-counts.field-0.0 distinct c.in_err-counts.ensures.answer)
 
 pub returns-in_err-bound-clause-answer : goal.returns-in_err-bound-clause-answer
 returns-in_err-bound-clause-answer g c =
-    let E = extension g.F.PrimeCharacteristicRing.ring g.F.PartialEq.eq g.EF.PrimeCharacteristicRing.ring g.EF.PartialEq.eq g.EF.ExtensionDomain.embed g.EF.Field.inverse in
+    let E = of_laws g.met.EF.ExtensionField.lawful_fields in
     let distinct : HaveNoRepeat c.args.alphas.now c.args.betas.now = (c.in_ok-check_distinct.ensures, c.in_ok-check_distinct-2.ensures) in
     let answer = c.in_ok-counts.ensures.answer in
     let p = err_from_is_err_and c.from_residual-in_err-bound.result c.from_residual-in_err-bound.ensures.1 in
@@ -49,7 +49,7 @@ returns-in_err-accepted-clause-answer g c =
 
 pub returns-clause-answer : goal.returns-clause-answer
 returns-clause-answer g c =
-    let E = extension g.F.PrimeCharacteristicRing.ring g.F.PartialEq.eq g.EF.PrimeCharacteristicRing.ring g.EF.PartialEq.eq g.EF.ExtensionDomain.embed g.EF.Field.inverse in
+    let E = of_laws g.met.EF.ExtensionField.lawful_fields in
     let answer = c.in_ok-counts.ensures.answer in (
       (c.in_ok-check_distinct.ensures, c.in_ok-check_distinct-2.ensures),
       answer.0,
@@ -62,7 +62,7 @@ returns-clause-answer g c =
 
 pub returns-clause-within : goal.returns-clause-within
 returns-clause-within g c =
-    let E = extension g.F.PrimeCharacteristicRing.ring g.F.PartialEq.eq g.EF.PrimeCharacteristicRing.ring g.EF.PartialEq.eq g.EF.ExtensionDomain.embed g.EF.Field.inverse in
+    let E = of_laws g.met.EF.ExtensionField.lawful_fields in
     let instances = instances_of c.args.batch.now in
     let W = c.args.max_message_width in
     let bound = bound_holds E instances W c.args.alphas.now c.args.betas.now c.in_ok-counts.counts c.in_ok-bound.bound c.in_ok-counts.ensures.answer.1 c.in_ok-bound.ensures.answer in

@@ -1,7 +1,7 @@
 use Rattle.std.proofs.Common.{◌≡◌, ◌+◌, ◌≤◌, ◌*◌, ◌^◌, ◌++◌, ◌∷◌, [], List, map, take, sym, ap, subst, ◌∙◌, arith}
 use Rattle.std.proofs.lemmas.Grind.{flat_map-append}
 use Rattle.std.proofs.lemmas.List.{append-nil, take_all, take_more}
-use Rattle.lookup_model.specs.Extension.{extension}
+use Rattle.field.specs.laws.LawfulExtension.{of_laws}
 use Rattle.batch_model.specs.Instances.{instances_of}
 use Rattle.batch_model.specs.Grid.{AcceptsPair, IsNumberOf, grid}
 use Rattle.counting_laws.proofs.Numbers.{mapped_number, number_of_both}
@@ -12,7 +12,7 @@ overflow_add-accepted g c = omega (arith, c.loop-place.invariant.0, c.loop-place
 
 pub loop-place-preserved : goal.loop-place-preserved
 loop-place-preserved g c =
-    let E = extension g.F.PrimeCharacteristicRing.ring g.F.PartialEq.eq g.EF.PrimeCharacteristicRing.ring g.EF.PartialEq.eq g.EF.ExtensionDomain.embed g.EF.Field.inverse in
+    let E = of_laws g.met.EF.ExtensionField.lawful_fields in
     let P = AcceptsPair E (instances_of c.args.instances.now) c.args.max_message_width in
     let alphas = c.args.alphas.now in
     let betas = c.args.betas.now in
@@ -30,6 +30,6 @@ loop-place-preserved g c =
 
 pub returns : goal.returns
 returns g c =
-    let E = extension g.F.PrimeCharacteristicRing.ring g.F.PartialEq.eq g.EF.PrimeCharacteristicRing.ring g.EF.PartialEq.eq g.EF.ExtensionDomain.embed g.EF.Field.inverse in
+    let E = of_laws g.met.EF.ExtensionField.lawful_fields in
     let P = AcceptsPair E (instances_of c.args.instances.now) c.args.max_message_width in
     subst (λ (bs : List _). IsNumberOf P (grid c.args.alphas.now bs) c.loop-place.accepted) (take_all c.loop-place.place c.args.betas.now (omega (arith, c.loop-place-test.false))) c.loop-place.invariant.1

@@ -1,10 +1,10 @@
 use Rattle.std.proofs.Common.{◌*◌, ◌^◌, ◌≤◌, take}
-use Rattle.lookup_model.specs.Extension.{extension}
+use Rattle.field.specs.laws.LawfulExtension.{of_laws}
 use Rattle.batch_model.specs.Instances.{instances_of}
 use Rattle.batch_model.specs.Grid.{AcceptsPair, IsNumberOf, grid}
 use Rattle.batch.proofs.pairs.accepted_pairs.Given as goal
 
 abbrev pub invariant-loop-place : goal.invariant-loop-place
 invariant-loop-place g l =
-    let E = extension g.F.PrimeCharacteristicRing.ring g.F.PartialEq.eq g.EF.PrimeCharacteristicRing.ring g.EF.PartialEq.eq g.EF.ExtensionDomain.embed g.EF.Field.inverse in
+    let E = of_laws g.met.EF.ExtensionField.lawful_fields in
     (l.accepted ≤ l.place * 2 ^ 64) × IsNumberOf (AcceptsPair E (instances_of l.instances) l.max_message_width) (grid l.alphas (take l.place l.betas)) l.accepted

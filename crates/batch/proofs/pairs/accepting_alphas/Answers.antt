@@ -1,6 +1,6 @@
 use Rattle.std.proofs.Common.{◌≡◌, ◌+◌, ◌≤◌, ◌++◌, ◌∷◌, [], List, length, take, sym, ap, subst, ◌∙◌, arith}
 use Rattle.std.proofs.lemmas.List.{length-take, take_more}
-use Rattle.lookup_model.specs.Extension.{extension}
+use Rattle.field.specs.laws.LawfulExtension.{of_laws}
 use Rattle.batch_model.specs.Counts.{IsAccepting}
 use Rattle.batch_model.specs.Instances.{instances_of}
 use Rattle.batch_model.specs.Grid.{IsNumberOf}
@@ -10,13 +10,13 @@ use Rattle.batch.proofs.pairs.accepting_alphas.Goals as goal
 
 pub overflow_add-accepting : goal.overflow_add-accepting
 overflow_add-accepting g c =
-    let E = extension g.F.PrimeCharacteristicRing.ring g.F.PartialEq.eq g.EF.PrimeCharacteristicRing.ring g.EF.PartialEq.eq g.EF.ExtensionDomain.embed g.EF.Field.inverse in
+    let E = of_laws g.met.EF.ExtensionField.lawful_fields in
     let within : c.loop-place.accepting ≤ length (take c.loop-place.place c.args.alphas.now) = number_within (IsAccepting E (instances_of c.args.instances.now) c.args.max_message_width c.args.beta) (take c.loop-place.place c.args.alphas.now) c.loop-place.accepting c.loop-place.invariant in
     omega (arith, within, length-take c.loop-place.place c.args.alphas.now, c.loop-place-test.true)
 
 pub loop-place-preserved : goal.loop-place-preserved
 loop-place-preserved g c =
-    let E = extension g.F.PrimeCharacteristicRing.ring g.F.PartialEq.eq g.EF.PrimeCharacteristicRing.ring g.EF.PartialEq.eq g.EF.ExtensionDomain.embed g.EF.Field.inverse in
+    let E = of_laws g.met.EF.ExtensionField.lawful_fields in
     let P = IsAccepting E (instances_of c.args.instances.now) c.args.max_message_width c.args.beta in
     let alphas = c.args.alphas.now in
     let place = c.loop-place.place in

@@ -3,7 +3,7 @@ use Rattle.std.proofs.lemmas.List.FromFn.{length-map-range_with_len}
 use Rattle.std.proofs.lemmas.Result.{MatchResult-weaker}
 use Rattle.std.specs.Box.{boxed_slice_items}
 use Rattle.lookup_model.specs.Challenges.{prefix_of_bus}
-use Rattle.lookup_model.specs.Extension.{extension}
+use Rattle.field.specs.laws.LawfulExtension.{of_laws}
 use Rattle.checker.proofs.TablesAlike.{accepted_made}
 use Rattle.batch.proofs.pairs.accepts_pair.Goals as goal
 
@@ -15,7 +15,7 @@ some_witness-requires-clause-ids g c =
 
 pub returns : goal.returns
 returns g c =
-    let E = extension g.F.PrimeCharacteristicRing.ring g.F.PartialEq.eq g.EF.PrimeCharacteristicRing.ring g.EF.PartialEq.eq g.EF.ExtensionDomain.embed g.EF.Field.inverse in
+    let E = of_laws g.met.EF.ExtensionField.lawful_fields in
     let made = accepted_made E c.args.max_message_width c.args.num_ids c.args.alpha c.args.beta c.in_ok-challenges.challenges c.args.instances.now c.in_ok-challenges.ensures.beta c.in_ok-challenges.ensures.prefixes c.requires.ids in
     MatchResult-weaker c.some_witness.result c.some_witness.ensures
     (λ found says. ((λ held. made.0 (says.0 held)), (λ has. says.1 (made.1 has))))

@@ -6,14 +6,14 @@ use Rattle.air.specs.Row.{input_window}
 use Rattle.field.specs.Sums.{sum_in}
 use Rattle.lookup_model.proofs.ConstraintLaws.{accumulator_constraints-some}
 use Rattle.lookup_model.specs.Constraints.{accumulator_at, fractions_at, next_accumulator_at, terminal_at}
-use Rattle.lookup_model.specs.Extension.{extension}
+use Rattle.field.specs.laws.LawfulExtension.{of_laws}
 use Rattle.checker.proofs.AccumulatorLaws.{are_zero, comes_next}
 use Rattle.checker.specs.Rows.{IsZeroOn}
 use Rattle.checker.proofs.accumulator.accumulator_holds.Goals as goal
 
 pub returns-then-starts_at_zero : goal.returns-then-starts_at_zero
 returns-then-starts_at_zero g c =
-    let E = extension g.F.PrimeCharacteristicRing.ring g.F.PartialEq.eq g.EF.PrimeCharacteristicRing.ring g.EF.PartialEq.eq g.EF.ExtensionDomain.embed g.EF.Field.inverse in
+    let E = of_laws g.met.EF.ExtensionField.lawful_fields in
     let met = g.met.EF.PrimeCharacteristicRing in
     let laws = g.EF.PrimeCharacteristicRing.lawful in
     let inputs = c.args.inputs.now in

@@ -4,13 +4,13 @@ use Rattle.std.proofs.lemmas.Bool.{ne_eqb}
 use Rattle.std.proofs.lemmas.List.{get_or_read}
 use Rattle.air.specs.Row.{input_window}
 use Rattle.lookup_model.specs.Constraints.{next_accumulator_at, terminal_at}
-use Rattle.lookup_model.specs.Extension.{extension}
+use Rattle.field.specs.laws.LawfulExtension.{of_laws}
 use Rattle.matrix.specs.Matrix.{height, row}
 use Rattle.checker.proofs.accumulator.wanted_after.Goals as goal
 
 pub returns-else-row-num_rows : goal.returns-else-row-num_rows
 returns-else-row-num_rows g c =
-    let E = extension g.F.PrimeCharacteristicRing.ring g.F.PartialEq.eq g.EF.PrimeCharacteristicRing.ring g.EF.PartialEq.eq g.EF.ExtensionDomain.embed g.EF.Field.inverse in
+    let E = of_laws g.met.EF.ExtensionField.lawful_fields in
     let inputs = c.args.inputs.now in
     let w = input_window inputs c.args.row in
     let h = height inputs.main.now in

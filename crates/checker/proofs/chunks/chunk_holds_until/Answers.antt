@@ -10,7 +10,7 @@ use Rattle.lookup_columns.specs.LookupSteps.{AreLookupSteps}
 use Rattle.lookup_columns.specs.declared.branches.BranchColumns.{BranchColumns}
 use Rattle.lookup_laws.proofs.SentRows.{column_is, equal_lengths}
 use Rattle.lookup_model.proofs.RecordLaws.{All-at}
-use Rattle.lookup_model.specs.Extension.{extension}
+use Rattle.field.specs.laws.LawfulExtension.{of_laws}
 use Rattle.lookup_model.specs.Records.{IsWithin}
 use Rattle.matrix.specs.Matrix.{height}
 use Rattle.checker.proofs.HoldsLaws.{BothHold, both_fewer, both_from, both_more, holds_from}
@@ -84,7 +84,7 @@ fraction_holds_until-until-requires-clause-columns g c = λ row low high.
 
 pub loop-i-preserved : goal.loop-i-preserved
 loop-i-preserved g c =
-    let E = extension g.F.PrimeCharacteristicRing.ring g.F.PartialEq.eq g.EF.PrimeCharacteristicRing.ring g.EF.PartialEq.eq g.EF.ExtensionDomain.embed g.EF.Field.inverse in
+    let E = of_laws g.met.EF.ExtensionField.lawful_fields in
     let inputs = c.args.inputs.now in
     let lookups = c.args.lookups.now in
     let i = c.loop-i.i in
@@ -95,7 +95,7 @@ loop-i-preserved g c =
 
 pub returns : goal.returns
 returns g c =
-    let E = extension g.F.PrimeCharacteristicRing.ring g.F.PartialEq.eq g.EF.PrimeCharacteristicRing.ring g.EF.PartialEq.eq g.EF.ExtensionDomain.embed g.EF.Field.inverse in
+    let E = of_laws g.met.EF.ExtensionField.lawful_fields in
     let inputs = c.args.inputs.now in
     let lookups = c.args.lookups.now in
     let until = c.loop-i.until in

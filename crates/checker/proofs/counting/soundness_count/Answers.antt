@@ -1,8 +1,7 @@
 use Rattle.std.proofs.Common.{◌≡◌, ℕ, inr, length, subst, subst₂, sym, ap, ◌∙◌}
 use Rattle.std.proofs.lemmas.Result.{MatchResult-weaker}
 use Rattle.field.specs.Characteristic.{HasCharacteristic}
-use Rattle.lookup_model.specs.Extension.{extension, IsLawful}
-use Rattle.lookup_model.proofs.Lawful.{lawful_extension}
+use Rattle.field.specs.laws.LawfulExtension.{of_laws}
 use Rattle.lookup_model.specs.Net.{keys, unbalanced_keys}
 use Rattle.lookup_generation.specs.SentMessages.{messages_of}
 use Rattle.batch_model.specs.Counts.{FewAcceptingAlphas, FewBadBetas, FewSharingBetas, message_count, unbalanced_count}
@@ -17,7 +16,7 @@ use Rattle.checker.proofs.counting.soundness_count.Goals as goal
 
 pub returns-clause-answer : goal.returns-clause-answer
 returns-clause-answer g c =
-    let E = extension g.F.PrimeCharacteristicRing.ring g.F.PartialEq.eq g.EF.PrimeCharacteristicRing.ring g.EF.PartialEq.eq g.EF.ExtensionDomain.embed g.EF.Field.inverse in
+    let E = of_laws g.met.EF.ExtensionField.lawful_fields in
     let instances = instances_of c.args.instances.now in
     let is = ap messages_of c.as_slice.ensures.value ∙ c.in_ok-messages.ensures.0 in
     let lawful : AreFlagsLawful E.base E.base_eq instances = lawful_flags E.base E.base_eq instances c.in_ok-messages.ensures.1 in
@@ -31,8 +30,8 @@ returns-clause-answer g c =
 
 pub returns-clause-few_sharing_betas : goal.returns-clause-few_sharing_betas
 returns-clause-few_sharing_betas g c =
-    let E = extension g.F.PrimeCharacteristicRing.ring g.F.PartialEq.eq g.EF.PrimeCharacteristicRing.ring g.EF.PartialEq.eq g.EF.ExtensionDomain.embed g.EF.Field.inverse in
-    let laws : IsLawful E = lawful_extension g.F.PrimeCharacteristicRing.lawful g.met.F.PrimeCharacteristicRing.eq_is g.EF.PrimeCharacteristicRing.lawful g.met.EF.Domain.domain g.met.EF.PrimeCharacteristicRing.eq_is g.met.EF.ExtensionDomain.embeds g.met.EF.Field.inverse_is in
+    let laws = g.met.EF.ExtensionField.lawful_fields in
+    let E = of_laws laws in
     let char : HasCharacteristic E.ring g.F.PrimeCharacteristicRing.CHARACTERISTIC =
     subst (HasCharacteristic E.ring) (sym g.met.EF.ExtensionDomain.same_characteristic) g.met.EF.PrimeCharacteristicRing.characteristic in
     let instances = instances_of c.args.instances.now in
@@ -42,8 +41,8 @@ returns-clause-few_sharing_betas g c =
 
 pub returns-clause-few_accepting_alphas : goal.returns-clause-few_accepting_alphas
 returns-clause-few_accepting_alphas g c =
-    let E = extension g.F.PrimeCharacteristicRing.ring g.F.PartialEq.eq g.EF.PrimeCharacteristicRing.ring g.EF.PartialEq.eq g.EF.ExtensionDomain.embed g.EF.Field.inverse in
-    let laws : IsLawful E = lawful_extension g.F.PrimeCharacteristicRing.lawful g.met.F.PrimeCharacteristicRing.eq_is g.EF.PrimeCharacteristicRing.lawful g.met.EF.Domain.domain g.met.EF.PrimeCharacteristicRing.eq_is g.met.EF.ExtensionDomain.embeds g.met.EF.Field.inverse_is in
+    let laws = g.met.EF.ExtensionField.lawful_fields in
+    let E = of_laws laws in
     let char : HasCharacteristic E.ring g.F.PrimeCharacteristicRing.CHARACTERISTIC =
     subst (HasCharacteristic E.ring) (sym g.met.EF.ExtensionDomain.same_characteristic) g.met.EF.PrimeCharacteristicRing.characteristic in
     let instances = instances_of c.args.instances.now in
@@ -53,8 +52,8 @@ returns-clause-few_accepting_alphas g c =
 
 pub returns-clause-few_bad_betas : goal.returns-clause-few_bad_betas
 returns-clause-few_bad_betas g c =
-    let E = extension g.F.PrimeCharacteristicRing.ring g.F.PartialEq.eq g.EF.PrimeCharacteristicRing.ring g.EF.PartialEq.eq g.EF.ExtensionDomain.embed g.EF.Field.inverse in
-    let laws : IsLawful E = lawful_extension g.F.PrimeCharacteristicRing.lawful g.met.F.PrimeCharacteristicRing.eq_is g.EF.PrimeCharacteristicRing.lawful g.met.EF.Domain.domain g.met.EF.PrimeCharacteristicRing.eq_is g.met.EF.ExtensionDomain.embeds g.met.EF.Field.inverse_is in
+    let laws = g.met.EF.ExtensionField.lawful_fields in
+    let E = of_laws laws in
     let char : HasCharacteristic E.ring g.F.PrimeCharacteristicRing.CHARACTERISTIC =
     subst (HasCharacteristic E.ring) (sym g.met.EF.ExtensionDomain.same_characteristic) g.met.EF.PrimeCharacteristicRing.characteristic in
     let instances = instances_of c.args.instances.now in

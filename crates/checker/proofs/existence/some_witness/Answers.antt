@@ -1,8 +1,7 @@
 use Rattle.std.proofs.Common.{◌≡◌, List, take, ap, subst, sym, arith}
 use Rattle.std.proofs.lemmas.List.{length-map, take_all}
-use Rattle.lookup_model.proofs.Lawful.{lawful_extension}
 use Rattle.lookup_model.specs.Challenges.{table_of}
-use Rattle.lookup_model.specs.Extension.{IsLawful, extension}
+use Rattle.field.specs.laws.LawfulExtension.{of_laws}
 use Rattle.batch_model.specs.Equations.{Equation, batch_equations}
 use Rattle.batch_model.specs.Instances.{instance_of, instances_of}
 use Rattle.checker.specs.Sums.{AreSums}
@@ -12,7 +11,7 @@ use Rattle.checker.proofs.existence.some_witness.Goals as goal
 
 pub loop-air-preserved : goal.loop-air-preserved
 loop-air-preserved g c =
-    let E = extension g.F.PrimeCharacteristicRing.ring g.F.PartialEq.eq g.EF.PrimeCharacteristicRing.ring g.EF.PartialEq.eq g.EF.ExtensionDomain.embed g.EF.Field.inverse in
+    let E = of_laws g.met.EF.ExtensionField.lawful_fields in
     let table = table_of c.args.challenges.now in
     let bs = c.args.instances.now in
     subst (λ (es : List (Equation _)). AreSums E.ring es c.in_ok-sums.sums) (sym (batch_more E table bs c.loop-air.air c.index-instances-air.result c.loop-air-test.true c.index-instances-air.is))
@@ -20,16 +19,16 @@ loop-air-preserved g c =
 
 pub returns-then-is_nothing : goal.returns-then-is_nothing
 returns-then-is_nothing g c =
-    let E = extension g.F.PrimeCharacteristicRing.ring g.F.PartialEq.eq g.EF.PrimeCharacteristicRing.ring g.EF.PartialEq.eq g.EF.ExtensionDomain.embed g.EF.Field.inverse in
-    let laws : IsLawful E = lawful_extension g.F.PrimeCharacteristicRing.lawful g.met.F.PrimeCharacteristicRing.eq_is g.EF.PrimeCharacteristicRing.lawful g.met.EF.Domain.domain g.met.EF.PrimeCharacteristicRing.eq_is g.met.EF.ExtensionDomain.embeds g.met.EF.Field.inverse_is in
+    let laws = g.met.EF.ExtensionField.lawful_fields in
+    let E = of_laws laws in
     let bs = c.args.instances.now in
     let none = none_accepted laws (table_of c.args.challenges.now) (instances_of bs) (fitting_all bs c.requires.fit) c.loop-air.sums c.loop-air.air (c.is_nothing.ensures.0 c.if-is_nothing.true) c.loop-air.invariant in
     ((λ e. cc e), (λ has. absurd (none has)))
 
 pub returns : goal.returns
 returns g c =
-    let E = extension g.F.PrimeCharacteristicRing.ring g.F.PartialEq.eq g.EF.PrimeCharacteristicRing.ring g.EF.PartialEq.eq g.EF.ExtensionDomain.embed g.EF.Field.inverse in
-    let laws : IsLawful E = lawful_extension g.F.PrimeCharacteristicRing.lawful g.met.F.PrimeCharacteristicRing.eq_is g.EF.PrimeCharacteristicRing.lawful g.met.EF.Domain.domain g.met.EF.PrimeCharacteristicRing.eq_is g.met.EF.ExtensionDomain.embeds g.met.EF.Field.inverse_is in
+    let laws = g.met.EF.ExtensionField.lawful_fields in
+    let E = of_laws laws in
     let table = table_of c.args.challenges.now in
     let bs = c.args.instances.now in
     let all : take c.loop-air.air (instances_of bs) ≡ instances_of bs = take_all c.loop-air.air (instances_of bs) (omega (arith, length-map bs instance_of, c.loop-air-test.false)) in

@@ -5,7 +5,7 @@ use Rattle.matrix.specs.Matrix.{height}
 use Rattle.expressions.specs.Layout.{layout_of_traces}
 use Rattle.expressions.specs.Window.{ExtWindow}
 use Rattle.lookup_model.specs.Challenges.{table_of}
-use Rattle.lookup_model.specs.Extension.{extension}
+use Rattle.field.specs.laws.LawfulExtension.{of_laws}
 use Rattle.lookup_model.specs.Records.{DoFit}
 use Rattle.batch_model.specs.Equations.{challenged_window, row_equations}
 use Rattle.batch_model.specs.Instances.{instance_of}
@@ -30,7 +30,7 @@ with_row-requires-clause-challenges g c =
 
 pub returns-then-is_nothing : goal.returns-then-is_nothing
 returns-then-is_nothing g c = λ equations are.
-    let E = extension g.F.PrimeCharacteristicRing.ring g.F.PartialEq.eq g.EF.PrimeCharacteristicRing.ring g.EF.PartialEq.eq g.EF.ExtensionDomain.embed g.EF.Field.inverse in
+    let E = of_laws g.met.EF.ExtensionField.lawful_fields in
     let i = instance_of c.args.instance.now in
     let f = λ (r : ℕ). row_equations E (challenged_window E (table_of c.args.challenges.now) i r) i.lookups in
     let r = c.loop-row.row in
@@ -41,7 +41,7 @@ returns-then-is_nothing g c = λ equations are.
 
 pub loop-row-preserved : goal.loop-row-preserved
 loop-row-preserved g c = λ equations are.
-    let E = extension g.F.PrimeCharacteristicRing.ring g.F.PartialEq.eq g.EF.PrimeCharacteristicRing.ring g.EF.PartialEq.eq g.EF.ExtensionDomain.embed g.EF.Field.inverse in
+    let E = of_laws g.met.EF.ExtensionField.lawful_fields in
     let i = instance_of c.args.instance.now in
     let table = table_of c.args.challenges.now in
     let f = λ (r : ℕ). row_equations E (challenged_window E table i r) i.lookups in
@@ -57,7 +57,7 @@ loop-row-preserved g c = λ equations are.
 
 pub returns : goal.returns
 returns g c = λ equations are.
-    let E = extension g.F.PrimeCharacteristicRing.ring g.F.PartialEq.eq g.EF.PrimeCharacteristicRing.ring g.EF.PartialEq.eq g.EF.ExtensionDomain.embed g.EF.Field.inverse in
+    let E = of_laws g.met.EF.ExtensionField.lawful_fields in
     let i = instance_of c.args.instance.now in
     let f = λ (r : ℕ). row_equations E (challenged_window E (table_of c.args.challenges.now) i r) i.lookups in
     subst (λ (n : ℕ). AreSums E.ring (equations ++ flat_map f (range_with_len 0 n)) c.loop-row.so_far)

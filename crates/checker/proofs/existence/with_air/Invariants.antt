@@ -1,7 +1,7 @@
 use Rattle.std.proofs.Common.{List, ◌++◌}
 use Rattle.std.specs.List.{flat_map, range_with_len}
 use Rattle.lookup_model.specs.Challenges.{table_of}
-use Rattle.lookup_model.specs.Extension.{extension}
+use Rattle.field.specs.laws.LawfulExtension.{of_laws}
 use Rattle.batch_model.specs.Equations.{Equation, challenged_window, row_equations}
 use Rattle.batch_model.specs.Instances.{instance_of}
 use Rattle.checker.specs.Sums.{AreSums}
@@ -9,7 +9,7 @@ use Rattle.checker.proofs.existence.with_air.Given as goal
 
 abbrev pub invariant-loop-row : goal.invariant-loop-row
 invariant-loop-row g l =
-    let E = extension g.F.PrimeCharacteristicRing.ring g.F.PartialEq.eq g.EF.PrimeCharacteristicRing.ring g.EF.PartialEq.eq g.EF.ExtensionDomain.embed g.EF.Field.inverse in
+    let E = of_laws g.met.EF.ExtensionField.lawful_fields in
     let i = instance_of l.instance in
     (equations : List (Equation _)) → AreSums E.ring equations l.fn.sums
     → AreSums E.ring (equations ++ flat_map (λ r. row_equations E (challenged_window E (table_of l.challenges) i r) i.lookups) (range_with_len 0 l.row)) l.so_far

@@ -2,7 +2,7 @@ use Rattle.std.proofs.Common.{List, ◌+◌, ◌++◌, ◌∷◌, [], drop, subs
 use Rattle.std.proofs.lemmas.List.{length-map, take-append-drop, take_all}
 use Rattle.lookup_model.proofs.Branches.{mapped_more}
 use Rattle.lookup_model.proofs.RecordLaws.{All-at}
-use Rattle.lookup_model.specs.Extension.{extension}
+use Rattle.field.specs.laws.LawfulExtension.{of_laws}
 use Rattle.lookup_model.specs.Records.{IsWithin}
 use Rattle.lookup_laws.proofs.SentRows.{column_is, equal_lengths}
 use Rattle.batch_model.specs.Equations.{Equation, equation_at, row_equations}
@@ -28,14 +28,14 @@ with_lookup-requires-clause-challenges g c =
 
 pub returns-then-is_nothing : goal.returns-then-is_nothing
 returns-then-is_nothing g c = λ equations are.
-    let E = extension g.F.PrimeCharacteristicRing.ring g.F.PartialEq.eq g.EF.PrimeCharacteristicRing.ring g.EF.PartialEq.eq g.EF.ExtensionDomain.embed g.EF.Field.inverse in
+    let E = of_laws g.met.EF.ExtensionField.lawful_fields in
     let es = row_equations E (ext_builder_window c.args.builder.now) c.args.lookups.now in
     let i = c.loop-lookup.lookup-index in
     sums_stay g.EF.PrimeCharacteristicRing.lawful equations (take i es) (drop i es) es c.loop-lookup.so_far (c.is_nothing.ensures.0 c.if-is_nothing.true) (sym (take-append-drop i es)) (c.loop-lookup.invariant equations are)
 
 pub loop-lookup-preserved : goal.loop-lookup-preserved
 loop-lookup-preserved g c = λ equations are.
-    let E = extension g.F.PrimeCharacteristicRing.ring g.F.PartialEq.eq g.EF.PrimeCharacteristicRing.ring g.EF.PartialEq.eq g.EF.ExtensionDomain.embed g.EF.Field.inverse in
+    let E = of_laws g.met.EF.ExtensionField.lawful_fields in
     let w = ext_builder_window c.args.builder.now in
     let lookups = c.args.lookups.now in
     let lookup = c.lookup-item.result in
@@ -45,7 +45,7 @@ loop-lookup-preserved g c = λ equations are.
 
 pub returns : goal.returns
 returns g c = λ equations are.
-    let E = extension g.F.PrimeCharacteristicRing.ring g.F.PartialEq.eq g.EF.PrimeCharacteristicRing.ring g.EF.PartialEq.eq g.EF.ExtensionDomain.embed g.EF.Field.inverse in
+    let E = of_laws g.met.EF.ExtensionField.lawful_fields in
     let w = ext_builder_window c.args.builder.now in
     let es = row_equations E w c.args.lookups.now in
     subst (λ (further : List (Equation _)). AreSums E.ring (equations ++ further) c.loop-lookup.so_far)

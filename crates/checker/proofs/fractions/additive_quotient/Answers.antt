@@ -9,7 +9,7 @@ use Rattle.lookup_columns.specs.ChunkColumns.{IsHeld}
 use Rattle.lookup_columns.specs.declared.branches.BranchColumns.{BranchColumns}
 use Rattle.lookup_model.proofs.TakenOut.{product_of-push, sum_of-push}
 use Rattle.lookup_model.specs.Constraints.{additive_denominator, additive_numerator}
-use Rattle.lookup_model.specs.Extension.{extension}
+use Rattle.field.specs.laws.LawfulExtension.{of_laws}
 use Rattle.lookup_model.specs.Message.{Message}
 use Rattle.checker.specs.Quotients.{IsQuotientOf, over_tuples}
 use Rattle.checker.proofs.fractions.additive_quotient.Goals as goal
@@ -50,7 +50,7 @@ loop-branch-init g c = λ denominator m messages all_held.
 
 pub loop-branch-preserved : goal.loop-branch-preserved
 loop-branch-preserved g c = λ denominator m messages all_held.
-    let E = extension g.F.PrimeCharacteristicRing.ring g.F.PartialEq.eq g.EF.PrimeCharacteristicRing.ring g.EF.PartialEq.eq g.EF.ExtensionDomain.embed g.EF.Field.inverse in
+    let E = of_laws g.met.EF.ExtensionField.lawful_fields in
     let S = E.ring in
     let laws = g.EF.PrimeCharacteristicRing.lawful in
     let place = c.args.place in
@@ -79,7 +79,7 @@ loop-branch-preserved g c = λ denominator m messages all_held.
 
 pub returns : goal.returns
 returns g c = λ denominator messages all_held.
-    let E = extension g.F.PrimeCharacteristicRing.ring g.F.PartialEq.eq g.EF.PrimeCharacteristicRing.ring g.EF.PartialEq.eq g.EF.ExtensionDomain.embed g.EF.Field.inverse in
+    let E = of_laws g.met.EF.ExtensionField.lawful_fields in
     let first = c.in-Some.first.now in
     let others = c.in-Some.others.now in
     let held = IsHeld (over_tuples denominator) c.args.place in

@@ -5,7 +5,7 @@ use Rattle.std.proofs.lemmas.Slice.Zip.{AllZip-long}
 use Rattle.field.specs.Ring.{sub_in}
 use Rattle.lookup_columns.proofs.ChunkColumnLaws.{read_is}
 use Rattle.lookup_columns.specs.ChunkColumns.{HasFlag, IsHeldIfSet}
-use Rattle.lookup_model.specs.Extension.{extension}
+use Rattle.field.specs.laws.LawfulExtension.{of_laws}
 use Rattle.checker.proofs.ReadLaws.{flag, flag_read, flag_within, held_there, message, place_within}
 use Rattle.checker.proofs.SelectionLaws.{HasSums, all_sums, no_sums, sums_more, sums_skipped}
 use Rattle.checker.specs.Quotients.{over_tuples}
@@ -38,13 +38,13 @@ index-requires-then-not-is_zero g c =
 
 pub loop-branch-init : goal.loop-branch-init
 loop-branch-init g c = λ denominator flags messages selected.
-    let E = extension g.F.PrimeCharacteristicRing.ring g.F.PartialEq.eq g.EF.PrimeCharacteristicRing.ring g.EF.PartialEq.eq g.EF.ExtensionDomain.embed g.EF.Field.inverse in
+    let E = of_laws g.met.EF.ExtensionField.lawful_fields in
     subst₂ (HasSums E denominator flags messages 0) (sym (c.ZERO-numerator.ensures ∙ g.met.F.PrimeCharacteristicRing.zero_is)) (sym (c.ONE-denominator.ensures ∙ g.met.EF.PrimeCharacteristicRing.one_is))
     (no_sums E denominator flags messages g.EF.PrimeCharacteristicRing.lawful g.met.EF.ExtensionDomain.embeds)
 
 pub loop-branch-preserved : goal.loop-branch-preserved
 loop-branch-preserved g c = λ denominator flags messages selected.
-    let E = extension g.F.PrimeCharacteristicRing.ring g.F.PartialEq.eq g.EF.PrimeCharacteristicRing.ring g.EF.PartialEq.eq g.EF.ExtensionDomain.embed g.EF.Field.inverse in
+    let E = of_laws g.met.EF.ExtensionField.lawful_fields in
     let R = E.base in
     let S = E.ring in
     let laws = g.EF.PrimeCharacteristicRing.lawful in
@@ -87,7 +87,7 @@ loop-branch-preserved g c = λ denominator flags messages selected.
 
 pub returns : goal.returns
 returns g c = λ denominator flags messages selected.
-    let E = extension g.F.PrimeCharacteristicRing.ring g.F.PartialEq.eq g.EF.PrimeCharacteristicRing.ring g.EF.PartialEq.eq g.EF.ExtensionDomain.embed g.EF.Field.inverse in
+    let E = of_laws g.met.EF.ExtensionField.lawful_fields in
     let place = c.args.place in
     let columns = c.args.columns.now in
     let long = AllZip-long (HasFlag place) columns flags selected.flags_are in

@@ -1,6 +1,6 @@
 use Rattle.std.proofs.Common.{List}
 use Rattle.lookup_columns.specs.ChunkColumns.{HoldSelected}
-use Rattle.lookup_model.specs.Extension.{extension}
+use Rattle.field.specs.laws.LawfulExtension.{of_laws}
 use Rattle.lookup_model.specs.Message.{Message}
 use Rattle.checker.proofs.SelectionLaws.{HasSums}
 use Rattle.checker.specs.Quotients.{over_tuples}
@@ -8,6 +8,6 @@ use Rattle.checker.proofs.fractions.exclusive_quotient.Given as goal
 
 abbrev pub invariant-loop-branch : goal.invariant-loop-branch
 invariant-loop-branch g l =
-    let E = extension g.F.PrimeCharacteristicRing.ring g.F.PartialEq.eq g.EF.PrimeCharacteristicRing.ring g.EF.PartialEq.eq g.EF.ExtensionDomain.embed g.EF.Field.inverse in
+    let E = of_laws g.met.EF.ExtensionField.lawful_fields in
     (denominator : List _ → _) (flags : List _) (messages : List (Message _)) → HoldSelected E.base (over_tuples denominator) l.place l.columns flags messages
     → HasSums E denominator flags messages l.branch-index l.numerator l.denominator

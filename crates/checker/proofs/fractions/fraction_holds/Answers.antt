@@ -8,7 +8,7 @@ use Rattle.air.specs.Row.{input_window}
 use Rattle.expressions.specs.declared.base_expression.SymbolicExpression.{SymbolicExpression}
 use Rattle.lookup_columns.specs.ChunkColumns.{key_denominator}
 use Rattle.lookup_model.specs.Constraints.{fraction_at, fraction_left}
-use Rattle.lookup_model.specs.Extension.{extension}
+use Rattle.field.specs.laws.LawfulExtension.{of_laws}
 use Rattle.lookup_model.specs.Sent.{branches_at, flags_at, values}
 use Rattle.checker.proofs.FractionLaws.{fraction_of_zero, fraction_zero, held_over, over_column, selected_over}
 use Rattle.checker.proofs.fractions.fraction_holds.Goals as goal
@@ -28,7 +28,7 @@ exclusive_quotient-requires g c =
 
 pub returns-in-None : goal.returns-in-None
 returns-in-None g c =
-    let E = extension g.F.PrimeCharacteristicRing.ring g.F.PartialEq.eq g.EF.PrimeCharacteristicRing.ring g.EF.PartialEq.eq g.EF.ExtensionDomain.embed g.EF.Field.inverse in
+    let E = of_laws g.met.EF.ExtensionField.lawful_fields in
     let laws = g.EF.PrimeCharacteristicRing.lawful in
     let lookup = c.args.lookup.now in
     let challenges = c.args.inputs.now.challenges.now in
@@ -48,7 +48,7 @@ returns-in-None g c =
 
 pub returns-in-Some : goal.returns-in-Some
 returns-in-Some g c =
-    let E = extension g.F.PrimeCharacteristicRing.ring g.F.PartialEq.eq g.EF.PrimeCharacteristicRing.ring g.EF.PartialEq.eq g.EF.ExtensionDomain.embed g.EF.Field.inverse in
+    let E = of_laws g.met.EF.ExtensionField.lawful_fields in
     let laws = g.EF.PrimeCharacteristicRing.lawful in
     let lookup = c.args.lookup.now in
     let challenges = c.args.inputs.now.challenges.now in

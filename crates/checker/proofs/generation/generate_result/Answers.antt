@@ -1,6 +1,5 @@
 use Rattle.std.proofs.Common.{List, length, ap, subst, ◌∙◌, arith}
-use Rattle.lookup_model.specs.Extension.{extension, IsLawful}
-use Rattle.lookup_model.proofs.Lawful.{lawful_extension}
+use Rattle.field.specs.laws.LawfulExtension.{of_laws}
 use Rattle.batch_model.specs.Instances.{instance_of}
 use Rattle.lookup_model.specs.Challenges.{table_of}
 use Rattle.witness_laws.proofs.TableResults.{ByColumns, by_table}
@@ -12,8 +11,8 @@ generate_permutation-requires-clause-challenges g c =
 
 pub returns : goal.returns
 returns g c =
-    let E = extension g.F.PrimeCharacteristicRing.ring g.F.PartialEq.eq g.EF.PrimeCharacteristicRing.ring g.EF.PartialEq.eq g.EF.ExtensionDomain.embed g.EF.Field.inverse in
-    let laws : IsLawful E = lawful_extension g.F.PrimeCharacteristicRing.lawful g.met.F.PrimeCharacteristicRing.eq_is g.EF.PrimeCharacteristicRing.lawful g.met.EF.Domain.domain g.met.EF.PrimeCharacteristicRing.eq_is g.met.EF.ExtensionDomain.embeds g.met.EF.Field.inverse_is in
+    let laws = g.met.EF.ExtensionField.lawful_fields in
+    let E = of_laws laws in
     let table = table_of c.args.challenges.now in
     let instance = instance_of c.args.instance.now in
     by_table laws table instance c.requires.fit c.generate_permutation.result

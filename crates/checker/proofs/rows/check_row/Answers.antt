@@ -5,7 +5,7 @@ use Rattle.expressions.specs.Window.{ExtWindow}
 use Rattle.air.specs.Row.{ext_row_window}
 use Rattle.expressions.specs.declared.error.AirError.TheVariants.{Memory, Assertion}
 use Rattle.lookup_model.specs.Constraints.{lookup_constraints}
-use Rattle.lookup_model.specs.Extension.{extension}
+use Rattle.field.specs.laws.LawfulExtension.{of_laws}
 use Rattle.matrix.specs.Matrix.{height}
 use Rattle.checker.proofs.CheckedInputs.{option_fits}
 use Rattle.checker.proofs.RowLaws.{checked}
@@ -13,7 +13,7 @@ use Rattle.checker.proofs.rows.check_row.Goals as goal
 
 pub returns : goal.returns
 returns g c =
-    let E = extension g.F.PrimeCharacteristicRing.ring g.F.PartialEq.eq g.EF.PrimeCharacteristicRing.ring g.EF.PartialEq.eq g.EF.ExtensionDomain.embed g.EF.Field.inverse in
+    let E = of_laws g.met.EF.ExtensionField.lawful_fields in
     let b = c.new-builder.result in
     let built = c.new-builder.ensures in
     let ks = lookup_constraints E c.args.lookups.now in

@@ -1,12 +1,12 @@
 use Rattle.std.proofs.Common.{◌≡◌, inl, inr, subst, arith}
 use Rattle.std.proofs.lemmas.Bool.{cases_lt}
-use Rattle.lookup_model.specs.Extension.{extension}
+use Rattle.field.specs.laws.LawfulExtension.{of_laws}
 use Rattle.checker.specs.Rows.{HoldsOn}
 use Rattle.checker.proofs.rows.first_failing_of_few.Goals as goal
 
 pub loop-row-preserved : goal.loop-row-preserved
 loop-row-preserved g c = λ s lt.
-    let E = extension g.F.PrimeCharacteristicRing.ring g.F.PartialEq.eq g.EF.PrimeCharacteristicRing.ring g.EF.PartialEq.eq g.EF.ExtensionDomain.embed g.EF.Field.inverse in
+    let E = of_laws g.met.EF.ExtensionField.lawful_fields in
     elim (cases_lt s c.loop-row.row) [
       | inl earlier ↦ c.loop-row.invariant s earlier
       | inr late ↦

@@ -1,9 +1,9 @@
 use Rattle.std.proofs.Common.{◌<◌, ℕ}
-use Rattle.lookup_model.specs.Extension.{extension}
+use Rattle.field.specs.laws.LawfulExtension.{of_laws}
 use Rattle.checker.specs.Rows.{HoldsOn}
 use Rattle.checker.proofs.rows.first_failing_of_few.Given as goal
 
 abbrev pub invariant-loop-row : goal.invariant-loop-row
 invariant-loop-row g l =
-    let E = extension g.F.PrimeCharacteristicRing.ring g.F.PartialEq.eq g.EF.PrimeCharacteristicRing.ring g.EF.PartialEq.eq g.EF.ExtensionDomain.embed g.EF.Field.inverse in
+    let E = of_laws g.met.EF.ExtensionField.lawful_fields in
     (s : ℕ) → s < l.row → HoldsOn E l.inputs l.lookups s

@@ -1,6 +1,6 @@
 use Rattle.std.proofs.Common.{◌≢◌, length, sym, ◌∙◌, arith}
 use Rattle.std.proofs.lemmas.Bool.{eqb-false, eqb-true}
-use Rattle.lookup_model.specs.Extension.{extension}
+use Rattle.field.specs.laws.LawfulExtension.{of_laws}
 use Rattle.checker.proofs.CheckedInputs.{are_checked, none_holds}
 use Rattle.checker.proofs.rows.first_failing_row.Goals as goal
 
@@ -16,5 +16,5 @@ first_failing_in_chunks-requires g c =
 
 pub returns-then-is_empty : goal.returns-then-is_empty
 returns-then-is_empty g c = λ r lt.
-    let E = extension g.F.PrimeCharacteristicRing.ring g.F.PartialEq.eq g.EF.PrimeCharacteristicRing.ring g.EF.PartialEq.eq g.EF.ExtensionDomain.embed g.EF.Field.inverse in
+    let E = of_laws g.met.EF.ExtensionField.lawful_fields in
     none_holds c.args.inputs.now c.args.lookups.now E (eqb-true (length c.args.lookups.now) 0 (sym c.is_empty.ensures ∙ c.if-is_empty.true)) r

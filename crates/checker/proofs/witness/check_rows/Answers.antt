@@ -2,7 +2,7 @@ use Rattle.std.proofs.Common.{ap, inr, length, refl, ◌∙◌, arith}
 use Rattle.std.specs.Option.{option_copied}
 use Rattle.expressions.specs.Layout.{layout_of_traces}
 use Rattle.lookup_model.specs.Challenges.{table_of}
-use Rattle.lookup_model.specs.Extension.{extension}
+use Rattle.field.specs.laws.LawfulExtension.{of_laws}
 use Rattle.batch_model.specs.Instances.{instance_of}
 use Rattle.checker.proofs.CheckLaws.{fails_from, found_none, found_some, holds_from}
 use Rattle.checker.proofs.Layouts.{DoFit-with_auxiliary}
@@ -19,11 +19,11 @@ first_failing_row-requires-clause-challenges g c =
 
 pub returns-in-Some : goal.returns-in-Some
 returns-in-Some g c =
-    let E = extension g.F.PrimeCharacteristicRing.ring g.F.PartialEq.eq g.EF.PrimeCharacteristicRing.ring g.EF.PartialEq.eq g.EF.ExtensionDomain.embed g.EF.Field.inverse in
+    let E = of_laws g.met.EF.ExtensionField.lawful_fields in
     let failing = found_some _ _ c.in_ok-row.field-0 c.in-Some.row c.in-Some.is c.in_ok-row.ensures in
     inr (c.in-Some.row, fails_from E (table_of c.args.challenges.now) (instance_of c.args.instance.now) c.args.aux.now c.args.terminal.now c.as_slice.result.now c.as_slice-2.result.now (c.as_slice.ensures.value ∙ c.in_ok-columns.ensures.challenges) (c.as_slice-2.ensures.value ∙ c.in_ok-values.ensures) c.in-Some.row failing.within failing.fails failing.before, refl)
 
 pub returns : goal.returns
 returns g c = λ r lt.
-    let E = extension g.F.PrimeCharacteristicRing.ring g.F.PartialEq.eq g.EF.PrimeCharacteristicRing.ring g.EF.PartialEq.eq g.EF.ExtensionDomain.embed g.EF.Field.inverse in
+    let E = of_laws g.met.EF.ExtensionField.lawful_fields in
     holds_from E (table_of c.args.challenges.now) (instance_of c.args.instance.now) c.args.aux.now c.args.terminal.now c.as_slice.result.now c.as_slice-2.result.now (c.as_slice.ensures.value ∙ c.in_ok-columns.ensures.challenges) (c.as_slice-2.ensures.value ∙ c.in_ok-values.ensures) r (found_none _ _ c.in_ok-row.field-0 c.in-None.is c.in_ok-row.ensures r lt)

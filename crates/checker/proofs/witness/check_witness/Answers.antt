@@ -6,8 +6,7 @@ use Rattle.std.proofs.lemmas.Slice.Zip.{length-zip}
 use Rattle.std.specs.List.{slice_get, zip}
 use Rattle.lookup_model.proofs.Branches.{mapped_at}
 use Rattle.lookup_model.specs.Challenges.{table_of}
-use Rattle.lookup_model.specs.Extension.{extension, IsLawful}
-use Rattle.lookup_model.proofs.Lawful.{lawful_extension}
+use Rattle.field.specs.laws.LawfulExtension.{of_laws}
 use Rattle.batch_model.specs.Instances.{instance_of, instances_of}
 use Rattle.batch_model.specs.Witnesses.{AreSatisfied, IsSatisfiedAt}
 use Rattle.witness_laws.proofs.RefusedWitness.{refuses_from}
@@ -38,12 +37,12 @@ returns-in_err-check_result-clause-answer g c =
 
 pub returns-in_err-check_result-clause-refusal : goal.returns-in_err-check_result-clause-refusal
 returns-in_err-check_result-clause-refusal g c =
-    let E = extension g.F.PrimeCharacteristicRing.ring g.F.PartialEq.eq g.EF.PrimeCharacteristicRing.ring g.EF.PartialEq.eq g.EF.ExtensionDomain.embed g.EF.Field.inverse in
+    let E = of_laws g.met.EF.ExtensionField.lawful_fields in
     refuses_from E (table_of c.args.challenges.now) (instances_of c.args.instances.now) (zip c.args.aux.now c.args.terminals.now) c.from_residual.result (returns-in_err-check_result-clause-answer g c)
 
 pub loop-air-preserved : goal.loop-air-preserved
 loop-air-preserved g c =
-    let E = extension g.F.PrimeCharacteristicRing.ring g.F.PartialEq.eq g.EF.PrimeCharacteristicRing.ring g.EF.PartialEq.eq g.EF.ExtensionDomain.embed g.EF.Field.inverse in
+    let E = of_laws g.met.EF.ExtensionField.lawful_fields in
     let instance = c.index-instances-air.result in
     let instances = c.args.instances.now in
     let lt : c.loop-air.air < length instances = c.loop-air-test.true in
@@ -55,7 +54,7 @@ loop-air-preserved g c =
 
 pub returns-clause-answer : goal.returns-clause-answer
 returns-clause-answer g c =
-    let E = extension g.F.PrimeCharacteristicRing.ring g.F.PartialEq.eq g.EF.PrimeCharacteristicRing.ring g.EF.PartialEq.eq g.EF.ExtensionDomain.embed g.EF.Field.inverse in
+    let E = of_laws g.met.EF.ExtensionField.lawful_fields in
     let table = table_of c.args.challenges.now in
     let instances = instances_of c.args.instances.now in
     let witness = zip c.args.aux.now c.args.terminals.now in
@@ -67,13 +66,13 @@ returns-clause-answer g c =
 
 pub returns-clause-refusal : goal.returns-clause-refusal
 returns-clause-refusal g c =
-    let E = extension g.F.PrimeCharacteristicRing.ring g.F.PartialEq.eq g.EF.PrimeCharacteristicRing.ring g.EF.PartialEq.eq g.EF.ExtensionDomain.embed g.EF.Field.inverse in
+    let E = of_laws g.met.EF.ExtensionField.lawful_fields in
     refuses_from E (table_of c.args.challenges.now) (instances_of c.args.instances.now) (zip c.args.aux.now c.args.terminals.now) c.verify_terminal_sum.result (returns-clause-answer g c)
 
 pub returns-clause-only : goal.returns-clause-only
 returns-clause-only g c =
-    let E = extension g.F.PrimeCharacteristicRing.ring g.F.PartialEq.eq g.EF.PrimeCharacteristicRing.ring g.EF.PartialEq.eq g.EF.ExtensionDomain.embed g.EF.Field.inverse in
-    let laws : IsLawful E = lawful_extension g.F.PrimeCharacteristicRing.lawful g.met.F.PrimeCharacteristicRing.eq_is g.EF.PrimeCharacteristicRing.lawful g.met.EF.Domain.domain g.met.EF.PrimeCharacteristicRing.eq_is g.met.EF.ExtensionDomain.embeds g.met.EF.Field.inverse_is in
+    let laws = g.met.EF.ExtensionField.lawful_fields in
+    let E = of_laws laws in
     let table = table_of c.args.challenges.now in
     let instances = instances_of c.args.instances.now in
     let witness = zip c.args.aux.now c.args.terminals.now in

@@ -4,8 +4,7 @@ use Rattle.std.proofs.lemmas.List.{length-map, nil_from_length}
 use Rattle.std.proofs.lemmas.Result.{MatchResult-weaker}
 use Rattle.lookup_model.proofs.Branches.{mapped_at}
 use Rattle.lookup_model.specs.Denominators.{column_denominator}
-use Rattle.lookup_model.specs.Extension.{extension, IsLawful}
-use Rattle.lookup_model.proofs.Lawful.{lawful_extension}
+use Rattle.field.specs.laws.LawfulExtension.{of_laws}
 use Rattle.lookup_model.proofs.RecordLaws.{All-at}
 use Rattle.generation_tests.specs.PlainProgram.{message_of, messages_of}
 use Rattle.generation_tests.proofs.PlainProgramLaws.{one_item}
@@ -15,8 +14,8 @@ use Rattle.generation_tests.proofs.plain.exclusive_fraction_of.Goals as goal
 
 pub returns-then-is_empty : goal.returns-then-is_empty
 returns-then-is_empty g c =
-    let E = extension g.F.PrimeCharacteristicRing.ring g.F.PartialEq.eq g.EF.PrimeCharacteristicRing.ring g.EF.PartialEq.eq g.EF.ExtensionDomain.embed g.EF.Field.inverse in
-    let laws : IsLawful E = lawful_extension g.F.PrimeCharacteristicRing.lawful g.met.F.PrimeCharacteristicRing.eq_is g.EF.PrimeCharacteristicRing.lawful g.met.EF.Domain.domain g.met.EF.PrimeCharacteristicRing.eq_is g.met.EF.ExtensionDomain.embeds g.met.EF.Field.inverse_is in
+    let laws = g.met.EF.ExtensionField.lawful_fields in
+    let E = of_laws laws in
     let lawful = sym c.are_boolean.ensures ∙ c.if-not-are_boolean.false in
     let items = c.in_ok-places.places.items in
     let none : items ≡ [] = nil_from_length items (sym c.in_ok-places.places.ok.0 ∙ eqb-true c.in_ok-places.places.len 0 (sym c.is_empty.ensures ∙ c.if-is_empty.true)) in
@@ -47,8 +46,8 @@ single_quotient-requires g c =
 
 pub returns : goal.returns
 returns g c =
-    let E = extension g.F.PrimeCharacteristicRing.ring g.F.PartialEq.eq g.EF.PrimeCharacteristicRing.ring g.EF.PartialEq.eq g.EF.ExtensionDomain.embed g.EF.Field.inverse in
-    let laws : IsLawful E = lawful_extension g.F.PrimeCharacteristicRing.lawful g.met.F.PrimeCharacteristicRing.eq_is g.EF.PrimeCharacteristicRing.lawful g.met.EF.Domain.domain g.met.EF.PrimeCharacteristicRing.eq_is g.met.EF.ExtensionDomain.embeds g.met.EF.Field.inverse_is in
+    let laws = g.met.EF.ExtensionField.lawful_fields in
+    let E = of_laws laws in
     let lawful = sym c.are_boolean.ensures ∙ c.if-not-are_boolean.false in
     let denominator = column_denominator E c.args.challenges.now in
     let ms = c.args.messages.now in

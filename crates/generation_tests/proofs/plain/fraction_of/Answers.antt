@@ -2,8 +2,7 @@ use Rattle.std.proofs.Common.{List, take, drop, ◌+◌, [], ◌∷◌, ap, sym,
 use Rattle.std.proofs.lemmas.List.{length-map, take_all}
 use Rattle.lookup_model.proofs.Branches.{mapped_at}
 use Rattle.lookup_model.specs.Denominators.{column_denominator}
-use Rattle.lookup_model.specs.Extension.{extension, IsLawful}
-use Rattle.lookup_model.proofs.Lawful.{lawful_extension}
+use Rattle.field.specs.laws.LawfulExtension.{of_laws}
 use Rattle.lookup_model.specs.Fault.{vanishes}
 use Rattle.lookup_model.specs.Message.{Message}
 use Rattle.lookup_model.specs.Plain.{counted}
@@ -14,8 +13,8 @@ use Rattle.generation_tests.proofs.plain.fraction_of.Goals as goal
 
 pub returns-in_err-quotient_of : goal.returns-in_err-quotient_of
 returns-in_err-quotient_of g c =
-    let E = extension g.F.PrimeCharacteristicRing.ring g.F.PartialEq.eq g.EF.PrimeCharacteristicRing.ring g.EF.PartialEq.eq g.EF.ExtensionDomain.embed g.EF.Field.inverse in
-    let laws : IsLawful E = lawful_extension g.F.PrimeCharacteristicRing.lawful g.met.F.PrimeCharacteristicRing.eq_is g.EF.PrimeCharacteristicRing.lawful g.met.EF.Domain.domain g.met.EF.PrimeCharacteristicRing.eq_is g.met.EF.ExtensionDomain.embeds g.met.EF.Field.inverse_is in
+    let laws = g.met.EF.ExtensionField.lawful_fields in
+    let E = of_laws laws in
     let denominator = column_denominator E c.args.challenges.now in
     let ms = c.args.messages.now in
     let i = c.loop-message.message-index in
@@ -25,8 +24,8 @@ returns-in_err-quotient_of g c =
 
 pub loop-message-preserved : goal.loop-message-preserved
 loop-message-preserved g c =
-    let E = extension g.F.PrimeCharacteristicRing.ring g.F.PartialEq.eq g.EF.PrimeCharacteristicRing.ring g.EF.PartialEq.eq g.EF.ExtensionDomain.embed g.EF.Field.inverse in
-    let laws : IsLawful E = lawful_extension g.F.PrimeCharacteristicRing.lawful g.met.F.PrimeCharacteristicRing.eq_is g.EF.PrimeCharacteristicRing.lawful g.met.EF.Domain.domain g.met.EF.PrimeCharacteristicRing.eq_is g.met.EF.ExtensionDomain.embeds g.met.EF.Field.inverse_is in
+    let laws = g.met.EF.ExtensionField.lawful_fields in
+    let E = of_laws laws in
     let denominator = column_denominator E c.args.challenges.now in
     let ms = c.args.messages.now in
     let i = c.loop-message.message-index in
@@ -36,7 +35,7 @@ loop-message-preserved g c =
 
 pub returns : goal.returns
 returns g c =
-    let E = extension g.F.PrimeCharacteristicRing.ring g.F.PartialEq.eq g.EF.PrimeCharacteristicRing.ring g.EF.PartialEq.eq g.EF.ExtensionDomain.embed g.EF.Field.inverse in
+    let E = of_laws g.met.EF.ExtensionField.lawful_fields in
     let denominator = column_denominator E c.args.challenges.now in
     let all = subst (λ (ns : List _). IsFractionOf E denominator (messages_of ns) c.loop-message.sum) (take_all c.loop-message.message-index c.args.messages.now (omega (arith, c.loop-message-test.false))) c.loop-message.invariant in
     (all.value, all.divides)

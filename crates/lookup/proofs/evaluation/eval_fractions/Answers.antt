@@ -6,7 +6,7 @@ use Rattle.expressions.specs.Window.{ExtWindow}
 use Rattle.expressions.specs.declared.layout.AirLayout.{AirLayout}
 use Rattle.lookup_evaluation.specs.Asserted.{Asserts, IsConstraint}
 use Rattle.lookup_model.specs.Constraints.{Constraint, fraction_constraint}
-use Rattle.lookup_model.specs.Extension.{extension}
+use Rattle.field.specs.laws.LawfulExtension.{of_laws}
 use Rattle.lookup_model.specs.Records.{IsWithin}
 use Rattle.lookup_evaluation.proofs.AssertedLaws.{asserts_read, asserts_then, fails_early, fails_read, fails_then}
 use Rattle.lookup_laws.proofs.Rows.{split_at, take_item}
@@ -26,7 +26,7 @@ eval_fraction-requires-clause-lengths g c =
 
 pub eval_fraction-requires-clause-fits : goal.eval_fraction-requires-clause-fits
 eval_fraction-requires-clause-fits g c =
-    let E = extension g.AB.F.PrimeCharacteristicRing.ring g.AB.F.PartialEq.eq g.AB.EF.PrimeCharacteristicRing.ring g.AB.EF.PartialEq.eq g.AB.EF.ExtensionDomain.embed g.AB.EF.Field.inverse in
+    let E = of_laws g.met.AB.EF.ExtensionField.lawful_fields in
     let value : g.row.AB-ExprEF.Denot → ExtWindow g.row.AB-F.Denot g.row.AB-EF.Denot → g.row.AB-EF.Denot = λ x w. g.AB.ExprEF.Expression.value x (g.AB.ExtensionBuilder.seen_ext w) in
     let degree = g.AB.ExprEF.Expression.degree in
     let stands = g.AB.ExtensionBuilder.stands_for_ext in
@@ -38,7 +38,7 @@ eval_fraction-requires-clause-fits g c =
 
 pub eval_fraction-requires-clause-challenges : goal.eval_fraction-requires-clause-challenges
 eval_fraction-requires-clause-challenges g c =
-    let E = extension g.AB.F.PrimeCharacteristicRing.ring g.AB.F.PartialEq.eq g.AB.EF.PrimeCharacteristicRing.ring g.AB.EF.PartialEq.eq g.AB.EF.ExtensionDomain.embed g.AB.EF.Field.inverse in
+    let E = of_laws g.met.AB.EF.ExtensionField.lawful_fields in
     let value : g.row.AB-ExprEF.Denot → ExtWindow g.row.AB-F.Denot g.row.AB-EF.Denot → g.row.AB-EF.Denot = λ x w. g.AB.ExprEF.Expression.value x (g.AB.ExtensionBuilder.seen_ext w) in
     let degree = g.AB.ExprEF.Expression.degree in
     let stands = g.AB.ExtensionBuilder.stands_for_ext in
@@ -50,7 +50,7 @@ eval_fraction-requires-clause-challenges g c =
 
 pub eval_fraction-requires-clause-cell : goal.eval_fraction-requires-clause-cell
 eval_fraction-requires-clause-cell g c =
-    let E = extension g.AB.F.PrimeCharacteristicRing.ring g.AB.F.PartialEq.eq g.AB.EF.PrimeCharacteristicRing.ring g.AB.EF.PartialEq.eq g.AB.EF.ExtensionDomain.embed g.AB.EF.Field.inverse in
+    let E = of_laws g.met.AB.EF.ExtensionField.lawful_fields in
     let value : g.row.AB-ExprEF.Denot → ExtWindow g.row.AB-F.Denot g.row.AB-EF.Denot → g.row.AB-EF.Denot = λ x w. g.AB.ExprEF.Expression.value x (g.AB.ExtensionBuilder.seen_ext w) in
     let degree = g.AB.ExprEF.Expression.degree in
     let stands = g.AB.ExtensionBuilder.stands_for_ext in
@@ -62,7 +62,7 @@ eval_fraction-requires-clause-cell g c =
 
 pub returns-in_err-eval_fraction : goal.returns-in_err-eval_fraction
 returns-in_err-eval_fraction g c =
-    let E = extension g.AB.F.PrimeCharacteristicRing.ring g.AB.F.PartialEq.eq g.AB.EF.PrimeCharacteristicRing.ring g.AB.EF.PartialEq.eq g.AB.EF.ExtensionDomain.embed g.AB.EF.Field.inverse in
+    let E = of_laws g.met.AB.EF.ExtensionField.lawful_fields in
     let value : g.row.AB-ExprEF.Denot → ExtWindow g.row.AB-F.Denot g.row.AB-EF.Denot → g.row.AB-EF.Denot = λ x w. g.AB.ExprEF.Expression.value x (g.AB.ExtensionBuilder.seen_ext w) in
     let degree = g.AB.ExprEF.Expression.degree in
     let stands = g.AB.ExtensionBuilder.stands_for_ext in
@@ -86,7 +86,7 @@ returns-in_err-eval_fraction g c =
 
 pub loop-lookup-preserved : goal.loop-lookup-preserved
 loop-lookup-preserved g c =
-    let E = extension g.AB.F.PrimeCharacteristicRing.ring g.AB.F.PartialEq.eq g.AB.EF.PrimeCharacteristicRing.ring g.AB.EF.PartialEq.eq g.AB.EF.ExtensionDomain.embed g.AB.EF.Field.inverse in
+    let E = of_laws g.met.AB.EF.ExtensionField.lawful_fields in
     let value : g.row.AB-ExprEF.Denot → ExtWindow g.row.AB-F.Denot g.row.AB-EF.Denot → g.row.AB-EF.Denot = λ x w. g.AB.ExprEF.Expression.value x (g.AB.ExtensionBuilder.seen_ext w) in
     let degree = g.AB.ExprEF.Expression.degree in
     let stands = g.AB.ExtensionBuilder.stands_for_ext in
@@ -106,7 +106,7 @@ loop-lookup-preserved g c =
 
 pub returns : goal.returns
 returns g c =
-    let E = extension g.AB.F.PrimeCharacteristicRing.ring g.AB.F.PartialEq.eq g.AB.EF.PrimeCharacteristicRing.ring g.AB.EF.PartialEq.eq g.AB.EF.ExtensionDomain.embed g.AB.EF.Field.inverse in
+    let E = of_laws g.met.AB.EF.ExtensionField.lawful_fields in
     let value : g.row.AB-ExprEF.Denot → ExtWindow g.row.AB-F.Denot g.row.AB-EF.Denot → g.row.AB-EF.Denot = λ x w. g.AB.ExprEF.Expression.value x (g.AB.ExtensionBuilder.seen_ext w) in
     let degree = g.AB.ExprEF.Expression.degree in
     let stands = g.AB.ExtensionBuilder.stands_for_ext in

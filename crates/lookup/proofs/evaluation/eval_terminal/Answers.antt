@@ -1,14 +1,14 @@
 use Rattle.expressions.specs.Window.{ExtWindow}
 use Rattle.lookup_evaluation.specs.Asserted.{IsConstraint}
 use Rattle.lookup_model.specs.Constraints.{accumulator_constraints, terminal_at}
-use Rattle.lookup_model.specs.Extension.{extension}
+use Rattle.field.specs.laws.LawfulExtension.{of_laws}
 use Rattle.lookup_evaluation.proofs.AssertedLaws.{evaluates_read}
 use Rattle.lookup.proofs.Evaluations.{terminal_reads}
 use Rattle.lookup.proofs.evaluation.eval_terminal.Goals as goal
 
 pub returns : goal.returns
 returns g c =
-    let E = extension g.AB.F.PrimeCharacteristicRing.ring g.AB.F.PartialEq.eq g.AB.EF.PrimeCharacteristicRing.ring g.AB.EF.PartialEq.eq g.AB.EF.ExtensionDomain.embed g.AB.EF.Field.inverse in
+    let E = of_laws g.met.AB.EF.ExtensionField.lawful_fields in
     let value : g.row.AB-ExprEF.Denot → ExtWindow g.row.AB-F.Denot g.row.AB-EF.Denot → g.row.AB-EF.Denot = λ x w. g.AB.ExprEF.Expression.value x (g.AB.ExtensionBuilder.seen_ext w) in
     let degree = g.AB.ExprEF.Expression.degree in
     let stands = g.AB.ExtensionBuilder.stands_for_ext in

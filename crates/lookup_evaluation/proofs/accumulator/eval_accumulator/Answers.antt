@@ -5,7 +5,7 @@ use Rattle.std.proofs.lemmas.Result.{err_from_is_err_and, MatchResult-weaker}
 use Rattle.expressions.specs.Window.{ExtWindow}
 use Rattle.lookup_evaluation.specs.Asserted.{Asserts, IsConstraint}
 use Rattle.lookup_model.specs.Constraints.{accumulator_at, accumulator_constraints, first_constraint, fractions_at, last_constraint, next_accumulator_at, transition_constraint}
-use Rattle.lookup_model.specs.Extension.{extension}
+use Rattle.field.specs.laws.LawfulExtension.{of_laws}
 use Rattle.lookup_model.specs.declared.types.Lookup.{Lookup}
 use Rattle.lookup_model.proofs.ConstraintLaws.{accumulator_constraints-some}
 use Rattle.lookup_evaluation.proofs.Accumulators.{is_selected, row_from_cells}
@@ -15,7 +15,7 @@ use Rattle.lookup_evaluation.proofs.accumulator.eval_accumulator.Goals as goal
 pub returns-then-is_empty : goal.returns-then-is_empty
 unfolding Asserts
 returns-then-is_empty g c =
-    let E = extension g.AB.F.PrimeCharacteristicRing.ring g.AB.F.PartialEq.eq g.AB.EF.PrimeCharacteristicRing.ring g.AB.EF.PartialEq.eq g.AB.EF.ExtensionDomain.embed g.AB.EF.Field.inverse in
+    let E = of_laws g.met.AB.EF.ExtensionField.lawful_fields in
     let value : g.row.AB-ExprEF.Denot → ExtWindow g.row.AB-F.Denot g.row.AB-EF.Denot → g.row.AB-EF.Denot = λ x w. g.AB.ExprEF.Expression.value x (g.AB.ExtensionBuilder.seen_ext w) in
     let none : c.args.lookups.now ≡ [] = nil_from_length c.args.lookups.now (eqb-true (length c.args.lookups.now) 0 (sym c.is_empty.ensures ∙ c.if-is_empty.true)) in
     subst (λ (ls : List (Lookup _)). Asserts g.AB.ExtensionBuilder.accepts_ext (IsConstraint value g.AB.ExprEF.Expression.degree (g.AB.ExtensionBuilder.stands_for_ext c.args.builder.now)) c.args.builder.now (accumulator_constraints E ls (value c.args.terminal) (g.AB.ExprEF.Expression.degree c.args.terminal)) c.args.builder.now) (sym none) refl
@@ -27,7 +27,7 @@ sides_of-requires-clause-row g c =
 
 pub returns-in_err-sides : goal.returns-in_err-sides
 returns-in_err-sides g c =
-    let E = extension g.AB.F.PrimeCharacteristicRing.ring g.AB.F.PartialEq.eq g.AB.EF.PrimeCharacteristicRing.ring g.AB.EF.PartialEq.eq g.AB.EF.ExtensionDomain.embed g.AB.EF.Field.inverse in
+    let E = of_laws g.met.AB.EF.ExtensionField.lawful_fields in
     let embeds = g.met.AB.EF.ExtensionDomain.embeds in
     let value : g.row.AB-ExprEF.Denot → ExtWindow g.row.AB-F.Denot g.row.AB-EF.Denot → g.row.AB-EF.Denot = λ x w. g.AB.ExprEF.Expression.value x (g.AB.ExtensionBuilder.seen_ext w) in
     let degree = g.AB.ExprEF.Expression.degree in
@@ -42,7 +42,7 @@ returns-in_err-sides g c =
 
 pub returns-in_err-assert_first : goal.returns-in_err-assert_first
 returns-in_err-assert_first g c =
-    let E = extension g.AB.F.PrimeCharacteristicRing.ring g.AB.F.PartialEq.eq g.AB.EF.PrimeCharacteristicRing.ring g.AB.EF.PartialEq.eq g.AB.EF.ExtensionDomain.embed g.AB.EF.Field.inverse in
+    let E = of_laws g.met.AB.EF.ExtensionField.lawful_fields in
     let embeds = g.met.AB.EF.ExtensionDomain.embeds in
     let value : g.row.AB-ExprEF.Denot → ExtWindow g.row.AB-F.Denot g.row.AB-EF.Denot → g.row.AB-EF.Denot = λ x w. g.AB.ExprEF.Expression.value x (g.AB.ExtensionBuilder.seen_ext w) in
     let degree = g.AB.ExprEF.Expression.degree in
@@ -63,7 +63,7 @@ returns-in_err-assert_first g c =
 
 pub returns-in_err-assert_transition : goal.returns-in_err-assert_transition
 returns-in_err-assert_transition g c =
-    let E = extension g.AB.F.PrimeCharacteristicRing.ring g.AB.F.PartialEq.eq g.AB.EF.PrimeCharacteristicRing.ring g.AB.EF.PartialEq.eq g.AB.EF.ExtensionDomain.embed g.AB.EF.Field.inverse in
+    let E = of_laws g.met.AB.EF.ExtensionField.lawful_fields in
     let embeds = g.met.AB.EF.ExtensionDomain.embeds in
     let value : g.row.AB-ExprEF.Denot → ExtWindow g.row.AB-F.Denot g.row.AB-EF.Denot → g.row.AB-EF.Denot = λ x w. g.AB.ExprEF.Expression.value x (g.AB.ExtensionBuilder.seen_ext w) in
     let degree = g.AB.ExprEF.Expression.degree in
@@ -88,7 +88,7 @@ returns-in_err-assert_transition g c =
 
 pub returns : goal.returns
 returns g c =
-    let E = extension g.AB.F.PrimeCharacteristicRing.ring g.AB.F.PartialEq.eq g.AB.EF.PrimeCharacteristicRing.ring g.AB.EF.PartialEq.eq g.AB.EF.ExtensionDomain.embed g.AB.EF.Field.inverse in
+    let E = of_laws g.met.AB.EF.ExtensionField.lawful_fields in
     let embeds = g.met.AB.EF.ExtensionDomain.embeds in
     let value : g.row.AB-ExprEF.Denot → ExtWindow g.row.AB-F.Denot g.row.AB-EF.Denot → g.row.AB-EF.Denot = λ x w. g.AB.ExprEF.Expression.value x (g.AB.ExtensionBuilder.seen_ext w) in
     let degree = g.AB.ExprEF.Expression.degree in

@@ -1,13 +1,13 @@
 use Rattle.std.proofs.Common.{ap, ◌∙◌, arith}
 use Rattle.lookup_model.specs.Constraints.{fraction_at}
-use Rattle.lookup_model.specs.Extension.{extension}
+use Rattle.field.specs.laws.LawfulExtension.{of_laws}
 use Rattle.lookup_model.specs.declared.types.Lookup.{Lookup}
 use Rattle.lookup_model.proofs.SumLaws.{sum_mapped_next}
 use Rattle.lookup_evaluation.proofs.accumulator.row_sum.Goals as goal
 
 pub loop-lookup-preserved : goal.loop-lookup-preserved
 loop-lookup-preserved g c =
-    let E = extension g.AB.F.PrimeCharacteristicRing.ring g.AB.F.PartialEq.eq g.AB.EF.PrimeCharacteristicRing.ring g.AB.EF.PartialEq.eq g.AB.EF.ExtensionDomain.embed g.AB.EF.Field.inverse in
+    let E = of_laws g.met.AB.EF.ExtensionField.lawful_fields in
     let laws = g.AB.EF.PrimeCharacteristicRing.lawful in
     let lookups = c.args.lookups.now in
     let i = c.loop-lookup.lookup-index in (

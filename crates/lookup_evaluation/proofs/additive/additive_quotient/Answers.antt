@@ -3,7 +3,7 @@ use Rattle.std.proofs.lemmas.List.{take_all}
 use Rattle.expressions.specs.declared.base_expression.SymbolicExpression.{SymbolicExpression}
 use Rattle.lookup_model.specs.Constraints.{additive_denominator, additive_numerator}
 use Rattle.lookup_model.specs.Denominators.{tuple_denominator}
-use Rattle.lookup_model.specs.Extension.{extension}
+use Rattle.field.specs.laws.LawfulExtension.{of_laws}
 use Rattle.lookup_model.specs.LookupDegree.{BranchDegrees, additive_denominator_degree, additive_numerator_degree, branch_degrees, lookup_branch_degrees}
 use Rattle.lookup_model.specs.Message.{Message}
 use Rattle.lookup_model.specs.Records.{AllFit, IsWithin}
@@ -27,7 +27,7 @@ with_tuple-requires-clause-multiplicity_fits g c =
 
 pub loop-branch-preserved : goal.loop-branch-preserved
 loop-branch-preserved g c =
-    let E = extension g.AB.F.PrimeCharacteristicRing.ring g.AB.F.PartialEq.eq g.AB.EF.PrimeCharacteristicRing.ring g.AB.EF.PartialEq.eq g.AB.EF.ExtensionDomain.embed g.AB.EF.Field.inverse in
+    let E = of_laws g.met.AB.EF.ExtensionField.lawful_fields in
     let laws = g.AB.EF.PrimeCharacteristicRing.lawful in
     let lookup = c.args.lookup.now in
     let i = c.loop-branch.branch in
@@ -72,7 +72,7 @@ loop-branch-preserved g c =
 
 pub returns-clause-numerator : goal.returns-clause-numerator
 returns-clause-numerator g c = λ w stands.
-    let E = extension g.AB.F.PrimeCharacteristicRing.ring g.AB.F.PartialEq.eq g.AB.EF.PrimeCharacteristicRing.ring g.AB.EF.PartialEq.eq g.AB.EF.ExtensionDomain.embed g.AB.EF.Field.inverse in
+    let E = of_laws g.met.AB.EF.ExtensionField.lawful_fields in
     let seen = g.AB.ExtensionBuilder.seen_ext w in
     let denominator = tuple_denominator E (g.AB.ExprEF.Expression.value c.args.alpha.now seen) (g.AB.ExprEF.Expression.value c.args.beta.now seen) in
     let lookup = c.args.lookup.now in
@@ -81,7 +81,7 @@ returns-clause-numerator g c = λ w stands.
 
 pub returns-clause-denominator : goal.returns-clause-denominator
 returns-clause-denominator g c = λ w stands.
-    let E = extension g.AB.F.PrimeCharacteristicRing.ring g.AB.F.PartialEq.eq g.AB.EF.PrimeCharacteristicRing.ring g.AB.EF.PartialEq.eq g.AB.EF.ExtensionDomain.embed g.AB.EF.Field.inverse in
+    let E = of_laws g.met.AB.EF.ExtensionField.lawful_fields in
     let seen = g.AB.ExtensionBuilder.seen_ext w in
     let denominator = tuple_denominator E (g.AB.ExprEF.Expression.value c.args.alpha.now seen) (g.AB.ExprEF.Expression.value c.args.beta.now seen) in
     let lookup = c.args.lookup.now in

@@ -2,14 +2,14 @@ use Rattle.std.proofs.Common.{◌≡◌, ◌≤◌, ℕ, max, take}
 use Rattle.expressions.specs.Window.{ExtWindow}
 use Rattle.lookup_model.specs.Constraints.{additive_denominator, additive_numerator}
 use Rattle.lookup_model.specs.Denominators.{tuple_denominator}
-use Rattle.lookup_model.specs.Extension.{extension}
+use Rattle.field.specs.laws.LawfulExtension.{of_laws}
 use Rattle.lookup_model.specs.LookupDegree.{additive_denominator_degree, additive_numerator_degree, lookup_branch_degrees}
 use Rattle.lookup_model.specs.Sent.{branches_at}
 use Rattle.lookup_evaluation.proofs.additive.additive_quotient.Given as goal
 
 abbrev pub invariant-loop-branch : goal.invariant-loop-branch
 invariant-loop-branch g l =
-    let E = extension g.AB.F.PrimeCharacteristicRing.ring g.AB.F.PartialEq.eq g.AB.EF.PrimeCharacteristicRing.ring g.AB.EF.PartialEq.eq g.AB.EF.ExtensionDomain.embed g.AB.EF.Field.inverse in
+    let E = of_laws g.met.AB.EF.ExtensionField.lawful_fields in
     let value = g.AB.ExprEF.Expression.value in
     let degree = g.AB.ExprEF.Expression.degree in
     let denominator = λ (w : ExtWindow _ _). tuple_denominator E (value l.alpha (g.AB.ExtensionBuilder.seen_ext w)) (value l.beta (g.AB.ExtensionBuilder.seen_ext w)) in

@@ -4,7 +4,7 @@ use Rattle.std.specs.List.{zip}
 use Rattle.field.specs.Sums.{sum_in}
 use Rattle.expressions.specs.declared.base_expression.SymbolicExpression.{SymbolicExpression}
 use Rattle.lookup_model.specs.Denominators.{tuple_denominator}
-use Rattle.lookup_model.specs.Extension.{extension}
+use Rattle.field.specs.laws.LawfulExtension.{of_laws}
 use Rattle.lookup_model.specs.LookupDegree.{BranchDegrees, branch_degrees, expression_degree, greatest, lookup_branch_degrees}
 use Rattle.lookup_model.specs.Message.{Message}
 use Rattle.lookup_model.specs.Records.{AllFit, IsWithin}
@@ -32,7 +32,7 @@ with_branch-requires-clause-multiplicity_fits g c =
 
 pub loop-branch-preserved : goal.loop-branch-preserved
 loop-branch-preserved g c =
-    let E = extension g.AB.F.PrimeCharacteristicRing.ring g.AB.F.PartialEq.eq g.AB.EF.PrimeCharacteristicRing.ring g.AB.EF.PartialEq.eq g.AB.EF.ExtensionDomain.embed g.AB.EF.Field.inverse in
+    let E = of_laws g.met.AB.EF.ExtensionField.lawful_fields in
     let laws = g.AB.EF.PrimeCharacteristicRing.lawful in
     let lookup = c.args.lookup.now in
     let flags = c.args.flags.now in
@@ -81,7 +81,7 @@ loop-branch-preserved g c =
 
 pub returns-clause-numerator : goal.returns-clause-numerator
 returns-clause-numerator g c = λ w stands.
-    let E = extension g.AB.F.PrimeCharacteristicRing.ring g.AB.F.PartialEq.eq g.AB.EF.PrimeCharacteristicRing.ring g.AB.EF.PartialEq.eq g.AB.EF.ExtensionDomain.embed g.AB.EF.Field.inverse in
+    let E = of_laws g.met.AB.EF.ExtensionField.lawful_fields in
     let lookup = c.args.lookup.now in
     let look = value E.base w.base in
     let branches = branches_at E.base w.base lookup.column lookup in
@@ -91,7 +91,7 @@ returns-clause-numerator g c = λ w stands.
 
 pub returns-clause-denominator : goal.returns-clause-denominator
 returns-clause-denominator g c = λ w stands.
-    let E = extension g.AB.F.PrimeCharacteristicRing.ring g.AB.F.PartialEq.eq g.AB.EF.PrimeCharacteristicRing.ring g.AB.EF.PartialEq.eq g.AB.EF.ExtensionDomain.embed g.AB.EF.Field.inverse in
+    let E = of_laws g.met.AB.EF.ExtensionField.lawful_fields in
     let lookup = c.args.lookup.now in
     let seen = g.AB.ExtensionBuilder.seen_ext w in
     let look = value E.base w.base in

@@ -3,7 +3,7 @@ use Rattle.std.specs.List.{zip}
 use Rattle.field.specs.Sums.{sum_in}
 use Rattle.expressions.specs.Window.{ExtWindow}
 use Rattle.lookup_model.specs.Denominators.{tuple_denominator}
-use Rattle.lookup_model.specs.Extension.{extension}
+use Rattle.field.specs.laws.LawfulExtension.{of_laws}
 use Rattle.lookup_model.specs.LookupDegree.{expression_degree, greatest, lookup_branch_degrees}
 use Rattle.lookup_model.specs.Message.{Message}
 use Rattle.lookup_model.specs.Sent.{branches_at, values}
@@ -11,7 +11,7 @@ use Rattle.lookup_evaluation.proofs.exclusive.selection_of.Given as goal
 
 abbrev pub invariant-loop-branch : goal.invariant-loop-branch
 invariant-loop-branch g l =
-    let E = extension g.AB.F.PrimeCharacteristicRing.ring g.AB.F.PartialEq.eq g.AB.EF.PrimeCharacteristicRing.ring g.AB.EF.PartialEq.eq g.AB.EF.ExtensionDomain.embed g.AB.EF.Field.inverse in
+    let E = of_laws g.met.AB.EF.ExtensionField.lawful_fields in
     let value = g.AB.ExprEF.Expression.value in
     let degree = g.AB.ExprEF.Expression.degree in
     let seen = g.AB.ExtensionBuilder.seen_ext in

@@ -4,14 +4,14 @@ use Rattle.std.specs.Option.{IfSome, option_map}
 use Rattle.expressions.specs.declared.base_expression.SymbolicExpression.{SymbolicExpression}
 use Rattle.lookup_model.specs.Constraints.{additive_denominator, additive_numerator, denominator_at, exclusive_denominator, fraction_denominator, fraction_numerator}
 use Rattle.lookup_model.specs.Denominators.{tuple_denominator}
-use Rattle.lookup_model.specs.Extension.{extension}
+use Rattle.field.specs.laws.LawfulExtension.{of_laws}
 use Rattle.lookup_model.specs.Records.{AllFit, IsWithin}
 use Rattle.lookup_model.specs.Sent.{branches_at, values}
 use Rattle.lookup_evaluation.proofs.fraction.quotient_of.Goals as goal
 
 pub returns-in-None-clause-numerator : goal.returns-in-None-clause-numerator
 returns-in-None-clause-numerator g c =
-    let E = extension g.AB.F.PrimeCharacteristicRing.ring g.AB.F.PartialEq.eq g.AB.EF.PrimeCharacteristicRing.ring g.AB.EF.PartialEq.eq g.AB.EF.ExtensionDomain.embed g.AB.EF.Field.inverse in
+    let E = of_laws g.met.AB.EF.ExtensionField.lawful_fields in
     let lookup = c.args.lookup.now in
     IfOk-weaker c.additive_quotient.result _ _ (λ r means w stands.
     let branches = branches_at E.base w.base lookup.column lookup in
@@ -21,7 +21,7 @@ returns-in-None-clause-numerator g c =
 
 pub returns-in-None-clause-denominator : goal.returns-in-None-clause-denominator
 returns-in-None-clause-denominator g c =
-    let E = extension g.AB.F.PrimeCharacteristicRing.ring g.AB.F.PartialEq.eq g.AB.EF.PrimeCharacteristicRing.ring g.AB.EF.PartialEq.eq g.AB.EF.ExtensionDomain.embed g.AB.EF.Field.inverse in
+    let E = of_laws g.met.AB.EF.ExtensionField.lawful_fields in
     let lookup = c.args.lookup.now in
     IfOk-weaker c.additive_quotient.result _ _ (λ r means w stands.
     let branches = branches_at E.base w.base lookup.column lookup in
@@ -38,7 +38,7 @@ exclusive_quotient-requires-clause-flags_fit g c =
 
 pub returns-clause-denominator : goal.returns-clause-denominator
 returns-clause-denominator g c =
-    let E = extension g.AB.F.PrimeCharacteristicRing.ring g.AB.F.PartialEq.eq g.AB.EF.PrimeCharacteristicRing.ring g.AB.EF.PartialEq.eq g.AB.EF.ExtensionDomain.embed g.AB.EF.Field.inverse in
+    let E = of_laws g.met.AB.EF.ExtensionField.lawful_fields in
     let lookup = c.args.lookup.now in
     IfOk-weaker c.exclusive_quotient.result _ _ (λ r means w stands.
     let branches = branches_at E.base w.base lookup.column lookup in

@@ -1,6 +1,6 @@
 use Rattle.std.proofs.Common.{◌≡◌, ◌≢◌, [], take}
 use Rattle.lookup_model.specs.Denominators.{column_denominator}
-use Rattle.lookup_model.specs.Extension.{extension}
+use Rattle.field.specs.Extension.{extension}
 use Rattle.lookup_generation.specs.Fraction.{IsFractionOf}
 use Rattle.lookup_model.specs.Sent.{branches_at}
 use Rattle.lookup_generation.specs.TraceBuilder.{builder_window}

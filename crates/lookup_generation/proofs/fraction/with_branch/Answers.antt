@@ -1,7 +1,7 @@
 use Rattle.std.proofs.Common.{◌≢◌, sym, ap, ◌∙◌}
 use Rattle.std.proofs.lemmas.Bool.{true≢false}
-use Rattle.lookup_model.specs.Extension.{extension, IsLawful}
-use Rattle.lookup_model.proofs.Lawful.{lawful_extension}
+use Rattle.field.specs.Extension.{extension, IsLawful}
+use Rattle.field.specs.laws.LawfulExtension.{lawful_extension}
 use Rattle.lookup_generation.proofs.Fractions.{fraction_of_added}
 use Rattle.lookup_generation.proofs.fraction.with_branch.Goals as goal
 

@@ -1,7 +1,7 @@
 use Rattle.std.proofs.Common.{◌≡◌, ◌<◌, ◌+◌, ◌-◌, ◌*◌, ◌%◌, length, ap, subst, ◌∙◌, inl, inr, arith}
 use Rattle.std.proofs.lemmas.Result.{err_from_is_err_and}
 use Rattle.lookup_model.specs.Denominators.{column_denominator}
-use Rattle.lookup_model.specs.Extension.{extension}
+use Rattle.field.specs.Extension.{extension}
 use Rattle.matrix.specs.Matrix.{height}
 use Rattle.lookup_generation.proofs.ProgressLaws.{product_joined}
 use Rattle.lookup_generation.specs.Progress.{HasRows, sent_rows_of, started_chunks}

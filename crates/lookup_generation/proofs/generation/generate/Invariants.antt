@@ -1,6 +1,6 @@
 use Rattle.std.proofs.Common.{◌≡◌, ◌≤◌, ◌+◌, ◌-◌, ◌*◌, ◌%◌, ◌⊎◌, length}
 use Rattle.lookup_model.specs.Denominators.{column_denominator}
-use Rattle.lookup_model.specs.Extension.{extension}
+use Rattle.field.specs.Extension.{extension}
 use Rattle.lookup_generation.specs.Progress.{HasRows, HaveNoTuples, sent_rows_of, started_chunks}
 use Rattle.matrix.specs.Matrix.{height}
 use Rattle.lookup_generation.specs.Inverses.{ForInverses}

@@ -6,8 +6,8 @@ use Rattle.std.specs.List.{range_with_len}
 use Rattle.std.specs.Option.{option_copied}
 use Rattle.matrix.specs.Matrix.{height}
 use Rattle.lookup_model.specs.Denominators.{column_denominator}
-use Rattle.lookup_model.specs.Extension.{extension, IsLawful}
-use Rattle.lookup_model.proofs.Lawful.{lawful_extension}
+use Rattle.field.specs.Extension.{extension, IsLawful}
+use Rattle.field.specs.laws.LawfulExtension.{lawful_extension}
 use Rattle.lookup_model.specs.Fault.{trace_faults}
 use Rattle.lookup_model.specs.Generated.{plain_matrix, plain_terminal_of}
 use Rattle.lookup_model.specs.Trace.{sent_rows}

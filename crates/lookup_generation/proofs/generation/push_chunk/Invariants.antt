@@ -1,6 +1,6 @@
 use Rattle.std.proofs.Common.{◌≡◌, ◌+◌, ◌*◌, length}
 use Rattle.lookup_model.specs.Denominators.{column_denominator}
-use Rattle.lookup_model.specs.Extension.{extension}
+use Rattle.field.specs.Extension.{extension}
 use Rattle.lookup_generation.specs.Progress.{HasCells, sent_rows_of}
 use Rattle.lookup_generation.specs.Inverses.{ForInverses}
 use Rattle.lookup_generation.proofs.generation.push_chunk.Given as goal

@@ -8,7 +8,7 @@ use Rattle.lookup_columns.proofs.ZipLaws.{Beside, beside}
 use Rattle.lookup_columns.specs.Traces.{window_of}
 use Rattle.lookup_model.proofs.RecordLaws.{All-at}
 use Rattle.lookup_model.specs.Denominators.{column_denominator}
-use Rattle.lookup_model.specs.Extension.{extension}
+use Rattle.field.specs.Extension.{extension}
 use Rattle.lookup_model.specs.declared.types.Lookup.{Lookup}
 use Rattle.lookup_laws.proofs.SentRows.{column_is}
 use Rattle.lookup_columns.specs.ChunkColumns.{HoldLookup}

@@ -1,6 +1,6 @@
 use Rattle.std.proofs.Common.{◌≡◌, ◌-◌, ◌*◌, ◌<◌, ◌≤◌, IfSome, None, take}
 use Rattle.lookup_model.specs.Denominators.{column_denominator}
-use Rattle.lookup_model.specs.Extension.{extension}
+use Rattle.field.specs.Extension.{extension}
 use Rattle.lookup_generation.specs.Fraction.{AreSound, AreWhole}
 use Rattle.lookup_generation.specs.Inverses.{ForInverses}
 use Rattle.lookup_generation.specs.Progress.{AnswersColumns, HaveNoTuples}

@@ -4,9 +4,9 @@ use Rattle.std.specs.List.{slice_get}
 use Rattle.std.specs.declared.alloc.Global.{Global}
 use Rattle.std.specs.declared.vec.Vec.{Vec}
 use Rattle.lookup_columns.specs.Traces.{height_of, window_of}
-use Rattle.lookup_model.proofs.Lawful.{lawful_extension}
+use Rattle.field.specs.laws.LawfulExtension.{lawful_extension}
 use Rattle.lookup_model.specs.Denominators.{column_denominator}
-use Rattle.lookup_model.specs.Extension.{extension, IsLawful}
+use Rattle.field.specs.Extension.{extension, IsLawful}
 use Rattle.lookup_model.specs.declared.types.Lookup.{Lookup}
 use Rattle.lookup_columns.proofs.ChunkColumnLaws.{range_at, range_below, zip_weaker}
 use Rattle.lookup_generation.proofs.ChunkFaults.{AreRatios-found, first_found}

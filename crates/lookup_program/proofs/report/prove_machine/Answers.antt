@@ -1,6 +1,6 @@
 use Rattle.std.proofs.Common.{◌≡◌, ℕ, inl, inr, List, [], None, map, ap, sym, subst, subst₂, ◌∙◌}
 use Rattle.std.proofs.lemmas.Result.{err_from_is_err_and}
-use Rattle.lookup_model.specs.Extension.{extension}
+use Rattle.field.specs.laws.LawfulExtension.{of_laws}
 use Rattle.lookup_program.specs.Refusal.{of_batch}
 use Rattle.lookup_program.proofs.PlannedBatches.{is_heavy, proved, refused, shown_is}
 use Rattle.lookup_program.proofs.report.prove_machine.Goals as goal
@@ -15,7 +15,7 @@ returns-in_err-plan g c =
 
 pub returns-in_err-witness : goal.returns-in_err-witness
 returns-in_err-witness g c =
-    let E = extension g.F.PrimeCharacteristicRing.ring g.F.PartialEq.eq g.EF.PrimeCharacteristicRing.ring g.EF.PartialEq.eq g.EF.ExtensionDomain.embed g.EF.Field.inverse in
+    let E = of_laws g.met.EF.ExtensionField.lawful_fields in
     let p = err_from_is_err_and c.from_residual-in_err-witness.result c.from_residual-in_err-witness.ensures.1 in
     let plan = c.in_ok-plan.plan in
     let shown = shown_is c.args.traces.items c.as_slice.result.now c.in_ok-lookups.field-0.mains.items c.as_slice.ensures.value c.in_ok-traces.traces.items c.in_ok-traces.ensures c.as_slice-2.result.now c.as_slice-2.ensures.value c.in_ok-lookups.ensures.1 in
@@ -25,7 +25,7 @@ returns-in_err-witness g c =
 
 pub returns : goal.returns
 returns g c =
-    let E = extension g.F.PrimeCharacteristicRing.ring g.F.PartialEq.eq g.EF.PrimeCharacteristicRing.ring g.EF.PartialEq.eq g.EF.ExtensionDomain.embed g.EF.Field.inverse in
+    let E = of_laws g.met.EF.ExtensionField.lawful_fields in
     let plan = c.in_ok-plan.plan in
     let shown = shown_is c.args.traces.items c.as_slice.result.now c.in_ok-lookups.field-0.mains.items c.as_slice.ensures.value c.in_ok-traces.traces.items c.in_ok-traces.ensures c.as_slice-2.result.now c.as_slice-2.ensures.value c.in_ok-lookups.ensures.1 in
     proved E c.args.machine c.args.challenges.0 c.args.challenges.1 c.args.input.now c.args.traces.items c.requires.traces

@@ -1,6 +1,6 @@
 use Rattle.std.proofs.Common.{◌≡◌, List, [], ◌∷◌, Err, None, map, refl, ap, ◌∙◌}
 use Rattle.std.proofs.lemmas.Result.{err_from_is_err_and}
-use Rattle.lookup_model.specs.Extension.{extension}
+use Rattle.field.specs.laws.LawfulExtension.{of_laws}
 use Rattle.batch.specs.Traces.{shown_of}
 use Rattle.memory_check.specs.Memory.{mains_of}
 use Rattle.memory_check.proofs.BatchLaws.{memory_accepted, memory_refused, prove_refused}
@@ -8,7 +8,7 @@ use Rattle.memory_check.proofs.memory.check_memory.Goals as goal
 
 pub returns-in_err-witness-clause-refused : goal.returns-in_err-witness-clause-refused
 returns-in_err-witness-clause-refused g c =
-    let E = extension g.F.PrimeCharacteristicRing.ring g.F.PartialEq.eq g.EF.PrimeCharacteristicRing.ring g.EF.PartialEq.eq g.EF.ExtensionDomain.embed g.EF.Field.inverse in
+    let E = of_laws g.met.EF.ExtensionField.lawful_fields in
     let plan = c.args.plan.now in
     let shown : map shown_of c.as_slice-traces.result.now ≡ map (λ main. (main, None, [])) (mains_of c.args.traces.now) = ap (map shown_of) c.as_slice-traces.ensures ∙ (λ i. c.alone.ensures i ∷ c.alone-2.ensures i ∷ c.alone-3.ensures i ∷ []) in
     let e = c.in_err-witness.field-0.0 in
@@ -18,7 +18,7 @@ returns-in_err-witness-clause-refused g c =
 
 pub returns-clause-accepted : goal.returns-clause-accepted
 returns-clause-accepted g c =
-    let E = extension g.F.PrimeCharacteristicRing.ring g.F.PartialEq.eq g.EF.PrimeCharacteristicRing.ring g.EF.PartialEq.eq g.EF.ExtensionDomain.embed g.EF.Field.inverse in
+    let E = of_laws g.met.EF.ExtensionField.lawful_fields in
     let plan = c.args.plan.now in
     let shown : map shown_of c.as_slice-traces.result.now ≡ map (λ main. (main, None, [])) (mains_of c.args.traces.now) = ap (map shown_of) c.as_slice-traces.ensures ∙ (λ i. c.alone.ensures i ∷ c.alone-2.ensures i ∷ c.alone-3.ensures i ∷ []) in
     let made = c.in_ok-witness.ensures in
@@ -27,7 +27,7 @@ returns-clause-accepted g c =
 
 pub returns-clause-refused : goal.returns-clause-refused
 returns-clause-refused g c =
-    let E = extension g.F.PrimeCharacteristicRing.ring g.F.PartialEq.eq g.EF.PrimeCharacteristicRing.ring g.EF.PartialEq.eq g.EF.ExtensionDomain.embed g.EF.Field.inverse in
+    let E = of_laws g.met.EF.ExtensionField.lawful_fields in
     let plan = c.args.plan.now in
     let shown : map shown_of c.as_slice-traces.result.now ≡ map (λ main. (main, None, [])) (mains_of c.args.traces.now) = ap (map shown_of) c.as_slice-traces.ensures ∙ (λ i. c.alone.ensures i ∷ c.alone-2.ensures i ∷ c.alone-3.ensures i ∷ []) in
     let made = c.in_ok-witness.ensures in

@@ -1,6 +1,6 @@
 use Rattle.std.proofs.Common.{List, inl, inr, ap, subst, sym, ◌∙◌}
 use Rattle.std.proofs.lemmas.Result.{MatchResult-weaker}
-use Rattle.lookup_model.specs.Extension.{extension}
+use Rattle.field.specs.laws.LawfulExtension.{of_laws}
 use Rattle.batch_model.specs.Ids.{AreLawfulIds}
 use Rattle.batch_model.specs.Instances.{DoInstancesFit, Instance, instances_of}
 use Rattle.batch_model.specs.declared.instance.BatchInstance.{BatchInstance}
@@ -30,7 +30,7 @@ counted_grid-requires-clause-lawful g c =
 
 pub returns-clause-answer : goal.returns-clause-answer
 returns-clause-answer g c =
-    let E = extension g.F.PrimeCharacteristicRing.ring g.F.PartialEq.eq g.EF.PrimeCharacteristicRing.ring g.EF.PartialEq.eq g.EF.ExtensionDomain.embed g.EF.Field.inverse in
+    let E = of_laws g.met.EF.ExtensionField.lawful_fields in
     let self = c.args.self.now in
     let over = c.in_ok-batch.ensures in
     let counted = subst (λ (is : List (Instance _)). CountsGrid E is self.max_message_width c.args.alphas.now c.args.betas.now c.counted_grid.result) (ap instances_of c.as_slice.ensures.value ∙ over.is) c.counted_grid.ensures.answer in

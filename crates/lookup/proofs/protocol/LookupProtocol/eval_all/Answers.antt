@@ -6,7 +6,7 @@ use Rattle.std.proofs.lemmas.Result.{err_from_is_err_and}
 use Rattle.expressions.specs.Window.{ExtWindow}
 use Rattle.lookup_evaluation.specs.Asserted.{Asserts, IsConstraint}
 use Rattle.lookup_model.specs.Constraints.{accumulator_constraints, fraction_constraint, lookup_constraints, terminal_at}
-use Rattle.lookup_model.specs.Extension.{extension}
+use Rattle.field.specs.laws.LawfulExtension.{of_laws}
 use Rattle.lookup_model.specs.declared.types.Lookup.{Lookup}
 use Rattle.lookup_evaluation.proofs.AssertedLaws.{evaluates_read, evaluates_then, fails_early}
 use Rattle.lookup.proofs.Evaluations.{later_reads, layout_kept, windows_kept}
@@ -15,7 +15,7 @@ use Rattle.lookup.proofs.protocol.LookupProtocol.eval_all.Goals as goal
 pub returns-then-is_empty : goal.returns-then-is_empty
 unfolding Asserts
 returns-then-is_empty g c =
-    let E = extension g.AB.F.PrimeCharacteristicRing.ring g.AB.F.PartialEq.eq g.AB.EF.PrimeCharacteristicRing.ring g.AB.EF.PartialEq.eq g.AB.EF.ExtensionDomain.embed g.AB.EF.Field.inverse in
+    let E = of_laws g.met.AB.EF.ExtensionField.lawful_fields in
     let value : g.row.AB-ExprEF.Denot → ExtWindow g.row.AB-F.Denot g.row.AB-EF.Denot → g.row.AB-EF.Denot = λ x w. g.AB.ExprEF.Expression.value x (g.AB.ExtensionBuilder.seen_ext w) in
     let degree = g.AB.ExprEF.Expression.degree in
     let stands = g.AB.ExtensionBuilder.stands_for_ext in
@@ -27,7 +27,7 @@ returns-then-is_empty g c =
 
 pub returns-in_err-eval_fractions : goal.returns-in_err-eval_fractions
 returns-in_err-eval_fractions g c =
-    let E = extension g.AB.F.PrimeCharacteristicRing.ring g.AB.F.PartialEq.eq g.AB.EF.PrimeCharacteristicRing.ring g.AB.EF.PartialEq.eq g.AB.EF.ExtensionDomain.embed g.AB.EF.Field.inverse in
+    let E = of_laws g.met.AB.EF.ExtensionField.lawful_fields in
     let value : g.row.AB-ExprEF.Denot → ExtWindow g.row.AB-F.Denot g.row.AB-EF.Denot → g.row.AB-EF.Denot = λ x w. g.AB.ExprEF.Expression.value x (g.AB.ExtensionBuilder.seen_ext w) in
     let degree = g.AB.ExprEF.Expression.degree in
     let stands = g.AB.ExtensionBuilder.stands_for_ext in
@@ -39,7 +39,7 @@ returns-in_err-eval_fractions g c =
 
 pub eval_terminal-requires-clause-cells : goal.eval_terminal-requires-clause-cells
 eval_terminal-requires-clause-cells g c =
-    let E = extension g.AB.F.PrimeCharacteristicRing.ring g.AB.F.PartialEq.eq g.AB.EF.PrimeCharacteristicRing.ring g.AB.EF.PartialEq.eq g.AB.EF.ExtensionDomain.embed g.AB.EF.Field.inverse in
+    let E = of_laws g.met.AB.EF.ExtensionField.lawful_fields in
     let value : g.row.AB-ExprEF.Denot → ExtWindow g.row.AB-F.Denot g.row.AB-EF.Denot → g.row.AB-EF.Denot = λ x w. g.AB.ExprEF.Expression.value x (g.AB.ExtensionBuilder.seen_ext w) in
     let degree = g.AB.ExprEF.Expression.degree in
     let stands = g.AB.ExtensionBuilder.stands_for_ext in
@@ -53,7 +53,7 @@ eval_terminal-requires-clause-cells g c =
 
 pub eval_terminal-requires-clause-terminal : goal.eval_terminal-requires-clause-terminal
 eval_terminal-requires-clause-terminal g c =
-    let E = extension g.AB.F.PrimeCharacteristicRing.ring g.AB.F.PartialEq.eq g.AB.EF.PrimeCharacteristicRing.ring g.AB.EF.PartialEq.eq g.AB.EF.ExtensionDomain.embed g.AB.EF.Field.inverse in
+    let E = of_laws g.met.AB.EF.ExtensionField.lawful_fields in
     let value : g.row.AB-ExprEF.Denot → ExtWindow g.row.AB-F.Denot g.row.AB-EF.Denot → g.row.AB-EF.Denot = λ x w. g.AB.ExprEF.Expression.value x (g.AB.ExtensionBuilder.seen_ext w) in
     let degree = g.AB.ExprEF.Expression.degree in
     let stands = g.AB.ExtensionBuilder.stands_for_ext in
@@ -67,7 +67,7 @@ eval_terminal-requires-clause-terminal g c =
 
 pub returns : goal.returns
 returns g c =
-    let E = extension g.AB.F.PrimeCharacteristicRing.ring g.AB.F.PartialEq.eq g.AB.EF.PrimeCharacteristicRing.ring g.AB.EF.PartialEq.eq g.AB.EF.ExtensionDomain.embed g.AB.EF.Field.inverse in
+    let E = of_laws g.met.AB.EF.ExtensionField.lawful_fields in
     let value : g.row.AB-ExprEF.Denot → ExtWindow g.row.AB-F.Denot g.row.AB-EF.Denot → g.row.AB-EF.Denot = λ x w. g.AB.ExprEF.Expression.value x (g.AB.ExtensionBuilder.seen_ext w) in
     let degree = g.AB.ExprEF.Expression.degree in
     let stands = g.AB.ExtensionBuilder.stands_for_ext in
