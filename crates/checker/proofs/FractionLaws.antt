@@ -4,7 +4,7 @@ use Rattle.std.specs.List.{AllZip}
 use Rattle.std.specs.declared.alloc.Global.{Global}
 use Rattle.std.specs.declared.vec.Vec.{Vec}
 use Rattle.field.specs.Ring.{sub_in}
-use Rattle.field.specs.RingFacts.{same_from_difference}
+use Rattle.field.specs.laws.RingFacts.{same_from_difference}
 use Rattle.expressions.specs.Window.{Window}
 use Rattle.expressions.specs.declared.base_expression.SymbolicExpression.{SymbolicExpression}
 use Rattle.lookup_columns.specs.ChunkColumns.{HoldSelected, IsHeld, IsHeldIfSet, key_denominator}

@@ -2,7 +2,7 @@
 use Rattle.std.proofs.Common.{◌≡◌, ◌+◌, ◌<◌, ◌++◌, ◌∷◌, [], ℕ, List, length, map, take, get_or, subst, sym}
 use Rattle.std.specs.List.{AllByRecursion}
 use Rattle.air.specs.declared.debug.inputs.RowInputs.{RowInputs}
-use Rattle.field.specs.Distinct.{all_map}
+use Rattle.field.specs.laws.Distinct.{all_map}
 use Rattle.lookup_columns.proofs.ZipLaws.{taken_more}
 use Rattle.lookup_model.specs.Constraints.{accumulator_constraints, fraction_constraint, terminal_at}
 use Rattle.field.specs.Extension.{Extension}

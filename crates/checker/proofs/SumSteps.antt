@@ -1,8 +1,8 @@
 -- What solutions of equations can sum to, with one more equation or with further ones.
 use Rattle.std.proofs.Common.{◌≡◌, ◌≢◌, ◌↔◌, List, [], ◌∷◌, ◌++◌, refl, sym, ap, ◌∙◌}
 use Rattle.field.specs.Ring.{Ring, IsCommutativeRing, IsDomain, IsInverse, sub_in}
-use Rattle.field.specs.RingFacts.{domain_cancel, mul_zero, product_nonzero}
-use Rattle.field.specs.RingSolver.{var, con, ◌:+◌, ◌:-◌, ◌:*◌, ring_given, ring_law}
+use Rattle.field.specs.laws.RingFacts.{domain_cancel, mul_zero, product_nonzero}
+use Rattle.field.specs.laws.RingSolver.{var, con, ◌:+◌, ◌:-◌, ◌:*◌, ring_given, ring_law}
 use Rattle.batch_model.specs.Equations.{CanSumTo, Equation, Solves}
 use Rattle.witness_laws.proofs.SolutionSums.{none_sums, one_sums, sum_of_one, sums_apart, sums_together}
 use Rattle.checker.specs.Sums.{AreSums}

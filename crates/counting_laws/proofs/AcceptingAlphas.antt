@@ -3,11 +3,12 @@
 use Rattle.std.proofs.Common.{◌≡◌, ◌≢◌, ℕ, ◌+◌, ◌*◌, ◌<◌, ◌≤◌, List, [], ◌∷◌, map, length, refl, sym, ap, ◌∙◌, arith, Bool, true, false, not, Decides}
 use Rattle.std.proofs.lemmas.List.{length-map}
 use Rattle.std.specs.List.{AllByRecursion, filter, list_any}
-use Rattle.field.specs.Distinct.{IsDistinct, all_both, all_map, all_weaker}
+use Rattle.field.specs.Distinct.{IsDistinct}
+use Rattle.field.specs.laws.Distinct.{all_both, all_map, all_weaker}
 use Rattle.field.specs.Polynomial.{combined, IsRoot, IsZeroPolynomial}
 use Rattle.field.specs.Ring.{of_nat, power, sub_in}
-use Rattle.field.specs.RingFacts.{mul_zero, same_from_difference}
-use Rattle.field.specs.RingSolver.{var, ◌:+◌, ◌:-◌, ◌:*◌, ring_law}
+use Rattle.field.specs.laws.RingFacts.{mul_zero, same_from_difference}
+use Rattle.field.specs.laws.RingSolver.{var, ◌:+◌, ◌:-◌, ◌:*◌, ring_law}
 use Rattle.field.specs.Sums.{sum_in}
 use Rattle.field.proofs.Roots.{few_roots}
 use Rattle.field.specs.Extension.{Extension, IsLawful}

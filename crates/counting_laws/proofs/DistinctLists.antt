@@ -1,7 +1,8 @@
 -- How long distinct lists are.
 use Rattle.std.proofs.Common.{◌≡◌, ◌≢◌, ℕ, suc, ◌+◌, ◌*◌, ◌≤◌, List, [], ◌∷◌, length, refl, subst, arith, Bool, true, false, not, cond, ◌||◌, Decides}
 use Rattle.std.specs.List.{AllByRecursion, filter, list_any}
-use Rattle.field.specs.Distinct.{IsDistinct, all_both}
+use Rattle.field.specs.Distinct.{IsDistinct}
+use Rattle.field.specs.laws.Distinct.{all_both}
 use Rattle.lookup_laws.proofs.Regrouping.{All-filter, Holds, IsSeparate, filter_passes}
 
 module _ {A : Type 0} where

@@ -4,7 +4,8 @@ use Rattle.std.proofs.Math.Nat.{mul-le-mul_left}
 use Rattle.std.proofs.lemmas.Bool.{cases_lt}
 use Rattle.std.proofs.lemmas.List.{length-map}
 use Rattle.std.specs.List.{AllByRecursion, filter, list_any}
-use Rattle.field.specs.Distinct.{IsAmong, IsDistinct, all_both, all_map, all_weaker}
+use Rattle.field.specs.Distinct.{IsAmong, IsDistinct}
+use Rattle.field.specs.laws.Distinct.{all_both, all_map, all_weaker}
 use Rattle.field.specs.Extension.{Extension, IsLawful}
 use Rattle.lookup_laws.proofs.Regrouping.{All-filter, filter_passes}
 use Rattle.batch_model.specs.Counts.{FewBadBetas, IsAccepting, bad_beta_bound, message_count, unbalanced_count}

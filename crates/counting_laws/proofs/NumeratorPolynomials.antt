@@ -3,8 +3,8 @@ use Rattle.std.proofs.Common.{◌≡◌, ◌≢◌, suc, List, [], ◌∷◌, ma
 use Rattle.std.specs.List.{AllByRecursion}
 use Rattle.field.specs.Polynomial.{IsZeroPolynomial, value_at}
 use Rattle.field.specs.Ring.{sub_in}
-use Rattle.field.specs.RingFacts.{mul_zero, product_nonzero, same_from_difference}
-use Rattle.field.specs.RingSolver.{var, con, ◌:+◌, ◌:-◌, ◌:*◌, ring_law, ring_given}
+use Rattle.field.specs.laws.RingFacts.{mul_zero, product_nonzero, same_from_difference}
+use Rattle.field.specs.laws.RingSolver.{var, con, ◌:+◌, ◌:-◌, ◌:*◌, ring_law, ring_given}
 use Rattle.field.specs.Sums.{sum_in}
 use Rattle.field.proofs.Roots.{value_at-zero}
 use Rattle.field.specs.Extension.{Extension, IsLawful}

@@ -3,7 +3,8 @@ use Rattle.std.proofs.Common.{◌≡◌, ◌≢◌, ℕ, suc, ◌+◌, ◌-◌, 
 use Rattle.std.proofs.lemmas.List.{length-map}
 use Rattle.std.specs.List.{AllByRecursion, list_any}
 use Rattle.field.specs.Characteristic.{HasCharacteristic}
-use Rattle.field.specs.Distinct.{IsDistinct, all_weaker}
+use Rattle.field.specs.Distinct.{IsDistinct}
+use Rattle.field.specs.laws.Distinct.{all_weaker}
 use Rattle.field.specs.Extension.{Extension, IsLawful}
 use Rattle.lookup_model.specs.Message.{Key}
 use Rattle.lookup_model.specs.Collisions.{IsLawfulKey}

@@ -3,7 +3,8 @@ use Rattle.std.proofs.Common.{◌≡◌, ℕ, ◌-◌, ◌*◌, ◌/◌, ◌≤�
 use Rattle.std.proofs.lemmas.List.{length-map}
 use Rattle.std.specs.List.{AllByRecursion}
 use Rattle.field.specs.Characteristic.{HasCharacteristic}
-use Rattle.field.specs.Distinct.{IsDistinct, all_map, all_weaker, distinct_map}
+use Rattle.field.specs.Distinct.{IsDistinct}
+use Rattle.field.specs.laws.Distinct.{all_map, all_weaker, distinct_map}
 use Rattle.field.specs.Extension.{Extension, IsLawful}
 use Rattle.lookup_model.proofs.HornerRule.{map-map}
 use Rattle.lookup_model.specs.Message.{Key, same_key}

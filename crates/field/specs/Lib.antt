@@ -3,17 +3,11 @@ pub mod Characteristic
 pub mod Sums
 pub mod Polynomial
 pub mod Distinct
-pub mod RingFacts
-pub mod RingSolver
-pub mod FiniteDomain
 pub mod Residue
 pub mod ResidueRing
-pub mod Primes
-pub mod PrimeResidues
 pub mod IntegersModulo2
 pub mod IntegersModulo7
 pub mod Quartic
-pub mod QuarticField
 pub mod BabyBear
 pub mod BabyBear4
 pub mod Lists

@@ -1,1 +1,15 @@
-pub mod LawfulExtension
+pub mod Extension
+pub mod RingFacts
+pub mod RingSolver
+pub mod Distinct
+pub mod FiniteDomain
+pub mod Primes
+pub mod Residue
+pub mod ResidueRing
+pub mod PrimeResidues
+pub mod IntegersModulo2
+pub mod IntegersModulo7
+pub mod Quartic
+pub mod QuarticField
+pub mod BabyBear
+pub mod BabyBear4

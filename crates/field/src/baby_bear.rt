@@ -1,9 +1,11 @@
 //! The field of the integers modulo 2013265921.
 ghost use Rattle.std.specs.Prelude.{◌≡◌, IfOk, ◌<◌, ◌≤◌, ◌+◌, ◌-◌, ◌*◌, ◌^◌, ℕ, refl, decimal};
 ghost use Rattle.std.proofs.Common.{rules, arith};
-ghost use Rattle.field.specs.BabyBear.{baby_bear_of, baby_bear_positive, baby_bear_prime, baby_bear_ring, from_stored, stored_equality};
-ghost use Rattle.field.specs.PrimeResidues.{residue_domain, residue_inverse_is};
-ghost use Rattle.field.specs.ResidueRing.{residue_characteristic, residue_inverse, residue_ring_lawful};
+ghost use Rattle.field.specs.BabyBear.{baby_bear_of, baby_bear_positive, baby_bear_ring, from_stored};
+ghost use Rattle.field.specs.laws.BabyBear.{baby_bear_prime, stored_equality};
+ghost use Rattle.field.specs.laws.PrimeResidues.{residue_domain, residue_inverse_is};
+ghost use Rattle.field.specs.ResidueRing.{residue_inverse};
+ghost use Rattle.field.specs.laws.ResidueRing.{residue_characteristic, residue_ring_lawful};
 ghost use Rattle.field.specs.Ring.{sub_in};
 ghost use Rattle.serde.specs.Event.{Sends, unsigned};
 ghost use Rattle.serde.specs.Steps.{Gives};
@@ -42,7 +44,8 @@ pub(crate) const ONE: BabyBear = BabyBear { value: 268_435_454 };
 
 impl Model for BabyBear {
     ghost use Rattle.std.specs.Prelude.{◌<◌};
-    ghost use Rattle.field.specs.BabyBear.{from_stored, stored_of, stored_again};
+    ghost use Rattle.field.specs.BabyBear.{from_stored, stored_of};
+    ghost use Rattle.field.specs.laws.BabyBear.{stored_again};
     ghost use Rattle.field.specs.Residue.{Residue, residue_coded};
 
     ghost Value = { Residue 2013265921 };

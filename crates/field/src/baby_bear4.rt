@@ -2,12 +2,14 @@
 ghost use Rattle.std.specs.Prelude.{◌≡◌, IfOk, ◌<◌, ◌+◌, ◌*◌, ℕ, refl};
 ghost use Rattle.std.specs.String.{string_bytes};
 ghost use Rattle.std.proofs.Common.{rules, arith};
-ghost use Rattle.field.specs.BabyBear.{baby_bear_positive, baby_bear_prime, baby_bear_ring, baby_bear_of, stored_equality};
-ghost use Rattle.field.specs.BabyBear4.{baby_bear4_characteristic, baby_bear4_domain, baby_bear4_embeds, baby_bear4_equality, baby_bear4_inverse, baby_bear4_inverse_is, baby_bear4_lawful, baby_bear4_ring, baby_bear4_text, four_decimals};
+ghost use Rattle.field.specs.BabyBear.{baby_bear_positive, baby_bear_ring, baby_bear_of};
+ghost use Rattle.field.specs.laws.BabyBear.{baby_bear_prime, stored_equality};
+ghost use Rattle.field.specs.BabyBear4.{baby_bear4_inverse, baby_bear4_ring, baby_bear4_text, four_decimals};
+ghost use Rattle.field.specs.laws.BabyBear4.{baby_bear4_characteristic, baby_bear4_domain, baby_bear4_embeds, baby_bear4_equality, baby_bear4_inverse_is, baby_bear4_lawful};
 ghost use Rattle.field.specs.Quartic.{coefficients_of, norm_high, norm_low, quartic_cofactor, quartic_embed, quartic_norm};
-ghost use Rattle.field.specs.ResidueRing.{residue_ring_lawful};
+ghost use Rattle.field.specs.laws.ResidueRing.{residue_ring_lawful};
 ghost use Rattle.field.specs.Ring.{sub_in};
-ghost use Rattle.field.specs.laws.LawfulExtension.{lawful_extension};
+ghost use Rattle.field.specs.laws.Extension.{lawful_extension};
 ghost use Rattle.serde.specs.Event.{Sends, WritesSeq, unsigned};
 
 use crate::baby_bear::{self, BabyBear};

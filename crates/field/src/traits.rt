@@ -4,7 +4,7 @@ ghost use Rattle.std.specs.String.{string_bytes};
 ghost use Rattle.field.specs.Characteristic.{HasCharacteristic, IsPrime};
 ghost use Rattle.field.specs.Extension.{Extension, IsLawful, extension};
 ghost use Rattle.field.specs.Ring.{Ring, IsCommutativeRing, IsDomain, IsEmbedding, IsInverse, of_bool, of_int, of_nat, power, sub_in};
-ghost use Rattle.field.specs.laws.LawfulExtension.{identity_embeds, lawful_extension};
+ghost use Rattle.field.specs.laws.Extension.{identity_embeds, lawful_extension};
 
 use std::alloc::{AllocError, Global};
 use std::hash::Hash;

@@ -9,8 +9,8 @@ use Rattle.std.specs.List.{AllByRecursion, AllZip, filter, flat_map, range_with_
 use Rattle.field.specs.Characteristic.{HasCharacteristic}
 use Rattle.field.specs.Distinct.{IsAmong}
 use Rattle.field.specs.Ring.{Ring, IsCommutativeRing, of_int, of_nat}
-use Rattle.field.specs.RingFacts.{neg_neg, neg_zero, of_nat-add}
-use Rattle.field.specs.RingSolver.{var, con, :neg, ◌:+◌, ring_given}
+use Rattle.field.specs.laws.RingFacts.{neg_neg, neg_zero, of_nat-add}
+use Rattle.field.specs.laws.RingSolver.{var, con, :neg, ◌:+◌, ring_given}
 use Rattle.field.specs.Sums.{sum_in}
 use Rattle.matrix.specs.Matrix.{height}
 use Rattle.expressions.specs.Window.{window_at}

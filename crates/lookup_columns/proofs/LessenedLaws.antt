@@ -6,7 +6,7 @@ use Rattle.std.proofs.lemmas.List.{length-map, length-reverse}
 use Rattle.std.specs.List.{zip}
 use Rattle.field.specs.Polynomial.{value_at}
 use Rattle.field.specs.Ring.{Ring, IsCommutativeRing, power, sub_in}
-use Rattle.field.specs.RingSolver.{var, con, ◌:+◌, ◌:-◌, ◌:*◌, ring_law}
+use Rattle.field.specs.laws.RingSolver.{var, con, ◌:+◌, ◌:-◌, ◌:*◌, ring_law}
 use Rattle.expressions.specs.Window.{Window}
 use Rattle.expressions.specs.declared.base_expression.SymbolicExpression.{SymbolicExpression}
 use Rattle.lookup_model.proofs.Coefficients.{value_at-push}

@@ -3,7 +3,7 @@ use Rattle.std.proofs.Common.{◌≡◌, Bool, true, false, cond, not, ◌||◌,
 use Rattle.std.proofs.lemmas.Bool.{and_parts}
 use Rattle.std.specs.List.{filter, list_all, zip}
 use Rattle.field.specs.Ring.{Ring, IsCommutativeRing}
-use Rattle.field.specs.RingFacts.{one_mul, zero_mul}
+use Rattle.field.specs.laws.RingFacts.{one_mul, zero_mul}
 use Rattle.expressions.specs.Window.{Window}
 use Rattle.lookup_model.specs.Message.{Message}
 use Rattle.lookup_model.specs.Sent.{branches_at, chosen, flags_at, sent, sent_at}

@@ -4,7 +4,7 @@ use Rattle.std.proofs.Common.{◌≡◌, Bool, true, false, cond, ◌||◌, List
 use Rattle.std.proofs.lemmas.Bool.{false≢true, true≢false}
 use Rattle.std.specs.List.{filter, list_any, AllByRecursion}
 use Rattle.field.specs.Ring.{Ring, IsCommutativeRing}
-use Rattle.field.specs.RingFacts.{zero_add}
+use Rattle.field.specs.laws.RingFacts.{zero_add}
 use Rattle.field.specs.Sums.{sum_in}
 use Rattle.lookup_laws.proofs.Regrouping.{IsSeparate, Holds, All-map}
 use Rattle.lookup_model.proofs.SumLaws.{sum_in-zeros, sum_in-map-add}

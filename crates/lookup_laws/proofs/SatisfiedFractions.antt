@@ -5,8 +5,8 @@ use Rattle.std.specs.List.{AllByRecursion}
 use Rattle.std.specs.declared.alloc.Global.{Global}
 use Rattle.std.specs.declared.vec.Vec.{Vec}
 use Rattle.field.specs.Ring.{Ring, IsCommutativeRing, sub_in}
-use Rattle.field.specs.RingFacts.{mul_zero}
-use Rattle.field.specs.RingSolver.{var, con, ◌:*◌, ◌:+◌, ring_given}
+use Rattle.field.specs.laws.RingFacts.{mul_zero}
+use Rattle.field.specs.laws.RingSolver.{var, con, ◌:*◌, ◌:+◌, ring_given}
 use Rattle.field.specs.Sums.{product_in, sum_in, taken_out}
 use Rattle.expressions.specs.Window.{Window}
 use Rattle.expressions.specs.declared.base_expression.SymbolicExpression.{SymbolicExpression}

@@ -5,7 +5,7 @@ use Rattle.std.proofs.Math.Seq.{drop-append-add, take-append_seam}
 use Rattle.std.proofs.lemmas.Bool.{eqb-true, eqb-false, not-true}
 use Rattle.std.proofs.lemmas.List.{get_or_default, length-map, length-take, take_all}
 use Rattle.std.specs.List.{AllByRecursion, cons_option, flat_map, range_with_len, slice_range}
-use Rattle.field.specs.Distinct.{all_map}
+use Rattle.field.specs.laws.Distinct.{all_map}
 use Rattle.field.specs.Ring.{of_bool, sub_in}
 use Rattle.field.specs.Sums.{sum_in}
 use Rattle.matrix.specs.Matrix.{Matrix, height, row}

@@ -3,8 +3,8 @@ use Rattle.std.proofs.Common.{◌≡◌, ◌≢◌, ◌≤◌, Bool, true, false
 use Rattle.std.proofs.lemmas.Bool.{true≢false, and_parts}
 use Rattle.std.specs.List.{filter, zip}
 use Rattle.field.specs.Ring.{sub_in}
-use Rattle.field.specs.RingFacts.{one_mul, zero_add, zero_mul}
-use Rattle.field.specs.RingSolver.{var, con, ◌:*◌, ◌:+◌, ◌:-◌, ring_given, ring_law}
+use Rattle.field.specs.laws.RingFacts.{one_mul, zero_add, zero_mul}
+use Rattle.field.specs.laws.RingSolver.{var, con, ◌:*◌, ◌:+◌, ◌:-◌, ring_given, ring_law}
 use Rattle.field.specs.Sums.{sum_in}
 use Rattle.lookup_model.specs.Constraints.{exclusive_numerator}
 use Rattle.field.specs.Extension.{Extension, IsLawful}

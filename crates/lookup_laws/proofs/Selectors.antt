@@ -1,8 +1,8 @@
 -- Constraints on some rows only: a selector times a left side, and the steps of a running sum.
 use Rattle.std.proofs.Common.{◌≡◌, Bool, true, false, [], ◌∷◌, refl, sym, ap, ◌∙◌}
 use Rattle.field.specs.Ring.{Ring, IsCommutativeRing, of_bool, sub_in}
-use Rattle.field.specs.RingFacts.{mul_zero, one_mul, zero_mul}
-use Rattle.field.specs.RingSolver.{var, con, ◌:+◌, ◌:-◌, :neg, ring_given, ring_law}
+use Rattle.field.specs.laws.RingFacts.{mul_zero, one_mul, zero_mul}
+use Rattle.field.specs.laws.RingSolver.{var, con, ◌:+◌, ◌:-◌, :neg, ring_given, ring_law}
 
 module _ {K : Type 0} {S : Ring K} (laws : IsCommutativeRing S) where
   -- what is selected is zero where the selector is off, or its left side is zero

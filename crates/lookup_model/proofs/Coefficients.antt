@@ -2,8 +2,8 @@
 use Rattle.std.proofs.Common.{◌≡◌, ℕ, zero, suc, ◌≤◌, List, [], ◌∷◌, ◌++◌, length, refl, ap, ap₂, ◌∙◌, arith}
 use Rattle.field.specs.Polynomial.{value_at}
 use Rattle.field.specs.Ring.{Ring, IsCommutativeRing, power}
-use Rattle.field.specs.RingFacts.{mul_zero, zero_add}
-use Rattle.field.specs.RingSolver.{var, con, ◌:+◌, ◌:*◌, ring_law}
+use Rattle.field.specs.laws.RingFacts.{mul_zero, zero_add}
+use Rattle.field.specs.laws.RingSolver.{var, con, ◌:+◌, ◌:*◌, ring_law}
 
 module _ {K : Type 0} {S : Ring K} (laws : IsCommutativeRing S) where
   -- a coefficient list with zeros up to a length

@@ -5,11 +5,11 @@ use Rattle.std.proofs.lemmas.List.{length-reverse, reverse-reverse}
 use Rattle.std.proofs.lemmas.Nat.Gcd.{le_of_dvd}
 use Rattle.std.specs.Int.{◌∣◌}
 use Rattle.field.specs.Characteristic.{HasCharacteristic}
-use Rattle.field.specs.Distinct.{all_weaker}
+use Rattle.field.specs.laws.Distinct.{all_weaker}
 use Rattle.field.specs.Polynomial.{combined, value_at}
 use Rattle.field.specs.Ring.{Ring, IsCommutativeRing, IsDomain, of_nat, power}
-use Rattle.field.specs.RingFacts.{add_cancel_right, neg_neg, of_nat-add, zero_add}
-use Rattle.field.specs.RingSolver.{var, con, :neg, ◌:+◌, ◌:-◌, ◌:*◌, ring_law}
+use Rattle.field.specs.laws.RingFacts.{add_cancel_right, neg_neg, of_nat-add, zero_add}
+use Rattle.field.specs.laws.RingSolver.{var, con, :neg, ◌:+◌, ◌:-◌, ◌:*◌, ring_law}
 use Rattle.field.proofs.Roots.{same_from_values}
 use Rattle.lookup_model.specs.Collisions.{FewCombineAlike, FewShareAPoint, IgnoresLeadingZero, IsLawfulKey}
 use Rattle.lookup_model.specs.Message.{Key}

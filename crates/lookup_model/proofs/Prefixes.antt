@@ -4,8 +4,8 @@ use Rattle.std.proofs.lemmas.List.FromFn.{get_or-map-range_with_len}
 use Rattle.std.specs.List.{range_with_len}
 use Rattle.field.specs.Polynomial.{combined}
 use Rattle.field.specs.Ring.{Ring, IsCommutativeRing, of_nat, power, sub_in}
-use Rattle.field.specs.RingFacts.{add_mul, zero_mul}
-use Rattle.field.specs.RingSolver.{var, ◌:+◌, ◌:-◌, ring_law}
+use Rattle.field.specs.laws.RingFacts.{add_mul, zero_mul}
+use Rattle.field.specs.laws.RingSolver.{var, ◌:+◌, ◌:-◌, ring_law}
 use Rattle.lookup_model.specs.Challenges.{prefix_of_bus}
 use Rattle.lookup_model.specs.Points.{HasPoints}
 

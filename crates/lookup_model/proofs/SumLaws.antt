@@ -3,7 +3,7 @@ use Rattle.std.proofs.Common.{◌≡◌, ℕ, ◌+◌, ◌<◌, length, get_or, 
 use Rattle.std.proofs.lemmas.List.{map_push, take_more}
 use Rattle.std.specs.List.{filter, AllByRecursion}
 use Rattle.field.specs.Ring.{Ring, IsCommutativeRing}
-use Rattle.field.specs.RingFacts.{zero_add, add_swap}
+use Rattle.field.specs.laws.RingFacts.{zero_add, add_swap}
 use Rattle.field.specs.Sums.{sum_in}
 
 module _ {K : Type 0} {S : Ring K} (laws : IsCommutativeRing S) where

@@ -7,7 +7,7 @@ use Rattle.std.proofs.lemmas.List.Edits.{swap_is}
 use Rattle.std.specs.List.{filter, swap}
 use Rattle.std.specs.List.Sorted.{IsPermutation}
 use Rattle.field.specs.Ring.{IsCommutativeRing, Ring}
-use Rattle.field.specs.RingFacts.{add_cancel_right, zero_add}
+use Rattle.field.specs.laws.RingFacts.{add_cancel_right, zero_add}
 use Rattle.field.specs.Sums.{sum_in}
 
 module _ {K X : Type 0} {S : Ring K} (laws : IsCommutativeRing S) where

@@ -8,7 +8,8 @@ use Rattle.std.proofs.lemmas.Int.Digits.{digits_value_more}
 use Rattle.std.proofs.lemmas.Str.Parse.{IsNumeralModel, digit_at, digits_value-take-le, numerals_by_value, tells_all_ascii_digits}
 use native.Mathlib.Nat.{mod-eq_of_lt}
 use Rattle.field.specs.Residue.{Residue, residue_of}
-use Rattle.field.specs.ResidueRing.{residue_ring, of_nat_is}
+use Rattle.field.specs.ResidueRing.{residue_ring}
+use Rattle.field.specs.laws.ResidueRing.{of_nat_is}
 use Rattle.field.specs.Ring.{of_nat}
 use Rattle.lookup_program.specs.Words.{number_of, WritesResidue}
 

@@ -5,10 +5,10 @@ use Rattle.std.proofs.Math.Nat.{mod-eq_of_lt}
 use Rattle.std.proofs.lemmas.Bool.{eq-eqb, ne_eqb}
 use Rattle.std.proofs.lemmas.List.{append-nil}
 use Rattle.std.specs.List.{AllByRecursion, AllZip, flat_map, range_with_len}
-use Rattle.field.specs.Distinct.{all_weaker}
+use Rattle.field.specs.laws.Distinct.{all_weaker}
 use Rattle.field.specs.Ring.{of_bool, sub_in}
-use Rattle.field.specs.RingFacts.{one_mul, same_from_difference, zero_add}
-use Rattle.field.specs.RingSolver.{var, con, ◌:+◌, ◌:-◌, ring_given}
+use Rattle.field.specs.laws.RingFacts.{one_mul, same_from_difference, zero_add}
+use Rattle.field.specs.laws.RingSolver.{var, con, ◌:+◌, ◌:-◌, ring_given}
 use Rattle.field.specs.Sums.{sum_in}
 use Rattle.matrix.specs.Matrix.{Matrix, height, row}
 use Rattle.expressions.specs.Window.{ExtWindow}

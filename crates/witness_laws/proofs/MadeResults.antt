@@ -6,10 +6,10 @@ use Rattle.std.proofs.lemmas.Grind.{flat_map-append}
 use Rattle.std.proofs.lemmas.List.{append-nil, ext_get_or, get_or_default, length-append, length-map, take_all, take_more}
 use Rattle.std.proofs.lemmas.List.FromFn.{length-range_with_len}
 use Rattle.std.specs.List.{AllByRecursion, AllZip, flat_map, range_with_len}
-use Rattle.field.specs.Distinct.{all_map}
+use Rattle.field.specs.laws.Distinct.{all_map}
 use Rattle.field.specs.Ring.{of_bool, sub_in}
-use Rattle.field.specs.RingFacts.{mul_zero, zero_mul}
-use Rattle.field.specs.RingSolver.{var, con, ◌:+◌, :neg, ring_law}
+use Rattle.field.specs.laws.RingFacts.{mul_zero, zero_mul}
+use Rattle.field.specs.laws.RingSolver.{var, con, ◌:+◌, :neg, ring_law}
 use Rattle.field.specs.Sums.{sum_in}
 use Rattle.matrix.specs.Matrix.{Matrix, height, row}
 use Rattle.expressions.specs.Window.{ExtWindow}

@@ -2,8 +2,8 @@
 use Rattle.std.proofs.Common.{◌≡◌, ◌≢◌, ℕ, ◌≤◌, Bool, true, false, ◌||◌, Option, None, Some, IfSome, List, [], ◌∷◌, length, map, refl, sym, ◌∙◌, arith}
 use Rattle.std.specs.List.{AllByRecursion}
 use Rattle.field.specs.Ring.{sub_in}
-use Rattle.field.specs.RingFacts.{domain_cancel, product_nonzero, same_from_difference}
-use Rattle.field.specs.RingSolver.{var, con, ◌:+◌, ◌:-◌, ring_law}
+use Rattle.field.specs.laws.RingFacts.{domain_cancel, product_nonzero, same_from_difference}
+use Rattle.field.specs.laws.RingSolver.{var, con, ◌:+◌, ◌:-◌, ring_law}
 use Rattle.field.specs.Sums.{sum_in}
 use Rattle.lookup_model.specs.Constraints.{additive_denominator, exclusive_denominator, fraction_denominator}
 use Rattle.field.specs.Extension.{Extension, IsLawful}

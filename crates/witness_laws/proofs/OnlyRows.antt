@@ -4,7 +4,7 @@ use Rattle.std.proofs.Math.Nat.{mod-eq_of_lt}
 use Rattle.std.proofs.lemmas.Bool.{eq-eqb, ne_eqb}
 use Rattle.std.proofs.lemmas.List.{ext_get_or, get_or_default, length-drop, length-map, length-take, take_all}
 use Rattle.std.specs.List.{AllByRecursion, flat_map, range_with_len}
-use Rattle.field.specs.Distinct.{all_both}
+use Rattle.field.specs.laws.Distinct.{all_both}
 use Rattle.field.specs.Sums.{sum_in}
 use Rattle.matrix.specs.Matrix.{Matrix, height, row}
 use Rattle.expressions.specs.Window.{ExtWindow, Window, window_at}

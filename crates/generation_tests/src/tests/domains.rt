@@ -1,10 +1,12 @@
 //! Generation over a domain that is no field, by an inverter made for it.
 ghost use Rattle.std.specs.Prelude.{◌≡◌, ◌<◌, refl};
 ghost use Rattle.std.proofs.Common.{rules, arith};
-ghost use Rattle.field.specs.IntegersModulo2.{f2_of, f2_positive, f2_prime, f2_ring};
-ghost use Rattle.field.specs.PrimeResidues.{residue_domain};
-ghost use Rattle.field.specs.Residue.{Residue, residue_equality};
-ghost use Rattle.field.specs.ResidueRing.{residue_characteristic, residue_ring_lawful};
+ghost use Rattle.field.specs.IntegersModulo2.{f2_of, f2_positive, f2_ring};
+ghost use Rattle.field.specs.laws.IntegersModulo2.{f2_prime};
+ghost use Rattle.field.specs.laws.PrimeResidues.{residue_domain};
+ghost use Rattle.field.specs.Residue.{Residue};
+ghost use Rattle.field.specs.laws.Residue.{residue_equality};
+ghost use Rattle.field.specs.laws.ResidueRing.{residue_characteristic, residue_ring_lawful};
 ghost use Rattle.field.specs.Ring.{sub_in};
 
 use super::chunks::counted;

@@ -1,5 +1,5 @@
 use Rattle.std.proofs.Common.{◌*◌, ◌^◌, ◌≤◌, take}
-use Rattle.field.specs.laws.LawfulExtension.{of_laws}
+use Rattle.field.specs.laws.Extension.{of_laws}
 use Rattle.batch_model.specs.Instances.{instances_of}
 use Rattle.batch_model.specs.Grid.{AcceptsPair, IsNumberOf, grid}
 use Rattle.batch.proofs.pairs.accepted_pairs.Given as goal

@@ -3,7 +3,7 @@ use Rattle.std.proofs.lemmas.List.FromFn.{length-map-range_with_len}
 use Rattle.std.proofs.lemmas.Result.{MatchResult-weaker}
 use Rattle.std.specs.Box.{boxed_slice_items}
 use Rattle.lookup_model.specs.Challenges.{prefix_of_bus}
-use Rattle.field.specs.laws.LawfulExtension.{of_laws}
+use Rattle.field.specs.laws.Extension.{of_laws}
 use Rattle.checker.proofs.TablesAlike.{accepted_made}
 use Rattle.batch.proofs.pairs.accepts_pair.Goals as goal
 

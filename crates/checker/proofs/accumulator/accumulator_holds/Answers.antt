@@ -6,7 +6,7 @@ use Rattle.air.specs.Row.{input_window}
 use Rattle.field.specs.Sums.{sum_in}
 use Rattle.lookup_model.proofs.ConstraintLaws.{accumulator_constraints-some}
 use Rattle.lookup_model.specs.Constraints.{accumulator_at, fractions_at, next_accumulator_at, terminal_at}
-use Rattle.field.specs.laws.LawfulExtension.{of_laws}
+use Rattle.field.specs.laws.Extension.{of_laws}
 use Rattle.checker.proofs.AccumulatorLaws.{are_zero, comes_next}
 use Rattle.checker.specs.Rows.{IsZeroOn}
 use Rattle.checker.proofs.accumulator.accumulator_holds.Goals as goal

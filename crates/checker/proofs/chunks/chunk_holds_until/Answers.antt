@@ -10,7 +10,7 @@ use Rattle.lookup_columns.specs.LookupSteps.{AreLookupSteps}
 use Rattle.lookup_columns.specs.declared.branches.BranchColumns.{BranchColumns}
 use Rattle.lookup_laws.proofs.SentRows.{column_is, equal_lengths}
 use Rattle.lookup_model.proofs.RecordLaws.{All-at}
-use Rattle.field.specs.laws.LawfulExtension.{of_laws}
+use Rattle.field.specs.laws.Extension.{of_laws}
 use Rattle.lookup_model.specs.Records.{IsWithin}
 use Rattle.matrix.specs.Matrix.{height}
 use Rattle.checker.proofs.HoldsLaws.{BothHold, both_fewer, both_from, both_more, holds_from}

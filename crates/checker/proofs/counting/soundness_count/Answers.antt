@@ -1,7 +1,7 @@
 use Rattle.std.proofs.Common.{◌≡◌, ℕ, inr, length, subst, subst₂, sym, ap, ◌∙◌}
 use Rattle.std.proofs.lemmas.Result.{MatchResult-weaker}
 use Rattle.field.specs.Characteristic.{HasCharacteristic}
-use Rattle.field.specs.laws.LawfulExtension.{of_laws}
+use Rattle.field.specs.laws.Extension.{of_laws}
 use Rattle.lookup_model.specs.Net.{keys, unbalanced_keys}
 use Rattle.lookup_generation.specs.SentMessages.{messages_of}
 use Rattle.batch_model.specs.Counts.{FewAcceptingAlphas, FewBadBetas, FewSharingBetas, message_count, unbalanced_count}

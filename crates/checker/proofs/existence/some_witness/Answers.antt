@@ -1,7 +1,7 @@
 use Rattle.std.proofs.Common.{◌≡◌, List, take, ap, subst, sym, arith}
 use Rattle.std.proofs.lemmas.List.{length-map, take_all}
 use Rattle.lookup_model.specs.Challenges.{table_of}
-use Rattle.field.specs.laws.LawfulExtension.{of_laws}
+use Rattle.field.specs.laws.Extension.{of_laws}
 use Rattle.batch_model.specs.Equations.{Equation, batch_equations}
 use Rattle.batch_model.specs.Instances.{instance_of, instances_of}
 use Rattle.checker.specs.Sums.{AreSums}

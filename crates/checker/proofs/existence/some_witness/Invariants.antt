@@ -1,6 +1,6 @@
 use Rattle.std.proofs.Common.{take}
 use Rattle.lookup_model.specs.Challenges.{table_of}
-use Rattle.field.specs.laws.LawfulExtension.{of_laws}
+use Rattle.field.specs.laws.Extension.{of_laws}
 use Rattle.batch_model.specs.Equations.{batch_equations}
 use Rattle.batch_model.specs.Instances.{instances_of}
 use Rattle.checker.specs.Sums.{AreSums}

@@ -5,7 +5,7 @@ use Rattle.matrix.specs.Matrix.{height}
 use Rattle.expressions.specs.Layout.{layout_of_traces}
 use Rattle.expressions.specs.Window.{ExtWindow}
 use Rattle.lookup_model.specs.Challenges.{table_of}
-use Rattle.field.specs.laws.LawfulExtension.{of_laws}
+use Rattle.field.specs.laws.Extension.{of_laws}
 use Rattle.lookup_model.specs.Records.{DoFit}
 use Rattle.batch_model.specs.Equations.{challenged_window, row_equations}
 use Rattle.batch_model.specs.Instances.{instance_of}

@@ -1,7 +1,7 @@
 use Rattle.std.proofs.Common.{List, ◌++◌}
 use Rattle.std.specs.List.{flat_map, range_with_len}
 use Rattle.lookup_model.specs.Challenges.{table_of}
-use Rattle.field.specs.laws.LawfulExtension.{of_laws}
+use Rattle.field.specs.laws.Extension.{of_laws}
 use Rattle.batch_model.specs.Equations.{Equation, challenged_window, row_equations}
 use Rattle.batch_model.specs.Instances.{instance_of}
 use Rattle.checker.specs.Sums.{AreSums}

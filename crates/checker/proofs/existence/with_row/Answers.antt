@@ -2,7 +2,7 @@ use Rattle.std.proofs.Common.{List, ◌+◌, ◌++◌, ◌∷◌, [], drop, subs
 use Rattle.std.proofs.lemmas.List.{length-map, take-append-drop, take_all}
 use Rattle.lookup_model.proofs.Branches.{mapped_more}
 use Rattle.lookup_model.proofs.RecordLaws.{All-at}
-use Rattle.field.specs.laws.LawfulExtension.{of_laws}
+use Rattle.field.specs.laws.Extension.{of_laws}
 use Rattle.lookup_model.specs.Records.{IsWithin}
 use Rattle.lookup_laws.proofs.SentRows.{column_is, equal_lengths}
 use Rattle.batch_model.specs.Equations.{Equation, equation_at, row_equations}

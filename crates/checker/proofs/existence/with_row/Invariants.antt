@@ -1,5 +1,5 @@
 use Rattle.std.proofs.Common.{List, ◌++◌, take}
-use Rattle.field.specs.laws.LawfulExtension.{of_laws}
+use Rattle.field.specs.laws.Extension.{of_laws}
 use Rattle.batch_model.specs.Equations.{Equation, row_equations}
 use Rattle.lookup_generation.specs.TraceBuilder.{ext_builder_window}
 use Rattle.checker.specs.Sums.{AreSums}

@@ -9,7 +9,7 @@ use Rattle.lookup_columns.specs.ChunkColumns.{IsHeld}
 use Rattle.lookup_columns.specs.declared.branches.BranchColumns.{BranchColumns}
 use Rattle.lookup_model.proofs.TakenOut.{product_of-push, sum_of-push}
 use Rattle.lookup_model.specs.Constraints.{additive_denominator, additive_numerator}
-use Rattle.field.specs.laws.LawfulExtension.{of_laws}
+use Rattle.field.specs.laws.Extension.{of_laws}
 use Rattle.lookup_model.specs.Message.{Message}
 use Rattle.checker.specs.Quotients.{IsQuotientOf, over_tuples}
 use Rattle.checker.proofs.fractions.additive_quotient.Goals as goal

@@ -1,7 +1,7 @@
 use Rattle.std.proofs.Common.{◌∷◌, List, None, take}
 use Rattle.std.specs.List.{AllZip}
 use Rattle.lookup_columns.specs.ChunkColumns.{IsHeld}
-use Rattle.field.specs.laws.LawfulExtension.{of_laws}
+use Rattle.field.specs.laws.Extension.{of_laws}
 use Rattle.lookup_model.specs.Message.{Message}
 use Rattle.checker.specs.Quotients.{IsQuotientOf, over_tuples}
 use Rattle.checker.proofs.fractions.additive_quotient.Given as goal

@@ -5,7 +5,7 @@ use Rattle.std.proofs.lemmas.Slice.Zip.{AllZip-long}
 use Rattle.field.specs.Ring.{sub_in}
 use Rattle.lookup_columns.proofs.ChunkColumnLaws.{read_is}
 use Rattle.lookup_columns.specs.ChunkColumns.{HasFlag, IsHeldIfSet}
-use Rattle.field.specs.laws.LawfulExtension.{of_laws}
+use Rattle.field.specs.laws.Extension.{of_laws}
 use Rattle.checker.proofs.ReadLaws.{flag, flag_read, flag_within, held_there, message, place_within}
 use Rattle.checker.proofs.SelectionLaws.{HasSums, all_sums, no_sums, sums_more, sums_skipped}
 use Rattle.checker.specs.Quotients.{over_tuples}

@@ -1,6 +1,6 @@
 use Rattle.std.proofs.Common.{List}
 use Rattle.lookup_columns.specs.ChunkColumns.{HoldSelected}
-use Rattle.field.specs.laws.LawfulExtension.{of_laws}
+use Rattle.field.specs.laws.Extension.{of_laws}
 use Rattle.lookup_model.specs.Message.{Message}
 use Rattle.checker.proofs.SelectionLaws.{HasSums}
 use Rattle.checker.specs.Quotients.{over_tuples}

@@ -8,7 +8,7 @@ use Rattle.air.specs.Row.{input_window}
 use Rattle.expressions.specs.declared.base_expression.SymbolicExpression.{SymbolicExpression}
 use Rattle.lookup_columns.specs.ChunkColumns.{key_denominator}
 use Rattle.lookup_model.specs.Constraints.{fraction_at, fraction_left}
-use Rattle.field.specs.laws.LawfulExtension.{of_laws}
+use Rattle.field.specs.laws.Extension.{of_laws}
 use Rattle.lookup_model.specs.Sent.{branches_at, flags_at, values}
 use Rattle.checker.proofs.FractionLaws.{fraction_of_zero, fraction_zero, held_over, over_column, selected_over}
 use Rattle.checker.proofs.fractions.fraction_holds.Goals as goal

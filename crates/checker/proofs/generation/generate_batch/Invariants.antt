@@ -1,4 +1,4 @@
-use Rattle.field.specs.laws.LawfulExtension.{of_laws}
+use Rattle.field.specs.laws.Extension.{of_laws}
 use Rattle.batch_model.specs.Instances.{instances_of}
 use Rattle.checker.specs.Results.{HasResults}
 use Rattle.lookup_model.specs.Challenges.{table_of}

@@ -1,5 +1,5 @@
 use Rattle.std.proofs.Common.{List, length, ap, subst, ◌∙◌, arith}
-use Rattle.field.specs.laws.LawfulExtension.{of_laws}
+use Rattle.field.specs.laws.Extension.{of_laws}
 use Rattle.batch_model.specs.Instances.{instance_of}
 use Rattle.lookup_model.specs.Challenges.{table_of}
 use Rattle.witness_laws.proofs.TableResults.{ByColumns, by_table}

@@ -1,5 +1,5 @@
 use Rattle.std.proofs.lemmas.List.Elements.{recursion_from_All}
-use Rattle.field.specs.laws.LawfulExtension.{of_laws}
+use Rattle.field.specs.laws.Extension.{of_laws}
 use Rattle.batch_model.specs.Instances.{IsFitting}
 use Rattle.checker.proofs.PackedBatches.{kept_counts, kept_terminals}
 use Rattle.checker.proofs.packing.packing_keeps_batch.Goals as goal

@@ -1,5 +1,5 @@
 use Rattle.std.proofs.Common.{◌<◌, ℕ}
-use Rattle.field.specs.laws.LawfulExtension.{of_laws}
+use Rattle.field.specs.laws.Extension.{of_laws}
 use Rattle.checker.specs.Rows.{HoldsOn}
 use Rattle.checker.proofs.rows.first_failing_of_few.Given as goal
 

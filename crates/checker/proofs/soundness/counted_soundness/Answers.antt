@@ -1,7 +1,7 @@
 use Rattle.std.proofs.Common.{subst, sym}
 use Rattle.std.proofs.lemmas.List.Elements.{recursion_from_All}
 use Rattle.field.specs.Characteristic.{HasCharacteristic}
-use Rattle.field.specs.laws.LawfulExtension.{of_laws}
+use Rattle.field.specs.laws.Extension.{of_laws}
 use Rattle.batch_model.specs.Instances.{IsFitting}
 use Rattle.counting_laws.proofs.Soundness.{counted_sound}
 use Rattle.checker.proofs.soundness.counted_soundness.Goals as goal

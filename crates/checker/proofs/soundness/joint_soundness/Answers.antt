@@ -1,4 +1,4 @@
-use Rattle.field.specs.laws.LawfulExtension.{of_laws}
+use Rattle.field.specs.laws.Extension.{of_laws}
 use Rattle.counting_laws.proofs.JointCount.{few_accepted_pairs}
 use Rattle.counting_laws.proofs.JointPairs.{jointly_sound}
 use Rattle.checker.proofs.soundness.joint_soundness.Goals as goal

@@ -1,5 +1,5 @@
 use Rattle.lookup_model.specs.Challenges.{table_of}
-use Rattle.field.specs.laws.LawfulExtension.{of_laws}
+use Rattle.field.specs.laws.Extension.{of_laws}
 use Rattle.batch_model.specs.Instances.{instance_of}
 use Rattle.checker.proofs.CheckLaws.{result_from}
 use Rattle.checker.proofs.witness.check_result.Goals as goal

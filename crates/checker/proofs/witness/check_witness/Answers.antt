@@ -6,7 +6,7 @@ use Rattle.std.proofs.lemmas.Slice.Zip.{length-zip}
 use Rattle.std.specs.List.{slice_get, zip}
 use Rattle.lookup_model.proofs.Branches.{mapped_at}
 use Rattle.lookup_model.specs.Challenges.{table_of}
-use Rattle.field.specs.laws.LawfulExtension.{of_laws}
+use Rattle.field.specs.laws.Extension.{of_laws}
 use Rattle.batch_model.specs.Instances.{instance_of, instances_of}
 use Rattle.batch_model.specs.Witnesses.{AreSatisfied, IsSatisfiedAt}
 use Rattle.witness_laws.proofs.RefusedWitness.{refuses_from}

@@ -1,6 +1,6 @@
 use Rattle.std.specs.List.{zip}
 use Rattle.lookup_model.specs.Challenges.{table_of}
-use Rattle.field.specs.laws.LawfulExtension.{of_laws}
+use Rattle.field.specs.laws.Extension.{of_laws}
 use Rattle.batch_model.specs.Instances.{instances_of}
 use Rattle.batch_model.specs.Witnesses.{IsSatisfiedAt}
 use Rattle.checker.proofs.WitnessLaws.{HoldsBelow}

@@ -4,7 +4,7 @@ use Rattle.std.proofs.lemmas.List.{length-map, nil_from_length}
 use Rattle.std.proofs.lemmas.Result.{MatchResult-weaker}
 use Rattle.lookup_model.proofs.Branches.{mapped_at}
 use Rattle.lookup_model.specs.Denominators.{column_denominator}
-use Rattle.field.specs.laws.LawfulExtension.{of_laws}
+use Rattle.field.specs.laws.Extension.{of_laws}
 use Rattle.lookup_model.proofs.RecordLaws.{All-at}
 use Rattle.generation_tests.specs.PlainProgram.{message_of, messages_of}
 use Rattle.generation_tests.proofs.PlainProgramLaws.{one_item}

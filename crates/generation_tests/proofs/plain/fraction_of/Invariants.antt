@@ -1,6 +1,6 @@
 use Rattle.std.proofs.Common.{take}
 use Rattle.lookup_model.specs.Denominators.{column_denominator}
-use Rattle.field.specs.laws.LawfulExtension.{of_laws}
+use Rattle.field.specs.laws.Extension.{of_laws}
 use Rattle.generation_tests.specs.PlainProgram.{IsFractionOf, messages_of}
 use Rattle.generation_tests.proofs.plain.fraction_of.Given as goal
 

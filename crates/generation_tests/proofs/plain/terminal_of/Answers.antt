@@ -2,7 +2,7 @@ use Rattle.std.proofs.Common.{List, map, take, [], ◌∷◌, ap, sym, ◌∙◌
 use Rattle.std.proofs.lemmas.List.{length-map, map-append, take_all}
 use Rattle.lookup_model.proofs.Branches.{mapped_at}
 use Rattle.lookup_model.specs.Denominators.{column_denominator}
-use Rattle.field.specs.laws.LawfulExtension.{of_laws}
+use Rattle.field.specs.laws.Extension.{of_laws}
 use Rattle.lookup_model.specs.Fault.{vanishes}
 use Rattle.lookup_model.specs.Message.{Key, Message}
 use Rattle.lookup_model.specs.Plain.{counted}

@@ -1,6 +1,6 @@
 use Rattle.std.proofs.Common.{map, take}
 use Rattle.lookup_model.specs.Denominators.{column_denominator}
-use Rattle.field.specs.laws.LawfulExtension.{of_laws}
+use Rattle.field.specs.laws.Extension.{of_laws}
 use Rattle.lookup_model.specs.Net.{keys}
 use Rattle.generation_tests.specs.PlainProgram.{IsFractionOf, messages_of, net_message}
 use Rattle.generation_tests.proofs.plain.terminal_of.Given as goal

@@ -6,7 +6,7 @@ use Rattle.expressions.specs.Window.{ExtWindow}
 use Rattle.expressions.specs.declared.layout.AirLayout.{AirLayout}
 use Rattle.lookup_evaluation.specs.Asserted.{Asserts, IsConstraint}
 use Rattle.lookup_model.specs.Constraints.{Constraint, fraction_constraint}
-use Rattle.field.specs.laws.LawfulExtension.{of_laws}
+use Rattle.field.specs.laws.Extension.{of_laws}
 use Rattle.lookup_model.specs.Records.{IsWithin}
 use Rattle.lookup_evaluation.proofs.AssertedLaws.{asserts_read, asserts_then, fails_early, fails_read, fails_then}
 use Rattle.lookup_laws.proofs.Rows.{split_at, take_item}

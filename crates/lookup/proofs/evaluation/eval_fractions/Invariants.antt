@@ -2,7 +2,7 @@ use Rattle.std.proofs.Common.{map, take}
 use Rattle.expressions.specs.Window.{ExtWindow}
 use Rattle.lookup_evaluation.specs.Asserted.{Asserts, IsConstraint}
 use Rattle.lookup_model.specs.Constraints.{fraction_constraint}
-use Rattle.field.specs.laws.LawfulExtension.{of_laws}
+use Rattle.field.specs.laws.Extension.{of_laws}
 use Rattle.lookup.proofs.evaluation.eval_fractions.Given as goal
 
 abbrev pub invariant-loop-lookup : goal.invariant-loop-lookup

@@ -3,7 +3,7 @@ use Rattle.std.proofs.lemmas.List.{take_all}
 use Rattle.expressions.specs.declared.base_expression.SymbolicExpression.{SymbolicExpression}
 use Rattle.lookup_model.specs.Constraints.{additive_denominator, additive_numerator}
 use Rattle.lookup_model.specs.Denominators.{tuple_denominator}
-use Rattle.field.specs.laws.LawfulExtension.{of_laws}
+use Rattle.field.specs.laws.Extension.{of_laws}
 use Rattle.lookup_model.specs.LookupDegree.{BranchDegrees, additive_denominator_degree, additive_numerator_degree, branch_degrees, lookup_branch_degrees}
 use Rattle.lookup_model.specs.Message.{Message}
 use Rattle.lookup_model.specs.Records.{AllFit, IsWithin}

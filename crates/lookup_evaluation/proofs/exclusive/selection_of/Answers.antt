@@ -4,7 +4,7 @@ use Rattle.std.specs.List.{zip}
 use Rattle.field.specs.Sums.{sum_in}
 use Rattle.expressions.specs.declared.base_expression.SymbolicExpression.{SymbolicExpression}
 use Rattle.lookup_model.specs.Denominators.{tuple_denominator}
-use Rattle.field.specs.laws.LawfulExtension.{of_laws}
+use Rattle.field.specs.laws.Extension.{of_laws}
 use Rattle.lookup_model.specs.LookupDegree.{BranchDegrees, branch_degrees, expression_degree, greatest, lookup_branch_degrees}
 use Rattle.lookup_model.specs.Message.{Message}
 use Rattle.lookup_model.specs.Records.{AllFit, IsWithin}

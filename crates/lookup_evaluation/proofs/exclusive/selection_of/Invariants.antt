@@ -3,7 +3,7 @@ use Rattle.std.specs.List.{zip}
 use Rattle.field.specs.Sums.{sum_in}
 use Rattle.expressions.specs.Window.{ExtWindow}
 use Rattle.lookup_model.specs.Denominators.{tuple_denominator}
-use Rattle.field.specs.laws.LawfulExtension.{of_laws}
+use Rattle.field.specs.laws.Extension.{of_laws}
 use Rattle.lookup_model.specs.LookupDegree.{expression_degree, greatest, lookup_branch_degrees}
 use Rattle.lookup_model.specs.Message.{Message}
 use Rattle.lookup_model.specs.Sent.{branches_at, values}

@@ -4,7 +4,7 @@ use Rattle.std.specs.Option.{IfSome, option_map}
 use Rattle.expressions.specs.declared.base_expression.SymbolicExpression.{SymbolicExpression}
 use Rattle.lookup_model.specs.Constraints.{additive_denominator, additive_numerator, denominator_at, exclusive_denominator, fraction_denominator, fraction_numerator}
 use Rattle.lookup_model.specs.Denominators.{tuple_denominator}
-use Rattle.field.specs.laws.LawfulExtension.{of_laws}
+use Rattle.field.specs.laws.Extension.{of_laws}
 use Rattle.lookup_model.specs.Records.{AllFit, IsWithin}
 use Rattle.lookup_model.specs.Sent.{branches_at, values}
 use Rattle.lookup_evaluation.proofs.fraction.quotient_of.Goals as goal

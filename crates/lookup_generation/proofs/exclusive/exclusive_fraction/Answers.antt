@@ -4,7 +4,7 @@ use Rattle.std.proofs.lemmas.Result.{MatchResult-weaker}
 use Rattle.std.specs.List.{zip}
 use Rattle.lookup_model.specs.Denominators.{column_denominator}
 use Rattle.field.specs.Extension.{extension, IsLawful}
-use Rattle.field.specs.laws.LawfulExtension.{lawful_extension}
+use Rattle.field.specs.laws.Extension.{lawful_extension}
 use Rattle.lookup_model.specs.Plain.{quotient_of}
 use Rattle.lookup_model.specs.Sent.{branch_at, branches_at, values}
 use Rattle.lookup_model.specs.declared.error.LookupError.TheVariants.{VanishingDenominator}

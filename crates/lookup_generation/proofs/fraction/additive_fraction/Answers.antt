@@ -6,7 +6,7 @@ use Rattle.std.proofs.lemmas.Slice.Zip.{AllZip-long}
 use Rattle.std.specs.List.{zip}
 use Rattle.lookup_model.specs.Denominators.{column_denominator}
 use Rattle.field.specs.Extension.{extension, IsLawful}
-use Rattle.field.specs.laws.LawfulExtension.{lawful_extension}
+use Rattle.field.specs.laws.Extension.{lawful_extension}
 use Rattle.lookup_model.specs.Fault.{vanishes}
 use Rattle.lookup_generation.specs.Fraction.{IsFractionOf}
 use Rattle.lookup_model.specs.declared.error.LookupError.TheVariants.{VanishingDenominator}

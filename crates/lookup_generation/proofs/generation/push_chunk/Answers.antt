@@ -14,7 +14,7 @@ use Rattle.lookup_laws.proofs.PlainResults.{IsShaped-product, height_of}
 use Rattle.lookup_laws.proofs.SentRows.{length-sent_rows}
 use Rattle.lookup_model.specs.Denominators.{column_denominator}
 use Rattle.field.specs.Extension.{extension, IsLawful}
-use Rattle.field.specs.laws.LawfulExtension.{lawful_extension}
+use Rattle.field.specs.laws.Extension.{lawful_extension}
 use Rattle.lookup_model.specs.Trace.{sent_rows}
 use Rattle.matrix.specs.Matrix.{IsShaped, height, row}
 use Rattle.lookup_generation.proofs.generation.push_chunk.Goals as goal

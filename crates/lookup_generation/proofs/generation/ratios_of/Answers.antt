@@ -4,7 +4,7 @@ use Rattle.std.specs.List.{slice_get}
 use Rattle.std.specs.declared.alloc.Global.{Global}
 use Rattle.std.specs.declared.vec.Vec.{Vec}
 use Rattle.lookup_columns.specs.Traces.{height_of, window_of}
-use Rattle.field.specs.laws.LawfulExtension.{lawful_extension}
+use Rattle.field.specs.laws.Extension.{lawful_extension}
 use Rattle.lookup_model.specs.Denominators.{column_denominator}
 use Rattle.field.specs.Extension.{extension, IsLawful}
 use Rattle.lookup_model.specs.declared.types.Lookup.{Lookup}

@@ -1,4 +1,4 @@
-use Rattle.field.specs.laws.LawfulExtension.{of_laws}
+use Rattle.field.specs.laws.Extension.{of_laws}
 use Rattle.lookup_packing.proofs.KeptTerminals.{kept_terminal}
 use Rattle.lookup_packing.proofs.terminals.messages_keep_terminals.Goals as goal
 

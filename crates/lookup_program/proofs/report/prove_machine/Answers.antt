@@ -1,6 +1,6 @@
 use Rattle.std.proofs.Common.{◌≡◌, ℕ, inl, inr, List, [], None, map, ap, sym, subst, subst₂, ◌∙◌}
 use Rattle.std.proofs.lemmas.Result.{err_from_is_err_and}
-use Rattle.field.specs.laws.LawfulExtension.{of_laws}
+use Rattle.field.specs.laws.Extension.{of_laws}
 use Rattle.lookup_program.specs.Refusal.{of_batch}
 use Rattle.lookup_program.proofs.PlannedBatches.{is_heavy, proved, refused, shown_is}
 use Rattle.lookup_program.proofs.report.prove_machine.Goals as goal

@@ -1,6 +1,6 @@
 use Rattle.std.proofs.Common.{◌≡◌, List, [], ◌∷◌, Err, None, map, refl, ap, ◌∙◌}
 use Rattle.std.proofs.lemmas.Result.{err_from_is_err_and}
-use Rattle.field.specs.laws.LawfulExtension.{of_laws}
+use Rattle.field.specs.laws.Extension.{of_laws}
 use Rattle.batch.specs.Traces.{shown_of}
 use Rattle.memory_check.specs.Memory.{mains_of}
 use Rattle.memory_check.proofs.BatchLaws.{memory_accepted, memory_refused, prove_refused}

@@ -1,6 +1,6 @@
 use Rattle.std.proofs.Common.{List, inl, inr, ap, subst, sym, ◌∙◌}
 use Rattle.std.proofs.lemmas.Result.{MatchResult-weaker}
-use Rattle.field.specs.laws.LawfulExtension.{of_laws}
+use Rattle.field.specs.laws.Extension.{of_laws}
 use Rattle.batch_model.specs.Ids.{AreLawfulIds}
 use Rattle.batch_model.specs.Instances.{DoInstancesFit, Instance, instances_of}
 use Rattle.batch_model.specs.declared.instance.BatchInstance.{BatchInstance}

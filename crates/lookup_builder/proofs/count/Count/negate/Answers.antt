@@ -1,5 +1,5 @@
 use Rattle.std.proofs.Common.{◌∙◌, ap, refl}
-use Rattle.field.specs.RingFacts.{neg_neg}
+use Rattle.field.specs.laws.RingFacts.{neg_neg}
 use Rattle.lookup_builder.proofs.count.Count.negate.Goals as goal
 
 pub returns-clause-negation : goal.returns-clause-negation

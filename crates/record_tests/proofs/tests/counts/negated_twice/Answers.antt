@@ -1,5 +1,5 @@
 use Rattle.std.proofs.Common.{◌∙◌, ap}
-use Rattle.field.specs.RingFacts.{neg_neg}
+use Rattle.field.specs.laws.RingFacts.{neg_neg}
 use Rattle.record_tests.proofs.tests.counts.negated_twice.Goals as goal
 
 pub returns-clause-expression : goal.returns-clause-expression

@@ -1,5 +1,5 @@
 use Rattle.field.specs.IntegersModulo2.{f2_positive}
-use Rattle.field.specs.ResidueRing.{residue_of_mod}
+use Rattle.field.specs.laws.ResidueRing.{residue_of_mod}
 use Rattle.generation_tests.proofs.tests.domains.Bit.new.Goals as goal
 
 pub returns : goal.returns

@@ -1,6 +1,7 @@
 use Rattle.std.proofs.Common.{ap, ◌∙◌}
-use Rattle.field.specs.IntegersModulo2.{f2_inverse_self, f2_positive, f2_prime, f2_ring}
-use Rattle.field.specs.PrimeResidues.{residue_inverse_is}
+use Rattle.field.specs.IntegersModulo2.{f2_positive, f2_ring}
+use Rattle.field.specs.laws.IntegersModulo2.{f2_inverse_self, f2_prime}
+use Rattle.field.specs.laws.PrimeResidues.{residue_inverse_is}
 use Rattle.field.proofs.Tests.{refuted}
 use Rattle.generation_tests.proofs.tests.domains.BitInverterInverterBit.invert.Goals as goal
 

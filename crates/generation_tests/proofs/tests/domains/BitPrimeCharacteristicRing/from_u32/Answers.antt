@@ -1,6 +1,6 @@
 use Rattle.std.proofs.Common.{sym, ◌∙◌}
 use Rattle.field.specs.IntegersModulo2.{f2_positive}
-use Rattle.field.specs.ResidueRing.{of_nat_is}
+use Rattle.field.specs.laws.ResidueRing.{of_nat_is}
 use Rattle.generation_tests.proofs.tests.domains.BitPrimeCharacteristicRing.from_u32.Goals as goal
 
 pub returns : goal.returns
