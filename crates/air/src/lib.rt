@@ -9,9 +9,9 @@ mod recording;
 pub use cell::{current_cell, current_cells, next_cell};
 pub use debug::{DebugConstraintBuilder, RowInputs, check_rows};
 pub use expressions::{
-    Air, AirBuilder, AirError, AirLayout, BaseAir, BaseEntry, BaseLeaf, Expression, ExtEntry,
-    ExtLeaf, ExtensionBuilder, FilteredAirBuilder, LayoutPart, PermutationAirBuilder, Seen,
-    SeenExt, SymbolicExpression, SymbolicExpressionExt, SymbolicVariable, SymbolicVariableExt,
-    WholeNumbers, copy_expressions, resolve_over,
+    Air, AirBuilder, AirError, AirLayout, BaseAir, BaseEntry, BaseLeaf, BuilderView, Expression,
+    ExtEntry, ExtLeaf, ExtensionBuilder, FilteredAirBuilder, LayoutPart, PermutationAirBuilder,
+    Seen, SeenExt, SymbolicExpression, SymbolicExpressionExt, SymbolicVariable,
+    SymbolicVariableExt, WholeNumbers, copy_expressions, resolve_over,
 };
 pub use recording::{ConstraintLayout, SymbolicAirBuilder};

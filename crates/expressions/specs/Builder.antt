@@ -1,22 +1,12 @@
 -- What builders provide and what happens to assertions.
 use Rattle.std.specs.Prelude.{◌≡◌, ℕ, List, [], ◌∷◌, length, map, ◌⊎◌, Some, slice_get}
-use Rattle.expressions.specs.Window.{Window}
 use Rattle.expressions.specs.declared.error.AirError.{AirError}
-use Rattle.expressions.specs.declared.layout.AirLayout.{AirLayout}
 
 -- As many variables as the width. At each window that the builder stands for, they mean the cells
 -- of a row.
 pub record MeansRow {V W A : Type 0} (stands_for : W → Type 0) (meaning : V → W → A) (width : ℕ) (cells : W → List A) (variables : List V) : Type 0 where
   pub len : length variables ≡ width
   pub reads : (w : W) → stands_for w → map (λ v. meaning v w) variables ≡ cells w
-
--- A main window of a builder: it can be read, and its variables mean the current row of the main
--- trace and the next one. All but the last two arguments are ghost members, of the builder and of its
--- window.
-pub record IsMainWindow {B M V F : Type 0} (layout : B → AirLayout) (stands_for : B → Window F → Type 0) (variable : V → Window F → F) (readable : M → Type 0) (current next : M → List V) (builder : B) (main : M) : Type 0 where
-  pub can_be_read : readable main
-  pub current_row : MeansRow (stands_for builder) variable (layout builder).main_width (λ w. w.main) (current main)
-  pub next_row : MeansRow (stands_for builder) variable (layout builder).main_width (λ w. w.main_next) (next main)
 
 -- each expression that a variable of a row converts into stays within a layout
 abbrev pub RowWithin : {V E L : Type 0} → (V → E → Type 0) → (L → E → Type 0) → L → List V → Type 0

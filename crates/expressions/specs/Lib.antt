@@ -7,6 +7,7 @@ pub mod ExtMeaning
 pub mod ExtTree
 pub mod Filter
 pub mod Layout
+pub mod MainWindow
 pub mod Meaning
 pub mod Tree
 pub mod Window

@@ -17,6 +17,7 @@ mod layout;
 mod reading;
 mod resolve;
 mod variable;
+mod view;
 
 pub use air::{Air, BaseAir};
 pub use base_expression::{BaseLeaf, Seen, SymbolicExpression, copy_expressions};
@@ -29,3 +30,4 @@ pub use filtered::FilteredAirBuilder;
 pub use layout::AirLayout;
 pub use resolve::resolve_over;
 pub use variable::{BaseEntry, ExtEntry, SymbolicVariable, SymbolicVariableExt};
+pub use view::BuilderView;

@@ -1,8 +1,8 @@
 //! Expressions as a builder sees them.
 ghost use Rattle.std.specs.Prelude.{◌≡◌, ℕ, ◌≤◌, ◌<◌, ◌⊎◌, length, Some, slice_get, IfOk, IfErr};
-ghost use Rattle.expressions.specs.Builder.{IsMainWindow};
 ghost use Rattle.expressions.specs.Degree.{entry_degree, leaf_degree, degree_of};
 ghost use Rattle.expressions.specs.Layout.{EntryFits, LeafFits, Fits};
+ghost use Rattle.expressions.specs.MainWindow.{IsMainWindow};
 ghost use Rattle.expressions.specs.Meaning.{row_at, variable_value, leaf_value, value_of};
 ghost use Rattle.expressions.specs.Tree.{tree_of};
 ghost use Rattle.expressions.specs.Window.{Window};
@@ -48,8 +48,7 @@ pub fn resolve_over<AB: AirBuilder>(
     main: &AB::MainWindow,
 ) -> Result<AB::Expr, AllocError>
     requires fits { Fits (AB.layout builder.now) (tree_of expression.now) }
-    requires main { IsMainWindow AB.layout AB.stands_for AB.variable AB.MainWindow.readable
-        AB.MainWindow.current AB.MainWindow.next builder.now main.now }
+    requires main { IsMainWindow AB.AirBuilder AB.MainWindow.WindowAccess builder.now main.now }
     ensures means { IfOk result (λ r. (w : Window AB.F) → AB.stands_for builder.now w
         → AB.Expr.value r (AB.seen w) ≡ value_of AB.F.ring w (tree_of expression.now)) }
     ensures degree { IfOk result (λ r. (t : ℕ)
@@ -85,8 +84,7 @@ fn resolve_leaf<AB: AirBuilder>(
     main: &AB::MainWindow,
 ) -> AB::Expr
     requires fits { LeafFits (AB.layout builder.now) leaf }
-    requires main { IsMainWindow AB.layout AB.stands_for AB.variable AB.MainWindow.readable
-        AB.MainWindow.current AB.MainWindow.next builder.now main.now }
+    requires main { IsMainWindow AB.AirBuilder AB.MainWindow.WindowAccess builder.now main.now }
     ensures means { (w : Window AB.F) → AB.stands_for builder.now w
         → AB.Expr.value result (AB.seen w) ≡ leaf_value AB.F.ring w leaf }
     ensures degree { (t : ℕ) → AB.Expr.degree result t ≤ leaf_degree t leaf }
@@ -106,8 +104,7 @@ fn resolve_variable<AB: AirBuilder>(
     main: &AB::MainWindow,
 ) -> AB::Expr
     requires fits { EntryFits (AB.layout builder.now) variable.entry variable.index }
-    requires main { IsMainWindow AB.layout AB.stands_for AB.variable AB.MainWindow.readable
-        AB.MainWindow.current AB.MainWindow.next builder.now main.now }
+    requires main { IsMainWindow AB.AirBuilder AB.MainWindow.WindowAccess builder.now main.now }
     ensures means { (w : Window AB.F) → AB.stands_for builder.now w
         → AB.Expr.value result (AB.seen w) ≡ variable_value AB.F.ring w variable }
     ensures degree { (t : ℕ) → AB.Expr.degree result t ≤ entry_degree variable.entry }

@@ -5,7 +5,7 @@ ghost use Rattle.lookup_model.specs.Constraints.{accumulator_constraints, fracti
 ghost use Rattle.lookup_model.specs.Records.{DoFit};
 
 use crate::protocol::LookupProtocol;
-use air::{AirBuilder, AirError, ExtensionBuilder, PermutationAirBuilder};
+use air::{AirBuilder, AirError, BuilderView, ExtensionBuilder, PermutationAirBuilder};
 use field::Over;
 use lookup_evaluation::terminal;
 use lookup_model::Lookup;
@@ -23,9 +23,8 @@ pub(crate) fn eval_fractions<P: LookupProtocol, AB: PermutationAirBuilder>(
         ≤ (AB.layout builder.old).num_permutation_challenges }
     requires cells { length lookups.now < (AB.layout builder.old).permutation_width }
     ensures { let E = ⟦<AB::EF as Over<AB::F>>⟧.fields in
-        EvaluatesOn AB.accepts_ext AB.refuses_ext AB.window_refuses AB.stands_for_ext
-        AB.ExprEF.value AB.seen_ext AB.ExprEF.degree builder.old
-        (map (fraction_constraint E) lookups.now) result builder.new }
+        EvaluatesOn ⟦<AB as BuilderView>⟧ builder.old (map (fraction_constraint E) lookups.now)
+        result builder.new }
 {
     for lookup in lookups {
         protocol.eval_fraction(alloc, builder, lookup)?;
@@ -44,8 +43,7 @@ pub(crate) fn eval_terminal<P: LookupProtocol, AB: PermutationAirBuilder>(
         < (AB.layout builder.old).permutation_width) lookups.now }
     requires terminal { 0 < (AB.layout builder.old).num_permutation_values }
     ensures { let E = ⟦<AB::EF as Over<AB::F>>⟧.fields in
-        EvaluatesOn AB.accepts_ext AB.refuses_ext AB.window_refuses AB.stands_for_ext
-        AB.ExprEF.value AB.seen_ext AB.ExprEF.degree builder.old
+        EvaluatesOn ⟦<AB as BuilderView>⟧ builder.old
         (accumulator_constraints E lookups.now (terminal_at E) (λ t. 0)) result builder.new }
 {
     let terminal = terminal(&*builder);

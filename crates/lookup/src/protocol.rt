@@ -12,7 +12,7 @@ ghost use Rattle.lookup_model.specs.Generation.{AnswersGeneration};
 ghost use Rattle.matrix.specs.Matrix.{height};
 
 use crate::evaluation::{eval_fractions, eval_terminal};
-use air::{Air, AirBuilder, AirError, ExtensionBuilder, PermutationAirBuilder};
+use air::{Air, AirBuilder, AirError, BuilderView, ExtensionBuilder, PermutationAirBuilder};
 use field::{ExtensionField, Field, Over};
 use lookup_model::{Lookup, LookupError, LookupTerminal};
 use matrix::RowMajorMatrix;
@@ -50,9 +50,8 @@ pub trait LookupProtocol: Sized {
             < (AB.layout builder.old).num_permutation_challenges }
         requires cell { lookup.now.column + 1 < (AB.layout builder.old).permutation_width }
         ensures { let E = ⟦<AB::EF as Over<AB::F>>⟧.fields in
-            EvaluatesOn AB.accepts_ext AB.refuses_ext AB.window_refuses AB.stands_for_ext
-            AB.ExprEF.value AB.seen_ext AB.ExprEF.degree builder.old
-            (fraction_constraint E lookup.now ∷ []) result builder.new };
+            EvaluatesOn ⟦<AB as BuilderView>⟧ builder.old (fraction_constraint E lookup.now ∷ [])
+            result builder.new };
 
     /// Asserts the accumulator's equations, where the accumulator is cell 0 of the auxiliary row.
     /// Nothing is asserted without lookups.
@@ -73,10 +72,9 @@ pub trait LookupProtocol: Sized {
         requires cells { All (λ lookup. lookup.column + 1
             < (AB.layout builder.old).permutation_width) lookups.now }
         ensures { let E = ⟦<AB::EF as Over<AB::F>>⟧.fields in
-            EvaluatesOn AB.accepts_ext AB.refuses_ext AB.window_refuses AB.stands_for_ext
-            AB.ExprEF.value AB.seen_ext AB.ExprEF.degree builder.old
-            (accumulator_constraints E lookups.now (λ w. AB.ExprEF.value terminal (AB.seen_ext w))
-            (AB.ExprEF.degree terminal)) result builder.new };
+            EvaluatesOn ⟦<AB as BuilderView>⟧ builder.old (accumulator_constraints E lookups.now
+            (λ w. AB.ExprEF.value terminal (AB.seen_ext w)) (AB.ExprEF.degree terminal))
+            result builder.new };
 
     /// Asserts the equation of each lookup in order, and then the accumulator's three. The terminal
     /// is the first permutation value. Nothing is asserted without lookups.
@@ -97,9 +95,8 @@ pub trait LookupProtocol: Sized {
         requires terminal { 0 < length lookups.now
             → 0 < (AB.layout builder.old).num_permutation_values }
         ensures { let E = ⟦<AB::EF as Over<AB::F>>⟧.fields in
-            EvaluatesOn AB.accepts_ext AB.refuses_ext AB.window_refuses AB.stands_for_ext
-            AB.ExprEF.value AB.seen_ext AB.ExprEF.degree builder.old
-            (lookup_constraints E lookups.now) result builder.new }
+            EvaluatesOn ⟦<AB as BuilderView>⟧ builder.old (lookup_constraints E lookups.now)
+            result builder.new }
     {
         if lookups.is_empty() {
             return Ok(());
@@ -129,8 +126,7 @@ pub trait LookupProtocol: Sized {
             → 0 < (AB.layout builder.old).num_permutation_values }
         ensures { let E = ⟦<AB::EF as Over<AB::F>>⟧.fields in
             EvaluatesBoth A.evaluates
-            (λ between answer after. EvaluatesOn AB.accepts_ext AB.refuses_ext AB.window_refuses
-            AB.stands_for_ext AB.ExprEF.value AB.seen_ext AB.ExprEF.degree between
+            (λ between answer after. EvaluatesOn ⟦<AB as BuilderView>⟧ between
             (lookup_constraints E lookups.now) answer after)
             air.now builder.old result builder.new }
     {

@@ -1,8 +1,11 @@
 -- What an evaluation does to a builder: constraints asserted one after the other.
-use Rattle.std.specs.Prelude.{◌≡◌, ℕ, ◌+◌, ◌≤◌, ◌⊎◌, List, [], ◌∷◌, Result, MatchResult}
-use Rattle.expressions.specs.Window.{ExtWindow}
+use Rattle.std.specs.Prelude.{◌≡◌, ℕ, ◌+◌, ◌≤◌, ◌⊎◌, Bool, List, [], ◌∷◌, Result, MatchResult}
+use Rattle.field.specs.Extension.{Extension}
+use Rattle.field.specs.Ring.{of_bool}
+use Rattle.expressions.specs.Window.{ExtWindow, Window}
 use Rattle.expressions.specs.declared.error.AirError.{AirError}
 use Rattle.expressions.specs.declared.error.AirError.TheVariants.{Memory}
+use Rattle.expressions.specs.declared.view.BuilderView.{Ghosts as BuilderView}
 use Rattle.lookup_model.specs.Constraints.{Constraint}
 
 -- An expression of a builder means a constraint at the windows that the builder stands for, and has
@@ -10,12 +13,6 @@ use Rattle.lookup_model.specs.Constraints.{Constraint}
 pub record IsConstraint {X F K : Type 0} (value : X → ExtWindow F K → K) (degree : X → ℕ → ℕ) (stands_for : ExtWindow F K → Type 0) (constraint : Constraint F K) (x : X) : Type 0 where
   pub means : (w : ExtWindow F K) → stands_for w → value x w ≡ constraint.meaning w
   pub within : (t : ℕ) → degree x t ≤ constraint.degree t
-
--- An expression is another one where a selector is one, and zero elsewhere. Its degree is at most the
--- sum of both degrees.
-abbrev pub IsSelected : {X S F K : Type 0} → (ExtWindow F K → Type 0) → (X → S → K) → (ExtWindow F K → S) → (X → ℕ → ℕ) → (K → K → K) → (ExtWindow F K → K) → (ℕ → ℕ) → X → X → Type 0
-IsSelected {X} {S} {F} {K} stands_for value seen degree mul selector selector_degree x p =
-    ((w : ExtWindow F K) → stands_for w → value p (seen w) ≡ mul (selector w) (value x (seen w))) × ((t : ℕ) → degree p t ≤ selector_degree t + degree x t)
 
 module _ {B X C : Type 0} (accepts : B → X → B → Type 0) (is : C → X → Type 0) where
   -- Expressions of these constraints, asserted in order and each accepted, lead from one state to
@@ -37,17 +34,30 @@ module _ {B X C : Type 0} (accepts : B → X → B → Type 0) (refuses : B → 
   abbrev pub Evaluates : B → List C → Result (Unit {0}) AirError → B → Type 0
   Evaluates b ks result c = MatchResult result (λ _. Asserts accepts is b ks c) (λ e. Fails b ks e c)
 
-module _ {B X S F K : Type 0} where
-  -- The same on a builder, over what its expressions mean at the windows that it stands for: an
-  -- expression can't be made where memory runs out, or where the builder refuses to hand out a window.
-  abbrev pub EvaluatesOn : (B → X → B → Type 0) → (B → X → AirError → B → Type 0) → (B → AirError → Type 0) → (B → ExtWindow F K → Type 0) → (X → S → K) → (ExtWindow F K → S) → (X → ℕ → ℕ) → B → List (Constraint F K) → Result (Unit {0}) AirError → B → Type 0
-  EvaluatesOn accepts refuses window_refuses stands_for value seen degree b ks result c =
-      Evaluates accepts refuses (λ b e. (e ≡ Memory) ⊎ window_refuses b e) (IsConstraint (λ x w. value x (seen w)) degree (stands_for b)) b ks result c
+module _ {B F K X : Type 0} (members : BuilderView B F K X) where
+  -- An expression of a builder means a constraint, as above.
+  abbrev pub IsConstraintOn : B → Constraint F K → X → Type 0
+  IsConstraintOn builder = IsConstraint members.means members.degree (members.stands_for_ext builder)
+
+  -- The same evaluation on a builder, over what its expressions mean at the windows that it stands
+  -- for: an expression can't be made where memory runs out, or where the builder refuses to hand out a
+  -- window.
+  abbrev pub EvaluatesOn : B → List (Constraint F K) → Result (Unit {0}) AirError → B → Type 0
+  EvaluatesOn before ks result after =
+      Evaluates members.accepts_ext members.refuses_ext (λ b e. (e ≡ Memory) ⊎ members.window_refuses b e) (IsConstraintOn before) before ks result after
+
+module _ {B F K X : Type 0} (members : BuilderView B F K X) (E : Extension F K) (selector : Window F → Bool) (selector_degree : ℕ → ℕ) where
+  -- An expression is another one where a selector is set, and zero elsewhere. Its degree is at most the
+  -- sum of both degrees.
+  abbrev pub IsSelected : B → X → X → Type 0
+  IsSelected builder x p =
+      ((w : ExtWindow F K) → members.stands_for_ext builder w → members.means p w ≡ E.ring.mul (E.embed (of_bool E.base (selector w.base))) (members.means x w))
+      × ((t : ℕ) → members.degree p t ≤ selector_degree t + members.degree x t)
 
   -- The answer of an assertion of an expression under a selector: what is accepted or refused is the
   -- selected expression, unless memory runs out and nothing changes.
-  abbrev pub AnswersSelected : (B → X → B → Type 0) → (B → X → AirError → B → Type 0) → (ExtWindow F K → Type 0) → (X → S → K) → (ExtWindow F K → S) → (X → ℕ → ℕ) → (K → K → K) → (ExtWindow F K → K) → (ℕ → ℕ) → X → B → Result (Unit {0}) AirError → B → Type 0
-  AnswersSelected accepts refuses stands_for value seen degree mul selector selector_degree x b result c =
+  abbrev pub AnswersSelected : X → B → Result (Unit {0}) AirError → B → Type 0
+  AnswersSelected x before result after =
       MatchResult result
-      (λ _. (p : X) × accepts b p c × IsSelected stands_for value seen degree mul selector selector_degree x p)
-      (λ e. ((e ≡ Memory) × (c ≡ b)) ⊎ ((p : X) × refuses b p e c × IsSelected stands_for value seen degree mul selector selector_degree x p))
+      (λ _. (p : X) × members.accepts_ext before p after × IsSelected before x p)
+      (λ e. ((e ≡ Memory) × (after ≡ before)) ⊎ ((p : X) × members.refuses_ext before p e after × IsSelected before x p))

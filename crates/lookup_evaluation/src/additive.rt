@@ -1,7 +1,7 @@
 //! The numerator and the denominator of an additive lookup.
 ghost use Rattle.std.specs.Prelude.{◌≡◌, ◌+◌, ◌≤◌, ℕ, max, IfOk};
-ghost use Rattle.expressions.specs.Builder.{IsMainWindow};
 ghost use Rattle.expressions.specs.Layout.{Fits};
+ghost use Rattle.expressions.specs.MainWindow.{IsMainWindow};
 ghost use Rattle.expressions.specs.Tree.{tree_of};
 ghost use Rattle.expressions.specs.Window.{ExtWindow};
 ghost use Rattle.lookup_model.specs.Constraints.{additive_denominator, additive_numerator};
@@ -32,8 +32,7 @@ fn with_tuple<AB: PermutationAirBuilder>(
     requires multiplicity_fits { Fits (AB.layout builder.now) (tree_of multiplicity.now) }
     requires alpha { (t : ℕ) → AB.ExprEF.degree alpha.now t ≡ 0 }
     requires beta { (t : ℕ) → AB.ExprEF.degree beta.now t ≡ 0 }
-    requires main { IsMainWindow AB.layout AB.stands_for AB.variable AB.MainWindow.readable
-        AB.MainWindow.current AB.MainWindow.next builder.now main.now }
+    requires main { IsMainWindow AB.AirBuilder AB.MainWindow.WindowAccess builder.now main.now }
     ensures numerator { IfOk result (λ r. (w : ExtWindow AB.F AB.EF)
         → AB.stands_for_ext builder.now w
         → let E = ⟦<AB::EF as Over<AB::F>>⟧.fields in
@@ -75,8 +74,7 @@ pub(crate) fn additive_quotient<AB: PermutationAirBuilder>(
     requires fits { IsWithin (AB.layout builder.now) lookup.now }
     requires alpha { (t : ℕ) → AB.ExprEF.degree alpha.now t ≡ 0 }
     requires beta { (t : ℕ) → AB.ExprEF.degree beta.now t ≡ 0 }
-    requires main { IsMainWindow AB.layout AB.stands_for AB.variable AB.MainWindow.readable
-        AB.MainWindow.current AB.MainWindow.next builder.now main.now }
+    requires main { IsMainWindow AB.AirBuilder AB.MainWindow.WindowAccess builder.now main.now }
     ensures numerator { IfOk result (λ r. (w : ExtWindow AB.F AB.EF)
         → AB.stands_for_ext builder.now w
         → let E = ⟦<AB::EF as Over<AB::F>>⟧.fields in

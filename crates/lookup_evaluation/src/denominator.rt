@@ -2,8 +2,8 @@
 ghost use Rattle.std.specs.Prelude.{◌≡◌, ◌≤◌, ℕ, IfOk, map};
 ghost use Rattle.field.specs.Polynomial.{combined};
 ghost use Rattle.field.specs.Ring.{sub_in};
-ghost use Rattle.expressions.specs.Builder.{IsMainWindow};
 ghost use Rattle.expressions.specs.Layout.{Fits};
+ghost use Rattle.expressions.specs.MainWindow.{IsMainWindow};
 ghost use Rattle.expressions.specs.Tree.{tree_of};
 ghost use Rattle.expressions.specs.Window.{ExtWindow};
 ghost use Rattle.lookup_model.specs.LookupDegree.{expression_degree, tuple_degree};
@@ -22,8 +22,7 @@ pub(crate) fn lifted<AB: PermutationAirBuilder>(
     expression: &SymbolicExpression<AB::F>,
 ) -> Result<AB::ExprEF, AllocError>
     requires fits { Fits (AB.layout builder.now) (tree_of expression.now) }
-    requires main { IsMainWindow AB.layout AB.stands_for AB.variable AB.MainWindow.readable
-        AB.MainWindow.current AB.MainWindow.next builder.now main.now }
+    requires main { IsMainWindow AB.AirBuilder AB.MainWindow.WindowAccess builder.now main.now }
     ensures means { IfOk result (λ r. (w : ExtWindow AB.F AB.EF) → AB.stands_for_ext builder.now w
         → AB.ExprEF.value r (AB.seen_ext w) ≡ AB.EF.embed (value AB.F.ring w.base expression.now)) }
     ensures degree { IfOk result (λ r. (t : ℕ)
@@ -42,8 +41,7 @@ fn combined_tuple<AB: PermutationAirBuilder>(
 ) -> Result<AB::ExprEF, AllocError>
     requires fit { AllFit (AB.layout builder.now) tuple.now }
     requires beta { (t : ℕ) → AB.ExprEF.degree beta.now t ≡ 0 }
-    requires main { IsMainWindow AB.layout AB.stands_for AB.variable AB.MainWindow.readable
-        AB.MainWindow.current AB.MainWindow.next builder.now main.now }
+    requires main { IsMainWindow AB.AirBuilder AB.MainWindow.WindowAccess builder.now main.now }
     ensures means { IfOk result (λ r. (w : ExtWindow AB.F AB.EF) → AB.stands_for_ext builder.now w
         → AB.ExprEF.value r (AB.seen_ext w)
         ≡ combined AB.EF.ring (map AB.EF.embed (values AB.F.ring w.base tuple.now))
@@ -73,8 +71,7 @@ pub(crate) fn denominator<AB: PermutationAirBuilder>(
     requires fit { AllFit (AB.layout builder.now) tuple.now }
     requires alpha { (t : ℕ) → AB.ExprEF.degree alpha.now t ≡ 0 }
     requires beta { (t : ℕ) → AB.ExprEF.degree beta.now t ≡ 0 }
-    requires main { IsMainWindow AB.layout AB.stands_for AB.variable AB.MainWindow.readable
-        AB.MainWindow.current AB.MainWindow.next builder.now main.now }
+    requires main { IsMainWindow AB.AirBuilder AB.MainWindow.WindowAccess builder.now main.now }
     ensures means { IfOk result (λ r. (w : ExtWindow AB.F AB.EF) → AB.stands_for_ext builder.now w
         → AB.ExprEF.value r (AB.seen_ext w)
         ≡ sub_in AB.EF.ring (AB.ExprEF.value alpha.now (AB.seen_ext w))

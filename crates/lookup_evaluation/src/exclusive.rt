@@ -2,8 +2,8 @@
 ghost use Rattle.std.specs.Prelude.{◌≡◌, ◌+◌, ◌≤◌, ℕ, max, IfOk, length, map};
 ghost use Rattle.field.specs.Ring.{sub_in};
 ghost use Rattle.field.specs.Sums.{sum_in};
-ghost use Rattle.expressions.specs.Builder.{IsMainWindow};
 ghost use Rattle.expressions.specs.Layout.{Fits};
+ghost use Rattle.expressions.specs.MainWindow.{IsMainWindow};
 ghost use Rattle.expressions.specs.Tree.{tree_of};
 ghost use Rattle.expressions.specs.Window.{ExtWindow};
 ghost use Rattle.lookup_model.specs.Constraints.{exclusive_denominator, exclusive_numerator, flagged_denominators};
@@ -111,8 +111,7 @@ fn with_branch<AB: PermutationAirBuilder>(
     requires multiplicity_fits { Fits (AB.layout builder.now) (tree_of multiplicity.now) }
     requires alpha { (t : ℕ) → AB.ExprEF.degree alpha.now t ≡ 0 }
     requires beta { (t : ℕ) → AB.ExprEF.degree beta.now t ≡ 0 }
-    requires main { IsMainWindow AB.layout AB.stands_for AB.variable AB.MainWindow.readable
-        AB.MainWindow.current AB.MainWindow.next builder.now main.now }
+    requires main { IsMainWindow AB.AirBuilder AB.MainWindow.WindowAccess builder.now main.now }
     ensures numerator { IfOk result (λ r. (w : ExtWindow AB.F AB.EF)
         → AB.stands_for_ext builder.now w
         → AB.ExprEF.value r.numerator (AB.seen_ext w)
@@ -162,8 +161,7 @@ fn selection_of<AB: PermutationAirBuilder>(
     requires flags_fit { AllFit (AB.layout builder.now) flags.now }
     requires alpha { (t : ℕ) → AB.ExprEF.degree alpha.now t ≡ 0 }
     requires beta { (t : ℕ) → AB.ExprEF.degree beta.now t ≡ 0 }
-    requires main { IsMainWindow AB.layout AB.stands_for AB.variable AB.MainWindow.readable
-        AB.MainWindow.current AB.MainWindow.next builder.now main.now }
+    requires main { IsMainWindow AB.AirBuilder AB.MainWindow.WindowAccess builder.now main.now }
     ensures numerator { IfOk result (λ r. (w : ExtWindow AB.F AB.EF)
         → AB.stands_for_ext builder.now w
         → let E = ⟦<AB::EF as Over<AB::F>>⟧.fields in
@@ -226,8 +224,7 @@ pub(crate) fn exclusive_quotient<AB: PermutationAirBuilder>(
     requires flags_fit { AllFit (AB.layout builder.now) flags.now }
     requires alpha { (t : ℕ) → AB.ExprEF.degree alpha.now t ≡ 0 }
     requires beta { (t : ℕ) → AB.ExprEF.degree beta.now t ≡ 0 }
-    requires main { IsMainWindow AB.layout AB.stands_for AB.variable AB.MainWindow.readable
-        AB.MainWindow.current AB.MainWindow.next builder.now main.now }
+    requires main { IsMainWindow AB.AirBuilder AB.MainWindow.WindowAccess builder.now main.now }
     ensures numerator { IfOk result (λ r. (w : ExtWindow AB.F AB.EF)
         → AB.stands_for_ext builder.now w
         → let E = ⟦<AB::EF as Over<AB::F>>⟧.fields in

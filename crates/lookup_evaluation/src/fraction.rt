@@ -1,8 +1,8 @@
 //! The quotient that one lookup's fraction has to be, and the constraint that says so.
 ghost use Rattle.std.specs.Prelude.{◌≡◌, ◌+◌, ◌*◌, ◌<◌, ◌≤◌, ◌⊎◌, ℕ, max, [], ◌∷◌, IfOk, IfErr};
-ghost use Rattle.expressions.specs.Builder.{IsMainWindow};
+ghost use Rattle.expressions.specs.MainWindow.{IsMainWindow};
 ghost use Rattle.expressions.specs.Window.{ExtWindow};
-ghost use Rattle.lookup_evaluation.specs.Asserted.{EvaluatesOn, IsConstraint};
+ghost use Rattle.lookup_evaluation.specs.Asserted.{EvaluatesOn, IsConstraintOn};
 ghost use Rattle.lookup_model.specs.Constraints.{denominator_at, fraction_constraint, fraction_denominator, fraction_numerator};
 ghost use Rattle.lookup_model.specs.LookupDegree.{lookup_degree};
 ghost use Rattle.lookup_model.specs.Records.{HasEqualLengths, IsWithin};
@@ -12,7 +12,7 @@ use crate::additive::additive_quotient;
 use crate::cells::{column_challenges, fraction_cell};
 use crate::exclusive::exclusive_quotient;
 use crate::quotient::{Quotient, pinned};
-use expressions::{AirBuilder, AirError, ExtensionBuilder, PermutationAirBuilder};
+use expressions::{AirBuilder, AirError, BuilderView, ExtensionBuilder, PermutationAirBuilder};
 use field::Over;
 use lookup_model::Lookup;
 use std::alloc::{AllocError, Global};
@@ -35,8 +35,7 @@ pub fn quotient_of<AB: PermutationAirBuilder>(
     requires fits { IsWithin (AB.layout builder.now) lookup.now }
     requires challenges { 2 * lookup.now.column + 1
         < (AB.layout builder.now).num_permutation_challenges }
-    requires main { IsMainWindow AB.layout AB.stands_for AB.variable AB.MainWindow.readable
-        AB.MainWindow.current AB.MainWindow.next builder.now main.now }
+    requires main { IsMainWindow AB.AirBuilder AB.MainWindow.WindowAccess builder.now main.now }
     ensures numerator { IfOk result (λ r. (w : ExtWindow AB.F AB.EF)
         → AB.stands_for_ext builder.now w
         → let E = ⟦<AB::EF as Over<AB::F>>⟧.fields in
@@ -75,8 +74,7 @@ fn fraction_expression<AB: PermutationAirBuilder>(
     requires cell { lookup.now.column + 1 < (AB.layout builder.now).permutation_width }
     ensures means { IfOk result (λ r.
         let E = ⟦<AB::EF as Over<AB::F>>⟧.fields in
-        IsConstraint (λ x w. AB.ExprEF.value x (AB.seen_ext w)) AB.ExprEF.degree
-        (AB.stands_for_ext builder.now) (fraction_constraint E lookup.now) r) }
+        IsConstraintOn ⟦<AB as BuilderView>⟧ builder.now (fraction_constraint E lookup.now) r) }
     ensures refused { IfErr result (λ e. (e ≡ AirError.Memory) ⊎ AB.window_refuses builder.now e) }
 {
     let main = builder.main(alloc)?;
@@ -101,9 +99,8 @@ pub fn eval_fraction<AB: PermutationAirBuilder>(
         < (AB.layout builder.old).num_permutation_challenges }
     requires cell { lookup.now.column + 1 < (AB.layout builder.old).permutation_width }
     ensures { let E = ⟦<AB::EF as Over<AB::F>>⟧.fields in
-        EvaluatesOn AB.accepts_ext AB.refuses_ext AB.window_refuses AB.stands_for_ext
-        AB.ExprEF.value AB.seen_ext AB.ExprEF.degree builder.old (fraction_constraint E lookup.now ∷
-        []) result builder.new }
+        EvaluatesOn ⟦<AB as BuilderView>⟧ builder.old (fraction_constraint E lookup.now ∷ [])
+        result builder.new }
 {
     let constraint = fraction_expression(alloc, &*builder, lookup)?;
     builder.assert_zero_ext(alloc, constraint)
