@@ -1,5 +1,5 @@
 -- Rows of given traces, as constraints see them.
-use Rattle.std.specs.Prelude.{◌≡◌, ℕ, ◌+◌, ◌==◌, not, ◌⊎◌, length, Option, None, Some, Result}
+use Rattle.std.specs.Prelude.{◌≡◌, ◌<◌, ℕ, ◌+◌, ◌==◌, not, ◌⊎◌, length, Option, None, Some, Result, Ok, Err}
 use Rattle.std.specs.Option.{option_copied}
 use Rattle.matrix.specs.Matrix.{Matrix, height}
 use Rattle.expressions.specs.Layout.{width_of_option}
@@ -79,3 +79,8 @@ pub record IsRow {F EF : Type 0} (x : RowInputs F EF) (r : ℕ) (b : DebugConstr
 unfoldable pub RowAnswers : {A F EF : Type 0} → (A → DebugConstraintBuilder F EF → Result (Unit {0}) AirError → DebugConstraintBuilder F EF → Type 0) → A → RowInputs F EF → ℕ → Result (Unit {0}) AirError → Type 0
 RowAnswers {A} {F} {EF} evaluates air x r answer =
     (before : DebugConstraintBuilder F EF) × (after : DebugConstraintBuilder F EF) × IsRow x r before × evaluates air before answer after
+
+-- The first of so many rows that refuses, with its refusal: each row before it accepts.
+abbrev pub IsFirstRefusedRow : (ℕ → Result (Unit {0}) AirError → Type 0) → ℕ → AirError → Type 0
+IsFirstRefusedRow answers rows e =
+    (r : ℕ) × (r < rows) × answers r (Err e) × ((q : ℕ) → q < r → answers q (Ok tt))

@@ -1,7 +1,7 @@
 //! The counts of a batch.
 ghost use Rattle.std.specs.Prelude.{ℕ, IfOk};
 ghost use Rattle.batch_model.specs.Answers.{GivesCounts};
-ghost use Rattle.batch_model.specs.Counts.{FewAcceptingAlphas, FewBadBetas, FewSharingBetas};
+ghost use Rattle.batch_model.specs.Counts.{IsCountedSound};
 ghost use Rattle.batch_model.specs.Ids.{AreLawfulIds};
 ghost use Rattle.batch_model.specs.Instances.{DoInstancesFit, IsFitting, instance_of, instances_of};
 ghost use Rattle.checker.specs.Collected.{GivesMessages, IsCountOf, PushesMessages};
@@ -34,12 +34,8 @@ pub fn soundness_count<F: Field, EF: ExtensionField<F>>(
         (instances_of instances.now) }
     ensures answer { GivesCounts ⟦<EF as Over<F>>⟧.fields (instances_of instances.now)
         max_message_width result }
-    ensures few_sharing_betas { IfOk result (λ _. FewSharingBetas
-        ⟦<EF as Over<F>>⟧.fields (instances_of instances.now) max_message_width) }
-    ensures few_accepting_alphas { IfOk result (λ _. FewAcceptingAlphas
-        ⟦<EF as Over<F>>⟧.fields (instances_of instances.now) max_message_width) }
-    ensures few_bad_betas { IfOk result (λ _. FewBadBetas
-        ⟦<EF as Over<F>>⟧.fields (instances_of instances.now) max_message_width) }
+    ensures sound { IfOk result (λ _. IsCountedSound ⟦<EF as Over<F>>⟧.fields
+        (instances_of instances.now) max_message_width) }
 {
     let messages = collected(alloc, instances)?;
     let (keys, unbalanced) = key_counts(alloc, messages.as_slice())?;

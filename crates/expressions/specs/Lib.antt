@@ -9,5 +9,6 @@ pub mod Filter
 pub mod Layout
 pub mod MainWindow
 pub mod Meaning
+pub mod StaysWithin
 pub mod Tree
 pub mod Window

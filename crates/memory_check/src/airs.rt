@@ -1,6 +1,7 @@
 //! The AIRs of the memory check, which say what each row looks up.
-ghost use Rattle.std.specs.Prelude.{◌≡◌, All, IfErr, IfOk, MatchResult};
+ghost use Rattle.std.specs.Prelude.{All, IfErr, IfOk, MatchResult};
 ghost use Rattle.air.specs.Cell.{IsCellsRefusal};
+ghost use Rattle.expressions.specs.StaysWithin.{StaysWithin};
 ghost use Rattle.memory_check.specs.Pushes.{IsRefusedAfter};
 
 use air::{Air, AirBuilder, AirError, BaseAir, Expression, current_cell, current_cells};
@@ -40,8 +41,7 @@ impl<F> BaseAir<F> for AccessesAir {
 
 impl<AB: InteractionBuilder> Air<AB> for AccessesAir {
     ghost evaluates = { λ _ before answer after. MatchResult answer
-        (λ _. (AB.layout after ≡ AB.layout before)
-        × (AB.pushed_within before → AB.pushed_within after))
+        (λ _. StaysWithin AB.AirBuilder before after)
         (λ e. IsRefusedAfter AB.pushes AB.refuses_push AB.window_refuses AB.layout 5 before e
         after) };
 
@@ -100,8 +100,7 @@ impl<F> BaseAir<F> for BoundaryAir {
 
 impl<AB: InteractionBuilder> Air<AB> for BoundaryAir {
     ghost evaluates = { λ _ before answer after. MatchResult answer
-        (λ _. (AB.layout after ≡ AB.layout before)
-        × (AB.pushed_within before → AB.pushed_within after))
+        (λ _. StaysWithin AB.AirBuilder before after)
         (λ e. IsRefusedAfter AB.pushes AB.refuses_push AB.window_refuses AB.layout 4 before e
         after) };
 
@@ -152,8 +151,7 @@ impl<F> BaseAir<F> for GapsAir {
 
 impl<AB: InteractionBuilder> Air<AB> for GapsAir {
     ghost evaluates = { λ _ before answer after. MatchResult answer
-        (λ _. (AB.layout after ≡ AB.layout before)
-        × (AB.pushed_within before → AB.pushed_within after))
+        (λ _. StaysWithin AB.AirBuilder before after)
         (λ e. IsRefusedAfter AB.pushes AB.refuses_push AB.window_refuses AB.layout 2 before e
         after) };
 

@@ -1,8 +1,8 @@
 //! Checking all rows of given traces.
-ghost use Rattle.std.specs.Prelude.{◌<◌, ℕ, MatchResult, Ok, Err};
+ghost use Rattle.std.specs.Prelude.{◌<◌, ℕ, MatchResult, Ok};
 ghost use Rattle.std.specs.Option.{option_copied};
 ghost use Rattle.matrix.specs.Matrix.{height};
-ghost use Rattle.air.specs.Row.{HeightFits, OptionHeightFits, RowAnswers};
+ghost use Rattle.air.specs.Row.{HeightFits, IsFirstRefusedRow, OptionHeightFits, RowAnswers};
 
 use crate::debug::builder::DebugConstraintBuilder;
 use crate::debug::inputs::RowInputs;
@@ -22,9 +22,8 @@ pub fn check_rows<'a, F: Field, EF: ExtensionField<F>, A: Air<DebugConstraintBui
     ensures { MatchResult result
         (λ _. (r : ℕ) → r < height inputs.now.main.now
         → RowAnswers A.evaluates air.now inputs.now r (Ok tt))
-        (λ e. (r : ℕ) × (r < height inputs.now.main.now)
-        × RowAnswers A.evaluates air.now inputs.now r (Err e)
-        × ((q : ℕ) → q < r → RowAnswers A.evaluates air.now inputs.now q (Ok tt))) }
+        (λ e. IsFirstRefusedRow (RowAnswers A.evaluates air.now inputs.now)
+        (height inputs.now.main.now) e) }
 {
     for row in 0..inputs.main.height() {
         check_row(alloc, air, inputs, row)?;

@@ -1,5 +1,6 @@
 //! The example of the README: two AIRs on one bus, from their evaluation to an accepted witness.
-ghost use Rattle.std.specs.Prelude.{◌≡◌, OnOk};
+ghost use Rattle.std.specs.Prelude.{OnOk};
+ghost use Rattle.expressions.specs.StaysWithin.{StaysWithin};
 
 use super::{alone, has_result, holds, trace};
 use air::{Air, AirError, BaseAir, current_cell, current_cells};
@@ -35,8 +36,8 @@ impl<F> BaseAir<F> for KeysAir {
 }
 
 impl<AB: InteractionBuilder> Air<AB> for KeysAir {
-    ghost evaluates = { λ _ before answer after. OnOk answer ((AB.layout after ≡ AB.layout before)
-        × (AB.pushed_within before → AB.pushed_within after)) };
+    ghost evaluates = { λ _ before answer after.
+        OnOk answer (StaysWithin AB.AirBuilder before after) };
 
     fn eval(&self, alloc: Global, builder: &mut AB) -> Result<(), AirError> {
         let key = current_cells(alloc, builder, 1, &[0])?;
@@ -70,8 +71,8 @@ impl<F> BaseAir<F> for EntriesAir {
 }
 
 impl<AB: InteractionBuilder> Air<AB> for EntriesAir {
-    ghost evaluates = { λ _ before answer after. OnOk answer ((AB.layout after ≡ AB.layout before)
-        × (AB.pushed_within before → AB.pushed_within after)) };
+    ghost evaluates = { λ _ before answer after.
+        OnOk answer (StaysWithin AB.AirBuilder before after) };
 
     fn eval(&self, alloc: Global, builder: &mut AB) -> Result<(), AirError> {
         let entry = current_cells(alloc, builder, 2, &[0])?;

@@ -1,5 +1,6 @@
 //! Lookups of AIRs that push what a test asks for.
 ghost use Rattle.std.specs.Prelude.{◌≡◌, ◌<◌, All, IfOk, OnOk};
+ghost use Rattle.expressions.specs.StaysWithin.{StaysWithin};
 ghost use Rattle.expressions.specs.declared.layout.AirLayout.{AirLayout};
 ghost use Rattle.lookup_builder.specs.Within.{KeyWithin};
 
@@ -183,8 +184,8 @@ fn take_step<AB: InteractionBuilder>(
 }
 
 impl<AB: InteractionBuilder> Air<AB> for Steps<'_> {
-    ghost evaluates = { λ _ before answer after. OnOk answer ((AB.layout after ≡ AB.layout before)
-        × (AB.pushed_within before → AB.pushed_within after)) };
+    ghost evaluates = { λ _ before answer after.
+        OnOk answer (StaysWithin AB.AirBuilder before after) };
 
     fn eval(&self, alloc: Global, builder: &mut AB) -> Result<(), AirError> {
         for step in self.steps {

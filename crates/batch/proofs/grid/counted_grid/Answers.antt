@@ -66,4 +66,4 @@ returns-clause-within g c =
     let instances = instances_of c.args.batch.now in
     let W = c.args.max_message_width in
     let bound = bound_holds E instances W c.args.alphas.now c.args.betas.now c.in_ok-counts.counts c.in_ok-bound.bound c.in_ok-counts.ensures.answer.1 c.in_ok-bound.ensures.answer in
-    stays_within E instances W c.args.alphas.now c.args.betas.now c.in_ok-counts.ensures.few_bad_betas (c.in_ok-check_distinct.ensures, c.in_ok-check_distinct-2.ensures) c.in_ok-accepted.accepted c.in_ok-accepted.ensures c.in_ok-bound.bound bound
+    stays_within E instances W c.args.alphas.now c.args.betas.now c.in_ok-counts.ensures.sound.bad_betas (c.in_ok-check_distinct.ensures, c.in_ok-check_distinct-2.ensures) c.in_ok-accepted.accepted c.in_ok-accepted.ensures c.in_ok-bound.bound bound

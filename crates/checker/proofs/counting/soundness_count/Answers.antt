@@ -4,12 +4,12 @@ use Rattle.field.specs.Characteristic.{HasCharacteristic}
 use Rattle.field.specs.laws.Extension.{of_laws}
 use Rattle.lookup_model.specs.Net.{keys, unbalanced_keys}
 use Rattle.lookup_generation.specs.SentMessages.{messages_of}
-use Rattle.batch_model.specs.Counts.{FewAcceptingAlphas, FewBadBetas, FewSharingBetas, message_count, unbalanced_count}
+use Rattle.batch_model.specs.Counts.{IsCountedSound, message_count, unbalanced_count}
 use Rattle.batch_model.specs.Instances.{instances_of}
 use Rattle.batch_model.specs.Messages.{AreFlagsLawful}
 use Rattle.checker.specs.Collected.{IsCountOf}
 use Rattle.counting_laws.proofs.LawfulFlags.{lawful_flags}
-use Rattle.counting_laws.proofs.Soundness.{few_accepting_alphas, few_bad_betas, few_sharing_betas}
+use Rattle.counting_laws.proofs.Soundness.{counted_sound}
 use Rattle.checker.proofs.CountLaws.{if_ok}
 use Rattle.checker.proofs.ResultLaws.{fitting_all}
 use Rattle.checker.proofs.counting.soundness_count.Goals as goal
@@ -28,35 +28,13 @@ returns-clause-answer g c =
     (λ count h. (lawful, record { messages = h.0; unbalanced_is = h.1; bad_betas = h.2; accepting_alphas = h.3 }))
     (λ fault h. inr (inr (lawful, record { air = h.0; error = h.1; large = h.2 })))
 
-pub returns-clause-few_sharing_betas : goal.returns-clause-few_sharing_betas
-returns-clause-few_sharing_betas g c =
+pub returns-clause-sound : goal.returns-clause-sound
+returns-clause-sound g c =
     let laws = g.met.EF.ExtensionField.lawful_fields in
     let E = of_laws laws in
     let char : HasCharacteristic E.ring g.F.PrimeCharacteristicRing.CHARACTERISTIC =
     subst (HasCharacteristic E.ring) (sym g.met.EF.ExtensionDomain.same_characteristic) g.met.EF.PrimeCharacteristicRing.characteristic in
     let instances = instances_of c.args.instances.now in
     let W = c.args.max_message_width in
-    let law : FewSharingBetas E instances W = few_sharing_betas laws W c.requires.ids.0 g.F.PrimeCharacteristicRing.CHARACTERISTIC char instances (fitting_all c.args.instances.now c.requires.fit) c.requires.ids.1 in
-    if_ok c.soundness_of_counts.result law
-
-pub returns-clause-few_accepting_alphas : goal.returns-clause-few_accepting_alphas
-returns-clause-few_accepting_alphas g c =
-    let laws = g.met.EF.ExtensionField.lawful_fields in
-    let E = of_laws laws in
-    let char : HasCharacteristic E.ring g.F.PrimeCharacteristicRing.CHARACTERISTIC =
-    subst (HasCharacteristic E.ring) (sym g.met.EF.ExtensionDomain.same_characteristic) g.met.EF.PrimeCharacteristicRing.characteristic in
-    let instances = instances_of c.args.instances.now in
-    let W = c.args.max_message_width in
-    let law : FewAcceptingAlphas E instances W = few_accepting_alphas laws W c.requires.ids.0 g.F.PrimeCharacteristicRing.CHARACTERISTIC char instances (fitting_all c.args.instances.now c.requires.fit) c.requires.ids.1 (lawful_flags E.base E.base_eq instances c.in_ok-messages.ensures.1) in
-    if_ok c.soundness_of_counts.result law
-
-pub returns-clause-few_bad_betas : goal.returns-clause-few_bad_betas
-returns-clause-few_bad_betas g c =
-    let laws = g.met.EF.ExtensionField.lawful_fields in
-    let E = of_laws laws in
-    let char : HasCharacteristic E.ring g.F.PrimeCharacteristicRing.CHARACTERISTIC =
-    subst (HasCharacteristic E.ring) (sym g.met.EF.ExtensionDomain.same_characteristic) g.met.EF.PrimeCharacteristicRing.characteristic in
-    let instances = instances_of c.args.instances.now in
-    let W = c.args.max_message_width in
-    let law : FewBadBetas E instances W = few_bad_betas laws W c.requires.ids.0 g.F.PrimeCharacteristicRing.CHARACTERISTIC char instances (fitting_all c.args.instances.now c.requires.fit) c.requires.ids.1 (lawful_flags E.base E.base_eq instances c.in_ok-messages.ensures.1) in
+    let law : IsCountedSound E instances W = counted_sound laws W c.requires.ids.0 g.F.PrimeCharacteristicRing.CHARACTERISTIC char instances (fitting_all c.args.instances.now c.requires.fit) c.requires.ids.1 (lawful_flags E.base E.base_eq instances c.in_ok-messages.ensures.1) in
     if_ok c.soundness_of_counts.result law
