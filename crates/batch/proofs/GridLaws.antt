@@ -2,15 +2,15 @@
 use Rattle.std.proofs.Common.{◌≡◌, ◌≤◌, ◌<◌, ◌⊎◌, ◌+◌, ◌-◌, ◌*◌, ◌/◌, ◌^◌, ℕ, inl, inr, List, Option, None, Some, Ok, Err, MatchOption, length, refl, sym, ap, subst, ◌∙◌, arith}
 use Rattle.std.proofs.lemmas.Bool.{cases_lt}
 use Rattle.field.specs.Extension.{Extension}
-use Rattle.batch_model.specs.Counts.{AreCounts, FewBadBetas, IsCountOverflow, bad_beta_bound, message_count, unbalanced_count}
-use Rattle.batch_model.specs.Faults.{IsOutOfMemory}
-use Rattle.batch_model.specs.FlagFaults.{IsFirstFlagFault}
-use Rattle.batch_model.specs.Grid.{AcceptsPair, IsNumberOf, grid, joint_bound}
-use Rattle.batch_model.specs.Instances.{Instance}
-use Rattle.batch_model.specs.Messages.{AreFlagsLawful}
-use Rattle.batch_model.specs.declared.count.SoundnessCount.{SoundnessCount}
-use Rattle.batch_model.specs.declared.fault.BatchFault.{BatchFault}
-use Rattle.counting_laws.proofs.JointCount.{few_accepted_pairs}
+use Rattle.lookup_model.specs.Batches.Counts.{AreCounts, FewBadBetas, IsCountOverflow, bad_beta_bound, message_count, unbalanced_count}
+use Rattle.lookup_model.specs.Batches.Faults.{IsOutOfMemory}
+use Rattle.lookup_model.specs.Batches.FlagFaults.{IsFirstFlagFault}
+use Rattle.lookup_model.specs.Batches.Grid.{AcceptsPair, IsNumberOf, grid, joint_bound}
+use Rattle.lookup_model.specs.Batches.Instances.{Instance}
+use Rattle.lookup_model.specs.Batches.Messages.{AreFlagsLawful}
+use Rattle.lookup_model.specs.declared.count.SoundnessCount.{SoundnessCount}
+use Rattle.lookup_model.specs.declared.fault.BatchFault.{BatchFault}
+use Rattle.lookup_model.proofs.Counting.JointCount.{few_accepted_pairs}
 use Rattle.batch.proofs.PlanLaws.{fault_of_none}
 use Rattle.batch.specs.Grids.{HaveNoRepeat, IsBoundOf, IsGridOverflow, IsGridRefusal}
 use Rattle.batch.specs.Refusals.{of_fault, refusal_at}

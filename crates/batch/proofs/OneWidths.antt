@@ -7,7 +7,7 @@ use Rattle.std.specs.List.{AllByRecursion, cons_option, filter_map, flat_map, li
 use Rattle.std.specs.declared.alloc.Global.{Global}
 use Rattle.std.specs.declared.vec.Vec.{Vec}
 use Rattle.expressions.specs.declared.base_expression.SymbolicExpression.{SymbolicExpression}
-use Rattle.batch_model.specs.Ids.{HaveOneWidth}
+use Rattle.lookup_model.specs.Batches.Ids.{HaveOneWidth}
 use Rattle.lookup_model.specs.Outline.{Outline, bus_of, fields_of}
 use Rattle.lookup_model.specs.declared.types.Lookup.{Lookup}
 use Rattle.lookup_nets.proofs.NetEntries.{any-first_seen}
@@ -17,7 +17,7 @@ use Rattle.lookup_packing.specs.Buses.{bus_names, is_named, on_bus, same_name}
 use Rattle.lookup.specs.Lookups.{lookups_of}
 use Rattle.lookup.specs.NamedWidths.{AgreeOnWidths, first_width, named_widths}
 use Rattle.lookup.specs.declared.lookups.Lookups.{Lookups}
-use Rattle.witness_laws.proofs.Lists.{all_back, all_front, all_here}
+use Rattle.lookup_model.proofs.Batches.Lists.{all_back, all_front, all_here}
 use Rattle.batch.specs.Checks.{AreLocallyEven, IsLocallyEven, bus_widths_of}
 use Rattle.batch.specs.Order.{bus_at, same_bus}
 use Rattle.batch.specs.PlanFacts.{AreNumbered, assigned}

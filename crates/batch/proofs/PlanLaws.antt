@@ -3,11 +3,11 @@ use Rattle.std.proofs.Common.{◌≡◌, ◌<◌, ◌≤◌, ◌+◌, ◌++◌, 
 use Rattle.std.proofs.lemmas.Grind.{flat_map-append}
 use Rattle.std.proofs.lemmas.List.{append-nil, map_push, take_more}
 use Rattle.std.specs.List.{flat_map}
-use Rattle.batch_model.specs.Faults.{IsOutOfMemory}
-use Rattle.batch_model.specs.Instances.{Instance}
-use Rattle.batch_model.specs.Refusals.{IsAirRefusal, IsWitnessRefusal}
-use Rattle.batch_model.specs.Witnesses.{AirResult}
-use Rattle.batch_model.specs.declared.fault.BatchFault.{BatchFault}
+use Rattle.lookup_model.specs.Batches.Faults.{IsOutOfMemory}
+use Rattle.lookup_model.specs.Batches.Instances.{Instance}
+use Rattle.lookup_model.specs.Batches.Refusals.{IsAirRefusal, IsWitnessRefusal}
+use Rattle.lookup_model.specs.Batches.Witnesses.{AirResult}
+use Rattle.lookup_model.specs.declared.fault.BatchFault.{BatchFault}
 use Rattle.lookup_model.specs.Challenges.{ChallengeTable}
 use Rattle.field.specs.Extension.{Extension}
 use Rattle.lookup_model.specs.LookupDegree.{greatest}

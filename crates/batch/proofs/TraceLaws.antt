@@ -7,13 +7,13 @@ use Rattle.std.specs.List.{AllByRecursion, slice_get, slice_range, zip}
 use Rattle.std.specs.declared.alloc.Global.{Global}
 use Rattle.std.specs.declared.vec.Vec.{Vec}
 use Rattle.matrix.specs.Matrix.{Matrix}
-use Rattle.batch_model.specs.Ids.{identified}
-use Rattle.batch_model.specs.Instances.{DoInstancesFit, IsFitting, instance_of, instances_of}
-use Rattle.batch_model.specs.declared.instance.BatchInstance.{BatchInstance}
+use Rattle.lookup_model.specs.Batches.Ids.{identified}
+use Rattle.lookup_model.specs.Batches.Instances.{DoInstancesFit, IsFitting, instance_of, instances_of}
+use Rattle.lookup_model.specs.declared.instance.BatchInstance.{BatchInstance}
 use Rattle.lookup_model.specs.declared.types.Lookup.{Lookup}
 use Rattle.lookup.specs.Lookups.{lookups_of}
 use Rattle.lookup.specs.declared.lookups.Lookups.{Lookups}
-use Rattle.witness_laws.proofs.Lists.{all_back, all_front}
+use Rattle.lookup_model.proofs.Batches.Lists.{all_back, all_front}
 use Rattle.batch.proofs.Places.{HoldsBelow, holds_next}
 use Rattle.batch.specs.Lists.{lists_of}
 use Rattle.batch.specs.Pairs.{HaveIdsBelow}

@@ -2,12 +2,12 @@
 use Rattle.std.specs.Prelude.{◌≡◌, ◌⊎◌, ◌+◌, ◌*◌, ◌^◌, ◌<◌, ◌≤◌, ℕ, List, Option, None, Some, Result, IfOk, MatchOption, MatchResult, length}
 use Rattle.field.specs.Distinct.{IsDistinct}
 use Rattle.field.specs.Extension.{Extension}
-use Rattle.batch_model.specs.Counts.{bad_beta_bound, unbalanced_count}
-use Rattle.batch_model.specs.FlagFaults.{IsFirstFlagFault}
-use Rattle.batch_model.specs.Grid.{AcceptsPair, IsNumberOf, grid, joint_bound}
-use Rattle.batch_model.specs.Instances.{Instance}
-use Rattle.batch_model.specs.Messages.{AreFlagsLawful}
-use Rattle.batch_model.specs.declared.fault.BatchFault.{BatchFault}
+use Rattle.lookup_model.specs.Batches.Counts.{bad_beta_bound, unbalanced_count}
+use Rattle.lookup_model.specs.Batches.FlagFaults.{IsFirstFlagFault}
+use Rattle.lookup_model.specs.Batches.Grid.{AcceptsPair, IsNumberOf, grid, joint_bound}
+use Rattle.lookup_model.specs.Batches.Instances.{Instance}
+use Rattle.lookup_model.specs.Batches.Messages.{AreFlagsLawful}
+use Rattle.lookup_model.specs.declared.fault.BatchFault.{BatchFault}
 use Rattle.batch.specs.Refusals.{of_fault}
 use Rattle.batch.specs.Traces.{AreTraces, IsTraceRefusal}
 use Rattle.batch.specs.declared.error.BatchError.{BatchError}

@@ -1,8 +1,8 @@
 -- What holds of the batch of a plan over traces that fit.
 use Rattle.std.specs.Prelude.{◌≡◌, ℕ, List, length}
-use Rattle.batch_model.specs.Ids.{AreLawfulIds}
-use Rattle.batch_model.specs.Instances.{DoInstancesFit, Instance, instances_of}
-use Rattle.batch_model.specs.declared.instance.BatchInstance.{BatchInstance}
+use Rattle.lookup_model.specs.Batches.Ids.{AreLawfulIds}
+use Rattle.lookup_model.specs.Batches.Instances.{DoInstancesFit, Instance, instances_of}
+use Rattle.lookup_model.specs.declared.instance.BatchInstance.{BatchInstance}
 use Rattle.batch.specs.Pairs.{HaveIdsBelow}
 use Rattle.batch.specs.Traces.{AreTraces}
 use Rattle.batch.specs.declared.trace.BatchTrace.{BatchTrace}

@@ -3,7 +3,7 @@ use Rattle.std.specs.Prelude.{◌≡◌, ◌≢◌, ◌⊎◌, ◌<◌, ℕ, All
 use Rattle.std.specs.List.{zip}
 use Rattle.std.specs.Option.{option_copied}
 use Rattle.matrix.specs.Matrix.{Matrix, height}
-use Rattle.batch_model.specs.Instances.{Instance, IsFitting}
+use Rattle.lookup_model.specs.Batches.Instances.{Instance, IsFitting}
 use Rattle.lookup.specs.Lookups.{lookups_of}
 use Rattle.lookup.specs.declared.lookups.Lookups.{Lookups}
 use Rattle.batch.specs.declared.error.BatchError.{BatchError}

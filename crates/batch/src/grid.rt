@@ -1,8 +1,8 @@
 //! The count of a grid of challenges, with its bound.
 ghost use Rattle.std.specs.Prelude.{◌≡◌, ◌⊎◌, ◌+◌, ◌*◌, ◌^◌, ◌<◌, ◌≤◌, MatchOption, MatchResult};
 ghost use Rattle.field.specs.Distinct.{IsDistinct};
-ghost use Rattle.batch_model.specs.Ids.{AreLawfulIds};
-ghost use Rattle.batch_model.specs.Instances.{DoInstancesFit, instances_of};
+ghost use Rattle.lookup_model.specs.Batches.Ids.{AreLawfulIds};
+ghost use Rattle.lookup_model.specs.Batches.Instances.{DoInstancesFit, instances_of};
 ghost use Rattle.batch.specs.Grids.{CountsGrid, IsBoundOf, StaysWithinBound};
 ghost use Rattle.batch.specs.Pairs.{HaveIdsBelow};
 

@@ -1,6 +1,6 @@
 //! How many pairs of a grid of challenges are accepted.
 ghost use Rattle.std.specs.Prelude.{◌<◌};
-ghost use Rattle.batch_model.specs.Instances.{DoInstancesFit, instances_of};
+ghost use Rattle.lookup_model.specs.Batches.Instances.{DoInstancesFit, instances_of};
 ghost use Rattle.batch.specs.Pairs.{CountsAlphas, CountsPairs, DecidesPair, HaveIdsBelow};
 
 use checker::{BatchInstance, some_witness};

@@ -9,9 +9,9 @@ use Rattle.field.specs.Extension.{Extension}
 use Rattle.lookup_model.specs.Witness.{values_of_terminal}
 use Rattle.lookup_model.specs.declared.error.LookupError.{LookupError}
 use Rattle.lookup_model.specs.declared.types.LookupTerminal.{LookupTerminal}
-use Rattle.batch_model.specs.Instances.{Instance}
-use Rattle.batch_model.specs.Refusals.{HasShapeAt, HoldsAt, IsFirstFailing}
-use Rattle.batch_model.specs.Witnesses.{AirResult}
+use Rattle.lookup_model.specs.Batches.Instances.{Instance}
+use Rattle.lookup_model.specs.Batches.Refusals.{HasShapeAt, HoldsAt, IsFirstFailing}
+use Rattle.lookup_model.specs.Batches.Witnesses.{AirResult}
 use Rattle.checker.specs.Checks.{ChecksResult, ChecksRows}
 
 -- what is said of what is found, where something is found and where nothing is

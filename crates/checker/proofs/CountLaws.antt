@@ -10,10 +10,10 @@ use Rattle.field.specs.Ring.{Ring}
 use Rattle.lookup_model.specs.Plain.{trace_messages}
 use Rattle.lookup_generation.specs.SentMessages.{HasSentRows, messages_of}
 use Rattle.lookup_generation.specs.declared.messages.SentMessage.{SentMessage}
-use Rattle.batch_model.specs.FlagFaults.{instance_flag_faults}
-use Rattle.batch_model.specs.Instances.{Instance}
-use Rattle.batch_model.specs.Messages.{batch_messages, sent_rows_of}
-use Rattle.counting_laws.proofs.SharingBetas.{half_of, half_product, number_of_pairs}
+use Rattle.lookup_model.specs.Batches.FlagFaults.{instance_flag_faults}
+use Rattle.lookup_model.specs.Batches.Instances.{Instance}
+use Rattle.lookup_model.specs.Batches.Messages.{batch_messages, sent_rows_of}
+use Rattle.lookup_model.proofs.Counting.SharingBetas.{half_of, half_product, number_of_pairs}
 use Rattle.checker.specs.Collected.{HasMessages}
 
 module _ {F : Type 0} (R : Ring F) (eq : F → F → Bool) (instances : List (Instance F)) where

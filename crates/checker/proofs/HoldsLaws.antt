@@ -7,7 +7,7 @@ use Rattle.lookup_columns.proofs.ZipLaws.{taken_more}
 use Rattle.lookup_model.specs.Constraints.{accumulator_constraints, fraction_constraint, terminal_at}
 use Rattle.field.specs.Extension.{Extension}
 use Rattle.lookup_model.specs.declared.types.Lookup.{Lookup}
-use Rattle.witness_laws.proofs.Lists.{all_back, all_both, all_front, all_of_map}
+use Rattle.lookup_model.proofs.Batches.Lists.{all_back, all_both, all_front, all_of_map}
 use Rattle.checker.specs.Rows.{AccumulatorHolds, FractionHolds, HoldsOn, IsZeroOn}
 
 module _ {F K : Type 0} (E : Extension F K) (inputs : RowInputs F K) (lookups : List (Lookup F)) (r : ℕ) where

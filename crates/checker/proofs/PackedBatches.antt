@@ -15,11 +15,11 @@ use Rattle.lookup_model.specs.Trace.{sent_rows_under}
 use Rattle.lookup_packing.proofs.KeptLaws.{trace_kept}
 use Rattle.lookup_packing.proofs.RearrangedSums.{sum_in-permutation}
 use Rattle.lookup_packing.proofs.SameKeys.{keys-permutation}
-use Rattle.batch_model.specs.Instances.{Instance, IsFitting}
-use Rattle.batch_model.specs.Messages.{NoneVanishes, batch_messages, id_of, sent_rows_of}
-use Rattle.batch_model.specs.Witnesses.{AirResult, plain_result, plain_witness}
-use Rattle.witness_laws.proofs.OnlyWitness.{only_witness}
-use Rattle.witness_laws.proofs.Totals.{terminal_is}
+use Rattle.lookup_model.specs.Batches.Instances.{Instance, IsFitting}
+use Rattle.lookup_model.specs.Batches.Messages.{NoneVanishes, batch_messages, id_of, sent_rows_of}
+use Rattle.lookup_model.specs.Batches.Witnesses.{AirResult, plain_result, plain_witness}
+use Rattle.lookup_model.proofs.Batches.OnlyWitness.{only_witness}
+use Rattle.lookup_model.proofs.Batches.Totals.{terminal_is}
 use Rattle.checker.specs.Packed.{ArePacked, IsPacked, KeepsCounts, KeepsTerminals}
 
 module _ {F : Type 0} (R : Ring F) (eq : F → F → Bool) where

@@ -9,10 +9,10 @@ use Rattle.std.specs.List.{AllByRecursion, AllZip, slice_get, zip}
 use Rattle.matrix.specs.Matrix.{Matrix}
 use Rattle.field.specs.Extension.{Extension}
 use Rattle.lookup_model.specs.declared.types.LookupTerminal.{LookupTerminal}
-use Rattle.batch_model.specs.Faults.{instance_faults}
-use Rattle.batch_model.specs.Instances.{DoInstancesFit, Instance, IsFitting, instance_of, instances_of}
-use Rattle.batch_model.specs.declared.instance.BatchInstance.{BatchInstance}
-use Rattle.batch_model.specs.Witnesses.{AreSatisfied, IsSatisfiedAt, plain_result, plain_witness}
+use Rattle.lookup_model.specs.Batches.Faults.{instance_faults}
+use Rattle.lookup_model.specs.Batches.Instances.{DoInstancesFit, Instance, IsFitting, instance_of, instances_of}
+use Rattle.lookup_model.specs.declared.instance.BatchInstance.{BatchInstance}
+use Rattle.lookup_model.specs.Batches.Witnesses.{AreSatisfied, IsSatisfiedAt, plain_result, plain_witness}
 use Rattle.checker.specs.Results.{HasResults}
 use Rattle.lookup_model.specs.Challenges.{ChallengeTable}
 

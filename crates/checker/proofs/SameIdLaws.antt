@@ -9,7 +9,7 @@ use Rattle.lookup_model.specs.declared.types.Lookup.{Lookup}
 use Rattle.lookup_packing.proofs.GroupLaws.{same_name-Decides}
 use Rattle.lookup_packing.specs.Buses.{is_named}
 use Rattle.lookup_packing.specs.Kept.{HasIdOfBus, HaveSameIds, other_ids}
-use Rattle.batch_model.specs.Messages.{id_of}
+use Rattle.lookup_model.specs.Batches.Messages.{id_of}
 use Rattle.checker.specs.SameIds.{AgreesWith, DoAgree}
 
 module _ {A : Type 0} where

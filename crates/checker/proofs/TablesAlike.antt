@@ -9,11 +9,11 @@ use Rattle.lookup_model.specs.Challenges.{ChallengeTable, bus_table, column_chal
 use Rattle.field.specs.Extension.{Extension}
 use Rattle.lookup_model.specs.Witness.{IsSatisfied}
 use Rattle.lookup_model.specs.declared.challenges.Challenges.{Challenges}
-use Rattle.batch_model.specs.Counts.{IsAccepting}
-use Rattle.batch_model.specs.Existence.{HasAccepted}
-use Rattle.batch_model.specs.Instances.{HavePrefixes, Instance, instances_of}
-use Rattle.batch_model.specs.Witnesses.{AirResult, AreSatisfied, IsAccepted}
-use Rattle.batch_model.specs.declared.instance.BatchInstance.{BatchInstance}
+use Rattle.lookup_model.specs.Batches.Counts.{IsAccepting}
+use Rattle.lookup_model.specs.Batches.Existence.{HasAccepted}
+use Rattle.lookup_model.specs.Batches.Instances.{HavePrefixes, Instance, instances_of}
+use Rattle.lookup_model.specs.Batches.Witnesses.{AirResult, AreSatisfied, IsAccepted}
+use Rattle.lookup_model.specs.declared.instance.BatchInstance.{BatchInstance}
 
 module _ {K : Type 0} (t u : ChallengeTable K) where
   -- both have the same challenges for the ids of an AIR

@@ -9,10 +9,10 @@ use Rattle.lookup_model.specs.Terminals.{terminal_sum}
 use Rattle.lookup_model.specs.declared.error.LookupError.{LookupError}
 use Rattle.lookup_model.specs.declared.error.LookupError.TheVariants.{TerminalSumNonZero}
 use Rattle.lookup_model.specs.declared.types.LookupTerminal.{LookupTerminal}
-use Rattle.batch_model.specs.Answers.{ChecksWitness, PassesOnlyPlain}
-use Rattle.batch_model.specs.Instances.{Instance, IsFitting}
-use Rattle.batch_model.specs.Witnesses.{AreSatisfied}
-use Rattle.witness_laws.proofs.OnlyWitness.{only_witness}
+use Rattle.lookup_model.specs.Batches.Answers.{ChecksWitness, PassesOnlyPlain}
+use Rattle.lookup_model.specs.Batches.Instances.{Instance, IsFitting}
+use Rattle.lookup_model.specs.Batches.Witnesses.{AreSatisfied}
+use Rattle.lookup_model.proofs.Batches.OnlyWitness.{only_witness}
 
 module _ {A B : Type 0} where
   -- the second items of pairs

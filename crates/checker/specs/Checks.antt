@@ -5,9 +5,9 @@ use Rattle.lookup_model.specs.Challenges.{ChallengeTable}
 use Rattle.field.specs.Extension.{Extension}
 use Rattle.lookup_model.specs.declared.error.LookupError.{LookupError}
 use Rattle.lookup_model.specs.declared.error.LookupError.TheVariants.{ConstraintFailed, Memory}
-use Rattle.batch_model.specs.Instances.{Instance}
-use Rattle.batch_model.specs.Refusals.{HasShapeAt, HoldsAt, IsAirRefusal, IsFirstFailing, IsShapeRefusal}
-use Rattle.batch_model.specs.Witnesses.{AirResult, IsSatisfiedAt}
+use Rattle.lookup_model.specs.Batches.Instances.{Instance}
+use Rattle.lookup_model.specs.Batches.Refusals.{HasShapeAt, HoldsAt, IsAirRefusal, IsFirstFailing, IsShapeRefusal}
+use Rattle.lookup_model.specs.Batches.Witnesses.{AirResult, IsSatisfiedAt}
 
 module _ {F K : Type 0} (air : ℕ) (i : Instance F) (result : AirResult K) where
   -- a result of the shape that the lookups ask for, or the refusal of its shape

@@ -7,12 +7,12 @@ use Rattle.lookup_model.specs.declared.error.LookupError.{LookupError}
 use Rattle.lookup_model.specs.declared.error.LookupError.TheVariants.{CountOverflow, Memory}
 use Rattle.lookup_generation.specs.SentMessages.{HasSentRows, messages_of}
 use Rattle.lookup_generation.specs.declared.messages.SentMessage.{SentMessage}
-use Rattle.batch_model.specs.Faults.{IsOutOfMemory}
-use Rattle.batch_model.specs.FlagFaults.{IsFirstFlagFault, instance_flag_faults}
-use Rattle.batch_model.specs.Instances.{Instance}
-use Rattle.batch_model.specs.Messages.{batch_messages, sent_rows_of}
-use Rattle.batch_model.specs.declared.count.SoundnessCount.{SoundnessCount}
-use Rattle.batch_model.specs.declared.fault.BatchFault.{BatchFault}
+use Rattle.lookup_model.specs.Batches.Faults.{IsOutOfMemory}
+use Rattle.lookup_model.specs.Batches.FlagFaults.{IsFirstFlagFault, instance_flag_faults}
+use Rattle.lookup_model.specs.Batches.Instances.{Instance}
+use Rattle.lookup_model.specs.Batches.Messages.{batch_messages, sent_rows_of}
+use Rattle.lookup_model.specs.declared.count.SoundnessCount.{SoundnessCount}
+use Rattle.lookup_model.specs.declared.fault.BatchFault.{BatchFault}
 
 module _ {F : Type 0} (R : Ring F) (eq : F → F → Bool) (instance : Instance F) (before after : List (SentMessage F)) where
   -- the messages of one AIR come after the earlier ones, and its flags have no fault; or the first

@@ -2,7 +2,7 @@
 use Rattle.std.specs.Prelude.{◌≡◌, ◌↔◌, ◌<◌, ◌≤◌, ℕ, List, All, length, slice_index_or}
 use Rattle.std.specs.List.{AllPairs}
 use Rattle.lookup_model.specs.declared.types.Lookup.{Lookup}
-use Rattle.batch_model.specs.Ids.{HaveOneWidth, ShareBus}
+use Rattle.lookup_model.specs.Batches.Ids.{HaveOneWidth, ShareBus}
 use Rattle.checker.specs.declared.ids.Identified.{Identified}
 
 module _ {F : Type 0} where

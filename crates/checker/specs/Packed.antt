@@ -6,10 +6,10 @@ use Rattle.lookup_model.specs.Challenges.{ChallengeTable}
 use Rattle.field.specs.Extension.{Extension}
 use Rattle.lookup_model.specs.Terminals.{terminal_value}
 use Rattle.lookup_packing.specs.Kept.{HaveSameIds, KeepsMessages}
-use Rattle.batch_model.specs.Counts.{message_count, unbalanced_count}
-use Rattle.batch_model.specs.Instances.{Instance}
-use Rattle.batch_model.specs.Messages.{AreFlagsLawful, IsRegular, id_of}
-use Rattle.batch_model.specs.Witnesses.{AirResult, AreSatisfied}
+use Rattle.lookup_model.specs.Batches.Counts.{message_count, unbalanced_count}
+use Rattle.lookup_model.specs.Batches.Instances.{Instance}
+use Rattle.lookup_model.specs.Batches.Messages.{AreFlagsLawful, IsRegular, id_of}
+use Rattle.lookup_model.specs.Batches.Witnesses.{AirResult, AreSatisfied}
 
 module _ {F : Type 0} (R : Ring F) (eq : F → F → Bool) where
   -- An AIR after packing: over the same traces, with lookups that keep the messages, each joined one

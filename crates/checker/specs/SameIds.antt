@@ -1,7 +1,7 @@
 -- Lookups that may be joined, and their ids.
 use Rattle.std.specs.Prelude.{◌≡◌, ℕ, All, List, None}
-use Rattle.batch_model.specs.Ids.{ShareBus}
-use Rattle.batch_model.specs.Messages.{id_of}
+use Rattle.lookup_model.specs.Batches.Ids.{ShareBus}
+use Rattle.lookup_model.specs.Batches.Messages.{id_of}
 use Rattle.lookup_model.specs.declared.types.Lookup.{Lookup}
 
 module _ {F : Type 0} where

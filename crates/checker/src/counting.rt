@@ -1,15 +1,15 @@
 //! The counts of a batch.
 ghost use Rattle.std.specs.Prelude.{ℕ, IfOk};
-ghost use Rattle.batch_model.specs.Answers.{GivesCounts};
-ghost use Rattle.batch_model.specs.Counts.{IsCountedSound};
-ghost use Rattle.batch_model.specs.Ids.{AreLawfulIds};
-ghost use Rattle.batch_model.specs.Instances.{DoInstancesFit, IsFitting, instance_of, instances_of};
+ghost use Rattle.lookup_model.specs.Batches.Answers.{GivesCounts};
+ghost use Rattle.lookup_model.specs.Batches.Counts.{IsCountedSound};
+ghost use Rattle.lookup_model.specs.Batches.Ids.{AreLawfulIds};
+ghost use Rattle.lookup_model.specs.Batches.Instances.{DoInstancesFit, IsFitting, instance_of, instances_of};
 ghost use Rattle.checker.specs.Collected.{GivesMessages, IsCountOf, PushesMessages};
 
-use batch_model::{BatchFault, BatchInstance, SoundnessCount};
 use field::{ExtensionField, Field, Over};
 use lookup::LookupError;
 use lookup_generation::{SentMessage, push_messages};
+use lookup_model::{BatchFault, BatchInstance, SoundnessCount};
 use lookup_nets::key_counts;
 use std::alloc::Global;
 

@@ -3,18 +3,17 @@ ghost use Rattle.std.specs.Prelude.{◌*◌, ◌+◌, ◌<◌, ◌≤◌, ◌∷
 ghost use Rattle.lookup_generation.specs.TraceBuilder.{builder_layout, ext_builder_window};
 ghost use Rattle.lookup_model.specs.Challenges.{table_of};
 ghost use Rattle.lookup_model.specs.Records.{DoFit, HasEqualLengths, IsWithin};
-ghost use Rattle.batch_model.specs.Instances.{DoInstancesFit, HasPrefixes, HavePrefixes, IsFitting, instance_of, instances_of};
-ghost use Rattle.batch_model.specs.Equations.{air_equations, equation_at, row_equations};
-ghost use Rattle.batch_model.specs.Existence.{DecidesAccepted};
+ghost use Rattle.lookup_model.specs.Batches.Instances.{DoInstancesFit, HasPrefixes, HavePrefixes, IsFitting, instance_of, instances_of};
+ghost use Rattle.lookup_model.specs.Batches.Equations.{air_equations, equation_at, row_equations};
+ghost use Rattle.lookup_model.specs.Batches.Existence.{DecidesAccepted};
 ghost use Rattle.checker.specs.Sums.{AddsEquations};
 
 use crate::sums::Sums;
 use air::AirBuilder;
-use batch_model::BatchInstance;
 use field::{ExtensionField, Field, Over};
 use lookup_evaluation::quotient_of;
 use lookup_generation::{LookupTraceBuilder, row_builder};
-use lookup_model::{Challenges, Lookup, LookupError};
+use lookup_model::{BatchInstance, Challenges, Lookup, LookupError};
 use std::alloc::Global;
 
 /// Whether some witness is accepted at these challenges, whoever makes it. Flags need not be lawful.

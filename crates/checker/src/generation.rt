@@ -1,14 +1,14 @@
 //! The witness of a batch.
 ghost use Rattle.std.specs.Prelude.{IfOk};
 ghost use Rattle.lookup_model.specs.Challenges.{table_of};
-ghost use Rattle.batch_model.specs.Answers.{GivesAcceptedIfBalanced, GivesOnlyFaultless, GivesOnlySatisfied, GivesPlainWitness, GivesSatisfied, SucceedsIfRegular};
-ghost use Rattle.batch_model.specs.Instances.{DoInstancesFit, HasPrefixes, HavePrefixes, IsFitting, instance_of, instances_of};
-ghost use Rattle.batch_model.specs.Witnesses.{HasOneOfEach};
+ghost use Rattle.lookup_model.specs.Batches.Answers.{GivesAcceptedIfBalanced, GivesOnlyFaultless, GivesOnlySatisfied, GivesPlainWitness, GivesSatisfied, SucceedsIfRegular};
+ghost use Rattle.lookup_model.specs.Batches.Instances.{DoInstancesFit, HasPrefixes, HavePrefixes, IsFitting, instance_of, instances_of};
+ghost use Rattle.lookup_model.specs.Batches.Witnesses.{HasOneOfEach};
 ghost use Rattle.checker.specs.Results.{GivesPlainResult};
 
-use batch_model::{BatchFault, BatchInstance, Witness};
 use field::{ExtensionField, Field, Over};
 use lookup::{Challenges, LogUpGadget, LookupError, LookupProtocol, LookupTerminal};
+use lookup_model::{BatchFault, BatchInstance, Witness};
 use matrix::RowMajorMatrix;
 use std::alloc::Global;
 

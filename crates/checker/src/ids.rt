@@ -1,13 +1,13 @@
 //! Which ids of lookups are lawful.
 ghost use Rattle.std.specs.Prelude.{◌≡◌, ◌↔◌, ◌<◌, ◌≤◌, ◌++◌, All, IfOk, IsTrue, length, map};
 ghost use Rattle.std.specs.List.{AllPairs, zip};
-ghost use Rattle.batch_model.specs.Ids.{AreLawfulIds, HaveOneWidth, ShareBus, identified};
-ghost use Rattle.batch_model.specs.Instances.{HaveIds, instances_of};
+ghost use Rattle.lookup_model.specs.Batches.Ids.{AreLawfulIds, HaveOneWidth, ShareBus, identified};
+ghost use Rattle.lookup_model.specs.Batches.Instances.{HaveIds, instances_of};
 ghost use Rattle.checker.specs.Identified.{AgreeOnBuses, AgreeOnWidths, AgreesBelow, AreLawful, IsWithinBounds, identified_of};
 
-use batch_model::BatchInstance;
 use field::Field;
 use lookup::{Kind, Lookup};
+use lookup_model::BatchInstance;
 use std::alloc::{AllocError, Global};
 
 /// Whether the ids of a batch are lawful for a table of `num_bus_ids` prefixes and tuples of at most

@@ -1,10 +1,10 @@
 //! Which instances make a batch.
 ghost use Rattle.std.specs.Prelude.{◌↔◌, IsTrue};
-ghost use Rattle.batch_model.specs.Instances.{DoInstancesFit, IsFitting, instance_of};
+ghost use Rattle.lookup_model.specs.Batches.Instances.{DoInstancesFit, IsFitting, instance_of};
 
 use air::AirLayout;
-use batch_model::BatchInstance;
 use field::Field;
+use lookup_model::BatchInstance;
 
 /// Whether the instances make a batch. In each of them
 ///

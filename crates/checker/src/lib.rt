@@ -22,12 +22,12 @@ mod soundness;
 mod sums;
 mod witness;
 
-pub use batch_model::{BatchFault, BatchInstance, SoundnessCount, Witness};
 pub use counting::{soundness_count, soundness_of_counts};
 pub use existence::some_witness;
 pub use generation::generate_batch;
 pub use ids::ids_are_lawful;
 pub use instances::instances_fit;
+pub use lookup_model::{BatchFault, BatchInstance, SoundnessCount, Witness};
 pub use packing::packing_keeps_batch;
 pub use same_ids::ids_are_kept;
 pub use soundness::{accepted_is_accepting, counted_soundness, joint_soundness};

@@ -1,16 +1,16 @@
 //! Whether the lookups of a packed AIR have the ids of before.
 ghost use Rattle.std.specs.Prelude.{◌≡◌, ◌↔◌, ℕ, All, IfOk, IsTrue, None, map, not, slice_index_or};
-ghost use Rattle.batch_model.specs.Ids.{ShareBus};
-ghost use Rattle.batch_model.specs.Messages.{id_of};
+ghost use Rattle.lookup_model.specs.Batches.Ids.{ShareBus};
+ghost use Rattle.lookup_model.specs.Batches.Messages.{id_of};
 ghost use Rattle.checker.specs.SameIds.{AgreeOnId, AgreesWith, DoAgree, MayBeJoined};
 ghost use Rattle.lookup_model.specs.Outline.{fields_of};
 ghost use Rattle.lookup_packing.specs.Kept.{HaveSameIds, other_ids};
 ghost use Rattle.lookup_packing.specs.Packing.{is_additive};
 
 use crate::ids::share_bus;
-use batch_model::BatchInstance;
 use field::Field;
 use lookup::{Kind, Lookup};
+use lookup_model::BatchInstance;
 use std::alloc::{AllocError, Global};
 
 /// Whether a packed AIR has the ids of before: one id for each bus, under which all lookups on it are

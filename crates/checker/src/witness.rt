@@ -3,16 +3,16 @@ ghost use Rattle.std.specs.Prelude.{◌≡◌, IfOk, length};
 ghost use Rattle.std.specs.List.{zip};
 ghost use Rattle.lookup_model.specs.Challenges.{table_of};
 ghost use Rattle.lookup_model.specs.Witness.{values_of_terminal};
-ghost use Rattle.batch_model.specs.Answers.{ChecksWitness, PassesOnlyPlain, RefusesUnaccepted};
-ghost use Rattle.batch_model.specs.Instances.{DoInstancesFit, HasPrefixes, HavePrefixes, IsFitting, instance_of, instances_of};
-ghost use Rattle.batch_model.specs.Refusals.{HasShapeAt};
+ghost use Rattle.lookup_model.specs.Batches.Answers.{ChecksWitness, PassesOnlyPlain, RefusesUnaccepted};
+ghost use Rattle.lookup_model.specs.Batches.Instances.{DoInstancesFit, HasPrefixes, HavePrefixes, IsFitting, instance_of, instances_of};
+ghost use Rattle.lookup_model.specs.Batches.Refusals.{HasShapeAt};
 ghost use Rattle.checker.specs.Checks.{ChecksResult, ChecksRows, ChecksShape};
 
 use crate::rows::first_failing_row;
 use air::RowInputs;
-use batch_model::BatchInstance;
 use field::{ExtensionField, Field, Over};
 use lookup::{Challenges, LogUpGadget, LookupError, LookupProtocol, LookupTerminal};
+use lookup_model::BatchInstance;
 use matrix::RowMajorMatrix;
 use std::alloc::{AllocError, Global};
 

@@ -19,8 +19,8 @@ use Rattle.std.proofs.lemmas.List.Elements.{filter-append}
 use Rattle.lookup_model.proofs.HornerRule.{map-map}
 use Rattle.lookup_model.proofs.Branches.{mapped_at}
 use Rattle.lookup_model.proofs.RecordLaws.{All-at}
-use Rattle.lookup_laws.proofs.Regrouping.{Holds, first_seen_holds}
-use Rattle.lookup_laws.proofs.KeyLaws.{same_key-Decides}
+use Rattle.lookup_model.proofs.Lookups.Regrouping.{Holds, first_seen_holds}
+use Rattle.lookup_model.proofs.Lookups.KeyLaws.{same_key-Decides}
 use Rattle.lookup_model.proofs.SumLaws.{sum_in-append, sum_in-push}
 
 -- a list of no more than one item is that item

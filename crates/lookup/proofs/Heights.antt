@@ -17,12 +17,12 @@ use Rattle.expressions.specs.Window.{window_at}
 use Rattle.lookup_model.specs.Plain.{trace_messages}
 use Rattle.lookup_model.specs.Sent.{Sent, sent_at}
 use Rattle.lookup_model.specs.declared.types.Lookup.{Lookup}
-use Rattle.lookup_laws.proofs.KeyLaws.{same_key-Decides}
+use Rattle.lookup_model.proofs.Lookups.KeyLaws.{same_key-Decides}
 use Rattle.lookup_model.specs.Message.{Key, Message, same_key}
 use Rattle.lookup_model.specs.Net.{IsBalanced, net}
 use Rattle.lookup_model.specs.Trace.{sent_row_under}
-use Rattle.batch_model.specs.Instances.{Instance}
-use Rattle.batch_model.specs.Messages.{batch_messages, id_of, sent_rows_of}
+use Rattle.lookup_model.specs.Batches.Instances.{Instance}
+use Rattle.lookup_model.specs.Batches.Messages.{batch_messages, id_of, sent_rows_of}
 use Rattle.lookup.specs.Guards.{weighted_height, weighted_height_sum}
 use Rattle.lookup.specs.Weights.{HeightLaws, IsPartOf, Part, RowKeepsWeights, TraceKeepsWeights, all_parts, provided_keys, query_sum, size_of}
 

@@ -8,8 +8,8 @@ use Rattle.lookup_model.specs.Message.{Key, Message, same_key}
 use Rattle.lookup_model.specs.Net.{IsBalanced}
 use Rattle.lookup_model.specs.Sent.{Sent}
 use Rattle.lookup_model.specs.declared.types.Lookup.{Lookup}
-use Rattle.batch_model.specs.Instances.{Instance}
-use Rattle.batch_model.specs.Messages.{batch_messages, sent_rows_of}
+use Rattle.lookup_model.specs.Batches.Instances.{Instance}
+use Rattle.lookup_model.specs.Batches.Messages.{batch_messages, sent_rows_of}
 
 -- what a message is said to be: a provided entry, or a query of a signed whole number
 abbrev pub Part : Type 0

@@ -6,7 +6,7 @@ use Rattle.std.proofs.lemmas.List.Elements.{filter-append, filter_map-append}
 use Rattle.std.proofs.lemmas.List.FromFn.{get_or-enumerate_from, length-enumerate_from}
 use Rattle.std.specs.List.{cons_option, enumerate_from, filter, filter_map, flat_map}
 use Rattle.field.specs.Ring.{Ring}
-use Rattle.lookup_laws.proofs.Rows.{take_item}
+use Rattle.lookup_model.proofs.Lookups.Rows.{take_item}
 use Rattle.lookup_model.proofs.Branches.{mapped_more}
 use Rattle.lookup_model.specs.Outline.{bus_of}
 use Rattle.lookup_model.specs.declared.types.Lookup.{Lookup}

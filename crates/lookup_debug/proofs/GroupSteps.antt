@@ -6,7 +6,7 @@ use Rattle.std.proofs.lemmas.Option.{get_or_from_slice_get, slice_get_within}
 use Rattle.std.specs.Bool.{⊤}
 use Rattle.std.specs.List.{flat_map}
 use Rattle.field.specs.Ring.{Ring}
-use Rattle.lookup_laws.proofs.Rows.{take_item}
+use Rattle.lookup_model.proofs.Lookups.Rows.{take_item}
 use Rattle.lookup_debug.specs.Checks.{AnswersGroups}
 use Rattle.lookup_debug.specs.Contributions.{Contribution}
 use Rattle.lookup_debug.specs.Groups.{Group}

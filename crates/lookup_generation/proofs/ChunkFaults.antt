@@ -7,7 +7,7 @@ use Rattle.lookup_generation.proofs.ProgressLaws.{faultless_rows, first_fault}
 use Rattle.lookup_generation.specs.Progress.{AreFirstIn, AreRatios, HasColumns, HaveNoFault, IsFirstOf, sent_rows_of}
 use Rattle.lookup_generation.specs.declared.generation.RowFault.{RowFault}
 use Rattle.lookup_generation.specs.declared.ratio.Ratio.{Ratio}
-use Rattle.lookup_laws.proofs.SentRows.{length-sent_rows, sent_rows-at}
+use Rattle.lookup_model.proofs.Lookups.SentRows.{length-sent_rows, sent_rows-at}
 use Rattle.field.specs.Extension.{Extension, IsLawful}
 use Rattle.lookup_model.specs.Fault.{trace_faults}
 use Rattle.lookup_model.specs.Message.{Key}

@@ -13,8 +13,8 @@ use Rattle.lookup_generation.specs.Fraction.{IsRatio}
 use Rattle.lookup_generation.specs.Progress.{AnswersColumn, AnswersColumns, AreFirstIn, HasColumn, HasColumns, HaveNoFault, IsFirstIn, column_fractions, sent_on}
 use Rattle.lookup_generation.specs.declared.generation.RowFault.{RowFault}
 use Rattle.lookup_generation.specs.declared.ratio.Ratio.{Ratio}
-use Rattle.lookup_laws.proofs.Rows.{row_faults-append, row_faults-first, row_faults-none}
-use Rattle.lookup_laws.proofs.SentRows.{column_is}
+use Rattle.lookup_model.proofs.Lookups.Rows.{row_faults-append, row_faults-first, row_faults-none}
+use Rattle.lookup_model.proofs.Lookups.SentRows.{column_is}
 use Rattle.field.specs.Extension.{Extension}
 use Rattle.lookup_model.specs.Fault.{fault_of, row_faults}
 use Rattle.lookup_model.specs.Message.{Key}

@@ -9,7 +9,7 @@ use Rattle.lookup_columns.specs.Traces.{height_of, window_of}
 use Rattle.lookup_columns.specs.declared.traces.Traces.{Traces}
 use Rattle.lookup_generation.specs.Progress.{all_fractions, column_cells, column_fractions, sent_on, sent_rows_of}
 use Rattle.lookup_generation.proofs.ProgressLaws.{row_fractions}
-use Rattle.lookup_laws.proofs.SentRows.{length-sent_rows, sent_rows-at}
+use Rattle.lookup_model.proofs.Lookups.SentRows.{length-sent_rows, sent_rows-at}
 use Rattle.lookup_model.proofs.HornerRule.{map-map}
 use Rattle.field.specs.Extension.{Extension}
 use Rattle.lookup_model.specs.Message.{Key}

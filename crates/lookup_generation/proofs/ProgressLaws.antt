@@ -16,7 +16,7 @@ use Rattle.lookup_generation.specs.Progress.{HasCells}
 use Rattle.lookup_generation.specs.declared.ratio.Ratio.{Ratio}
 use Rattle.lookup_model.specs.Sent.{Sent}
 use Rattle.lookup_model.specs.declared.error.LookupError.{LookupError}
-use Rattle.lookup_laws.proofs.Rows.{plain_accumulator-more, split_at, trace_faults-first, trace_faults-none}
+use Rattle.lookup_model.proofs.Lookups.Rows.{plain_accumulator-more, split_at, trace_faults-first, trace_faults-none}
 
 -- rows times a width, in two parts
 pub product_joined : (a b w : ℕ) → a < b → a * w + (b - a) * w ≡ b * w

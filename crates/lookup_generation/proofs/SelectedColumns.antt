@@ -9,7 +9,7 @@ use Rattle.lookup_model.specs.Message.{Key, Message}
 use Rattle.lookup_columns.specs.ChunkColumns.{HasFlag, HoldSelected, IsHeldIfSet, IsPlaced}
 use Rattle.lookup_columns.specs.declared.branches.BranchColumns.{BranchColumns}
 use Rattle.lookup_columns.proofs.ZipLaws.{Beside, beside}
-use Rattle.lookup_laws.proofs.Selections.{place_within, places_from}
+use Rattle.lookup_model.proofs.Lookups.Selections.{place_within, places_from}
 
 module _ {F : Type 0} (R : Ring F) (eq : F → F → Bool) where
   -- the flag at the first place is set

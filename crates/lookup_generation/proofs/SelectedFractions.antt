@@ -9,9 +9,9 @@ use Rattle.lookup_model.specs.Plain.{plain_fraction}
 use Rattle.lookup_model.specs.Sent.{Sent, chosen, sent}
 use Rattle.lookup_model.specs.declared.error.LookupError.TheVariants.{VanishingDenominator}
 use Rattle.lookup_model.specs.Plain.{quotient_of}
-use Rattle.lookup_laws.proofs.LookupFaults.{exclusive_faultless, vanishing_fault}
-use Rattle.lookup_laws.proofs.Selections.{chosen_none, chosen_one}
-use Rattle.lookup_laws.proofs.Terminals.{plain_fraction-all}
+use Rattle.lookup_model.proofs.Lookups.LookupFaults.{exclusive_faultless, vanishing_fault}
+use Rattle.lookup_model.proofs.Lookups.Selections.{chosen_none, chosen_one}
+use Rattle.lookup_model.proofs.Lookups.Terminals.{plain_fraction-all}
 
 module _ {F K : Type 0} {E : Extension F K} (laws : IsLawful E) (denominator : Key F → K) (row column : ℕ) (flags : List F) (branches : List (Message F)) (lawful : are_boolean E.base E.base_eq flags ≡ true) where
   abbrev selected : Sent F

@@ -14,9 +14,9 @@ use Rattle.lookup_model.specs.Sent.{Sent, chosen}
 use Rattle.lookup_model.specs.Trace.{sent_row_under, sent_rows_under}
 use Rattle.lookup_model.specs.declared.error.LookupError.{LookupError}
 use Rattle.lookup_model.specs.declared.types.Lookup.{Lookup}
-use Rattle.lookup_laws.proofs.LookupFaults.{flags_faultless}
-use Rattle.lookup_laws.proofs.Rows.{row_faults-none, split_at, take_item, trace_faults-first, trace_faults-none}
-use Rattle.lookup_laws.proofs.Selections.{chosen_none, chosen_one}
+use Rattle.lookup_model.proofs.Lookups.LookupFaults.{flags_faultless}
+use Rattle.lookup_model.proofs.Lookups.Rows.{row_faults-none, split_at, take_item, trace_faults-first, trace_faults-none}
+use Rattle.lookup_model.proofs.Lookups.Selections.{chosen_none, chosen_one}
 use Rattle.lookup_generation.specs.SentMessages.{HasSentRow, HasSentRows, StayInFront, messages_of}
 use Rattle.lookup_generation.specs.declared.messages.SentMessage.{SentMessage}
 

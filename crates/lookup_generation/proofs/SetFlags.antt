@@ -6,7 +6,7 @@ use Rattle.field.specs.Ring.{IsDomain, Ring}
 use Rattle.lookup_model.specs.Fault.{set_places}
 use Rattle.lookup_generation.specs.Selection.{ArePlaces, AreSetFlags}
 use Rattle.lookup_generation.specs.declared.exclusive.SetFlags.{SetFlags}
-use Rattle.lookup_laws.proofs.Selections.{boolean-more, places-more, set_is_one, zero_is_unset}
+use Rattle.lookup_model.proofs.Lookups.Selections.{boolean-more, places-more, set_is_one, zero_is_unset}
 
 module _ {F : Type 0} (R : Ring F) (eq : F → F → Bool) (decides : (a b : F) → IsTrue (eq a b) ↔ (a ≡ b)) where
   abbrev is_one : F → Bool

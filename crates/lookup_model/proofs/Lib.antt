@@ -1,11 +1,14 @@
+pub mod Batches
 pub mod Branches
 pub mod Coefficients
 pub mod CollisionLaws
 pub mod ColumnChallenges
 pub mod ConstraintLaws
+pub mod Counting
 pub mod DegreeBounds
 pub mod Degrees
 pub mod HornerRule
+pub mod Lookups
 pub mod Prefixes
 pub mod RecordLaws
 pub mod SumDegreeLaws

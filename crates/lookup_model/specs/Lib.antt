@@ -1,3 +1,4 @@
+pub mod Batches
 pub mod Challenges
 pub mod Collisions
 pub mod Constraints

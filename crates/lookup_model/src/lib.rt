@@ -1,20 +1,33 @@
-//! What lookups are and what they mean: their types, their refusals, their challenges, and which of
-//! them fit an AIR. `specs/` defines the messages that they send, the plain result of generation and
-//! the equations of a satisfied witness (LogUp, eprint 2022/1530).
+//! What lookups are and what they mean, of one AIR and of a batch of AIRs: their types, their refusals,
+//! their challenges, and which of them fit an AIR.
+//!
+//! `BatchInstance` is one AIR of a batch, `Witness` what a prover makes of a batch, `BatchFault` why
+//! it makes none, and `SoundnessCount` says at how few challenges an unbalanced batch can be accepted.
+//! `specs/` defines the messages that lookups send, the plain result of generation, the equations of a
+//! satisfied witness, and under `Batches` what holds of all AIRs together (LogUp, eprint 2022/1530).
+//! `proofs/` has the laws of these, which the crates above cite.
 #![tactic(auto)]
 
 mod challenges;
 mod copies;
+mod count;
 mod degree;
 mod error;
+mod fault;
 mod fitting;
+mod instance;
 mod reading;
 mod sum_degrees;
 mod types;
+mod witness;
 
 pub use challenges::Challenges;
+pub use count::SoundnessCount;
 pub use degree::constraint_degree;
 pub use error::LookupError;
+pub use fault::BatchFault;
 pub use fitting::{first_malformed, fits, has_equal_lengths};
+pub use instance::BatchInstance;
 pub use sum_degrees::SumDegrees;
 pub use types::{Kind, Lookup, LookupTerminal};
+pub use witness::Witness;

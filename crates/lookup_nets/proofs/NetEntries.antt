@@ -9,8 +9,8 @@ use Rattle.field.specs.Ring.{Ring, IsCommutativeRing}
 use Rattle.field.specs.Sums.{sum_in}
 use Rattle.lookup_model.specs.Net.{first_seen}
 use Rattle.lookup_model.proofs.SumLaws.{sum_in-push}
-use Rattle.lookup_laws.proofs.Regrouping.{IsSeparate, first_seen_separate}
-use Rattle.lookup_laws.proofs.Rows.{take_item}
+use Rattle.lookup_model.proofs.Lookups.Regrouping.{IsSeparate, first_seen_separate}
+use Rattle.lookup_model.proofs.Lookups.Rows.{take_item}
 use Rattle.lookup_nets.proofs.FirstSeen.{first_seen-push}
 
 module _ {A : Type 0} (same : A → A → Bool) (decides : (a b : A) → Decides (same a b) (a ≡ b)) where

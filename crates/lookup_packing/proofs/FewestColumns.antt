@@ -5,7 +5,7 @@ use Rattle.std.proofs.lemmas.List.Elements.{filter-append}
 use Rattle.std.specs.List.{AllByRecursion, filter, filter_map, flat_map, zip}
 use Rattle.std.specs.Option.{option_map}
 use Rattle.expressions.specs.declared.base_expression.SymbolicExpression.{SymbolicExpression}
-use Rattle.lookup_laws.proofs.Regrouping.{All-filter, IsSeparate, filter_passes, first_seen_separate}
+use Rattle.lookup_model.proofs.Lookups.Regrouping.{All-filter, IsSeparate, filter_passes, first_seen_separate}
 use Rattle.lookup_model.specs.LookupDegree.{branch_degrees, constraint_degree_of, expression_degree, outline_branch_degrees, outline_degree}
 use Rattle.lookup_model.specs.Outline.{Outline}
 use Rattle.lookup_packing.specs.Buses.{bus_names, is_named, on_bus, same_name}

@@ -15,7 +15,7 @@ use Rattle.std.specs.declared.string.String.{String}
 use Rattle.std.specs.declared.vec.Vec.{Vec}
 use Rattle.expressions.specs.declared.base_expression.SymbolicExpression.{SymbolicExpression}
 use Rattle.indexmap.specs.IndexMap.{insert_entry}
-use Rattle.lookup_laws.proofs.Regrouping.{first_seen_separate}
+use Rattle.lookup_model.proofs.Lookups.Regrouping.{first_seen_separate}
 use Rattle.lookup_model.specs.Net.{first_seen}
 use Rattle.lookup_model.specs.Outline.{Outline, bus_of, fields_of}
 use Rattle.lookup_nets.proofs.FirstSeen.{first_seen-push}

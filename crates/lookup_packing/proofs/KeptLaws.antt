@@ -12,7 +12,7 @@ use Rattle.field.specs.Ring.{IsCommutativeRing, Ring}
 use Rattle.matrix.specs.Matrix.{Matrix, height}
 use Rattle.expressions.specs.Window.{Window, window_at}
 use Rattle.expressions.specs.declared.base_expression.SymbolicExpression.{SymbolicExpression}
-use Rattle.lookup_laws.proofs.Regrouping.{filter_passes, first_seen_separate}
+use Rattle.lookup_model.proofs.Lookups.Regrouping.{filter_passes, first_seen_separate}
 use Rattle.lookup_model.specs.Message.{Key, Message, same_key}
 use Rattle.lookup_model.specs.Net.{net}
 use Rattle.lookup_model.specs.Outline.{Outline, bus_of, fields_of}

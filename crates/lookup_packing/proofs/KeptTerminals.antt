@@ -1,6 +1,6 @@
 -- What keeps the messages of every row keeps the terminal of a trace.
 use Rattle.std.proofs.Common.{List, sym, ◌∙◌}
-use Rattle.lookup_laws.proofs.Terminals.{net_sum-messages}
+use Rattle.lookup_model.proofs.Lookups.Terminals.{net_sum-messages}
 use Rattle.field.specs.Extension.{Extension, IsLawful}
 use Rattle.lookup_model.specs.Plain.{quotient, trace_messages}
 use Rattle.lookup_model.specs.Trace.{sent_rows_under}

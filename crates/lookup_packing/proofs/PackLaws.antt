@@ -6,7 +6,7 @@ use Rattle.std.specs.List.{AllByRecursion, AllZip, flat_map}
 use Rattle.std.specs.declared.alloc.Global.{Global}
 use Rattle.std.specs.declared.vec.Vec.{Vec}
 use Rattle.expressions.specs.declared.base_expression.SymbolicExpression.{SymbolicExpression}
-use Rattle.lookup_laws.proofs.Regrouping.{All-filter}
+use Rattle.lookup_model.proofs.Lookups.Regrouping.{All-filter}
 use Rattle.lookup_model.proofs.HornerRule.{map-map}
 use Rattle.lookup_model.specs.Outline.{Outline, fields_of}
 use Rattle.lookup_model.specs.declared.error.LookupError.{LookupError}

@@ -6,7 +6,7 @@ use Rattle.std.proofs.lemmas.List.Sorted.{IsPermutation-append_comm, IsPermutati
 use Rattle.std.specs.List.{AllByRecursion, cons_option, filter, filter_map, flat_map, list_any}
 use Rattle.std.specs.List.Sorted.{IsPermutation}
 use Rattle.std.specs.Option.{is_some}
-use Rattle.lookup_laws.proofs.Regrouping.{Holds, IsSeparate, first_seen_holds}
+use Rattle.lookup_model.proofs.Lookups.Regrouping.{Holds, IsSeparate, first_seen_holds}
 use Rattle.lookup_nets.proofs.NetEntries.{turned}
 use Rattle.lookup_model.specs.Outline.{Outline}
 use Rattle.lookup_packing.specs.Buses.{bus_names, is_named, on_bus, same_name}

@@ -5,8 +5,8 @@ use Rattle.std.proofs.lemmas.List.Sorted.{IsPermutation-cons, IsPermutation-map,
 use Rattle.std.specs.List.{AllByRecursion, filter, list_any}
 use Rattle.std.specs.List.Sorted.{IsPermutation}
 use Rattle.field.specs.Ring.{IsCommutativeRing, Ring}
-use Rattle.lookup_laws.proofs.KeyLaws.{same_key-Decides}
-use Rattle.lookup_laws.proofs.Regrouping.{IsSeparate, IsSeparate-filter, first_seen_separate, same_self}
+use Rattle.lookup_model.proofs.Lookups.KeyLaws.{same_key-Decides}
+use Rattle.lookup_model.proofs.Lookups.Regrouping.{IsSeparate, IsSeparate-filter, first_seen_separate, same_self}
 use Rattle.lookup_model.specs.Message.{Key, Message, same_key}
 use Rattle.lookup_model.specs.Net.{keys, net, unbalanced_keys}
 use Rattle.lookup_nets.proofs.NetEntries.{any-first_seen, turned}

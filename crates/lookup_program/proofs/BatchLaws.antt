@@ -14,11 +14,11 @@ use Rattle.expressions.specs.Layout.{layout_of_widths}
 use Rattle.expressions.specs.Window.{window_at}
 use Rattle.air.specs.Recorded.{HasWidths}
 use Rattle.batch.specs.Refusals.{of_fault, refusal_at}
-use Rattle.batch_model.specs.Faults.{AreFaultless as AreInstancesFaultless, IsFirstFault as IsFirstInstanceFault, instance_faults}
-use Rattle.batch_model.specs.Instances.{Instance, IsFitting}
-use Rattle.batch_model.specs.Messages.{id_of, sent_rows_of}
-use Rattle.batch_model.specs.Witnesses.{plain_result, plain_witness}
-use Rattle.batch_model.specs.declared.fault.BatchFault.{BatchFault}
+use Rattle.lookup_model.specs.Batches.Faults.{AreFaultless as AreInstancesFaultless, IsFirstFault as IsFirstInstanceFault, instance_faults}
+use Rattle.lookup_model.specs.Batches.Instances.{Instance, IsFitting}
+use Rattle.lookup_model.specs.Batches.Messages.{id_of, sent_rows_of}
+use Rattle.lookup_model.specs.Batches.Witnesses.{plain_result, plain_witness}
+use Rattle.lookup_model.specs.declared.fault.BatchFault.{BatchFault}
 use Rattle.lookup_model.specs.Challenges.{ChallengeTable, table_denominator}
 use Rattle.field.specs.Extension.{Extension}
 use Rattle.lookup_model.specs.Generated.{plain_matrix, plain_terminal_of}

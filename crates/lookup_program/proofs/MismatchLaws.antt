@@ -17,8 +17,8 @@ use Rattle.lookup_model.specs.Outline.{bus_of}
 use Rattle.lookup_model.specs.Records.{DoFit}
 use Rattle.lookup_model.specs.Sent.{Sent, sent_at}
 use Rattle.lookup_model.specs.declared.types.Lookup.{Lookup}
-use Rattle.batch_model.specs.Messages.{HasLawfulFlags}
-use Rattle.counting_laws.proofs.LawfulFlags.{lawful_rows}
+use Rattle.lookup_model.specs.Batches.Messages.{HasLawfulFlags}
+use Rattle.lookup_model.proofs.Counting.LawfulFlags.{lawful_rows}
 use Rattle.lookup_builder.proofs.Elements.{all_of_map}
 use Rattle.lookup.specs.Lookups.{lookups_of}
 use Rattle.lookup.specs.Sends.{lookup_bus_and_weight}

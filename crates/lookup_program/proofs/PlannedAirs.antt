@@ -7,7 +7,7 @@ use Rattle.std.specs.List.{AllZip, flat_map, sum_by, zip}
 use Rattle.std.specs.Option.{option_copied}
 use Rattle.field.specs.Ring.{Ring}
 use Rattle.matrix.specs.Matrix.{Matrix, height}
-use Rattle.batch_model.specs.Instances.{Instance}
+use Rattle.lookup_model.specs.Batches.Instances.{Instance}
 use Rattle.lookup_model.specs.Outline.{bus_of}
 use Rattle.lookup_model.specs.declared.error.LookupError.{LookupError}
 use Rattle.lookup_model.specs.declared.types.Lookup.{Lookup}

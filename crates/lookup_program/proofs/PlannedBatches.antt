@@ -7,11 +7,11 @@ use Rattle.std.specs.declared.vec.Vec.{Vec}
 use Rattle.field.specs.Characteristic.{IsPrime}
 use Rattle.field.specs.Ring.{Ring}
 use Rattle.matrix.specs.Matrix.{Matrix, height}
-use Rattle.batch_model.specs.Faults.{AreFaultless as AreInstancesFaultless, IsFirstFault as IsFirstInstanceFault}
-use Rattle.batch_model.specs.Instances.{Instance}
-use Rattle.batch_model.specs.Witnesses.{HasOneOfEach, plain_witness, results_of}
-use Rattle.batch_model.specs.declared.fault.BatchFault.{BatchFault}
-use Rattle.batch_model.specs.declared.witness.Witness.{Witness}
+use Rattle.lookup_model.specs.Batches.Faults.{AreFaultless as AreInstancesFaultless, IsFirstFault as IsFirstInstanceFault}
+use Rattle.lookup_model.specs.Batches.Instances.{Instance}
+use Rattle.lookup_model.specs.Batches.Witnesses.{HasOneOfEach, plain_witness, results_of}
+use Rattle.lookup_model.specs.declared.fault.BatchFault.{BatchFault}
+use Rattle.lookup_model.specs.declared.witness.Witness.{Witness}
 use Rattle.lookup_model.proofs.HornerRule.{map-map}
 use Rattle.lookup_model.specs.Challenges.{ChallengeTable}
 use Rattle.field.specs.Extension.{Extension}

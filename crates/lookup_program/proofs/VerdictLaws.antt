@@ -4,8 +4,8 @@ use Rattle.std.specs.List.{zip}
 use Rattle.std.specs.declared.alloc.Global.{Global}
 use Rattle.std.specs.declared.string.String.{String}
 use Rattle.matrix.specs.Matrix.{Matrix}
-use Rattle.batch_model.specs.Witnesses.{results_of}
-use Rattle.batch_model.specs.declared.witness.Witness.{Witness}
+use Rattle.lookup_model.specs.Batches.Witnesses.{results_of}
+use Rattle.lookup_model.specs.declared.witness.Witness.{Witness}
 use Rattle.lookup_model.specs.Terminals.{terminal_sum}
 use Rattle.lookup_model.specs.declared.error.LookupError.{LookupError}
 use Rattle.lookup_model.specs.declared.error.LookupError.TheVariants.{TerminalSumNonZero}

@@ -6,7 +6,7 @@ use Rattle.std.specs.declared.alloc.Global.{Global}
 use Rattle.std.specs.declared.string.String.{String}
 use Rattle.matrix.specs.Matrix.{Matrix, height, row}
 use Rattle.batch.specs.declared.error.BatchError.TheVariants.{Air as OfAir, Lookup as OfLookup}
-use Rattle.batch_model.specs.Witnesses.{AirResult}
+use Rattle.lookup_model.specs.Batches.Witnesses.{AirResult}
 use Rattle.lookup.specs.Guards.{IsHeightRefusal}
 use Rattle.lookup_model.specs.Challenges.{ChallengeTable, prefix_of_bus, table_denominator}
 use Rattle.field.specs.Extension.{Extension}

@@ -2,7 +2,7 @@
 use Rattle.std.specs.Prelude.{ℕ, ◌++◌, Bool, true, false, List, [], Option, None, Some, codes, decimal}
 use Rattle.std.specs.List.{enumerate_from, flat_map, join_by, range_with_len}
 use Rattle.matrix.specs.Matrix.{Matrix, height, row}
-use Rattle.batch_model.specs.Witnesses.{AirResult}
+use Rattle.lookup_model.specs.Batches.Witnesses.{AirResult}
 use Rattle.lookup_model.specs.declared.types.LookupTerminal.{LookupTerminal}
 
 module _ {K : Type 0} (text : K → List ℕ) where

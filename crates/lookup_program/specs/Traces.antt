@@ -3,7 +3,7 @@ use Rattle.std.specs.List.{AllZip}
 use Rattle.std.specs.Prelude.{◌≡◌, ℕ, Bool, List, [], None}
 use Rattle.field.specs.Ring.{Ring}
 use Rattle.matrix.specs.Matrix.{Matrix}
-use Rattle.batch_model.specs.Instances.{Instance}
+use Rattle.lookup_model.specs.Batches.Instances.{Instance}
 use Rattle.lookup.specs.Lookups.{lookups_of}
 use Rattle.lookup_debug.specs.Contributions.{Traced}
 use Rattle.lookup_program.specs.Machines.{AreLookupsOf, air_trace, airs_of}

@@ -2,7 +2,7 @@
 ghost use Rattle.std.specs.Prelude.{◌≡◌, ◌++◌, ◌<◌, ◌⊎◌, MatchResult, OnOk, codes, length, string_bytes};
 ghost use Rattle.std.specs.List.{AllZip, flat_map};
 ghost use Rattle.matrix.specs.Matrix.{height};
-ghost use Rattle.batch_model.specs.Witnesses.{results_of};
+ghost use Rattle.lookup_model.specs.Batches.Witnesses.{results_of};
 ghost use Rattle.lookup_program.specs.Fields.{run_fields};
 ghost use Rattle.lookup_program.specs.Machines.{airs_of, columns_of};
 ghost use Rattle.lookup_program.specs.Program.{AreFaultless, IsFirstFault, IsHeavy, IsReport, IsReportRefusal, height_sum, machine_witness};

@@ -9,14 +9,14 @@ use Rattle.lookup_model.specs.Challenges.{ChallengeTable}
 use Rattle.field.specs.Extension.{Extension}
 use Rattle.lookup_model.specs.Net.{IsBalanced}
 use Rattle.lookup.specs.declared.lookups.Lookups.{Lookups}
-use Rattle.batch_model.specs.Counts.{IsAccepting}
-use Rattle.batch_model.specs.Faults.{AreFaultless, IsFirstFault}
-use Rattle.batch_model.specs.Instances.{Instance}
-use Rattle.batch_model.specs.Messages.{batch_messages}
-use Rattle.batch_model.specs.Refusals.{IsWitnessRefusal}
-use Rattle.batch_model.specs.Witnesses.{AirResult, HasOneOfEach, IsAccepted, plain_witness, results_of}
-use Rattle.batch_model.specs.declared.fault.BatchFault.{BatchFault}
-use Rattle.batch_model.specs.declared.witness.Witness.{Witness}
+use Rattle.lookup_model.specs.Batches.Counts.{IsAccepting}
+use Rattle.lookup_model.specs.Batches.Faults.{AreFaultless, IsFirstFault}
+use Rattle.lookup_model.specs.Batches.Instances.{Instance}
+use Rattle.lookup_model.specs.Batches.Messages.{batch_messages}
+use Rattle.lookup_model.specs.Batches.Refusals.{IsWitnessRefusal}
+use Rattle.lookup_model.specs.Batches.Witnesses.{AirResult, HasOneOfEach, IsAccepted, plain_witness, results_of}
+use Rattle.lookup_model.specs.declared.fault.BatchFault.{BatchFault}
+use Rattle.lookup_model.specs.declared.witness.Witness.{Witness}
 use Rattle.batch.proofs.PlanCalls.{unfit_traces, wrong_count}
 use Rattle.batch.proofs.TraceLaws.{alone_is}
 use Rattle.batch.specs.Lists.{lists_of}

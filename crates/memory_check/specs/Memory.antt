@@ -12,13 +12,13 @@ use Rattle.lookup_model.specs.Records.{DoFit}
 use Rattle.lookup_model.specs.declared.error.LookupError.{LookupError}
 use Rattle.lookup.specs.Lookups.{lookups_of}
 use Rattle.lookup.specs.declared.lookups.Lookups.{Lookups}
-use Rattle.batch_model.specs.Counts.{IsAccepting}
-use Rattle.batch_model.specs.Faults.{AreFaultless, IsFirstFault}
-use Rattle.batch_model.specs.Instances.{Instance}
-use Rattle.batch_model.specs.Messages.{batch_messages}
-use Rattle.batch_model.specs.Refusals.{IsWitnessRefusal}
-use Rattle.batch_model.specs.Witnesses.{IsAccepted, plain_witness}
-use Rattle.batch_model.specs.declared.fault.BatchFault.{BatchFault}
+use Rattle.lookup_model.specs.Batches.Counts.{IsAccepting}
+use Rattle.lookup_model.specs.Batches.Faults.{AreFaultless, IsFirstFault}
+use Rattle.lookup_model.specs.Batches.Instances.{Instance}
+use Rattle.lookup_model.specs.Batches.Messages.{batch_messages}
+use Rattle.lookup_model.specs.Batches.Refusals.{IsWitnessRefusal}
+use Rattle.lookup_model.specs.Batches.Witnesses.{IsAccepted, plain_witness}
+use Rattle.lookup_model.specs.declared.fault.BatchFault.{BatchFault}
 use Rattle.batch.specs.Lists.{lists_of}
 use Rattle.batch.specs.Refusals.{of_fault}
 use Rattle.batch.specs.Tables.{made_table}

@@ -1,7 +1,7 @@
 use Rattle.std.proofs.Common.{◌<◌, ◌^◌, ℕ, inl, inr, subst}
 use Rattle.std.proofs.lemmas.Result.{err_from_is_err_and}
 use Rattle.field.specs.laws.Extension.{of_laws}
-use Rattle.batch_model.specs.Instances.{instances_of}
+use Rattle.lookup_model.specs.Batches.Instances.{instances_of}
 use Rattle.batch.proofs.GridLaws.{bound_holds, bound_overflows, counts_refused, stays_within}
 use Rattle.batch.specs.Grids.{HaveNoRepeat}
 use Rattle.batch.specs.Refusals.{of_lookup}

@@ -2,9 +2,9 @@ use Rattle.std.proofs.Common.{◌≡◌, ◌+◌, ◌≤◌, ◌*◌, ◌^◌, �
 use Rattle.std.proofs.lemmas.Grind.{flat_map-append}
 use Rattle.std.proofs.lemmas.List.{append-nil, take_all, take_more}
 use Rattle.field.specs.laws.Extension.{of_laws}
-use Rattle.batch_model.specs.Instances.{instances_of}
-use Rattle.batch_model.specs.Grid.{AcceptsPair, IsNumberOf, grid}
-use Rattle.counting_laws.proofs.Numbers.{mapped_number, number_of_both}
+use Rattle.lookup_model.specs.Batches.Instances.{instances_of}
+use Rattle.lookup_model.specs.Batches.Grid.{AcceptsPair, IsNumberOf, grid}
+use Rattle.lookup_model.proofs.Counting.Numbers.{mapped_number, number_of_both}
 use Rattle.batch.proofs.pairs.accepted_pairs.Goals as goal
 
 pub overflow_add-accepted : goal.overflow_add-accepted

@@ -1,7 +1,7 @@
 use Rattle.std.proofs.Common.{◌*◌, ◌^◌, ◌≤◌, take}
 use Rattle.field.specs.laws.Extension.{of_laws}
-use Rattle.batch_model.specs.Instances.{instances_of}
-use Rattle.batch_model.specs.Grid.{AcceptsPair, IsNumberOf, grid}
+use Rattle.lookup_model.specs.Batches.Instances.{instances_of}
+use Rattle.lookup_model.specs.Batches.Grid.{AcceptsPair, IsNumberOf, grid}
 use Rattle.batch.proofs.pairs.accepted_pairs.Given as goal
 
 abbrev pub invariant-loop-place : goal.invariant-loop-place

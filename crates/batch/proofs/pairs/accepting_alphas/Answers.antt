@@ -1,10 +1,10 @@
 use Rattle.std.proofs.Common.{◌≡◌, ◌+◌, ◌≤◌, ◌++◌, ◌∷◌, [], List, length, take, sym, ap, subst, ◌∙◌, arith}
 use Rattle.std.proofs.lemmas.List.{length-take, take_more}
 use Rattle.field.specs.laws.Extension.{of_laws}
-use Rattle.batch_model.specs.Counts.{IsAccepting}
-use Rattle.batch_model.specs.Instances.{instances_of}
-use Rattle.batch_model.specs.Grid.{IsNumberOf}
-use Rattle.counting_laws.proofs.Numbers.{number_having, number_lacking, number_within}
+use Rattle.lookup_model.specs.Batches.Counts.{IsAccepting}
+use Rattle.lookup_model.specs.Batches.Instances.{instances_of}
+use Rattle.lookup_model.specs.Batches.Grid.{IsNumberOf}
+use Rattle.lookup_model.proofs.Counting.Numbers.{number_having, number_lacking, number_within}
 use Rattle.batch.proofs.pairs.accepting_alphas.Goals.{then-branch, else-branch}
 use Rattle.batch.proofs.pairs.accepting_alphas.Goals as goal
 

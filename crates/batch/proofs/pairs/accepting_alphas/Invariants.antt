@@ -1,8 +1,8 @@
 use Rattle.std.proofs.Common.{take}
 use Rattle.field.specs.laws.Extension.{of_laws}
-use Rattle.batch_model.specs.Counts.{IsAccepting}
-use Rattle.batch_model.specs.Instances.{instances_of}
-use Rattle.batch_model.specs.Grid.{IsNumberOf}
+use Rattle.lookup_model.specs.Batches.Counts.{IsAccepting}
+use Rattle.lookup_model.specs.Batches.Instances.{instances_of}
+use Rattle.lookup_model.specs.Batches.Grid.{IsNumberOf}
 use Rattle.batch.proofs.pairs.accepting_alphas.Given as goal
 
 abbrev pub invariant-loop-place : goal.invariant-loop-place

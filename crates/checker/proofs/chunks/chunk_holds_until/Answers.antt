@@ -8,7 +8,7 @@ use Rattle.lookup_columns.proofs.ZipLaws.{beside}
 use Rattle.lookup_columns.specs.ChunkColumns.{HoldLookup}
 use Rattle.lookup_columns.specs.LookupSteps.{AreLookupSteps}
 use Rattle.lookup_columns.specs.declared.branches.BranchColumns.{BranchColumns}
-use Rattle.lookup_laws.proofs.SentRows.{column_is, equal_lengths}
+use Rattle.lookup_model.proofs.Lookups.SentRows.{column_is, equal_lengths}
 use Rattle.lookup_model.proofs.RecordLaws.{All-at}
 use Rattle.field.specs.laws.Extension.{of_laws}
 use Rattle.lookup_model.specs.Records.{IsWithin}

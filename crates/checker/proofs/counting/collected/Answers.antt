@@ -4,7 +4,7 @@ use Rattle.std.proofs.lemmas.Option.{slice_get_read}
 use Rattle.std.specs.List.{slice_get}
 use Rattle.lookup_model.proofs.Branches.{mapped_at}
 use Rattle.lookup_model.proofs.RecordLaws.{All-at}
-use Rattle.batch_model.specs.Instances.{IsFitting, instance_of, instances_of}
+use Rattle.lookup_model.specs.Batches.Instances.{IsFitting, instance_of, instances_of}
 use Rattle.checker.specs.Collected.{HasMessages}
 use Rattle.checker.proofs.CountLaws.{all_messages, messages_more}
 use Rattle.checker.proofs.counting.collected.Goals as goal

@@ -1,4 +1,4 @@
-use Rattle.batch_model.specs.Instances.{instances_of}
+use Rattle.lookup_model.specs.Batches.Instances.{instances_of}
 use Rattle.checker.specs.Collected.{HasMessages}
 use Rattle.checker.proofs.counting.collected.Given as goal
 

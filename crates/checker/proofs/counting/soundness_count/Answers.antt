@@ -4,12 +4,12 @@ use Rattle.field.specs.Characteristic.{HasCharacteristic}
 use Rattle.field.specs.laws.Extension.{of_laws}
 use Rattle.lookup_model.specs.Net.{keys, unbalanced_keys}
 use Rattle.lookup_generation.specs.SentMessages.{messages_of}
-use Rattle.batch_model.specs.Counts.{IsCountedSound, message_count, unbalanced_count}
-use Rattle.batch_model.specs.Instances.{instances_of}
-use Rattle.batch_model.specs.Messages.{AreFlagsLawful}
+use Rattle.lookup_model.specs.Batches.Counts.{IsCountedSound, message_count, unbalanced_count}
+use Rattle.lookup_model.specs.Batches.Instances.{instances_of}
+use Rattle.lookup_model.specs.Batches.Messages.{AreFlagsLawful}
 use Rattle.checker.specs.Collected.{IsCountOf}
-use Rattle.counting_laws.proofs.LawfulFlags.{lawful_flags}
-use Rattle.counting_laws.proofs.Soundness.{counted_sound}
+use Rattle.lookup_model.proofs.Counting.LawfulFlags.{lawful_flags}
+use Rattle.lookup_model.proofs.Counting.Soundness.{counted_sound}
 use Rattle.checker.proofs.CountLaws.{if_ok}
 use Rattle.checker.proofs.ResultLaws.{fitting_all}
 use Rattle.checker.proofs.counting.soundness_count.Goals as goal

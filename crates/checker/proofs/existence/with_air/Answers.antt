@@ -7,8 +7,8 @@ use Rattle.expressions.specs.Window.{ExtWindow}
 use Rattle.lookup_model.specs.Challenges.{table_of}
 use Rattle.field.specs.laws.Extension.{of_laws}
 use Rattle.lookup_model.specs.Records.{DoFit}
-use Rattle.batch_model.specs.Equations.{challenged_window, row_equations}
-use Rattle.batch_model.specs.Instances.{instance_of}
+use Rattle.lookup_model.specs.Batches.Equations.{challenged_window, row_equations}
+use Rattle.lookup_model.specs.Batches.Instances.{instance_of}
 use Rattle.lookup_generation.proofs.Layouts.{DoFit-with_challenges}
 use Rattle.lookup_generation.specs.TraceBuilder.{ext_builder_window}
 use Rattle.checker.specs.Sums.{AreSums}

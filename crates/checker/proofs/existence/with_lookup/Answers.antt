@@ -1,5 +1,5 @@
 use Rattle.std.proofs.Common.{◌++◌, ◌∷◌, [], refl, subst}
-use Rattle.batch_model.specs.Equations.{Equation}
+use Rattle.lookup_model.specs.Batches.Equations.{Equation}
 use Rattle.lookup_generation.specs.TraceBuilder.{ext_builder_window}
 use Rattle.checker.specs.Sums.{AreSums}
 use Rattle.checker.proofs.existence.with_lookup.Goals as goal

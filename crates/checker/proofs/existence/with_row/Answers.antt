@@ -4,8 +4,8 @@ use Rattle.lookup_model.proofs.Branches.{mapped_more}
 use Rattle.lookup_model.proofs.RecordLaws.{All-at}
 use Rattle.field.specs.laws.Extension.{of_laws}
 use Rattle.lookup_model.specs.Records.{IsWithin}
-use Rattle.lookup_laws.proofs.SentRows.{column_is, equal_lengths}
-use Rattle.batch_model.specs.Equations.{Equation, equation_at, row_equations}
+use Rattle.lookup_model.proofs.Lookups.SentRows.{column_is, equal_lengths}
+use Rattle.lookup_model.specs.Batches.Equations.{Equation, equation_at, row_equations}
 use Rattle.lookup_generation.specs.TraceBuilder.{builder_layout, ext_builder_window}
 use Rattle.checker.specs.Sums.{AreSums}
 use Rattle.checker.proofs.SumWalk.{sums_further, sums_kept, sums_stay}

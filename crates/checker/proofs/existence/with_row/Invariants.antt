@@ -1,6 +1,6 @@
 use Rattle.std.proofs.Common.{List, ◌++◌, take}
 use Rattle.field.specs.laws.Extension.{of_laws}
-use Rattle.batch_model.specs.Equations.{Equation, row_equations}
+use Rattle.lookup_model.specs.Batches.Equations.{Equation, row_equations}
 use Rattle.lookup_generation.specs.TraceBuilder.{ext_builder_window}
 use Rattle.checker.specs.Sums.{AreSums}
 use Rattle.checker.proofs.existence.with_row.Given as goal

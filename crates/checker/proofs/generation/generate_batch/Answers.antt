@@ -6,14 +6,14 @@ use Rattle.lookup_model.proofs.Branches.{mapped_at}
 use Rattle.field.specs.laws.Extension.{of_laws}
 use Rattle.lookup_model.proofs.RecordLaws.{All-at}
 use Rattle.lookup_model.specs.Terminals.{terminal_sum}
-use Rattle.batch_model.specs.Instances.{HasPrefixes, IsFitting, instance_of, instances_of}
-use Rattle.batch_model.specs.Witnesses.{AirResult}
+use Rattle.lookup_model.specs.Batches.Instances.{HasPrefixes, IsFitting, instance_of, instances_of}
+use Rattle.lookup_model.specs.Batches.Witnesses.{AirResult}
 use Rattle.checker.specs.Results.{HasResults}
 use Rattle.lookup_model.specs.Challenges.{table_of}
-use Rattle.witness_laws.proofs.OnlyWitness.{only_witness}
+use Rattle.lookup_model.proofs.Batches.OnlyWitness.{only_witness}
 use Rattle.checker.proofs.ResultLaws.{all_results, fitting_all, results_more}
-use Rattle.witness_laws.proofs.Succeeds.{none_faulty}
-use Rattle.witness_laws.proofs.Totals.{balanced_total}
+use Rattle.lookup_model.proofs.Batches.Succeeds.{none_faulty}
+use Rattle.lookup_model.proofs.Batches.Totals.{balanced_total}
 use Rattle.checker.proofs.generation.generate_batch.Goals as goal
 
 pub returns-in-Err-clause-answer : goal.returns-in-Err-clause-answer

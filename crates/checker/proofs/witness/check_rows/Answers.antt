@@ -3,7 +3,7 @@ use Rattle.std.specs.Option.{option_copied}
 use Rattle.expressions.specs.Layout.{layout_of_traces}
 use Rattle.lookup_model.specs.Challenges.{table_of}
 use Rattle.field.specs.laws.Extension.{of_laws}
-use Rattle.batch_model.specs.Instances.{instance_of}
+use Rattle.lookup_model.specs.Batches.Instances.{instance_of}
 use Rattle.checker.proofs.CheckLaws.{fails_from, found_none, found_some, holds_from}
 use Rattle.checker.proofs.Layouts.{DoFit-with_auxiliary}
 use Rattle.checker.proofs.witness.check_rows.Goals as goal

@@ -7,9 +7,9 @@ use Rattle.std.specs.List.{slice_get, zip}
 use Rattle.lookup_model.proofs.Branches.{mapped_at}
 use Rattle.lookup_model.specs.Challenges.{table_of}
 use Rattle.field.specs.laws.Extension.{of_laws}
-use Rattle.batch_model.specs.Instances.{instance_of, instances_of}
-use Rattle.batch_model.specs.Witnesses.{AreSatisfied, IsSatisfiedAt}
-use Rattle.witness_laws.proofs.RefusedWitness.{refuses_from}
+use Rattle.lookup_model.specs.Batches.Instances.{instance_of, instances_of}
+use Rattle.lookup_model.specs.Batches.Witnesses.{AreSatisfied, IsSatisfiedAt}
+use Rattle.lookup_model.proofs.Batches.RefusedWitness.{refuses_from}
 use Rattle.checker.proofs.ResultLaws.{fitting_all}
 use Rattle.checker.proofs.WitnessLaws.{HoldsBelow, all_places, holds_more, only_from, pair_at, witness_from}
 use Rattle.checker.proofs.witness.check_witness.Goals as goal

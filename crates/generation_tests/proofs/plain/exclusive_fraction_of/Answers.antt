@@ -9,7 +9,7 @@ use Rattle.lookup_model.proofs.RecordLaws.{All-at}
 use Rattle.generation_tests.specs.PlainProgram.{message_of, messages_of}
 use Rattle.generation_tests.proofs.PlainProgramLaws.{one_item}
 use Rattle.lookup_generation.proofs.SelectedFractions.{none_selected, one_selected, one_vanishing}
-use Rattle.lookup_laws.proofs.Selections.{place_within}
+use Rattle.lookup_model.proofs.Lookups.Selections.{place_within}
 use Rattle.generation_tests.proofs.plain.exclusive_fraction_of.Goals as goal
 
 pub returns-then-is_empty : goal.returns-then-is_empty

@@ -6,7 +6,7 @@ use Rattle.field.specs.laws.Extension.{of_laws}
 use Rattle.lookup_model.specs.Fault.{vanishes}
 use Rattle.lookup_model.specs.Message.{Message}
 use Rattle.lookup_model.specs.Plain.{counted}
-use Rattle.lookup_laws.proofs.Rows.{split_at}
+use Rattle.lookup_model.proofs.Lookups.Rows.{split_at}
 use Rattle.generation_tests.specs.PlainProgram.{IsFractionOf, message_of, messages_of}
 use Rattle.generation_tests.proofs.PlainProgramLaws.{fraction_of_both, messages-more, vanishes_among}
 use Rattle.generation_tests.proofs.plain.fraction_of.Goals as goal

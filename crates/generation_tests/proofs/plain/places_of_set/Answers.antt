@@ -1,8 +1,8 @@
 use Rattle.std.proofs.Common.{◌≡◌, length, take, ◌++◌, ◌∷◌, [], true, false, ap, sym, ◌∙◌, arith}
 use Rattle.std.proofs.lemmas.List.{append-nil, length-take, take_all}
-use Rattle.lookup_laws.proofs.Rows.{take_item}
+use Rattle.lookup_model.proofs.Lookups.Rows.{take_item}
 use Rattle.lookup_model.specs.Fault.{set_places}
-use Rattle.lookup_laws.proofs.Selections.{places-more}
+use Rattle.lookup_model.proofs.Lookups.Selections.{places-more}
 use Rattle.generation_tests.proofs.plain.places_of_set.Goals.{then-eq+in_ok-push, else-eq}
 use Rattle.generation_tests.proofs.plain.places_of_set.Goals as goal
 

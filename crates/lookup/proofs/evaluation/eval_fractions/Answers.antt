@@ -9,10 +9,10 @@ use Rattle.lookup_model.specs.Constraints.{Constraint, fraction_constraint}
 use Rattle.field.specs.laws.Extension.{of_laws}
 use Rattle.lookup_model.specs.Records.{IsWithin}
 use Rattle.lookup_evaluation.proofs.AssertedLaws.{asserts_read, asserts_then, fails_early, fails_read, fails_then}
-use Rattle.lookup_laws.proofs.Rows.{split_at, take_item}
+use Rattle.lookup_model.proofs.Lookups.Rows.{split_at, take_item}
 use Rattle.lookup.proofs.Evaluations.{later_reads, layout_kept, windows_kept}
 use Rattle.lookup_model.proofs.RecordLaws.{All-at}
-use Rattle.lookup_laws.proofs.SentRows.{column_is}
+use Rattle.lookup_model.proofs.Lookups.SentRows.{column_is}
 use Rattle.lookup.proofs.evaluation.eval_fractions.Goals as goal
 
 pub loop-lookup-init : goal.loop-lookup-init

@@ -8,7 +8,7 @@ use Rattle.lookup_columns.specs.declared.branches.BranchColumns.{BranchColumns}
 use Rattle.std.proofs.lemmas.Slice.Zip.{all_zipped_more, AllZip-long}
 use Rattle.lookup_columns.proofs.ZipLaws.{beside, taken_more}
 use Rattle.lookup_columns.specs.LookupSteps.{AreLookupSteps}
-use Rattle.lookup_laws.proofs.SentRows.{column_is, equal_lengths}
+use Rattle.lookup_model.proofs.Lookups.SentRows.{column_is, equal_lengths}
 use Rattle.lookup_columns.specs.Traces.{layout_of}
 use Rattle.lookup_model.proofs.RecordLaws.{All-at}
 use Rattle.lookup_model.specs.Records.{IsWithin}

@@ -16,7 +16,7 @@ use Rattle.lookup_generation.specs.declared.exclusive.SetFlags.TheVariants.{Noth
 use Rattle.lookup_columns.proofs.ChunkColumnLaws.{read_is}
 use Rattle.lookup_generation.proofs.SelectedColumns.{columns_there, flags_there, message, message_placed}
 use Rattle.lookup_generation.proofs.SelectedFractions.{none_selected, one_selected, one_vanishing}
-use Rattle.lookup_laws.proofs.SatisfiedFractions.{divides_one}
+use Rattle.lookup_model.proofs.Lookups.SatisfiedFractions.{divides_one}
 use Rattle.lookup_generation.proofs.exclusive.exclusive_fraction.Goals as goal
 
 pub set_flags_at-requires : goal.set_flags_at-requires

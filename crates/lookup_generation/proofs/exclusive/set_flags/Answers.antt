@@ -4,11 +4,11 @@ use Rattle.std.proofs.lemmas.Result.{err_from_is_err_and}
 use Rattle.lookup_model.proofs.Branches.{mapped_at, mapped_more}
 use Rattle.lookup_model.specs.Fault.{are_boolean}
 use Rattle.lookup_model.proofs.RecordLaws.{Fits-at}
-use Rattle.lookup_laws.proofs.Rows.{split_at}
+use Rattle.lookup_model.proofs.Lookups.Rows.{split_at}
 use Rattle.lookup_model.specs.Sent.{value, values}
 use Rattle.lookup_generation.specs.Selection.{AreSetFlags}
 use Rattle.lookup_generation.specs.TraceBuilder.{builder_layout, builder_window}
-use Rattle.lookup_laws.proofs.Selections.{not_boolean}
+use Rattle.lookup_model.proofs.Lookups.Selections.{not_boolean}
 use Rattle.lookup_model.specs.declared.error.LookupError.TheVariants.{FlagNotBoolean}
 use Rattle.lookup_generation.proofs.exclusive.set_flags.Goals as goal
 

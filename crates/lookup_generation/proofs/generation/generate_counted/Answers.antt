@@ -12,10 +12,10 @@ use Rattle.lookup_model.specs.Fault.{trace_faults}
 use Rattle.lookup_model.specs.Generated.{plain_matrix, plain_terminal_of}
 use Rattle.lookup_model.specs.Trace.{sent_rows}
 use Rattle.lookup_model.specs.Witness.{IsSatisfied}
-use Rattle.lookup_laws.proofs.PlainResults.{IsShaped-product, faultless_rows, plain_matrix-some, plain_terminal_of-some}
+use Rattle.lookup_model.proofs.Lookups.PlainResults.{IsShaped-product, faultless_rows, plain_matrix-some, plain_terminal_of-some}
 use Rattle.lookup_generation.proofs.MadeRows.{cells_plain, accumulator_plain, faultless_trace}
-use Rattle.lookup_laws.proofs.SatisfiedRows.{none_satisfied, plain_satisfied}
-use Rattle.lookup_laws.proofs.SentRows.{length-sent_rows}
+use Rattle.lookup_model.proofs.Lookups.SatisfiedRows.{none_satisfied, plain_satisfied}
+use Rattle.lookup_model.proofs.Lookups.SentRows.{length-sent_rows}
 use Rattle.lookup_generation.proofs.generation.generate_counted.Goals as goal
 
 pub returns-then-is_empty-clause-answers : goal.returns-then-is_empty-clause-answers

@@ -10,8 +10,8 @@ use Rattle.lookup_generation.proofs.ProgressLaws.{HasCells-more, product_more}
 use Rattle.lookup_generation.specs.Fraction.{AreWhole, IsRatio}
 use Rattle.lookup_generation.specs.Progress.{HasCells, all_fractions, column_cells, sent_rows_of}
 use Rattle.lookup_generation.specs.declared.ratio.Ratio.{Ratio}
-use Rattle.lookup_laws.proofs.PlainResults.{IsShaped-product, height_of}
-use Rattle.lookup_laws.proofs.SentRows.{length-sent_rows}
+use Rattle.lookup_model.proofs.Lookups.PlainResults.{IsShaped-product, height_of}
+use Rattle.lookup_model.proofs.Lookups.SentRows.{length-sent_rows}
 use Rattle.lookup_model.specs.Denominators.{column_denominator}
 use Rattle.field.specs.Extension.{extension, IsLawful}
 use Rattle.field.specs.laws.Extension.{lawful_extension}

@@ -10,7 +10,7 @@ use Rattle.lookup_model.proofs.RecordLaws.{All-at}
 use Rattle.lookup_model.specs.Denominators.{column_denominator}
 use Rattle.field.specs.Extension.{extension}
 use Rattle.lookup_model.specs.declared.types.Lookup.{Lookup}
-use Rattle.lookup_laws.proofs.SentRows.{column_is}
+use Rattle.lookup_model.proofs.Lookups.SentRows.{column_is}
 use Rattle.lookup_columns.specs.ChunkColumns.{HoldLookup}
 use Rattle.lookup_generation.specs.Fraction.{AreSound}
 use Rattle.lookup_generation.specs.Progress.{AnswersColumn, AnswersColumns, sent_on}

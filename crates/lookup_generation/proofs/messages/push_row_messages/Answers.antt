@@ -7,8 +7,8 @@ use Rattle.lookup_model.specs.FlagFault.{row_flag_faults, sent_flag_fault}
 use Rattle.lookup_model.specs.Sent.{Sent, sent_at}
 use Rattle.lookup_model.specs.Trace.{sent_row_under}
 use Rattle.lookup_model.specs.declared.types.Lookup.{Lookup}
-use Rattle.lookup_laws.proofs.Rows.{row_faults-first, split_at}
-use Rattle.lookup_laws.proofs.SentRows.{column_is, equal_lengths}
+use Rattle.lookup_model.proofs.Lookups.Rows.{row_faults-first, split_at}
+use Rattle.lookup_model.proofs.Lookups.SentRows.{column_is, equal_lengths}
 use Rattle.lookup_generation.specs.SentMessages.{HasSentRow}
 use Rattle.lookup_generation.specs.TraceBuilder.{builder_layout, builder_window}
 use Rattle.lookup_generation.proofs.SentMessageLaws.{further_back, in_front, no_sent, sent_more}

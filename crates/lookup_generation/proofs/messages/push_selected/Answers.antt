@@ -6,7 +6,7 @@ use Rattle.lookup_model.proofs.Branches.{length-branches_at, zipped_at}
 use Rattle.lookup_model.proofs.RecordLaws.{All-at, Fits-at}
 use Rattle.lookup_model.specs.Records.{AllFit, IsWithin}
 use Rattle.lookup_model.specs.Sent.{branch_at, branches_at, value, values}
-use Rattle.lookup_laws.proofs.Selections.{place_within}
+use Rattle.lookup_model.proofs.Lookups.Selections.{place_within}
 use Rattle.lookup_generation.specs.Selection.{AreSetFlags}
 use Rattle.lookup_generation.specs.SentMessages.{messages_of}
 use Rattle.lookup_generation.specs.TraceBuilder.{builder_layout, builder_window}

@@ -1,7 +1,7 @@
 use Rattle.std.proofs.Common.{refl, take, ap, sym, ◌∙◌, arith}
 use Rattle.std.proofs.lemmas.List.{take_all}
 use Rattle.lookup_model.specs.Message.{same_key}
-use Rattle.lookup_laws.proofs.KeyLaws.{same_key-Decides}
+use Rattle.lookup_model.proofs.Lookups.KeyLaws.{same_key-Decides}
 use Rattle.lookup_generation.specs.SentMessages.{message_of, messages_of}
 use Rattle.lookup_nets.specs.Entries.{key_entries, key_of, nets_of}
 use Rattle.lookup_nets.proofs.NetEntries.{mapped-more, one_more}

@@ -1,5 +1,5 @@
 use Rattle.std.proofs.Common.{◌≡◌, ◌++◌, string_bytes, take}
-use Rattle.batch_model.specs.Witnesses.{results_of}
+use Rattle.lookup_model.specs.Batches.Witnesses.{results_of}
 use Rattle.lookup_program.specs.Report.{witness_lines}
 use Rattle.lookup_program.proofs.report.push_witness.Given as goal
 

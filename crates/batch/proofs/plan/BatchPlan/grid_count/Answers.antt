@@ -1,9 +1,9 @@
 use Rattle.std.proofs.Common.{List, inl, inr, ap, subst, sym, ◌∙◌}
 use Rattle.std.proofs.lemmas.Result.{MatchResult-weaker}
 use Rattle.field.specs.laws.Extension.{of_laws}
-use Rattle.batch_model.specs.Ids.{AreLawfulIds}
-use Rattle.batch_model.specs.Instances.{DoInstancesFit, Instance, instances_of}
-use Rattle.batch_model.specs.declared.instance.BatchInstance.{BatchInstance}
+use Rattle.lookup_model.specs.Batches.Ids.{AreLawfulIds}
+use Rattle.lookup_model.specs.Batches.Instances.{DoInstancesFit, Instance, instances_of}
+use Rattle.lookup_model.specs.declared.instance.BatchInstance.{BatchInstance}
 use Rattle.batch.specs.Grids.{CountsGrid}
 use Rattle.batch.specs.Pairs.{HaveIdsBelow}
 use Rattle.batch.specs.Plans.{plan_batch}

@@ -1,0 +1,105 @@
+-- The lookups of an AIR over the challenges of its columns, and under the ids of a table.
+use Rattle.std.proofs.Common.{◌≡◌, ℕ, zero, suc, ◌+◌, ◌*◌, ◌<◌, Bool, true, false, cond, Option, None, Some, List, [], ◌∷◌, length, map, get_or, refl, ap, ◌∙◌, arith}
+use Rattle.std.specs.List.{AllByRecursion, AllZip, filter, range_with_len, zip}
+use Rattle.std.specs.declared.alloc.Global.{Global}
+use Rattle.std.specs.declared.vec.Vec.{Vec}
+use Rattle.matrix.specs.Matrix.{height}
+use Rattle.expressions.specs.Window.{Window, window_at}
+use Rattle.expressions.specs.declared.base_expression.SymbolicExpression.{SymbolicExpression}
+use Rattle.lookup_model.specs.Denominators.{column_denominator, tuple_denominator}
+use Rattle.field.specs.Extension.{Extension, IsLawful}
+use Rattle.lookup_model.specs.Message.{Key, Message}
+use Rattle.lookup_model.specs.Sent.{branch_at, chosen, flags_at, sent, sent_at}
+use Rattle.lookup_model.proofs.Lookups.SentRows.{column_is}
+use Rattle.lookup_model.specs.declared.types.Lookup.{Lookup}
+use Rattle.lookup_model.proofs.Lookups.SatisfiedRows.{all_indexed}
+use Rattle.lookup_model.specs.Batches.Instances.{Instance, IsFitting}
+use Rattle.lookup_model.specs.Batches.Messages.{id_of, sent_rows_of}
+use Rattle.lookup_model.specs.Challenges.{ChallengeTable, column_challenges, table_denominator}
+use Rattle.lookup_model.specs.Trace.{sent_row, sent_row_under, sent_rows}
+use Rattle.lookup_model.proofs.Batches.Rekeyed.{AreRekeyed, AreRowsAlike, IsAlike}
+
+module _ {K : Type 0} (table : ChallengeTable K) (d : K) where
+  -- the challenges of a column are the prefix of its id, and beta
+  pub alpha_at : (ids : List ℕ) (c : ℕ) → c < length ids → get_or (column_challenges table ids) (2 * c) d ≡ table.prefix (get_or ids c 0)
+  alpha_at [] c lt = absurd (omega (arith, lt))
+  alpha_at (id ∷ ids) zero lt = refl
+  alpha_at (id ∷ ids) (suc c) lt =
+      let two : 2 * suc c ≡ suc (suc (2 * c)) = omega arith in
+      ap (λ i. get_or (column_challenges table (id ∷ ids)) i d) two ∙ alpha_at ids c (omega (arith, lt))
+
+  pub beta_at : (ids : List ℕ) (c : ℕ) → c < length ids → get_or (column_challenges table ids) (2 * c + 1) d ≡ table.beta
+  beta_at [] c lt = absurd (omega (arith, lt))
+  beta_at (id ∷ ids) zero lt = refl
+  beta_at (id ∷ ids) (suc c) lt =
+      let two : 2 * suc c + 1 ≡ suc (suc (2 * c + 1)) = omega arith in
+      ap (λ i. get_or (column_challenges table (id ∷ ids)) i d) two ∙ beta_at ids c (omega (arith, lt))
+
+AllZip-images : {A B C : Type 0} (P : B → C → Type 0) (f : A → B) (g : A → C) (xs : List A) → AllByRecursion (λ x. P (f x) (g x)) xs → AllZip P (map f xs) (map g xs)
+AllZip-images P f g [] all = tt
+AllZip-images P f g (x ∷ xs) all = (all.0, AllZip-images P f g xs all.1)
+
+all_items : {A : Type 0} (P : A → Type 0) → ((x : A) → P x) → (xs : List A) → AllByRecursion P xs
+all_items P each [] = tt
+all_items P each (x ∷ xs) = (each x, all_items P each xs)
+
+module _ {F K : Type 0} {E : Extension F K} (laws : IsLawful E) (table : ChallengeTable K) (instance : Instance F) (fitting : IsFitting instance) where
+  abbrev challenges : List K
+  challenges = column_challenges table instance.ids
+
+  abbrev pub column_den : Key F → K
+  column_den = column_denominator E challenges
+
+  abbrev pub den : Key F → K
+  den = table_denominator E table
+
+  abbrev Branches : Type 0
+  Branches = List (Vec (SymbolicExpression F) Global × SymbolicExpression F)
+
+  module _ (w : Window F) (c id : ℕ) (same : (tuple : List F) → column_den (record { id = c; tuple = tuple }) ≡ den (record { id = id; tuple = tuple })) where
+    abbrev by_column : Vec (SymbolicExpression F) Global × SymbolicExpression F → Message F
+    by_column b = branch_at E.base w c b.0.items b.1
+
+    abbrev by_id : Vec (SymbolicExpression F) Global × SymbolicExpression F → Message F
+    by_id b = branch_at E.base w id b.0.items b.1
+
+    rekeyed_all : (zs : Branches) → AreRekeyed laws column_den den (map by_column zs) (map by_id zs)
+    rekeyed_all [] = tt
+    rekeyed_all (z ∷ zs) = ((refl, same (by_id z).key.tuple), rekeyed_all zs)
+
+    rekeyed_chosen : (fs : List F) (zs : Branches) → AreRekeyed laws column_den den (chosen E.base E.base_eq fs (map by_column zs)) (chosen E.base E.base_eq fs (map by_id zs))
+    rekeyed_chosen [] zs = tt
+    rekeyed_chosen (f ∷ fs) [] = tt
+    rekeyed_chosen (f ∷ fs) (z ∷ zs) = by_test (E.base_eq f E.base.one) (rekeyed_chosen fs zs)
+      where
+        kept : List (F × Message F) → List (F × Message F)
+        kept = filter (λ (q : F × Message F). E.base_eq q.0 E.base.one)
+
+        by_test : (t : Bool) → AreRekeyed laws column_den den (chosen E.base E.base_eq fs (map by_column zs)) (chosen E.base E.base_eq fs (map by_id zs))
+            → AreRekeyed laws column_den den (map (λ (q : F × Message F). q.1) (cond t ((f, by_column z) ∷ filter (λ q. E.base_eq q.0 E.base.one) (zip fs (map by_column zs))) (filter (λ q. E.base_eq q.0 E.base.one) (zip fs (map by_column zs)))))
+            (map (λ (q : F × Message F). q.1) (cond t ((f, by_id z) ∷ filter (λ q. E.base_eq q.0 E.base.one) (zip fs (map by_id zs))) (filter (λ q. E.base_eq q.0 E.base.one) (zip fs (map by_id zs)))))
+        by_test true rest = ((refl, same (by_id z).key.tuple), rest)
+        by_test false rest = rest
+
+    alike_sent : (flags : Option (List F)) (zs : Branches) → IsAlike laws column_den den (sent E.base E.base_eq flags (map by_column zs)) (sent E.base E.base_eq flags (map by_id zs))
+    alike_sent None zs = (refl, rekeyed_all zs)
+    alike_sent (Some fs) zs = (refl, rekeyed_chosen fs zs)
+
+  alike_row : (w : Window F) → AllZip (IsAlike laws column_den den) (sent_row E.base E.base_eq w instance.lookups) (sent_row_under E.base E.base_eq (id_of instance.ids) w instance.lookups)
+  alike_row w =
+      AllZip-images (IsAlike laws column_den den) (λ lookup. sent_at E.base E.base_eq w lookup.column lookup) (λ lookup. sent_at E.base E.base_eq w (id_of instance.ids lookup) lookup) instance.lookups
+      (all_indexed (λ lookup. IsAlike laws column_den den (sent_at E.base E.base_eq w lookup.column lookup) (sent_at E.base E.base_eq w (id_of instance.ids lookup) lookup)) instance.lookups each)
+    where
+      each : (k : ℕ) (lookup : Lookup F) → k < length instance.lookups → lookup ≡ get_or instance.lookups k lookup → IsAlike laws column_den den (sent_at E.base E.base_eq w lookup.column lookup) (sent_at E.base E.base_eq w (id_of instance.ids lookup) lookup)
+      each k lookup below is =
+          let within : lookup.column < length instance.ids = omega (arith, column_is instance.lookups k lookup fitting.fit.records below is, below, fitting.ids) in
+          alike_sent w lookup.column (id_of instance.ids lookup)
+          (λ tuple i. tuple_denominator E (alpha_at table E.ring.zero instance.ids lookup.column within i) (beta_at table E.ring.zero instance.ids lookup.column within i) tuple)
+          (flags_at E.base w lookup) (zip lookup.elements.items lookup.multiplicities.items)
+
+  -- the rows by columns are the rows by ids
+  pub alike_rows : AreRowsAlike laws column_den den (sent_rows E.base E.base_eq instance.main instance.preprocessed instance.public_values instance.lookups) (sent_rows_of E.base E.base_eq instance)
+  alike_rows =
+      let window = λ (r : ℕ). window_at instance.main instance.preprocessed instance.public_values (height instance.main) r in
+      AllZip-images (AllZip (IsAlike laws column_den den)) (λ r. sent_row E.base E.base_eq (window r) instance.lookups) (λ r. sent_row_under E.base E.base_eq (id_of instance.ids) (window r) instance.lookups) (range_with_len 0 (height instance.main))
+      (all_items (λ r. AllZip (IsAlike laws column_den den) (sent_row E.base E.base_eq (window r) instance.lookups) (sent_row_under E.base E.base_eq (id_of instance.ids) (window r) instance.lookups)) (λ r. alike_row (window r)) (range_with_len 0 (height instance.main)))

@@ -1,0 +1,198 @@
+-- Solutions of the equations of a batch make a satisfied witness, whose terminals are their sums.
+use Rattle.std.proofs.Common.{◌≡◌, ℕ, zero, suc, ◌+◌, ◌*◌, ◌%◌, ◌<◌, ◌==◌, Bool, true, false, not, Option, None, Some, List, [], ◌∷◌, ◌++◌, length, map, take, get_or, slice_index_or, refl, sym, ap, subst, ◌∙◌, arith}
+use Rattle.std.proofs.Math.Nat.{mod-eq_of_lt}
+use Rattle.std.proofs.lemmas.Bool.{eqb-true, eqb-false, not-true}
+use Rattle.std.proofs.lemmas.Grind.{flat_map-append}
+use Rattle.std.proofs.lemmas.List.{append-nil, ext_get_or, get_or_default, length-append, length-map, take_all, take_more}
+use Rattle.std.proofs.lemmas.List.FromFn.{length-range_with_len}
+use Rattle.std.specs.List.{AllByRecursion, AllZip, flat_map, range_with_len}
+use Rattle.field.specs.laws.Distinct.{all_map}
+use Rattle.field.specs.Ring.{of_bool, sub_in}
+use Rattle.field.specs.laws.RingFacts.{mul_zero, zero_mul}
+use Rattle.field.specs.laws.RingSolver.{var, con, ◌:+◌, :neg, ring_law}
+use Rattle.field.specs.Sums.{sum_in}
+use Rattle.matrix.specs.Matrix.{Matrix, height, row}
+use Rattle.expressions.specs.Window.{ExtWindow}
+use Rattle.lookup_model.proofs.Branches.{mapped_at}
+use Rattle.lookup_model.proofs.ConstraintLaws.{accumulator_constraints-some}
+use Rattle.lookup_model.proofs.SumLaws.{sum_in-append}
+use Rattle.lookup_model.specs.Challenges.{ChallengeTable, column_challenges}
+use Rattle.lookup_model.specs.Constraints.{Constraint, accumulator_at, accumulator_constraints, fraction_at, fraction_constraint, fractions_at, terminal_at}
+use Rattle.field.specs.Extension.{Extension, IsLawful}
+use Rattle.lookup_model.specs.Records.{AreRecords}
+use Rattle.lookup_model.specs.Terminals.{terminal_sum, terminal_value}
+use Rattle.lookup_model.specs.Witness.{HasShape, witness_window}
+use Rattle.lookup_model.specs.declared.types.Lookup.{Lookup}
+use Rattle.lookup_model.specs.declared.types.LookupTerminal.{LookupTerminal}
+use Rattle.lookup_model.proofs.Lookups.PlainResults.{IsShaped-product, height_of}
+use Rattle.lookup_model.proofs.Lookups.SatisfiedRows.{all_append, all_indexed, none_satisfied, row_of_parts}
+use Rattle.lookup_model.proofs.Lookups.SentRows.{column_is}
+use Rattle.lookup_model.specs.Batches.Equations.{CanSumTo, Equation, Solves, air_equations, batch_equations, challenged_window, equation_at, row_equations}
+use Rattle.lookup_model.specs.Batches.Instances.{Instance, IsFitting}
+use Rattle.lookup_model.specs.Batches.Witnesses.{AirResult, AreSatisfied, IsSatisfiedAt}
+use Rattle.lookup_model.proofs.Batches.Lists.{item_at}
+use Rattle.lookup_model.proofs.Batches.SolutionSums.{none_sums, sums_apart}
+use Rattle.lookup_model.proofs.Batches.Zipped.{nothing_flat, ranged_at, zipped_at, zipped_long, zipped_rows}
+
+-- rows of one length, put together
+length_flat : {A : Type 0} (f : ℕ → List A) (width a m : ℕ) → ((r : ℕ) → r < a + m → length (f r) ≡ width) → length (flat_map f (range_with_len a m)) ≡ m * width
+length_flat f width a zero each = omega arith
+length_flat f width a (suc m) each =
+    length-append (f a) (flat_map f (range_with_len (a + 1) m))
+    ∙ omega (arith, each a (omega arith), length_flat f width (a + 1) m (λ r lt. each r (omega (arith, lt))))
+
+module _ {F K : Type 0} {E : Extension F K} (laws : IsLawful E) (table : ChallengeTable K) where
+  module _ (i : Instance F) (records : AreRecords i.lookups) (some : 0 < length i.lookups) (rows : List (List K)) (each : AllZip (λ (r : ℕ) (row : List K). AllZip (Solves E.ring) (row_equations E (challenged_window E table i r) i.lookups) row) (range_with_len 0 (height i.main)) rows) where
+    abbrev fractions_on : ℕ → List K
+    fractions_on r = get_or rows r []
+
+    -- the fractions of the first rows
+    abbrev sum_below : ℕ → K
+    sum_below r = sum_in E.ring (flat_map (λ row. row) (take r rows))
+
+    abbrev made_row : ℕ → List K
+    made_row r = sum_below r ∷ fractions_on r
+
+    abbrev auxiliary : Matrix K
+    auxiliary = record { values = flat_map made_row (range_with_len 0 (height i.main)); width = length i.lookups + 1 }
+
+    abbrev terminal : Option (LookupTerminal K)
+    terminal = Some (record { 0 = sum_in E.ring (flat_map (λ row. row) rows) })
+
+    abbrev window_of : ℕ → ExtWindow F K
+    window_of r = witness_window i.main i.preprocessed i.public_values (column_challenges table i.ids) auxiliary terminal r
+
+    many : length rows ≡ height i.main
+    many = zipped_long (λ (r : ℕ) (row : List K). AllZip (Solves E.ring) (row_equations E (challenged_window E table i r) i.lookups) row) (range_with_len 0 (height i.main)) rows each ∙ length-range_with_len 0 (height i.main)
+
+    solved_on : (r : ℕ) → r < height i.main → AllZip (Solves E.ring) (row_equations E (challenged_window E table i r) i.lookups) (fractions_on r)
+    solved_on r lt =
+        let same : 0 + r ≡ r = omega arith in
+        subst (λ (n : ℕ). AllZip (Solves E.ring) (row_equations E (challenged_window E table i n) i.lookups) (fractions_on r)) same
+        (ranged_at (λ (n : ℕ) (row : List K). AllZip (Solves E.ring) (row_equations E (challenged_window E table i n) i.lookups) row) 0 (height i.main) r rows lt each)
+
+    length-fractions : (r : ℕ) → r < height i.main → length (fractions_on r) ≡ length i.lookups
+    length-fractions r lt =
+        zipped_long (Solves E.ring) (row_equations E (challenged_window E table i r) i.lookups) (fractions_on r) (solved_on r lt) ∙ length-map i.lookups (equation_at E (challenged_window E table i r))
+
+    -- row r of the auxiliary trace
+    row_is : (r : ℕ) → r < height i.main → row auxiliary r ≡ made_row r
+    row_is r lt = row_of_parts made_row (length i.lookups + 1) (height i.main) r (λ n below. omega (arith, length-fractions n below)) lt
+
+    -- the fraction of a lookup on it
+    fraction_is : (r : ℕ) → r < height i.main → (k : ℕ) (lookup : Lookup F) → k < length i.lookups → lookup ≡ get_or i.lookups k lookup → fraction_at E lookup.column (window_of r) ≡ get_or (fractions_on r) k E.ring.zero
+    fraction_is r lt k lookup below is =
+        let place : lookup.column + 1 ≡ suc k = omega (arith, column_is i.lookups k lookup records below is) in
+        ap (λ xs. slice_index_or xs (lookup.column + 1) E.ring.zero) (row_is r lt)
+        ∙ ap (λ n. slice_index_or (made_row r) n E.ring.zero) place
+
+    fractions_are : (r : ℕ) → r < height i.main → fractions_at E i.lookups (window_of r) ≡ sum_in E.ring (fractions_on r)
+    fractions_are r lt =
+        let f = λ (l : Lookup F). fraction_at E l.column (window_of r) in
+        ap (sum_in E.ring) (ext_get_or E.ring.zero (map f i.lookups) (fractions_on r) (length-map i.lookups f ∙ sym (length-fractions r lt)) (λ k inside. at k (omega (arith, inside, length-map i.lookups f))))
+      where
+        at : (k : ℕ) → k < length i.lookups → get_or (map (λ l. fraction_at E l.column (window_of r)) i.lookups) k E.ring.zero ≡ get_or (fractions_on r) k E.ring.zero
+        at k below =
+            let f = λ (l : Lookup F). fraction_at E l.column (window_of r) in
+            let (lookup, is) = item_at i.lookups k below in
+            get_or_default (map f i.lookups) k E.ring.zero (f lookup) (omega (arith, length-map i.lookups f, below))
+            ∙ sym (mapped_at f i.lookups k lookup below is) ∙ fraction_is r lt k lookup below is
+
+    accumulator_is : (r : ℕ) → r < height i.main → accumulator_at E (window_of r) ≡ sum_below r
+    accumulator_is r lt = ap (λ xs. slice_index_or xs 0 E.ring.zero) (row_is r lt)
+
+    -- the sum after a row
+    after_row : (r : ℕ) → r < height i.main → sum_below (r + 1) ≡ E.ring.add (accumulator_at E (window_of r)) (fractions_at E i.lookups (window_of r))
+    after_row r lt =
+        ap (λ rs. sum_in E.ring (flat_map (λ row. row) rs)) (take_more rows r [] (omega (arith, many, lt)))
+        ∙ ap (sum_in E.ring) (flat_map-append (λ row. row) (take r rows) (fractions_on r ∷ []))
+        ∙ sum_in-append laws.ring (flat_map (λ row. row) (take r rows)) (fractions_on r ++ [])
+        ∙ ap (λ fs. E.ring.add (sum_below r) (sum_in E.ring fs)) (append-nil (fractions_on r))
+        ∙ (λ j. E.ring.add (sym (accumulator_is r lt) j) (sym (fractions_are r lt) j))
+
+    -- what is left when the parts of a sum are taken from it
+    taken_apart : (a b c : K) → c ≡ E.ring.add a b → sub_in E.ring (sub_in E.ring c a) b ≡ E.ring.zero
+    taken_apart a b c e =
+        ap (λ t. sub_in E.ring (sub_in E.ring t a) b) e
+        ∙ ring_law laws.ring (a ∷ b ∷ []) (((var 0 :+ var 1) :+ :neg (var 0)) :+ :neg (var 1)) (con 0) refl
+
+    -- a constraint that is selected is zero where the selector is off, or its left side is zero
+    selected_zero : (b : Bool) (left : K) → (b ≡ true → left ≡ E.ring.zero) → E.ring.mul (of_bool E.ring b) left ≡ E.ring.zero
+    selected_zero true left on = ap (E.ring.mul E.ring.one) (on refl) ∙ mul_zero laws.ring E.ring.one
+    selected_zero false left on = zero_mul laws.ring left
+
+    -- each lookup's constraint
+    fraction_zero : (r : ℕ) → r < height i.main → (k : ℕ) (lookup : Lookup F) → k < length i.lookups → lookup ≡ get_or i.lookups k lookup → (fraction_constraint E lookup).meaning (window_of r) ≡ E.ring.zero
+    fraction_zero r lt k lookup below is =
+        let e = equation_at E (challenged_window E table i r) in
+        let solves : Solves E.ring (e lookup) (get_or (fractions_on r) k E.ring.zero) =
+        zipped_at (Solves E.ring) (map e i.lookups) (fractions_on r) k (e lookup) E.ring.zero (omega (arith, length-map i.lookups e, below)) (mapped_at e i.lookups k lookup below is) (solved_on r lt) in
+        ap (λ f. sub_in E.ring (E.ring.mul (e lookup).denominator f) (e lookup).numerator) (fraction_is r lt k lookup below is)
+        ∙ ap (λ t. sub_in E.ring t (e lookup).numerator) solves ∙ laws.ring.add_neg (e lookup).numerator
+
+    first_zero : (r : ℕ) → r < height i.main → E.ring.mul (of_bool E.ring (r == 0)) (accumulator_at E (window_of r)) ≡ E.ring.zero
+    first_zero r lt = selected_zero (r == 0) (accumulator_at E (window_of r)) (λ e. accumulator_is r lt ∙ ap sum_below (eqb-true r 0 e))
+
+    transition_zero : (r : ℕ) → r < height i.main → E.ring.mul (of_bool E.ring (not (r + 1 == height i.main))) (sub_in E.ring (sub_in E.ring (slice_index_or (row auxiliary ((r + 1) % height i.main)) 0 E.ring.zero) (accumulator_at E (window_of r))) (fractions_at E i.lookups (window_of r))) ≡ E.ring.zero
+    transition_zero r lt = selected_zero (not (r + 1 == height i.main)) _ (λ e.
+        let inner : r + 1 < height i.main = omega (arith, lt, eqb-false (r + 1) (height i.main) (not-true (r + 1 == height i.main) e)) in
+        taken_apart (accumulator_at E (window_of r)) (fractions_at E i.lookups (window_of r)) (slice_index_or (row auxiliary ((r + 1) % height i.main)) 0 E.ring.zero)
+        (ap (λ n. slice_index_or (row auxiliary n) 0 E.ring.zero) (mod-eq_of_lt inner) ∙ accumulator_is (r + 1) inner ∙ after_row r lt))
+
+    last_zero : (r : ℕ) → r < height i.main → E.ring.mul (of_bool E.ring (r + 1 == height i.main)) (sub_in E.ring (sub_in E.ring (sum_in E.ring (flat_map (λ row. row) rows)) (accumulator_at E (window_of r))) (fractions_at E i.lookups (window_of r))) ≡ E.ring.zero
+    last_zero r lt = selected_zero (r + 1 == height i.main) _ (λ e.
+        taken_apart (accumulator_at E (window_of r)) (fractions_at E i.lookups (window_of r)) (sum_in E.ring (flat_map (λ row. row) rows))
+        (ap (λ rs. sum_in E.ring (flat_map (λ row. row) rs)) (sym (take_all (r + 1) rows (omega (arith, many, eqb-true (r + 1) (height i.main) e)))) ∙ after_row r lt))
+
+    -- the result with lookups
+    made_satisfied : IsSatisfiedAt E table i (auxiliary, terminal)
+    made_satisfied = record {
+      shape = shape i.lookups some refl;
+      equations = λ r lt.
+          all_append (IsZeroAt r) (map (fraction_constraint E) i.lookups) (accumulator_constraints E i.lookups (terminal_at E) (λ t. 0))
+          (all_map (fraction_constraint E) (λ l. (fraction_constraint E l).meaning (window_of r) ≡ E.ring.zero) (IsZeroAt r) (λ l zero_there. zero_there) i.lookups (all_indexed (λ l. (fraction_constraint E l).meaning (window_of r) ≡ E.ring.zero) i.lookups (fraction_zero r lt)))
+          (subst (AllByRecursion (IsZeroAt r)) (sym (accumulator_constraints-some E i.lookups (terminal_at E) (λ t. 0) some)) (first_zero r lt, (transition_zero r lt, (last_zero r lt, tt))));
+    }
+      where
+        IsZeroAt : ℕ → Constraint F K → Type 0
+        IsZeroAt r constraint = constraint.meaning (window_of r) ≡ E.ring.zero
+
+        long : length (flat_map made_row (range_with_len 0 (height i.main))) ≡ height i.main * (length i.lookups + 1)
+        long = length_flat made_row (length i.lookups + 1) 0 (height i.main) (λ r lt. omega (arith, length-fractions r (omega (arith, lt))))
+
+        shape : (ls : List (Lookup F)) → 0 < length ls → length ls ≡ length i.lookups → HasShape ls (height i.main) auxiliary terminal
+        shape [] nonempty same = absurd (omega (arith, nonempty))
+        shape (l ∷ ls) nonempty same = record {
+          presence = refl;
+          width = ap (λ n. n + 1) (sym same);
+          high = height_of (flat_map made_row (range_with_len 0 (height i.main))) (height i.main) (length i.lookups) long;
+          whole = IsShaped-product (flat_map made_row (range_with_len 0 (height i.main))) (height i.main) (length i.lookups) long;
+        }
+
+  -- each sum of the fractions of an AIR is the terminal of a result
+  pub result_of_sum : (i : Instance F) → IsFitting i → (total : K) → CanSumTo E.ring (air_equations E table i) total → (result : AirResult K) × IsSatisfiedAt E table i result × (terminal_value E.ring result.1 ≡ total)
+  result_of_sum i fitting total sums = by_lookups i.lookups refl
+    where
+      by_lookups : (ls : List (Lookup F)) → i.lookups ≡ ls → (result : AirResult K) × IsSatisfiedAt E table i result × (terminal_value E.ring result.1 ≡ total)
+      by_lookups [] is =
+          let empty : air_equations E table i ≡ [] =
+          nothing_flat (λ r. row_equations E (challenged_window E table i r) i.lookups) (λ r. ap (row_equations E (challenged_window E table i r)) is) (range_with_len 0 (height i.main)) in (
+            (record { values = []; width = 0 }, None),
+            none_satisfied E i.main i.preprocessed i.public_values (column_challenges table i.ids) i.lookups (record { values = []; width = 0 }) is refl,
+            none_sums laws.ring total (subst (λ (es : List (Equation K)). CanSumTo E.ring es total) empty sums),
+          )
+      by_lookups (l ∷ ls) is =
+          let (rows, each, joined) = zipped_rows (Solves E.ring) (λ r. row_equations E (challenged_window E table i r) i.lookups) 0 (height i.main) sums.fractions sums.solve in (
+            (auxiliary i fitting.fit.records (omega (arith, ap length is)) rows each, terminal i fitting.fit.records (omega (arith, ap length is)) rows each),
+            made_satisfied i fitting.fit.records (omega (arith, ap length is)) rows each,
+            ap (sum_in E.ring) joined ∙ sums.sum,
+          )
+
+  -- each sum of the fractions of a batch is the sum of the terminals of a satisfied witness
+  pub witness_of_sum : (instances : List (Instance F)) → AllByRecursion IsFitting instances → (total : K) → CanSumTo E.ring (batch_equations E table instances) total → (witness : List (AirResult K)) × AreSatisfied E table instances witness × (terminal_sum E.ring (map (λ r. r.1) witness) ≡ total)
+  witness_of_sum [] fitting total sums = ([], tt, none_sums laws.ring total sums)
+  witness_of_sum (i ∷ is) fitting total sums =
+      let (a, b, first, second, sum) = sums_apart laws.ring (air_equations E table i) (batch_equations E table is) total sums in
+      let (result, satisfied, here) = result_of_sum i fitting.0 a first in
+      let (results, others, rest) = witness_of_sum is fitting.1 b second in
+      (result ∷ results, (satisfied, others), (λ j. E.ring.add (here j) (rest j)) ∙ sum)

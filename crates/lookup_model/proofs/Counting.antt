@@ -1,0 +1,11 @@
+-- Counts: all but few betas leave few alphas at which a batch that does not balance is accepted.
+pub mod AcceptingAlphas
+pub mod DistinctLists
+pub mod JointCount
+pub mod JointPairs
+pub mod LawfulFlags
+pub mod LawfulKeys
+pub mod Numbers
+pub mod NumeratorPolynomials
+pub mod SharingBetas
+pub mod Soundness

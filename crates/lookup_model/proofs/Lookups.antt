@@ -1,0 +1,17 @@
+-- Lookups: their faults and flags, their plain result, nets of keys, and that the plain result
+-- satisfies the constraints.
+pub mod KeyLaws
+pub mod LookupFaults
+pub mod Nets
+pub mod PlainResults
+pub mod Regrouping
+pub mod Rows
+pub mod SatisfiedFractions
+pub mod SatisfiedLookups
+pub mod SatisfiedRows
+pub mod SatisfiedSelections
+pub mod Selections
+pub mod Selectors
+pub mod SentRows
+pub mod Shapes
+pub mod Terminals

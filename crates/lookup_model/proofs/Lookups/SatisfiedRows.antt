@@ -1,0 +1,237 @@
+-- The plain result is a satisfied witness.
+use Rattle.std.proofs.Common.{◌≡◌, ℕ, zero, suc, ◌+◌, ◌*◌, ◌-◌, ◌%◌, ◌<◌, ◌≤◌, ◌==◌, not, Option, None, Some, List, [], ◌∷◌, ◌++◌, length, map, take, drop, get_or, slice_index_or, refl, sym, ap, subst, ◌∙◌, arith}
+use Rattle.std.proofs.Math.Nat.{mod-eq_of_lt}
+use Rattle.std.proofs.Math.Seq.{drop-append-add, take-append_seam}
+use Rattle.std.proofs.lemmas.Bool.{eqb-true, eqb-false, not-true}
+use Rattle.std.proofs.lemmas.List.{get_or_default, length-map, length-take, take_all}
+use Rattle.std.specs.List.{AllByRecursion, cons_option, flat_map, range_with_len, slice_range}
+use Rattle.field.specs.laws.Distinct.{all_map}
+use Rattle.field.specs.Ring.{of_bool, sub_in}
+use Rattle.field.specs.Sums.{sum_in}
+use Rattle.matrix.specs.Matrix.{Matrix, height, row}
+use Rattle.expressions.specs.Window.{ExtWindow, Window, window_at}
+use Rattle.lookup_model.specs.Constraints.{Constraint, accumulator_at, accumulator_constraints, fraction_at, fraction_constraint, fractions_at, terminal_at}
+use Rattle.lookup_model.specs.Denominators.{column_denominator}
+use Rattle.field.specs.Extension.{Extension, IsLawful}
+use Rattle.lookup_model.specs.Fault.{fault_of, row_faults, trace_faults}
+use Rattle.lookup_model.specs.Message.{Key}
+use Rattle.lookup_model.specs.Plain.{plain_accumulator, plain_cells, plain_fraction, plain_row, plain_terminal}
+use Rattle.lookup_model.specs.Records.{AreRecords}
+use Rattle.lookup_model.specs.Sent.{Sent, sent_at}
+use Rattle.lookup_model.specs.Trace.{sent_row, sent_rows}
+use Rattle.lookup_model.specs.Witness.{HasShape, IsSatisfied, witness_window}
+use Rattle.lookup_model.specs.declared.types.Lookup.{Lookup}
+use Rattle.lookup_model.specs.declared.types.LookupTerminal.{LookupTerminal}
+use Rattle.lookup_model.proofs.ConstraintLaws.{accumulator_constraints-some}
+use Rattle.lookup_model.proofs.Branches.{mapped_at}
+use Rattle.lookup_model.proofs.HornerRule.{map-map}
+use Rattle.lookup_model.proofs.Lookups.PlainResults.{IsShaped-product, height_of, length-plain_rows}
+use Rattle.lookup_model.proofs.Lookups.Rows.{plain_accumulator-more, row_faults-append, split_at, trace_faults-append}
+use Rattle.lookup_model.proofs.Lookups.SatisfiedLookups.{lookup_satisfied}
+use Rattle.lookup_model.proofs.Lookups.Selectors.{selected_zero, taken_apart}
+use Rattle.lookup_model.proofs.Lookups.SentRows.{column_is, equal_lengths, length-sent_rows, length-sent_rows-at, sent_rows-at}
+use Rattle.lookup_model.proofs.Lookups.Terminals.{plain_terminal-sum}
+
+module _ {A : Type 0} where
+  -- what holds of the items at their places holds of each
+  pub all_indexed : (P : A → Type 0) (xs : List A) → ((i : ℕ) (x : A) → i < length xs → x ≡ get_or xs i x → P x) → AllByRecursion P xs
+  all_indexed P [] each = tt
+  all_indexed P (x ∷ xs) each =
+      (each 0 x (omega arith) refl, all_indexed P xs (λ i y lt is. each (suc i) y (omega (arith, lt)) is))
+
+  -- what holds of each of two lists holds of both together
+  pub all_append : (P : A → Type 0) (xs ys : List A) → AllByRecursion P xs → AllByRecursion P ys → AllByRecursion P (xs ++ ys)
+  all_append P [] ys first second = second
+  all_append P (x ∷ xs) ys first second = (first.0, all_append P xs ys first.1 second)
+
+  -- a list that is empty with what follows is empty, and so is what follows
+  nothing_before : (xs ys : List A) → xs ++ ys ≡ [] → xs ≡ []
+  nothing_before [] ys e = refl
+  nothing_before (x ∷ xs) ys e = absurd (cc e)
+
+  nothing_after : (xs ys : List A) → xs ++ ys ≡ [] → ys ≡ []
+  nothing_after [] ys e = e
+  nothing_after (x ∷ xs) ys e = absurd (cc e)
+
+  no_option : (o : Option A) (xs : List A) → cons_option o xs ≡ [] → o ≡ None
+  no_option None xs e = refl
+  no_option (Some x) xs e = absurd (cc e)
+
+  -- part k of parts of one length, put one after the other
+  part_of : (f : ℕ → List A) (width a m k : ℕ) → ((i : ℕ) → a ≤ i → i < a + m → length (f i) ≡ width) → k < m → take width (drop (k * width) (flat_map f (range_with_len a m))) ≡ f (a + k)
+  part_of f width a zero k each lt = absurd (omega (arith, lt))
+  part_of f width a (suc m) zero each lt =
+      let rest = flat_map f (range_with_len (a + 1) m) in
+      let none : 0 * width ≡ 0 = omega arith in
+      ap (λ n. take width (drop n (f a ++ rest))) none
+      ∙ ap (λ n. take n (f a ++ rest)) (sym (each a (omega arith) (omega arith))) ∙ take-append_seam (f a) rest ∙ ap f (omega arith)
+  part_of f width a (suc m) (suc k) each lt =
+      let rest = flat_map f (range_with_len (a + 1) m) in
+      let further : suc k * width ≡ length (f a) + k * width = omega (arith, each a (omega arith) (omega arith)) in
+      ap (λ n. take width (drop n (f a ++ rest))) further
+      ∙ ap (take width) (drop-append-add (f a) rest (k * width))
+      ∙ part_of f width (a + 1) m k (λ i low high. each i (omega (arith, low)) (omega (arith, high))) (omega (arith, lt))
+      ∙ ap f (omega arith)
+
+  -- row r of rows of one length
+  pub row_of_parts : (f : ℕ → List A) (width h r : ℕ) → ((i : ℕ) → i < h → length (f i) ≡ width) → r < h → slice_range (flat_map f (range_with_len 0 h)) (r * width) ((r + 1) * width) ≡ f r
+  row_of_parts f width h r each lt =
+      let wide : (r + 1) * width - r * width ≡ width = omega arith in
+      ap (λ n. take n (drop (r * width) (flat_map f (range_with_len 0 h)))) wide
+      ∙ part_of f width 0 h r (λ i low high. each i (omega (arith, high))) lt ∙ ap f (omega arith)
+
+-- two functions with the same value at each item give the same list
+map_same : {A B : Type 0} (f g : A → B) (xs : List A) → AllByRecursion (λ x. f x ≡ g x) xs → map f xs ≡ map g xs
+map_same f g [] each = refl
+map_same f g (x ∷ xs) each = λ i. each.0 i ∷ map_same f g xs each.1 i
+
+module _ {F K : Type 0} (E : Extension F K) (denominator : Key F → K) where
+  -- no fault in a trace is none on a row
+  no_row_fault : (rows : List (List (Sent F))) (r : ℕ) (x : List (Sent F)) → r < length rows → x ≡ get_or rows r x → trace_faults E denominator rows ≡ [] → row_faults E denominator r x ≡ []
+  no_row_fault rows r x lt is none =
+      let front = take r rows in
+      let back = drop (r + 1) rows in
+      let at : length front ≡ r = omega (arith, length-take r rows, lt) in
+      let upto : trace_faults E denominator (front ++ x ∷ []) ≡ [] =
+      nothing_before (trace_faults E denominator (front ++ x ∷ [])) _ (sym (trace_faults-append (fault_of E denominator) (front ++ x ∷ []) back) ∙ ap (trace_faults E denominator) (sym (split_at rows r x lt is)) ∙ none) in
+      let last : row_faults E denominator (length front) x ++ [] ≡ [] = nothing_after (trace_faults E denominator front) _ (sym (trace_faults-append (fault_of E denominator) front (x ∷ [])) ∙ upto) in
+      ap (λ n. row_faults E denominator n x) (sym at) ∙ nothing_before (row_faults E denominator (length front) x) [] last
+
+  -- and none of a lookup
+  no_lookup_fault : (r : ℕ) (sents : List (Sent F)) (k : ℕ) (s : Sent F) → k < length sents → s ≡ get_or sents k s → row_faults E denominator r sents ≡ [] → fault_of E denominator r k s ≡ None
+  no_lookup_fault r sents k s lt is none =
+      let front = take k sents in
+      let back = drop (k + 1) sents in
+      let at : length front ≡ k = omega (arith, length-take k sents, lt) in
+      let upto : row_faults E denominator r (front ++ s ∷ []) ≡ [] =
+      nothing_before (row_faults E denominator r (front ++ s ∷ [])) _ (sym (row_faults-append (fault_of E denominator) r (front ++ s ∷ []) back) ∙ ap (row_faults E denominator r) (sym (split_at sents k s lt is)) ∙ none) in
+      let last : cons_option (fault_of E denominator r (length front) s) [] ≡ [] = nothing_after (row_faults E denominator r front) _ (sym (row_faults-append (fault_of E denominator) r front (s ∷ [])) ∙ upto) in
+      ap (λ n. fault_of E denominator r n s) (sym at) ∙ no_option (fault_of E denominator r (length front) s) [] last
+
+module _ {F K : Type 0} {E : Extension F K} (laws : IsLawful E) (challenges : List K) (main : Matrix F) (preprocessed : Option (Matrix F)) (public_values : List F) (lookups : List (Lookup F)) (records : AreRecords lookups) (some : 0 < length lookups) where
+  abbrev den : Key F → K
+  den = column_denominator E challenges
+
+  abbrev pf : Sent F → K
+  pf = plain_fraction E den
+
+  abbrev rows : List (List (Sent F))
+  rows = sent_rows E.base E.base_eq main preprocessed public_values lookups
+
+  abbrev auxiliary : Matrix K
+  auxiliary = record { values = plain_cells E den rows; width = length lookups + 1 }
+
+  abbrev terminal : Option (LookupTerminal K)
+  terminal = Some (record { 0 = plain_terminal E den rows })
+
+  abbrev base_window : ℕ → Window F
+  base_window r = window_at main preprocessed public_values (height main) r
+
+  abbrev window_of : ℕ → ExtWindow F K
+  window_of r = witness_window main preprocessed public_values challenges auxiliary terminal r
+
+  abbrev sent_of : ℕ → Lookup F → Sent F
+  sent_of r lookup = sent_at E.base E.base_eq (base_window r) lookup.column lookup
+
+  abbrev sents_of : ℕ → List (Sent F)
+  sents_of r = sent_row E.base E.base_eq (base_window r) lookups
+
+  high : length rows ≡ height main
+  high = length-sent_rows E.base E.base_eq main preprocessed public_values lookups
+
+  sents_at : (r : ℕ) → r < height main → get_or rows r [] ≡ sents_of r
+  sents_at r lt =
+      get_or_default rows r [] (sents_of r) (omega (arith, high, lt)) ∙ sym (sent_rows-at E.base E.base_eq main preprocessed public_values lookups r lt)
+
+  -- row r of the auxiliary trace
+  row_is : (r : ℕ) → r < height main → row auxiliary r ≡ plain_accumulator E den rows r ∷ map pf (sents_of r)
+  row_is r lt =
+      row_of_parts (plain_row E den rows) (length lookups + 1) (length rows) r
+      (λ i below. omega (arith, length-map (get_or rows i []) pf, length-sent_rows-at E.base E.base_eq main preprocessed public_values lookups i (omega (arith, below, high))))
+      (omega (arith, high, lt))
+      ∙ ap (λ s. plain_accumulator E den rows r ∷ map pf s) (sents_at r lt)
+
+  -- the fraction of a lookup on it
+  fraction_is : (r : ℕ) → r < height main → (k : ℕ) (lookup : Lookup F) → k < length lookups → lookup ≡ get_or lookups k lookup → fraction_at E lookup.column (window_of r) ≡ pf (sent_of r lookup)
+  fraction_is r lt k lookup below is =
+      let g = λ (l : Lookup F). pf (sent_of r l) in
+      let place : lookup.column + 1 ≡ suc k = omega (arith, column_is lookups k lookup records below is) in
+      ap (λ xs. slice_index_or xs (lookup.column + 1) E.ring.zero) (row_is r lt)
+      ∙ ap (λ i. slice_index_or (plain_accumulator E den rows r ∷ map pf (sents_of r)) i E.ring.zero) place
+      ∙ ap (λ xs. get_or xs k E.ring.zero) (map-map pf (sent_of r) lookups)
+      ∙ get_or_default (map g lookups) k E.ring.zero (g lookup) (omega (arith, length-map lookups g, below))
+      ∙ sym (mapped_at g lookups k lookup below is)
+
+  fractions_are : (r : ℕ) → r < height main → fractions_at E lookups (window_of r) ≡ sum_in E.ring (map pf (sents_of r))
+  fractions_are r lt =
+      ap (sum_in E.ring)
+      (map_same (λ l. fraction_at E l.column (window_of r)) (λ l. pf (sent_of r l)) lookups (all_indexed (λ l. fraction_at E l.column (window_of r) ≡ pf (sent_of r l)) lookups (fraction_is r lt))
+      ∙ sym (map-map pf (sent_of r) lookups))
+
+  accumulator_is : (r : ℕ) → r < height main → accumulator_at E (window_of r) ≡ plain_accumulator E den rows r
+  accumulator_is r lt = ap (λ xs. slice_index_or xs 0 E.ring.zero) (row_is r lt)
+
+  -- the accumulator after a row
+  after_row : (r : ℕ) → r < height main → plain_accumulator E den rows (r + 1) ≡ E.ring.add (accumulator_at E (window_of r)) (fractions_at E lookups (window_of r))
+  after_row r lt =
+      plain_accumulator-more E den laws rows r (sents_of r) (omega (arith, high, lt)) (sent_rows-at E.base E.base_eq main preprocessed public_values lookups r lt)
+      ∙ (λ i. E.ring.add (sym (accumulator_is r lt) i) (sym (fractions_are r lt) i))
+
+  module _ (faultless : trace_faults E den rows ≡ []) where
+    -- each lookup's constraint
+    fraction_zero : (r : ℕ) → r < height main → (k : ℕ) (lookup : Lookup F) → k < length lookups → lookup ≡ get_or lookups k lookup → (fraction_constraint E lookup).meaning (window_of r) ≡ E.ring.zero
+    fraction_zero r lt k lookup below is =
+        let there : sent_of r lookup ≡ get_or (sents_of r) k (sent_of r lookup) = mapped_at (sent_of r) lookups k lookup below is in
+        let row_none = no_row_fault E den rows r (sents_of r) (omega (arith, high, lt)) (sent_rows-at E.base E.base_eq main preprocessed public_values lookups r lt) faultless in
+        let none = no_lookup_fault E den r (sents_of r) k (sent_of r lookup) (omega (arith, length-map lookups (sent_of r), below)) there row_none in
+        lookup_satisfied laws challenges lookup.column r (base_window r) lookup (fraction_at E lookup.column (window_of r)) (equal_lengths lookups k lookup records below is) (fraction_is r lt k lookup below is)
+        (ap (λ c. fault_of E den r c (sent_of r lookup)) (column_is lookups k lookup records below is) ∙ none)
+
+    first_zero : (r : ℕ) → r < height main → E.ring.mul (of_bool E.ring (r == 0)) (accumulator_at E (window_of r)) ≡ E.ring.zero
+    first_zero r lt =
+        selected_zero laws.ring (r == 0) (accumulator_at E (window_of r)) (λ e. accumulator_is r lt ∙ ap (plain_accumulator E den rows) (eqb-true r 0 e))
+
+    transition_zero : (r : ℕ) → r < height main → E.ring.mul (of_bool E.ring (not (r + 1 == height main))) (sub_in E.ring (sub_in E.ring (slice_index_or (row auxiliary ((r + 1) % height main)) 0 E.ring.zero) (accumulator_at E (window_of r))) (fractions_at E lookups (window_of r))) ≡ E.ring.zero
+    transition_zero r lt = selected_zero laws.ring (not (r + 1 == height main)) _ (λ e.
+        let inner : r + 1 < height main = omega (arith, lt, eqb-false (r + 1) (height main) (not-true (r + 1 == height main) e)) in
+        taken_apart laws.ring (accumulator_at E (window_of r)) (fractions_at E lookups (window_of r)) (slice_index_or (row auxiliary ((r + 1) % height main)) 0 E.ring.zero)
+        (ap (λ i. slice_index_or (row auxiliary i) 0 E.ring.zero) (mod-eq_of_lt inner) ∙ accumulator_is (r + 1) inner ∙ after_row r lt))
+
+    last_zero : (r : ℕ) → r < height main → E.ring.mul (of_bool E.ring (r + 1 == height main)) (sub_in E.ring (sub_in E.ring (plain_terminal E den rows) (accumulator_at E (window_of r))) (fractions_at E lookups (window_of r))) ≡ E.ring.zero
+    last_zero r lt = selected_zero laws.ring (r + 1 == height main) _ (λ e.
+        taken_apart laws.ring (accumulator_at E (window_of r)) (fractions_at E lookups (window_of r)) (plain_terminal E den rows)
+        (plain_terminal-sum laws den rows
+        ∙ ap (λ t. sum_in E.ring (flat_map (λ s. map pf s) t)) (sym (take_all (r + 1) rows (omega (arith, high, eqb-true (r + 1) (height main) e))))
+        ∙ after_row r lt))
+
+    -- the plain result with lookups
+    pub plain_satisfied : IsSatisfied E main preprocessed public_values lookups challenges auxiliary terminal
+    plain_satisfied = record {
+      shape = shape lookups some refl;
+      equations = λ r lt.
+          all_append (IsZeroAt r) (map (fraction_constraint E) lookups) (accumulator_constraints E lookups (terminal_at E) (λ t. 0))
+          (all_map (fraction_constraint E) (λ l. (fraction_constraint E l).meaning (window_of r) ≡ E.ring.zero) (IsZeroAt r) (λ l zero_there. zero_there) lookups (all_indexed (λ l. (fraction_constraint E l).meaning (window_of r) ≡ E.ring.zero) lookups (fraction_zero r lt)))
+          (subst (AllByRecursion (IsZeroAt r)) (sym (accumulator_constraints-some E lookups (terminal_at E) (λ t. 0) some)) (first_zero r lt, (transition_zero r lt, (last_zero r lt, tt))));
+    }
+      where
+        IsZeroAt : ℕ → Constraint F K → Type 0
+        IsZeroAt r constraint = constraint.meaning (window_of r) ≡ E.ring.zero
+
+        long : length (plain_cells E den rows) ≡ height main * (length lookups + 1)
+        long = length-plain_rows E den rows (length lookups) (λ k below. length-sent_rows-at E.base E.base_eq main preprocessed public_values lookups k (omega (arith, below, high))) 0 (length rows) (omega arith) ∙ ap (λ n. n * (length lookups + 1)) high
+
+        shape : (ls : List (Lookup F)) → 0 < length ls → length ls ≡ length lookups → HasShape ls (height main) auxiliary terminal
+        shape [] nonempty same = absurd (omega (arith, nonempty))
+        shape (l ∷ ls) nonempty same = record {
+          presence = refl;
+          width = ap (λ n. n + 1) (sym same);
+          high = height_of (plain_cells E den rows) (height main) (length lookups) long;
+          whole = IsShaped-product (plain_cells E den rows) (height main) (length lookups) long;
+        }
+
+-- without lookups no cell and no terminal are a satisfied witness
+pub none_satisfied : {F K : Type 0} (E : Extension F K) (main : Matrix F) (preprocessed : Option (Matrix F)) (public_values : List F) (challenges : List K) (lookups : List (Lookup F)) (auxiliary : Matrix K) → lookups ≡ [] → auxiliary ≡ record { values = []; width = 0 } → IsSatisfied E main preprocessed public_values lookups challenges auxiliary None
+none_satisfied {F} {K} E main preprocessed public_values challenges lookups auxiliary none is =
+    subst (λ (ls : List (Lookup F)). IsSatisfied E main preprocessed public_values ls challenges auxiliary None) (sym none)
+    (subst (λ m. IsSatisfied E main preprocessed public_values [] challenges m None) (sym is)
+    (record { shape = record { presence = refl; width = refl; high = refl; whole = refl }; equations = λ r lt. tt }))

@@ -1,0 +1,56 @@
+-- The AIRs of a batch, as contracts see them.
+use Rattle.std.specs.Prelude.{◌≡◌, ◌<◌, ℕ, List, Option, All, length, map}
+use Rattle.std.specs.Box.{boxed_slice_items}
+use Rattle.std.specs.Option.{ForSome, option_copied}
+use Rattle.matrix.specs.Matrix.{Matrix, height}
+use Rattle.expressions.specs.Layout.{layout_of_traces}
+use Rattle.lookup_model.specs.Records.{DoFit}
+use Rattle.lookup_model.specs.declared.challenges.Challenges.{Challenges}
+use Rattle.lookup_model.specs.declared.types.Lookup.{Lookup}
+use Rattle.lookup_model.specs.declared.instance.BatchInstance.{BatchInstance}
+
+-- one AIR of a batch: its lookups with an id for each, and its traces
+pub record Instance (F : Type 0) : Type 0 where
+  pub lookups : List (Lookup F)
+  pub main : Matrix F
+  pub preprocessed : Option (Matrix F)
+  pub public_values : List F
+  pub ids : List ℕ
+
+-- the AIR that a value of the program holds
+abbrev pub instance_of : {F : Type 0} → BatchInstance F → Instance F
+instance_of b = record {
+  lookups = b.lookups.now;
+  main = b.main.now;
+  preprocessed = option_copied b.preprocessed;
+  public_values = b.public_values.now;
+  ids = b.ids.now;
+}
+
+-- those of a batch
+abbrev pub instances_of : {F : Type 0} → List (BatchInstance F) → List (Instance F)
+instances_of bs = map instance_of bs
+
+-- The lookups fit the traces, the traces have one height, which is not zero if there are lookups, and
+-- there is an id for each lookup.
+pub record IsFitting {F : Type 0} (instance : Instance F) : Type 0 where
+  pub fit : DoFit (layout_of_traces instance.main instance.preprocessed instance.public_values) instance.lookups
+  pub heights : ForSome instance.preprocessed (λ m. height m ≡ height instance.main)
+  pub nonempty : 0 < length instance.lookups → 0 < height instance.main
+  pub ids : length instance.ids ≡ length instance.lookups
+
+-- each AIR of a batch is so
+abbrev pub DoInstancesFit : {F : Type 0} → List (BatchInstance F) → Type 0
+DoInstancesFit bs = All (λ b. IsFitting (instance_of b)) bs
+
+-- there is an id for each lookup of each AIR
+abbrev pub HaveIds : {F : Type 0} → List (BatchInstance F) → Type 0
+HaveIds bs = All (λ b. length b.ids.now ≡ length b.lookups.now) bs
+
+-- each id of an AIR has a prefix
+abbrev pub HasPrefixes : {F K : Type 0} → Challenges K → BatchInstance F → Type 0
+HasPrefixes challenges b = All (λ id. id < length (boxed_slice_items challenges.bus_prefix)) b.ids.now
+
+-- so it is of each AIR of a batch
+abbrev pub HavePrefixes : {F K : Type 0} → Challenges K → List (BatchInstance F) → Type 0
+HavePrefixes challenges bs = All (HasPrefixes challenges) bs
