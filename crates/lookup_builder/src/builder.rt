@@ -2,15 +2,15 @@
 ghost use Rattle.std.specs.Prelude.{◌≡◌, ℕ, ◌↔◌, MatchResult};
 ghost use Rattle.expressions.specs.Window.{Window};
 ghost use Rattle.expressions.specs.declared.error.AirError.{AirError};
-ghost use Rattle.lookup_declaration.specs.Declaration.{Declaration, read, table};
+ghost use Rattle.lookup_indexed.specs.Declaration.{Declaration, read, table};
 ghost use Rattle.lookup_builder.specs.Interaction.{Interaction};
 ghost use Rattle.lookup_builder.specs.Pushed.{pushed_exclusive, pushed_global, pushed_local};
 ghost use Rattle.lookup_builder.specs.Within.{IsWithin};
-ghost use Rattle.lookup_declaration.specs.declared.indexed.TraceWindow.{TraceWindow};
+ghost use Rattle.lookup_indexed.specs.declared.indexed.TraceWindow.{TraceWindow};
 
 use crate::count::Count;
 use air::{AirBuilder, AirError};
-use lookup_declaration::TraceWindow;
+use lookup_indexed::TraceWindow;
 use std::alloc::Global;
 
 /// A builder that AIRs push messages to: on named buses, which all AIRs share by name, and in local

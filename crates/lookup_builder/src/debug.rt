@@ -6,7 +6,7 @@ use crate::builder::{IndexedLookupBuilder, InteractionBuilder};
 use crate::count::Count;
 use air::{AirError, DebugConstraintBuilder};
 use field::{ExtensionField, Field};
-use lookup_declaration::TraceWindow;
+use lookup_indexed::TraceWindow;
 use std::alloc::Global;
 
 /// Accepts every push and leaves the builder as it was: on a single row a message has no equation

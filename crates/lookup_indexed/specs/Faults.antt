@@ -5,9 +5,9 @@ use Rattle.std.specs.String.{string_bytes}
 use Rattle.std.specs.declared.alloc.Global.{Global}
 use Rattle.std.specs.declared.string.String.{String}
 use Rattle.expressions.specs.declared.layout.AirLayout.{AirLayout}
-use Rattle.lookup_declaration.specs.Declaration.{Read, Table}
-use Rattle.lookup_declaration.specs.declared.indexed.TraceWindow.{TraceWindow}
-use Rattle.lookup_declaration.specs.declared.indexed.TraceWindow.TheVariants.{Main, Preprocessed}
+use Rattle.lookup_indexed.specs.Declaration.{Read, Table}
+use Rattle.lookup_indexed.specs.declared.indexed.TraceWindow.{TraceWindow}
+use Rattle.lookup_indexed.specs.declared.indexed.TraceWindow.TheVariants.{Main, Preprocessed}
 use Rattle.lookup_indexed.specs.declared.error.IndexedLookupError.{IndexedLookupError}
 use Rattle.lookup_indexed.specs.declared.error.IndexedLookupError.TheVariants.{ColumnOutOfRange, RepeatedColumn, EmptyPayload, EmptyTable}
 

@@ -1,2 +1,3 @@
+pub mod Declaration
 pub mod Faults
 pub mod Refusal

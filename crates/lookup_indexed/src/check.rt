@@ -1,12 +1,12 @@
 //! Checks of readers and tables against the widths of a layout.
 ghost use Rattle.std.specs.Prelude.{◌≡◌, ◌⊎◌, All, MatchResult, map};
-ghost use Rattle.lookup_declaration.specs.Declaration.{read_of, table_of};
+ghost use Rattle.lookup_indexed.specs.Declaration.{read_of, table_of};
 ghost use Rattle.lookup_indexed.specs.Faults.{AreFaultless, IsFaultlessRead, IsFaultlessTable, IsFirstFault, IsFirstReadFault, IsFirstTableFault, IsReadFault, IsTableFault, Names, window_width};
 
 use crate::columns::{check_columns, out_of_range};
 use crate::error::IndexedLookupError;
+use crate::indexed::{IndexedRead, IndexedTable, TraceWindow};
 use expressions::AirLayout;
-use lookup_declaration::{IndexedRead, IndexedTable, TraceWindow};
 use std::alloc::Global;
 
 /// Whether the readers and tables of an AIR are without fault.

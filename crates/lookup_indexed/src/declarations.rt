@@ -1,6 +1,6 @@
 //! Declarations as they are read from a format.
 
-use lookup_declaration::{IndexedRead, IndexedTable};
+use crate::indexed::{IndexedRead, IndexedTable};
 use serde::Deserialize;
 
 /// The indexed declarations of an AIR, not checked yet.

@@ -1,15 +1,17 @@
-//! The checks that indexed declarations go through: what makes a reader or a table faulty, and which
-//! fault comes first.
+//! Indexed declarations and their checks: the tables that AIRs declare, the readers that name the
+//! entry they read, what makes one of them faulty, and which fault comes first.
 //!
-//! A reader or a table names columns of a trace. `check_declarations` looks at them against the
-//! widths of an AIR's layout.
+//! Declarations are written to a format and read from one, as JSON. A reader or a table names columns
+//! of a trace. `check_declarations` looks at them against the widths of an AIR's layout.
 #![tactic(auto)]
 
 mod check;
 mod columns;
 mod declarations;
 mod error;
+mod indexed;
 
 pub use check::check_declarations;
 pub use declarations::IndexedDeclarations;
 pub use error::IndexedLookupError;
+pub use indexed::{IndexedRead, IndexedTable, TraceWindow};

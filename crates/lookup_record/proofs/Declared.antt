@@ -2,9 +2,9 @@
 use Rattle.std.proofs.Common.{◌≡◌, ◌⊎◌, List, map, Result, Ok, Err, MatchResult, inl, inr, ap, subst, ◌∙◌}
 use Rattle.expressions.specs.declared.error.AirError.{AirError}
 use Rattle.expressions.specs.declared.layout.AirLayout.{AirLayout}
-use Rattle.lookup_declaration.specs.Declaration.{Read, Table, read_of, table_of}
-use Rattle.lookup_declaration.specs.declared.indexed.IndexedRead.{IndexedRead}
-use Rattle.lookup_declaration.specs.declared.indexed.IndexedTable.{IndexedTable}
+use Rattle.lookup_indexed.specs.Declaration.{Read, Table, read_of, table_of}
+use Rattle.lookup_indexed.specs.declared.indexed.IndexedRead.{IndexedRead}
+use Rattle.lookup_indexed.specs.declared.indexed.IndexedTable.{IndexedTable}
 use Rattle.lookup_indexed.specs.Faults.{AreFaultless, IsFirstFault}
 use Rattle.lookup_indexed.specs.declared.error.IndexedLookupError.{IndexedLookupError}
 use Rattle.lookup_indexed.specs.declared.error.IndexedLookupError.TheVariants.{Memory}

@@ -2,9 +2,9 @@
 use Rattle.std.specs.Prelude.{◌≡◌, ◌⊎◌, List, map, Result, Ok, Err, MatchResult}
 use Rattle.expressions.specs.declared.error.AirError.{AirError}
 use Rattle.expressions.specs.declared.layout.AirLayout.{AirLayout}
-use Rattle.lookup_declaration.specs.Declaration.{read_of, table_of}
-use Rattle.lookup_declaration.specs.declared.indexed.IndexedRead.{IndexedRead}
-use Rattle.lookup_declaration.specs.declared.indexed.IndexedTable.{IndexedTable}
+use Rattle.lookup_indexed.specs.Declaration.{read_of, table_of}
+use Rattle.lookup_indexed.specs.declared.indexed.IndexedRead.{IndexedRead}
+use Rattle.lookup_indexed.specs.declared.indexed.IndexedTable.{IndexedTable}
 use Rattle.lookup_indexed.specs.Faults.{AreFaultless, IsFirstFault}
 use Rattle.lookup_indexed.specs.Refusal.{from_air}
 use Rattle.lookup_indexed.specs.declared.error.IndexedLookupError.{IndexedLookupError}

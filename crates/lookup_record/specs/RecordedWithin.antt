@@ -7,7 +7,7 @@ use Rattle.expressions.specs.Tree.{tree_of}
 use Rattle.expressions.specs.declared.base_expression.SymbolicExpression.{SymbolicExpression}
 use Rattle.expressions.specs.declared.error.AirError.{AirError}
 use Rattle.expressions.specs.declared.layout.AirLayout.{AirLayout}
-use Rattle.lookup_declaration.specs.Declaration.{Declaration, read, table}
+use Rattle.lookup_indexed.specs.Declaration.{Declaration, read, table}
 use Rattle.lookup_builder.specs.Interaction.{Interaction, global, local, exclusive}
 use Rattle.lookup_builder.specs.Within.{BranchWithin, GlobalWithin, IsWithin, TupleWithin}
 use Rattle.lookup_record.specs.RecordedAir.{RecordedAir, no_air_recorded, recorded_air, with_interaction, with_declaration}

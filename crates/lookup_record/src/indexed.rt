@@ -1,15 +1,16 @@
 //! Indexed lookups, whose readers name the entry that they read.
 ghost use Rattle.std.specs.Prelude.{◌≡◌, ◌⊎◌, ◌↔◌, [], IfOk, IsTrue, MatchResult, map};
 ghost use Rattle.expressions.specs.Layout.{layout_of_widths};
-ghost use Rattle.lookup_declaration.specs.Declaration.{read_of, table_of};
+ghost use Rattle.lookup_indexed.specs.Declaration.{read_of, table_of};
 ghost use Rattle.lookup_indexed.specs.Faults.{AreFaultless, IsFirstFault};
 ghost use Rattle.lookup_indexed.specs.declared.error.IndexedLookupError.TheVariants.{Memory};
 
 use crate::symbolic::InteractionSymbolicBuilder;
 use air::{Air, AirLayout};
 use field::{ExtensionField, Field};
-pub use lookup_declaration::{IndexedRead, IndexedTable, TraceWindow};
-pub use lookup_indexed::{IndexedDeclarations, IndexedLookupError};
+pub use lookup_indexed::{
+    IndexedDeclarations, IndexedLookupError, IndexedRead, IndexedTable, TraceWindow,
+};
 use serde::Serialize;
 use std::alloc::{AllocError, Global};
 

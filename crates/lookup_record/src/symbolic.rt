@@ -37,7 +37,7 @@ pub struct InteractionSymbolicBuilder<F, EF> {
 }
 
 impl<F: Field, EF: ExtensionField<F>> InteractionSymbolicBuilder<F, EF> {
-    ghost use Rattle.lookup_declaration.specs.Declaration.{read_of, table_of};
+    ghost use Rattle.lookup_indexed.specs.Declaration.{read_of, table_of};
     ghost use Rattle.lookup_record.specs.RecordedAir.{EvaluatesNew, no_air_recorded, recorded_air};
     ghost use Rattle.lookup_builder.specs.Records.{exclusive_of, global_of, local_of};
     ghost use Rattle.lookup_record.specs.RecordedWithin.{EvaluatesWithin, PushedWithin};

@@ -1,5 +1,5 @@
 use Rattle.std.proofs.Common.{take, map, All}
-use Rattle.lookup_declaration.specs.Declaration.{read_of}
+use Rattle.lookup_indexed.specs.Declaration.{read_of}
 use Rattle.lookup_indexed.specs.Faults.{IsFaultlessRead}
 use Rattle.lookup_indexed.proofs.check.check_reads.Given as goal
 

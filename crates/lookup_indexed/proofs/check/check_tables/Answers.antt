@@ -1,6 +1,6 @@
 use Rattle.std.proofs.Common.{inl, inr}
 use Rattle.std.proofs.lemmas.Result.{err_from_is_err_and}
-use Rattle.lookup_declaration.specs.Declaration.{table_of}
+use Rattle.lookup_indexed.specs.Declaration.{table_of}
 use Rattle.lookup_indexed.specs.Faults.{IsFaultlessTable}
 use Rattle.lookup_indexed.proofs.FaultLaws.{all_met, all_more, first_fault}
 use Rattle.lookup_indexed.proofs.check.check_tables.Goals as goal

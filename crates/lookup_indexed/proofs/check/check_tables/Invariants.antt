@@ -1,5 +1,5 @@
 use Rattle.std.proofs.Common.{take, map, All}
-use Rattle.lookup_declaration.specs.Declaration.{table_of}
+use Rattle.lookup_indexed.specs.Declaration.{table_of}
 use Rattle.lookup_indexed.specs.Faults.{IsFaultlessTable}
 use Rattle.lookup_indexed.proofs.check.check_tables.Given as goal
 

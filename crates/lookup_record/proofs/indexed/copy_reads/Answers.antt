@@ -1,5 +1,5 @@
 use Rattle.field.proofs.Items.{copied_more}
-use Rattle.lookup_declaration.specs.Declaration.{read_of}
+use Rattle.lookup_indexed.specs.Declaration.{read_of}
 use Rattle.lookup_record.proofs.indexed.copy_reads.Goals as goal
 
 pub loop-read-preserved : goal.loop-read-preserved

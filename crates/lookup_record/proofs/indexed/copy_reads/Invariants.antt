@@ -1,5 +1,5 @@
 use Rattle.std.proofs.Common.{◌≡◌, map, take}
-use Rattle.lookup_declaration.specs.Declaration.{read_of}
+use Rattle.lookup_indexed.specs.Declaration.{read_of}
 use Rattle.lookup_record.proofs.indexed.copy_reads.Given as goal
 
 abbrev pub invariant-loop-read : goal.invariant-loop-read

@@ -1,5 +1,5 @@
 use Rattle.field.proofs.Items.{copied_more}
-use Rattle.lookup_declaration.specs.Declaration.{table_of}
+use Rattle.lookup_indexed.specs.Declaration.{table_of}
 use Rattle.lookup_record.proofs.indexed.copy_tables.Goals as goal
 
 pub loop-table-preserved : goal.loop-table-preserved

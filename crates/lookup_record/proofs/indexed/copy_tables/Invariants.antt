@@ -1,5 +1,5 @@
 use Rattle.std.proofs.Common.{◌≡◌, map, take}
-use Rattle.lookup_declaration.specs.Declaration.{table_of}
+use Rattle.lookup_indexed.specs.Declaration.{table_of}
 use Rattle.lookup_record.proofs.indexed.copy_tables.Given as goal
 
 abbrev pub invariant-loop-table : goal.invariant-loop-table

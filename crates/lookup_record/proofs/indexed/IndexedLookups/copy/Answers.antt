@@ -1,5 +1,5 @@
 use Rattle.std.proofs.Common.{◌∙◌, ap, map}
-use Rattle.lookup_declaration.specs.Declaration.{read_of, table_of}
+use Rattle.lookup_indexed.specs.Declaration.{read_of, table_of}
 use Rattle.lookup_record.proofs.indexed.IndexedLookups.copy.Goals as goal
 
 pub returns-clause-reads : goal.returns-clause-reads

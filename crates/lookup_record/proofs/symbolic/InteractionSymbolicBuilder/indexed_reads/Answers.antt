@@ -1,5 +1,5 @@
 use Rattle.std.proofs.Common.{ap, map}
-use Rattle.lookup_declaration.specs.Declaration.{read_of}
+use Rattle.lookup_indexed.specs.Declaration.{read_of}
 use Rattle.lookup_record.proofs.symbolic.InteractionSymbolicBuilder.indexed_reads.Goals as goal
 
 pub returns : goal.returns

@@ -1,5 +1,5 @@
 use Rattle.std.proofs.Common.{ap, map}
-use Rattle.lookup_declaration.specs.Declaration.{table_of}
+use Rattle.lookup_indexed.specs.Declaration.{table_of}
 use Rattle.lookup_record.proofs.symbolic.InteractionSymbolicBuilder.indexed_tables.Goals as goal
 
 pub returns : goal.returns

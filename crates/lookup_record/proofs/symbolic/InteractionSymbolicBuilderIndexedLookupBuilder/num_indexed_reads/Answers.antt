@@ -1,6 +1,6 @@
 use Rattle.std.proofs.Common.{◌∙◌, sym}
 use Rattle.std.proofs.lemmas.List.{length-map}
-use Rattle.lookup_declaration.specs.Declaration.{read_of}
+use Rattle.lookup_indexed.specs.Declaration.{read_of}
 use Rattle.lookup_record.proofs.symbolic.InteractionSymbolicBuilderIndexedLookupBuilder.num_indexed_reads.Goals as goal
 
 pub returns : goal.returns

@@ -1,9 +1,9 @@
 -- Declarations of indexed lookups.
 use Rattle.std.specs.Prelude.{ℕ, List}
 use Rattle.std.specs.String.{string_bytes}
-use Rattle.lookup_declaration.specs.declared.indexed.IndexedRead.{IndexedRead}
-use Rattle.lookup_declaration.specs.declared.indexed.IndexedTable.{IndexedTable}
-use Rattle.lookup_declaration.specs.declared.indexed.TraceWindow.{TraceWindow}
+use Rattle.lookup_indexed.specs.declared.indexed.IndexedRead.{IndexedRead}
+use Rattle.lookup_indexed.specs.declared.indexed.IndexedTable.{IndexedTable}
+use Rattle.lookup_indexed.specs.declared.indexed.TraceWindow.{TraceWindow}
 
 -- a reader of a table: the column of its positions, and the columns of what it reads
 pub record Read : Type 0 where

@@ -1,6 +1,6 @@
 //! Indexed lookups, whose readers name the entry that they read.
 ghost use Rattle.std.specs.Prelude.{◌≡◌, IfOk};
-ghost use Rattle.lookup_declaration.specs.Declaration.{read_of, table_of};
+ghost use Rattle.lookup_indexed.specs.Declaration.{read_of, table_of};
 
 use serde::{Deserialize, DeserializeOwned, Deserializer, Format, Name, Serialize};
 use std::alloc::{AllocError, Global};
