@@ -15,7 +15,7 @@ use Rattle.lookup_model.specs.Trace.{sent_row_under}
 use Rattle.lookup_model.specs.declared.error.LookupError.{LookupError}
 use Rattle.lookup_model.specs.declared.types.Lookup.{Lookup}
 use Rattle.lookup_packing.proofs.ZippedLists.{zip_mapped}
-use Rattle.lookup_builder.specs.Interaction.{ExclusiveInteraction, GlobalInteraction, Interaction, Tuple, exclusive, global, local}
+use Rattle.lookup_record.specs.Interaction.{ExclusiveInteraction, GlobalInteraction, Interaction, Tuple, exclusive, global, local}
 use Rattle.lookup_record.specs.RecordedAir.{RecordedAir, no_air_recorded, with_interaction}
 use Rattle.lookup.specs.Extraction.{IsFaultless, IsFirstLocalRefusal, IsLocalRefusal, exclusive_at, extraction, global_at, in_columns, local_at, tuple_widths}
 use Rattle.lookup.specs.Sends.{bus_and_weight, in_order, interaction_sends, interaction_tuples, lookup_bus_and_weight}

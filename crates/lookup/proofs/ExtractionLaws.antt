@@ -6,7 +6,7 @@ use Rattle.std.proofs.lemmas.List.FromFn.{length-enumerate_from}
 use Rattle.std.specs.List.{enumerate_from}
 use Rattle.lookup_model.proofs.HornerRule.{map-map}
 use Rattle.lookup_model.specs.declared.error.LookupError.{LookupError}
-use Rattle.lookup_builder.specs.Interaction.{Tuple, GlobalInteraction, ExclusiveInteraction}
+use Rattle.lookup_record.specs.Interaction.{Tuple, GlobalInteraction, ExclusiveInteraction}
 use Rattle.lookup_model.specs.Outline.{Outline}
 use Rattle.lookup.specs.Extraction.{exclusive_at, extraction, global_at, in_columns, local_at, tuple_widths, IsFaultless, IsFirstLocalRefusal, IsLocalRefusal}
 

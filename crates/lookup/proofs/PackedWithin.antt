@@ -4,7 +4,7 @@ use Rattle.std.proofs.lemmas.List.Elements.{All-append, All-from_recursion, All-
 use Rattle.std.specs.List.{AllByRecursion, flat_map}
 use Rattle.expressions.specs.declared.base_expression.SymbolicExpression.{SymbolicExpression}
 use Rattle.expressions.specs.declared.layout.AirLayout.{AirLayout}
-use Rattle.lookup_builder.proofs.Elements.{all_of_map}
+use Rattle.lookup_record.proofs.Elements.{all_of_map}
 use Rattle.lookup_model.proofs.Lookups.Regrouping.{All-filter}
 use Rattle.lookup_model.specs.Outline.{Outline, fields_of}
 use Rattle.lookup_model.specs.Records.{AreRecords, DoFit, IsWithin}

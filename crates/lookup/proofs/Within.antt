@@ -8,9 +8,9 @@ use Rattle.expressions.specs.declared.layout.AirLayout.{AirLayout}
 use Rattle.lookup_model.specs.Outline.{Outline, fields_of}
 use Rattle.lookup_model.specs.Records.{AllFit, AreRecords, DoFit, IsWithin}
 use Rattle.lookup_model.specs.declared.types.Lookup.{Lookup}
-use Rattle.lookup_builder.proofs.Elements.{all_of_map}
-use Rattle.lookup_builder.specs.Interaction.{Tuple, GlobalInteraction, ExclusiveInteraction}
-use Rattle.lookup_builder.specs.Within.{BranchWithin, GlobalWithin, TupleWithin}
+use Rattle.lookup_record.proofs.Elements.{all_of_map}
+use Rattle.lookup_record.specs.Interaction.{Tuple, GlobalInteraction, ExclusiveInteraction}
+use Rattle.lookup_record.specs.Within.{BranchWithin, GlobalWithin, TupleWithin}
 use Rattle.lookup.specs.Extraction.{exclusive_at, extraction, global_at, in_columns, local_at}
 
 -- what holds of what an option has holds of the image of it

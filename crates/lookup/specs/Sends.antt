@@ -8,7 +8,7 @@ use Rattle.lookup_model.specs.Message.{Message}
 use Rattle.lookup_model.specs.Outline.{bus_of}
 use Rattle.lookup_model.specs.Sent.{Sent, sent}
 use Rattle.lookup_model.specs.declared.types.Lookup.{Lookup}
-use Rattle.lookup_builder.specs.Interaction.{ExclusiveInteraction, GlobalInteraction, Interaction, Tuple, exclusive, global, local}
+use Rattle.lookup_record.specs.Interaction.{ExclusiveInteraction, GlobalInteraction, Interaction, Tuple, exclusive, global, local}
 
 -- the message of a tuple with its count under an id, where each expression has a value
 abbrev pub message_under : {E F : Type 0} → (E → F) → ℕ → List E → E → Message F

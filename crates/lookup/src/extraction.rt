@@ -3,7 +3,7 @@ ghost use Rattle.std.specs.Prelude.{◌≡◌, ◌⊎◌, ◌++◌, All, IfOk, M
 ghost use Rattle.lookup_model.specs.Outline.{fields_of};
 ghost use Rattle.lookup.specs.Extraction.{IsFaultless, IsFirstLocalRefusal, IsLocalRefusal, exclusive_at, extraction, global_at, in_columns, local_at};
 ghost use Rattle.lookup_model.specs.Records.{AreRecords, IsRecordAt};
-ghost use Rattle.lookup_builder.specs.Records.{exclusive_of, global_of, local_of};
+ghost use Rattle.lookup_record.specs.Records.{exclusive_of, global_of, local_of};
 
 use field::Field;
 use lookup_model::{Kind, Lookup, LookupError};

@@ -8,8 +8,8 @@ use Rattle.field.specs.Ring.{Ring, IsCommutativeRing, of_nat}
 use Rattle.air.specs.Cell.{IsCell}
 use Rattle.expressions.specs.declared.error.AirError.{AirError}
 use Rattle.lookup_model.specs.Sent.{sent}
-use Rattle.lookup_builder.specs.Interaction.{Branch, Interaction, exclusive, global, local}
-use Rattle.lookup_builder.specs.Messages.{IsExclusiveQuery, IsUnitQuery, PushesOne, flag_and_fields}
+use Rattle.lookup_record.specs.Interaction.{Branch, Interaction, exclusive, global, local}
+use Rattle.lookup_record.specs.Messages.{IsExclusiveQuery, IsUnitQuery, PushesOne, flag_and_fields}
 use Rattle.lookup.specs.Sends.{bus_and_weight, interaction_sends, interaction_tuples, message_under}
 use Rattle.lookup_program.specs.Machines.{DoesSend, message_of}
 use Rattle.lookup_program.specs.Pushes.{AreTwoKeys, IsCellTuple}

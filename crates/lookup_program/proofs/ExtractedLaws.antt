@@ -16,8 +16,8 @@ use Rattle.lookup_model.specs.Refusal.{from_air}
 use Rattle.lookup_model.specs.Sent.{value}
 use Rattle.lookup_model.specs.declared.error.LookupError.{LookupError}
 use Rattle.lookup_model.specs.declared.error.LookupError.TheVariants.{Memory}
-use Rattle.lookup_builder.proofs.Elements.{all_of_map}
-use Rattle.lookup_builder.specs.Interaction.{Interaction, exclusive, global, local}
+use Rattle.lookup_record.proofs.Elements.{all_of_map}
+use Rattle.lookup_record.specs.Interaction.{Interaction, exclusive, global, local}
 use Rattle.lookup_model.specs.Weight.{weight_bound}
 use Rattle.lookup_record.specs.RecordedAir.{EvaluatesNew, RecordedAir, no_air_recorded, recorded_air, with_interaction}
 use Rattle.lookup_record.specs.RecordedWithin.{EvaluatesWithin, PushedWithin}

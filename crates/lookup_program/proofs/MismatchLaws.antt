@@ -19,7 +19,7 @@ use Rattle.lookup_model.specs.Sent.{Sent, sent_at}
 use Rattle.lookup_model.specs.declared.types.Lookup.{Lookup}
 use Rattle.lookup_model.specs.Batches.Messages.{HasLawfulFlags}
 use Rattle.lookup_model.proofs.Counting.LawfulFlags.{lawful_rows}
-use Rattle.lookup_builder.proofs.Elements.{all_of_map}
+use Rattle.lookup_record.proofs.Elements.{all_of_map}
 use Rattle.lookup.specs.Lookups.{lookups_of}
 use Rattle.lookup.specs.Sends.{lookup_bus_and_weight}
 use Rattle.lookup_debug.specs.Contributions.{Contribution, Traced, contributions_of, contributions_on, traced_of}

@@ -6,7 +6,7 @@ use Rattle.std.specs.Option.{option_map}
 use Rattle.field.specs.Ring.{Ring}
 use Rattle.expressions.specs.Window.{Window}
 use Rattle.expressions.specs.declared.base_expression.SymbolicExpression.{SymbolicExpression}
-use Rattle.lookup_builder.proofs.Elements.{all_of_map}
+use Rattle.lookup_record.proofs.Elements.{all_of_map}
 use Rattle.lookup_model.specs.Outline.{Outline, fields_of}
 use Rattle.lookup_model.specs.Sent.{Sent, branch_at, sent, sent_at, values}
 use Rattle.lookup_model.specs.declared.error.LookupError.{LookupError}

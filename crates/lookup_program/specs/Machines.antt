@@ -11,7 +11,7 @@ use Rattle.lookup_model.specs.Records.{DoFit}
 use Rattle.lookup_model.specs.Sent.{Sent, sent}
 use Rattle.lookup_model.specs.Trace.{sent_row_under}
 use Rattle.lookup_model.specs.declared.types.Lookup.{Lookup}
-use Rattle.lookup_builder.specs.Interaction.{Interaction}
+use Rattle.lookup_record.specs.Interaction.{Interaction}
 use Rattle.lookup.specs.Sends.{bus_and_weight, interaction_sends, interaction_tuples, lookup_bus_and_weight}
 use Rattle.lookup_program.specs.declared.airs.MachineAir.{MachineAir}
 use Rattle.lookup_program.specs.declared.airs.MachineAir.TheVariants.{Entries, Group, Keys, RangeCheck}

@@ -6,7 +6,7 @@ use Rattle.std.specs.declared.vec.Vec.{Vec}
 use Rattle.air.specs.Cell.{IsCell, IsCellsRefusal}
 use Rattle.expressions.specs.declared.error.AirError.{AirError}
 use Rattle.expressions.specs.declared.layout.AirLayout.{AirLayout}
-use Rattle.lookup_builder.specs.Messages.{PushesOne, flag_and_key}
+use Rattle.lookup_record.specs.Messages.{PushesOne, flag_and_key}
 
 -- there was the refusal of a cell, and the builder is unchanged
 abbrev pub IsRefusedBefore : {B : Type 0} → (B → AirError → Type 0) → (B → AirLayout) → ℕ → B → Result (Unit {0}) AirError → B → Type 0

@@ -1,8 +1,8 @@
 //! The AIRs of the machines, which say what each row looks up.
 ghost use Rattle.std.specs.Prelude.{◌≡◌, ◌<◌, All, IfErr, IfOk, OnOk};
 ghost use Rattle.air.specs.Cell.{IsCellsRefusal};
-ghost use Rattle.lookup_builder.specs.Pushed.{pushed_local};
-ghost use Rattle.lookup_builder.specs.Within.{IsWithin, KeyWithin};
+ghost use Rattle.lookup_record.specs.Pushed.{pushed_local};
+ghost use Rattle.lookup_record.specs.Within.{IsWithin, KeyWithin};
 ghost use Rattle.lookup_program.specs.Machines.{DoesSend, first_column_of, width_of};
 ghost use Rattle.lookup_program.specs.Pushes.{AreTwoKeys, Evaluates, IsCellTuple, pushed_if_accepted};
 ghost use Rattle.lookup_program.specs.declared.airs.MachineAir.TheVariants.{RangeCheck};

@@ -1,3 +1,10 @@
 pub mod IndexedLookups
+pub mod Interaction
+pub mod Messages
+pub mod Negation
+pub mod Pushed
 pub mod RecordedAir
 pub mod RecordedWithin
+pub mod Records
+pub mod SignedCount
+pub mod Within

@@ -6,8 +6,8 @@ use Rattle.expressions.specs.declared.error.AirError.TheVariants.{Memory}
 use Rattle.expressions.specs.declared.layout.AirLayout.{AirLayout}
 use Rattle.expressions.specs.declared.base_expression.SymbolicExpression.{SymbolicExpression}
 use Rattle.lookup_indexed.specs.Declaration.{Read, Table, Declaration, read, table, read_of, table_of}
-use Rattle.lookup_builder.specs.Interaction.{Tuple, GlobalInteraction, ExclusiveInteraction, Interaction, global, local, exclusive}
-use Rattle.lookup_builder.specs.Records.{global_of, local_of, exclusive_of}
+use Rattle.lookup_record.specs.Interaction.{Tuple, GlobalInteraction, ExclusiveInteraction, Interaction, global, local, exclusive}
+use Rattle.lookup_record.specs.Records.{global_of, local_of, exclusive_of}
 use Rattle.lookup_record.specs.declared.symbolic.InteractionSymbolicBuilder.{InteractionSymbolicBuilder}
 
 -- The constraints with their layout, the messages on buses, the local lookups, the groups, and the

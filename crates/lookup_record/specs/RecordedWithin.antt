@@ -8,8 +8,8 @@ use Rattle.expressions.specs.declared.base_expression.SymbolicExpression.{Symbol
 use Rattle.expressions.specs.declared.error.AirError.{AirError}
 use Rattle.expressions.specs.declared.layout.AirLayout.{AirLayout}
 use Rattle.lookup_indexed.specs.Declaration.{Declaration, read, table}
-use Rattle.lookup_builder.specs.Interaction.{Interaction, global, local, exclusive}
-use Rattle.lookup_builder.specs.Within.{BranchWithin, GlobalWithin, IsWithin, TupleWithin}
+use Rattle.lookup_record.specs.Interaction.{Interaction, global, local, exclusive}
+use Rattle.lookup_record.specs.Within.{BranchWithin, GlobalWithin, IsWithin, TupleWithin}
 use Rattle.lookup_record.specs.RecordedAir.{RecordedAir, no_air_recorded, recorded_air, with_interaction, with_declaration}
 use Rattle.lookup_record.specs.declared.symbolic.InteractionSymbolicBuilder.{InteractionSymbolicBuilder}
 

@@ -5,20 +5,22 @@ ghost use Rattle.expressions.specs.ExtTree.{ext_tree_of};
 ghost use Rattle.expressions.specs.Layout.{first_mismatch};
 ghost use Rattle.expressions.specs.Tree.{tree_of};
 ghost use Rattle.expressions.specs.declared.error.AirError.TheVariants.{Memory};
-ghost use Rattle.lookup_builder.specs.Pushed.{pushed_branch, pushed_exclusive, pushed_global, pushed_local};
-ghost use Rattle.lookup_builder.specs.Records.{branch_of};
+ghost use Rattle.lookup_record.specs.Pushed.{pushed_branch, pushed_exclusive, pushed_global, pushed_local};
+ghost use Rattle.lookup_record.specs.Records.{branch_of};
 
+use crate::builder::{IndexedLookupBuilder, InteractionBuilder};
+use crate::count::Count;
 use crate::indexed::{IndexedRead, IndexedTable, TraceWindow};
+use crate::interaction::{
+    LocalTuple, SymbolicExclusiveBranch, SymbolicExclusiveInteraction, SymbolicInteraction,
+    SymbolicLocalInteraction,
+};
 use air::{
     Air, AirBuilder, AirError, AirLayout, ConstraintLayout, Expression, ExtensionBuilder,
     PermutationAirBuilder, SymbolicAirBuilder, SymbolicExpression, SymbolicExpressionExt,
     SymbolicVariable, SymbolicVariableExt, copy_expressions,
 };
 use field::{ExtensionField, Field};
-use lookup_builder::{
-    Count, IndexedLookupBuilder, InteractionBuilder, LocalTuple, SymbolicExclusiveBranch,
-    SymbolicExclusiveInteraction, SymbolicInteraction, SymbolicLocalInteraction,
-};
 use matrix::RowMajorMatrix;
 use std::alloc::{AllocError, Global};
 
@@ -39,7 +41,7 @@ pub struct InteractionSymbolicBuilder<F, EF> {
 impl<F: Field, EF: ExtensionField<F>> InteractionSymbolicBuilder<F, EF> {
     ghost use Rattle.lookup_indexed.specs.Declaration.{read_of, table_of};
     ghost use Rattle.lookup_record.specs.RecordedAir.{EvaluatesNew, no_air_recorded, recorded_air};
-    ghost use Rattle.lookup_builder.specs.Records.{exclusive_of, global_of, local_of};
+    ghost use Rattle.lookup_record.specs.Records.{exclusive_of, global_of, local_of};
     ghost use Rattle.lookup_record.specs.RecordedWithin.{EvaluatesWithin, PushedWithin};
 
     /// The builder for a layout, with nothing recorded.

@@ -3,7 +3,7 @@ use Rattle.std.proofs.Common.{◌≡◌, ◌⊎◌, inl, inr, ℕ, List, [], ◌
 use Rattle.air.specs.Cell.{IsCellsRefusal}
 use Rattle.expressions.specs.declared.error.AirError.{AirError}
 use Rattle.expressions.specs.declared.layout.AirLayout.{AirLayout}
-use Rattle.lookup_builder.specs.Messages.{PushesOne}
+use Rattle.lookup_record.specs.Messages.{PushesOne}
 use Rattle.memory_check.specs.Pushes.{AcceptedAll, IsRefusedAfter}
 
 module _ {B M : Type 0} (pushes : B → M → B → Type 0) where

@@ -2,7 +2,7 @@
 ghost use Rattle.std.specs.Prelude.{◌≡◌, ◌<◌, All, IfOk, OnOk};
 ghost use Rattle.expressions.specs.StaysWithin.{StaysWithin};
 ghost use Rattle.expressions.specs.declared.layout.AirLayout.{AirLayout};
-ghost use Rattle.lookup_builder.specs.Within.{KeyWithin};
+ghost use Rattle.lookup_record.specs.Within.{KeyWithin};
 
 use super::{holds, is_on, one, text};
 use air::{

@@ -4,7 +4,7 @@ use Rattle.std.specs.declared.alloc.Global.{Global}
 use Rattle.std.specs.declared.vec.Vec.{Vec}
 use Rattle.std.specs.Vec.Iter.{into_iter_items}
 use Rattle.lookup_model.specs.LookupDegree.{greatest}
-use Rattle.lookup_builder.specs.Records.{branch_of, exclusive_of}
+use Rattle.lookup_record.specs.Records.{branch_of, exclusive_of}
 use Rattle.lookup.proofs.ExtractionLaws.{passed, same_lengths, whole_list}
 use Rattle.lookup.proofs.extraction.exclusive_lookup.Goals as goal
 

@@ -1,7 +1,7 @@
 use Rattle.std.proofs.Common.{◌≡◌, ◌++◌, map, max}
 use Rattle.std.specs.Vec.Iter.{into_iter_items}
 use Rattle.lookup_model.specs.LookupDegree.{greatest}
-use Rattle.lookup_builder.specs.Records.{branch_of, exclusive_of}
+use Rattle.lookup_record.specs.Records.{branch_of, exclusive_of}
 use Rattle.lookup.proofs.extraction.exclusive_lookup.Given as goal
 
 abbrev pub invariant-loop-branch : goal.invariant-loop-branch

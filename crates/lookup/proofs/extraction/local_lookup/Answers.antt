@@ -4,8 +4,8 @@ use Rattle.std.proofs.lemmas.List.{map_push, nil_from_length}
 use Rattle.std.proofs.lemmas.Result.{err_from_is_err_and}
 use Rattle.std.specs.List.{sum_by}
 use Rattle.std.specs.Vec.Iter.{into_iter_items}
-use Rattle.lookup_builder.specs.Pushed.{tuple_of}
-use Rattle.lookup_builder.specs.Records.{local_of}
+use Rattle.lookup_record.specs.Pushed.{tuple_of}
+use Rattle.lookup_record.specs.Records.{local_of}
 use Rattle.lookup_model.specs.Weight.{weight_bound}
 use Rattle.lookup_packing.specs.TupleWidths.{HasOtherWidth}
 use Rattle.lookup.proofs.ExtractionLaws.{passed, same_lengths, same_widths, whole_list, widths_of_tuples}

@@ -1,8 +1,8 @@
 use Rattle.std.proofs.Common.{◌≡◌, ◌+◌, ◌<◌, ◌++◌, map}
 use Rattle.std.specs.List.{sum_by}
 use Rattle.std.specs.Vec.Iter.{into_iter_items}
-use Rattle.lookup_builder.specs.Pushed.{tuple_of}
-use Rattle.lookup_builder.specs.Records.{local_of}
+use Rattle.lookup_record.specs.Pushed.{tuple_of}
+use Rattle.lookup_record.specs.Records.{local_of}
 use Rattle.lookup_model.specs.Weight.{weight_bound}
 use Rattle.lookup.proofs.extraction.local_lookup.Given as goal
 

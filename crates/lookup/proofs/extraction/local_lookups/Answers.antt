@@ -3,8 +3,8 @@ use Rattle.std.proofs.lemmas.List.{nil_from_length}
 use Rattle.std.specs.Vec.Iter.{into_iter_items}
 use Rattle.std.proofs.lemmas.List.Elements.{All-cons}
 use Rattle.std.proofs.lemmas.Result.{err_from_is_err_and}
-use Rattle.lookup_builder.specs.Interaction.{Tuple}
-use Rattle.lookup_builder.specs.Records.{local_of}
+use Rattle.lookup_record.specs.Interaction.{Tuple}
+use Rattle.lookup_record.specs.Records.{local_of}
 use Rattle.lookup_model.specs.Outline.{fields_of}
 use Rattle.lookup.specs.Extraction.{IsFaultless, IsFirstLocalRefusal, local_at}
 use Rattle.lookup.proofs.ExtractionLaws.{all_seen, next_seen, refused_first, refused_later}

@@ -2,7 +2,7 @@ use Rattle.std.proofs.Common.{◌≡◌, ◌++◌, length, map, All}
 use Rattle.std.specs.Vec.Iter.{into_iter_items}
 use Rattle.lookup_model.specs.Records.{AreRecords}
 use Rattle.lookup_model.specs.declared.error.LookupError.{LookupError}
-use Rattle.lookup_builder.specs.Records.{local_of}
+use Rattle.lookup_record.specs.Records.{local_of}
 use Rattle.lookup_model.specs.Outline.{fields_of}
 use Rattle.lookup.specs.Extraction.{in_columns, IsFaultless, IsFirstLocalRefusal, local_at}
 use Rattle.lookup.proofs.extraction.local_lookups.Given as goal

@@ -1,7 +1,7 @@
 use Rattle.std.proofs.Common.{◌≡◌, length, map, ap, ◌∙◌, arith}
 use Rattle.std.proofs.lemmas.List.{nil_from_length}
 use Rattle.std.specs.Vec.Iter.{into_iter_items}
-use Rattle.lookup_builder.specs.Records.{exclusive_of}
+use Rattle.lookup_record.specs.Records.{exclusive_of}
 use Rattle.lookup_model.specs.Outline.{fields_of}
 use Rattle.lookup.specs.Extraction.{exclusive_at}
 use Rattle.lookup.proofs.ExtractionLaws.{all_seen, next_seen}

@@ -1,7 +1,7 @@
 use Rattle.std.proofs.Common.{◌≡◌, ◌++◌, length, map}
 use Rattle.std.specs.Vec.Iter.{into_iter_items}
 use Rattle.lookup_model.specs.Records.{AreRecords}
-use Rattle.lookup_builder.specs.Records.{global_of}
+use Rattle.lookup_record.specs.Records.{global_of}
 use Rattle.lookup_model.specs.Outline.{fields_of}
 use Rattle.lookup.specs.Extraction.{in_columns, global_at}
 use Rattle.lookup.proofs.extraction.with_globals.Given as goal

@@ -1,8 +1,8 @@
 use Rattle.std.proofs.Common.{◌++◌, ◌∷◌, [], List, map, ap, subst, sym, ◌∙◌}
 use Rattle.std.proofs.lemmas.List.Elements.{All-cons, All-nil}
-use Rattle.lookup_builder.specs.Interaction.{Tuple, local}
-use Rattle.lookup_builder.specs.Pushed.{pushed_local, tuple_of}
-use Rattle.lookup_builder.specs.Within.{IsWithin, TupleWithin}
+use Rattle.lookup_record.specs.Interaction.{Tuple, local}
+use Rattle.lookup_record.specs.Pushed.{pushed_local, tuple_of}
+use Rattle.lookup_record.specs.Within.{IsWithin, TupleWithin}
 use Rattle.lookup_program.proofs.AirLaws.{of_nat-one, range_does_send}
 use Rattle.lookup_program.proofs.airs.range_tuples.Goals as goal
 

@@ -1,7 +1,7 @@
 use Rattle.std.proofs.Common.{◌++◌, ◌∷◌, [], List, map, ap, ◌∙◌}
 use Rattle.std.proofs.lemmas.List.Elements.{All-cons, All-nil}
-use Rattle.lookup_builder.specs.Messages.{flag_and_key}
-use Rattle.lookup_builder.specs.Within.{KeyWithin}
+use Rattle.lookup_record.specs.Messages.{flag_and_key}
+use Rattle.lookup_record.specs.Within.{KeyWithin}
 use Rattle.lookup_program.proofs.airs.two_keys.Goals as goal
 
 pub returns-clause-keys : goal.returns-clause-keys

@@ -2,8 +2,8 @@ use Rattle.std.proofs.Common.{ap, arith, map, refl}
 use Rattle.std.proofs.lemmas.List.{append-nil, nil_from_length}
 use Rattle.std.specs.Vec.Iter.{into_iter_items}
 use Rattle.field.proofs.Items.{moved_over}
-use Rattle.lookup_builder.specs.Pushed.{pushed_branch}
-use Rattle.lookup_builder.specs.Records.{branch_of}
+use Rattle.lookup_record.specs.Pushed.{pushed_branch}
+use Rattle.lookup_record.specs.Records.{branch_of}
 use Rattle.lookup_record.proofs.symbolic.branch_records.Goals as goal
 
 pub loop-flag-init : goal.loop-flag-init

@@ -1,7 +1,7 @@
 use Rattle.std.proofs.Common.{◌≡◌, ◌++◌, map}
 use Rattle.std.specs.Vec.Iter.{into_iter_items}
-use Rattle.lookup_builder.specs.Pushed.{pushed_branch}
-use Rattle.lookup_builder.specs.Records.{branch_of}
+use Rattle.lookup_record.specs.Pushed.{pushed_branch}
+use Rattle.lookup_record.specs.Records.{branch_of}
 use Rattle.lookup_record.proofs.symbolic.branch_records.Given as goal
 
 abbrev pub invariant-loop-flag : goal.invariant-loop-flag

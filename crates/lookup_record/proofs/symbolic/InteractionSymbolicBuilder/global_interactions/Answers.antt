@@ -1,5 +1,5 @@
 use Rattle.std.proofs.Common.{ap, map}
-use Rattle.lookup_builder.specs.Records.{global_of}
+use Rattle.lookup_record.specs.Records.{global_of}
 use Rattle.lookup_record.proofs.symbolic.InteractionSymbolicBuilder.global_interactions.Goals as goal
 
 pub returns : goal.returns

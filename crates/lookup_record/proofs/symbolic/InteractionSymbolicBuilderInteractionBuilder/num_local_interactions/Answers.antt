@@ -1,6 +1,6 @@
 use Rattle.std.proofs.Common.{◌∙◌, sym}
 use Rattle.std.proofs.lemmas.List.{length-map}
-use Rattle.lookup_builder.specs.Records.{local_of}
+use Rattle.lookup_record.specs.Records.{local_of}
 use Rattle.lookup_record.proofs.symbolic.InteractionSymbolicBuilderInteractionBuilder.num_local_interactions.Goals as goal
 
 pub returns : goal.returns

@@ -1,8 +1,8 @@
 use Rattle.std.proofs.lemmas.List.Elements.{All-map, All-push}
 use Rattle.expressions.proofs.Assertions.{on_ok}
-use Rattle.lookup_builder.specs.Interaction.{Branch}
-use Rattle.lookup_builder.specs.Pushed.{pushed_branch}
-use Rattle.lookup_builder.specs.Within.{BranchWithin}
+use Rattle.lookup_record.specs.Interaction.{Branch}
+use Rattle.lookup_record.specs.Pushed.{pushed_branch}
+use Rattle.lookup_record.specs.Within.{BranchWithin}
 use Rattle.lookup_tests.proofs.tests.extraction.push_exclusive.Goals as goal
 
 pub loop-weight-preserved : goal.loop-weight-preserved

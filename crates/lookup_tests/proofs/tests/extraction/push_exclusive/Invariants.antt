@@ -1,6 +1,6 @@
 use Rattle.std.proofs.Common.{All}
-use Rattle.lookup_builder.specs.Pushed.{pushed_branch}
-use Rattle.lookup_builder.specs.Within.{BranchWithin}
+use Rattle.lookup_record.specs.Pushed.{pushed_branch}
+use Rattle.lookup_record.specs.Within.{BranchWithin}
 use Rattle.lookup_tests.proofs.tests.extraction.push_exclusive.Given as goal
 
 abbrev pub invariant-loop-weight : goal.invariant-loop-weight

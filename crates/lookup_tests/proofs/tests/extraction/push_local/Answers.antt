@@ -1,8 +1,8 @@
 use Rattle.std.proofs.lemmas.List.Elements.{All-map, All-push}
 use Rattle.expressions.proofs.Assertions.{on_ok}
-use Rattle.lookup_builder.specs.Interaction.{Tuple}
-use Rattle.lookup_builder.specs.Pushed.{tuple_of}
-use Rattle.lookup_builder.specs.Within.{TupleWithin}
+use Rattle.lookup_record.specs.Interaction.{Tuple}
+use Rattle.lookup_record.specs.Pushed.{tuple_of}
+use Rattle.lookup_record.specs.Within.{TupleWithin}
 use Rattle.lookup_tests.proofs.tests.extraction.push_local.Goals as goal
 
 pub loop-width-preserved : goal.loop-width-preserved

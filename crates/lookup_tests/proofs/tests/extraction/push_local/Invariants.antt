@@ -1,6 +1,6 @@
 use Rattle.std.proofs.Common.{All}
-use Rattle.lookup_builder.specs.Pushed.{tuple_of}
-use Rattle.lookup_builder.specs.Within.{TupleWithin}
+use Rattle.lookup_record.specs.Pushed.{tuple_of}
+use Rattle.lookup_record.specs.Within.{TupleWithin}
 use Rattle.lookup_tests.proofs.tests.extraction.push_local.Given as goal
 
 abbrev pub invariant-loop-width : goal.invariant-loop-width

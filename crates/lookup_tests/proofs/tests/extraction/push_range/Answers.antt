@@ -1,9 +1,9 @@
 use Rattle.std.proofs.Common.{◌++◌, ◌∷◌, [], List, ap, subst, sym, ◌∙◌}
 use Rattle.std.proofs.lemmas.List.Elements.{All-cons, All-nil}
 use Rattle.expressions.proofs.Assertions.{on_ok}
-use Rattle.lookup_builder.specs.Interaction.{Tuple}
-use Rattle.lookup_builder.specs.Pushed.{pushed_local, tuple_of}
-use Rattle.lookup_builder.specs.Within.{IsWithin, TupleWithin}
+use Rattle.lookup_record.specs.Interaction.{Tuple}
+use Rattle.lookup_record.specs.Pushed.{pushed_local, tuple_of}
+use Rattle.lookup_record.specs.Within.{IsWithin, TupleWithin}
 use Rattle.lookup_tests.proofs.tests.extraction.push_range.Goals as goal
 
 pub returns-clause-layout : goal.returns-clause-layout

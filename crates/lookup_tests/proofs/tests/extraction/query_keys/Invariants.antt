@@ -1,5 +1,5 @@
 use Rattle.std.proofs.Common.{All}
-use Rattle.lookup_builder.specs.Within.{KeyWithin}
+use Rattle.lookup_record.specs.Within.{KeyWithin}
 use Rattle.lookup_tests.proofs.tests.extraction.query_keys.Given as goal
 
 abbrev pub invariant-loop-branch : goal.invariant-loop-branch

@@ -1,6 +1,6 @@
 use Rattle.std.proofs.Common.{[], ◌∷◌, refl, ◌∙◌}
 use Rattle.std.proofs.lemmas.Result.{err_from_is_err_and}
-use Rattle.lookup_builder.specs.Pushed.{pushed_global}
+use Rattle.lookup_record.specs.Pushed.{pushed_global}
 use Rattle.memory_check.proofs.PushLaws.{accepted_more, answered_this, refused_cell, refused_one, refused_push}
 use Rattle.memory_check.proofs.airs.AccessesAirAir.eval.Goals as goal
 

@@ -1,4 +1,0 @@
-use Rattle.lookup_builder.proofs.bus.LookupBus.name.Goals as goal
-
-pub returns : goal.returns
-returns c = c.self.view_is

@@ -1,5 +1,0 @@
-use Rattle.std.proofs.Common.{refl}
-use Rattle.lookup_builder.proofs.count.CountNeg.neg.Goals as goal
-
-pub returns : goal.returns
-returns g c = rw (← c.self.view_is) (c.neg.ensures, refl)

@@ -1,9 +1,0 @@
-use Rattle.std.proofs.Common.{◌≡◌, map, take}
-use Rattle.expressions.specs.Tree.{tree_of}
-use Rattle.lookup_builder.specs.Interaction.{map_tuple}
-use Rattle.lookup_builder.specs.Pushed.{tuple_of}
-use Rattle.lookup_builder.proofs.interaction.SymbolicLocalInteraction.copy.Given as goal
-
-abbrev pub invariant-loop-tuple : goal.invariant-loop-tuple
-invariant-loop-tuple g l =
-    map (λ t. map_tuple tree_of (tuple_of t)) l.tuples.items ≡ map (λ t. map_tuple tree_of (tuple_of t)) (take l.tuple-index l.tuple-items)
