@@ -10,8 +10,8 @@ use Rattle.std.specs.Map.{lookup}
 use Rattle.indexmap.specs.IndexMap.{insert_entry}
 use Rattle.lookup_model.specs.LookupDegree.{greatest}
 use Rattle.lookup_model.specs.declared.types.Lookup.{Lookup}
-use Rattle.lookup_packing.specs.Buses.{same_name}
-use Rattle.lookup_packing.proofs.GroupLaws.{same_name-Decides}
+use Rattle.lookup.specs.Buses.{same_name}
+use Rattle.lookup.proofs.GroupLaws.{same_name-Decides}
 use Rattle.lookup.proofs.NamedWidthLaws.{at_inserted, greatest_push}
 use Rattle.batch.specs.Numbering.{AreGiven, IsBusId, IsKnown}
 use Rattle.batch.specs.Order.{AreInOrder, bus_at, next_id, same_bus}

@@ -12,7 +12,7 @@ use Rattle.lookup_model.specs.Challenges.{ChallengeTable}
 use Rattle.field.specs.Extension.{Extension}
 use Rattle.lookup_model.specs.LookupDegree.{greatest}
 use Rattle.lookup_model.specs.declared.error.LookupError.{LookupError}
-use Rattle.lookup_packing.specs.TupleWidths.{IsTupleWidths}
+use Rattle.lookup.specs.TupleWidths.{IsTupleWidths}
 use Rattle.lookup.proofs.NamedWidthLaws.{greatest_push}
 use Rattle.lookup.specs.Guards.{IsHeightRefusal, weighted_height_sum}
 use Rattle.lookup.specs.Lookups.{lookups_of}

@@ -12,9 +12,9 @@ use Rattle.lookup_model.specs.Message.{Message}
 use Rattle.lookup_model.specs.Plain.{quotient, trace_messages}
 use Rattle.lookup_model.specs.Terminals.{terminal_value}
 use Rattle.lookup_model.specs.Trace.{sent_rows_under}
-use Rattle.lookup_packing.proofs.KeptLaws.{trace_kept}
-use Rattle.lookup_packing.proofs.RearrangedSums.{sum_in-permutation}
-use Rattle.lookup_packing.proofs.SameKeys.{keys-permutation}
+use Rattle.lookup.proofs.KeptLaws.{trace_kept}
+use Rattle.lookup.proofs.RearrangedSums.{sum_in-permutation}
+use Rattle.lookup.proofs.SameKeys.{keys-permutation}
 use Rattle.lookup_model.specs.Batches.Instances.{Instance, IsFitting}
 use Rattle.lookup_model.specs.Batches.Messages.{NoneVanishes, batch_messages, id_of, sent_rows_of}
 use Rattle.lookup_model.specs.Batches.Witnesses.{AirResult, plain_result, plain_witness}

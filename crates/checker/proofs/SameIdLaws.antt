@@ -6,9 +6,9 @@ use Rattle.std.proofs.lemmas.List.Elements.{All-from_recursion, recursion_from_A
 use Rattle.std.specs.List.{AllByRecursion}
 use Rattle.lookup_model.specs.Outline.{bus_of}
 use Rattle.lookup_model.specs.declared.types.Lookup.{Lookup}
-use Rattle.lookup_packing.proofs.GroupLaws.{same_name-Decides}
-use Rattle.lookup_packing.specs.Buses.{is_named}
-use Rattle.lookup_packing.specs.Kept.{HasIdOfBus, HaveSameIds, other_ids}
+use Rattle.lookup.proofs.GroupLaws.{same_name-Decides}
+use Rattle.lookup.specs.Buses.{is_named}
+use Rattle.lookup.specs.Kept.{HasIdOfBus, HaveSameIds, other_ids}
 use Rattle.lookup_model.specs.Batches.Messages.{id_of}
 use Rattle.checker.specs.SameIds.{AgreesWith, DoAgree}
 

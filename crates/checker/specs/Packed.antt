@@ -5,7 +5,7 @@ use Rattle.field.specs.Ring.{Ring}
 use Rattle.lookup_model.specs.Challenges.{ChallengeTable}
 use Rattle.field.specs.Extension.{Extension}
 use Rattle.lookup_model.specs.Terminals.{terminal_value}
-use Rattle.lookup_packing.specs.Kept.{HaveSameIds, KeepsMessages}
+use Rattle.lookup.specs.Kept.{HaveSameIds, KeepsMessages}
 use Rattle.lookup_model.specs.Batches.Counts.{message_count, unbalanced_count}
 use Rattle.lookup_model.specs.Batches.Instances.{Instance}
 use Rattle.lookup_model.specs.Batches.Messages.{AreFlagsLawful, IsRegular, id_of}

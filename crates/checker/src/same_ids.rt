@@ -4,8 +4,8 @@ ghost use Rattle.lookup_model.specs.Batches.Ids.{ShareBus};
 ghost use Rattle.lookup_model.specs.Batches.Messages.{id_of};
 ghost use Rattle.checker.specs.SameIds.{AgreeOnId, AgreesWith, DoAgree, MayBeJoined};
 ghost use Rattle.lookup_model.specs.Outline.{fields_of};
-ghost use Rattle.lookup_packing.specs.Kept.{HaveSameIds, other_ids};
-ghost use Rattle.lookup_packing.specs.Packing.{is_additive};
+ghost use Rattle.lookup.specs.Kept.{HaveSameIds, other_ids};
+ghost use Rattle.lookup.specs.Packing.{is_additive};
 
 use crate::ids::share_bus;
 use field::Field;

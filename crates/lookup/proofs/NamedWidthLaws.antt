@@ -14,7 +14,7 @@ use Rattle.std.specs.Map.{lookup}
 use Rattle.indexmap.specs.IndexMap.{insert_entry}
 use Rattle.lookup_model.specs.LookupDegree.{greatest}
 use Rattle.lookup_model.specs.declared.error.LookupError.{LookupError}
-use Rattle.lookup_packing.specs.Buses.{same_name}
+use Rattle.lookup.specs.Buses.{same_name}
 use Rattle.lookup.specs.NamedWidths.{AgreeOnWidths, IsFirstMismatch, IsMismatch, first_width, seen_widths}
 use Rattle.lookup.specs.declared.bus_widths.NamedWidth.{NamedWidth}
 

@@ -10,7 +10,7 @@ use Rattle.lookup_model.specs.Weight.{weight_bound}
 use Rattle.lookup_model.specs.declared.error.LookupError.{LookupError}
 use Rattle.lookup_model.specs.declared.error.LookupError.TheVariants.{Memory, CountWeightOverflow}
 use Rattle.lookup_record.specs.Interaction.{Tuple, GlobalInteraction, ExclusiveInteraction}
-use Rattle.lookup_packing.specs.TupleWidths.{HasOtherWidth, IsTupleWidths}
+use Rattle.lookup.specs.TupleWidths.{HasOtherWidth, IsTupleWidths}
 use Rattle.lookup_record.specs.RecordedAir.{EvaluatesNew, recorded_air}
 use Rattle.lookup_record.specs.declared.symbolic.InteractionSymbolicBuilder.{InteractionSymbolicBuilder}
 use Rattle.lookup.specs.Lookups.{lookups_of}

@@ -1,7 +1,16 @@
+pub mod BusWidths
+pub mod Buses
+pub mod Cuts
 pub mod Extraction
+pub mod Fewest
 pub mod Guards
+pub mod Kept
 pub mod Lookups
 pub mod NamedWidths
+pub mod Packing
 pub mod Sends
+pub mod TrialDegrees
+pub mod Trials
+pub mod TupleWidths
 pub mod Weights
 pub mod WholeAir

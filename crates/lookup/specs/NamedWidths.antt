@@ -8,8 +8,8 @@ use Rattle.std.specs.declared.string.String.{String}
 use Rattle.lookup_model.specs.Outline.{Outline}
 use Rattle.lookup_model.specs.declared.error.LookupError.{LookupError}
 use Rattle.lookup_model.specs.declared.error.LookupError.TheVariants.{BusWidthMismatch}
-use Rattle.lookup_packing.specs.BusWidths.{widths_of}
-use Rattle.lookup_packing.specs.Buses.{bus_groups, same_name}
+use Rattle.lookup.specs.BusWidths.{widths_of}
+use Rattle.lookup.specs.Buses.{bus_groups, same_name}
 use Rattle.lookup.specs.declared.bus_widths.NamedWidth.{NamedWidth}
 
 module _ {E : Type 0} where

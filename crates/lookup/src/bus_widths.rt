@@ -4,16 +4,16 @@ ghost use Rattle.std.specs.List.{flat_map};
 ghost use Rattle.indexmap.specs.IndexMap.{get, insert_entry};
 ghost use Rattle.lookup_model.specs.LookupDegree.{greatest};
 ghost use Rattle.lookup_model.specs.Outline.{fields_of};
-ghost use Rattle.lookup_packing.specs.BusWidths.{widths_of};
+ghost use Rattle.lookup.specs.BusWidths.{widths_of};
 ghost use Rattle.lookup.specs.Lookups.{lookups_of};
 ghost use Rattle.lookup.specs.NamedWidths.{AgreeOnWidths, IsFirstMismatch, IsMismatch, all_named_widths, named_widths, seen_widths};
 
 use crate::lookups::Lookups;
+use crate::packing::by_bus;
 use air::SymbolicExpression;
 use field::Field;
 use indexmap::IndexMap;
 use lookup_model::{Lookup, LookupError};
-use lookup_packing::by_bus;
 use std::alloc::{AllocError, Global};
 use std::hash::Hash;
 

@@ -14,6 +14,7 @@ mod guards;
 pub mod indexed;
 pub mod logup;
 mod lookups;
+pub mod packing;
 pub mod protocol;
 pub mod symbolic;
 pub mod traits;
@@ -24,7 +25,6 @@ pub use logup::LogUpGadget;
 pub use lookup_model::{
     Challenges, Kind, Lookup, LookupError, LookupTerminal, fits, has_equal_lengths,
 };
-pub use lookup_packing::{assert_uniform_tuple_width, messages_keep_terminals};
 pub use lookup_record::{
     Count, IndexedDeclarations, IndexedLookupBuilder, IndexedLookupError, IndexedLookups,
     IndexedRead, IndexedTable, InteractionBuilder, InteractionSymbolicBuilder, LocalTuple,
@@ -32,4 +32,5 @@ pub use lookup_record::{
     SymbolicInteraction, SymbolicLocalInteraction, TraceWindow,
 };
 pub use lookups::Lookups;
+pub use packing::{assert_uniform_tuple_width, messages_keep_terminals};
 pub use protocol::LookupProtocol;

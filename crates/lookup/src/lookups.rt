@@ -7,6 +7,7 @@ ghost use Rattle.lookup_model.specs.Outline.{outline_of};
 ghost use Rattle.lookup_model.specs.Records.{AreRecords, DoFit, IsFirstMalformed};
 
 use crate::extraction;
+use crate::packing;
 use crate::protocol::LookupProtocol;
 use air::{Air, AirLayout};
 use field::{ExtensionField, Field};
@@ -29,10 +30,10 @@ impl<F: Field> Lookups<F> {
     ghost use Rattle.lookup_record.specs.RecordedWithin.{EvaluatesWithin};
     ghost use Rattle.std.specs.Fn.{FnReturnsAt};
     ghost use Rattle.lookup_model.specs.Outline.{fields_of};
-    ghost use Rattle.lookup_packing.specs.Fewest.{AnswersDegree, HasFewestColumns};
-    ghost use Rattle.lookup_packing.specs.Kept.{KeepsKeys, KeepsMessages, KeepsNets, KeepsWeight};
-    ghost use Rattle.lookup_packing.specs.Packing.{Packs};
-    ghost use Rattle.lookup_packing.specs.Trials.{Answers, IsBusTrial};
+    ghost use Rattle.lookup.specs.Fewest.{AnswersDegree, HasFewestColumns};
+    ghost use Rattle.lookup.specs.Kept.{KeepsKeys, KeepsMessages, KeepsNets, KeepsWeight};
+    ghost use Rattle.lookup.specs.Packing.{Packs};
+    ghost use Rattle.lookup.specs.Trials.{Answers, IsBusTrial};
 
     /// The lookups that an AIR records in a new builder with its own layout: local ones, then those
     /// on buses, then groups, each in the order of their pushes, in the columns 0, 1, 2, …
@@ -79,7 +80,7 @@ impl<F: Field> Lookups<F> {
     }
 
     /// Fills the columns of each bus greedily, by the degree that the closure gives; see
-    /// [`lookup_packing::packed`].
+    /// [`packed`](crate::packing::packed).
     ///
     /// Local lookups and those with flags come first, in their order, then the buses in the order of
     /// their first other lookups. Refuses `TupleWidths` at the first bus with two widths, then what
@@ -108,7 +109,7 @@ impl<F: Field> Lookups<F> {
             (lookups_of set)) }
         ensures fits { IfOk result (λ set. DoesStillFit (lookups_of self) (lookups_of set)) }
     {
-        let lookups = lookup_packing::packed(alloc, self.lookups, max_degree, degree)?;
+        let lookups = packing::packed(alloc, self.lookups, max_degree, degree)?;
         Ok(Lookups { lookups })
     }
 
@@ -137,7 +138,7 @@ impl<F: Field> Lookups<F> {
             (lookups_of set)) }
         ensures fits { IfOk result (λ set. DoesStillFit (lookups_of self) (lookups_of set)) }
     {
-        let lookups = lookup_packing::packed_by_degree(alloc, self.lookups, max_degree)?;
+        let lookups = packing::packed_by_degree(alloc, self.lookups, max_degree)?;
         Ok(Lookups { lookups })
     }
 

@@ -12,12 +12,12 @@ use Rattle.lookup_model.specs.Sent.{Sent, branch_at, sent, sent_at, values}
 use Rattle.lookup_model.specs.declared.error.LookupError.{LookupError}
 use Rattle.lookup_model.specs.declared.error.LookupError.TheVariants.{Memory}
 use Rattle.lookup_model.specs.declared.types.Lookup.{Lookup}
-use Rattle.lookup_packing.proofs.OneLookup.{packs_one}
-use Rattle.lookup_packing.specs.BusWidths.{widths_of}
-use Rattle.lookup_packing.specs.Fewest.{AnswersDegree}
-use Rattle.lookup_packing.specs.Packing.{Packs}
-use Rattle.lookup_packing.proofs.JoinedMessages.{option_mapped}
-use Rattle.lookup_packing.proofs.ZippedLists.{zip_mapped}
+use Rattle.lookup.proofs.OneLookup.{packs_one}
+use Rattle.lookup.specs.BusWidths.{widths_of}
+use Rattle.lookup.specs.Fewest.{AnswersDegree}
+use Rattle.lookup.specs.Packing.{Packs}
+use Rattle.lookup.proofs.JoinedMessages.{option_mapped}
+use Rattle.lookup.proofs.ZippedLists.{zip_mapped}
 use Rattle.lookup.specs.Lookups.{DoesStillFit, lookups_of}
 use Rattle.lookup.specs.Sends.{lookup_bus_and_weight}
 use Rattle.lookup.specs.declared.lookups.Lookups.{Lookups}

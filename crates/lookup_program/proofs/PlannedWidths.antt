@@ -8,8 +8,8 @@ use Rattle.lookup_model.specs.LookupDegree.{greatest}
 use Rattle.lookup_model.specs.Outline.{Outline, fields_of}
 use Rattle.lookup_model.specs.declared.error.LookupError.{LookupError}
 use Rattle.lookup_model.specs.declared.types.Lookup.{Lookup}
-use Rattle.lookup_packing.specs.BusWidths.{widths_of}
-use Rattle.lookup_packing.specs.Buses.{bus_names, bus_groups, is_named, on_bus, same_name}
+use Rattle.lookup.specs.BusWidths.{widths_of}
+use Rattle.lookup.specs.Buses.{bus_names, bus_groups, is_named, on_bus, same_name}
 use Rattle.lookup.specs.Lookups.{lookups_of}
 use Rattle.lookup.specs.NamedWidths.{IsFirstMismatch, first_width, named_widths}
 use Rattle.lookup.specs.declared.lookups.Lookups.{Lookups}

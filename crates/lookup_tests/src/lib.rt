@@ -1,5 +1,5 @@
-//! The tests of `lookup_debug`, `lookup_packing` and `lookup`, in a crate of their own: a test is proved
-//! like any other function, and a crate that has tests is proved twice.
+//! The tests of `lookup_debug` and `lookup`, in a crate of their own: a test is proved like any other
+//! function, and a crate that has tests is proved twice.
 //!
 //! They show what no contract says: that calls succeed, what is written as JSON and as the texts of
 //! refusals, and that the definitions mean what they should, by values that were calculated by hand

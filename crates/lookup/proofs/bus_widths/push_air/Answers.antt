@@ -5,8 +5,8 @@ use Rattle.std.specs.Option.{option_map}
 use Rattle.lookup.proofs.NamedWidthLaws.{at_place, parts_next}
 use Rattle.std.specs.List.{flat_map}
 use Rattle.lookup_model.specs.Outline.{fields_of}
-use Rattle.lookup_packing.specs.Buses.{bus_groups, group_of}
-use Rattle.lookup_packing.specs.BusWidths.{widths_of}
+use Rattle.lookup.specs.Buses.{bus_groups, group_of}
+use Rattle.lookup.specs.BusWidths.{widths_of}
 use Rattle.lookup.specs.NamedWidths.{seen_widths}
 use Rattle.lookup.proofs.bus_widths.push_air.Goals.{in-Some+in_ok-push_bus, in_default}
 use Rattle.lookup.proofs.bus_widths.push_air.Goals as goal

@@ -1,8 +1,8 @@
 use Rattle.std.proofs.Common.{◌≡◌, ◌++◌, map, take}
 use Rattle.std.specs.List.{flat_map}
 use Rattle.lookup_model.specs.Outline.{fields_of}
-use Rattle.lookup_packing.specs.BusWidths.{widths_of}
-use Rattle.lookup_packing.specs.Buses.{bus_groups}
+use Rattle.lookup.specs.BusWidths.{widths_of}
+use Rattle.lookup.specs.Buses.{bus_groups}
 use Rattle.lookup.specs.NamedWidths.{seen_widths}
 use Rattle.lookup.proofs.bus_widths.push_air.Given as goal
 

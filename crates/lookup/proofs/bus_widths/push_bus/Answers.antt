@@ -2,7 +2,7 @@ use Rattle.std.proofs.Common.{◌++◌, ap, arith, length, map, sym, take_all, �
 use Rattle.std.specs.List.{flat_map}
 use Rattle.lookup_model.proofs.HornerRule.{map-map}
 use Rattle.lookup_model.specs.Outline.{fields_of}
-use Rattle.lookup_packing.specs.BusWidths.{widths_of}
+use Rattle.lookup.specs.BusWidths.{widths_of}
 use Rattle.lookup.specs.NamedWidths.{seen_widths}
 use Rattle.lookup.proofs.NamedWidthLaws.{images_of_parts, parts_more}
 use Rattle.lookup.proofs.bus_widths.push_bus.Goals as goal

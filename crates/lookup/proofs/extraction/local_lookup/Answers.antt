@@ -7,7 +7,7 @@ use Rattle.std.specs.Vec.Iter.{into_iter_items}
 use Rattle.lookup_record.specs.Pushed.{tuple_of}
 use Rattle.lookup_record.specs.Records.{local_of}
 use Rattle.lookup_model.specs.Weight.{weight_bound}
-use Rattle.lookup_packing.specs.TupleWidths.{HasOtherWidth}
+use Rattle.lookup.specs.TupleWidths.{HasOtherWidth}
 use Rattle.lookup.proofs.ExtractionLaws.{passed, same_lengths, same_widths, whole_list, widths_of_tuples}
 use Rattle.lookup.proofs.extraction.local_lookup.Goals as goal
 

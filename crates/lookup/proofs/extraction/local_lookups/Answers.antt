@@ -8,7 +8,7 @@ use Rattle.lookup_record.specs.Records.{local_of}
 use Rattle.lookup_model.specs.Outline.{fields_of}
 use Rattle.lookup.specs.Extraction.{IsFaultless, IsFirstLocalRefusal, local_at}
 use Rattle.lookup.proofs.ExtractionLaws.{all_seen, next_seen, refused_first, refused_later}
-use Rattle.lookup_packing.proofs.RecordLaws.{next_records}
+use Rattle.lookup.proofs.RecordLaws.{next_records}
 use Rattle.lookup.proofs.extraction.local_lookups.Goals as goal
 
 pub returns-in_err-local_lookup : goal.returns-in_err-local_lookup

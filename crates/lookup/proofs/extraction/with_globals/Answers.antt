@@ -5,7 +5,7 @@ use Rattle.lookup_record.specs.Records.{global_of}
 use Rattle.lookup_model.specs.Outline.{fields_of}
 use Rattle.lookup.specs.Extraction.{global_at}
 use Rattle.lookup.proofs.ExtractionLaws.{all_seen, next_seen}
-use Rattle.lookup_packing.proofs.RecordLaws.{next_records}
+use Rattle.lookup.proofs.RecordLaws.{next_records}
 use Rattle.lookup.proofs.extraction.with_globals.Goals as goal
 
 pub loop-interaction-preserved : goal.loop-interaction-preserved

@@ -1,0 +1,185 @@
+-- With the degree of the gadget a greedy filling has the fewest columns.
+use Rattle.std.proofs.Common.{◌≡◌, ◌+◌, ◌≤◌, ◌⊎◌, inl, inr, ℕ, suc, Bool, true, false, cond, not, List, [], ◌∷◌, ◌++◌, Option, None, Some, length, map, refl, sym, ap, subst, ◌∙◌, arith}
+use Rattle.std.proofs.lemmas.List.{append-nil, length-map, map-append}
+use Rattle.std.proofs.lemmas.List.Elements.{filter-append}
+use Rattle.std.specs.List.{AllByRecursion, filter, filter_map, flat_map, zip}
+use Rattle.std.specs.Option.{option_map}
+use Rattle.expressions.specs.declared.base_expression.SymbolicExpression.{SymbolicExpression}
+use Rattle.lookup_model.proofs.Lookups.Regrouping.{All-filter, IsSeparate, filter_passes, first_seen_separate}
+use Rattle.lookup_model.specs.LookupDegree.{branch_degrees, constraint_degree_of, expression_degree, outline_branch_degrees, outline_degree}
+use Rattle.lookup_model.specs.Outline.{Outline}
+use Rattle.lookup.specs.Buses.{bus_names, is_named, on_bus, same_name}
+use Rattle.lookup.specs.Cuts.{AreClosed, IsCut, part_items}
+use Rattle.lookup.specs.Fewest.{AnswersDegree, HasFewestColumns}
+use Rattle.lookup.specs.Packing.{AreFilled, IsAbove, IsFilling, IsPacking, additive, is_additive, joined, numbered_from, passing, trial}
+use Rattle.lookup.specs.TrialDegrees.{IsPlain}
+use Rattle.lookup.proofs.FewestParts.{AreFull, fewest_parts}
+use Rattle.lookup.proofs.FillLaws.{joined_more, with_next}
+use Rattle.lookup.proofs.GroupLaws.{same_name-Decides}
+use Rattle.lookup.proofs.JoinedDegrees.{degree_hereditary}
+use Rattle.lookup.proofs.ListLaws.{all_back, all_both, all_front}
+use Rattle.lookup.proofs.ZippedLists.{zip-append}
+
+module _ {F : Type 0} where
+  -- the branches of several lookups in one
+  branches_joined : (os : List (Outline (SymbolicExpression F))) → AllByRecursion IsPlain os
+      → map (λ b. branch_degrees 0 b.0 b.1) (zip (flat_map (λ o. o.elements) os) (flat_map (λ o. o.multiplicities) os)) ≡ flat_map (outline_branch_degrees 0) os
+  branches_joined [] plain = refl
+  branches_joined (o ∷ os) plain =
+      ap (map (λ b. branch_degrees 0 b.0 b.1)) (zip-append o.elements (flat_map (λ p. p.elements) os) o.multiplicities (flat_map (λ p. p.multiplicities) os) (plain.0).lengths)
+      ∙ map-append (λ b. branch_degrees 0 b.0 b.1) (zip o.elements o.multiplicities) (zip (flat_map (λ p. p.elements) os) (flat_map (λ p. p.multiplicities) os))
+      ∙ ap (λ t. outline_branch_degrees 0 o ++ t) (branches_joined os plain.1)
+
+  -- so the degree of a part is that of all its branches
+  joined_degree : (part : Outline (SymbolicExpression F) × List (Outline (SymbolicExpression F))) → AllByRecursion IsPlain (part_items part) → outline_degree 0 (joined part) ≡ constraint_degree_of None (flat_map (outline_branch_degrees 0) (part_items part))
+  joined_degree part plain =
+      ap (λ flags. constraint_degree_of (option_map (map (expression_degree 0)) flags) (outline_branch_degrees 0 (joined part))) (plain.0).no_flags
+      ∙ ap (constraint_degree_of None) (branches_joined (part_items part) plain)
+
+  module _ (most : ℕ) where
+    abbrev Fits : List (Outline (SymbolicExpression F)) → Type 0
+    Fits os = constraint_degree_of None (flat_map (outline_branch_degrees 0) os) ≤ most
+
+    -- parts of a greedy filling are full
+    full : (parts : List (Outline (SymbolicExpression F) × List (Outline (SymbolicExpression F)))) → AllByRecursion IsPlain (flat_map part_items parts) → AreClosed (IsAbove AnswersDegree most) parts → AreFull Fits parts
+    full [] plain closed = tt
+    full (p ∷ []) plain closed = tt
+    full (p ∷ q ∷ ps) plain closed =
+        let first = all_front IsPlain (part_items p) (flat_map part_items (q ∷ ps)) plain in
+        let later = all_back IsPlain (part_items p) (flat_map part_items (q ∷ ps)) plain in
+        (not_fit p q.0 (all_both IsPlain (part_items p) (q.0 ∷ []) first (later.0, tt)) closed.0, full (q ∷ ps) later closed.1)
+      where
+        not_fit : (p : Outline (SymbolicExpression F) × List (Outline (SymbolicExpression F))) (o : Outline (SymbolicExpression F)) → AllByRecursion IsPlain (part_items (with_next p o)) → IsAbove AnswersDegree most p o → Fits (part_items p ++ o ∷ []) → ⊥
+        not_fit p o plain above fits =
+            let degree : outline_degree 0 (trial (joined p) o) ≡ constraint_degree_of None (flat_map (outline_branch_degrees 0) (part_items p ++ o ∷ [])) = sym (ap (outline_degree 0) (joined_more p o)) ∙ joined_degree (with_next p o) plain in
+            omega (arith, above.1, above.2, fits, degree)
+
+    -- what a split asks of its parts is that they fit
+    split_fits : (split : List (Outline (SymbolicExpression F) × List (Outline (SymbolicExpression F)))) → AllByRecursion IsPlain (flat_map part_items split)
+        → AllByRecursion (λ part. (part.1 ≡ []) ⊎ (outline_degree 0 (joined part) ≤ most)) split → AllByRecursion (λ part. (part.1 ≡ []) ⊎ Fits (part_items part)) split
+    split_fits [] plain within = tt
+    split_fits (p ∷ ps) plain within = (here within.0, split_fits ps (all_back IsPlain (part_items p) (flat_map part_items ps) plain) within.1)
+      where
+        here : (p.1 ≡ []) ⊎ (outline_degree 0 (joined p) ≤ most) → (p.1 ≡ []) ⊎ Fits (part_items p)
+        here (inl one) = inl one
+        here (inr le) = inr (subst (λ n. n ≤ most) (joined_degree p (all_front IsPlain (part_items p) (flat_map part_items ps) plain)) le)
+
+    -- a greedy filling of a bus has no more columns than any split of its lookups has parts
+    pub fewest_of_bus : (members : List (Outline (SymbolicExpression F))) (cut split : List (Outline (SymbolicExpression F) × List (Outline (SymbolicExpression F)))) → AllByRecursion IsPlain members → IsFilling AnswersDegree most cut members
+        → IsCut split members → AllByRecursion (λ part. (part.1 ≡ []) ⊎ (outline_degree 0 (joined part) ≤ most)) split → length cut ≤ length split
+    fewest_of_bus members cut split plain filling is_cut within =
+        fewest_parts Fits (degree_hereditary (outline_branch_degrees 0) most) members cut split filling.0
+        (full cut (subst (λ (os : List (Outline (SymbolicExpression F))). AllByRecursion IsPlain os) (sym filling.0) plain) filling.1.1)
+        (is_cut, split_fits split (subst (λ (os : List (Outline (SymbolicExpression F))). AllByRecursion IsPlain os) (sym is_cut) plain) within)
+
+module _ {E : Type 0} where
+  -- numbers of columns do not matter to what is counted
+  on_bus-numbered : (name : List ℕ) (n : ℕ) (os : List (Outline E)) → length (on_bus name (additive (numbered_from n os))) ≡ length (on_bus name (additive os))
+  on_bus-numbered name n [] = refl
+  on_bus-numbered name n (o ∷ os) = by_tests (is_additive o) (is_named name o.bus) (on_bus-numbered name (n + 1) os)
+    where
+      numbers : List (Outline E)
+      numbers = additive (numbered_from (n + 1) os)
+
+      one : Outline E
+      one = record o { column = n }
+
+      by_tests : (p q : Bool) → length (on_bus name numbers) ≡ length (on_bus name (additive os))
+          → length (filter (λ x. is_named name x.bus) (cond p (record o { column = n } ∷ numbers) numbers)) ≡ length (filter (λ x. is_named name x.bus) (cond p (o ∷ additive os) (additive os)))
+      by_tests false q e = e
+      by_tests true q e = by_name (is_named name o.bus)
+        where
+          by_name : (b : Bool) → length (cond b (record o { column = n } ∷ on_bus name numbers) (on_bus name numbers)) ≡ length (cond b (o ∷ on_bus name (additive os)) (on_bus name (additive os)))
+          by_name true = ap suc e
+          by_name false = e
+
+  -- what passes through is not counted
+  pub none_additive : (os : List (Outline E)) → additive (passing os) ≡ []
+  none_additive [] = refl
+  none_additive (o ∷ os) = by_test (is_additive o) refl (none_additive os)
+    where
+      by_test : (b : Bool) → is_additive o ≡ b → additive (passing os) ≡ [] → additive (cond (not b) (o ∷ passing os) (passing os)) ≡ []
+      by_test true e rest = rest
+      by_test false e rest = ap (λ b. cond b (o ∷ additive (passing os)) (additive (passing os))) e ∙ rest
+
+  -- a lookup that may be joined, on the bus of this name
+  pub record IsOn (name : List ℕ) (o : Outline E) : Type 0 where
+    pub joins : is_additive o ≡ true
+    pub named : is_named name o.bus ≡ true
+
+  pub members_on : (name : List ℕ) (os : List (Outline E)) → AllByRecursion (IsOn name) (on_bus name (additive os))
+  members_on name os =
+      both (on_bus name (additive os)) (All-filter (λ o. is_additive o ≡ true) (λ o. is_named name o.bus) (additive os) (filter_passes is_additive os)) (filter_passes (λ o. is_named name o.bus) (additive os))
+    where
+      both : (xs : List (Outline E)) → AllByRecursion (λ o. is_additive o ≡ true) xs → AllByRecursion (λ o. is_named name o.bus ≡ true) xs → AllByRecursion (IsOn name) xs
+      both [] p q = tt
+      both (x ∷ xs) p q = (record { joins = p.0; named = q.0 }, both xs p.1 q.1)
+
+  -- the columns of a bus are those that its parts make, and on another bus there are none of them
+  own_columns : (name : List ℕ) (cut : List (Outline E × List (Outline E))) → AllByRecursion (IsOn name) (flat_map part_items cut) → on_bus name (additive (map joined cut)) ≡ map joined cut
+  own_columns name [] on = refl
+  own_columns name (p ∷ ps) on =
+      let later = own_columns name ps (all_back (IsOn name) (part_items p) (flat_map part_items ps) on) in
+      ap (λ b. filter (λ o. is_named name o.bus) (cond b (joined p ∷ additive (map joined ps)) (additive (map joined ps)))) (on.0).joins
+      ∙ ap (λ b. cond b (joined p ∷ on_bus name (additive (map joined ps))) (on_bus name (additive (map joined ps)))) (on.0).named
+      ∙ ap (λ t. joined p ∷ t) later
+
+  other_columns : (name other : List ℕ) → same_name name other ≡ false → (cut : List (Outline E × List (Outline E))) → AllByRecursion (IsOn other) (flat_map part_items cut) → on_bus name (additive (map joined cut)) ≡ []
+  other_columns name other apart [] on = refl
+  other_columns name other apart (p ∷ ps) on =
+      let later = other_columns name other apart ps (all_back (IsOn other) (part_items p) (flat_map part_items ps) on) in
+      ap (λ b. filter (λ o. is_named name o.bus) (cond b (joined p ∷ additive (map joined ps)) (additive (map joined ps)))) (on.0).joins
+      ∙ ap (λ b. cond b (joined p ∷ on_bus name (additive (map joined ps))) (on_bus name (additive (map joined ps)))) (not_named (p.0).bus (on.0).named)
+      ∙ later
+    where
+      not_named : (bus : Option (List ℕ)) → is_named other bus ≡ true → is_named name bus ≡ false
+      not_named None e = refl
+      not_named (Some b) e = ap (same_name name) (sym ((same_name-Decides other b).0 e)) ∙ apart
+
+-- the columns of several buses, counted on one of them
+first_append : {E : Type 0} (name : List ℕ) (xs ys : List (Outline E)) → on_bus name (additive (xs ++ ys)) ≡ on_bus name (additive xs) ++ on_bus name (additive ys)
+first_append name xs ys = ap (filter (λ o. is_named name o.bus)) (filter-append is_additive xs ys) ∙ filter-append (λ o. is_named name o.bus) (additive xs) (additive ys)
+
+module _ {F : Type 0} (most : ℕ) (before : List (Outline (SymbolicExpression F))) (name : List ℕ) where
+  members_cut : (other : List ℕ) (cut : List (Outline (SymbolicExpression F) × List (Outline (SymbolicExpression F)))) → IsFilling AnswersDegree most cut (on_bus other (additive before)) → AllByRecursion (IsOn other) (flat_map part_items cut)
+  members_cut other cut filling = subst (λ (os : List (Outline (SymbolicExpression F))). AllByRecursion (IsOn other) os) (sym filling.0) (members_on other before)
+
+  -- where no name is this one there is no column
+  none_on : (names : List (List ℕ)) (cuts : List (List (Outline (SymbolicExpression F) × List (Outline (SymbolicExpression F))))) → AllByRecursion (λ other. same_name name other ≡ false) names → AreFilled AnswersDegree most (additive before) names cuts
+      → on_bus name (additive (flat_map (λ cut. map joined cut) cuts)) ≡ []
+  none_on [] [] apart filled = refl
+  none_on [] (cut ∷ cuts) apart filled = absurd filled
+  none_on (n ∷ ns) [] apart filled = absurd filled
+  none_on (n ∷ ns) (cut ∷ cuts) apart filled =
+      first_append name (map joined cut) (flat_map (λ c. map joined c) cuts)
+      ∙ (λ i. other_columns name n apart.0 cut (members_cut n cut filled.0) i ++ none_on ns cuts apart.1 filled.1 i)
+
+  fewest_in : (names : List (List ℕ)) (cuts : List (List (Outline (SymbolicExpression F) × List (Outline (SymbolicExpression F))))) → IsSeparate same_name names → AreFilled AnswersDegree most (additive before) names cuts
+      → AllByRecursion IsPlain (on_bus name (additive before)) → (split : List (Outline (SymbolicExpression F) × List (Outline (SymbolicExpression F)))) → IsCut split (on_bus name (additive before)) → AllByRecursion (λ part. (part.1 ≡ []) ⊎ (outline_degree 0 (joined part) ≤ most)) split
+      → length (on_bus name (additive (flat_map (λ cut. map joined cut) cuts))) ≤ length split
+  fewest_in [] [] separate filled plain split is_cut within = omega arith
+  fewest_in [] (cut ∷ cuts) separate filled plain split is_cut within = absurd filled
+  fewest_in (n ∷ ns) [] separate filled plain split is_cut within = absurd filled
+  fewest_in (n ∷ ns) (cut ∷ cuts) separate filled plain split is_cut within = by_test (same_name name n) refl (fewest_in ns cuts separate.1 filled.1 plain split is_cut within)
+    where
+      columns : List (Outline (SymbolicExpression F))
+      columns = on_bus name (additive (flat_map (λ c. map joined c) (cut ∷ cuts)))
+
+      by_test : (b : Bool) → same_name name n ≡ b → length (on_bus name (additive (flat_map (λ c. map joined c) cuts))) ≤ length split → length (on_bus name (additive (flat_map (λ c. map joined c) (cut ∷ cuts)))) ≤ length split
+      by_test true e later =
+          let is : name ≡ n = (same_name-Decides name n).0 e in
+          let here : IsFilling AnswersDegree most cut (on_bus name (additive before)) = subst (λ (m : List ℕ). IsFilling AnswersDegree most cut (on_bus m (additive before))) (sym is) filled.0 in
+          let rest : on_bus name (additive (flat_map (λ c. map joined c) cuts)) ≡ [] = none_on ns cuts (subst (λ (m : List ℕ). AllByRecursion (λ other. same_name m other ≡ false) ns) (sym is) separate.0) filled.1 in
+          let all : on_bus name (additive (flat_map (λ c. map joined c) (cut ∷ cuts))) ≡ map joined cut = first_append name (map joined cut) (flat_map (λ c. map joined c) cuts) ∙ (λ i. own_columns name cut (members_cut name cut here) i ++ rest i) ∙ append-nil (map joined cut) in
+          omega (arith, ap length all, length-map cut joined, fewest_of_bus most (on_bus name (additive before)) cut split plain here is_cut within)
+      by_test false e later =
+          let none : on_bus name (additive (map joined cut)) ≡ [] = other_columns name n e cut (members_cut n cut filled.0) in
+          subst (λ (t : List (Outline (SymbolicExpression F))). length t ≤ length split) (sym (first_append name (map joined cut) (flat_map (λ c. map joined c) cuts) ∙ ap (λ t. t ++ on_bus name (additive (flat_map (λ c. map joined c) cuts))) none)) later
+
+-- a packing by the degree of the gadget has the fewest columns
+pub fewest_columns : {F : Type 0} (most : ℕ) (before after : List (Outline (SymbolicExpression F))) → ((name : List ℕ) → AllByRecursion IsPlain (on_bus name (additive before))) → IsPacking AnswersDegree most before after → HasFewestColumns most before after
+fewest_columns most before after plain packing name split is_cut within =
+    let columns = flat_map (λ cut. map joined cut) packing.cuts in
+    let counted : on_bus name (additive (passing before ++ columns)) ≡ on_bus name (additive columns) = first_append name (passing before) columns ∙ ap (λ t. on_bus name t ++ on_bus name (additive columns)) (none_additive before) in
+    let number : length (on_bus name (additive after)) ≡ length (on_bus name (additive columns)) = ap (λ os. length (on_bus name (additive os))) packing.columns ∙ on_bus-numbered name 0 (passing before ++ columns) ∙ ap length counted in
+    subst (λ n. n ≤ length split) (sym number) (fewest_in most before name (bus_names (additive before)) packing.cuts (first_seen_separate same_name (filter_map (λ o. o.bus) (additive before))) packing.filled (plain name) split is_cut within)

@@ -1,0 +1,176 @@
+-- A greedy filling, lookup by lookup.
+use Rattle.std.proofs.Common.{◌≡◌, ◌<◌, ◌≤◌, ◌+◌, ◌⊎◌, inl, inr, ℕ, List, [], ◌∷◌, ◌++◌, Result, Ok, Err, map, refl, sym, ap, subst, ◌∙◌, arith}
+use Rattle.std.proofs.lemmas.Grind.{flat_map-append}
+use Rattle.std.proofs.lemmas.List.{append-nil, append_assoc, map-append}
+use Rattle.std.proofs.lemmas.List.Sums.{sum_by-append, sum_by-cons}
+use Rattle.std.specs.List.{AllByRecursion, flat_map, sum_by}
+use Rattle.lookup_model.specs.Outline.{Outline}
+use Rattle.lookup_model.specs.Weight.{weight_bound}
+use Rattle.lookup_model.specs.declared.error.LookupError.{LookupError}
+use Rattle.lookup_model.specs.declared.error.LookupError.TheVariants.{CountWeightOverflow}
+use Rattle.lookup.specs.Cuts.{AreClosed, IsGrown, part_items}
+use Rattle.lookup.specs.Packing.{IsAbove, IsFilling, IsStuck, Joins, joined, trial}
+use Rattle.lookup.proofs.ListLaws.{all_back, all_both, all_front, map_split, snoc_split}
+
+module _ {A : Type 0} where
+  -- a part with one more member
+  abbrev pub with_next : A × List A → A → A × List A
+  with_next part next = (part.0, part.1 ++ next ∷ [])
+
+  module _ (J : A × List A → A → Type 0) where
+    grown_one : (x : A) → IsGrown J (x, [])
+    grown_one x [] next back e = absurd (cc e)
+    grown_one x (f ∷ fs) next back e = absurd (cc e)
+
+    grown_more : (part : A × List A) (x : A) → IsGrown J part → J part x → IsGrown J (with_next part x)
+    grown_more part x grown joins front next back e = by_place (snoc_split part.1 front back x next e)
+      where
+        by_place : ((part.1 ≡ front) × (x ≡ next)) ⊎ ((rest : List A) × (part.1 ≡ front ++ next ∷ rest)) → J (part.0, front) next
+        by_place (inl h) = subst (λ (fs : List A). J (part.0, fs) next) h.0 (subst (λ (y : A). J part y) h.1 joins)
+        by_place (inr h) = grown front next h.0 h.1
+
+    all_grown_more : (parts : List (A × List A)) (part : A × List A) (x : A) → AllByRecursion (IsGrown J) (parts ++ part ∷ []) → J part x → AllByRecursion (IsGrown J) (parts ++ with_next part x ∷ [])
+    all_grown_more parts part x all joins =
+        let last = (all_back (IsGrown J) parts (part ∷ []) all).0 in
+        all_both (IsGrown J) parts (with_next part x ∷ []) (all_front (IsGrown J) parts (part ∷ []) all) (grown_more part x last joins, tt)
+
+    all_grown_next : (parts : List (A × List A)) (x : A) → AllByRecursion (IsGrown J) parts → AllByRecursion (IsGrown J) (parts ++ (x, []) ∷ [])
+    all_grown_next parts x all = all_both (IsGrown J) parts ((x, []) ∷ []) all (grown_one x, tt)
+
+  module _ (S : A × List A → A → Type 0) where
+    closed_more : (parts : List (A × List A)) (part : A × List A) (x : A) → AreClosed S (parts ++ part ∷ []) → AreClosed S (parts ++ with_next part x ∷ [])
+    closed_more [] part x h = tt
+    closed_more (q ∷ []) part x h = (h.0, tt)
+    closed_more (q ∷ r ∷ rs) part x h = (h.0, closed_more (r ∷ rs) part x h.1)
+
+    closed_next : (parts : List (A × List A)) (part : A × List A) (x : A) → AreClosed S (parts ++ part ∷ []) → S part x → AreClosed S ((parts ++ part ∷ []) ++ (x, []) ∷ [])
+    closed_next [] part x h s = (s, tt)
+    closed_next (q ∷ []) part x h s = (h.0, (s, tt))
+    closed_next (q ∷ r ∷ rs) part x h s = (h.0, closed_next (r ∷ rs) part x h.1 s)
+
+  -- the items of parts of which the last has one more member, or of one part more
+  items_more : (parts : List (A × List A)) (part : A × List A) (x : A) → flat_map part_items (parts ++ with_next part x ∷ []) ≡ flat_map part_items (parts ++ part ∷ []) ++ x ∷ []
+  items_more parts part x =
+      flat_map-append part_items parts (with_next part x ∷ [])
+      ∙ ap (λ t. flat_map part_items parts ++ (part.0 ∷ t)) (append-nil (part.1 ++ x ∷ []))
+      ∙ sym (append_assoc (flat_map part_items parts) (part_items part) (x ∷ []))
+      ∙ ap (λ t. t ++ x ∷ []) (ap (λ t. flat_map part_items parts ++ (part.0 ∷ t)) (sym (append-nil part.1)) ∙ sym (flat_map-append part_items parts (part ∷ [])))
+
+  items_next : (parts : List (A × List A)) (x : A) → flat_map part_items (parts ++ (x, []) ∷ []) ≡ flat_map part_items parts ++ x ∷ []
+  items_next parts x = flat_map-append part_items parts ((x, []) ∷ [])
+
+module _ {E : Type 0} where
+  sum_by-one : (f : Outline E → ℕ) (o : Outline E) → sum_by f (o ∷ []) ≡ f o
+  sum_by-one f o = sum_by-cons f o [] ∙ omega arith
+
+  -- one lookup alone makes itself
+  pub joined_one : (o : Outline E) → joined (o, []) ≡ o
+  joined_one o = λ i. record o {
+    elements = append-nil o.elements i;
+    multiplicities = append-nil o.multiplicities i;
+    count_weight = sum_by-one (λ p. p.count_weight) o i;
+  }
+
+  -- a part with one more member makes what the part makes with the tuples and the weight of that one
+  pub joined_more : (part : Outline E × List (Outline E)) (o : Outline E) → joined (with_next part o) ≡ record (trial (joined part) o) { count_weight = (joined part).count_weight + o.count_weight }
+  joined_more part o = λ i. record part.0 {
+    elements = (flat_map-append (λ (p : Outline E). p.elements) (part_items part) (o ∷ []) ∙ ap (λ t. flat_map (λ (p : Outline E). p.elements) (part_items part) ++ t) (append-nil o.elements)) i;
+    multiplicities = (flat_map-append (λ (p : Outline E). p.multiplicities) (part_items part) (o ∷ []) ∙ ap (λ t. flat_map (λ (p : Outline E). p.multiplicities) (part_items part) ++ t) (append-nil o.multiplicities)) i;
+    count_weight = (sum_by-append (λ (p : Outline E). p.count_weight) (part_items part) (o ∷ []) ∙ ap (λ n. sum_by (λ (p : Outline E). p.count_weight) (part_items part) + n) (sum_by-one (λ p. p.count_weight) o)) i;
+  }
+
+module _ {E : Type 0} (answers : Outline E → Result ℕ LookupError → Type 0) (most : ℕ) where
+  -- Columns are those of a greedy cut of the lookups that are seen.
+  pub record AreColumns (seen columns : List (Outline E)) : Type 0 where
+    pub cut : List (Outline E × List (Outline E))
+    pub filling : IsFilling answers most cut seen
+    pub columns_are : columns ≡ map joined cut
+
+  pub no_columns : AreColumns [] []
+  no_columns = record { cut = []; filling = (refl, (tt, tt)); columns_are = refl }
+
+  -- the first lookup opens a column
+  pub first_column : (seen columns after : List (Outline E)) (next : Outline E) → AreColumns seen columns → columns ≡ [] → after ≡ next ∷ [] → AreColumns (seen ++ next ∷ []) after
+  first_column seen columns after next filled none after_is = by_cut filled.cut filled.filling.0 (sym filled.columns_are ∙ none)
+    where
+      by_cut : (cut : List (Outline E × List (Outline E))) → flat_map part_items cut ≡ seen → map joined cut ≡ [] → AreColumns (seen ++ next ∷ []) after
+      by_cut (p ∷ ps) is empty = absurd (cc empty)
+      by_cut [] is empty = record {
+        cut = (next, []) ∷ [];
+        filling = (ap (λ t. t ++ next ∷ []) is, ((grown_one (Joins answers most) next, tt), tt));
+        columns_are = after_is ∙ ap (λ o. o ∷ []) (sym (joined_one next));
+      }
+
+  -- the parts of columns of which there is a last one
+  pub record HasLast (seen : List (Outline E)) (front : List (Outline E)) (last : Outline E) : Type 0 where
+    pub parts : List (Outline E × List (Outline E))
+    pub part : Outline E × List (Outline E)
+    pub filling : IsFilling answers most (parts ++ part ∷ []) seen
+    pub front_is : map joined parts ≡ front
+    pub last_is : joined part ≡ last
+
+  pub last_part : (seen columns front : List (Outline E)) (last : Outline E) → AreColumns seen columns → columns ≡ front ++ last ∷ [] → HasLast seen front last
+  last_part seen columns front last filled is =
+      let (parts, part, none, cut_is, front_is, last_is, none_is) = map_split joined filled.cut front last [] (sym filled.columns_are ∙ is) in
+      by_rest none parts part cut_is front_is last_is none_is
+    where
+      by_rest : (none : List (Outline E × List (Outline E))) (parts : List (Outline E × List (Outline E))) (part : Outline E × List (Outline E)) → filled.cut ≡ parts ++ part ∷ none → map joined parts ≡ front → joined part ≡ last → map joined none ≡ [] → HasLast seen front last
+      by_rest (p ∷ ps) parts part cut_is front_is last_is none_is = absurd (cc none_is)
+      by_rest [] parts part cut_is front_is last_is none_is = record {
+        parts = parts;
+        part = part;
+        filling = subst (λ (cut : List (Outline E × List (Outline E))). IsFilling answers most cut seen) cut_is filled.filling;
+        front_is = front_is;
+        last_is = last_is;
+      }
+
+  -- a lookup joins the last column
+  pub joined_column : (seen front after : List (Outline E)) (last next : Outline E) → HasLast seen front last
+      → ((n : ℕ) × answers (trial last next) (Ok n) × (n ≤ most)) → last.count_weight + next.count_weight < weight_bound
+      → after ≡ front ++ record (trial last next) { count_weight = last.count_weight + next.count_weight } ∷ [] → AreColumns (seen ++ next ∷ []) after
+  joined_column seen front after last next has low small after_is =
+      let joins : Joins answers most has.part next = subst (λ (o : Outline E). ((n : ℕ) × answers (trial o next) (Ok n) × (n ≤ most)) × (o.count_weight + next.count_weight < weight_bound)) (sym has.last_is) (low, small) in
+      record {
+        cut = has.parts ++ with_next has.part next ∷ [];
+        filling = (
+          items_more has.parts has.part next ∙ ap (λ t. t ++ next ∷ []) has.filling.0,
+          (all_grown_more (Joins answers most) has.parts has.part next has.filling.1.0 joins, closed_more (IsAbove answers most) has.parts has.part next has.filling.1.1),
+        );
+        columns_are =
+            after_is
+            ∙ (λ i. sym has.front_is i ++ record (trial (sym has.last_is i) next) { count_weight = (sym has.last_is i).count_weight + next.count_weight } ∷ [])
+            ∙ ap (λ o. map joined has.parts ++ o ∷ []) (sym (joined_more has.part next))
+            ∙ sym (map-append joined has.parts (with_next has.part next ∷ []));
+      }
+
+  -- a lookup opens a column behind the last one
+  pub next_column : (seen columns front after : List (Outline E)) (last next : Outline E) → HasLast seen front last → columns ≡ front ++ last ∷ []
+      → ((n : ℕ) × answers (trial last next) (Ok n) × (most < n)) → after ≡ columns ++ next ∷ [] → AreColumns (seen ++ next ∷ []) after
+  next_column seen columns front after last next has is high after_is =
+      let stays : IsAbove answers most has.part next = subst (λ (o : Outline E). (n : ℕ) × answers (trial o next) (Ok n) × (most < n)) (sym has.last_is) high in
+      let so_far : map joined (has.parts ++ has.part ∷ []) ≡ columns = map-append joined has.parts (has.part ∷ []) ∙ (λ i. has.front_is i ++ has.last_is i ∷ []) ∙ sym is in
+      record {
+        cut = (has.parts ++ has.part ∷ []) ++ (next, []) ∷ [];
+        filling = (
+          items_next (has.parts ++ has.part ∷ []) next ∙ ap (λ t. t ++ next ∷ []) has.filling.0,
+          (all_grown_next (Joins answers most) (has.parts ++ has.part ∷ []) next has.filling.1.0, closed_next (IsAbove answers most) has.parts has.part next has.filling.1.1 stays),
+        );
+        columns_are =
+            after_is
+            ∙ (λ i. sym so_far i ++ sym (joined_one next) i ∷ [])
+            ∙ sym (map-append joined (has.parts ++ has.part ∷ []) ((next, []) ∷ []));
+      }
+
+  -- the filling comes to a trial that is refused
+  pub stuck_at : (members seen front rest : List (Outline E)) (last next : Outline E) (e : LookupError) → HasLast seen front last → seen ++ next ∷ rest ≡ members
+      → (answers (trial last next) (Err e) ⊎ ((e ≡ CountWeightOverflow) × ((n : ℕ) × answers (trial last next) (Ok n) × (n ≤ most)) × (weight_bound ≤ last.count_weight + next.count_weight)))
+      → IsStuck answers most members e
+  stuck_at members seen front rest last next e has all refusal = record {
+    closed = has.parts;
+    part = has.part;
+    next = next;
+    rest = rest;
+    members_are = sym all ∙ ap (λ t. t ++ next ∷ rest) (sym has.filling.0);
+    greedy = has.filling.1;
+    refusal = subst (λ (o : Outline E). answers (trial o next) (Err e) ⊎ ((e ≡ CountWeightOverflow) × ((n : ℕ) × answers (trial o next) (Ok n) × (n ≤ most)) × (weight_bound ≤ o.count_weight + next.count_weight))) (sym has.last_is) refusal;
+  }

@@ -1,0 +1,191 @@
+-- Groups of lookups, lookup by lookup.
+use Rattle.std.proofs.Common.{◌≡◌, ◌<◌, ◌+◌, ℕ, length, get_or, take, Bool, true, false, cond, ◌||◌, unwrap_or, List, [], ◌∷◌, ◌++◌, Option, None, Some, map, option_map, nat_eq, refl, sym, ap, ◌∙◌, true≢false, Decides}
+use Rattle.std.proofs.lemmas.Bool.Decides.{Decides-eqb}
+use Rattle.std.proofs.lemmas.List.{append-nil, map-append}
+use Rattle.std.proofs.lemmas.List.Elements.{filter-append, filter_map-append}
+use Rattle.std.proofs.lemmas.Slice.Eq.{slice_eq-Decides}
+use Rattle.std.specs.Cmp.Lexicographic.{pointwise}
+use Rattle.std.specs.List.{cons_option, filter_map, list_any}
+use Rattle.std.specs.Map.{lookup}
+use Rattle.std.specs.Option.{option_map_or}
+use Rattle.std.specs.declared.alloc.Global.{Global}
+use Rattle.std.specs.Borrow.{Bor}
+use Rattle.std.specs.String.{string_bytes}
+use Rattle.std.specs.declared.string.String.{String}
+use Rattle.std.specs.declared.vec.Vec.{Vec}
+use Rattle.expressions.specs.declared.base_expression.SymbolicExpression.{SymbolicExpression}
+use Rattle.indexmap.specs.IndexMap.{insert_entry}
+use Rattle.lookup_model.proofs.Lookups.Regrouping.{first_seen_separate}
+use Rattle.lookup_model.specs.Net.{first_seen}
+use Rattle.lookup_model.specs.Outline.{Outline, bus_of, fields_of}
+use Rattle.lookup_nets.proofs.FirstSeen.{first_seen-push}
+use Rattle.lookup_nets.proofs.NetEntries.{any-first_seen, insert-valued, lookup-valued, mapped-more, turned}
+use Rattle.lookup_model.specs.declared.types.Lookup.{Lookup}
+use Rattle.lookup.specs.Buses.{bus_groups, bus_names, group_of, is_named, on_bus, owned_group, owned_group_of, same_name}
+
+-- the test of names decides their equality
+pub same_name-Decides : (a b : List ℕ) → Decides (same_name a b) (a ≡ b)
+same_name-Decides a b = slice_eq-Decides Decides-eqb a b (pointwise nat_eq a b) refl
+
+module _ {E : Type 0} where
+  names : List (Outline E) → List (List ℕ)
+  names os = filter_map (λ o. o.bus) os
+
+  -- a name that no lookup has has no lookups
+  on_bus-none : (name : List ℕ) (os : List (Outline E)) → list_any (λ other. same_name other name) (filter_map (λ o. o.bus) os) ≡ false → on_bus name os ≡ []
+  on_bus-none name [] e = refl
+  on_bus-none name (o ∷ os) e = by_bus o.bus e (on_bus-none name os)
+    where
+      by_bus : (bus : Option (List ℕ)) → list_any (λ other. same_name other name) (cons_option bus (filter_map (λ o. o.bus) os)) ≡ false
+          → (list_any (λ other. same_name other name) (filter_map (λ o. o.bus) os) ≡ false → on_bus name os ≡ []) → cond (is_named name bus) (o ∷ on_bus name os) (on_bus name os) ≡ []
+      by_bus None h rest = rest h
+      by_bus (Some other) h rest = by_test (same_name other name) refl h
+        where
+          by_test : (p : Bool) → same_name other name ≡ p → (p || list_any (λ m. same_name m name) (filter_map (λ o. o.bus) os)) ≡ false → cond (same_name name other) (o ∷ on_bus name os) (on_bus name os) ≡ []
+          by_test true f g = absurd (true≢false g)
+          by_test false f g = ap (λ b. cond b (o ∷ on_bus name os) (on_bus name os)) (turned same_name same_name-Decides name other ∙ f) ∙ rest g
+
+  -- what the groups have at a name, or nothing, are its lookups
+  groups-lookup : (name : List ℕ) (os : List (Outline E)) → option_map_or (λ t. t) (lookup (same_name name) (bus_groups os)) [] ≡ on_bus name os
+  groups-lookup name os =
+      ap (λ t. option_map_or (λ s. s) t []) (lookup-valued same_name same_name-Decides (λ n. on_bus n os) name (bus_names os)
+      ∙ ap (λ b. cond b (Some (on_bus name os)) None) (any-first_seen same_name same_name-Decides (filter_map (λ o. o.bus) os) name))
+      ∙ by_test (list_any (λ other. same_name other name) (filter_map (λ o. o.bus) os)) refl
+    where
+      by_test : (p : Bool) → list_any (λ other. same_name other name) (filter_map (λ o. o.bus) os) ≡ p → option_map_or (λ t. t) (cond p (Some (on_bus name os)) None) [] ≡ on_bus name os
+      by_test true e = refl
+      by_test false e = sym (on_bus-none name os e)
+
+  on_bus-push : (name : List ℕ) (os : List (Outline E)) (o : Outline E) → on_bus name (os ++ o ∷ []) ≡ on_bus name os ++ cond (is_named name o.bus) (o ∷ []) []
+  on_bus-push name os o = filter-append (λ (p : Outline E). is_named name p.bus) os (o ∷ [])
+
+  -- a lookup on no bus changes no group
+  pub groups-skip : (os : List (Outline E)) (o : Outline E) → o.bus ≡ None → bus_groups (os ++ o ∷ []) ≡ bus_groups os
+  groups-skip os o local = by_names
+    where
+      same_names : filter_map (λ (p : Outline E). p.bus) (os ++ o ∷ []) ≡ filter_map (λ (p : Outline E). p.bus) os
+      same_names = filter_map-append (λ (p : Outline E). p.bus) os (o ∷ []) ∙ ap (λ (b : Option (List ℕ)). filter_map (λ (p : Outline E). p.bus) os ++ cons_option b []) local ∙ append-nil (filter_map (λ (p : Outline E). p.bus) os)
+
+      same_lookups : (name : List ℕ) → on_bus name (os ++ o ∷ []) ≡ on_bus name os
+      same_lookups name = on_bus-push name os o ∙ ap (λ b. on_bus name os ++ cond (is_named name b) (o ∷ []) []) local ∙ append-nil (on_bus name os)
+
+      same_groups : (ns : List (List ℕ)) → map {B = List ℕ × List (Outline E)} (λ n. (n, on_bus n (os ++ o ∷ []))) ns ≡ map (λ n. (n, on_bus n os)) ns
+      same_groups [] = refl
+      same_groups (n ∷ ns) = λ i. (n, same_lookups n i) ∷ same_groups ns i
+
+      by_names : bus_groups (os ++ o ∷ []) ≡ bus_groups os
+      by_names = ap (λ ns. map (λ n. (n, on_bus n (os ++ o ∷ []))) (first_seen same_name ns)) same_names ∙ same_groups (bus_names os)
+
+  -- a lookup on a bus goes to the end of its group, and a new group goes last
+  pub groups-push : (os : List (Outline E)) (o : Outline E) (name : List ℕ) → o.bus ≡ Some name
+      → insert_entry same_name (bus_groups os) name (option_map_or (λ t. t) (lookup (same_name name) (bus_groups os)) [] ++ o ∷ []) ≡ bus_groups (os ++ o ∷ [])
+  groups-push os o name on =
+      ap (λ t. insert_entry same_name (bus_groups os) name (t ++ o ∷ [])) (groups-lookup name os)
+      ∙ ap (insert_entry same_name (bus_groups os) name) (sym own)
+      ∙ insert-valued same_name same_name-Decides (λ n. on_bus n os) (λ n. on_bus n (os ++ o ∷ [])) name others (bus_names os) (first_seen_separate same_name (filter_map (λ p. p.bus) os))
+      ∙ ap (map (λ n. (n, on_bus n (os ++ o ∷ [])))) (
+      ap (λ b. cond b (bus_names os) (bus_names os ++ name ∷ [])) (any-first_seen same_name same_name-Decides (filter_map (λ p. p.bus) os) name)
+      ∙ sym (first_seen-push same_name same_name-Decides (filter_map (λ p. p.bus) os) name)
+      ∙ ap (first_seen same_name) (sym longer))
+    where
+      longer : filter_map (λ (p : Outline E). p.bus) (os ++ o ∷ []) ≡ filter_map (λ (p : Outline E). p.bus) os ++ name ∷ []
+      longer = filter_map-append (λ (p : Outline E). p.bus) os (o ∷ []) ∙ ap (λ (b : Option (List ℕ)). filter_map (λ (p : Outline E). p.bus) os ++ cons_option b []) on
+
+      at : (n : List ℕ) → on_bus n (os ++ o ∷ []) ≡ on_bus n os ++ cond (same_name n name) (o ∷ []) []
+      at n = on_bus-push n os o ∙ ap (λ b. on_bus n os ++ cond (is_named n b) (o ∷ []) []) on
+
+      own : on_bus name (os ++ o ∷ []) ≡ on_bus name os ++ o ∷ []
+      own = at name ∙ ap (λ b. on_bus name os ++ cond b (o ∷ []) []) ((same_name-Decides name name).1 refl)
+
+      others : (n : List ℕ) → same_name name n ≡ false → on_bus n os ≡ on_bus n (os ++ o ∷ [])
+      others n apart = sym (at n ∙ ap (λ b. on_bus n os ++ cond b (o ∷ []) []) (turned same_name same_name-Decides n name ∙ apart) ∙ append-nil (on_bus n os))
+
+-- a map whose keys and values are seen through views
+module _ {K V X : Type 0} (key : K → List ℕ) (items : V → List X) where
+  abbrev pub viewed : List (K × V) → List (List ℕ × List X)
+  viewed es = map (λ e. (key e.0, items e.1)) es
+
+  pub lookup-viewed : (k : K) (es : List (K × V)) → option_map items (lookup (λ j. same_name (key k) (key j)) es) ≡ lookup (same_name (key k)) (viewed es)
+  lookup-viewed k [] = refl
+  lookup-viewed k (e ∷ es) = by_test (same_name (key k) (key e.0)) (lookup-viewed k es)
+    where
+      by_test : (p : Bool) → option_map items (lookup (λ j. same_name (key k) (key j)) es) ≡ lookup (same_name (key k)) (viewed es)
+          → option_map items (cond p (Some e.1) (lookup (λ j. same_name (key k) (key j)) es)) ≡ cond p (Some (items e.1)) (lookup (same_name (key k)) (viewed es))
+      by_test true rest = refl
+      by_test false rest = rest
+
+  pub insert-viewed : (es : List (K × V)) (k : K) (v : V) → viewed (insert_entry (λ i j. same_name (key i) (key j)) es k v) ≡ insert_entry same_name (viewed es) (key k) (items v)
+  insert-viewed [] k v = refl
+  insert-viewed (e ∷ es) k v = by_test (same_name (key k) (key e.0)) (insert-viewed es k v)
+    where
+      by_test : (p : Bool) → viewed (insert_entry (λ i j. same_name (key i) (key j)) es k v) ≡ insert_entry same_name (viewed es) (key k) (items v)
+          → viewed (cond p ((e.0, v) ∷ es) (e ∷ insert_entry (λ i j. same_name (key i) (key j)) es k v)) ≡ cond p ((key e.0, items v) ∷ viewed es) ((key e.0, items e.1) ∷ insert_entry same_name (viewed es) (key k) (items v))
+      by_test true rest = refl
+      by_test false rest = ap (λ t. (key e.0, items e.1) ∷ t) rest
+
+-- The step of a map of groups: one more lookup at its key.
+module _ {E K V : Type 0} (key : K → List ℕ) (items : V → List (Outline E)) where
+  pub one_more : (os : List (Outline E)) (o : Outline E) (es : List (K × V)) (k : K) (group : V)
+      → viewed key items es ≡ bus_groups os → o.bus ≡ Some (key k)
+      → items group ≡ option_map_or items (lookup (λ j. same_name (key k) (key j)) es) [] ++ o ∷ []
+      → viewed key items (insert_entry (λ i j. same_name (key i) (key j)) es k group) ≡ bus_groups (os ++ o ∷ [])
+  one_more os o es k group so_far on group_is =
+      insert-viewed key items es k group
+      ∙ (λ i. insert_entry same_name (so_far i) (key k) ((group_is ∙ ap (λ t. t ++ o ∷ []) found) i))
+      ∙ groups-push os o (key k) on
+    where
+      mapped : (t : Option V) → option_map_or items t [] ≡ option_map_or (λ (s : List (Outline E)). s) (option_map items t) []
+      mapped None = refl
+      mapped (Some v) = refl
+
+      found : option_map_or items (lookup (λ j. same_name (key k) (key j)) es) [] ≡ option_map_or (λ t. t) (lookup (same_name (key k)) (bus_groups os)) []
+      found = mapped (lookup (λ j. same_name (key k) (key j)) es) ∙ ap (λ t. option_map_or (λ s. s) t []) (lookup-viewed key items k es ∙ ap (lookup (same_name (key k))) so_far)
+
+-- the group that a map has at a key, or an empty one
+pub group_items : {T : Type 0} (found : Option (Vec T Global)) (group empty : Vec T Global) → group ≡ unwrap_or found empty → empty.items ≡ [] → group.items ≡ option_map_or (λ v. v.items) found []
+group_items None group empty is none = ap (λ v. v.items) is ∙ none
+group_items (Some v) group empty is none = ap (λ v. v.items) is
+
+-- what is seen of a group with one more item
+seen_items : {T X : Type 0} (see : T → X) (found : Option (Vec T Global)) (item : T) (group : Vec T Global) → group.items ≡ option_map_or (λ v. v.items) found [] ++ item ∷ [] → map see group.items ≡ option_map_or (λ v. map see v.items) found [] ++ see item ∷ []
+seen_items see None item group is = ap (map see) is
+seen_items see (Some v) item group is = ap (map see) is ∙ map-append see v.items (item ∷ [])
+
+module _ {F : Type 0} where
+  -- a map of borrowed lookups with one more of them
+  pub borrowed_more : (ls : List (Lookup F)) (i : ℕ) (l : Lookup F) (es after : List (Bor (List ℕ) × Vec (Bor (Lookup F)) Global)) (k : Bor (List ℕ)) (r : Bor (Lookup F)) → i < length ls → l ≡ get_or ls i l
+      → map group_of es ≡ bus_groups (map fields_of (take i ls)) → r.now ≡ l → bus_of l.kind ≡ Some k.now
+      → ((group : Vec (Bor (Lookup F)) Global) × (group.items ≡ option_map_or (λ found. found.items) (lookup (λ j. same_name k.now j.now) es) [] ++ r ∷ []) × (after ≡ insert_entry (λ a b. same_name a.now b.now) es k group))
+      → map group_of after ≡ bus_groups (map fields_of (take (i + 1) ls))
+  borrowed_more ls i l es after k r lt is so_far item on added =
+      let see : Bor (Lookup F) → Outline (SymbolicExpression F) = λ x. fields_of x.now in
+      let (group, items, after_is) = added in
+      ap (map group_of) after_is
+      ∙ one_more (λ (b : Bor (List ℕ)). b.now) (λ (v : Vec (Bor (Lookup F)) Global). map see v.items) (map fields_of (take i ls)) (fields_of l) es k group so_far on
+      (seen_items see (lookup (λ j. same_name k.now j.now) es) r group items ∙ ap (λ x. option_map_or (λ v. map see v.items) (lookup (λ j. same_name k.now j.now) es) [] ++ fields_of x ∷ []) item)
+      ∙ ap bus_groups (sym (mapped-more fields_of ls i l lt is))
+
+  -- a lookup on no bus changes no group
+  pub borrowed_skip : (ls : List (Lookup F)) (i : ℕ) (l : Lookup F) (es : List (Bor (List ℕ) × Vec (Bor (Lookup F)) Global)) → i < length ls → l ≡ get_or ls i l
+      → map group_of es ≡ bus_groups (map fields_of (take i ls)) → bus_of l.kind ≡ None → map group_of es ≡ bus_groups (map fields_of (take (i + 1) ls))
+  borrowed_skip ls i l es lt is so_far off =
+      so_far ∙ sym (groups-skip (map fields_of (take i ls)) (fields_of l) off) ∙ ap bus_groups (sym (mapped-more fields_of ls i l lt is))
+
+  -- a map of owned lookups with one more of them
+  pub owned_more : (os : List (Outline (SymbolicExpression F))) (l : Lookup F) (es after : List (String Global × Vec (Lookup F) Global)) (k : String Global)
+      → map owned_group_of es ≡ bus_groups os → bus_of l.kind ≡ Some (string_bytes k)
+      → ((group : Vec (Lookup F) Global) × (group.items ≡ option_map_or (λ found. found.items) (lookup (λ j. same_name (string_bytes k) (string_bytes j)) es) [] ++ l ∷ []) × (after ≡ insert_entry (λ a b. same_name (string_bytes a) (string_bytes b)) es k group))
+      → map owned_group_of after ≡ bus_groups (os ++ fields_of l ∷ [])
+  owned_more os l es after k so_far on added =
+      let (group, items, after_is) = added in
+      ap (map owned_group_of) after_is
+      ∙ one_more (λ (b : String Global). string_bytes b) (λ (v : Vec (Lookup F) Global). map fields_of v.items) os (fields_of l) es k group so_far on
+      (seen_items fields_of (lookup (λ j. same_name (string_bytes k) (string_bytes j)) es) l group items)
+
+-- the groups of a map without their names
+pub groups_only : {F : Type 0} (es : List (String Global × Vec (Lookup F) Global)) (gs : List (List ℕ × List (Outline (SymbolicExpression F)))) → map owned_group_of es ≡ gs → map owned_group (map (λ e. e.1) es) ≡ map (λ g. g.1) gs
+groups_only {F} es gs is = both es ∙ ap (map (λ g. g.1)) is
+  where
+    both : (xs : List (String Global × Vec (Lookup F) Global)) → map owned_group (map (λ e. e.1) xs) ≡ map (λ g. g.1) (map owned_group_of xs)
+    both [] = refl
+    both (x ∷ xs) = ap (λ t. owned_group x.1 ∷ t) (both xs)

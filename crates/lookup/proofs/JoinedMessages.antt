@@ -1,0 +1,111 @@
+-- What joined lookups send is what their members send.
+use Rattle.std.proofs.Common.{◌≡◌, ℕ, Bool, true, ◌&&◌, not, List, [], ◌∷◌, ◌++◌, Option, None, Some, Result, map, refl, sym, ap, subst, ◌∙◌}
+use Rattle.std.proofs.lemmas.Bool.{false≢true}
+use Rattle.std.proofs.lemmas.Grind.{flat_map-append}
+use Rattle.std.proofs.lemmas.List.{map-append}
+use Rattle.std.specs.List.{AllByRecursion, flat_map, zip}
+use Rattle.std.specs.Option.{is_some, option_map, option_map_or}
+use Rattle.field.specs.Ring.{Ring}
+use Rattle.expressions.specs.Window.{Window}
+use Rattle.expressions.specs.declared.base_expression.SymbolicExpression.{SymbolicExpression}
+use Rattle.lookup_model.specs.Message.{Message}
+use Rattle.lookup_model.specs.Outline.{Outline, fields_of}
+use Rattle.lookup_model.specs.Sent.{branch_at, sent, sent_at, values}
+use Rattle.lookup_model.specs.declared.error.LookupError.{LookupError}
+use Rattle.lookup_model.specs.declared.types.Lookup.{Lookup}
+use Rattle.lookup.specs.Buses.{is_named, on_bus}
+use Rattle.lookup.specs.Cuts.{part_items}
+use Rattle.lookup.specs.Packing.{AreFilled, additive, is_additive, joined}
+use Rattle.lookup.proofs.FewestColumns.{IsOn, members_on}
+use Rattle.lookup.specs.TrialDegrees.{IsPlain}
+use Rattle.lookup.proofs.GroupLaws.{same_name-Decides}
+use Rattle.lookup.proofs.ListLaws.{all_back, all_front}
+use Rattle.lookup.proofs.ZippedLists.{zip-append, zip_mapped}
+
+-- a map of a mapped option
+pub option_mapped : {A B C : Type 0} (f : A → B) (g : B → C) (o : Option A) → option_map (λ x. g (f x)) o ≡ option_map g (option_map f o)
+option_mapped f g None = refl
+option_mapped f g (Some x) = refl
+
+-- the id of a bus by its name, and 0 without one
+abbrev pub own_id : {E : Type 0} → (List ℕ → ℕ) → Outline E → ℕ
+own_id bus_id o = option_map_or bus_id o.bus 0
+
+-- an additive lookup has a bus and no flags
+pub on_some_bus : {E : Type 0} (o : Outline E) → is_additive o ≡ true → (name : List ℕ) × (o.bus ≡ Some name) × (o.flags ≡ None)
+on_some_bus o e = by_fields o.bus o.flags e
+  where
+    by_fields : {A : Type 0} (bus : Option (List ℕ)) (flags : Option A) → (is_some bus && not (is_some flags)) ≡ true → (name : List ℕ) × (bus ≡ Some name) × (flags ≡ None)
+    by_fields None flags h = absurd (false≢true h)
+    by_fields (Some name) None h = (name, refl, refl)
+    by_fields (Some name) (Some x) h = absurd (false≢true h)
+
+own_named : (bus_id : List ℕ → ℕ) (name : List ℕ) (bus : Option (List ℕ)) → is_named name bus ≡ true → option_map_or bus_id bus 0 ≡ bus_id name
+own_named bus_id name None e = absurd (false≢true e)
+own_named bus_id name (Some other) e = ap bus_id (sym ((same_name-Decides name other).0 e))
+
+module _ {F : Type 0} (R : Ring F) (eq : F → F → Bool) (w : Window F) where
+  -- the branches of a lookup by its fields, and the messages that it sends
+  abbrev pub branches_of : ℕ → Outline (SymbolicExpression F) → List (Message F)
+  branches_of id o = map (λ b. branch_at R w id b.0 b.1) (zip o.elements o.multiplicities)
+
+  abbrev pub messages_of : ℕ → Outline (SymbolicExpression F) → List (Message F)
+  messages_of id o = (sent R eq (option_map (values R w) o.flags) (branches_of id o)).messages
+
+  pub seen_messages : (id : ℕ) (l : Lookup F) → (sent_at R eq w id l).messages ≡ messages_of id (fields_of l)
+  seen_messages id l = λ i. (sent R eq (option_mapped (λ flags. flags.items) (values R w) l.flags i) (zip_mapped (λ tuple. tuple.items) (branch_at R w id) l.elements.items l.multiplicities.items i)).messages
+
+  branches_joined : (id : ℕ) (os : List (Outline (SymbolicExpression F))) → AllByRecursion IsPlain os
+      → map (λ b. branch_at R w id b.0 b.1) (zip (flat_map (λ o. o.elements) os) (flat_map (λ o. o.multiplicities) os)) ≡ flat_map (branches_of id) os
+  branches_joined id [] plain = refl
+  branches_joined id (o ∷ os) plain =
+      ap (map (λ b. branch_at R w id b.0 b.1)) (zip-append o.elements (flat_map (λ p. p.elements) os) o.multiplicities (flat_map (λ p. p.multiplicities) os) (plain.0).lengths)
+      ∙ map-append (λ b. branch_at R w id b.0 b.1) (zip o.elements o.multiplicities) (zip (flat_map (λ p. p.elements) os) (flat_map (λ p. p.multiplicities) os))
+      ∙ ap (λ t. branches_of id o ++ t) (branches_joined id os plain.1)
+
+  module _ (bus_id : List ℕ → ℕ) where
+    -- what a lookup sends under the id of its bus
+    abbrev pub own_messages : Outline (SymbolicExpression F) → List (Message F)
+    own_messages o = messages_of (own_id bus_id o) o
+
+    -- a lookup without flags sends its branches
+    all_branches : (name : List ℕ) (o : Outline (SymbolicExpression F)) → o.flags ≡ None → is_named name o.bus ≡ true → own_messages o ≡ branches_of (bus_id name) o
+    all_branches name o none named =
+        ap (λ flags. (sent R eq (option_map (values R w) flags) (branches_of (own_id bus_id o) o)).messages) none
+        ∙ ap (λ id. branches_of id o) (own_named bus_id name o.bus named)
+
+    members_branches : (name : List ℕ) (os : List (Outline (SymbolicExpression F))) → AllByRecursion IsPlain os → AllByRecursion (IsOn name) os → flat_map own_messages os ≡ flat_map (branches_of (bus_id name)) os
+    members_branches name [] plain on = refl
+    members_branches name (o ∷ os) plain on = λ i. all_branches name o (plain.0).no_flags (on.0).named i ++ members_branches name os plain.1 on.1 i
+
+    -- a part sends what its members send
+    part_messages : (name : List ℕ) (part : Outline (SymbolicExpression F) × List (Outline (SymbolicExpression F))) → AllByRecursion IsPlain (part_items part) → AllByRecursion (IsOn name) (part_items part)
+        → own_messages (joined part) ≡ flat_map own_messages (part_items part)
+    part_messages name part plain on =
+        all_branches name (joined part) (plain.0).no_flags (on.0).named
+        ∙ branches_joined (bus_id name) (part_items part) plain
+        ∙ sym (members_branches name (part_items part) plain on)
+
+    -- so do all parts of a cut
+    cut_messages : (name : List ℕ) (cut : List (Outline (SymbolicExpression F) × List (Outline (SymbolicExpression F)))) → AllByRecursion IsPlain (flat_map part_items cut) → AllByRecursion (IsOn name) (flat_map part_items cut)
+        → flat_map own_messages (map joined cut) ≡ flat_map own_messages (flat_map part_items cut)
+    cut_messages name [] plain on = refl
+    cut_messages name (p ∷ ps) plain on =
+        (λ i.
+        part_messages name p (all_front IsPlain (part_items p) (flat_map part_items ps) plain) (all_front (IsOn name) (part_items p) (flat_map part_items ps) on) i
+        ++ cut_messages name ps (all_back IsPlain (part_items p) (flat_map part_items ps) plain) (all_back (IsOn name) (part_items p) (flat_map part_items ps) on) i)
+        ∙ sym (flat_map-append own_messages (part_items p) (flat_map part_items ps))
+
+    -- the columns of all buses send what the lookups on them send
+    pub columns_messages : (answers : Outline (SymbolicExpression F) → Result ℕ LookupError → Type 0) (most : ℕ) (os : List (Outline (SymbolicExpression F))) (names : List (List ℕ)) (cuts : List (List (Outline (SymbolicExpression F) × List (Outline (SymbolicExpression F)))))
+        → ((name : List ℕ) → AllByRecursion IsPlain (on_bus name (additive os))) → AreFilled answers most (additive os) names cuts
+        → flat_map own_messages (flat_map (λ cut. map joined cut) cuts) ≡ flat_map (λ name. flat_map own_messages (on_bus name (additive os))) names
+    columns_messages answers most os [] [] plain filled = refl
+    columns_messages answers most os [] (c ∷ cs) plain filled = absurd filled
+    columns_messages answers most os (n ∷ ns) [] plain filled = absurd filled
+    columns_messages answers most os (n ∷ ns) (c ∷ cs) plain filled =
+        let is = filled.0.0 in
+        let plain_here = subst (λ (t : List (Outline (SymbolicExpression F))). AllByRecursion IsPlain t) (sym is) (plain n) in
+        let on_here = subst (λ (t : List (Outline (SymbolicExpression F))). AllByRecursion (IsOn n) t) (sym is) (members_on n os) in
+        flat_map-append own_messages (map joined c) (flat_map (λ cut. map joined cut) cs)
+        ∙ (λ i. (cut_messages n c plain_here on_here ∙ ap (flat_map own_messages) is) i ++ columns_messages answers most os ns cs plain filled.1 i)

@@ -1,0 +1,254 @@
+-- A packing keeps the weight, the messages and the nets.
+use Rattle.std.proofs.Common.{◌≡◌, ◌+◌, ℕ, Bool, true, false, cond, not, List, [], ◌∷◌, ◌++◌, Option, None, Result, map, All, refl, sym, ap, subst, ◌∙◌, arith}
+use Rattle.std.proofs.lemmas.List.{append-nil}
+use Rattle.std.proofs.lemmas.List.Elements.{filter-append}
+use Rattle.std.proofs.lemmas.List.Folds.{flat_map-map}
+use Rattle.std.proofs.lemmas.List.Sorted.{IsPermutation-append, IsPermutation-append_left, IsPermutation-filter_both, IsPermutation-refl, IsPermutation-sym, IsPermutation-trans, sum_by-IsPermutation}
+use Rattle.std.proofs.lemmas.List.Sums.{sum_by-append, sum_by-cons}
+use Rattle.std.specs.List.{AllByRecursion, filter, filter_map, flat_map, range_with_len, sum_by, zip}
+use Rattle.std.specs.List.Sorted.{IsPermutation}
+use Rattle.std.specs.Option.{is_some, option_map_or}
+use Rattle.field.specs.Ring.{IsCommutativeRing, Ring}
+use Rattle.matrix.specs.Matrix.{Matrix, height}
+use Rattle.expressions.specs.Window.{Window, window_at}
+use Rattle.expressions.specs.declared.base_expression.SymbolicExpression.{SymbolicExpression}
+use Rattle.lookup_model.proofs.Lookups.Regrouping.{filter_passes, first_seen_separate}
+use Rattle.lookup_model.specs.Message.{Key, Message, same_key}
+use Rattle.lookup_model.specs.Net.{net}
+use Rattle.lookup_model.specs.Outline.{Outline, bus_of, fields_of}
+use Rattle.lookup_model.specs.Plain.{trace_messages}
+use Rattle.lookup_model.specs.Records.{HasEqualLengths}
+use Rattle.lookup_model.specs.Sent.{sent_at}
+use Rattle.lookup_model.specs.Trace.{sent_row_under, sent_rows_under}
+use Rattle.lookup_model.specs.declared.error.LookupError.{LookupError}
+use Rattle.lookup_model.specs.declared.types.Lookup.{Lookup}
+use Rattle.lookup.specs.Buses.{bus_names, on_bus, same_name}
+use Rattle.lookup.specs.Cuts.{part_items}
+use Rattle.lookup.specs.Kept.{HasIdOfBus, HaveSameIds, KeepsMessages, KeepsNets, KeepsWeight, other_ids, row_messages}
+use Rattle.lookup.specs.Packing.{AreFilled, IsPacking, additive, is_additive, joined, numbered_from, passing}
+use Rattle.lookup.proofs.FewestColumns.{IsOn, members_on, none_additive}
+use Rattle.lookup.proofs.JoinedMessages.{columns_messages, messages_of, own_messages, seen_messages, on_some_bus}
+use Rattle.lookup.proofs.ListLaws.{all_back, all_both}
+use Rattle.lookup.proofs.Rearranged.{among_names, grouped, parted}
+use Rattle.lookup.proofs.RearrangedSums.{sum_in-passing, sum_in-permutation}
+use Rattle.lookup.proofs.StepLaws.{no_flags_of, plain_on}
+
+module _ {A : Type 0} (p : A → Bool) where
+  -- all items pass, or none does
+  filter_all : (xs : List A) → AllByRecursion (λ x. p x ≡ true) xs → filter p xs ≡ xs
+  filter_all [] all = refl
+  filter_all (x ∷ xs) all = ap (λ b. cond b (x ∷ filter p xs) (filter p xs)) all.0 ∙ ap (λ t. x ∷ t) (filter_all xs all.1)
+
+  filter_none : (xs : List A) → AllByRecursion (λ x. p x ≡ false) xs → filter p xs ≡ []
+  filter_none [] all = refl
+  filter_none (x ∷ xs) all = ap (λ b. cond b (x ∷ filter p xs) (filter p xs)) all.0 ∙ filter_none xs all.1
+
+  others_none : (xs : List A) → AllByRecursion (λ x. p x ≡ true) xs → filter (λ x. not (p x)) xs ≡ []
+  others_none [] all = refl
+  others_none (x ∷ xs) all = ap (λ b. cond (not b) (x ∷ filter (λ y. not (p y)) xs) (filter (λ y. not (p y)) xs)) all.0 ∙ others_none xs all.1
+
+  filter_again : (xs : List A) → filter p (filter p xs) ≡ filter p xs
+  filter_again xs = filter_all (filter p xs) (filter_passes p xs)
+
+-- what is seen of the items that pass a test of what is seen
+filter_seen : {A B : Type 0} (see : A → B) (p : B → Bool) (xs : List A) → map see (filter (λ x. p (see x)) xs) ≡ filter p (map see xs)
+filter_seen see p [] = refl
+filter_seen see p (x ∷ xs) = by_test (p (see x)) (filter_seen see p xs)
+  where
+    by_test : (b : Bool) → map see (filter (λ y. p (see y)) xs) ≡ filter p (map see xs) → map see (cond b (x ∷ filter (λ y. p (see y)) xs) (filter (λ y. p (see y)) xs)) ≡ cond b (see x ∷ filter p (map see xs)) (filter p (map see xs))
+    by_test true rest = ap (λ t. see x ∷ t) rest
+    by_test false rest = rest
+
+module _ {E : Type 0} where
+  -- a lookup without the number of its column
+  abbrev unnumbered : Outline E → Outline E
+  unnumbered o = record o { column = 0 }
+
+  unnumbered_all : (n : ℕ) (os : List (Outline E)) → map unnumbered (numbered_from n os) ≡ map unnumbered os
+  unnumbered_all n [] = refl
+  unnumbered_all n (o ∷ os) = ap (λ t. unnumbered o ∷ t) (unnumbered_all (n + 1) os)
+
+  -- numbers of columns do not matter to which lookups pass a test that does not see them
+  numbers_apart : (p : Outline E → Bool) → ((o : Outline E) → p (unnumbered o) ≡ p o) → (os : List (Outline E)) → map unnumbered (filter p os) ≡ filter p (map unnumbered os)
+  numbers_apart p same [] = refl
+  numbers_apart p same (o ∷ os) = by_test (p o) (numbers_apart p same os) ∙ ap (λ b. cond b (unnumbered o ∷ filter p (map unnumbered os)) (filter p (map unnumbered os))) (sym (same o))
+    where
+      by_test : (b : Bool) → map unnumbered (filter p os) ≡ filter p (map unnumbered os) → map unnumbered (cond b (o ∷ filter p os) (filter p os)) ≡ cond b (unnumbered o ∷ filter p (map unnumbered os)) (filter p (map unnumbered os))
+      by_test true rest = ap (λ t. unnumbered o ∷ t) rest
+      by_test false rest = rest
+
+  -- the columns of all buses may be joined further
+  cut_additive : (name : List ℕ) (cut : List (Outline E × List (Outline E))) → AllByRecursion (IsOn name) (flat_map part_items cut) → AllByRecursion (λ o. is_additive o ≡ true) (map joined cut)
+  cut_additive name [] on = tt
+  cut_additive name (p ∷ ps) on = ((on.0).joins, cut_additive name ps (all_back (IsOn name) (part_items p) (flat_map part_items ps) on))
+
+  module _ (answers : Outline E → Result ℕ LookupError → Type 0) (most : ℕ) (before : List (Outline E)) where
+    columns_additive : (names : List (List ℕ)) (cuts : List (List (Outline E × List (Outline E)))) → AreFilled answers most (additive before) names cuts → AllByRecursion (λ o. is_additive o ≡ true) (flat_map (λ cut. map joined cut) cuts)
+    columns_additive [] [] filled = tt
+    columns_additive [] (c ∷ cs) filled = absurd filled
+    columns_additive (n ∷ ns) [] filled = absurd filled
+    columns_additive (n ∷ ns) (c ∷ cs) filled =
+        all_both (λ (o : Outline E). is_additive o ≡ true) (map joined c) (flat_map (λ cut. map joined cut) cs)
+        (cut_additive n c (subst (λ (t : List (Outline E)). AllByRecursion (IsOn n) t) (sym filled.0.0) (members_on n before))) (columns_additive ns cs filled.1)
+
+    module _ (after : List (Outline E)) (packing : IsPacking answers most before after) where
+      -- the columns of all buses, which come behind what passes through
+      abbrev columns : List (Outline E)
+      columns = flat_map (λ cut. map joined cut) packing.cuts
+
+      all_additive : AllByRecursion (λ o. is_additive o ≡ true) columns
+      all_additive = columns_additive (bus_names (additive before)) packing.cuts packing.filled
+
+      -- the lookups after that pass a test
+      tested : (p : Outline E → Bool) → ((o : Outline E) → p (unnumbered o) ≡ p o) → map unnumbered (filter p after) ≡ map unnumbered (filter p (passing before) ++ filter p columns)
+      tested p same =
+          numbers_apart p same after
+          ∙ ap (λ os. filter p (map unnumbered os)) packing.columns
+          ∙ ap (filter p) (unnumbered_all 0 (passing before ++ columns))
+          ∙ sym (numbers_apart p same (passing before ++ columns))
+          ∙ ap (map unnumbered) (filter-append p (passing before) columns)
+
+      -- those that may be joined are the columns of the buses, and the others those that pass through
+      additive_after : map unnumbered (additive after) ≡ map unnumbered columns
+      additive_after = tested is_additive (λ o. refl) ∙ ap (map unnumbered) (λ i. none_additive before i ++ filter_all is_additive columns all_additive i)
+
+      passing_after : map unnumbered (passing after) ≡ map unnumbered (passing before)
+      passing_after =
+          tested (λ o. not (is_additive o)) (λ o. refl)
+          ∙ ap (map unnumbered) ((λ i. filter_again (λ o. not (is_additive o)) before i ++ others_none is_additive columns all_additive i) ∙ append-nil (passing before))
+
+-- weights
+sum_by-mapped : {A B : Type 0} (f : B → ℕ) (g : A → B) (xs : List A) → sum_by f (map g xs) ≡ sum_by (λ x. f (g x)) xs
+sum_by-mapped f g [] = refl
+sum_by-mapped f g (x ∷ xs) = sum_by-cons f (g x) (map g xs) ∙ ap (λ n. f (g x) + n) (sum_by-mapped f g xs) ∙ sym (sum_by-cons (λ y. f (g y)) x xs)
+
+singles : {A : Type 0} (xs : List A) → flat_map (λ x. x ∷ []) xs ≡ xs
+singles [] = refl
+singles (x ∷ xs) = ap (λ t. x ∷ t) (singles xs)
+
+module _ {E : Type 0} where
+  abbrev weight : List (Outline E) → ℕ
+  weight os = sum_by (λ o. o.count_weight) os
+
+  -- a cut has the weight of its lookups
+  cut_weight : (cut : List (Outline E × List (Outline E))) → weight (map joined cut) ≡ weight (flat_map part_items cut)
+  cut_weight [] = refl
+  cut_weight (p ∷ ps) =
+      sum_by-cons (λ o. o.count_weight) (joined p) (map joined ps)
+      ∙ ap (λ n. weight (part_items p) + n) (cut_weight ps)
+      ∙ sym (sum_by-append (λ o. o.count_weight) (part_items p) (flat_map part_items ps))
+
+  module _ (answers : Outline E → Result ℕ LookupError → Type 0) (most : ℕ) (os : List (Outline E)) where
+    columns_weight : (names : List (List ℕ)) (cuts : List (List (Outline E × List (Outline E)))) → AreFilled answers most os names cuts
+        → weight (flat_map (λ cut. map joined cut) cuts) ≡ weight (flat_map (λ name. flat_map (λ o. o ∷ []) (on_bus name os)) names)
+    columns_weight [] [] filled = refl
+    columns_weight [] (c ∷ cs) filled = absurd filled
+    columns_weight (n ∷ ns) [] filled = absurd filled
+    columns_weight (n ∷ ns) (c ∷ cs) filled =
+        sum_by-append (λ o. o.count_weight) (map joined c) (flat_map (λ cut. map joined cut) cs)
+        ∙ (λ i. (cut_weight c ∙ ap weight (filled.0.0 ∙ sym (singles (on_bus n os)))) i + columns_weight ns cs filled.1 i)
+        ∙ sym (sum_by-append (λ o. o.count_weight) (flat_map (λ o. o ∷ []) (on_bus n os)) (flat_map (λ name. flat_map (λ o. o ∷ []) (on_bus name os)) ns))
+
+  packed_weight : (answers : Outline E → Result ℕ LookupError → Type 0) (most : ℕ) (before after : List (Outline E)) → IsPacking answers most before after → weight after ≡ weight before
+  packed_weight answers most before after packing =
+      let columns = flat_map (λ cut. map joined cut) packing.cuts in
+      let names = bus_names (additive before) in
+      let bus_by_bus = sum_by-IsPermutation (λ (o : Outline E). o.count_weight) _ _ (grouped (λ (o : Outline E). o ∷ []) names (additive before) (first_seen_separate same_name (filter_map (λ o. o.bus) (additive before))) (among_names (additive before) (filter_passes is_additive before))) in
+      let all_columns : weight columns ≡ weight (additive before) = columns_weight answers most (additive before) names packing.cuts packing.filled ∙ bus_by_bus ∙ ap weight (singles (additive before)) in
+      let in_two = sum_by-IsPermutation (λ (o : Outline E). o.count_weight) before (additive before ++ passing before) (IsPermutation-filter_both is_additive (λ o. not (is_additive o)) (λ o. refl) before) in
+      sym (sum_by-mapped (λ o. o.count_weight) unnumbered after)
+      ∙ ap (λ os. weight (map unnumbered os)) packing.columns
+      ∙ ap weight (unnumbered_all 0 (passing before ++ columns))
+      ∙ sum_by-mapped (λ o. o.count_weight) unnumbered (passing before ++ columns)
+      ∙ sum_by-append (λ o. o.count_weight) (passing before) columns
+      ∙ omega (arith, all_columns, in_two, sum_by-append (λ o. o.count_weight) (additive before) (passing before))
+
+-- messages
+module _ {F : Type 0} (R : Ring F) (eq : F → F → Bool) (w : Window F) (bus_id : List ℕ → ℕ) (id : Lookup F → ℕ) where
+  abbrev sends : Lookup F → List (Message F)
+  sends l = (sent_at R eq w (id l) l).messages
+
+  -- a lookup that may be joined sends its messages under the id of its bus
+  own_sent : (l : Lookup F) → is_additive (fields_of l) ≡ true → HasIdOfBus bus_id id l → sends l ≡ own_messages R eq w bus_id (fields_of l)
+  own_sent l joins has =
+      let (name, on, none) = on_some_bus (fields_of l) joins in
+      let flags : l.flags ≡ None = no_flags_of (λ fs. fs.items) (is_some (bus_of l.kind)) l.flags joins in
+      seen_messages R eq w (id l) l ∙ ap (λ n. messages_of R eq w n (fields_of l)) (has name on flags ∙ sym (ap (λ bus. option_map_or bus_id bus 0) on))
+
+  additive_sent : (ls : List (Lookup F)) → AllByRecursion (HasIdOfBus bus_id id) ls
+      → flat_map sends (filter (λ l. is_additive (fields_of l)) ls) ≡ flat_map (own_messages R eq w bus_id) (additive (map fields_of ls))
+  additive_sent [] has = refl
+  additive_sent (l ∷ ls) has = by_test (is_additive (fields_of l)) refl (additive_sent ls has.1)
+    where
+      by_test : (b : Bool) → is_additive (fields_of l) ≡ b → flat_map sends (filter (λ k. is_additive (fields_of k)) ls) ≡ flat_map (own_messages R eq w bus_id) (additive (map fields_of ls))
+          → flat_map sends (cond b (l ∷ filter (λ k. is_additive (fields_of k)) ls) (filter (λ k. is_additive (fields_of k)) ls)) ≡ flat_map (own_messages R eq w bus_id) (cond b (fields_of l ∷ additive (map fields_of ls)) (additive (map fields_of ls)))
+      by_test true e rest = λ i. own_sent l e has.0 i ++ rest i
+      by_test false e rest = rest
+
+  others_sent : (ls : List (Lookup F)) → flat_map sends ls ≡ flat_map (λ p. messages_of R eq w p.0 p.1) (zip (map id ls) (map unnumbered (map fields_of ls)))
+  others_sent [] = refl
+  others_sent (l ∷ ls) = λ i. seen_messages R eq w (id l) l i ++ others_sent ls i
+
+  -- the messages of a row: those of the lookups that may be joined, and those of the others
+  divided : (ls : List (Lookup F)) → AllByRecursion (HasIdOfBus bus_id id) ls
+      → IsPermutation (row_messages R eq id w ls) (flat_map (own_messages R eq w bus_id) (additive (map fields_of ls)) ++ flat_map (λ p. messages_of R eq w p.0 p.1) (zip (other_ids id ls) (map unnumbered (passing (map fields_of ls)))))
+  divided ls has =
+      let q = λ (l : Lookup F). not (is_additive (fields_of l)) in
+      let others : flat_map sends (filter q ls) ≡ flat_map (λ p. messages_of R eq w p.0 p.1) (zip (other_ids id ls) (map unnumbered (passing (map fields_of ls)))) =
+      others_sent (filter q ls) ∙ ap (λ os. flat_map (λ p. messages_of R eq w p.0 p.1) (zip (other_ids id ls) (map unnumbered os))) (filter_seen fields_of (λ o. not (is_additive o)) ls) in
+      subst (λ (t : List (Message F)). IsPermutation t (flat_map (own_messages R eq w bus_id) (additive (map fields_of ls)) ++ flat_map (λ p. messages_of R eq w p.0 p.1) (zip (other_ids id ls) (map unnumbered (passing (map fields_of ls))))))
+      (sym (flat_map-map (λ sent. sent.messages) (λ l. sent_at R eq w (id l) l) ls))
+      (subst (λ (t : List (Message F)). IsPermutation (flat_map sends ls) t) (λ i. additive_sent ls has i ++ others i) (parted sends (λ l. is_additive (fields_of l)) ls))
+
+module _ {F : Type 0} (answers : Outline (SymbolicExpression F) → Result ℕ LookupError → Type 0) (most : ℕ) (before after : List (Lookup F)) (packing : IsPacking answers most (map fields_of before) (map fields_of after)) where
+  -- the weight of all lookups stays
+  pub kept_weight : KeepsWeight before after
+  kept_weight =
+      sym (sum_by-mapped (λ o. o.count_weight) fields_of after)
+      ∙ packed_weight answers most (map fields_of before) (map fields_of after) packing
+      ∙ sum_by-mapped (λ o. o.count_weight) fields_of before
+
+  module _ (R : Ring F) (eq : F → F → Bool) where
+    -- the messages on every row stay
+    pub kept_messages : All HasEqualLengths before → KeepsMessages R eq before after
+    kept_messages lengths id_before id_after same w =
+        let own = own_messages R eq w same.bus_id in
+        let os = map fields_of before in
+        let names = bus_names (additive os) in
+        let columns = flat_map (λ cut. map joined cut) packing.cuts in
+        let on_buses = grouped own names (additive os) (first_seen_separate same_name (filter_map (λ o. o.bus) (additive os))) (among_names (additive os) (filter_passes is_additive os)) in
+        let in_columns : flat_map own columns ≡ flat_map (λ name. flat_map own (on_bus name (additive os))) names = columns_messages R eq w same.bus_id answers most os names packing.cuts (λ name. plain_on before name lengths) packing.filled in
+        let later : flat_map own (additive (map fields_of after)) ≡ flat_map own columns =
+        sym (flat_map-map own unnumbered (additive (map fields_of after))) ∙ ap (flat_map own) (additive_after answers most os (map fields_of after) packing) ∙ flat_map-map own unnumbered columns in
+        let joined_sent : IsPermutation (flat_map own (additive os)) (flat_map own (additive (map fields_of after))) =
+        subst (λ (t : List (Message F)). IsPermutation (flat_map own (additive os)) t) (sym (later ∙ in_columns)) on_buses in
+        let send_others = λ (ids : List ℕ) (ps : List (Outline (SymbolicExpression F))). flat_map (λ p. messages_of R eq w p.0 p.1) (zip ids ps) in
+        let others : send_others (other_ids id_before before) (map unnumbered (passing os)) ≡ send_others (other_ids id_after after) (map unnumbered (passing (map fields_of after))) =
+        λ i. send_others (same.others i) (sym (passing_after answers most os (map fields_of after) packing) i) in
+        IsPermutation-trans _ _ _ (divided R eq w same.bus_id id_before before same.by_bus_before)
+        (IsPermutation-trans _ _ _
+        (subst (λ (t : List (Message F)). IsPermutation (flat_map own (additive os) ++ send_others (other_ids id_before before) (map unnumbered (passing os))) (flat_map own (additive (map fields_of after)) ++ t)) others (IsPermutation-append_left _ _ _ joined_sent))
+        (IsPermutation-sym _ _ (divided R eq w same.bus_id id_after after same.by_bus_after)))
+
+-- nets
+module _ {F : Type 0} {R : Ring F} (laws : IsCommutativeRing R) (eq : F → F → Bool) where
+  -- messages in another order have the same nets
+  pub net-permutation : (xs ys : List (Message F)) → IsPermutation xs ys → (key : Key F) → net R eq ys key ≡ net R eq xs key
+  net-permutation xs ys same key =
+      sum_in-passing laws (λ m. m.multiplicity) (λ m. same_key eq key m.key) ys
+      ∙ sum_in-permutation laws (λ m. cond (same_key eq key m.key) m.multiplicity R.zero) xs ys same
+      ∙ sym (sum_in-passing laws (λ m. m.multiplicity) (λ m. same_key eq key m.key) xs)
+
+-- messages of a trace, row by row
+pub trace_kept : {F : Type 0} (R : Ring F) (eq : F → F → Bool) (before after : List (Lookup F)) → KeepsMessages R eq before after → (id_before id_after : Lookup F → ℕ) → HaveSameIds id_before before id_after after → (main : Matrix F) (preprocessed : Option (Matrix F)) (public_values : List F)
+    → IsPermutation (trace_messages (sent_rows_under R eq id_before main preprocessed public_values before)) (trace_messages (sent_rows_under R eq id_after main preprocessed public_values after))
+trace_kept {F} R eq before after kept id_before id_after same main preprocessed public_values = each (range_with_len 0 (height main))
+  where
+    each : (rs : List ℕ) → IsPermutation (trace_messages (map (λ r. sent_row_under R eq id_before (window_at main preprocessed public_values (height main) r) before) rs)) (trace_messages (map (λ r. sent_row_under R eq id_after (window_at main preprocessed public_values (height main) r) after) rs))
+    each [] = IsPermutation-refl []
+    each (r ∷ rs) = IsPermutation-append _ _ _ _ (kept id_before id_after same (window_at main preprocessed public_values (height main) r)) (each rs)
+
+-- what keeps the messages of every row keeps the nets of a trace
+pub kept_nets : {F : Type 0} {R : Ring F} (laws : IsCommutativeRing R) (eq : F → F → Bool) (before after : List (Lookup F)) → KeepsMessages R eq before after → KeepsNets R eq before after
+kept_nets {F} {R} laws eq before after kept id_before id_after same main preprocessed public_values key =
+    net-permutation laws eq _ _ (trace_kept R eq before after kept id_before id_after same main preprocessed public_values) key

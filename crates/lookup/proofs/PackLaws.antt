@@ -1,0 +1,93 @@
+-- From the groups of buses to the packing of all lookups.
+use Rattle.std.proofs.Common.{◌≡◌, ◌+◌, ℕ, zero, suc, List, [], ◌∷◌, ◌++◌, Option, None, Some, Result, map, option_map, slice_get, take, refl, sym, ap, subst, ◌∙◌, arith}
+use Rattle.std.proofs.lemmas.Option.{slice_get-map}
+use Rattle.std.specs.Borrow.{Bor}
+use Rattle.std.specs.List.{AllByRecursion, AllZip, flat_map}
+use Rattle.std.specs.declared.alloc.Global.{Global}
+use Rattle.std.specs.declared.vec.Vec.{Vec}
+use Rattle.expressions.specs.declared.base_expression.SymbolicExpression.{SymbolicExpression}
+use Rattle.lookup_model.proofs.Lookups.Regrouping.{All-filter}
+use Rattle.lookup_model.proofs.HornerRule.{map-map}
+use Rattle.lookup_model.specs.Outline.{Outline, fields_of}
+use Rattle.lookup_model.specs.declared.error.LookupError.{LookupError}
+use Rattle.lookup_model.specs.declared.types.Lookup.{Lookup}
+use Rattle.lookup.specs.Buses.{bus_groups, bus_names, group_of, is_named, on_bus, owned_group}
+use Rattle.lookup.specs.Packing.{AreColumnsAdded, IsFillRefusal, IsFilling, IsFirstStuck, IsPacking, IsStuck, additive, joined, numbered, passing}
+use Rattle.lookup.specs.Trials.{IsBusTrial, IsTrialAmong}
+use Rattle.lookup.proofs.ListLaws.{AllZip-map, map_split}
+
+-- an item at its place
+pub at_place : {A : Type 0} (xs : List A) (i : ℕ) (x : A) → slice_get xs i ≡ Some x → (later : List A) × (xs ≡ take i xs ++ x ∷ later) × (take (i + 1) xs ≡ take i xs ++ x ∷ [])
+at_place [] i x e = absurd (cc e)
+at_place (y ∷ ys) zero x e = let is : y ≡ x = cc e in (ys, ap (λ t. t ∷ ys) is, ap (λ t. t ∷ []) is)
+at_place (y ∷ ys) (suc i) x e =
+    let (later, whole, next) = at_place ys i x e in
+    let more : suc i + 1 ≡ suc (i + 1) = omega arith in
+    (later, ap (λ t. y ∷ t) whole, ap (λ n. take n (y ∷ ys)) more ∙ ap (λ t. y ∷ t) next)
+
+module _ {F : Type 0} where
+  -- the bus at a place of a map of groups
+  pub bus_here : (os : List (Outline (SymbolicExpression F))) (es : List (Bor (List ℕ) × Vec (Bor (Lookup F)) Global)) (i : ℕ) (k : Bor (List ℕ)) (v : Vec (Bor (Lookup F)) Global) → map group_of es ≡ bus_groups os → slice_get es i ≡ Some (k, v)
+      → (slice_get (bus_names os) i ≡ Some k.now) × (map (λ r. fields_of r.now) v.items ≡ on_bus k.now os)
+  bus_here os es i k v groups there = by_name (slice_get (bus_names os) i) refl at
+    where
+      at : option_map {U = List ℕ × List (Outline (SymbolicExpression F))} (λ name. (name, on_bus name os)) (slice_get (bus_names os) i) ≡ Some (k.now, map (λ r. fields_of r.now) v.items)
+      at = sym (slice_get-map {B = List ℕ × List (Outline (SymbolicExpression F))} (λ name. (name, on_bus name os)) (bus_names os) i) ∙ ap (λ t. slice_get t i) (sym groups) ∙ slice_get-map group_of es i ∙ ap (option_map group_of) there
+
+      by_name : (o : Option (List ℕ)) → slice_get (bus_names os) i ≡ o → option_map {U = List ℕ × List (Outline (SymbolicExpression F))} (λ name. (name, on_bus name os)) o ≡ Some (k.now, map (λ r. fields_of r.now) v.items)
+          → (slice_get (bus_names os) i ≡ Some k.now) × (map (λ r. fields_of r.now) v.items ≡ on_bus k.now os)
+      by_name None is e = absurd (cc e)
+      by_name (Some name) is e =
+          let pair : ◌≡◌ {A = List ℕ × List (Outline (SymbolicExpression F))} (name, on_bus name os) (k.now, map (λ r. fields_of r.now) v.items) = cc e in
+          let same : name ≡ k.now = ap (λ p. p.0) pair in
+          (is ∙ ap Some same, sym (ap (λ p. p.1) pair) ∙ ap (λ n. on_bus n os) same)
+
+-- groups without their names
+pub groups_of : {E : Type 0} (os : List (Outline E)) → map (λ g. g.1) (bus_groups os) ≡ map (λ name. on_bus name os) (bus_names os)
+groups_of {E} os = map-map {B = List ℕ × List (Outline E)} (λ g. g.1) (λ name. (name, on_bus name os)) (bus_names os)
+
+module _ {E : Type 0} (answers : Outline E → Result ℕ LookupError → Type 0) (most : ℕ) (before : List (Outline E)) where
+  -- the first bus that is stuck, by its name
+  pub fill_refusal : (buses : List (List (Outline E))) (e : LookupError) → buses ≡ map (λ name. on_bus name (additive before)) (bus_names (additive before)) → IsFirstStuck answers most buses e → IsFillRefusal answers most before e
+  fill_refusal buses e are stuck =
+      let (earlier, name, later, names, earlier_is, name_is, later_is) = map_split (λ name. on_bus name (additive before)) (bus_names (additive before)) stuck.earlier stuck.bus stuck.later (sym are ∙ stuck.buses_are) in record {
+        earlier = earlier;
+        name = name;
+        later = later;
+        names = names;
+        cuts = stuck.cuts;
+        filled = AllZip-map (λ bus cut. IsFilling answers most cut bus) (λ n. on_bus n (additive before)) earlier stuck.cuts (subst (λ (t : List (List (Outline E))). AllZip (λ bus cut. IsFilling answers most cut bus) t stuck.cuts) (sym earlier_is) stuck.filled);
+        stuck = subst (λ (t : List (Outline E)). IsStuck answers most t e) (sym name_is) stuck.stuck;
+      }
+
+  -- what passes through, and the columns of all buses
+  pub all_packed : (buses : List (List (Outline E))) (front columns after : List (Outline E)) → buses ≡ map (λ name. on_bus name (additive before)) (bus_names (additive before)) → front ≡ passing before → AreColumnsAdded answers most buses front columns → after ≡ numbered columns → IsPacking answers most before after
+  all_packed buses front columns after are front_is added after_is = record {
+    cuts = added.0;
+    filled = AllZip-map (λ bus cut. IsFilling answers most cut bus) (λ n. on_bus n (additive before)) (bus_names (additive before)) added.0 (subst (λ (t : List (List (Outline E))). AllZip (λ bus cut. IsFilling answers most cut bus) t added.0) are added.1);
+    columns = after_is ∙ ap numbered (added.2 ∙ ap (λ t. t ++ flat_map (λ cut. map joined cut) added.0) front_is);
+  }
+
+-- a trial of one of the groups is a trial of a bus
+pub on_a_bus : {F : Type 0} (before : List (Outline (SymbolicExpression F))) (groups : List (List (Outline (SymbolicExpression F)))) (earlier : List (List (Outline (SymbolicExpression F)))) (bus : List (Outline (SymbolicExpression F))) (later : List (List (Outline (SymbolicExpression F)))) (lookup : Lookup F)
+    → groups ≡ map (λ name. on_bus name (additive before)) (bus_names (additive before)) → groups ≡ earlier ++ bus ∷ later → IsTrialAmong bus lookup → IsBusTrial before lookup
+on_a_bus {F} before groups earlier bus later lookup groups_are split is =
+    let (names, name, others, names_are, earlier_is, name_is, later_is) = map_split (λ name. on_bus name (additive before)) (bus_names (additive before)) earlier bus later (sym groups_are ∙ split) in
+    (name, subst (λ (os : List (Outline (SymbolicExpression F))). IsTrialAmong os lookup) (sym name_is) is)
+
+module _ {F : Type 0} where
+  all_groups : (P : Outline (SymbolicExpression F) → Type 0) (os : List (Outline (SymbolicExpression F))) → AllByRecursion P os → (names : List (List ℕ)) → AllByRecursion (AllByRecursion P) (map (λ name. on_bus name os) names)
+  all_groups P os all [] = tt
+  all_groups P os all (n ∷ ns) = (All-filter P (λ o. is_named n o.bus) os all, all_groups P os all ns)
+
+  -- what holds of the fields of all lookups holds of those of each bus
+  pub in_groups : (P : Outline (SymbolicExpression F) → Type 0) (os : List (Outline (SymbolicExpression F))) (vs : List (Vec (Lookup F) Global)) → map owned_group vs ≡ map (λ g. g.1) (bus_groups os) → AllByRecursion P os → AllByRecursion (λ v. AllByRecursion (λ l. P (fields_of l)) v.items) vs
+  in_groups P os vs are all = each vs (subst (λ (t : List (List (Outline (SymbolicExpression F)))). AllByRecursion (AllByRecursion P) t) (sym (are ∙ groups_of os)) (all_groups P os all (bus_names os)))
+    where
+      unmapped : (ls : List (Lookup F)) → AllByRecursion P (map fields_of ls) → AllByRecursion (λ l. P (fields_of l)) ls
+      unmapped [] h = tt
+      unmapped (l ∷ ls) h = (h.0, unmapped ls h.1)
+
+      each : (ws : List (Vec (Lookup F) Global)) → AllByRecursion (AllByRecursion P) (map owned_group ws) → AllByRecursion (λ v. AllByRecursion (λ l. P (fields_of l)) v.items) ws
+      each [] h = tt
+      each (w ∷ ws) h = (unmapped w.items h.0, each ws h.1)

@@ -1,0 +1,79 @@
+-- What packing keeps: the weight of all lookups and every message, and so the keys and their nets.
+use Rattle.std.specs.Prelude.{◌≡◌, ℕ, Bool, List, Option, None, Some, map, not}
+use Rattle.std.specs.List.{AllByRecursion, filter, flat_map, sum_by}
+use Rattle.std.specs.List.Sorted.{IsPermutation}
+use Rattle.field.specs.Ring.{Ring}
+use Rattle.matrix.specs.Matrix.{Matrix}
+use Rattle.expressions.specs.Window.{Window}
+use Rattle.field.specs.Extension.{Extension}
+use Rattle.lookup_model.specs.Message.{Key, Message}
+use Rattle.lookup_model.specs.Net.{keys, net, unbalanced_keys}
+use Rattle.lookup_model.specs.Outline.{bus_of, fields_of}
+use Rattle.lookup_model.specs.Plain.{plain_terminal, trace_messages}
+use Rattle.lookup_model.specs.Trace.{sent_row_under, sent_rows_under}
+use Rattle.lookup_model.specs.declared.types.Lookup.{Lookup}
+use Rattle.lookup.specs.Packing.{is_additive}
+
+module _ {F : Type 0} where
+  -- the weight of all lookups is that of before
+  abbrev pub KeepsWeight : List (Lookup F) → List (Lookup F) → Type 0
+  KeepsWeight before after = sum_by (λ l. l.count_weight) after ≡ sum_by (λ l. l.count_weight) before
+
+  -- a lookup that may be joined has the id of its bus
+  abbrev pub HasIdOfBus : (List ℕ → ℕ) → (Lookup F → ℕ) → Lookup F → Type 0
+  HasIdOfBus bus_id id l = (name : List ℕ) → bus_of l.kind ≡ Some name → l.flags ≡ None → id l ≡ bus_id name
+
+  -- the ids of the other lookups, in their order
+  abbrev pub other_ids : (Lookup F → ℕ) → List (Lookup F) → List ℕ
+  other_ids id lookups = map id (filter (λ l. not (is_additive (fields_of l))) lookups)
+
+  -- The lookups after have the ids of those before: one id for each bus, which is that of all lookups
+  -- on it that may be joined, and the same ids for the others, in the same order.
+  pub record HaveSameIds (id_before : Lookup F → ℕ) (before : List (Lookup F)) (id_after : Lookup F → ℕ) (after : List (Lookup F)) : Type 0 where
+    pub bus_id : List ℕ → ℕ
+    pub by_bus_before : AllByRecursion (HasIdOfBus bus_id id_before) before
+    pub by_bus_after : AllByRecursion (HasIdOfBus bus_id id_after) after
+    pub others : other_ids id_before before ≡ other_ids id_after after
+
+  module _ (R : Ring F) (eq : F → F → Bool) where
+    -- the messages that lookups send at a window
+    abbrev pub row_messages : (Lookup F → ℕ) → Window F → List (Lookup F) → List (Message F)
+    row_messages id w lookups = flat_map (λ sent. sent.messages) (sent_row_under R eq id w lookups)
+
+    -- Under the same ids the lookups after send at each window the messages of those before, each as
+    -- often, in some order.
+    abbrev pub KeepsMessages : List (Lookup F) → List (Lookup F) → Type 0
+    KeepsMessages before after =
+        (id_before id_after : Lookup F → ℕ) → HaveSameIds id_before before id_after after
+        → (w : Window F) → IsPermutation (row_messages id_before w before) (row_messages id_after w after)
+
+    -- Under the same ids the net of each key over the traces of an AIR is that of before.
+    abbrev pub KeepsNets : List (Lookup F) → List (Lookup F) → Type 0
+    KeepsNets before after =
+        (id_before id_after : Lookup F → ℕ) → HaveSameIds id_before before id_after after
+        → (main : Matrix F) (preprocessed : Option (Matrix F)) (public_values : List F) (key : Key F)
+        → net R eq (trace_messages (sent_rows_under R eq id_after main preprocessed public_values after)) key
+        ≡ net R eq (trace_messages (sent_rows_under R eq id_before main preprocessed public_values before)) key
+
+    -- The distinct keys of messages are those of others, in some order, and so are those whose net is
+    -- not zero.
+    pub record HaveSameKeys (before after : List (Message F)) : Type 0 where
+      pub all : IsPermutation (keys eq before) (keys eq after)
+      pub unbalanced : IsPermutation (unbalanced_keys R eq before) (unbalanced_keys R eq after)
+
+    -- Under the same ids the traces of an AIR have the keys of before, and as many of them are
+    -- unbalanced.
+    abbrev pub KeepsKeys : List (Lookup F) → List (Lookup F) → Type 0
+    KeepsKeys before after =
+        (id_before id_after : Lookup F → ℕ) → HaveSameIds id_before before id_after after
+        → (main : Matrix F) (preprocessed : Option (Matrix F)) (public_values : List F)
+        → HaveSameKeys (trace_messages (sent_rows_under R eq id_before main preprocessed public_values before))
+        (trace_messages (sent_rows_under R eq id_after main preprocessed public_values after))
+
+-- Under the same ids the traces of an AIR have the terminal of before, whatever the denominators.
+abbrev pub KeepsTerminal : {F K : Type 0} → Extension F K → List (Lookup F) → List (Lookup F) → Type 0
+KeepsTerminal {F} {K} E before after =
+    (id_before id_after : Lookup F → ℕ) → HaveSameIds id_before before id_after after
+    → (main : Matrix F) (preprocessed : Option (Matrix F)) (public_values : List F) (denominator : Key F → K)
+    → plain_terminal E denominator (sent_rows_under E.base E.base_eq id_after main preprocessed public_values after)
+    ≡ plain_terminal E denominator (sent_rows_under E.base E.base_eq id_before main preprocessed public_values before)

@@ -1,0 +1,126 @@
+//! One width for all tuples of a bus.
+ghost use Rattle.std.specs.Prelude.{◌≡◌, ◌<◌, ◌⊎◌, ℕ, Some, MatchOption, MatchResult, find, length, map, nat_eq, not, slice_get};
+ghost use Rattle.std.specs.List.{flat_map};
+ghost use Rattle.indexmap.specs.IndexMap.{index_map_len};
+ghost use Rattle.lookup_model.specs.Outline.{fields_of};
+ghost use Rattle.lookup.specs.BusWidths.{HasOneWidth, HaveBusWidths, IsWidthRefusal, bus_context, widths_of};
+ghost use Rattle.lookup.specs.TupleWidths.{HasOtherWidth, IsTupleWidths};
+
+use crate::packing::buses::by_bus;
+use expressions::SymbolicExpression;
+use field::Field;
+use indexmap::IndexMap;
+use lookup_model::{Lookup, LookupError};
+use std::alloc::Global;
+
+/// Compares the widths of all tuples on each bus, those of groups too, in the order in which the
+/// buses are first seen.
+///
+/// Refuses `TupleWidths` with the context `bus "NAME"` at the first bus with two widths: its first
+/// width, and the first other one.
+pub(crate) fn assert_bus_widths<F: Field>(
+    alloc: Global,
+    lookups: &[Lookup<F>],
+) -> Result<(), LookupError>
+    ensures { MatchResult result
+        (λ _. HaveBusWidths (map fields_of lookups.now))
+        (λ e. (e ≡ LookupError.Memory) ⊎ IsWidthRefusal (map fields_of lookups.now) e) }
+{
+    let buses = by_bus(alloc, lookups)?;
+    for place in 0..buses.len() {
+        let (name, members) = bus_at(&buses, place);
+        assert_bus_width(alloc, name, members)?;
+    }
+    Ok(())
+}
+
+/// The name and the lookups of the bus at a place.
+fn bus_at<'a, 'b, F: Field>(
+    buses: &'b IndexMap<&'a str, Vec<&'a Lookup<F>>>,
+    place: usize,
+) -> (&'a str, &'b Vec<&'a Lookup<F>>)
+    requires { place < index_map_len buses.now }
+    ensures { slice_get buses.now.entries place ≡ Some (result.0, result.1.now) }
+{
+    match buses.get_index(place) {
+        Some((name, members)) => (*name, members),
+        None => unreachable!(),
+    }
+}
+
+/// Likewise of the lookups of one bus.
+fn assert_bus_width<F: Field>(
+    alloc: Global,
+    name: &str,
+    members: &[&Lookup<F>],
+) -> Result<(), LookupError>
+    ensures { MatchResult result
+        (λ _. HasOneWidth (flat_map widths_of (map (λ r. fields_of r.now) members.now)))
+        (λ e. (e ≡ LookupError.Memory) ⊎ ((width : ℕ) × (other : ℕ)
+        × HasOtherWidth (flat_map widths_of (map (λ r. fields_of r.now) members.now)) width other
+        × IsTupleWidths (bus_context name.now) width other e)) }
+{
+    match two_widths(members) {
+        None => Ok(()),
+        Some(widths) => {
+            let context = format!(in alloc; "bus \"{name}\"")?;
+            Err(LookupError::TupleWidths {
+                context,
+                width: widths.first,
+                other: widths.other,
+            })
+        }
+    }
+}
+
+/// The first width of the tuples of a bus, and the first other one.
+#[derive(Clone, Copy)]
+struct TwoWidths {
+    first: usize,
+    other: usize,
+}
+
+/// The first width of these lookups and the first other one, if there are two.
+fn two_widths<F: Field>(members: &[&Lookup<F>]) -> Option<TwoWidths>
+    ensures { MatchOption result
+        (HasOneWidth (flat_map widths_of (map (λ r. fields_of r.now) members.now)))
+        (λ r. HasOtherWidth (flat_map widths_of (map (λ r. fields_of r.now) members.now)) r.first
+        r.other) }
+{
+    let width = first_width(members)?;
+    for lookup in members {
+        match other_width(&lookup.elements, width) {
+            Some(other) => return Some(TwoWidths {
+                first: width,
+                other,
+            }),
+            None => {}
+        }
+    }
+    None
+}
+
+/// The width of the first tuple of these lookups.
+fn first_width<F: Field>(members: &[&Lookup<F>]) -> Option<usize>
+    ensures { result ≡ slice_get (flat_map widths_of (map (λ r. fields_of r.now) members.now)) 0 }
+{
+    for lookup in members {
+        if let Some(tuple) = lookup.elements.first() {
+            return Some(tuple.len());
+        }
+    }
+    None
+}
+
+/// The first width that is not this one.
+fn other_width<F>(tuples: &[Vec<SymbolicExpression<F>>], width: usize) -> Option<usize>
+    ensures { result ≡ find (λ w. not (nat_eq w width))
+        (map (λ tuple. length tuple.items) tuples.now) }
+{
+    for tuple in tuples {
+        if tuple.len() != width {
+            return Some(tuple.len());
+        }
+    }
+    None
+}

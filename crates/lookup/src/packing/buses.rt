@@ -1,0 +1,103 @@
+//! Groups of lookups by bus.
+ghost use Rattle.std.specs.Prelude.{◌≡◌, ◌++◌, [], ◌∷◌, IfOk, OnOk, map, None, Some, option_map, string_bytes};
+ghost use Rattle.std.specs.Option.{option_map_or};
+ghost use Rattle.indexmap.specs.IndexMap.{get, insert_entry, values};
+ghost use Rattle.lookup_model.specs.Outline.{bus_of, fields_of};
+ghost use Rattle.lookup.specs.Buses.{bus_groups, group_of, owned_group, owned_group_of};
+
+use field::Field;
+use indexmap::IndexMap;
+use lookup_model::{Kind, Lookup};
+use std::alloc::{AllocError, Global};
+use std::hash::Hash;
+
+/// The lookups of each bus under its name, in their order; the buses in the order in which they are
+/// first seen. Local lookups are in no group.
+///
+/// Fails only when out of memory.
+pub fn by_bus<'a, F: Field>(
+    alloc: Global,
+    lookups: &'a [Lookup<F>],
+) -> Result<IndexMap<&'a str, Vec<&'a Lookup<F>>>, AllocError>
+    ensures { IfOk result (λ buses. map group_of buses.entries
+        ≡ bus_groups (map fields_of lookups.now)) }
+{
+    let mut buses = IndexMap::new(alloc);
+    for lookup in lookups {
+        match &lookup.kind {
+            Kind::Global(name) => push_at(alloc, &mut buses, name.as_str(), lookup)?,
+            Kind::Local => {}
+        }
+    }
+    Ok(buses)
+}
+
+/// The groups of lookups that are moved into them, without their names. Each lookup takes a copy of
+/// the name of its bus as its key.
+pub(crate) fn moved_by_bus<F: Field>(
+    alloc: Global,
+    lookups: Vec<Lookup<F>>,
+) -> Result<Vec<Vec<Lookup<F>>>, AllocError>
+    ensures { IfOk result (λ buses. map owned_group buses.items
+        ≡ map (λ g. g.1) (bus_groups (map fields_of lookups.items))) }
+{
+    let buses = moved_under_names(alloc, lookups)?;
+    let groups = values_of(alloc, buses)?;
+    Ok(groups)
+}
+
+/// The values of a map, in their order.
+fn values_of<K: Eq + Hash + Drop, V: Drop>(
+    alloc: Global,
+    map: IndexMap<K, V>,
+) -> Result<Vec<V>, AllocError>
+    ensures { IfOk result (λ v. v.items ≡ values map) }
+{
+    map.into_values().collect(alloc)
+}
+
+/// Likewise with their names.
+fn moved_under_names<F: Field>(
+    alloc: Global,
+    lookups: Vec<Lookup<F>>,
+) -> Result<IndexMap<String, Vec<Lookup<F>>>, AllocError>
+    ensures { IfOk result (λ buses. map owned_group_of buses.entries
+        ≡ bus_groups (map fields_of lookups.items)) }
+{
+    let mut buses = IndexMap::new(alloc);
+    for lookup in lookups {
+        match copied_name(alloc, &lookup)? {
+            Some(name) => push_at(alloc, &mut buses, name, lookup)?,
+            None => drop(lookup),
+        }
+    }
+    Ok(buses)
+}
+
+/// A copy of the name of the bus of a lookup, if there is one.
+fn copied_name<F: Field>(alloc: Global, lookup: &Lookup<F>) -> Result<Option<String>, AllocError>
+    ensures { IfOk result (λ name. option_map (λ text. string_bytes text) name
+        ≡ bus_of lookup.now.kind) }
+{
+    match &lookup.kind {
+        Kind::Local => Ok(None),
+        Kind::Global(name) => Ok(Some(String::from_str(alloc, name.as_str())?)),
+    }
+}
+
+/// Appends to the group at a key. The group of a new key goes last.
+fn push_at<K: Eq + Hash + Drop, T: Drop>(
+    alloc: Global,
+    groups: &mut IndexMap<K, Vec<T>>,
+    key: K,
+    item: T,
+) -> Result<(), AllocError>
+    ensures { OnOk result ((group : _)
+        × (group.items ≡ option_map_or (λ found. found.items) (get K.eq groups.old key) []
+        ++ item ∷ [])
+        × (groups.new.entries ≡ insert_entry K.eq groups.old.entries key group)) }
+{
+    let group = groups.entry(key)?.or_insert(Vec::new(alloc));
+    group.push(item)?;
+    Ok(())
+}

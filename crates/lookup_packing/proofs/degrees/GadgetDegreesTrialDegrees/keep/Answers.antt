@@ -1,5 +1,0 @@
-use Rattle.lookup_packing.proofs.DegreeLaws.{kept_of_lookup}
-use Rattle.lookup_packing.proofs.degrees.GadgetDegreesTrialDegrees.keep.Goals as goal
-
-pub returns : goal.returns
-returns g c = rw c.ok.ensures.value (kept_of_lookup c.args.lookup.now c.requires c.of_lookup.result c.of_lookup.ensures)
