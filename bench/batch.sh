@@ -3,12 +3,12 @@
 set -eu
 cd "$(dirname "$0")/.."
 kit=$(dirname "$(rt doc)")
-(cd crates/bench_batch && rt lib >/dev/null)
+(cd crates/bench && rt lib >/dev/null)
 work=$(mktemp -d)
 trap 'rm -rf "$work"' EXIT
 for driver in batch checks; do
     rustc -O --edition 2024 "bench/${driver}_driver.rs" -o "$work/$driver" \
-        -C link-arg=crates/bench_batch/out/libbench_batch.a -C link-arg="$kit/c/liblibc_c.a"
+        -C link-arg=crates/bench/out/libbench.a -C link-arg="$kit/c/liblibc_c.a"
 done
 "$work/batch"
 "$work/checks"

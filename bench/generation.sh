@@ -3,9 +3,9 @@
 set -eu
 cd "$(dirname "$0")/.."
 kit=$(dirname "$(rt doc)")
-(cd crates/bench_generation && rt lib >/dev/null)
+(cd crates/bench && rt lib >/dev/null)
 work=$(mktemp -d)
 trap 'rm -rf "$work"' EXIT
 rustc -O --edition 2024 bench/generation_driver.rs -o "$work/driver" \
-    -C link-arg=crates/bench_generation/out/libbench_generation.a -C link-arg="$kit/c/liblibc_c.a"
+    -C link-arg=crates/bench/out/libbench.a -C link-arg="$kit/c/liblibc_c.a"
 "$work/driver"

@@ -3,9 +3,9 @@
 set -eu
 cd "$(dirname "$0")/.."
 kit=$(dirname "$(rt doc)")
-(cd crates/bench_field && rt lib >/dev/null)
+(cd crates/bench && rt lib >/dev/null)
 work=$(mktemp -d)
 trap 'rm -rf "$work"' EXIT
 rustc -O --edition 2024 bench/driver.rs -o "$work/driver" \
-    -C link-arg=crates/bench_field/out/libbench_field.a -C link-arg="$kit/c/liblibc_c.a"
+    -C link-arg=crates/bench/out/libbench.a -C link-arg="$kit/c/liblibc_c.a"
 "$work/driver"

@@ -1,5 +1,5 @@
-//! The shapes that are measured, and checksums of their auxiliary traces. `bench_generation` and
-//! `bench_batch` make C functions of this, for the comparisons in `bench/`, and `generation_tests` tests it.
+//! The shapes that are measured, and checksums of their auxiliary traces. `bench` makes C functions of
+//! this, for the comparisons in `bench/`, and `generation_tests` tests it.
 #![tactic(auto)]
 
 ghost use Rattle.std.specs.Prelude.{◌↔◌, ◌*◌, ◌≤◌, [], IsTrue, None, length};
@@ -20,7 +20,7 @@ use std::alloc::{AllocError, Global};
 /// The answer where a call is refused.
 pub const REFUSED: u32 = u32::MAX;
 
-/// The checksum of a shape's auxiliary trace, as `lookup_generate` of `bench_generation` says it. Fails
+/// The checksum of a shape's auxiliary trace, as `lookup_generate` of `bench` says it. Fails
 /// where generation is refused.
 pub fn generate(
     alloc: Global,

@@ -1,14 +1,11 @@
-//! The debug check as a C function, for the comparison in `bench/`.
-#![tactic(auto)]
-
+//! The debug check.
 ghost use Rattle.std.specs.Prelude.{◌↔◌, [], IsTrue, None};
 ghost use Rattle.expressions.specs.Layout.{layout_of_traces};
 ghost use Rattle.lookup_model.specs.Records.{DoFit};
 
-mod shapes;
-
-use crate::shapes::{lookups_of, width_of};
+use crate::debug_shapes::{lookups_of, width_of};
 use air::AirLayout;
+use bench_shapes::trace;
 use field::BabyBear;
 use lookup_debug::{LookupDebugInstance, LookupFault, check_lookups};
 use lookup_model::{Lookup, fits};
@@ -18,37 +15,11 @@ use std::alloc::{AllocError, Global};
 /// The answer where everything balances.
 const BALANCED: u32 = 0;
 
-/// The answer if memory runs out.
-const OUT_OF_MEMORY: u32 = u32::MAX;
-
 /// The answer for an unknown shape, or numbers that do not make whole rows.
 const NO_ROWS: u32 = u32::MAX - 1;
 
-/// Checks the lookups of a shape over `BabyBear`, `rounds` times. The main trace has `numbers`, row
-/// after row.
-///
-/// - Shape 0 has three columns, `read`, `provide` and `mult`, and one local lookup of the tuples
-///   `[read]` with count 1 and `[provide]` with count `-mult`.
-/// - Shape 1 has 33 columns and eight lookups on one bus. Lookup `i` has one tuple, of columns
-///   `4 * i` to `4 * i + 3`. Its count is column 32 for the first four lookups, and the negative of
-///   that for the others.
-///
-/// Returns 0 if all tuples balance, and otherwise a checksum of the text of the mismatch: from 1 on,
-/// `sum = sum * 31 + byte` modulo 2^32. With `skip` 1 it makes the trace and the lookups, checks
-/// nothing and returns 0. It returns `u32::MAX` if memory runs out, and `u32::MAX - 1` for another
-/// shape or numbers that do not make whole rows.
-#[unsafe(no_mangle)]
-pub extern "C" fn debug_check(
-    alloc: Global,
-    numbers: &[u32],
-    shape: u32,
-    rounds: u32,
-    skip: u32,
-) -> u32 {
-    check(alloc, numbers, shape, rounds, skip).unwrap_or(OUT_OF_MEMORY)
-}
-
-fn check(
+/// The answer of the last round; see `debug_check`.
+pub(crate) fn check(
     alloc: Global,
     numbers: &[u32],
     shape: u32,
@@ -69,22 +40,6 @@ fn check(
         }
     }
     Ok(answer)
-}
-
-/// The matrix of these numbers, or `None` unless they make whole rows of `width`.
-fn trace(
-    alloc: Global,
-    numbers: &[u32],
-    width: usize,
-) -> Result<Option<RowMajorMatrix<BabyBear>>, AllocError> {
-    let mut values = Vec::with_capacity(alloc, numbers.len())?;
-    for n in numbers {
-        values.push(BabyBear::new(*n))?;
-    }
-    if width == 0 || values.len() % width != 0 {
-        return Ok(None);
-    }
-    Ok(Some(RowMajorMatrix::new(values, width)))
 }
 
 /// Whether the lookups fit the trace.

@@ -1,4 +1,4 @@
-//! Generation without a plan.
+//! Generation of the same traces without a plan.
 ghost use Rattle.std.specs.Prelude.{◌↔◌, ◌*◌, ◌≤◌, [], IsTrue, None, length};
 ghost use Rattle.expressions.specs.Layout.{layout_of_traces};
 ghost use Rattle.lookup_model.specs.Records.{DoFit};

@@ -1,7 +1,7 @@
 //! Plans of one AIR with the lookups of a shape.
 
 use crate::airs::{alone, alpha, beta};
-use crate::{ACCEPTED, verdict_of};
+use crate::plans::{ACCEPTED, verdict_of};
 use batch::{BatchError, BatchPlan};
 use bench_shapes::{REFUSED, lookups_of, trace, width_of};
 use lookup::Lookups;
