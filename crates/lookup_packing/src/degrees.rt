@@ -1,9 +1,11 @@
 //! What tells the degree of a trial: a closure that is asked, or degrees that are kept.
-ghost use Rattle.std.specs.Prelude.{◌≡◌, ℕ, ⊤, Result};
+ghost use Rattle.std.specs.Prelude.{◌≡◌, ◌<◌, ℕ, ⊤, List, None, Result, Ok, true};
 ghost use Rattle.std.specs.Borrow.{Bor};
 ghost use Rattle.std.specs.Fn.{FnReturnsAt};
 ghost use Rattle.expressions.specs.declared.base_expression.SymbolicExpression.{SymbolicExpression};
+ghost use Rattle.lookup_model.specs.LookupDegree.{BranchDegrees, IsDegree, constraint_degree_of};
 ghost use Rattle.lookup_model.specs.Outline.{Outline, fields_of};
+ghost use Rattle.lookup_model.specs.SumDegrees.{AreSumDegrees};
 ghost use Rattle.lookup_model.specs.declared.error.LookupError.{LookupError};
 ghost use Rattle.lookup_model.specs.declared.types.Lookup.{Lookup};
 ghost use Rattle.lookup_packing.specs.Fewest.{AnswersDegree};
@@ -40,6 +42,12 @@ pub(crate) trait TrialDegrees<F: Field> {
         ensures { (a b : Outline (SymbolicExpression F)) → keeps self.now column a
             → keeps self.now next b → keeps self.now result (trial a b) };
 
+    /// Whether a trial is above the greatest degree, as far as what it keeps of the trial tells. Then
+    /// the trial need not be made.
+    fn is_above(&self, kept: Self::Kept, max_degree: usize) -> bool
+        ensures { result ≡ true → (o : Outline (SymbolicExpression F)) → keeps self.now kept o
+            → (n : ℕ) × answers self.now o (Ok n) × (max_degree < n) };
+
     /// The degree of a trial.
     fn degree(&self, lookup: &Lookup<F>, kept: Self::Kept) -> Result<usize, LookupError>
         requires asked { may_ask self.now lookup.now }
@@ -69,6 +77,10 @@ impl<F: Field, D: Fn(&Lookup<F>) -> Result<usize, LookupError>> TrialDegrees<F> 
     fn keep(&self, _lookup: &Lookup<F>) {}
 
     fn keep_trial(&self, _column: (), _next: ()) {}
+
+    fn is_above(&self, _kept: (), _max_degree: usize) -> bool {
+        false
+    }
 
     fn degree(&self, lookup: &Lookup<F>, _kept: ()) -> Result<usize, LookupError> {
         (self.degree)(lookup)
@@ -104,10 +116,28 @@ impl<F: Field> TrialDegrees<F> for GadgetDegrees {
         column?.plus(next?).ok()
     }
 
+    fn is_above(&self, kept: Option<SumDegrees>, max_degree: usize) -> bool {
+        match kept {
+            Some(sum) => is_degree_above(sum, max_degree),
+            None => false,
+        }
+    }
+
     fn degree(&self, lookup: &Lookup<F>, kept: Option<SumDegrees>) -> Result<usize, LookupError> {
         match kept {
             Some(sum) => sum.degree(),
             None => Err(LookupError::DegreeOverflow),
         }
+    }
+}
+
+/// Whether the degree of the constraint of this sum fits, and is above the greatest one.
+fn is_degree_above(sum: SumDegrees, max_degree: usize) -> bool
+    ensures { result ≡ true → (degrees : List BranchDegrees) → AreSumDegrees degrees sum
+        → (n : ℕ) × IsDegree (Ok n) (constraint_degree_of None degrees) × (max_degree < n) }
+{
+    match sum.degree() {
+        Ok(degree) => max_degree < degree,
+        Err(_) => false,
     }
 }
