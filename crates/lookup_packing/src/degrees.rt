@@ -1,11 +1,9 @@
 //! What tells the degree of a trial: a closure that is asked, or degrees that are kept.
-ghost use Rattle.std.specs.Prelude.{◌≡◌, ◌<◌, ℕ, ⊤, List, None, Result, Ok, true};
+ghost use Rattle.std.specs.Prelude.{◌≡◌, ◌<◌, ℕ, ⊤, Result, Ok, true};
 ghost use Rattle.std.specs.Borrow.{Bor};
 ghost use Rattle.std.specs.Fn.{FnReturnsAt};
 ghost use Rattle.expressions.specs.declared.base_expression.SymbolicExpression.{SymbolicExpression};
-ghost use Rattle.lookup_model.specs.LookupDegree.{BranchDegrees, IsDegree, constraint_degree_of};
 ghost use Rattle.lookup_model.specs.Outline.{Outline, fields_of};
-ghost use Rattle.lookup_model.specs.SumDegrees.{AreSumDegrees};
 ghost use Rattle.lookup_model.specs.declared.error.LookupError.{LookupError};
 ghost use Rattle.lookup_model.specs.declared.types.Lookup.{Lookup};
 ghost use Rattle.lookup_packing.specs.Fewest.{AnswersDegree};
@@ -118,7 +116,10 @@ impl<F: Field> TrialDegrees<F> for GadgetDegrees {
 
     fn is_above(&self, kept: Option<SumDegrees>, max_degree: usize) -> bool {
         match kept {
-            Some(sum) => is_degree_above(sum, max_degree),
+            Some(sum) => match sum.degree() {
+                Ok(degree) => max_degree < degree,
+                Err(_) => false,
+            },
             None => false,
         }
     }
@@ -128,16 +129,5 @@ impl<F: Field> TrialDegrees<F> for GadgetDegrees {
             Some(sum) => sum.degree(),
             None => Err(LookupError::DegreeOverflow),
         }
-    }
-}
-
-/// Whether the degree of the constraint of this sum fits, and is above the greatest one.
-fn is_degree_above(sum: SumDegrees, max_degree: usize) -> bool
-    ensures { result ≡ true → (degrees : List BranchDegrees) → AreSumDegrees degrees sum
-        → (n : ℕ) × IsDegree (Ok n) (constraint_degree_of None degrees) × (max_degree < n) }
-{
-    match sum.degree() {
-        Ok(degree) => max_degree < degree,
-        Err(_) => false,
     }
 }
