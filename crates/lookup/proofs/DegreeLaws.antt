@@ -1,5 +1,5 @@
 -- What is kept of lookups for their degrees.
-use Rattle.std.proofs.Common.{◌≡◌, ◌≤◌, ◌^◌, ℕ, List, ◌++◌, ◌∙◌, None, Some, Option, Result, Ok, Err, MatchOption, MatchResult, map, arith, ap, refl, subst, sym, length-append}
+use Rattle.std.proofs.Common.{◌≡◌, ◌<◌, ◌≤◌, ◌^◌, ℕ, List, ◌++◌, ◌∙◌, None, Some, Option, Result, Ok, Err, IfOk, MatchOption, MatchResult, map, arith, ap, refl, subst, sym, length-append}
 use Rattle.std.proofs.lemmas.List.{map-append}
 use Rattle.std.specs.List.{zip}
 use Rattle.std.specs.Option.{option_map}
@@ -13,6 +13,7 @@ use Rattle.lookup_model.specs.declared.error.LookupError.{LookupError}
 use Rattle.lookup_model.specs.declared.error.LookupError.TheVariants.{DegreeOverflow}
 use Rattle.lookup_model.specs.declared.sum_degrees.SumDegrees.{SumDegrees}
 use Rattle.lookup_model.specs.declared.types.Lookup.{Lookup}
+use Rattle.lookup.specs.Fewest.{AnswersDegree}
 use Rattle.lookup.specs.Packing.{trial}
 use Rattle.lookup.specs.TrialDegrees.{IsPlain, KeepsDegrees}
 use Rattle.lookup.specs.Trials.{IsMember}
@@ -69,9 +70,10 @@ module _ {F : Type 0} where
     known = omega (arith, second.known, degree_of_back (outline_branch_degrees 0 a) (outline_branch_degrees 0 b), ap (constraint_degree_of None) (trial_branches a b first.plain));
   }
 
-  -- the degree of a lookup by what is kept of it
-  pub degree_of_kept : (o : Outline (SymbolicExpression F)) (sum : SumDegrees) (r : Result ℕ LookupError) → ((bs : List BranchDegrees) → AreSumDegrees bs sum → IsDegree r (constraint_degree_of None bs)) → KeepsDegrees (Some sum) o → IsDegree r (outline_degree 0 o)
-  degree_of_kept o sum r degree kept = subst (IsDegree r) (sym (plain_degree o kept.plain)) (degree (outline_branch_degrees 0 o) kept.known)
+  -- what the gadget answers to a lookup, by what is kept of it
+  pub answers_kept : (o : Outline (SymbolicExpression F)) (sum : SumDegrees) (r : Result ℕ LookupError) → ((bs : List BranchDegrees) → AreSumDegrees bs sum → IsDegree r (constraint_degree_of None bs)) → IfOk r (λ n. n < 2 ^ 64)
+      → KeepsDegrees (Some sum) o → AnswersDegree o r
+  answers_kept o sum r degree small kept = (subst (IsDegree r) (sym (plain_degree o kept.plain)) (degree (outline_branch_degrees 0 o) kept.known), small)
 
-  pub degree_of_none : (o : Outline (SymbolicExpression F)) → KeepsDegrees None o → IsDegree (Err DegreeOverflow) (outline_degree 0 o)
-  degree_of_none o kept = (refl, omega (arith, kept.known, plain_degree o kept.plain))
+  pub answers_none : (o : Outline (SymbolicExpression F)) → KeepsDegrees None o → AnswersDegree o (Err DegreeOverflow)
+  answers_none o kept = ((refl, omega (arith, kept.known, plain_degree o kept.plain)), tt)

@@ -52,7 +52,7 @@ module _ {F : Type 0} where
         not_fit : (p : Outline (SymbolicExpression F) × List (Outline (SymbolicExpression F))) (o : Outline (SymbolicExpression F)) → AllByRecursion IsPlain (part_items (with_next p o)) → IsAbove AnswersDegree most p o → Fits (part_items p ++ o ∷ []) → ⊥
         not_fit p o plain above fits =
             let degree : outline_degree 0 (trial (joined p) o) ≡ constraint_degree_of None (flat_map (outline_branch_degrees 0) (part_items p ++ o ∷ [])) = sym (ap (outline_degree 0) (joined_more p o)) ∙ joined_degree (with_next p o) plain in
-            omega (arith, above.1, above.2, fits, degree)
+            omega (arith, above.1.0, above.2, fits, degree)
 
     -- what a split asks of its parts is that they fit
     split_fits : (split : List (Outline (SymbolicExpression F) × List (Outline (SymbolicExpression F)))) → AllByRecursion IsPlain (flat_map part_items split)

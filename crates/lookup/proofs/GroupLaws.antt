@@ -1,12 +1,13 @@
 -- Groups of lookups, lookup by lookup.
-use Rattle.std.proofs.Common.{◌≡◌, ◌<◌, ◌+◌, ℕ, length, get_or, take, Bool, true, false, cond, ◌||◌, unwrap_or, List, [], ◌∷◌, ◌++◌, Option, None, Some, map, option_map, nat_eq, refl, sym, ap, ◌∙◌, true≢false, Decides}
+use Rattle.std.proofs.Common.{◌≡◌, ◌<◌, ◌+◌, ℕ, zero, suc, length, get_or, slice_get, take, Bool, true, false, cond, not, ◌||◌, is_some, unwrap_or, List, [], ◌∷◌, ◌++◌, Option, None, Some, map, option_map, nat_eq, nat_lt, position, refl, sym, ap, ◌∙◌, true≢false, Decides}
 use Rattle.std.proofs.lemmas.Bool.Decides.{Decides-eqb}
-use Rattle.std.proofs.lemmas.List.{append-nil, map-append}
+use Rattle.std.proofs.lemmas.List.{append-nil, length-map, map-append}
 use Rattle.std.proofs.lemmas.List.Elements.{filter-append, filter_map-append}
+use Rattle.std.proofs.lemmas.Option.{slice_get-map}
 use Rattle.std.proofs.lemmas.Slice.Eq.{slice_eq-Decides}
 use Rattle.std.specs.Cmp.Lexicographic.{pointwise}
-use Rattle.std.specs.List.{cons_option, filter_map, list_any}
-use Rattle.std.specs.Map.{lookup}
+use Rattle.std.specs.List.{cons_option, filter_map, list_any, prefix_len}
+use Rattle.std.specs.Map.{keys_of, lookup, values_of}
 use Rattle.std.specs.Option.{option_map_or}
 use Rattle.std.specs.declared.alloc.Global.{Global}
 use Rattle.std.specs.Borrow.{Bor}
@@ -14,7 +15,8 @@ use Rattle.std.specs.String.{string_bytes}
 use Rattle.std.specs.declared.string.String.{String}
 use Rattle.std.specs.declared.vec.Vec.{Vec}
 use Rattle.expressions.specs.declared.base_expression.SymbolicExpression.{SymbolicExpression}
-use Rattle.indexmap.specs.IndexMap.{insert_entry}
+use Rattle.indexmap.proofs.MapLemmas.{Found, Found-position, insert_entry-first}
+use Rattle.indexmap.specs.IndexMap.{insert_entry, set_value_at}
 use Rattle.lookup_model.proofs.Lookups.Regrouping.{first_seen_separate}
 use Rattle.lookup_model.specs.Net.{first_seen}
 use Rattle.lookup_model.specs.Outline.{Outline, bus_of, fields_of}
@@ -100,6 +102,16 @@ module _ {E : Type 0} where
       others : (n : List ℕ) → same_name name n ≡ false → on_bus n os ≡ on_bus n (os ++ o ∷ [])
       others n apart = sym (at n ∙ ap (λ b. on_bus n os ++ cond b (o ∷ []) []) (turned same_name same_name-Decides n name ∙ apart) ∙ append-nil (on_bus n os))
 
+-- the index of the first item that passes, among items that are seen through a view
+prefix_len-map : {A B : Type 0} (see : A → B) (p : B → Bool) (xs : List A) → prefix_len p (map see xs) ≡ prefix_len (λ x. p (see x)) xs
+prefix_len-map see p [] = refl
+prefix_len-map see p (x ∷ xs) = ap (λ n. cond (p (see x)) (1 + n) 0) (prefix_len-map see p xs)
+
+position-map : {A B : Type 0} (see : A → B) (p : B → Bool) (xs : List A) → position p (map see xs) ≡ position (λ x. p (see x)) xs
+position-map see p xs =
+    let at = prefix_len-map see (λ y. not (p y)) xs in
+    λ i. cond (nat_lt (at i) (length-map xs see i)) (Some (at i)) None
+
 -- a map whose keys and values are seen through views
 module _ {K V X : Type 0} (key : K → List ℕ) (items : V → List X) where
   abbrev pub viewed : List (K × V) → List (List ℕ × List X)
@@ -123,6 +135,39 @@ module _ {K V X : Type 0} (key : K → List ℕ) (items : V → List X) where
       by_test true rest = refl
       by_test false rest = ap (λ t. (key e.0, items e.1) ∷ t) rest
 
+  set-viewed : (es : List (K × V)) (i : ℕ) (v : V) → viewed (set_value_at es i v) ≡ set_value_at (viewed es) i (items v)
+  set-viewed [] i v = refl
+  set-viewed (e ∷ es) zero v = refl
+  set-viewed (e ∷ es) (suc i) v = ap (λ t. (key e.0, items e.1) ∷ t) (set-viewed es i v)
+
+  keys-viewed : (es : List (K × V)) → keys_of (viewed es) ≡ map key (keys_of es)
+  keys-viewed [] = refl
+  keys-viewed (e ∷ es) = ap (λ t. key e.0 ∷ t) (keys-viewed es)
+
+  values-viewed : (es : List (K × V)) → values_of (viewed es) ≡ map items (values_of es)
+  values-viewed [] = refl
+  values-viewed (e ∷ es) = ap (λ t. items e.1 ∷ t) (values-viewed es)
+
+  module _ (es : List (K × V)) (name : List ℕ) (i : ℕ) (at : position (λ j. same_name name (key j)) (keys_of es) ≡ Some i) where
+    found_at : Found (same_name name) (viewed es) i
+    found_at = Found-position (same_name name) (viewed es) i (ap (position (same_name name)) (keys-viewed es) ∙ position-map key (same_name name) (keys_of es) ∙ at)
+
+    -- what is seen at a name is the value at its index
+    lookup_at : (v : V) → slice_get (values_of es) i ≡ Some v → lookup (same_name name) (viewed es) ≡ Some (items v)
+    lookup_at v had = found_at.value ∙ ap (λ t. slice_get t i) (values-viewed es) ∙ slice_get-map items (values_of es) i ∙ ap (option_map items) had
+
+    -- to write a value at the index of a name is to insert it under the name
+    written_at : (v : V) → viewed (set_value_at es i v) ≡ insert_entry same_name (viewed es) name (items v)
+    written_at v = set-viewed es i v ∙ sym (insert_entry-first same_name name (items v) (viewed es) i found_at.first)
+
+-- The step of a map of groups, as it is seen: one more lookup under its name.
+one_more_seen : {E : Type 0} (os : List (Outline E)) (o : Outline E) (name : List ℕ) (es after : List (List ℕ × List (Outline E))) (group : List (Outline E))
+    → es ≡ bus_groups os → o.bus ≡ Some name → group ≡ option_map_or (λ t. t) (lookup (same_name name) es) [] ++ o ∷ []
+    → after ≡ insert_entry same_name es name group → after ≡ bus_groups (os ++ o ∷ [])
+one_more_seen os o name es after group so_far on group_is after_is =
+    let grown = group_is ∙ ap (λ t. option_map_or (λ s. s) (lookup (same_name name) t) [] ++ o ∷ []) so_far in
+    after_is ∙ (λ i. insert_entry same_name (so_far i) name (grown i)) ∙ groups-push os o name on
+
 -- The step of a map of groups: one more lookup at its key.
 module _ {E K V : Type 0} (key : K → List ℕ) (items : V → List (Outline E)) where
   pub one_more : (os : List (Outline E)) (o : Outline E) (es : List (K × V)) (k : K) (group : V)
@@ -130,16 +175,13 @@ module _ {E K V : Type 0} (key : K → List ℕ) (items : V → List (Outline E)
       → items group ≡ option_map_or items (lookup (λ j. same_name (key k) (key j)) es) [] ++ o ∷ []
       → viewed key items (insert_entry (λ i j. same_name (key i) (key j)) es k group) ≡ bus_groups (os ++ o ∷ [])
   one_more os o es k group so_far on group_is =
-      insert-viewed key items es k group
-      ∙ (λ i. insert_entry same_name (so_far i) (key k) ((group_is ∙ ap (λ t. t ++ o ∷ []) found) i))
-      ∙ groups-push os o (key k) on
+      one_more_seen os o (key k) (viewed key items es) (viewed key items (insert_entry (λ i j. same_name (key i) (key j)) es k group)) (items group) so_far on
+      (group_is ∙ ap (λ t. t ++ o ∷ []) (mapped (lookup (λ j. same_name (key k) (key j)) es) ∙ ap (λ t. option_map_or (λ s. s) t []) (lookup-viewed key items k es)))
+      (insert-viewed key items es k group)
     where
       mapped : (t : Option V) → option_map_or items t [] ≡ option_map_or (λ (s : List (Outline E)). s) (option_map items t) []
       mapped None = refl
       mapped (Some v) = refl
-
-      found : option_map_or items (lookup (λ j. same_name (key k) (key j)) es) [] ≡ option_map_or (λ t. t) (lookup (same_name (key k)) (bus_groups os)) []
-      found = mapped (lookup (λ j. same_name (key k) (key j)) es) ∙ ap (λ t. option_map_or (λ s. s) t []) (lookup-viewed key items k es ∙ ap (lookup (same_name (key k))) so_far)
 
 -- the group that a map has at a key, or an empty one
 pub group_items : {T : Type 0} (found : Option (Vec T Global)) (group empty : Vec T Global) → group ≡ unwrap_or found empty → empty.items ≡ [] → group.items ≡ option_map_or (λ v. v.items) found []
@@ -181,6 +223,29 @@ module _ {F : Type 0} where
       ap (map owned_group_of) after_is
       ∙ one_more (λ (b : String Global). string_bytes b) (λ (v : Vec (Lookup F) Global). map fields_of v.items) os (fields_of l) es k group so_far on
       (seen_items fields_of (lookup (λ j. same_name (string_bytes k) (string_bytes j)) es) l group items)
+
+  -- the same by the index of its name
+  pub owned_at : (os : List (Outline (SymbolicExpression F))) (l : Lookup F) (es after : List (String Global × Vec (Lookup F) Global)) (name : List ℕ) (i : ℕ) (before group : Vec (Lookup F) Global)
+      → map owned_group_of es ≡ bus_groups os → bus_of l.kind ≡ Some name → position (λ j. same_name name (string_bytes j)) (keys_of es) ≡ Some i → slice_get (values_of es) i ≡ Some before
+      → group.items ≡ before.items ++ l ∷ [] → after ≡ set_value_at es i group → map owned_group_of after ≡ bus_groups (os ++ fields_of l ∷ [])
+  owned_at os l es after name i before group so_far on at had put after_is =
+      let key : String Global → List ℕ = λ b. string_bytes b in
+      let items : Vec (Lookup F) Global → List (Outline (SymbolicExpression F)) = λ v. map fields_of v.items in
+      one_more_seen os (fields_of l) name (viewed key items es) (map owned_group_of after) (items group) so_far on
+      (ap (map fields_of) put ∙ map-append fields_of before.items (l ∷ []) ∙ ap (λ t. option_map_or (λ s. s) t [] ++ fields_of l ∷ []) (sym (lookup_at key items es name i at before had)))
+      (ap (map owned_group_of) after_is ∙ written_at key items es name i at group)
+
+  -- the same under a new name
+  pub owned_new : (os : List (Outline (SymbolicExpression F))) (l : Lookup F) (es after : List (String Global × Vec (Lookup F) Global)) (k : String Global) (name : List ℕ) (group : Vec (Lookup F) Global)
+      → map owned_group_of es ≡ bus_groups os → bus_of l.kind ≡ Some name → string_bytes k ≡ name → false ≡ is_some (lookup (λ j. same_name name (string_bytes j)) es)
+      → group.items ≡ l ∷ [] → after ≡ insert_entry (λ a b. same_name (string_bytes a) (string_bytes b)) es k group → map owned_group_of after ≡ bus_groups (os ++ fields_of l ∷ [])
+  owned_new os l es after k name group so_far on copied new put after_is =
+      let none = ap (λ n. lookup (λ j. same_name n (string_bytes j)) es) copied ∙ none_of (lookup (λ j. same_name name (string_bytes j)) es) new in
+      owned_more os l es after k so_far (on ∙ ap Some (sym copied)) (group, put ∙ ap (λ t. option_map_or (λ (v : Vec (Lookup F) Global). v.items) t [] ++ l ∷ []) (sym none), after_is)
+    where
+      none_of : {A : Type 0} (o : Option A) → false ≡ is_some o → o ≡ None
+      none_of None e = refl
+      none_of (Some x) e = absurd (true≢false (sym e))
 
 -- the groups of a map without their names
 pub groups_only : {F : Type 0} (es : List (String Global × Vec (Lookup F) Global)) (gs : List (List ℕ × List (Outline (SymbolicExpression F)))) → map owned_group_of es ≡ gs → map owned_group (map (λ e. e.1) es) ≡ map (λ g. g.1) gs

@@ -1,5 +1,5 @@
 -- Fewest columns: no consecutive split of a bus has fewer.
-use Rattle.std.specs.Prelude.{◌≡◌, ◌≤◌, ◌⊎◌, ℕ, List, [], length, Result}
+use Rattle.std.specs.Prelude.{◌≡◌, ◌<◌, ◌≤◌, ◌^◌, ◌⊎◌, ℕ, List, [], length, Result, IfOk}
 use Rattle.std.specs.List.{AllByRecursion}
 use Rattle.expressions.specs.declared.base_expression.SymbolicExpression.{SymbolicExpression}
 use Rattle.lookup_model.specs.LookupDegree.{IsDegree, outline_degree}
@@ -10,9 +10,10 @@ use Rattle.lookup.specs.Cuts.{IsCut}
 use Rattle.lookup.specs.Packing.{additive, joined}
 
 module _ {F : Type 0} where
-  -- what the gadget answers to a lookup, where the transition selector has degree 0
+  -- what the gadget answers to a lookup, where the transition selector has degree 0: the degree, exactly
+  -- if it fits 64 bits
   abbrev pub AnswersDegree : Outline (SymbolicExpression F) → Result ℕ LookupError → Type 0
-  AnswersDegree o r = IsDegree r (outline_degree 0 o)
+  AnswersDegree o r = IsDegree r (outline_degree 0 o) × IfOk r (λ n. n < 2 ^ 64)
 
   -- For each bus there are no more columns than any consecutive split of its lookups has parts, if
   -- each part has one member or a joined lookup whose degree is within the budget.

@@ -1,2 +1,3 @@
 mod BatchLaws
+mod PlanLaws
 mod PushLaws

@@ -5,11 +5,14 @@ use Rattle.std.specs.declared.alloc.Global.{Global}
 use Rattle.std.specs.declared.vec.Vec.{Vec}
 use Rattle.matrix.specs.Matrix.{Matrix}
 use Rattle.expressions.specs.Layout.{layout_of_widths}
+use Rattle.expressions.specs.declared.base_expression.SymbolicExpression.{SymbolicExpression}
+use Rattle.lookup_record.specs.Interaction.{Tuple}
 use Rattle.lookup_model.specs.Challenges.{ChallengeTable}
 use Rattle.field.specs.Extension.{Extension}
 use Rattle.lookup_model.specs.Net.{IsBalanced}
 use Rattle.lookup_model.specs.Records.{DoFit}
 use Rattle.lookup_model.specs.declared.error.LookupError.{LookupError}
+use Rattle.lookup.specs.Extraction.{IsFirstLocalRefusal}
 use Rattle.lookup.specs.Lookups.{lookups_of}
 use Rattle.lookup.specs.declared.lookups.Lookups.{Lookups}
 use Rattle.lookup_model.specs.Batches.Counts.{IsAccepting}
@@ -19,6 +22,7 @@ use Rattle.lookup_model.specs.Batches.Messages.{batch_messages}
 use Rattle.lookup_model.specs.Batches.Refusals.{IsWitnessRefusal}
 use Rattle.lookup_model.specs.Batches.Witnesses.{IsAccepted, plain_witness}
 use Rattle.lookup_model.specs.declared.fault.BatchFault.{BatchFault}
+use Rattle.batch.specs.Checks.{IsPlanRefusal}
 use Rattle.batch.specs.Lists.{lists_of}
 use Rattle.batch.specs.Refusals.{of_fault}
 use Rattle.batch.specs.Tables.{made_table}
@@ -35,6 +39,20 @@ module _ {F : Type 0} where
   -- the traces, AIR by AIR
   abbrev pub mains_of : MemoryTraces F → List (Matrix F)
   mains_of traces = traces.accesses ∷ traces.boundary ∷ traces.gaps ∷ []
+
+module _ (F : Type 0) where
+  -- The refusal of the lookups of the AIRs: memory runs out, or a local lookup among what an AIR has
+  -- pushed is refused.
+  abbrev pub IsLookupsRefusal : BatchError → Type 0
+  IsLookupsRefusal e =
+      (e ≡ Memory)
+      ⊎ ((error : LookupError) × (locals : List (List (Tuple (SymbolicExpression F)))) × IsFirstLocalRefusal locals error × (e ≡ OfLookup error))
+
+  -- The refusal of a plan over fields of this characteristic, for traces of these heights: that of the
+  -- lookups, or of a check of the plan of lookups that fit.
+  abbrev pub IsMemoryPlanRefusal : ℕ → List ℕ → BatchError → Type 0
+  IsMemoryPlanRefusal p heights e =
+      IsLookupsRefusal e ⊎ ((airs : List (Lookups F)) × DoLookupsFit airs × IsPlanRefusal p airs heights e)
 
 -- a plan by its parts, and the traces that are checked over it
 module _ {F K : Type 0} (E : Extension F K) (alpha beta : K) (airs : List (Lookups F)) (heights : List ℕ) (ids : List (Vec ℕ Global)) (W m : ℕ) (mains : List (Matrix F)) where

@@ -1,7 +1,7 @@
 //! The memory check: from its AIRs to a plan, and from traces to an accepted witness.
 ghost use Rattle.std.specs.Prelude.{◌≡◌, [], ◌∷◌, None, IfErr, IfOk, OnOk};
 ghost use Rattle.batch.specs.Traces.{shown_of};
-ghost use Rattle.memory_check.specs.Memory.{DoLookupsFit, IsAcceptedMemory, IsMemoryRefusal, mains_of};
+ghost use Rattle.memory_check.specs.Memory.{DoLookupsFit, IsAcceptedMemory, IsLookupsRefusal, IsMemoryPlanRefusal, IsMemoryRefusal, mains_of};
 
 use crate::airs::{AccessesAir, BoundaryAir, GapsAir};
 use batch::{BatchError, BatchPlan, BatchTrace};
@@ -25,7 +25,8 @@ pub struct MemoryTraces<F> {
 /// of the gaps. Its lookups are those that the AIRs push, which fit traces of 5, 4 and 2 columns.
 ///
 /// Refuses heights at which a count could wrap; see [`BatchPlan::new`]. Also fails when out of
-/// memory. That it is refused for nothing else is left to tests, and so is what the lookups are.
+/// memory. A refusal of a local lookup, and of another check of the plan, no clause rules out: that
+/// none comes is left to tests, and so is what the lookups are.
 pub fn memory_plan<F: Field, EF: ExtensionField<F>>(
     alloc: Global,
     accesses: usize,
@@ -34,6 +35,8 @@ pub fn memory_plan<F: Field, EF: ExtensionField<F>>(
 ) -> Result<BatchPlan<F>, BatchError>
     ensures fit { IfOk result (λ plan. DoLookupsFit plan.airs.items) }
     ensures heights { IfOk result (λ plan. plan.heights.items ≡ accesses ∷ boundary ∷ gaps ∷ []) }
+    ensures refused { IfErr result (IsMemoryPlanRefusal F F.CHARACTERISTIC
+        (accesses ∷ boundary ∷ gaps ∷ [])) }
 {
     let lookups = memory_lookups::<F, EF>(alloc)?;
     let heights = Vec::from_array(alloc, [accesses, boundary, gaps])?;
@@ -44,7 +47,8 @@ pub fn memory_plan<F: Field, EF: ExtensionField<F>>(
 fn memory_lookups<F: Field, EF: ExtensionField<F>>(
     alloc: Global,
 ) -> Result<Vec<Lookups<F>>, BatchError>
-    ensures { IfOk result (λ lookups. DoLookupsFit lookups.items) }
+    ensures fit { IfOk result (λ lookups. DoLookupsFit lookups.items) }
+    ensures refused { IfErr result (IsLookupsRefusal F) }
 {
     let accesses = Lookups::from_air::<EF, AccessesAir>(alloc, &AccessesAir)?;
     let boundary = Lookups::from_air::<EF, BoundaryAir>(alloc, &BoundaryAir)?;

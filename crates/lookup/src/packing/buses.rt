@@ -1,8 +1,9 @@
 //! Groups of lookups by bus.
-ghost use Rattle.std.specs.Prelude.{◌≡◌, ◌++◌, [], ◌∷◌, IfOk, OnOk, map, None, Some, option_map, string_bytes};
+ghost use Rattle.std.specs.Prelude.{◌≡◌, ◌++◌, [], ◌∷◌, List, IfOk, OnOk, map, None, Some, option_map};
 ghost use Rattle.std.specs.Option.{option_map_or};
 ghost use Rattle.indexmap.specs.IndexMap.{get, insert_entry, values};
-ghost use Rattle.lookup_model.specs.Outline.{bus_of, fields_of};
+ghost use Rattle.expressions.specs.declared.base_expression.SymbolicExpression.{SymbolicExpression};
+ghost use Rattle.lookup_model.specs.Outline.{Outline, bus_of, fields_of};
 ghost use Rattle.lookup.specs.Buses.{bus_groups, group_of, owned_group, owned_group_of};
 
 use field::Field;
@@ -32,8 +33,7 @@ pub fn by_bus<'a, F: Field>(
     Ok(buses)
 }
 
-/// The groups of lookups that are moved into them, without their names. Each lookup takes a copy of
-/// the name of its bus as its key.
+/// The groups of lookups that are moved into them, without their names.
 pub(crate) fn moved_by_bus<F: Field>(
     alloc: Global,
     lookups: Vec<Lookup<F>>,
@@ -66,22 +66,47 @@ fn moved_under_names<F: Field>(
 {
     let mut buses = IndexMap::new(alloc);
     for lookup in lookups {
-        match copied_name(alloc, &lookup)? {
-            Some(name) => push_at(alloc, &mut buses, name, lookup)?,
-            None => drop(lookup),
-        }
+        push_under_name(alloc, &mut buses, lookup)?;
     }
     Ok(buses)
 }
 
-/// A copy of the name of the bus of a lookup, if there is one.
-fn copied_name<F: Field>(alloc: Global, lookup: &Lookup<F>) -> Result<Option<String>, AllocError>
-    ensures { IfOk result (λ name. option_map (λ text. string_bytes text) name
-        ≡ bus_of lookup.now.kind) }
+/// Moves a lookup to the end of the group of its bus. The group of a new bus goes last, under a copy of
+/// the name. A local lookup is dropped.
+fn push_under_name<F: Field>(
+    alloc: Global,
+    groups: &mut IndexMap<String, Vec<Lookup<F>>>,
+    lookup: Lookup<F>,
+) -> Result<(), AllocError>
+    ensures { (before : List (Outline (SymbolicExpression F)))
+        → map owned_group_of groups.old.entries ≡ bus_groups before
+        → OnOk result (map owned_group_of groups.new.entries
+        ≡ bus_groups (before ++ fields_of lookup ∷ [])) }
+{
+    let Some(name) = bus_name(&lookup) else {
+        return Ok(());
+    };
+    match groups.get_index_of(name) {
+        Some(place) => {
+            groups[place].push(lookup)?;
+            Ok(())
+        }
+        None => {
+            let name = String::from_str(alloc, name)?;
+            let group = Vec::from_array(alloc, [lookup])?;
+            groups.insert(name, group)?;
+            Ok(())
+        }
+    }
+}
+
+/// The name of the bus of a lookup, if there is one.
+fn bus_name<F: Field>(lookup: &Lookup<F>) -> Option<&str>
+    ensures { option_map (λ name. name.now) result ≡ bus_of lookup.now.kind }
 {
     match &lookup.kind {
-        Kind::Local => Ok(None),
-        Kind::Global(name) => Ok(Some(String::from_str(alloc, name.as_str())?)),
+        Kind::Local => None,
+        Kind::Global(name) => Some(name.as_str()),
     }
 }
 

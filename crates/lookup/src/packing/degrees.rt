@@ -1,5 +1,5 @@
 //! What tells the degree of a trial: a closure that is asked, or degrees that are kept.
-ghost use Rattle.std.specs.Prelude.{◌≡◌, ℕ, ⊤, Result};
+ghost use Rattle.std.specs.Prelude.{◌≡◌, ◌<◌, ℕ, ⊤, Result, Ok, true};
 ghost use Rattle.std.specs.Borrow.{Bor};
 ghost use Rattle.std.specs.Fn.{FnReturnsAt};
 ghost use Rattle.expressions.specs.declared.base_expression.SymbolicExpression.{SymbolicExpression};
@@ -40,6 +40,12 @@ pub(crate) trait TrialDegrees<F: Field> {
         ensures { (a b : Outline (SymbolicExpression F)) → keeps self.now column a
             → keeps self.now next b → keeps self.now result (trial a b) };
 
+    /// Whether a trial is above the greatest degree, as far as what it keeps of the trial tells. Then
+    /// the trial need not be made.
+    fn is_above(&self, kept: Self::Kept, max_degree: usize) -> bool
+        ensures { result ≡ true → (o : Outline (SymbolicExpression F)) → keeps self.now kept o
+            → (n : ℕ) × answers self.now o (Ok n) × (max_degree < n) };
+
     /// The degree of a trial.
     fn degree(&self, lookup: &Lookup<F>, kept: Self::Kept) -> Result<usize, LookupError>
         requires asked { may_ask self.now lookup.now }
@@ -69,6 +75,10 @@ impl<F: Field, D: Fn(&Lookup<F>) -> Result<usize, LookupError>> TrialDegrees<F> 
     fn keep(&self, _lookup: &Lookup<F>) {}
 
     fn keep_trial(&self, _column: (), _next: ()) {}
+
+    fn is_above(&self, _kept: (), _max_degree: usize) -> bool {
+        false
+    }
 
     fn degree(&self, lookup: &Lookup<F>, _kept: ()) -> Result<usize, LookupError> {
         (self.degree)(lookup)
@@ -102,6 +112,16 @@ impl<F: Field> TrialDegrees<F> for GadgetDegrees {
         next: Option<SumDegrees>,
     ) -> Option<SumDegrees> {
         column?.plus(next?).ok()
+    }
+
+    fn is_above(&self, kept: Option<SumDegrees>, max_degree: usize) -> bool {
+        match kept {
+            Some(sum) => match sum.degree() {
+                Ok(degree) => max_degree < degree,
+                Err(_) => false,
+            },
+            None => false,
+        }
     }
 
     fn degree(&self, lookup: &Lookup<F>, kept: Option<SumDegrees>) -> Result<usize, LookupError> {

@@ -17,9 +17,11 @@ pub(crate) enum Trial<F> {
     Apart(Lookup<F>, Lookup<F>),
 }
 
-/// Tries the next lookup with the open column: moves its tuples behind those of the column, asks for
-/// the degree, and moves them back if that is above the greatest that is allowed. `kept` is what
-/// `degrees` keeps of the trial.
+/// Tries the next lookup with the open column. `kept` is what `degrees` keeps of the trial.
+///
+/// If that alone tells that the degree is above the greatest that is allowed, nothing moves. Otherwise
+/// it moves the tuples of the lookup behind those of the column, asks for the degree, and moves them
+/// back if that is too great.
 ///
 /// Refuses what is refused for the degree, and `CountWeightOverflow` if the degree is within the
 /// budget and the weights have no sum that fits.
@@ -39,6 +41,9 @@ pub(crate) fn tried<F: Field, T: TrialDegrees<F>>(
         (λ e. (e ≡ LookupError.Memory)
         ⊎ IsTrialRefusal (T.answers degrees.now) max_degree (fields_of column) (fields_of next) e) }
 {
+    if degrees.is_above(kept, max_degree) {
+        return Ok(Trial::Apart(column, next));
+    }
     let mut column = column;
     let mut next = next;
     let pivot = column.elements.len();

@@ -210,7 +210,8 @@ fn columns_of_two_buses(rt: HostRuntime) {
     );
 }
 
-/// Weights add.
+/// Weights add, where lookups are joined. A degree above the budget is found before a sum of weights
+/// that does not fit.
 #[test]
 fn weights_of_more_than_32_bits(rt: HostRuntime) {
     let alloc = rt.alloc();
@@ -218,6 +219,9 @@ fn weights_of_more_than_32_bits(rt: HostRuntime) {
     let sum = &[("a", 2, 4294967296)];
     expect_columns(&rt, alloc, "joined", members.as_slice(), 16, sum);
     let own = &[("a", 1, 4294967295), ("a", 1, 1)];
+    expect_columns(&rt, alloc, "apart", members.as_slice(), 2, own);
+    let members = [weighing("a", 18446744073709551615), on("a")];
+    let own = &[("a", 1, 18446744073709551615), ("a", 1, 1)];
     expect_columns(&rt, alloc, "apart", members.as_slice(), 2, own);
 }
 

@@ -1,0 +1,13 @@
+use Rattle.std.proofs.Common.{inl}
+use Rattle.std.proofs.lemmas.Result.{err_from_is_err_and}
+use Rattle.memory_check.proofs.PlanLaws.{plan_refused}
+use Rattle.memory_check.proofs.memory.memory_plan.Goals as goal
+
+pub returns-in_err-lookups-clause-refused : goal.returns-in_err-lookups-clause-refused
+returns-in_err-lookups-clause-refused g c =
+    let p = err_from_is_err_and c.from_residual.result c.from_residual.ensures.1 in
+    rw (p.1, p.2) (inl c.in_err-lookups.ensures.refused)
+
+pub returns-clause-refused : goal.returns-clause-refused
+returns-clause-refused g c =
+    plan_refused g.F.PrimeCharacteristicRing.CHARACTERISTIC c.in_ok-lookups.lookups.items c.in_ok-heights.heights.items _ c.new.result c.in_ok-heights.ensures.items c.in_ok-lookups.ensures.fit c.new.ensures
