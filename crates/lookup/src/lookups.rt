@@ -6,9 +6,8 @@ ghost use Rattle.serde.specs.Event.{WritesSeq};
 ghost use Rattle.lookup_model.specs.Outline.{outline_of};
 ghost use Rattle.lookup_model.specs.Records.{AreRecords, DoFit, IsFirstMalformed};
 
-use crate::extraction;
-use crate::packing;
 use crate::protocol::LookupProtocol;
+use crate::{extraction, packing};
 use air::{Air, AirLayout};
 use field::{ExtensionField, Field};
 use lookup_model::{Lookup, LookupError};

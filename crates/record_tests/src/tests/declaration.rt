@@ -1,6 +1,6 @@
 //! Declarations written as JSON, read and copied.
-use lookup_indexed::{IndexedRead, IndexedTable, TraceWindow};
 use super::holds;
+use lookup_indexed::{IndexedRead, IndexedTable, TraceWindow};
 use serde::{Deserialize, Serialize};
 use std::alloc::Global;
 use std::process::Abort;
