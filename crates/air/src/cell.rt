@@ -1,5 +1,5 @@
 //! The cells of a row, as expressions to build with.
-ghost use Rattle.std.specs.Prelude.{◌<◌, ◌≤◌, ℕ, All, IfErr, IfOk};
+ghost use Rattle.std.specs.Prelude.{◌≡◌, ◌<◌, ◌≤◌, ◌⊎◌, ℕ, All, IfErr, IfOk};
 ghost use Rattle.std.specs.List.{AllZip};
 ghost use Rattle.air.specs.Cell.{IsCell, IsCellRefusal, IsCellsRefusal, IsNarrow};
 
@@ -34,6 +34,8 @@ pub fn current_cell<AB: AirBuilder>(
     ensures degree { IfOk result (λ x. (t : ℕ) → AB.Expr.degree x t ≤ 1) }
     ensures within { IfOk result (λ x. AB.Expr.within (AB.layout builder.now) x) }
     ensures refused { IfErr result (IsCellRefusal AB.window_refuses AB.layout width builder.now) }
+    ensures found { column < (AB.layout builder.now).main_width
+        → IfErr result (AB.window_refuses builder.now) }
 {
     let main = builder.main(alloc)?;
     match main.current(column) {
@@ -57,6 +59,8 @@ pub fn next_cell<AB: AirBuilder>(
     ensures degree { IfOk result (λ x. (t : ℕ) → AB.Expr.degree x t ≤ 1) }
     ensures within { IfOk result (λ x. AB.Expr.within (AB.layout builder.now) x) }
     ensures refused { IfErr result (IsCellRefusal AB.window_refuses AB.layout width builder.now) }
+    ensures found { column < (AB.layout builder.now).main_width
+        → IfErr result (AB.window_refuses builder.now) }
 {
     let main = builder.main(alloc)?;
     match main.next(column) {
@@ -81,6 +85,8 @@ pub fn current_cells<AB: AirBuilder>(
     ensures within { IfOk result (λ tuple. All
         (AB.Expr.within (AB.layout builder.now)) tuple.items) }
     ensures refused { IfErr result (IsCellsRefusal AB.window_refuses AB.layout width builder.now) }
+    ensures found { All (λ column. column < (AB.layout builder.now).main_width) columns.now
+        → IfErr result (λ e. (e ≡ AirError.Memory) ⊎ AB.window_refuses builder.now e) }
 {
     let mut tuple = Vec::with_capacity(alloc, columns.len())?;
     for column in columns {

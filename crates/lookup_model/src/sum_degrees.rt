@@ -47,11 +47,11 @@ impl SumDegrees {
         })
     }
 
-    /// Those of the fractions of a lookup without flags, if the transition selector has degree
+    /// Those of the fractions of a lookup, its flags left out, if the transition selector has degree
     /// `transition`. Each expression is walked once.
     ///
     /// Refuses `DegreeOverflow`, exactly if one of them does not fit `usize`. Then the degree of the
-    /// lookup's constraint does not fit.
+    /// constraint does not fit, if the lookup has no flags.
     pub fn of_lookup<F>(lookup: &Lookup<F>, transition: usize) -> Result<Self, LookupError>
         requires { HasEqualLengths lookup.now }
         ensures { let degrees = lookup_branch_degrees transition lookup.now in

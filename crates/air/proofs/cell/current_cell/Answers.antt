@@ -1,6 +1,6 @@
-use Rattle.std.proofs.Common.{inl, inr, sym, ◌∙◌}
+use Rattle.std.proofs.Common.{arith, inl, inr, sym, ◌∙◌}
 use Rattle.std.proofs.lemmas.Result.{err_from_is_err_and}
-use Rattle.air.proofs.CellLaws.{cell_is, narrow_row}
+use Rattle.air.proofs.CellLaws.{cell_is, narrow_row, no_cell}
 use Rattle.air.proofs.cell.current_cell.Goals as goal
 
 pub current-requires : goal.current-requires
@@ -28,3 +28,12 @@ returns-in-Some-clause-within g c =
 pub returns-clause-refused : goal.returns-clause-refused
 returns-clause-refused g c =
     inr (narrow_row _ _ _ _ _ c.args.column c.args.width c.current_slice.result.now _ c.in_ok-main.ensures.current (sym c.current.ensures ∙ c.in-None.is) c.requires c.current_slice.ensures c.narrow.ensures)
+
+pub returns-in_err-main-clause-found : goal.returns-in_err-main-clause-found
+returns-in_err-main-clause-found g c = λ below.
+    let p = err_from_is_err_and c.from_residual.result c.from_residual.ensures.1 in
+    rw (p.1, p.2) c.in_err-main.ensures.refused
+
+pub returns-clause-found : goal.returns-clause-found
+returns-clause-found g c = λ below.
+    absurd (omega (arith, below, no_cell _ _ _ _ _ c.args.column c.in_ok-main.ensures.current (sym c.current.ensures ∙ c.in-None.is)))

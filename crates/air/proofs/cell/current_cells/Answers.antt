@@ -33,3 +33,18 @@ pub returns-in_err-push-clause-refused : goal.returns-in_err-push-clause-refused
 returns-in_err-push-clause-refused g c =
     let p = err_from_is_err_and c.from_residual-in_err-push.result c.from_residual-in_err-push.ensures.1 in
     rw p.1 (inl p.2)
+
+pub returns-in_err-tuple-clause-found : goal.returns-in_err-tuple-clause-found
+returns-in_err-tuple-clause-found g c = λ all.
+    let p = err_from_is_err_and c.from_residual.result c.from_residual.ensures.1 in
+    rw p.1 (inl p.2)
+
+pub returns-in_err-current_cell-clause-found : goal.returns-in_err-current_cell-clause-found
+returns-in_err-current_cell-clause-found g c = λ all.
+    let p = err_from_is_err_and c.from_residual-in_err-current_cell.result c.from_residual-in_err-current_cell.ensures.1 in
+    rw (p.1, p.2) (inr (c.in_err-current_cell.ensures.found (all c.loop-column.column-index 0 c.loop-column-test.true)))
+
+pub returns-in_err-push-clause-found : goal.returns-in_err-push-clause-found
+returns-in_err-push-clause-found g c = λ all.
+    let p = err_from_is_err_and c.from_residual-in_err-push.result c.from_residual-in_err-push.ensures.1 in
+    rw p.1 (inl p.2)
