@@ -13,7 +13,7 @@ use Rattle.lookup_model.specs.declared.instance.BatchInstance.{BatchInstance}
 use Rattle.lookup_model.specs.declared.types.Lookup.{Lookup}
 use Rattle.lookup.specs.Lookups.{lookups_of}
 use Rattle.lookup.specs.declared.lookups.Lookups.{Lookups}
-use Rattle.lookup_model.proofs.Batches.Lists.{all_back, all_front}
+use Rattle.lookup_model.proofs.Lists.{all_back, all_front}
 use Rattle.batch.proofs.Places.{HoldsBelow, holds_next}
 use Rattle.batch.specs.Lists.{lists_of}
 use Rattle.batch.specs.Pairs.{HaveIdsBelow}

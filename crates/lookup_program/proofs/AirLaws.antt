@@ -4,7 +4,7 @@ use Rattle.std.proofs.lemmas.List.Elements.{All-cons, All-nil}
 use Rattle.std.proofs.lemmas.Option.{get_or_from_slice_get}
 use Rattle.std.specs.declared.alloc.Global.{Global}
 use Rattle.std.specs.declared.vec.Vec.{Vec}
-use Rattle.field.specs.Ring.{Ring, IsCommutativeRing, of_nat}
+use Rattle.field.specs.Ring.{Ring}
 use Rattle.air.specs.Cell.{IsCell}
 use Rattle.expressions.specs.declared.error.AirError.{AirError}
 use Rattle.lookup_model.specs.Sent.{sent}
@@ -14,11 +14,6 @@ use Rattle.lookup.specs.Sends.{bus_and_weight, interaction_sends, interaction_tu
 use Rattle.lookup_program.specs.Machines.{DoesSend, message_of}
 use Rattle.lookup_program.specs.Pushes.{AreTwoKeys, IsCellTuple}
 use Rattle.lookup_program.specs.declared.airs.MachineAir.TheVariants.{Entries, Group, Keys, RangeCheck}
-
--- the whole number 1 is the one
-pub of_nat-one : {A : Type 0} {R : Ring A} → IsCommutativeRing R → of_nat R 1 ≡ R.one
-unfolding of_nat
-of_nat-one {R = R} laws = laws.add_zero R.one
 
 module _ {B M : Type 0} (pushes : B → M → B → Type 0) (refuses : B → M → AirError → B → Type 0) (Q : M → Type 0) (before after : B) where
   -- what pushes an interaction of one meaning pushes one of a weaker meaning
