@@ -3,7 +3,7 @@ ghost use Rattle.std.specs.Prelude.{ℕ, IfOk};
 ghost use Rattle.lookup_model.specs.Batches.Answers.{GivesCounts};
 ghost use Rattle.lookup_model.specs.Batches.Counts.{IsCountedSound};
 ghost use Rattle.lookup_model.specs.Batches.Ids.{AreLawfulIds};
-ghost use Rattle.lookup_model.specs.Batches.Instances.{DoInstancesFit, IsFitting, instance_of, instances_of};
+ghost use Rattle.lookup_model.specs.Batches.Instances.{InstancesFit, IsFitting, instance_of, instances_of};
 ghost use Rattle.checker.specs.Collected.{GivesMessages, IsCountOf, PushesMessages};
 
 use field::{ExtensionField, Field, Over};
@@ -29,7 +29,7 @@ pub fn soundness_count<F: Field, EF: ExtensionField<F>>(
     instances: &[BatchInstance<'_, F>],
     max_message_width: usize,
 ) -> Result<SoundnessCount, BatchFault>
-    requires fit { DoInstancesFit instances.now }
+    requires fit { InstancesFit instances.now }
     requires ids { (m : ℕ) × AreLawfulIds max_message_width m F.CHARACTERISTIC
         (instances_of instances.now) }
     ensures answer { GivesCounts ⟦<EF as Over<F>>⟧.fields (instances_of instances.now)
@@ -47,7 +47,7 @@ fn collected<F: Field>(
     alloc: Global,
     instances: &[BatchInstance<'_, F>],
 ) -> Result<Vec<SentMessage<F>>, BatchFault>
-    requires fit { DoInstancesFit instances.now }
+    requires fit { InstancesFit instances.now }
     ensures { GivesMessages F.ring F.eq (instances_of instances.now) result }
 {
     let mut messages = Vec::new(alloc);

@@ -7,7 +7,7 @@ ghost use Rattle.lookup_generation.specs.SentMessages.{HasSentRow, HasSentRows, 
 ghost use Rattle.lookup_generation.specs.TraceBuilder.{builder_layout, builder_window};
 ghost use Rattle.lookup_model.specs.Fault.{flag_fault_of};
 ghost use Rattle.lookup_model.specs.FlagFault.{row_flag_faults, trace_flag_faults};
-ghost use Rattle.lookup_model.specs.Records.{AllFit, DoFit, HasEqualLengths, IsWithin};
+ghost use Rattle.lookup_model.specs.Records.{AllFit, HasEqualLengths, IsWithin, LookupsFit};
 ghost use Rattle.lookup_model.specs.Sent.{branch_at, branches_at, sent, sent_at, values};
 ghost use Rattle.lookup_model.specs.Trace.{sent_row_under, sent_rows_under};
 ghost use Rattle.matrix.specs.Matrix.{height};
@@ -173,7 +173,7 @@ fn push_row_messages<F: Field>(
     lookups: &[Lookup<F>],
     builder: &LookupTraceBuilder<'_, F, F>,
 ) -> Result<(), LookupError>
-    requires fit { DoFit (builder_layout builder.now) lookups.now }
+    requires fit { LookupsFit (builder_layout builder.now) lookups.now }
     requires ids { length ids.now ≡ length lookups.now }
     ensures pushes { let sents = sent_row_under F.ring F.eq (λ l. slice_index_or ids.now l.column 0)
         (builder_window builder.now) lookups.now in
@@ -202,8 +202,8 @@ fn push_rows<F: Field>(
     ids: &[usize],
 ) -> Result<(), LookupError>
     requires heights { ForSome (option_copied preprocessed) (λ m. height m ≡ height main.now) }
-    requires fit { DoFit (layout_of_traces main.now (option_copied preprocessed) public_values.now)
-        lookups.now }
+    requires fit { LookupsFit (layout_of_traces main.now (option_copied preprocessed)
+        public_values.now) lookups.now }
     requires ids { length ids.now ≡ length lookups.now }
     ensures pushes { let rows = sent_rows_under F.ring F.eq
         (λ l. slice_index_or ids.now l.column 0) main.now (option_copied preprocessed.entry)
@@ -240,8 +240,8 @@ pub fn push_messages<F: Field>(
     ids: &[usize],
 ) -> Result<(), LookupError>
     requires heights { ForSome (option_copied preprocessed) (λ m. height m ≡ height main.now) }
-    requires fit { DoFit (layout_of_traces main.now (option_copied preprocessed) public_values.now)
-        lookups.now }
+    requires fit { LookupsFit (layout_of_traces main.now (option_copied preprocessed)
+        public_values.now) lookups.now }
     requires ids { length ids.now ≡ length lookups.now }
     ensures pushes { let rows = sent_rows_under F.ring F.eq
         (λ l. slice_index_or ids.now l.column 0) main.now (option_copied preprocessed.entry)

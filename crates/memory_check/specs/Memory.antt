@@ -8,7 +8,7 @@ use Rattle.expressions.specs.Layout.{layout_of_widths}
 use Rattle.lookup_model.specs.Challenges.{ChallengeTable}
 use Rattle.field.specs.Extension.{Extension}
 use Rattle.lookup_model.specs.Net.{IsBalanced}
-use Rattle.lookup_model.specs.Records.{DoFit}
+use Rattle.lookup_model.specs.Records.{LookupsFit}
 use Rattle.lookup_model.specs.declared.error.LookupError.{LookupError}
 use Rattle.lookup.specs.Lookups.{lookups_of}
 use Rattle.lookup.specs.declared.lookups.Lookups.{Lookups}
@@ -29,8 +29,8 @@ use Rattle.memory_check.specs.declared.memory.MemoryTraces.{MemoryTraces}
 
 module _ {F : Type 0} where
   -- the lookups of each AIR fit the traces of its width: 5, 4 and 2 columns
-  abbrev pub DoLookupsFit : List (Lookups F) → Type 0
-  DoLookupsFit sets = AllZip (λ columns set. DoFit (layout_of_widths columns 0 0) (lookups_of set)) (5 ∷ 4 ∷ 2 ∷ []) sets
+  abbrev pub SetsFit : List (Lookups F) → Type 0
+  SetsFit sets = AllZip (λ columns set. LookupsFit (layout_of_widths columns 0 0) (lookups_of set)) (5 ∷ 4 ∷ 2 ∷ []) sets
 
   -- the traces, AIR by AIR
   abbrev pub mains_of : MemoryTraces F → List (Matrix F)

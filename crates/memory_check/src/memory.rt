@@ -1,7 +1,7 @@
 //! The memory check: from its AIRs to a plan, and from traces to an accepted witness.
 ghost use Rattle.std.specs.Prelude.{◌≡◌, [], ◌∷◌, None, IfErr, IfOk, OnOk};
 ghost use Rattle.batch.specs.Traces.{shown_of};
-ghost use Rattle.memory_check.specs.Memory.{DoLookupsFit, IsAcceptedMemory, IsMemoryRefusal, mains_of};
+ghost use Rattle.memory_check.specs.Memory.{IsAcceptedMemory, IsMemoryRefusal, SetsFit, mains_of};
 
 use crate::airs::{AccessesAir, BoundaryAir, GapsAir};
 use batch::{BatchError, BatchPlan, BatchTrace};
@@ -32,7 +32,7 @@ pub fn memory_plan<F: Field, EF: ExtensionField<F>>(
     boundary: usize,
     gaps: usize,
 ) -> Result<BatchPlan<F>, BatchError>
-    ensures fit { IfOk result (λ plan. DoLookupsFit plan.airs.items) }
+    ensures fit { IfOk result (λ plan. SetsFit plan.airs.items) }
     ensures heights { IfOk result (λ plan. plan.heights.items ≡ accesses ∷ boundary ∷ gaps ∷ []) }
 {
     let lookups = memory_lookups::<F, EF>(alloc)?;
@@ -44,7 +44,7 @@ pub fn memory_plan<F: Field, EF: ExtensionField<F>>(
 fn memory_lookups<F: Field, EF: ExtensionField<F>>(
     alloc: Global,
 ) -> Result<Vec<Lookups<F>>, BatchError>
-    ensures { IfOk result (λ lookups. DoLookupsFit lookups.items) }
+    ensures { IfOk result (λ lookups. SetsFit lookups.items) }
 {
     let accesses = Lookups::from_air::<EF, AccessesAir>(alloc, &AccessesAir)?;
     let boundary = Lookups::from_air::<EF, BoundaryAir>(alloc, &BoundaryAir)?;
