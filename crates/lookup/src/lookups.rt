@@ -31,7 +31,7 @@ impl<F: Field> Lookups<F> {
     ghost use Rattle.std.specs.Fn.{FnReturnsAt};
     ghost use Rattle.lookup_model.specs.Outline.{fields_of};
     ghost use Rattle.lookup.specs.Fewest.{AnswersDegree, HasFewestColumns};
-    ghost use Rattle.lookup.specs.Kept.{KeepsKeys, KeepsMessages, KeepsNets, KeepsWeight};
+    ghost use Rattle.lookup.specs.Kept.{KeepsSent};
     ghost use Rattle.lookup.specs.Packing.{Packs};
     ghost use Rattle.lookup.specs.Trials.{Answers, IsBusTrial};
 
@@ -100,12 +100,7 @@ impl<F: Field> Lookups<F> {
             → D.pre degree lookup }
         ensures packs { Packs (Answers (FnReturnsAt D.Fn degree)) max_degree
             (λ set. map fields_of (lookups_of set)) (map fields_of (lookups_of self)) result }
-        ensures weight { IfOk result (λ set. KeepsWeight (lookups_of self) (lookups_of set)) }
-        ensures messages { IfOk result (λ set. KeepsMessages F.ring F.eq (lookups_of self)
-            (lookups_of set)) }
-        ensures nets { IfOk result (λ set. KeepsNets F.ring F.eq (lookups_of self)
-            (lookups_of set)) }
-        ensures keys { IfOk result (λ set. KeepsKeys F.ring F.eq (lookups_of self)
+        ensures kept { IfOk result (λ set. KeepsSent F.ring F.eq (lookups_of self)
             (lookups_of set)) }
         ensures fits { IfOk result (λ set. StillFit (lookups_of self) (lookups_of set)) }
     {
@@ -129,12 +124,7 @@ impl<F: Field> Lookups<F> {
             (map fields_of (lookups_of self)) result }
         ensures fewest { IfOk result (λ set. HasFewestColumns max_degree
             (map fields_of (lookups_of self)) (map fields_of (lookups_of set))) }
-        ensures weight { IfOk result (λ set. KeepsWeight (lookups_of self) (lookups_of set)) }
-        ensures messages { IfOk result (λ set. KeepsMessages F.ring F.eq (lookups_of self)
-            (lookups_of set)) }
-        ensures nets { IfOk result (λ set. KeepsNets F.ring F.eq (lookups_of self)
-            (lookups_of set)) }
-        ensures keys { IfOk result (λ set. KeepsKeys F.ring F.eq (lookups_of self)
+        ensures kept { IfOk result (λ set. KeepsSent F.ring F.eq (lookups_of self)
             (lookups_of set)) }
         ensures fits { IfOk result (λ set. StillFit (lookups_of self) (lookups_of set)) }
     {
