@@ -10,14 +10,14 @@ use Rattle.expressions.specs.declared.base_expression.SymbolicExpression.{Symbol
 use Rattle.lookup_model.specs.Batches.Ids.{HaveOneWidth}
 use Rattle.lookup_model.specs.Outline.{Outline, bus_of, fields_of}
 use Rattle.lookup_model.specs.declared.types.Lookup.{Lookup}
-use Rattle.lookup_nets.proofs.NetEntries.{any-first_seen}
+use Rattle.lookup_rows.proofs.NetEntries.{any-first_seen}
 use Rattle.lookup.proofs.GroupLaws.{same_name-Decides}
 use Rattle.lookup.specs.BusWidths.{widths_of}
 use Rattle.lookup.specs.Buses.{bus_names, is_named, on_bus, same_name}
 use Rattle.lookup.specs.Lookups.{lookups_of}
 use Rattle.lookup.specs.NamedWidths.{AgreeOnWidths, first_width, named_widths}
 use Rattle.lookup.specs.declared.lookups.Lookups.{Lookups}
-use Rattle.lookup_model.proofs.Batches.Lists.{all_back, all_front, all_here}
+use Rattle.lookup_model.proofs.Lists.{all_back, all_front, all_here}
 use Rattle.batch.specs.Checks.{AreLocallyEven, IsLocallyEven, bus_widths_of}
 use Rattle.batch.specs.Order.{bus_at, same_bus}
 use Rattle.batch.specs.PlanFacts.{AreNumbered, assigned}

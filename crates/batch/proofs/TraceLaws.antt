@@ -8,12 +8,12 @@ use Rattle.std.specs.declared.alloc.Global.{Global}
 use Rattle.std.specs.declared.vec.Vec.{Vec}
 use Rattle.matrix.specs.Matrix.{Matrix}
 use Rattle.lookup_model.specs.Batches.Ids.{identified}
-use Rattle.lookup_model.specs.Batches.Instances.{DoInstancesFit, IsFitting, instance_of, instances_of}
+use Rattle.lookup_model.specs.Batches.Instances.{InstancesFit, IsFitting, instance_of, instances_of}
 use Rattle.lookup_model.specs.declared.instance.BatchInstance.{BatchInstance}
 use Rattle.lookup_model.specs.declared.types.Lookup.{Lookup}
 use Rattle.lookup.specs.Lookups.{lookups_of}
 use Rattle.lookup.specs.declared.lookups.Lookups.{Lookups}
-use Rattle.lookup_model.proofs.Batches.Lists.{all_back, all_front}
+use Rattle.lookup_model.proofs.Lists.{all_back, all_front}
 use Rattle.batch.proofs.Places.{HoldsBelow, holds_next}
 use Rattle.batch.specs.Lists.{lists_of}
 use Rattle.batch.specs.Pairs.{HaveIdsBelow}
@@ -40,7 +40,7 @@ all_of_one P xs i x lt is =
 
 module _ {F : Type 0} where
   -- AIRs that fit their heights fit
-  pub fits_from : (bs : List (BatchInstance F)) (heights : List ℕ) → length heights ≡ length bs → All FitsAt (zip (instances_of bs) heights) → DoInstancesFit bs
+  pub fits_from : (bs : List (BatchInstance F)) (heights : List ℕ) → length heights ≡ length bs → All FitsAt (zip (instances_of bs) heights) → InstancesFit bs
   fits_from [] heights same all = All-nil (λ b. IsFitting (instance_of b))
   fits_from (b ∷ bs) [] same all = absurd (omega (arith, same))
   fits_from (b ∷ bs) (h ∷ hs) same all =
@@ -52,7 +52,7 @@ module _ {F : Type 0} where
   ids_below m (id ∷ ids) (l ∷ ls) same all = All-cons (λ i. i < m) id ids all.0 (ids_below m ids ls (omega (arith, same)) all.1)
 
   -- the ids of a batch are below m if those of its lookups are
-  pub have_below : (m : ℕ) (bs : List (BatchInstance F)) → DoInstancesFit bs → AllByRecursion (λ a. a.0 < m) (identified (instances_of bs)) → HaveIdsBelow m bs
+  pub have_below : (m : ℕ) (bs : List (BatchInstance F)) → InstancesFit bs → AllByRecursion (λ a. a.0 < m) (identified (instances_of bs)) → HaveIdsBelow m bs
   have_below m [] fit all = All-nil (λ b. All (λ id. id < m) b.ids.now)
   have_below m (b ∷ bs) fit all =
       All-cons (λ b. All (λ id. id < m) b.ids.now) b bs

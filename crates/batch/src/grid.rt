@@ -2,7 +2,7 @@
 ghost use Rattle.std.specs.Prelude.{◌≡◌, ◌⊎◌, ◌+◌, ◌*◌, ◌^◌, ◌<◌, ◌≤◌, MatchOption, MatchResult};
 ghost use Rattle.field.specs.Distinct.{IsDistinct};
 ghost use Rattle.lookup_model.specs.Batches.Ids.{AreLawfulIds};
-ghost use Rattle.lookup_model.specs.Batches.Instances.{DoInstancesFit, instances_of};
+ghost use Rattle.lookup_model.specs.Batches.Instances.{InstancesFit, instances_of};
 ghost use Rattle.batch.specs.Grids.{CountsGrid, IsBoundOf, StaysWithinBound};
 ghost use Rattle.batch.specs.Pairs.{HaveIdsBelow};
 
@@ -39,7 +39,7 @@ pub(crate) fn counted_grid<F: Field, EF: ExtensionField<F>>(
     alphas: &[EF],
     betas: &[EF],
 ) -> Result<GridCount, BatchError>
-    requires fit { DoInstancesFit batch.now }
+    requires fit { InstancesFit batch.now }
     requires ids { HaveIdsBelow num_ids batch.now }
     requires lawful { AreLawfulIds max_message_width num_ids F.CHARACTERISTIC
         (instances_of batch.now) }

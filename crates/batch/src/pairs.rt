@@ -1,6 +1,6 @@
 //! How many pairs of a grid of challenges are accepted.
 ghost use Rattle.std.specs.Prelude.{◌<◌};
-ghost use Rattle.lookup_model.specs.Batches.Instances.{DoInstancesFit, instances_of};
+ghost use Rattle.lookup_model.specs.Batches.Instances.{InstancesFit, instances_of};
 ghost use Rattle.batch.specs.Pairs.{CountsAlphas, CountsPairs, DecidesPair, HaveIdsBelow};
 
 use checker::{BatchInstance, some_witness};
@@ -17,7 +17,7 @@ fn accepts_pair<F: Field, EF: ExtensionField<F>>(
     alpha: EF,
     beta: EF,
 ) -> Result<bool, LookupError>
-    requires fit { DoInstancesFit instances.now }
+    requires fit { InstancesFit instances.now }
     requires ids { HaveIdsBelow num_ids instances.now }
     requires width { 0 < max_message_width }
     ensures { DecidesPair ⟦<EF as Over<F>>⟧.fields (instances_of instances.now) max_message_width
@@ -36,7 +36,7 @@ fn accepting_alphas<F: Field, EF: ExtensionField<F>>(
     alphas: &[EF],
     beta: EF,
 ) -> Result<usize, LookupError>
-    requires fit { DoInstancesFit instances.now }
+    requires fit { InstancesFit instances.now }
     requires ids { HaveIdsBelow num_ids instances.now }
     requires width { 0 < max_message_width }
     ensures { CountsAlphas ⟦<EF as Over<F>>⟧.fields (instances_of instances.now) max_message_width
@@ -61,7 +61,7 @@ pub(crate) fn accepted_pairs<F: Field, EF: ExtensionField<F>>(
     alphas: &[EF],
     betas: &[EF],
 ) -> Result<u128, LookupError>
-    requires fit { DoInstancesFit instances.now }
+    requires fit { InstancesFit instances.now }
     requires ids { HaveIdsBelow num_ids instances.now }
     requires width { 0 < max_message_width }
     ensures { CountsPairs ⟦<EF as Over<F>>⟧.fields (instances_of instances.now) max_message_width

@@ -1,7 +1,7 @@
 //! The debug check.
 ghost use Rattle.std.specs.Prelude.{◌↔◌, [], IsTrue, None};
 ghost use Rattle.expressions.specs.Layout.{layout_of_traces};
-ghost use Rattle.lookup_model.specs.Records.{DoFit};
+ghost use Rattle.lookup_model.specs.Records.{LookupsFit};
 
 use crate::debug_shapes::{lookups_of, width_of};
 use air::AirLayout;
@@ -44,7 +44,7 @@ pub(crate) fn check(
 
 /// Whether the lookups fit the trace.
 fn do_fit(main: &RowMajorMatrix<BabyBear>, lookups: &[Lookup<BabyBear>]) -> bool
-    ensures { IsTrue result ↔ DoFit (layout_of_traces main.now None []) lookups.now }
+    ensures { IsTrue result ↔ LookupsFit (layout_of_traces main.now None []) lookups.now }
 {
     fits(lookups, &AirLayout::of_traces(main, None, &[]))
 }
@@ -55,7 +55,7 @@ fn answer_of<'a>(
     main: &'a RowMajorMatrix<BabyBear>,
     lookups: &'a [Lookup<BabyBear>],
 ) -> Result<u32, AllocError>
-    requires { DoFit (layout_of_traces main.now None []) lookups.now }
+    requires { LookupsFit (layout_of_traces main.now None []) lookups.now }
 {
     let instance = LookupDebugInstance {
         main_trace: main,

@@ -1,7 +1,8 @@
 //! The lookups of each shape.
 ghost use Rattle.std.specs.Prelude.{◌<◌};
 
-use air::{BaseEntry, BaseLeaf, Expression, SymbolicExpression, SymbolicVariable};
+use air::{Expression, SymbolicExpression};
+use bench_shapes::{column, columns};
 use field::{BabyBear, PrimeCharacteristicRing};
 use lookup_model::{Kind, Lookup};
 use std::alloc::{AllocError, Global};
@@ -63,28 +64,4 @@ fn no_tuples(alloc: Global, kind: Kind, column: usize) -> Lookup<BabyBear> {
         column,
         flags: None,
     }
-}
-
-/// The tuple of `width` columns from `first` on.
-fn columns(
-    alloc: Global,
-    first: usize,
-    width: usize,
-) -> Result<Vec<SymbolicExpression<BabyBear>>, AllocError>
-    requires first { first < 32 }
-    requires width { width < 5 }
-{
-    let mut tuple = Vec::with_capacity(alloc, width)?;
-    for i in 0..width {
-        tuple.push(column(first + i))?;
-    }
-    Ok(tuple)
-}
-
-/// A cell of the current row of the main trace.
-fn column(index: usize) -> SymbolicExpression<BabyBear> {
-    SymbolicExpression::Leaf(BaseLeaf::Variable(SymbolicVariable::new(
-        BaseEntry::Main { offset: 0 },
-        index,
-    )))
 }

@@ -1,7 +1,7 @@
 //! Generation of the same traces without a plan.
 ghost use Rattle.std.specs.Prelude.{◌↔◌, ◌*◌, ◌≤◌, [], IsTrue, None, length};
 ghost use Rattle.expressions.specs.Layout.{layout_of_traces};
-ghost use Rattle.lookup_model.specs.Records.{DoFit};
+ghost use Rattle.lookup_model.specs.Records.{LookupsFit};
 
 use crate::airs::{Side, Traces, challenges, lookups_of};
 use crate::checksums::checksum;
@@ -54,7 +54,7 @@ fn can_generate(
     lookups: &[Lookup<BabyBear>],
     challenges: &[BabyBear4],
 ) -> bool
-    ensures { IsTrue result ↔ (DoFit (layout_of_traces main.now None []) lookups.now
+    ensures { IsTrue result ↔ (LookupsFit (layout_of_traces main.now None []) lookups.now
         × (2 * length lookups.now ≤ length challenges.now)) }
 {
     lookups.len() <= challenges.len() / 2 && fits(lookups, &AirLayout::of_traces(main, None, &[]))
@@ -67,7 +67,7 @@ fn generated(
     lookups: &[Lookup<BabyBear>],
     challenges: &[BabyBear4],
 ) -> Result<(RowMajorMatrix<BabyBear4>, Option<LookupTerminal<BabyBear4>>), LookupError>
-    requires fit { DoFit (layout_of_traces main.now None []) lookups.now }
+    requires fit { LookupsFit (layout_of_traces main.now None []) lookups.now }
     requires challenges { 2 * length lookups.now ≤ length challenges.now }
 {
     LogUpGadget::new().generate_permutation(alloc, main, None, &[], lookups, challenges)

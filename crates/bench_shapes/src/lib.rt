@@ -4,7 +4,7 @@
 
 ghost use Rattle.std.specs.Prelude.{◌↔◌, ◌*◌, ◌≤◌, [], IsTrue, None, length};
 ghost use Rattle.expressions.specs.Layout.{layout_of_traces};
-ghost use Rattle.lookup_model.specs.Records.{DoFit};
+ghost use Rattle.lookup_model.specs.Records.{LookupsFit};
 
 mod shapes;
 
@@ -67,7 +67,7 @@ pub fn trace(
 
 /// Whether the lookups fit the trace.
 fn do_fit(main: &RowMajorMatrix<BabyBear>, lookups: &[Lookup<BabyBear>]) -> bool
-    ensures { IsTrue result ↔ DoFit (layout_of_traces main.now None []) lookups.now }
+    ensures { IsTrue result ↔ LookupsFit (layout_of_traces main.now None []) lookups.now }
 {
     fits(lookups, &AirLayout::of_traces(main, None, &[]))
 }
@@ -79,7 +79,7 @@ fn generated(
     lookups: &[Lookup<BabyBear>],
     challenges: &[BabyBear4],
 ) -> Result<(RowMajorMatrix<BabyBear4>, Option<LookupTerminal<BabyBear4>>), LookupError>
-    requires fit { DoFit (layout_of_traces main.now None []) lookups.now }
+    requires fit { LookupsFit (layout_of_traces main.now None []) lookups.now }
     requires challenges { 2 * length lookups.now ≤ length challenges.now }
 {
     generate_permutation(alloc, main, None, &[], lookups, challenges)

@@ -10,7 +10,7 @@ use Rattle.expressions.specs.declared.variable.BaseEntry.{BaseEntry}
 use Rattle.expressions.specs.declared.variable.BaseEntry.TheVariants.{Preprocessed, Main, Public}
 use Rattle.expressions.specs.Layout.{EntryFits, LeafFits, Fits}
 use Rattle.expressions.specs.Tree.{Tree, tree_of, leaf, add, sub, mul, neg}
-use Rattle.lookup_model.specs.Records.{AllFit, DoFit, IsWithin}
+use Rattle.lookup_model.specs.Records.{AllFit, IsWithin, LookupsFit}
 use Rattle.lookup_model.specs.declared.types.Lookup.{Lookup}
 
 -- the layout with an auxiliary trace of this width, and these numbers of challenges and values
@@ -58,5 +58,5 @@ module _ (layout : AirLayout) (width challenges values : ℕ) where
     within lookup h = (λ k d lt. all_fit (get_or lookup.elements.items k d).items (h.0 k d lt), all_fit lookup.multiplicities.items h.1, flags_fit lookup.flags h.2)
 
     -- lookups that fit still do
-    pub DoFit-with_auxiliary : (lookups : List (Lookup F)) → DoFit layout lookups → DoFit longer lookups
-    DoFit-with_auxiliary lookups h = record { records = h.records; within = λ k d lt. within (get_or lookups k d) (h.within k d lt) }
+    pub LookupsFit-with_auxiliary : (lookups : List (Lookup F)) → LookupsFit layout lookups → LookupsFit longer lookups
+    LookupsFit-with_auxiliary lookups h = record { records = h.records; within = λ k d lt. within (get_or lookups k d) (h.within k d lt) }

@@ -10,7 +10,7 @@ use Rattle.matrix.specs.Matrix.{Matrix}
 use Rattle.field.specs.Extension.{Extension}
 use Rattle.lookup_model.specs.declared.types.LookupTerminal.{LookupTerminal}
 use Rattle.lookup_model.specs.Batches.Faults.{instance_faults}
-use Rattle.lookup_model.specs.Batches.Instances.{DoInstancesFit, Instance, IsFitting, instance_of, instances_of}
+use Rattle.lookup_model.specs.Batches.Instances.{Instance, InstancesFit, IsFitting, instance_of, instances_of}
 use Rattle.lookup_model.specs.declared.instance.BatchInstance.{BatchInstance}
 use Rattle.lookup_model.specs.Batches.Witnesses.{AreSatisfied, IsSatisfiedAt, plain_result, plain_witness}
 use Rattle.checker.specs.Results.{HasResults}
@@ -52,5 +52,5 @@ module _ {F K : Type 0} (E : Extension F K) (table : ChallengeTable K) (instance
       (has.results ∙ ap (map (plain_result E table)) all, subst (λ (is : List (Instance F)). AllZip (IsSatisfiedAt E table) is (zip aux terminals)) all has.satisfied)
 
 -- the instances of a batch that fits are fitting, one by one
-pub fitting_all : {F : Type 0} (bs : List (BatchInstance F)) → DoInstancesFit bs → AllByRecursion IsFitting (instances_of bs)
+pub fitting_all : {F : Type 0} (bs : List (BatchInstance F)) → InstancesFit bs → AllByRecursion IsFitting (instances_of bs)
 fitting_all bs fit = recursion_from_All IsFitting (instances_of bs) (All-map IsFitting instance_of bs fit)

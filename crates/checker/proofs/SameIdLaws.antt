@@ -10,7 +10,7 @@ use Rattle.lookup.proofs.GroupLaws.{same_name-Decides}
 use Rattle.lookup.specs.Buses.{is_named}
 use Rattle.lookup.specs.Kept.{HasIdOfBus, HaveSameIds, other_ids}
 use Rattle.lookup_model.specs.Batches.Messages.{id_of}
-use Rattle.checker.specs.SameIds.{AgreesWith, DoAgree}
+use Rattle.checker.specs.SameIds.{Agree, AgreesWith}
 
 module _ {A : Type 0} where
   -- whether there are no flags
@@ -78,7 +78,7 @@ module _ {F : Type 0} where
     bus_id name = first_id (id_of ids_before) name before (first_id (id_of ids_after) name after 0)
 
     -- lookups that agree on their buses have the ids of these
-    pub ids_same : DoAgree ids_before before ids_after after
+    pub ids_same : Agree ids_before before ids_after after
         → other_ids (id_of ids_before) before ≡ other_ids (id_of ids_after) after → HaveSameIds (id_of ids_before) before (id_of ids_after) after
     ids_same agree others = record {
       bus_id = bus_id;

@@ -8,7 +8,7 @@ use Rattle.air.specs.Row.{input_layout, input_window}
 use Rattle.air.specs.declared.debug.inputs.RowInputs.{RowInputs}
 use Rattle.lookup_model.specs.Constraints.{Constraint, accumulator_constraints, fraction_constraint, lookup_constraints, terminal_at}
 use Rattle.field.specs.Extension.{Extension}
-use Rattle.lookup_model.specs.Records.{DoFit}
+use Rattle.lookup_model.specs.Records.{LookupsFit}
 use Rattle.lookup_model.specs.declared.types.Lookup.{Lookup}
 
 -- On row `first` and all further ones before row r a property holds. It fails on row r, unless that is
@@ -24,7 +24,7 @@ pub record HoldsUntil (Holds : ℕ → Type 0) (first end r : ℕ) : Type 0 wher
 pub record AreChecked {F K : Type 0} (inputs : RowInputs F K) (lookups : List (Lookup F)) : Type 0 where
   pub preprocessed : ForSome (option_copied inputs.preprocessed) (λ m. height m ≡ height inputs.main.now)
   pub permutation : height inputs.permutation.now ≡ height inputs.main.now
-  pub fit : DoFit (input_layout inputs) lookups
+  pub fit : LookupsFit (input_layout inputs) lookups
   pub challenges : 2 * length lookups ≤ length inputs.challenges.now
   pub some : 0 < length lookups
   pub cells : length lookups < inputs.permutation.now.width

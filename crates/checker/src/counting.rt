@@ -3,14 +3,13 @@ ghost use Rattle.std.specs.Prelude.{ℕ, IfOk};
 ghost use Rattle.lookup_model.specs.Batches.Answers.{GivesCounts};
 ghost use Rattle.lookup_model.specs.Batches.Counts.{IsCountedSound};
 ghost use Rattle.lookup_model.specs.Batches.Ids.{AreLawfulIds};
-ghost use Rattle.lookup_model.specs.Batches.Instances.{DoInstancesFit, IsFitting, instance_of, instances_of};
+ghost use Rattle.lookup_model.specs.Batches.Instances.{InstancesFit, IsFitting, instance_of, instances_of};
 ghost use Rattle.checker.specs.Collected.{GivesMessages, IsCountOf, PushesMessages};
 
 use field::{ExtensionField, Field, Over};
 use lookup::LookupError;
-use lookup_generation::{SentMessage, push_messages};
 use lookup_model::{BatchFault, BatchInstance, SoundnessCount};
-use lookup_nets::key_counts;
+use lookup_rows::{SentMessage, key_counts, push_messages};
 use std::alloc::Global;
 
 /// How many messages a batch has, how many of them do not balance, and upper bounds on the challenges
@@ -29,7 +28,7 @@ pub fn soundness_count<F: Field, EF: ExtensionField<F>>(
     instances: &[BatchInstance<'_, F>],
     max_message_width: usize,
 ) -> Result<SoundnessCount, BatchFault>
-    requires fit { DoInstancesFit instances.now }
+    requires fit { InstancesFit instances.now }
     requires ids { (m : ℕ) × AreLawfulIds max_message_width m F.CHARACTERISTIC
         (instances_of instances.now) }
     ensures answer { GivesCounts ⟦<EF as Over<F>>⟧.fields (instances_of instances.now)
@@ -47,7 +46,7 @@ fn collected<F: Field>(
     alloc: Global,
     instances: &[BatchInstance<'_, F>],
 ) -> Result<Vec<SentMessage<F>>, BatchFault>
-    requires fit { DoInstancesFit instances.now }
+    requires fit { InstancesFit instances.now }
     ensures { GivesMessages F.ring F.eq (instances_of instances.now) result }
 {
     let mut messages = Vec::new(alloc);

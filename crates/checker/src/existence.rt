@@ -1,9 +1,9 @@
 //! Whether some witness of a batch is accepted.
 ghost use Rattle.std.specs.Prelude.{◌*◌, ◌+◌, ◌<◌, ◌≤◌, ◌∷◌, [], length};
-ghost use Rattle.lookup_generation.specs.TraceBuilder.{builder_layout, ext_builder_window};
+ghost use Rattle.lookup_rows.specs.TraceBuilder.{builder_layout, ext_builder_window};
 ghost use Rattle.lookup_model.specs.Challenges.{table_of};
-ghost use Rattle.lookup_model.specs.Records.{DoFit, HasEqualLengths, IsWithin};
-ghost use Rattle.lookup_model.specs.Batches.Instances.{DoInstancesFit, HasPrefixes, HavePrefixes, IsFitting, instance_of, instances_of};
+ghost use Rattle.lookup_model.specs.Records.{HasEqualLengths, IsWithin, LookupsFit};
+ghost use Rattle.lookup_model.specs.Batches.Instances.{HasPrefixes, HavePrefixes, InstancesFit, IsFitting, instance_of, instances_of};
 ghost use Rattle.lookup_model.specs.Batches.Equations.{air_equations, equation_at, row_equations};
 ghost use Rattle.lookup_model.specs.Batches.Existence.{DecidesAccepted};
 ghost use Rattle.checker.specs.Sums.{AddsEquations};
@@ -12,8 +12,8 @@ use crate::sums::Sums;
 use air::AirBuilder;
 use field::{ExtensionField, Field, Over};
 use lookup_evaluation::quotient_of;
-use lookup_generation::{LookupTraceBuilder, row_builder};
 use lookup_model::{BatchInstance, Challenges, Lookup, LookupError};
+use lookup_rows::{LookupTraceBuilder, row_builder};
 use std::alloc::Global;
 
 /// Whether some witness is accepted at these challenges, whoever makes it. Flags need not be lawful.
@@ -29,7 +29,7 @@ pub fn some_witness<F: Field, EF: ExtensionField<F>>(
     instances: &[BatchInstance<'_, F>],
     challenges: &Challenges<EF>,
 ) -> Result<bool, LookupError>
-    requires fit { DoInstancesFit instances.now }
+    requires fit { InstancesFit instances.now }
     requires ids { HavePrefixes challenges.now instances.now }
     ensures { DecidesAccepted ⟦<EF as Over<F>>⟧.fields (table_of challenges.now)
         (instances_of instances.now) result }
@@ -84,7 +84,7 @@ fn with_row<F: Field, EF: ExtensionField<F>>(
     builder: &LookupTraceBuilder<'_, F, EF>,
     lookups: &[Lookup<F>],
 ) -> Result<Sums<EF>, LookupError>
-    requires fit { DoFit (builder_layout builder.now) lookups.now }
+    requires fit { LookupsFit (builder_layout builder.now) lookups.now }
     requires challenges { 2 * length lookups.now
         ≤ (builder_layout builder.now).num_permutation_challenges }
     ensures { AddsEquations EF.ring

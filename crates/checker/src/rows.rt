@@ -2,7 +2,7 @@
 ghost use Rattle.std.specs.Prelude.{◌≡◌, ◌*◌, ◌<◌, ◌≤◌, ◌⊎◌, MatchResult, length};
 ghost use Rattle.std.specs.Option.{ForSome, option_copied};
 ghost use Rattle.air.specs.Row.{HeightFits, input_layout};
-ghost use Rattle.lookup_model.specs.Records.{DoFit};
+ghost use Rattle.lookup_model.specs.Records.{LookupsFit};
 ghost use Rattle.matrix.specs.Matrix.{height};
 ghost use Rattle.checker.specs.Rows.{AreChecked, FindsFailing, HoldsOn};
 
@@ -29,7 +29,7 @@ pub(crate) fn first_failing_row<'a, F: Field, EF: ExtensionField<F>>(
     requires preprocessed { ForSome (option_copied inputs.now.preprocessed)
         (λ m. height m ≡ height inputs.now.main.now) }
     requires permutation { HeightFits (height inputs.now.main.now) inputs.now.permutation.now }
-    requires fit { DoFit (input_layout inputs.now) lookups.now }
+    requires fit { LookupsFit (input_layout inputs.now) lookups.now }
     requires challenges { 2 * length lookups.now ≤ length inputs.now.challenges.now }
     requires cells { 0 < length lookups.now
         → length lookups.now < inputs.now.permutation.now.width }

@@ -2,7 +2,7 @@
 ghost use Rattle.std.specs.Prelude.{◌≡◌, ◌↔◌, ℕ, All, IfOk, IsTrue, None, map, not, slice_index_or};
 ghost use Rattle.lookup_model.specs.Batches.Ids.{ShareBus};
 ghost use Rattle.lookup_model.specs.Batches.Messages.{id_of};
-ghost use Rattle.checker.specs.SameIds.{AgreeOnId, AgreesWith, DoAgree, MayBeJoined};
+ghost use Rattle.checker.specs.SameIds.{Agree, AgreeOnId, AgreesWith, MayBeJoined};
 ghost use Rattle.lookup_model.specs.Outline.{fields_of};
 ghost use Rattle.lookup.specs.Kept.{HaveSameIds, other_ids};
 ghost use Rattle.lookup.specs.Packing.{is_additive};
@@ -37,7 +37,7 @@ pub fn ids_are_kept<F: Field>(
 
 /// Whether all lookups of both AIRs agree.
 fn all_agree<F: Field>(before: &BatchInstance<'_, F>, after: &BatchInstance<'_, F>) -> bool
-    ensures { IsTrue result ↔ DoAgree before.now.ids.now before.now.lookups.now
+    ensures { IsTrue result ↔ Agree before.now.ids.now before.now.lookups.now
         after.now.ids.now after.now.lookups.now }
 {
     let own = agree(before.lookups, before.ids, before.lookups, before.ids);

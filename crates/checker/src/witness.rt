@@ -4,7 +4,7 @@ ghost use Rattle.std.specs.List.{zip};
 ghost use Rattle.lookup_model.specs.Challenges.{table_of};
 ghost use Rattle.lookup_model.specs.Witness.{values_of_terminal};
 ghost use Rattle.lookup_model.specs.Batches.Answers.{ChecksWitness, PassesOnlyPlain, RefusesUnaccepted};
-ghost use Rattle.lookup_model.specs.Batches.Instances.{DoInstancesFit, HasPrefixes, HavePrefixes, IsFitting, instance_of, instances_of};
+ghost use Rattle.lookup_model.specs.Batches.Instances.{HasPrefixes, HavePrefixes, InstancesFit, IsFitting, instance_of, instances_of};
 ghost use Rattle.lookup_model.specs.Batches.Refusals.{HasShapeAt};
 ghost use Rattle.checker.specs.Checks.{ChecksResult, ChecksRows, ChecksShape};
 
@@ -40,7 +40,7 @@ pub fn check_witness<F: Field, EF: ExtensionField<F>>(
     aux: &[RowMajorMatrix<EF>],
     terminals: &[Option<LookupTerminal<EF>>],
 ) -> Result<(), LookupError>
-    requires fit { DoInstancesFit instances.now }
+    requires fit { InstancesFit instances.now }
     requires ids { HavePrefixes challenges.now instances.now }
     requires traces { length aux.now ≡ length instances.now }
     requires terminals { length terminals.now ≡ length instances.now }

@@ -17,8 +17,8 @@ use Rattle.lookup.proofs.FewestParts.{AreFull, fewest_parts}
 use Rattle.lookup.proofs.FillLaws.{joined_more, with_next}
 use Rattle.lookup.proofs.GroupLaws.{same_name-Decides}
 use Rattle.lookup.proofs.JoinedDegrees.{degree_hereditary}
-use Rattle.lookup.proofs.ListLaws.{all_back, all_both, all_front}
 use Rattle.lookup.proofs.ZippedLists.{zip-append}
+use Rattle.lookup_model.proofs.Lists.{all_back, all_both, all_front}
 
 module _ {F : Type 0} where
   -- the branches of several lookups in one

@@ -10,7 +10,8 @@ use Rattle.lookup_model.specs.declared.error.LookupError.{LookupError}
 use Rattle.lookup_model.specs.declared.error.LookupError.TheVariants.{CountWeightOverflow}
 use Rattle.lookup.specs.Cuts.{AreClosed, IsGrown, part_items}
 use Rattle.lookup.specs.Packing.{IsAbove, IsFilling, IsStuck, Joins, joined, trial}
-use Rattle.lookup.proofs.ListLaws.{all_back, all_both, all_front, map_split, snoc_split}
+use Rattle.lookup.proofs.ListLaws.{map_split, snoc_split}
+use Rattle.lookup_model.proofs.Lists.{all_back, all_both, all_front}
 
 module _ {A : Type 0} where
   -- a part with one more member

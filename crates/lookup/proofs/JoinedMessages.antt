@@ -19,8 +19,8 @@ use Rattle.lookup.specs.Packing.{AreFilled, additive, is_additive, joined}
 use Rattle.lookup.proofs.FewestColumns.{IsOn, members_on}
 use Rattle.lookup.specs.TrialDegrees.{IsPlain}
 use Rattle.lookup.proofs.GroupLaws.{same_name-Decides}
-use Rattle.lookup.proofs.ListLaws.{all_back, all_front}
 use Rattle.lookup.proofs.ZippedLists.{zip-append, zip_mapped}
+use Rattle.lookup_model.proofs.Lists.{all_back, all_front}
 
 -- a map of a mapped option
 pub option_mapped : {A B C : Type 0} (f : A → B) (g : B → C) (o : Option A) → option_map (λ x. g (f x)) o ≡ option_map g (option_map f o)

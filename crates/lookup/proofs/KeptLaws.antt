@@ -28,10 +28,10 @@ use Rattle.lookup.specs.Kept.{HasIdOfBus, HaveSameIds, KeepsMessages, KeepsNets,
 use Rattle.lookup.specs.Packing.{AreFilled, IsPacking, additive, is_additive, joined, numbered_from, passing}
 use Rattle.lookup.proofs.FewestColumns.{IsOn, members_on, none_additive}
 use Rattle.lookup.proofs.JoinedMessages.{columns_messages, messages_of, own_messages, seen_messages, on_some_bus}
-use Rattle.lookup.proofs.ListLaws.{all_back, all_both}
 use Rattle.lookup.proofs.Rearranged.{among_names, grouped, parted}
 use Rattle.lookup.proofs.RearrangedSums.{sum_in-passing, sum_in-permutation}
 use Rattle.lookup.proofs.StepLaws.{no_flags_of, plain_on}
+use Rattle.lookup_model.proofs.Lists.{all_back, all_both}
 
 module _ {A : Type 0} (p : A → Bool) where
   -- all items pass, or none does

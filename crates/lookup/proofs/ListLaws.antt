@@ -2,21 +2,7 @@
 use Rattle.std.proofs.Common.{◌≡◌, ◌⊎◌, inl, inr, Bool, true, false, cond, List, [], ◌∷◌, ◌++◌, map, refl, sym, ap, ◌∙◌}
 use Rattle.std.proofs.lemmas.Grind.{flat_map-append}
 use Rattle.std.proofs.lemmas.List.{append-nil, append_assoc, map-append}
-use Rattle.std.specs.List.{AllByRecursion, AllZip, filter, flat_map}
-
-module _ {A : Type 0} (P : A → Type 0) where
-  -- what holds of each item of two lists holds of each item of both together, and the other way
-  pub all_both : (xs ys : List A) → AllByRecursion P xs → AllByRecursion P ys → AllByRecursion P (xs ++ ys)
-  all_both [] ys first second = second
-  all_both (x ∷ xs) ys first second = (first.0, all_both xs ys first.1 second)
-
-  pub all_front : (xs ys : List A) → AllByRecursion P (xs ++ ys) → AllByRecursion P xs
-  all_front [] ys all = tt
-  all_front (x ∷ xs) ys all = (all.0, all_front xs ys all.1)
-
-  pub all_back : (xs ys : List A) → AllByRecursion P (xs ++ ys) → AllByRecursion P ys
-  all_back [] ys all = all
-  all_back (x ∷ xs) ys all = all_back xs ys all.1
+use Rattle.std.specs.List.{AllZip, filter, flat_map}
 
 module _ {A B : Type 0} where
   -- a mapped list that is in two parts is that of a list in two parts

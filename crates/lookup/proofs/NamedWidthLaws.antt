@@ -1,8 +1,5 @@
 -- Widths on buses, one by one.
-use Rattle.std.proofs.Common.{◌≡◌, ◌≢◌, ◌++◌, ◌∷◌, ◌+◌, ◌<◌, ℕ, zero, suc, Bool, true, false, cond, true≢false, Decides, List, [], Option, None, Some, get_or, length, map, max, nat_cmp, nat_eq, rules, slice_get, take, unwrap_or, refl, sym, ap, arith, ◌∙◌}
-use Rattle.std.proofs.lemmas.Bool.Decides.{Decides-eqb}
-use Rattle.std.proofs.lemmas.Slice.Eq.{slice_eq-Decides}
-use Rattle.std.specs.Cmp.Lexicographic.{pointwise}
+use Rattle.std.proofs.Common.{◌≡◌, ◌≢◌, ◌++◌, ◌∷◌, ◌+◌, ◌<◌, ℕ, Bool, true, false, cond, true≢false, List, [], Option, None, Some, get_or, length, map, max, nat_cmp, rules, slice_get, take, unwrap_or, refl, sym, ap, arith, ◌∙◌}
 use Rattle.std.proofs.lemmas.List.{append-nil, append_assoc, map-append, map_push, take_more}
 use Rattle.std.proofs.lemmas.Grind.{flat_map-append}
 use Rattle.std.proofs.lemmas.Option.{slice_get-get_or, slice_get-map}
@@ -17,19 +14,8 @@ use Rattle.lookup_model.specs.declared.error.LookupError.{LookupError}
 use Rattle.lookup.specs.Buses.{same_name}
 use Rattle.lookup.specs.NamedWidths.{AgreeOnWidths, IsFirstMismatch, IsMismatch, first_width, seen_widths}
 use Rattle.lookup.specs.declared.bus_widths.NamedWidth.{NamedWidth}
-
--- the test of names decides their equality
-same_name-Decides : (a b : List ℕ) → Decides (same_name a b) (a ≡ b)
-same_name-Decides a b = slice_eq-Decides Decides-eqb a b (pointwise nat_eq a b) refl
-
--- an item at its place
-pub at_place : {A : Type 0} (xs : List A) (i : ℕ) (x : A) → slice_get xs i ≡ Some x → (later : List A) × (xs ≡ take i xs ++ x ∷ later) × (take (i + 1) xs ≡ take i xs ++ x ∷ [])
-at_place [] i x e = absurd (cc e)
-at_place (y ∷ ys) zero x e = let is : y ≡ x = cc e in (ys, ap (λ t. t ∷ ys) is, ap (λ t. t ∷ []) is)
-at_place (y ∷ ys) (suc i) x e =
-    let (later, whole, next) = at_place ys i x e in
-    let more : suc i + 1 ≡ suc (i + 1) = omega arith in
-    (later, ap (λ t. y ∷ t) whole, ap (λ n. take n (y ∷ ys)) more ∙ ap (λ t. y ∷ t) next)
+use Rattle.lookup.proofs.GroupLaws.{same_name-Decides}
+use Rattle.lookup.proofs.PackLaws.{at_place}
 
 -- the greater of two numbers
 max_is : (a b : ℕ) → ord_max nat_cmp a b ≡ max a b

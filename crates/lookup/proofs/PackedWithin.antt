@@ -7,7 +7,7 @@ use Rattle.expressions.specs.declared.layout.AirLayout.{AirLayout}
 use Rattle.lookup_record.proofs.Elements.{all_of_map}
 use Rattle.lookup_model.proofs.Lookups.Regrouping.{All-filter}
 use Rattle.lookup_model.specs.Outline.{Outline, fields_of}
-use Rattle.lookup_model.specs.Records.{AreRecords, DoFit, IsWithin}
+use Rattle.lookup_model.specs.Records.{AreRecords, IsWithin, LookupsFit}
 use Rattle.lookup_model.specs.declared.error.LookupError.{LookupError}
 use Rattle.lookup_model.specs.declared.types.Lookup.{Lookup}
 use Rattle.lookup.specs.Buses.{bus_names, is_named}
@@ -70,7 +70,7 @@ module _ {F : Type 0} (layout : AirLayout) where
         (columns_inside (additive before) (All-filter Inside is_additive before all) (bus_names (additive before)) packing.cuts packing.filled)))
 
     -- a packing of lookups that fit fits
-    pub packed_fit : (before after : List (Lookup F)) → IsPacking answers most (map fields_of before) (map fields_of after) → AreRecords after → DoFit layout before → DoFit layout after
+    pub packed_fit : (before after : List (Lookup F)) → IsPacking answers most (map fields_of before) (map fields_of after) → AreRecords after → LookupsFit layout before → LookupsFit layout after
     packed_fit before after packing records fit = record {
       records = records;
       within =

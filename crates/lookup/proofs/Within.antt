@@ -6,7 +6,7 @@ use Rattle.expressions.specs.Tree.{tree_of}
 use Rattle.expressions.specs.declared.base_expression.SymbolicExpression.{SymbolicExpression}
 use Rattle.expressions.specs.declared.layout.AirLayout.{AirLayout}
 use Rattle.lookup_model.specs.Outline.{Outline, fields_of}
-use Rattle.lookup_model.specs.Records.{AllFit, AreRecords, DoFit, IsWithin}
+use Rattle.lookup_model.specs.Records.{AllFit, AreRecords, IsWithin, LookupsFit}
 use Rattle.lookup_model.specs.declared.types.Lookup.{Lookup}
 use Rattle.lookup_record.proofs.Elements.{all_of_map}
 use Rattle.lookup_record.specs.Interaction.{Tuple, GlobalInteraction, ExclusiveInteraction}
@@ -87,7 +87,7 @@ module _ {F : Type 0} (layout : AirLayout) where
   }
 
   -- lookups that are extracted from interactions within a layout fit it
-  pub extracted_fit : (lookups : List (Lookup F)) (locals : List (List (Tuple (SymbolicExpression F)))) (globals : List (GlobalInteraction (SymbolicExpression F))) (exclusives : List (ExclusiveInteraction (SymbolicExpression F))) → AreRecords lookups → map fields_of lookups ≡ extraction locals globals exclusives → All AreTuplesInside locals → All IsGlobalInside globals → All AreBranchesInside exclusives → DoFit layout lookups
+  pub extracted_fit : (lookups : List (Lookup F)) (locals : List (List (Tuple (SymbolicExpression F)))) (globals : List (GlobalInteraction (SymbolicExpression F))) (exclusives : List (ExclusiveInteraction (SymbolicExpression F))) → AreRecords lookups → map fields_of lookups ≡ extraction locals globals exclusives → All AreTuplesInside locals → All IsGlobalInside globals → All AreBranchesInside exclusives → LookupsFit layout lookups
   extracted_fit lookups locals globals exclusives records same l g e = record {
     records = records;
     within = All-weaker (λ lookup. IsOutlineInside (fields_of lookup)) (IsWithin layout) lookup_inside lookups

@@ -70,6 +70,13 @@ module _ {F : Type 0} where
         → HaveSameKeys (trace_messages (sent_rows_under R eq id_before main preprocessed public_values before))
         (trace_messages (sent_rows_under R eq id_after main preprocessed public_values after))
 
+    -- What packing keeps of all that lookups send.
+    pub record KeepsSent (before after : List (Lookup F)) : Type 0 where
+      pub weight : KeepsWeight before after
+      pub messages : KeepsMessages before after
+      pub nets : KeepsNets before after
+      pub keys : KeepsKeys before after
+
 -- Under the same ids the traces of an AIR have the terminal of before, whatever the denominators.
 abbrev pub KeepsTerminal : {F K : Type 0} → Extension F K → List (Lookup F) → List (Lookup F) → Type 0
 KeepsTerminal {F} {K} E before after =

@@ -1,7 +1,7 @@
 -- What contracts see of the lookups of one AIR.
 use Rattle.std.specs.Prelude.{List}
 use Rattle.expressions.specs.declared.layout.AirLayout.{AirLayout}
-use Rattle.lookup_model.specs.Records.{DoFit}
+use Rattle.lookup_model.specs.Records.{LookupsFit}
 use Rattle.lookup_model.specs.declared.types.Lookup.{Lookup}
 use Rattle.lookup.specs.declared.lookups.Lookups.{Lookups}
 
@@ -10,5 +10,5 @@ abbrev pub lookups_of : {F : Type 0} → Lookups F → List (Lookup F)
 lookups_of set = set.lookups.items
 
 -- each layout that the lookups before fit, those after fit too
-abbrev pub DoesStillFit : {F : Type 0} → List (Lookup F) → List (Lookup F) → Type 0
-DoesStillFit before after = (layout : AirLayout) → DoFit layout before → DoFit layout after
+abbrev pub StillFit : {F : Type 0} → List (Lookup F) → List (Lookup F) → Type 0
+StillFit before after = (layout : AirLayout) → LookupsFit layout before → LookupsFit layout after

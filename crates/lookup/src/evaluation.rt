@@ -2,7 +2,7 @@
 ghost use Rattle.std.specs.Prelude.{◌+◌, ◌*◌, ◌<◌, ◌≤◌, All, length, map};
 ghost use Rattle.lookup_evaluation.specs.Asserted.{EvaluatesOn};
 ghost use Rattle.lookup_model.specs.Constraints.{accumulator_constraints, fraction_constraint, terminal_at};
-ghost use Rattle.lookup_model.specs.Records.{DoFit};
+ghost use Rattle.lookup_model.specs.Records.{LookupsFit};
 
 use crate::protocol::LookupProtocol;
 use air::{AirBuilder, AirError, BuilderView, ExtensionBuilder, PermutationAirBuilder};
@@ -18,7 +18,7 @@ pub(crate) fn eval_fractions<P: LookupProtocol, AB: PermutationAirBuilder>(
     builder: &mut AB,
     lookups: &[Lookup<AB::F>],
 ) -> Result<(), AirError>
-    requires fit { DoFit (AB.layout builder.old) lookups.now }
+    requires fit { LookupsFit (AB.layout builder.old) lookups.now }
     requires challenges { 2 * length lookups.now
         ≤ (AB.layout builder.old).num_permutation_challenges }
     requires cells { length lookups.now < (AB.layout builder.old).permutation_width }

@@ -7,15 +7,15 @@ ghost use Rattle.lookup_generation.specs.Progress.{HaveNoTuples, started_chunks}
 ghost use Rattle.field.specs.Extension.{extension};
 ghost use Rattle.lookup_model.specs.Generation.{AnswersGeneration};
 ghost use Rattle.lookup_model.specs.LookupDegree.{IsDegree, lookup_degree};
-ghost use Rattle.lookup_model.specs.Records.{DoFit, HasEqualLengths};
+ghost use Rattle.lookup_model.specs.Records.{HasEqualLengths, LookupsFit};
 ghost use Rattle.lookup_model.specs.Terminals.{terminal_sum, terminal_value};
 ghost use Rattle.matrix.specs.Matrix.{height};
 
 use crate::protocol::LookupProtocol;
 use air::{AirBuilder, AirError, ExtensionBuilder, PermutationAirBuilder};
 use field::{ExtensionDomain, ExtensionField, Field, Inverter};
-use lookup_generation::LookupTraceBuilder;
 use lookup_model::{Lookup, LookupError, LookupTerminal};
+use lookup_rows::LookupTraceBuilder;
 use matrix::RowMajorMatrix;
 use std::alloc::Global;
 
@@ -76,7 +76,7 @@ impl LogUpGadget {
         inverter: &mut I,
     ) -> Result<(RowMajorMatrix<EF>, Option<LookupTerminal<EF>>), LookupError>
         requires heights { ForSome (option_copied preprocessed) (λ m. height m ≡ height main.now) }
-        requires fit { DoFit (layout_of_traces main.now
+        requires fit { LookupsFit (layout_of_traces main.now
             (option_copied preprocessed) public_values.now) lookups.now }
         requires challenges { 2 * length lookups.now ≤ length challenges.now }
         ensures answers { ForInverses EF.ring

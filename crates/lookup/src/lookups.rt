@@ -4,7 +4,7 @@ ghost use Rattle.std.specs.List.{sum_by};
 ghost use Rattle.expressions.specs.Layout.{layout_of_widths};
 ghost use Rattle.serde.specs.Event.{WritesSeq};
 ghost use Rattle.lookup_model.specs.Outline.{outline_of};
-ghost use Rattle.lookup_model.specs.Records.{AreRecords, DoFit, IsFirstMalformed};
+ghost use Rattle.lookup_model.specs.Records.{AreRecords, IsFirstMalformed, LookupsFit};
 
 use crate::protocol::LookupProtocol;
 use crate::{extraction, packing};
@@ -25,12 +25,12 @@ pub struct Lookups<F> {
 
 impl<F: Field> Lookups<F> {
     ghost use Rattle.lookup.specs.Extraction.{Extracts};
-    ghost use Rattle.lookup.specs.Lookups.{DoesStillFit, lookups_of};
+    ghost use Rattle.lookup.specs.Lookups.{StillFit, lookups_of};
     ghost use Rattle.lookup_record.specs.RecordedWithin.{EvaluatesWithin};
     ghost use Rattle.std.specs.Fn.{FnReturnsAt};
     ghost use Rattle.lookup_model.specs.Outline.{fields_of};
     ghost use Rattle.lookup.specs.Fewest.{AnswersDegree, HasFewestColumns};
-    ghost use Rattle.lookup.specs.Kept.{KeepsKeys, KeepsMessages, KeepsNets, KeepsWeight};
+    ghost use Rattle.lookup.specs.Kept.{KeepsSent};
     ghost use Rattle.lookup.specs.Packing.{Packs};
     ghost use Rattle.lookup.specs.Trials.{Answers, IsBusTrial};
 
@@ -52,7 +52,7 @@ impl<F: Field> Lookups<F> {
             (layout_of_widths (A.width air.now) (A.preprocessed_width air.now)
             (A.num_public_values air.now)) result }
         ensures within { IfOk result (λ set. EvaluatesWithin A.evaluates air.now
-            → DoFit (layout_of_widths (A.width air.now) (A.preprocessed_width air.now)
+            → LookupsFit (layout_of_widths (A.width air.now) (A.preprocessed_width air.now)
             (A.num_public_values air.now)) (lookups_of set)) }
     {
         let layout = AirLayout::from_air(air);
@@ -99,14 +99,9 @@ impl<F: Field> Lookups<F> {
             → D.pre degree lookup }
         ensures packs { Packs (Answers (FnReturnsAt D.Fn degree)) max_degree
             (λ set. map fields_of (lookups_of set)) (map fields_of (lookups_of self)) result }
-        ensures weight { IfOk result (λ set. KeepsWeight (lookups_of self) (lookups_of set)) }
-        ensures messages { IfOk result (λ set. KeepsMessages F.ring F.eq (lookups_of self)
+        ensures kept { IfOk result (λ set. KeepsSent F.ring F.eq (lookups_of self)
             (lookups_of set)) }
-        ensures nets { IfOk result (λ set. KeepsNets F.ring F.eq (lookups_of self)
-            (lookups_of set)) }
-        ensures keys { IfOk result (λ set. KeepsKeys F.ring F.eq (lookups_of self)
-            (lookups_of set)) }
-        ensures fits { IfOk result (λ set. DoesStillFit (lookups_of self) (lookups_of set)) }
+        ensures fits { IfOk result (λ set. StillFit (lookups_of self) (lookups_of set)) }
     {
         let lookups = packing::packed(alloc, self.lookups, max_degree, degree)?;
         Ok(Lookups { lookups })
@@ -128,14 +123,9 @@ impl<F: Field> Lookups<F> {
             (map fields_of (lookups_of self)) result }
         ensures fewest { IfOk result (λ set. HasFewestColumns max_degree
             (map fields_of (lookups_of self)) (map fields_of (lookups_of set))) }
-        ensures weight { IfOk result (λ set. KeepsWeight (lookups_of self) (lookups_of set)) }
-        ensures messages { IfOk result (λ set. KeepsMessages F.ring F.eq (lookups_of self)
+        ensures kept { IfOk result (λ set. KeepsSent F.ring F.eq (lookups_of self)
             (lookups_of set)) }
-        ensures nets { IfOk result (λ set. KeepsNets F.ring F.eq (lookups_of self)
-            (lookups_of set)) }
-        ensures keys { IfOk result (λ set. KeepsKeys F.ring F.eq (lookups_of self)
-            (lookups_of set)) }
-        ensures fits { IfOk result (λ set. DoesStillFit (lookups_of self) (lookups_of set)) }
+        ensures fits { IfOk result (λ set. StillFit (lookups_of self) (lookups_of set)) }
     {
         let lookups = packing::packed_by_degree(alloc, self.lookups, max_degree)?;
         Ok(Lookups { lookups })
@@ -161,7 +151,7 @@ impl<F: Field> Lookups<F> {
 
     /// Whether the lookups fit an AIR of this layout; see [`fits`](crate::fits).
     pub fn fits(&self, layout: &AirLayout) -> bool
-        ensures { IsTrue result ↔ DoFit layout.now (lookups_of self.now) }
+        ensures { IsTrue result ↔ LookupsFit layout.now (lookups_of self.now) }
     {
         lookup_model::fits(self.as_slice(), layout)
     }

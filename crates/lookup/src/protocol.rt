@@ -5,7 +5,7 @@ ghost use Rattle.expressions.specs.Layout.{layout_of_traces};
 ghost use Rattle.lookup_evaluation.specs.Asserted.{EvaluatesOn};
 ghost use Rattle.lookup_model.specs.Constraints.{accumulator_constraints, fraction_constraint, lookup_constraints};
 ghost use Rattle.lookup_model.specs.LookupDegree.{IsDegree, lookup_degree};
-ghost use Rattle.lookup_model.specs.Records.{DoFit, HasEqualLengths, IsWithin};
+ghost use Rattle.lookup_model.specs.Records.{HasEqualLengths, IsWithin, LookupsFit};
 ghost use Rattle.lookup.specs.WholeAir.{EvaluatesBoth};
 ghost use Rattle.lookup_model.specs.Terminals.{terminal_sum};
 ghost use Rattle.lookup_model.specs.Generation.{AnswersGeneration};
@@ -87,7 +87,7 @@ pub trait LookupProtocol: Sized {
         builder: &mut AB,
         lookups: &[Lookup<AB::F>],
     ) -> Result<(), AirError>
-        requires fit { DoFit (AB.layout builder.old) lookups.now }
+        requires fit { LookupsFit (AB.layout builder.old) lookups.now }
         requires challenges { 2 * length lookups.now
             ≤ (AB.layout builder.old).num_permutation_challenges }
         requires cells { 0 < length lookups.now
@@ -117,7 +117,7 @@ pub trait LookupProtocol: Sized {
         builder: &mut AB,
         lookups: &[Lookup<AB::F>],
     ) -> Result<(), AirError>
-        requires fit { DoFit (AB.layout builder.old) lookups.now }
+        requires fit { LookupsFit (AB.layout builder.old) lookups.now }
         requires challenges { 2 * length lookups.now
             ≤ (AB.layout builder.old).num_permutation_challenges }
         requires cells { 0 < length lookups.now
@@ -172,7 +172,7 @@ pub trait LookupProtocol: Sized {
         challenges: &[EF],
     ) -> Result<(RowMajorMatrix<EF>, Option<LookupTerminal<EF>>), LookupError>
         requires heights { ForSome (option_copied preprocessed) (λ m. height m ≡ height main.now) }
-        requires fit { DoFit (layout_of_traces main.now
+        requires fit { LookupsFit (layout_of_traces main.now
             (option_copied preprocessed) public_values.now) lookups.now }
         requires challenges { 2 * length lookups.now ≤ length challenges.now }
         ensures { AnswersGeneration ⟦<EF as Over<F>>⟧.fields main.now

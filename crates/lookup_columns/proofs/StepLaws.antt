@@ -13,7 +13,7 @@ use Rattle.expressions.specs.declared.base_expression.SymbolicExpression.{Symbol
 use Rattle.expressions.specs.declared.layout.AirLayout.{AirLayout}
 use Rattle.lookup_columns.specs.Columns.{column}
 use Rattle.lookup_columns.specs.Slots.{after}
-use Rattle.lookup_columns.specs.Steps.{AreStepsOf, DoStepsFit, StepFits, steps_in_order}
+use Rattle.lookup_columns.specs.Steps.{AreStepsOf, StepFits, StepsFit, steps_in_order}
 use Rattle.lookup_columns.specs.declared.step.Step.{Step}
 use Rattle.lookup_columns.specs.declared.step.Step.TheVariants.{Leaf, Add, Sub, Mul, Neg}
 use Rattle.lookup_columns.proofs.ColumnLaws.{map_of_columns}
@@ -37,17 +37,17 @@ module _ {F : Type 0} where
   steps_fit layout (neg a) fits = fits_with layout Neg (steps_in_order a) tt (steps_fit layout a fits)
 
   -- and so do those of an expression
-  pub expression_steps_fit : (layout : AirLayout) (v : Vec (Step F) Global) (e : SymbolicExpression F) → AreStepsOf v e → Fits layout (tree_of e) → DoStepsFit layout v
+  pub expression_steps_fit : (layout : AirLayout) (v : Vec (Step F) Global) (e : SymbolicExpression F) → AreStepsOf v e → Fits layout (tree_of e) → StepsFit layout v
   expression_steps_fit layout v e are fits = subst (All (StepFits layout)) (sym are) (steps_fit layout (tree_of e) fits)
 
   -- and of each expression of a list
-  pub all_steps_fit : (layout : AirLayout) (vs : List (Vec (Step F) Global)) (es : List (SymbolicExpression F)) → AllZip AreStepsOf vs es → AllFit layout es → All (DoStepsFit layout) vs
+  pub all_steps_fit : (layout : AirLayout) (vs : List (Vec (Step F) Global)) (es : List (SymbolicExpression F)) → AllZip AreStepsOf vs es → AllFit layout es → All (StepsFit layout) vs
   unfolding AllFit
-  all_steps_fit layout [] es are fit = All-nil (DoStepsFit layout)
+  all_steps_fit layout [] es are fit = All-nil (StepsFit layout)
   all_steps_fit layout (v ∷ vs) [] are fit = absurd are
   all_steps_fit layout (v ∷ vs) (e ∷ es) are fit =
       let fits = λ (x : SymbolicExpression F). Fits layout (tree_of x) in
-      All-cons (DoStepsFit layout) v vs (expression_steps_fit layout v e are.0 (All-head fits e es fit)) (all_steps_fit layout vs es are.1 (All-tail fits e es fit))
+      All-cons (StepsFit layout) v vs (expression_steps_fit layout v e are.0 (All-head fits e es fit)) (all_steps_fit layout vs es are.1 (All-tail fits e es fit))
 
   module _ (R : Ring F) (window : ℕ → Window F) (rows : List ℕ) where
     -- the slots after some steps

@@ -31,5 +31,5 @@ module _ {F : Type 0} where
   StepFits layout Neg = Unit {0}
 
   -- the same of each step
-  abbrev pub DoStepsFit : AirLayout → Vec (Step F) Global → Type 0
-  DoStepsFit layout v = All (StepFits layout) v.items
+  abbrev pub StepsFit : AirLayout → Vec (Step F) Global → Type 0
+  StepsFit layout v = All (StepFits layout) v.items

@@ -4,7 +4,7 @@ ghost use Rattle.std.specs.List.{AllZip, zip};
 ghost use Rattle.field.specs.Ring.{sub_in};
 ghost use Rattle.expressions.specs.declared.base_expression.SymbolicExpression.{SymbolicExpression};
 ghost use Rattle.lookup_columns.specs.Columns.{denominator_column};
-ghost use Rattle.lookup_columns.specs.Steps.{AreStepsOf, DoStepsFit};
+ghost use Rattle.lookup_columns.specs.Steps.{AreStepsOf, StepsFit};
 ghost use Rattle.lookup_columns.specs.Traces.{layout_of, height_of, window_of};
 
 use crate::column::{column_of, push_alike};
@@ -53,7 +53,7 @@ pub fn denominators_of<F: Field, EF: ExtensionDomain<F>>(
     alpha: EF,
     beta: EF,
 ) -> Result<Vec<EF>, AllocError>
-    requires fits { All (DoStepsFit (layout_of traces.now)) tuple.now }
+    requires fits { All (StepsFit (layout_of traces.now)) tuple.now }
     requires rows_exist { All (λ r. r < height_of traces.now) rows.now }
     ensures { (expressions : List (SymbolicExpression F)) → AllZip AreStepsOf tuple.now expressions
         → IfOk result (λ v. v.items ≡ denominator_column F.ring EF.ring EF.embed

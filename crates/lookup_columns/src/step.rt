@@ -4,7 +4,7 @@ ghost use Rattle.std.specs.List.{AllZip};
 ghost use Rattle.expressions.specs.Layout.{Fits};
 ghost use Rattle.expressions.specs.Tree.{tree_of};
 ghost use Rattle.expressions.specs.declared.layout.AirLayout.{AirLayout};
-ghost use Rattle.lookup_columns.specs.Steps.{AreStepsOf, DoStepsFit, steps_in_order};
+ghost use Rattle.lookup_columns.specs.Steps.{AreStepsOf, StepsFit, steps_in_order};
 ghost use Rattle.lookup_model.specs.Records.{AllFit};
 
 use expressions::{BaseLeaf, SymbolicExpression};
@@ -67,7 +67,7 @@ pub fn steps_of<F: Field>(
 ) -> Result<Vec<Step<F>>, AllocError>
     ensures steps { IfOk result (λ v. AreStepsOf v expression.now) }
     ensures fit { (layout : AirLayout) → Fits layout (tree_of expression.now)
-        → IfOk result (DoStepsFit layout) }
+        → IfOk result (StepsFit layout) }
 {
     let mut steps = Vec::new(alloc);
     push_steps(&mut steps, expression)?;
@@ -81,7 +81,7 @@ pub fn steps_of_each<F: Field>(
 ) -> Result<Vec<Vec<Step<F>>>, AllocError>
     ensures steps { IfOk result (λ v. AllZip AreStepsOf v.items expressions.now) }
     ensures fit { (layout : AirLayout) → AllFit layout expressions.now
-        → IfOk result (λ v. All (DoStepsFit layout) v.items) }
+        → IfOk result (λ v. All (StepsFit layout) v.items) }
 {
     let mut all = Vec::with_capacity(alloc, expressions.len())?;
     for expression in expressions {

@@ -7,7 +7,7 @@ use Rattle.field.specs.Ring.{Ring}
 use Rattle.expressions.specs.Layout.{layout_of_traces}
 use Rattle.expressions.specs.Window.{Window, window_at}
 use Rattle.lookup_model.specs.Message.{Message}
-use Rattle.lookup_model.specs.Records.{DoFit}
+use Rattle.lookup_model.specs.Records.{LookupsFit}
 use Rattle.lookup_model.specs.Sent.{branches_at, flags_at}
 use Rattle.lookup_model.specs.declared.types.Lookup.{Lookup}
 use Rattle.lookup_debug.specs.declared.fault.Location.{Location}
@@ -32,7 +32,7 @@ traced_of i = record {
 -- The lookups fit the traces and the public values, and a preprocessed trace is as high as the main
 -- trace.
 pub record IsFitting {F : Type 0} (traced : Traced F) : Type 0 where
-  pub fit : DoFit (layout_of_traces traced.main traced.preprocessed traced.public_values) traced.lookups
+  pub fit : LookupsFit (layout_of_traces traced.main traced.preprocessed traced.public_values) traced.lookups
   pub heights : ForSome traced.preprocessed (λ m. height m ≡ height traced.main)
 
 -- each of these AIRs is so

@@ -7,7 +7,7 @@ ghost use Rattle.lookup_debug.specs.Contributions.{AreFitting, IsFitting, contri
 ghost use Rattle.lookup_debug.specs.Groups.{bus_group, bus_names, is_missing, local_groups, local_label};
 ghost use Rattle.lookup_debug.specs.Mismatch.{AllBalance, HasParts, IsMismatch};
 ghost use Rattle.lookup_model.specs.Outline.{bus_of};
-ghost use Rattle.lookup_model.specs.Records.{DoFit};
+ghost use Rattle.lookup_model.specs.Records.{LookupsFit};
 ghost use Rattle.matrix.specs.Matrix.{height};
 
 use crate::arena::Contributions;
@@ -36,7 +36,7 @@ pub fn check_lookups<F: Field>(
     alloc: Global,
     instances: &[LookupDebugInstance<'_, F>],
 ) -> Result<(), LookupFault<F>>
-    requires fit { All (λ i. DoFit (layout_of_traces i.main_trace.now
+    requires fit { All (λ i. LookupsFit (layout_of_traces i.main_trace.now
         (option_copied i.preprocessed_trace) i.public_values.now) i.lookups.now) instances.now }
     requires heights { All (λ i. ForSome (option_copied i.preprocessed_trace)
         (λ m. height m ≡ height i.main_trace.now)) instances.now }

@@ -15,7 +15,7 @@ pub record IsRatio {K : Type 0} (S : Ring K) (ratio : Ratio K) (x : K) : Type 0 
   pub nonzero : ratio.denominator ≢ S.zero
 
 -- these are n ratios, and no denominator is zero
-pub record AreSound {K : Type 0} (S : Ring K) (n : ℕ) (ratios : List (Ratio K)) : Type 0 where
+pub record AreDefined {K : Type 0} (S : Ring K) (n : ℕ) (ratios : List (Ratio K)) : Type 0 where
   pub many : length ratios ≡ n
   pub nonzero : All (λ r. r.denominator ≢ S.zero) ratios
 

@@ -4,7 +4,7 @@ ghost use Rattle.std.specs.List.{AllZip};
 ghost use Rattle.lookup_columns.specs.ChunkColumns.{AreLookupColumns};
 ghost use Rattle.lookup_columns.specs.LookupSteps.{AreLookupSteps};
 ghost use Rattle.lookup_columns.specs.Traces.{layout_of, height_of, window_of};
-ghost use Rattle.lookup_model.specs.Records.{DoFit};
+ghost use Rattle.lookup_model.specs.Records.{LookupsFit};
 
 use field::{ExtensionDomain, Field};
 use lookup_columns::{BranchColumns, ColumnMemory, LookupSteps, Traces, columns_of_lookup};
@@ -22,7 +22,7 @@ pub(crate) fn columns_of_lookups<F: Field, EF: ExtensionDomain<F>>(
     rows: &[usize],
 ) -> Result<Vec<Vec<BranchColumns<F, EF>>>, AllocError>
     requires steps { AllZip AreLookupSteps steps.now lookups.now }
-    requires fit { DoFit (layout_of traces.now) lookups.now }
+    requires fit { LookupsFit (layout_of traces.now) lookups.now }
     requires challenges { 2 * length lookups.now ≤ length challenges.now }
     requires rows_exist { All (λ r. r < height_of traces.now) rows.now }
     ensures { IfOk result (λ v. AreLookupColumns F.ring EF.ring EF.embed challenges.now

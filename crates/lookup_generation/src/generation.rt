@@ -4,76 +4,32 @@ ghost use Rattle.std.specs.Prelude.{◌≡◌, ◌+◌, ◌-◌, ◌*◌, ◌%�
 ghost use Rattle.std.specs.List.{AllZip};
 ghost use Rattle.std.specs.Option.{ForSome, option_copied, option_map_or};
 ghost use Rattle.expressions.specs.Layout.{layout_of_traces};
-ghost use Rattle.expressions.specs.Window.{window_at};
 ghost use Rattle.lookup_columns.specs.Traces.{layout_of, height_of, window_of};
 ghost use Rattle.lookup_model.specs.Denominators.{column_denominator};
 ghost use Rattle.lookup_model.specs.Fault.{trace_faults};
 ghost use Rattle.field.specs.Sums.{sum_in};
-ghost use Rattle.lookup_generation.specs.Fraction.{AreSound, AreWhole};
+ghost use Rattle.lookup_generation.specs.Fraction.{AreDefined, AreWhole};
 ghost use Rattle.lookup_generation.specs.Inverses.{ForExtensions};
 ghost use Rattle.lookup_columns.specs.ChunkColumns.{HoldLookup, HoldLookups};
 ghost use Rattle.lookup_columns.specs.LookupSteps.{AreLookupSteps};
 ghost use Rattle.lookup_generation.specs.Progress.{AnswersColumn, AnswersColumns, AreRatios, HasRows, HaveNoTuples, IsFirstOf, column_cells, sent_on, sent_rows_of, started_chunks};
-ghost use Rattle.lookup_model.specs.Records.{DoFit};
+ghost use Rattle.lookup_model.specs.Records.{LookupsFit};
 ghost use Rattle.lookup_model.specs.Generation.{AnswersGeneration};
-ghost use Rattle.lookup_generation.specs.TraceBuilder.{builder_layout, builder_window};
 ghost use Rattle.matrix.specs.Matrix.{height};
 
 use crate::columns::columns_of_lookups;
 use crate::fraction::fraction;
 use crate::memory::ChunkMemory;
 use crate::ratio::{Ratio, values_of};
-use crate::trace_builder::LookupTraceBuilder;
 use field::{Domain, ExtensionDomain, ExtensionField, Field, InverseCount, Inverter, Over};
-use lookup_columns::{
-    BranchColumns, LookupSteps, Traces, next_row, rows_between, steps_of_lookups,
-};
+use lookup_columns::{BranchColumns, LookupSteps, Traces, rows_between, steps_of_lookups};
 use lookup_model::{Lookup, LookupError, LookupTerminal};
-use matrix::{RowMajorMatrix, ViewPair};
+use lookup_rows::row_builder;
+use matrix::RowMajorMatrix;
 use std::alloc::{AllocError, Global};
 
 /// How many rows make a chunk. All fractions of a chunk are divided by at most one inverse.
 const CHUNK_ROWS: usize = 1024;
-
-/// The builder of one row of an AIR's traces together with the next row; the last row comes with the
-/// first one. The caller counts the rows of the traces, `num_rows`, once for all of them.
-pub fn row_builder<'a, F: Field, EF: Domain>(
-    main: &'a RowMajorMatrix<F>,
-    preprocessed: Option<&'a RowMajorMatrix<F>>,
-    public_values: &'a [F],
-    challenges: &'a [EF],
-    num_rows: usize,
-    row: usize,
-) -> LookupTraceBuilder<'a, F, EF>
-    requires rows { num_rows ≡ height main.now }
-    requires row_exists { row < num_rows }
-    requires heights { ForSome (option_copied preprocessed) (λ m. height m ≡ height main.now) }
-    ensures window { builder_window result ≡ window_at main.now
-        (option_copied preprocessed.entry) public_values.now (height main.now) row }
-    ensures layout { builder_layout result ≡ record
-        (layout_of_traces main.now (option_copied preprocessed.entry) public_values.now) {
-          num_permutation_challenges = length challenges.now;
-        } }
-    ensures challenges { result.permutation_challenges.now ≡ challenges.now }
-    ensures row { result.row ≡ row }
-{
-    let next = next_row(row, num_rows);
-    let main = ViewPair {
-        top: main.row_slice(row),
-        bottom: main.row_slice(next),
-    };
-    let preprocessed = match preprocessed {
-        Some(trace) => ViewPair {
-            top: trace.row_slice(row),
-            bottom: trace.row_slice(next),
-        },
-        None => ViewPair {
-            top: &[],
-            bottom: &[],
-        },
-    };
-    LookupTraceBuilder::new(main, preprocessed, public_values, challenges, num_rows, row)
-}
 
 /// A fault of a lookup, and the row where it is.
 #[derive(Drop)]
@@ -106,8 +62,8 @@ fn push_column<F: Field, EF: ExtensionDomain<F>>(
         (sent_on F.ring F.eq traces.now lookup.now) lookup.now.column first end
         ratios.old.items ratios.new.items found)) }
     ensures sound { IfOk result (λ found. found ≡ None → (n : ℕ)
-        → AreSound EF.ring n ratios.old.items
-        → AreSound EF.ring (n + (end - first)) ratios.new.items) }
+        → AreDefined EF.ring n ratios.old.items
+        → AreDefined EF.ring (n + (end - first)) ratios.new.items) }
     ensures bare { lookup.now.elements.items ≡ [] → AreWhole EF.ring ratios.old.items
         → IfOk result (λ _. AreWhole EF.ring ratios.new.items) }
     ensures there { IfOk result (λ found. IfSome found
@@ -156,7 +112,7 @@ fn push_columns<F: Field, EF: ExtensionDomain<F>>(
     first: usize,
     end: usize,
 ) -> Result<Option<RowFault>, AllocError>
-    requires fit { DoFit (layout_of traces.now) lookups.now }
+    requires fit { LookupsFit (layout_of traces.now) lookups.now }
     requires from { first ≤ end }
     requires up_to { end ≤ height_of traces.now }
     requires columns { (row : ℕ) → first ≤ row → row < end
@@ -168,7 +124,7 @@ fn push_columns<F: Field, EF: ExtensionDomain<F>>(
         IfOk result (AnswersColumns E (column_denominator E challenges.now) traces.now lookups.now
         first end ratios.new.items)) }
     ensures sound { IfOk result (λ found. found ≡ None
-        → AreSound EF.ring (length lookups.now * (end - first)) ratios.new.items) }
+        → AreDefined EF.ring (length lookups.now * (end - first)) ratios.new.items) }
     ensures bare { HaveNoTuples lookups.now
         → IfOk result (λ _. AreWhole EF.ring ratios.new.items) }
     ensures there { IfOk result (λ found. IfSome found
@@ -198,7 +154,7 @@ fn ratios_of<F: Field, EF: ExtensionDomain<F>>(
     end: usize,
 ) -> Result<Vec<Ratio<EF>>, LookupError>
     requires steps { AllZip AreLookupSteps steps.now lookups.now }
-    requires fit { DoFit (layout_of traces.now) lookups.now }
+    requires fit { LookupsFit (layout_of traces.now) lookups.now }
     requires challenges { 2 * length lookups.now ≤ length challenges.now }
     requires from { first ≤ end }
     requires up_to { end ≤ height_of traces.now }
@@ -211,7 +167,7 @@ fn ratios_of<F: Field, EF: ExtensionDomain<F>>(
         (λ v. AreRatios E denominator traces.now lookups.now first end v.items)
         (IsFirstOf (trace_faults E denominator
         (sent_rows_of F.ring F.eq traces.now lookups.now)))) }
-    ensures sound { IfOk result (λ v. AreSound EF.ring
+    ensures sound { IfOk result (λ v. AreDefined EF.ring
         (length lookups.now * (end - first)) v.items) }
     ensures bare { HaveNoTuples lookups.now → IfOk result (λ v. AreWhole EF.ring v.items) }
 {
@@ -291,7 +247,7 @@ fn push_chunk<F: Field, EF: ExtensionDomain<F>, I: Inverter<EF>>(
     inverter: &mut I,
 ) -> Result<EF, LookupError>
     requires steps { AllZip AreLookupSteps steps.now lookups.now }
-    requires fit { DoFit (layout_of traces.now) lookups.now }
+    requires fit { LookupsFit (layout_of traces.now) lookups.now }
     requires challenges { 2 * length lookups.now ≤ length challenges.now }
     requires from { first < end }
     requires up_to { end ≤ height_of traces.now }
@@ -352,7 +308,7 @@ fn generate<F: Field, EF: ExtensionDomain<F>, I: Inverter<EF>>(
     challenges: &[EF],
     inverter: &mut I,
 ) -> Result<(Vec<EF>, EF), LookupError>
-    requires fit { DoFit (layout_of traces.now) lookups.now }
+    requires fit { LookupsFit (layout_of traces.now) lookups.now }
     requires challenges { 2 * length lookups.now ≤ length challenges.now }
     requires some { 0 < length lookups.now }
     ensures rows { ForExtensions F.ring F.eq EF.ring EF.eq EF.embed (λ E.
@@ -412,8 +368,8 @@ pub fn generate_counted<'a, F: Field, EF: ExtensionDomain<F>, I: Inverter<EF>>(
     inverter: &mut I,
 ) -> Result<(RowMajorMatrix<EF>, Option<LookupTerminal<EF>>), LookupError>
     requires heights { ForSome (option_copied preprocessed) (λ m. height m ≡ height main.now) }
-    requires fit { DoFit (layout_of_traces main.now (option_copied preprocessed) public_values.now)
-        lookups.now }
+    requires fit { LookupsFit (layout_of_traces main.now (option_copied preprocessed)
+        public_values.now) lookups.now }
     requires challenges { 2 * length lookups.now ≤ length challenges.now }
     ensures answers { ForExtensions F.ring F.eq EF.ring EF.eq EF.embed (λ E. AnswersGeneration E
         main.now (option_copied preprocessed.entry) public_values.now lookups.now challenges.now
@@ -459,8 +415,8 @@ pub fn generate_permutation<'a, F: Field, EF: ExtensionField<F>>(
     challenges: &[EF],
 ) -> Result<(RowMajorMatrix<EF>, Option<LookupTerminal<EF>>), LookupError>
     requires heights { ForSome (option_copied preprocessed) (λ m. height m ≡ height main.now) }
-    requires fit { DoFit (layout_of_traces main.now (option_copied preprocessed) public_values.now)
-        lookups.now }
+    requires fit { LookupsFit (layout_of_traces main.now (option_copied preprocessed)
+        public_values.now) lookups.now }
     requires challenges { 2 * length lookups.now ≤ length challenges.now }
     ensures { AnswersGeneration ⟦<EF as Over<F>>⟧.fields main.now (option_copied preprocessed.entry)
         public_values.now lookups.now challenges.now result }

@@ -3,7 +3,6 @@
 pub mod Accepted
 pub mod AcceptedSums
 pub mod ByTable
-pub mod Lists
 pub mod MadeResults
 pub mod OnlyFractions
 pub mod OnlyRows

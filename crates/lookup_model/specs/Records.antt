@@ -42,6 +42,6 @@ module _ {F : Type 0} where
       All (λ tuple. AllFit layout tuple.items) lookup.elements.items × AllFit layout lookup.multiplicities.items × IfSome lookup.flags (λ flags. AllFit layout flags.items)
 
   -- lookups that fit an AIR: well formed, and within its layout
-  pub record DoFit (layout : AirLayout) (lookups : List (Lookup F)) : Type 0 where
+  pub record LookupsFit (layout : AirLayout) (lookups : List (Lookup F)) : Type 0 where
     pub records : AreRecords lookups
     pub within : All (IsWithin layout) lookups

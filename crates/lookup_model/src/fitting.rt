@@ -1,6 +1,6 @@
 //! Which lookups fit the traces of an AIR.
 ghost use Rattle.std.specs.Prelude.{◌↔◌, All, IsTrue, IfSome, MatchOption};
-ghost use Rattle.lookup_model.specs.Records.{AllFit, AreRecords, DoFit, HasEqualLengths, IsFirstMalformed, IsRecordAt, IsWithin};
+ghost use Rattle.lookup_model.specs.Records.{AllFit, AreRecords, HasEqualLengths, IsFirstMalformed, IsRecordAt, IsWithin, LookupsFit};
 
 use crate::types::Lookup;
 use expressions::{AirLayout, SymbolicExpression};
@@ -12,7 +12,7 @@ use expressions::{AirLayout, SymbolicExpression};
 /// - their variables have offset 0 or 1, and indices below the layout's widths and number of public
 ///   values.
 pub fn fits<F>(lookups: &[Lookup<F>], layout: &AirLayout) -> bool
-    ensures { IsTrue result ↔ DoFit layout.now lookups.now }
+    ensures { IsTrue result ↔ LookupsFit layout.now lookups.now }
 {
     first_malformed(lookups).is_none() && are_within(lookups, layout)
 }

@@ -4,21 +4,16 @@ use Rattle.std.proofs.lemmas.List.Elements.{All-cons, All-nil}
 use Rattle.std.proofs.lemmas.Option.{get_or_from_slice_get}
 use Rattle.std.specs.declared.alloc.Global.{Global}
 use Rattle.std.specs.declared.vec.Vec.{Vec}
-use Rattle.field.specs.Ring.{Ring, IsCommutativeRing, of_nat}
+use Rattle.field.specs.Ring.{Ring}
 use Rattle.air.specs.Cell.{IsCell}
 use Rattle.expressions.specs.declared.error.AirError.{AirError}
 use Rattle.lookup_model.specs.Sent.{sent}
 use Rattle.lookup_record.specs.Interaction.{Branch, Interaction, exclusive, global, local}
 use Rattle.lookup_record.specs.Messages.{IsExclusiveQuery, IsUnitQuery, PushesOne, flag_and_fields}
 use Rattle.lookup.specs.Sends.{bus_and_weight, interaction_sends, interaction_tuples, message_under}
-use Rattle.lookup_program.specs.Machines.{DoesSend, message_of}
+use Rattle.lookup_program.specs.Machines.{SendsLike, message_of}
 use Rattle.lookup_program.specs.Pushes.{AreTwoKeys, IsCellTuple}
 use Rattle.lookup_program.specs.declared.airs.MachineAir.TheVariants.{Entries, Group, Keys, RangeCheck}
-
--- the whole number 1 is the one
-pub of_nat-one : {A : Type 0} {R : Ring A} → IsCommutativeRing R → of_nat R 1 ≡ R.one
-unfolding of_nat
-of_nat-one {R = R} laws = laws.add_zero R.one
 
 module _ {B M : Type 0} (pushes : B → M → B → Type 0) (refuses : B → M → AirError → B → Type 0) (Q : M → Type 0) (before after : B) where
   -- what pushes an interaction of one meaning pushes one of a weaker meaning
@@ -82,7 +77,7 @@ module _ {F E S W : Type 0} (R : Ring F) (eq : F → F → Bool) (value : E → 
       → m ≡ local (record { fields = read; count = once; weight = 1 } ∷ record { fields = provided; count = times; weight = 0 } ∷ [])
       → IsCellTuple (λ x w. at w x) stands cells 0 read → IsCellTuple (λ x w. at w x) stands cells 1 provided → IsCell (λ x w. at w x) stands cells 2 uses
       → ((s : S) → value once s ≡ R.one) → ((s : S) → value times s ≡ R.neg (value uses s))
-      → DoesSend R eq (λ x w. at w x) stands cells RangeCheck m
+      → SendsLike R eq (λ x w. at w x) stands cells RangeCheck m
   range_does_send read provided once uses times m is reads provides counts is_one is_negated = record {
     sends = λ w here wide.
         ap (interaction_sends R eq (at w) 0) is
@@ -96,7 +91,7 @@ module _ {F E S W : Type 0} (R : Ring F) (eq : F → F → Bool) (value : E → 
 
   -- the query of a key
   pub keys_do_send : (key : List E) (once : E) (m : Interaction E) → m ≡ global (record { bus_name = codes "b"; fields = key; count = once; weight = 1 })
-      → IsCellTuple (λ x w. at w x) stands cells 0 key → ((s : S) → value once s ≡ R.one) → DoesSend R eq (λ x w. at w x) stands cells Keys m
+      → IsCellTuple (λ x w. at w x) stands cells 0 key → ((s : S) → value once s ≡ R.one) → SendsLike R eq (λ x w. at w x) stands cells Keys m
   keys_do_send key once m is queries is_one = record {
     sends = λ w here wide. ap (interaction_sends R eq (at w) 0) is ∙ ap (λ a. sent R eq None (a ∷ [])) (message_is w key once _ _ (tuple_values 0 key w here queries) (is_one (seen w)));
     kind = ap bus_and_weight is;
@@ -106,7 +101,7 @@ module _ {F E S W : Type 0} (R : Ring F) (eq : F → F → Bool) (value : E → 
 
   -- the entry that is provided
   pub entries_do_send : (entry : List E) (uses times : E) (m : Interaction E) → m ≡ global (record { bus_name = codes "b"; fields = entry; count = times; weight = 0 })
-      → IsCellTuple (λ x w. at w x) stands cells 0 entry → IsCell (λ x w. at w x) stands cells 1 uses → ((s : S) → value times s ≡ R.neg (value uses s)) → DoesSend R eq (λ x w. at w x) stands cells Entries m
+      → IsCellTuple (λ x w. at w x) stands cells 0 entry → IsCell (λ x w. at w x) stands cells 1 uses → ((s : S) → value times s ≡ R.neg (value uses s)) → SendsLike R eq (λ x w. at w x) stands cells Entries m
   entries_do_send entry uses times m is provides counts is_negated = record {
     sends = λ w here wide.
         ap (interaction_sends R eq (at w) 0) is
@@ -118,7 +113,7 @@ module _ {F E S W : Type 0} (R : Ring F) (eq : F → F → Bool) (value : E → 
 
   -- the group of both keys
   pub group_does_send : (degree : E → ℕ → ℕ) (given : List (E × Vec E Global)) (m : Interaction E) → AreTwoKeys (λ x w. at w x) stands cells given → IsExclusiveQuery R.one value degree (codes "rc") given m
-      → DoesSend R eq (λ x w. at w x) stands cells Group m
+      → SendsLike R eq (λ x w. at w x) stands cells Group m
   group_does_send degree given m keys query = record {
     sends = λ w here wide.
         let first_flag : at w two.0.flag ≡ slice_index_or (cells w) 0 R.zero = ap (λ p. at w p.0) two.3 ∙ cell_value 0 keys.first_flag w here keys.first_flag_is in

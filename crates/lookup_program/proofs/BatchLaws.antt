@@ -23,7 +23,7 @@ use Rattle.lookup_model.specs.Challenges.{ChallengeTable, table_denominator}
 use Rattle.field.specs.Extension.{Extension}
 use Rattle.lookup_model.specs.Generated.{plain_matrix, plain_terminal_of}
 use Rattle.lookup_model.specs.Fault.{trace_faults}
-use Rattle.lookup_model.specs.Records.{DoFit}
+use Rattle.lookup_model.specs.Records.{LookupsFit}
 use Rattle.lookup_model.specs.Trace.{sent_row_under}
 use Rattle.lookup_model.specs.declared.types.Lookup.{Lookup}
 use Rattle.lookup.specs.Lookups.{lookups_of}
@@ -134,7 +134,7 @@ module _ {F : Type 0} (R : Ring F) (eq : F → F → Bool) (input : Matrix F) (a
   -- its instance makes a batch
   pub fitting : first_column_of air + width_of air ≤ input.width → 0 < height input → IsFitting (instance trace)
   fitting holds some = record {
-    fit = subst (λ (width : ℕ). DoFit (layout_of_widths width 0 0) (lookups_of trace.lookups)) (sym (ap (λ m. m.width) is.main)) is.lookups.fit;
+    fit = subst (λ (width : ℕ). LookupsFit (layout_of_widths width 0 0) (lookups_of trace.lookups)) (sym (ap (λ m. m.width) is.main)) is.lookups.fit;
     heights = λ trace none. absurd (cc none);
     nonempty = λ has. subst (λ (m : Matrix F). 0 < height m) (sym is.main) (trace_rows air input holds some);
     ids = sym (ap length one_lookup.1);

@@ -11,7 +11,7 @@ use Rattle.expressions.specs.declared.error.AirError.TheVariants.{Memory as AirM
 use Rattle.expressions.specs.declared.layout.AirLayout.{AirLayout}
 use Rattle.air.specs.Recorded.{HasWidths, recorded}
 use Rattle.lookup_model.specs.Outline.{fields_of}
-use Rattle.lookup_model.specs.Records.{DoFit}
+use Rattle.lookup_model.specs.Records.{LookupsFit}
 use Rattle.lookup_model.specs.Refusal.{from_air}
 use Rattle.lookup_model.specs.Sent.{value}
 use Rattle.lookup_model.specs.declared.error.LookupError.{LookupError}
@@ -27,7 +27,7 @@ use Rattle.lookup.specs.Lookups.{lookups_of}
 use Rattle.lookup.specs.Sends.{bus_and_weight, in_order, interaction_sends, interaction_tuples}
 use Rattle.lookup.specs.declared.lookups.Lookups.{Lookups}
 use Rattle.lookup.proofs.Extracted.{extracted_kinds, extracted_send, extracted_tuples, none_refused, one_in_order}
-use Rattle.lookup_program.specs.Machines.{AreLookupsOf, DoesSend, air_bus_and_weight, width_of}
+use Rattle.lookup_program.specs.Machines.{AreLookupsOf, SendsLike, air_bus_and_weight, width_of}
 use Rattle.air.specs.Cell.{IsCellsRefusal}
 use Rattle.lookup_program.specs.Pushes.{Evaluates}
 use Rattle.lookup_program.specs.declared.airs.MachineAir.{MachineAir}
@@ -63,7 +63,7 @@ module _ (F EF : Type 0) (R : Ring F) (eq : F → F → Bool) (air : MachineAir)
 
   -- what the AIR means to push
   abbrev IsMeant : Builder → Interaction (SymbolicExpression F) → Type 0
-  IsMeant b m = DoesSend R eq (λ x w. value R w x) (stands_for b) (λ w. w.main) air m
+  IsMeant b m = SendsLike R eq (λ x w. value R w x) (stands_for b) (λ w. w.main) air m
 
   -- how the AIR is evaluated
   abbrev air_evaluates : Builder → Result (Unit {0}) AirError → Builder → Type 0
@@ -108,7 +108,7 @@ module _ (F EF : Type 0) (R : Ring F) (eq : F → F → Bool) (air : MachineAir)
 
   -- the lookups of the AIR
   lookups_are : (b : Builder) (set : Lookups F) → Leaves b → map fields_of (lookups_of set) ≡ extraction (recorded_air b).locals (recorded_air b).globals (recorded_air b).exclusives
-      → DoFit layout (lookups_of set) → AreLookupsOf R eq air (lookups_of set)
+      → LookupsFit layout (lookups_of set) → AreLookupsOf R eq air (lookups_of set)
   lookups_are b set left is fit = record {
     one = extracted_kinds (lookups_of set) r.locals r.globals r.exclusives is ∙ ap (map bus_and_weight) order ∙ ap (λ k. k ∷ []) left.meant.kind;
     fit = fit;
@@ -132,7 +132,7 @@ module _ (F EF : Type 0) (R : Ring F) (eq : F → F → Bool) (air : MachineAir)
 
   -- a local lookup among them has no fault
   locals_faultless : (stands : Window F → Type 0) (m : Interaction (SymbolicExpression F)) (r : RecordedAir F EF) → r ≡ with_interaction (no_air_recorded layout) m
-      → DoesSend R eq (λ x w. value R w x) stands (λ w. w.main) air m → All IsFaultless r.locals
+      → SendsLike R eq (λ x w. value R w x) stands (λ w. w.main) air m → All IsFaultless r.locals
   locals_faultless stands (global m) r is sends = rw (ap (λ r. r.locals) is) (All-nil IsFaultless)
   locals_faultless stands (exclusive m) r is sends = rw (ap (λ r. r.locals) is) (All-nil IsFaultless)
   locals_faultless stands (local tuples) r is sends =
@@ -146,7 +146,7 @@ module _ (F EF : Type 0) (R : Ring F) (eq : F → F → Bool) (air : MachineAir)
 
   -- the answer of the extraction
   pub air_lookups : (answer : Result (Lookups F) LookupError) → Extracts {A = MachineAir} (λ _. air_evaluates) air layout answer
-      → IfOk answer (λ set. EvaluatesWithin {A = MachineAir} (λ _. air_evaluates) air → DoFit layout (lookups_of set))
+      → IfOk answer (λ set. EvaluatesWithin {A = MachineAir} (λ _. air_evaluates) air → LookupsFit layout (lookups_of set))
       → MatchResult answer (λ set. AreLookupsOf R eq air (lookups_of set)) (λ e. e ≡ Memory)
   air_lookups (Ok set) (b, new, is, faultless) fits = lookups_are b set (leaves b new) is (fits (λ before after h. h.1))
   air_lookups (Err e) (inl memory) fits = memory

@@ -14,7 +14,7 @@ use Rattle.lookup_model.specs.Challenges.{table_denominator}
 use Rattle.lookup_model.specs.Fault.{IsLawfulSelection, are_boolean}
 use Rattle.lookup_model.specs.Net.{first_seen}
 use Rattle.lookup_model.specs.Outline.{bus_of}
-use Rattle.lookup_model.specs.Records.{DoFit}
+use Rattle.lookup_model.specs.Records.{LookupsFit}
 use Rattle.lookup_model.specs.Sent.{Sent, sent_at}
 use Rattle.lookup_model.specs.declared.types.Lookup.{Lookup}
 use Rattle.lookup_model.specs.Batches.Messages.{HasLawfulFlags}
@@ -192,7 +192,7 @@ module _ {F : Type 0} {R : Ring F} (laws : IsCommutativeRing R) (eq : F → F �
 -- traces of a machine are fit for the debug check
 module _ {F : Type 0} (R : Ring F) (eq : F → F → Bool) (input : Matrix F) where
   abbrev Fits : Traced F → Type 0
-  Fits t = DoFit (layout_of_traces t.main t.preprocessed t.public_values) t.lookups
+  Fits t = LookupsFit (layout_of_traces t.main t.preprocessed t.public_values) t.lookups
 
   abbrev HaveOneHeight : Traced F → Type 0
   HaveOneHeight t = ForSome t.preprocessed (λ m. height m ≡ height t.main)
@@ -203,7 +203,7 @@ module _ {F : Type 0} (R : Ring F) (eq : F → F → Bool) (input : Matrix F) wh
   all_fit (a ∷ later) [] all = absurd all
   all_fit (a ∷ later) (t ∷ ts) all =
       All-cons Fits (traced_over t) (map traced_over ts)
-      (subst (λ (width : ℕ). DoFit (layout_of_widths width 0 0) (lookups_of t.lookups)) (sym (ap (λ m. m.width) all.0.main)) all.0.lookups.fit)
+      (subst (λ (width : ℕ). LookupsFit (layout_of_widths width 0 0) (lookups_of t.lookups)) (sym (ap (λ m. m.width) all.0.main)) all.0.lookups.fit)
       (all_fit later ts all.1)
 
   -- as the program holds them

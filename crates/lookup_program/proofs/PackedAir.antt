@@ -18,7 +18,7 @@ use Rattle.lookup.specs.Fewest.{AnswersDegree}
 use Rattle.lookup.specs.Packing.{Packs}
 use Rattle.lookup.proofs.JoinedMessages.{option_mapped}
 use Rattle.lookup.proofs.ZippedLists.{zip_mapped}
-use Rattle.lookup.specs.Lookups.{DoesStillFit, lookups_of}
+use Rattle.lookup.specs.Lookups.{StillFit, lookups_of}
 use Rattle.lookup.specs.Sends.{lookup_bus_and_weight}
 use Rattle.lookup.specs.declared.lookups.Lookups.{Lookups}
 use Rattle.lookup_program.specs.Machines.{AreLookupsOf, air_bus_and_weight}
@@ -45,7 +45,7 @@ module _ {F : Type 0} (R : Ring F) (eq : F → F → Bool) where
   module _ (air : MachineAir) where
     -- a lookup that differs from the AIR's in the column alone
     same_lookup : (before : List (Lookup F)) (set : Lookups F) (l : Lookup F) → AreLookupsOf R eq air before → before ≡ l ∷ [] → map fields_of (lookups_of set) ≡ record (fields_of l) { column = 0 } ∷ []
-        → DoesStillFit before (lookups_of set) → AreLookupsOf R eq air (lookups_of set)
+        → StillFit before (lookups_of set) → AreLookupsOf R eq air (lookups_of set)
     same_lookup before set l are is same fits =
         let found = one_item fields_of (lookups_of set) (record (fields_of l) { column = 0 }) same in
         let k : Lookup F = found.0 in
@@ -67,7 +67,7 @@ module _ {F : Type 0} (R : Ring F) (eq : F → F → Bool) where
 
     -- the packed lookups of the AIR
     pub packed_air : (most : ℕ) (before : List (Lookup F)) (result : Result (Lookups F) LookupError) → AreLookupsOf R eq air before
-        → Packs AnswersDegree most (λ set. map fields_of (lookups_of set)) (map fields_of before) result → IfOk result (λ set. DoesStillFit before (lookups_of set))
+        → Packs AnswersDegree most (λ set. map fields_of (lookups_of set)) (map fields_of before) result → IfOk result (λ set. StillFit before (lookups_of set))
         → MatchResult result (λ set. AreLookupsOf R eq air (lookups_of set)) (λ e. e ≡ Memory)
     packed_air most before result are packs fits =
         let found = one_item lookup_bus_and_weight before (air_bus_and_weight air) are.one in
@@ -75,6 +75,6 @@ module _ {F : Type 0} (R : Ring F) (eq : F → F → Bool) where
         by_result found.0 found.1 result (packs_one AnswersDegree most (λ (set : Lookups F). map fields_of (lookups_of set)) (map fields_of before) (fields_of found.0) 1 result (ap (map fields_of) found.1) (narrow_widths found.0 narrow) packs) fits
       where
         by_result : (l : Lookup F) → before ≡ l ∷ [] → (answer : Result (Lookups F) LookupError) → MatchResult answer (λ set. map fields_of (lookups_of set) ≡ record (fields_of l) { column = 0 } ∷ []) (λ e. e ≡ Memory)
-            → IfOk answer (λ set. DoesStillFit before (lookups_of set)) → MatchResult answer (λ set. AreLookupsOf R eq air (lookups_of set)) (λ e. e ≡ Memory)
+            → IfOk answer (λ set. StillFit before (lookups_of set)) → MatchResult answer (λ set. AreLookupsOf R eq air (lookups_of set)) (λ e. e ≡ Memory)
         by_result l is (Ok set) same still = same_lookup before set l are is same still
         by_result l is (Err e) memory still = memory

@@ -13,7 +13,7 @@ use Rattle.lookup.specs.Buses.{bus_names, bus_groups, is_named, on_bus, same_nam
 use Rattle.lookup.specs.Lookups.{lookups_of}
 use Rattle.lookup.specs.NamedWidths.{IsFirstMismatch, first_width, named_widths}
 use Rattle.lookup.specs.declared.lookups.Lookups.{Lookups}
-use Rattle.lookup_model.proofs.Batches.Lists.{all_back, all_front}
+use Rattle.lookup_model.proofs.Lists.{all_back, all_front}
 use Rattle.batch.proofs.Places.{there_holds}
 use Rattle.batch.specs.Checks.{IsFirstLocalMismatch, bus_widths_of}
 use Rattle.batch.specs.PlanFacts.{lookup_widths, message_width, tuple_widths}

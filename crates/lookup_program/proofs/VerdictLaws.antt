@@ -1,6 +1,5 @@
 -- What a report says.
-use Rattle.std.proofs.Common.{◌≡◌, ◌≢◌, ◌↔◌, ◌++◌, ◌<◌, ℕ, Bool, IsTrue, List, [], ◌∷◌, Option, Result, Ok, Err, MatchResult, is_ok, length, map, string_bytes, refl, subst, sym, ap, ap₂, arith, ◌∙◌}
-use Rattle.std.specs.List.{zip}
+use Rattle.std.proofs.Common.{◌≡◌, ◌≢◌, ◌↔◌, ◌++◌, ◌<◌, ℕ, Bool, IsTrue, List, [], Option, Result, Ok, Err, MatchResult, is_ok, length, map, string_bytes, refl, subst, sym, ap, ap₂, arith, ◌∙◌}
 use Rattle.std.specs.declared.alloc.Global.{Global}
 use Rattle.std.specs.declared.string.String.{String}
 use Rattle.matrix.specs.Matrix.{Matrix}
@@ -17,17 +16,11 @@ use Rattle.lookup_program.specs.Mismatches.{IsMismatchLine}
 use Rattle.lookup_program.specs.Program.{AreFaultless, IsReport, height_sum, machine_witness}
 use Rattle.lookup_program.specs.Report.{verdict_line, witness_lines}
 use Rattle.lookup_program.specs.declared.machine.Machine.{Machine}
+use Rattle.checker.proofs.WitnessLaws.{seconds}
 
 -- what is appended to nothing
 pub after_nothing : {X : Type 0} (all before more : List X) → all ≡ before ++ more → before ≡ [] → all ≡ more
 after_nothing all before more is none = is ∙ ap (λ xs. xs ++ more) none
-
--- the second items of pairs
-seconds : {A B : Type 0} (xs : List A) (ys : List B) → length xs ≡ length ys → map (λ p. p.1) (zip xs ys) ≡ ys
-seconds [] [] same = refl
-seconds [] (y ∷ ys) same = absurd (omega (arith, same))
-seconds (x ∷ xs) [] same = absurd (omega (arith, same))
-seconds (x ∷ xs) (y ∷ ys) same = ap (λ t. y ∷ t) (seconds xs ys (omega (arith, same)))
 
 -- whether the check of a sum passes is whether it is zero
 cancels : {K : Type 0} (sum zero : K) (result : Result (Unit {0}) LookupError) → MatchResult result (λ _. sum ≡ zero) (λ e. (e ≡ TerminalSumNonZero) × (sum ≢ zero)) → IsTrue (is_ok result) ↔ (sum ≡ zero)

@@ -7,7 +7,7 @@ use Rattle.expressions.specs.Layout.{layout_of_widths}
 use Rattle.expressions.specs.Window.{Window}
 use Rattle.air.specs.Recorded.{HasWidths}
 use Rattle.lookup_model.specs.Message.{Message}
-use Rattle.lookup_model.specs.Records.{DoFit}
+use Rattle.lookup_model.specs.Records.{LookupsFit}
 use Rattle.lookup_model.specs.Sent.{Sent, sent}
 use Rattle.lookup_model.specs.Trace.{sent_row_under}
 use Rattle.lookup_model.specs.declared.types.Lookup.{Lookup}
@@ -90,7 +90,7 @@ module _ {F : Type 0} (R : Ring F) (eq : F → F → Bool) where
 
   -- an interaction that sends what the AIR sends, at each window that the builder stands for, with
   -- the AIR's bus and weight, and with tuples of one value
-  pub record DoesSend {E W : Type 0} (value : E → W → F) (stands : W → Type 0) (cells : W → List F) (air : MachineAir) (m : Interaction E) : Type 0 where
+  pub record SendsLike {E W : Type 0} (value : E → W → F) (stands : W → Type 0) (cells : W → List F) (air : MachineAir) (m : Interaction E) : Type 0 where
     pub sends : (w : W) → stands w → length (cells w) ≡ width_of air → interaction_sends R eq (λ x. value x w) 0 m ≡ air_sends air (cells w)
     pub kind : bus_and_weight m ≡ air_bus_and_weight air
     pub widths : All (λ tuple. length tuple ≡ 1) (interaction_tuples m)
@@ -99,6 +99,6 @@ module _ {F : Type 0} (R : Ring F) (eq : F → F → Bool) where
   -- one value, and on each row it sends what the AIR sends, under id 0.
   pub record AreLookupsOf (air : MachineAir) (lookups : List (Lookup F)) : Type 0 where
     pub one : map lookup_bus_and_weight lookups ≡ air_bus_and_weight air ∷ []
-    pub fit : DoFit (layout_of_widths (width_of air) 0 0) lookups
+    pub fit : LookupsFit (layout_of_widths (width_of air) 0 0) lookups
     pub widths : All (λ lookup. All (λ tuple. length tuple.items ≡ 1) lookup.elements.items) lookups
     pub sends : (w : Window F) → HasWidths (layout_of_widths (width_of air) 0 0) w → sent_row_under R eq (λ _. 0) w lookups ≡ air_sends air w.main ∷ []

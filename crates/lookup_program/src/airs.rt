@@ -3,7 +3,7 @@ ghost use Rattle.std.specs.Prelude.{◌≡◌, ◌<◌, All, IfErr, IfOk, OnOk};
 ghost use Rattle.air.specs.Cell.{IsCellsRefusal};
 ghost use Rattle.lookup_record.specs.Pushed.{pushed_local};
 ghost use Rattle.lookup_record.specs.Within.{IsWithin, KeyWithin};
-ghost use Rattle.lookup_program.specs.Machines.{DoesSend, first_column_of, width_of};
+ghost use Rattle.lookup_program.specs.Machines.{SendsLike, first_column_of, width_of};
 ghost use Rattle.lookup_program.specs.Pushes.{AreTwoKeys, Evaluates, IsCellTuple, pushed_if_accepted};
 ghost use Rattle.lookup_program.specs.declared.airs.MachineAir.TheVariants.{RangeCheck};
 
@@ -74,7 +74,7 @@ impl<F> BaseAir<F> for MachineAir {
 impl<AB: InteractionBuilder> Air<AB> for MachineAir {
     ghost evaluates = { λ air before answer after.
         Evaluates AB.pushes AB.refuses_push AB.window_refuses AB.layout
-        (DoesSend AB.F.ring AB.F.eq (λ x w. AB.Expr.value x (AB.seen w)) (AB.stands_for before)
+        (SendsLike AB.F.ring AB.F.eq (λ x w. AB.Expr.value x (AB.seen w)) (AB.stands_for before)
         (λ w. w.main) air) (width_of air) before answer after
         × OnOk answer (AB.pushed_within before → AB.pushed_within after) };
 
@@ -112,7 +112,7 @@ fn range_tuples<AB: InteractionBuilder>(
     builder: &AB,
 ) -> Result<Vec<(Vec<AB::Expr>, Count<AB::Expr>)>, AirError>
     ensures refused { IfErr result (IsCellsRefusal AB.window_refuses AB.layout 3 builder.now) }
-    ensures sends { IfOk result (λ tuples. DoesSend AB.F.ring AB.F.eq
+    ensures sends { IfOk result (λ tuples. SendsLike AB.F.ring AB.F.eq
         (λ x w. AB.Expr.value x (AB.seen w)) (AB.stands_for builder.now) (λ w. w.main) RangeCheck
         (pushed_local tuples.items)) }
     ensures within { IfOk result (λ tuples. IsWithin AB.Expr.within (AB.layout builder.now)

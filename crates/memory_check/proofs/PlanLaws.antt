@@ -16,7 +16,7 @@ use Rattle.batch.specs.Checks.{IsPlanRefusal}
 use Rattle.batch.specs.Refusals.{of_lookup}
 use Rattle.batch.specs.declared.error.BatchError.{BatchError}
 use Rattle.batch.specs.declared.error.BatchError.TheVariants.{Lookup as OfLookup, Memory}
-use Rattle.memory_check.specs.Memory.{DoLookupsFit, IsLookupsRefusal, IsMemoryPlanRefusal}
+use Rattle.memory_check.specs.Memory.{SetsFit, IsLookupsRefusal, IsMemoryPlanRefusal}
 use Rattle.memory_check.specs.Pushes.{AcceptedAll, IsRefusedAfter}
 
 module _ {F EF : Type 0} where
@@ -70,7 +70,7 @@ module _ {F EF : Type 0} where
     lookups_refused e (inr (inr (b, evaluated, first))) = inr (e, (recorded_air b).locals, first, passed_on first.tuples e first.refusal)
 
 -- the refusal of a plan of lookups that fit
-pub plan_refused : {F P : Type 0} {A : P → Type 0} (p : ℕ) (airs : List (Lookups F)) (heights given : List ℕ) (result : Result P BatchError) → heights ≡ given → DoLookupsFit airs
+pub plan_refused : {F P : Type 0} {A : P → Type 0} (p : ℕ) (airs : List (Lookups F)) (heights given : List ℕ) (result : Result P BatchError) → heights ≡ given → SetsFit airs
     → MatchResult result A (λ e. (e ≡ Memory) ⊎ IsPlanRefusal p airs heights e) → IfErr result (IsMemoryPlanRefusal F p given)
 plan_refused p airs heights given (Ok plan) is fit answered = tt
 plan_refused p airs heights given (Err e) is fit (inl memory) = inl (inl memory)

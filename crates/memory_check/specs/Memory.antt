@@ -10,7 +10,7 @@ use Rattle.lookup_record.specs.Interaction.{Tuple}
 use Rattle.lookup_model.specs.Challenges.{ChallengeTable}
 use Rattle.field.specs.Extension.{Extension}
 use Rattle.lookup_model.specs.Net.{IsBalanced}
-use Rattle.lookup_model.specs.Records.{DoFit}
+use Rattle.lookup_model.specs.Records.{LookupsFit}
 use Rattle.lookup_model.specs.declared.error.LookupError.{LookupError}
 use Rattle.lookup.specs.Extraction.{IsFirstLocalRefusal}
 use Rattle.lookup.specs.Lookups.{lookups_of}
@@ -33,8 +33,8 @@ use Rattle.memory_check.specs.declared.memory.MemoryTraces.{MemoryTraces}
 
 module _ {F : Type 0} where
   -- the lookups of each AIR fit the traces of its width: 5, 4 and 2 columns
-  abbrev pub DoLookupsFit : List (Lookups F) → Type 0
-  DoLookupsFit sets = AllZip (λ columns set. DoFit (layout_of_widths columns 0 0) (lookups_of set)) (5 ∷ 4 ∷ 2 ∷ []) sets
+  abbrev pub SetsFit : List (Lookups F) → Type 0
+  SetsFit sets = AllZip (λ columns set. LookupsFit (layout_of_widths columns 0 0) (lookups_of set)) (5 ∷ 4 ∷ 2 ∷ []) sets
 
   -- the traces, AIR by AIR
   abbrev pub mains_of : MemoryTraces F → List (Matrix F)
@@ -52,7 +52,7 @@ module _ (F : Type 0) where
   -- lookups, or of a check of the plan of lookups that fit.
   abbrev pub IsMemoryPlanRefusal : ℕ → List ℕ → BatchError → Type 0
   IsMemoryPlanRefusal p heights e =
-      IsLookupsRefusal e ⊎ ((airs : List (Lookups F)) × DoLookupsFit airs × IsPlanRefusal p airs heights e)
+      IsLookupsRefusal e ⊎ ((airs : List (Lookups F)) × SetsFit airs × IsPlanRefusal p airs heights e)
 
 -- a plan by its parts, and the traces that are checked over it
 module _ {F K : Type 0} (E : Extension F K) (alpha beta : K) (airs : List (Lookups F)) (heights : List ℕ) (ids : List (Vec ℕ Global)) (W m : ℕ) (mains : List (Matrix F)) where

@@ -1,7 +1,7 @@
 //! The memory check: from its AIRs to a plan, and from traces to an accepted witness.
 ghost use Rattle.std.specs.Prelude.{◌≡◌, [], ◌∷◌, None, IfErr, IfOk, OnOk};
 ghost use Rattle.batch.specs.Traces.{shown_of};
-ghost use Rattle.memory_check.specs.Memory.{DoLookupsFit, IsAcceptedMemory, IsLookupsRefusal, IsMemoryPlanRefusal, IsMemoryRefusal, mains_of};
+ghost use Rattle.memory_check.specs.Memory.{SetsFit, IsAcceptedMemory, IsLookupsRefusal, IsMemoryPlanRefusal, IsMemoryRefusal, mains_of};
 
 use crate::airs::{AccessesAir, BoundaryAir, GapsAir};
 use batch::{BatchError, BatchPlan, BatchTrace};
@@ -33,7 +33,7 @@ pub fn memory_plan<F: Field, EF: ExtensionField<F>>(
     boundary: usize,
     gaps: usize,
 ) -> Result<BatchPlan<F>, BatchError>
-    ensures fit { IfOk result (λ plan. DoLookupsFit plan.airs.items) }
+    ensures fit { IfOk result (λ plan. SetsFit plan.airs.items) }
     ensures heights { IfOk result (λ plan. plan.heights.items ≡ accesses ∷ boundary ∷ gaps ∷ []) }
     ensures refused { IfErr result (IsMemoryPlanRefusal F F.CHARACTERISTIC
         (accesses ∷ boundary ∷ gaps ∷ [])) }
@@ -47,7 +47,7 @@ pub fn memory_plan<F: Field, EF: ExtensionField<F>>(
 fn memory_lookups<F: Field, EF: ExtensionField<F>>(
     alloc: Global,
 ) -> Result<Vec<Lookups<F>>, BatchError>
-    ensures fit { IfOk result (λ lookups. DoLookupsFit lookups.items) }
+    ensures fit { IfOk result (λ lookups. SetsFit lookups.items) }
     ensures refused { IfErr result (IsLookupsRefusal F) }
 {
     let accesses = Lookups::from_air::<EF, AccessesAir>(alloc, &AccessesAir)?;

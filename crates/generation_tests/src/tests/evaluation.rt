@@ -1,6 +1,6 @@
 //! Constraints of lookups after those of an AIR, as a symbolic builder records them.
 ghost use Rattle.std.specs.Prelude.{◌≡◌, ◌+◌, ◌*◌, ◌<◌, ◌≤◌, ◌↔◌, IfOk, IsTrue, OnOk, length};
-ghost use Rattle.lookup_model.specs.Records.{DoFit};
+ghost use Rattle.lookup_model.specs.Records.{LookupsFit};
 
 use super::{group, holds, list, range, single};
 use air::{
@@ -33,7 +33,7 @@ fn layout_of<AB: PermutationAirBuilder>(alloc: Global, builder: &AB) -> Result<A
 
 /// Whether a builder of these widths has room for lookups.
 fn has_room<F>(lookups: &[Lookup<F>], layout: &AirLayout) -> bool
-    ensures fit { IsTrue result → DoFit layout.now lookups.now }
+    ensures fit { IsTrue result → LookupsFit layout.now lookups.now }
     ensures challenges { IsTrue result
         → 2 * length lookups.now ≤ layout.now.num_permutation_challenges }
     ensures cells { IsTrue result → length lookups.now < layout.now.permutation_width }

@@ -5,7 +5,7 @@ ghost use Rattle.lookup_model.specs.Outline.{fields_of};
 ghost use Rattle.lookup_model.specs.Records.{AreRecords, HasEqualLengths};
 ghost use Rattle.lookup.specs.Buses.{owned_group};
 ghost use Rattle.lookup.specs.Fewest.{AnswersDegree};
-ghost use Rattle.lookup.specs.Kept.{KeepsKeys, KeepsMessages, KeepsNets, KeepsWeight};
+ghost use Rattle.lookup.specs.Kept.{KeepsSent};
 ghost use Rattle.lookup.specs.Packing.{AreColumnsAdded, IsFirstStuck, Packs, additive, is_additive, numbered, passing};
 ghost use Rattle.lookup.specs.Trials.{Answers, IsBusTrial, IsMember, IsTrialAmong};
 
@@ -48,10 +48,7 @@ pub fn packed<F: Field, D: Fn(&Lookup<F>) -> Result<usize, LookupError>>(
     ensures packs { Packs (Answers (FnReturnsAt D.Fn degree)) max_degree
         (λ v. map fields_of v.items) (map fields_of lookups.items) result }
     ensures records { IfOk result (λ v. AreRecords v.items) }
-    ensures weight { IfOk result (λ v. KeepsWeight lookups.items v.items) }
-    ensures messages { IfOk result (λ v. KeepsMessages F.ring F.eq lookups.items v.items) }
-    ensures nets { IfOk result (λ v. KeepsNets F.ring F.eq lookups.items v.items) }
-    ensures keys { IfOk result (λ v. KeepsKeys F.ring F.eq lookups.items v.items) }
+    ensures kept { IfOk result (λ v. KeepsSent F.ring F.eq lookups.items v.items) }
 {
     packed_by(alloc, lookups, max_degree, &Asked { degree: &degree })
 }
@@ -70,10 +67,7 @@ pub fn packed_by_degree<F: Field>(
     ensures packs { Packs AnswersDegree max_degree
         (λ v. map fields_of v.items) (map fields_of lookups.items) result }
     ensures records { IfOk result (λ v. AreRecords v.items) }
-    ensures weight { IfOk result (λ v. KeepsWeight lookups.items v.items) }
-    ensures messages { IfOk result (λ v. KeepsMessages F.ring F.eq lookups.items v.items) }
-    ensures nets { IfOk result (λ v. KeepsNets F.ring F.eq lookups.items v.items) }
-    ensures keys { IfOk result (λ v. KeepsKeys F.ring F.eq lookups.items v.items) }
+    ensures kept { IfOk result (λ v. KeepsSent F.ring F.eq lookups.items v.items) }
 {
     packed_by(alloc, lookups, max_degree, &GadgetDegrees)
 }
@@ -91,10 +85,7 @@ fn packed_by<F: Field, T: TrialDegrees<F>>(
     ensures packs { Packs (T.answers degrees.now) max_degree
         (λ v. map fields_of v.items) (map fields_of lookups.items) result }
     ensures records { IfOk result (λ v. AreRecords v.items) }
-    ensures weight { IfOk result (λ v. KeepsWeight lookups.items v.items) }
-    ensures messages { IfOk result (λ v. KeepsMessages F.ring F.eq lookups.items v.items) }
-    ensures nets { IfOk result (λ v. KeepsNets F.ring F.eq lookups.items v.items) }
-    ensures keys { IfOk result (λ v. KeepsKeys F.ring F.eq lookups.items v.items) }
+    ensures kept { IfOk result (λ v. KeepsSent F.ring F.eq lookups.items v.items) }
 {
     assert_bus_widths(alloc, &lookups)?;
     let (columns, additive) = parted(alloc, lookups)?;

@@ -25,7 +25,7 @@ use Rattle.lookup_model.proofs.Lookups.Shapes.{shape-none, shape-some}
 use Rattle.lookup_model.specs.Batches.Equations.{CanSumTo, Equation, Solves, air_equations, batch_equations, challenged_window, equation_at, row_equations}
 use Rattle.lookup_model.specs.Batches.Instances.{Instance, IsFitting}
 use Rattle.lookup_model.specs.Batches.Witnesses.{AirResult, AreSatisfied, IsSatisfiedAt}
-use Rattle.lookup_model.proofs.Batches.Lists.{all_back, all_front, all_of_map}
+use Rattle.lookup_model.proofs.Lists.{all_back, all_front, all_of_map}
 use Rattle.lookup_model.proofs.Batches.SolutionSums.{sum_of_none, sums_together}
 use Rattle.lookup_model.proofs.Batches.Zipped.{nothing_flat, zipped_flat, zipped_images}
 

@@ -25,12 +25,12 @@ use Rattle.lookup_model.specs.Witness.{HasShape, witness_window}
 use Rattle.lookup_model.specs.declared.types.Lookup.{Lookup}
 use Rattle.lookup_model.specs.declared.types.LookupTerminal.{LookupTerminal}
 use Rattle.lookup_model.proofs.Lookups.PlainResults.{IsShaped-product, height_of}
-use Rattle.lookup_model.proofs.Lookups.SatisfiedRows.{all_append, all_indexed, none_satisfied, row_of_parts}
+use Rattle.lookup_model.proofs.Lookups.SatisfiedRows.{all_indexed, none_satisfied, row_of_parts}
 use Rattle.lookup_model.proofs.Lookups.SentRows.{column_is}
 use Rattle.lookup_model.specs.Batches.Equations.{CanSumTo, Equation, Solves, air_equations, batch_equations, challenged_window, equation_at, row_equations}
 use Rattle.lookup_model.specs.Batches.Instances.{Instance, IsFitting}
 use Rattle.lookup_model.specs.Batches.Witnesses.{AirResult, AreSatisfied, IsSatisfiedAt}
-use Rattle.lookup_model.proofs.Batches.Lists.{item_at}
+use Rattle.lookup_model.proofs.Lists.{all_both, item_at}
 use Rattle.lookup_model.proofs.Batches.SolutionSums.{none_sums, sums_apart}
 use Rattle.lookup_model.proofs.Batches.Zipped.{nothing_flat, ranged_at, zipped_at, zipped_long, zipped_rows}
 
@@ -149,7 +149,7 @@ module _ {F K : Type 0} {E : Extension F K} (laws : IsLawful E) (table : Challen
     made_satisfied = record {
       shape = shape i.lookups some refl;
       equations = λ r lt.
-          all_append (IsZeroAt r) (map (fraction_constraint E) i.lookups) (accumulator_constraints E i.lookups (terminal_at E) (λ t. 0))
+          all_both (IsZeroAt r) (map (fraction_constraint E) i.lookups) (accumulator_constraints E i.lookups (terminal_at E) (λ t. 0))
           (all_map (fraction_constraint E) (λ l. (fraction_constraint E l).meaning (window_of r) ≡ E.ring.zero) (IsZeroAt r) (λ l zero_there. zero_there) i.lookups (all_indexed (λ l. (fraction_constraint E l).meaning (window_of r) ≡ E.ring.zero) i.lookups (fraction_zero r lt)))
           (subst (AllByRecursion (IsZeroAt r)) (sym (accumulator_constraints-some E i.lookups (terminal_at E) (λ t. 0) some)) (first_zero r lt, (transition_zero r lt, (last_zero r lt, tt))));
     }

@@ -32,7 +32,7 @@ use Rattle.lookup_model.proofs.Lookups.Selectors.{put_together, zero_selected}
 use Rattle.lookup_model.proofs.Lookups.Shapes.{shape-some}
 use Rattle.lookup_model.proofs.Lookups.Terminals.{plain_terminal-sum}
 use Rattle.lookup_model.specs.Batches.Messages.{HasLawfulFlags, NoneVanishes}
-use Rattle.lookup_model.proofs.Batches.Lists.{all_front, all_back, all_here, all_of_map, all_parts, item_at, joined_rows, same_map, same_parts}
+use Rattle.lookup_model.proofs.Lists.{all_front, all_back, all_here, all_of_map, all_parts, item_at, joined_rows, same_map, same_parts}
 use Rattle.lookup_model.proofs.Batches.SentFacts.{sent_ids}
 use Rattle.lookup_model.proofs.Batches.OnlyFractions.{denominator_nonzero, no_fault, one_fraction}
 

@@ -16,7 +16,7 @@ use Rattle.lookup_model.specs.Batches.Witnesses.{AirResult, AreSatisfied, IsSati
 use Rattle.lookup_model.specs.Challenges.{ChallengeTable, column_challenges, table_denominator}
 use Rattle.lookup_model.proofs.Lookups.Shapes.{shape-none}
 use Rattle.lookup_model.proofs.Batches.ByTable.{alike_rows, column_den, den}
-use Rattle.lookup_model.proofs.Batches.Lists.{all_front, all_back}
+use Rattle.lookup_model.proofs.Lists.{all_front, all_back}
 use Rattle.lookup_model.proofs.Batches.OnlyRows.{only_plain}
 use Rattle.lookup_model.proofs.Batches.Rekeyed.{lawful_alike, none_alike, same_matrix, same_terminal_of}
 

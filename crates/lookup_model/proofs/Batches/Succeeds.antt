@@ -11,7 +11,7 @@ use Rattle.lookup_model.specs.Batches.Faults.{instance_faults}
 use Rattle.lookup_model.specs.Batches.Instances.{Instance}
 use Rattle.lookup_model.specs.Batches.Messages.{AreFlagsLawful, HasLawfulFlags, NoneVanishes, batch_messages, sent_rows_of}
 use Rattle.lookup_model.specs.Challenges.{ChallengeTable, table_denominator}
-use Rattle.lookup_model.proofs.Batches.Lists.{all_front, all_back}
+use Rattle.lookup_model.proofs.Lists.{all_front, all_back}
 use Rattle.lookup_model.proofs.Batches.OnlyFractions.{no_fault}
 
 module _ {F K : Type 0} {E : Extension F K} (laws : IsLawful E) (denominator : Key F → K) where

@@ -23,7 +23,7 @@ use Rattle.lookup_model.specs.Batches.Instances.{Instance, IsFitting}
 use Rattle.lookup_model.specs.Batches.Messages.{batch_messages, id_of, sent_rows_of}
 use Rattle.lookup_model.specs.Collisions.{IsLawfulKey}
 use Rattle.lookup_model.specs.Batches.Ids.{AreLawfulIds, identified}
-use Rattle.lookup_model.proofs.Batches.Lists.{all_both, all_front, all_back}
+use Rattle.lookup_model.proofs.Lists.{all_both, all_front, all_back}
 use Rattle.lookup_model.proofs.Batches.SentFacts.{all_sent}
 
 module _ {F : Type 0} where

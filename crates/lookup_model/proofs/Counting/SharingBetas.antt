@@ -10,7 +10,7 @@ use Rattle.lookup_model.specs.Message.{Key}
 use Rattle.lookup_model.specs.Collisions.{IsLawfulKey}
 use Rattle.lookup_model.specs.Points.{point_in}
 use Rattle.lookup_model.proofs.Counting.DistinctLists.{union_bound}
-use Rattle.lookup_model.proofs.Batches.Lists as lists
+use Rattle.lookup_model.proofs.Lists as lists
 use Rattle.lookup_model.proofs.CollisionLaws.{few_share_a_point}
 
 module _ {A : Type 0} where

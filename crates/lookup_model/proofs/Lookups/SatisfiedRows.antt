@@ -31,6 +31,7 @@ use Rattle.lookup_model.proofs.Lookups.SatisfiedLookups.{lookup_satisfied}
 use Rattle.lookup_model.proofs.Lookups.Selectors.{selected_zero, taken_apart}
 use Rattle.lookup_model.proofs.Lookups.SentRows.{column_is, equal_lengths, length-sent_rows, length-sent_rows-at, sent_rows-at}
 use Rattle.lookup_model.proofs.Lookups.Terminals.{plain_terminal-sum}
+use Rattle.lookup_model.proofs.Lists.{all_both}
 
 module _ {A : Type 0} where
   -- what holds of the items at their places holds of each
@@ -38,11 +39,6 @@ module _ {A : Type 0} where
   all_indexed P [] each = tt
   all_indexed P (x ∷ xs) each =
       (each 0 x (omega arith) refl, all_indexed P xs (λ i y lt is. each (suc i) y (omega (arith, lt)) is))
-
-  -- what holds of each of two lists holds of both together
-  pub all_append : (P : A → Type 0) (xs ys : List A) → AllByRecursion P xs → AllByRecursion P ys → AllByRecursion P (xs ++ ys)
-  all_append P [] ys first second = second
-  all_append P (x ∷ xs) ys first second = (first.0, all_append P xs ys first.1 second)
 
   -- a list that is empty with what follows is empty, and so is what follows
   nothing_before : (xs ys : List A) → xs ++ ys ≡ [] → xs ≡ []
@@ -209,7 +205,7 @@ module _ {F K : Type 0} {E : Extension F K} (laws : IsLawful E) (challenges : Li
     plain_satisfied = record {
       shape = shape lookups some refl;
       equations = λ r lt.
-          all_append (IsZeroAt r) (map (fraction_constraint E) lookups) (accumulator_constraints E lookups (terminal_at E) (λ t. 0))
+          all_both (IsZeroAt r) (map (fraction_constraint E) lookups) (accumulator_constraints E lookups (terminal_at E) (λ t. 0))
           (all_map (fraction_constraint E) (λ l. (fraction_constraint E l).meaning (window_of r) ≡ E.ring.zero) (IsZeroAt r) (λ l zero_there. zero_there) lookups (all_indexed (λ l. (fraction_constraint E l).meaning (window_of r) ≡ E.ring.zero) lookups (fraction_zero r lt)))
           (subst (AllByRecursion (IsZeroAt r)) (sym (accumulator_constraints-some E lookups (terminal_at E) (λ t. 0) some)) (first_zero r lt, (transition_zero r lt, (last_zero r lt, tt))));
     }

@@ -4,7 +4,7 @@ use Rattle.std.specs.Box.{boxed_slice_items}
 use Rattle.std.specs.Option.{ForSome, option_copied}
 use Rattle.matrix.specs.Matrix.{Matrix, height}
 use Rattle.expressions.specs.Layout.{layout_of_traces}
-use Rattle.lookup_model.specs.Records.{DoFit}
+use Rattle.lookup_model.specs.Records.{LookupsFit}
 use Rattle.lookup_model.specs.declared.challenges.Challenges.{Challenges}
 use Rattle.lookup_model.specs.declared.types.Lookup.{Lookup}
 use Rattle.lookup_model.specs.declared.instance.BatchInstance.{BatchInstance}
@@ -34,14 +34,14 @@ instances_of bs = map instance_of bs
 -- The lookups fit the traces, the traces have one height, which is not zero if there are lookups, and
 -- there is an id for each lookup.
 pub record IsFitting {F : Type 0} (instance : Instance F) : Type 0 where
-  pub fit : DoFit (layout_of_traces instance.main instance.preprocessed instance.public_values) instance.lookups
+  pub fit : LookupsFit (layout_of_traces instance.main instance.preprocessed instance.public_values) instance.lookups
   pub heights : ForSome instance.preprocessed (λ m. height m ≡ height instance.main)
   pub nonempty : 0 < length instance.lookups → 0 < height instance.main
   pub ids : length instance.ids ≡ length instance.lookups
 
 -- each AIR of a batch is so
-abbrev pub DoInstancesFit : {F : Type 0} → List (BatchInstance F) → Type 0
-DoInstancesFit bs = All (λ b. IsFitting (instance_of b)) bs
+abbrev pub InstancesFit : {F : Type 0} → List (BatchInstance F) → Type 0
+InstancesFit bs = All (λ b. IsFitting (instance_of b)) bs
 
 -- there is an id for each lookup of each AIR
 abbrev pub HaveIds : {F : Type 0} → List (BatchInstance F) → Type 0

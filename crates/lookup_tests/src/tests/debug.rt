@@ -2,7 +2,7 @@
 ghost use Rattle.std.specs.Prelude.{◌≡◌, ◌↔◌, IsTrue};
 ghost use Rattle.std.specs.Option.{ForSome, option_copied};
 ghost use Rattle.expressions.specs.Layout.{layout_of_traces};
-ghost use Rattle.lookup_model.specs.Records.{DoFit};
+ghost use Rattle.lookup_model.specs.Records.{LookupsFit};
 ghost use Rattle.matrix.specs.Matrix.{height};
 
 use super::{alone, cell, list, local, one, single, text, trace};
@@ -15,7 +15,7 @@ use std::alloc::Global;
 use std::process::Abort;
 
 fn has_fitting_lookups<F: Field>(instance: &LookupDebugInstance<'_, F>) -> bool
-    ensures { IsTrue result ↔ DoFit (layout_of_traces instance.now.main_trace.now
+    ensures { IsTrue result ↔ LookupsFit (layout_of_traces instance.now.main_trace.now
         (option_copied instance.now.preprocessed_trace) instance.now.public_values.now)
         instance.now.lookups.now }
 {

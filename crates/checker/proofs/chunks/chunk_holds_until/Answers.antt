@@ -14,7 +14,7 @@ use Rattle.field.specs.laws.Extension.{of_laws}
 use Rattle.lookup_model.specs.Records.{IsWithin}
 use Rattle.matrix.specs.Matrix.{height}
 use Rattle.checker.proofs.HoldsLaws.{BothHold, both_fewer, both_from, both_more, holds_from}
-use Rattle.checker.proofs.Layouts.{DoFit-with_auxiliary, with_auxiliary}
+use Rattle.checker.proofs.Layouts.{LookupsFit-with_auxiliary, with_auxiliary}
 use Rattle.checker.proofs.UntilLaws.{both_until, same_until}
 use Rattle.checker.specs.Rows.{HoldsUntil}
 use Rattle.checker.proofs.chunks.chunk_holds_until.Goals as goal
@@ -45,7 +45,7 @@ columns_of_lookup-requires-clause-lengths g c = equal_lengths c.args.lookups.now
 pub columns_of_lookup-requires-clause-within : goal.columns_of_lookup-requires-clause-within
 columns_of_lookup-requires-clause-within g c =
     let layout = input_layout c.args.inputs.now in
-    let fit = DoFit-with_auxiliary layout 0 0 0 c.args.lookups.now c.requires.checked.fit in
+    let fit = LookupsFit-with_auxiliary layout 0 0 0 c.args.lookups.now c.requires.checked.fit in
     All-at (IsWithin (with_auxiliary layout 0 0 0)) c.args.lookups.now c.loop-i.i c.index-lookups-i.result fit.within c.loop-i-test.true c.index-lookups-i.is
 
 pub columns_of_lookup-requires-clause-challenges :

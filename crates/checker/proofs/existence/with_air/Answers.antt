@@ -6,11 +6,11 @@ use Rattle.expressions.specs.Layout.{layout_of_traces}
 use Rattle.expressions.specs.Window.{ExtWindow}
 use Rattle.lookup_model.specs.Challenges.{table_of}
 use Rattle.field.specs.laws.Extension.{of_laws}
-use Rattle.lookup_model.specs.Records.{DoFit}
+use Rattle.lookup_model.specs.Records.{LookupsFit}
 use Rattle.lookup_model.specs.Batches.Equations.{challenged_window, row_equations}
 use Rattle.lookup_model.specs.Batches.Instances.{instance_of}
-use Rattle.lookup_generation.proofs.Layouts.{DoFit-with_challenges}
-use Rattle.lookup_generation.specs.TraceBuilder.{ext_builder_window}
+use Rattle.lookup_rows.proofs.Layouts.{LookupsFit-with_challenges}
+use Rattle.lookup_rows.specs.TraceBuilder.{ext_builder_window}
 use Rattle.checker.specs.Sums.{AreSums}
 use Rattle.checker.proofs.SumWalk.{flat_more, flat_parts, sums_further, sums_kept, sums_stay}
 use Rattle.checker.proofs.existence.with_air.Goals as goal
@@ -21,8 +21,8 @@ loop-row-init g c = λ equations are. sums_kept g.EF.PrimeCharacteristicRing.rin
 pub with_row-requires-clause-fit : goal.with_row-requires-clause-fit
 with_row-requires-clause-fit g c =
     let i = c.args.instance.now in
-    subst (λ layout. DoFit layout i.lookups.now) (sym c.row_builder-builder.ensures.layout)
-    (DoFit-with_challenges (layout_of_traces i.main.now (option_copied i.preprocessed) i.public_values.now) _ i.lookups.now c.requires.fit.fit)
+    subst (λ layout. LookupsFit layout i.lookups.now) (sym c.row_builder-builder.ensures.layout)
+    (LookupsFit-with_challenges (layout_of_traces i.main.now (option_copied i.preprocessed) i.public_values.now) _ i.lookups.now c.requires.fit.fit)
 
 pub with_row-requires-clause-challenges : goal.with_row-requires-clause-challenges
 with_row-requires-clause-challenges g c =

@@ -2,13 +2,14 @@ use Rattle.std.proofs.Common.{◌≡◌, ◌++◌, ap, arith, ◌+◌, length, m
 use Rattle.std.proofs.lemmas.List.{length-map}
 use Rattle.std.proofs.lemmas.Option.{slice_get-map}
 use Rattle.std.specs.Option.{option_map}
-use Rattle.lookup.proofs.NamedWidthLaws.{at_place, parts_next}
+use Rattle.lookup.proofs.NamedWidthLaws.{parts_next}
 use Rattle.std.specs.List.{flat_map}
 use Rattle.lookup_model.specs.Outline.{fields_of}
 use Rattle.lookup.specs.Buses.{bus_groups, group_of}
 use Rattle.lookup.specs.BusWidths.{widths_of}
 use Rattle.lookup.specs.NamedWidths.{seen_widths}
 use Rattle.lookup.proofs.bus_widths.push_air.Goals.{in-Some+in_ok-push_bus, in_default}
+use Rattle.lookup.proofs.PackLaws.{at_place}
 use Rattle.lookup.proofs.bus_widths.push_air.Goals as goal
 
 pub loop-place-preserved : goal.loop-place-preserved

@@ -7,7 +7,7 @@ use Rattle.expressions.specs.Tree.{tree_of}
 use Rattle.std.proofs.lemmas.Slice.Zip.{AllZip-long}
 use Rattle.lookup_columns.proofs.ZipLaws.{beside}
 use Rattle.lookup_columns.specs.Columns.{denominator_at}
-use Rattle.lookup_columns.specs.Steps.{AreStepsOf, DoStepsFit, StepFits}
+use Rattle.lookup_columns.specs.Steps.{AreStepsOf, StepFits, StepsFit}
 use Rattle.lookup_columns.specs.ChunkColumns.{key_denominator}
 use Rattle.lookup_columns.specs.LookupSteps.{AreTupleSteps}
 use Rattle.lookup_columns.proofs.ChunkColumnLaws.{mapped_there}
@@ -37,7 +37,7 @@ column_of-requires-clause-fits g c =
     let es = c.args.lookup.now.multiplicities.items in
     let lt : c.args.branch < length steps = omega (arith, AllZip-long AreStepsOf steps es c.requires.steps.multiplicities, c.requires.lengths.multiplicities, c.requires.branch_exists) in
     subst (All (StepFits layout)) (sym c.deref.ensures.value)
-    (All-at (DoStepsFit layout) steps c.args.branch c.index.result.now (all_steps_fit layout steps es c.requires.steps.multiplicities c.requires.within.1) lt c.index.ensures)
+    (All-at (StepsFit layout) steps c.args.branch c.index.result.now (all_steps_fit layout steps es c.requires.steps.multiplicities c.requires.within.1) lt c.index.ensures)
 
 pub denominators_of-requires-clause-fits : goal.denominators_of-requires-clause-fits
 unfolding IsWithin
@@ -48,7 +48,7 @@ denominators_of-requires-clause-fits g c =
     let lt : c.args.branch < length steps = omega (arith, AllZip-long AreTupleSteps steps tuples c.requires.steps.elements, c.requires.branch_exists) in
     let tuple_beside = beside AreTupleSteps steps tuples c.args.branch c.index-2.result.now c.requires.steps.elements lt c.index-2.ensures in
     let tuple = tuple_beside.item in
-    subst (λ (l : List _). All (DoStepsFit layout) l) (sym c.deref-2.ensures.value)
+    subst (λ (l : List _). All (StepsFit layout) l) (sym c.deref-2.ensures.value)
     (all_steps_fit layout c.index-2.result.now.items tuple.items tuple_beside.holds (All-at (λ t. AllFit layout t.items) tuples c.args.branch tuple c.requires.within.0 c.requires.branch_exists tuple_beside.there))
 
 pub returns-clause-held : goal.returns-clause-held

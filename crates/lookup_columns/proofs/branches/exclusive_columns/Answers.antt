@@ -6,7 +6,7 @@ use Rattle.lookup_columns.specs.ChunkColumns.{HasFlag, IsHeldIfSet, key_denomina
 use Rattle.lookup_columns.proofs.ChunkColumnLaws.{mapped_there}
 use Rattle.std.proofs.lemmas.Slice.Zip.{all_zipped_more, AllZip-long}
 use Rattle.lookup_columns.proofs.ZipLaws.{beside, taken_more}
-use Rattle.lookup_columns.specs.Steps.{AreStepsOf, DoStepsFit, StepFits}
+use Rattle.lookup_columns.specs.Steps.{AreStepsOf, StepFits, StepsFit}
 use Rattle.lookup_columns.proofs.StepLaws.{all_steps_fit}
 use Rattle.expressions.specs.Tree.{tree_of}
 use Rattle.lookup_model.proofs.Branches.{length-branches_at, mapped_more}
@@ -27,7 +27,7 @@ column_of-requires-clause-fits g c =
     let steps = c.args.steps.now.flags.items in
     let lt : c.loop-branch.branch < length steps = omega (arith, AllZip-long AreStepsOf steps c.args.flags.now c.requires.flag_steps, c.loop-branch-test.true) in
     subst (All (StepFits layout)) (sym c.deref.ensures.value)
-    (All-at (DoStepsFit layout) steps c.loop-branch.branch c.index.result.now (all_steps_fit layout steps c.args.flags.now c.requires.flag_steps c.requires.flags_fit) lt c.index.ensures)
+    (All-at (StepsFit layout) steps c.loop-branch.branch c.index.result.now (all_steps_fit layout steps c.args.flags.now c.requires.flag_steps c.requires.flags_fit) lt c.index.ensures)
 
 pub selected_rows-requires : goal.selected_rows-requires
 selected_rows-requires g c =

@@ -5,8 +5,8 @@ use Rattle.std.proofs.lemmas.Option.{get_or_from_slice_get, slice_get_within}
 use Rattle.std.specs.Option.{option_copied}
 use Rattle.expressions.specs.Layout.{layout_of_traces}
 use Rattle.expressions.specs.declared.layout.AirLayout.{AirLayout}
-use Rattle.lookup_generation.proofs.Layouts.{DoFit-with_challenges, with_challenges}
-use Rattle.lookup_generation.specs.TraceBuilder.{builder_window}
+use Rattle.lookup_rows.proofs.Layouts.{LookupsFit-with_challenges, with_challenges}
+use Rattle.lookup_rows.specs.TraceBuilder.{builder_window}
 use Rattle.lookup_model.specs.Records.{IsWithin}
 use Rattle.lookup_model.specs.declared.types.Lookup.{Lookup}
 use Rattle.lookup_debug.specs.Contributions.{contributions_on, traced_of}
@@ -23,7 +23,7 @@ visit-requires-clause-fits g c =
     let lookup = c.args.lookup.now in
     let n = length i.permutation_challenges.now in
     let layout = layout_of_traces i.main_trace.now (option_copied i.preprocessed_trace) i.public_values.now in
-    let fit = DoFit-with_challenges layout n lookups c.requires.fit.fit in
+    let fit = LookupsFit-with_challenges layout n lookups c.requires.fit.fit in
     subst (λ (a : AirLayout). IsWithin a lookup) (sym c.row_builder-builder.ensures.layout)
     (subst (λ (l : Lookup _). IsWithin (with_challenges layout n) l) (get_or_from_slice_get lookups c.args.place lookup lookup c.requires.there)
     (fit.within c.args.place lookup (slice_get_within lookups c.args.place lookup c.requires.there)))

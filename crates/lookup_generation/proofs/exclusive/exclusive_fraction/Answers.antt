@@ -10,9 +10,9 @@ use Rattle.lookup_model.specs.Sent.{branch_at, branches_at, values}
 use Rattle.lookup_model.specs.declared.error.LookupError.TheVariants.{VanishingDenominator}
 use Rattle.lookup_columns.specs.ChunkColumns.{IsHeld, key_denominator}
 use Rattle.lookup_generation.specs.Fraction.{IsRatio}
-use Rattle.lookup_generation.specs.Selection.{AreSetFlags}
-use Rattle.lookup_generation.specs.TraceBuilder.{builder_window}
-use Rattle.lookup_generation.specs.declared.exclusive.SetFlags.TheVariants.{Nothing, One}
+use Rattle.lookup_rows.specs.Selection.{AreSetFlags}
+use Rattle.lookup_rows.specs.TraceBuilder.{builder_window}
+use Rattle.lookup_rows.specs.declared.flags.SetFlags.TheVariants.{Nothing, One}
 use Rattle.lookup_columns.proofs.ChunkColumnLaws.{read_is}
 use Rattle.lookup_generation.proofs.SelectedColumns.{columns_there, flags_there, message, message_placed}
 use Rattle.lookup_generation.proofs.SelectedFractions.{none_selected, one_selected, one_vanishing}

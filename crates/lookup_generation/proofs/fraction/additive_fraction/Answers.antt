@@ -14,7 +14,7 @@ use Rattle.lookup_model.specs.Message.{Message}
 use Rattle.lookup_model.specs.Plain.{counted}
 use Rattle.lookup_model.specs.Sent.{branch_at, branches_at}
 use Rattle.lookup_columns.specs.ChunkColumns.{IsHeld, key_denominator}
-use Rattle.lookup_generation.specs.TraceBuilder.{builder_window}
+use Rattle.lookup_rows.specs.TraceBuilder.{builder_window}
 use Rattle.lookup_columns.proofs.ZipLaws.{Beside, beside, taken_more}
 use Rattle.lookup_columns.proofs.ChunkColumnLaws.{read_is, taken_split}
 use Rattle.lookup_generation.proofs.Fractions.{vanishes_at}

@@ -3,7 +3,7 @@ use Rattle.lookup_model.specs.Denominators.{column_denominator}
 use Rattle.field.specs.Extension.{extension}
 use Rattle.lookup_generation.specs.Fraction.{IsFractionOf}
 use Rattle.lookup_model.specs.Sent.{branches_at}
-use Rattle.lookup_generation.specs.TraceBuilder.{builder_window}
+use Rattle.lookup_rows.specs.TraceBuilder.{builder_window}
 use Rattle.lookup_generation.specs.Inverses.{ForInverses}
 use Rattle.lookup_generation.proofs.fraction.additive_fraction.Given as goal
 

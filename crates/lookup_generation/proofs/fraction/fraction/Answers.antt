@@ -8,7 +8,7 @@ use Rattle.lookup_model.specs.Fault.{fault_of}
 use Rattle.lookup_model.specs.Plain.{plain_fraction}
 use Rattle.lookup_model.specs.Sent.{branches_at, sent, sent_at, values}
 use Rattle.lookup_generation.specs.Fraction.{IsRatio}
-use Rattle.lookup_generation.specs.TraceBuilder.{builder_window}
+use Rattle.lookup_rows.specs.TraceBuilder.{builder_window}
 use Rattle.lookup_model.proofs.Lookups.LookupFaults.{additive_faultless, additive_fault}
 use Rattle.lookup_columns.specs.ChunkColumns.{HoldSelected, key_denominator}
 use Rattle.lookup_generation.proofs.fraction.fraction.Goals as goal

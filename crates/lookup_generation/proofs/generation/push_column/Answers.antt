@@ -7,7 +7,7 @@ use Rattle.lookup_model.specs.Fault.{fault_of}
 use Rattle.lookup_model.specs.Plain.{plain_fraction}
 use Rattle.lookup_model.specs.Sent.{sent_at}
 use Rattle.lookup_model.specs.declared.error.LookupError.TheVariants.{Memory}
-use Rattle.lookup_generation.specs.Fraction.{AreSound, IsRatio}
+use Rattle.lookup_generation.specs.Fraction.{AreDefined, IsRatio}
 use Rattle.lookup_generation.specs.Progress.{HasColumn, sent_on}
 use Rattle.lookup_generation.proofs.ColumnLaws.{HasColumn-more, HasColumn-none, IsFirstIn-here}
 use Rattle.lookup_generation.proofs.ProgressLaws.{sound_more, sound_of, whole_more}
@@ -19,7 +19,7 @@ loop-row-init g c =
       λ inverse is_inverse.
           let E = extension g.F.PrimeCharacteristicRing.ring g.F.PartialEq.eq g.EF.PrimeCharacteristicRing.ring g.EF.PartialEq.eq g.EF.ExtensionDomain.embed inverse in
           HasColumn-none E (column_denominator E c.args.challenges.now) (sent_on E.base E.base_eq c.args.traces.now c.args.lookup.now) c.args.lookup.now.column c.args.first c.args.ratios.now.items,
-      λ n sound. subst (λ m. AreSound g.EF.PrimeCharacteristicRing.ring (n + m) c.args.ratios.now.items) (sym none) (sound_of n c.args.ratios.now.items sound),
+      λ n sound. subst (λ m. AreDefined g.EF.PrimeCharacteristicRing.ring (n + m) c.args.ratios.now.items) (sym none) (sound_of n c.args.ratios.now.items sound),
       λ bare whole. whole,
     )
 
@@ -44,7 +44,7 @@ loop-row-preserved g c =
           (subst (λ (w : Window _). is_for b.permutation_challenges.now b.row w) built.window (c.in-Ok.ensures.answers inverse is_inverse))) in
           HasColumn-more E (column_denominator E c.args.challenges.now) (sent_on E.base E.base_eq c.args.traces.now lookup) lookup.column c.args.first r c.args.ratios.now.items after longer ratio c.loop-row.auto.row c.in_ok-push-in-Ok.ensures.items row.0 row.1 (c.loop-row.invariant.0 inverse is_inverse),
       λ n sound.
-          subst (λ m. AreSound g.EF.PrimeCharacteristicRing.ring (n + m) longer) one_more
+          subst (λ m. AreDefined g.EF.PrimeCharacteristicRing.ring (n + m) longer) one_more
           (sound_more n (r - c.args.first) after longer ratio c.in_ok-push-in-Ok.ensures.items c.in-Ok.ensures.sound (c.loop-row.invariant.1 n sound)),
       λ bare whole. whole_more g.EF.PrimeCharacteristicRing.ring after longer ratio c.in_ok-push-in-Ok.ensures.items (c.in-Ok.ensures.bare bare) (c.loop-row.invariant.2 bare whole),
     )
@@ -74,7 +74,7 @@ returns-clause-answers g c = λ inverse is_inverse.
 pub returns-clause-sound : goal.returns-clause-sound
 returns-clause-sound g c = λ none n sound.
     let all : c.loop-row.row ≡ c.args.end = omega (arith, c.loop-row-test.false, c.loop-row.auto.row-end c.requires.from) in
-    subst (λ r. AreSound g.EF.PrimeCharacteristicRing.ring (n + (r - c.args.first)) c.loop-row.ratios.items) all (c.loop-row.invariant.1 n sound)
+    subst (λ r. AreDefined g.EF.PrimeCharacteristicRing.ring (n + (r - c.args.first)) c.loop-row.ratios.items) all (c.loop-row.invariant.1 n sound)
 
 pub returns-clause-bare : goal.returns-clause-bare
 returns-clause-bare g c = c.loop-row.invariant.2

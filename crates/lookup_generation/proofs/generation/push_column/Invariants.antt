@@ -1,7 +1,7 @@
 use Rattle.std.proofs.Common.{◌≡◌, ◌+◌, ◌-◌, [], ℕ}
 use Rattle.lookup_model.specs.Denominators.{column_denominator}
 use Rattle.field.specs.Extension.{extension}
-use Rattle.lookup_generation.specs.Fraction.{AreSound, AreWhole}
+use Rattle.lookup_generation.specs.Fraction.{AreDefined, AreWhole}
 use Rattle.lookup_generation.specs.Inverses.{ForInverses}
 use Rattle.lookup_generation.specs.Progress.{HasColumn, sent_on}
 use Rattle.lookup_generation.proofs.generation.push_column.Given as goal
@@ -11,5 +11,5 @@ invariant-loop-row g l =
     ForInverses g.EF.PrimeCharacteristicRing.ring (λ inverse.
     let E = extension g.F.PrimeCharacteristicRing.ring g.F.PartialEq.eq g.EF.PrimeCharacteristicRing.ring g.EF.PartialEq.eq g.EF.ExtensionDomain.embed inverse in
     HasColumn E (column_denominator E l.challenges) (sent_on E.base E.base_eq l.traces l.lookup) l.lookup.column l.first l.row l.fn.ratios.items l.ratios.items)
-    × ((n : ℕ) → AreSound g.EF.PrimeCharacteristicRing.ring n l.fn.ratios.items → AreSound g.EF.PrimeCharacteristicRing.ring (n + (l.row - l.first)) l.ratios.items)
+    × ((n : ℕ) → AreDefined g.EF.PrimeCharacteristicRing.ring n l.fn.ratios.items → AreDefined g.EF.PrimeCharacteristicRing.ring (n + (l.row - l.first)) l.ratios.items)
     × (l.lookup.elements.items ≡ [] → AreWhole g.EF.PrimeCharacteristicRing.ring l.fn.ratios.items → AreWhole g.EF.PrimeCharacteristicRing.ring l.ratios.items)

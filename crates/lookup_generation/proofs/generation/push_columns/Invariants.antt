@@ -1,7 +1,7 @@
 use Rattle.std.proofs.Common.{◌≡◌, ◌-◌, ◌*◌, ◌<◌, ◌≤◌, IfSome, None, take}
 use Rattle.lookup_model.specs.Denominators.{column_denominator}
 use Rattle.field.specs.Extension.{extension}
-use Rattle.lookup_generation.specs.Fraction.{AreSound, AreWhole}
+use Rattle.lookup_generation.specs.Fraction.{AreDefined, AreWhole}
 use Rattle.lookup_generation.specs.Inverses.{ForInverses}
 use Rattle.lookup_generation.specs.Progress.{AnswersColumns, HaveNoTuples}
 use Rattle.lookup_generation.proofs.generation.push_columns.Given as goal
@@ -11,6 +11,6 @@ invariant-loop-lookup g l =
     ForInverses g.EF.PrimeCharacteristicRing.ring (λ inverse.
     let E = extension g.F.PrimeCharacteristicRing.ring g.F.PartialEq.eq g.EF.PrimeCharacteristicRing.ring g.EF.PartialEq.eq g.EF.ExtensionDomain.embed inverse in
     AnswersColumns E (column_denominator E l.challenges) l.traces (take l.lookup-index l.lookups) l.first l.end l.ratios.items l.fault)
-    × (l.fault ≡ None → AreSound g.EF.PrimeCharacteristicRing.ring (l.lookup-index * (l.end - l.first)) l.ratios.items)
+    × (l.fault ≡ None → AreDefined g.EF.PrimeCharacteristicRing.ring (l.lookup-index * (l.end - l.first)) l.ratios.items)
     × (HaveNoTuples l.lookups → AreWhole g.EF.PrimeCharacteristicRing.ring l.ratios.items)
     × IfSome l.fault (λ f. (l.first ≤ f.row) × (f.row < l.end))

@@ -3,7 +3,8 @@ use Rattle.std.proofs.lemmas.List.Elements.{All-cons, All-nil}
 use Rattle.lookup_record.specs.Interaction.{Tuple, local}
 use Rattle.lookup_record.specs.Pushed.{pushed_local, tuple_of}
 use Rattle.lookup_record.specs.Within.{IsWithin, TupleWithin}
-use Rattle.lookup_program.proofs.AirLaws.{of_nat-one, range_does_send}
+use Rattle.lookup_program.proofs.AirLaws.{range_does_send}
+use Rattle.field.specs.laws.RingFacts.{of_nat-one}
 use Rattle.lookup_program.proofs.airs.range_tuples.Goals as goal
 
 pub returns-clause-sends : goal.returns-clause-sends

@@ -3,7 +3,7 @@ use Rattle.std.proofs.lemmas.Result.{err_from_is_err_and}
 use Rattle.expressions.specs.Layout.{layout_of_widths}
 use Rattle.lookup.specs.declared.lookups.Lookups.{Lookups}
 use Rattle.memory_check.proofs.PlanLaws.{lookups_refused, memory_alone}
-use Rattle.memory_check.specs.Memory.{DoLookupsFit}
+use Rattle.memory_check.specs.Memory.{SetsFit}
 use Rattle.memory_check.proofs.memory.memory_lookups.Goals as goal
 
 pub returns-in_err-accesses-clause-refused : goal.returns-in_err-accesses-clause-refused
@@ -26,4 +26,4 @@ returns-clause-fit g c =
     let first = c.in_ok-accesses.ensures.within (λ before after h. h.1) in
     let second = c.in_ok-boundary.ensures.within (λ before after h. h.1) in
     let third = c.in_ok-gaps.ensures.within (λ before after h. h.1) in
-    subst (λ (sets : List (Lookups _)). DoLookupsFit sets) (sym c.in_ok-from_array.ensures.items) (first, (second, (third, tt)))
+    subst (λ (sets : List (Lookups _)). SetsFit sets) (sym c.in_ok-from_array.ensures.items) (first, (second, (third, tt)))

@@ -2,7 +2,7 @@ use Rattle.std.proofs.Common.{List, inl, inr, ap, subst, sym, ◌∙◌}
 use Rattle.std.proofs.lemmas.Result.{MatchResult-weaker}
 use Rattle.field.specs.laws.Extension.{of_laws}
 use Rattle.lookup_model.specs.Batches.Ids.{AreLawfulIds}
-use Rattle.lookup_model.specs.Batches.Instances.{DoInstancesFit, Instance, instances_of}
+use Rattle.lookup_model.specs.Batches.Instances.{Instance, InstancesFit, instances_of}
 use Rattle.lookup_model.specs.declared.instance.BatchInstance.{BatchInstance}
 use Rattle.batch.specs.Grids.{CountsGrid}
 use Rattle.batch.specs.Pairs.{HaveIdsBelow}
@@ -13,7 +13,7 @@ pub counted_grid-requires-clause-fit : goal.counted_grid-requires-clause-fit
 counted_grid-requires-clause-fit g c =
     let self = c.args.self.now in
     let over = c.in_ok-batch.ensures in
-    subst (λ (bs : List (BatchInstance _)). DoInstancesFit bs) (sym c.as_slice.ensures.value) over.fit
+    subst (λ (bs : List (BatchInstance _)). InstancesFit bs) (sym c.as_slice.ensures.value) over.fit
 
 pub counted_grid-requires-clause-ids : goal.counted_grid-requires-clause-ids
 counted_grid-requires-clause-ids g c =

@@ -3,7 +3,7 @@ use Rattle.std.proofs.lemmas.Result.{err_from_is_err_and}
 use Rattle.lookup_record.specs.Interaction.{Tuple}
 use Rattle.lookup.specs.Extraction.{IsFaultless, IsFirstLocalRefusal, extraction}
 use Rattle.expressions.specs.declared.layout.AirLayout.{AirLayout}
-use Rattle.lookup_model.specs.Records.{DoFit}
+use Rattle.lookup_model.specs.Records.{LookupsFit}
 use Rattle.lookup_model.specs.declared.types.Lookup.{Lookup}
 use Rattle.lookup_record.specs.RecordedAir.{recorded_air}
 use Rattle.lookup_record.proofs.OwnLayout.{evaluated_as}
@@ -41,5 +41,5 @@ returns-clause-within g c given =
     let parts = c.into_interactions-locals.ensures in
     let same = c.in_ok-lookups.ensures.0 ∙ (λ i. extraction (parts.locals i) (parts.globals i) (parts.exclusives i)) in
     let lookups : List (Lookup g.row.F.Denot) = c.in_ok-lookups.lookups.items in
-    let fits : DoFit (recorded_air builder).constraints.layout lookups = extracted_fit (recorded_air builder).constraints.layout lookups _ _ _ c.in_ok-lookups.ensures.2 same pushed.locals pushed.globals pushed.exclusives in
-    subst (λ (l : AirLayout). DoFit l lookups) (c.in_ok-builder.ensures.layout ∙ c.from_air-layout.ensures) fits
+    let fits : LookupsFit (recorded_air builder).constraints.layout lookups = extracted_fit (recorded_air builder).constraints.layout lookups _ _ _ c.in_ok-lookups.ensures.2 same pushed.locals pushed.globals pushed.exclusives in
+    subst (λ (l : AirLayout). LookupsFit l lookups) (c.in_ok-builder.ensures.layout ∙ c.from_air-layout.ensures) fits

@@ -7,8 +7,8 @@ use Rattle.lookup_model.specs.Outline.{Outline, fields_of}
 use Rattle.lookup.specs.Buses.{bus_names, group_of, on_bus}
 use Rattle.lookup.specs.BusWidths.{HasOneWidth, bus_widths, widths_of}
 use Rattle.lookup.specs.TupleWidths.{HasOtherWidth}
-use Rattle.lookup.proofs.ListLaws.{all_both}
 use Rattle.lookup.proofs.PackLaws.{at_place, bus_here}
+use Rattle.lookup_model.proofs.Lists.{all_both}
 use Rattle.lookup.proofs.packing.bus_widths.assert_bus_widths.Goals as goal
 
 pub returns-in_err-assert_bus_width : goal.returns-in_err-assert_bus_width

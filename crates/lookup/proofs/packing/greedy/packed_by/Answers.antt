@@ -32,18 +32,19 @@ returns-clause-packs g c =
       all_packed (g.T.TrialDegrees.answers c.args.degrees.now) c.args.max_degree before _ _ _ _ (c.in_ok-buses.ensures ∙ groups_of (map fields_of c.in_ok-columns.additive.items) ∙ ap (λ os. map (λ name. on_bus name os) (bus_names os)) c.in_ok-columns.ensures.2) c.in_ok-columns.ensures.0 c.in_ok-columns-2.ensures.1 c.in_ok-in_columns.ensures.fields,
     )
 
-pub returns-clause-weight : goal.returns-clause-weight
-returns-clause-weight g c = kept_weight (g.T.TrialDegrees.answers c.args.degrees.now) c.args.max_degree c.args.lookups.items c.in_ok-in_columns.field-0.items (returns-clause-packs g c).1
-
-pub returns-clause-messages : goal.returns-clause-messages
-returns-clause-messages g c =
-    kept_messages (g.T.TrialDegrees.answers c.args.degrees.now) c.args.max_degree c.args.lookups.items c.in_ok-in_columns.field-0.items (returns-clause-packs g c).1 g.F.PrimeCharacteristicRing.ring g.F.PartialEq.eq c.requires.lengths
-
-pub returns-clause-nets : goal.returns-clause-nets
-returns-clause-nets g c = kept_nets g.F.PrimeCharacteristicRing.lawful g.F.PartialEq.eq c.args.lookups.items c.in_ok-in_columns.field-0.items (returns-clause-messages g c)
-
-pub returns-clause-keys : goal.returns-clause-keys
-returns-clause-keys g c = kept_keys g.F.PrimeCharacteristicRing.lawful g.F.PartialEq.eq g.met.F.PrimeCharacteristicRing.eq_is c.args.lookups.items c.in_ok-in_columns.field-0.items (returns-clause-messages g c)
+pub returns-clause-kept : goal.returns-clause-kept
+returns-clause-kept g c =
+    let before = c.args.lookups.items in
+    let after = c.in_ok-in_columns.field-0.items in
+    let packs = (returns-clause-packs g c).1 in
+    let eq = g.F.PartialEq.eq in
+    let messages = kept_messages (g.T.TrialDegrees.answers c.args.degrees.now) c.args.max_degree before after packs g.F.PrimeCharacteristicRing.ring eq c.requires.lengths in
+    record {
+      weight = kept_weight (g.T.TrialDegrees.answers c.args.degrees.now) c.args.max_degree before after packs;
+      messages = messages;
+      nets = kept_nets g.F.PrimeCharacteristicRing.lawful eq before after messages;
+      keys = kept_keys g.F.PrimeCharacteristicRing.lawful eq g.met.F.PrimeCharacteristicRing.eq_is before after messages;
+    }
 
 pub parted-requires : goal.parted-requires
 parted-requires g c = c.requires.lengths

@@ -1,13 +1,13 @@
 use Rattle.std.proofs.Common.{◌≡◌, ◌≤◌, ◌<◌, ◌*◌, inl, inr, refl, length, subst, sym}
 use Rattle.std.proofs.lemmas.Result.{err_from_is_err_and}
 use Rattle.expressions.specs.declared.layout.AirLayout.{AirLayout}
-use Rattle.lookup_model.specs.Records.{DoFit}
+use Rattle.lookup_model.specs.Records.{LookupsFit}
 use Rattle.lookup.proofs.protocol.LookupProtocol.eval_air_and_lookups.Goals as goal
 
 pub eval_all-requires-clause-fit : goal.eval_all-requires-clause-fit
 eval_all-requires-clause-fit g c =
     let kept : g.AB.AirBuilder.layout c.eval.new.builder ≡ g.AB.AirBuilder.layout c.args.builder.now = g.met.A.Air.keeps_layout _ _ _ c.in_ok-eval.ensures in
-    subst (λ (l : AirLayout). DoFit l c.args.lookups.now) (sym kept) c.requires.fit
+    subst (λ (l : AirLayout). LookupsFit l c.args.lookups.now) (sym kept) c.requires.fit
 
 pub eval_all-requires-clause-challenges : goal.eval_all-requires-clause-challenges
 eval_all-requires-clause-challenges g c =

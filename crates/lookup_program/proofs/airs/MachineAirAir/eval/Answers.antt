@@ -3,7 +3,8 @@ use Rattle.expressions.proofs.Assertions.{on_ok}
 use Rattle.lookup_record.specs.Interaction.{global}
 use Rattle.lookup_record.specs.Messages.{IsExclusiveQuery}
 use Rattle.lookup_record.specs.Pushed.{pushed_global, pushed_local}
-use Rattle.lookup_program.proofs.AirLaws.{entries_do_send, group_does_send, keys_do_send, of_nat-one, on_ok_weaker, pushes_this, pushes_weaker}
+use Rattle.lookup_program.proofs.AirLaws.{entries_do_send, group_does_send, keys_do_send, on_ok_weaker, pushes_this, pushes_weaker}
+use Rattle.field.specs.laws.RingFacts.{of_nat-one}
 use Rattle.lookup_program.proofs.airs.MachineAirAir.eval.Goals as goal
 
 pub returns-in_ok-tuples-in-RangeCheck : goal.returns-in_ok-tuples-in-RangeCheck
