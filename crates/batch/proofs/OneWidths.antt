@@ -10,7 +10,7 @@ use Rattle.expressions.specs.declared.base_expression.SymbolicExpression.{Symbol
 use Rattle.lookup_model.specs.Batches.Ids.{HaveOneWidth}
 use Rattle.lookup_model.specs.Outline.{Outline, bus_of, fields_of}
 use Rattle.lookup_model.specs.declared.types.Lookup.{Lookup}
-use Rattle.lookup_nets.proofs.NetEntries.{any-first_seen}
+use Rattle.lookup_rows.proofs.NetEntries.{any-first_seen}
 use Rattle.lookup.proofs.GroupLaws.{same_name-Decides}
 use Rattle.lookup.specs.BusWidths.{widths_of}
 use Rattle.lookup.specs.Buses.{bus_names, is_named, on_bus, same_name}

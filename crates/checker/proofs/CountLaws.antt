@@ -8,8 +8,8 @@ use Rattle.std.specs.List.{slice_get}
 use Rattle.std.specs.Option.{SomeIff}
 use Rattle.field.specs.Ring.{Ring}
 use Rattle.lookup_model.specs.Plain.{trace_messages}
-use Rattle.lookup_generation.specs.SentMessages.{HasSentRows, messages_of}
-use Rattle.lookup_generation.specs.declared.messages.SentMessage.{SentMessage}
+use Rattle.lookup_rows.specs.SentMessages.{HasSentRows, messages_of}
+use Rattle.lookup_rows.specs.declared.messages.SentMessage.{SentMessage}
 use Rattle.lookup_model.specs.Batches.FlagFaults.{instance_flag_faults}
 use Rattle.lookup_model.specs.Batches.Instances.{Instance}
 use Rattle.lookup_model.specs.Batches.Messages.{batch_messages, sent_rows_of}

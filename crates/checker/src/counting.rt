@@ -8,9 +8,8 @@ ghost use Rattle.checker.specs.Collected.{GivesMessages, IsCountOf, PushesMessag
 
 use field::{ExtensionField, Field, Over};
 use lookup::LookupError;
-use lookup_generation::{SentMessage, push_messages};
 use lookup_model::{BatchFault, BatchInstance, SoundnessCount};
-use lookup_nets::key_counts;
+use lookup_rows::{SentMessage, key_counts, push_messages};
 use std::alloc::Global;
 
 /// How many messages a batch has, how many of them do not balance, and upper bounds on the challenges

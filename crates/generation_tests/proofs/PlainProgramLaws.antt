@@ -14,7 +14,7 @@ use Rattle.lookup_model.specs.Net.{first_seen, keys, net, unbalanced_keys}
 use Rattle.lookup_model.specs.Plain.{counted, net_sum, quotient}
 use Rattle.generation_tests.specs.PlainProgram.{IsFractionOf, message_of, messages_of, net_message, net_vanishes}
 use Rattle.generation_tests.specs.declared.plain.PlainMessage.{PlainMessage}
-use Rattle.lookup_nets.proofs.FirstSeen.{first_seen-push}
+use Rattle.lookup_rows.proofs.FirstSeen.{first_seen-push}
 use Rattle.std.proofs.lemmas.List.Elements.{filter-append}
 use Rattle.lookup_model.proofs.HornerRule.{map-map}
 use Rattle.lookup_model.proofs.Branches.{mapped_at}

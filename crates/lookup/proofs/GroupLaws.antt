@@ -18,8 +18,8 @@ use Rattle.indexmap.specs.IndexMap.{insert_entry}
 use Rattle.lookup_model.proofs.Lookups.Regrouping.{first_seen_separate}
 use Rattle.lookup_model.specs.Net.{first_seen}
 use Rattle.lookup_model.specs.Outline.{Outline, bus_of, fields_of}
-use Rattle.lookup_nets.proofs.FirstSeen.{first_seen-push}
-use Rattle.lookup_nets.proofs.NetEntries.{any-first_seen, insert-valued, lookup-valued, mapped-more, turned}
+use Rattle.lookup_rows.proofs.FirstSeen.{first_seen-push}
+use Rattle.lookup_rows.proofs.NetEntries.{any-first_seen, insert-valued, lookup-valued, mapped-more, turned}
 use Rattle.lookup_model.specs.declared.types.Lookup.{Lookup}
 use Rattle.lookup.specs.Buses.{bus_groups, bus_names, group_of, is_named, on_bus, owned_group, owned_group_of, same_name}
 

@@ -14,8 +14,8 @@ ghost use Rattle.matrix.specs.Matrix.{height};
 use crate::protocol::LookupProtocol;
 use air::{AirBuilder, AirError, ExtensionBuilder, PermutationAirBuilder};
 use field::{ExtensionDomain, ExtensionField, Field, Inverter};
-use lookup_generation::LookupTraceBuilder;
 use lookup_model::{Lookup, LookupError, LookupTerminal};
+use lookup_rows::LookupTraceBuilder;
 use matrix::RowMajorMatrix;
 use std::alloc::Global;
 

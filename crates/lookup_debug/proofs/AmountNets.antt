@@ -10,7 +10,7 @@ use Rattle.field.specs.Ring.{Ring, IsCommutativeRing}
 use Rattle.field.specs.Sums.{sum_in}
 use Rattle.lookup_model.specs.Net.{first_seen}
 use Rattle.lookup_model.proofs.Lookups.Regrouping.{IsSeparate, first_seen_separate}
-use Rattle.lookup_nets.proofs.NetEntries.{entries-push, net-lookup, net-none, net_in, turned}
+use Rattle.lookup_rows.proofs.NetEntries.{entries-push, net-lookup, net-none, net_in, turned}
 use Rattle.lookup_debug.specs.Appended.{placeless}
 use Rattle.lookup_debug.specs.Contributions.{Contribution}
 use Rattle.lookup_debug.specs.Mismatch.{net_amount}

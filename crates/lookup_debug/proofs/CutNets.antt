@@ -6,7 +6,7 @@ use Rattle.std.specs.Cmp.Lexicographic.{pointwise}
 use Rattle.std.specs.Map.{lookup}
 use Rattle.indexmap.specs.IndexMap.{insert_entry}
 use Rattle.field.specs.Ring.{Ring, IsCommutativeRing}
-use Rattle.lookup_nets.proofs.NetEntries.{mapped-more, one_more}
+use Rattle.lookup_rows.proofs.NetEntries.{mapped-more, one_more}
 use Rattle.lookup_debug.specs.Arena.{cut_amount}
 use Rattle.lookup_debug.specs.Nets.{amount_nets, tuple_entries}
 use Rattle.lookup_debug.specs.declared.arena.Cut.{Cut}

@@ -12,7 +12,7 @@ use Rattle.lookup_debug.specs.Mismatch.{Precedes, IsFirst, net_amount, text_cmp}
 use Rattle.lookup_debug.specs.Nets.{IsFirstPlace, tuple_entries}
 use Rattle.lookup_debug.proofs.AmountNets.{tuple_nets}
 use Rattle.lookup_debug.proofs.LeastSteps.{some_is, three_ways}
-use Rattle.lookup_nets.proofs.NetEntries.{any-first_seen, net-none}
+use Rattle.lookup_rows.proofs.NetEntries.{any-first_seen, net-none}
 use Rattle.lookup_debug.proofs.SeenOrder.{seen_before}
 
 -- what a mapped list has at a place

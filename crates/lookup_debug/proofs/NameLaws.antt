@@ -12,8 +12,8 @@ use Rattle.lookup_model.proofs.Lookups.Rows.{take_item}
 use Rattle.lookup_model.specs.Net.{first_seen}
 use Rattle.lookup_model.specs.Outline.{bus_of}
 use Rattle.lookup_model.specs.declared.types.Lookup.{Lookup}
-use Rattle.lookup_nets.proofs.FirstSeen.{first_seen-push}
-use Rattle.lookup_nets.proofs.NetEntries.{any-first_seen, turned}
+use Rattle.lookup_rows.proofs.FirstSeen.{first_seen-push}
+use Rattle.lookup_rows.proofs.NetEntries.{any-first_seen, turned}
 
 -- whether two names are the same, which decides their equality
 abbrev same_name : List ℕ → List ℕ → Bool

@@ -6,7 +6,7 @@ ghost use Rattle.lookup_debug.specs.Nets.{amount_nets, tuple_entries};
 
 use field::Field;
 use indexmap::IndexMap;
-use lookup_nets::add_at;
+use lookup_rows::add_at;
 use std::alloc::{AllocError, Global};
 
 /// A tuple with its amount. The tuple is `elements[start..end]`.

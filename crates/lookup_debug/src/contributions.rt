@@ -6,7 +6,7 @@ ghost use Rattle.lookup_debug.specs.Appended.{Appends, Collects};
 ghost use Rattle.lookup_debug.specs.Arena.{AreWithin};
 ghost use Rattle.lookup_debug.specs.Contributions.{Place, amounts, contributions_at, nonzero};
 ghost use Rattle.lookup_debug.specs.Visits.{collects_walk};
-ghost use Rattle.lookup_generation.specs.TraceBuilder.{builder_layout, builder_window};
+ghost use Rattle.lookup_rows.specs.TraceBuilder.{builder_layout, builder_window};
 ghost use Rattle.lookup_model.specs.Records.{AllFit, HasEqualLengths, IsWithin};
 ghost use Rattle.lookup_model.specs.Sent.{branches_at, flags_at, value, values};
 
@@ -15,8 +15,8 @@ use crate::fault::Location;
 use crate::walk::RowVisitor;
 use air::SymbolicExpression;
 use field::Field;
-use lookup_generation::LookupTraceBuilder;
 use lookup_model::Lookup;
+use lookup_rows::LookupTraceBuilder;
 use std::alloc::{AllocError, Global};
 
 /// Appends the values of a tuple on the builder's row.

@@ -5,15 +5,15 @@ ghost use Rattle.std.specs.List.{flat_map};
 ghost use Rattle.lookup_debug.specs.Contributions.{AreFitting, Contribution, IsFitting, contributions_at, contributions_of, place_of, traced_of};
 ghost use Rattle.lookup_debug.specs.Groups.{is_on, placed, placed_contributions, placed_in};
 ghost use Rattle.lookup_debug.specs.Walks.{IsWalk};
-ghost use Rattle.lookup_generation.specs.TraceBuilder.{builder_layout, builder_window};
+ghost use Rattle.lookup_rows.specs.TraceBuilder.{builder_layout, builder_window};
 ghost use Rattle.lookup_model.specs.Records.{HasEqualLengths, IsWithin};
 
 use crate::fault::Location;
 use crate::groups::is_on_bus;
 use crate::instance::LookupDebugInstance;
 use field::Field;
-use lookup_generation::{LookupTraceBuilder, row_builder};
 use lookup_model::Lookup;
+use lookup_rows::{LookupTraceBuilder, row_builder};
 use std::alloc::{AllocError, Global};
 
 /// Visits the rows of lookups, one by one.

@@ -1,34 +1,24 @@
 -- What the steps of a row answer, over the builder of that row.
-use Rattle.std.specs.Prelude.{◌≡◌, ◌⊎◌, ℕ, None, Some, Bool, IsTrue, List, Result, MatchResult, false}
-use Rattle.field.specs.Ring.{Ring}
+use Rattle.std.specs.Prelude.{◌≡◌, ◌⊎◌, ℕ, None, Some, IsTrue, List, Result, MatchResult}
 use Rattle.expressions.specs.declared.base_expression.SymbolicExpression.{SymbolicExpression}
 use Rattle.lookup_model.specs.Denominators.{column_denominator}
 use Rattle.field.specs.Extension.{Extension}
-use Rattle.lookup_model.specs.Fault.{are_boolean, fault_of, vanishes}
+use Rattle.lookup_model.specs.Fault.{fault_of, vanishes}
 use Rattle.lookup_model.specs.Message.{Key, Message}
 use Rattle.lookup_model.specs.Plain.{counted, plain_fraction}
 use Rattle.lookup_model.specs.Sent.{Sent, branches_at, sent, sent_at, values}
 use Rattle.lookup_model.specs.declared.error.LookupError.{LookupError}
-use Rattle.lookup_model.specs.declared.error.LookupError.TheVariants.{FlagNotBoolean, Memory, VanishingDenominator}
+use Rattle.lookup_model.specs.declared.error.LookupError.TheVariants.{Memory, VanishingDenominator}
 use Rattle.lookup_model.specs.declared.types.Lookup.{Lookup}
 use Rattle.lookup_generation.specs.Fraction.{IsFractionOf, IsRatio}
-use Rattle.lookup_generation.specs.Selection.{AreSetFlags}
-use Rattle.lookup_generation.specs.TraceBuilder.{builder_window}
-use Rattle.lookup_generation.specs.declared.exclusive.SetFlags.{SetFlags}
+use Rattle.lookup_rows.specs.TraceBuilder.{builder_challenges, builder_row, builder_window}
 use Rattle.lookup_generation.specs.declared.ratio.Ratio.{Ratio}
-use Rattle.lookup_generation.specs.declared.trace_builder.LookupTraceBuilder.{LookupTraceBuilder}
-
--- The set flags among these, in a column on a row. Otherwise one is neither zero nor one.
-abbrev pub AnswersFlags : {F : Type 0} → Ring F → (F → F → Bool) → ℕ → ℕ → List F → Result SetFlags LookupError → Type 0
-AnswersFlags R eq row column flags result =
-    MatchResult result
-    (AreSetFlags R eq flags)
-    (λ e. (e ≡ Memory) ⊎ ((e ≡ FlagNotBoolean row column) × (are_boolean R eq flags ≡ false)))
+use Rattle.lookup_rows.specs.declared.trace_builder.LookupTraceBuilder.{LookupTraceBuilder}
 
 module _ {F K : Type 0} (E : Extension F K) (builder : LookupTraceBuilder F K) where
   -- the denominator of a key whose id is a column, over the builder's challenges
   abbrev pub denominator_on : Key F → K
-  denominator_on = column_denominator E builder.permutation_challenges.now
+  denominator_on = column_denominator E (builder_challenges builder)
 
   -- the values of expressions on the row
   abbrev pub values_on : List (SymbolicExpression F) → List F
@@ -40,7 +30,7 @@ module _ {F K : Type 0} (E : Extension F K) (builder : LookupTraceBuilder F K) w
 
   -- out of memory, or the row and the column where a denominator vanishes as this says
   abbrev pub IsVanishing : ℕ → Type 0 → LookupError → Type 0
-  IsVanishing column such e = (e ≡ Memory) ⊎ ((e ≡ VanishingDenominator builder.row column) × such)
+  IsVanishing column such e = (e ≡ Memory) ⊎ ((e ≡ VanishingDenominator (builder_row builder) column) × such)
 
   -- The sum of the quotients of the counted branches. Otherwise a denominator of them vanishes.
   abbrev pub AnswersAdditive : Lookup F → Result (Ratio K) LookupError → Type 0
@@ -54,8 +44,8 @@ module _ {F K : Type 0} (E : Extension F K) (builder : LookupTraceBuilder F K) w
   AnswersSent column sent result =
       MatchResult result
       (λ r. IsRatio E.ring r (plain_fraction E denominator_on sent)
-      × (fault_of E denominator_on builder.row column sent ≡ None))
-      (λ e. (e ≡ Memory) ⊎ (fault_of E denominator_on builder.row column sent ≡ Some e))
+      × (fault_of E denominator_on (builder_row builder) column sent ≡ None))
+      (λ e. (e ≡ Memory) ⊎ (fault_of E denominator_on (builder_row builder) column sent ≡ Some e))
 
   -- that of a lookup
   abbrev pub AnswersFraction : Lookup F → Result (Ratio K) LookupError → Type 0

@@ -1,83 +1,20 @@
 //! The fraction of an exclusive lookup on one row.
-ghost use Rattle.std.specs.Prelude.{◌≡◌, ◌≢◌, ◌+◌, ◌<◌, All, IfErr, IfOk, List, ℕ, [], ◌∷◌, ◌++◌, length, MatchResult};
+ghost use Rattle.std.specs.Prelude.{◌≡◌, ◌≢◌, ◌<◌, All, IfOk, List, [], length, MatchResult};
 ghost use Rattle.std.specs.List.{AllZip};
-ghost use Rattle.lookup_generation.specs.Selection.{ArePlaces, AreSetFlags};
-ghost use Rattle.lookup_generation.specs.TraceBuilder.{builder_layout, builder_window};
+ghost use Rattle.lookup_rows.specs.Selection.{AnswersFlags};
+ghost use Rattle.lookup_rows.specs.TraceBuilder.{builder_challenges, builder_window};
 ghost use Rattle.lookup_generation.specs.Inverses.{ForExtensions};
 ghost use Rattle.lookup_columns.specs.ChunkColumns.{HasFlag, HoldSelected, key_denominator};
 ghost use Rattle.lookup_generation.specs.Fraction.{IsRatio};
-ghost use Rattle.lookup_generation.specs.RowAnswers.{AnswersExclusive, AnswersFlags};
-ghost use Rattle.lookup_model.specs.Records.{AllFit};
+ghost use Rattle.lookup_generation.specs.RowAnswers.{AnswersExclusive};
 ghost use Rattle.lookup_model.specs.Sent.{branches_at, values};
 
 use crate::ratio::Ratio;
-use crate::trace_builder::LookupTraceBuilder;
 use air::SymbolicExpression;
-use field::{Domain, ExtensionDomain, Field};
+use field::{ExtensionDomain, Field};
 use lookup_columns::BranchColumns;
 use lookup_model::{Lookup, LookupError};
-
-/// The indices of the set flags, counted in whole numbers.
-#[derive(Clone, Copy)]
-pub(crate) enum SetFlags {
-    Nothing,
-    One(usize),
-    Several,
-}
-
-/// The set flags plus one more.
-fn with_place(set: SetFlags, place: usize) -> SetFlags
-    ensures { (places : List ℕ) → ArePlaces set places → ArePlaces result (places ++ place ∷ []) }
-{
-    match set {
-        SetFlags::Nothing => SetFlags::One(place),
-        SetFlags::One(_) | SetFlags::Several => SetFlags::Several,
-    }
-}
-
-/// The set flags, plus the flag at `place` if it is set.
-fn with_flag<F: Field>(
-    set: SetFlags,
-    place: usize,
-    flag: F,
-    row: usize,
-    column: usize,
-) -> Result<SetFlags, LookupError>
-    ensures next { IfOk result (λ next. (flags : List F) → length flags ≡ place
-        → AreSetFlags F.ring F.eq flags set
-        → AreSetFlags F.ring F.eq (flags ++ flag ∷ []) next) }
-    ensures refused { IfErr result (λ e. (e ≡ LookupError.FlagNotBoolean row column)
-        × (flag ≢ F.ring.zero) × (flag ≢ F.ring.one)) }
-{
-    if flag.is_zero() {
-        Ok(set)
-    } else if flag == F::ONE {
-        Ok(with_place(set, place))
-    } else {
-        Err(LookupError::FlagNotBoolean {
-            row,
-            lookup: column,
-        })
-    }
-}
-
-/// The set flags on the builder's row.
-pub(crate) fn set_flags<F: Field, EF: Domain>(
-    flags: &[SymbolicExpression<F>],
-    builder: &LookupTraceBuilder<'_, F, EF>,
-    column: usize,
-) -> Result<SetFlags, LookupError>
-    requires { AllFit (builder_layout builder.now) flags.now }
-    ensures { AnswersFlags F.ring F.eq builder.now.row column
-        (values F.ring (builder_window builder.now) flags.now) result }
-{
-    let mut set = SetFlags::Nothing;
-    for place in 0..flags.len() {
-        let flag = builder.value_of(&flags[place]);
-        set = with_flag(set, place, flag, builder.row(), column)?;
-    }
-    Ok(set)
-}
+use lookup_rows::{LookupTraceBuilder, SetFlags, with_flag};
 
 /// The set flags of an exclusive lookup, at a place of its columns.
 fn set_flags_at<F: Field, EF: ExtensionDomain<F>>(
@@ -137,7 +74,7 @@ pub(crate) fn exclusive_fraction<F: Field, EF: ExtensionDomain<F>>(
     builder: &LookupTraceBuilder<'_, F, EF>,
 ) -> Result<Ratio<EF>, LookupError>
     requires { HoldSelected F.ring (key_denominator EF.ring EF.embed
-        builder.now.permutation_challenges.now) place columns.now
+        (builder_challenges builder.now)) place columns.now
         (values F.ring (builder_window builder.now) flags.now)
         (branches_at F.ring (builder_window builder.now) lookup.now.column lookup.now) }
     ensures answers { ForExtensions F.ring F.eq EF.ring EF.eq EF.embed (λ E.

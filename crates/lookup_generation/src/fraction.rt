@@ -7,14 +7,14 @@ ghost use Rattle.lookup_generation.specs.RowAnswers.{AnswersAdditive, AnswersFra
 ghost use Rattle.lookup_generation.specs.Fraction.{IsFractionOf};
 ghost use Rattle.lookup_model.specs.Message.{Key, Message};
 ghost use Rattle.lookup_model.specs.Sent.{branches_at};
-ghost use Rattle.lookup_generation.specs.TraceBuilder.{builder_window};
+ghost use Rattle.lookup_rows.specs.TraceBuilder.{builder_challenges, builder_window};
 
 use crate::exclusive::exclusive_fraction;
 use crate::ratio::Ratio;
-use crate::trace_builder::LookupTraceBuilder;
 use field::{ExtensionDomain, Field};
 use lookup_columns::BranchColumns;
 use lookup_model::{Lookup, LookupError};
+use lookup_rows::LookupTraceBuilder;
 
 /// The fraction so far plus, if its multiplicity is not zero, the quotient of one more tuple.
 ///
@@ -57,7 +57,7 @@ fn additive_fraction<F: Field, EF: ExtensionDomain<F>>(
     builder: &LookupTraceBuilder<'_, F, EF>,
 ) -> Result<Ratio<EF>, LookupError>
     requires { AllZip (IsHeld (key_denominator EF.ring EF.embed
-        builder.now.permutation_challenges.now) place) columns.now
+        (builder_challenges builder.now)) place) columns.now
         (branches_at F.ring (builder_window builder.now) lookup.now.column lookup.now) }
     ensures answers { ForExtensions F.ring F.eq EF.ring EF.eq EF.embed (λ E.
         AnswersAdditive E builder.now lookup.now result) }
@@ -89,7 +89,7 @@ pub(crate) fn fraction<F: Field, EF: ExtensionDomain<F>>(
     place: usize,
     builder: &LookupTraceBuilder<'_, F, EF>,
 ) -> Result<Ratio<EF>, LookupError>
-    requires { HoldLookup F.ring EF.ring EF.embed builder.now.permutation_challenges.now
+    requires { HoldLookup F.ring EF.ring EF.embed (builder_challenges builder.now)
         (builder_window builder.now) place lookup.now columns.now }
     ensures answers { ForExtensions F.ring F.eq EF.ring EF.eq EF.embed (λ E.
         AnswersFraction E builder.now lookup.now result) }

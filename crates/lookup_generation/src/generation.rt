@@ -4,7 +4,6 @@ ghost use Rattle.std.specs.Prelude.{◌≡◌, ◌+◌, ◌-◌, ◌*◌, ◌%�
 ghost use Rattle.std.specs.List.{AllZip};
 ghost use Rattle.std.specs.Option.{ForSome, option_copied, option_map_or};
 ghost use Rattle.expressions.specs.Layout.{layout_of_traces};
-ghost use Rattle.expressions.specs.Window.{window_at};
 ghost use Rattle.lookup_columns.specs.Traces.{layout_of, height_of, window_of};
 ghost use Rattle.lookup_model.specs.Denominators.{column_denominator};
 ghost use Rattle.lookup_model.specs.Fault.{trace_faults};
@@ -16,64 +15,21 @@ ghost use Rattle.lookup_columns.specs.LookupSteps.{AreLookupSteps};
 ghost use Rattle.lookup_generation.specs.Progress.{AnswersColumn, AnswersColumns, AreRatios, HasRows, HaveNoTuples, IsFirstOf, column_cells, sent_on, sent_rows_of, started_chunks};
 ghost use Rattle.lookup_model.specs.Records.{LookupsFit};
 ghost use Rattle.lookup_model.specs.Generation.{AnswersGeneration};
-ghost use Rattle.lookup_generation.specs.TraceBuilder.{builder_layout, builder_window};
 ghost use Rattle.matrix.specs.Matrix.{height};
 
 use crate::columns::columns_of_lookups;
 use crate::fraction::fraction;
 use crate::memory::ChunkMemory;
 use crate::ratio::{Ratio, values_of};
-use crate::trace_builder::LookupTraceBuilder;
 use field::{Domain, ExtensionDomain, ExtensionField, Field, InverseCount, Inverter, Over};
-use lookup_columns::{
-    BranchColumns, LookupSteps, Traces, next_row, rows_between, steps_of_lookups,
-};
+use lookup_columns::{BranchColumns, LookupSteps, Traces, rows_between, steps_of_lookups};
 use lookup_model::{Lookup, LookupError, LookupTerminal};
-use matrix::{RowMajorMatrix, ViewPair};
+use lookup_rows::row_builder;
+use matrix::RowMajorMatrix;
 use std::alloc::{AllocError, Global};
 
 /// How many rows make a chunk. All fractions of a chunk are divided by at most one inverse.
 const CHUNK_ROWS: usize = 1024;
-
-/// The builder of one row of an AIR's traces together with the next row; the last row comes with the
-/// first one. The caller counts the rows of the traces, `num_rows`, once for all of them.
-pub fn row_builder<'a, F: Field, EF: Domain>(
-    main: &'a RowMajorMatrix<F>,
-    preprocessed: Option<&'a RowMajorMatrix<F>>,
-    public_values: &'a [F],
-    challenges: &'a [EF],
-    num_rows: usize,
-    row: usize,
-) -> LookupTraceBuilder<'a, F, EF>
-    requires rows { num_rows ≡ height main.now }
-    requires row_exists { row < num_rows }
-    requires heights { ForSome (option_copied preprocessed) (λ m. height m ≡ height main.now) }
-    ensures window { builder_window result ≡ window_at main.now
-        (option_copied preprocessed.entry) public_values.now (height main.now) row }
-    ensures layout { builder_layout result ≡ record
-        (layout_of_traces main.now (option_copied preprocessed.entry) public_values.now) {
-          num_permutation_challenges = length challenges.now;
-        } }
-    ensures challenges { result.permutation_challenges.now ≡ challenges.now }
-    ensures row { result.row ≡ row }
-{
-    let next = next_row(row, num_rows);
-    let main = ViewPair {
-        top: main.row_slice(row),
-        bottom: main.row_slice(next),
-    };
-    let preprocessed = match preprocessed {
-        Some(trace) => ViewPair {
-            top: trace.row_slice(row),
-            bottom: trace.row_slice(next),
-        },
-        None => ViewPair {
-            top: &[],
-            bottom: &[],
-        },
-    };
-    LookupTraceBuilder::new(main, preprocessed, public_values, challenges, num_rows, row)
-}
 
 /// A fault of a lookup, and the row where it is.
 #[derive(Drop)]

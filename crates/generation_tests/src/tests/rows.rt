@@ -3,6 +3,7 @@ use super::holds;
 use air::{AirBuilder, AirError};
 use field::{F7, PrimeCharacteristicRing};
 use lookup::traits::LookupTraceBuilder;
+use lookup_rows::{SetFlags, with_flag};
 use matrix::{ViewPair, WindowAccess};
 use std::alloc::Global;
 use std::process::Abort;
@@ -51,6 +52,7 @@ fn a_row_with_its_next_row(rt: HostRuntime) {
     let mut builder = LookupTraceBuilder::new(main, nothing, &[], challenges.as_slice(), 2, 1);
     let has_rows = has_rows(&rt, alloc, &builder, top.as_slice(), bottom.as_slice());
     holds(&rt, "the rows", has_rows);
+    holds(&rt, "its number", builder.row() == 1);
     let last = [F7::new(0), F7::new(1), F7::new(0)];
     holds(
         &rt,
@@ -68,4 +70,10 @@ fn a_row_with_its_next_row(rt: HostRuntime) {
         "3 is not zero",
         refused == Some(AirError::Assertion { row: 1 }),
     );
+}
+
+#[test]
+fn one_set_flag(rt: HostRuntime) {
+    let set = with_flag(SetFlags::Nothing, 3, F7::new(1), 0, 0).ok();
+    holds(&rt, "the fourth flag", set == Some(SetFlags::One(3)));
 }

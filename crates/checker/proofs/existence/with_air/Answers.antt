@@ -9,8 +9,8 @@ use Rattle.field.specs.laws.Extension.{of_laws}
 use Rattle.lookup_model.specs.Records.{LookupsFit}
 use Rattle.lookup_model.specs.Batches.Equations.{challenged_window, row_equations}
 use Rattle.lookup_model.specs.Batches.Instances.{instance_of}
-use Rattle.lookup_generation.proofs.Layouts.{LookupsFit-with_challenges}
-use Rattle.lookup_generation.specs.TraceBuilder.{ext_builder_window}
+use Rattle.lookup_rows.proofs.Layouts.{LookupsFit-with_challenges}
+use Rattle.lookup_rows.specs.TraceBuilder.{ext_builder_window}
 use Rattle.checker.specs.Sums.{AreSums}
 use Rattle.checker.proofs.SumWalk.{flat_more, flat_parts, sums_further, sums_kept, sums_stay}
 use Rattle.checker.proofs.existence.with_air.Goals as goal

@@ -2,7 +2,7 @@ use Rattle.std.proofs.Common.{◌++◌, ap, sym, ◌∙◌}
 use Rattle.std.proofs.lemmas.List.{append-nil, take_all}
 use Rattle.lookup_model.proofs.RecordLaws.{Fits-at}
 use Rattle.lookup_model.specs.Sent.{values}
-use Rattle.lookup_generation.specs.TraceBuilder.{builder_layout, builder_window}
+use Rattle.lookup_rows.specs.TraceBuilder.{builder_layout, builder_window}
 use Rattle.lookup_debug.proofs.AmountLaws.{values_step}
 use Rattle.lookup_debug.proofs.contributions.push_tuple.Goals as goal
 

@@ -1,6 +1,6 @@
 use Rattle.std.proofs.Common.{◌≡◌, ◌++◌, map, take}
 use Rattle.lookup_model.specs.Sent.{branches_at, flags_at}
-use Rattle.lookup_generation.specs.TraceBuilder.{builder_window}
+use Rattle.lookup_rows.specs.TraceBuilder.{builder_window}
 use Rattle.lookup_debug.specs.Contributions.{amounts, contributions_from, nonzero, place_of}
 use Rattle.lookup_debug.specs.Mismatch.{places}
 use Rattle.lookup_debug.proofs.places.push_row_places.Given as goal

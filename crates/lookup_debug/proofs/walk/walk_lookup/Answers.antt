@@ -5,8 +5,8 @@ use Rattle.std.proofs.lemmas.Option.{get_or_from_slice_get, slice_get_within}
 use Rattle.std.specs.Option.{option_copied}
 use Rattle.expressions.specs.Layout.{layout_of_traces}
 use Rattle.expressions.specs.declared.layout.AirLayout.{AirLayout}
-use Rattle.lookup_generation.proofs.Layouts.{LookupsFit-with_challenges, with_challenges}
-use Rattle.lookup_generation.specs.TraceBuilder.{builder_window}
+use Rattle.lookup_rows.proofs.Layouts.{LookupsFit-with_challenges, with_challenges}
+use Rattle.lookup_rows.specs.TraceBuilder.{builder_window}
 use Rattle.lookup_model.specs.Records.{IsWithin}
 use Rattle.lookup_model.specs.declared.types.Lookup.{Lookup}
 use Rattle.lookup_debug.specs.Contributions.{contributions_on, traced_of}

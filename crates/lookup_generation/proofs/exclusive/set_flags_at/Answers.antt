@@ -7,7 +7,7 @@ use Rattle.std.proofs.lemmas.Slice.Zip.{AllZip-long}
 use Rattle.lookup_columns.proofs.ZipLaws.{Beside, beside, taken_more}
 use Rattle.lookup_columns.proofs.ChunkColumnLaws.{read_is, taken_split}
 use Rattle.lookup_columns.specs.ChunkColumns.{HasFlag}
-use Rattle.lookup_generation.specs.Selection.{AreSetFlags}
+use Rattle.lookup_rows.specs.Selection.{AreSetFlags}
 use Rattle.lookup_model.proofs.Lookups.Selections.{not_boolean}
 use Rattle.lookup_model.specs.Fault.{are_boolean}
 use Rattle.lookup_generation.proofs.exclusive.set_flags_at.Goals as goal

@@ -1,7 +1,7 @@
 use Rattle.std.proofs.Common.{List, take}
 use Rattle.std.specs.List.{AllZip}
 use Rattle.lookup_columns.specs.ChunkColumns.{HasFlag}
-use Rattle.lookup_generation.specs.Selection.{AreSetFlags}
+use Rattle.lookup_rows.specs.Selection.{AreSetFlags}
 use Rattle.lookup_generation.proofs.exclusive.set_flags_at.Given as goal
 
 abbrev pub invariant-loop-branch : goal.invariant-loop-branch

@@ -1,2 +1,0 @@
-pub mod FirstSeen
-pub mod NetEntries

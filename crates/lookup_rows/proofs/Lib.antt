@@ -1,0 +1,6 @@
+pub mod FirstSeen
+pub mod Layouts
+pub mod NetEntries
+pub mod OwnWindow
+pub mod SentMessageLaws
+pub mod SetFlags

@@ -1,0 +1,58 @@
+use Rattle.std.proofs.Common.{◌∷◌, ◌++◌, [], List, append_assoc, refl, take, ap, sym, subst, ◌∙◌, arith}
+use Rattle.std.proofs.lemmas.List.{append-nil, take_all}
+use Rattle.expressions.specs.declared.base_expression.SymbolicExpression.{SymbolicExpression}
+use Rattle.lookup_model.proofs.Branches.{branches_more, length-branches_at}
+use Rattle.lookup_model.proofs.RecordLaws.{All-at, Fits-at}
+use Rattle.lookup_model.specs.Records.{AllFit, IsWithin}
+use Rattle.lookup_model.specs.Sent.{branch_at, branches_at}
+use Rattle.lookup_rows.specs.SentMessages.{messages_of}
+use Rattle.lookup_rows.specs.TraceBuilder.{builder_layout, builder_window}
+use Rattle.lookup_rows.proofs.SentMessageLaws.{further_back, in_front}
+use Rattle.lookup_rows.proofs.messages.push_branches.Goals as goal
+
+pub push_branch-requires-clause-tuple_fits : goal.push_branch-requires-clause-tuple_fits
+unfolding IsWithin
+push_branch-requires-clause-tuple_fits g c =
+    let layout = builder_layout c.args.builder.now in
+    subst (λ (t : List (SymbolicExpression _)). AllFit layout t) (sym c.deref.ensures.value) (All-at (λ tuple. AllFit layout tuple.items) c.args.lookup.now.elements.items c.loop-branch.branch c.index-tuple.result.now c.requires.within.0 (omega arith) c.index-tuple.ensures)
+
+pub push_branch-requires-clause-multiplicity_fits :
+    goal.push_branch-requires-clause-multiplicity_fits
+unfolding IsWithin
+push_branch-requires-clause-multiplicity_fits g c =
+    Fits-at (builder_layout c.args.builder.now) c.args.lookup.now.multiplicities.items c.loop-branch.branch _ c.requires.within.1 (omega (arith, c.requires.lengths.multiplicities)) c.index-multiplicity.ensures
+
+pub loop-branch-init : goal.loop-branch-init
+loop-branch-init g c = (sym (append-nil (messages_of c.args.messages.now.items)), in_front _ _ refl)
+
+pub loop-branch-preserved : goal.loop-branch-preserved
+loop-branch-preserved g c =
+    let R = g.F.PrimeCharacteristicRing.ring in
+    let w = builder_window c.args.builder.now in
+    let lookup = c.args.lookup.now in
+    let i = c.loop-branch.branch in
+    let before = messages_of c.args.messages.now.items in
+    let branches = branches_at R w c.args.id lookup in
+    let m = branch_at R w c.args.id c.index-tuple.result.now.items c.index-multiplicity.result.now in
+    let more = branches_more R w c.args.id lookup c.requires.lengths i c.index-tuple.result.now c.index-multiplicity.result.now (omega arith) c.index-tuple.ensures c.index-multiplicity.ensures in (
+      c.in_ok-push_branch.ensures.pushes
+          ∙ (λ k. c.loop-branch.invariant.0 k ++ branch_at R w c.args.id (c.deref.ensures.value k) c.index-multiplicity.result.now ∷ [])
+          ∙ append_assoc before (take i branches) (m ∷ [])
+          ∙ ap (λ t. before ++ t) (sym more),
+      further_back _ _ _ c.loop-branch.invariant.1 c.in_ok-push_branch.ensures.front,
+    )
+
+pub returns-clause-pushes : goal.returns-clause-pushes
+returns-clause-pushes g c =
+    let R = g.F.PrimeCharacteristicRing.ring in
+    let w = builder_window c.args.builder.now in
+    let lookup = c.args.lookup.now in
+    let branches = branches_at R w c.args.id lookup in
+    c.loop-branch.invariant.0
+    ∙ ap (λ t. messages_of c.args.messages.now.items ++ t) (take_all c.loop-branch.branch branches (omega (arith, length-branches_at R w c.args.id lookup c.requires.lengths)))
+
+pub returns-clause-front : goal.returns-clause-front
+returns-clause-front g c = c.loop-branch.invariant.1
+
+pub returns-in_err-push_branch-clause-front : goal.returns-in_err-push_branch-clause-front
+returns-in_err-push_branch-clause-front g c = further_back _ _ _ c.loop-branch.invariant.1 c.in_err-push_branch.ensures.front

@@ -1,0 +1,4 @@
+pub mod Entries
+pub mod Selection
+pub mod SentMessages
+pub mod TraceBuilder

@@ -1,0 +1,78 @@
+//! The set flags of an exclusive lookup on one row.
+ghost use Rattle.std.specs.Prelude.{◌≡◌, ◌≢◌, IfErr, IfOk, List, ℕ, [], ◌∷◌, ◌++◌, length};
+ghost use Rattle.lookup_model.specs.Records.{AllFit};
+ghost use Rattle.lookup_model.specs.Sent.{values};
+ghost use Rattle.lookup_rows.specs.Selection.{AnswersFlags, ArePlaces, AreSetFlags};
+ghost use Rattle.lookup_rows.specs.TraceBuilder.{builder_layout, builder_row, builder_window};
+
+use crate::trace_builder::LookupTraceBuilder;
+use air::SymbolicExpression;
+use field::{Domain, Field};
+use lookup_model::LookupError;
+
+/// The indices of the set flags, counted in whole numbers.
+#[derive(Clone, Copy, Debug, PartialEq, Eq)]
+pub enum SetFlags {
+    /// No flag is set.
+    Nothing,
+    /// The flag of this index is set, and no other.
+    One(usize),
+    /// More than one flag is set.
+    Several,
+}
+
+/// The set flags plus one more.
+fn with_place(set: SetFlags, place: usize) -> SetFlags
+    ensures { (places : List ℕ) → ArePlaces set places → ArePlaces result (places ++ place ∷ []) }
+{
+    match set {
+        SetFlags::Nothing => SetFlags::One(place),
+        SetFlags::One(_) | SetFlags::Several => SetFlags::Several,
+    }
+}
+
+/// The set flags, plus the flag at `place` if it is set.
+///
+/// Refuses a flag that is neither zero nor one, with the row and the lookup's column.
+pub fn with_flag<F: Field>(
+    set: SetFlags,
+    place: usize,
+    flag: F,
+    row: usize,
+    column: usize,
+) -> Result<SetFlags, LookupError>
+    ensures next { IfOk result (λ next. (flags : List F) → length flags ≡ place
+        → AreSetFlags F.ring F.eq flags set
+        → AreSetFlags F.ring F.eq (flags ++ flag ∷ []) next) }
+    ensures refused { IfErr result (λ e. (e ≡ LookupError.FlagNotBoolean row column)
+        × (flag ≢ F.ring.zero) × (flag ≢ F.ring.one)) }
+{
+    if flag.is_zero() {
+        Ok(set)
+    } else if flag == F::ONE {
+        Ok(with_place(set, place))
+    } else {
+        Err(LookupError::FlagNotBoolean {
+            row,
+            lookup: column,
+        })
+    }
+}
+
+/// The set flags on the builder's row.
+pub(crate) fn set_flags<F: Field, EF: Domain>(
+    flags: &[SymbolicExpression<F>],
+    builder: &LookupTraceBuilder<'_, F, EF>,
+    column: usize,
+) -> Result<SetFlags, LookupError>
+    requires { AllFit (builder_layout builder.now) flags.now }
+    ensures { AnswersFlags F.ring F.eq (builder_row builder.now) column
+        (values F.ring (builder_window builder.now) flags.now) result }
+{
+    let mut set = SetFlags::Nothing;
+    for place in 0..flags.len() {
+        let flag = builder.value_of(&flags[place]);
+        set = with_flag(set, place, flag, builder.row(), column)?;
+    }
+    Ok(set)
+}
