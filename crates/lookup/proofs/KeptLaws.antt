@@ -24,7 +24,7 @@ use Rattle.lookup_model.specs.declared.error.LookupError.{LookupError}
 use Rattle.lookup_model.specs.declared.types.Lookup.{Lookup}
 use Rattle.lookup.specs.Buses.{bus_names, on_bus, same_name}
 use Rattle.lookup.specs.Cuts.{part_items}
-use Rattle.lookup.specs.Kept.{HasIdOfBus, HaveSameIds, KeepsMessages, KeepsNets, KeepsWeight, other_ids, row_messages}
+use Rattle.lookup.specs.Kept.{HasIdOfBus, HaveSameIds, KeepsMessages, KeepsNets, KeepsTotalWeight, other_ids, row_messages}
 use Rattle.lookup.specs.Packing.{AreFilled, IsPacking, additive, is_additive, joined, numbered_from, passing}
 use Rattle.lookup.proofs.FewestColumns.{IsOn, members_on, none_additive}
 use Rattle.lookup.proofs.JoinedMessages.{columns_messages, messages_of, own_messages, seen_messages, on_some_bus}
@@ -202,7 +202,7 @@ module _ {F : Type 0} (R : Ring F) (eq : F → F → Bool) (w : Window F) (bus_i
 
 module _ {F : Type 0} (answers : Outline (SymbolicExpression F) → Result ℕ LookupError → Type 0) (most : ℕ) (before after : List (Lookup F)) (packing : IsPacking answers most (map fields_of before) (map fields_of after)) where
   -- the weight of all lookups stays
-  pub kept_weight : KeepsWeight before after
+  pub kept_weight : KeepsTotalWeight before after
   kept_weight =
       sym (sum_by-mapped (λ o. o.count_weight) fields_of after)
       ∙ packed_weight answers most (map fields_of before) (map fields_of after) packing

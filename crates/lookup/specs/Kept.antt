@@ -16,8 +16,8 @@ use Rattle.lookup.specs.Packing.{is_additive}
 
 module _ {F : Type 0} where
   -- the weight of all lookups is that of before
-  abbrev pub KeepsWeight : List (Lookup F) → List (Lookup F) → Type 0
-  KeepsWeight before after = sum_by (λ l. l.count_weight) after ≡ sum_by (λ l. l.count_weight) before
+  abbrev pub KeepsTotalWeight : List (Lookup F) → List (Lookup F) → Type 0
+  KeepsTotalWeight before after = sum_by (λ l. l.count_weight) after ≡ sum_by (λ l. l.count_weight) before
 
   -- a lookup that may be joined has the id of its bus
   abbrev pub HasIdOfBus : (List ℕ → ℕ) → (Lookup F → ℕ) → Lookup F → Type 0
@@ -72,7 +72,7 @@ module _ {F : Type 0} where
 
     -- What packing keeps of all that lookups send.
     pub record KeepsSent (before after : List (Lookup F)) : Type 0 where
-      pub weight : KeepsWeight before after
+      pub weight : KeepsTotalWeight before after
       pub messages : KeepsMessages before after
       pub nets : KeepsNets before after
       pub keys : KeepsKeys before after

@@ -23,7 +23,7 @@ pub use bus_widths::check_bus_widths;
 pub use guards::check_multiplicity_height_bound;
 pub use logup::LogUpGadget;
 pub use lookup_model::{
-    Challenges, Kind, Lookup, LookupError, LookupTerminal, fits, has_equal_lengths,
+    Challenges, Kind, Lookup, LookupError, LookupTerminal, few_collisions, fits, has_equal_lengths,
 };
 pub use lookup_record::{
     Count, IndexedDeclarations, IndexedLookupBuilder, IndexedLookupError, IndexedLookups,

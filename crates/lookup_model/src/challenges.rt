@@ -1,9 +1,8 @@
 //! The denominators of every bus, from one pair of challenges.
-ghost use Rattle.std.specs.Prelude.{◌≡◌, ◌*◌, ◌<◌, ◌≤◌, All, IfOk, length, map};
+ghost use Rattle.std.specs.Prelude.{◌≡◌, ◌*◌, ◌<◌, All, IfOk, length, map};
 ghost use Rattle.std.specs.Box.{boxed_slice_items};
 ghost use Rattle.std.specs.List.{range_with_len};
 ghost use Rattle.lookup_model.specs.Challenges.{column_challenges, prefix_of_bus, table_of};
-ghost use Rattle.lookup_model.specs.Collisions.{FewCombineAlike, FewShareAPoint, IgnoresLeadingZero};
 ghost use Rattle.lookup_model.specs.Points.{HasPoints};
 
 use field::Field;
@@ -29,11 +28,7 @@ pub struct Challenges<EF> {
 impl<EF: Field> Challenges<EF> {
     /// The table of `num_bus_ids` prefixes for tuples of at most `max_message_width` elements.
     ///
-    /// Few betas let messages collide. Two distinct tuples of the same width `w` combine alike for at
-    /// most `w - 1` betas. A key is an id with a tuple, and its point is the alpha at which its
-    /// denominator is zero. Two distinct keys have the same point for at most `max_message_width`
-    /// betas, if their ids are below `num_bus_ids`, which is at most the characteristic, and each
-    /// tuple has the width of its id, at most `max_message_width`.
+    /// Few betas let messages collide: [`few_collisions`](crate::few_collisions).
     ///
     /// Fails only when out of memory.
     pub fn new(
@@ -52,10 +47,6 @@ impl<EF: Field> Challenges<EF> {
             (range_with_len 0 num_bus_ids)) }
         ensures points { IfOk result (λ c. HasPoints EF.ring max_message_width alpha beta
             num_bus_ids (table_of c)) }
-        ensures leading_zero { IgnoresLeadingZero EF.ring }
-        ensures few_combine_alike { FewCombineAlike EF.ring }
-        ensures few_share_a_point { num_bus_ids ≤ EF.CHARACTERISTIC
-            → FewShareAPoint EF.ring max_message_width num_bus_ids }
     {
         let gamma = beta.exp_u64(max_message_width as u64);
         let mut prefixes = Vec::with_capacity(alloc, num_bus_ids)?;

@@ -9,6 +9,7 @@
 #![tactic(auto)]
 
 mod challenges;
+mod collisions;
 mod copies;
 mod count;
 mod degree;
@@ -22,6 +23,7 @@ mod types;
 mod witness;
 
 pub use challenges::Challenges;
+pub use collisions::few_collisions;
 pub use count::SoundnessCount;
 pub use degree::constraint_degree;
 pub use error::LookupError;

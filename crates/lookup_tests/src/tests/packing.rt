@@ -3,8 +3,8 @@ use super::{cell, holds, is_on, list, local, one, text};
 use air::{Expression, SymbolicExpression};
 use field::F7;
 use lookup::{
-    Kind, LogUpGadget, Lookup, LookupError, LookupProtocol, Lookups, has_equal_lengths,
-    messages_keep_terminals,
+    Kind, LogUpGadget, Lookup, LookupError, LookupProtocol, Lookups, few_collisions,
+    has_equal_lengths, messages_keep_terminals,
 };
 use std::alloc::Global;
 use std::cell::Cell;
@@ -374,8 +374,9 @@ fn an_overflow_before_a_later_refusal(rt: HostRuntime) {
 }
 
 #[test]
-fn the_law_of_terminals_is_there(rt: HostRuntime) {
+fn the_laws_are_there(rt: HostRuntime) {
     messages_keep_terminals::<F7, F7>();
+    few_collisions::<F7>();
     let none: Vec<Lookup<F7>> = Vec::new(rt.alloc());
     holds(&rt, "no lookup", none.is_empty());
 }

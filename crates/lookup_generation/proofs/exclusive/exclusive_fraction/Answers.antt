@@ -11,7 +11,7 @@ use Rattle.lookup_model.specs.declared.error.LookupError.TheVariants.{VanishingD
 use Rattle.lookup_columns.specs.ChunkColumns.{IsHeld, key_denominator}
 use Rattle.lookup_generation.specs.Fraction.{IsRatio}
 use Rattle.lookup_rows.specs.Selection.{AreSetFlags}
-use Rattle.lookup_rows.specs.TraceBuilder.{builder_window}
+use Rattle.lookup_rows.specs.TraceBuilder.{builder_challenges, builder_row, builder_window}
 use Rattle.lookup_rows.specs.declared.flags.SetFlags.TheVariants.{Nothing, One}
 use Rattle.lookup_columns.proofs.ChunkColumnLaws.{read_is}
 use Rattle.lookup_generation.proofs.SelectedColumns.{columns_there, flags_there, message, message_placed}
@@ -29,7 +29,7 @@ offset_bounds-columns-branch g c =
     let w = builder_window c.args.builder.now in
     let vals = values R w c.args.flags.now in
     let ms = branches_at R w c.args.lookup.now.column c.args.lookup.now in
-    let D = key_denominator g.EF.PrimeCharacteristicRing.ring g.EF.ExtensionDomain.embed c.args.builder.now.permutation_challenges.now in
+    let D = key_denominator g.EF.PrimeCharacteristicRing.ring g.EF.ExtensionDomain.embed (builder_challenges c.args.builder.now) in
     let columns = c.args.columns.now in
     let k = c.in-One.branch in
     let set : AreSetFlags R eq vals (One k) = subst (AreSetFlags R eq vals) c.in-One.is (c.in_ok-set_flags_at.ensures vals c.requires.flags_are) in
@@ -42,7 +42,7 @@ bounds-columns-branch g c =
     let w = builder_window c.args.builder.now in
     let vals = values R w c.args.flags.now in
     let ms = branches_at R w c.args.lookup.now.column c.args.lookup.now in
-    let D = key_denominator g.EF.PrimeCharacteristicRing.ring g.EF.ExtensionDomain.embed c.args.builder.now.permutation_challenges.now in
+    let D = key_denominator g.EF.PrimeCharacteristicRing.ring g.EF.ExtensionDomain.embed (builder_challenges c.args.builder.now) in
     let columns = c.args.columns.now in
     let k = c.in-One.branch in
     let set : AreSetFlags R eq vals (One k) = subst (AreSetFlags R eq vals) c.in-One.is (c.in_ok-set_flags_at.ensures vals c.requires.flags_are) in
@@ -55,7 +55,7 @@ index-at-requires g c =
     let w = builder_window c.args.builder.now in
     let vals = values R w c.args.flags.now in
     let ms = branches_at R w c.args.lookup.now.column c.args.lookup.now in
-    let D = key_denominator g.EF.PrimeCharacteristicRing.ring g.EF.ExtensionDomain.embed c.args.builder.now.permutation_challenges.now in
+    let D = key_denominator g.EF.PrimeCharacteristicRing.ring g.EF.ExtensionDomain.embed (builder_challenges c.args.builder.now) in
     let columns = c.args.columns.now in
     let k = c.in-One.branch in
     let set : AreSetFlags R eq vals (One k) = subst (AreSetFlags R eq vals) c.in-One.is (c.in_ok-set_flags_at.ensures vals c.requires.flags_are) in
@@ -70,7 +70,7 @@ index-requires g c =
     let w = builder_window c.args.builder.now in
     let vals = values R w c.args.flags.now in
     let ms = branches_at R w c.args.lookup.now.column c.args.lookup.now in
-    let D = key_denominator g.EF.PrimeCharacteristicRing.ring g.EF.ExtensionDomain.embed c.args.builder.now.permutation_challenges.now in
+    let D = key_denominator g.EF.PrimeCharacteristicRing.ring g.EF.ExtensionDomain.embed (builder_challenges c.args.builder.now) in
     let columns = c.args.columns.now in
     let k = c.in-One.branch in
     let set : AreSetFlags R eq vals (One k) = subst (AreSetFlags R eq vals) c.in-One.is (c.in_ok-set_flags_at.ensures vals c.requires.flags_are) in
@@ -87,7 +87,7 @@ index-requires-in-One g c =
     let w = builder_window c.args.builder.now in
     let vals = values R w c.args.flags.now in
     let ms = branches_at R w c.args.lookup.now.column c.args.lookup.now in
-    let D = key_denominator g.EF.PrimeCharacteristicRing.ring g.EF.ExtensionDomain.embed c.args.builder.now.permutation_challenges.now in
+    let D = key_denominator g.EF.PrimeCharacteristicRing.ring g.EF.ExtensionDomain.embed (builder_challenges c.args.builder.now) in
     let columns = c.args.columns.now in
     let k = c.in-One.branch in
     let set : AreSetFlags R eq vals (One k) = subst (AreSetFlags R eq vals) c.in-One.is (c.in_ok-set_flags_at.ensures vals c.requires.flags_are) in
@@ -108,7 +108,7 @@ returns-in-One-clause-bare g c = λ bare.
     let lookup = c.args.lookup.now in
     let vals = values R w c.args.flags.now in
     let ms = branches_at R w lookup.column lookup in
-    let D = key_denominator g.EF.PrimeCharacteristicRing.ring g.EF.ExtensionDomain.embed c.args.builder.now.permutation_challenges.now in
+    let D = key_denominator g.EF.PrimeCharacteristicRing.ring g.EF.ExtensionDomain.embed (builder_challenges c.args.builder.now) in
     let columns = c.args.columns.now in
     let k = c.in-One.branch in
     let set : AreSetFlags R eq vals (One k) = subst (AreSetFlags R eq vals) c.in-One.is (c.in_ok-set_flags_at.ensures vals c.requires.flags_are) in
@@ -125,7 +125,7 @@ returns-in-Nothing-clause-answers g c = λ inverse is_inverse.
     let vals = values E.base w c.args.flags.now in
     let lookup = c.args.lookup.now in
     let set : AreSetFlags E.base E.base_eq vals Nothing = subst (AreSetFlags E.base E.base_eq vals) c.in-Nothing.is (c.in_ok-set_flags_at.ensures vals c.requires.flags_are) in
-    let is = none_selected laws (column_denominator E c.args.builder.now.permutation_challenges.now) c.args.builder.now.row lookup.column vals (branches_at E.base w lookup.column lookup) set.boolean set.places in
+    let is = none_selected laws (column_denominator E (builder_challenges c.args.builder.now)) (builder_row c.args.builder.now) lookup.column vals (branches_at E.base w lookup.column lookup) set.boolean set.places in
     (subst (IsRatio E.ring c.zero.result) is.0 c.zero.ensures.value, is.1)
 
 pub returns-in-One-clause-answers : goal.returns-in-One-clause-answers
@@ -137,7 +137,7 @@ returns-in-One-clause-answers g c = λ inverse is_inverse.
     let w = builder_window c.args.builder.now in
     let vals = values R w c.args.flags.now in
     let ms = branches_at R w c.args.lookup.now.column c.args.lookup.now in
-    let D = key_denominator g.EF.PrimeCharacteristicRing.ring g.EF.ExtensionDomain.embed c.args.builder.now.permutation_challenges.now in
+    let D = key_denominator g.EF.PrimeCharacteristicRing.ring g.EF.ExtensionDomain.embed (builder_challenges c.args.builder.now) in
     let columns = c.args.columns.now in
     let k = c.in-One.branch in
     let set : AreSetFlags R eq vals (One k) = subst (AreSetFlags R eq vals) c.in-One.is (c.in_ok-set_flags_at.ensures vals c.requires.flags_are) in
@@ -145,9 +145,9 @@ returns-in-One-clause-answers g c = λ inverse is_inverse.
     let m = message g.met.F.PrimeCharacteristicRing.eq_is g.met.F.Domain.domain D c.args.place columns vals ms c.requires k set.places branch c.index-columns-branch.is in
     let placed = message_placed g.met.F.PrimeCharacteristicRing.eq_is g.met.F.Domain.domain D c.args.place columns vals ms c.requires k set.places branch c.index-columns-branch.is in
     let held : IsHeld D c.index-at.result.now branch m.item = subst (λ n. IsHeld D n branch m.item) (read_is branch.places.items c.args.place c.index-at.result.now placed.at placed.there c.index-at.ensures) placed.held in
-    let row = c.args.builder.now.row in
+    let row = (builder_row c.args.builder.now) in
     let column = c.args.lookup.now.column in
-    let denominator = column_denominator E c.args.builder.now.permutation_challenges.now in
+    let denominator = column_denominator E (builder_challenges c.args.builder.now) in
     let x = read_is branch.multiplicities.items c.index-at.result.now c.index.result.now m.item.multiplicity held.0 c.index.ensures in
     let d = read_is branch.denominators.items c.index-at.result.now c.index-in-One.result.now (denominator m.item.key) held.1 c.index-in-One.ensures in
     let one = one_selected laws denominator row column vals ms set.boolean k m.item set.places m.within m.there in

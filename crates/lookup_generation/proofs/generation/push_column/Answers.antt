@@ -11,6 +11,7 @@ use Rattle.lookup_generation.specs.Fraction.{AreDefined, IsRatio}
 use Rattle.lookup_generation.specs.Progress.{HasColumn, sent_on}
 use Rattle.lookup_generation.proofs.ColumnLaws.{HasColumn-more, HasColumn-none, IsFirstIn-here}
 use Rattle.lookup_generation.proofs.ProgressLaws.{sound_more, sound_of, whole_more}
+use Rattle.lookup_rows.specs.TraceBuilder.{builder_challenges, builder_row}
 use Rattle.lookup_generation.proofs.generation.push_column.Goals as goal
 
 pub loop-row-init : goal.loop-row-init
@@ -40,8 +41,8 @@ loop-row-preserved g c =
           × (fault_of E (column_denominator E cs) n lookup.column (sent_at E.base E.base_eq w lookup.column lookup) ≡ None) in
           let row : is_for c.args.challenges.now r (window_of c.args.traces.now r) =
           subst (λ (cs : List _). is_for cs r (window_of c.args.traces.now r)) built.challenges
-          (subst (λ (n : ℕ). is_for b.permutation_challenges.now n (window_of c.args.traces.now r)) built.row
-          (subst (λ (w : Window _). is_for b.permutation_challenges.now b.row w) built.window (c.in-Ok.ensures.answers inverse is_inverse))) in
+          (subst (λ (n : ℕ). is_for (builder_challenges b) n (window_of c.args.traces.now r)) built.row
+          (subst (λ (w : Window _). is_for (builder_challenges b) (builder_row b) w) built.window (c.in-Ok.ensures.answers inverse is_inverse))) in
           HasColumn-more E (column_denominator E c.args.challenges.now) (sent_on E.base E.base_eq c.args.traces.now lookup) lookup.column c.args.first r c.args.ratios.now.items after longer ratio c.loop-row.auto.row c.in_ok-push-in-Ok.ensures.items row.0 row.1 (c.loop-row.invariant.0 inverse is_inverse),
       λ n sound.
           subst (λ m. AreDefined g.EF.PrimeCharacteristicRing.ring (n + m) longer) one_more
@@ -61,8 +62,8 @@ returns-in-Err-clause-answers g c = λ inverse is_inverse.
     (error ≡ Memory) ⊎ (fault_of E (column_denominator E cs) n lookup.column (sent_at E.base E.base_eq w lookup.column lookup) ≡ Some error) in
     let row : is_for c.args.challenges.now r (window_of c.args.traces.now r) =
     subst (λ (cs : List _). is_for cs r (window_of c.args.traces.now r)) built.challenges
-    (subst (λ (n : ℕ). is_for b.permutation_challenges.now n (window_of c.args.traces.now r)) built.row
-    (subst (λ (w : Window _). is_for b.permutation_challenges.now b.row w) built.window (c.in-Err.ensures.answers inverse is_inverse))) in
+    (subst (λ (n : ℕ). is_for (builder_challenges b) n (window_of c.args.traces.now r)) built.row
+    (subst (λ (w : Window _). is_for (builder_challenges b) (builder_row b) w) built.window (c.in-Err.ensures.answers inverse is_inverse))) in
     IsFirstIn-here E (column_denominator E c.args.challenges.now) (sent_on E.base E.base_eq c.args.traces.now lookup) lookup.column c.args.first c.args.ratios.now.items c.loop-row.ratios.items _ row (c.loop-row.invariant.0 inverse is_inverse)
 
 pub returns-clause-answers : goal.returns-clause-answers

@@ -4,7 +4,6 @@ use Rattle.std.specs.Box.{boxed_slice_items}
 use Rattle.std.specs.List.{range_with_len}
 use Rattle.field.specs.Ring.{of_nat}
 use Rattle.lookup_model.specs.Challenges.{prefix_of_bus}
-use Rattle.lookup_model.proofs.CollisionLaws.{few_combine_alike, few_share_a_point, leading_zero}
 use Rattle.lookup_model.proofs.Prefixes.{has_points, no_step, one_more_step}
 use Rattle.lookup_model.proofs.challenges.Challenges.new.Goals as goal
 
@@ -25,37 +24,3 @@ returns-clause-points g c =
     let prefix = prefix_of_bus g.EF.PrimeCharacteristicRing.ring c.args.alpha c.args.beta c.args.max_message_width in
     has_points g.EF.PrimeCharacteristicRing.lawful c.args.max_message_width c.args.num_bus_ids c.args.alpha c.args.beta (boxed_slice_items c.into_boxed_slice.result)
     (c.into_boxed_slice.ensures.items ∙ c.loop.invariant.0 ∙ ap (λ n. map prefix (range_with_len 0 n)) (omega (arith, c.loop-test.false, c.loop.auto.counter-end)))
-
-pub returns-clause-leading_zero : goal.returns-clause-leading_zero
-returns-clause-leading_zero g c = leading_zero g.EF.PrimeCharacteristicRing.lawful g.met.EF.Domain.domain
-
-pub returns-clause-few_combine_alike : goal.returns-clause-few_combine_alike
-returns-clause-few_combine_alike g c = few_combine_alike g.EF.PrimeCharacteristicRing.lawful g.met.EF.Domain.domain
-
-pub returns-clause-few_share_a_point : goal.returns-clause-few_share_a_point
-returns-clause-few_share_a_point g c = λ few.
-    few_share_a_point g.EF.PrimeCharacteristicRing.lawful g.met.EF.Domain.domain c.args.max_message_width c.args.num_bus_ids g.EF.PrimeCharacteristicRing.CHARACTERISTIC few g.met.EF.PrimeCharacteristicRing.characteristic
-
-pub returns-in_err-prefixes-clause-leading_zero : goal.returns-in_err-prefixes-clause-leading_zero
-returns-in_err-prefixes-clause-leading_zero g c = leading_zero g.EF.PrimeCharacteristicRing.lawful g.met.EF.Domain.domain
-
-pub returns-in_err-prefixes-clause-few_combine_alike :
-    goal.returns-in_err-prefixes-clause-few_combine_alike
-returns-in_err-prefixes-clause-few_combine_alike g c = few_combine_alike g.EF.PrimeCharacteristicRing.lawful g.met.EF.Domain.domain
-
-pub returns-in_err-prefixes-clause-few_share_a_point :
-    goal.returns-in_err-prefixes-clause-few_share_a_point
-returns-in_err-prefixes-clause-few_share_a_point g c = λ few.
-    few_share_a_point g.EF.PrimeCharacteristicRing.lawful g.met.EF.Domain.domain c.args.max_message_width c.args.num_bus_ids g.EF.PrimeCharacteristicRing.CHARACTERISTIC few g.met.EF.PrimeCharacteristicRing.characteristic
-
-pub returns-in_err-push-clause-leading_zero : goal.returns-in_err-push-clause-leading_zero
-returns-in_err-push-clause-leading_zero g c = leading_zero g.EF.PrimeCharacteristicRing.lawful g.met.EF.Domain.domain
-
-pub returns-in_err-push-clause-few_combine_alike :
-    goal.returns-in_err-push-clause-few_combine_alike
-returns-in_err-push-clause-few_combine_alike g c = few_combine_alike g.EF.PrimeCharacteristicRing.lawful g.met.EF.Domain.domain
-
-pub returns-in_err-push-clause-few_share_a_point :
-    goal.returns-in_err-push-clause-few_share_a_point
-returns-in_err-push-clause-few_share_a_point g c = λ few.
-    few_share_a_point g.EF.PrimeCharacteristicRing.lawful g.met.EF.Domain.domain c.args.max_message_width c.args.num_bus_ids g.EF.PrimeCharacteristicRing.CHARACTERISTIC few g.met.EF.PrimeCharacteristicRing.characteristic
