@@ -115,13 +115,13 @@ impl<F: Field> TrialDegrees<F> for GadgetDegrees {
     }
 
     fn is_above(&self, kept: Option<SumDegrees>, max_degree: usize) -> bool {
-        match kept {
-            Some(sum) => match sum.degree() {
-                Ok(degree) => max_degree < degree,
-                Err(_) => false,
-            },
-            None => false,
-        }
+        let Some(sum) = kept else {
+            return false;
+        };
+        let Ok(degree) = sum.degree() else {
+            return false;
+        };
+        max_degree < degree
     }
 
     fn degree(&self, lookup: &Lookup<F>, kept: Option<SumDegrees>) -> Result<usize, LookupError> {

@@ -4,8 +4,8 @@ use Rattle.lookup.specs.TrialDegrees.{KeepsDegrees}
 use Rattle.lookup.proofs.DegreeLaws.{answers_kept}
 use Rattle.lookup.proofs.packing.degrees.GadgetDegreesTrialDegrees.is_above.Goals as goal
 
-pub returns-in-Ok : goal.returns-in-Ok
-returns-in-Ok g c = λ above o keeps. (
+pub returns : goal.returns
+returns g c = λ above o keeps. (
   c.in-Ok.degree,
   answers_kept o c.in-Some.sum c.degree.result c.degree.ensures (search rules) (subst (λ (k : Option SumDegrees). KeepsDegrees k o) c.in-Some.is keeps),
   search rules,
