@@ -3,4 +3,4 @@ pub mod Layouts
 pub mod NetEntries
 pub mod OwnWindow
 pub mod SentMessageLaws
-pub mod SetFlags
+pub mod SetFlagLaws

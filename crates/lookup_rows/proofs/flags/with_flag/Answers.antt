@@ -1,5 +1,5 @@
 use Rattle.std.proofs.Common.{sym, ◌∙◌}
-use Rattle.lookup_rows.proofs.SetFlags.{one_flag, zero_flag}
+use Rattle.lookup_rows.proofs.SetFlagLaws.{one_flag, zero_flag}
 use Rattle.lookup_rows.proofs.flags.with_flag.Goals as goal
 
 pub returns-then-is_zero-clause-next : goal.returns-then-is_zero-clause-next
