@@ -11,21 +11,19 @@ use std::alloc::Global;
 use std::fmt::Debug;
 use std::io::Write;
 
-/// The ids of the lookups.
-const IDS: [usize; 4] = [0, 1, 1, 1];
-
-/// Appends the messages of lookups that fit.
+/// Appends the messages of lookups that fit, under these ids.
 fn push_fitting<F: Field>(
     alloc: Global,
     messages: &mut Vec<SentMessage<F>>,
     main: &RowMajorMatrix<F>,
     lookups: &[Lookup<F>],
+    ids: &[usize],
 ) -> Result<(), LookupError> {
     let layout = AirLayout::of_traces(main, None, &[]);
-    if !fits(lookups, &layout) || lookups.len() != IDS.len() {
+    if !fits(lookups, &layout) || ids.len() != lookups.len() {
         return Err(LookupError::DegreeOverflow);
     }
-    push_messages(alloc, messages, main, None, &[], lookups, &IDS)
+    push_messages(alloc, messages, main, None, &[], lookups, ids)
 }
 
 /// Appends the messages, with the list before and after it.
@@ -38,8 +36,21 @@ fn show_pushed<W: Write, F: Field + Debug>(
 ) {
     let call = "push_messages";
     state(out, "before", call, messages);
-    show(out, call, push_fitting(alloc, messages, main, lookups));
+    let answer = push_fitting(alloc, messages, main, lookups, &[0, 1, 1, 1]);
+    show(out, call, answer);
     state(out, "after", call, messages);
+}
+
+/// Appends the messages of a trace twice to one list.
+fn push_twice<W: Write, F: Field + Debug>(
+    alloc: Global,
+    out: &mut W,
+    main: &RowMajorMatrix<F>,
+    lookups: &[Lookup<F>],
+) {
+    let mut messages = Vec::new(alloc);
+    show_pushed(alloc, out, &mut messages, main, lookups);
+    show_pushed(alloc, out, &mut messages, main, lookups);
 }
 
 /// The messages of a trace.
@@ -49,44 +60,33 @@ fn messages_of<F: Field>(
     lookups: &[Lookup<F>],
 ) -> Option<Vec<SentMessage<F>>> {
     let mut messages = Vec::new(alloc);
-    match push_fitting(alloc, &mut messages, main, lookups) {
+    match push_fitting(alloc, &mut messages, main, lookups, &[0, 1, 1, 1]) {
         Ok(()) => Some(messages),
         Err(_) => None,
     }
 }
 
-/// The counts of messages.
-fn show_counts<W: Write, F: Field + Debug>(
+/// The counts of messages, twice.
+fn count_twice<W: Write, F: Field + Debug>(
     alloc: Global,
     out: &mut W,
     messages: &[SentMessage<F>],
 ) {
-    show(out, "key_counts", key_counts(alloc, messages));
-    state(out, "input of", "key_counts", &messages);
+    for _ in 0..2 {
+        show(out, "key_counts", key_counts(alloc, messages));
+        state(out, "input of", "key_counts", &messages);
+    }
 }
 
-/// Appends the messages of a trace twice, between them those of one that is refused, and counts those of the first.
-fn on_traces<W: Write, F: Field + Debug>(
-    alloc: Global,
-    out: &mut W,
-    lookups: &[Lookup<F>],
-    main: &RowMajorMatrix<F>,
-    unlawful: &RowMajorMatrix<F>,
-) -> Option<()> {
-    let mut messages = Vec::new(alloc);
-    show_pushed(alloc, out, &mut messages, main, lookups);
-    show_pushed(alloc, out, &mut messages, unlawful, lookups);
-    show_pushed(alloc, out, &mut messages, main, lookups);
-    drop(messages);
-    let counted = messages_of(alloc, main, lookups)?;
-    show_counts(alloc, out, counted.as_slice());
-    show_counts(alloc, out, counted.as_slice());
-    Some(())
-}
-
+/// The messages of a trace that is accepted, and of one that is refused.
 pub fn messages<W: Write>(alloc: Global, out: &mut W) -> Option<()> {
     let lookups: Vec<Lookup<F7>> = lookups_of(alloc, LOOKUPS)?;
+    let lookups = lookups.as_slice();
     let main = trace(alloc, &BALANCED, 3)?;
     let unlawful = trace(alloc, &UNLAWFUL, 3)?;
-    on_traces(alloc, out, lookups.as_slice(), &main, &unlawful)
+    push_twice(alloc, out, &main, lookups);
+    push_twice(alloc, out, &unlawful, lookups);
+    let counted = messages_of(alloc, &main, lookups)?;
+    count_twice(alloc, out, counted.as_slice());
+    Some(())
 }

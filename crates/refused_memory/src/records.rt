@@ -1,10 +1,9 @@
 //! Calls of recorders, of records, of counts and of indexed declarations.
+use crate::builders::assert_ext_cell;
 use crate::each_record::EachRecord;
 use crate::inputs::{cell, layout};
 use crate::show::{show, show_or_no_input, state};
-use air::{
-    AirBuilder, AirError, AirLayout, Expression, ExtensionBuilder, SymbolicExpression, current_cell,
-};
+use air::{AirBuilder, AirLayout, Expression, SymbolicExpression};
 use field::Field;
 use lookup::{
     Count, IndexedLookupError, IndexedLookups, IndexedRead, IndexedTable,
@@ -98,16 +97,10 @@ fn counts<W: Write, F: Field + Debug>(
     show_or_no_input(out, "negate", negated);
 }
 
-/// Asserts a cell over the extension.
-fn assert_ext<AB: ExtensionBuilder>(alloc: Global, builder: &mut AB) -> Result<(), AirError> {
-    let x = current_cell(alloc, &*builder, 3, 0)?;
-    builder.assert_zero_ext(alloc, AB::lift(x))
-}
-
 /// A recorder of an AIR with one more assertion.
 fn filled_recorder<F: Field>(alloc: Global) -> Option<Recorder<F>> {
     let mut builder = Recorder::<F>::from_air(alloc, &EachRecord, layout()).ok()?;
-    let answer = assert_ext(alloc, &mut builder);
+    let answer = assert_ext_cell(alloc, &mut builder);
     if answer.is_err() {
         drop(builder);
         return None;
