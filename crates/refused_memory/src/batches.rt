@@ -184,30 +184,42 @@ fn on_witness<W: Write, F: Field + Debug>(
     Some(())
 }
 
-/// The table of these challenges for tuples of one element and two ids.
-fn table<F: Field>(alloc: Global, alpha: u32, beta: u32) -> Option<Challenges<F>> {
-    Challenges::new(alloc, F::from_u32(alpha), F::from_u32(beta), 1, 2).ok()
+/// The table of an alpha and the beta 2, for tuples of one element and two ids.
+fn table<F: Field>(alloc: Global, alpha: u32) -> Option<Challenges<F>> {
+    Challenges::new(alloc, F::from_u32(alpha), F::from_u32(2), 1, 2).ok()
 }
 
-/// Calls over two batches: one whose messages balance, and one with a fault beside its witness.
-fn on_traces<W: Write, F: Field + Debug>(
+/// Calls over a batch of two AIRs whose messages balance.
+fn on_balanced<W: Write, F: Field + Debug>(
     alloc: Global,
     out: &mut W,
     lookups: &[Lookup<F>],
     even: &RowMajorMatrix<F>,
     odd: &RowMajorMatrix<F>,
 ) -> Option<()> {
+    let at_five = table::<F>(alloc, 5)?;
     let balanced = [
         instance(lookups, even, &[0, 1, 1, 1]),
         instance(&[], odd, &[]),
     ];
+    on_witness(alloc, out, balanced.as_slice(), &at_five)
+}
+
+/// Calls over a batch whose messages don't balance, at alpha 5, or at alpha 1, where a denominator vanishes.
+fn on_unbalanced<W: Write, F: Field + Debug>(
+    alloc: Global,
+    out: &mut W,
+    lookups: &[Lookup<F>],
+    odd: &RowMajorMatrix<F>,
+    alpha: u32,
+) -> Option<()> {
+    let table = table::<F>(alloc, alpha)?;
     let unbalanced = [instance(lookups, odd, &[0, 1, 1, 1])];
-    let at_five = table::<F>(alloc, 5, 2)?;
-    on_witness(alloc, out, balanced.as_slice(), &at_five)?;
-    on_witness(alloc, out, unbalanced.as_slice(), &at_five)?;
-    let at_one = table::<F>(alloc, 1, 2)?;
-    on_batch(alloc, out, unbalanced.as_slice(), &at_one);
-    on_batch(alloc, out, unbalanced.as_slice(), &at_one);
+    if alpha == 5 {
+        return on_witness(alloc, out, unbalanced.as_slice(), &table);
+    }
+    on_batch(alloc, out, unbalanced.as_slice(), &table);
+    on_batch(alloc, out, unbalanced.as_slice(), &table);
     Some(())
 }
 
@@ -215,7 +227,9 @@ pub fn batch<W: Write>(alloc: Global, out: &mut W) -> Option<()> {
     let (even, odd) = (trace(alloc, &BALANCED, 3)?, trace(alloc, &UNBALANCED, 3)?);
     let lookups: Vec<Lookup<F7>> = lookups_of(alloc, LOOKUPS)?;
     let lookups = lookups.as_slice();
-    on_traces(alloc, out, lookups, &even, &odd)?;
+    on_balanced(alloc, out, lookups, &even, &odd)?;
+    on_unbalanced(alloc, out, lookups, &odd, 5)?;
+    on_unbalanced(alloc, out, lookups, &odd, 1)?;
     state(out, "input of", "batch", &lookups);
     state(out, "input of", "batch", &(&even, &odd));
     Some(())
@@ -292,6 +306,17 @@ pub fn text_of<F: Field>(alloc: Global, fault: &LookupFault<F>) -> Option<Result
     }
 }
 
+/// The answer to two AIRs, of which the second has no lookups.
+fn fault_of_two<F: Field>(
+    alloc: Global,
+    main: &RowMajorMatrix<F>,
+    lookups: &[Lookup<F>],
+    other: &RowMajorMatrix<F>,
+) -> Option<LookupFault<F>> {
+    let instances = [debug_instance(lookups, main), debug_instance(&[], other)];
+    check_all(alloc, instances.as_slice())
+}
+
 /// The debug check over the traces of AIRs.
 fn on_debug<W: Write, F: Field + Debug>(
     alloc: Global,
@@ -301,12 +326,10 @@ fn on_debug<W: Write, F: Field + Debug>(
     even: &RowMajorMatrix<F>,
     odd: &RowMajorMatrix<F>,
 ) {
-    let locals = [debug_instance(local, odd)];
-    let buses = [debug_instance(on_a_bus, odd), debug_instance(&[], even)];
-    let balanced = [debug_instance(on_a_bus, even)];
-    show(out, "check_lookups", check_all(alloc, locals.as_slice()));
-    show(out, "check_lookups", check_all(alloc, buses.as_slice()));
-    show(out, "check_lookups", check_all(alloc, balanced.as_slice()));
+    let call = "check_lookups";
+    show(out, call, fault_of(alloc, odd, local));
+    show(out, call, fault_of_two(alloc, odd, on_a_bus, even));
+    show(out, call, fault_of(alloc, even, on_a_bus));
     state(out, "input of", "debug", &(even, odd));
     state(out, "input of", "debug", &(local, on_a_bus));
 }

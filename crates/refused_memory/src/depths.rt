@@ -234,6 +234,13 @@ fn on_lookup<W: Write>(
     Some(())
 }
 
+/// Takes the expressions of a tuple apart.
+fn take_tuple_apart<F: Field>(tuple: Vec<SymbolicExpression<F>>, form: &str, depth: usize) {
+    for tree in tuple {
+        take_apart(tree, form, depth);
+    }
+}
+
 /// Makes a call on the lookup of an expression, and takes it apart.
 fn deep_in_lookup<W: Write>(
     alloc: Global,
@@ -247,9 +254,7 @@ fn deep_in_lookup<W: Write>(
     let answer = on_lookup(alloc, out, call, lookups.as_slice());
     let [lookup] = lookups;
     for tuple in lookup.elements {
-        for tree in tuple {
-            take_apart(tree, form, depth);
-        }
+        take_tuple_apart(tuple, form, depth);
     }
     answer
 }
