@@ -140,8 +140,16 @@ fn on_batch<W: Write, F: Field + Debug>(
         );
     }
     show(out, "soundness_count", count_lawful(alloc, instances));
-    show(out, "generate_batch", generate_fitting(alloc, instances, table));
-    show(out, "some_witness", some_fitting_witness(alloc, instances, table));
+    show(
+        out,
+        "generate_batch",
+        generate_fitting(alloc, instances, table),
+    );
+    show(
+        out,
+        "some_witness",
+        some_fitting_witness(alloc, instances, table),
+    );
     show(out, "instances_fit", instances_fit(instances));
     for before in instances {
         let after = instance(before.lookups, before.main, before.ids);
@@ -159,12 +167,7 @@ pub fn check_alone<F: Field>(
     let (five, two) = (F::from_u32(5), F::from_u32(2));
     let table = Challenges::new(alloc, five, two, 1, 1).ok()?;
     let witness = generate_fitting(alloc, instances.as_slice(), &table).ok()?;
-    Some(check_fitting(
-        alloc,
-        instances.as_slice(),
-        &table,
-        &witness,
-    ))
+    Some(check_fitting(alloc, instances.as_slice(), &table, &witness))
 }
 
 /// The calls that make and that check the witness of a batch, at a table at which it is accepted or not.
@@ -299,7 +302,10 @@ pub fn fault_of<F: Field>(
 }
 
 /// The text of a mismatch, and none for want of memory.
-pub fn text_of<F: Field>(alloc: Global, fault: &LookupFault<F>) -> Option<Result<String, AllocError>> {
+pub fn text_of<F: Field>(
+    alloc: Global,
+    fault: &LookupFault<F>,
+) -> Option<Result<String, AllocError>> {
     match fault {
         LookupFault::Mismatch { .. } => Some(fault.text(alloc)),
         LookupFault::Memory => None,

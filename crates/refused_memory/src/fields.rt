@@ -5,7 +5,7 @@ ghost use Rattle.field.specs.IntegersModulo7.{f7_ring};
 use crate::show::{show, state};
 use crate::trees::nodes;
 use field::{
-    BabyBear, BabyBear4, F2, F7, InverseCount, batch_multiplicative_inverse,
+    BabyBear, BabyBear4, F2, F7, Field, InverseCount, batch_multiplicative_inverse,
     batch_multiplicative_inverse_into, powers,
 };
 use std::alloc::Global;

@@ -68,7 +68,10 @@ fn show_generated<W: Write, F: Field, EF: ExtensionField<F> + Debug>(
 }
 
 /// One row so many times.
-fn repeated_row<F: PrimeCharacteristicRing>(alloc: Global, rows: usize) -> Option<RowMajorMatrix<F>> {
+fn repeated_row<F: PrimeCharacteristicRing>(
+    alloc: Global,
+    rows: usize,
+) -> Option<RowMajorMatrix<F>> {
     let mut numbers = Vec::new(alloc);
     for _ in 0..rows {
         numbers.extend_from_slice(&[3u32, 4, 1]).ok()?;

@@ -43,7 +43,10 @@ pub const UNBALANCED: [u32; 6] = [3, 4, 1, 4, 6, 1];
 pub const UNLAWFUL: [u32; 3] = [3, 4, 2];
 
 /// The lookups of a text.
-pub fn lookups_of<F: DeserializeOwned>(alloc: Global, text: &'static str) -> Option<Vec<Lookup<F>>> {
+pub fn lookups_of<F: DeserializeOwned>(
+    alloc: Global,
+    text: &'static str,
+) -> Option<Vec<Lookup<F>>> {
     read(alloc, text)
 }
 

@@ -71,7 +71,10 @@ fn pack_by<F: Field, D: Fn(&Lookup<F>) -> Result<usize, LookupError>>(
 }
 
 /// What packing makes of a copy, by the gadget's degree.
-fn pack_by_gadget<F: Field>(alloc: Global, set: &Lookups<F>) -> Option<Result<Lookups<F>, LookupError>> {
+fn pack_by_gadget<F: Field>(
+    alloc: Global,
+    set: &Lookups<F>,
+) -> Option<Result<Lookups<F>, LookupError>> {
     let copy = set.copy(alloc).ok()?;
     Some(copy.pack_same_bus(alloc, &LogUpGadget::new(), 16))
 }
