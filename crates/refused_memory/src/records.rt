@@ -1,0 +1,219 @@
+//! Calls of recorders, of records, of counts and of indexed declarations.
+use crate::builders::assert_ext_cell;
+use crate::each_record::EachRecord;
+use crate::inputs::{cell, layout};
+use crate::show::{show, show_or_no_input, state};
+use air::{AirBuilder, AirLayout, Expression, SymbolicExpression};
+use field::Field;
+use lookup::{
+    Count, IndexedLookupError, IndexedLookups, IndexedRead, IndexedTable,
+    InteractionSymbolicBuilder, TraceWindow,
+};
+use lookup_indexed::check_declarations;
+use std::alloc::Global;
+use std::fmt::Debug;
+use std::io::Write;
+
+type Recorder<F> = InteractionSymbolicBuilder<F, F>;
+
+/// A layout of too few columns for the AIR.
+fn narrow() -> AirLayout {
+    AirLayout {
+        main_width: 2,
+        ..layout()
+    }
+}
+
+/// Calls that make a recorder.
+fn make_recorders<W: Write, F: Field + Debug>(alloc: Global, out: &mut W) {
+    show(
+        out,
+        "InteractionSymbolicBuilder::new",
+        Recorder::<F>::new(alloc, layout()),
+    );
+    show(
+        out,
+        "InteractionSymbolicBuilder::from_air",
+        Recorder::<F>::from_air(alloc, &EachRecord, layout()),
+    );
+    show(
+        out,
+        "InteractionSymbolicBuilder::from_air, narrow",
+        Recorder::<F>::from_air(alloc, &EachRecord, narrow()),
+    );
+}
+
+/// Calls that read a recorder.
+fn read_recorder<W: Write, F: Field + Debug>(alloc: Global, out: &mut W, builder: &Recorder<F>) {
+    show(out, "base_constraints", builder.base_constraints(alloc));
+    show(
+        out,
+        "extension_constraints",
+        builder.extension_constraints(alloc),
+    );
+    show(out, "constraint_layout", builder.constraint_layout(alloc));
+    show(out, "main of a recorder", builder.main(alloc));
+}
+
+/// Copies of the records.
+fn copy_records<W: Write, F: Field + Debug>(alloc: Global, out: &mut W, builder: &Recorder<F>) {
+    for record in builder.global_interactions() {
+        show(out, "copy of an interaction", record.copy(alloc));
+    }
+    for record in builder.local_interactions() {
+        show(out, "copy of a local interaction", record.copy(alloc));
+    }
+    for record in builder.exclusive_interactions() {
+        show(out, "copy of a group", record.copy(alloc));
+        for branch in &record.branches {
+            show(out, "copy of a branch", branch.copy(alloc));
+        }
+    }
+}
+
+/// Copies of the declarations.
+fn copy_declarations<W: Write, F: Field>(alloc: Global, out: &mut W, builder: &Recorder<F>) {
+    for read in builder.indexed_reads() {
+        show(out, "copy of a read", read.copy(alloc));
+    }
+    for table in builder.indexed_tables() {
+        show(out, "copy of a table", table.copy(alloc));
+    }
+}
+
+/// A count of weight 3, the negative of a cell.
+fn negative<F: Field>(alloc: Global) -> Option<Count<SymbolicExpression<F>>> {
+    Some(Count::bounded(cell(2).neg(alloc).ok()?, 3))
+}
+
+/// Calls of counts.
+fn counts<W: Write, F: Field + Debug>(
+    alloc: Global,
+    out: &mut W,
+    of: &Count<SymbolicExpression<F>>,
+) {
+    show(out, "copy of a count", of.copy(alloc));
+    let negated = negative::<F>(alloc).map(|count| count.negate(alloc));
+    show_or_no_input(out, "negate", negated);
+}
+
+/// A recorder of an AIR with one more assertion.
+fn filled_recorder<F: Field>(alloc: Global) -> Option<Recorder<F>> {
+    let mut builder = Recorder::<F>::from_air(alloc, &EachRecord, layout()).ok()?;
+    let answer = assert_ext_cell(alloc, &mut builder);
+    if answer.is_err() {
+        drop(builder);
+        return None;
+    }
+    Some(builder)
+}
+
+/// Calls on a recorder.
+fn on_recorder<W: Write, F: Field + Debug>(alloc: Global, out: &mut W, builder: &Recorder<F>) {
+    make_recorders::<W, F>(alloc, out);
+    read_recorder(alloc, out, builder);
+    copy_records(alloc, out, builder);
+    copy_declarations(alloc, out, builder);
+    state(out, "input of", "records", builder);
+}
+
+pub fn records<W: Write, F: Field + Debug>(alloc: Global, out: &mut W) -> Option<()> {
+    let three = negative::<F>(alloc)?;
+    counts(alloc, out, &three);
+    counts(alloc, out, &three);
+    let builder = filled_recorder::<F>(alloc)?;
+    on_recorder(alloc, out, &builder);
+    on_recorder(alloc, out, &builder);
+    drop(builder);
+    Some(())
+}
+
+/// A reader of columns.
+fn reader(alloc: Global, position: usize, payload: &[usize]) -> Option<Vec<IndexedRead>> {
+    let read = IndexedRead {
+        table: String::from_str(alloc, "table").ok()?,
+        position,
+        payload: Vec::from_slice(alloc, payload).ok()?,
+    };
+    Vec::from_array(alloc, [read]).ok()
+}
+
+/// A table of columns.
+fn table(alloc: Global, columns: &[usize]) -> Option<Vec<IndexedTable>> {
+    let table = IndexedTable {
+        name: String::from_str(alloc, "table").ok()?,
+        window: TraceWindow::Main,
+        columns: Vec::from_slice(alloc, columns).ok()?,
+    };
+    Vec::from_array(alloc, [table]).ok()
+}
+
+/// The check of a reader and a table. None if they can't be made.
+fn check_lists(
+    alloc: Global,
+    position: usize,
+    payload: &[usize],
+    columns: &[usize],
+) -> Option<Result<(), IndexedLookupError>> {
+    let (reads, tables) = (reader(alloc, position, payload)?, table(alloc, columns)?);
+    Some(check_declarations(alloc, reads.as_slice(), tables.as_slice(), &layout()))
+}
+
+/// The set of a reader and a table. None if they can't be made.
+fn build_set(
+    alloc: Global,
+    position: usize,
+    payload: &[usize],
+    columns: &[usize],
+) -> Option<Result<IndexedLookups, IndexedLookupError>> {
+    let (reads, tables) = (reader(alloc, position, payload)?, table(alloc, columns)?);
+    Some(IndexedLookups::new(alloc, reads, tables, &layout()))
+}
+
+/// Both calls.
+fn declare<W: Write>(
+    alloc: Global,
+    out: &mut W,
+    position: usize,
+    payload: &[usize],
+    columns: &[usize],
+) {
+    let answer = check_lists(alloc, position, payload, columns);
+    show_or_no_input(out, "check_declarations", answer);
+    let answer = build_set(alloc, position, payload, columns);
+    show_or_no_input(out, "IndexedLookups::new", answer);
+}
+
+/// A set that is accepted, and one with each fault.
+fn declare_all<W: Write>(alloc: Global, out: &mut W) {
+    declare(alloc, out, 0, &[1, 2], &[1]);
+    declare(alloc, out, 9, &[1], &[1]);
+    declare(alloc, out, 0, &[], &[1]);
+    declare(alloc, out, 0, &[1, 1], &[1]);
+    declare(alloc, out, 0, &[1], &[]);
+    declare(alloc, out, 0, &[1], &[9]);
+}
+
+/// Calls of sets of declarations.
+fn on_declarations<W: Write, F: Field>(alloc: Global, out: &mut W, accepted: &IndexedLookups) {
+    show(
+        out,
+        "IndexedLookups::from_air",
+        IndexedLookups::from_air::<F, F, EachRecord>(alloc, &EachRecord),
+    );
+    show(out, "copy of indexed lookups", accepted.copy(alloc));
+    declare_all(alloc, out);
+    state(out, "input of", "declarations", accepted);
+}
+
+/// The declarations of the AIR.
+pub fn indexed<F: Field>(alloc: Global) -> Option<IndexedLookups> {
+    IndexedLookups::from_air::<F, F, EachRecord>(alloc, &EachRecord).ok()
+}
+
+pub fn declarations<W: Write, F: Field>(alloc: Global, out: &mut W) -> Option<()> {
+    let accepted = indexed::<F>(alloc)?;
+    on_declarations::<W, F>(alloc, out, &accepted);
+    on_declarations::<W, F>(alloc, out, &accepted);
+    Some(())
+}

@@ -1,0 +1,144 @@
+//! Calls of expressions.
+use crate::inputs::{TREES, builder, layout, read};
+use crate::layouts::layout_of;
+use crate::show::{show, show_or_no_input, state};
+use air::{
+    AirError, Expression, ExtLeaf, PermutationAirBuilder, SymbolicExpression,
+    SymbolicExpressionExt, copy_expressions, resolve_over,
+};
+use field::{F7, Field};
+use std::alloc::{AllocError, Global};
+use std::fmt::Debug;
+use std::io::Write;
+
+/// A copy of the negative of 1.
+fn copy_negative<F: Field, E: Expression<F>>(alloc: Global) -> Option<Result<E, AllocError>> {
+    let one: E = E::constant(F::ONE);
+    let tree = one.neg(alloc).ok()?;
+    Some(tree.copy(alloc))
+}
+
+/// The building calls of a kind of expressions, by these names, and a copy.
+pub fn nodes<W: Write, F: Field, E: Expression<F> + Debug>(
+    alloc: Global,
+    out: &mut W,
+    names: &[&str; 5],
+) {
+    let (one, other): (E, E) = (E::constant(F::ONE), E::constant(F::ONE));
+    show(out, names[0], one.add(alloc, other));
+    let (one, other): (E, E) = (E::constant(F::ONE), E::constant(F::ONE));
+    show(out, names[1], one.sub(alloc, other));
+    let (one, other): (E, E) = (E::constant(F::ONE), E::constant(F::ONE));
+    show(out, names[2], one.mul(alloc, other));
+    let one: E = E::constant(F::ONE);
+    show(out, names[3], one.neg(alloc));
+    show_or_no_input(out, names[4], copy_negative::<F, E>(alloc));
+}
+
+const OF_TREES: [&str; 5] = ["add", "sub", "mul", "neg", "copy"];
+
+const OF_EXT_TREES: [&str; 5] = ["add, ext", "sub, ext", "mul, ext", "neg, ext", "copy, ext"];
+
+/// A copy of a leaf that holds a base expression.
+fn copy_leaf<F: Field>(alloc: Global) -> Option<Result<ExtLeaf<F, F>, AllocError>> {
+    let one: SymbolicExpression<F> = SymbolicExpression::constant(F::ONE);
+    let leaf = ExtLeaf::Base(one.neg(alloc).ok()?);
+    Some(leaf.copy(alloc))
+}
+
+/// Calls on one expression.
+fn on_tree<W: Write, F: Field + Debug>(alloc: Global, out: &mut W, tree: &SymbolicExpression<F>) {
+    show(out, "copy of a tree", tree.copy(alloc));
+    show(out, "degree_multiple", tree.degree_multiple());
+    let degree = tree.degree_multiple_with_transition(2);
+    show(out, "degree_multiple_with_transition", degree);
+    show(out, "fits", tree.fits(&layout()));
+}
+
+/// Both degrees of an expression over the extension, which take no memory.
+fn degrees_of_ext<W: Write, F: Field>(out: &mut W) {
+    let one: SymbolicExpressionExt<F, F> = Expression::constant(F::ONE);
+    show(out, "degree_multiple, ext", one.degree_multiple());
+    let degree = one.degree_multiple_with_transition(2);
+    show(out, "degree_multiple_with_transition, ext", degree);
+}
+
+/// Resolves an expression that fits the layout of a builder.
+pub fn resolve<AB: PermutationAirBuilder>(
+    alloc: Global,
+    builder: &AB,
+    tree: &SymbolicExpression<AB::F>,
+) -> Result<AB::Expr, AirError> {
+    let layout = layout_of(alloc, builder)?;
+    if !tree.fits(&layout) {
+        return Err(AirError::DegreeOverflow);
+    }
+    tree.resolve(alloc, builder)
+}
+
+/// The same over a window of its own.
+fn resolve_over_main<AB: PermutationAirBuilder>(
+    alloc: Global,
+    builder: &AB,
+    tree: &SymbolicExpression<AB::F>,
+) -> Result<AB::Expr, AirError> {
+    let layout = layout_of(alloc, builder)?;
+    if !tree.fits(&layout) {
+        return Err(AirError::DegreeOverflow);
+    }
+    let main = builder.main(alloc)?;
+    Ok(resolve_over(alloc, tree, builder, &main)?)
+}
+
+/// Calls that resolve an expression.
+fn show_resolved<W: Write, AB: PermutationAirBuilder>(
+    alloc: Global,
+    out: &mut W,
+    builder: &AB,
+    tree: &SymbolicExpression<AB::F>,
+)
+where
+    AB::Expr: Debug,
+{
+    show(out, "resolve", resolve(alloc, builder, tree));
+    show(out, "resolve_over", resolve_over_main(alloc, builder, tree));
+}
+
+/// Calls on expressions and on a builder.
+fn on_trees<W: Write, F: Field + Debug>(
+    alloc: Global,
+    out: &mut W,
+    trees: &[SymbolicExpression<F>],
+) -> Option<()> {
+    let builder = builder::<F>(alloc)?;
+    for tree in trees {
+        on_tree(alloc, out, tree);
+        show_resolved(alloc, out, &builder, tree);
+    }
+    drop(builder);
+    Some(())
+}
+
+/// Calls without a builder.
+fn without_builder<W: Write, F: Field + Debug>(
+    alloc: Global,
+    out: &mut W,
+    trees: &[SymbolicExpression<F>],
+) {
+    nodes::<W, F, SymbolicExpression<F>>(alloc, out, &OF_TREES);
+    nodes::<W, F, SymbolicExpressionExt<F, F>>(alloc, out, &OF_EXT_TREES);
+    show_or_no_input(out, "copy of a leaf", copy_leaf::<F>(alloc));
+    degrees_of_ext::<W, F>(out);
+    show(out, "copy_expressions", copy_expressions(alloc, trees));
+    state(out, "input of", "expressions", &trees);
+}
+
+pub fn expressions<W: Write>(alloc: Global, out: &mut W) -> Option<()> {
+    let trees: Vec<SymbolicExpression<F7>> = read(alloc, TREES)?;
+    let trees = trees.as_slice();
+    for _ in 0..2 {
+        without_builder(alloc, out, trees);
+        on_trees(alloc, out, trees)?;
+    }
+    Some(())
+}
