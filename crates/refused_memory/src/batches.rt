@@ -2,7 +2,7 @@
 ghost use Rattle.std.specs.Prelude.{◌≡◌, ◌↔◌, ◌<◌, All, IsTrue, length};
 ghost use Rattle.std.specs.Option.{ForSome, option_copied};
 ghost use Rattle.expressions.specs.Layout.{layout_of_traces};
-ghost use Rattle.lookup_model.specs.Records.{DoFit};
+ghost use Rattle.lookup_model.specs.Records.{LookupsFit};
 ghost use Rattle.matrix.specs.Matrix.{height};
 
 use crate::inputs::{BALANCED, LOCAL, LOOKUPS, ON_A_BUS, UNBALANCED, lookups_of, trace};
@@ -239,7 +239,7 @@ pub fn batch<W: Write>(alloc: Global, out: &mut W) -> Option<()> {
 }
 
 fn has_fitting_lookups<F: Field>(instance: &LookupDebugInstance<'_, F>) -> bool
-    ensures { IsTrue result ↔ DoFit (layout_of_traces instance.now.main_trace.now
+    ensures { IsTrue result ↔ LookupsFit (layout_of_traces instance.now.main_trace.now
         (option_copied instance.now.preprocessed_trace) instance.now.public_values.now)
         instance.now.lookups.now }
 {

@@ -1,6 +1,6 @@
 //! The widths that builders work with, by which the conditions of calls are tested.
 ghost use Rattle.std.specs.Prelude.{◌≡◌, ◌*◌, ◌<◌, ◌≤◌, IfOk, IsTrue, length};
-ghost use Rattle.lookup_model.specs.Records.{DoFit};
+ghost use Rattle.lookup_model.specs.Records.{LookupsFit};
 
 use air::{AirError, AirLayout, PermutationAirBuilder};
 use lookup::{Lookup, fits};
@@ -28,7 +28,7 @@ pub fn layout_of<AB: PermutationAirBuilder>(
 
 /// Whether a builder of these widths has room for lookups.
 pub fn has_room<F>(lookups: &[Lookup<F>], layout: &AirLayout) -> bool
-    ensures fit { IsTrue result → DoFit layout.now lookups.now }
+    ensures fit { IsTrue result → LookupsFit layout.now lookups.now }
     ensures challenges { IsTrue result
         → 2 * length lookups.now ≤ layout.now.num_permutation_challenges }
     ensures cells { IsTrue result → length lookups.now < layout.now.permutation_width }
