@@ -1,5 +1,5 @@
 -- Why there is no plan of a memory check.
-use Rattle.std.proofs.Common.{◌≡◌, ◌≤◌, ◌⊎◌, inl, inr, ℕ, List, [], ◌∷◌, Result, Ok, Err, IfErr, MatchResult, Unit, sym, ap, subst, ◌∙◌, arith}
+use Rattle.std.proofs.Common.{◌≡◌, ◌≤◌, ◌⊎◌, inl, inr, ℕ, List, [], ◌∷◌, Result, Ok, Err, IfErr, MatchResult, sym, ap, subst, ◌∙◌, arith}
 use Rattle.air.specs.Cell.{IsCellsRefusal}
 use Rattle.expressions.specs.declared.base_expression.SymbolicExpression.{SymbolicExpression}
 use Rattle.expressions.specs.declared.error.AirError.{AirError}
@@ -11,6 +11,7 @@ use Rattle.lookup_model.specs.declared.error.LookupError.{LookupError}
 use Rattle.lookup_record.specs.RecordedAir.{EvaluatesNew, no_air_recorded, recorded_air, with_interaction, with_interaction-layout}
 use Rattle.lookup_record.specs.declared.symbolic.InteractionSymbolicBuilder.{InteractionSymbolicBuilder}
 use Rattle.lookup.specs.Extraction.{Extracts, IsLocalRefusal}
+use Rattle.lookup.specs.TupleWidths.{IsTupleWidths}
 use Rattle.lookup.specs.declared.lookups.Lookups.{Lookups}
 use Rattle.batch.specs.Checks.{IsPlanRefusal}
 use Rattle.batch.specs.Refusals.{of_lookup}
@@ -18,6 +19,11 @@ use Rattle.batch.specs.declared.error.BatchError.{BatchError}
 use Rattle.batch.specs.declared.error.BatchError.TheVariants.{Lookup as OfLookup, Memory}
 use Rattle.memory_check.specs.Memory.{SetsFit, IsLookupsRefusal, IsMemoryPlanRefusal}
 use Rattle.memory_check.specs.Pushes.{AcceptedAll, IsRefusedAfter}
+
+-- the refusal of a local lookup is passed on
+passed_on : {F : Type 0} (tuples : List (Tuple (SymbolicExpression F))) (e : LookupError) → IsLocalRefusal tuples e → of_lookup e ≡ OfLookup e
+passed_on tuples e (inl (heavy, is)) = ap of_lookup is ∙ ap (λ x. OfLookup x) (sym is)
+passed_on tuples e (inr (light, (width, other, differ, is))) = ap of_lookup is.error_is ∙ ap (λ x. OfLookup x) (sym is.error_is)
 
 module _ {F EF : Type 0} where
   -- the ghost members of a builder that records
@@ -52,11 +58,6 @@ module _ {F EF : Type 0} where
         by (inl (same, inr (inr narrow))) = absurd (omega (arith, narrow.0, same_width, wide))
         by (inr (m, h)) = h.1
 
-  -- the refusal of a local lookup is passed on
-  passed_on : (tuples : List (Tuple (SymbolicExpression F))) (e : LookupError) → IsLocalRefusal tuples e → of_lookup e ≡ OfLookup e
-  passed_on tuples e (inl (heavy, is)) = ap of_lookup is ∙ ap (λ x. OfLookup x) (sym is)
-  passed_on tuples e (inr (light, width, other, differ, is)) = ap of_lookup is.error_is ∙ ap (λ x. OfLookup x) (sym is.error_is)
-
   module _ {A : Type 0} (evaluates : A → InteractionSymbolicBuilder F EF → Result (Unit {0}) AirError → InteractionSymbolicBuilder F EF → Type 0) (air : A) (layout : AirLayout)
       (alone : (before after : InteractionSymbolicBuilder F EF) (e : AirError) → recorded_air before ≡ no_air_recorded layout → evaluates air before (Err e) after → e ≡ of_air.Memory) where
     in_new_builder : (e : AirError) → EvaluatesNew evaluates air layout (Err e) → e ≡ of_air.Memory
@@ -70,8 +71,8 @@ module _ {F EF : Type 0} where
     lookups_refused e (inr (inr (b, evaluated, first))) = inr (e, (recorded_air b).locals, first, passed_on first.tuples e first.refusal)
 
 -- the refusal of a plan of lookups that fit
-pub plan_refused : {F P : Type 0} {A : P → Type 0} (p : ℕ) (airs : List (Lookups F)) (heights given : List ℕ) (result : Result P BatchError) → heights ≡ given → SetsFit airs
+pub plan_refused : {F P : Type 0} (A : P → Type 0) (p : ℕ) (airs : List (Lookups F)) (heights given : List ℕ) (result : Result P BatchError) → heights ≡ given → SetsFit airs
     → MatchResult result A (λ e. (e ≡ Memory) ⊎ IsPlanRefusal p airs heights e) → IfErr result (IsMemoryPlanRefusal F p given)
-plan_refused p airs heights given (Ok plan) is fit answered = tt
-plan_refused p airs heights given (Err e) is fit (inl memory) = inl (inl memory)
-plan_refused p airs heights given (Err e) is fit (inr refusal) = inr (airs, fit, subst (λ (hs : List ℕ). IsPlanRefusal p airs hs e) is refusal)
+plan_refused A p airs heights given (Ok plan) is fit answered = tt
+plan_refused A p airs heights given (Err e) is fit (inl memory) = inl (inl memory)
+plan_refused A p airs heights given (Err e) is fit (inr refusal) = inr (airs, fit, subst (λ (hs : List ℕ). IsPlanRefusal p airs hs e) is refusal)

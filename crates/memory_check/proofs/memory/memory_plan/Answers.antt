@@ -10,4 +10,4 @@ returns-in_err-lookups-clause-refused g c =
 
 pub returns-clause-refused : goal.returns-clause-refused
 returns-clause-refused g c =
-    plan_refused g.F.PrimeCharacteristicRing.CHARACTERISTIC c.in_ok-lookups.lookups.items c.in_ok-heights.heights.items _ c.new.result c.in_ok-heights.ensures.items c.in_ok-lookups.ensures.fit c.new.ensures
+    plan_refused _ g.F.PrimeCharacteristicRing.CHARACTERISTIC c.in_ok-lookups.lookups.items c.in_ok-heights.heights.items _ c.new.result c.in_ok-heights.ensures.items c.in_ok-lookups.ensures.fit c.new.ensures
