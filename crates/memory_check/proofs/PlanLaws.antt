@@ -67,7 +67,7 @@ IsRefusedNew F EF columns layout e =
 module _ {F EF : Type 0} (columns : ℕ) (layout : AirLayout) (wide : columns ≤ layout.main_width) where
   in_new_builder : (e : AirError) → IsRefusedNew F EF columns layout e → e ≡ of_air.Memory
   in_new_builder e (inl memory) = memory
-  in_new_builder e (inr (before, (after, (new, refused)))) = memory_alone columns layout before after e new wide refused
+  in_new_builder e (inr (before, after, new, refused)) = memory_alone columns layout before after e new wide refused
 
   -- the refusal of the lookups of such an AIR
   pub lookups_refused : (Left : InteractionSymbolicBuilder F EF → Type 0) (e : LookupError)
