@@ -8,10 +8,10 @@ use Rattle.expressions.specs.declared.layout.AirLayout.{AirLayout}
 use Rattle.lookup_record.specs.Interaction.{Interaction, Tuple}
 use Rattle.lookup_model.specs.Refusal.{from_air}
 use Rattle.lookup_model.specs.declared.error.LookupError.{LookupError}
-use Rattle.lookup_record.specs.RecordedAir.{EvaluatesNew, no_air_recorded, recorded_air, with_interaction, with_interaction-layout}
+use Rattle.lookup_model.specs.declared.error.LookupError.TheVariants as lookup
+use Rattle.lookup_record.specs.RecordedAir.{no_air_recorded, recorded_air, with_interaction, with_interaction-layout}
 use Rattle.lookup_record.specs.declared.symbolic.InteractionSymbolicBuilder.{InteractionSymbolicBuilder}
-use Rattle.lookup.specs.Extraction.{Extracts, IsLocalRefusal}
-use Rattle.lookup.specs.TupleWidths.{IsTupleWidths}
+use Rattle.lookup.specs.Extraction.{IsFirstLocalRefusal, IsLocalRefusal}
 use Rattle.lookup.specs.declared.lookups.Lookups.{Lookups}
 use Rattle.batch.specs.Checks.{IsPlanRefusal}
 use Rattle.batch.specs.Refusals.{of_lookup}
@@ -58,17 +58,26 @@ module _ {F EF : Type 0} where
         by (inl (same, inr (inr narrow))) = absurd (omega (arith, narrow.0, same_width, wide))
         by (inr (m, h)) = h.1
 
-  module _ {A : Type 0} (evaluates : A → InteractionSymbolicBuilder F EF → Result (Unit {0}) AirError → InteractionSymbolicBuilder F EF → Type 0) (air : A) (layout : AirLayout)
-      (alone : (before after : InteractionSymbolicBuilder F EF) (e : AirError) → recorded_air before ≡ no_air_recorded layout → evaluates air before (Err e) after → e ≡ of_air.Memory) where
-    in_new_builder : (e : AirError) → EvaluatesNew evaluates air layout (Err e) → e ≡ of_air.Memory
-    in_new_builder e (inl memory) = memory
-    in_new_builder e (inr (before, after, new, refused)) = alone before after e new refused
+-- a refusal of an AIR that only pushes, of so many columns, in a new builder for a layout
+abbrev IsRefusedNew : (F EF : Type 0) → ℕ → AirLayout → AirError → Type 0
+IsRefusedNew F EF columns layout e =
+    (e ≡ of_air.Memory)
+    ⊎ ((before : InteractionSymbolicBuilder F EF) × (after : InteractionSymbolicBuilder F EF) × (recorded_air before ≡ no_air_recorded layout) × IsRefusedAfter pushes refuses window_refuses layout_of columns before e after)
 
-    -- the refusal of the lookups of an AIR that is refused for want of memory alone
-    pub lookups_refused : (e : LookupError) → Extracts evaluates air layout (Err e) → IsLookupsRefusal F (of_lookup e)
-    lookups_refused e (inl memory) = inl (ap of_lookup memory)
-    lookups_refused e (inr (inl (refusal, evaluated, is))) = inl (ap of_lookup (is ∙ ap from_air (in_new_builder refusal evaluated)))
-    lookups_refused e (inr (inr (b, evaluated, first))) = inr (e, (recorded_air b).locals, first, passed_on first.tuples e first.refusal)
+module _ {F EF : Type 0} (columns : ℕ) (layout : AirLayout) (wide : columns ≤ layout.main_width) where
+  in_new_builder : (e : AirError) → IsRefusedNew F EF columns layout e → e ≡ of_air.Memory
+  in_new_builder e (inl memory) = memory
+  in_new_builder e (inr (before, after, new, refused)) = memory_alone columns layout before after e new wide refused
+
+  -- the refusal of the lookups of such an AIR
+  pub lookups_refused : (Left : InteractionSymbolicBuilder F EF → Type 0) (e : LookupError)
+      → (e ≡ lookup.Memory)
+      ⊎ (((refusal : AirError) × IsRefusedNew F EF columns layout refusal × (e ≡ from_air refusal))
+      ⊎ ((b : InteractionSymbolicBuilder F EF) × Left b × IsFirstLocalRefusal (recorded_air b).locals e))
+      → IsLookupsRefusal F (of_lookup e)
+  lookups_refused Left e (inl memory) = inl (ap of_lookup memory)
+  lookups_refused Left e (inr (inl (refusal, evaluated, is))) = inl (ap of_lookup (is ∙ ap from_air (in_new_builder refusal evaluated)))
+  lookups_refused Left e (inr (inr (b, left, first))) = inr (e, (recorded_air b).locals, first, passed_on first.tuples e first.refusal)
 
 -- the refusal of a plan of lookups that fit
 pub plan_refused : {F P : Type 0} (A : P → Type 0) (p : ℕ) (airs : List (Lookups F)) (heights given : List ℕ) (result : Result P BatchError) → heights ≡ given → SetsFit airs
