@@ -16,7 +16,6 @@ mod fields;
 mod generations;
 mod inputs;
 mod layouts;
-mod messages;
 mod plans;
 mod records;
 mod sets;
@@ -66,7 +65,6 @@ fn group_of_batches<W: Write>(alloc: Global, name: &str, out: &mut W) -> Option<
         "extension" => generations::ext_generation(alloc, out),
         "evaluation" => evaluations::evaluation(alloc, out),
         "batch" => batches::batch(alloc, out),
-        "messages" => messages::messages(alloc, out),
         "debug" => batches::debug(alloc, out),
         "plans" => plans::batch_plans(alloc, out),
         "memory" => plans::memory(alloc, out),
