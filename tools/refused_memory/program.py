@@ -1,4 +1,5 @@
 """The runs of `lookup_run` that cases/ lists, with each request for memory refused in turn."""
+import functools
 import os
 from importlib import machinery, util
 
@@ -8,6 +9,7 @@ TOP = os.path.dirname(os.path.dirname(HERE))
 REFUSED = (2, b"", b"error: out of memory\n")
 
 
+@functools.cache
 def cases():
     """The runs of cases/, with the status that each has to end with."""
     loader = machinery.SourceFileLoader("run_cases", f"{TOP}/tools/run-cases")
