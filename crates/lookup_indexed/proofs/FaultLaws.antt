@@ -11,7 +11,8 @@ use Rattle.std.specs.List.{Contains, list_any}
 use Rattle.std.specs.String.{string_bytes}
 use Rattle.std.specs.declared.alloc.Global.{Global}
 use Rattle.std.specs.declared.string.String.{String}
-use Rattle.lookup_indexed.specs.Faults.{AreColumns, HasFirstFault, IsColumnFault, IsFirstColumnFault, Names}
+use Rattle.expressions.specs.Faults.{SplitsAtFault}
+use Rattle.lookup_indexed.specs.Faults.{AreColumns, IsColumnFault, IsFirstColumnFault, Names}
 use Rattle.lookup_indexed.specs.declared.error.IndexedLookupError.{IndexedLookupError}
 use Rattle.lookup_indexed.specs.declared.error.IndexedLookupError.TheVariants.{Memory}
 
@@ -45,7 +46,7 @@ met_before columns column met = Contains-from_any (λ x y h. eqb-true x y h) col
 
 module _ {X Y : Type 0} (f : X → Y) (P : Y → Type 0) (xs : List X) (i : ℕ) where
   -- the first fault of a list of declarations is that of the item at a place before which there is none
-  pub first_fault : (x : X) (IsFault : List Y → Y → Type 0) → i < length xs → x ≡ get_or xs i x → All P (map f (take i xs)) → IsFault (map f (take i xs)) (f x) → HasFirstFault (All P) IsFault (map f xs)
+  pub first_fault : (x : X) (IsFault : List Y → Y → Type 0) → i < length xs → x ≡ get_or xs i x → All P (map f (take i xs)) → IsFault (map f (take i xs)) (f x) → SplitsAtFault (All P) IsFault (map f xs)
   first_fault x IsFault lt is good fault = record {
     before = map f (take i xs);
     item = f x;

@@ -1,25 +1,16 @@
 -- Faults of indexed declarations, and which of them comes first.
-use Rattle.std.specs.Prelude.{◌≡◌, ◌≢◌, ◌<◌, ◌≤◌, ◌⊎◌, ℕ, nat_eq, List, [], ◌∷◌, ◌++◌, All}
+use Rattle.std.specs.Prelude.{◌≡◌, ◌≢◌, ◌<◌, ◌≤◌, ◌⊎◌, ℕ, nat_eq, List, [], All}
 use Rattle.std.specs.List.{Contains, IsDistinct}
 use Rattle.std.specs.String.{string_bytes}
 use Rattle.std.specs.declared.alloc.Global.{Global}
 use Rattle.std.specs.declared.string.String.{String}
+use Rattle.expressions.specs.Faults.{SplitsAtFault}
 use Rattle.expressions.specs.declared.layout.AirLayout.{AirLayout}
 use Rattle.lookup_indexed.specs.Declaration.{Read, Table}
 use Rattle.lookup_indexed.specs.declared.indexed.TraceWindow.{TraceWindow}
 use Rattle.lookup_indexed.specs.declared.indexed.TraceWindow.TheVariants.{Main, Preprocessed}
 use Rattle.lookup_indexed.specs.declared.error.IndexedLookupError.{IndexedLookupError}
 use Rattle.lookup_indexed.specs.declared.error.IndexedLookupError.TheVariants.{ColumnOutOfRange, RepeatedColumn, EmptyPayload, EmptyTable}
-
--- An item of a list with a fault, where the items before it are without fault. What is a fault of an
--- item may depend on those before it.
-pub record HasFirstFault {X : Type 0} (AreGood : List X → Type 0) (IsFault : List X → X → Type 0) (xs : List X) : Type 0 where
-  pub before : List X
-  pub item : X
-  pub after : List X
-  pub split : xs ≡ before ++ item ∷ after
-  pub good : AreGood before
-  pub fault : IsFault before item
 
 -- a refusal that names a table
 pub record Names (table : List ℕ) (refusal : String Global → IndexedLookupError) (e : IndexedLookupError) : Type 0 where
@@ -41,7 +32,7 @@ IsColumnFault table width e before column =
 -- the fault of the first column that has one
 abbrev pub IsFirstColumnFault : List ℕ → ℕ → List ℕ → IndexedLookupError → Type 0
 IsFirstColumnFault table width columns e =
-    HasFirstFault (AreColumns width) (IsColumnFault table width e) columns
+    SplitsAtFault (AreColumns width) (IsColumnFault table width e) columns
 
 -- A reader's position and its columns are within the main trace, of this width; it has a column, and
 -- none twice.
@@ -75,12 +66,12 @@ IsTableFault layout e t =
 -- the fault of the first reader that has one
 abbrev pub IsFirstReadFault : ℕ → List Read → IndexedLookupError → Type 0
 IsFirstReadFault width reads e =
-    HasFirstFault (All (IsFaultlessRead width)) (λ _ r. IsReadFault width e r) reads
+    SplitsAtFault (All (IsFaultlessRead width)) (λ _ r. IsReadFault width e r) reads
 
 -- the fault of the first table that has one
 abbrev pub IsFirstTableFault : AirLayout → List Table → IndexedLookupError → Type 0
 IsFirstTableFault layout tables e =
-    HasFirstFault (All (IsFaultlessTable layout)) (λ _ t. IsTableFault layout e t) tables
+    SplitsAtFault (All (IsFaultlessTable layout)) (λ _ t. IsTableFault layout e t) tables
 
 -- no reader and no table has a fault
 pub record AreFaultless (layout : AirLayout) (reads : List Read) (tables : List Table) : Type 0 where
