@@ -228,13 +228,11 @@ module _ {F K : Type 0} (E : Extension F K) (alpha beta : K) (input : Matrix F) 
     -- or the first fault is that of the machine
     pub first_fault_is : (fault : BatchFault) → IsFirstInstanceFault E table (map instance traces) fault → IsFirstFault E machine alpha beta input (of_batch (of_fault fault))
     first_fault_is fault first =
-        let air = air_at first.place first.instance first.is_there in
+        let air = air_at first.place first.item first.is_there in
         record {
           place = first.place;
-          air = air.0;
-          error = fault.error;
+          item = air.0;
           is_there = air.1;
-          is_first = ap (λ l. slice_get l 0) air.2 ∙ first.is_first;
           before = λ i other lt there. let x = instance_at i other there in sym x.2 ∙ first.before i x.0 lt x.1;
-          error_is = ap (λ at. of_batch (refusal_at at fault.error)) first.air_is;
+          fault = (fault.error, ap (λ l. slice_get l 0) air.2 ∙ first.fault.1, ap (λ at. of_batch (refusal_at at fault.error)) first.fault.0);
         }

@@ -5,6 +5,7 @@ use Rattle.std.specs.List.{range_with_len, sum_by}
 use Rattle.std.specs.declared.alloc.Global.{Global}
 use Rattle.std.specs.declared.string.String.{String}
 use Rattle.matrix.specs.Matrix.{Matrix, height, row}
+use Rattle.expressions.specs.Faults.{HasFirstFault}
 use Rattle.batch.specs.declared.error.BatchError.TheVariants.{Air as OfAir, Lookup as OfLookup}
 use Rattle.lookup_model.specs.Batches.Witnesses.{AirResult}
 use Rattle.lookup.specs.Guards.{IsHeightRefusal}
@@ -66,14 +67,11 @@ module _ {F K : Type 0} (E : Extension F K) (machine : Machine) (alpha beta : K)
   AreFaultless = (i : ℕ) (air : MachineAir) → slice_get (airs_of machine) i ≡ Some air → air_faults E alpha beta input air ≡ []
 
   -- why there is no witness: the first fault of the first AIR that has one
-  pub record IsFirstFault (e : RunError) : Type 0 where
-    pub place : ℕ
-    pub air : MachineAir
-    pub error : LookupError
-    pub is_there : slice_get (airs_of machine) place ≡ Some air
-    pub is_first : slice_get (air_faults E alpha beta input air) 0 ≡ Some error
-    pub before : (i : ℕ) (other : MachineAir) → i < place → slice_get (airs_of machine) i ≡ Some other → air_faults E alpha beta input other ≡ []
-    pub error_is : e ≡ Batch (OfAir place error)
+  abbrev pub IsFirstFault : RunError → Type 0
+  IsFirstFault e = HasFirstFault
+      (λ air. air_faults E alpha beta input air ≡ [])
+      (λ place air. (error : LookupError) × (slice_get (air_faults E alpha beta input air) 0 ≡ Some error) × (e ≡ Batch (OfAir place error)))
+      (airs_of machine)
 
 -- a word that gives no challenge is refused
 abbrev pub IsBadChallenge : {K : Type 0} → (List ℕ → K → Type 0) → List ℕ → RunError → Type 0

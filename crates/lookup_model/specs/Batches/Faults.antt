@@ -1,5 +1,6 @@
 -- The faults that generation can meet in a batch.
-use Rattle.std.specs.Prelude.{◌≡◌, ◌≢◌, ◌<◌, ◌⊎◌, ℕ, List, [], None, Some, slice_get}
+use Rattle.std.specs.Prelude.{◌≡◌, ◌≢◌, ◌⊎◌, ℕ, List, [], None, Some, slice_get}
+use Rattle.expressions.specs.Faults.{HasFirstFault}
 use Rattle.lookup_model.specs.Challenges.{ChallengeTable, table_denominator}
 use Rattle.field.specs.Extension.{Extension}
 use Rattle.lookup_model.specs.Fault.{trace_faults}
@@ -19,6 +20,10 @@ abbrev pub IsFaultOf : ℕ → LookupError → BatchFault → Type 0
 IsFaultOf air error fault =
     (fault.error ≡ error) × (((error ≡ Memory) × IsOutOfMemory fault) ⊎ ((error ≢ Memory) × (fault.air ≡ Some air)))
 
+-- the first of the faults of the AIR at this place
+abbrev pub IsFirstOf : ℕ → List LookupError → BatchFault → Type 0
+IsFirstOf place faults fault = (fault.air ≡ Some place) × (slice_get faults 0 ≡ Some fault.error)
+
 module _ {F K : Type 0} (E : Extension F K) (table : ChallengeTable K) where
   -- the faults of an AIR, in the order of its rows and their lookups
   abbrev pub instance_faults : Instance F → List LookupError
@@ -29,10 +34,5 @@ module _ {F K : Type 0} (E : Extension F K) (table : ChallengeTable K) where
   AreFaultless instances = (i : ℕ) (instance : Instance F) → slice_get instances i ≡ Some instance → instance_faults instance ≡ []
 
   -- the first fault of the first AIR that has one
-  pub record IsFirstFault (instances : List (Instance F)) (fault : BatchFault) : Type 0 where
-    pub place : ℕ
-    pub instance : Instance F
-    pub air_is : fault.air ≡ Some place
-    pub is_there : slice_get instances place ≡ Some instance
-    pub is_first : slice_get (instance_faults instance) 0 ≡ Some fault.error
-    pub before : (i : ℕ) (other : Instance F) → i < place → slice_get instances i ≡ Some other → instance_faults other ≡ []
+  abbrev pub IsFirstFault : List (Instance F) → BatchFault → Type 0
+  IsFirstFault instances fault = HasFirstFault (λ i. instance_faults i ≡ []) (λ place i. IsFirstOf place (instance_faults i) fault) instances

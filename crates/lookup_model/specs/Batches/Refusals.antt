@@ -3,6 +3,7 @@
 use Rattle.std.specs.Prelude.{◌≡◌, ◌≢◌, ◌<◌, ◌⊎◌, ℕ, List, Some, map, slice_get}
 use Rattle.std.specs.Option.{is_some}
 use Rattle.matrix.specs.Matrix.{height}
+use Rattle.expressions.specs.Faults.{FailsFirstAt}
 use Rattle.lookup_model.specs.Challenges.{ChallengeTable, column_challenges}
 use Rattle.field.specs.Extension.{Extension}
 use Rattle.lookup_model.specs.Terminals.{terminal_sum}
@@ -33,10 +34,8 @@ module _ {F K : Type 0} (E : Extension F K) (table : ChallengeTable K) where
       HoldsOnRow E i.main i.preprocessed i.public_values i.lookups (column_challenges table i.ids) result.0 result.1 r
 
   -- row r is the first on which a constraint is not zero
-  pub record IsFirstFailing (i : Instance F) (result : AirResult K) (r : ℕ) : Type 0 where
-    pub within : r < height i.main
-    pub fails : ¬ HoldsAt i result r
-    pub before : (s : ℕ) → s < r → HoldsAt i result s
+  abbrev pub IsFirstFailing : Instance F → AirResult K → ℕ → Type 0
+  IsFirstFailing i result r = FailsFirstAt (HoldsAt i result) (height i.main) r
 
   -- the refusal of one AIR's result: for its shape, else at the first row where a constraint fails
   abbrev pub IsAirRefusal : ℕ → Instance F → AirResult K → LookupError → Type 0

@@ -22,11 +22,10 @@ returns-in-Err g c =
         | inl memory ↦ absurd (other.0 memory)
         | inr fault ↦ inr (record {
           place = c.loop-air.air;
-          instance = instance_of instance;
-          air_is = other.1;
+          item = instance_of instance;
           is_there = here;
-          is_first = fault ∙ ap Some (sym c.of_air.ensures.0);
           before = c.loop-air.invariant.faultless;
+          fault = (other.1, fault ∙ ap Some (sym c.of_air.ensures.0));
         })
       ]
     ]
