@@ -55,20 +55,20 @@ module _ {F : Type 0} (R : Ring F) (eq : F → F → Bool) where
     pub mismatch-here : (label : List ℕ) (cs : List (Contribution F)) (fault : _) → IsMismatchOf R eq text label cs fault → IsFirstMismatch R eq text (record { label = label; contributions = cs } ∷ []) fault
     mismatch-here label cs fault is = record {
       place = 0;
-      group = record { label = label; contributions = cs };
-      there = refl;
+      item = record { label = label; contributions = cs };
+      is_there = refl;
       before = λ i other lt. absurd (omega (arith, lt));
-      mismatch = is;
+      fault = is;
     }
 
     -- it is the first whatever groups come after
     pub mismatch-sooner : (gs hs : List (Group F)) (fault : _) → IsFirstMismatch R eq text gs fault → IsFirstMismatch R eq text (gs ++ hs) fault
     mismatch-sooner gs hs fault is = record {
       place = is.place;
-      group = is.group;
-      there = longer gs is.place is.group is.there;
-      before = λ i other lt there. is.before i other lt (shorter gs is.place is.group i other is.there lt there);
-      mismatch = is.mismatch;
+      item = is.item;
+      is_there = longer gs is.place is.item is.is_there;
+      before = λ i other lt there. is.before i other lt (shorter gs is.place is.item i other is.is_there lt there);
+      fault = is.fault;
     }
       where
         longer : (gs : List (Group F)) (i : ℕ) (group : Group F) → slice_get gs i ≡ Some group → slice_get (gs ++ hs) i ≡ Some group
@@ -89,10 +89,10 @@ module _ {F : Type 0} (R : Ring F) (eq : F → F → Bool) where
         let rest = mismatch-later gs hs fault (balance-tail g gs each) is in
         record {
           place = suc rest.place;
-          group = rest.group;
-          there = rest.there;
+          item = rest.item;
+          is_there = rest.is_there;
           before = by_place (balance-head g gs each) rest;
-          mismatch = rest.mismatch;
+          fault = rest.fault;
         }
       where
         by_place : Balances R eq g.contributions → (rest : IsFirstMismatch R eq text (gs ++ hs) fault) → (i : ℕ) (other : Group F) → i < suc rest.place → slice_get (g ∷ gs ++ hs) i ≡ Some other → Balances R eq other.contributions

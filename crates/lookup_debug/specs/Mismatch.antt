@@ -1,5 +1,5 @@
 -- The first mismatch.
-use Rattle.std.specs.Prelude.{◌≡◌, ◌≢◌, ◌<◌, ◌⊎◌, ℕ, Bool, true, false, List, [], ◌∷◌, Some, map, slice_get}
+use Rattle.std.specs.Prelude.{◌≡◌, ◌≢◌, ◌⊎◌, ℕ, Bool, true, false, List, [], ◌∷◌, Some, map, slice_get}
 use Rattle.std.specs.Cmp.Lexicographic.{pointwise, slice_cmp}
 use Rattle.std.specs.List.{filter}
 use Rattle.std.specs.Ordering.{nat_cmp}
@@ -9,6 +9,7 @@ use Rattle.std.specs.declared.cmp.Ordering.{Ordering}
 use Rattle.std.specs.declared.cmp.Ordering.TheVariants.{Less, Equal}
 use Rattle.std.specs.declared.string.String.{String}
 use Rattle.std.specs.declared.vec.Vec.{Vec}
+use Rattle.expressions.specs.Faults.{HasFirstFault}
 use Rattle.field.specs.Ring.{Ring}
 use Rattle.field.specs.Sums.{sum_in}
 use Rattle.lookup_debug.specs.Contributions.{Contribution, Place, Traced, place_of}
@@ -77,12 +78,8 @@ module _ {F : Type 0} (R : Ring F) (eq : F → F → Bool) where
       pub fault_is : HasParts label (map text tuple) (net_amount cs tuple) (places tuple cs) fault
 
     -- A fault is the mismatch of the first of some groups that has one.
-    pub record IsFirstMismatch (gs : List (Group F)) (fault : LookupFault F) : Type 0 where
-      pub place : ℕ
-      pub group : Group F
-      pub there : slice_get gs place ≡ Some group
-      pub before : (i : ℕ) (other : Group F) → i < place → slice_get gs i ≡ Some other → Balances other.contributions
-      pub mismatch : IsMismatchOf group.label group.contributions fault
+    abbrev pub IsFirstMismatch : List (Group F) → LookupFault F → Type 0
+    IsFirstMismatch gs fault = HasFirstFault (λ g. Balances g.contributions) (λ _ g. IsMismatchOf g.label g.contributions fault) gs
 
     -- and of the first of all groups
     abbrev pub IsMismatch : List (Traced F) → LookupFault F → Type 0
