@@ -38,13 +38,13 @@ plan_is p airs heights ids W m heights_are agree even numbered few light width =
 
 -- refusals that keep their names
 pub bus_passed : (widths : List (List ℕ × ℕ)) (e : LookupError) → IsFirstMismatch widths e → of_lookup e ≡ OfLookup e
-bus_passed widths e first = ap of_lookup first.refusal.error_is ∙ ap OfLookup (sym first.refusal.error_is)
+bus_passed widths e first = ap of_lookup first.fault.refusal.error_is ∙ ap OfLookup (sym first.fault.refusal.error_is)
 
 pub widths_passed : (context : List ℕ) (width other : ℕ) (e : LookupError) → IsTupleWidths context width other e → of_lookup e ≡ OfLookup e
 widths_passed context width other e is = ap of_lookup is.error_is ∙ ap OfLookup (sym is.error_is)
 
 pub local_passed : {F : Type 0} (airs : List (Lookups F)) (e : LookupError) → IsFirstLocalMismatch airs e → of_lookup e ≡ OfLookup e
-local_passed airs e first = widths_passed _ _ _ e first.mismatch.mismatch.refusal
+local_passed airs e first = widths_passed _ _ _ e first.fault.fault.refusal
 
 pub height_passed : (p sum : ℕ) (e : LookupError) → IsHeightRefusal p sum e → of_lookup e ≡ OfLookup e
 height_passed p sum e is = ap of_lookup is.error_is ∙ ap OfLookup (sym is.error_is)

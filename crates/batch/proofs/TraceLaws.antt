@@ -109,11 +109,10 @@ module _ {F : Type 0} where
         let (b, is, there) = trace_there bs heights i same lt in
         record {
           place = i;
-          unfit = (instance_of b, get_or heights i 0);
+          item = (instance_of b, get_or heights i 0);
           is_there = there;
-          fails = λ here. absurd (true≢false (sym (told.1 ((all_of_one (λ c. FitsAt (instance_of c, get_or heights i 0)) bs i b lt is).1 here)) ∙ unfit));
           before = so_far;
-          error_is = refl;
+          fault = (λ here. absurd (true≢false (sym (told.1 ((all_of_one (λ c. FitsAt (instance_of c, get_or heights i 0)) bs i b lt is).1 here)) ∙ unfit)), refl);
         }
 
 -- over main traces alone, the batch of a plan is that of these

@@ -1,8 +1,9 @@
 -- The traces of a plan, and the batch that they make with it.
-use Rattle.std.specs.Prelude.{◌≡◌, ◌≢◌, ◌⊎◌, ◌<◌, ℕ, All, List, [], Option, None, Some, length, map, slice_get}
+use Rattle.std.specs.Prelude.{◌≡◌, ◌≢◌, ◌⊎◌, ℕ, All, List, [], Option, None, length, map}
 use Rattle.std.specs.List.{zip}
 use Rattle.std.specs.Option.{option_copied}
 use Rattle.matrix.specs.Matrix.{Matrix, height}
+use Rattle.expressions.specs.Faults.{HasFirstFault}
 use Rattle.lookup_model.specs.Batches.Instances.{Instance, IsFitting}
 use Rattle.lookup.specs.Lookups.{lookups_of}
 use Rattle.lookup.specs.declared.lookups.Lookups.{Lookups}
@@ -47,13 +48,8 @@ module _ {F : Type 0} where
   FitsAt t = (height t.0.main ≡ t.1) × IsFitting t.0
 
   -- the refusal of the first AIR whose traces do not fit
-  pub record IsFirstUnfit (heights : List ℕ) (batch : List (Instance F)) (e : BatchError) : Type 0 where
-    pub place : ℕ
-    pub unfit : Instance F × ℕ
-    pub is_there : slice_get (zip batch heights) place ≡ Some unfit
-    pub fails : ¬ FitsAt unfit
-    pub before : (i : ℕ) (other : Instance F × ℕ) → i < place → slice_get (zip batch heights) i ≡ Some other → FitsAt other
-    pub error_is : e ≡ TraceMismatch place
+  abbrev pub IsFirstUnfit : List ℕ → List (Instance F) → BatchError → Type 0
+  IsFirstUnfit heights batch e = HasFirstFault FitsAt (λ place unfit. (¬ FitsAt unfit) × (e ≡ TraceMismatch place)) (zip batch heights)
 
   module _ (heights : List ℕ) (traces : List (BatchTrace F)) (batch : List (Instance F)) where
     -- There are traces for each AIR, of the height of the plan, and they fit its lookups.

@@ -134,15 +134,16 @@ mismatch_here widths i name width v e there agree is other refusal =
     let (later, whole, next) = at_place widths i (name, width) there in
     record {
       before = take i widths;
-      name = name;
-      expected = v;
-      actual = width;
+      item = (name, width);
       after = later;
       split = whole;
-      agree = agree;
-      first = by_first (first_width (take i widths) name) is;
-      differs = λ same. other (sym same);
-      refusal = refusal;
+      good = agree;
+      fault = record {
+        expected = v;
+        first = by_first (first_width (take i widths) name) is;
+        differs = λ same. other (sym same);
+        refusal = refusal;
+      };
     }
   where
     by_first : (o : Option ℕ) → v ≡ unwrap_or o width → o ≡ Some v

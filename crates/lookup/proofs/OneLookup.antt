@@ -73,9 +73,9 @@ module _ {E : Type 0} (o : Outline E) where
 
     never_stuck : (e : LookupError) → IsFillRefusal answers most (o ∷ []) e → ⊥
     never_stuck e refusal =
-        let members = on_bus refusal.name (additive (o ∷ [])) in
-        let few_members : length members ≤ 1 = omega (arith, few (λ p. is_named refusal.name p.bus) (additive (o ∷ [])), few is_additive (o ∷ [])) in
-        let stuck = refusal.stuck in
+        let members = on_bus refusal.item (additive (o ∷ [])) in
+        let few_members : length members ≤ 1 = omega (arith, few (λ p. is_named refusal.item p.bus) (additive (o ∷ [])), few is_additive (o ∷ [])) in
+        let stuck = refusal.fault in
         let tried = flat_map part_items (stuck.closed ++ stuck.part ∷ []) in
         let many : length members ≡ length tried + suc (length stuck.rest) = ap length stuck.members_are ∙ length-append tried (stuck.next ∷ stuck.rest) in
         let some : length tried ≡ length (flat_map part_items stuck.closed) + suc (length (stuck.part.1 ++ [])) = ap length (flat_map-append part_items stuck.closed (stuck.part ∷ [])) ∙ length-append (flat_map part_items stuck.closed) (stuck.part.0 ∷ stuck.part.1 ++ []) in
@@ -84,10 +84,10 @@ module _ {E : Type 0} (o : Outline E) where
   -- if all its tuples have one width, it is not refused for its widths
   one_width : (width : ℕ) → AllByRecursion (λ n. n ≡ width) (widths_of o) → (e : LookupError) → IsWidthRefusal (o ∷ []) e → ⊥
   one_width width even e refusal =
-      let all = on_this refusal.name in
-      let differ = refusal.differ in
-      let first = at_place_of (λ n. n ≡ width) (flat_map widths_of (on_bus refusal.name (o ∷ []))) 0 refusal.width all differ.first in
-      let second = at_place_of (λ n. n ≡ width) (flat_map widths_of (on_bus refusal.name (o ∷ []))) differ.place refusal.other all differ.found in
+      let all = on_this refusal.item in
+      let differ = refusal.fault.differ in
+      let first = at_place_of (λ n. n ≡ width) (flat_map widths_of (on_bus refusal.item (o ∷ []))) 0 refusal.fault.width all differ.first in
+      let second = at_place_of (λ n. n ≡ width) (flat_map widths_of (on_bus refusal.item (o ∷ []))) differ.place refusal.fault.other all differ.found in
       differ.differs (second ∙ sym first)
     where
       on_this : (name : List ℕ) → AllByRecursion (λ n. n ≡ width) (flat_map widths_of (on_bus name (o ∷ [])))

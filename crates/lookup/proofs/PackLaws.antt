@@ -50,14 +50,13 @@ module _ {E : Type 0} (answers : Outline E → Result ℕ LookupError → Type 0
   -- the first bus that is stuck, by its name
   pub fill_refusal : (buses : List (List (Outline E))) (e : LookupError) → buses ≡ map (λ name. on_bus name (additive before)) (bus_names (additive before)) → IsFirstStuck answers most buses e → IsFillRefusal answers most before e
   fill_refusal buses e are stuck =
-      let (earlier, name, later, names, earlier_is, name_is, later_is) = map_split (λ name. on_bus name (additive before)) (bus_names (additive before)) stuck.earlier stuck.bus stuck.later (sym are ∙ stuck.buses_are) in record {
-        earlier = earlier;
-        name = name;
-        later = later;
-        names = names;
-        cuts = stuck.cuts;
-        filled = AllZip-map (λ bus cut. IsFilling answers most cut bus) (λ n. on_bus n (additive before)) earlier stuck.cuts (subst (λ (t : List (List (Outline E))). AllZip (λ bus cut. IsFilling answers most cut bus) t stuck.cuts) (sym earlier_is) stuck.filled);
-        stuck = subst (λ (t : List (Outline E)). IsStuck answers most t e) (sym name_is) stuck.stuck;
+      let (earlier, name, later, names, earlier_is, name_is, later_is) = map_split (λ name. on_bus name (additive before)) (bus_names (additive before)) stuck.before stuck.item stuck.after (sym are ∙ stuck.split) in record {
+        before = earlier;
+        item = name;
+        after = later;
+        split = names;
+        good = (stuck.good.0, AllZip-map (λ bus cut. IsFilling answers most cut bus) (λ n. on_bus n (additive before)) earlier stuck.good.0 (subst (λ (t : List (List (Outline E))). AllZip (λ bus cut. IsFilling answers most cut bus) t stuck.good.0) (sym earlier_is) stuck.good.1));
+        fault = subst (λ (t : List (Outline E)). IsStuck answers most t e) (sym name_is) stuck.fault;
       }
 
   -- what passes through, and the columns of all buses

@@ -19,3 +19,10 @@ pub record IsTupleWidths (context : List ℕ) (width other : ℕ) (e : LookupErr
   pub text : String Global
   pub text_is : string_bytes text ≡ context
   pub error_is : e ≡ TupleWidths text width other
+
+-- these widths are not all the same, and are refused for that
+pub record AreUnevenWidths (context widths : List ℕ) (e : LookupError) : Type 0 where
+  pub width : ℕ
+  pub other : ℕ
+  pub differ : HasOtherWidth widths width other
+  pub refusal : IsTupleWidths context width other e

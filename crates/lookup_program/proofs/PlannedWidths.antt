@@ -72,21 +72,21 @@ module _ {F : Type 0} where
     -- no width on a bus differs
     pub no_bus_mismatch : ¬ IsFirstMismatch (bus_widths_of airs) e
     no_bus_mismatch first =
-        let rest : List (List ℕ × ℕ) = (first.name, first.actual) ∷ first.after in
+        let rest : List (List ℕ × ℕ) = first.item ∷ first.after in
         let all : AllByRecursion IsOne (first.before ++ rest) = recursion_from_All IsOne (first.before ++ rest) (subst (All IsOne) first.split widths_are_ones) in
-        let expected : first.expected ≡ 1 = found_one first.name first.before first.expected (all_front IsOne first.before rest all) first.first in
-        let actual : first.actual ≡ 1 = (all_back IsOne first.before rest all).0 in
-        first.differs (actual ∙ sym expected)
+        let expected : first.fault.expected ≡ 1 = found_one first.item.0 first.before first.fault.expected (all_front IsOne first.before rest all) first.fault.first in
+        let actual : first.item.1 ≡ 1 = (all_back IsOne first.before rest all).0 in
+        first.fault.differs (actual ∙ sym expected)
 
     -- and none of a local lookup
     pub no_local_mismatch : ¬ IsFirstLocalMismatch airs e
     no_local_mismatch first =
-        let inner = first.mismatch in
-        let tuples = there_holds (λ l. All (λ tuple. length tuple.items ≡ 1) l.elements.items) (lookups_of first.air) inner.place inner.lookup (there_holds AreOnes airs first.place first.air ones first.is_there) inner.is_there in
-        let widths : All (λ w. w ≡ 1) (lookup_widths inner.lookup) = All-map (λ w. w ≡ 1) (λ tuple. length tuple.items) inner.lookup.elements.items tuples in
-        let differ = inner.mismatch.differ in
-        let width : inner.mismatch.width ≡ 1 = there_holds (λ w. w ≡ 1) (lookup_widths inner.lookup) 0 inner.mismatch.width widths differ.first in
-        let other : inner.mismatch.other ≡ 1 = there_holds (λ w. w ≡ 1) (lookup_widths inner.lookup) differ.place inner.mismatch.other widths differ.found in
+        let inner = first.fault in
+        let tuples = there_holds (λ l. All (λ tuple. length tuple.items ≡ 1) l.elements.items) (lookups_of first.item) inner.place inner.item (there_holds AreOnes airs first.place first.item ones first.is_there) inner.is_there in
+        let widths : All (λ w. w ≡ 1) (lookup_widths inner.item) = All-map (λ w. w ≡ 1) (λ tuple. length tuple.items) inner.item.elements.items tuples in
+        let differ = inner.fault.differ in
+        let width : inner.fault.width ≡ 1 = there_holds (λ w. w ≡ 1) (lookup_widths inner.item) 0 inner.fault.width widths differ.first in
+        let other : inner.fault.other ≡ 1 = there_holds (λ w. w ≡ 1) (lookup_widths inner.item) differ.place inner.fault.other widths differ.found in
         differ.differs (other ∙ sym width)
 
 -- the greatest of some ones is at most 1

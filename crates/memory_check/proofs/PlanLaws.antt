@@ -77,7 +77,7 @@ module _ {F EF : Type 0} (columns : ℕ) (layout : AirLayout) (wide : columns �
       → IsLookupsRefusal F (of_lookup e)
   lookups_refused Left e (inl memory) = inl (ap of_lookup memory)
   lookups_refused Left e (inr (inl (refusal, evaluated, is))) = inl (ap of_lookup (is ∙ ap from_air (in_new_builder refusal evaluated)))
-  lookups_refused Left e (inr (inr (b, left, first))) = inr (e, (recorded_air b).locals, first, passed_on first.tuples e first.refusal)
+  lookups_refused Left e (inr (inr (b, left, first))) = inr (e, (recorded_air b).locals, first, passed_on first.item e first.fault)
 
 -- the refusal of a plan of lookups that fit
 pub plan_refused : {F P : Type 0} (A : P → Type 0) (p : ℕ) (airs : List (Lookups F)) (heights given : List ℕ) (result : Result P BatchError) → heights ≡ given → SetsFit airs

@@ -20,15 +20,17 @@ returns-in_err-assert_bus_width g c =
     rw (p.1, p.2) (elim c.in_err-assert_bus_width.ensures [
       | inl memory ↦ inl memory
       | inr w ↦ inr (record {
-        earlier = take c.loop-place.place (bus_names os);
-        name = c.bus_at.result.0.now;
-        later = later;
-        names = whole;
-        even = c.loop-place.invariant;
-        width = w.0;
-        other = w.1;
-        differ = subst (λ (t : List (Outline (SymbolicExpression g.row.F.Denot))). HasOtherWidth (flat_map widths_of t) w.0 w.1) (ap (map (λ r. fields_of r.now)) c.deref.ensures.value ∙ members_are) w.2;
-        refusal = w.3;
+        before = take c.loop-place.place (bus_names os);
+        item = c.bus_at.result.0.now;
+        after = later;
+        split = whole;
+        good = c.loop-place.invariant;
+        fault = record {
+          width = w.0;
+          other = w.1;
+          differ = subst (λ (t : List (Outline (SymbolicExpression g.row.F.Denot))). HasOtherWidth (flat_map widths_of t) w.0 w.1) (ap (map (λ r. fields_of r.now)) c.deref.ensures.value ∙ members_are) w.2;
+          refusal = w.3;
+        };
       })
     ])
 

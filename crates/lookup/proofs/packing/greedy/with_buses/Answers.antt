@@ -34,13 +34,12 @@ returns-in_err-filled g c =
     rw (p.1, p.2) (elim c.in_err-filled.ensures [
       | inl memory ↦ inl memory
       | inr w ↦ inr (record {
-        earlier = inv.seen;
-        bus = owned_group c.in-Some.members;
-        later = map owned_group (into_iter_items c.next.new.self);
-        buses_are = sym (ap (λ t. inv.seen ++ map owned_group t) (sym c.in-Some.ensures.steps.0) ∙ inv.all);
-        cuts = inv.added.0;
-        filled = inv.added.1;
-        stuck = w;
+        before = inv.seen;
+        item = owned_group c.in-Some.members;
+        after = map owned_group (into_iter_items c.next.new.self);
+        split = sym (ap (λ t. inv.seen ++ map owned_group t) (sym c.in-Some.ensures.steps.0) ∙ inv.all);
+        good = (inv.added.0, inv.added.1);
+        fault = w;
       })
     ])
 
