@@ -12,7 +12,7 @@ pub use debug::{DebugConstraintBuilder, RowInputs, check_rows};
 pub use expressions::{
     Air, AirBuilder, AirError, AirLayout, BaseAir, BaseEntry, BaseLeaf, BuilderView, Expression,
     ExtEntry, ExtLeaf, ExtensionBuilder, FilteredAirBuilder, LayoutPart, PermutationAirBuilder,
-    Seen, SeenExt, SymbolicExpression, SymbolicExpressionExt, SymbolicVariable,
+    SeenExtWindow, SeenWindow, SymbolicExpression, SymbolicExpressionExt, SymbolicVariable,
     SymbolicVariableExt, WholeNumbers, copy_expressions, resolve_over,
 };
 pub use recording::{ConstraintLayout, SymbolicAirBuilder};

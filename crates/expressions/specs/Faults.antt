@@ -1,13 +1,13 @@
 -- The first item of a list with a fault, and the first number of which a property fails.
 use Rattle.std.specs.Prelude.{◌≡◌, ◌<◌, ◌++◌, ℕ, List, ◌∷◌, Some, slice_get}
 
--- The item at a place has a fault, and all items before it are good.
+-- The item at an index has a fault, and all items before it are good.
 pub record HasFirstFault {X : Type 0} (IsGood : X → Type 0) (IsFault : ℕ → X → Type 0) (xs : List X) : Type 0 where
-  pub place : ℕ
+  pub index : ℕ
   pub item : X
-  pub is_there : slice_get xs place ≡ Some item
-  pub before : (i : ℕ) (other : X) → i < place → slice_get xs i ≡ Some other → IsGood other
-  pub fault : IsFault place item
+  pub is_there : slice_get xs index ≡ Some item
+  pub before : (i : ℕ) (other : X) → i < index → slice_get xs i ≡ Some other → IsGood other
+  pub fault : IsFault index item
 
 -- The same of a list that is split at the item: what is good, and what is a fault, may depend on all
 -- items before it.
@@ -20,7 +20,7 @@ pub record SplitsAtFault {X : Type 0} (AreGood : List X → Type 0) (IsFault : L
   pub fault : IsFault before item
 
 -- A property holds of all numbers before this one, which is below the end, and fails of this one.
-pub record FailsFirstAt (Holds : ℕ → Type 0) (end place : ℕ) : Type 0 where
-  pub within : place < end
-  pub fails : ¬ Holds place
-  pub before : (s : ℕ) → s < place → Holds s
+pub record FailsFirstAt (Holds : ℕ → Type 0) (end n : ℕ) : Type 0 where
+  pub within : n < end
+  pub fails : ¬ Holds n
+  pub before : (s : ℕ) → s < n → Holds s

@@ -189,10 +189,10 @@ impl<F: Field, EF: ExtensionField<F>> InteractionSymbolicBuilder<F, EF> {
         ensures extension { IfOk result (λ l. l.ext_indices.items
             ≡ (recorded_air self.now).constraints.ext_indices) }
     {
-        let places = self.inner.constraint_layout();
+        let indices = self.inner.constraint_layout();
         Ok(ConstraintLayout {
-            base_indices: Vec::from_slice(alloc, places.base_indices.as_slice())?,
-            ext_indices: Vec::from_slice(alloc, places.ext_indices.as_slice())?,
+            base_indices: Vec::from_slice(alloc, indices.base_indices.as_slice())?,
+            ext_indices: Vec::from_slice(alloc, indices.ext_indices.as_slice())?,
         })
     }
 }

@@ -1,4 +1,4 @@
--- Variables at the places of a row.
+-- Rows of variables, each at its index.
 use Rattle.std.proofs.Common.{◌≡◌, ℕ, ◌+◌, ◌-◌, ◌*◌, ◌<◌, List, [], ◌∷◌, ◌++◌, length, map, drop, get_or, ap, sym, ◌∙◌, subst, arith, add-one, drop-cons, length-append}
 use Rattle.std.proofs.Math.Seq.{drop-append_seam, take-append_seam}
 use Rattle.std.proofs.lemmas.List.{drop_all, take_all}
@@ -36,7 +36,7 @@ rows_joined {V} entry_of index_of current next width vs us above below = record 
 pub means_cells : {V E W A : Type 0} (stands_for : W → Type 0) (meaning : V → W → A) (entry_of : V → E) (index_of : V → ℕ) (entry : E) (width : ℕ) (cells : W → List A) (none : A) (variables : List V) → IsVariableRow entry_of index_of entry width variables → ((v : V) (w : W) → entry_of v ≡ entry → meaning v w ≡ get_or (cells w) (index_of v) none) → ((w : W) → stands_for w → length (cells w) ≡ width) → MeansRow stands_for meaning width cells variables
 means_cells {V} {E} {W} {A} stands_for meaning entry_of index_of entry width cells none variables at reads fits = record {
   len = at.len;
-  reads = λ w stands. from w 0 variables at.places (omega (arith, at.len, fits w stands));
+  reads = λ w stands. from w 0 variables at.indices (omega (arith, at.len, fits w stands));
 }
   where
     from : (w : W) (i : ℕ) (vs : List V) → AreVariables entry_of index_of entry i vs → i + length vs ≡ length (cells w) → map (λ v. meaning v w) vs ≡ drop i (cells w)

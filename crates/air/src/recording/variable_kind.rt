@@ -6,9 +6,9 @@ use expressions::{BaseEntry, ExtEntry, SymbolicVariable, SymbolicVariableExt};
 use matrix::RowMajorMatrix;
 use std::alloc::{AllocError, Global};
 
-/// A variable that is known by its entry and its index.
-pub trait Place: Copy {
-    /// Where it is read.
+/// A kind of variables, each of which is known by its entry and its index.
+pub trait VariableKind: Copy {
+    /// Where they are read.
     type Entry: Copy;
 
     ghost entry_of: { Self → Self.Entry };
@@ -21,7 +21,7 @@ pub trait Place: Copy {
         ensures index { index_of result ≡ index };
 }
 
-impl<F: Copy> Place for SymbolicVariable<F> {
+impl<F: Copy> VariableKind for SymbolicVariable<F> {
     type Entry = BaseEntry;
 
     ghost entry_of = { λ v. v.entry };
@@ -33,7 +33,7 @@ impl<F: Copy> Place for SymbolicVariable<F> {
     }
 }
 
-impl<F: Copy, EF: Copy> Place for SymbolicVariableExt<F, EF> {
+impl<F: Copy, EF: Copy> VariableKind for SymbolicVariableExt<F, EF> {
     type Entry = ExtEntry;
 
     ghost entry_of = { λ v. v.entry };
@@ -46,8 +46,8 @@ impl<F: Copy, EF: Copy> Place for SymbolicVariableExt<F, EF> {
 }
 
 /// The first `count` variables of an entry.
-#[tactic(auto, using(crate::proofs::Places::variables_more))]
-pub fn variables<V: Place>(
+#[tactic(auto, using(crate::proofs::VariableRows::variables_more))]
+pub fn variables<V: VariableKind>(
     alloc: Global,
     entry: V::Entry,
     count: usize,
@@ -63,7 +63,7 @@ pub fn variables<V: Place>(
 
 /// The first `width` variables of one entry, above those of another.
 #[tactic(auto, using(matrix::proofs::Shapes::shaped_by_two))]
-pub fn variable_rows<V: Place>(
+pub fn variable_rows<V: VariableKind>(
     alloc: Global,
     current: V::Entry,
     next: V::Entry,

@@ -1,6 +1,6 @@
 use Rattle.std.proofs.lemmas.Result.{IfOk-from_err}
-use Rattle.air.proofs.Places.{rows_joined}
-use Rattle.air.proofs.recording.place.variable_rows.Goals as goal
+use Rattle.air.proofs.VariableRows.{rows_joined}
+use Rattle.air.proofs.recording.variable_kind.variable_rows.Goals as goal
 
 pub returns : goal.returns
 returns g c = rw (c.new.ensures, c.in_ok-extend_from_slice.ensures.items, c.as_slice.ensures.value)
