@@ -8,7 +8,7 @@ mod recording;
 mod traces;
 
 pub use cell::{current_cell, current_cells, next_cell};
-pub use debug::{DebugConstraintBuilder, RowInputs, check_rows};
+pub use debug::{DebugConstraintBuilder, RowInputs, check_rows, judge};
 pub use expressions::{
     Air, AirBuilder, AirError, AirLayout, BaseAir, BaseEntry, BaseLeaf, BuilderView, Expression,
     ExtEntry, ExtLeaf, ExtensionBuilder, FilteredAirBuilder, LayoutPart, PermutationAirBuilder,

@@ -34,7 +34,7 @@ pub fn generate(
     };
     let lookups = lookups_of(alloc, shape)?;
     let challenges = challenges_of(alloc, shape)?;
-    if lookups.len() > challenges.len() / 2 || !do_fit(&main, &lookups) {
+    if lookups.len() > challenges.len() / 2 || !lookups_fit(&main, &lookups) {
         return Ok(REFUSED);
     }
     let mut sum = BabyBear4::ZERO;
@@ -66,7 +66,7 @@ pub fn trace(
 }
 
 /// Whether the lookups fit the trace.
-fn do_fit(main: &RowMajorMatrix<BabyBear>, lookups: &[Lookup<BabyBear>]) -> bool
+fn lookups_fit(main: &RowMajorMatrix<BabyBear>, lookups: &[Lookup<BabyBear>]) -> bool
     ensures { IsTrue result ↔ LookupsFit (layout_of_traces main.now None []) lookups.now }
 {
     fits(lookups, &AirLayout::of_traces(main, None, &[]))

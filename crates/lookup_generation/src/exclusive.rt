@@ -48,7 +48,7 @@ fn branch_ratio<F: Field, EF: ExtensionDomain<F>>(
         (λ r. (denominator ≢ EF.ring.zero)
         × ((q : EF) → EF.ring.mul denominator q ≡ EF.embed multiplicity → IsRatio EF.ring r q))
         (λ e. (e ≡ LookupError.VanishingDenominator row column) × (denominator ≡ EF.ring.zero)) }
-    ensures sound { IfOk result (λ r. r.denominator ≢ EF.ring.zero) }
+    ensures defined { IfOk result (λ r. r.denominator ≢ EF.ring.zero) }
 {
     if denominator.is_zero() {
         Err(LookupError::VanishingDenominator {
@@ -79,7 +79,7 @@ pub(crate) fn exclusive_fraction<F: Field, EF: ExtensionDomain<F>>(
         (branches_at F.ring (builder_window builder.now) lookup.now.column lookup.now) }
     ensures answers { ForExtensions F.ring F.eq EF.ring EF.eq EF.embed (λ E.
         AnswersExclusive E builder.now lookup.now flags.now result) }
-    ensures sound { IfOk result (λ r. r.denominator ≢ EF.ring.zero) }
+    ensures defined { IfOk result (λ r. r.denominator ≢ EF.ring.zero) }
     ensures bare { lookup.now.elements.items ≡ []
         → IfOk result (λ r. r.denominator ≡ EF.ring.one) }
 {

@@ -34,7 +34,7 @@ fn with_branch<F: Field, EF: ExtensionDomain<F>>(
         → IsFractionOf E denominators (messages ++ message ∷ []) next)) }
     ensures refused { IfErr result (λ e. (e ≡ LookupError.VanishingDenominator row column)
         × (multiplicity ≢ F.ring.zero) × (denominator ≡ EF.ring.zero)) }
-    ensures sound { IfOk result (λ next. fraction.denominator ≢ EF.ring.zero
+    ensures defined { IfOk result (λ next. fraction.denominator ≢ EF.ring.zero
         → next.denominator ≢ EF.ring.zero) }
 {
     if multiplicity.is_zero() {
@@ -61,7 +61,7 @@ fn additive_fraction<F: Field, EF: ExtensionDomain<F>>(
         (branches_at F.ring (builder_window builder.now) lookup.now.column lookup.now) }
     ensures answers { ForExtensions F.ring F.eq EF.ring EF.eq EF.embed (λ E.
         AnswersAdditive E builder.now lookup.now result) }
-    ensures sound { IfOk result (λ r. r.denominator ≢ EF.ring.zero) }
+    ensures defined { IfOk result (λ r. r.denominator ≢ EF.ring.zero) }
     ensures bare { lookup.now.elements.items ≡ []
         → IfOk result (λ r. r.denominator ≡ EF.ring.one) }
 {
@@ -93,7 +93,7 @@ pub(crate) fn fraction<F: Field, EF: ExtensionDomain<F>>(
         (builder_window builder.now) place lookup.now columns.now }
     ensures answers { ForExtensions F.ring F.eq EF.ring EF.eq EF.embed (λ E.
         AnswersFraction E builder.now lookup.now result) }
-    ensures sound { IfOk result (λ r. r.denominator ≢ EF.ring.zero) }
+    ensures defined { IfOk result (λ r. r.denominator ≢ EF.ring.zero) }
     ensures bare { lookup.now.elements.items ≡ []
         → IfOk result (λ r. r.denominator ≡ EF.ring.one) }
 {

@@ -61,7 +61,7 @@ fn push_column<F: Field, EF: ExtensionDomain<F>>(
         IfOk result (λ found. AnswersColumn E (column_denominator E challenges.now)
         (sent_on F.ring F.eq traces.now lookup.now) lookup.now.column first end
         ratios.old.items ratios.new.items found)) }
-    ensures sound { IfOk result (λ found. found ≡ None → (n : ℕ)
+    ensures defined { IfOk result (λ found. found ≡ None → (n : ℕ)
         → AreDefined EF.ring n ratios.old.items
         → AreDefined EF.ring (n + (end - first)) ratios.new.items) }
     ensures bare { lookup.now.elements.items ≡ [] → AreWhole EF.ring ratios.old.items
@@ -123,7 +123,7 @@ fn push_columns<F: Field, EF: ExtensionDomain<F>>(
     ensures answers { ForExtensions F.ring F.eq EF.ring EF.eq EF.embed (λ E.
         IfOk result (AnswersColumns E (column_denominator E challenges.now) traces.now lookups.now
         first end ratios.new.items)) }
-    ensures sound { IfOk result (λ found. found ≡ None
+    ensures defined { IfOk result (λ found. found ≡ None
         → AreDefined EF.ring (length lookups.now * (end - first)) ratios.new.items) }
     ensures bare { HaveNoTuples lookups.now
         → IfOk result (λ _. AreWhole EF.ring ratios.new.items) }
@@ -167,7 +167,7 @@ fn ratios_of<F: Field, EF: ExtensionDomain<F>>(
         (λ v. AreRatios E denominator traces.now lookups.now first end v.items)
         (IsFirstOf (trace_faults E denominator
         (sent_rows_of F.ring F.eq traces.now lookups.now)))) }
-    ensures sound { IfOk result (λ v. AreDefined EF.ring
+    ensures defined { IfOk result (λ v. AreDefined EF.ring
         (length lookups.now * (end - first)) v.items) }
     ensures bare { HaveNoTuples lookups.now → IfOk result (λ v. AreWhole EF.ring v.items) }
 {

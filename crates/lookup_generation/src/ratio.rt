@@ -18,7 +18,7 @@ impl<K: Domain> Ratio<K> {
     /// Zero, over one.
     pub(crate) fn zero() -> Self
         ensures value { IsRatio K.ring result K.ring.zero }
-        ensures sound { result.denominator ≢ K.ring.zero }
+        ensures defined { result.denominator ≢ K.ring.zero }
         ensures whole { result.denominator ≡ K.ring.one }
     {
         Ratio {
@@ -33,7 +33,7 @@ impl<K: Domain> Ratio<K> {
         K: ExtensionDomain<F>,
         ensures value { (q : K) → denominator ≢ K.ring.zero
             → K.ring.mul denominator q ≡ K.embed multiplicity → IsRatio K.ring result q }
-        ensures sound { denominator ≢ K.ring.zero → result.denominator ≢ K.ring.zero }
+        ensures defined { denominator ≢ K.ring.zero → result.denominator ≢ K.ring.zero }
     {
         Ratio {
             numerator: K::embed(multiplicity),
@@ -49,7 +49,7 @@ impl<K: Domain> Ratio<K> {
         ensures value { (x q : K) → IsRatio K.ring self x → denominator ≢ K.ring.zero
             → K.ring.mul denominator q ≡ K.embed multiplicity
             → IsRatio K.ring result (K.ring.add x q) }
-        ensures sound { self.denominator ≢ K.ring.zero → denominator ≢ K.ring.zero
+        ensures defined { self.denominator ≢ K.ring.zero → denominator ≢ K.ring.zero
             → result.denominator ≢ K.ring.zero }
     {
         if self.numerator.is_zero() {

@@ -21,8 +21,8 @@ IsFaultOf air error fault =
     (fault.error ≡ error) × (((error ≡ Memory) × IsOutOfMemory fault) ⊎ ((error ≢ Memory) × (fault.air ≡ Some air)))
 
 -- the first of the faults of the AIR at this place
-abbrev pub IsFirstOf : ℕ → List LookupError → BatchFault → Type 0
-IsFirstOf place faults fault = (fault.air ≡ Some place) × (slice_get faults 0 ≡ Some fault.error)
+abbrev pub IsFirstFaultAt : ℕ → List LookupError → BatchFault → Type 0
+IsFirstFaultAt place faults fault = (fault.air ≡ Some place) × (slice_get faults 0 ≡ Some fault.error)
 
 module _ {F K : Type 0} (E : Extension F K) (table : ChallengeTable K) where
   -- the faults of an AIR, in the order of its rows and their lookups
@@ -35,4 +35,4 @@ module _ {F K : Type 0} (E : Extension F K) (table : ChallengeTable K) where
 
   -- the first fault of the first AIR that has one
   abbrev pub IsFirstFault : List (Instance F) → BatchFault → Type 0
-  IsFirstFault instances fault = HasFirstFault (λ i. instance_faults i ≡ []) (λ place i. IsFirstOf place (instance_faults i) fault) instances
+  IsFirstFault instances fault = HasFirstFault (λ i. instance_faults i ≡ []) (λ place i. IsFirstFaultAt place (instance_faults i) fault) instances

@@ -4,7 +4,7 @@ use Rattle.expressions.specs.Faults.{HasFirstFault}
 use Rattle.field.specs.Ring.{Ring}
 use Rattle.lookup_model.specs.FlagFault.{trace_flag_faults}
 use Rattle.lookup_model.specs.declared.error.LookupError.{LookupError}
-use Rattle.lookup_model.specs.Batches.Faults.{IsFirstOf}
+use Rattle.lookup_model.specs.Batches.Faults.{IsFirstFaultAt}
 use Rattle.lookup_model.specs.Batches.Instances.{Instance}
 use Rattle.lookup_model.specs.Batches.Messages.{sent_rows_of}
 use Rattle.lookup_model.specs.declared.fault.BatchFault.{BatchFault}
@@ -16,4 +16,4 @@ module _ {F : Type 0} (R : Ring F) (eq : F → F → Bool) where
 
   -- the first fault of flags of the first AIR that has one
   abbrev pub IsFirstFlagFault : List (Instance F) → BatchFault → Type 0
-  IsFirstFlagFault instances fault = HasFirstFault (λ i. instance_flag_faults i ≡ []) (λ place i. IsFirstOf place (instance_flag_faults i) fault) instances
+  IsFirstFlagFault instances fault = HasFirstFault (λ i. instance_flag_faults i ≡ []) (λ place i. IsFirstFaultAt place (instance_flag_faults i) fault) instances

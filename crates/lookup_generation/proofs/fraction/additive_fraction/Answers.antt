@@ -68,7 +68,7 @@ loop-branch-preserved g c = (
       (read_is _ c.args.place c.index-multiplicity.result.now b.item.multiplicity b.holds.0 c.index-multiplicity.ensures)
       (read_is _ c.args.place c.index-denominator.result.now (denominator b.item.key) b.holds.1 c.index-denominator.ensures)
       (c.loop-branch.invariant.0 inverse is_inverse)),
-  c.in_ok-fraction.ensures.sound c.loop-branch.invariant.1,
+  c.in_ok-fraction.ensures.defined c.loop-branch.invariant.1,
   λ none. let empty : length c.args.columns.now ≡ 0 = ap length none in absurd (omega (arith, empty, c.loop-branch-test.true)),
 )
 
@@ -92,4 +92,4 @@ returns-clause-bare g c = λ bare.
 
 pub loop-branch-init : goal.loop-branch-init
 loop-branch-init g c =
-    (λ inverse is_inverse. record { is = c.zero-fraction.ensures.value; divides = refl }, c.zero-fraction.ensures.sound, λ _. c.zero-fraction.ensures.whole)
+    (λ inverse is_inverse. record { is = c.zero-fraction.ensures.value; divides = refl }, c.zero-fraction.ensures.defined, λ _. c.zero-fraction.ensures.whole)

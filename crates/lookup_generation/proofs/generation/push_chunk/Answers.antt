@@ -24,7 +24,7 @@ ratios_of-requires-clause-faultless g c = λ inverse is_inverse. (c.requires.so_
 
 pub values_of-requires : goal.values_of-requires
 values_of-requires g c =
-    subst (λ (rs : List (Ratio _)). All (λ r. r.denominator ≢ g.EF.PrimeCharacteristicRing.ring.zero) rs) (sym c.deref.ensures.value) c.in_ok-ratios.ensures.sound.nonzero
+    subst (λ (rs : List (Ratio _)). All (λ r. r.denominator ≢ g.EF.PrimeCharacteristicRing.ring.zero) rs) (sym c.deref.ensures.value) c.in_ok-ratios.ensures.defined.nonzero
 
 pub new-fractions-requires : goal.new-fractions-requires
 new-fractions-requires g c =
@@ -32,7 +32,7 @@ new-fractions-requires g c =
     let m = length c.args.lookups.now in
     let one : n ≡ (n - 1) + 1 = omega (arith, c.requires.from) in
     let values = c.in_ok-values.values.items in
-    let long : length values ≡ m * ((n - 1) + 1) = c.in_ok-values.ensures.many ∙ ap length c.deref.ensures.value ∙ c.in_ok-ratios.ensures.sound.many ∙ ap (λ w. m * w) one in
+    let long : length values ≡ m * ((n - 1) + 1) = c.in_ok-values.ensures.many ∙ ap length c.deref.ensures.value ∙ c.in_ok-ratios.ensures.defined.many ∙ ap (λ w. m * w) one in
     subst (λ w. IsShaped (record { values = values; width = w })) (sym one) (IsShaped-product values m (n - 1) long)
 
 pub push_row-requires : goal.push_row-requires
@@ -62,7 +62,7 @@ loop-place-preserved g c = (
       let fs = all_fractions E denominator c.args.traces.now c.args.lookups.now first n in
       let values = c.in_ok-values.values.items in
       let are : values ≡ fs = c.in_ok-values.ensures.values fs (subst (λ rs. AllZip (IsRatio E.ring) rs fs) (sym c.deref.ensures.value) (c.in_ok-ratios.ensures.answers inverse is_inverse).ratios_are) in
-      let long : length values ≡ length c.args.lookups.now * ((n - 1) + 1) = c.in_ok-values.ensures.many ∙ ap length c.deref.ensures.value ∙ c.in_ok-ratios.ensures.sound.many ∙ ap (λ w. length c.args.lookups.now * w) one in
+      let long : length values ≡ length c.args.lookups.now * ((n - 1) + 1) = c.in_ok-values.ensures.many ∙ ap length c.deref.ensures.value ∙ c.in_ok-ratios.ensures.defined.many ∙ ap (λ w. length c.args.lookups.now * w) one in
       let matrix = c.new-fractions.result in
       let tall : height matrix ≡ length c.args.lookups.now = ap height c.new-fractions.ensures ∙ ap (λ w. height (record { values = values; width = w })) one ∙ height_of values (length c.args.lookups.now) (n - 1) long in
       let place = c.loop-place.place in
@@ -75,7 +75,7 @@ loop-place-preserved g c = (
       let m = length c.args.lookups.now in
       let one : n ≡ (n - 1) + 1 = omega (arith, c.requires.from) in
       let values = c.in_ok-values.values.items in
-      let long : length values ≡ m * ((n - 1) + 1) = c.in_ok-values.ensures.many ∙ ap length c.deref.ensures.value ∙ c.in_ok-ratios.ensures.sound.many ∙ ap (λ w. m * w) one in
+      let long : length values ≡ m * ((n - 1) + 1) = c.in_ok-values.ensures.many ∙ ap length c.deref.ensures.value ∙ c.in_ok-ratios.ensures.defined.many ∙ ap (λ w. m * w) one in
       let matrix = c.new-fractions.result in
       let tall : height matrix ≡ m = ap height c.new-fractions.ensures ∙ ap (λ w. height (record { values = values; width = w })) one ∙ height_of values m (n - 1) long in
       let zero = g.EF.PrimeCharacteristicRing.ring.zero in

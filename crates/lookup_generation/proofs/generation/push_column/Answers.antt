@@ -46,7 +46,7 @@ loop-row-preserved g c =
           HasColumn-more E (column_denominator E c.args.challenges.now) (sent_on E.base E.base_eq c.args.traces.now lookup) lookup.column c.args.first r c.args.ratios.now.items after longer ratio c.loop-row.auto.row c.in_ok-push-in-Ok.ensures.items row.0 row.1 (c.loop-row.invariant.0 inverse is_inverse),
       λ n sound.
           subst (λ m. AreDefined g.EF.PrimeCharacteristicRing.ring (n + m) longer) one_more
-          (sound_more n (r - c.args.first) after longer ratio c.in_ok-push-in-Ok.ensures.items c.in-Ok.ensures.sound (c.loop-row.invariant.1 n sound)),
+          (sound_more n (r - c.args.first) after longer ratio c.in_ok-push-in-Ok.ensures.items c.in-Ok.ensures.defined (c.loop-row.invariant.1 n sound)),
       λ bare whole. whole_more g.EF.PrimeCharacteristicRing.ring after longer ratio c.in_ok-push-in-Ok.ensures.items (c.in-Ok.ensures.bare bare) (c.loop-row.invariant.2 bare whole),
     )
 
@@ -72,8 +72,8 @@ returns-clause-answers g c = λ inverse is_inverse.
     let all : c.loop-row.row ≡ c.args.end = omega (arith, c.loop-row-test.false, c.loop-row.auto.row-end c.requires.from) in
     subst (λ n. HasColumn E (column_denominator E c.args.challenges.now) (sent_on E.base E.base_eq c.args.traces.now c.args.lookup.now) c.args.lookup.now.column c.args.first n c.args.ratios.now.items c.loop-row.ratios.items) all (c.loop-row.invariant.0 inverse is_inverse)
 
-pub returns-clause-sound : goal.returns-clause-sound
-returns-clause-sound g c = λ none n sound.
+pub returns-clause-defined : goal.returns-clause-defined
+returns-clause-defined g c = λ none n sound.
     let all : c.loop-row.row ≡ c.args.end = omega (arith, c.loop-row-test.false, c.loop-row.auto.row-end c.requires.from) in
     subst (λ r. AreDefined g.EF.PrimeCharacteristicRing.ring (n + (r - c.args.first)) c.loop-row.ratios.items) all (c.loop-row.invariant.1 n sound)
 

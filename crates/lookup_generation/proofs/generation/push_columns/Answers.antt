@@ -85,7 +85,7 @@ loop-lookup-preserved g c =
       λ none.
           let both = neither_found fault found (sym c.or-fault.ensures ∙ none) in
           let all : c.rows_before-until.result ≡ c.args.end = until_is ∙ ap (λ (f : Option RowFault). option_map_or (λ x. x.row) f c.args.end) both.0 in
-          subst (λ m. AreDefined g.EF.PrimeCharacteristicRing.ring m after) (ap (λ u. i * n + (u - c.args.first)) all ∙ product_more i n) (c.in_ok-found.ensures.sound both.1 (i * n) (c.loop-lookup.invariant.1 both.0)),
+          subst (λ m. AreDefined g.EF.PrimeCharacteristicRing.ring m after) (ap (λ u. i * n + (u - c.args.first)) all ∙ product_more i n) (c.in_ok-found.ensures.defined both.1 (i * n) (c.loop-lookup.invariant.1 both.0)),
       λ bare. c.in_ok-found.ensures.bare (All-at (λ lookup. lookup.elements.items ≡ []) c.args.lookups.now i c.lookup-item.result bare c.loop-lookup-test.true c.lookup-item.is) (c.loop-lookup.invariant.2 bare),
       subst (λ (f : Option RowFault). IfSome f (λ x. (c.args.first ≤ x.row) × (x.row < c.args.end))) (sym c.or-fault.ensures) (fault_there c.args.first c.args.end fault found c.loop-lookup.invariant.3 there),
     )
