@@ -9,7 +9,7 @@ ghost use Rattle.lookup_model.specs.Records.{LookupsFit};
 mod shapes;
 
 use crate::shapes::challenges_of;
-use air::AirLayout;
+use air::{AirLayout, Traces};
 use field::{BabyBear, BabyBear4, PrimeCharacteristicRing};
 use lookup_generation::generate_permutation;
 use lookup_model::{Lookup, LookupError, LookupTerminal, fits};
@@ -82,7 +82,12 @@ fn generated(
     requires fit { LookupsFit (layout_of_traces main.now None []) lookups.now }
     requires challenges { 2 * length lookups.now ≤ length challenges.now }
 {
-    generate_permutation(alloc, main, None, &[], lookups, challenges)
+    let traces = Traces {
+        main,
+        preprocessed: None,
+        public_values: &[],
+    };
+    generate_permutation(alloc, &traces, lookups, challenges)
 }
 
 fn checksum(

@@ -4,7 +4,7 @@ ghost use Rattle.std.specs.List.{AllZip};
 ghost use Rattle.lookup_columns.specs.ChunkColumns.{AreColumns, HoldSelected, IsHeld, key_denominator};
 ghost use Rattle.lookup_columns.specs.LookupSteps.{AreLookupSteps};
 ghost use Rattle.lookup_columns.specs.Steps.{AreStepsOf};
-ghost use Rattle.lookup_columns.specs.Traces.{layout_of, height_of, window_of};
+ghost use Rattle.air.specs.Traces.{height_of, layout_of, traces_of, window_of};
 ghost use Rattle.lookup_model.specs.Message.{Message};
 ghost use Rattle.lookup_model.specs.Records.{AllFit, HasEqualLengths, IsWithin};
 ghost use Rattle.lookup_model.specs.Sent.{branches_at, values};
@@ -14,8 +14,7 @@ use crate::denominators::denominators_of;
 use crate::lookup_steps::LookupSteps;
 use crate::memory::ColumnMemory;
 use crate::rows::selected_rows;
-use crate::traces::Traces;
-use expressions::SymbolicExpression;
+use air::{SymbolicExpression, Traces};
 use field::{ExtensionDomain, Field};
 use lookup_model::Lookup;
 use std::alloc::{AllocError, Global};
@@ -49,15 +48,15 @@ fn branch_columns<F: Field, EF: ExtensionDomain<F>>(
 ) -> Result<BranchColumns<F, EF>, AllocError>
     requires steps { AreLookupSteps steps.now lookup.now }
     requires lengths { HasEqualLengths lookup.now }
-    requires within { IsWithin (layout_of traces.now) lookup.now }
+    requires within { IsWithin (layout_of (traces_of traces.now)) lookup.now }
     requires challenges { 2 * lookup.now.column + 1 < length challenges.now }
-    requires rows_exist { All (λ r. r < height_of traces.now) rows.now }
+    requires rows_exist { All (λ r. r < height_of (traces_of traces.now)) rows.now }
     requires branch_exists { branch < length lookup.now.elements.items }
     ensures flags { IfOk result (λ v. (v.flags ≡ flags) × (v.places ≡ places)) }
     ensures held { IfOk result (λ v. (place r : ℕ) (m : Message F)
         → slice_get rows.now place ≡ Some r
-        → slice_get (branches_at F.ring (window_of traces.now r) lookup.now.column lookup.now)
-        branch ≡ Some m
+        → slice_get (branches_at F.ring (window_of (traces_of traces.now) r) lookup.now.column
+        lookup.now) branch ≡ Some m
         → IsHeld (key_denominator EF.ring EF.embed challenges.now) place v m) }
 {
     let alpha = challenges[2 * lookup.column];
@@ -99,12 +98,12 @@ fn additive_columns<F: Field, EF: ExtensionDomain<F>>(
 ) -> Result<Vec<BranchColumns<F, EF>>, AllocError>
     requires steps { AreLookupSteps steps.now lookup.now }
     requires lengths { HasEqualLengths lookup.now }
-    requires within { IsWithin (layout_of traces.now) lookup.now }
+    requires within { IsWithin (layout_of (traces_of traces.now)) lookup.now }
     requires challenges { 2 * lookup.now.column + 1 < length challenges.now }
-    requires rows_exist { All (λ r. r < height_of traces.now) rows.now }
+    requires rows_exist { All (λ r. r < height_of (traces_of traces.now)) rows.now }
     ensures { IfOk result (λ v. (place r : ℕ) → slice_get rows.now place ≡ Some r
         → AllZip (IsHeld (key_denominator EF.ring EF.embed challenges.now) place) v.items
-        (branches_at F.ring (window_of traces.now r) lookup.now.column lookup.now)) }
+        (branches_at F.ring (window_of (traces_of traces.now) r) lookup.now.column lookup.now)) }
 {
     let mut branches = Vec::with_capacity(alloc, lookup.elements.len())?;
     for branch in 0..lookup.elements.len() {
@@ -139,14 +138,14 @@ fn exclusive_columns<F: Field, EF: ExtensionDomain<F>>(
 ) -> Result<Vec<BranchColumns<F, EF>>, AllocError>
     requires steps { AreLookupSteps steps.now lookup.now }
     requires lengths { HasEqualLengths lookup.now }
-    requires within { IsWithin (layout_of traces.now) lookup.now }
+    requires within { IsWithin (layout_of (traces_of traces.now)) lookup.now }
     requires challenges { 2 * lookup.now.column + 1 < length challenges.now }
-    requires rows_exist { All (λ r. r < height_of traces.now) rows.now }
+    requires rows_exist { All (λ r. r < height_of (traces_of traces.now)) rows.now }
     requires flag_steps { AllZip AreStepsOf steps.now.flags.items flags.now }
     requires flag_number { length flags.now ≡ length lookup.now.elements.items }
-    requires flags_fit { AllFit (layout_of traces.now) flags.now }
+    requires flags_fit { AllFit (layout_of (traces_of traces.now)) flags.now }
     ensures { IfOk result (λ v. (place r : ℕ) → slice_get rows.now place ≡ Some r
-        → let w = window_of traces.now r in
+        → let w = window_of (traces_of traces.now) r in
         HoldSelected F.ring (key_denominator EF.ring EF.embed challenges.now) place v.items
         (values F.ring w flags.now) (branches_at F.ring w lookup.now.column lookup.now)) }
 {
@@ -181,11 +180,11 @@ pub fn columns_of_lookup<F: Field, EF: ExtensionDomain<F>>(
 ) -> Result<Vec<BranchColumns<F, EF>>, AllocError>
     requires steps { AreLookupSteps steps.now lookup.now }
     requires lengths { HasEqualLengths lookup.now }
-    requires within { IsWithin (layout_of traces.now) lookup.now }
+    requires within { IsWithin (layout_of (traces_of traces.now)) lookup.now }
     requires challenges { 2 * lookup.now.column + 1 < length challenges.now }
-    requires rows_exist { All (λ r. r < height_of traces.now) rows.now }
+    requires rows_exist { All (λ r. r < height_of (traces_of traces.now)) rows.now }
     ensures { IfOk result (λ v. AreColumns F.ring EF.ring EF.embed challenges.now
-        (window_of traces.now) rows.now lookup.now v.items) }
+        (window_of (traces_of traces.now)) rows.now lookup.now v.items) }
 {
     match &lookup.flags {
         None => additive_columns(alloc, memory, lookup, steps, traces, challenges, rows),

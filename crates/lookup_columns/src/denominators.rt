@@ -5,13 +5,13 @@ ghost use Rattle.field.specs.Ring.{sub_in};
 ghost use Rattle.expressions.specs.declared.base_expression.SymbolicExpression.{SymbolicExpression};
 ghost use Rattle.lookup_columns.specs.Columns.{denominator_column};
 ghost use Rattle.lookup_columns.specs.Steps.{AreStepsOf, StepsFit};
-ghost use Rattle.lookup_columns.specs.Traces.{layout_of, height_of, window_of};
+ghost use Rattle.air.specs.Traces.{height_of, layout_of, traces_of, window_of};
 
 use crate::column::{column_of, push_alike};
 use crate::slots::Slots;
 use crate::spare::Spare;
 use crate::step::Step;
-use crate::traces::Traces;
+use air::Traces;
 use field::{Domain, ExtensionDomain, Field};
 use std::alloc::{AllocError, Global};
 
@@ -53,11 +53,11 @@ pub fn denominators_of<F: Field, EF: ExtensionDomain<F>>(
     alpha: EF,
     beta: EF,
 ) -> Result<Vec<EF>, AllocError>
-    requires fits { All (StepsFit (layout_of traces.now)) tuple.now }
-    requires rows_exist { All (λ r. r < height_of traces.now) rows.now }
+    requires fits { All (StepsFit (layout_of (traces_of traces.now))) tuple.now }
+    requires rows_exist { All (λ r. r < height_of (traces_of traces.now)) rows.now }
     ensures { (expressions : List (SymbolicExpression F)) → AllZip AreStepsOf tuple.now expressions
         → IfOk result (λ v. v.items ≡ denominator_column F.ring EF.ring EF.embed
-        (window_of traces.now) alpha beta
+        (window_of (traces_of traces.now)) alpha beta
         rows.now expressions) }
 {
     let mut denominators = spare.take(alloc, rows.len())?;

@@ -9,7 +9,8 @@ use Rattle.std.specs.List.{flat_map, range_with_len}
 use Rattle.std.specs.Option.{ForSome, option_map}
 use Rattle.std.specs.declared.alloc.Global.{Global}
 use Rattle.std.specs.declared.vec.Vec.{Vec}
-use Rattle.expressions.specs.Window.{Window, window_at}
+use Rattle.air.specs.Traces.{window_of}
+use Rattle.expressions.specs.Window.{Window}
 use Rattle.expressions.specs.declared.base_expression.SymbolicExpression.{SymbolicExpression}
 use Rattle.field.specs.Ring.{Ring}
 use Rattle.lookup_model.proofs.Branches.{length-branches_at, length-zipped, mapped_at, zipped_at, zipped_more}
@@ -17,7 +18,6 @@ use Rattle.lookup_model.specs.Message.{Message}
 use Rattle.lookup_model.specs.Records.{HasEqualLengths}
 use Rattle.lookup_model.specs.Sent.{branch_at, branches_at, flags_at, value, values}
 use Rattle.lookup_model.specs.declared.types.Lookup.{Lookup}
-use Rattle.matrix.specs.Matrix.{height}
 use Rattle.lookup_debug.specs.Appended.{Appends}
 use Rattle.lookup_debug.specs.Contributions.{Contribution, Place, Traced, amounts, contributions_at, contributions_from, contributions_on, nonzero}
 use Rattle.lookup_debug.specs.Walks.{IsWalk}
@@ -162,7 +162,7 @@ rows_more f n = ap (flat_map f) (range_more 0 n n (omega arith)) ∙ flat_map-ap
 -- One more row, which is that of this window.
 pub row_step : {F A : Type 0} {Ready : A → Type 0} {Does : A → A → List (Contribution F) → Type 0} (walk : IsWalk Ready Does) (R : Ring F) (eq : F → F → Bool) (instance place : ℕ) (t : Traced F) (lookup : Lookup F) (row : ℕ)
     (before now after : A) (w : Window F)
-    → w ≡ window_at t.main t.preprocessed t.public_values (height t.main) row
+    → w ≡ window_of t.traces row
     → Does before now (flat_map (contributions_on R eq instance place t lookup) (range_with_len 0 row))
     → Does now after (contributions_at R eq (record { instance = instance; lookup = place; row = row }) w lookup)
     → Does before after (flat_map (contributions_on R eq instance place t lookup) (range_with_len 0 (row + 1)))

@@ -1,14 +1,12 @@
 //! The debug check.
 ghost use Rattle.std.specs.Prelude.{◌≡◌, ◌⊎◌, All, IfOk, MatchResult, Some, map, slice_get, string_bytes};
-ghost use Rattle.std.specs.Option.{ForSome, option_copied};
-ghost use Rattle.expressions.specs.Layout.{layout_of_traces};
+ghost use Rattle.air.specs.Traces.{AreEven, layout_of};
 ghost use Rattle.lookup_debug.specs.Checks.{AnswersGroup, AnswersGroups, local_groups_in};
 ghost use Rattle.lookup_debug.specs.Contributions.{AreFitting, IsFitting, contributions_of, place_of, traced_of};
 ghost use Rattle.lookup_debug.specs.Groups.{bus_group, bus_names, is_missing, local_groups, local_label};
 ghost use Rattle.lookup_debug.specs.Mismatch.{AllBalance, HasParts, IsMismatch};
 ghost use Rattle.lookup_model.specs.Outline.{bus_of};
 ghost use Rattle.lookup_model.specs.Records.{LookupsFit};
-ghost use Rattle.matrix.specs.Matrix.{height};
 
 use crate::arena::Contributions;
 use crate::fault::{Location, LookupFault};
@@ -36,10 +34,9 @@ pub fn check_lookups<F: Field>(
     alloc: Global,
     instances: &[LookupDebugInstance<'_, F>],
 ) -> Result<(), LookupFault<F>>
-    requires fit { All (λ i. LookupsFit (layout_of_traces i.main_trace.now
-        (option_copied i.preprocessed_trace) i.public_values.now) i.lookups.now) instances.now }
-    requires heights { All (λ i. ForSome (option_copied i.preprocessed_trace)
-        (λ m. height m ≡ height i.main_trace.now)) instances.now }
+    requires fit { All (λ i. LookupsFit (layout_of (traced_of i).traces) i.lookups.now)
+        instances.now }
+    requires heights { All (λ i. AreEven (traced_of i).traces) instances.now }
     ensures { MatchResult result
         (λ _. AllBalance F.ring F.eq (map traced_of instances.now))
         (λ e. (e ≡ LookupFault.Memory)

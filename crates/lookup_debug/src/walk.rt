@@ -11,6 +11,7 @@ ghost use Rattle.lookup_model.specs.Records.{HasEqualLengths, IsWithin};
 use crate::fault::Location;
 use crate::groups::is_on_bus;
 use crate::instance::LookupDebugInstance;
+use air::Traces;
 use field::Field;
 use lookup_model::Lookup;
 use lookup_rows::{LookupTraceBuilder, row_builder};
@@ -58,16 +59,14 @@ pub(crate) fn walk_lookup<F: Field, V: RowVisitor<F>>(
     ensures { OnOk result (V.does visitor.old visitor.new
         (contributions_of F.ring F.eq instance place (traced_of traced.now) lookup.now)) }
 {
+    let traces = Traces {
+        main: traced.main_trace,
+        preprocessed: traced.preprocessed_trace,
+        public_values: traced.public_values,
+    };
     let rows = traced.main_trace.height();
     for row in 0..rows {
-        let builder = row_builder(
-            traced.main_trace,
-            traced.preprocessed_trace,
-            traced.public_values,
-            traced.permutation_challenges,
-            rows,
-            row,
-        );
+        let builder = row_builder(&traces, traced.permutation_challenges, rows, row);
         let location = Location {
             instance,
             lookup: place,

@@ -1,12 +1,12 @@
 -- Collected messages grow by lookups and rows, and the faults of flags by themselves.
-use Rattle.std.proofs.Common.{◌≡◌, ℕ, ◌+◌, ◌<◌, Bool, true, Option, None, Some, List, [], ◌∷◌, ◌++◌, length, take, drop, get_or, refl, sym, ap, ◌∙◌, arith}
+use Rattle.std.proofs.Common.{◌≡◌, ℕ, ◌+◌, ◌<◌, Bool, true, None, Some, List, [], ◌∷◌, ◌++◌, length, take, drop, get_or, refl, sym, ap, ◌∙◌, arith}
 use Rattle.std.proofs.Math.Seq.{take-append_seam}
 use Rattle.std.proofs.lemmas.List.{append-nil, append_assoc, flat_map_more, length-take}
 use Rattle.std.proofs.lemmas.List.FromFn.{get_or-map-range_with_len, length-map-range_with_len}
 use Rattle.std.specs.List.{flat_map, slice_get}
 use Rattle.field.specs.Ring.{Ring}
-use Rattle.matrix.specs.Matrix.{Matrix, height}
-use Rattle.expressions.specs.Window.{window_at}
+use Rattle.matrix.specs.Matrix.{height}
+use Rattle.air.specs.Traces.{AirTraces, window_of}
 use Rattle.lookup_model.specs.Fault.{are_boolean, flag_fault_of, set_places}
 use Rattle.lookup_model.specs.FlagFault.{row_flag_faults, sent_flag_fault, trace_flag_faults}
 use Rattle.lookup_model.specs.Message.{Message}
@@ -74,27 +74,27 @@ module _ {F : Type 0} (R : Ring F) (eq : F → F → Bool) where
   }
 
 -- row r is what the window of row r sends
-module _ {F : Type 0} (R : Ring F) (eq : F → F → Bool) (id : Lookup F → ℕ) (main : Matrix F) (preprocessed : Option (Matrix F)) (public_values : List F) (lookups : List (Lookup F)) where
+module _ {F : Type 0} (R : Ring F) (eq : F → F → Bool) (id : Lookup F → ℕ) (traces : AirTraces F) (lookups : List (Lookup F)) where
   abbrev all_rows : List (List (Sent F))
-  all_rows = sent_rows_under R eq id main preprocessed public_values lookups
+  all_rows = sent_rows_under R eq id traces lookups
 
   abbrev row_at : ℕ → List (Sent F)
-  row_at k = sent_row_under R eq id (window_at main preprocessed public_values (height main) k) lookups
+  row_at k = sent_row_under R eq id (window_of traces k) lookups
 
-  pub length-all_rows : length all_rows ≡ height main
-  length-all_rows = length-map-range_with_len row_at 0 (height main)
+  pub length-all_rows : length all_rows ≡ height traces.main
+  length-all_rows = length-map-range_with_len row_at 0 (height traces.main)
 
-  here : (r : ℕ) → r < height main → row_at r ≡ get_or all_rows r (row_at r)
-  here r lt = sym (get_or-map-range_with_len row_at 0 (height main) r r (row_at r) lt (omega arith))
+  here : (r : ℕ) → r < height traces.main → row_at r ≡ get_or all_rows r (row_at r)
+  here r lt = sym (get_or-map-range_with_len row_at 0 (height traces.main) r r (row_at r) lt (omega arith))
 
-  pub length-take-rows : (r : ℕ) → r < height main → length (take r all_rows) ≡ r
+  pub length-take-rows : (r : ℕ) → r < height traces.main → length (take r all_rows) ≡ r
   length-take-rows r lt = omega (arith, length-take r all_rows, length-all_rows, lt)
 
-  pub one_more_row : (r : ℕ) → r < height main → take (r + 1) all_rows ≡ take r all_rows ++ row_at r ∷ []
+  pub one_more_row : (r : ℕ) → r < height traces.main → take (r + 1) all_rows ≡ take r all_rows ++ row_at r ∷ []
   one_more_row r lt = take_item all_rows r (row_at r) (omega (arith, length-all_rows, lt)) (here r lt)
 
   -- where its flags have a fault, the first one of it is the first one of the trace
-  pub first_row_fault : (r : ℕ) → r < height main → (e : LookupError) → trace_flag_faults R eq (take r all_rows) ≡ [] → slice_get (row_flag_faults R eq r (row_at r)) 0 ≡ Some e → slice_get (trace_flag_faults R eq all_rows) 0 ≡ Some e
+  pub first_row_fault : (r : ℕ) → r < height traces.main → (e : LookupError) → trace_flag_faults R eq (take r all_rows) ≡ [] → slice_get (row_flag_faults R eq r (row_at r)) 0 ≡ Some e → slice_get (trace_flag_faults R eq all_rows) 0 ≡ Some e
   first_row_fault r lt e so_far fault =
       ap (λ t. slice_get (trace_flag_faults R eq t) 0) (split_at all_rows r (row_at r) (omega (arith, length-all_rows, lt)) (here r lt))
       ∙ trace_faults-first (sent_flag_fault R eq) r (take r all_rows) (drop (r + 1) all_rows) (row_at r) e (length-take-rows r lt) fault so_far

@@ -27,14 +27,14 @@ module _ {F K : Type 0} {E : Extension F K} (laws : IsLawful E) (table : Challen
   only_result instance fitting lawful none (auxiliary, terminal) satisfied = by_lookups instance.lookups refl
     where
       rows : List (List (Sent F))
-      rows = sent_rows E.base E.base_eq instance.main instance.preprocessed instance.public_values instance.lookups
+      rows = sent_rows E.base E.base_eq instance.traces instance.lookups
 
       others : List (List (Sent F))
       others = sent_rows_of E.base E.base_eq instance
 
       by_lookups : (ls : List (Lookup F)) → instance.lookups ≡ ls → (auxiliary, terminal) ≡ plain_result E table instance
       by_lookups [] is =
-          let none = shape-none instance.lookups (height instance.main) auxiliary terminal is satisfied.shape in
+          let none = shape-none instance.lookups (height instance.traces.main) auxiliary terminal is satisfied.shape in
           (λ i. (none.0 i, none.1 i))
           ∙ (λ i. (plain_matrix E (table_denominator E table) (sym is i) others, plain_terminal_of E (table_denominator E table) (sym is i) others))
       by_lookups (l ∷ ls) is =
@@ -42,7 +42,7 @@ module _ {F K : Type 0} {E : Extension F K} (laws : IsLawful E) (table : Challen
           let alike = alike_rows laws table instance fitting in
           let cold = column_den laws table instance fitting in
           let d = den laws table instance fitting in
-          let both = only_plain laws (column_challenges table instance.ids) instance.main instance.preprocessed instance.public_values instance.lookups fitting.fit.records some
+          let both = only_plain laws (column_challenges table instance.ids) instance.traces instance.lookups fitting.fit.records some
           (lawful_alike laws cold d _ _ alike lawful) (none_alike laws cold d _ _ alike none) auxiliary terminal satisfied (fitting.nonempty some) in
           λ i. ((both.0 ∙ same_matrix laws cold d instance.lookups _ _ alike) i, (both.1 ∙ same_terminal_of laws cold d instance.lookups _ _ alike) i)
 

@@ -26,12 +26,12 @@ module _ {F K : Type 0} {E : Extension F K} (laws : IsLawful E) (table : Challen
   cold challenges = column_denominator E challenges
 
   abbrev rows : List (List (Sent F))
-  rows = sent_rows E.base E.base_eq instance.main instance.preprocessed instance.public_values instance.lookups
+  rows = sent_rows E.base E.base_eq instance.traces instance.lookups
 
   abbrev pub ByColumns : List K → Result (Matrix K × Option (LookupTerminal K)) LookupError → Type 0
   ByColumns challenges result = MatchResult result
       (λ r. (r.0 ≡ plain_matrix E (cold challenges) instance.lookups rows) × (r.1 ≡ plain_terminal_of E (cold challenges) instance.lookups rows)
-      × (trace_faults E (cold challenges) rows ≡ []) × IsSatisfied E instance.main instance.preprocessed instance.public_values instance.lookups challenges r.0 r.1)
+      × (trace_faults E (cold challenges) rows ≡ []) × IsSatisfied E instance.traces instance.lookups challenges r.0 r.1)
       (λ e. (e ≡ Memory) ⊎ (slice_get (trace_faults E (cold challenges) rows) 0 ≡ Some e))
 
   pub by_table : (result : Result (Matrix K × Option (LookupTerminal K)) LookupError) → ByColumns (column_challenges table instance.ids) result → MatchResult result

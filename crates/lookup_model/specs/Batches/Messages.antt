@@ -19,7 +19,7 @@ id_of ids lookup = slice_index_or ids lookup.column 0
 module _ {F : Type 0} (R : Ring F) (eq : F → F → Bool) where
   -- what the lookups of an AIR send on each row of its traces, each under its id
   abbrev pub sent_rows_of : Instance F → List (List (Sent F))
-  sent_rows_of i = sent_rows_under R eq (id_of i.ids) i.main i.preprocessed i.public_values i.lookups
+  sent_rows_of i = sent_rows_under R eq (id_of i.ids) i.traces i.lookups
 
   -- all messages of a batch, AIR by AIR
   abbrev pub batch_messages : List (Instance F) → List (Message F)

@@ -29,7 +29,7 @@ module _ {F K : Type 0} (E : Extension F K) (table : ChallengeTable K) where
   -- the constraints of one AIR hold on all of its rows
   abbrev pub IsSatisfiedAt : Instance F → AirResult K → Type 0
   IsSatisfiedAt i r =
-      IsSatisfied E i.main i.preprocessed i.public_values i.lookups (column_challenges table i.ids) r.0 r.1
+      IsSatisfied E i.traces i.lookups (column_challenges table i.ids) r.0 r.1
 
   -- A witness is satisfied if it has a result for each AIR, and the constraints of each hold.
   abbrev pub AreSatisfied : List (Instance F) → List (AirResult K) → Type 0

@@ -8,14 +8,14 @@ use Rattle.lookup_columns.proofs.ZipLaws.{taken_more}
 use Rattle.lookup_model.proofs.Branches.{length-branches_at}
 use Rattle.lookup_model.specs.Message.{Message}
 use Rattle.lookup_model.specs.Sent.{branches_at}
-use Rattle.lookup_columns.specs.Traces.{window_of}
+use Rattle.air.specs.Traces.{traces_of, window_of}
 use Rattle.lookup_columns.proofs.branches.additive_columns.Goals as goal
 
 pub loop-branch-preserved : goal.loop-branch-preserved
 loop-branch-preserved g c = λ place r there.
     let R = g.F.PrimeCharacteristicRing.ring in
     let held = IsHeld (key_denominator g.EF.PrimeCharacteristicRing.ring g.EF.ExtensionDomain.embed c.args.challenges.now) place in
-    let w = window_of c.args.traces.now r in
+    let w = window_of (traces_of c.args.traces.now) r in
     let lookup = c.args.lookup.now in
     let i = c.loop-branch.branch in
     let ms = branches_at R w lookup.column lookup in
@@ -30,7 +30,7 @@ pub returns : goal.returns
 returns g c = λ place r there.
     let R = g.F.PrimeCharacteristicRing.ring in
     let held = IsHeld (key_denominator g.EF.PrimeCharacteristicRing.ring g.EF.ExtensionDomain.embed c.args.challenges.now) place in
-    let w = window_of c.args.traces.now r in
+    let w = window_of (traces_of c.args.traces.now) r in
     let lookup = c.args.lookup.now in
     let ms = branches_at R w lookup.column lookup in
     subst (λ (t : List (Message _)). AllZip held c.loop-branch.branches.items t)

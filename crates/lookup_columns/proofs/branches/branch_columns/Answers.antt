@@ -18,7 +18,7 @@ use Rattle.lookup_model.proofs.RecordLaws.{All-at}
 use Rattle.lookup_model.specs.Message.{Message}
 use Rattle.lookup_model.specs.Records.{AllFit, IsWithin}
 use Rattle.lookup_model.specs.Sent.{branch_at, branches_at, value, values}
-use Rattle.lookup_columns.specs.Traces.{layout_of, window_of}
+use Rattle.air.specs.Traces.{layout_of, traces_of, window_of}
 use Rattle.lookup_columns.proofs.branches.branch_columns.Goals as goal
 
 pub index-requires : goal.index-requires
@@ -32,7 +32,7 @@ index-requires-2 g c =
 pub column_of-requires-clause-fits : goal.column_of-requires-clause-fits
 unfolding IsWithin
 column_of-requires-clause-fits g c =
-    let layout = layout_of c.args.traces.now in
+    let layout = layout_of (traces_of c.args.traces.now) in
     let steps = c.args.steps.now.multiplicities.items in
     let es = c.args.lookup.now.multiplicities.items in
     let lt : c.args.branch < length steps = omega (arith, AllZip-long AreStepsOf steps es c.requires.steps.multiplicities, c.requires.lengths.multiplicities, c.requires.branch_exists) in
@@ -42,7 +42,7 @@ column_of-requires-clause-fits g c =
 pub denominators_of-requires-clause-fits : goal.denominators_of-requires-clause-fits
 unfolding IsWithin
 denominators_of-requires-clause-fits g c =
-    let layout = layout_of c.args.traces.now in
+    let layout = layout_of (traces_of c.args.traces.now) in
     let steps = c.args.steps.now.elements.items in
     let tuples = c.args.lookup.now.elements.items in
     let lt : c.args.branch < length steps = omega (arith, AllZip-long AreTupleSteps steps tuples c.requires.steps.elements, c.requires.branch_exists) in
@@ -58,7 +58,7 @@ returns-clause-held g c = λ place r m there m_there.
     let embed = g.EF.ExtensionDomain.embed in
     let challenges = c.args.challenges.now in
     let D = key_denominator S embed challenges in
-    let windows = window_of c.args.traces.now in
+    let windows = window_of (traces_of c.args.traces.now) in
     let w = windows r in
     let lookup = c.args.lookup.now in
     let column = lookup.column in

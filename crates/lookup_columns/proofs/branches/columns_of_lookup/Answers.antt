@@ -6,13 +6,13 @@ use Rattle.lookup_columns.specs.Steps.{AreStepsOf}
 use Rattle.lookup_columns.specs.ChunkColumns.{HoldSelected, key_denominator}
 use Rattle.lookup_model.specs.Records.{AllFit, IsWithin}
 use Rattle.lookup_model.specs.Sent.{branches_at, values}
-use Rattle.lookup_columns.specs.Traces.{layout_of, window_of}
+use Rattle.air.specs.Traces.{layout_of, traces_of, window_of}
 use Rattle.lookup_columns.proofs.branches.columns_of_lookup.Goals as goal
 
 pub exclusive_columns-requires-clause-flags_fit : goal.exclusive_columns-requires-clause-flags_fit
 unfolding IsWithin
 exclusive_columns-requires-clause-flags_fit g c =
-    let layout = layout_of c.args.traces.now in
+    let layout = layout_of (traces_of c.args.traces.now) in
     subst (λ (es : List (SymbolicExpression _)). AllFit layout es) (sym c.deref.ensures.value) (subst (λ (o : Option _). IfSome o (λ flags. AllFit layout flags.items)) c.in-Some.is c.requires.within.2)
 
 pub exclusive_columns-requires-clause-flag_steps : goal.exclusive_columns-requires-clause-flag_steps
@@ -33,7 +33,7 @@ returns-in-Some g c =
     let R = g.F.PrimeCharacteristicRing.ring in
     let D = key_denominator g.EF.PrimeCharacteristicRing.ring g.EF.ExtensionDomain.embed c.args.challenges.now in
     let lookup = c.args.lookup.now in
-    let windows = window_of c.args.traces.now in
+    let windows = window_of (traces_of c.args.traces.now) in
     IfOk-weaker c.exclusive_columns.result _ _
     (λ v are place r there. record {
       additive = λ none. absurd (cc (sym none ∙ c.in-Some.is));

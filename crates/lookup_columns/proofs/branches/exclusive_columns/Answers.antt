@@ -14,7 +14,7 @@ use Rattle.lookup_model.proofs.RecordLaws.{All-at}
 use Rattle.lookup_model.specs.Message.{Message}
 use Rattle.lookup_model.specs.Sent.{branches_at, value, values}
 use Rattle.matrix.specs.Matrix.{height}
-use Rattle.lookup_columns.specs.Traces.{layout_of, window_of}
+use Rattle.air.specs.Traces.{layout_of, traces_of, window_of}
 use Rattle.lookup_columns.proofs.branches.exclusive_columns.Goals as goal
 
 pub index-requires : goal.index-requires
@@ -23,7 +23,7 @@ index-requires g c =
 
 pub column_of-requires-clause-fits : goal.column_of-requires-clause-fits
 column_of-requires-clause-fits g c =
-    let layout = layout_of c.args.traces.now in
+    let layout = layout_of (traces_of c.args.traces.now) in
     let steps = c.args.steps.now.flags.items in
     let lt : c.loop-branch.branch < length steps = omega (arith, AllZip-long AreStepsOf steps c.args.flags.now c.requires.flag_steps, c.loop-branch-test.true) in
     subst (All (StepFits layout)) (sym c.deref.ensures.value)
@@ -35,7 +35,7 @@ selected_rows-requires g c =
     let lt : c.loop-branch.branch < length steps = omega (arith, AllZip-long AreStepsOf steps c.args.flags.now c.requires.flag_steps, c.loop-branch-test.true) in
     let flag_beside = beside AreStepsOf steps c.args.flags.now c.loop-branch.branch c.index.result.now c.requires.flag_steps lt c.index.ensures in
     let e = flag_beside.item in
-    let windows = window_of c.args.traces.now in
+    let windows = window_of (traces_of c.args.traces.now) in
     ap length c.deref-in-loop-branch.ensures.value ∙ ap length (c.in_ok-column.ensures (tree_of e) (c.deref.ensures.value ∙ flag_beside.holds)) ∙ length-map c.args.rows.now (λ row. value g.F.PrimeCharacteristicRing.ring (windows row) e)
 
 pub branch_columns-requires-clause-rows_exist : goal.branch_columns-requires-clause-rows_exist
@@ -46,7 +46,7 @@ pub loop-branch-preserved : goal.loop-branch-preserved
 loop-branch-preserved g c = λ place r there.
     let R = g.F.PrimeCharacteristicRing.ring in
     let D = key_denominator g.EF.PrimeCharacteristicRing.ring g.EF.ExtensionDomain.embed c.args.challenges.now in
-    let windows = window_of c.args.traces.now in
+    let windows = window_of (traces_of c.args.traces.now) in
     let w = windows r in
     let lookup = c.args.lookup.now in
     let flags = c.args.flags.now in
@@ -86,7 +86,7 @@ pub returns : goal.returns
 returns g c = λ place r there.
     let R = g.F.PrimeCharacteristicRing.ring in
     let D = key_denominator g.EF.PrimeCharacteristicRing.ring g.EF.ExtensionDomain.embed c.args.challenges.now in
-    let w = window_of c.args.traces.now r in
+    let w = window_of (traces_of c.args.traces.now) r in
     let lookup = c.args.lookup.now in
     let vals = values R w c.args.flags.now in
     let ms = branches_at R w lookup.column lookup in

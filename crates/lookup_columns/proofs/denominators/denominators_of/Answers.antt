@@ -5,7 +5,7 @@ use Rattle.std.specs.List.{zip}
 use Rattle.field.proofs.DotProduct.{drop_read}
 use Rattle.field.specs.Ring.{power, sub_in}
 use Rattle.lookup_columns.specs.Columns.{denominator_column}
-use Rattle.lookup_columns.specs.Traces.{layout_of, window_of}
+use Rattle.air.specs.Traces.{layout_of, traces_of, window_of}
 use Rattle.lookup_columns.proofs.LessenedLaws.{column_front, column_of_none, no_power, power_more}
 use Rattle.std.proofs.lemmas.Slice.Zip.{AllZip-long}
 use Rattle.lookup_columns.proofs.ZipLaws.{beside}
@@ -20,7 +20,7 @@ loop-left-init g c =
     let S = g.EF.PrimeCharacteristicRing.ring in
     let met = g.met.EF.PrimeCharacteristicRing in
     let steps = c.args.tuple.now in
-    let ws = window_of c.args.traces.now in
+    let ws = window_of (traces_of c.args.traces.now) in
     let none = sym (drop-length steps) in (
       omega arith,
       c.ONE-power.ensures ∙ met.one_is ∙ no_power S c.args.beta ∙ ap (λ l. power S c.args.beta (length l)) none,
@@ -39,7 +39,7 @@ bounds-tuple-left g c = omega (arith, c.loop-left.invariant.0, c.loop-left-test.
 
 pub column_of-requires-clause-fits : goal.column_of-requires-clause-fits
 column_of-requires-clause-fits g c =
-    let fits = StepFits (layout_of c.args.traces.now) in
+    let fits = StepFits (layout_of (traces_of c.args.traces.now)) in
     subst (λ (l : List _). All fits l) (sym c.deref.ensures.value)
     (All-at (λ v. All fits v.items) c.args.tuple.now (c.loop-left.left - 1) c.index-tuple-left.result c.requires.fits (omega (arith, c.loop-left.invariant.0, c.loop-left-test.true)) c.index-tuple-left.is)
 
@@ -51,7 +51,7 @@ loop-left-preserved g c =
     let embed = g.EF.ExtensionDomain.embed in
     let beta = c.args.beta in
     let steps = c.args.tuple.now in
-    let ws = window_of c.args.traces.now in
+    let ws = window_of (traces_of c.args.traces.now) in
     let left = c.loop-left.left in
     let step = c.index-tuple-left.result in
     let so_far = c.loop-left.invariant in
@@ -77,7 +77,7 @@ loop-left-preserved g c =
 pub returns : goal.returns
 returns g c = λ es are.
     let S = g.EF.PrimeCharacteristicRing.ring in
-    let ws = window_of c.args.traces.now in
+    let ws = window_of (traces_of c.args.traces.now) in
     let none_left : c.loop-left.left ≡ 0 = omega (arith, c.loop-left-test.false) in
     c.loop-left.invariant.2 es are
     ∙ ap (λ n. denominator_column g.F.PrimeCharacteristicRing.ring S g.EF.ExtensionDomain.embed ws c.args.alpha c.args.beta c.args.rows.now (drop n es)) none_left

@@ -2,9 +2,10 @@ use Rattle.std.proofs.Common.{◌≡◌, ◌<◌, ◌+◌, ◌-◌, ◌*◌, ◌
 use Rattle.std.proofs.lemmas.Result.{err_from_is_err_and}
 use Rattle.lookup_model.specs.Denominators.{column_denominator}
 use Rattle.field.specs.Extension.{extension}
-use Rattle.matrix.specs.Matrix.{height}
+use Rattle.air.specs.Traces.{height_of, traces_of}
 use Rattle.lookup_generation.proofs.ProgressLaws.{product_joined}
-use Rattle.lookup_generation.specs.Progress.{HasRows, sent_rows_of, started_chunks}
+use Rattle.lookup_generation.specs.Progress.{HasRows, started_chunks}
+use Rattle.lookup_model.specs.Trace.{sent_rows}
 use Rattle.lookup_generation.proofs.generation.generate.Goals as goal
 
 pub loop-first-preserved : goal.loop-first-preserved
@@ -31,7 +32,7 @@ pub returns-in_err-accumulator-clause-spared : goal.returns-in_err-accumulator-c
 returns-in_err-accumulator-clause-spared g c =
     let before = c.loop-first.invariant in
     let p = err_from_is_err_and c.from_residual-in_err-accumulator.result c.from_residual-in_err-accumulator.ensures.1 in
-    let further : started_chunks c.loop-first.first < started_chunks (height c.args.traces.now.main.now) = elim before.1 [
+    let further : started_chunks c.loop-first.first < started_chunks (height_of (traces_of c.args.traces.now)) = elim before.1 [
       | inl even ↦ omega (arith, even, c.loop-first-test.true, c.height-height.ensures.height)
       | inr last ↦ absurd (omega (arith, last, c.loop-first-test.true, c.height-height.ensures.height))
     ] in
@@ -48,8 +49,8 @@ returns-in_err-accumulator-clause-rows g c = λ inverse is_inverse.
 pub returns-clause-rows : goal.returns-clause-rows
 returns-clause-rows g c = λ inverse is_inverse.
     let E = extension g.F.PrimeCharacteristicRing.ring g.F.PartialEq.eq g.EF.PrimeCharacteristicRing.ring g.EF.PartialEq.eq g.EF.ExtensionDomain.embed inverse in
-    let all : c.loop-first.first ≡ height c.args.traces.now.main.now = omega (arith, c.loop-first-test.false, c.loop-first.invariant.0, c.height-height.ensures.height) in
-    subst (λ r. HasRows E (column_denominator E c.args.challenges.now) (sent_rows_of E.base E.base_eq c.args.traces.now c.args.lookups.now) r c.loop-first.cells.items c.loop-first.accumulator) all (c.loop-first.invariant.5 inverse is_inverse)
+    let all : c.loop-first.first ≡ height_of (traces_of c.args.traces.now) = omega (arith, c.loop-first-test.false, c.loop-first.invariant.0, c.height-height.ensures.height) in
+    subst (λ r. HasRows E (column_denominator E c.args.challenges.now) (sent_rows E.base E.base_eq (traces_of c.args.traces.now) c.args.lookups.now) r c.loop-first.cells.items c.loop-first.accumulator) all (c.loop-first.invariant.5 inverse is_inverse)
 
 pub push_chunk-requires-clause-fit : goal.push_chunk-requires-clause-fit
 push_chunk-requires-clause-fit g c = c.requires.fit

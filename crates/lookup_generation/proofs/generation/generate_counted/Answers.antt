@@ -3,8 +3,7 @@ use Rattle.std.proofs.lemmas.Bool.{eqb-true, eqb-false}
 use Rattle.std.proofs.lemmas.List.{nil_from_length}
 use Rattle.std.proofs.lemmas.Result.{err_from_is_err_and}
 use Rattle.std.specs.List.{range_with_len}
-use Rattle.std.specs.Option.{option_copied}
-use Rattle.matrix.specs.Matrix.{height}
+use Rattle.air.specs.Traces.{height_of, traces_of}
 use Rattle.lookup_model.specs.Denominators.{column_denominator}
 use Rattle.field.specs.Extension.{extension, IsLawful}
 use Rattle.field.specs.laws.Extension.{lawful_extension}
@@ -23,34 +22,33 @@ returns-then-is_empty-clause-answers g c = λ inverse is_inverse.
     let E = extension g.F.PrimeCharacteristicRing.ring g.F.PartialEq.eq g.EF.PrimeCharacteristicRing.ring g.EF.PartialEq.eq g.EF.ExtensionDomain.embed inverse in
     let denominator = column_denominator E c.args.challenges.now in
     let none : c.args.lookups.now ≡ [] = nil_from_length c.args.lookups.now (eqb-true (length c.args.lookups.now) 0 (sym c.is_empty.ensures ∙ c.if-is_empty.true)) in
-    let rows = λ (ls : List _). sent_rows E.base E.base_eq c.args.main.now (option_copied c.args.preprocessed) c.args.public_values.now ls in (
+    let rows = λ (ls : List _). sent_rows E.base E.base_eq (traces_of c.args.traces.now) ls in (
       c.new-then-is_empty.ensures ∙ (λ i. record { values = c.new.ensures.items i; width = 0 }) ∙ (λ i. plain_matrix E denominator (sym none i) (rows (sym none i))),
       (λ i. plain_terminal_of E denominator (sym none i) (rows (sym none i))),
-      (λ i. trace_faults E denominator (rows (none i))) ∙ faultless_rows E denominator 0 (range_with_len 0 (height c.args.main.now)),
-      none_satisfied E c.args.main.now (option_copied c.args.preprocessed) c.args.public_values.now c.args.challenges.now c.args.lookups.now _ none (c.new-then-is_empty.ensures ∙ (λ i. record { values = c.new.ensures.items i; width = 0 })),
+      (λ i. trace_faults E denominator (rows (none i))) ∙ faultless_rows E denominator 0 (range_with_len 0 (height_of (traces_of c.args.traces.now))),
+      none_satisfied E (traces_of c.args.traces.now) c.args.challenges.now c.args.lookups.now _ none (c.new-then-is_empty.ensures ∙ (λ i. record { values = c.new.ensures.items i; width = 0 })),
     )
 
 pub new-requires-2 : goal.new-requires-2
-new-requires-2 g c = IsShaped-product c.in_ok-cells.cells.items (height c.args.main.now) (length c.args.lookups.now) c.in_ok-cells.ensures.many
+new-requires-2 g c = IsShaped-product c.in_ok-cells.cells.items (height_of (traces_of c.args.traces.now)) (length c.args.lookups.now) c.in_ok-cells.ensures.many
 
 pub returns-clause-answers : goal.returns-clause-answers
 returns-clause-answers g c = λ inverse is_inverse.
     let E = extension g.F.PrimeCharacteristicRing.ring g.F.PartialEq.eq g.EF.PrimeCharacteristicRing.ring g.EF.PartialEq.eq g.EF.ExtensionDomain.embed inverse in
     let laws : IsLawful E = lawful_extension g.F.PrimeCharacteristicRing.lawful g.met.F.PrimeCharacteristicRing.eq_is g.EF.PrimeCharacteristicRing.lawful g.met.EF.Domain.domain g.met.EF.PrimeCharacteristicRing.eq_is g.met.EF.ExtensionDomain.embeds is_inverse in
     let denominator = column_denominator E c.args.challenges.now in
-    let prep = option_copied c.args.preprocessed in
-    let rows = sent_rows E.base E.base_eq c.args.main.now prep c.args.public_values.now c.args.lookups.now in
-    let h = height c.args.main.now in
-    let high = length-sent_rows E.base E.base_eq c.args.main.now prep c.args.public_values.now c.args.lookups.now in
+    let rows = sent_rows E.base E.base_eq (traces_of c.args.traces.now) c.args.lookups.now in
+    let h = height_of (traces_of c.args.traces.now) in
+    let high = length-sent_rows E.base E.base_eq (traces_of c.args.traces.now) c.args.lookups.now in
     let filled = eqb-false (length c.args.lookups.now) 0 (sym c.is_empty.ensures ∙ c.if-is_empty.false) in
     let some : 0 < length c.args.lookups.now = omega (arith, filled) in (
       c.new-2.ensures ∙ (λ i. record { values = cells_plain laws denominator rows h _ _ high (c.in_ok-cells.ensures.rows inverse is_inverse) i; width = length c.args.lookups.now + 1 }) ∙ sym (plain_matrix-some E denominator c.args.lookups.now rows some),
       (λ i. Some (record { 0 = accumulator_plain laws denominator rows h _ _ high (c.in_ok-cells.ensures.rows inverse is_inverse) i })) ∙ sym (plain_terminal_of-some E denominator c.args.lookups.now rows some),
       faultless_trace laws denominator rows h _ _ high (c.in_ok-cells.ensures.rows inverse is_inverse),
-      subst₂ (IsSatisfied E c.args.main.now prep c.args.public_values.now c.args.lookups.now c.args.challenges.now)
+      subst₂ (IsSatisfied E (traces_of c.args.traces.now) c.args.lookups.now c.args.challenges.now)
           (sym (c.new-2.ensures ∙ (λ i. record { values = cells_plain laws denominator rows h _ _ high (c.in_ok-cells.ensures.rows inverse is_inverse) i; width = length c.args.lookups.now + 1 })))
           (λ i. Some (record { 0 = sym (accumulator_plain laws denominator rows h _ _ high (c.in_ok-cells.ensures.rows inverse is_inverse)) i }))
-          (plain_satisfied laws c.args.challenges.now c.args.main.now prep c.args.public_values.now c.args.lookups.now c.requires.fit.records some (faultless_trace laws denominator rows h _ _ high (c.in_ok-cells.ensures.rows inverse is_inverse))),
+          (plain_satisfied laws c.args.challenges.now (traces_of c.args.traces.now) c.args.lookups.now c.requires.fit.records some (faultless_trace laws denominator rows h _ _ high (c.in_ok-cells.ensures.rows inverse is_inverse))),
     )
 
 pub returns-in_err-cells-clause-answers : goal.returns-in_err-cells-clause-answers

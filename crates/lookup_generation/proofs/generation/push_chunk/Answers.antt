@@ -4,11 +4,11 @@ use Rattle.std.proofs.lemmas.List.Elements.{recursion_from_All}
 use Rattle.std.proofs.lemmas.List.FromFn.{length-map-range_with_len}
 use Rattle.std.proofs.lemmas.Result.{err_from_is_err_and}
 use Rattle.std.specs.List.{AllZip, slice_index_or}
-use Rattle.std.specs.Option.{option_copied}
+use Rattle.air.specs.Traces.{traces_of}
 use Rattle.lookup_generation.proofs.ColumnsOfMatrix.{column_cells-are}
 use Rattle.lookup_generation.proofs.ProgressLaws.{HasCells-more, product_more}
 use Rattle.lookup_generation.specs.Fraction.{AreWhole, IsRatio}
-use Rattle.lookup_generation.specs.Progress.{HasCells, all_fractions, column_cells, sent_rows_of}
+use Rattle.lookup_generation.specs.Progress.{HasCells, all_fractions, column_cells}
 use Rattle.lookup_generation.specs.declared.ratio.Ratio.{Ratio}
 use Rattle.lookup_model.proofs.Lookups.PlainResults.{IsShaped-product, height_of}
 use Rattle.lookup_model.proofs.Lookups.SentRows.{length-sent_rows}
@@ -43,7 +43,7 @@ loop-place-init g c = (
   λ inverse is_inverse.
       let E = extension g.F.PrimeCharacteristicRing.ring g.F.PartialEq.eq g.EF.PrimeCharacteristicRing.ring g.EF.PartialEq.eq g.EF.ExtensionDomain.embed inverse in
       let here : c.args.first ≡ c.args.first + 0 = omega arith in
-      subst (λ r. HasCells E (column_denominator E c.args.challenges.now) (sent_rows_of E.base E.base_eq c.args.traces.now c.args.lookups.now) r c.args.cells.now.items c.args.accumulator) here (c.requires.so_far inverse is_inverse).made,
+      subst (λ r. HasCells E (column_denominator E c.args.challenges.now) (sent_rows E.base E.base_eq (traces_of c.args.traces.now) c.args.lookups.now) r c.args.cells.now.items c.args.accumulator) here (c.requires.so_far inverse is_inverse).made,
   omega arith,
 )
 
@@ -53,13 +53,12 @@ loop-place-preserved g c = (
       let E = extension g.F.PrimeCharacteristicRing.ring g.F.PartialEq.eq g.EF.PrimeCharacteristicRing.ring g.EF.PartialEq.eq g.EF.ExtensionDomain.embed inverse in
       let laws : IsLawful E = lawful_extension g.F.PrimeCharacteristicRing.lawful g.met.F.PrimeCharacteristicRing.eq_is g.EF.PrimeCharacteristicRing.lawful g.met.EF.Domain.domain g.met.EF.PrimeCharacteristicRing.eq_is g.met.EF.ExtensionDomain.embeds is_inverse in
       let denominator = column_denominator E c.args.challenges.now in
-      let prep = option_copied c.args.traces.now.preprocessed in
-      let rows = sent_rows E.base E.base_eq c.args.traces.now.main.now prep c.args.traces.now.public_values.now c.args.lookups.now in
+      let rows = sent_rows E.base E.base_eq (traces_of c.args.traces.now) c.args.lookups.now in
       let first = c.args.first in
       let n = c.args.end - first in
       let one : n ≡ (n - 1) + 1 = omega (arith, c.requires.from) in
-      let high = length-sent_rows E.base E.base_eq c.args.traces.now.main.now prep c.args.traces.now.public_values.now c.args.lookups.now in
-      let fs = all_fractions E denominator c.args.traces.now c.args.lookups.now first n in
+      let high = length-sent_rows E.base E.base_eq (traces_of c.args.traces.now) c.args.lookups.now in
+      let fs = all_fractions E denominator (traces_of c.args.traces.now) c.args.lookups.now first n in
       let values = c.in_ok-values.values.items in
       let are : values ≡ fs = c.in_ok-values.ensures.values fs (subst (λ rs. AllZip (IsRatio E.ring) rs fs) (sym c.deref.ensures.value) (c.in_ok-ratios.ensures.answers inverse is_inverse).ratios_are) in
       let long : length values ≡ length c.args.lookups.now * ((n - 1) + 1) = c.in_ok-values.ensures.many ∙ ap length c.deref.ensures.value ∙ c.in_ok-ratios.ensures.defined.many ∙ ap (λ w. length c.args.lookups.now * w) one in
@@ -67,7 +66,7 @@ loop-place-preserved g c = (
       let tall : height matrix ≡ length c.args.lookups.now = ap height c.new-fractions.ensures ∙ ap (λ w. height (record { values = values; width = w })) one ∙ height_of values (length c.args.lookups.now) (n - 1) long in
       let place = c.loop-place.place in
       let below : first + place < height c.args.traces.now.main.now = omega (arith, c.loop-place-test.true, c.requires.up_to, c.requires.from) in
-      let here = column_cells-are E denominator c.args.traces.now c.args.lookups.now matrix first n place (ap (λ t. t.width) c.new-fractions.ensures) tall (ap (λ t. t.values) c.new-fractions.ensures ∙ are) c.loop-place-test.true below in
+      let here = column_cells-are E denominator (traces_of c.args.traces.now) c.args.lookups.now matrix first n place (ap (λ t. t.width) c.new-fractions.ensures) tall (ap (λ t. t.values) c.new-fractions.ensures ∙ are) c.loop-place-test.true below in
       let next : (first + place) + 1 ≡ first + (place + 1) = omega arith in
       subst (λ r. HasCells E denominator rows r c.push_row.new.cells.items c.in_ok-next.next) next
       (HasCells-more laws denominator rows (first + place) c.loop-place.cells.items c.push_row.new.cells.items (column_cells E.ring.zero matrix place) c.loop-place.next c.in_ok-next.next (omega (arith, high, below)) here c.in_ok-next.ensures.0 c.in_ok-next.ensures.1 (c.loop-place.invariant.0 inverse is_inverse)),
@@ -91,7 +90,7 @@ returns-clause-rows g c = λ inverse is_inverse.
     let E = extension g.F.PrimeCharacteristicRing.ring g.F.PartialEq.eq g.EF.PrimeCharacteristicRing.ring g.EF.PartialEq.eq g.EF.ExtensionDomain.embed inverse in
     let all : c.args.first + c.loop-place.place ≡ c.args.end = omega (arith, c.loop-place-test.false, c.loop-place.auto.place-end, c.requires.from) in
     record {
-      made = subst (λ r. HasCells E (column_denominator E c.args.challenges.now) (sent_rows_of E.base E.base_eq c.args.traces.now c.args.lookups.now) r c.loop-place.cells.items c.loop-place.next) all (c.loop-place.invariant.0 inverse is_inverse);
+      made = subst (λ r. HasCells E (column_denominator E c.args.challenges.now) (sent_rows E.base E.base_eq (traces_of c.args.traces.now) c.args.lookups.now) r c.loop-place.cells.items c.loop-place.next) all (c.loop-place.invariant.0 inverse is_inverse);
       faultless = (c.in_ok-ratios.ensures.answers inverse is_inverse).faultless;
     }
 

@@ -3,7 +3,7 @@ use Rattle.std.proofs.lemmas.Slice.Zip.{AllZip-long}
 use Rattle.std.specs.List.{slice_get}
 use Rattle.std.specs.declared.alloc.Global.{Global}
 use Rattle.std.specs.declared.vec.Vec.{Vec}
-use Rattle.lookup_columns.specs.Traces.{height_of, window_of}
+use Rattle.air.specs.Traces.{height_of, traces_of, window_of}
 use Rattle.field.specs.laws.Extension.{lawful_extension}
 use Rattle.lookup_model.specs.Denominators.{column_denominator}
 use Rattle.field.specs.Extension.{extension, IsLawful}
@@ -19,7 +19,7 @@ use Rattle.lookup_generation.proofs.generation.ratios_of.Goals as goal
 pub columns_of_lookups-requires-clause-rows_exist :
     goal.columns_of_lookups-requires-clause-rows_exist
 columns_of_lookups-requires-clause-rows_exist g c =
-    range_below c.args.first (c.args.end - c.args.first) (height_of c.args.traces.now) c.deref.result.now (c.deref.ensures.value ∙ c.in_ok-rows.ensures) (omega (arith, c.requires.from, c.requires.up_to))
+    range_below c.args.first (c.args.end - c.args.first) (height_of (traces_of c.args.traces.now)) c.deref.result.now (c.deref.ensures.value ∙ c.in_ok-rows.ensures) (omega (arith, c.requires.from, c.requires.up_to))
 
 pub push_columns-requires-clause-columns : goal.push_columns-requires-clause-columns
 push_columns-requires-clause-columns g c = λ row low high.
@@ -27,7 +27,7 @@ push_columns-requires-clause-columns g c = λ row low high.
     let S = g.EF.PrimeCharacteristicRing.ring in
     let embed = g.EF.ExtensionDomain.embed in
     let challenges = c.args.challenges.now in
-    let windows = window_of c.args.traces.now in
+    let windows = window_of (traces_of c.args.traces.now) in
     let place = row - c.args.first in
     let rows = c.deref.result.now in
     let here : c.args.first + place ≡ row = omega (arith, low) in
@@ -41,7 +41,7 @@ push_columns-requires-clause-columns g c = λ row low high.
 
 pub push_columns-requires-clause-wide : goal.push_columns-requires-clause-wide
 push_columns-requires-clause-wide g c =
-    let all = λ (lookup : Lookup _) (columns : Vec (BranchColumns _ _) Global). AreColumns g.F.PrimeCharacteristicRing.ring g.EF.PrimeCharacteristicRing.ring g.EF.ExtensionDomain.embed c.args.challenges.now (window_of c.args.traces.now) c.deref.result.now lookup columns.items in
+    let all = λ (lookup : Lookup _) (columns : Vec (BranchColumns _ _) Global). AreColumns g.F.PrimeCharacteristicRing.ring g.EF.PrimeCharacteristicRing.ring g.EF.ExtensionDomain.embed c.args.challenges.now (window_of (traces_of c.args.traces.now)) c.deref.result.now lookup columns.items in
     ap length c.deref-2.ensures.value ∙ AllZip-long all c.args.lookups.now c.in_ok-columns.columns.items c.in_ok-columns.ensures
 
 pub returns-in_ok-put_columns-in-None-clause-answers : goal.returns-in_ok-put_columns-in-None-clause-answers
@@ -50,9 +50,9 @@ returns-in_ok-put_columns-in-None-clause-answers g c = λ inverse is_inverse.
     let laws : IsLawful E = lawful_extension g.F.PrimeCharacteristicRing.lawful g.met.F.PrimeCharacteristicRing.eq_is g.EF.PrimeCharacteristicRing.lawful g.met.EF.Domain.domain g.met.EF.PrimeCharacteristicRing.eq_is g.met.EF.ExtensionDomain.embeds is_inverse in
     let denominator = column_denominator E c.args.challenges.now in
     let ratios = c.push_columns.new.ratios.items in
-    let none : HasColumns E denominator c.args.traces.now c.args.lookups.now c.args.first c.args.end ratios =
-    subst (AnswersColumns E denominator c.args.traces.now c.args.lookups.now c.args.first c.args.end ratios) c.in-None.is (c.in_ok-fault.ensures.answers inverse is_inverse) in
-    AreRatios-found laws denominator c.args.traces.now c.args.lookups.now c.args.first c.args.end ratios c.requires.from c.requires.up_to (c.requires.faultless inverse is_inverse) none
+    let none : HasColumns E denominator (traces_of c.args.traces.now) c.args.lookups.now c.args.first c.args.end ratios =
+    subst (AnswersColumns E denominator (traces_of c.args.traces.now) c.args.lookups.now c.args.first c.args.end ratios) c.in-None.is (c.in_ok-fault.ensures.answers inverse is_inverse) in
+    AreRatios-found laws denominator (traces_of c.args.traces.now) c.args.lookups.now c.args.first c.args.end ratios c.requires.from c.requires.up_to (c.requires.faultless inverse is_inverse) none
 
 pub returns-in-Some-clause-answers : goal.returns-in-Some-clause-answers
 returns-in-Some-clause-answers g c = λ inverse is_inverse.
@@ -61,9 +61,9 @@ returns-in-Some-clause-answers g c = λ inverse is_inverse.
     let denominator = column_denominator E c.args.challenges.now in
     let fault = c.in-Some.field-0 in
     let there = subst (λ (f : Option RowFault). IfSome f (λ x. (c.args.first ≤ x.row) × (x.row < c.args.end))) c.in-Some.is c.in_ok-fault.ensures.there in
-    let found : AreFirstIn E denominator c.args.traces.now c.args.lookups.now c.args.first fault =
-    subst (AnswersColumns E denominator c.args.traces.now c.args.lookups.now c.args.first c.args.end c.push_columns.new.ratios.items) c.in-Some.is (c.in_ok-fault.ensures.answers inverse is_inverse) in
-    first_found laws denominator c.args.traces.now c.args.lookups.now c.args.first fault there.0 (omega (arith, there.1, c.requires.up_to)) (c.requires.faultless inverse is_inverse) found
+    let found : AreFirstIn E denominator (traces_of c.args.traces.now) c.args.lookups.now c.args.first fault =
+    subst (AnswersColumns E denominator (traces_of c.args.traces.now) c.args.lookups.now c.args.first c.args.end c.push_columns.new.ratios.items) c.in-Some.is (c.in_ok-fault.ensures.answers inverse is_inverse) in
+    first_found laws denominator (traces_of c.args.traces.now) c.args.lookups.now c.args.first fault there.0 (omega (arith, there.1, c.requires.up_to)) (c.requires.faultless inverse is_inverse) found
 
 pub rows_between-requires : goal.rows_between-requires
 rows_between-requires g c = c.requires.from
