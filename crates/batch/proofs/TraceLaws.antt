@@ -108,7 +108,7 @@ module _ {F : Type 0} where
     first_unfit unfit =
         let (b, is, there) = trace_there bs heights i same lt in
         record {
-          place = i;
+          index = i;
           item = (instance_of b, get_or heights i 0);
           is_there = there;
           before = so_far;

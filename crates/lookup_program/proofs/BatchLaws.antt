@@ -228,9 +228,9 @@ module _ {F K : Type 0} (E : Extension F K) (alpha beta : K) (input : Matrix F) 
     -- or the first fault is that of the machine
     pub first_fault_is : (fault : BatchFault) → IsFirstInstanceFault E table (map instance traces) fault → IsFirstFault E machine alpha beta input (of_batch (of_fault fault))
     first_fault_is fault first =
-        let air = air_at first.place first.item first.is_there in
+        let air = air_at first.index first.item first.is_there in
         record {
-          place = first.place;
+          index = first.index;
           item = air.0;
           is_there = air.1;
           before = λ i other lt there. let x = instance_at i other there in sym x.2 ∙ first.before i x.0 lt x.1;

@@ -82,7 +82,7 @@ module _ {F : Type 0} where
     pub no_local_mismatch : ¬ IsFirstLocalMismatch airs e
     no_local_mismatch first =
         let inner = first.fault in
-        let tuples = there_holds (λ l. All (λ tuple. length tuple.items ≡ 1) l.elements.items) (lookups_of first.item) inner.place inner.item (there_holds AreOnes airs first.place first.item ones first.is_there) inner.is_there in
+        let tuples = there_holds (λ l. All (λ tuple. length tuple.items ≡ 1) l.elements.items) (lookups_of first.item) inner.index inner.item (there_holds AreOnes airs first.index first.item ones first.is_there) inner.is_there in
         let widths : All (λ w. w ≡ 1) (lookup_widths inner.item) = All-map (λ w. w ≡ 1) (λ tuple. length tuple.items) inner.item.elements.items tuples in
         let differ = inner.fault.differ in
         let width : inner.fault.width ≡ 1 = there_holds (λ w. w ≡ 1) (lookup_widths inner.item) 0 inner.fault.width widths differ.first in

@@ -21,7 +21,7 @@ returns-in-Err g c =
       | inr other ↦ elim c.in-Err.ensures [
         | inl memory ↦ absurd (other.0 memory)
         | inr fault ↦ inr (record {
-          place = c.loop-air.air;
+          index = c.loop-air.air;
           item = instance_of instance;
           is_there = here;
           before = c.loop-air.invariant.faultless;
