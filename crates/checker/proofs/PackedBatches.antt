@@ -5,7 +5,7 @@ use Rattle.std.proofs.lemmas.List.Sorted.{All-permutation, IsPermutation-append,
 use Rattle.std.specs.List.{AllByRecursion, AllZip}
 use Rattle.std.specs.List.Sorted.{IsPermutation}
 use Rattle.field.specs.Ring.{Ring}
-use Rattle.matrix.specs.Matrix.{Matrix}
+use Rattle.air.specs.Traces.{AirTraces}
 use Rattle.lookup_model.specs.Challenges.{ChallengeTable, table_denominator}
 use Rattle.field.specs.Extension.{Extension, IsLawful}
 use Rattle.lookup_model.specs.Message.{Message}
@@ -28,12 +28,9 @@ module _ {F : Type 0} (R : Ring F) (eq : F → F → Bool) where
   one_kept before after (inl same) =
       subst (λ (i : Instance F). IsPermutation (trace_messages (sent_rows_of R eq before)) (trace_messages (sent_rows_of R eq i))) (sym same) (IsPermutation-refl (trace_messages (sent_rows_of R eq before)))
   one_kept before after (inr packed) =
-      let Same : Matrix F → Option (Matrix F) → List F → Type 0 = λ main preprocessed public_values.
-      IsPermutation (trace_messages (sent_rows_of R eq before)) (trace_messages (sent_rows_under R eq (id_of after.ids) main preprocessed public_values after.lookups)) in
-      subst (λ (m : Matrix F). Same m after.preprocessed after.public_values) (sym packed.main)
-      (subst (λ (p : Option (Matrix F)). Same before.main p after.public_values) (sym packed.preprocessed)
-      (subst (λ (v : List F). Same before.main before.preprocessed v) (sym packed.public_values)
-      (trace_kept R eq before.lookups after.lookups packed.messages (id_of before.ids) (id_of after.ids) packed.ids before.main before.preprocessed before.public_values)))
+      let Same : AirTraces F → Type 0 = λ traces.
+      IsPermutation (trace_messages (sent_rows_of R eq before)) (trace_messages (sent_rows_under R eq (id_of after.ids) traces after.lookups)) in
+      subst Same (sym packed.traces) (trace_kept R eq before.lookups after.lookups packed.messages (id_of before.ids) (id_of after.ids) packed.ids before.traces)
 
   -- so does the whole batch
   batch_kept : (before after : List (Instance F)) → ArePacked R eq before after → IsPermutation (batch_messages R eq before) (batch_messages R eq after)

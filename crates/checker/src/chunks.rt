@@ -7,11 +7,11 @@ ghost use Rattle.matrix.specs.Matrix.{height};
 
 use crate::accumulator::accumulator_holds_until;
 use crate::fractions::fraction_holds_until;
-use air::RowInputs;
+use air::{RowInputs, Traces};
 use field::{ExtensionField, Field, Over};
 use lookup::Lookup;
 use lookup_columns::{
-    ColumnMemory, LookupSteps, Traces, columns_of_lookup, rows_between, steps_of_lookups,
+    ColumnMemory, LookupSteps, columns_of_lookup, rows_between, steps_of_lookups,
 };
 use lookup_generation::chunk_end;
 use std::alloc::{AllocError, Global};

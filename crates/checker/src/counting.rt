@@ -6,6 +6,7 @@ ghost use Rattle.lookup_model.specs.Batches.Ids.{AreLawfulIds};
 ghost use Rattle.lookup_model.specs.Batches.Instances.{InstancesFit, IsFitting, instance_of, instances_of};
 ghost use Rattle.checker.specs.Collected.{GivesMessages, IsCountOf, PushesMessages};
 
+use air::Traces;
 use field::{ExtensionField, Field, Over};
 use lookup::LookupError;
 use lookup_model::{BatchFault, BatchInstance, SoundnessCount};
@@ -69,15 +70,12 @@ fn push_instance<F: Field>(
     ensures { PushesMessages F.ring F.eq (instance_of instance.now) messages.old.items
         messages.new.items result }
 {
-    push_messages(
-        alloc,
-        messages,
-        instance.main,
-        instance.preprocessed,
-        instance.public_values,
-        instance.lookups,
-        instance.ids,
-    )
+    let traces = Traces {
+        main: instance.main,
+        preprocessed: instance.preprocessed,
+        public_values: instance.public_values,
+    };
+    push_messages(alloc, messages, &traces, instance.lookups, instance.ids)
 }
 
 /// The counts of a batch whose messages are counted: the last step of `soundness_count`, which needs no

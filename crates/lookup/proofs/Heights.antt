@@ -13,7 +13,7 @@ use Rattle.field.specs.laws.RingFacts.{neg_neg, neg_zero, of_nat-add}
 use Rattle.field.specs.laws.RingSolver.{var, con, :neg, ◌:+◌, ring_given}
 use Rattle.field.specs.Sums.{sum_in}
 use Rattle.matrix.specs.Matrix.{height}
-use Rattle.expressions.specs.Window.{window_at}
+use Rattle.air.specs.Traces.{window_of}
 use Rattle.lookup_model.specs.Plain.{trace_messages}
 use Rattle.lookup_model.specs.Sent.{Sent, sent_at}
 use Rattle.lookup_model.specs.declared.types.Lookup.{Lookup}
@@ -153,7 +153,7 @@ module _ {F : Type 0} (R : Ring F) where
 
   -- the weighted height of an AIR
   abbrev own : Instance F → ℕ
-  own i = weighted_height (i.lookups, height i.main)
+  own i = weighted_height (i.lookups, height i.traces.main)
 
   batch_bounded : (eq : F → F → Bool) (instances : List (Instance F)) (divisions : List (List (List (List Part)))) → AllZip (TraceKeepsWeights R eq) instances divisions → AreBounded (batch_messages R eq instances) (all_parts divisions) (sum_by own instances)
   batch_bounded eq [] [] keeps = record { divided = tt; within = omega arith }
@@ -161,23 +161,23 @@ module _ {F : Type 0} (R : Ring F) where
   batch_bounded eq (i ∷ is) [] keeps = absurd keeps
   batch_bounded eq (i ∷ is) (d ∷ ds) keeps =
       let rows = sent_rows_of R eq i in
-      let window = λ (r : ℕ). window_at i.main i.preprocessed i.public_values (height i.main) r in
+      let window = λ (r : ℕ). window_of i.traces r in
       let w = sum_by (λ (l : Lookup F). l.count_weight) i.lookups in
-      let high : length rows ≡ height i.main = length-map-range_with_len (λ r. sent_row_under R eq (id_of i.ids) (window r) i.lookups) 0 (height i.main) in
-      let area : w * length rows ≡ w * height i.main = ap (λ n. w * n) high in
+      let high : length rows ≡ height i.traces.main = length-map-range_with_len (λ r. sent_row_under R eq (id_of i.ids) (window r) i.lookups) 0 (height i.traces.main) in
+      let area : w * length rows ≡ w * height i.traces.main = ap (λ n. w * n) high in
       bounded_both (trace_messages rows) (batch_messages R eq is) (flat_map (λ row. flat_map (λ p. p) row) d) (all_parts ds) (w * length rows) (sum_by own is) (sum_by own (i ∷ is))
-      (trace_bounded i.lookups rows d (long (range_with_len 0 (height i.main))) keeps.0) (batch_bounded eq is ds keeps.1) (omega (arith, area, sum_by-cons own i is))
+      (trace_bounded i.lookups rows d (long (range_with_len 0 (height i.traces.main))) keeps.0) (batch_bounded eq is ds keeps.1) (omega (arith, area, sum_by-cons own i is))
     where
-      long : (rs : List ℕ) → AllByRecursion (λ row. length row ≡ length i.lookups) (map (λ r. sent_row_under R eq (id_of i.ids) (window_at i.main i.preprocessed i.public_values (height i.main) r) i.lookups) rs)
+      long : (rs : List ℕ) → AllByRecursion (λ row. length row ≡ length i.lookups) (map (λ r. sent_row_under R eq (id_of i.ids) (window_of i.traces r) i.lookups) rs)
       long [] = tt
-      long (r ∷ rs) = (length-map i.lookups (λ lookup. sent_at R eq (window_at i.main i.preprocessed i.public_values (height i.main) r) (id_of i.ids lookup) lookup), long rs)
+      long (r ∷ rs) = (length-map i.lookups (λ lookup. sent_at R eq (window_of i.traces r) (id_of i.ids lookup) lookup), long rs)
 
   -- the sum over a batch is that over its lookups and heights
-  own_sum : (instances : List (Instance F)) → sum_by own instances ≡ weighted_height_sum (map (λ i. i.lookups) instances) (map (λ i. height i.main) instances)
+  own_sum : (instances : List (Instance F)) → sum_by own instances ≡ weighted_height_sum (map (λ i. i.lookups) instances) (map (λ i. height i.traces.main) instances)
   own_sum [] = refl
   own_sum (i ∷ is) =
       sum_by-cons own i is ∙ ap (λ n. own i + n) (own_sum is)
-      ∙ sym (sum_by-cons weighted_height (i.lookups, height i.main) (zip (map (λ j. j.lookups) is) (map (λ j. height j.main) is)))
+      ∙ sym (sum_by-cons weighted_height (i.lookups, height i.traces.main) (zip (map (λ j. j.lookups) is) (map (λ j. height j.traces.main) is)))
 
 -- the law of all batches with these lookups and heights
 pub height_laws : {F : Type 0} {R : Ring F} → IsCommutativeRing R → (eq : F → F → Bool) → ((a b : F) → Decides (eq a b) (a ≡ b)) → (p : ℕ) → HasCharacteristic R p → (airs : List (List (Lookup F))) (heights : List ℕ) → weighted_height_sum airs heights < p → HeightLaws R eq airs heights

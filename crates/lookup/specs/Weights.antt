@@ -3,7 +3,7 @@ use Rattle.std.specs.Prelude.{◌≡◌, ◌≢◌, ◌≤◌, ℕ, ℤ, pos, Bo
 use Rattle.std.specs.List.{AllZip, flat_map, sum_by, zip}
 use Rattle.field.specs.Distinct.{IsAmong}
 use Rattle.field.specs.Ring.{Ring, of_int}
-use Rattle.matrix.specs.Matrix.{height}
+use Rattle.air.specs.Traces.{height_of}
 use Rattle.lookup_model.specs.Message.{Key, Message, same_key}
 use Rattle.lookup_model.specs.Net.{IsBalanced}
 use Rattle.lookup_model.specs.Sent.{Sent}
@@ -67,5 +67,5 @@ module _ {F : Type 0} (R : Ring F) (eq : F → F → Bool) where
   -- the law of every batch whose AIRs have these lookups and traces of these heights
   abbrev pub HeightLaws : List (List (Lookup F)) → List ℕ → Type 0
   HeightLaws airs heights =
-      (instances : List (Instance F)) → map (λ i. i.lookups) instances ≡ airs → map (λ i. height i.main) instances ≡ heights
+      (instances : List (Instance F)) → map (λ i. i.lookups) instances ≡ airs → map (λ i. height_of i.traces) instances ≡ heights
       → HeightLaw instances
