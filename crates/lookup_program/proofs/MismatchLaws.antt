@@ -4,10 +4,10 @@ use Rattle.std.proofs.lemmas.List.{append-nil}
 use Rattle.std.proofs.lemmas.List.Elements.{All-cons, All-map, All-nil}
 use Rattle.std.specs.List.{AllByRecursion, AllZip, enumerate_from, filter, filter_map, flat_map, range_with_len}
 use Rattle.std.specs.Cmp.Lexicographic.{pointwise}
-use Rattle.std.specs.Option.{ForSome}
 use Rattle.field.specs.Ring.{Ring, IsCommutativeRing}
 use Rattle.matrix.specs.Matrix.{Matrix, height, row}
-use Rattle.expressions.specs.Layout.{layout_of_traces, layout_of_widths}
+use Rattle.air.specs.Traces.{AreEven, layout_of}
+use Rattle.expressions.specs.Layout.{layout_of_widths}
 use Rattle.expressions.specs.Window.{window_at}
 use Rattle.field.specs.Extension.{Extension}
 use Rattle.lookup_model.specs.Challenges.{table_denominator}
@@ -192,10 +192,10 @@ module _ {F : Type 0} {R : Ring F} (laws : IsCommutativeRing R) (eq : F → F �
 -- traces of a machine are fit for the debug check
 module _ {F : Type 0} (R : Ring F) (eq : F → F → Bool) (input : Matrix F) where
   abbrev Fits : Traced F → Type 0
-  Fits t = LookupsFit (layout_of_traces t.main t.preprocessed t.public_values) t.lookups
+  Fits t = LookupsFit (layout_of t.traces) t.lookups
 
   abbrev HaveOneHeight : Traced F → Type 0
-  HaveOneHeight t = ForSome t.preprocessed (λ m. height m ≡ height t.main)
+  HaveOneHeight t = AreEven t.traces
 
   all_fit : (airs : List MachineAir) (traces : List (AirTrace F)) → AllZip (IsTraceOf R eq input) airs traces → All Fits (map traced_over traces)
   all_fit [] [] all = All-nil Fits

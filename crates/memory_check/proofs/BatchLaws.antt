@@ -1,5 +1,5 @@
 -- The batch of a memory check over a plan.
-use Rattle.std.proofs.Common.{◌≡◌, ◌≢◌, ℕ, inl, inr, List, [], None, All, Result, Ok, Err, IfErr, OnOk, length, map, refl, sym, ap, subst, ◌∙◌}
+use Rattle.std.proofs.Common.{◌≡◌, ◌≢◌, ℕ, inl, inr, List, All, Result, Ok, Err, IfErr, OnOk, length, map, refl, sym, ap, subst, ◌∙◌}
 use Rattle.std.proofs.lemmas.List.{length-map}
 use Rattle.std.specs.List.{zip}
 use Rattle.std.specs.declared.alloc.Global.{Global}
@@ -22,14 +22,14 @@ use Rattle.batch.proofs.TraceLaws.{alone_is}
 use Rattle.batch.specs.Lists.{lists_of}
 use Rattle.batch.specs.Plans.{PassIsCounted, Proves, RefusesUnaccepted, Verifies, plan_batch}
 use Rattle.batch.specs.Tables.{made_table}
-use Rattle.batch.specs.Traces.{AreTraces as ArePlanTraces, FitsAt, IsFirstUnfit, IsTraceRefusal, batch_alone, shown_of}
+use Rattle.batch.specs.Traces.{AreTraces as ArePlanTraces, FitsAt, IsFirstUnfit, IsTraceRefusal, batch_alone, main_alone, shown_of}
 use Rattle.batch.specs.declared.error.BatchError.{BatchError}
 use Rattle.batch.specs.declared.error.BatchError.TheVariants.{LengthMismatch, Lookup as OfLookup, Memory}
 use Rattle.batch.specs.declared.trace.BatchTrace.{BatchTrace}
 use Rattle.memory_check.specs.Memory.{AreTraces, IsAcceptedMemory, IsMemoryRefusal}
 
 module _ {F K : Type 0} (E : Extension F K) (alpha beta : K) (airs : List (Lookups F)) (heights : List ℕ) (ids : List (Vec ℕ Global)) (W m : ℕ) (mains : List (Matrix F))
-    (traces : List (BatchTrace F)) (shown : map shown_of traces ≡ map (λ main. (main, None, [])) mains) where
+    (traces : List (BatchTrace F)) (shown : map shown_of traces ≡ map main_alone mains) where
   abbrev own : List (Instance F)
   own = plan_batch airs ids traces
 
@@ -44,7 +44,7 @@ module _ {F K : Type 0} (E : Extension F K) (alpha beta : K) (airs : List (Looku
   same = alone_is (zip (lists_of ids) airs) traces mains shown
 
   as_many : length traces ≡ length mains
-  as_many = sym (length-map traces shown_of) ∙ ap length shown ∙ length-map mains (λ main. (main, None, []))
+  as_many = sym (length-map traces shown_of) ∙ ap length shown ∙ length-map mains main_alone
 
   traces_are : ArePlanTraces heights traces own → AreTraces E alpha beta airs heights ids W m mains
   traces_are are = record {
