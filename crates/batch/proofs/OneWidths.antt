@@ -11,9 +11,10 @@ use Rattle.lookup_model.specs.Batches.Ids.{HaveOneWidth}
 use Rattle.lookup_model.specs.Outline.{Outline, bus_of, fields_of}
 use Rattle.lookup_model.specs.declared.types.Lookup.{Lookup}
 use Rattle.lookup_rows.proofs.NetEntries.{any-first_seen}
-use Rattle.lookup.proofs.GroupLaws.{same_name-Decides}
+use Rattle.lookup_model.proofs.Names.{same_name-Decides}
 use Rattle.lookup.specs.BusWidths.{widths_of}
-use Rattle.lookup.specs.Buses.{bus_names, is_named, on_bus, same_name}
+use Rattle.lookup.specs.Buses.{bus_names, on_bus}
+use Rattle.lookup_model.specs.Names.{is_named, same_name}
 use Rattle.lookup.specs.Lookups.{lookups_of}
 use Rattle.lookup.specs.NamedWidths.{AgreeOnWidths, first_width, named_widths}
 use Rattle.lookup.specs.declared.lookups.Lookups.{Lookups}

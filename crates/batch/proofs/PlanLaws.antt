@@ -16,7 +16,7 @@ use Rattle.lookup.specs.TupleWidths.{IsTupleWidths}
 use Rattle.lookup.proofs.NamedWidthLaws.{greatest_push}
 use Rattle.lookup.specs.Guards.{IsHeightRefusal, weighted_height_sum}
 use Rattle.lookup.specs.Lookups.{lookups_of}
-use Rattle.lookup.specs.NamedWidths.{AgreeOnWidths, IsFirstMismatch}
+use Rattle.lookup.specs.NamedWidths.{AgreeOnWidths, IsFirstWidthMismatch}
 use Rattle.lookup.specs.declared.lookups.Lookups.{Lookups}
 use Rattle.batch.proofs.LawfulPlans.{greatest_append}
 use Rattle.batch.proofs.OneWidths.{one_widths}
@@ -37,7 +37,7 @@ plan_is p airs heights ids W m heights_are agree even numbered few light width =
 }
 
 -- refusals that keep their names
-pub bus_passed : (widths : List (List ℕ × ℕ)) (e : LookupError) → IsFirstMismatch widths e → of_lookup e ≡ OfLookup e
+pub bus_passed : (widths : List (List ℕ × ℕ)) (e : LookupError) → IsFirstWidthMismatch widths e → of_lookup e ≡ OfLookup e
 bus_passed widths e first = ap of_lookup first.fault.refusal.error_is ∙ ap OfLookup (sym first.fault.refusal.error_is)
 
 pub widths_passed : (context : List ℕ) (width other : ℕ) (e : LookupError) → IsTupleWidths context width other e → of_lookup e ≡ OfLookup e

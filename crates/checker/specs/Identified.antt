@@ -15,8 +15,8 @@ module _ {F : Type 0} where
   IsWithinBounds W m one = (one.id < m) × All (λ tuple. length tuple.items ≤ W) one.lookup.now.elements.items
 
   -- if the ids are the same, so are the widths
-  abbrev pub AgreeOnWidths : Identified F → Identified F → Type 0
-  AgreeOnWidths one other = one.id ≡ other.id → HaveOneWidth one.lookup.now other.lookup.now
+  abbrev pub AgreeOnWidthOfId : Identified F → Identified F → Type 0
+  AgreeOnWidthOfId one other = one.id ≡ other.id → HaveOneWidth one.lookup.now other.lookup.now
 
   -- the ids are the same exactly if both are on one bus
   abbrev pub AgreeOnBuses : Identified F → Identified F → Type 0
@@ -29,4 +29,4 @@ module _ {F : Type 0} where
   -- ids that are lawful
   abbrev pub AreLawful : ℕ → ℕ → ℕ → List (Identified F) → Type 0
   AreLawful W m p all =
-      (0 < W) × (m ≤ p) × All (IsWithinBounds W m) all × All (λ one. All (AgreeOnWidths one) all) all × AllPairs AgreeOnBuses all
+      (0 < W) × (m ≤ p) × All (IsWithinBounds W m) all × All (λ one. All (AgreeOnWidthOfId one) all) all × AllPairs AgreeOnBuses all

@@ -3,7 +3,7 @@ ghost use Rattle.std.specs.Prelude.{◌≡◌, ◌↔◌, ◌<◌, ◌≤◌, �
 ghost use Rattle.std.specs.List.{AllPairs, zip};
 ghost use Rattle.lookup_model.specs.Batches.Ids.{AreLawfulIds, HaveOneWidth, ShareBus, identified};
 ghost use Rattle.lookup_model.specs.Batches.Instances.{HaveIds, instances_of};
-ghost use Rattle.checker.specs.Identified.{AgreeOnBuses, AgreeOnWidths, AgreesBelow, AreLawful, IsWithinBounds, identified_of};
+ghost use Rattle.checker.specs.Identified.{AgreeOnBuses, AgreeOnWidthOfId, AgreesBelow, AreLawful, IsWithinBounds, identified_of};
 
 use field::Field;
 use lookup::{Kind, Lookup};
@@ -120,13 +120,13 @@ fn is_narrow<F>(lookup: &Lookup<F>, max_message_width: usize) -> bool
 
 /// Whether all tuples under one id have the same width.
 fn are_widths_one<F>(all: &[Identified<'_, F>]) -> bool
-    ensures { IsTrue result ↔ All (λ one. All (AgreeOnWidths one) all.now) all.now }
+    ensures { IsTrue result ↔ All (λ one. All (AgreeOnWidthOfId one) all.now) all.now }
 {
     all.iter().all(|one| agrees_on_widths(one, all))
 }
 
 fn agrees_on_widths<F>(one: &Identified<'_, F>, all: &[Identified<'_, F>]) -> bool
-    ensures { IsTrue result ↔ All (AgreeOnWidths one.now) all.now }
+    ensures { IsTrue result ↔ All (AgreeOnWidthOfId one.now) all.now }
 {
     all.iter().all(|other| one.id != other.id || have_one_width(one.lookup, other.lookup))
 }

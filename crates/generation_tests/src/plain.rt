@@ -3,7 +3,7 @@
 ghost use Rattle.std.specs.Prelude.{◌≡◌, ◌≢◌, ◌+◌, ◌*◌, ◌<◌, ◌⊎◌, ◌||◌, All, IfOk, IsTrue, List, [], ◌∷◌, Some, false, length, map, MatchOption, MatchResult};
 ghost use Rattle.std.specs.List.{list_all, list_any};
 ghost use Rattle.field.specs.Polynomial.{combined};
-ghost use Rattle.generation_tests.specs.PlainProgram.{IsFractionOf, message_of, messages_of, net_vanishes, sent_of};
+ghost use Rattle.generation_tests.specs.PlainProgram.{IsSumOfQuotients, as_message, as_messages, net_vanishes, sent_of};
 ghost use Rattle.lookup_model.specs.Denominators.{column_denominator};
 ghost use Rattle.lookup_model.specs.Fault.{fault_of, set_places, vanishes};
 ghost use Rattle.lookup_model.specs.Message.{Message, same_key};
@@ -32,7 +32,7 @@ pub fn fraction_of<F: Field, EF: ExtensionField<F>>(
     requires { All (λ m. 2 * m.id + 1 < length challenges.now) messages.now }
     ensures { let E = ⟦<EF as Over<F>>⟧.fields in
         let denominator = column_denominator E challenges.now in
-        let vanishing = vanishes E denominator (counted F.ring F.eq (messages_of messages.now)) in
+        let vanishing = vanishes E denominator (counted F.ring F.eq (as_messages messages.now)) in
         MatchOption result (IsTrue vanishing)
         (λ f. (f ≡ plain_fraction E denominator (sent_of messages.now)) × (vanishing ≡ false)) }
 {
@@ -52,9 +52,9 @@ pub fn terminal_of<F: Field, EF: ExtensionField<F>>(
     requires { All (λ m. 2 * m.id + 1 < length challenges.now) messages.now }
     ensures { let E = ⟦<EF as Over<F>>⟧.fields in
         let denominator = column_denominator E challenges.now in
-        let vanishing = net_vanishes E denominator (messages_of messages.now) in
+        let vanishing = net_vanishes E denominator (as_messages messages.now) in
         MatchOption result (IsTrue vanishing)
-        (λ t. (t ≡ net_sum E denominator (messages_of messages.now)) × (vanishing ≡ false)) }
+        (λ t. (t ≡ net_sum E denominator (as_messages messages.now)) × (vanishing ≡ false)) }
 {
     let mut sum = EF::ZERO;
     for place in 0..messages.len() {
@@ -82,7 +82,7 @@ pub fn exclusive_fraction_of<F: Field, EF: ExtensionField<F>>(
     requires lengths { length messages.now ≡ length flags.now }
     ensures { let E = ⟦<EF as Over<F>>⟧.fields in
         let denominator = column_denominator E challenges.now in
-        let sent = sent F.ring F.eq (Some flags.now) (messages_of messages.now) in
+        let sent = sent F.ring F.eq (Some flags.now) (as_messages messages.now) in
         MatchResult result
         (λ f. (f ≡ plain_fraction E denominator sent)
         × (fault_of E denominator row lookup sent ≡ None))
@@ -111,7 +111,7 @@ fn single_quotient<F: Field, EF: ExtensionField<F>>(
     requires { 2 * message.now.id + 1 < length challenges.now }
     ensures { let E = ⟦<EF as Over<F>>⟧.fields in
         let denominator = column_denominator E challenges.now in
-        let key = (message_of message.now).key in
+        let key = (as_message message.now).key in
         MatchResult result
         (λ q. (denominator key ≢ EF.ring.zero)
         × (q ≡ quotient E denominator message.now.multiplicity key))
@@ -169,9 +169,9 @@ fn quotient_of<F: Field, EF: ExtensionField<F>>(
     ensures { let E = ⟦<EF as Over<F>>⟧.fields in
         let denominator = column_denominator E challenges.now in
         let alone : List (Message F) = record
-        { key = (message_of message.now).key; multiplicity = multiplicity } ∷ [] in
+        { key = (as_message message.now).key; multiplicity = multiplicity } ∷ [] in
         MatchOption result (IsTrue (vanishes E denominator (counted F.ring F.eq alone)))
-        (λ q. IsFractionOf E denominator alone q) }
+        (λ q. IsSumOfQuotients E denominator alone q) }
 {
     if multiplicity.is_zero() {
         return Some(EF::ZERO);
@@ -191,7 +191,7 @@ fn denominator_of<F: Field, EF: ExtensionField<F>>(
 ) -> EF
     requires { 2 * message.now.id + 1 < length challenges.now }
     ensures { result ≡ column_denominator ⟦<EF as Over<F>>⟧.fields challenges.now
-        (message_of message.now).key }
+        (as_message message.now).key }
 {
     challenges[2 * message.id] - combined_of(&message.tuple, challenges[2 * message.id + 1])
 }
@@ -209,7 +209,7 @@ fn combined_of<F: Field, EF: ExtensionField<F>>(tuple: &[F], beta: EF) -> EF
 
 /// The sum of the multiplicities of the messages that have the key of `like`.
 fn net_of<F: Field>(messages: &[PlainMessage<F>], like: &PlainMessage<F>) -> F
-    ensures { result ≡ net F.ring F.eq (messages_of messages.now) (message_of like.now).key }
+    ensures { result ≡ net F.ring F.eq (as_messages messages.now) (as_message like.now).key }
 {
     let mut sum = F::ZERO;
     for message in messages {
@@ -222,7 +222,7 @@ fn net_of<F: Field>(messages: &[PlainMessage<F>], like: &PlainMessage<F>) -> F
 
 /// Whether one of the messages has the key of `like`.
 fn holds<F: Field>(messages: &[PlainMessage<F>], like: &PlainMessage<F>) -> bool
-    ensures { result ≡ list_any (λ m. same_key F.eq (message_of m).key (message_of like.now).key)
+    ensures { result ≡ list_any (λ m. same_key F.eq (as_message m).key (as_message like.now).key)
         messages.now }
 {
     for message in messages {
@@ -235,7 +235,7 @@ fn holds<F: Field>(messages: &[PlainMessage<F>], like: &PlainMessage<F>) -> bool
 
 /// Whether two messages have one key.
 fn is_same<F: Field>(a: &PlainMessage<F>, b: &PlainMessage<F>) -> bool
-    ensures { result ≡ same_key F.eq (message_of a.now).key (message_of b.now).key }
+    ensures { result ≡ same_key F.eq (as_message a.now).key (as_message b.now).key }
 {
     a.id == b.id && a.tuple == b.tuple
 }

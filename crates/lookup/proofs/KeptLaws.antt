@@ -23,7 +23,8 @@ use Rattle.lookup_model.specs.Sent.{sent_at}
 use Rattle.lookup_model.specs.Trace.{sent_row_under, sent_rows_under}
 use Rattle.lookup_model.specs.declared.error.LookupError.{LookupError}
 use Rattle.lookup_model.specs.declared.types.Lookup.{Lookup}
-use Rattle.lookup.specs.Buses.{bus_names, on_bus, same_name}
+use Rattle.lookup.specs.Buses.{bus_names, on_bus}
+use Rattle.lookup_model.specs.Names.{same_name}
 use Rattle.lookup.specs.Cuts.{part_items}
 use Rattle.lookup.specs.Kept.{HasIdOfBus, HaveSameIds, KeepsMessages, KeepsNets, KeepsTotalWeight, other_ids, row_messages}
 use Rattle.lookup.specs.Packing.{AreFilled, IsPacking, additive, is_additive, joined, numbered_from, passing}

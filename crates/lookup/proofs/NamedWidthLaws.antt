@@ -11,10 +11,10 @@ use Rattle.std.specs.Map.{lookup}
 use Rattle.indexmap.specs.IndexMap.{insert_entry}
 use Rattle.lookup_model.specs.LookupDegree.{greatest}
 use Rattle.lookup_model.specs.declared.error.LookupError.{LookupError}
-use Rattle.lookup.specs.Buses.{same_name}
-use Rattle.lookup.specs.NamedWidths.{AgreeOnWidths, IsFirstMismatch, IsMismatch, first_width, seen_widths}
+use Rattle.lookup_model.specs.Names.{same_name}
+use Rattle.lookup.specs.NamedWidths.{AgreeOnWidths, IsFirstWidthMismatch, IsWidthMismatch, first_width, seen_widths}
 use Rattle.lookup.specs.declared.bus_widths.NamedWidth.{NamedWidth}
-use Rattle.lookup.proofs.GroupLaws.{same_name-Decides}
+use Rattle.lookup_model.proofs.Names.{same_name-Decides}
 use Rattle.lookup.proofs.PackLaws.{at_place}
 
 -- the greater of two numbers
@@ -129,7 +129,7 @@ module _ (widths : List (List ℕ × ℕ)) (name : List ℕ) (width : ℕ) where
 
 -- a width that is not
 pub mismatch_here : (widths : List (List ℕ × ℕ)) (i : ℕ) (name : List ℕ) (width v : ℕ) (e : LookupError) → slice_get widths i ≡ Some (name, width) → AgreeOnWidths (take i widths)
-    → v ≡ unwrap_or (first_width (take i widths) name) width → v ≢ width → IsMismatch name v width e → IsFirstMismatch widths e
+    → v ≡ unwrap_or (first_width (take i widths) name) width → v ≢ width → IsWidthMismatch name v width e → IsFirstWidthMismatch widths e
 mismatch_here widths i name width v e there agree is other refusal =
     let (later, whole, next) = at_place widths i (name, width) there in
     record {
@@ -180,7 +180,7 @@ module _ (widths : List NamedWidth) (i : ℕ) (d : NamedWidth) (lt : i < length 
         )
 
     -- one that is not
-    pub widest_mismatch : (e : LookupError) → AgreeOnWidths below → v ≢ named.width → IsMismatch named.name.now v named.width e → IsFirstMismatch (seen_widths widths) e
+    pub widest_mismatch : (e : LookupError) → AgreeOnWidths below → v ≢ named.width → IsWidthMismatch named.name.now v named.width e → IsFirstWidthMismatch (seen_widths widths) e
     widest_mismatch e agree other refusal = mismatch_here (seen_widths widths) i named.name.now named.width v e there agree value_is other refusal
 
 module _ {X Y : Type 0} where

@@ -8,11 +8,12 @@ use Rattle.lookup_model.specs.Outline.{Outline}
 use Rattle.lookup_model.specs.declared.error.LookupError.{LookupError}
 use Rattle.lookup_model.specs.declared.error.LookupError.TheVariants.{Memory}
 use Rattle.lookup.specs.BusWidths.{IsWidthRefusal, widths_of}
-use Rattle.lookup.specs.Buses.{bus_names, is_named, on_bus, same_name}
+use Rattle.lookup.specs.Buses.{bus_names, on_bus}
+use Rattle.lookup_model.specs.Names.{is_named, same_name}
 use Rattle.lookup.specs.Cuts.{part_items}
 use Rattle.lookup.specs.Packing.{AreFilled, IsFillRefusal, IsPacking, Packs, additive, is_additive, joined, numbered, passing}
 use Rattle.lookup.proofs.FillLaws.{joined_one}
-use Rattle.lookup.proofs.GroupLaws.{same_name-Decides}
+use Rattle.lookup_model.proofs.Names.{same_name-Decides}
 use Rattle.lookup.proofs.JoinedMessages.{on_some_bus}
 
 none_behind : {A : Type 0} (xs : List A) (y : A) (ys : List A) → xs ++ y ∷ ys ≡ [] → ⊥

@@ -11,7 +11,8 @@ use Rattle.lookup_model.proofs.HornerRule.{map-map}
 use Rattle.lookup_model.specs.Outline.{Outline, fields_of}
 use Rattle.lookup_model.specs.declared.error.LookupError.{LookupError}
 use Rattle.lookup_model.specs.declared.types.Lookup.{Lookup}
-use Rattle.lookup.specs.Buses.{bus_groups, bus_names, group_of, is_named, on_bus, owned_group}
+use Rattle.lookup.specs.Buses.{bus_groups, bus_names, group_of, on_bus, owned_group}
+use Rattle.lookup_model.specs.Names.{is_named}
 use Rattle.lookup.specs.Packing.{AreColumnsAdded, IsFillRefusal, IsFilling, IsFirstStuck, IsPacking, IsStuck, additive, joined, numbered, passing}
 use Rattle.lookup.specs.Trials.{IsBusTrial, IsTrialAmong}
 use Rattle.lookup.proofs.ListLaws.{AllZip-map, map_split}

@@ -10,7 +10,8 @@ use Rattle.lookup_model.specs.Outline.{Outline}
 use Rattle.lookup_model.specs.declared.error.LookupError.{LookupError}
 use Rattle.lookup_model.specs.declared.error.LookupError.TheVariants.{BusWidthMismatch}
 use Rattle.lookup.specs.BusWidths.{widths_of}
-use Rattle.lookup.specs.Buses.{bus_groups, same_name}
+use Rattle.lookup.specs.Buses.{bus_groups}
+use Rattle.lookup_model.specs.Names.{same_name}
 use Rattle.lookup.specs.declared.bus_widths.NamedWidth.{NamedWidth}
 
 module _ {E : Type 0} where
@@ -36,7 +37,7 @@ abbrev pub AgreeOnWidths : List (List ℕ × ℕ) → Type 0
 AgreeOnWidths widths = AllByRecursion (λ w. first_width widths w.0 ≡ Some w.1) widths
 
 -- the refusal of a width on a bus of this name
-pub record IsMismatch (name : List ℕ) (expected actual : ℕ) (e : LookupError) : Type 0 where
+pub record IsWidthMismatch (name : List ℕ) (expected actual : ℕ) (e : LookupError) : Type 0 where
   pub text : String Global
   pub text_is : string_bytes text ≡ name
   pub error_is : e ≡ BusWidthMismatch text expected actual
@@ -46,8 +47,8 @@ pub record DiffersFromFirst (before : List (List ℕ × ℕ)) (named : List ℕ 
   pub expected : ℕ
   pub first : first_width before named.0 ≡ Some expected
   pub differs : named.1 ≢ expected
-  pub refusal : IsMismatch named.0 expected named.1 e
+  pub refusal : IsWidthMismatch named.0 expected named.1 e
 
 -- the refusal of the first such width
-abbrev pub IsFirstMismatch : List (List ℕ × ℕ) → LookupError → Type 0
-IsFirstMismatch widths e = SplitsAtFault AgreeOnWidths (λ before named. DiffersFromFirst before named e) widths
+abbrev pub IsFirstWidthMismatch : List (List ℕ × ℕ) → LookupError → Type 0
+IsFirstWidthMismatch widths e = SplitsAtFault AgreeOnWidths (λ before named. DiffersFromFirst before named e) widths

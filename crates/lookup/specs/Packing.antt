@@ -50,15 +50,15 @@ module _ {E : Type 0} where
   -- what a closure answers to a lookup: a degree, or a refusal
   module _ (answers : Outline E → Result ℕ LookupError → Type 0) (max_degree : ℕ) where
     -- an answer to the trial of a part with a further lookup is within the degree, or above it
-    abbrev pub IsWithin : Outline E × List (Outline E) → Outline E → Type 0
-    IsWithin part next = (n : ℕ) × answers (trial (joined part) next) (Ok n) × (n ≤ max_degree)
+    abbrev pub IsWithinDegree : Outline E × List (Outline E) → Outline E → Type 0
+    IsWithinDegree part next = (n : ℕ) × answers (trial (joined part) next) (Ok n) × (n ≤ max_degree)
 
     abbrev pub IsAbove : Outline E × List (Outline E) → Outline E → Type 0
     IsAbove part next = (n : ℕ) × answers (trial (joined part) next) (Ok n) × (max_degree < n)
 
     -- A lookup joins a part: the trial is within the degree, and the weights have a sum that fits.
     abbrev pub Joins : Outline E × List (Outline E) → Outline E → Type 0
-    Joins part next = IsWithin part next × ((joined part).count_weight + next.count_weight < weight_bound)
+    Joins part next = IsWithinDegree part next × ((joined part).count_weight + next.count_weight < weight_bound)
 
     -- A greedy cut of the lookups of one bus, by the answers to its trials.
     abbrev pub IsFilling : List (Outline E × List (Outline E)) → List (Outline E) → Type 0
@@ -74,7 +74,7 @@ module _ {E : Type 0} where
       pub members_are : members ≡ flat_map part_items (closed ++ part ∷ []) ++ next ∷ rest
       pub greedy : AreGreedy Joins IsAbove (closed ++ part ∷ [])
       pub refusal : answers (trial (joined part) next) (Err e)
-          ⊎ ((e ≡ CountWeightOverflow) × IsWithin part next × (weight_bound ≤ (joined part).count_weight + next.count_weight))
+          ⊎ ((e ≡ CountWeightOverflow) × IsWithinDegree part next × (weight_bound ≤ (joined part).count_weight + next.count_weight))
 
     -- Columns with those of each bus of a list behind them, each with its greedy cut; and the refusal
     -- of the first bus of a list whose filling is refused.

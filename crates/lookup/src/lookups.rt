@@ -32,7 +32,7 @@ impl<F: Field> Lookups<F> {
     ghost use Rattle.lookup.specs.Fewest.{AnswersDegree, HasFewestColumns};
     ghost use Rattle.lookup.specs.Kept.{KeepsSent};
     ghost use Rattle.lookup.specs.Packing.{Packs};
-    ghost use Rattle.lookup.specs.Trials.{Answers, IsBusTrial};
+    ghost use Rattle.lookup.specs.Trials.{AnswersTrial, IsBusTrial};
 
     /// The lookups that an AIR records in a new builder with its own layout: local ones, then those
     /// on buses, then groups, each in the order of their pushes, in the columns 0, 1, 2, …
@@ -97,7 +97,7 @@ impl<F: Field> Lookups<F> {
     ) -> Result<Self, LookupError>
         requires callable { (lookup : _) → IsBusTrial (map fields_of (lookups_of self)) lookup.now
             → D.pre degree lookup }
-        ensures packs { Packs (Answers (FnReturnsAt D.Fn degree)) max_degree
+        ensures packs { Packs (AnswersTrial (FnReturnsAt D.Fn degree)) max_degree
             (λ set. map fields_of (lookups_of set)) (map fields_of (lookups_of self)) result }
         ensures kept { IfOk result (λ set. KeepsSent F.ring F.eq (lookups_of self)
             (lookups_of set)) }

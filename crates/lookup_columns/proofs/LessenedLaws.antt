@@ -11,13 +11,13 @@ use Rattle.expressions.specs.Window.{Window}
 use Rattle.expressions.specs.declared.base_expression.SymbolicExpression.{SymbolicExpression}
 use Rattle.lookup_model.proofs.Coefficients.{value_at-push}
 use Rattle.lookup_model.specs.Sent.{value, values}
-use Rattle.lookup_columns.specs.Columns.{denominator_at, denominator_column}
+use Rattle.lookup_columns.specs.Columns.{tuple_denominator_at, denominator_column}
 use Rattle.lookup_columns.proofs.ColumnLaws.{map_of_two}
 
 module _ {F K : Type 0} (R : Ring F) {S : Ring K} (laws : IsCommutativeRing S) (embed : F → K) (alpha beta : K) where
   -- one more element in front of a tuple
   pub denominator_front : (w : Window F) (e : SymbolicExpression F) (es : List (SymbolicExpression F))
-      → sub_in S (denominator_at R S embed alpha beta w es) (S.mul (power S beta (length es)) (embed (value R w e))) ≡ denominator_at R S embed alpha beta w (e ∷ es)
+      → sub_in S (tuple_denominator_at R S embed alpha beta w es) (S.mul (power S beta (length es)) (embed (value R w e))) ≡ tuple_denominator_at R S embed alpha beta w (e ∷ es)
   denominator_front w e es =
       let ys = map embed (values R w es) in
       let y = embed (value R w e) in

@@ -11,7 +11,8 @@ use Rattle.lookup_model.proofs.Branches.{mapped_more}
 use Rattle.lookup_model.specs.Outline.{bus_of}
 use Rattle.lookup_model.specs.declared.types.Lookup.{Lookup}
 use Rattle.lookup_debug.specs.Contributions.{Contribution, Traced, contributions_of}
-use Rattle.lookup_debug.specs.Groups.{Placed, is_named, is_on, placed_contributions, placed_in}
+use Rattle.lookup_debug.specs.Groups.{Placed, is_on, placed_contributions, placed_in}
+use Rattle.lookup_model.specs.Names.{is_named}
 use Rattle.lookup_debug.specs.Walks.{IsWalk}
 
 -- an item with its number

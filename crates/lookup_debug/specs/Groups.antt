@@ -3,6 +3,7 @@ use Rattle.std.specs.Prelude.{ℕ, Bool, true, false, List, Option, None, Some, 
 use Rattle.std.specs.Cmp.Lexicographic.{pointwise}
 use Rattle.std.specs.List.{enumerate_from, filter, filter_map, flat_map}
 use Rattle.field.specs.Ring.{Ring}
+use Rattle.lookup_model.specs.Names.{is_named}
 use Rattle.lookup_model.specs.Net.{first_seen}
 use Rattle.lookup_model.specs.Outline.{bus_of}
 use Rattle.lookup_model.specs.declared.types.Lookup.{Lookup}
@@ -23,14 +24,10 @@ placed_in i = map (λ l. record { instance = i.0; place = l.0; traced = i.1; loo
 abbrev pub placed : {F : Type 0} → List (Traced F) → List (Placed F)
 placed instances = flat_map placed_in (enumerate_from 0 instances)
 
--- whether a name is missing, and whether it is this one
+-- whether a name is missing
 abbrev pub is_missing : Option (List ℕ) → Bool
 is_missing None = true
 is_missing (Some name) = false
-
-abbrev pub is_named : List ℕ → Option (List ℕ) → Bool
-is_named name None = false
-is_named name (Some other) = pointwise nat_eq name other
 
 -- whether a lookup is local, or on the bus of this name
 abbrev pub is_local : {F : Type 0} → Placed F → Bool
@@ -40,8 +37,8 @@ abbrev pub is_on : {F : Type 0} → List ℕ → Placed F → Bool
 is_on name p = is_named name (bus_of p.lookup.kind)
 
 -- the names of the buses, in the order of their first lookups
-abbrev pub bus_names : {F : Type 0} → List (Traced F) → List (List ℕ)
-bus_names instances = first_seen (pointwise nat_eq) (filter_map (λ p. bus_of p.lookup.kind) (placed instances))
+abbrev pub placed_bus_names : {F : Type 0} → List (Traced F) → List (List ℕ)
+placed_bus_names instances = first_seen (pointwise nat_eq) (filter_map (λ p. bus_of p.lookup.kind) (placed instances))
 
 -- what is checked by itself: its label, and all that is contributed to it
 pub record Group (F : Type 0) : Type 0 where
@@ -73,4 +70,4 @@ module _ {F : Type 0} (R : Ring F) (eq : F → F → Bool) where
 
   -- first the local lookups, and then the buses
   abbrev pub groups : List (Traced F) → List (Group F)
-  groups instances = local_groups instances ++ map (bus_group instances) (bus_names instances)
+  groups instances = local_groups instances ++ map (bus_group instances) (placed_bus_names instances)

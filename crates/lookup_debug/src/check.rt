@@ -3,7 +3,7 @@ ghost use Rattle.std.specs.Prelude.{◌≡◌, ◌⊎◌, All, IfOk, MatchResult
 ghost use Rattle.air.specs.Traces.{AreEven, layout_of};
 ghost use Rattle.lookup_debug.specs.Checks.{AnswersGroup, AnswersGroups, local_groups_in};
 ghost use Rattle.lookup_debug.specs.Contributions.{AreFitting, IsFitting, contributions_of, place_of, traced_of};
-ghost use Rattle.lookup_debug.specs.Groups.{bus_group, bus_names, is_missing, local_groups, local_label};
+ghost use Rattle.lookup_debug.specs.Groups.{bus_group, is_missing, local_groups, local_label, placed_bus_names};
 ghost use Rattle.lookup_debug.specs.Mismatch.{AllBalance, HasParts, IsMismatch};
 ghost use Rattle.lookup_model.specs.Outline.{bus_of};
 ghost use Rattle.lookup_model.specs.Records.{LookupsFit};
@@ -126,7 +126,8 @@ fn check_buses<F: Field>(
 ) -> Result<(), LookupFault<F>>
     requires { AreFitting instances.now }
     ensures { let all = map traced_of instances.now in
-        AnswersGroups F.ring F.eq F.text (map (bus_group F.ring F.eq all) (bus_names all)) result }
+        AnswersGroups F.ring F.eq F.text
+        (map (bus_group F.ring F.eq all) (placed_bus_names all)) result }
 {
     let names = bus_names(alloc, instances)?;
     for place in 0..names.len() {

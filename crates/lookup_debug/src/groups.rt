@@ -4,7 +4,8 @@ ghost use Rattle.std.specs.Cmp.Lexicographic.{pointwise};
 ghost use Rattle.std.specs.List.{filter_map};
 ghost use Rattle.indexmap.specs.IndexSet.{keys};
 ghost use Rattle.lookup_debug.specs.Contributions.{traced_of};
-ghost use Rattle.lookup_debug.specs.Groups.{bus_names, is_named};
+ghost use Rattle.lookup_debug.specs.Groups.{placed_bus_names};
+ghost use Rattle.lookup_model.specs.Names.{is_named};
 ghost use Rattle.lookup_model.specs.Net.{first_seen};
 ghost use Rattle.lookup_model.specs.Outline.{bus_of};
 
@@ -20,7 +21,7 @@ pub(crate) fn bus_names<'a, F: Field>(
     instances: &'a [LookupDebugInstance<'a, F>],
 ) -> Result<Vec<&'a str>, AllocError>
     ensures { IfOk result (λ names. map (λ n. n.now) names.items
-        ≡ bus_names (map traced_of instances.now)) }
+        ≡ placed_bus_names (map traced_of instances.now)) }
 {
     let mut names = IndexSet::new(alloc);
     for instance in instances {

@@ -12,7 +12,7 @@ use Rattle.std.specs.String.{string_bytes}
 use Rattle.std.specs.declared.alloc.Global.{Global}
 use Rattle.std.specs.declared.string.String.{String}
 use Rattle.expressions.specs.Faults.{SplitsAtFault}
-use Rattle.lookup_indexed.specs.Faults.{AreColumns, IsColumnFault, IsFirstColumnFault, Names}
+use Rattle.lookup_indexed.specs.Faults.{AreDistinctColumns, IsColumnFault, IsFirstColumnFault, Names}
 use Rattle.lookup_indexed.specs.declared.error.IndexedLookupError.{IndexedLookupError}
 use Rattle.lookup_indexed.specs.declared.error.IndexedLookupError.TheVariants.{Memory}
 
@@ -22,7 +22,7 @@ named table refusal name is =
     inr (record { name = name; name_is = is; refusal_is = refl })
 
 -- the first fault is that of the column at an index before which there is none
-pub first_column_fault : (table : List ℕ) (width : ℕ) (columns : List ℕ) (i : ℕ) (e : IndexedLookupError) → i < length columns → AreColumns width (take i columns) → IsColumnFault table width e (take i columns) (get_or columns i 0) → IsFirstColumnFault table width columns e
+pub first_column_fault : (table : List ℕ) (width : ℕ) (columns : List ℕ) (i : ℕ) (e : IndexedLookupError) → i < length columns → AreDistinctColumns width (take i columns) → IsColumnFault table width e (take i columns) (get_or columns i 0) → IsFirstColumnFault table width columns e
 first_column_fault table width columns i e lt good fault = record {
   before = take i columns;
   item = get_or columns i 0;
@@ -33,9 +33,9 @@ first_column_fault table width columns i e lt good fault = record {
 }
 
 -- one more column without a fault
-pub columns_more : (width : ℕ) (columns : List ℕ) (i : ℕ) → i < length columns → AreColumns width (take i columns) → get_or columns i 0 < width → list_any (nat_eq (get_or columns i 0)) (take i columns) ≡ false → AreColumns width (take (i + 1) columns)
+pub columns_more : (width : ℕ) (columns : List ℕ) (i : ℕ) → i < length columns → AreDistinctColumns width (take i columns) → get_or columns i 0 < width → list_any (nat_eq (get_or columns i 0)) (take i columns) ≡ false → AreDistinctColumns width (take (i + 1) columns)
 columns_more width columns i lt good within new =
-    subst (λ (cs : List ℕ). AreColumns width cs) (sym (take_more columns i 0 lt)) (record {
+    subst (λ (cs : List ℕ). AreDistinctColumns width cs) (sym (take_more columns i 0 lt)) (record {
       within = All-push (λ c. c < width) (take i columns) (get_or columns i 0) good.within within;
       distinct = IsDistinct-push nat_eq_equiv (take i columns) (get_or columns i 0) good.distinct new;
     })

@@ -19,7 +19,7 @@ pub record Names (table : List ℕ) (refusal : String Global → IndexedLookupEr
   pub refusal_is : e ≡ refusal name
 
 -- the columns are within a window of this width, and none is there twice
-pub record AreColumns (width : ℕ) (columns : List ℕ) : Type 0 where
+pub record AreDistinctColumns (width : ℕ) (columns : List ℕ) : Type 0 where
   pub within : All (λ c. c < width) columns
   pub distinct : IsDistinct nat_eq columns
 
@@ -32,14 +32,14 @@ IsColumnFault table width e before column =
 -- the fault of the first column that has one
 abbrev pub IsFirstColumnFault : List ℕ → ℕ → List ℕ → IndexedLookupError → Type 0
 IsFirstColumnFault table width columns e =
-    SplitsAtFault (AreColumns width) (IsColumnFault table width e) columns
+    SplitsAtFault (AreDistinctColumns width) (IsColumnFault table width e) columns
 
 -- A reader's position and its columns are within the main trace, of this width; it has a column, and
 -- none twice.
 pub record IsFaultlessRead (width : ℕ) (r : Read) : Type 0 where
   pub position : r.position < width
   pub filled : r.payload ≢ []
-  pub columns : AreColumns width r.payload
+  pub columns : AreDistinctColumns width r.payload
 
 -- the fault of a reader: of its position, then that it has no column, then that of its first column with a fault
 abbrev pub IsReadFault : ℕ → IndexedLookupError → Read → Type 0
@@ -56,7 +56,7 @@ window_width layout Preprocessed = layout.preprocessed_width
 -- a table's columns are within its own window; it has a column, and none twice
 pub record IsFaultlessTable (layout : AirLayout) (t : Table) : Type 0 where
   pub filled : t.columns ≢ []
-  pub columns : AreColumns (window_width layout t.window) t.columns
+  pub columns : AreDistinctColumns (window_width layout t.window) t.columns
 
 -- the fault of a table: that it has no column, or that of its first column with a fault
 abbrev pub IsTableFault : AirLayout → IndexedLookupError → Table → Type 0
@@ -74,12 +74,12 @@ IsFirstTableFault layout tables e =
     SplitsAtFault (All (IsFaultlessTable layout)) (λ _ t. IsTableFault layout e t) tables
 
 -- no reader and no table has a fault
-pub record AreFaultless (layout : AirLayout) (reads : List Read) (tables : List Table) : Type 0 where
+pub record AreFaultlessDeclarations (layout : AirLayout) (reads : List Read) (tables : List Table) : Type 0 where
   pub reads_faultless : All (IsFaultlessRead layout.main_width) reads
   pub tables_faultless : All (IsFaultlessTable layout) tables
 
 -- the first fault of declarations: all readers come before all tables
-abbrev pub IsFirstFault : AirLayout → List Read → List Table → IndexedLookupError → Type 0
-IsFirstFault layout reads tables e =
+abbrev pub IsFirstDeclarationFault : AirLayout → List Read → List Table → IndexedLookupError → Type 0
+IsFirstDeclarationFault layout reads tables e =
     IsFirstReadFault layout.main_width reads e
     ⊎ (All (IsFaultlessRead layout.main_width) reads × IsFirstTableFault layout tables e)

@@ -10,6 +10,7 @@ pub mod Degrees
 pub mod HornerRule
 pub mod Lists
 pub mod Lookups
+pub mod Names
 pub mod Prefixes
 pub mod RecordLaws
 pub mod SumDegreeLaws

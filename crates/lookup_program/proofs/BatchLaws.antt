@@ -28,10 +28,10 @@ use Rattle.lookup_model.specs.Trace.{sent_row_under}
 use Rattle.lookup_model.specs.declared.types.Lookup.{Lookup}
 use Rattle.lookup.specs.Lookups.{lookups_of}
 use Rattle.lookup.specs.Sends.{lookup_bus_and_weight}
-use Rattle.lookup_program.specs.Machines.{air_bus_and_weight, air_cells, air_sends, air_trace, airs_of, columns_of, first_column_of, width_of}
-use Rattle.lookup_program.specs.Program.{AreFaultless, IsFirstFault, air_faults, air_result, machine_witness, run_table}
+use Rattle.lookup_program.specs.Machines.{air_bus_and_weight, air_cells, air_sends, air_trace, airs_of, input_columns, first_column_of, width_of}
+use Rattle.lookup_program.specs.Program.{AreFaultlessAirs, IsFirstAirFault, air_faults, air_result, machine_witness, run_table}
 use Rattle.lookup_program.specs.Refusal.{of_batch}
-use Rattle.lookup_program.specs.Traces.{IsTraceOf, instance_over}
+use Rattle.lookup_program.specs.Traces.{IsTraceOf, traced_instance}
 use Rattle.lookup_program.specs.declared.airs.MachineAir.{MachineAir}
 use Rattle.lookup_program.specs.declared.airs.MachineAir.TheVariants.{Entries, Group, Keys, RangeCheck}
 use Rattle.lookup_program.specs.declared.machine.Machine.{Machine}
@@ -96,7 +96,7 @@ zero_id zero = refl
 zero_id (suc column) = refl
 
 -- the AIRs of a machine hold columns of its input
-pub airs_within : (machine : Machine) → All (λ air. first_column_of air + width_of air ≤ columns_of machine) (airs_of machine)
+pub airs_within : (machine : Machine) → All (λ air. first_column_of air + width_of air ≤ input_columns machine) (airs_of machine)
 airs_within Range = All-cons (λ air. first_column_of air + width_of air ≤ 3) RangeCheck [] (omega arith) (All-nil (λ air. first_column_of air + width_of air ≤ 3))
 airs_within Bus = All-cons (λ air. first_column_of air + width_of air ≤ 3) Keys (Entries ∷ []) (omega arith)
     (All-cons (λ air. first_column_of air + width_of air ≤ 3) Entries [] (omega arith) (All-nil (λ air. first_column_of air + width_of air ≤ 3)))
@@ -122,7 +122,7 @@ trace_rows air input holds some =
 
 -- the batch's instance of an AIR: public values and ids are the same for all
 abbrev pub instance : {F : Type 0} → AirTrace F → Instance F
-instance trace = instance_over [] ids trace
+instance trace = traced_instance [] ids trace
 
 module _ {F : Type 0} (R : Ring F) (eq : F → F → Bool) (input : Matrix F) (air : MachineAir) (trace : AirTrace F) (is : IsTraceOf R eq input air trace) where
   -- the AIR has one lookup
@@ -220,13 +220,13 @@ module _ {F K : Type 0} (E : Extension F K) (alpha beta : K) (input : Matrix F) 
     witness_is = results_are (airs_of machine) traces all
 
     -- no AIR has a fault
-    pub faultless_is : AreInstancesFaultless E table (map instance traces) → AreFaultless E machine alpha beta input
+    pub faultless_is : AreInstancesFaultless E table (map instance traces) → AreFaultlessAirs E machine alpha beta input
     faultless_is none i air there =
         let x = instance_at i air there in
         sym x.2 ∙ none i x.0 x.1
 
     -- or the first fault is that of the machine
-    pub first_fault_is : (fault : BatchFault) → IsFirstInstanceFault E table (map instance traces) fault → IsFirstFault E machine alpha beta input (of_batch (of_fault fault))
+    pub first_fault_is : (fault : BatchFault) → IsFirstInstanceFault E table (map instance traces) fault → IsFirstAirFault E machine alpha beta input (of_batch (of_fault fault))
     first_fault_is fault first =
         let air = air_at first.index first.item first.is_there in
         record {

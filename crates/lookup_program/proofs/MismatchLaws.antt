@@ -32,7 +32,7 @@ use Rattle.lookup_debug.specs.SentContributions.{sent_contributions}
 use Rattle.lookup_debug.proofs.SentContributionLaws.{contributions_sent}
 use Rattle.lookup_program.specs.Machines.{air_bus_and_weight, air_sends, air_trace, airs_of}
 use Rattle.lookup_program.specs.Mismatches.{AreFlagsBoolean, HasBooleanFlags, air_contributions, label_of, machine_contributions, mismatch_line}
-use Rattle.lookup_program.specs.Program.{AreFaultless, air_rows, run_table}
+use Rattle.lookup_program.specs.Program.{AreFaultlessAirs, air_rows, run_table}
 use Rattle.lookup_program.specs.Traces.{IsTraceOf, traced_over}
 use Rattle.lookup_program.specs.declared.airs.MachineAir.{MachineAir}
 use Rattle.lookup_program.specs.declared.airs.MachineAir.TheVariants.{Entries, Group as GroupAir, Keys, RangeCheck}
@@ -57,7 +57,7 @@ at_row P f a (suc n) all (suc k) lt =
     subst (λ r. P (f r)) there (at_row P f (a + 1) n all.1 k (omega (arith, lt)))
 
 -- without a fault each flag of a machine is zero or one
-pub flags_boolean : {F K : Type 0} (E : Extension F K) (machine : Machine) (alpha beta : K) (input : Matrix F) → AreFaultless E machine alpha beta input → AreFlagsBoolean E.base E.base_eq machine input
+pub flags_boolean : {F K : Type 0} (E : Extension F K) (machine : Machine) (alpha beta : K) (input : Matrix F) → AreFaultlessAirs E machine alpha beta input → AreFlagsBoolean E.base E.base_eq machine input
 flags_boolean {F} E machine alpha beta input faultless i air is r lt =
     let trace = air_trace air input in
     let sends : ℕ → Sent F = λ k. air_sends E.base E.base_eq air (row trace k) in

@@ -22,7 +22,7 @@ use Rattle.batch.specs.Traces.{FitsAt, batch_over}
 use Rattle.batch.specs.declared.error.BatchError.{BatchError}
 use Rattle.batch.specs.declared.error.BatchError.TheVariants.{Lookup as OfLookup}
 use Rattle.batch.specs.declared.trace.BatchTrace.{BatchTrace}
-use Rattle.lookup_program.specs.Machines.{air_bus_and_weight, air_trace, airs_of, columns_of, first_column_of, width_of}
+use Rattle.lookup_program.specs.Machines.{air_bus_and_weight, air_trace, airs_of, input_columns, first_column_of, width_of}
 use Rattle.lookup_program.specs.Program.{height_sum}
 use Rattle.batch.specs.Traces.{main_alone, shown_of}
 use Rattle.lookup_program.specs.Traces.{IsTraceOf}
@@ -166,5 +166,5 @@ module _ {F : Type 0} (R : Ring F) (eq : F → F → Bool) (input : Matrix F) wh
         (error, subst (λ (sum : ℕ). IsHeightRefusal p sum error) height_sum_is refusal, is)
 
     -- its batch is within the columns of the input
-    pub machine_fits : input.width ≡ columns_of machine → 0 < height input → All FitsAt (zip (map instance traces) (heights traces))
+    pub machine_fits : input.width ≡ input_columns machine → 0 < height input → All FitsAt (zip (map instance traces) (heights traces))
     machine_fits wide some = fitted (airs_of machine) traces (λ n d lt. omega (arith, airs_within machine n d lt, wide)) some all

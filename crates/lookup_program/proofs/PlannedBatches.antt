@@ -29,8 +29,8 @@ use Rattle.batch.specs.Traces.{AreTraces, FitsAt, IsTraceRefusal, batch_over}
 use Rattle.batch.specs.declared.error.BatchError.{BatchError}
 use Rattle.batch.specs.declared.error.BatchError.TheVariants.{Memory as BatchMemory}
 use Rattle.batch.specs.declared.trace.BatchTrace.{BatchTrace}
-use Rattle.lookup_program.specs.Machines.{airs_of, columns_of}
-use Rattle.lookup_program.specs.Program.{AreFaultless, IsFirstFault, IsHeavy, height_sum, machine_witness, run_table}
+use Rattle.lookup_program.specs.Machines.{airs_of, input_columns}
+use Rattle.lookup_program.specs.Program.{AreFaultlessAirs, IsFirstAirFault, IsHeavyInput, height_sum, machine_witness, run_table}
 use Rattle.lookup_program.specs.Refusal.{of_batch}
 use Rattle.batch.specs.Traces.{main_alone, shown_of}
 use Rattle.lookup_program.specs.Traces.{IsTraceOf}
@@ -43,7 +43,7 @@ use Rattle.lookup_program.proofs.PlannedWidths.{width_is_one}
 
 -- a plan that is refused is too heavy
 pub is_heavy : {F : Type 0} (R : Ring F) (eq : F → F → Bool) (input : Matrix F) (machine : Machine) (traces : List (AirTrace F)) → AllZip (IsTraceOf R eq input) (airs_of machine) traces → (p : ℕ) → IsPrime p
-    → (airs : List (Lookups F)) (hs : List ℕ) → airs ≡ sets traces → hs ≡ heights traces → (e : BatchError) → IsPlanRefusal p airs hs e → IsHeavy p machine input (of_batch e)
+    → (airs : List (Lookups F)) (hs : List ℕ) → airs ≡ sets traces → hs ≡ heights traces → (e : BatchError) → IsPlanRefusal p airs hs e → IsHeavyInput p machine input (of_batch e)
 is_heavy R eq input machine traces all p prime airs hs airs_are heights_are e refusal =
     let heavy = refused_for_height R eq input machine traces all p prime.above_one e (subst₂ (λ ls ns. IsPlanRefusal p ls ns e) airs_are heights_are refusal) in
     (heavy.0, heavy.1, ap of_batch heavy.2)
@@ -80,7 +80,7 @@ module _ {F K : Type 0} (E : Extension F K) (machine : Machine) (alpha beta : K)
     batch_same = (λ i. batch_over (zeros.0 i) (airs_are i) shown) ∙ batch_is traces shown shown_are
 
     -- the traces fit
-    traces_fit : input.width ≡ columns_of machine → 0 < height input → AreTraces hs shown (plan_batch airs given shown)
+    traces_fit : input.width ≡ input_columns machine → 0 < height input → AreTraces hs shown (plan_batch airs given shown)
     traces_fit wide some = record {
       as_many = sym (length-map shown shown_of) ∙ ap length shown_are ∙ length-map traces (λ t. main_alone t.main) ∙ sym (ap length heights_are ∙ length-map traces (λ t. height t.main));
       fit = subst₂ (λ (batch : List (Instance F)) (ns : List ℕ). All FitsAt (zip batch ns)) (sym batch_same) (sym heights_are) (machine_fits E.base E.base_eq input machine traces all wide some);
@@ -88,7 +88,7 @@ module _ {F K : Type 0} (E : Extension F K) (machine : Machine) (alpha beta : K)
 
     -- what it proves is the machine's witness
     pub proved : (w : Witness K) → AreTraces hs shown (plan_batch airs given shown) × (results_of w ≡ plain_witness E (made_table E.ring alpha beta W m) (plan_batch airs given shown)) × HasOneOfEach (plan_batch airs given shown) w × AreInstancesFaultless E (made_table E.ring alpha beta W m) (plan_batch airs given shown)
-        → (results_of w ≡ machine_witness E machine alpha beta input) × (length w.aux.items ≡ length w.terminals.items) × AreFaultless E machine alpha beta input × (height_sum machine input < p)
+        → (results_of w ≡ machine_witness E machine alpha beta input) × (length w.aux.items ≡ length w.terminals.items) × AreFaultlessAirs E machine alpha beta input × (height_sum machine input < p)
     proved w (fit, plain, complete, faultless) = (
       plain ∙ (λ i. plain_witness E (made_is i) (batch_same i)) ∙ witness_is E alpha beta input machine traces all,
       complete.0 ∙ sym complete.1,
@@ -97,11 +97,11 @@ module _ {F K : Type 0} (E : Extension F K) (machine : Machine) (alpha beta : K)
     )
 
     -- what it refuses is the machine's first fault
-    pub refused : input.width ≡ columns_of machine → 0 < height input → (e : BatchError)
+    pub refused : input.width ≡ input_columns machine → 0 < height input → (e : BatchError)
         → (e ≡ BatchMemory) ⊎ (IsTraceRefusal hs shown (plan_batch airs given shown) e ⊎ (AreTraces hs shown (plan_batch airs given shown) × ((fault : BatchFault) × IsFirstInstanceFault E (made_table E.ring alpha beta W m) (plan_batch airs given shown) fault × (e ≡ of_fault fault))))
-        → (of_batch e ≡ Memory) ⊎ (IsHeavy p machine input (of_batch e) ⊎ ((height_sum machine input < p) × IsFirstFault E machine alpha beta input (of_batch e)))
+        → (of_batch e ≡ Memory) ⊎ (IsHeavyInput p machine input (of_batch e) ⊎ ((height_sum machine input < p) × IsFirstAirFault E machine alpha beta input (of_batch e)))
     refused wide some e (inl memory) = inl (ap of_batch memory)
     refused wide some e (inr (inl unfit)) = absurd (unfit_traces hs shown (plan_batch airs given shown) e unfit (traces_fit wide some))
     refused wide some e (inr (inr (fit, (fault, first, is)))) =
         let own = first_fault_is E alpha beta input machine traces all fault (subst₂ (λ (t : ChallengeTable K) (is : List (Instance F)). IsFirstInstanceFault E t is fault) made_is batch_same first) in
-        inr (inr (light, subst (λ (b : BatchError). IsFirstFault E machine alpha beta input (of_batch b)) (sym is) own))
+        inr (inr (light, subst (λ (b : BatchError). IsFirstAirFault E machine alpha beta input (of_batch b)) (sym is) own))

@@ -18,7 +18,7 @@ use Rattle.lookup_model.specs.Terminals.{terminal_sum}
 use Rattle.lookup_model.specs.declared.error.LookupError.{LookupError}
 use Rattle.lookup_program.specs.Fields.{Fields}
 use Rattle.lookup_program.specs.Input.{IsInput, IsInputRefusal}
-use Rattle.lookup_program.specs.Machines.{air_bus_and_weight, air_sends, air_trace, airs_of, columns_of, name_of}
+use Rattle.lookup_program.specs.Machines.{air_bus_and_weight, air_sends, air_trace, airs_of, input_columns, name_of}
 use Rattle.lookup_program.specs.Mismatches.{IsMismatchLine}
 use Rattle.lookup_program.specs.Refusal.{ShowsWord}
 use Rattle.lookup_program.specs.Report.{verdict_line, witness_lines}
@@ -33,8 +33,8 @@ abbrev pub height_sum : {F : Type 0} → Machine → Matrix F → ℕ
 height_sum machine input = sum_by (λ air. (air_bus_and_weight air).1 * height (air_trace air input)) (airs_of machine)
 
 -- the refusal of an input whose height sum reaches the characteristic
-abbrev pub IsHeavy : {F : Type 0} → ℕ → Machine → Matrix F → RunError → Type 0
-IsHeavy p machine input e = (error : LookupError) × IsHeightRefusal p (height_sum machine input) error × (e ≡ Batch (OfLookup error))
+abbrev pub IsHeavyInput : {F : Type 0} → ℕ → Machine → Matrix F → RunError → Type 0
+IsHeavyInput p machine input e = (error : LookupError) × IsHeightRefusal p (height_sum machine input) error × (e ≡ Batch (OfLookup error))
 
 -- the challenge table of a run: tuples have one value, and the one id is 0
 abbrev pub run_table : {F K : Type 0} → Extension F K → K → K → ChallengeTable K
@@ -63,12 +63,12 @@ module _ {F K : Type 0} (E : Extension F K) (machine : Machine) (alpha beta : K)
   machine_witness = map (air_result E alpha beta input) (airs_of machine)
 
   -- no AIR has a fault
-  abbrev pub AreFaultless : Type 0
-  AreFaultless = (i : ℕ) (air : MachineAir) → slice_get (airs_of machine) i ≡ Some air → air_faults E alpha beta input air ≡ []
+  abbrev pub AreFaultlessAirs : Type 0
+  AreFaultlessAirs = (i : ℕ) (air : MachineAir) → slice_get (airs_of machine) i ≡ Some air → air_faults E alpha beta input air ≡ []
 
   -- why there is no witness: the first fault of the first AIR that has one
-  abbrev pub IsFirstFault : RunError → Type 0
-  IsFirstFault e = HasFirstFault
+  abbrev pub IsFirstAirFault : RunError → Type 0
+  IsFirstAirFault e = HasFirstFault
       (λ air. air_faults E alpha beta input air ≡ [])
       (λ place air. (error : LookupError) × (slice_get (air_faults E alpha beta input air) 0 ≡ Some error) × (e ≡ Batch (OfAir place error)))
       (airs_of machine)
@@ -83,9 +83,9 @@ module _ {F K : Type 0} (fields : Fields F K) (machine : Machine) where
   -- height sum is below the characteristic, and no AIR has a fault.
   pub record IsReport (alpha beta : K) (input : List ℕ) (report : Report) : Type 0 where
     pub rows : Matrix F
-    pub read : IsInput fields.extension.base (columns_of machine) fields.bound input rows
+    pub read : IsInput fields.extension.base (input_columns machine) fields.bound input rows
     pub light : height_sum machine rows < fields.characteristic
-    pub faultless : AreFaultless fields.extension machine alpha beta rows
+    pub faultless : AreFaultlessAirs fields.extension machine alpha beta rows
     pub balanced : IsTrue report.balanced
         ↔ (terminal_sum fields.extension.ring (map (λ r. r.1) (machine_witness fields.extension machine alpha beta rows)) ≡ fields.extension.ring.zero)
     pub text : string_bytes report.text
@@ -96,10 +96,10 @@ module _ {F K : Type 0} (fields : Fields F K) (machine : Machine) where
   -- then that of the first AIR that has a fault
   abbrev pub IsReportRefusal : K → K → List ℕ → RunError → Type 0
   IsReportRefusal alpha beta input e =
-      IsInputRefusal (columns_of machine) fields.bound input e
-      ⊎ ((rows : Matrix F) × IsInput fields.extension.base (columns_of machine) fields.bound input rows
-      × (IsHeavy fields.characteristic machine rows e
-      ⊎ ((height_sum machine rows < fields.characteristic) × IsFirstFault fields.extension machine alpha beta rows e)))
+      IsInputRefusal (input_columns machine) fields.bound input e
+      ⊎ ((rows : Matrix F) × IsInput fields.extension.base (input_columns machine) fields.bound input rows
+      × (IsHeavyInput fields.characteristic machine rows e
+      ⊎ ((height_sum machine rows < fields.characteristic) × IsFirstAirFault fields.extension machine alpha beta rows e)))
 
   -- The answer to the words of two challenges and the bytes of an input. Alpha is checked before
   -- beta, and both before the input is read. Out of memory may come at any point.

@@ -19,8 +19,8 @@ pub record IsTraceOf {F : Type 0} (R : Ring F) (eq : F → F → Bool) (input : 
   pub main : trace.main ≡ air_trace air input
 
 -- the instance of an AIR in a batch, with these public values and ids
-abbrev pub instance_over : {F : Type 0} → List F → List ℕ → AirTrace F → Instance F
-instance_over public_values ids trace = record {
+abbrev pub traced_instance : {F : Type 0} → List F → List ℕ → AirTrace F → Instance F
+traced_instance public_values ids trace = record {
   lookups = lookups_of trace.lookups;
   traces = air_traces trace.main None public_values;
   ids = ids;

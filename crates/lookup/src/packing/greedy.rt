@@ -7,7 +7,7 @@ ghost use Rattle.lookup.specs.Buses.{owned_group};
 ghost use Rattle.lookup.specs.Fewest.{AnswersDegree};
 ghost use Rattle.lookup.specs.Kept.{KeepsSent};
 ghost use Rattle.lookup.specs.Packing.{AreColumnsAdded, IsFirstStuck, Packs, additive, is_additive, numbered, passing};
-ghost use Rattle.lookup.specs.Trials.{Answers, IsBusTrial, IsMember, IsTrialAmong};
+ghost use Rattle.lookup.specs.Trials.{AnswersTrial, IsBusTrial, IsMember, IsTrialAmong};
 
 use crate::packing::bus_widths::assert_bus_widths;
 use crate::packing::buses::moved_by_bus;
@@ -45,7 +45,7 @@ pub fn packed<F: Field, D: Fn(&Lookup<F>) -> Result<usize, LookupError>>(
     requires callable { (lookup : _) → IsBusTrial (map fields_of lookups.items) lookup.now
         → D.pre degree lookup }
     requires lengths { All HasEqualLengths lookups.items }
-    ensures packs { Packs (Answers (FnReturnsAt D.Fn degree)) max_degree
+    ensures packs { Packs (AnswersTrial (FnReturnsAt D.Fn degree)) max_degree
         (λ v. map fields_of v.items) (map fields_of lookups.items) result }
     ensures records { IfOk result (λ v. AreRecords v.items) }
     ensures kept { IfOk result (λ v. KeepsSent F.ring F.eq lookups.items v.items) }

@@ -6,7 +6,7 @@ use Rattle.lookup_model.proofs.Branches.{mapped_at}
 use Rattle.lookup_model.specs.Denominators.{column_denominator}
 use Rattle.field.specs.laws.Extension.{of_laws}
 use Rattle.lookup_model.proofs.RecordLaws.{All-at}
-use Rattle.generation_tests.specs.PlainProgram.{message_of, messages_of}
+use Rattle.generation_tests.specs.PlainProgram.{as_message, as_messages}
 use Rattle.generation_tests.proofs.PlainProgramLaws.{one_item}
 use Rattle.lookup_generation.proofs.SelectedFractions.{none_selected, one_selected, one_vanishing}
 use Rattle.lookup_model.proofs.Lookups.Selections.{place_within}
@@ -19,7 +19,7 @@ returns-then-is_empty g c =
     let lawful = sym c.are_boolean.ensures ∙ c.if-not-are_boolean.false in
     let items = c.in_ok-places.places.items in
     let none : items ≡ [] = nil_from_length items (sym c.in_ok-places.places.ok.0 ∙ eqb-true c.in_ok-places.places.len 0 (sym c.is_empty.ensures ∙ c.if-is_empty.true)) in
-    let is = none_selected laws (column_denominator E c.args.challenges.now) c.args.row c.args.lookup c.args.flags.now (messages_of c.args.messages.now) lawful (sym c.in_ok-places.ensures ∙ none) in
+    let is = none_selected laws (column_denominator E c.args.challenges.now) c.args.row c.args.lookup c.args.flags.now (as_messages c.args.messages.now) lawful (sym c.in_ok-places.ensures ∙ none) in
     (c.ZERO.ensures ∙ g.met.EF.PrimeCharacteristicRing.zero_is ∙ is.0, is.1)
 
 pub bounds-messages-index : goal.bounds-messages-index
@@ -57,8 +57,8 @@ returns g c =
     let filled : length items ≢ 0 = λ e. eqb-false c.in_ok-places.places.len 0 (sym c.is_empty.ensures ∙ c.if-is_empty.false) (c.in_ok-places.places.ok.0 ∙ e) in
     let one = sym c.in_ok-places.ensures ∙ one_item items k (omega (arith, c.if-len-gt1.false, c.len.ensures, c.in_ok-places.places.ok.0)) filled c.index.ensures in
     let lt : k < length ms = omega (arith, place_within E.base E.base_eq 0 c.args.flags.now k [] one, c.requires.lengths) in
-    let within : k < length (messages_of ms) = omega (arith, lt, length-map ms message_of) in
-    let is = mapped_at message_of ms k message lt c.index-messages-index.is in
+    let within : k < length (as_messages ms) = omega (arith, lt, length-map ms as_message) in
+    let is = mapped_at as_message ms k message lt c.index-messages-index.is in
     MatchResult-weaker c.single_quotient.result c.single_quotient.ensures
-    (λ q h. let right = one_selected laws denominator c.args.row c.args.lookup c.args.flags.now (messages_of ms) lawful k (message_of message) one within is h.0 in (h.1 ∙ right.0, right.1))
-    (λ e h. inr (one_vanishing laws denominator c.args.row c.args.lookup c.args.flags.now (messages_of ms) lawful k (message_of message) one within is h.1 ∙ ap Some (sym h.0)))
+    (λ q h. let right = one_selected laws denominator c.args.row c.args.lookup c.args.flags.now (as_messages ms) lawful k (as_message message) one within is h.0 in (h.1 ∙ right.0, right.1))
+    (λ e h. inr (one_vanishing laws denominator c.args.row c.args.lookup c.args.flags.now (as_messages ms) lawful k (as_message message) one within is h.1 ∙ ap Some (sym h.0)))

@@ -6,7 +6,7 @@ use Rattle.field.specs.Ring.{sub_in}
 use Rattle.expressions.specs.Tree.{tree_of}
 use Rattle.std.proofs.lemmas.Slice.Zip.{AllZip-long}
 use Rattle.lookup_columns.proofs.ZipLaws.{beside}
-use Rattle.lookup_columns.specs.Columns.{denominator_at}
+use Rattle.lookup_columns.specs.Columns.{tuple_denominator_at}
 use Rattle.lookup_columns.specs.Steps.{AreStepsOf, StepFits, StepsFit}
 use Rattle.lookup_columns.specs.ChunkColumns.{key_denominator}
 use Rattle.lookup_columns.specs.LookupSteps.{AreTupleSteps}
@@ -75,7 +75,7 @@ returns-clause-held g c = λ place r m there m_there.
     let ms = branches_at R w column lookup in
     let alpha_is = get_or_read challenges (2 * column) c.index-challenges-lookup.result (omega (arith, c.requires.challenges)) c.index-challenges-lookup.is S.zero in
     let beta_is = get_or_read challenges (2 * column + 1) c.index-challenges-lookup-2.result c.requires.challenges c.index-challenges-lookup-2.is S.zero in
-    let at = denominator_at R S embed c.index-challenges-lookup.result c.index-challenges-lookup-2.result in
+    let at = tuple_denominator_at R S embed c.index-challenges-lookup.result c.index-challenges-lookup-2.result in
     let over = mapped_there (λ row. at (windows row) tuple.items) c.args.rows.now c.in_ok-denominators.denominators.items place r (c.in_ok-denominators.ensures tuple.items (subst (λ (l : List _). AllZip AreStepsOf l tuple.items) (sym c.deref-2.ensures.value) tuple_beside.holds)) there in
     let is : branch_at R w column tuple.items multiplicity ≡ m =
     zipped_at (λ b. branch_at R w column b.0.items b.1) lookup.elements.items lookup.multiplicities.items c.requires.lengths.multiplicities i tuple multiplicity lt tuple_beside.there multiplicity_beside.there

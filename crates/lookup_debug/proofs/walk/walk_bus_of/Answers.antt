@@ -5,7 +5,8 @@ use Rattle.std.specs.List.{filter, flat_map}
 use Rattle.lookup_model.specs.Outline.{bus_of}
 use Rattle.lookup_model.specs.declared.types.Lookup.{Lookup}
 use Rattle.lookup_debug.specs.Contributions.{contributions_of, traced_of}
-use Rattle.lookup_debug.specs.Groups.{Placed, is_named, is_on, placed_contributions, placed_in}
+use Rattle.lookup_debug.specs.Groups.{Placed, is_on, placed_contributions, placed_in}
+use Rattle.lookup_model.specs.Names.{is_named}
 use Rattle.lookup_debug.proofs.BusLaws.{length-placed_in, step_off, step_on}
 use Rattle.lookup_debug.proofs.walk.walk_bus_of.Goals.{else-is_on_bus, then-is_on_bus+in_ok-walk_lookup}
 use Rattle.lookup_debug.proofs.walk.walk_bus_of.Goals as goal
