@@ -106,7 +106,7 @@ fn parted<F: Field>(
         × All IsMember r.1.items) }
 {
     let mut columns = Vec::new(alloc);
-    let mut additive = Vec::new(alloc);
+    let mut additive = Vec::with_capacity(alloc, lookups.len())?;
     for lookup in lookups {
         if may_be_joined(&lookup) {
             additive.push(lookup)?;
@@ -168,7 +168,7 @@ fn in_columns<F: Field>(
         ≡ numbered (map fields_of lookups.items)) }
     ensures records { IfOk result (λ v. AreRecords v.items) }
 {
-    let mut columns = Vec::new(alloc);
+    let mut columns = Vec::with_capacity(alloc, lookups.len())?;
     for next in lookups {
         let mut lookup = next;
         let column = columns.len();

@@ -39,7 +39,7 @@ pub loop-lookup-init : goal.loop-lookup-init
 loop-lookup-init g c =
     let given = c.into_iter-lookup-iterator.ensures.into_iter_gives.0 in
     let no_columns = c.new-columns.ensures.items in
-    let no_additive = c.new-additive.ensures.items in record {
+    let no_additive = c.in_ok-additive.ensures.items in record {
       left = subst (λ (t : List (Lookup g.row.F.Denot)). All HasEqualLengths t) (sym given) c.requires;
       pass = λ i. map fields_of (no_columns i) ++ passing (map fields_of (given i));
       lengths = subst (λ (t : List (Lookup g.row.F.Denot)). All HasEqualLengths t) (sym no_columns) (λ k d lt. absurd (omega (arith, lt)));
