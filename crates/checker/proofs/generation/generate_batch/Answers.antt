@@ -1,7 +1,6 @@
-use Rattle.std.proofs.Common.{◌≡◌, ◌<◌, ◌+◌, ℕ, Some, List, length, inl, inr, map, sym, ap, subst, subst₂, ◌∙◌, arith}
+use Rattle.std.proofs.Common.{◌<◌, ◌+◌, ℕ, Some, List, length, inl, inr, map, sym, ap, subst, subst₂, ◌∙◌, arith}
 use Rattle.std.proofs.lemmas.List.{length-map}
-use Rattle.std.proofs.lemmas.Option.{slice_get_read, slice_get_within}
-use Rattle.std.specs.List.{slice_get}
+use Rattle.std.proofs.lemmas.Option.{slice_get_within}
 use Rattle.lookup_model.proofs.Branches.{mapped_at}
 use Rattle.field.specs.laws.Extension.{of_laws}
 use Rattle.lookup_model.proofs.RecordLaws.{All-at}
@@ -11,7 +10,7 @@ use Rattle.lookup_model.specs.Batches.Witnesses.{AirResult}
 use Rattle.checker.specs.Results.{HasResults}
 use Rattle.lookup_model.specs.Challenges.{table_of}
 use Rattle.lookup_model.proofs.Batches.OnlyWitness.{only_witness}
-use Rattle.checker.proofs.ResultLaws.{all_results, fitting_all, results_more}
+use Rattle.checker.proofs.ResultLaws.{all_results, fitting_all, instance_there, results_more}
 use Rattle.lookup_model.proofs.Batches.Succeeds.{none_faulty}
 use Rattle.lookup_model.proofs.Batches.Totals.{balanced_total}
 use Rattle.checker.proofs.generation.generate_batch.Goals as goal
@@ -20,9 +19,7 @@ pub returns-in-Err-clause-answer : goal.returns-in-Err-clause-answer
 returns-in-Err-clause-answer g c =
     let instance = c.index-instances-air.result in
     let instances = c.args.instances.now in
-    let lt : c.loop-air.air < length instances = c.loop-air-test.true in
-    let here : slice_get (instances_of instances) c.loop-air.air ≡ Some (instance_of instance) =
-    slice_get_read (instances_of instances) (length (instances_of instances)) c.loop-air.air (instance_of instance) (λ _. length (instances_of instances)) (omega (arith, length-map instances instance_of, lt)) (mapped_at instance_of instances c.loop-air.air instance lt c.index-instances-air.is) in
+    let here = instance_there instances c.loop-air.air instance c.loop-air-test.true c.index-instances-air.is in
     elim c.of_air.ensures.1 [
       | inl memory ↦ inl memory.1
       | inr other ↦ elim c.in-Err.ensures [
@@ -80,9 +77,7 @@ returns-in-Err-clause-succeeds g c =
     let E = of_laws laws in
     let instance = c.index-instances-air.result in
     let instances = c.args.instances.now in
-    let lt : c.loop-air.air < length instances = c.loop-air-test.true in
-    let here : slice_get (instances_of instances) c.loop-air.air ≡ Some (instance_of instance) =
-    slice_get_read (instances_of instances) (length (instances_of instances)) c.loop-air.air (instance_of instance) (λ _. length (instances_of instances)) (omega (arith, length-map instances instance_of, lt)) (mapped_at instance_of instances c.loop-air.air instance lt c.index-instances-air.is) in
+    let here = instance_there instances c.loop-air.air instance c.loop-air-test.true c.index-instances-air.is in
     λ regular. elim c.of_air.ensures.1 [
       | inl memory ↦ memory.1
       | inr other ↦ elim c.in-Err.ensures [
