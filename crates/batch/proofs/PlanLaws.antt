@@ -44,7 +44,7 @@ pub widths_passed : (context : List ℕ) (width other : ℕ) (e : LookupError) �
 widths_passed context width other e is = ap of_lookup is.error_is ∙ ap OfLookup (sym is.error_is)
 
 pub local_passed : {F : Type 0} (airs : List (Lookups F)) (e : LookupError) → IsFirstLocalMismatch airs e → of_lookup e ≡ OfLookup e
-local_passed airs e first = widths_passed _ _ _ e first.fault.fault.refusal
+local_passed airs e first = widths_passed _ _ _ e first.fault.fault.uneven.refusal
 
 pub height_passed : (p sum : ℕ) (e : LookupError) → IsHeightRefusal p sum e → of_lookup e ≡ OfLookup e
 height_passed p sum e is = ap of_lookup is.error_is ∙ ap OfLookup (sym is.error_is)

@@ -1,12 +1,13 @@
 -- One more result of a batch.
 use Rattle.std.proofs.Common.{◌≡◌, ◌⊎◌, ℕ, ◌+◌, ◌<◌, ◌≤◌, inl, inr, Option, Some, List, [], ◌∷◌, ◌++◌, length, map, take, get_or, refl, sym, ap, subst, subst₂, ◌∙◌, arith, length-append}
 use Rattle.std.proofs.lemmas.Bool.{cases_lt}
-use Rattle.std.proofs.lemmas.List.{map_push, take_more, take_all}
+use Rattle.std.proofs.lemmas.List.{length-map, map_push, take_more, take_all}
 use Rattle.std.proofs.lemmas.List.Elements.{All-map, recursion_from_All}
 use Rattle.std.proofs.lemmas.Option.{slice_get_read}
 use Rattle.std.proofs.lemmas.Slice.Zip.{all_zipped_more}
 use Rattle.std.specs.List.{AllByRecursion, AllZip, slice_get, zip}
 use Rattle.matrix.specs.Matrix.{Matrix}
+use Rattle.lookup_model.proofs.Branches.{mapped_at}
 use Rattle.field.specs.Extension.{Extension}
 use Rattle.lookup_model.specs.declared.types.LookupTerminal.{LookupTerminal}
 use Rattle.lookup_model.specs.Batches.Faults.{instance_faults}
@@ -50,6 +51,11 @@ module _ {F K : Type 0} (E : Extension F K) (table : ChallengeTable K) (instance
   all_results aux terminals has =
       let all : take (length instances) instances ≡ instances = take_all (length instances) instances (omega arith) in
       (has.results ∙ ap (map (plain_result E table)) all, subst (λ (is : List (Instance F)). AllZip (IsSatisfiedAt E table) is (zip aux terminals)) all has.satisfied)
+
+-- the instance at a place of a batch
+pub instance_there : {F : Type 0} (bs : List (BatchInstance F)) (i : ℕ) (b : BatchInstance F) → i < length bs → b ≡ get_or bs i b → slice_get (instances_of bs) i ≡ Some (instance_of b)
+instance_there bs i b lt is =
+    slice_get_read (instances_of bs) (length (instances_of bs)) i (instance_of b) (λ _. length (instances_of bs)) (omega (arith, length-map bs instance_of, lt)) (mapped_at instance_of bs i b lt is)
 
 -- the instances of a batch that fits are fitting, one by one
 pub fitting_all : {F : Type 0} (bs : List (BatchInstance F)) → InstancesFit bs → AllByRecursion IsFitting (instances_of bs)

@@ -1,7 +1,17 @@
 -- Rows on which properties hold until one fails.
-use Rattle.std.proofs.Common.{◌≡◌, ◌⊎◌, ℕ, ◌<◌, ◌≤◌, inl, inr, subst, arith}
+use Rattle.std.proofs.Common.{◌≡◌, ◌⊎◌, ℕ, ◌+◌, ◌<◌, ◌≤◌, inl, inr, subst, arith}
 use Rattle.std.proofs.lemmas.Bool.{cases_lt}
 use Rattle.checker.specs.Rows.{HoldsUntil}
+
+module _ (P : ℕ → Type 0) (first : ℕ) where
+  -- a property that holds on the rows so far, and on this one
+  pub holds_on_next : (row : ℕ) → ((s : ℕ) → first ≤ s → s < row → P s) → P row → (s : ℕ) → first ≤ s → s < row + 1 → P s
+  holds_on_next row so_far here s low high = by_place (cases_lt s row)
+    where
+      by_place : (s < row) ⊎ (row ≤ s) → P s
+      by_place (inl earlier) = so_far s low earlier
+      by_place (inr late) =
+          let at : row ≡ s = omega (arith, late, high) in subst P at here
 
 module _ {P Q : ℕ → Type 0} {first end : ℕ} where
   -- a property that holds on the same rows

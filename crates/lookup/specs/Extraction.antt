@@ -11,7 +11,7 @@ use Rattle.lookup_model.specs.Weight.{weight_bound}
 use Rattle.lookup_model.specs.declared.error.LookupError.{LookupError}
 use Rattle.lookup_model.specs.declared.error.LookupError.TheVariants.{Memory, CountWeightOverflow}
 use Rattle.lookup_record.specs.Interaction.{Tuple, GlobalInteraction, ExclusiveInteraction}
-use Rattle.lookup.specs.TupleWidths.{HasOtherWidth, IsTupleWidths}
+use Rattle.lookup.specs.TupleWidths.{AreUnevenWidths}
 use Rattle.lookup_record.specs.RecordedAir.{EvaluatesNew, recorded_air}
 use Rattle.lookup_record.specs.declared.symbolic.InteractionSymbolicBuilder.{InteractionSymbolicBuilder}
 use Rattle.lookup.specs.Lookups.{lookups_of}
@@ -82,7 +82,7 @@ module _ {E : Type 0} where
   IsLocalRefusal tuples e =
       ((weight_bound ≤ sum_by (λ t. t.weight) tuples) × (e ≡ CountWeightOverflow))
       ⊎ ((sum_by (λ t. t.weight) tuples < weight_bound)
-      × ((width : ℕ) × (other : ℕ) × HasOtherWidth (tuple_widths tuples) width other × IsTupleWidths local_context width other e))
+      × AreUnevenWidths local_context (tuple_widths tuples) e)
 
   -- the refusal of the first local interaction that has a fault
   abbrev pub IsFirstLocalRefusal : List (List (Tuple E)) → LookupError → Type 0

@@ -3,9 +3,8 @@ ghost use Rattle.std.specs.Prelude.{◌≡◌, ◌<◌, ◌+◌, ◌*◌, ◌≤
 ghost use Rattle.std.specs.Option.{ForSome, option_copied};
 ghost use Rattle.air.specs.Traces.{air_traces};
 ghost use Rattle.expressions.specs.Layout.{layout_of_traces};
-ghost use Rattle.lookup_generation.specs.Inverses.{ForInverses};
+ghost use Rattle.lookup_generation.specs.Inverses.{ForExtensions};
 ghost use Rattle.lookup_generation.specs.Progress.{HaveNoTuples, started_chunks};
-ghost use Rattle.field.specs.Extension.{extension};
 ghost use Rattle.lookup_model.specs.Generation.{AnswersGeneration};
 ghost use Rattle.lookup_model.specs.LookupDegree.{IsDegree, lookup_degree};
 ghost use Rattle.lookup_model.specs.Records.{HasEqualLengths, LookupsFit};
@@ -80,8 +79,8 @@ impl LogUpGadget {
         requires fit { LookupsFit (layout_of_traces main.now
             (option_copied preprocessed) public_values.now) lookups.now }
         requires challenges { 2 * length lookups.now ≤ length challenges.now }
-        ensures answers { ForInverses EF.ring
-            (λ inverse. AnswersGeneration (extension F.ring F.eq EF.ring EF.eq EF.embed inverse)
+        ensures answers { ForExtensions F.ring F.eq EF.ring EF.eq EF.embed (λ E.
+            AnswersGeneration E
             (air_traces main.now (option_copied preprocessed.entry) public_values.now)
             lookups.now challenges.now result) }
         ensures counted { I.count inverter.new

@@ -8,6 +8,7 @@ pub mod Counting
 pub mod DegreeBounds
 pub mod Degrees
 pub mod HornerRule
+pub mod Layouts
 pub mod Lists
 pub mod Lookups
 pub mod Names

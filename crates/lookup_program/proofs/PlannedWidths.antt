@@ -85,9 +85,9 @@ module _ {F : Type 0} where
         let inner = first.fault in
         let tuples = there_holds (λ l. All (λ tuple. length tuple.items ≡ 1) l.elements.items) (lookups_of first.item) inner.index inner.item (there_holds AreOnes airs first.index first.item ones first.is_there) inner.is_there in
         let widths : All (λ w. w ≡ 1) (lookup_widths inner.item) = All-map (λ w. w ≡ 1) (λ tuple. length tuple.items) inner.item.elements.items tuples in
-        let differ = inner.fault.differ in
-        let width : inner.fault.width ≡ 1 = there_holds (λ w. w ≡ 1) (lookup_widths inner.item) 0 inner.fault.width widths differ.first in
-        let other : inner.fault.other ≡ 1 = there_holds (λ w. w ≡ 1) (lookup_widths inner.item) differ.place inner.fault.other widths differ.found in
+        let differ = inner.fault.uneven.differ in
+        let width : inner.fault.uneven.width ≡ 1 = there_holds (λ w. w ≡ 1) (lookup_widths inner.item) 0 inner.fault.uneven.width widths differ.first in
+        let other : inner.fault.uneven.other ≡ 1 = there_holds (λ w. w ≡ 1) (lookup_widths inner.item) differ.place inner.fault.uneven.other widths differ.found in
         differ.differs (other ∙ sym width)
 
 -- the greatest of some ones is at most 1

@@ -23,7 +23,7 @@ use Rattle.memory_check.specs.Pushes.{AcceptedAll, IsRefusedAfter}
 -- the refusal of a local lookup is passed on
 passed_on : {F : Type 0} (tuples : List (Tuple (SymbolicExpression F))) (e : LookupError) → IsLocalRefusal tuples e → of_lookup e ≡ OfLookup e
 passed_on tuples e (inl (heavy, is)) = ap of_lookup is ∙ ap (λ x. OfLookup x) (sym is)
-passed_on tuples e (inr (light, (width, other, differ, is))) = ap of_lookup is.error_is ∙ ap (λ x. OfLookup x) (sym is.error_is)
+passed_on tuples e (inr (light, uneven)) = ap of_lookup uneven.refusal.error_is ∙ ap (λ x. OfLookup x) (sym uneven.refusal.error_is)
 
 module _ {F EF : Type 0} where
   -- the ghost members of a builder that records

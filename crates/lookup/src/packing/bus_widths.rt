@@ -1,10 +1,10 @@
 //! One width for all tuples of a bus.
-ghost use Rattle.std.specs.Prelude.{◌≡◌, ◌<◌, ◌⊎◌, ℕ, Some, MatchOption, MatchResult, find, length, map, nat_eq, not, slice_get};
+ghost use Rattle.std.specs.Prelude.{◌≡◌, ◌<◌, ◌⊎◌, Some, MatchOption, MatchResult, find, length, map, nat_eq, not, slice_get};
 ghost use Rattle.std.specs.List.{flat_map};
 ghost use Rattle.indexmap.specs.IndexMap.{index_map_len};
 ghost use Rattle.lookup_model.specs.Outline.{fields_of};
 ghost use Rattle.lookup.specs.BusWidths.{HasOneWidth, HaveBusWidths, IsWidthRefusal, bus_context, widths_of};
-ghost use Rattle.lookup.specs.TupleWidths.{HasOtherWidth, IsTupleWidths};
+ghost use Rattle.lookup.specs.TupleWidths.{AreUnevenWidths, HasOtherWidth};
 
 use crate::packing::buses::by_bus;
 use expressions::SymbolicExpression;
@@ -56,9 +56,8 @@ fn assert_bus_width<F: Field>(
 ) -> Result<(), LookupError>
     ensures { MatchResult result
         (λ _. HasOneWidth (flat_map widths_of (map (λ r. fields_of r.now) members.now)))
-        (λ e. (e ≡ LookupError.Memory) ⊎ ((width : ℕ) × (other : ℕ)
-        × HasOtherWidth (flat_map widths_of (map (λ r. fields_of r.now) members.now)) width other
-        × IsTupleWidths (bus_context name.now) width other e)) }
+        (λ e. (e ≡ LookupError.Memory) ⊎ AreUnevenWidths (bus_context name.now)
+        (flat_map widths_of (map (λ r. fields_of r.now) members.now)) e) }
 {
     match two_widths(members) {
         None => Ok(()),

@@ -14,7 +14,7 @@ use Rattle.field.specs.laws.Extension.{of_laws}
 use Rattle.lookup_model.specs.Records.{IsWithin}
 use Rattle.matrix.specs.Matrix.{height}
 use Rattle.checker.proofs.HoldsLaws.{BothHold, both_fewer, both_from, both_more, holds_from}
-use Rattle.checker.proofs.Layouts.{LookupsFit-with_auxiliary, with_auxiliary}
+use Rattle.lookup_model.proofs.Layouts.{LookupsFit-with_auxiliary, with_auxiliary}
 use Rattle.checker.proofs.UntilLaws.{both_until, same_until}
 use Rattle.checker.specs.Rows.{HoldsUntil}
 use Rattle.checker.proofs.chunks.chunk_holds_until.Goals as goal

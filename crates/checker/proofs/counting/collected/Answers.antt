@@ -1,21 +1,18 @@
-use Rattle.std.proofs.Common.{◌≡◌, ◌<◌, ℕ, Some, length, inl, inr, sym, ap, subst, ◌∙◌, arith}
+use Rattle.std.proofs.Common.{◌<◌, ℕ, Some, length, inl, inr, sym, ap, subst, ◌∙◌, arith}
 use Rattle.std.proofs.lemmas.List.{length-map}
-use Rattle.std.proofs.lemmas.Option.{slice_get_read}
-use Rattle.std.specs.List.{slice_get}
 use Rattle.lookup_model.proofs.Branches.{mapped_at}
 use Rattle.lookup_model.proofs.RecordLaws.{All-at}
 use Rattle.lookup_model.specs.Batches.Instances.{IsFitting, instance_of, instances_of}
 use Rattle.checker.specs.Collected.{HasMessages}
 use Rattle.checker.proofs.CountLaws.{all_messages, messages_more}
+use Rattle.checker.proofs.ResultLaws.{instance_there}
 use Rattle.checker.proofs.counting.collected.Goals as goal
 
 pub returns-in-Err : goal.returns-in-Err
 returns-in-Err g c =
     let instance = c.index-instances-air.result in
     let instances = c.args.instances.now in
-    let lt : c.loop-air.air < length instances = c.loop-air-test.true in
-    let here : slice_get (instances_of instances) c.loop-air.air ≡ Some (instance_of instance) =
-    slice_get_read (instances_of instances) (length (instances_of instances)) c.loop-air.air (instance_of instance) (λ _. length (instances_of instances)) (omega (arith, length-map instances instance_of, lt)) (mapped_at instance_of instances c.loop-air.air instance lt c.index-instances-air.is) in
+    let here = instance_there instances c.loop-air.air instance c.loop-air-test.true c.index-instances-air.is in
     elim c.of_air.ensures.1 [
       | inl memory ↦ inl memory.1
       | inr other ↦ elim c.in-Err.ensures [

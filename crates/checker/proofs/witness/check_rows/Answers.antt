@@ -4,7 +4,7 @@ use Rattle.lookup_model.specs.Challenges.{table_of}
 use Rattle.field.specs.laws.Extension.{of_laws}
 use Rattle.lookup_model.specs.Batches.Instances.{instance_of}
 use Rattle.checker.proofs.CheckLaws.{fails_from, found_none, found_some, holds_from}
-use Rattle.checker.proofs.Layouts.{LookupsFit-with_auxiliary}
+use Rattle.lookup_model.proofs.Layouts.{LookupsFit-with_auxiliary}
 use Rattle.checker.proofs.witness.check_rows.Goals as goal
 
 pub first_failing_row-requires-clause-fit : goal.first_failing_row-requires-clause-fit

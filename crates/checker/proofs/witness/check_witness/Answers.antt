@@ -1,16 +1,14 @@
-use Rattle.std.proofs.Common.{◌≡◌, ◌<◌, Some, inl, inr, length, subst, sym, ◌∙◌, arith}
+use Rattle.std.proofs.Common.{◌≡◌, ◌<◌, inl, inr, length, subst, sym, ◌∙◌, arith}
 use Rattle.std.proofs.lemmas.List.{length-map}
-use Rattle.std.proofs.lemmas.Option.{slice_get_read}
 use Rattle.std.proofs.lemmas.Result.{err_from_is_err_and}
 use Rattle.std.proofs.lemmas.Slice.Zip.{length-zip}
-use Rattle.std.specs.List.{slice_get, zip}
-use Rattle.lookup_model.proofs.Branches.{mapped_at}
+use Rattle.std.specs.List.{zip}
 use Rattle.lookup_model.specs.Challenges.{table_of}
 use Rattle.field.specs.laws.Extension.{of_laws}
 use Rattle.lookup_model.specs.Batches.Instances.{instance_of, instances_of}
 use Rattle.lookup_model.specs.Batches.Witnesses.{AreSatisfied, IsSatisfiedAt}
 use Rattle.lookup_model.proofs.Batches.RefusedWitness.{refuses_from}
-use Rattle.checker.proofs.ResultLaws.{fitting_all}
+use Rattle.checker.proofs.ResultLaws.{fitting_all, instance_there}
 use Rattle.checker.proofs.WitnessLaws.{HoldsBelow, all_places, holds_more, only_from, pair_at, witness_from}
 use Rattle.checker.proofs.witness.check_witness.Goals as goal
 
@@ -19,8 +17,7 @@ returns-in_err-check_result-clause-answer g c =
     let instance = c.index-instances-air.result in
     let instances = c.args.instances.now in
     let lt : c.loop-air.air < length instances = c.loop-air-test.true in
-    let here : slice_get (instances_of instances) c.loop-air.air ≡ Some (instance_of instance) =
-    slice_get_read (instances_of instances) (length (instances_of instances)) c.loop-air.air (instance_of instance) (λ _. length (instances_of instances)) (omega (arith, length-map instances instance_of, lt)) (mapped_at instance_of instances c.loop-air.air instance lt c.index-instances-air.is) in
+    let here = instance_there instances c.loop-air.air instance c.loop-air-test.true c.index-instances-air.is in
     let p = err_from_is_err_and c.from_residual.result c.from_residual.ensures.1 in
     rw (p.1, p.2) (elim c.in_err-check_result.ensures [
       | inl memory ↦ inl memory
@@ -46,8 +43,7 @@ loop-air-preserved g c =
     let instance = c.index-instances-air.result in
     let instances = c.args.instances.now in
     let lt : c.loop-air.air < length instances = c.loop-air-test.true in
-    let here : slice_get (instances_of instances) c.loop-air.air ≡ Some (instance_of instance) =
-    slice_get_read (instances_of instances) (length (instances_of instances)) c.loop-air.air (instance_of instance) (λ _. length (instances_of instances)) (omega (arith, length-map instances instance_of, lt)) (mapped_at instance_of instances c.loop-air.air instance lt c.index-instances-air.is) in
+    let here = instance_there instances c.loop-air.air instance c.loop-air-test.true c.index-instances-air.is in
     holds_more (IsSatisfiedAt E (table_of c.args.challenges.now)) (instances_of instances) (zip c.args.aux.now c.args.terminals.now) c.loop-air.air (instance_of instance) (c.index-aux-air.result, c.index-terminals-air.result) here
     (pair_at c.args.aux.now c.args.terminals.now c.loop-air.air c.index-aux-air.result c.index-terminals-air.result (omega (arith, lt, c.requires.traces)) (omega (arith, lt, c.requires.terminals)) c.index-aux-air.is c.index-terminals-air.is)
     c.in_ok-check_result.ensures c.loop-air.invariant

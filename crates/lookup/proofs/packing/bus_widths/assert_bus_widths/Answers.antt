@@ -26,10 +26,10 @@ returns-in_err-assert_bus_width g c =
         split = whole;
         good = c.loop-place.invariant;
         fault = record {
-          width = w.0;
-          other = w.1;
-          differ = subst (λ (t : List (Outline (SymbolicExpression g.row.F.Denot))). HasOtherWidth (flat_map widths_of t) w.0 w.1) (ap (map (λ r. fields_of r.now)) c.deref.ensures.value ∙ members_are) w.2;
-          refusal = w.3;
+          width = w.width;
+          other = w.other;
+          differ = subst (λ (t : List (Outline (SymbolicExpression g.row.F.Denot))). HasOtherWidth (flat_map widths_of t) w.width w.other) (ap (map (λ r. fields_of r.now)) c.deref.ensures.value ∙ members_are) w.differ;
+          refusal = w.refusal;
         };
       })
     ])
