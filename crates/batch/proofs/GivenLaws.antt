@@ -59,12 +59,12 @@ module _ {F : Type 0} where
 
     steps_more : ((i : ℕ) (d : ℕ × Lookup F) → i < length all → (get_or all i d).0 ≤ next_id (take i all)) → a.0 ≤ next_id all
         → (i : ℕ) (d : ℕ × Lookup F) → i < length more → (get_or more i d).0 ≤ next_id (take i more)
-    steps_more steps last i d lt = by_place (cases_lt i (length all))
+    steps_more steps last i d lt = by_index (cases_lt i (length all))
       where
-        by_place : (i < length all) ⊎ (length all ≤ i) → (get_or more i d).0 ≤ next_id (take i more)
-        by_place (inl early) =
+        by_index : (i < length all) ⊎ (length all ≤ i) → (get_or more i d).0 ≤ next_id (take i more)
+        by_index (inl early) =
             subst₂ (λ (x : ℕ × Lookup F) (xs : List (ℕ × Lookup F)). x.0 ≤ next_id xs) (sym (get_or_append_left all (a ∷ []) d i early)) (sym (take-append-le i all (a ∷ []) (omega (arith, early)))) (steps i d early)
-        by_place (inr late) =
+        by_index (inr late) =
             let at : length all ≡ i = omega (arith, late, lt, length_push all a) in
             subst₂ (λ (x : ℕ × Lookup F) (xs : List (ℕ × Lookup F)). x.0 ≤ next_id xs) (sym (get_or_push all a d i at))
             (sym (take-append-le i all (a ∷ []) (omega (arith, at)) ∙ take_all i all (omega (arith, at)))) last

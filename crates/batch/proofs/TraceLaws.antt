@@ -14,7 +14,7 @@ use Rattle.lookup_model.specs.declared.types.Lookup.{Lookup}
 use Rattle.lookup.specs.Lookups.{lookups_of}
 use Rattle.lookup.specs.declared.lookups.Lookups.{Lookups}
 use Rattle.lookup_model.proofs.Lists.{all_back, all_front}
-use Rattle.batch.proofs.Places.{HoldsBelow, holds_next}
+use Rattle.batch.proofs.ItemLaws.{HoldsBelow, holds_next}
 use Rattle.batch.specs.Lists.{lists_of}
 use Rattle.batch.specs.Pairs.{HaveIdsBelow}
 use Rattle.batch.specs.Plans.{plan_batch}

@@ -39,7 +39,7 @@ pub fn generate(
     }
     let mut sum = BabyBear4::ZERO;
     for _ in 0..rounds {
-        let (auxiliary, terminal) = generated(alloc, &main, &lookups, &challenges)?;
+        let (auxiliary, terminal) = generate_alone(alloc, &main, &lookups, &challenges)?;
         if skip != 1 {
             sum = checksum(&auxiliary, terminal);
         }
@@ -73,7 +73,7 @@ fn lookups_fit(main: &RowMajorMatrix<BabyBear>, lookups: &[Lookup<BabyBear>]) ->
 }
 
 /// The auxiliary trace and the terminal, over a main trace alone.
-fn generated(
+fn generate_alone(
     alloc: Global,
     main: &RowMajorMatrix<BabyBear>,
     lookups: &[Lookup<BabyBear>],

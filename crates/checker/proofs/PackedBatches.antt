@@ -6,7 +6,7 @@ use Rattle.std.specs.List.{AllByRecursion, AllZip}
 use Rattle.std.specs.List.Sorted.{IsPermutation}
 use Rattle.field.specs.Ring.{Ring}
 use Rattle.air.specs.Traces.{AirTraces}
-use Rattle.lookup_model.specs.Challenges.{ChallengeTable, table_denominator}
+use Rattle.lookup_model.specs.Challenges.{ChallengeTable, table_key_denominator}
 use Rattle.field.specs.Extension.{Extension, IsLawful}
 use Rattle.lookup_model.specs.Message.{Message}
 use Rattle.lookup_model.specs.Plain.{quotient, trace_messages}
@@ -57,15 +57,15 @@ module _ {F K : Type 0} {E : Extension F K} (laws : IsLawful E) where
     plain_kept (b ∷ bs) [] packed = absurd packed
     plain_kept (b ∷ bs) (a ∷ later) packed = (
       terminal_is laws table a
-          ∙ sum_in-permutation laws.ring (λ (m : Message F). quotient E (table_denominator E table) m.multiplicity m.key) _ _ (one_kept E.base E.base_eq b a packed.0)
+          ∙ sum_in-permutation laws.ring (λ (m : Message F). quotient E (table_key_denominator E table) m.multiplicity m.key) _ _ (one_kept E.base E.base_eq b a packed.0)
           ∙ sym (terminal_is laws table b),
       plain_kept bs later packed.1,
     )
 
     -- no denominator of the packed batch vanishes
-    none_kept : (before after : List (Instance F)) → ArePacked E.base E.base_eq before after → NoneVanishes E (table_denominator E table) (batch_messages E.base E.base_eq before) → NoneVanishes E (table_denominator E table) (batch_messages E.base E.base_eq after)
+    none_kept : (before after : List (Instance F)) → ArePacked E.base E.base_eq before after → NoneVanishes E (table_key_denominator E table) (batch_messages E.base E.base_eq before) → NoneVanishes E (table_key_denominator E table) (batch_messages E.base E.base_eq after)
     none_kept before after packed none =
-        let Nonzero = λ (m : Message F). table_denominator E table m.key ≢ E.ring.zero in
+        let Nonzero = λ (m : Message F). table_key_denominator E table m.key ≢ E.ring.zero in
         recursion_from_All Nonzero _ (All-permutation Nonzero _ _ (batch_kept E.base E.base_eq before after packed) (All-from_recursion Nonzero _ none))
 
   -- the terminals stay

@@ -177,7 +177,7 @@ module _ {E : Type 0} where
   not_refused tuples e faultless (inl (heavy, is)) = absurd (omega (arith, heavy, faultless.weight))
   not_refused tuples e faultless (inr (light, uneven)) =
       let has = uneven.differ in
-      has.differs (one_width tuples faultless.width uneven.other has.place faultless.widths has.found ∙ sym (one_width tuples faultless.width uneven.width 0 faultless.widths has.first))
+      has.differs (one_width tuples faultless.width uneven.other has.index faultless.widths has.found ∙ sym (one_width tuples faultless.width uneven.width 0 faultless.widths has.first))
 
   -- none of several is
   pub none_refused : (locals : List (List (Tuple E))) (e : LookupError) → All IsFaultless locals → ¬ IsFirstLocalRefusal locals e

@@ -15,7 +15,7 @@ use Rattle.lookup_model.specs.Names.{same_name}
 use Rattle.lookup.specs.NamedWidths.{AgreeOnWidths, IsFirstWidthMismatch, IsWidthMismatch, first_width, seen_widths}
 use Rattle.lookup.specs.declared.bus_widths.NamedWidth.{NamedWidth}
 use Rattle.lookup_model.proofs.Names.{same_name-Decides}
-use Rattle.lookup.proofs.PackLaws.{at_place}
+use Rattle.lookup.proofs.PackLaws.{at_index}
 
 -- the greater of two numbers
 max_is : (a b : ℕ) → ord_max nat_cmp a b ≡ max a b
@@ -131,7 +131,7 @@ module _ (widths : List (List ℕ × ℕ)) (name : List ℕ) (width : ℕ) where
 pub mismatch_here : (widths : List (List ℕ × ℕ)) (i : ℕ) (name : List ℕ) (width v : ℕ) (e : LookupError) → slice_get widths i ≡ Some (name, width) → AgreeOnWidths (take i widths)
     → v ≡ unwrap_or (first_width (take i widths) name) width → v ≢ width → IsWidthMismatch name v width e → IsFirstWidthMismatch widths e
 mismatch_here widths i name width v e there agree is other refusal =
-    let (later, whole, next) = at_place widths i (name, width) there in
+    let (later, whole, next) = at_index widths i (name, width) there in
     record {
       before = take i widths;
       item = (name, width);
@@ -151,7 +151,7 @@ mismatch_here widths i name width v e there agree is other refusal =
     by_first (Some x) is = ap Some (sym is)
 
 module _ (widths : List NamedWidth) (i : ℕ) (d : NamedWidth) (lt : i < length widths) where
-  -- the width at a place
+  -- the width at an index
   abbrev named : NamedWidth
   named = get_or widths i d
 
@@ -171,7 +171,7 @@ module _ (widths : List NamedWidth) (i : ℕ) (d : NamedWidth) (lt : i < length 
     pub widest_more : (widest next : ℕ) → after ≡ inserted (λ k. k.now) es named.name v → AgreeOnWidths below → v ≡ named.width → widest ≡ greatest (map (λ w. w.1) below) → next ≡ ord_max nat_cmp widest named.width
         → HoldsFirst (λ k. k.now) after (take (i + 1) (seen_widths widths)) × AgreeOnWidths (take (i + 1) (seen_widths widths)) × (next ≡ greatest (map (λ w. w.1) (take (i + 1) (seen_widths widths))))
     widest_more widest next after_is agree same so_far next_is =
-        let (later, whole, longer) = at_place (seen_widths widths) i (named.name.now, named.width) there in (
+        let (later, whole, longer) = at_index (seen_widths widths) i (named.name.now, named.width) there in (
           rw longer (holds_more (λ k. k.now) es after below named.name named.width v holds v_is after_is),
           rw longer (agree_more below named.name.now named.width agree (sym value_is ∙ same)),
           rw longer

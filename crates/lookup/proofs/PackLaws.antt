@@ -17,17 +17,17 @@ use Rattle.lookup.specs.Packing.{AreColumnsAdded, IsFillRefusal, IsFilling, IsFi
 use Rattle.lookup.specs.Trials.{IsBusTrial, IsTrialAmong}
 use Rattle.lookup.proofs.ListLaws.{AllZip-map, map_split}
 
--- an item at its place
-pub at_place : {A : Type 0} (xs : List A) (i : ℕ) (x : A) → slice_get xs i ≡ Some x → (later : List A) × (xs ≡ take i xs ++ x ∷ later) × (take (i + 1) xs ≡ take i xs ++ x ∷ [])
-at_place [] i x e = absurd (cc e)
-at_place (y ∷ ys) zero x e = let is : y ≡ x = cc e in (ys, ap (λ t. t ∷ ys) is, ap (λ t. t ∷ []) is)
-at_place (y ∷ ys) (suc i) x e =
-    let (later, whole, next) = at_place ys i x e in
+-- an item at its index
+pub at_index : {A : Type 0} (xs : List A) (i : ℕ) (x : A) → slice_get xs i ≡ Some x → (later : List A) × (xs ≡ take i xs ++ x ∷ later) × (take (i + 1) xs ≡ take i xs ++ x ∷ [])
+at_index [] i x e = absurd (cc e)
+at_index (y ∷ ys) zero x e = let is : y ≡ x = cc e in (ys, ap (λ t. t ∷ ys) is, ap (λ t. t ∷ []) is)
+at_index (y ∷ ys) (suc i) x e =
+    let (later, whole, next) = at_index ys i x e in
     let more : suc i + 1 ≡ suc (i + 1) = omega arith in
     (later, ap (λ t. y ∷ t) whole, ap (λ n. take n (y ∷ ys)) more ∙ ap (λ t. y ∷ t) next)
 
 module _ {F : Type 0} where
-  -- the bus at a place of a map of groups
+  -- the bus at an index of a map of groups
   pub bus_here : (os : List (Outline (SymbolicExpression F))) (es : List (Bor (List ℕ) × Vec (Bor (Lookup F)) Global)) (i : ℕ) (k : Bor (List ℕ)) (v : Vec (Bor (Lookup F)) Global) → map group_of es ≡ bus_groups os → slice_get es i ≡ Some (k, v)
       → (slice_get (bus_names os) i ≡ Some k.now) × (map (λ r. fields_of r.now) v.items ≡ on_bus k.now os)
   bus_here os es i k v groups there = by_name (slice_get (bus_names os) i) refl at

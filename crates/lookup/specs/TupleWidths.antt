@@ -8,11 +8,11 @@ use Rattle.lookup_model.specs.declared.error.LookupError.TheVariants.{TupleWidth
 
 -- the first width, and the first one that differs from it
 pub record HasOtherWidth (widths : List ℕ) (width other : ℕ) : Type 0 where
-  pub place : ℕ
+  pub index : ℕ
   pub first : slice_get widths 0 ≡ Some width
   pub differs : other ≢ width
-  pub found : slice_get widths place ≡ Some other
-  pub before : (i v : ℕ) → i < place → slice_get widths i ≡ Some v → v ≡ width
+  pub found : slice_get widths index ≡ Some other
+  pub before : (i v : ℕ) → i < index → slice_get widths i ≡ Some v → v ≡ width
 
 -- the refusal of two widths, with a context
 pub record IsTupleWidths (context : List ℕ) (width other : ℕ) (e : LookupError) : Type 0 where

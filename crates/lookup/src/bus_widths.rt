@@ -64,8 +64,8 @@ fn push_air<'a, F: Field>(
         ++ named_widths (map fields_of lookups.now)) }
 {
     let buses = by_bus(alloc, lookups)?;
-    for place in 0..buses.len() {
-        if let Some((name, members)) = buses.get_index(place) {
+    for index in 0..buses.len() {
+        if let Some((name, members)) = buses.get_index(index) {
             push_bus(widths, name, members)?;
         }
     }
@@ -115,8 +115,8 @@ fn widest(alloc: Global, widths: &[NamedWidth<'_>]) -> Result<usize, LookupError
 {
     let mut firsts = IndexMap::new(alloc);
     let mut widest = 0;
-    for place in 0..widths.len() {
-        let named = widths[place];
+    for index in 0..widths.len() {
+        let named = widths[index];
         let first = value_at(&mut firsts, named.name, named.width)?;
         if first != named.width {
             return Err(mismatch(alloc, named.name, first, named.width));

@@ -4,7 +4,7 @@ use Rattle.std.specs.List.{zip}
 use Rattle.field.specs.Ring.{Ring, sub_in}
 use Rattle.expressions.specs.Window.{Window}
 use Rattle.lookup_columns.specs.Columns.{leaf_column}
-use Rattle.lookup_columns.specs.Spare.{rooms}
+use Rattle.lookup_columns.specs.SpareLists.{rooms}
 use Rattle.lookup_columns.specs.declared.slots.Slots.{Slots}
 use Rattle.lookup_columns.specs.declared.step.Step.{Step}
 use Rattle.lookup_columns.specs.declared.step.Step.TheVariants.{Leaf, Add, Sub, Mul, Neg}

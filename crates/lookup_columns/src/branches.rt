@@ -1,7 +1,7 @@
 //! The values of lookups on some rows, a column at a time.
 ghost use Rattle.std.specs.Prelude.{◌≡◌, ◌+◌, ◌*◌, ◌<◌, ℕ, All, IfOk, Some, length, slice_get};
 ghost use Rattle.std.specs.List.{AllZip};
-ghost use Rattle.lookup_columns.specs.ChunkColumns.{AreColumns, HoldSelected, IsHeld, key_denominator};
+ghost use Rattle.lookup_columns.specs.ChunkColumns.{AreColumns, HoldSelected, IsHeld, key_denominator_over};
 ghost use Rattle.lookup_columns.specs.LookupSteps.{AreLookupSteps};
 ghost use Rattle.lookup_columns.specs.Steps.{AreStepsOf};
 ghost use Rattle.air.specs.Traces.{height_of, layout_of, traces_of, window_of};
@@ -24,9 +24,9 @@ use std::alloc::{AllocError, Global};
 pub struct BranchColumns<F, EF> {
     /// The flag of each row, in an exclusive lookup.
     pub flags: Vec<F>,
-    /// For each row whose flag is not zero, its place among these rows. What stands at the other rows
+    /// For each row whose flag is not zero, its index among these rows. What stands at the other rows
     /// has no meaning. Only in an exclusive lookup.
-    pub places: Vec<usize>,
+    pub indices: Vec<usize>,
     /// The multiplicities, of each row or of each row whose flag is not zero.
     pub multiplicities: Vec<F>,
     /// The denominators of the same rows.
@@ -41,7 +41,7 @@ fn branch_columns<F: Field, EF: ExtensionDomain<F>>(
     steps: &LookupSteps<F>,
     branch: usize,
     flags: Vec<F>,
-    places: Vec<usize>,
+    indices: Vec<usize>,
     traces: &Traces<'_, F>,
     challenges: &[EF],
     rows: &[usize],
@@ -52,12 +52,12 @@ fn branch_columns<F: Field, EF: ExtensionDomain<F>>(
     requires challenges { 2 * lookup.now.column + 1 < length challenges.now }
     requires rows_exist { All (λ r. r < height_of (traces_of traces.now)) rows.now }
     requires branch_exists { branch < length lookup.now.elements.items }
-    ensures flags { IfOk result (λ v. (v.flags ≡ flags) × (v.places ≡ places)) }
-    ensures held { IfOk result (λ v. (place r : ℕ) (m : Message F)
-        → slice_get rows.now place ≡ Some r
+    ensures flags { IfOk result (λ v. (v.flags ≡ flags) × (v.indices ≡ indices)) }
+    ensures held { IfOk result (λ v. (index r : ℕ) (m : Message F)
+        → slice_get rows.now index ≡ Some r
         → slice_get (branches_at F.ring (window_of (traces_of traces.now) r) lookup.now.column
         lookup.now) branch ≡ Some m
-        → IsHeld (key_denominator EF.ring EF.embed challenges.now) place v m) }
+        → IsHeld (key_denominator_over EF.ring EF.embed challenges.now) index v m) }
 {
     let alpha = challenges[2 * lookup.column];
     let beta = challenges[2 * lookup.column + 1];
@@ -80,7 +80,7 @@ fn branch_columns<F: Field, EF: ExtensionDomain<F>>(
     )?;
     Ok(BranchColumns {
         flags,
-        places,
+        indices,
         multiplicities,
         denominators,
     })
@@ -101,8 +101,8 @@ fn additive_columns<F: Field, EF: ExtensionDomain<F>>(
     requires within { IsWithin (layout_of (traces_of traces.now)) lookup.now }
     requires challenges { 2 * lookup.now.column + 1 < length challenges.now }
     requires rows_exist { All (λ r. r < height_of (traces_of traces.now)) rows.now }
-    ensures { IfOk result (λ v. (place r : ℕ) → slice_get rows.now place ≡ Some r
-        → AllZip (IsHeld (key_denominator EF.ring EF.embed challenges.now) place) v.items
+    ensures { IfOk result (λ v. (index r : ℕ) → slice_get rows.now index ≡ Some r
+        → AllZip (IsHeld (key_denominator_over EF.ring EF.embed challenges.now) index) v.items
         (branches_at F.ring (window_of (traces_of traces.now) r) lookup.now.column lookup.now)) }
 {
     let mut branches = Vec::with_capacity(alloc, lookup.elements.len())?;
@@ -144,19 +144,19 @@ fn exclusive_columns<F: Field, EF: ExtensionDomain<F>>(
     requires flag_steps { AllZip AreStepsOf steps.now.flags.items flags.now }
     requires flag_number { length flags.now ≡ length lookup.now.elements.items }
     requires flags_fit { AllFit (layout_of (traces_of traces.now)) flags.now }
-    ensures { IfOk result (λ v. (place r : ℕ) → slice_get rows.now place ≡ Some r
+    ensures { IfOk result (λ v. (index r : ℕ) → slice_get rows.now index ≡ Some r
         → let w = window_of (traces_of traces.now) r in
-        HoldSelected F.ring (key_denominator EF.ring EF.embed challenges.now) place v.items
+        HoldSelected F.ring (key_denominator_over EF.ring EF.embed challenges.now) index v.items
         (values F.ring w flags.now) (branches_at F.ring w lookup.now.column lookup.now)) }
 {
     let mut branches = Vec::with_capacity(alloc, flags.len())?;
     for branch in 0..flags.len() {
         let column = column_of(alloc, &mut memory.slots, &steps.flags[branch], traces, rows)?;
-        let (places, selected) = selected_rows(alloc, &mut memory.places, &column, rows)?;
+        let (indices, selected) = selected_rows(alloc, &mut memory.indices, &column, rows)?;
         let columns = branch_columns(
-            alloc, memory, lookup, steps, branch, column, places, traces, challenges, &selected,
+            alloc, memory, lookup, steps, branch, column, indices, traces, challenges, &selected,
         )?;
-        memory.places.put(selected)?;
+        memory.indices.put(selected)?;
         branches.push(columns)?;
     }
     Ok(branches)

@@ -23,5 +23,5 @@ pub use lookup_steps::{LookupSteps, steps_of_lookups};
 pub use memory::ColumnMemory;
 pub use rows::rows_between;
 pub use slots::Slots;
-pub use spare::Spare;
+pub use spare::SpareLists;
 pub use step::{Step, steps_of, steps_of_each};

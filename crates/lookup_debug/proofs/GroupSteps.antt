@@ -91,13 +91,13 @@ module _ {F : Type 0} (R : Ring F) (eq : F → F → Bool) where
           index = suc rest.index;
           item = rest.item;
           is_there = rest.is_there;
-          before = by_place (balance-head g gs each) rest;
+          before = by_index (balance-head g gs each) rest;
           fault = rest.fault;
         }
       where
-        by_place : Balances R eq g.contributions → (rest : IsFirstMismatch R eq text (gs ++ hs) fault) → (i : ℕ) (other : Group F) → i < suc rest.index → slice_get (g ∷ gs ++ hs) i ≡ Some other → Balances R eq other.contributions
-        by_place here rest zero other lt there = subst (λ (h : Group F). Balances R eq h.contributions) (some_is g other there) here
-        by_place here rest (suc i) other lt there = rest.before i other (omega (arith, lt)) there
+        by_index : Balances R eq g.contributions → (rest : IsFirstMismatch R eq text (gs ++ hs) fault) → (i : ℕ) (other : Group F) → i < suc rest.index → slice_get (g ∷ gs ++ hs) i ≡ Some other → Balances R eq other.contributions
+        by_index here rest zero other lt there = subst (λ (h : Group F). Balances R eq h.contributions) (some_is g other there) here
+        by_index here rest (suc i) other lt there = rest.before i other (omega (arith, lt)) there
 
     -- the answer of a check of groups after others that balance
     pub answers-after : (gs hs : List (Group F)) → EachBalances R eq gs → (result : Result ⊤ (LookupFault F)) → AnswersGroups R eq text hs result → AnswersGroups R eq text (gs ++ hs) result

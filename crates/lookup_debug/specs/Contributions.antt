@@ -34,26 +34,26 @@ pub record IsFitting {F : Type 0} (traced : Traced F) : Type 0 where
 abbrev pub AreFitting : {F : Type 0} → List (LookupDebugInstance F) → Type 0
 AreFitting is = All (λ i. IsFitting (traced_of i)) is
 
--- where a tuple is sent: the place of the AIR in its list, of the lookup in its AIR, and the row
-pub record Place : Type 0 where
+-- where a tuple is sent: the index of the AIR in its list, of the lookup in its AIR, and the row
+pub record SentLocation : Type 0 where
   pub instance : ℕ
   pub lookup : ℕ
   pub row : ℕ
 
--- the place that a value of the program holds
-abbrev pub place_of : Location → Place
-place_of l = record { instance = l.instance; lookup = l.lookup; row = l.row }
+-- the location that a value of the program holds
+abbrev pub location_of : Location → SentLocation
+location_of l = record { instance = l.instance; lookup = l.lookup; row = l.row }
 
 -- a tuple, how much of it is sent, and where
 pub record Contribution (F : Type 0) : Type 0 where
   pub tuple : List F
   pub amount : F
-  pub place : Place
+  pub location : SentLocation
 
 -- the tuples of branches, each with its amount
-abbrev pub contributions_from : {F : Type 0} → Place → List (Message F) → List F → List (Contribution F)
-contributions_from place branches amounts =
-    map (λ b. record { tuple = b.0.key.tuple; amount = b.1; place = place }) (zip branches amounts)
+abbrev pub contributions_from : {F : Type 0} → SentLocation → List (Message F) → List F → List (Contribution F)
+contributions_from location branches amounts =
+    map (λ b. record { tuple = b.0.key.tuple; amount = b.1; location = location }) (zip branches amounts)
 
 module _ {F : Type 0} (R : Ring F) where
   -- how much of each branch is sent: flag times count if there are flags, whatever they are
@@ -66,16 +66,16 @@ module _ {F : Type 0} (R : Ring F) where
   nonzero eq cs = filter (λ c. not (eq c.amount R.zero)) cs
 
   -- what a lookup contributes at a window
-  abbrev pub contributions_at : (F → F → Bool) → Place → Window F → Lookup F → List (Contribution F)
-  contributions_at eq place w lookup =
-      let branches = branches_at R w 0 lookup in nonzero eq (contributions_from place branches (amounts (flags_at R w lookup) branches))
+  abbrev pub contributions_at : (F → F → Bool) → SentLocation → Window F → Lookup F → List (Contribution F)
+  contributions_at eq location w lookup =
+      let branches = branches_at R w 0 lookup in nonzero eq (contributions_from location branches (amounts (flags_at R w lookup) branches))
 
   -- those of a lookup on a row of the traces of its AIR
   abbrev pub contributions_on : (F → F → Bool) → ℕ → ℕ → Traced F → Lookup F → ℕ → List (Contribution F)
-  contributions_on eq instance place traced lookup row =
-      contributions_at eq (record { instance = instance; lookup = place; row = row }) (window_of traced.traces row) lookup
+  contributions_on eq instance index traced lookup row =
+      contributions_at eq (record { instance = instance; lookup = index; row = row }) (window_of traced.traces row) lookup
 
   -- and on all rows
   abbrev pub contributions_of : (F → F → Bool) → ℕ → ℕ → Traced F → Lookup F → List (Contribution F)
-  contributions_of eq instance place traced lookup =
-      flat_map (contributions_on eq instance place traced lookup) (range_with_len 0 (height_of traced.traces))
+  contributions_of eq instance index traced lookup =
+      flat_map (contributions_on eq instance index traced lookup) (range_with_len 0 (height_of traced.traces))

@@ -12,7 +12,7 @@ use Rattle.std.specs.declared.vec.Vec.{Vec}
 use Rattle.expressions.specs.Faults.{HasFirstFault}
 use Rattle.field.specs.Ring.{Ring}
 use Rattle.field.specs.Sums.{sum_in}
-use Rattle.lookup_debug.specs.Contributions.{Contribution, Place, Traced, place_of}
+use Rattle.lookup_debug.specs.Contributions.{Contribution, SentLocation, Traced, location_of}
 use Rattle.lookup_debug.specs.Groups.{Group, groups}
 use Rattle.lookup_debug.specs.declared.fault.Location.{Location}
 use Rattle.lookup_debug.specs.declared.fault.LookupFault.{LookupFault}
@@ -28,14 +28,14 @@ abbrev pub text_cmp : {F : Type 0} → (F → List ℕ) → List F → List F �
 text_cmp text a b = slice_cmp (slice_cmp nat_cmp) (map text a) (map text b)
 
 -- a mismatch with these parts
-pub record HasParts {F : Type 0} (label : List ℕ) (tuple : List (List ℕ)) (net : F) (places : List Place) (fault : LookupFault F) : Type 0 where
+pub record HasParts {F : Type 0} (label : List ℕ) (tuple : List (List ℕ)) (net : F) (tuple_locations : List SentLocation) (fault : LookupFault F) : Type 0 where
   pub name : String Global
   pub texts : Vec (String Global) Global
   pub locations : Vec Location Global
   pub fault_is : fault ≡ Mismatch name texts net locations
   pub label_is : string_bytes name ≡ label
   pub tuple_is : map (λ t. string_bytes t) texts.items ≡ tuple
-  pub places_are : map place_of locations.items ≡ places
+  pub locations_are : map location_of locations.items ≡ tuple_locations
 
 module _ {F : Type 0} (R : Ring F) (eq : F → F → Bool) where
   -- the contributions of a tuple
@@ -43,8 +43,8 @@ module _ {F : Type 0} (R : Ring F) (eq : F → F → Bool) where
   of_tuple cs tuple = filter (λ c. pointwise eq tuple c.tuple) cs
 
   -- where a tuple is sent
-  abbrev pub places : List F → List (Contribution F) → List Place
-  places tuple cs = map (λ c. c.place) (of_tuple cs tuple)
+  abbrev pub tuple_locations : List F → List (Contribution F) → List SentLocation
+  tuple_locations tuple cs = map (λ c. c.location) (of_tuple cs tuple)
 
   -- and its net
   abbrev pub net_amount : List (Contribution F) → List F → F
@@ -71,11 +71,11 @@ module _ {F : Type 0} (R : Ring F) (eq : F → F → Bool) where
           → (text_cmp text tuple other ≡ Less) ⊎ ((text_cmp text tuple other ≡ Equal) × Precedes (map (λ c. c.tuple) cs) tuple other)
 
     -- A fault is the mismatch of a group: under its label, the tuple that is first, with its net and
-    -- the places of its contributions.
+    -- the locations of its contributions.
     pub record IsMismatchOf (label : List ℕ) (cs : List (Contribution F)) (fault : LookupFault F) : Type 0 where
       pub tuple : List F
       pub first : IsFirst cs tuple
-      pub fault_is : HasParts label (map text tuple) (net_amount cs tuple) (places tuple cs) fault
+      pub fault_is : HasParts label (map text tuple) (net_amount cs tuple) (tuple_locations tuple cs) fault
 
     -- A fault is the mismatch of the first of some groups that has one.
     abbrev pub IsFirstMismatch : List (Group F) → LookupFault F → Type 0

@@ -2,7 +2,7 @@
 use Rattle.std.specs.Prelude.{◌≡◌, ◌⊎◌, ℕ, None, Some, IsTrue, List, Result, MatchResult}
 use Rattle.air.specs.Traces.{AirTraces, window_of}
 use Rattle.expressions.specs.declared.base_expression.SymbolicExpression.{SymbolicExpression}
-use Rattle.lookup_model.specs.Denominators.{column_denominator}
+use Rattle.lookup_model.specs.Denominators.{key_denominator}
 use Rattle.field.specs.Extension.{Extension}
 use Rattle.lookup_model.specs.Fault.{fault_of, vanishes}
 use Rattle.lookup_model.specs.Message.{Key, Message}
@@ -16,8 +16,8 @@ use Rattle.lookup_generation.specs.declared.ratio.Ratio.{Ratio}
 
 module _ {F K : Type 0} (E : Extension F K) (challenges : List K) (traces : AirTraces F) (row : ℕ) where
   -- the denominator of a key whose id is a column, over these challenges
-  abbrev pub denominator_on : Key F → K
-  denominator_on = column_denominator E challenges
+  abbrev pub key_denominator_on : Key F → K
+  key_denominator_on = key_denominator E challenges
 
   -- the values of expressions on the row
   abbrev pub values_on : List (SymbolicExpression F) → List F
@@ -35,16 +35,16 @@ module _ {F K : Type 0} (E : Extension F K) (challenges : List K) (traces : AirT
   abbrev pub AnswersAdditive : Lookup F → Result (Ratio K) LookupError → Type 0
   AnswersAdditive lookup result =
       MatchResult result
-      (IsFractionOf E denominator_on (branches_on lookup))
-      (IsVanishing lookup.column (IsTrue (vanishes E denominator_on (counted E.base E.base_eq (branches_on lookup)))))
+      (IsFractionOf E key_denominator_on (branches_on lookup))
+      (IsVanishing lookup.column (IsTrue (vanishes E key_denominator_on (counted E.base E.base_eq (branches_on lookup)))))
 
   -- The plain fraction of what is sent, which has no fault. Otherwise its fault.
   abbrev pub AnswersSent : ℕ → Sent F → Result (Ratio K) LookupError → Type 0
   AnswersSent column sent result =
       MatchResult result
-      (λ r. IsRatio E.ring r (plain_fraction E denominator_on sent)
-      × (fault_of E denominator_on row column sent ≡ None))
-      (λ e. (e ≡ Memory) ⊎ (fault_of E denominator_on row column sent ≡ Some e))
+      (λ r. IsRatio E.ring r (plain_fraction E key_denominator_on sent)
+      × (fault_of E key_denominator_on row column sent ≡ None))
+      (λ e. (e ≡ Memory) ⊎ (fault_of E key_denominator_on row column sent ≡ Some e))
 
   -- that of a lookup
   abbrev pub AnswersFraction : Lookup F → Result (Ratio K) LookupError → Type 0

@@ -3,7 +3,7 @@ ghost use Rattle.std.specs.Prelude.{◌≡◌, ◌≢◌, ◌+◌, ◌<◌, None
 ghost use Rattle.std.specs.List.{AllZip};
 ghost use Rattle.air.specs.Traces.{traces_of, window_of};
 ghost use Rattle.lookup_generation.specs.Inverses.{ForExtensions};
-ghost use Rattle.lookup_columns.specs.ChunkColumns.{HoldLookup, IsHeld, key_denominator};
+ghost use Rattle.lookup_columns.specs.ChunkColumns.{HoldLookup, IsHeld, key_denominator_over};
 ghost use Rattle.lookup_generation.specs.RowAnswers.{AnswersAdditive, AnswersFraction};
 ghost use Rattle.lookup_generation.specs.Fraction.{IsFractionOf};
 ghost use Rattle.lookup_model.specs.Message.{Key, Message};
@@ -50,16 +50,17 @@ fn with_branch<F: Field, EF: ExtensionDomain<F>>(
 }
 
 /// The sum of the quotients of all tuples of a lookup whose multiplicity on a row of the traces is not
-/// zero, read off the lookup's columns at the row's place in its chunk.
+/// zero, read off the lookup's columns at the row's index in its chunk.
 fn additive_fraction<F: Field, EF: ExtensionDomain<F>>(
     lookup: &Lookup<F>,
     columns: &[BranchColumns<F, EF>],
-    place: usize,
+    index: usize,
     traces: &Traces<'_, F>,
     challenges: &[EF],
     row: usize,
 ) -> Result<Ratio<EF>, LookupError>
-    requires { AllZip (IsHeld (key_denominator EF.ring EF.embed challenges.now) place) columns.now
+    requires { AllZip (IsHeld (key_denominator_over EF.ring EF.embed challenges.now) index)
+        columns.now
         (branches_at F.ring (window_of (traces_of traces.now) row) lookup.now.column lookup.now) }
     ensures answers { ForExtensions F.ring F.eq EF.ring EF.eq EF.embed (λ E.
         AnswersAdditive E challenges.now (traces_of traces.now) row lookup.now result) }
@@ -69,27 +70,27 @@ fn additive_fraction<F: Field, EF: ExtensionDomain<F>>(
 {
     let mut fraction = Ratio::zero();
     for branch in columns {
-        let multiplicity = branch.multiplicities[place];
-        let denominator = branch.denominators[place];
+        let multiplicity = branch.multiplicities[index];
+        let denominator = branch.denominators[index];
         fraction = with_branch(fraction, multiplicity, denominator, row, lookup.column)?;
     }
     Ok(fraction)
 }
 
-/// The fraction of a lookup on a row of the traces, read off its columns at the row's place in its
+/// The fraction of a lookup on a row of the traces, read off its columns at the row's index in its
 /// chunk.
 ///
 /// Refuses the lookup's fault on that row, if it has one.
 pub(crate) fn fraction<F: Field, EF: ExtensionDomain<F>>(
     lookup: &Lookup<F>,
     columns: &[BranchColumns<F, EF>],
-    place: usize,
+    index: usize,
     traces: &Traces<'_, F>,
     challenges: &[EF],
     row: usize,
 ) -> Result<Ratio<EF>, LookupError>
     requires { HoldLookup F.ring EF.ring EF.embed challenges.now
-        (window_of (traces_of traces.now) row) place lookup.now columns.now }
+        (window_of (traces_of traces.now) row) index lookup.now columns.now }
     ensures answers { ForExtensions F.ring F.eq EF.ring EF.eq EF.embed (λ E.
         AnswersFraction E challenges.now (traces_of traces.now) row lookup.now result) }
     ensures defined { IfOk result (λ r. r.denominator ≢ EF.ring.zero) }
@@ -97,7 +98,7 @@ pub(crate) fn fraction<F: Field, EF: ExtensionDomain<F>>(
         → IfOk result (λ r. r.denominator ≡ EF.ring.one) }
 {
     match &lookup.flags {
-        None => additive_fraction(lookup, columns, place, traces, challenges, row),
-        Some(flags) => exclusive_fraction(lookup, columns, place, flags, traces, challenges, row),
+        None => additive_fraction(lookup, columns, index, traces, challenges, row),
+        Some(flags) => exclusive_fraction(lookup, columns, index, flags, traces, challenges, row),
     }
 }

@@ -4,7 +4,7 @@ ghost use Rattle.std.specs.Prelude.{◌≡◌, ◌+◌, ◌-◌, ◌*◌, ◌%�
 ghost use Rattle.std.specs.List.{AllZip};
 ghost use Rattle.std.specs.Option.{option_map_or};
 ghost use Rattle.air.specs.Traces.{height_of, layout_of, traces_of, window_of};
-ghost use Rattle.lookup_model.specs.Denominators.{column_denominator};
+ghost use Rattle.lookup_model.specs.Denominators.{key_denominator};
 ghost use Rattle.lookup_model.specs.Fault.{trace_faults};
 ghost use Rattle.field.specs.Sums.{sum_in};
 ghost use Rattle.lookup_generation.specs.Fraction.{AreDefined, AreWhole};
@@ -57,7 +57,7 @@ fn push_column<F: Field, EF: ExtensionDomain<F>>(
         → HoldLookup F.ring EF.ring EF.embed challenges.now (window_of (traces_of traces.now) row)
         (row - first) lookup.now columns.now }
     ensures answers { ForExtensions F.ring F.eq EF.ring EF.eq EF.embed (λ E.
-        IfOk result (λ found. AnswersColumn E (column_denominator E challenges.now)
+        IfOk result (λ found. AnswersColumn E (key_denominator E challenges.now)
         (sent_on F.ring F.eq (traces_of traces.now) lookup.now) lookup.now.column first end
         ratios.old.items ratios.new.items found)) }
     ensures defined { IfOk result (λ found. found ≡ None → (n : ℕ)
@@ -111,7 +111,7 @@ fn push_columns<F: Field, EF: ExtensionDomain<F>>(
     requires wide { length columns.now ≡ length lookups.now }
     requires none_yet { ratios.old.items ≡ [] }
     ensures answers { ForExtensions F.ring F.eq EF.ring EF.eq EF.embed (λ E.
-        IfOk result (AnswersColumns E (column_denominator E challenges.now)
+        IfOk result (AnswersColumns E (key_denominator E challenges.now)
         (traces_of traces.now) lookups.now first end ratios.new.items)) }
     ensures defined { IfOk result (λ found. found ≡ None
         → AreDefined EF.ring (length lookups.now * (end - first)) ratios.new.items) }
@@ -149,10 +149,10 @@ fn ratios_of<F: Field, EF: ExtensionDomain<F>>(
     requires from { first ≤ end }
     requires up_to { end ≤ height_of (traces_of traces.now) }
     requires faultless { ForExtensions F.ring F.eq EF.ring EF.eq EF.embed (λ E.
-        trace_faults E (column_denominator E challenges.now)
+        trace_faults E (key_denominator E challenges.now)
         (take first (sent_rows F.ring F.eq (traces_of traces.now) lookups.now)) ≡ []) }
     ensures answers { ForExtensions F.ring F.eq EF.ring EF.eq EF.embed (λ E.
-        let denominator = column_denominator E challenges.now in
+        let denominator = key_denominator E challenges.now in
         MatchResult result
         (λ v. AreRatios E denominator (traces_of traces.now) lookups.now first end v.items)
         (IsFirstOf (trace_faults E denominator
@@ -161,7 +161,7 @@ fn ratios_of<F: Field, EF: ExtensionDomain<F>>(
         (length lookups.now * (end - first)) v.items) }
     ensures bare { HaveNoTuples lookups.now → IfOk result (λ v. AreWhole EF.ring v.items) }
 {
-    let rows = rows_between(alloc, &mut memory.columns.places, first, end)?;
+    let rows = rows_between(alloc, &mut memory.columns.indices, first, end)?;
     let columns = columns_of_lookups(
         alloc,
         &mut memory.columns,
@@ -188,7 +188,7 @@ fn ratios_of<F: Field, EF: ExtensionDomain<F>>(
     match fault {
         Some(RowFault { row: _, error }) => Err(error),
         None => {
-            memory.columns.places.put(rows)?;
+            memory.columns.indices.put(rows)?;
             memory.put_columns(columns)?;
             Ok(ratios)
         }
@@ -196,23 +196,23 @@ fn ratios_of<F: Field, EF: ExtensionDomain<F>>(
 }
 
 /// Appends a row of the auxiliary trace to `cells`: the accumulator, and the fraction of each lookup,
-/// which stands at `place` of a row of `fractions`. Returns the accumulator of the next row.
+/// which stands at `index` of a row of `fractions`. Returns the accumulator of the next row.
 fn push_row<K: Domain>(
     cells: &mut Vec<K>,
     accumulator: K,
     fractions: &RowMajorMatrix<K>,
-    place: usize,
+    index: usize,
 ) -> Result<K, AllocError>
-    requires { place < fractions.now.width }
+    requires { index < fractions.now.width }
     ensures { IfOk result (λ next. (cells.new.items ≡ cells.old.items
-        ++ accumulator ∷ column_cells K.ring.zero fractions.now place)
+        ++ accumulator ∷ column_cells K.ring.zero fractions.now index)
         × (next ≡ K.ring.add accumulator
-        (sum_in K.ring (column_cells K.ring.zero fractions.now place)))) }
+        (sum_in K.ring (column_cells K.ring.zero fractions.now index)))) }
 {
     cells.push(accumulator)?;
     let mut next = accumulator;
     for lookup in 0..fractions.height() {
-        let fraction = fractions.row_slice(lookup)[place];
+        let fraction = fractions.row_slice(lookup)[index];
         cells.push(fraction)?;
         next = next + fraction;
     }
@@ -242,11 +242,11 @@ fn push_chunk<F: Field, EF: ExtensionDomain<F>, I: Inverter<EF>>(
     requires from { first < end }
     requires up_to { end ≤ height_of (traces_of traces.now) }
     requires so_far { ForExtensions F.ring F.eq EF.ring EF.eq EF.embed (λ E.
-        let denominator = column_denominator E challenges.now in
+        let denominator = key_denominator E challenges.now in
         let rows = sent_rows F.ring F.eq (traces_of traces.now) lookups.now in
         HasRows E denominator rows first cells.now.items accumulator) }
     ensures rows { ForExtensions F.ring F.eq EF.ring EF.eq EF.embed (λ E.
-        let denominator = column_denominator E challenges.now in
+        let denominator = key_denominator E challenges.now in
         let rows = sent_rows F.ring F.eq (traces_of traces.now) lookups.now in
         MatchResult result
         (HasRows E denominator rows end cells.new.items)
@@ -266,8 +266,8 @@ fn push_chunk<F: Field, EF: ExtensionDomain<F>, I: Inverter<EF>>(
     let num_rows = end - first;
     let fractions = RowMajorMatrix::new(values, num_rows);
     let mut next = accumulator;
-    for place in 0..num_rows {
-        next = push_row(cells, next, &fractions, place)?;
+    for index in 0..num_rows {
+        next = push_row(cells, next, &fractions, index)?;
     }
     memory.fractions.put(fractions.into_values())?;
     Ok(next)
@@ -302,7 +302,7 @@ fn generate<F: Field, EF: ExtensionDomain<F>, I: Inverter<EF>>(
     requires challenges { 2 * length lookups.now ≤ length challenges.now }
     requires some { 0 < length lookups.now }
     ensures rows { ForExtensions F.ring F.eq EF.ring EF.eq EF.embed (λ E.
-        let denominator = column_denominator E challenges.now in
+        let denominator = key_denominator E challenges.now in
         let rows = sent_rows F.ring F.eq (traces_of traces.now) lookups.now in
         MatchResult result
         (λ r. HasRows E denominator rows (height_of (traces_of traces.now)) r.0.items r.1)

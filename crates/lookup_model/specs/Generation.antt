@@ -2,7 +2,7 @@
 use Rattle.std.specs.Prelude.{◌≡◌, ◌⊎◌, List, [], Option, Some, Result, MatchResult, slice_get}
 use Rattle.matrix.specs.Matrix.{Matrix}
 use Rattle.air.specs.Traces.{AirTraces}
-use Rattle.lookup_model.specs.Denominators.{column_denominator}
+use Rattle.lookup_model.specs.Denominators.{key_denominator}
 use Rattle.field.specs.Extension.{Extension}
 use Rattle.lookup_model.specs.Fault.{trace_faults}
 use Rattle.lookup_model.specs.Generated.{plain_matrix, plain_terminal_of}
@@ -17,7 +17,7 @@ use Rattle.lookup_model.specs.declared.types.LookupTerminal.{LookupTerminal}
 -- a fault. Otherwise it refuses the first fault. It may also run out of memory.
 abbrev pub AnswersGeneration : {F K : Type 0} → Extension F K → AirTraces F → List (Lookup F) → List K → Result (Matrix K × Option (LookupTerminal K)) LookupError → Type 0
 AnswersGeneration E traces lookups challenges result =
-    let denominator = column_denominator E challenges in
+    let denominator = key_denominator E challenges in
     let rows = sent_rows E.base E.base_eq traces lookups in
     MatchResult result
     (λ r. (r.0 ≡ plain_matrix E denominator lookups rows)

@@ -19,7 +19,7 @@ use Rattle.lookup_model.specs.Batches.Instances.{Instance, IsFitting}
 use Rattle.lookup_model.specs.Batches.Messages.{id_of, sent_rows_of}
 use Rattle.lookup_model.specs.Batches.Witnesses.{plain_result, plain_witness}
 use Rattle.lookup_model.specs.declared.fault.BatchFault.{BatchFault}
-use Rattle.lookup_model.specs.Challenges.{ChallengeTable, table_denominator}
+use Rattle.lookup_model.specs.Challenges.{ChallengeTable, table_key_denominator}
 use Rattle.field.specs.Extension.{Extension}
 use Rattle.lookup_model.specs.Generated.{plain_matrix, plain_terminal_of}
 use Rattle.lookup_model.specs.Fault.{trace_faults}
@@ -175,11 +175,11 @@ module _ {F K : Type 0} (E : Extension F K) (alpha beta : K) (input : Matrix F) 
   result_is air trace is =
       let one = one_lookup E.base E.base_eq input air trace is in
       let rows = sent_by_air E.base E.base_eq input air trace is in
-      λ i. (plain_matrix E (table_denominator E table) (one.1 i) (rows i), plain_terminal_of E (table_denominator E table) (one.1 i) (rows i))
+      λ i. (plain_matrix E (table_key_denominator E table) (one.1 i) (rows i), plain_terminal_of E (table_key_denominator E table) (one.1 i) (rows i))
 
   -- and so are its faults
   faults_are : (air : MachineAir) (trace : AirTrace F) → IsTraceOf E.base E.base_eq input air trace → instance_faults E table (instance trace) ≡ air_faults E alpha beta input air
-  faults_are air trace is = ap (trace_faults E (table_denominator E table)) (sent_by_air E.base E.base_eq input air trace is)
+  faults_are air trace is = ap (trace_faults E (table_key_denominator E table)) (sent_by_air E.base E.base_eq input air trace is)
 
   -- likewise of all
   results_are : (airs : List MachineAir) (traces : List (AirTrace F)) → AllZip (IsTraceOf E.base E.base_eq input) airs traces → plain_witness E table (map instance traces) ≡ map (air_result E alpha beta input) airs
@@ -194,7 +194,7 @@ module _ {F K : Type 0} (E : Extension F K) (alpha beta : K) (input : Matrix F) 
   all_faults_are (a ∷ later) [] all = absurd all
   all_faults_are (a ∷ later) (t ∷ ts) all = λ i. faults_are a t all.0 i ∷ all_faults_are later ts all.1 i
 
-  -- an item whose image stands at a place
+  -- an item whose image stands at an index
   item_at : {A B : Type 0} (f : A → B) (xs : List A) (i : ℕ) (y : B) → slice_get (map f xs) i ≡ Some y → (x : A) × (slice_get xs i ≡ Some x) × (f x ≡ y)
   item_at f [] i y there = absurd (cc there)
   item_at f (x ∷ xs) zero y there =
@@ -203,7 +203,7 @@ module _ {F K : Type 0} (E : Extension F K) (alpha beta : K) (input : Matrix F) 
   item_at f (x ∷ xs) (suc i) y there = item_at f xs i y there
 
   module _ (machine : Machine) (traces : List (AirTrace F)) (all : AllZip (IsTraceOf E.base E.base_eq input) (airs_of machine) traces) where
-    -- an AIR's faults are those of an instance at its place
+    -- an AIR's faults are those of an instance at its index
     instance_at : (i : ℕ) (air : MachineAir) → slice_get (airs_of machine) i ≡ Some air → (x : Instance F) × (slice_get (map instance traces) i ≡ Some x) × (instance_faults E table x ≡ air_faults E alpha beta input air)
     instance_at i air there =
         item_at (instance_faults E table) (map instance traces) i (air_faults E alpha beta input air)

@@ -15,7 +15,7 @@ use Rattle.lookup.specs.Lookups.{lookups_of}
 use Rattle.lookup.specs.NamedWidths.{IsFirstWidthMismatch, first_width, named_widths}
 use Rattle.lookup.specs.declared.lookups.Lookups.{Lookups}
 use Rattle.lookup_model.proofs.Lists.{all_back, all_front}
-use Rattle.batch.proofs.Places.{there_holds}
+use Rattle.batch.proofs.ItemLaws.{there_holds}
 use Rattle.batch.specs.Checks.{IsFirstLocalMismatch, bus_widths_of}
 use Rattle.batch.specs.PlanFacts.{lookup_widths, message_width, all_tuple_widths}
 
@@ -87,7 +87,7 @@ module _ {F : Type 0} where
         let widths : All (λ w. w ≡ 1) (lookup_widths inner.item) = All-map (λ w. w ≡ 1) (λ tuple. length tuple.items) inner.item.elements.items tuples in
         let differ = inner.fault.uneven.differ in
         let width : inner.fault.uneven.width ≡ 1 = there_holds (λ w. w ≡ 1) (lookup_widths inner.item) 0 inner.fault.uneven.width widths differ.first in
-        let other : inner.fault.uneven.other ≡ 1 = there_holds (λ w. w ≡ 1) (lookup_widths inner.item) differ.place inner.fault.uneven.other widths differ.found in
+        let other : inner.fault.uneven.other ≡ 1 = there_holds (λ w. w ≡ 1) (lookup_widths inner.item) differ.index inner.fault.uneven.other widths differ.found in
         differ.differs (other ∙ sym width)
 
 -- the greatest of some ones is at most 1

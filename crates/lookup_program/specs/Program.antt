@@ -9,7 +9,7 @@ use Rattle.expressions.specs.Faults.{HasFirstFault}
 use Rattle.batch.specs.declared.error.BatchError.TheVariants.{Air as OfAir, Lookup as OfLookup}
 use Rattle.lookup_model.specs.Batches.Witnesses.{AirResult}
 use Rattle.lookup.specs.Guards.{IsHeightRefusal}
-use Rattle.lookup_model.specs.Challenges.{ChallengeTable, prefix_of_bus, table_denominator}
+use Rattle.lookup_model.specs.Challenges.{ChallengeTable, prefix_of_bus, table_key_denominator}
 use Rattle.field.specs.Extension.{Extension}
 use Rattle.lookup_model.specs.Fault.{trace_faults}
 use Rattle.lookup_model.specs.Plain.{plain_cells, plain_terminal}
@@ -50,12 +50,12 @@ module _ {F K : Type 0} (E : Extension F K) (alpha beta : K) (input : Matrix F) 
   -- the plain result of an AIR: an accumulator and the fractions of its one lookup, and its terminal
   abbrev pub air_result : MachineAir → AirResult K
   air_result air =
-      let denominator = table_denominator E (run_table E alpha beta) in
+      let denominator = table_key_denominator E (run_table E alpha beta) in
       (record { values = plain_cells E denominator (air_rows air); width = 2 }, Some (record { 0 = plain_terminal E denominator (air_rows air) }))
 
   -- the faults of an AIR
   abbrev pub air_faults : MachineAir → List LookupError
-  air_faults air = trace_faults E (table_denominator E (run_table E alpha beta)) (air_rows air)
+  air_faults air = trace_faults E (table_key_denominator E (run_table E alpha beta)) (air_rows air)
 
 module _ {F K : Type 0} (E : Extension F K) (machine : Machine) (alpha beta : K) (input : Matrix F) where
   -- the plain witness of a machine, AIR by AIR
@@ -70,7 +70,7 @@ module _ {F K : Type 0} (E : Extension F K) (machine : Machine) (alpha beta : K)
   abbrev pub IsFirstAirFault : RunError → Type 0
   IsFirstAirFault e = HasFirstFault
       (λ air. air_faults E alpha beta input air ≡ [])
-      (λ place air. (error : LookupError) × (slice_get (air_faults E alpha beta input air) 0 ≡ Some error) × (e ≡ Batch (OfAir place error)))
+      (λ index air. (error : LookupError) × (slice_get (air_faults E alpha beta input air) 0 ≡ Some error) × (e ≡ Batch (OfAir index error)))
       (airs_of machine)
 
 -- a word that gives no challenge is refused

@@ -27,22 +27,22 @@ pub(crate) fn assert_bus_widths<F: Field>(
         (λ e. (e ≡ LookupError.Memory) ⊎ IsWidthRefusal (map fields_of lookups.now) e) }
 {
     let buses = by_bus(alloc, lookups)?;
-    for place in 0..buses.len() {
-        let (name, members) = bus_at(&buses, place);
+    for index in 0..buses.len() {
+        let (name, members) = bus_at(&buses, index);
         assert_bus_width(alloc, name, members)?;
     }
     Ok(())
 }
 
-/// The name and the lookups of the bus at a place.
+/// The name and the lookups of the bus at an index.
 fn bus_at<'a, 'b, F: Field>(
     buses: &'b IndexMap<&'a str, Vec<&'a Lookup<F>>>,
-    place: usize,
+    index: usize,
 ) -> (&'a str, &'b Vec<&'a Lookup<F>>)
-    requires { place < index_map_len buses.now }
-    ensures { slice_get buses.now.entries place ≡ Some (result.0, result.1.now) }
+    requires { index < index_map_len buses.now }
+    ensures { slice_get buses.now.entries index ≡ Some (result.0, result.1.now) }
 {
-    match buses.get_index(place) {
+    match buses.get_index(index) {
         Some((name, members)) => (*name, members),
         None => unreachable!(),
     }

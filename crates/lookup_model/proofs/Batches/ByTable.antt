@@ -7,7 +7,7 @@ use Rattle.matrix.specs.Matrix.{height}
 use Rattle.expressions.specs.Window.{Window}
 use Rattle.air.specs.Traces.{window_of}
 use Rattle.expressions.specs.declared.base_expression.SymbolicExpression.{SymbolicExpression}
-use Rattle.lookup_model.specs.Denominators.{column_denominator, tuple_denominator}
+use Rattle.lookup_model.specs.Denominators.{key_denominator, tuple_denominator}
 use Rattle.field.specs.Extension.{Extension, IsLawful}
 use Rattle.lookup_model.specs.Message.{Key, Message}
 use Rattle.lookup_model.specs.Sent.{branch_at, chosen, flags_at, sent, sent_at}
@@ -16,7 +16,7 @@ use Rattle.lookup_model.specs.declared.types.Lookup.{Lookup}
 use Rattle.lookup_model.proofs.Lookups.SatisfiedRows.{all_indexed}
 use Rattle.lookup_model.specs.Batches.Instances.{Instance, IsFitting}
 use Rattle.lookup_model.specs.Batches.Messages.{id_of, sent_rows_of}
-use Rattle.lookup_model.specs.Challenges.{ChallengeTable, column_challenges, table_denominator}
+use Rattle.lookup_model.specs.Challenges.{ChallengeTable, column_challenges, table_key_denominator}
 use Rattle.lookup_model.specs.Trace.{sent_row, sent_row_under, sent_rows}
 use Rattle.lookup_model.proofs.Batches.Rekeyed.{AreRekeyed, AreRowsAlike, IsAlike}
 
@@ -49,10 +49,10 @@ module _ {F K : Type 0} {E : Extension F K} (laws : IsLawful E) (table : Challen
   challenges = column_challenges table instance.ids
 
   abbrev pub column_den : Key F → K
-  column_den = column_denominator E challenges
+  column_den = key_denominator E challenges
 
   abbrev pub den : Key F → K
-  den = table_denominator E table
+  den = table_key_denominator E table
 
   abbrev Branches : Type 0
   Branches = List (Vec (SymbolicExpression F) Global × SymbolicExpression F)

@@ -82,9 +82,9 @@ module _ {F K : Type 0} {E : Extension F K} (laws : IsLawful E) (table : Challen
     -- the fraction of a lookup on it
     fraction_is : (r : ℕ) → r < height i.traces.main → (k : ℕ) (lookup : Lookup F) → k < length i.lookups → lookup ≡ get_or i.lookups k lookup → fraction_at E lookup.column (window_of r) ≡ get_or (fractions_on r) k E.ring.zero
     fraction_is r lt k lookup below is =
-        let place : lookup.column + 1 ≡ suc k = omega (arith, column_is i.lookups k lookup records below is) in
+        let index : lookup.column + 1 ≡ suc k = omega (arith, column_is i.lookups k lookup records below is) in
         ap (λ xs. slice_index_or xs (lookup.column + 1) E.ring.zero) (row_is r lt)
-        ∙ ap (λ n. slice_index_or (made_row r) n E.ring.zero) place
+        ∙ ap (λ n. slice_index_or (made_row r) n E.ring.zero) index
 
     fractions_are : (r : ℕ) → r < height i.traces.main → fractions_at E i.lookups (window_of r) ≡ sum_in E.ring (fractions_on r)
     fractions_are r lt =

@@ -12,7 +12,7 @@ use Rattle.air.specs.Traces.{AirTraces}
 use Rattle.lookup_model.proofs.Branches.{length-branches_at, mapped_at}
 use Rattle.lookup_model.proofs.ConstraintLaws.{accumulator_constraints-some}
 use Rattle.lookup_model.specs.Constraints.{Constraint, accumulator_at, accumulator_constraints, first_constraint, transition_constraint, last_constraint, fraction_at, fraction_constraint, fractions_at, fraction_denominator, fraction_numerator, terminal_at}
-use Rattle.lookup_model.specs.Denominators.{column_denominator, tuple_denominator}
+use Rattle.lookup_model.specs.Denominators.{key_denominator, tuple_denominator}
 use Rattle.field.specs.Extension.{Extension, IsLawful}
 use Rattle.lookup_model.specs.Generated.{plain_matrix, plain_terminal_of}
 use Rattle.lookup_model.proofs.HornerRule.{map-map}
@@ -39,7 +39,7 @@ use Rattle.lookup_model.proofs.Batches.OnlyFractions.{denominator_nonzero, no_fa
 
 module _ {F K : Type 0} {E : Extension F K} (laws : IsLawful E) (challenges : List K) (traces : AirTraces F) (lookups : List (Lookup F)) (records : AreRecords lookups) (some : 0 < length lookups) where
   abbrev den : Key F → K
-  den = column_denominator E challenges
+  den = key_denominator E challenges
 
   abbrev pf : Sent F → K
   pf = plain_fraction E den
@@ -172,8 +172,8 @@ module _ {F K : Type 0} {E : Extension F K} (laws : IsLawful E) (challenges : Li
         at (suc k) inside =
             let below : k < length lookups = omega (arith, inside) in
             let (lookup, is) = item_at lookups k below in
-            let place : lookup.column + 1 ≡ suc k = omega (arith, column_is lookups k lookup records below is) in
-            ap (λ i. get_or (row auxiliary r) i E.ring.zero) (sym place) ∙ fraction_is r lt k lookup below is
+            let index : lookup.column + 1 ≡ suc k = omega (arith, column_is lookups k lookup records below is) in
+            ap (λ i. get_or (row auxiliary r) i E.ring.zero) (sym index) ∙ fraction_is r lt k lookup below is
             ∙ mapped_at (λ l. pf (sent_of r l)) lookups k lookup below is
             ∙ sym (get_or_default (map (λ l. pf (sent_of r l)) lookups) k E.ring.zero (pf (sent_of r lookup)) (omega (arith, length-map lookups (λ l. pf (sent_of r l)), below)))
             ∙ ap (λ xs. get_or xs k E.ring.zero) (sym (map-map pf (sent_of r) lookups))

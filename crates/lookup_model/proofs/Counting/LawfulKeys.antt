@@ -98,7 +98,7 @@ module _ {F : Type 0} (R : Ring F) (eq : F → F → Bool) (W m : ℕ) (width : 
       of_branches (t ∷ ts) (count ∷ ms) widths narrow =
           (record { below = lawful.below; has_width = length-map t.items (value R w) ∙ widths.0; narrow = omega (arith, length-map t.items (value R w), narrow.0) }, of_branches ts ms widths.1 narrow.1)
 
-  -- the items of two lists of one length at a place of both
+  -- the items of two lists of one length at an index of both
   zip_here : {A B : Type 0} (P : A × B → Type 0) (xs : List A) (ys : List B) (k : ℕ) (d : A) (y : B) → length xs ≡ length ys → AllByRecursion P (zip xs ys) → k < length ys → y ≡ get_or ys k y → P (get_or xs k d, y)
   zip_here P xs [] k d y same all lt is = absurd (omega (arith, lt))
   zip_here P [] (b ∷ ys) k d y same all lt is = absurd (omega (arith, same))

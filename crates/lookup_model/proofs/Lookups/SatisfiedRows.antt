@@ -12,7 +12,7 @@ use Rattle.matrix.specs.Matrix.{Matrix, height, row}
 use Rattle.expressions.specs.Window.{ExtWindow, Window, window_at}
 use Rattle.air.specs.Traces.{AirTraces}
 use Rattle.lookup_model.specs.Constraints.{Constraint, accumulator_at, accumulator_constraints, fraction_at, fraction_constraint, fractions_at, terminal_at}
-use Rattle.lookup_model.specs.Denominators.{column_denominator}
+use Rattle.lookup_model.specs.Denominators.{key_denominator}
 use Rattle.field.specs.Extension.{Extension, IsLawful}
 use Rattle.lookup_model.specs.Fault.{fault_of, row_faults, trace_faults}
 use Rattle.lookup_model.specs.Message.{Key}
@@ -35,7 +35,7 @@ use Rattle.lookup_model.proofs.Lookups.Terminals.{plain_terminal-sum}
 use Rattle.lookup_model.proofs.Lists.{all_both}
 
 module _ {A : Type 0} where
-  -- what holds of the items at their places holds of each
+  -- what holds of the items at their indices holds of each
   pub all_indexed : (P : A → Type 0) (xs : List A) → ((i : ℕ) (x : A) → i < length xs → x ≡ get_or xs i x → P x) → AllByRecursion P xs
   all_indexed P [] each = tt
   all_indexed P (x ∷ xs) each =
@@ -107,7 +107,7 @@ module _ {F K : Type 0} (E : Extension F K) (denominator : Key F → K) where
 
 module _ {F K : Type 0} {E : Extension F K} (laws : IsLawful E) (challenges : List K) (traces : AirTraces F) (lookups : List (Lookup F)) (records : AreRecords lookups) (some : 0 < length lookups) where
   abbrev den : Key F → K
-  den = column_denominator E challenges
+  den = key_denominator E challenges
 
   abbrev pf : Sent F → K
   pf = plain_fraction E den
@@ -152,9 +152,9 @@ module _ {F K : Type 0} {E : Extension F K} (laws : IsLawful E) (challenges : Li
   fraction_is : (r : ℕ) → r < height traces.main → (k : ℕ) (lookup : Lookup F) → k < length lookups → lookup ≡ get_or lookups k lookup → fraction_at E lookup.column (window_of r) ≡ pf (sent_of r lookup)
   fraction_is r lt k lookup below is =
       let g = λ (l : Lookup F). pf (sent_of r l) in
-      let place : lookup.column + 1 ≡ suc k = omega (arith, column_is lookups k lookup records below is) in
+      let index : lookup.column + 1 ≡ suc k = omega (arith, column_is lookups k lookup records below is) in
       ap (λ xs. slice_index_or xs (lookup.column + 1) E.ring.zero) (row_is r lt)
-      ∙ ap (λ i. slice_index_or (plain_accumulator E den rows r ∷ map pf (sents_of r)) i E.ring.zero) place
+      ∙ ap (λ i. slice_index_or (plain_accumulator E den rows r ∷ map pf (sents_of r)) i E.ring.zero) index
       ∙ ap (λ xs. get_or xs k E.ring.zero) (map-map pf (sent_of r) lookups)
       ∙ get_or_default (map g lookups) k E.ring.zero (g lookup) (omega (arith, length-map lookups g, below))
       ∙ sym (mapped_at g lookups k lookup below is)

@@ -1,7 +1,7 @@
 -- The faults that generation can meet in a batch.
 use Rattle.std.specs.Prelude.{◌≡◌, ◌≢◌, ◌⊎◌, ℕ, List, [], None, Some, slice_get}
 use Rattle.expressions.specs.Faults.{HasFirstFault}
-use Rattle.lookup_model.specs.Challenges.{ChallengeTable, table_denominator}
+use Rattle.lookup_model.specs.Challenges.{ChallengeTable, table_key_denominator}
 use Rattle.field.specs.Extension.{Extension}
 use Rattle.lookup_model.specs.Fault.{trace_faults}
 use Rattle.lookup_model.specs.declared.error.LookupError.{LookupError}
@@ -20,14 +20,14 @@ abbrev pub IsFaultOf : ℕ → LookupError → BatchFault → Type 0
 IsFaultOf air error fault =
     (fault.error ≡ error) × (((error ≡ Memory) × IsOutOfMemory fault) ⊎ ((error ≢ Memory) × (fault.air ≡ Some air)))
 
--- the first of the faults of the AIR at this place
+-- the first of the faults of the AIR at this index
 abbrev pub IsFirstFaultAt : ℕ → List LookupError → BatchFault → Type 0
-IsFirstFaultAt place faults fault = (fault.air ≡ Some place) × (slice_get faults 0 ≡ Some fault.error)
+IsFirstFaultAt index faults fault = (fault.air ≡ Some index) × (slice_get faults 0 ≡ Some fault.error)
 
 module _ {F K : Type 0} (E : Extension F K) (table : ChallengeTable K) where
   -- the faults of an AIR, in the order of its rows and their lookups
   abbrev pub instance_faults : Instance F → List LookupError
-  instance_faults i = trace_faults E (table_denominator E table) (sent_rows_of E.base E.base_eq i)
+  instance_faults i = trace_faults E (table_key_denominator E table) (sent_rows_of E.base E.base_eq i)
 
   -- no AIR has a fault
   abbrev pub AreFaultless : List (Instance F) → Type 0
@@ -35,4 +35,4 @@ module _ {F K : Type 0} (E : Extension F K) (table : ChallengeTable K) where
 
   -- the first fault of the first AIR that has one
   abbrev pub IsFirstFault : List (Instance F) → BatchFault → Type 0
-  IsFirstFault instances fault = HasFirstFault (λ i. instance_faults i ≡ []) (λ place i. IsFirstFaultAt place (instance_faults i) fault) instances
+  IsFirstFault instances fault = HasFirstFault (λ i. instance_faults i ≡ []) (λ index i. IsFirstFaultAt index (instance_faults i) fault) instances

@@ -16,4 +16,4 @@ module _ {F : Type 0} (R : Ring F) (eq : F → F → Bool) where
 
   -- the first fault of flags of the first AIR that has one
   abbrev pub IsFirstFlagFault : List (Instance F) → BatchFault → Type 0
-  IsFirstFlagFault instances fault = HasFirstFault (λ i. instance_flag_faults i ≡ []) (λ place i. IsFirstFaultAt place (instance_flag_faults i) fault) instances
+  IsFirstFlagFault instances fault = HasFirstFault (λ i. instance_flag_faults i ≡ []) (λ index i. IsFirstFaultAt index (instance_flag_faults i) fault) instances

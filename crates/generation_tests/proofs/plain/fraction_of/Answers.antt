@@ -1,7 +1,7 @@
 use Rattle.std.proofs.Common.{List, take, drop, ◌+◌, [], ◌∷◌, ap, sym, ◌∙◌, subst, arith}
 use Rattle.std.proofs.lemmas.List.{length-map, take_all}
 use Rattle.lookup_model.proofs.Branches.{mapped_at}
-use Rattle.lookup_model.specs.Denominators.{column_denominator}
+use Rattle.lookup_model.specs.Denominators.{key_denominator}
 use Rattle.field.specs.laws.Extension.{of_laws}
 use Rattle.lookup_model.specs.Fault.{vanishes}
 use Rattle.lookup_model.specs.Message.{Message}
@@ -15,7 +15,7 @@ pub returns-in_err-quotient_of : goal.returns-in_err-quotient_of
 returns-in_err-quotient_of g c =
     let laws = g.met.EF.ExtensionField.lawful_fields in
     let E = of_laws laws in
-    let denominator = column_denominator E c.args.challenges.now in
+    let denominator = key_denominator E c.args.challenges.now in
     let ms = c.args.messages.now in
     let i = c.loop-message.message-index in
     let m = c.message-item.result in
@@ -26,7 +26,7 @@ pub loop-message-preserved : goal.loop-message-preserved
 loop-message-preserved g c =
     let laws = g.met.EF.ExtensionField.lawful_fields in
     let E = of_laws laws in
-    let denominator = column_denominator E c.args.challenges.now in
+    let denominator = key_denominator E c.args.challenges.now in
     let ms = c.args.messages.now in
     let i = c.loop-message.message-index in
     let m = c.message-item.result in
@@ -36,6 +36,6 @@ loop-message-preserved g c =
 pub returns : goal.returns
 returns g c =
     let E = of_laws g.met.EF.ExtensionField.lawful_fields in
-    let denominator = column_denominator E c.args.challenges.now in
+    let denominator = key_denominator E c.args.challenges.now in
     let all = subst (λ (ns : List _). IsSumOfQuotients E denominator (as_messages ns) c.loop-message.sum) (take_all c.loop-message.message-index c.args.messages.now (omega (arith, c.loop-message-test.false))) c.loop-message.invariant in
     (all.value, all.divides)

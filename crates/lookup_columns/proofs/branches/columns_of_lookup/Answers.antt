@@ -3,7 +3,7 @@ use Rattle.std.proofs.lemmas.Result.{IfOk-weaker}
 use Rattle.std.specs.List.{AllZip}
 use Rattle.expressions.specs.declared.base_expression.SymbolicExpression.{SymbolicExpression}
 use Rattle.lookup_columns.specs.Steps.{AreStepsOf}
-use Rattle.lookup_columns.specs.ChunkColumns.{HoldSelected, key_denominator}
+use Rattle.lookup_columns.specs.ChunkColumns.{HoldSelected, key_denominator_over}
 use Rattle.lookup_model.specs.Records.{AllFit, IsWithin}
 use Rattle.lookup_model.specs.Sent.{branches_at, values}
 use Rattle.air.specs.Traces.{layout_of, traces_of, window_of}
@@ -23,24 +23,24 @@ exclusive_columns-requires-clause-flag_steps g c =
 pub returns-in-None : goal.returns-in-None
 returns-in-None g c =
     IfOk-weaker c.additive_columns.result _ _
-    (λ v are place r there. record {
-      additive = λ none. are place r there;
+    (λ v are index r there. record {
+      additive = λ none. are index r there;
       exclusive = λ flags some. absurd (cc (sym c.in-None.is ∙ some));
     }) c.additive_columns.ensures
 
 pub returns-in-Some : goal.returns-in-Some
 returns-in-Some g c =
     let R = g.F.PrimeCharacteristicRing.ring in
-    let D = key_denominator g.EF.PrimeCharacteristicRing.ring g.EF.ExtensionDomain.embed c.args.challenges.now in
+    let D = key_denominator_over g.EF.PrimeCharacteristicRing.ring g.EF.ExtensionDomain.embed c.args.challenges.now in
     let lookup = c.args.lookup.now in
     let windows = window_of (traces_of c.args.traces.now) in
     IfOk-weaker c.exclusive_columns.result _ _
-    (λ v are place r there. record {
+    (λ v are index r there. record {
       additive = λ none. absurd (cc (sym none ∙ c.in-Some.is));
       exclusive = λ flags some.
           let is : Some c.in-Some.flags ≡ Some flags = sym c.in-Some.is ∙ some in
           let same : c.in-Some.flags ≡ flags = cc is in
-          subst (λ (es : List (SymbolicExpression _)). HoldSelected R D place v.items (values R (windows r) es) (branches_at R (windows r) lookup.column lookup)) (c.deref.ensures.value ∙ ap (λ t. t.items) same) (are place r there);
+          subst (λ (es : List (SymbolicExpression _)). HoldSelected R D index v.items (values R (windows r) es) (branches_at R (windows r) lookup.column lookup)) (c.deref.ensures.value ∙ ap (λ t. t.items) same) (are index r there);
     }) c.exclusive_columns.ensures
 
 pub additive_columns-requires-clause-steps : goal.additive_columns-requires-clause-steps

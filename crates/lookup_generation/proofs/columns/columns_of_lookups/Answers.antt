@@ -34,9 +34,9 @@ columns_of_lookup-requires-clause-steps g c =
     let here = c.index-steps-lookup.result in
     let at = column_is lookups i lookup c.requires.fit.records c.loop-lookup-test.true c.lookup-item.is in
     let long = AllZip-long AreLookupSteps steps lookups c.requires.steps in
-    let same_place = beside AreLookupSteps steps lookups i here c.requires.steps (omega (arith, long, c.loop-lookup-test.true)) (c.index-steps-lookup.is ∙ ap (λ n. get_or steps n here) at) in
-    let same : same_place.item ≡ lookup = same_place.there ∙ get_or_default lookups i same_place.item lookup c.loop-lookup-test.true ∙ sym c.lookup-item.is in
-    subst (AreLookupSteps here) same same_place.holds
+    let same_index = beside AreLookupSteps steps lookups i here c.requires.steps (omega (arith, long, c.loop-lookup-test.true)) (c.index-steps-lookup.is ∙ ap (λ n. get_or steps n here) at) in
+    let same : same_index.item ≡ lookup = same_index.there ∙ get_or_default lookups i same_index.item lookup c.loop-lookup-test.true ∙ sym c.lookup-item.is in
+    subst (AreLookupSteps here) same same_index.holds
 
 pub loop-lookup-preserved : goal.loop-lookup-preserved
 loop-lookup-preserved g c =

@@ -2,7 +2,7 @@ use Rattle.std.proofs.Common.{◌≡◌, inl, inr, List, None, Some, ap, sym, su
 use Rattle.std.proofs.lemmas.Result.{MatchResult-weaker}
 use Rattle.std.specs.Option.{option_map}
 use Rattle.expressions.specs.declared.base_expression.SymbolicExpression.{SymbolicExpression}
-use Rattle.lookup_model.specs.Denominators.{column_denominator}
+use Rattle.lookup_model.specs.Denominators.{key_denominator}
 use Rattle.field.specs.Extension.{extension}
 use Rattle.lookup_model.specs.Fault.{fault_of}
 use Rattle.lookup_model.specs.Plain.{plain_fraction}
@@ -10,13 +10,13 @@ use Rattle.lookup_model.specs.Sent.{branches_at, sent, sent_at, values}
 use Rattle.lookup_generation.specs.Fraction.{IsRatio}
 use Rattle.air.specs.Traces.{traces_of, window_of}
 use Rattle.lookup_model.proofs.Lookups.LookupFaults.{additive_faultless, additive_fault}
-use Rattle.lookup_columns.specs.ChunkColumns.{HoldSelected, key_denominator}
+use Rattle.lookup_columns.specs.ChunkColumns.{HoldSelected, key_denominator_over}
 use Rattle.lookup_generation.proofs.fraction.fraction.Goals as goal
 
 pub returns-in-None-clause-answers : goal.returns-in-None-clause-answers
 returns-in-None-clause-answers g c = λ inverse is_inverse.
     let E = extension g.F.PrimeCharacteristicRing.ring g.F.PartialEq.eq g.EF.PrimeCharacteristicRing.ring g.EF.PartialEq.eq g.EF.ExtensionDomain.embed inverse in
-    let denominator = column_denominator E c.args.challenges.now in
+    let denominator = key_denominator E c.args.challenges.now in
     let row = c.args.row in
     let lookup = c.args.lookup.now in
     let w = window_of (traces_of c.args.traces.now) c.args.row in
@@ -34,7 +34,7 @@ returns-in-None-clause-answers g c = λ inverse is_inverse.
 pub returns-in-Some-clause-answers : goal.returns-in-Some-clause-answers
 returns-in-Some-clause-answers g c = λ inverse is_inverse.
     let E = extension g.F.PrimeCharacteristicRing.ring g.F.PartialEq.eq g.EF.PrimeCharacteristicRing.ring g.EF.PartialEq.eq g.EF.ExtensionDomain.embed inverse in
-    let denominator = column_denominator E c.args.challenges.now in
+    let denominator = key_denominator E c.args.challenges.now in
     let row = c.args.row in
     let lookup = c.args.lookup.now in
     let w = window_of (traces_of c.args.traces.now) c.args.row in
@@ -64,5 +64,5 @@ exclusive_fraction-requires g c =
     let w = window_of (traces_of c.args.traces.now) c.args.row in
     let lookup = c.args.lookup.now in
     let R = g.F.PrimeCharacteristicRing.ring in
-    let denominator = key_denominator g.EF.PrimeCharacteristicRing.ring g.EF.ExtensionDomain.embed c.args.challenges.now in
-    subst (λ (es : List (SymbolicExpression _)). HoldSelected R denominator c.args.place c.args.columns.now (values R w es) (branches_at R w lookup.column lookup)) (sym c.deref.ensures.value) (c.requires.exclusive _ c.in-Some.is)
+    let denominator = key_denominator_over g.EF.PrimeCharacteristicRing.ring g.EF.ExtensionDomain.embed c.args.challenges.now in
+    subst (λ (es : List (SymbolicExpression _)). HoldSelected R denominator c.args.index c.args.columns.now (values R w es) (branches_at R w lookup.column lookup)) (sym c.deref.ensures.value) (c.requires.exclusive _ c.in-Some.is)

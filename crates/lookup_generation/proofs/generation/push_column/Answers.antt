@@ -1,6 +1,6 @@
 use Rattle.std.proofs.Common.{◌≡◌, ◌⊎◌, ◌+◌, ◌-◌, None, Some, subst, sym, arith}
 use Rattle.air.specs.Traces.{traces_of}
-use Rattle.lookup_model.specs.Denominators.{column_denominator}
+use Rattle.lookup_model.specs.Denominators.{key_denominator}
 use Rattle.field.specs.Extension.{extension}
 use Rattle.lookup_model.specs.Fault.{fault_of}
 use Rattle.lookup_model.specs.Plain.{plain_fraction}
@@ -16,7 +16,7 @@ loop-row-init g c =
     let none : c.args.first - c.args.first ≡ 0 = omega arith in (
       λ inverse is_inverse.
           let E = extension g.F.PrimeCharacteristicRing.ring g.F.PartialEq.eq g.EF.PrimeCharacteristicRing.ring g.EF.PartialEq.eq g.EF.ExtensionDomain.embed inverse in
-          HasColumn-none E (column_denominator E c.args.challenges.now) (sent_on E.base E.base_eq (traces_of c.args.traces.now) c.args.lookup.now) c.args.lookup.now.column c.args.first c.args.ratios.now.items,
+          HasColumn-none E (key_denominator E c.args.challenges.now) (sent_on E.base E.base_eq (traces_of c.args.traces.now) c.args.lookup.now) c.args.lookup.now.column c.args.first c.args.ratios.now.items,
       λ n sound. subst (λ m. AreDefined g.EF.PrimeCharacteristicRing.ring (n + m) c.args.ratios.now.items) (sym none) (sound_of n c.args.ratios.now.items sound),
       λ bare whole. whole,
     )
@@ -31,7 +31,7 @@ loop-row-preserved g c =
       λ inverse is_inverse.
           let E = extension g.F.PrimeCharacteristicRing.ring g.F.PartialEq.eq g.EF.PrimeCharacteristicRing.ring g.EF.PartialEq.eq g.EF.ExtensionDomain.embed inverse in
           let lookup = c.args.lookup.now in
-          let denominator = column_denominator E c.args.challenges.now in
+          let denominator = key_denominator E c.args.challenges.now in
           let sends = sent_on E.base E.base_eq (traces_of c.args.traces.now) lookup in
           let row : IsRatio E.ring ratio (plain_fraction E denominator (sends r))
           × (fault_of E denominator r lookup.column (sends r) ≡ None) = c.in-Ok.ensures.answers inverse is_inverse in
@@ -48,7 +48,7 @@ returns-in-Err-clause-answers g c = λ inverse is_inverse.
     let lookup = c.args.lookup.now in
     let r = c.loop-row.row in
     let error = c.in-Err.error in
-    let denominator = column_denominator E c.args.challenges.now in
+    let denominator = key_denominator E c.args.challenges.now in
     let sends = sent_on E.base E.base_eq (traces_of c.args.traces.now) lookup in
     let row : (error ≡ Memory) ⊎ (fault_of E denominator r lookup.column (sends r) ≡ Some error) = c.in-Err.ensures.answers inverse is_inverse in
     IsFirstIn-here E denominator sends lookup.column c.args.first c.args.ratios.now.items c.loop-row.ratios.items _ row (c.loop-row.invariant.0 inverse is_inverse)
@@ -57,7 +57,7 @@ pub returns-clause-answers : goal.returns-clause-answers
 returns-clause-answers g c = λ inverse is_inverse.
     let E = extension g.F.PrimeCharacteristicRing.ring g.F.PartialEq.eq g.EF.PrimeCharacteristicRing.ring g.EF.PartialEq.eq g.EF.ExtensionDomain.embed inverse in
     let all : c.loop-row.row ≡ c.args.end = omega (arith, c.loop-row-test.false, c.loop-row.auto.row-end c.requires.from) in
-    subst (λ n. HasColumn E (column_denominator E c.args.challenges.now) (sent_on E.base E.base_eq (traces_of c.args.traces.now) c.args.lookup.now) c.args.lookup.now.column c.args.first n c.args.ratios.now.items c.loop-row.ratios.items) all (c.loop-row.invariant.0 inverse is_inverse)
+    subst (λ n. HasColumn E (key_denominator E c.args.challenges.now) (sent_on E.base E.base_eq (traces_of c.args.traces.now) c.args.lookup.now) c.args.lookup.now.column c.args.first n c.args.ratios.now.items c.loop-row.ratios.items) all (c.loop-row.invariant.0 inverse is_inverse)
 
 pub returns-clause-defined : goal.returns-clause-defined
 returns-clause-defined g c = λ none n sound.
