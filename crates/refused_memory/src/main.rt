@@ -17,6 +17,7 @@ mod fields;
 mod generations;
 mod inputs;
 mod layouts;
+mod messages;
 mod plans;
 mod records;
 mod sets;
@@ -62,6 +63,7 @@ fn group_of_batches<W: Write>(alloc: Global, name: &str, out: &mut W) -> Option<
     match name {
         "chunks" => generations::chunks::<W, F7>(alloc, out),
         "evaluation" => evaluations::evaluation::<W, F7>(alloc, out),
+        "messages" => messages::messages::<W, F7>(alloc, out),
         "batch" => batches::batch::<W, F7>(alloc, out),
         "debug" => faults::debug::<W, F7>(alloc, out),
         "plans" => plans::plans::<W, F7>(alloc, out),
