@@ -32,7 +32,7 @@ pub(crate) fn set<F: Field + DeserializeOwned>(
     alloc: Global,
     text: &'static str,
 ) -> Option<Lookups<F>> {
-    set_of_text(alloc, text.as_bytes()).ok()?.ok()
+    set_of_text::<F>(alloc, text.as_bytes()).ok()?.ok()
 }
 
 /// Calls on a lookup.
