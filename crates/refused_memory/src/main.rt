@@ -17,6 +17,7 @@ mod fields;
 mod generations;
 mod inputs;
 mod layouts;
+mod lines;
 mod messages;
 mod plans;
 mod records;
@@ -26,11 +27,11 @@ mod texts;
 mod trees;
 
 use field::{BabyBear, BabyBear4, F7};
+use lines::TextKind;
 use std::alloc::Global;
 use std::env;
 use std::io::{BufReader, BufWriter, Read, Write};
 use std::process::ExitCode;
-use texts::TextKind;
 
 /// Makes the calls of a group. None if one of its inputs can't be made.
 fn group<W: Write>(alloc: Global, name: &str, out: &mut W) -> Option<()> {
@@ -50,7 +51,7 @@ fn group_of_lookups<W: Write>(alloc: Global, name: &str, out: &mut W) -> Option<
     match name {
         "lookups" => sets::lookups::<W, F7>(alloc, out),
         "sets" => sets::sets::<W, F7>(alloc, out),
-        "json" => texts::json::<W, F7>(alloc, out),
+        "json" => lines::json::<W, F7>(alloc, out),
         "challenges" => generations::challenges::<W, F7, BabyBear4>(alloc, out),
         "generation" => generations::generation::<W, F7, F7>(alloc, out),
         "extension" => generations::generation::<W, BabyBear, BabyBear4>(alloc, out),
@@ -84,7 +85,7 @@ fn answer<R: Read + Drop, W: Write>(
         [word, kind] if word.as_str() == "lines" => {
             let kind = TextKind::of_word(kind.as_str())?;
             let input = BufReader::new(alloc, input).ok()?;
-            texts::lines(alloc, input, out, kind)
+            lines::lines(alloc, input, out, kind)
         }
         [word, call, form, depth] if word.as_str() == "deep" => {
             let depth = depth.as_str().parse::<usize>().ok()?;
