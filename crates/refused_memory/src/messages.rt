@@ -2,6 +2,7 @@
 use crate::faults::{debug_instance, has_fitting_lookups, has_one_height};
 use crate::inputs::{BALANCED, LOOKUPS, UNLAWFUL, lookups_of, trace};
 use crate::show::{show, state};
+use air::Traces;
 use field::Field;
 use lookup::debug_util::LookupDebugInstance;
 use lookup::{Lookup, LookupError};
@@ -24,15 +25,12 @@ fn push_fitting<F: Field>(
     if ids.len() != instance.lookups.len() {
         return Err(LookupError::DegreeOverflow);
     }
-    push_messages(
-        alloc,
-        messages,
-        instance.main_trace,
-        instance.preprocessed_trace,
-        instance.public_values,
-        instance.lookups,
-        ids,
-    )
+    let traces = Traces {
+        main: instance.main_trace,
+        preprocessed: instance.preprocessed_trace,
+        public_values: instance.public_values,
+    };
+    push_messages(alloc, messages, &traces, instance.lookups, ids)
 }
 
 /// The messages of the trace of these numbers, pushed to one list twice, with the list before and after.
