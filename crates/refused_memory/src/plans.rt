@@ -70,6 +70,8 @@ fn on_trace<W: Write, F: Field + Debug>(
     show(out, "BatchPlan::prove", answer);
     let answer = plan.verify(alloc, traces, alpha, beta, witness);
     show(out, "BatchPlan::verify", answer);
+    let answer = plan.soundness_count::<F>(alloc, traces);
+    show(out, "BatchPlan::soundness_count", answer);
     let answer = plan.grid_count(alloc, traces, challenges, challenges);
     show(out, "BatchPlan::grid_count", answer);
     show(out, "BatchPlan::ids", plan.ids().len());
