@@ -175,7 +175,7 @@ module _ {F : Type 0} {R : Ring F} (laws : IsCommutativeRing R) (eq : F → F �
     -- the mismatch of that group
     pub mismatched : (text : F → List ℕ) (fault : LookupFault F) → IsMismatch R eq text (map traced_over traces) fault
         → (tuple : List F) × IsFirst R eq text (machine_contributions R eq machine input) tuple × (fault_text text fault ++ codes "\n" ≡ mismatch_line R eq text machine input tuple)
-    mismatched text fault m = at_index m.index m.group (ap (λ gs. slice_get gs m.index) (sym (groups_are machine traces all boolean)) ∙ m.there) m.mismatch
+    mismatched text fault m = at_index m.index m.item (ap (λ gs. slice_get gs m.index) (sym (groups_are machine traces all boolean)) ∙ m.is_there) m.fault
       where
         at_index : (i : ℕ) (group : Group F) → slice_get (machine_group machine ∷ []) i ≡ Some group → IsMismatchOf R eq text group.label group.contributions fault
             → (tuple : List F) × IsFirst R eq text (machine_contributions R eq machine input) tuple × (fault_text text fault ++ codes "\n" ≡ mismatch_line R eq text machine input tuple)
@@ -185,7 +185,7 @@ module _ {F : Type 0} {R : Ring F} (laws : IsCommutativeRing R) (eq : F → F �
             subst (λ (g : Group F). IsMismatchOf R eq text g.label g.contributions fault) (sym same) here in
             let parts = told.fault_is in
             let net = text (net_amount R eq (machine_contributions R eq machine input) told.tuple) in
-            let whole = ap (fault_text text) parts.fault_is ∙ (λ i. mismatch_text (parts.label_is i) (parts.tuple_is i) net (parts.indices_are i)) in
+            let whole = ap (fault_text text) parts.fault_is ∙ (λ i. mismatch_text (parts.label_is i) (parts.tuple_is i) net (parts.locations_are i)) in
             (told.tuple, told.first, ap (λ t. t ++ codes "\n") whole)
         at_index (suc i) group is here = absurd (cc is)
 
