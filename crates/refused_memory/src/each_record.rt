@@ -8,7 +8,7 @@ use lookup::{
 use std::alloc::Global;
 
 /// Makes the push or the call of a bus of this number.
-pub(crate) fn push<AB: InteractionBuilder + IndexedLookupBuilder>(
+pub fn push<AB: InteractionBuilder + IndexedLookupBuilder>(
     alloc: Global,
     builder: &mut AB,
     call: usize,
@@ -16,6 +16,7 @@ pub(crate) fn push<AB: InteractionBuilder + IndexedLookupBuilder>(
     ensures { OnOk result (AB.layout builder.new ≡ AB.layout builder.old) }
 {
     match call {
+        0 => push_message(alloc, builder),
         1 => push_local(alloc, builder),
         2 => push_group(alloc, builder),
         3 => push_read(alloc, builder),
@@ -23,6 +24,14 @@ pub(crate) fn push<AB: InteractionBuilder + IndexedLookupBuilder>(
         7 => look_up_exclusively(alloc, builder),
         _ => call_bus(alloc, builder, call),
     }
+}
+
+/// Pushes a message.
+fn push_message<AB: InteractionBuilder>(alloc: Global, builder: &mut AB) -> Result<(), AirError>
+    ensures { OnOk result (AB.layout builder.new ≡ AB.layout builder.old) }
+{
+    let key = current_cells(alloc, &*builder, 3, &[0, 1])?;
+    builder.push_interaction(alloc, "other", key, Count::from(1))
 }
 
 /// Pushes a local lookup of one tuple.
@@ -62,7 +71,7 @@ fn push_table<AB: IndexedLookupBuilder>(alloc: Global, builder: &mut AB) -> Resu
     builder.push_indexed_table(alloc, "table", TraceWindow::Main, columns)
 }
 
-/// Pushes a message, or makes the call of a bus of this number.
+/// Makes the call of a bus of this number.
 fn call_bus<AB: InteractionBuilder>(
     alloc: Global,
     builder: &mut AB,
@@ -73,7 +82,6 @@ fn call_bus<AB: InteractionBuilder>(
     let key = current_cells(alloc, &*builder, 3, &[0, 1])?;
     let uses = current_cell(alloc, &*builder, 3, 2)?;
     match call {
-        0 => builder.push_interaction(alloc, "other", key, Count::bounded(uses, 2)),
         5 => LookupBus::new("keys").lookup_key(alloc, builder, key, Count::bounded(uses, 2)),
         6 => LookupBus::new("keys").table_entry(alloc, builder, key, uses),
         8 => PermutationCheckBus::new("sent").send(alloc, builder, key, Count::bounded(uses, 2)),
@@ -108,7 +116,7 @@ fn assert_difference<AB: AirBuilder>(alloc: Global, builder: &mut AB) -> Result<
 }
 
 /// Three columns. It asserts that a cell less itself is zero, and pushes one record of each kind.
-pub(crate) struct EachRecord;
+pub struct EachRecord;
 
 impl<F> BaseAir<F> for EachRecord {
     ghost width = { λ _. 3 };
@@ -146,7 +154,7 @@ impl<AB: InteractionBuilder + IndexedLookupBuilder> Air<AB> for EachRecord {
 }
 
 /// Three columns. It asserts that a cell less itself is zero, and pushes nothing.
-pub(crate) struct OneAssertion;
+pub struct OneAssertion;
 
 impl<F> BaseAir<F> for OneAssertion {
     ghost width = { λ _. 3 };
