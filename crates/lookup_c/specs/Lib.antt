@@ -1,0 +1,12 @@
+pub mod Batches
+pub mod Counting
+pub mod Debugging
+pub mod Degrees
+pub mod Generation
+pub mod Inputs
+pub mod Outputs
+pub mod Planning
+pub mod Proving
+pub mod Refusals
+pub mod Verifying
+pub mod Witnesses
