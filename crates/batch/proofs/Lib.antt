@@ -1,4 +1,5 @@
 pub mod AssignedLaws
+pub mod CountLaws
 pub mod DistinctLaws
 pub mod GivenLaws
 pub mod GridLaws

@@ -10,6 +10,7 @@ use Rattle.expressions.specs.declared.variable.BaseEntry.{BaseEntry}
 use Rattle.expressions.specs.declared.variable.BaseEntry.TheVariants.{Preprocessed, Main, Public}
 use Rattle.lookup_tables.specs.declared.nodes.Node.{Node}
 
+-- the elements of the base field
 abbrev pub BabyBear : Type 0
 BabyBear = Residue 2013265921
 
