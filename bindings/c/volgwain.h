@@ -12,7 +12,7 @@
      array that a call writes is initialised, and overlaps no other argument; those that it reads may
      overlap one another.
    - Answers. A call returns 0, or the code of a refusal, and fills *refusal in both cases. A refused call
-     leaves every other array that it writes as it was, but for `text`.
+     leaves all else that it would write as it was, but for `text`.
    - Texts. `text` gets what a refusal says, without a closing zero: its first bytes, as many as there is
      room for. `refusal->text_length` is the length of the whole, and 0 where nothing was refused.
    - Stack. A call needs at most 256 KB of it.
@@ -126,18 +126,22 @@ enum {
                                    is its index; 2 a range past its table; 3 a list of too many nodes; 4 a
                                    kind that is neither 0 nor 1; 5 a name that is not UTF-8 */
     VOLGWAIN_BAD_NUMBER = 3,    /* part, air, row: the index of a number, or of a group of four, that is not
-                                   below the modulus */
-    VOLGWAIN_BAD_LENGTH = 4,    /* part, expected, actual: the length of an array */
+                                   below the modulus; of an id, that is not below num_ids; of the sizes of a
+                                   plan, 0: max_message_width is 0 */
+    VOLGWAIN_BAD_LENGTH = 4,    /* part, expected, actual: the length of an array; where the call says so, it
+                                   may be greater than expected */
     VOLGWAIN_NO_WHOLE_ROWS = 5, /* part, air: the width of a trace does not divide its length, or is 0
                                    where there are cells */
-    VOLGWAIN_DOES_NOT_FIT = 6,  /* air: a lookup has lists of different lengths, or reads past the traces */
+    VOLGWAIN_DOES_NOT_FIT = 6,  /* air: a lookup has lists of different lengths, or reads past the traces, or a
+                                   row that is neither this one nor the next one */
     VOLGWAIN_OTHER_HEIGHT = 7,  /* air: the preprocessed trace is not as high as the main one */
     VOLGWAIN_VANISHING_DENOMINATOR = 8, /* air, row, lookup */
     VOLGWAIN_FLAG_NOT_BOOLEAN = 9,      /* air, row, lookup */
     VOLGWAIN_FLAGS_NOT_EXCLUSIVE = 10,  /* air, row, lookup */
-    VOLGWAIN_MALFORMED_LOOKUP = 11,     /* air, lookup: lists of different lengths */
+    VOLGWAIN_MALFORMED_LOOKUP = 11,     /* air, lookup: lists of different lengths, or another column */
     VOLGWAIN_BUS_WIDTHS = 12,           /* expected, actual: tuples of two widths on one bus */
-    VOLGWAIN_TUPLE_WIDTHS = 13,         /* expected, actual: tuples of two widths in a local lookup */
+    VOLGWAIN_TUPLE_WIDTHS = 13,         /* expected, actual: tuples of two widths in a local lookup, or on a
+                                           bus that is packed */
     VOLGWAIN_TOO_MANY_IDS = 14,         /* actual */
     VOLGWAIN_HEIGHT_BOUND = 15,         /* weights times heights reach the modulus */
     VOLGWAIN_TRACE_MISMATCH = 16,       /* air: the traces do not have the height, or do not fit */
@@ -148,9 +152,11 @@ enum {
     VOLGWAIN_TERMINAL_SUM = 21,         /* the terminals do not sum to zero */
     VOLGWAIN_REPEATED_CHALLENGE = 22,
     VOLGWAIN_COUNT_OVERFLOW = 23,       /* a count does not fit 128 bits */
-    VOLGWAIN_WEIGHT_OVERFLOW = 24,      /* air */
-    VOLGWAIN_DEGREE_OVERFLOW = 25,      /* air */
-    VOLGWAIN_MISMATCH = 26              /* a tuple does not balance; the text says which, and where */
+    VOLGWAIN_WEIGHT_OVERFLOW = 24,      /* air: weights that are added do not fit 64 bits */
+    VOLGWAIN_DEGREE_OVERFLOW = 25,      /* air: a degree does not fit 64 bits */
+    VOLGWAIN_MISMATCH = 26,             /* a tuple does not balance; the text says which, and where */
+    VOLGWAIN_BAD_TEXT = 27              /* a text is not JSON, or not that of lookups; the text of the refusal
+                                           says why, and where */
 };
 
 /* Parts of a call, in refusal.part for the codes 3, 4, 5 and 7. */
@@ -165,7 +171,12 @@ enum {
     VOLGWAIN_PART_TERMINALS = 8,
     VOLGWAIN_PART_BATCH = 9, /* the traces, or what a witness has, for each AIR */
     VOLGWAIN_PART_DEGREES = 10,
-    VOLGWAIN_PART_IDS = 11
+    VOLGWAIN_PART_IDS = 11,
+    VOLGWAIN_PART_SIZES = 12,
+    VOLGWAIN_PART_NODES = 13, /* the tables that a call writes */
+    VOLGWAIN_PART_TUPLES = 14,
+    VOLGWAIN_PART_NAMES = 15,
+    VOLGWAIN_PART_RECORDS = 16
 };
 
 /* What was refused, and where: each code names the fields that it fills, and the others are 0. */
@@ -209,6 +220,54 @@ uint32_t volgwain_degrees(const struct volgwain_tables *tables,
     size_t *degrees, size_t degrees_length,
     struct volgwain_refusal *refusal, char *text, size_t text_size);
 
+/* How many items of each table a call has written, from the first on. */
+struct volgwain_table_sizes {
+    size_t nodes;
+    size_t tuples;
+    size_t names;
+    size_t records;
+};
+
+/* Packs the lookups of an AIR: those on one bus share columns, as many as max_degree allows, and so the
+   auxiliary trace gets narrower. Local lookups and those with flags stay as they are, and come first.
+   The others follow by bus; in their order, each joins the open column of its bus if the degree of the
+   joined lookup's constraint stays within max_degree, and opens a new column otherwise. No other cut of
+   the lookups of a bus into consecutive columns within max_degree has fewer. Weights of joined lookups add.
+   A lookup alone may have a greater degree.
+
+   nodes, tuples, names, records: the tables of the packed lookups. Each array is at least as long as what
+   is written, and sizes says how much that is. As many nodes and tuples as the ranges of all given records
+   have together, as many names as their buses, and as many records as there are always suffice.
+
+   The packed lookups send the same messages on every row, so they balance as those before do, and every
+   terminal stays. Pack each AIR before the batch is planned; prover and verifier have to pack alike.
+
+   Refuses, in this order: 2, 11, 13 of a bus, 24 or 25 where a lookup is joined, 6, 2 of a packed lookup
+   with a list of too many nodes, and 4 of the nodes, tuples, names and records. Or 1. */
+uint32_t volgwain_pack(const struct volgwain_tables *tables, size_t max_degree,
+    struct volgwain_node *nodes, size_t nodes_length,
+    struct volgwain_span *tuples, size_t tuples_length,
+    uint8_t *names, size_t names_length,
+    struct volgwain_record *records, size_t records_length,
+    struct volgwain_table_sizes *sizes,
+    struct volgwain_refusal *refusal, char *text, size_t text_size);
+
+/* Reads the lookups of an AIR from JSON, a list of lookups as serde writes them, into tables. Numbers are
+   elements of the base field, and expressions nest as deep as JSON allows, some hundred levels.
+
+   nodes, tuples, names, records: the tables of the lookups that were read. Each array is at least as long as
+   what is written, and sizes says how much that is. Never more items than json has bytes.
+
+   Refuses, in this order: 27, 11, 6, 2 of a lookup with a list of too many nodes, and 4 of the nodes, tuples,
+   names and records. Or 1, also where memory runs out while the text is read. */
+uint32_t volgwain_read_json(const char *json, size_t json_length,
+    struct volgwain_node *nodes, size_t nodes_length,
+    struct volgwain_span *tuples, size_t tuples_length,
+    uint8_t *names, size_t names_length,
+    struct volgwain_record *records, size_t records_length,
+    struct volgwain_table_sizes *sizes,
+    struct volgwain_refusal *refusal, char *text, size_t text_size);
+
 /* ---- a batch of AIRs ---- */
 
 /* An AIR of a batch, before its traces are seen. */
@@ -242,6 +301,24 @@ struct volgwain_plan_sizes {
 uint32_t volgwain_plan(const struct volgwain_air *airs, size_t airs_length,
     size_t *ids, size_t ids_length,
     struct volgwain_plan_sizes *sizes,
+    struct volgwain_refusal *refusal, char *text, size_t text_size);
+
+/* Generates the auxiliary trace of one AIR of a planned batch, and its terminal, as volgwain_generate does.
+
+   ids: those of the AIR's lookups, in their order, as volgwain_plan gave them; sizes: those of the plan.
+   auxiliary: exactly height * (lookups + 1) elements.
+
+   With what volgwain_plan gave, the AIRs of a batch can be generated on threads of the caller's own, and make
+   the witness of volgwain_prove.
+
+   Refuses, in this order: 2, 5 and 3 of a trace, 3 of alpha and then beta, 3 of the sizes, 4 of the ids, 3 of
+   an id, 6, 7, the first of 8, 9 and 10 in the order row, lookup, and 4 of the auxiliary trace. Or 1. */
+uint32_t volgwain_generate_by_ids(const struct volgwain_tables *tables,
+    const struct volgwain_traces *traces,
+    const size_t *ids, size_t ids_length, const struct volgwain_plan_sizes *sizes,
+    const struct volgwain_element *alpha, const struct volgwain_element *beta,
+    struct volgwain_element *auxiliary, size_t auxiliary_length,
+    struct volgwain_terminal *terminal,
     struct volgwain_refusal *refusal, char *text, size_t text_size);
 
 /* Makes the witness of a batch: the auxiliary traces and the terminals of all AIRs.
@@ -287,6 +364,28 @@ struct volgwain_wide {
     uint64_t low;
     uint64_t high;
 };
+
+/* The counts of a batch. messages: how many distinct messages n there are, each an id with the values of a
+   tuple, those of multiplicity zero too. unbalanced: how many k of them do not balance. bad_betas:
+   W * k * (k - 1) / 2, where W is the width of the plan. bounded is 0 if all messages balance, and otherwise
+   1; then accepting_alphas is n + k - 1. */
+struct volgwain_counts {
+    struct volgwain_wide messages;
+    struct volgwain_wide unbalanced;
+    struct volgwain_wide bad_betas;
+    uint32_t bounded;
+    struct volgwain_wide accepting_alphas;
+};
+
+/* Counts the messages of a batch. If k is above zero, then at all betas but bad_betas at the most, some
+   witness is accepted at no more than accepting_alphas alphas, whoever makes it.
+
+   Refuses, in this order: what volgwain_prove does up to 5 and 3 of traces, 4 of the number of traces, 16,
+   9 or 10 of flags in the order AIR, row, lookup, and 23. Or 1. */
+uint32_t volgwain_soundness_count(const struct volgwain_air *airs, size_t airs_length,
+    const struct volgwain_traces *traces, size_t traces_length,
+    struct volgwain_counts *counts,
+    struct volgwain_refusal *refusal, char *text, size_t text_size);
 
 /* accepted: the exact number of pairs at which some witness is accepted, whoever makes it. bounded is 0 if
    all messages balance, and otherwise 1; then bound is at least accepted. */
