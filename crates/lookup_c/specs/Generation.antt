@@ -1,5 +1,5 @@
 -- What generation answers from tables of numbers.
-use Rattle.std.specs.Prelude.{◌≡◌, ◌≢◌, ◌⊎◌, ◌*◌, ◌<◌, ◌≤◌, ℕ, List, [], Option, Some, length, map, slice_get}
+use Rattle.std.specs.Prelude.{◌≡◌, ◌≢◌, ◌⊎◌, ◌*◌, ◌<◌, ℕ, List, [], Option, Some, length, map, slice_get}
 use Rattle.std.specs.Option.{ForSome}
 use Rattle.field.specs.Quartic.{Quartic}
 use Rattle.matrix.specs.Matrix.{Matrix, height}

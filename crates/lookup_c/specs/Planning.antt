@@ -3,7 +3,6 @@ use Rattle.std.specs.Prelude.{◌≡◌, ◌≢◌, ◌⊎◌, ℕ, List, length
 use Rattle.std.specs.List.{flat_map}
 use Rattle.std.specs.declared.alloc.Global.{Global}
 use Rattle.std.specs.declared.vec.Vec.{Vec}
-use Rattle.lookup_tables.specs.Nodes.{BabyBear}
 use Rattle.lookup_c.specs.Batches.{IsPlanOf, IsPlanningRefusal, Planned}
 use Rattle.lookup_c.specs.declared.airs.Air.{Air}
 use Rattle.lookup_c.specs.declared.fault.Fault.{Fault}

@@ -11,9 +11,9 @@ use Rattle.lookup_tables.specs.declared.traces.TraceFault.TheVariants as trace_f
 use Rattle.lookup_tables.specs.declared.traces.TracePart.{TracePart}
 use Rattle.lookup_tables.specs.declared.traces.TracePart.TheVariants.{Main, Preprocessed, PublicValues}
 use Rattle.lookup_c.specs.declared.fault.Fault.{Fault}
-use Rattle.lookup_c.specs.declared.fault.Fault.TheVariants.{Memory, Table, Traces, Large, Length, Ragged, Misfit, Heights, Lookup, Mismatch, Batch}
+use Rattle.lookup_c.specs.declared.fault.Fault.TheVariants.{Memory, Table, Traces, Large, Id, Width, Text, Length, Ragged, Misfit, Heights, Lookup, Mismatch, Batch}
 use Rattle.lookup_c.specs.declared.fault.Part.{Part}
-use Rattle.lookup_c.specs.declared.fault.Part.TheVariants.{Challenges, Alphas, Betas, Auxiliary, Terminals, Batch as OfBatch, Degrees, Ids}
+use Rattle.lookup_c.specs.declared.fault.Part.TheVariants.{Challenges, Alphas, Betas, Auxiliary, Terminals, Batch as OfBatch, Degrees, Ids, Sizes, Nodes, Tuples, Names, Records}
 use Rattle.lookup_c.specs.declared.refusal.Refusal.{Refusal}
 
 -- a refusal with this code and these places, and no text
@@ -44,6 +44,11 @@ part_number Terminals = 8
 part_number OfBatch = 9
 part_number Degrees = 10
 part_number Ids = 11
+part_number Sizes = 12
+part_number Nodes = 13
+part_number Tuples = 14
+part_number Names = 15
+part_number Records = 16
 
 -- the refusal of a record of an AIR, by what is wrong with it
 abbrev pub table_refusal : ℕ → ℕ → TableFault → Refusal
@@ -53,6 +58,8 @@ table_refusal air r table_fault.Range = placed 2 2 air 0 r 0 0
 table_refusal air r table_fault.Long = placed 2 3 air 0 r 0 0
 table_refusal air r table_fault.Kind = placed 2 4 air 0 r 0 0
 table_refusal air r table_fault.Name = placed 2 5 air 0 r 0 0
+table_refusal air r table_fault.Deep = placed 2 6 air 0 r 0 0
+table_refusal air r table_fault.Row = placed 2 7 air 0 r 0 0
 
 -- the refusal of the traces of an AIR
 abbrev pub trace_refusal : ℕ → TraceFault → Refusal
@@ -83,9 +90,9 @@ lookup_refusal at lookup_error.TerminalSumNonZero = placed 21 0 0 0 0 0 0
 lookup_refusal at lookup_error.CountOverflow = placed 23 0 0 0 0 0 0
 lookup_refusal at lookup_error.CountWeightOverflow = placed 24 0 at 0 0 0 0
 lookup_refusal at lookup_error.DegreeOverflow = placed 25 0 at 0 0 0 0
-lookup_refusal at lookup_error.CommitmentMismatch = placed 27 0 at 0 0 0 0
-lookup_refusal at (lookup_error.PermutationLengthMismatch air) = placed 27 0 at 0 0 0 0
-lookup_refusal at (lookup_error.Air error) = placed 27 0 at 0 0 0 0
+lookup_refusal at lookup_error.CommitmentMismatch = placed 28 0 at 0 0 0 0
+lookup_refusal at (lookup_error.PermutationLengthMismatch air) = placed 28 0 at 0 0 0 0
+lookup_refusal at (lookup_error.Air error) = placed 28 0 at 0 0 0 0
 
 -- the refusal of a call on a plan
 abbrev pub batch_refusal : BatchError → Refusal
@@ -104,6 +111,9 @@ refusal_of Memory = placed 1 0 0 0 0 0 0
 refusal_of (Table air r fault) = table_refusal air r fault
 refusal_of (Traces air fault) = trace_refusal air fault
 refusal_of (Large part air i) = placed 3 (part_number part) air i 0 0 0
+refusal_of (Id i) = placed 3 11 0 i 0 0 0
+refusal_of Width = placed 3 12 0 0 0 0 0
+refusal_of (Text e) = placed 27 0 0 0 0 0 0
 refusal_of (Length part expected actual) = placed 4 (part_number part) 0 0 0 expected actual
 refusal_of (Ragged air) = placed 5 7 air 0 0 0 0
 refusal_of (Misfit air) = placed 6 0 air 0 0 0 0

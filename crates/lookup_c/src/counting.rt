@@ -35,7 +35,7 @@ pub struct Grid {
 }
 
 /// The halves of a number.
-fn halves(n: u128) -> Wide
+pub(crate) fn halves(n: u128) -> Wide
     ensures { result.high * 18446744073709551616 + result.low ≡ n }
 {
     Wide {

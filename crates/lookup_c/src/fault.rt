@@ -28,6 +28,16 @@ pub enum Part {
     Degrees,
     /// The ids.
     Ids,
+    /// The sizes of a plan.
+    Sizes,
+    /// The nodes that a call writes.
+    Nodes,
+    /// The ranges of tuples that a call writes.
+    Tuples,
+    /// The names that a call writes.
+    Names,
+    /// The records that a call writes.
+    Records,
 }
 
 impl fmt::Display for Part {
@@ -41,6 +51,11 @@ impl fmt::Display for Part {
             Part::Batch => write!(f, "entries for the AIRs"),
             Part::Degrees => write!(f, "degrees"),
             Part::Ids => write!(f, "ids"),
+            Part::Sizes => write!(f, "sizes of the plan"),
+            Part::Nodes => write!(f, "nodes"),
+            Part::Tuples => write!(f, "tuples"),
+            Part::Names => write!(f, "names"),
+            Part::Records => write!(f, "records"),
         }
     }
 }
@@ -71,7 +86,18 @@ pub enum Fault {
         air: usize,
         index: usize,
     },
-    /// A list has another length than the call asks for.
+    /// An id is not below the number of ids.
+    #[error("ids: number {index} is not below the number of ids")]
+    Id {
+        index: usize,
+    },
+    /// The width of a plan is zero.
+    #[error("the width of the plan is 0")]
+    Width,
+    /// A text is no JSON, or not that of lookups.
+    #[error("{0}")]
+    Text(serde_json::Error),
+    /// A list has another length than the call asks for, or is too short.
     #[error("{part}: expected {expected}, got {actual}")]
     Length {
         part: Part,

@@ -1,5 +1,5 @@
 //! Generation of one AIR over what its tables say.
-ghost use Rattle.std.specs.Prelude.{◌≡◌, MatchResult};
+ghost use Rattle.std.specs.Prelude.{MatchResult};
 ghost use Rattle.std.specs.Option.{option_copied};
 ghost use Rattle.lookup_c.specs.Generation.{Generates, GeneratesOver, IsGenerationRefusal, IsLookupsRefusal};
 
@@ -21,7 +21,7 @@ pub(crate) struct Generated {
 }
 
 /// Generates over lookups.
-fn generate<'a>(
+pub(crate) fn generate<'a>(
     alloc: Global,
     main: &'a RowMajorMatrix<BabyBear>,
     preprocessed: Option<&'a RowMajorMatrix<BabyBear>>,

@@ -66,6 +66,11 @@ fn part_number(part: Part) -> u32
         Part::Batch => 9,
         Part::Degrees => 10,
         Part::Ids => 11,
+        Part::Sizes => 12,
+        Part::Nodes => 13,
+        Part::Tuples => 14,
+        Part::Names => 15,
+        Part::Records => 16,
     }
 }
 
@@ -89,6 +94,8 @@ fn table_refusal(air: usize, lookup: usize, fault: &TableFault) -> Refusal
         TableFault::Long => placed(2, 3, air, 0, lookup, 0, 0),
         TableFault::Kind => placed(2, 4, air, 0, lookup, 0, 0),
         TableFault::Name => placed(2, 5, air, 0, lookup, 0, 0),
+        TableFault::Deep => placed(2, 6, air, 0, lookup, 0, 0),
+        TableFault::Row => placed(2, 7, air, 0, lookup, 0, 0),
     }
 }
 
@@ -159,7 +166,7 @@ fn lookup_refusal(at: usize, error: &LookupError) -> Refusal
         LookupError::DegreeOverflow => placed(25, 0, at, 0, 0, 0, 0),
         LookupError::CommitmentMismatch
         | LookupError::PermutationLengthMismatch { air: _ }
-        | LookupError::Air(_) => placed(27, 0, at, 0, 0, 0, 0),
+        | LookupError::Air(_) => placed(28, 0, at, 0, 0, 0, 0),
     }
 }
 
@@ -190,6 +197,9 @@ fn refusal_of(fault: &Fault) -> Refusal
         Fault::Table { air, lookup, fault } => table_refusal(*air, *lookup, fault),
         Fault::Traces { air, fault } => trace_refusal(*air, fault),
         Fault::Large { part, air, index } => placed(3, part_number(*part), *air, *index, 0, 0, 0),
+        Fault::Id { index } => placed(3, 11, 0, *index, 0, 0, 0),
+        Fault::Width => placed(3, 12, 0, 0, 0, 0, 0),
+        Fault::Text(_) => placed(27, 0, 0, 0, 0, 0, 0),
         Fault::Length {
             part,
             expected,

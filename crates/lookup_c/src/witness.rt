@@ -1,5 +1,5 @@
 //! Witnesses as a verifier gets them.
-ghost use Rattle.std.specs.Prelude.{◌≡◌, MatchResult, length};
+ghost use Rattle.std.specs.Prelude.{◌≡◌, MatchResult};
 ghost use Rattle.lookup_tables.specs.Traces.{makes_rows};
 ghost use Rattle.lookup_c.specs.Witnesses.{AreWitness, IsAuxiliaryRefusal, IsTerminalRefusal, IsWitnessRefusal, auxiliary_of, terminal_of};
 

@@ -3,3 +3,4 @@ pub mod Numbers
 pub mod Stack
 pub mod Tables
 pub mod Traces
+pub mod Written

@@ -1,7 +1,6 @@
 -- The stack of the reader of nodes.
-use Rattle.std.specs.Prelude.{ℕ, ◌+◌, Bool, true, false, nat_lt, if◌then◌else◌, max, List, [], ◌∷◌}
+use Rattle.std.specs.Prelude.{ℕ, Bool, true, false, nat_lt, if◌then◌else◌, max, List, [], ◌∷◌}
 use Rattle.std.specs.List.{flat_map}
-use Rattle.expressions.specs.Depth.{depth_of}
 use Rattle.expressions.specs.Tree.{tree_of}
 use Rattle.lookup_tables.specs.declared.nodes.Node.{Node}
 use Rattle.lookup_tables.specs.declared.part.Part.{Part}

@@ -12,7 +12,7 @@ use field::BabyBear;
 use std::alloc::Global;
 
 /// The deepest expression that is taken.
-const MOST_DEPTH: usize = 1024;
+pub(crate) const MOST_DEPTH: usize = 1024;
 
 /// Takes one node onto the stack.
 fn push_node(alloc: Global, stack: &mut Vec<Part>, node: &Node) -> Result<(), NodeFault>

@@ -14,7 +14,7 @@ use std::alloc::{AllocError, AllocFailed, Global};
 use thiserror::Error;
 
 /// The most nodes of one list of expressions.
-const MOST_NODES: usize = 1_048_576;
+pub(crate) const MOST_NODES: usize = 1_048_576;
 
 /// A range of a table: from `start` up to, but not including, `end`.
 #[repr(C)]
@@ -61,7 +61,7 @@ pub struct Tables<'a> {
     pub records: &'a [Record],
 }
 
-/// Why a record is no lookup.
+/// Why a record is no lookup, or a lookup cannot be written.
 #[derive(Debug, Drop, Error)]
 pub enum TableFault {
     /// Out of memory.
@@ -82,6 +82,12 @@ pub enum TableFault {
     /// The name of a bus is not UTF-8.
     #[error("the name of a bus is not UTF-8")]
     Name,
+    /// An expression that is written is more than 1024 deep.
+    #[error("an expression is more than 1024 deep")]
+    Deep,
+    /// A cell that is written is of a row whose number does not fit 32 bits.
+    #[error("the row of a cell does not fit 32 bits")]
+    Row,
 }
 
 impl From<AllocError> for TableFault {
