@@ -39,7 +39,7 @@ impl<F: Field> BatchPlan<F> {
     ghost use Rattle.batch.specs.Checks.{HaveEvenWidths, IsPlanRefusal};
     ghost use Rattle.batch.specs.Grids.{CountsPlanGrid, StaysWithinBound};
     ghost use Rattle.batch.specs.PlanBatches.{IsPlanBatch};
-    ghost use Rattle.batch.specs.Plans.{PassIsCounted, PassesOnlyPlain, Proves, ProvesBalanced, ProvesOnly, ProvesRegular, ProvesSatisfied, RefusesUnaccepted, Verifies, plan_batch};
+    ghost use Rattle.batch.specs.Plans.{PassIsCounted, VerifiesOnlyPlain, Proves, ProvesBalanced, ProvesOnly, ProvesRegular, ProvesSatisfied, RefusesOnlyUnaccepted, Verifies, plan_batch};
     ghost use Rattle.batch.specs.SoundnessCounts.{CountsPlan, CountsSoundly};
     ghost use Rattle.batch.specs.Tables.{made_table};
     ghost use Rattle.batch.specs.Traces.{IsTraceRefusal};
@@ -173,11 +173,11 @@ impl<F: Field> BatchPlan<F> {
             (made_table EF.ring alpha beta self.now.max_message_width self.now.num_ids)
             self.now.heights.items traces.now
             (plan_batch self.now.airs.items self.now.ids.items traces.now) witness.now result }
-        ensures refusal { RefusesUnaccepted ⟦<EF as Over<F>>⟧.fields
+        ensures refusal { RefusesOnlyUnaccepted ⟦<EF as Over<F>>⟧.fields
             (made_table EF.ring alpha beta self.now.max_message_width self.now.num_ids)
             self.now.heights.items traces.now
             (plan_batch self.now.airs.items self.now.ids.items traces.now) witness.now result }
-        ensures only { PassesOnlyPlain ⟦<EF as Over<F>>⟧.fields
+        ensures only { VerifiesOnlyPlain ⟦<EF as Over<F>>⟧.fields
             (made_table EF.ring alpha beta self.now.max_message_width self.now.num_ids)
             (plan_batch self.now.airs.items self.now.ids.items traces.now) witness.now result }
         ensures counted { PassIsCounted ⟦<EF as Over<F>>⟧.fields

@@ -1,6 +1,6 @@
 //! The memory check: from its AIRs to a plan, and from traces to an accepted witness.
-ghost use Rattle.std.specs.Prelude.{◌≡◌, [], ◌∷◌, None, IfErr, IfOk, OnOk};
-ghost use Rattle.batch.specs.Traces.{shown_of};
+ghost use Rattle.std.specs.Prelude.{◌≡◌, [], ◌∷◌, IfErr, IfOk, OnOk};
+ghost use Rattle.batch.specs.Traces.{main_alone, shown_of};
 ghost use Rattle.memory_check.specs.Memory.{SetsFit, IsAcceptedMemory, IsLookupsRefusal, IsMemoryPlanRefusal, IsMemoryRefusal, mains_of};
 
 use crate::airs::{AccessesAir, BoundaryAir, GapsAir};
@@ -91,7 +91,7 @@ pub fn check_memory<F: Field, EF: ExtensionField<F>>(
 
 /// A main trace without preprocessed trace and public values.
 fn alone<F>(main: &RowMajorMatrix<F>) -> BatchTrace<'_, F>
-    ensures { shown_of result ≡ (main.now, None, []) }
+    ensures { shown_of result ≡ main_alone main.now }
 {
     BatchTrace {
         main,

@@ -4,7 +4,7 @@ use Rattle.std.specs.List.{filter, flat_map}
 use Rattle.lookup_model.proofs.Branches.{mapped_at}
 use Rattle.lookup_model.proofs.RecordLaws.{All-at}
 use Rattle.lookup_debug.specs.Contributions.{IsFitting, Traced, traced_of}
-use Rattle.lookup_debug.specs.Groups.{is_on, placed_contributions, placed_in}
+use Rattle.lookup_debug.specs.Groups.{is_on, lookup_contributions, lookups_in}
 use Rattle.lookup_debug.specs.declared.instance.LookupDebugInstance.{LookupDebugInstance}
 use Rattle.lookup_debug.proofs.BusLaws.{numbered_all, step_instance}
 use Rattle.lookup_debug.proofs.walk.walk_bus.Goals as goal
@@ -32,8 +32,8 @@ loop-instance-preserved g c =
 
 pub returns : goal.returns
 returns g c =
-    let f = placed_contributions g.F.PrimeCharacteristicRing.ring g.F.PartialEq.eq in
+    let f = lookup_contributions g.F.PrimeCharacteristicRing.ring g.F.PartialEq.eq in
     let on = is_on c.args.name.now in
     let instances = c.args.instances.now in
     let ts = map traced_of instances in
-    subst (λ (ns : List (ℕ × Traced _)). g.V.RowVisitor.does c.args.visitor.now c.loop-instance.visitor (flat_map f (filter on (flat_map placed_in ns)))) (numbered_all ts c.loop-instance.instance (omega (arith, c.loop-instance-test.false, length-map instances traced_of))) c.loop-instance.invariant
+    subst (λ (ns : List (ℕ × Traced _)). g.V.RowVisitor.does c.args.visitor.now c.loop-instance.visitor (flat_map f (filter on (flat_map lookups_in ns)))) (numbered_all ts c.loop-instance.instance (omega (arith, c.loop-instance-test.false, length-map instances traced_of))) c.loop-instance.invariant
