@@ -15,7 +15,7 @@ use Rattle.lookup_tables.specs.Numbers.{quartic_of}
 use Rattle.lookup_tables.specs.Tables.{SayLookups}
 use Rattle.lookup_tables.specs.Traces.{main_trace, preprocessed_trace_of, public_values_of}
 use Rattle.lookup_tables.specs.declared.tables.Tables.{Tables}
-use Rattle.lookup_tables.specs.declared.traces.AirTraces.{AirTraces}
+use Rattle.lookup_tables.specs.declared.traces.ReadTraces.{ReadTraces}
 use Rattle.lookup_tables.specs.declared.traces.Traces.{Traces}
 use Rattle.lookup_c.specs.Batches.{AreBatchTraces, AreSets, IsAirsRefusal, IsBatchTracesRefusal, IsPlanOf, IsSetRefusal, Planned, ShowTraces, shown_numbers, shown_traces}
 use Rattle.lookup_c.specs.Generation.{Generates, GeneratesOver, IsGenerationRefusal, IsLookupsRefusal}
@@ -51,32 +51,32 @@ generates_tables E tables traces numbers answer lookups main preprocessed public
 -- a refused AIR is the first one, if those before it are not
 pub first_refused_air : (airs : List Air) (i : ℕ) (d : Air) (sets : List (Lookups BabyBear)) (fault : Fault) → i < length airs → AreSets (take i airs) sets → IsSetRefusal i (get_or airs i d).tables fault → IsAirsRefusal airs fault
 first_refused_air airs i d sets fault there before refusal =
-    inr (record { place = i; air = get_or airs i d; is_there = slice_get-get_or airs i d there; sets = sets; before = before; refusal = refusal })
+    inr (record { index = i; air = get_or airs i d; is_there = slice_get-get_or airs i d there; sets = sets; before = before; refusal = refusal })
 
 -- likewise of traces
-pub first_refused_traces : (traces : List Traces) (i : ℕ) (d : Traces) (all : List AirTraces) (fault : Fault) → i < length traces → AreBatchTraces (take i traces) all → IsTracesRefusal i (get_or traces i d) fault
+pub first_refused_traces : (traces : List Traces) (i : ℕ) (d : Traces) (all : List ReadTraces) (fault : Fault) → i < length traces → AreBatchTraces (take i traces) all → IsTracesRefusal i (get_or traces i d) fault
     → IsBatchTracesRefusal traces fault
 first_refused_traces traces i d all fault there before refusal =
-    inr (record { place = i; air = get_or traces i d; is_there = slice_get-get_or traces i d there; all = all; before = before; refusal = refusal })
+    inr (record { index = i; air = get_or traces i d; is_there = slice_get-get_or traces i d there; all = all; before = before; refusal = refusal })
 
 -- what a witness has for an AIR is refused
 pub refused_auxiliary : (numbers : List AirWitness) (i : ℕ) (d : AirWitness) (fault : Fault) → i < length numbers → IsAuxiliaryRefusal i (get_or numbers i d) fault → IsWitnessRefusal numbers fault
 refused_auxiliary numbers i d fault there refusal =
-    inr (record { place = i; air = get_or numbers i d; is_there = slice_get-get_or numbers i d there; refusal = inl refusal })
+    inr (record { index = i; air = get_or numbers i d; is_there = slice_get-get_or numbers i d there; refusal = inl refusal })
 
 pub refused_terminal : (numbers : List AirWitness) (i : ℕ) (d : AirWitness) (fault : Fault) → i < length numbers → IsTerminalRefusal i (get_or numbers i d).terminal fault → IsWitnessRefusal numbers fault
 refused_terminal numbers i d fault there refusal =
-    inr (record { place = i; air = get_or numbers i d; is_there = slice_get-get_or numbers i d there; refusal = inr refusal })
+    inr (record { index = i; air = get_or numbers i d; is_there = slice_get-get_or numbers i d there; refusal = inr refusal })
 
 -- what contracts see of traces that tables say
-shown_all : (traces : List Traces) (all : List AirTraces) → AreBatchTraces traces all → map shown_traces all ≡ map shown_numbers traces
+shown_all : (traces : List Traces) (all : List ReadTraces) → AreBatchTraces traces all → map shown_traces all ≡ map shown_numbers traces
 shown_all [] [] are = refl
 shown_all [] (a ∷ rest) are = absurd are
 shown_all (t ∷ ts) [] are = absurd are
 shown_all (t ∷ ts) (a ∷ rest) are =
     ap₂ (λ s ss. s ∷ ss) (λ i. (are.0.main i, are.0.preprocessed i, are.0.public_values i)) (shown_all ts rest are.1)
 
-pub shown_given : (traces : List Traces) (all : List AirTraces) (given : List (BatchTrace BabyBear)) → AreBatchTraces traces all → map shown_of given ≡ map shown_traces all → ShowTraces traces given
+pub shown_given : (traces : List Traces) (all : List ReadTraces) (given : List (BatchTrace BabyBear)) → AreBatchTraces traces all → map shown_of given ≡ map shown_traces all → ShowTraces traces given
 shown_given traces all given are shown = shown ∙ shown_all traces all are
 
 module _ (E : Extension BabyBear (Quartic BabyBear)) (airs : List Air) (traces : List Traces) (alpha beta : List ℕ) (plan : Planned) (given : List (BatchTrace BabyBear)) (a b : Quartic BabyBear)

@@ -1,9 +1,8 @@
 -- Batches that tables of numbers say.
-use Rattle.std.specs.Prelude.{◌≡◌, ◌⊎◌, ℕ, List, Option, Some, Err, map, slice_get, take}
+use Rattle.std.specs.Prelude.{◌≡◌, ◌⊎◌, ℕ, List, Some, map, slice_get, take}
 use Rattle.std.specs.List.{AllZip}
 use Rattle.std.specs.declared.alloc.Global.{Global}
 use Rattle.std.specs.declared.vec.Vec.{Vec}
-use Rattle.matrix.specs.Matrix.{Matrix}
 use Rattle.lookup_model.specs.Records.{IsFirstMalformed}
 use Rattle.lookup_model.specs.declared.error.LookupError.TheVariants.{BadRecord}
 use Rattle.lookup_model.specs.declared.types.Lookup.{Lookup}
@@ -18,11 +17,11 @@ use Rattle.batch.specs.declared.error.BatchError.TheVariants.{Memory as NoMemory
 use Rattle.batch.specs.declared.trace.BatchTrace.{BatchTrace}
 use Rattle.lookup_tables.specs.Nodes.{BabyBear}
 use Rattle.lookup_tables.specs.Tables.{SayLookups}
-use Rattle.lookup_tables.specs.Traces.{AreTracesOf, main_trace, preprocessed_trace_of, public_values_of}
+use Rattle.lookup_tables.specs.Traces.{AreTracesOf}
 use Rattle.lookup_tables.specs.declared.tables.Tables.{Tables}
-use Rattle.lookup_tables.specs.declared.traces.AirTraces.{AirTraces}
+use Rattle.lookup_tables.specs.declared.traces.ReadTraces.{ReadTraces}
 use Rattle.lookup_tables.specs.declared.traces.Traces.{Traces}
-use Rattle.lookup_c.specs.Inputs.{IsTableRefusal, IsTracesRefusal}
+use Rattle.lookup_c.specs.Inputs.{IsTableRefusal, IsTracesRefusal, said_traces}
 use Rattle.lookup_c.specs.declared.airs.Air.{Air}
 use Rattle.lookup_c.specs.declared.fault.Fault.{Fault}
 use Rattle.lookup_c.specs.declared.fault.Fault.TheVariants.{Batch, Lookup as OfLookup, Memory}
@@ -39,7 +38,7 @@ IsSetRefusal air tables fault =
 
 -- the refusal of the first AIR that has one
 pub record IsFirstRefusedAir (airs : List Air) (fault : Fault) : Type 0 where
-  pub place : ℕ
+  pub index : ℕ
   pub air : Air
   pub is_there : slice_get airs place ≡ Some air
   pub sets : List (Lookups BabyBear)
@@ -81,15 +80,15 @@ IsPlanningRefusal airs fault =
     × ((e : BatchError) × (fault ≡ Batch e) × ((e ≡ NoMemory) ⊎ IsPlanRefusal 2013265921 sets (heights_of airs) e)))
 
 -- the traces that tables say, AIR by AIR
-abbrev pub AreBatchTraces : List Traces → List AirTraces → Type 0
+abbrev pub AreBatchTraces : List Traces → List ReadTraces → Type 0
 AreBatchTraces traces all = AllZip AreTracesOf traces all
 
 -- the refusal of the first traces that have one
 pub record IsFirstRefusedTraces (traces : List Traces) (fault : Fault) : Type 0 where
-  pub place : ℕ
+  pub index : ℕ
   pub air : Traces
   pub is_there : slice_get traces place ≡ Some air
-  pub all : List AirTraces
+  pub all : List ReadTraces
   pub before : AreBatchTraces (take place traces) all
   pub refusal : IsTracesRefusal place air fault
 
@@ -97,13 +96,6 @@ pub record IsFirstRefusedTraces (traces : List Traces) (fault : Fault) : Type 0 
 abbrev pub IsBatchTracesRefusal : List Traces → Fault → Type 0
 IsBatchTracesRefusal traces fault = (fault ≡ Memory) ⊎ IsFirstRefusedTraces traces fault
 
--- what contracts see of the traces of an AIR: main, preprocessed, public values
-abbrev pub shown_traces : AirTraces → Matrix BabyBear × Option (Matrix BabyBear) × List BabyBear
-shown_traces air = (air.main, air.preprocessed, air.public_values.items)
-
-abbrev pub shown_numbers : Traces → Matrix BabyBear × Option (Matrix BabyBear) × List BabyBear
-shown_numbers traces = (main_trace traces, preprocessed_trace_of traces, public_values_of traces)
-
 -- a plan is given the traces that these tables say
 abbrev pub ShowTraces : List Traces → List (BatchTrace BabyBear) → Type 0
-ShowTraces traces given = map shown_of given ≡ map shown_numbers traces
+ShowTraces traces given = map shown_of given ≡ map said_traces traces

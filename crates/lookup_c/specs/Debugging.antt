@@ -1,13 +1,11 @@
 -- What the debug check answers from tables of numbers.
 use Rattle.std.specs.Prelude.{◌≡◌, ◌≢◌, ◌⊎◌, ℕ, Bool, List, Some, length, map, slice_get, take}
 use Rattle.std.specs.List.{AllZip, zip}
-use Rattle.std.specs.Option.{ForSome}
 use Rattle.std.specs.String.{string_bytes}
 use Rattle.std.specs.declared.alloc.Global.{Global}
 use Rattle.std.specs.declared.string.String.{String}
-use Rattle.expressions.specs.Layout.{layout_of_traces}
 use Rattle.field.specs.Ring.{Ring}
-use Rattle.matrix.specs.Matrix.{height}
+use Rattle.air.specs.Traces.{AreEven, layout_of}
 use Rattle.lookup.specs.Lookups.{lookups_of}
 use Rattle.lookup.specs.declared.lookups.Lookups.{Lookups}
 use Rattle.lookup_debug.specs.Contributions.{Traced}
@@ -18,8 +16,9 @@ use Rattle.lookup_model.specs.Records.{LookupsFit}
 use Rattle.lookup_tables.specs.Nodes.{BabyBear}
 use Rattle.lookup_tables.specs.Tables.{SayLookups}
 use Rattle.lookup_tables.specs.declared.tables.Tables.{Tables}
-use Rattle.lookup_tables.specs.declared.traces.AirTraces.{AirTraces}
+use Rattle.lookup_tables.specs.declared.traces.ReadTraces.{ReadTraces}
 use Rattle.lookup_tables.specs.declared.traces.Traces.{Traces}
+use Rattle.lookup_c.specs.Inputs.{shown_traces}
 use Rattle.lookup_c.specs.Batches.{AreBatchTraces, IsBatchTracesRefusal, IsSetRefusal}
 use Rattle.lookup_c.specs.declared.fault.Fault.{Fault}
 use Rattle.lookup_c.specs.declared.fault.Fault.TheVariants.{Heights, Length, Memory, Misfit, Mismatch}
@@ -31,7 +30,7 @@ AreTableSets airs sets = AllZip (λ tables set. SayLookups tables (lookups_of se
 
 -- the refusal of the first AIR that has one
 pub record IsFirstRefusedSet (airs : List Tables) (fault : Fault) : Type 0 where
-  pub place : ℕ
+  pub index : ℕ
   pub tables : Tables
   pub is_there : slice_get airs place ≡ Some tables
   pub sets : List (Lookups BabyBear)
@@ -43,26 +42,21 @@ abbrev pub IsTableSetsRefusal : List Tables → Fault → Type 0
 IsTableSetsRefusal airs fault = (fault ≡ Memory) ⊎ IsFirstRefusedSet airs fault
 
 -- the lookups of an AIR with its traces, and those of all AIRs
-abbrev pub traced_tables : Lookups BabyBear → AirTraces → Traced BabyBear
-traced_tables set traces = record {
-  main = traces.main;
-  preprocessed = traces.preprocessed;
-  public_values = traces.public_values.items;
-  lookups = lookups_of set;
-}
+abbrev pub traced_tables : Lookups BabyBear → ReadTraces → Traced BabyBear
+traced_tables set traces = record { traces = shown_traces traces; lookups = lookups_of set }
 
-abbrev pub all_traced : List (Lookups BabyBear) → List AirTraces → List (Traced BabyBear)
+abbrev pub all_traced : List (Lookups BabyBear) → List ReadTraces → List (Traced BabyBear)
 all_traced sets traces = map (λ t. traced_tables t.0 t.1) (zip sets traces)
 
 -- the lookups of an AIR do not fit its traces, or the preprocessed trace has another height
 abbrev pub IsMisfitAt : ℕ → Traced BabyBear → Fault → Type 0
 IsMisfitAt air t fault =
-    ((fault ≡ Misfit air) × (¬ LookupsFit (layout_of_traces t.main t.preprocessed t.public_values) t.lookups))
-    ⊎ ((fault ≡ Heights air) × (¬ ForSome t.preprocessed (λ m. height m ≡ height t.main)))
+    ((fault ≡ Misfit air) × (¬ LookupsFit (layout_of t.traces) t.lookups))
+    ⊎ ((fault ≡ Heights air) × (¬ AreEven t.traces))
 
 -- so it is of one of the AIRs
 pub record IsUnfitAmong (ts : List (Traced BabyBear)) (fault : Fault) : Type 0 where
-  pub place : ℕ
+  pub index : ℕ
   pub traced : Traced BabyBear
   pub is_there : slice_get ts place ≡ Some traced
   pub misfit : IsMisfitAt place traced fault
@@ -76,7 +70,7 @@ module _ (R : Ring BabyBear) (eq : BabyBear → BabyBear → Bool) where
   pub record ChecksTables (airs : List Tables) (traces : List Traces) : Type 0 where
     pub sets : List (Lookups BabyBear)
     pub sets_are : AreTableSets airs sets
-    pub all : List AirTraces
+    pub all : List ReadTraces
     pub all_are : AreBatchTraces traces all
     pub as_many : length traces ≡ length airs
     pub balance : AllBalance R eq (all_traced sets all)
@@ -92,7 +86,7 @@ module _ (R : Ring BabyBear) (eq : BabyBear → BabyBear → Bool) where
     pub record IsFoundUnbalanced (airs : List Tables) (traces : List Traces) (fault : Fault) : Type 0 where
       pub sets : List (Lookups BabyBear)
       pub sets_are : AreTableSets airs sets
-      pub all : List AirTraces
+      pub all : List ReadTraces
       pub all_are : AreBatchTraces traces all
       pub refusal : IsUnfitAmong (all_traced sets all) fault ⊎ IsCheckRefusal (all_traced sets all) fault
 

@@ -1,8 +1,9 @@
 -- What generation under the ids of a plan answers from tables of numbers.
-use Rattle.std.specs.Prelude.{◌≡◌, ◌≢◌, ◌⊎◌, ◌<◌, ◌≤◌, ℕ, List, Option, Some, length, slice_get}
+use Rattle.std.specs.Prelude.{◌≡◌, ◌≢◌, ◌⊎◌, ◌<◌, ◌≤◌, ℕ, List, Option, length}
 use Rattle.field.specs.Extension.{Extension}
 use Rattle.field.specs.Quartic.{Quartic}
 use Rattle.matrix.specs.Matrix.{Matrix}
+use Rattle.expressions.specs.Faults.{HasFirstFault}
 use Rattle.lookup_model.specs.Challenges.{column_challenges}
 use Rattle.lookup_model.specs.declared.types.Lookup.{Lookup}
 use Rattle.lookup_model.specs.declared.types.LookupTerminal.{LookupTerminal}
@@ -10,11 +11,10 @@ use Rattle.batch.specs.Tables.{made_table}
 use Rattle.lookup_tables.specs.Nodes.{BabyBear}
 use Rattle.lookup_tables.specs.Numbers.{quartic_of}
 use Rattle.lookup_tables.specs.Tables.{SayLookups}
-use Rattle.lookup_tables.specs.Traces.{main_trace, preprocessed_trace_of, public_values_of}
 use Rattle.lookup_tables.specs.declared.tables.Tables.{Tables}
 use Rattle.lookup_tables.specs.declared.traces.Traces.{Traces}
 use Rattle.lookup_c.specs.Generation.{GeneratesOver, IsLookupsRefusal}
-use Rattle.lookup_c.specs.Inputs.{IsChallengeRefusal, IsTableRefusal, IsTracesRefusal}
+use Rattle.lookup_c.specs.Inputs.{IsChallengeRefusal, IsTableRefusal, IsTracesRefusal, said_traces}
 use Rattle.lookup_c.specs.Outputs.{cells_of, terminal_numbers}
 use Rattle.lookup_c.specs.declared.fault.Fault.{Fault}
 use Rattle.lookup_c.specs.declared.fault.Fault.TheVariants.{Id, Length, Memory, Width}
@@ -22,14 +22,9 @@ use Rattle.lookup_c.specs.declared.fault.Part.TheVariants.{Alphas, Auxiliary, Be
 use Rattle.lookup_c.specs.declared.outputs.Terminal.{Terminal}
 use Rattle.lookup_c.specs.declared.planning.Plan.{Plan}
 
--- the refusal of an id that is not below the number of ids, where those before it are
-pub record IsFirstLargeId (ids : List ℕ) (num_ids : ℕ) (fault : Fault) : Type 0 where
-  pub place : ℕ
-  pub id : ℕ
-  pub is_there : slice_get ids place ≡ Some id
-  pub large : num_ids ≤ id
-  pub before : (k other : ℕ) → k < place → slice_get ids k ≡ Some other → other < num_ids
-  pub fault_is : fault ≡ Id place
+-- the refusal of the first id that is not below the number of ids
+abbrev pub IsFirstLargeId : List ℕ → ℕ → Fault → Type 0
+IsFirstLargeId ids num_ids fault = HasFirstFault (λ id. id < num_ids) (λ index id. (num_ids ≤ id) × (fault ≡ Id index)) ids
 
 -- the refusal of a width of zero, or of an id; or memory runs out
 abbrev pub IsIdsRefusal : List ℕ → Plan → Fault → Type 0
@@ -49,7 +44,7 @@ module _ (E : Extension BabyBear (Quartic BabyBear)) (tables : Tables) (traces :
     pub lookups : List (Lookup BabyBear)
     pub say : SayLookups tables lookups
     pub as_many : length ids ≡ length lookups
-    pub generates : GeneratesOver E (main_trace traces) (preprocessed_trace_of traces) (public_values_of traces) (challenges_by_ids E ids sizes alpha beta) lookups auxiliary terminal
+    pub generates : GeneratesOver E (said_traces traces) (challenges_by_ids E ids sizes alpha beta) lookups auxiliary terminal
 
   -- The refusal of the tables, of the traces, of a challenge, of the number of ids, of the sizes or an id, or
   -- of generation.
@@ -62,7 +57,7 @@ module _ (E : Extension BabyBear (Quartic BabyBear)) (tables : Tables) (traces :
       ⊎ (IsIdsRefusal ids sizes fault
       ⊎ ((lookups : List (Lookup BabyBear)) × SayLookups tables lookups
       × (((length ids ≢ length lookups) × (fault ≡ Length Ids (length lookups) (length ids)))
-      ⊎ IsLookupsRefusal E (main_trace traces) (preprocessed_trace_of traces) (public_values_of traces) (challenges_by_ids E ids sizes alpha beta) lookups fault))))))
+      ⊎ IsLookupsRefusal E (said_traces traces) (challenges_by_ids E ids sizes alpha beta) lookups fault))))))
 
   -- the numbers of what is generated
   pub record GeneratesByIdsNumbers (cells : List (List ℕ)) (ending : Terminal) : Type 0 where

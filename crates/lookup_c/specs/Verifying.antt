@@ -3,7 +3,7 @@ use Rattle.std.specs.Prelude.{◌≡◌, ◌⊎◌, ℕ, List, Ok, Err}
 use Rattle.field.specs.Quartic.{Quartic}
 use Rattle.lookup_model.specs.declared.witness.Witness.{Witness}
 use Rattle.field.specs.Extension.{Extension}
-use Rattle.batch.specs.Plans.{PassIsCounted, PassesOnlyPlain, RefusesUnaccepted, Verifies, plan_batch}
+use Rattle.batch.specs.Plans.{PassIsCounted, VerifiesOnlyPlain, RefusesOnlyUnaccepted, Verifies, plan_batch}
 use Rattle.batch.specs.Tables.{made_table}
 use Rattle.batch.specs.declared.error.BatchError.{BatchError}
 use Rattle.batch.specs.declared.trace.BatchTrace.{BatchTrace}
@@ -23,7 +23,7 @@ module _ (E : Extension BabyBear (Quartic BabyBear)) (plan : Planned) (traces : 
   -- A plan accepts this witness: what `BatchPlan::verify` says of it.
   pub record IsVerifiedBy : Type 0 where
     pub answer : Verifies E (made_table E.ring alpha beta plan.width plan.count) plan.heights traces (plan_batch plan.sets plan.ids traces) witness (Ok tt)
-    pub only : PassesOnlyPlain E (made_table E.ring alpha beta plan.width plan.count) (plan_batch plan.sets plan.ids traces) witness (Ok tt)
+    pub only : VerifiesOnlyPlain E (made_table E.ring alpha beta plan.width plan.count) (plan_batch plan.sets plan.ids traces) witness (Ok tt)
     pub counted : PassIsCounted E (plan_batch plan.sets plan.ids traces) alpha beta plan.width (Ok tt)
 
   -- a plan refuses this witness, or its traces, and why
@@ -31,7 +31,7 @@ module _ (E : Extension BabyBear (Quartic BabyBear)) (plan : Planned) (traces : 
     pub error : BatchError
     pub fault_is : fault ≡ Batch error
     pub answer : Verifies E (made_table E.ring alpha beta plan.width plan.count) plan.heights traces (plan_batch plan.sets plan.ids traces) witness (Err error)
-    pub unaccepted : RefusesUnaccepted E (made_table E.ring alpha beta plan.width plan.count) plan.heights traces (plan_batch plan.sets plan.ids traces) witness (Err error)
+    pub unaccepted : RefusesOnlyUnaccepted E (made_table E.ring alpha beta plan.width plan.count) plan.heights traces (plan_batch plan.sets plan.ids traces) witness (Err error)
 
 module _ (E : Extension BabyBear (Quartic BabyBear)) (airs : List Air) (traces : List Traces) (alpha beta : List ℕ) (numbers : List AirWitness) where
   -- The plan of the AIRs accepts the witness over the traces, all as the tables say them.

@@ -38,7 +38,7 @@ IsTerminalRefusal i t fault = (fault ≡ Large Terminals i 0) × (t.present ≢ 
 
 -- the refusal of what a witness has for an AIR
 pub record IsRefusedAt (numbers : List AirWitness) (fault : Fault) : Type 0 where
-  pub place : ℕ
+  pub index : ℕ
   pub air : AirWitness
   pub is_there : slice_get numbers place ≡ Some air
   pub refusal : IsAuxiliaryRefusal place air fault ⊎ IsTerminalRefusal place air.terminal fault

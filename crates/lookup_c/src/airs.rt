@@ -3,14 +3,15 @@ ghost use Rattle.std.specs.Prelude.{◌≡◌, IfOk, MatchResult, map};
 ghost use Rattle.batch.specs.Traces.{shown_of};
 ghost use Rattle.lookup.specs.Lookups.{lookups_of};
 ghost use Rattle.lookup_tables.specs.Tables.{SayLookups};
-ghost use Rattle.lookup_c.specs.Batches.{AreBatchTraces, AreSets, IsAirsRefusal, IsBatchTracesRefusal, IsPlanOf, IsPlanningRefusal, IsSetRefusal, planned, shown_traces};
+ghost use Rattle.lookup_c.specs.Batches.{AreBatchTraces, AreSets, IsAirsRefusal, IsBatchTracesRefusal, IsPlanOf, IsPlanningRefusal, IsSetRefusal, planned};
+ghost use Rattle.lookup_c.specs.Inputs.{shown_traces};
 
 use crate::fault::Fault;
 use crate::inputs::{lookups_of, traces_of};
 use batch::{BatchPlan, BatchTrace};
 use field::BabyBear;
 use lookup::Lookups;
-use lookup_tables::{AirTraces, Tables, Traces};
+use lookup_tables::{ReadTraces, Tables, Traces};
 use std::alloc::{AllocError, Global};
 
 /// An AIR of a batch, as it is known before its traces are.
@@ -83,7 +84,7 @@ pub(crate) fn plan_of(alloc: Global, airs: &[Air<'_>]) -> Result<BatchPlan<BabyB
 }
 
 /// The traces that the tables of all AIRs say, in order.
-pub(crate) fn all_traces(alloc: Global, traces: &[Traces<'_>]) -> Result<Vec<AirTraces>, Fault>
+pub(crate) fn all_traces(alloc: Global, traces: &[Traces<'_>]) -> Result<Vec<ReadTraces>, Fault>
     ensures { MatchResult result (λ v. AreBatchTraces traces.now v.items)
         (IsBatchTracesRefusal traces.now) }
 {
@@ -100,7 +101,7 @@ pub(crate) fn all_traces(alloc: Global, traces: &[Traces<'_>]) -> Result<Vec<Air
 /// What a plan is given of traces.
 pub(crate) fn plan_traces<'a>(
     alloc: Global,
-    traces: &'a [AirTraces],
+    traces: &'a [ReadTraces],
 ) -> Result<Vec<BatchTrace<'a, BabyBear>>, AllocError>
     ensures { IfOk result (λ v. map shown_of v.items ≡ map shown_traces traces.now) }
 {

@@ -12,7 +12,7 @@ use expressions::AirLayout;
 use field::{BabyBear, Field, PrimeCharacteristicRing};
 use lookup::debug_util::{LookupDebugInstance, LookupFault, check_lookups};
 use lookup::{Lookups, fits};
-use lookup_tables::{AirTraces, Tables, Traces};
+use lookup_tables::{ReadTraces, Tables, Traces};
 use std::alloc::Global;
 
 /// The sets of lookups that tables say, AIR by AIR.
@@ -36,7 +36,7 @@ fn table_sets(alloc: Global, airs: &[Tables<'_>]) -> Result<Vec<Lookups<BabyBear
 fn debug_instance<'a>(
     air: usize,
     set: &'a Lookups<BabyBear>,
-    traces: &'a AirTraces,
+    traces: &'a ReadTraces,
 ) -> Result<LookupDebugInstance<'a, BabyBear>, Fault>
     ensures { MatchResult result
         (λ i. (traced_of i ≡ traced_tables set.now traces.now) × IsFitting (traced_of i))
@@ -68,7 +68,7 @@ fn debug_instance<'a>(
 fn debug_instances<'a>(
     alloc: Global,
     sets: &'a [Lookups<BabyBear>],
-    traces: &'a [AirTraces],
+    traces: &'a [ReadTraces],
 ) -> Result<Vec<LookupDebugInstance<'a, BabyBear>>, Fault>
     requires { length sets.now ≡ length traces.now }
     ensures { MatchResult result

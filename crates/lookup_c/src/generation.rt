@@ -1,7 +1,7 @@
 //! Generation of one AIR over what its tables say.
 ghost use Rattle.std.specs.Prelude.{MatchResult};
-ghost use Rattle.std.specs.Option.{option_copied};
 ghost use Rattle.lookup_c.specs.Generation.{Generates, GeneratesOver, IsGenerationRefusal, IsLookupsRefusal};
+ghost use Rattle.lookup_c.specs.Inputs.{shown_traces};
 
 use crate::fault::{Fault, Part};
 use crate::inputs::{list_of, lookups_of, traces_of};
@@ -9,7 +9,7 @@ use expressions::AirLayout;
 use field::{BabyBear, BabyBear4, Over};
 use lookup::{Lookup, LookupError, LookupTerminal, fits};
 use lookup_generation::generate_permutation;
-use lookup_tables::{Tables, Traces};
+use lookup_tables::{ReadTraces, Tables, Traces};
 use matrix::RowMajorMatrix;
 use std::alloc::Global;
 
@@ -21,21 +21,21 @@ pub(crate) struct Generated {
 }
 
 /// Generates over lookups.
-pub(crate) fn generate<'a>(
+pub(crate) fn generate(
     alloc: Global,
-    main: &'a RowMajorMatrix<BabyBear>,
-    preprocessed: Option<&'a RowMajorMatrix<BabyBear>>,
-    public_values: &[BabyBear],
+    traces: &ReadTraces,
     lookups: &[Lookup<BabyBear>],
     challenges: &[BabyBear4],
 ) -> Result<Generated, Fault>
     ensures { let E = ⟦<BabyBear4 as Over<BabyBear>>⟧.fields in
         MatchResult result
-        (λ g. GeneratesOver E main.now (option_copied preprocessed.entry) public_values.now
-        challenges.now lookups.now g.auxiliary g.terminal)
-        (IsLookupsRefusal E main.now (option_copied preprocessed.entry) public_values.now
-        challenges.now lookups.now) }
+        (λ g. GeneratesOver E (shown_traces traces.now) challenges.now lookups.now g.auxiliary
+        g.terminal)
+        (IsLookupsRefusal E (shown_traces traces.now) challenges.now lookups.now) }
 {
+    let main = &traces.main;
+    let preprocessed = traces.preprocessed.as_ref();
+    let public_values = traces.public_values.as_slice();
     let layout = AirLayout::of_traces(main, preprocessed, public_values);
     if !fits(lookups, &layout) {
         return Err(Fault::Misfit { air: 0 });
@@ -52,14 +52,12 @@ pub(crate) fn generate<'a>(
             actual: challenges.len(),
         });
     }
-    match generate_permutation(
-        alloc,
+    let traces = air::Traces {
         main,
         preprocessed,
         public_values,
-        lookups,
-        challenges,
-    ) {
+    };
+    match generate_permutation(alloc, &traces, lookups, challenges) {
         Ok((auxiliary, terminal)) => Ok(Generated {
             auxiliary,
             terminal,
@@ -87,12 +85,5 @@ pub(crate) fn generated_from(
     let lookups = lookups_of(alloc, 0, tables)?;
     let traces = traces_of(alloc, 0, traces)?;
     let challenges = list_of(alloc, Part::Challenges, 0, challenges)?;
-    generate(
-        alloc,
-        &traces.main,
-        traces.preprocessed.as_ref(),
-        &traces.public_values,
-        &lookups,
-        &challenges,
-    )
+    generate(alloc, &traces, &lookups, &challenges)
 }

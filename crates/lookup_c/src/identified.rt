@@ -90,14 +90,7 @@ fn generated_by_ids(
         });
     }
     let challenges = challenges_of_ids(alloc, ids, sizes, alpha, beta)?;
-    generate(
-        alloc,
-        &traces.main,
-        traces.preprocessed.as_ref(),
-        &traces.public_values,
-        &lookups,
-        &challenges,
-    )
+    generate(alloc, &traces, &lookups, &challenges)
 }
 
 /// What is generated, for room for so many cells.

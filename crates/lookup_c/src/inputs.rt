@@ -9,7 +9,7 @@ use crate::fault::{Fault, Part};
 use field::{BabyBear, BabyBear4};
 use lookup::Lookup;
 use lookup_tables::{
-    AirTraces, NumberFault, TableFault, Tables, TraceFault, Traces, extension, extensions,
+    NumberFault, ReadTraces, TableFault, Tables, TraceFault, Traces, extension, extensions,
     read_lookups, read_traces,
 };
 use std::alloc::Global;
@@ -31,7 +31,7 @@ pub(crate) fn lookups_of(
 }
 
 /// The traces that the tables of an AIR say.
-pub(crate) fn traces_of(alloc: Global, air: usize, traces: &Traces<'_>) -> Result<AirTraces, Fault>
+pub(crate) fn traces_of(alloc: Global, air: usize, traces: &Traces<'_>) -> Result<ReadTraces, Fault>
     ensures { MatchResult result (AreTracesOf traces.now) (IsTracesRefusal air traces.now) }
 {
     match read_traces(alloc, traces) {

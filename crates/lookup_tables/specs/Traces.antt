@@ -4,7 +4,7 @@ use Rattle.field.specs.BabyBear.{baby_bear_of}
 use Rattle.matrix.specs.Matrix.{Matrix}
 use Rattle.lookup_tables.specs.Nodes.{BabyBear}
 use Rattle.lookup_tables.specs.Numbers.{IsFirstLarge}
-use Rattle.lookup_tables.specs.declared.traces.AirTraces.{AirTraces}
+use Rattle.lookup_tables.specs.declared.traces.ReadTraces.{ReadTraces}
 use Rattle.lookup_tables.specs.declared.traces.TraceFault.{TraceFault}
 use Rattle.lookup_tables.specs.declared.traces.TraceFault.TheVariants.{Memory, Large, Ragged}
 use Rattle.lookup_tables.specs.declared.traces.TracePart.{TracePart}
@@ -38,7 +38,7 @@ abbrev pub public_values_of : Traces → List BabyBear
 public_values_of t = elements_of t.public_values.now
 
 -- these are the traces that the tables say
-pub record AreTracesOf (tables : Traces) (traces : AirTraces) : Type 0 where
+pub record AreTracesOf (tables : Traces) (traces : ReadTraces) : Type 0 where
   pub main : traces.main ≡ main_trace tables
   pub preprocessed : traces.preprocessed ≡ preprocessed_trace_of tables
   pub public_values : traces.public_values.items ≡ public_values_of tables

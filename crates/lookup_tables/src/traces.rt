@@ -26,9 +26,9 @@ pub struct Traces<'a> {
     pub public_values: &'a [u32],
 }
 
-/// The traces and the public values of one AIR.
+/// The traces and the public values of one AIR, as they are read.
 #[derive(Drop)]
-pub struct AirTraces {
+pub struct ReadTraces {
     /// The main trace.
     pub main: RowMajorMatrix<BabyBear>,
     /// The preprocessed trace, if there is one.
@@ -151,14 +151,14 @@ fn preprocessed_trace(
 /// Refuses, of the main trace, the preprocessed trace and then the public values, the first part with a
 /// fault: a trace that makes no whole rows, and then the first number that is not below the modulus. Also
 /// fails when out of memory.
-pub fn read_traces(alloc: Global, traces: &Traces<'_>) -> Result<AirTraces, TraceFault>
+pub fn read_traces(alloc: Global, traces: &Traces<'_>) -> Result<ReadTraces, TraceFault>
     ensures { MatchResult result (AreTracesOf traces.now) (IsTraceFault traces.now) }
 {
     let main = trace(alloc, TracePart::Main, traces.main, traces.main_width)?;
     let width = traces.preprocessed_width;
     let preprocessed = preprocessed_trace(alloc, traces.preprocessed, width)?;
     let public_values = part_elements(alloc, TracePart::PublicValues, traces.public_values)?;
-    Ok(AirTraces {
+    Ok(ReadTraces {
         main,
         preprocessed,
         public_values,
