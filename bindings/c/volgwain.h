@@ -124,7 +124,9 @@ enum {
     VOLGWAIN_OUT_OF_MEMORY = 1,
     VOLGWAIN_BAD_TABLE = 2,     /* air, lookup: the first record that is no lookup. part: 1 a node, and row
                                    is its index; 2 a range past its table; 3 a list of too many nodes; 4 a
-                                   kind that is neither 0 nor 1; 5 a name that is not UTF-8 */
+                                   kind that is neither 0 nor 1; 5 a name that is not UTF-8. Or the first
+                                   lookup that no tables say. part: 3 as above; 6 an expression that is too
+                                   deep; 7 a row that does not fit 32 bits */
     VOLGWAIN_BAD_NUMBER = 3,    /* part, air, row: the index of a number, or of a group of four, that is not
                                    below the modulus; of an id, that is not below num_ids; of the sizes of a
                                    plan, 0: max_message_width is 0 */
@@ -242,8 +244,8 @@ struct volgwain_table_sizes {
    The packed lookups send the same messages on every row, so they balance as those before do, and every
    terminal stays. Pack each AIR before the batch is planned; prover and verifier have to pack alike.
 
-   Refuses, in this order: 2, 11, 13 of a bus, 24 or 25 where a lookup is joined, 6, 2 of a packed lookup
-   with a list of too many nodes, and 4 of the nodes, tuples, names and records. Or 1. */
+   Refuses, in this order: 2, 11, 13 of a bus, 24 or 25 where a lookup is joined, 2 of a packed lookup with a
+   list of too many nodes, and 4 of the nodes, tuples, names and records. Or 1. */
 uint32_t volgwain_pack(const struct volgwain_tables *tables, size_t max_degree,
     struct volgwain_node *nodes, size_t nodes_length,
     struct volgwain_span *tuples, size_t tuples_length,
@@ -258,8 +260,8 @@ uint32_t volgwain_pack(const struct volgwain_tables *tables, size_t max_degree,
    nodes, tuples, names, records: the tables of the lookups that were read. Each array is at least as long as
    what is written, and sizes says how much that is. Never more items than json has bytes.
 
-   Refuses, in this order: 27, 11, 6, 2 of a lookup with a list of too many nodes, and 4 of the nodes, tuples,
-   names and records. Or 1, also where memory runs out while the text is read. */
+   Refuses, in this order: 27, 11, 2 of a lookup that no tables say, and 4 of the nodes, tuples, names and
+   records. Or 1, also where memory runs out while the text is read. */
 uint32_t volgwain_read_json(const char *json, size_t json_length,
     struct volgwain_node *nodes, size_t nodes_length,
     struct volgwain_span *tuples, size_t tuples_length,
@@ -311,7 +313,7 @@ uint32_t volgwain_plan(const struct volgwain_air *airs, size_t airs_length,
    With what volgwain_plan gave, the AIRs of a batch can be generated on threads of the caller's own, and make
    the witness of volgwain_prove.
 
-   Refuses, in this order: 2, 5 and 3 of a trace, 3 of alpha and then beta, 3 of the sizes, 4 of the ids, 3 of
+   Refuses, in this order: 2, 5 and 3 of a trace, 3 of alpha and then beta, 4 of the ids, 3 of the sizes, 3 of
    an id, 6, 7, the first of 8, 9 and 10 in the order row, lookup, and 4 of the auxiliary trace. Or 1. */
 uint32_t volgwain_generate_by_ids(const struct volgwain_tables *tables,
     const struct volgwain_traces *traces,

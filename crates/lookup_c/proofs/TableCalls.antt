@@ -1,25 +1,28 @@
 -- What calls over elements answer, as answers over tables of numbers.
-use Rattle.std.proofs.Common.{◌≡◌, ◌∙◌, ◌∷◌, ◌<◌, [], ℕ, List, Option, MatchResult, Result, ap₂, get_or, inl, inr, length, map, refl, subst, take}
+use Rattle.std.proofs.Common.{◌≡◌, ◌∙◌, ◌∷◌, ◌<◌, [], ℕ, List, MatchResult, Result, ap₂, get_or, inl, inr, length, map, refl, subst, subst₂, take}
 use Rattle.std.proofs.lemmas.Option.{slice_get-get_or}
 use Rattle.std.proofs.lemmas.Result.{MatchResult-weaker}
 use Rattle.field.specs.Quartic.{Quartic}
-use Rattle.matrix.specs.Matrix.{Matrix}
+use Rattle.air.specs.Traces.{AirTraces, air_traces}
+use Rattle.batch.specs.Tables.{made_table}
 use Rattle.batch.specs.Traces.{shown_of}
 use Rattle.batch.specs.declared.trace.BatchTrace.{BatchTrace}
 use Rattle.lookup_model.specs.declared.witness.Witness.{Witness}
 use Rattle.lookup.specs.declared.lookups.Lookups.{Lookups}
 use Rattle.field.specs.Extension.{Extension}
+use Rattle.lookup_model.specs.Challenges.{column_challenges}
 use Rattle.lookup_model.specs.declared.types.Lookup.{Lookup}
 use Rattle.lookup_tables.specs.Nodes.{BabyBear}
 use Rattle.lookup_tables.specs.Numbers.{quartic_of}
 use Rattle.lookup_tables.specs.Tables.{SayLookups}
-use Rattle.lookup_tables.specs.Traces.{main_trace, preprocessed_trace_of, public_values_of}
+use Rattle.lookup_tables.specs.Traces.{AreTracesOf}
 use Rattle.lookup_tables.specs.declared.tables.Tables.{Tables}
 use Rattle.lookup_tables.specs.declared.traces.ReadTraces.{ReadTraces}
 use Rattle.lookup_tables.specs.declared.traces.Traces.{Traces}
-use Rattle.lookup_c.specs.Batches.{AreBatchTraces, AreSets, IsAirsRefusal, IsBatchTracesRefusal, IsPlanOf, IsSetRefusal, Planned, ShowTraces, shown_numbers, shown_traces}
+use Rattle.lookup_c.specs.Batches.{AreBatchTraces, AreSets, IsAirsRefusal, IsBatchTracesRefusal, IsPlanOf, IsSetRefusal, Planned, ShowTraces}
 use Rattle.lookup_c.specs.Generation.{Generates, GeneratesOver, IsGenerationRefusal, IsLookupsRefusal}
-use Rattle.lookup_c.specs.Inputs.{IsTracesRefusal}
+use Rattle.lookup_c.specs.Identified.{GeneratesByIds, IsByIdsRefusal, challenges_by_ids}
+use Rattle.lookup_c.specs.Inputs.{IsTracesRefusal, said_traces, shown_traces}
 use Rattle.lookup_c.specs.Proving.{IsProveRefusal, IsProvedBy, IsProvingRefusal, ProvesTables}
 use Rattle.lookup_c.specs.Verifying.{IsVerifiedBy, IsVerifyRefusal, IsVerifyingRefusal, VerifiesTables}
 use Rattle.lookup_c.specs.Witnesses.{AreWitness, IsAuxiliaryRefusal, IsTerminalRefusal, IsWitnessRefusal}
@@ -27,26 +30,43 @@ use Rattle.lookup_c.specs.declared.airs.Air.{Air}
 use Rattle.lookup_c.specs.declared.fault.Fault.{Fault}
 use Rattle.lookup_c.specs.declared.witness.AirWitness.{AirWitness}
 use Rattle.lookup_c.specs.declared.generation.Generated.{Generated}
+use Rattle.lookup_c.specs.declared.planning.Plan.{Plan}
+
+-- what is read is what the numbers say
+pub said : (numbers : Traces) (traces : ReadTraces) → AreTracesOf numbers traces → shown_traces traces ≡ said_traces numbers
+said numbers traces are i = air_traces (are.main i) (are.preprocessed i) (are.public_values i)
 
 -- what generation over elements answers
-abbrev AnswersOver : Extension BabyBear (Quartic BabyBear) → Result Generated Fault → List (Lookup BabyBear) → Matrix BabyBear → Option (Matrix BabyBear) → List BabyBear → List (Quartic BabyBear) → Type 0
-AnswersOver E answer lookups main preprocessed public_values challenges =
-    MatchResult answer (λ g. GeneratesOver E main preprocessed public_values challenges lookups g.auxiliary g.terminal) (IsLookupsRefusal E main preprocessed public_values challenges lookups)
+abbrev AnswersOver : Extension BabyBear (Quartic BabyBear) → Result Generated Fault → List (Lookup BabyBear) → AirTraces BabyBear → List (Quartic BabyBear) → Type 0
+AnswersOver E answer lookups traces challenges =
+    MatchResult answer (λ g. GeneratesOver E traces challenges lookups g.auxiliary g.terminal) (IsLookupsRefusal E traces challenges lookups)
 
 -- the same over tables of numbers
 pub generates_tables : (E : Extension BabyBear (Quartic BabyBear)) (tables : Tables) (traces : Traces) (numbers : List (List ℕ)) (answer : Result Generated Fault) (lookups : List (Lookup BabyBear))
-    (main : Matrix BabyBear) (preprocessed : Option (Matrix BabyBear)) (public_values : List BabyBear) (challenges : List (Quartic BabyBear))
-    → SayLookups tables lookups → main ≡ main_trace traces → preprocessed ≡ preprocessed_trace_of traces → public_values ≡ public_values_of traces → challenges ≡ map quartic_of numbers
-    → AnswersOver E answer lookups main preprocessed public_values challenges
+    (read : ReadTraces) (challenges : List (Quartic BabyBear))
+    → SayLookups tables lookups → AreTracesOf traces read → challenges ≡ map quartic_of numbers
+    → AnswersOver E answer lookups (shown_traces read) challenges
     → MatchResult answer (λ g. Generates E tables traces numbers g.auxiliary g.terminal) (IsGenerationRefusal E tables traces numbers)
-generates_tables E tables traces numbers answer lookups main preprocessed public_values challenges say main_is preprocessed_is public_values_are challenges_are over =
-    let with_main = subst (λ (m : Matrix BabyBear). AnswersOver E answer lookups m preprocessed public_values challenges) main_is over in
-    let with_preprocessed = subst (λ (m : Option (Matrix BabyBear)). AnswersOver E answer lookups (main_trace traces) m public_values challenges) preprocessed_is with_main in
-    let with_values = subst (λ (vs : List BabyBear). AnswersOver E answer lookups (main_trace traces) (preprocessed_trace_of traces) vs challenges) public_values_are with_preprocessed in
-    let whole = subst (λ (cs : List (Quartic BabyBear)). AnswersOver E answer lookups (main_trace traces) (preprocessed_trace_of traces) (public_values_of traces) cs) challenges_are with_values in
+generates_tables E tables traces numbers answer lookups read challenges say are challenges_are over =
+    let whole = subst₂ (λ (t : AirTraces BabyBear) (cs : List (Quartic BabyBear)). AnswersOver E answer lookups t cs) (said traces read are) challenges_are over in
     MatchResult-weaker answer whole
     (λ g generates. record { lookups = lookups; say = say; generates = generates })
     (λ fault refusal. inr (inr (inr (lookups, say, refusal))))
+
+-- and under ids
+pub generates_by_ids : (E : Extension BabyBear (Quartic BabyBear)) (tables : Tables) (traces : Traces) (ids : List ℕ) (sizes : Plan) (alpha beta : List ℕ) (answer : Result Generated Fault) (lookups : List (Lookup BabyBear))
+    (read : ReadTraces) (challenges : List (Quartic BabyBear)) (a b : Quartic BabyBear)
+    → SayLookups tables lookups → AreTracesOf traces read → a ≡ quartic_of alpha → b ≡ quartic_of beta → length ids ≡ length lookups
+    → challenges ≡ column_challenges (made_table E.ring a b sizes.max_message_width sizes.num_ids) ids
+    → AnswersOver E answer lookups (shown_traces read) challenges
+    → MatchResult answer (λ g. GeneratesByIds E tables traces ids sizes alpha beta g.auxiliary g.terminal) (IsByIdsRefusal E tables traces ids sizes alpha beta)
+generates_by_ids E tables traces ids sizes alpha beta answer lookups read challenges a b say are a_is b_is as_many challenges_are over =
+    let challenges_by : challenges ≡ challenges_by_ids E ids sizes alpha beta =
+    challenges_are ∙ (λ i. column_challenges (made_table E.ring (a_is i) (b_is i) sizes.max_message_width sizes.num_ids) ids) in
+    let whole = subst₂ (λ (t : AirTraces BabyBear) (cs : List (Quartic BabyBear)). AnswersOver E answer lookups t cs) (said traces read are) challenges_by over in
+    MatchResult-weaker answer whole
+    (λ g generates. record { lookups = lookups; say = say; as_many = as_many; generates = generates })
+    (λ fault refusal. inr (inr (inr (inr (inr (lookups, say, inr refusal))))))
 
 -- a refused AIR is the first one, if those before it are not
 pub first_refused_air : (airs : List Air) (i : ℕ) (d : Air) (sets : List (Lookups BabyBear)) (fault : Fault) → i < length airs → AreSets (take i airs) sets → IsSetRefusal i (get_or airs i d).tables fault → IsAirsRefusal airs fault
@@ -69,12 +89,12 @@ refused_terminal numbers i d fault there refusal =
     inr (record { index = i; air = get_or numbers i d; is_there = slice_get-get_or numbers i d there; refusal = inr refusal })
 
 -- what contracts see of traces that tables say
-shown_all : (traces : List Traces) (all : List ReadTraces) → AreBatchTraces traces all → map shown_traces all ≡ map shown_numbers traces
+shown_all : (traces : List Traces) (all : List ReadTraces) → AreBatchTraces traces all → map shown_traces all ≡ map said_traces traces
 shown_all [] [] are = refl
 shown_all [] (a ∷ rest) are = absurd are
 shown_all (t ∷ ts) [] are = absurd are
 shown_all (t ∷ ts) (a ∷ rest) are =
-    ap₂ (λ s ss. s ∷ ss) (λ i. (are.0.main i, are.0.preprocessed i, are.0.public_values i)) (shown_all ts rest are.1)
+    ap₂ (λ s ss. s ∷ ss) (said t a are.0) (shown_all ts rest are.1)
 
 pub shown_given : (traces : List Traces) (all : List ReadTraces) (given : List (BatchTrace BabyBear)) → AreBatchTraces traces all → map shown_of given ≡ map shown_traces all → ShowTraces traces given
 shown_given traces all given are shown = shown ∙ shown_all traces all are

@@ -5,4 +5,5 @@ pub mod TableLaws
 pub mod TablesOnce
 pub mod TraceLaws
 pub mod Unique
+pub mod WriterLaws
 pub mod ZipLaws
