@@ -155,7 +155,7 @@ impl<F: Field> BatchPlan<F> {
     /// Whether a witness is accepted over these traces, at a pair of challenges; see
     /// [`check_witness`](checker::check_witness).
     ///
-    /// If it is, alpha is one of those that [`soundness_count`](checker::soundness_count) counts. If
+    /// If it is, alpha is one of those that [`soundness_count`](BatchPlan::soundness_count) counts. If
     /// all flags are lawful and no denominator vanishes, only the witness of `prove` can be.
     ///
     /// Refuses traces as `prove` does, then `LengthMismatch` if the auxiliary traces or the terminals
@@ -197,8 +197,9 @@ impl<F: Field> BatchPlan<F> {
         Ok(())
     }
 
-    /// How many messages the batch over these traces has, how many of them do not balance, and at how few
-    /// challenges of `EF` it can still be accepted; see [`soundness_count`](checker::soundness_count).
+    /// How many distinct messages the batch over these traces has, how many of them do not balance, and
+    /// at how few challenges of `EF` it can still be accepted; see
+    /// [`soundness_count`](checker::soundness_count).
     ///
     /// Refuses traces as `prove` does, then `Air` with the first fault of flags, then `CountOverflow` if
     /// `W * k * (k - 1) / 2` does not fit `u128`, where `k` messages do not balance and `W` is
@@ -225,7 +226,7 @@ impl<F: Field> BatchPlan<F> {
     ///
     /// Refuses traces as `prove` does, then `RepeatedChallenge` if the alphas or the betas have one of
     /// them twice, then `Air` with the first fault of flags, as
-    /// [`soundness_count`](checker::soundness_count) does, then `CountOverflow` if some messages do not
+    /// [`soundness_count`](BatchPlan::soundness_count) does, then `CountOverflow` if some messages do not
     /// balance and `W * k * (k - 1) / 2` or the bound does not fit `u128`. Also fails when out of memory.
     pub fn grid_count<EF: ExtensionField<F>>(
         &self,

@@ -24,7 +24,7 @@ use Rattle.lookup_model.specs.Trace.{sent_row_under}
 use Rattle.lookup_model.specs.Batches.Instances.{Instance}
 use Rattle.lookup_model.specs.Batches.Messages.{batch_messages, id_of, sent_rows_of}
 use Rattle.lookup.specs.Guards.{weighted_height, weighted_height_sum}
-use Rattle.lookup.specs.Weights.{HeightLaws, IsPartOf, Role, RowKeepsWeights, TraceKeepsWeights, all_parts, provided_keys, query_sum, size_of}
+use Rattle.lookup.specs.Weights.{HeightLaws, HasRole, Role, RowKeepsWeights, TraceKeepsWeights, all_roles, provided_keys, query_sum, size_of}
 
 module _ {A : Type 0} {R : Ring A} (laws : IsCommutativeRing R) where
   -- a signed number is a difference of two
@@ -70,7 +70,7 @@ module _ {F : Type 0} {R : Ring F} (laws : IsCommutativeRing R) (eq : F → F �
   NoneProvided marked = IsAmong key (provided_keys marked) → ⊥
 
   -- then the net is the sum of the query numbers
-  net_is : (ms : List (Message F)) (ps : List Role) → AllZip (IsPartOf R) ms ps → NoneProvided (zip ms ps) → net R eq ms key ≡ of_int R (query_sum eq key (zip ms ps))
+  net_is : (ms : List (Message F)) (ps : List Role) → AllZip (HasRole R) ms ps → NoneProvided (zip ms ps) → net R eq ms key ≡ of_int R (query_sum eq key (zip ms ps))
   unfolding of_nat
   net_is [] [] each none = refl
   net_is [] (p ∷ ps) each none = absurd each
@@ -107,7 +107,7 @@ module _ {F : Type 0} {R : Ring F} (laws : IsCommutativeRing R) (eq : F → F �
       by_test false e (inr absent) = inr (λ s. elim s [ inl same ↦ cc (e, (decides key k).1 same) | inr there ↦ absent there ])
 
   -- the law over one list of messages
-  pub provided_key : (p : ℕ) → HasCharacteristic R p → (ms : List (Message F)) (ps : List Role) → AllZip (IsPartOf R) ms ps → sum_by size_of ps < p → IsBalanced R eq ms → query_sum eq key (zip ms ps) ≢ pos 0 → IsAmong key (provided_keys (zip ms ps))
+  pub provided_key : (p : ℕ) → HasCharacteristic R p → (ms : List (Message F)) (ps : List Role) → AllZip (HasRole R) ms ps → sum_by size_of ps < p → IsBalanced R eq ms → query_sum eq key (zip ms ps) ≢ pos 0 → IsAmong key (provided_keys (zip ms ps))
   provided_key p char ms ps each light balanced ne = elim (is_among (provided_keys (zip ms ps))) [
     | inl there ↦ there
     | inr absent ↦ absurd (ne (small_zero laws p char (query_sum eq key (zip ms ps)) (omega (arith, query_sum-small ms ps, light)) (sym (net_is ms ps each absent) ∙ balanced key)))
@@ -120,18 +120,18 @@ AllZip-both P (x ∷ xs) [] us vs first second = absurd first
 AllZip-both P (x ∷ xs) (y ∷ ys) us vs first second = (first.0, AllZip-both P xs ys us vs first.1 second)
 
 module _ {F : Type 0} (R : Ring F) where
-  -- parts of some messages, no greater than a bound
+  -- roles of some messages, no greater than a bound
   pub record AreBounded (ms : List (Message F)) (ps : List Role) (bound : ℕ) : Type 0 where
-    pub divided : AllZip (IsPartOf R) ms ps
+    pub divided : AllZip (HasRole R) ms ps
     pub within : sum_by size_of ps ≤ bound
 
   bounded_both : (ms ns : List (Message F)) (ps qs : List Role) (a b c : ℕ) → AreBounded ms ps a → AreBounded ns qs b → a + b ≤ c → AreBounded (ms ++ ns) (ps ++ qs) c
   bounded_both ms ns ps qs a b c first second le = record {
-    divided = AllZip-both (IsPartOf R) ms ps ns qs first.divided second.divided;
+    divided = AllZip-both (HasRole R) ms ps ns qs first.divided second.divided;
     within = omega (arith, sum_by-append size_of ps qs, first.within, second.within, le);
   }
 
-  row_bounded : (lookups : List (Lookup F)) (row : List (Sent F)) (parts : List (List Role)) → length row ≡ length lookups → RowKeepsWeights R lookups row parts → AreBounded (flat_map (λ s. s.messages) row) (flat_map (λ p. p) parts) (sum_by (λ l. l.count_weight) lookups)
+  row_bounded : (lookups : List (Lookup F)) (row : List (Sent F)) (roles : List (List Role)) → length row ≡ length lookups → RowKeepsWeights R lookups row roles → AreBounded (flat_map (λ s. s.messages) row) (flat_map (λ p. p) roles) (sum_by (λ l. l.count_weight) lookups)
   row_bounded [] [] [] same keeps = record { divided = tt; within = omega arith }
   row_bounded [] [] (p ∷ ps) same keeps = absurd keeps
   row_bounded [] (s ∷ ss) ps same keeps = absurd (omega (arith, same))
@@ -155,7 +155,7 @@ module _ {F : Type 0} (R : Ring F) where
   abbrev own : Instance F → ℕ
   own i = weighted_height (i.lookups, height i.traces.main)
 
-  batch_bounded : (eq : F → F → Bool) (instances : List (Instance F)) (divisions : List (List (List (List Role)))) → AllZip (TraceKeepsWeights R eq) instances divisions → AreBounded (batch_messages R eq instances) (all_parts divisions) (sum_by own instances)
+  batch_bounded : (eq : F → F → Bool) (instances : List (Instance F)) (divisions : List (List (List (List Role)))) → AllZip (TraceKeepsWeights R eq) instances divisions → AreBounded (batch_messages R eq instances) (all_roles divisions) (sum_by own instances)
   batch_bounded eq [] [] keeps = record { divided = tt; within = omega arith }
   batch_bounded eq [] (d ∷ ds) keeps = absurd keeps
   batch_bounded eq (i ∷ is) [] keeps = absurd keeps
@@ -165,7 +165,7 @@ module _ {F : Type 0} (R : Ring F) where
       let w = sum_by (λ (l : Lookup F). l.count_weight) i.lookups in
       let high : length rows ≡ height i.traces.main = length-map-range_with_len (λ r. sent_row_under R eq (id_of i.ids) (window r) i.lookups) 0 (height i.traces.main) in
       let area : w * length rows ≡ w * height i.traces.main = ap (λ n. w * n) high in
-      bounded_both (trace_messages rows) (batch_messages R eq is) (flat_map (λ row. flat_map (λ p. p) row) d) (all_parts ds) (w * length rows) (sum_by own is) (sum_by own (i ∷ is))
+      bounded_both (trace_messages rows) (batch_messages R eq is) (flat_map (λ row. flat_map (λ p. p) row) d) (all_roles ds) (w * length rows) (sum_by own is) (sum_by own (i ∷ is))
       (trace_bounded i.lookups rows d (long (range_with_len 0 (height i.traces.main))) keeps.0) (batch_bounded eq is ds keeps.1) (omega (arith, area, sum_by-cons own i is))
     where
       long : (rs : List ℕ) → AllByRecursion (λ row. length row ≡ length i.lookups) (map (λ r. sent_row_under R eq (id_of i.ids) (window_of i.traces r) i.lookups) rs)
@@ -184,4 +184,4 @@ pub height_laws : {F : Type 0} {R : Ring F} → IsCommutativeRing R → (eq : F 
 height_laws {F} {R} laws eq decides p char airs heights light instances lookups_are heights_are divisions keeps balanced key ne =
     let bounded = batch_bounded R eq instances divisions keeps in
     let sum_is : sum_by (own R) instances ≡ weighted_height_sum airs heights = own_sum R instances ∙ (λ k. weighted_height_sum (lookups_are k) (heights_are k)) in
-    provided_key laws eq (same_key-Decides eq decides) key p char (batch_messages R eq instances) (all_parts divisions) bounded.divided (omega (arith, bounded.within, sum_is, light)) balanced ne
+    provided_key laws eq (same_key-Decides eq decides) key p char (batch_messages R eq instances) (all_roles divisions) bounded.divided (omega (arith, bounded.within, sum_is, light)) balanced ne

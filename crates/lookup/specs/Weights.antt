@@ -22,25 +22,25 @@ size_of (Some z) = nat_abs z
 
 module _ {F : Type 0} (R : Ring F) where
   -- the multiplicity of a query is its number times 1
-  abbrev pub IsPartOf : Message F → Role → Type 0
-  IsPartOf m part = IfSome part (λ z. m.multiplicity ≡ of_int R z)
+  abbrev pub HasRole : Message F → Role → Type 0
+  HasRole m role = IfSome role (λ z. m.multiplicity ≡ of_int R z)
 
-  -- The messages of a lookup on a row divide into such parts, and the absolute values of the queries
+  -- The messages of a lookup on a row have such roles, and the absolute values of the queries
   -- add up to at most its weight.
-  pub record KeepsWeight (lookup : Lookup F) (sent : Sent F) (parts : List Role) : Type 0 where
-    pub divided : AllZip IsPartOf sent.messages parts
-    pub within : sum_by size_of parts ≤ lookup.count_weight
+  pub record KeepsWeight (lookup : Lookup F) (sent : Sent F) (roles : List Role) : Type 0 where
+    pub divided : AllZip HasRole sent.messages roles
+    pub within : sum_by size_of roles ≤ lookup.count_weight
 
   -- so those of all lookups of an AIR do on a row, and on all rows of its traces
   abbrev pub RowKeepsWeights : List (Lookup F) → List (Sent F) → List (List Role) → Type 0
-  RowKeepsWeights lookups row parts = AllZip (λ t ps. KeepsWeight t.0 t.1 ps) (zip lookups row) parts
+  RowKeepsWeights lookups row roles = AllZip (λ t ps. KeepsWeight t.0 t.1 ps) (zip lookups row) roles
 
   abbrev pub TraceKeepsWeights : (F → F → Bool) → Instance F → List (List (List Role)) → Type 0
   TraceKeepsWeights eq instance division = AllZip (RowKeepsWeights instance.lookups) (sent_rows_of R eq instance) division
 
--- the parts of all messages of a batch, in their order
-abbrev pub all_parts : List (List (List (List Role))) → List Role
-all_parts divisions = flat_map (λ division. flat_map (λ row. flat_map (λ parts. parts) row) division) divisions
+-- the roles of all messages of a batch, in their order
+abbrev pub all_roles : List (List (List (List Role))) → List Role
+all_roles divisions = flat_map (λ division. flat_map (λ row. flat_map (λ roles. roles) row) division) divisions
 
 -- the sum of the query numbers of a key
 abbrev pub query_sum : {F : Type 0} → (F → F → Bool) → Key F → List (Message F × Role) → ℤ
@@ -61,8 +61,8 @@ module _ {F : Type 0} (R : Ring F) (eq : F → F → Bool) where
   HeightLaw instances =
       (divisions : List (List (List (List Role)))) → AllZip (TraceKeepsWeights R eq) instances divisions
       → IsBalanced R eq (batch_messages R eq instances)
-      → (key : Key F) → query_sum eq key (zip (batch_messages R eq instances) (all_parts divisions)) ≢ pos 0
-      → IsAmong key (provided_keys (zip (batch_messages R eq instances) (all_parts divisions)))
+      → (key : Key F) → query_sum eq key (zip (batch_messages R eq instances) (all_roles divisions)) ≢ pos 0
+      → IsAmong key (provided_keys (zip (batch_messages R eq instances) (all_roles divisions)))
 
   -- the law of every batch whose AIRs have these lookups and traces of these heights
   abbrev pub HeightLaws : List (List (Lookup F)) → List ℕ → Type 0

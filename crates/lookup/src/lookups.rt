@@ -79,7 +79,7 @@ impl<F: Field> Lookups<F> {
     }
 
     /// Fills the columns of each bus greedily, by the degree that the closure gives; see
-    /// [`pack_lookups`](crate::packing::packed).
+    /// [`pack_lookups`](crate::packing::pack_lookups).
     ///
     /// Local lookups and those with flags come first, in their order, then the buses in the order of
     /// their first other lookups. Refuses `TupleWidths` at the first bus with two widths, then what

@@ -26,13 +26,13 @@ traced_of i = record {
 
 -- The lookups fit the traces and the public values, and a preprocessed trace is as high as the main
 -- trace.
-pub record IsFitting {F : Type 0} (traced : Traced F) : Type 0 where
+pub record IsTracedFitting {F : Type 0} (traced : Traced F) : Type 0 where
   pub fit : LookupsFit (layout_of traced.traces) traced.lookups
   pub heights : AreEven traced.traces
 
 -- each of these AIRs is so
 abbrev pub AreFitting : {F : Type 0} → List (LookupDebugInstance F) → Type 0
-AreFitting is = All (λ i. IsFitting (traced_of i)) is
+AreFitting is = All (λ i. IsTracedFitting (traced_of i)) is
 
 -- where a tuple is sent: the index of the AIR in its list, of the lookup in its AIR, and the row
 pub record SentLocation : Type 0 where

@@ -10,7 +10,7 @@ use Rattle.lookup_debug.specs.declared.fault.LookupFault.TheVariants.{Mismatch, 
 abbrev pub location_text : SentLocation → List ℕ
 location_text p = codes "instance " ++ (decimal p.instance ++ (codes " lookup " ++ (decimal p.lookup ++ (codes " row " ++ decimal p.row))))
 
--- `Lookup mismatch (LABEL): tuple [T, T] has net multiplicity N at PLACE; PLACE`
+-- `Lookup mismatch (LABEL): tuple [T, T] has net multiplicity N at LOCATION; LOCATION`
 abbrev pub mismatch_text : List ℕ → List (List ℕ) → List ℕ → List SentLocation → List ℕ
 mismatch_text label tuple net locations =
     codes "Lookup mismatch (" ++ (label ++ (codes "): tuple [" ++ (join_by (λ t. t) (codes ", ") tuple

@@ -2,7 +2,7 @@
 ghost use Rattle.std.specs.Prelude.{◌≡◌, ◌⊎◌, All, IfOk, MatchResult, Some, map, slice_get, string_bytes};
 ghost use Rattle.air.specs.Traces.{AreEven, layout_of};
 ghost use Rattle.lookup_debug.specs.Checks.{AnswersGroup, AnswersGroups, local_groups_in};
-ghost use Rattle.lookup_debug.specs.Contributions.{AreFitting, IsFitting, contributions_of, location_of, traced_of};
+ghost use Rattle.lookup_debug.specs.Contributions.{AreFitting, IsTracedFitting, contributions_of, location_of, traced_of};
 ghost use Rattle.lookup_debug.specs.Groups.{bus_group, is_missing, local_groups, local_label, traced_bus_names};
 ghost use Rattle.lookup_debug.specs.Mismatch.{AllBalance, HasParts, IsMismatch};
 ghost use Rattle.lookup_model.specs.Outline.{bus_of};
@@ -70,7 +70,7 @@ fn check_locals_of<F: Field>(
     traced: &LookupDebugInstance<'_, F>,
     instance: usize,
 ) -> Result<(), LookupFault<F>>
-    requires { IsFitting (traced_of traced.now) }
+    requires { IsTracedFitting (traced_of traced.now) }
     ensures { AnswersGroups F.ring F.eq F.text
         (local_groups_in F.ring F.eq (instance, traced_of traced.now)) result }
 {
@@ -103,7 +103,7 @@ fn check_local<F: Field>(
     index: usize,
 ) -> Result<(), LookupFault<F>>
     requires there { slice_get traced.now.lookups.now index ≡ Some lookup.now }
-    requires fit { IsFitting (traced_of traced.now) }
+    requires fit { IsTracedFitting (traced_of traced.now) }
     ensures { AnswersGroup F.ring F.eq F.text (local_label instance index)
         (contributions_of F.ring F.eq instance index (traced_of traced.now) lookup.now) result }
 {

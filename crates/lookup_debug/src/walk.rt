@@ -2,7 +2,7 @@
 //! it.
 ghost use Rattle.std.specs.Prelude.{◌≡◌, List, OnOk, Some, filter, map, slice_get};
 ghost use Rattle.std.specs.List.{flat_map};
-ghost use Rattle.lookup_debug.specs.Contributions.{AreFitting, Contribution, IsFitting, contributions_at, contributions_of, location_of, traced_of};
+ghost use Rattle.lookup_debug.specs.Contributions.{AreFitting, Contribution, IsTracedFitting, contributions_at, contributions_of, location_of, traced_of};
 ghost use Rattle.lookup_debug.specs.Groups.{is_on, all_lookups, lookup_contributions, lookups_in};
 ghost use Rattle.lookup_debug.specs.Walks.{IsWalk};
 ghost use Rattle.lookup_rows.specs.TraceBuilder.{builder_layout, builder_window};
@@ -55,7 +55,7 @@ pub(crate) fn walk_lookup<F: Field, V: RowVisitor<F>>(
 ) -> Result<(), AllocError>
     requires ready { V.ready visitor.now }
     requires there { slice_get traced.now.lookups.now index ≡ Some lookup.now }
-    requires fit { IsFitting (traced_of traced.now) }
+    requires fit { IsTracedFitting (traced_of traced.now) }
     ensures { OnOk result (V.does visitor.old visitor.new
         (contributions_of F.ring F.eq instance index (traced_of traced.now) lookup.now)) }
 {
@@ -105,7 +105,7 @@ fn walk_bus_of<F: Field, V: RowVisitor<F>>(
     name: &str,
 ) -> Result<(), AllocError>
     requires ready { V.ready visitor.now }
-    requires fit { IsFitting (traced_of traced.now) }
+    requires fit { IsTracedFitting (traced_of traced.now) }
     ensures { OnOk result (V.does visitor.old visitor.new
         (flat_map (lookup_contributions F.ring F.eq)
         (filter (is_on name.now) (lookups_in (instance, traced_of traced.now))))) }

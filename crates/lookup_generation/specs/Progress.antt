@@ -25,7 +25,7 @@ IsFirstOf faults e = (e ≡ Memory) ⊎ (slice_get faults 0 ≡ Some e)
 abbrev pub sent_on : {F : Type 0} → Ring F → (F → F → Bool) → AirTraces F → Lookup F → ℕ → Sent F
 sent_on R eq traces lookup r = sent_at R eq (window_of traces r) lookup.column lookup
 
--- the values at one index of each row of a matrix
+-- the cells of one column of a matrix, row by row
 abbrev pub column_cells : {T : Type 0} → T → Matrix T → ℕ → List T
 column_cells default m index = map (λ r. slice_index_or (row m r) index default) (range_with_len 0 (height m))
 

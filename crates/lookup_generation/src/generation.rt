@@ -196,7 +196,7 @@ fn ratios_of<F: Field, EF: ExtensionDomain<F>>(
 }
 
 /// Appends a row of the auxiliary trace to `cells`: the accumulator, and the fraction of each lookup,
-/// which stands at `index` of a row of `fractions`. Returns the accumulator of the next row.
+/// which stands at `index` in its row of `fractions`. Returns the accumulator of the next row.
 fn push_row<K: Domain>(
     cells: &mut Vec<K>,
     accumulator: K,

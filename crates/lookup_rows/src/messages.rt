@@ -190,10 +190,10 @@ fn push_row_messages<F: Field>(
 
 /// Appends the messages of an AIR, row by row. After a refusal some of them may be there, behind the
 /// earlier ones.
-fn push_rows<F: Field>(
+fn push_rows<'a, F: Field>(
     alloc: Global,
     messages: &mut Vec<SentMessage<F>>,
-    traces: &Traces<'_, F>,
+    traces: &Traces<'a, F>,
     lookups: &[Lookup<F>],
     ids: &[usize],
 ) -> Result<(), LookupError>
@@ -208,7 +208,7 @@ fn push_rows<F: Field>(
     ensures front { StayInFront messages.old.items messages.new.items }
 {
     // messages need no challenges, so the field stands where its extension would
-    let challenges: &[F] = &[];
+    let challenges: &'a [F] = &[];
     let height = traces.main.height();
     for row in 0..height {
         let builder = row_builder(traces, challenges, height, row);

@@ -27,10 +27,10 @@ pub fn row_builder<'a, F: Field, EF: Domain>(
     ensures row { builder_row result ≡ row }
 {
     let next = next_row(row, num_rows);
-    let main = traces.main;
+    let main_trace = traces.main;
     let main = ViewPair {
-        top: main.row_slice(row),
-        bottom: main.row_slice(next),
+        top: main_trace.row_slice(row),
+        bottom: main_trace.row_slice(next),
     };
     let preprocessed = match traces.preprocessed {
         Some(trace) => ViewPair {

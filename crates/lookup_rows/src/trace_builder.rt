@@ -75,7 +75,7 @@ impl<'a, F, EF> LookupTraceBuilder<'a, F, EF> {
     }
 
     /// The row that the builder stands for.
-    pub(crate) fn row(&self) -> usize
+    pub fn row(&self) -> usize
         ensures { result ≡ builder_row self.now }
     {
         let LookupTraceBuilder { row, .. } = self;

@@ -64,7 +64,7 @@ fn memory_lookups<F: Field, EF: ExtensionField<F>>(
 /// that vanishes; at most other challenges none does. Then it refuses what [`BatchPlan::verify`]
 /// refuses, and the messages do not balance. Also fails when out of memory. If messages balance and no
 /// denominator vanishes, they are accepted. If they do not, few challenges accept them:
-/// [`soundness_count`](checker::soundness_count) says how few.
+/// [`BatchPlan::soundness_count`] says how few.
 pub fn check_memory<F: Field, EF: ExtensionField<F>>(
     alloc: Global,
     plan: &BatchPlan<F>,

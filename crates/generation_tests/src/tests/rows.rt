@@ -52,6 +52,7 @@ fn a_row_with_its_next_row(rt: HostRuntime) {
     let mut builder = LookupTraceBuilder::new(main, nothing, &[], challenges.as_slice(), 2, 1);
     let has_rows = has_rows(&rt, alloc, &builder, top.as_slice(), bottom.as_slice());
     holds(&rt, "the rows", has_rows);
+    holds(&rt, "its number", builder.row() == 1);
     let last = [F7::new(0), F7::new(1), F7::new(0)];
     holds(
         &rt,

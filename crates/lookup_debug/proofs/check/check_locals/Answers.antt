@@ -1,7 +1,7 @@
 use Rattle.std.proofs.Common.{inl, inr, map, subst, sym, arith}
 use Rattle.std.proofs.lemmas.List.{length-map}
 use Rattle.std.proofs.lemmas.Result.{err_from_is_err_and}
-use Rattle.lookup_debug.specs.Contributions.{IsFitting, traced_of}
+use Rattle.lookup_debug.specs.Contributions.{IsTracedFitting, traced_of}
 use Rattle.lookup_debug.specs.declared.instance.LookupDebugInstance.{LookupDebugInstance}
 use Rattle.lookup_debug.proofs.LocalGroupLaws.{air_balances, air_mismatch, airs_balance, traced_at}
 use Rattle.lookup_debug.proofs.check.check_locals.Goals as goal
@@ -9,7 +9,7 @@ use Rattle.lookup_debug.proofs.check.check_locals.Goals as goal
 pub check_locals_of-requires : goal.check_locals_of-requires
 check_locals_of-requires g c =
     let item = c.index-instances-instance in
-    subst (λ (i : LookupDebugInstance _). IsFitting (traced_of i)) (sym item.is)
+    subst (λ (i : LookupDebugInstance _). IsTracedFitting (traced_of i)) (sym item.is)
     (c.requires c.loop-instance.instance item.result c.loop-instance-test.true)
 
 pub returns-in_err-check_locals_of : goal.returns-in_err-check_locals_of

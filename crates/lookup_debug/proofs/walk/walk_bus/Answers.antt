@@ -3,7 +3,7 @@ use Rattle.std.proofs.lemmas.List.{length-map}
 use Rattle.std.specs.List.{filter, flat_map}
 use Rattle.lookup_model.proofs.Branches.{mapped_at}
 use Rattle.lookup_model.proofs.RecordLaws.{All-at}
-use Rattle.lookup_debug.specs.Contributions.{IsFitting, Traced, traced_of}
+use Rattle.lookup_debug.specs.Contributions.{IsTracedFitting, Traced, traced_of}
 use Rattle.lookup_debug.specs.Groups.{is_on, lookup_contributions, lookups_in}
 use Rattle.lookup_debug.specs.declared.instance.LookupDebugInstance.{LookupDebugInstance}
 use Rattle.lookup_debug.proofs.BusLaws.{numbered_all, step_instance}
@@ -15,7 +15,7 @@ walk_bus_of-requires-clause-ready g c =
 
 pub walk_bus_of-requires-clause-fit : goal.walk_bus_of-requires-clause-fit
 walk_bus_of-requires-clause-fit g c =
-    All-at (λ (i : LookupDebugInstance _). IsFitting (traced_of i)) c.args.instances.now c.loop-instance.instance c.index-instances-instance.result c.requires.fit c.loop-instance-test.true c.index-instances-instance.is
+    All-at (λ (i : LookupDebugInstance _). IsTracedFitting (traced_of i)) c.args.instances.now c.loop-instance.instance c.index-instances-instance.result c.requires.fit c.loop-instance-test.true c.index-instances-instance.is
 
 pub loop-instance-init : goal.loop-instance-init
 loop-instance-init g c = g.met.V.RowVisitor.walks.rests c.args.visitor.now c.requires.ready
