@@ -7,7 +7,7 @@ if ! command -v gcc >/dev/null; then
     exit 3
 fi
 kit=$(dirname "$(rt doc)")
-(cd crates/lookup_c && rt lib >/dev/null)
+tools/archive lookup_c >/dev/null
 work=$(mktemp -d)
 trap 'rm -rf "$work"' EXIT
 flags="-Wall -Wextra -Werror -pedantic -O1"
