@@ -6,15 +6,16 @@
    For every call:
 
    - Memory. No memory and no handle is handed over. A call reads what its const pointers point to, and
-     writes into the arrays of its caller; it keeps nothing once it returns. What it asks of malloc it
-     gives back before that.
-   - Pointers. No pointer is NULL, also where a length is 0. A length counts items, and not bytes. Each
-     array that a call writes is initialised, and overlaps no other argument; those that it reads may
-     overlap one another.
+     writes into the arrays of its caller; it keeps nothing once it returns. It frees all that it
+     allocates before that.
+   - Pointers. No pointer may be NULL, also where a length is 0. A length counts items, and not bytes. Each
+     array that a call writes must be initialised, and must overlap no other argument; those that it reads
+     may overlap one another.
    - Answers. A call returns 0, or the code of a refusal, and fills *refusal in both cases. A refused call
      leaves all else that it would write as it was, but for `text`.
    - Texts. `text` gets what a refusal says, without a closing zero: its first bytes, as many as there is
-     room for. `refusal->text_length` is the length of the whole, and 0 where nothing was refused.
+     room for; a cut may split a character of UTF-8. `refusal->text_length` is the length of the whole, and
+     0 where nothing was refused.
    - Stack. A call needs at most 256 KB of it.
    - Threads. Calls may run at once, as long as what one of them writes no other reads or writes.
      malloc and its kin have to allow that. No call from a signal handler. */
@@ -124,9 +125,10 @@ enum {
     VOLGWAIN_OUT_OF_MEMORY = 1,
     VOLGWAIN_BAD_TABLE = 2,     /* air, lookup: the first record that is no lookup. part: 1 a node, and row
                                    is its index; 2 a range past its table; 3 a list of too many nodes; 4 a
-                                   kind that is neither 0 nor 1; 5 a name that is not UTF-8. Or the first
-                                   lookup that no tables say. part: 3 as above; 6 an expression that is too
-                                   deep; 7 a row that does not fit 32 bits */
+                                   kind that is neither 0 nor 1; 5 a name that is not UTF-8. Or, of lookups
+                                   that were packed or read, the first one that no tables say. part: 6 an
+                                   expression that is too deep; 7 a row that does not fit 32 bits; 8 a list of
+                                   too many nodes */
     VOLGWAIN_BAD_NUMBER = 3,    /* part, air, row: the index of a number, or of a group of four, that is not
                                    below the modulus; of an id, that is not below num_ids; of the sizes of a
                                    plan, 0: max_message_width is 0 */
@@ -181,7 +183,8 @@ enum {
     VOLGWAIN_PART_RECORDS = 16
 };
 
-/* What was refused, and where: each code names the fields that it fills, and the others are 0. */
+/* What was refused, and where: each code names the fields that it fills, and the others are 0. A call over
+   one AIR names it as 0. */
 struct volgwain_refusal {
     uint32_t code;
     uint32_t part;
@@ -197,13 +200,13 @@ struct volgwain_refusal {
 
 /* Generates the auxiliary trace of one AIR, and its terminal.
 
-   challenges: an alpha and a beta for each lookup, in their order; further ones are ignored.
+   challenges: an alpha and a beta for each lookup, in their order; further ones are ignored, but must be
+   below the modulus as well.
    auxiliary: exactly height * (lookups + 1) elements, row after row: the accumulator, and then the
    fraction of each lookup. Without lookups none, and the terminal is not present.
 
-   What is generated is the plain result, it satisfies all constraints of the lookups, and where no
-   denominator vanishes no other auxiliary trace and terminal do. AIRs can be generated on threads of the
-   caller's own, with challenges that share an alpha and a beta where lookups share a bus.
+   What is generated is the plain result, and satisfies all constraints of the lookups. AIRs can be generated
+   on threads of the caller's own, with challenges that share an alpha and a beta where lookups share a bus.
 
    Refuses, in this order: 2, 5 and 3 of a trace, 3 of the challenges, 6, 7, 4 of the challenges, the first
    of 8, 9 and 10 in the order row, lookup, and 4 of the auxiliary trace. Or 1. */

@@ -1,9 +1,10 @@
 -- The AIRs of a debug check, one after another.
-use Rattle.std.proofs.Common.{◌≡◌, ◌∙◌, ◌∷◌, ◌++◌, ◌+◌, ◌<◌, [], ℕ, zero, suc, List, ap, ap₂, arith, get_or, length, map, refl, subst, sym, take}
+use Rattle.std.proofs.Common.{◌≡◌, ◌∙◌, ◌∷◌, ◌++◌, ◌+◌, ◌<◌, [], ℕ, zero, suc, All, List, ap, ap₂, arith, get_or, length, map, refl, subst, sym, take}
 use Rattle.std.proofs.lemmas.List.{map_push, take_more}
+use Rattle.std.proofs.lemmas.List.Elements.{All-map}
 use Rattle.std.proofs.lemmas.Option.{slice_get-get_or}
 use Rattle.lookup.specs.declared.lookups.Lookups.{Lookups}
-use Rattle.lookup_debug.specs.Contributions.{Traced, traced_of}
+use Rattle.lookup_debug.specs.Contributions.{AreFitting, IsTracedFitting, Traced, traced_of}
 use Rattle.lookup_debug.specs.declared.instance.LookupDebugInstance.{LookupDebugInstance}
 use Rattle.lookup_tables.specs.Nodes.{BabyBear}
 use Rattle.lookup_tables.specs.declared.traces.ReadTraces.{ReadTraces}
@@ -38,10 +39,12 @@ module _ (sets : List (Lookups BabyBear)) (traces : List ReadTraces) (i : ℕ) (
       ∙ ((λ k. so_far k ++ (is ∙ sym this) k ∷ []) ∙ sym (take_more (all_traced sets traces) i (traced_tables s t) among)))
 
   -- an AIR whose lookups do not fit its traces
-  pub unfit_there : (fault : Fault) → IsMisfitAt i (traced_tables s t) fault → IsUnfitAmong (all_traced sets traces) fault
-  unfit_there fault misfit = record {
+  pub unfit_there : (fault : Fault) (instances : List (LookupDebugInstance BabyBear)) → map traced_of instances ≡ take i (all_traced sets traces) → AreFitting instances
+      → IsMisfitAt i (traced_tables s t) fault → IsUnfitAmong (all_traced sets traces) fault
+  unfit_there fault instances are fit misfit = record {
     index = i;
     traced = get_or (all_traced sets traces) i (traced_tables s t);
     is_there = slice_get-get_or (all_traced sets traces) i (traced_tables s t) among;
+    before = subst (λ (ts : List (Traced BabyBear)). All IsTracedFitting ts) are (All-map IsTracedFitting traced_of instances fit);
     misfit = subst (λ (x : Traced BabyBear). IsMisfitAt i x fault) (sym this) misfit;
   }

@@ -1,5 +1,6 @@
 -- What calls over elements answer, as answers over tables of numbers.
-use Rattle.std.proofs.Common.{◌≡◌, ◌∙◌, ◌∷◌, ◌<◌, [], ℕ, List, MatchResult, Result, ap₂, get_or, inl, inr, length, map, refl, subst, subst₂, take}
+use Rattle.std.proofs.Common.{◌≡◌, ◌∙◌, ◌∷◌, ◌<◌, [], ℕ, All, List, MatchResult, Result, ap₂, get_or, inl, inr, length, map, refl, subst, subst₂, take}
+use Rattle.std.proofs.lemmas.List.Elements.{All-cons, All-nil}
 use Rattle.std.proofs.lemmas.Option.{slice_get-get_or}
 use Rattle.std.proofs.lemmas.Result.{MatchResult-weaker}
 use Rattle.field.specs.Quartic.{Quartic}
@@ -13,20 +14,20 @@ use Rattle.field.specs.Extension.{Extension}
 use Rattle.lookup_model.specs.Challenges.{column_challenges}
 use Rattle.lookup_model.specs.declared.types.Lookup.{Lookup}
 use Rattle.lookup_tables.specs.Nodes.{BabyBear}
-use Rattle.lookup_tables.specs.Numbers.{quartic_of}
+use Rattle.lookup_tables.specs.Numbers.{AreGroupsBelow, IsGroup, quartic_of}
 use Rattle.lookup_tables.specs.Tables.{SayLookups}
-use Rattle.lookup_tables.specs.Traces.{AreTracesOf}
+use Rattle.lookup_tables.specs.Traces.{AreCanonical, AreTracesOf}
 use Rattle.lookup_tables.specs.declared.tables.Tables.{Tables}
 use Rattle.lookup_tables.specs.declared.traces.ReadTraces.{ReadTraces}
 use Rattle.lookup_tables.specs.declared.traces.Traces.{Traces}
-use Rattle.lookup_c.specs.Batches.{AreBatchTraces, AreSets, IsAirsRefusal, IsBatchTracesRefusal, IsPlanOf, IsSetRefusal, Planned, ShowTraces}
+use Rattle.lookup_c.specs.Batches.{AreBatchTraces, AreCanonicalTraces, AreSets, IsAirsRefusal, IsBatchTracesRefusal, IsPlanOf, IsSetRefusal, Planned, ShowTraces}
 use Rattle.lookup_c.specs.Debugging.{AreTableSets, IsTableSetsRefusal}
 use Rattle.lookup_c.specs.Generation.{Generates, GeneratesOver, IsGenerationRefusal, IsLookupsRefusal}
 use Rattle.lookup_c.specs.Identified.{GeneratesByIds, IsByIdsRefusal, challenges_by_ids}
 use Rattle.lookup_c.specs.Inputs.{IsTracesRefusal, said_traces, shown_traces}
 use Rattle.lookup_c.specs.Proving.{IsProveRefusal, IsProvedBy, IsProvingRefusal, ProvesTables}
 use Rattle.lookup_c.specs.Verifying.{IsVerifiedBy, IsVerifyRefusal, IsVerifyingRefusal, VerifiesTables}
-use Rattle.lookup_c.specs.Witnesses.{AreWitness, IsAuxiliaryRefusal, IsTerminalRefusal, IsWitnessRefusal}
+use Rattle.lookup_c.specs.Witnesses.{AreWitness, IsAirWitness, IsAuxiliaryRefusal, IsTerminalRefusal, IsWitnessRefusal}
 use Rattle.lookup_c.specs.declared.airs.Air.{Air}
 use Rattle.lookup_c.specs.declared.fault.Fault.{Fault}
 use Rattle.lookup_c.specs.declared.witness.AirWitness.{AirWitness}
@@ -45,28 +46,28 @@ AnswersOver E answer lookups traces challenges =
 -- the same over tables of numbers
 pub generates_tables : (E : Extension BabyBear (Quartic BabyBear)) (tables : Tables) (traces : Traces) (numbers : List (List ℕ)) (answer : Result Generated Fault) (lookups : List (Lookup BabyBear))
     (read : ReadTraces) (challenges : List (Quartic BabyBear))
-    → SayLookups tables lookups → AreTracesOf traces read → challenges ≡ map quartic_of numbers
+    → SayLookups tables lookups → AreTracesOf traces read → challenges ≡ map quartic_of numbers → AreGroupsBelow (length numbers) numbers
     → AnswersOver E answer lookups (shown_traces read) challenges
     → MatchResult answer (λ g. Generates E tables traces numbers g.auxiliary g.terminal) (IsGenerationRefusal E tables traces numbers)
-generates_tables E tables traces numbers answer lookups read challenges say are challenges_are over =
+generates_tables E tables traces numbers answer lookups read challenges say are challenges_are below over =
     let whole = subst₂ (λ (t : AirTraces BabyBear) (cs : List (Quartic BabyBear)). AnswersOver E answer lookups t cs) (said traces read are) challenges_are over in
     MatchResult-weaker answer whole
-    (λ g generates. record { lookups = lookups; say = say; generates = generates })
+    (λ g generates. record { lookups = lookups; say = say; traces_below = are.canonical; challenges_below = below; generates = generates })
     (λ fault refusal. inr (inr (inr (lookups, say, refusal))))
 
 -- and under ids
 pub generates_by_ids : (E : Extension BabyBear (Quartic BabyBear)) (tables : Tables) (traces : Traces) (ids : List ℕ) (sizes : Plan) (alpha beta : List ℕ) (answer : Result Generated Fault) (lookups : List (Lookup BabyBear))
     (read : ReadTraces) (challenges : List (Quartic BabyBear)) (a b : Quartic BabyBear)
-    → SayLookups tables lookups → AreTracesOf traces read → a ≡ quartic_of alpha → b ≡ quartic_of beta → length ids ≡ length lookups
+    → SayLookups tables lookups → AreTracesOf traces read → a ≡ quartic_of alpha → b ≡ quartic_of beta → IsGroup alpha → IsGroup beta → length ids ≡ length lookups
     → challenges ≡ column_challenges (made_table E.ring a b sizes.max_message_width sizes.num_ids) ids
     → AnswersOver E answer lookups (shown_traces read) challenges
     → MatchResult answer (λ g. GeneratesByIds E tables traces ids sizes alpha beta g.auxiliary g.terminal) (IsByIdsRefusal E tables traces ids sizes alpha beta)
-generates_by_ids E tables traces ids sizes alpha beta answer lookups read challenges a b say are a_is b_is as_many challenges_are over =
+generates_by_ids E tables traces ids sizes alpha beta answer lookups read challenges a b say are a_is b_is a_below b_below as_many challenges_are over =
     let challenges_by : challenges ≡ challenges_by_ids E ids sizes alpha beta =
     challenges_are ∙ (λ i. column_challenges (made_table E.ring (a_is i) (b_is i) sizes.max_message_width sizes.num_ids) ids) in
     let whole = subst₂ (λ (t : AirTraces BabyBear) (cs : List (Quartic BabyBear)). AnswersOver E answer lookups t cs) (said traces read are) challenges_by over in
     MatchResult-weaker answer whole
-    (λ g generates. record { lookups = lookups; say = say; as_many = as_many; generates = generates })
+    (λ g generates. record { lookups = lookups; say = say; traces_below = are.canonical; alpha_below = a_below; beta_below = b_below; as_many = as_many; generates = generates })
     (λ fault refusal. inr (inr (inr (inr (inr (lookups, say, inr refusal))))))
 
 -- a refused AIR is the first one, if those before it are not
@@ -86,13 +87,13 @@ first_refused_traces traces i d all fault there before refusal =
     inr (record { index = i; air = get_or traces i d; is_there = slice_get-get_or traces i d there; all = all; before = before; refusal = refusal })
 
 -- what a witness has for an AIR is refused
-pub refused_auxiliary : (numbers : List AirWitness) (i : ℕ) (d : AirWitness) (fault : Fault) → i < length numbers → IsAuxiliaryRefusal i (get_or numbers i d) fault → IsWitnessRefusal numbers fault
-refused_auxiliary numbers i d fault there refusal =
-    inr (record { index = i; air = get_or numbers i d; is_there = slice_get-get_or numbers i d there; refusal = inl refusal })
+pub refused_auxiliary : (numbers : List AirWitness) (i : ℕ) (d : AirWitness) (fault : Fault) → i < length numbers → All IsAirWitness (take i numbers) → IsAuxiliaryRefusal i (get_or numbers i d) fault → IsWitnessRefusal numbers fault
+refused_auxiliary numbers i d fault there before refusal =
+    inr (record { index = i; air = get_or numbers i d; is_there = slice_get-get_or numbers i d there; before = before; refusal = inl refusal })
 
-pub refused_terminal : (numbers : List AirWitness) (i : ℕ) (d : AirWitness) (fault : Fault) → i < length numbers → IsTerminalRefusal i (get_or numbers i d).terminal fault → IsWitnessRefusal numbers fault
-refused_terminal numbers i d fault there refusal =
-    inr (record { index = i; air = get_or numbers i d; is_there = slice_get-get_or numbers i d there; refusal = inr refusal })
+pub refused_terminal : (numbers : List AirWitness) (i : ℕ) (d : AirWitness) (fault : Fault) → i < length numbers → All IsAirWitness (take i numbers) → IsTerminalRefusal i (get_or numbers i d).terminal fault → IsWitnessRefusal numbers fault
+refused_terminal numbers i d fault there before refusal =
+    inr (record { index = i; air = get_or numbers i d; is_there = slice_get-get_or numbers i d there; before = before; refusal = inr refusal })
 
 -- what contracts see of traces that tables say
 shown_all : (traces : List Traces) (all : List ReadTraces) → AreBatchTraces traces all → map shown_traces all ≡ map said_traces traces
@@ -105,8 +106,15 @@ shown_all (t ∷ ts) (a ∷ rest) are =
 pub shown_given : (traces : List Traces) (all : List ReadTraces) (given : List (BatchTrace BabyBear)) → AreBatchTraces traces all → map shown_of given ≡ map shown_traces all → ShowTraces traces given
 shown_given traces all given are shown = shown ∙ shown_all traces all are
 
+-- traces that are read have canonical numbers
+pub all_canonical : (traces : List Traces) (all : List ReadTraces) → AreBatchTraces traces all → AreCanonicalTraces traces
+all_canonical [] [] are = All-nil AreCanonical
+all_canonical [] (a ∷ rest) are = absurd are
+all_canonical (t ∷ ts) [] are = absurd are
+all_canonical (t ∷ ts) (a ∷ rest) are = All-cons AreCanonical t ts are.0.canonical (all_canonical ts rest are.1)
+
 module _ (E : Extension BabyBear (Quartic BabyBear)) (airs : List Air) (traces : List Traces) (alpha beta : List ℕ) (plan : Planned) (given : List (BatchTrace BabyBear)) (a b : Quartic BabyBear)
-    (plan_is : IsPlanOf airs plan) (shown : ShowTraces traces given) (a_is : a ≡ quartic_of alpha) (b_is : b ≡ quartic_of beta) where
+    (plan_is : IsPlanOf airs plan) (traces_below : AreCanonicalTraces traces) (shown : ShowTraces traces given) (a_below : IsGroup alpha) (b_below : IsGroup beta) (a_is : a ≡ quartic_of alpha) (b_is : b ≡ quartic_of beta) where
   -- a proof over what tables say
   pub proves_tables : (answer : Result (Witness (Quartic BabyBear)) Fault) → MatchResult answer (IsProvedBy E plan given a b) (IsProvingRefusal E plan given a b)
       → MatchResult answer (ProvesTables E airs traces alpha beta) (IsProveRefusal E airs traces alpha beta)
@@ -114,7 +122,7 @@ module _ (E : Extension BabyBear (Quartic BabyBear)) (airs : List Air) (traces :
       let with_a = subst (λ (x : Quartic BabyBear). MatchResult answer (IsProvedBy E plan given x b) (IsProvingRefusal E plan given x b)) a_is over in
       let whole = subst (λ (x : Quartic BabyBear). MatchResult answer (IsProvedBy E plan given (quartic_of alpha) x) (IsProvingRefusal E plan given (quartic_of alpha) x)) b_is with_a in
       MatchResult-weaker answer whole
-      (λ w proves. record { plan = plan; plan_is = plan_is; given = given; shown = shown; proves = proves })
+      (λ w proves. record { plan = plan; plan_is = plan_is; traces_below = traces_below; alpha_below = a_below; beta_below = b_below; given = given; shown = shown; proves = proves })
       (λ fault refusal. inr (inr (inr (inr (inr (record { plan = plan; plan_is = plan_is; given = given; shown = shown; refusal = refusal }))))))
 
   -- and a verification
@@ -125,5 +133,5 @@ module _ (E : Extension BabyBear (Quartic BabyBear)) (airs : List Air) (traces :
       let with_a = subst (λ (x : Quartic BabyBear). MatchResult answer (λ _. IsVerifiedBy E plan given x b witness) (IsVerifyingRefusal E plan given x b witness)) a_is over in
       let whole = subst (λ (x : Quartic BabyBear). MatchResult answer (λ _. IsVerifiedBy E plan given (quartic_of alpha) x witness) (IsVerifyingRefusal E plan given (quartic_of alpha) x witness)) b_is with_a in
       MatchResult-weaker answer whole
-      (λ _ verifies. record { plan = plan; plan_is = plan_is; given = given; shown = shown; witness = witness; witness_is = witness_is; verifies = verifies })
+      (λ _ verifies. record { plan = plan; plan_is = plan_is; traces_below = traces_below; alpha_below = a_below; beta_below = b_below; given = given; shown = shown; witness = witness; witness_is = witness_is; verifies = verifies })
       (λ fault refusal. inr (inr (inr (inr (inr (inr (record { plan = plan; plan_is = plan_is; given = given; shown = shown; witness = witness; witness_is = witness_is; refusal = refusal })))))))

@@ -1,5 +1,5 @@
 -- What the tables of a set rest on.
-use Rattle.std.proofs.Common.{◌≡◌, ◌∷◌, ◌+◌, ◌<◌, [], ℕ, zero, suc, List, Some, ap₂, arith, length, map, refl, slice_get}
+use Rattle.std.proofs.Common.{◌≡◌, ◌∷◌, ◌+◌, ◌<◌, [], ℕ, suc, List, Some, ap₂, arith, length, map, refl, slice_get}
 use Rattle.std.specs.List.{range_with_len}
 use Rattle.lookup_model.specs.Records.{AreRecords}
 use Rattle.lookup_model.specs.declared.types.Lookup.{Lookup}

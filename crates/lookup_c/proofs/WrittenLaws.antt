@@ -1,6 +1,6 @@
 -- Items that are written one after another, and lists of them part by part.
 use Rattle.std.proofs.Common.{◌≡◌, ◌<◌, ◌≤◌, ◌+◌, ◌++◌, ◌∷◌, ◌∙◌, [], ℕ, List, ap, append_assoc, arith, drop, get_or, length, length-append, map, set, sym, take}
-use Rattle.std.proofs.lemmas.List.{append-nil, map_push, take-append-drop, take_all, take_more, take_more_set}
+use Rattle.std.proofs.lemmas.List.{append-nil, map_push, take-append-drop, take_all, take_more, take_more_set, drop_more, length-take-le, set_at}
 use Rattle.std.proofs.lemmas.List.Concat.{flat_map-append}
 use Rattle.std.specs.List.{flat_map}
 
@@ -61,3 +61,20 @@ all_written f xs n at items all at_is room written =
     let whole : take n xs ≡ xs = take_all n xs all in
     let full : length items ≤ at = omega (arith, at_is, ap (λ ys. length (flat_map f ys)) whole, room) in
     sym (take_all at items full) ∙ (written ∙ ap (flat_map f) whole)
+
+-- one more item is written over those of an array
+pub over_next : {A : Type 0} (values start before after : List A) (i : ℕ) (d v : A) → i < length values → i < length start → after ≡ set before i v → v ≡ get_or values i d → before ≡ take i values ++ drop i start
+    → after ≡ take (i + 1) values ++ drop (i + 1) start
+over_next values start before after i d v there room set_is is so_far =
+    let long : length (take i values) ≡ i = length-take-le i values (omega (arith, there)) in
+    set_is
+    ∙ ((λ k. set ((so_far ∙ ap (λ ys. take i values ++ ys) (drop_more start i d room)) k) i v)
+    ∙ (set_at (take i values) (get_or start i d) (drop (i + 1) start) v i long
+    ∙ (sym (append_assoc (take i values) (v ∷ []) (drop (i + 1) start))
+    ∙ (λ k. (ap (λ x. take i values ++ x ∷ []) is ∙ sym (take_more values i d there)) k ++ drop (i + 1) start))))
+
+-- all are written
+pub over_all : {A : Type 0} (values start after : List A) (i : ℕ) → i < length values + 1 → length values ≤ i → after ≡ take i values ++ drop i start → after ≡ values ++ drop (length values) start
+over_all values start after i below all written =
+    let full : i ≡ length values = omega (arith, below, all) in
+    written ∙ (λ k. take_all i values all k ++ drop (full k) start)

@@ -1,5 +1,5 @@
 -- Batches that tables of numbers say.
-use Rattle.std.specs.Prelude.{◌≡◌, ◌⊎◌, ℕ, List, Some, map, slice_get, take}
+use Rattle.std.specs.Prelude.{◌≡◌, ◌⊎◌, ℕ, All, List, Some, map, slice_get, take}
 use Rattle.std.specs.List.{AllZip}
 use Rattle.std.specs.declared.alloc.Global.{Global}
 use Rattle.std.specs.declared.vec.Vec.{Vec}
@@ -17,7 +17,7 @@ use Rattle.batch.specs.declared.error.BatchError.TheVariants.{Memory as NoMemory
 use Rattle.batch.specs.declared.trace.BatchTrace.{BatchTrace}
 use Rattle.lookup_tables.specs.Nodes.{BabyBear}
 use Rattle.lookup_tables.specs.Tables.{SayLookups}
-use Rattle.lookup_tables.specs.Traces.{AreTracesOf}
+use Rattle.lookup_tables.specs.Traces.{AreCanonical, AreTracesOf}
 use Rattle.lookup_tables.specs.declared.tables.Tables.{Tables}
 use Rattle.lookup_tables.specs.declared.traces.ReadTraces.{ReadTraces}
 use Rattle.lookup_tables.specs.declared.traces.Traces.{Traces}
@@ -40,10 +40,10 @@ IsSetRefusal air tables fault =
 pub record IsFirstRefusedAir (airs : List Air) (fault : Fault) : Type 0 where
   pub index : ℕ
   pub air : Air
-  pub is_there : slice_get airs place ≡ Some air
+  pub is_there : slice_get airs index ≡ Some air
   pub sets : List (Lookups BabyBear)
-  pub before : AreSets (take place airs) sets
-  pub refusal : IsSetRefusal place air.tables fault
+  pub before : AreSets (take index airs) sets
+  pub refusal : IsSetRefusal index air.tables fault
 
 -- the same; or memory runs out
 abbrev pub IsAirsRefusal : List Air → Fault → Type 0
@@ -83,14 +83,18 @@ IsPlanningRefusal airs fault =
 abbrev pub AreBatchTraces : List Traces → List ReadTraces → Type 0
 AreBatchTraces traces all = AllZip AreTracesOf traces all
 
+-- the numbers of all of them are below the modulus
+abbrev pub AreCanonicalTraces : List Traces → Type 0
+AreCanonicalTraces traces = All AreCanonical traces
+
 -- the refusal of the first traces that have one
 pub record IsFirstRefusedTraces (traces : List Traces) (fault : Fault) : Type 0 where
   pub index : ℕ
   pub air : Traces
-  pub is_there : slice_get traces place ≡ Some air
+  pub is_there : slice_get traces index ≡ Some air
   pub all : List ReadTraces
-  pub before : AreBatchTraces (take place traces) all
-  pub refusal : IsTracesRefusal place air fault
+  pub before : AreBatchTraces (take index traces) all
+  pub refusal : IsTracesRefusal index air fault
 
 -- the same; or memory runs out
 abbrev pub IsBatchTracesRefusal : List Traces → Fault → Type 0

@@ -1,5 +1,5 @@
 -- What counting over a grid of challenges answers from tables of numbers.
-use Rattle.std.specs.Prelude.{◌≡◌, ◌⊎◌, ◌+◌, ◌*◌, ℕ, List, Ok, Err, MatchOption, map}
+use Rattle.std.specs.Prelude.{◌≡◌, ◌⊎◌, ◌+◌, ◌*◌, ℕ, List, Ok, Err, MatchOption, length, map}
 use Rattle.field.specs.Quartic.{Quartic}
 use Rattle.field.specs.Extension.{Extension}
 use Rattle.batch.specs.Grids.{CountsPlanGrid, StaysWithinBound}
@@ -8,9 +8,9 @@ use Rattle.batch.specs.declared.error.BatchError.{BatchError}
 use Rattle.batch.specs.declared.grid.GridCount.{GridCount}
 use Rattle.batch.specs.declared.trace.BatchTrace.{BatchTrace}
 use Rattle.lookup_tables.specs.Nodes.{BabyBear}
-use Rattle.lookup_tables.specs.Numbers.{quartic_of}
+use Rattle.lookup_tables.specs.Numbers.{AreGroupsBelow, quartic_of}
 use Rattle.lookup_tables.specs.declared.traces.Traces.{Traces}
-use Rattle.lookup_c.specs.Batches.{IsBatchTracesRefusal, IsPlanOf, IsPlanningRefusal, Planned, ShowTraces}
+use Rattle.lookup_c.specs.Batches.{AreCanonicalTraces, IsBatchTracesRefusal, IsPlanOf, IsPlanningRefusal, Planned, ShowTraces}
 use Rattle.lookup_c.specs.Inputs.{IsListRefusal}
 use Rattle.lookup_c.specs.declared.airs.Air.{Air}
 use Rattle.lookup_c.specs.declared.counting.Grid.{Grid}
@@ -46,6 +46,9 @@ module _ (E : Extension BabyBear (Quartic BabyBear)) (airs : List Air) (traces :
   pub record CountsTables (count : GridCount) : Type 0 where
     pub plan : Planned
     pub plan_is : IsPlanOf airs plan
+    pub traces_below : AreCanonicalTraces traces
+    pub alphas_below : AreGroupsBelow (length alphas) alphas
+    pub betas_below : AreGroupsBelow (length betas) betas
     pub given : List (BatchTrace BabyBear)
     pub shown : ShowTraces traces given
     pub counts : IsCountedBy E plan given (map quartic_of alphas) (map quartic_of betas) count

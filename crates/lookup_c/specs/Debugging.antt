@@ -1,5 +1,5 @@
 -- What the debug check answers from tables of numbers.
-use Rattle.std.specs.Prelude.{◌≡◌, ◌≢◌, ◌⊎◌, ℕ, Bool, List, Some, length, map, slice_get, take}
+use Rattle.std.specs.Prelude.{◌≡◌, ◌≢◌, ◌⊎◌, ℕ, All, Bool, List, Some, length, map, slice_get, take}
 use Rattle.std.specs.List.{AllZip, zip}
 use Rattle.std.specs.String.{string_bytes}
 use Rattle.std.specs.declared.alloc.Global.{Global}
@@ -8,7 +8,7 @@ use Rattle.field.specs.Ring.{Ring}
 use Rattle.air.specs.Traces.{AreEven, layout_of}
 use Rattle.lookup.specs.Lookups.{lookups_of}
 use Rattle.lookup.specs.declared.lookups.Lookups.{Lookups}
-use Rattle.lookup_debug.specs.Contributions.{Traced}
+use Rattle.lookup_debug.specs.Contributions.{IsTracedFitting, Traced}
 use Rattle.lookup_debug.specs.FaultText.{fault_text}
 use Rattle.lookup_debug.specs.Mismatch.{AllBalance, IsMismatch}
 use Rattle.lookup_debug.specs.declared.fault.LookupFault.{LookupFault}
@@ -32,10 +32,10 @@ AreTableSets airs sets = AllZip (λ tables set. SayLookups tables (lookups_of se
 pub record IsFirstRefusedSet (airs : List Tables) (fault : Fault) : Type 0 where
   pub index : ℕ
   pub tables : Tables
-  pub is_there : slice_get airs place ≡ Some tables
+  pub is_there : slice_get airs index ≡ Some tables
   pub sets : List (Lookups BabyBear)
-  pub before : AreTableSets (take place airs) sets
-  pub refusal : IsSetRefusal place tables fault
+  pub before : AreTableSets (take index airs) sets
+  pub refusal : IsSetRefusal index tables fault
 
 -- the same; or memory runs out
 abbrev pub IsTableSetsRefusal : List Tables → Fault → Type 0
@@ -54,12 +54,13 @@ IsMisfitAt air t fault =
     ((fault ≡ Misfit air) × (¬ LookupsFit (layout_of t.traces) t.lookups))
     ⊎ ((fault ≡ Heights air) × (¬ AreEven t.traces))
 
--- so it is of one of the AIRs
+-- so it is of the first of the AIRs that do not fit
 pub record IsUnfitAmong (ts : List (Traced BabyBear)) (fault : Fault) : Type 0 where
   pub index : ℕ
   pub traced : Traced BabyBear
-  pub is_there : slice_get ts place ≡ Some traced
-  pub misfit : IsMisfitAt place traced fault
+  pub is_there : slice_get ts index ≡ Some traced
+  pub before : All IsTracedFitting (take index ts)
+  pub misfit : IsMisfitAt index traced fault
 
 module _ (R : Ring BabyBear) (eq : BabyBear → BabyBear → Bool) where
   -- all tuples of these AIRs balance

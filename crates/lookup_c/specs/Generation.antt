@@ -1,5 +1,5 @@
 -- What generation answers from tables of numbers.
-use Rattle.std.specs.Prelude.{◌≡◌, ◌≢◌, ◌⊎◌, ◌*◌, ◌<◌, ℕ, List, [], Option, Some, length, map, slice_get}
+use Rattle.std.specs.Prelude.{◌≡◌, ◌≢◌, ◌⊎◌, ◌*◌, ◌-◌, ◌^◌, ◌<◌, ℕ, List, [], Option, Some, length, map, min, slice_get}
 use Rattle.field.specs.Extension.{Extension}
 use Rattle.field.specs.Quartic.{Quartic}
 use Rattle.matrix.specs.Matrix.{Matrix}
@@ -14,8 +14,9 @@ use Rattle.lookup_model.specs.declared.error.LookupError.{LookupError}
 use Rattle.lookup_model.specs.declared.types.Lookup.{Lookup}
 use Rattle.lookup_model.specs.declared.types.LookupTerminal.{LookupTerminal}
 use Rattle.lookup_tables.specs.Nodes.{BabyBear}
-use Rattle.lookup_tables.specs.Numbers.{quartic_of}
+use Rattle.lookup_tables.specs.Numbers.{AreGroupsBelow, quartic_of}
 use Rattle.lookup_tables.specs.Tables.{SayLookups}
+use Rattle.lookup_tables.specs.Traces.{AreCanonical}
 use Rattle.lookup_tables.specs.declared.tables.Tables.{Tables}
 use Rattle.lookup_tables.specs.declared.traces.Traces.{Traces}
 use Rattle.lookup_c.specs.Inputs.{IsListRefusal, IsTableRefusal, IsTracesRefusal, said_traces}
@@ -46,7 +47,7 @@ module _ (E : Extension BabyBear (Quartic BabyBear)) (traces : AirTraces BabyBea
   -- there are fewer than two challenges for each lookup
   abbrev pub HasFewChallenges : Fault → Type 0
   HasFewChallenges fault =
-      (expected : ℕ) × (fault ≡ Length Challenges expected (length challenges)) × (length challenges < 2 * length lookups)
+      (fault ≡ Length Challenges (min (length lookups * 2) (2 ^ 64 - 1)) (length challenges)) × (length challenges < 2 * length lookups)
 
   -- the first fault of generation, over lookups that fit; or memory runs out
   abbrev pub IsFirstFault : Fault → Type 0
@@ -62,10 +63,12 @@ module _ (E : Extension BabyBear (Quartic BabyBear)) (traces : AirTraces BabyBea
 
 module _ (E : Extension BabyBear (Quartic BabyBear)) (tables : Tables) (traces : Traces) (challenges : List (List ℕ)) where
   -- Generation over the one list of lookups that the tables say, and over the traces and the challenges
-  -- of these numbers.
+  -- of these numbers, which are all below the modulus.
   pub record Generates (auxiliary : Matrix (Quartic BabyBear)) (terminal : Option (LookupTerminal (Quartic BabyBear))) : Type 0 where
     pub lookups : List (Lookup BabyBear)
     pub say : SayLookups tables lookups
+    pub traces_below : AreCanonical traces
+    pub challenges_below : AreGroupsBelow (length challenges) challenges
     pub generates : GeneratesOver E (said_traces traces) (map quartic_of challenges) lookups auxiliary terminal
 
   -- The refusal of the tables, of the traces, of the challenges, or of generation.

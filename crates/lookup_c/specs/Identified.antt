@@ -9,8 +9,9 @@ use Rattle.lookup_model.specs.declared.types.Lookup.{Lookup}
 use Rattle.lookup_model.specs.declared.types.LookupTerminal.{LookupTerminal}
 use Rattle.batch.specs.Tables.{made_table}
 use Rattle.lookup_tables.specs.Nodes.{BabyBear}
-use Rattle.lookup_tables.specs.Numbers.{quartic_of}
+use Rattle.lookup_tables.specs.Numbers.{IsGroup, quartic_of}
 use Rattle.lookup_tables.specs.Tables.{SayLookups}
+use Rattle.lookup_tables.specs.Traces.{AreCanonical}
 use Rattle.lookup_tables.specs.declared.tables.Tables.{Tables}
 use Rattle.lookup_tables.specs.declared.traces.Traces.{Traces}
 use Rattle.lookup_c.specs.Generation.{GeneratesOver, IsLookupsRefusal}
@@ -39,10 +40,13 @@ challenges_by_ids E ids sizes alpha beta =
 
 module _ (E : Extension BabyBear (Quartic BabyBear)) (tables : Tables) (traces : Traces) (ids : List ℕ) (sizes : Plan) (alpha beta : List ℕ) where
   -- Generation over the one list of lookups that the tables say, over the traces of these numbers, and
-  -- over the challenges that the ids have.
+  -- over the challenges that the ids have; all numbers are below the modulus.
   pub record GeneratesByIds (auxiliary : Matrix (Quartic BabyBear)) (terminal : Option (LookupTerminal (Quartic BabyBear))) : Type 0 where
     pub lookups : List (Lookup BabyBear)
     pub say : SayLookups tables lookups
+    pub traces_below : AreCanonical traces
+    pub alpha_below : IsGroup alpha
+    pub beta_below : IsGroup beta
     pub as_many : length ids ≡ length lookups
     pub generates : GeneratesOver E (said_traces traces) (challenges_by_ids E ids sizes alpha beta) lookups auxiliary terminal
 

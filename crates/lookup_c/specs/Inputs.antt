@@ -24,7 +24,7 @@ shown_traces t = air_traces t.main t.preprocessed t.public_values.items
 -- the first record of an AIR that is no lookup; or memory runs out
 abbrev pub IsTableRefusal : ℕ → Tables → Fault → Type 0
 IsTableRefusal air tables fault =
-    (fault ≡ Memory) ⊎ (i : ℕ) × (reason : TableFault) × (fault ≡ Table air i reason) × IsFirstBadRecord tables i
+    (fault ≡ Memory) ⊎ (i : ℕ) × (reason : TableFault) × (fault ≡ Table air i reason) × IsFirstBadRecord tables i reason
 
 -- the traces of an AIR; or memory runs out
 abbrev pub IsTracesRefusal : ℕ → Traces → Fault → Type 0

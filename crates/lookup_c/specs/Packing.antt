@@ -12,10 +12,7 @@ use Rattle.lookup_model.specs.declared.error.LookupError.{LookupError}
 use Rattle.lookup_model.specs.declared.types.Lookup.{Lookup}
 use Rattle.lookup_tables.specs.Nodes.{BabyBear}
 use Rattle.lookup_tables.specs.Tables.{SayLookups}
-use Rattle.lookup_tables.specs.Written.{SayLists, SaysWritten}
-use Rattle.lookup_tables.specs.declared.nodes.Node.{Node}
-use Rattle.lookup_tables.specs.declared.tables.Record.{Record}
-use Rattle.lookup_tables.specs.declared.tables.Span.{Span}
+use Rattle.lookup_tables.specs.Written.{SaysWritten}
 use Rattle.lookup_tables.specs.declared.tables.Tables.{Tables}
 use Rattle.lookup_tables.specs.declared.writer.Written.{Written}
 use Rattle.lookup_c.specs.Batches.{IsSetRefusal}
@@ -56,11 +53,3 @@ module _ (R : Ring BabyBear) (eq : BabyBear → BabyBear → Bool) where
       ⊎ (((before : Lookups BabyBear) × SayLookups tables (lookups_of before) × IsPackRefusal max_degree (lookups_of before) fault)
       ⊎ (((before : Lookups BabyBear) × (after : Lookups BabyBear) × SayLookups tables (lookups_of before) × IsPackedFrom max_degree (lookups_of before) (lookups_of after) × IsUnsayableRefusal (lookups_of after) fault)
       ⊎ ((made : Written) × PacksTables tables max_degree made × IsTableRoomRefusal (sizes_of made) room fault)))
-
-  -- the packed lookups of tables are those that these nodes, tuples, names and records say
-  pub record PacksInto (tables : Tables) (max_degree : ℕ) (nodes : List Node) (tuples : List Span) (names : List ℕ) (records : List Record) : Type 0 where
-    pub before : Lookups BabyBear
-    pub say : SayLookups tables (lookups_of before)
-    pub after : Lookups BabyBear
-    pub packed : IsPackedFrom max_degree (lookups_of before) (lookups_of after)
-    pub written : SayLists nodes tuples names records (lookups_of after)

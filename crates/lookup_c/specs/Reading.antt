@@ -7,10 +7,7 @@ use Rattle.lookup_model.specs.Records.{IsFirstMalformed}
 use Rattle.lookup_model.specs.declared.error.LookupError.TheVariants.{BadRecord}
 use Rattle.lookup_model.specs.declared.types.Lookup.{Lookup}
 use Rattle.lookup_tables.specs.Nodes.{BabyBear}
-use Rattle.lookup_tables.specs.Written.{SayLists, SaysWritten}
-use Rattle.lookup_tables.specs.declared.nodes.Node.{Node}
-use Rattle.lookup_tables.specs.declared.tables.Record.{Record}
-use Rattle.lookup_tables.specs.declared.tables.Span.{Span}
+use Rattle.lookup_tables.specs.Written.{SaysWritten}
 use Rattle.lookup_tables.specs.declared.writer.Written.{Written}
 use Rattle.serde_json.specs.Errors.{IsMemory}
 use Rattle.serde_json.specs.declared.error.Error.{Error}
@@ -36,14 +33,8 @@ pub record ReadsTables (json : List ℕ) (made : Written) : Type 0 where
   pub written : SaysWritten made (lookups_of set)
 
 -- the refusal of the text, of a lookup that no tables say, or for the room
-abbrev pub IsJsonCallRefusal : TableSizes → Fault → Type 0
-IsJsonCallRefusal room fault =
+abbrev pub IsJsonCallRefusal : List ℕ → TableSizes → Fault → Type 0
+IsJsonCallRefusal json room fault =
     IsJsonRefusal fault
-    ⊎ (((set : Lookups BabyBear) × IsUnsayableRefusal (lookups_of set) fault)
-    ⊎ ((made : Written) × IsTableRoomRefusal (sizes_of made) room fault))
-
--- the lookups that a text says are those that these nodes, tuples, names and records say
-pub record ReadsInto (json : List ℕ) (nodes : List Node) (tuples : List Span) (names : List ℕ) (records : List Record) : Type 0 where
-  pub utf8 : IsUtf8 json
-  pub set : Lookups BabyBear
-  pub written : SayLists nodes tuples names records (lookups_of set)
+    ⊎ ((IsUtf8 json × (set : Lookups BabyBear) × IsUnsayableRefusal (lookups_of set) fault)
+    ⊎ ((made : Written) × ReadsTables json made × IsTableRoomRefusal (sizes_of made) room fault))

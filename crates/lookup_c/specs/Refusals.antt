@@ -60,6 +60,7 @@ table_refusal air r table_fault.Kind = placed 2 4 air 0 r 0 0
 table_refusal air r table_fault.Name = placed 2 5 air 0 r 0 0
 table_refusal air r table_fault.Deep = placed 2 6 air 0 r 0 0
 table_refusal air r table_fault.Row = placed 2 7 air 0 r 0 0
+table_refusal air r table_fault.Many = placed 2 8 air 0 r 0 0
 
 -- the refusal of the traces of an AIR
 abbrev pub trace_refusal : ℕ → TraceFault → Refusal

@@ -9,7 +9,7 @@ use Rattle.batch.specs.declared.error.BatchError.{BatchError}
 use Rattle.batch.specs.declared.trace.BatchTrace.{BatchTrace}
 use Rattle.lookup_tables.specs.Nodes.{BabyBear}
 use Rattle.lookup_tables.specs.declared.traces.Traces.{Traces}
-use Rattle.lookup_c.specs.Batches.{IsBatchTracesRefusal, IsPlanOf, IsPlanningRefusal, Planned, ShowTraces}
+use Rattle.lookup_c.specs.Batches.{AreCanonicalTraces, IsBatchTracesRefusal, IsPlanOf, IsPlanningRefusal, Planned, ShowTraces}
 use Rattle.lookup_c.specs.Counting.{number_of}
 use Rattle.lookup_c.specs.declared.airs.Air.{Air}
 use Rattle.lookup_c.specs.declared.fault.Fault.{Fault}
@@ -41,6 +41,7 @@ module _ (E : Extension BabyBear (Quartic BabyBear)) (airs : List Air) (traces :
   pub record CountsMessagesOf (count : SoundnessCount) : Type 0 where
     pub plan : Planned
     pub plan_is : IsPlanOf airs plan
+    pub traces_below : AreCanonicalTraces traces
     pub given : List (BatchTrace BabyBear)
     pub shown : ShowTraces traces given
     pub counts : IsMessageCount E plan given count

@@ -8,9 +8,9 @@ use Rattle.batch.specs.Tables.{made_table}
 use Rattle.batch.specs.declared.error.BatchError.{BatchError}
 use Rattle.batch.specs.declared.trace.BatchTrace.{BatchTrace}
 use Rattle.lookup_tables.specs.Nodes.{BabyBear}
-use Rattle.lookup_tables.specs.Numbers.{quartic_of}
+use Rattle.lookup_tables.specs.Numbers.{IsGroup, quartic_of}
 use Rattle.lookup_tables.specs.declared.traces.Traces.{Traces}
-use Rattle.lookup_c.specs.Batches.{IsBatchTracesRefusal, IsPlanOf, IsPlanningRefusal, Planned, ShowTraces}
+use Rattle.lookup_c.specs.Batches.{AreCanonicalTraces, IsBatchTracesRefusal, IsPlanOf, IsPlanningRefusal, Planned, ShowTraces}
 use Rattle.lookup_c.specs.Inputs.{IsChallengeRefusal}
 use Rattle.lookup_c.specs.Witnesses.{AreWitness, IsWitnessRefusal}
 use Rattle.lookup_c.specs.declared.airs.Air.{Air}
@@ -38,6 +38,9 @@ module _ (E : Extension BabyBear (Quartic BabyBear)) (airs : List Air) (traces :
   pub record VerifiesTables : Type 0 where
     pub plan : Planned
     pub plan_is : IsPlanOf airs plan
+    pub traces_below : AreCanonicalTraces traces
+    pub alpha_below : IsGroup alpha
+    pub beta_below : IsGroup beta
     pub given : List (BatchTrace BabyBear)
     pub shown : ShowTraces traces given
     pub witness : Witness (Quartic BabyBear)

@@ -2,7 +2,7 @@
 ghost use Rattle.std.specs.Prelude.{◌≡◌, ◌≢◌, ◌+◌, ◌*◌, MatchResult};
 ghost use Rattle.lookup_c.specs.Batches.{planned};
 ghost use Rattle.lookup_c.specs.Counting.{CountsNumbers, CountsTables, IsCountedBy, IsCountingRefusal, IsGridCallRefusal, ShowsGrid};
-ghost use Rattle.lookup_c.specs.Refusals.{IsRefusal};
+ghost use Rattle.lookup_c.specs.Refusals.{IsRefusal, placed};
 ghost use Rattle.lookup_c.specs.declared.fault.Fault.{Fault};
 
 use crate::airs::{Air, all_traces, plan_of, plan_traces};
@@ -121,6 +121,7 @@ pub extern "C" fn volgwain_grid_count(
     text: &mut [u8],
 ) -> u32
     ensures code { result ≡ refusal.new.code }
+    ensures no_refusal { result ≡ 0 → refusal.new ≡ placed 0 0 0 0 0 0 0 }
     ensures done { let E = ⟦<BabyBear4 as Over<BabyBear>>⟧.fields in
         result ≡ 0 → CountsNumbers E airs.now traces.now alphas.now betas.now grid.new }
     ensures refused { let E = ⟦<BabyBear4 as Over<BabyBear>>⟧.fields in

@@ -2,7 +2,7 @@
 ghost use Rattle.std.specs.Prelude.{◌≡◌, ◌≢◌, ◌⊎◌, MatchResult, length, map};
 ghost use Rattle.lookup_debug.specs.Contributions.{AreFitting, IsTracedFitting, traced_of};
 ghost use Rattle.lookup_c.specs.Debugging.{AreTableSets, ChecksTables, ChecksTraced, IsCheckRefusal, IsDebugCallRefusal, IsMisfitAt, IsTableSetsRefusal, IsUnfitAmong, all_traced, traced_tables};
-ghost use Rattle.lookup_c.specs.Refusals.{IsRefusal};
+ghost use Rattle.lookup_c.specs.Refusals.{IsRefusal, placed};
 ghost use Rattle.lookup_c.specs.declared.fault.Fault.{Fault};
 
 use crate::airs::{all_traces, set_of};
@@ -140,6 +140,7 @@ pub extern "C" fn volgwain_debug_check(
     text: &mut [u8],
 ) -> u32
     ensures code { result ≡ refusal.new.code }
+    ensures no_refusal { result ≡ 0 → refusal.new ≡ placed 0 0 0 0 0 0 0 }
     ensures balanced { result ≡ 0
         → ChecksTables ⟦<BabyBear as PrimeCharacteristicRing>⟧.ring
         ⟦<BabyBear as PartialEq>⟧.eq airs.now traces.now }

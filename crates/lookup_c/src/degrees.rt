@@ -3,7 +3,7 @@ ghost use Rattle.std.specs.Prelude.{◌≡◌, ◌≢◌, MatchResult, length, m
 ghost use Rattle.lookup.specs.Lookups.{lookups_of};
 ghost use Rattle.lookup_model.specs.LookupDegree.{lookup_degree};
 ghost use Rattle.lookup_c.specs.Degrees.{GivesDegrees, IsDegreeRefusal, IsDegreesRefusal};
-ghost use Rattle.lookup_c.specs.Refusals.{IsRefusal};
+ghost use Rattle.lookup_c.specs.Refusals.{IsRefusal, placed};
 ghost use Rattle.lookup_c.specs.declared.fault.Fault.{Fault};
 
 use crate::airs::set_of;
@@ -62,6 +62,7 @@ pub extern "C" fn volgwain_degrees(
     text: &mut [u8],
 ) -> u32
     ensures code { result ≡ refusal.new.code }
+    ensures no_refusal { result ≡ 0 → refusal.new ≡ placed 0 0 0 0 0 0 0 }
     ensures done { result ≡ 0 → GivesDegrees tables.now degrees.new }
     ensures refused { result ≢ 0
         → (fault : Fault) × IsRefusal fault refusal.new

@@ -1,7 +1,7 @@
 //! The call that generates the auxiliary trace of one AIR.
 ghost use Rattle.std.specs.Prelude.{◌≡◌, ◌≢◌, MatchResult, length};
 ghost use Rattle.lookup_c.specs.Generation.{Generates, GeneratesNumbers, IsGenerateRefusal};
-ghost use Rattle.lookup_c.specs.Refusals.{IsRefusal};
+ghost use Rattle.lookup_c.specs.Refusals.{IsRefusal, placed};
 ghost use Rattle.lookup_c.specs.declared.fault.Fault.{Fault};
 
 use crate::fault::{Fault, Part};
@@ -58,6 +58,7 @@ pub extern "C" fn volgwain_generate(
     text: &mut [u8],
 ) -> u32
     ensures code { result ≡ refusal.new.code }
+    ensures no_refusal { result ≡ 0 → refusal.new ≡ placed 0 0 0 0 0 0 0 }
     ensures done { let E = ⟦<BabyBear4 as Over<BabyBear>>⟧.fields in
         result ≡ 0
         → GeneratesNumbers E tables.now traces.now challenges.now auxiliary.new terminal.new }

@@ -3,7 +3,7 @@ ghost use Rattle.std.specs.Prelude.{◌≡◌, ◌≢◌, ◌<◌, All, MatchRes
 ghost use Rattle.batch.specs.Tables.{made_table};
 ghost use Rattle.lookup_model.specs.Challenges.{column_challenges};
 ghost use Rattle.lookup_c.specs.Identified.{GeneratesByIds, GeneratesByIdsNumbers, IsByIdsRefusal, IsFirstLargeId, IsGenerateByIdsRefusal, IsIdsRefusal};
-ghost use Rattle.lookup_c.specs.Refusals.{IsRefusal};
+ghost use Rattle.lookup_c.specs.Refusals.{IsRefusal, placed};
 ghost use Rattle.lookup_c.specs.declared.fault.Fault.{Fault};
 
 use crate::fault::{Fault, Part};
@@ -145,6 +145,7 @@ pub extern "C" fn volgwain_generate_by_ids(
     text: &mut [u8],
 ) -> u32
     ensures code { result ≡ refusal.new.code }
+    ensures no_refusal { result ≡ 0 → refusal.new ≡ placed 0 0 0 0 0 0 0 }
     ensures done { let E = ⟦<BabyBear4 as Over<BabyBear>>⟧.fields in
         result ≡ 0
         → GeneratesByIdsNumbers E tables.now traces.now ids.now sizes.now alpha.now beta.now

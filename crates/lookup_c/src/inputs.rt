@@ -1,6 +1,6 @@
 //! What calls read: lookups, traces and challenges, with the refusals of each.
-ghost use Rattle.std.specs.Prelude.{◌≡◌, MatchResult, map};
-ghost use Rattle.lookup_tables.specs.Numbers.{quartic_of};
+ghost use Rattle.std.specs.Prelude.{◌≡◌, MatchResult, length, map};
+ghost use Rattle.lookup_tables.specs.Numbers.{AreGroupsBelow, IsGroup, quartic_of};
 ghost use Rattle.lookup_tables.specs.Tables.{SayLookups};
 ghost use Rattle.lookup_tables.specs.Traces.{AreTracesOf};
 ghost use Rattle.lookup_c.specs.Inputs.{IsChallengeRefusal, IsListRefusal, IsTableRefusal, IsTracesRefusal};
@@ -48,7 +48,8 @@ pub(crate) fn list_of(
     air: usize,
     groups: &[[u32; 4]],
 ) -> Result<Vec<BabyBear4>, Fault>
-    ensures { MatchResult result (λ v. v.items ≡ map quartic_of groups.now)
+    ensures { MatchResult result
+        (λ v. (v.items ≡ map quartic_of groups.now) × AreGroupsBelow (length groups.now) groups.now)
         (IsListRefusal part air groups.now) }
 {
     match extensions(alloc, groups) {
@@ -60,7 +61,8 @@ pub(crate) fn list_of(
 
 /// The challenge that four numbers say.
 pub(crate) fn challenge_of(part: Part, numbers: [u32; 4]) -> Result<BabyBear4, Fault>
-    ensures { MatchResult result (λ x. x ≡ quartic_of numbers) (IsChallengeRefusal part numbers) }
+    ensures { MatchResult result (λ x. (x ≡ quartic_of numbers) × IsGroup numbers)
+        (IsChallengeRefusal part numbers) }
 {
     match extension(numbers) {
         Some(x) => Ok(x),

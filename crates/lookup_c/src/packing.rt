@@ -1,9 +1,10 @@
 //! The call that packs the lookups of an AIR.
-ghost use Rattle.std.specs.Prelude.{◌≡◌, ◌≢◌, MatchResult, take};
+ghost use Rattle.std.specs.Prelude.{◌≡◌, ◌≢◌, MatchResult};
 ghost use Rattle.lookup.specs.Lookups.{lookups_of};
-ghost use Rattle.lookup_c.specs.Packing.{IsPackCallRefusal, IsPackRefusal, IsPackedFrom, PacksInto, PacksTables};
-ghost use Rattle.lookup_c.specs.Refusals.{IsRefusal};
-ghost use Rattle.lookup_c.specs.Written.{HasTableRoom, room_of, sizes_of};
+ghost use Rattle.lookup_c.specs.Packing.{IsPackCallRefusal, IsPackRefusal, IsPackedFrom, PacksTables};
+ghost use Rattle.lookup_c.specs.Refusals.{IsRefusal, placed};
+ghost use Rattle.lookup_c.specs.Written.{HasTableRoom, WritesTables, arrays, room_of, sizes_of};
+ghost use Rattle.lookup_tables.specs.declared.writer.Written.{Written};
 ghost use Rattle.lookup_c.specs.declared.fault.Fault.{Fault};
 
 use crate::airs::set_of;
@@ -74,17 +75,17 @@ pub extern "C" fn volgwain_pack(
     text: &mut [u8],
 ) -> u32
     ensures code { result ≡ refusal.new.code }
+    ensures no_refusal { result ≡ 0 → refusal.new ≡ placed 0 0 0 0 0 0 0 }
     ensures done { result ≡ 0
-        → PacksInto ⟦<BabyBear as PrimeCharacteristicRing>⟧.ring ⟦<BabyBear as PartialEq>⟧.eq
-        tables.now max_degree (take sizes.new.nodes nodes.new) (take sizes.new.tuples tuples.new)
-        (take sizes.new.names names.new) (take sizes.new.records records.new) }
-    ensures within { result ≡ 0
-        → HasTableRoom sizes.new (room_of nodes.old tuples.old names.old records.old) }
+        → (made : Written) × PacksTables ⟦<BabyBear as PrimeCharacteristicRing>⟧.ring
+        ⟦<BabyBear as PartialEq>⟧.eq tables.now max_degree made
+        × WritesTables made (arrays nodes.old tuples.old names.old records.old)
+        (arrays nodes.new tuples.new names.new records.new) sizes.new }
     ensures refused { result ≢ 0
         → (fault : Fault) × IsRefusal fault refusal.new
         × IsPackCallRefusal ⟦<BabyBear as PrimeCharacteristicRing>⟧.ring
         ⟦<BabyBear as PartialEq>⟧.eq tables.now max_degree
-        (room_of nodes.old tuples.old names.old records.old) fault }
+        (room_of (arrays nodes.old tuples.old names.old records.old)) fault }
     ensures nodes_kept { result ≢ 0 → nodes.new ≡ nodes.old }
     ensures tuples_kept { result ≢ 0 → tuples.new ≡ tuples.old }
     ensures names_kept { result ≢ 0 → names.new ≡ names.old }

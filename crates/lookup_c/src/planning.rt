@@ -3,7 +3,7 @@ ghost use Rattle.std.specs.Prelude.{◌≡◌, ◌≢◌, ◌+◌, ◌≤◌, �
 ghost use Rattle.std.specs.List.{flat_map};
 ghost use Rattle.lookup_c.specs.Batches.{IsPlanOf, planned};
 ghost use Rattle.lookup_c.specs.Planning.{IsPlanCallRefusal, PlansNumbers, items_of};
-ghost use Rattle.lookup_c.specs.Refusals.{IsRefusal};
+ghost use Rattle.lookup_c.specs.Refusals.{IsRefusal, placed};
 ghost use Rattle.lookup_c.specs.declared.fault.Fault.{Fault};
 
 use crate::airs::{Air, plan_of};
@@ -93,6 +93,7 @@ pub extern "C" fn volgwain_plan(
     text: &mut [u8],
 ) -> u32
     ensures code { result ≡ refusal.new.code }
+    ensures no_refusal { result ≡ 0 → refusal.new ≡ placed 0 0 0 0 0 0 0 }
     ensures done { result ≡ 0 → PlansNumbers airs.now ids.new plan.new }
     ensures refused { result ≢ 0
         → (fault : Fault) × IsRefusal fault refusal.new

@@ -2,7 +2,7 @@
 ghost use Rattle.std.specs.Prelude.{◌≡◌, ◌≢◌, MatchResult, length};
 ghost use Rattle.lookup_c.specs.Batches.{planned};
 ghost use Rattle.lookup_c.specs.Proving.{HasRoom, IsProveCallRefusal, IsProveRefusal, IsProvedBy, IsProvingRefusal, IsRoomRefusal, ProvesNumbers, ProvesTables};
-ghost use Rattle.lookup_c.specs.Refusals.{IsRefusal};
+ghost use Rattle.lookup_c.specs.Refusals.{IsRefusal, placed};
 ghost use Rattle.lookup_c.specs.declared.fault.Fault.{Fault};
 
 use crate::airs::{Air, all_traces, plan_of, plan_traces};
@@ -126,6 +126,7 @@ pub extern "C" fn volgwain_prove(
     text: &mut [u8],
 ) -> u32
     ensures code { result ≡ refusal.new.code }
+    ensures no_refusal { result ≡ 0 → refusal.new ≡ placed 0 0 0 0 0 0 0 }
     ensures done { let E = ⟦<BabyBear4 as Over<BabyBear>>⟧.fields in
         result ≡ 0 → ProvesNumbers E airs.now traces.now alpha.now beta.now auxiliary.new
         terminals.new }

@@ -1,9 +1,10 @@
 //! The call that reads lookups from JSON.
-ghost use Rattle.std.specs.Prelude.{◌≡◌, ◌≢◌, MatchResult, take};
+ghost use Rattle.std.specs.Prelude.{◌≡◌, ◌≢◌, MatchResult};
 ghost use Rattle.std.specs.Str.{IsUtf8};
-ghost use Rattle.lookup_c.specs.Reading.{IsJsonCallRefusal, IsJsonRefusal, IsTextRefusal, ReadsInto, ReadsTables};
-ghost use Rattle.lookup_c.specs.Refusals.{IsRefusal};
-ghost use Rattle.lookup_c.specs.Written.{HasTableRoom, room_of, sizes_of};
+ghost use Rattle.lookup_c.specs.Reading.{IsJsonCallRefusal, IsJsonRefusal, IsTextRefusal, ReadsTables};
+ghost use Rattle.lookup_c.specs.Refusals.{IsRefusal, placed};
+ghost use Rattle.lookup_c.specs.Written.{HasTableRoom, WritesTables, arrays, room_of, sizes_of};
+ghost use Rattle.lookup_tables.specs.declared.writer.Written.{Written};
 ghost use Rattle.lookup_c.specs.declared.fault.Fault.{Fault};
 
 use crate::fault::Fault;
@@ -46,7 +47,8 @@ fn set_from_json(alloc: Global, json: &[u8]) -> Result<Lookups<BabyBear>, Fault>
 /// Tables of the lookups that a text says.
 fn tables_from_json(alloc: Global, json: &[u8], room: TableSizes) -> Result<Written, Fault>
     ensures { MatchResult result
-        (λ w. ReadsTables json.now w × HasTableRoom (sizes_of w) room) (IsJsonCallRefusal room) }
+        (λ w. ReadsTables json.now w × HasTableRoom (sizes_of w) room)
+        (IsJsonCallRefusal json.now room) }
 {
     let set = set_from_json(alloc, json)?;
     let made = tables_of(alloc, &set)?;
@@ -74,14 +76,15 @@ pub extern "C" fn volgwain_read_json(
     text: &mut [u8],
 ) -> u32
     ensures code { result ≡ refusal.new.code }
+    ensures no_refusal { result ≡ 0 → refusal.new ≡ placed 0 0 0 0 0 0 0 }
     ensures done { result ≡ 0
-        → ReadsInto json.now (take sizes.new.nodes nodes.new) (take sizes.new.tuples tuples.new)
-        (take sizes.new.names names.new) (take sizes.new.records records.new) }
-    ensures within { result ≡ 0
-        → HasTableRoom sizes.new (room_of nodes.old tuples.old names.old records.old) }
+        → (made : Written) × ReadsTables json.now made
+        × WritesTables made (arrays nodes.old tuples.old names.old records.old)
+        (arrays nodes.new tuples.new names.new records.new) sizes.new }
     ensures refused { result ≢ 0
         → (fault : Fault) × IsRefusal fault refusal.new
-        × IsJsonCallRefusal (room_of nodes.old tuples.old names.old records.old) fault }
+        × IsJsonCallRefusal json.now (room_of (arrays nodes.old tuples.old names.old records.old))
+        fault }
     ensures nodes_kept { result ≢ 0 → nodes.new ≡ nodes.old }
     ensures tuples_kept { result ≢ 0 → tuples.new ≡ tuples.old }
     ensures names_kept { result ≢ 0 → names.new ≡ names.old }

@@ -96,6 +96,7 @@ fn table_refusal(air: usize, lookup: usize, fault: &TableFault) -> Refusal
         TableFault::Name => placed(2, 5, air, 0, lookup, 0, 0),
         TableFault::Deep => placed(2, 6, air, 0, lookup, 0, 0),
         TableFault::Row => placed(2, 7, air, 0, lookup, 0, 0),
+        TableFault::Many => placed(2, 8, air, 0, lookup, 0, 0),
     }
 }
 

@@ -1,7 +1,7 @@
 //! The call that counts the messages of a batch.
 ghost use Rattle.std.specs.Prelude.{◌≡◌, ◌≢◌, MatchResult};
 ghost use Rattle.lookup_c.specs.Batches.{planned};
-ghost use Rattle.lookup_c.specs.Refusals.{IsRefusal};
+ghost use Rattle.lookup_c.specs.Refusals.{IsRefusal, placed};
 ghost use Rattle.lookup_c.specs.Soundness.{CountsMessages, CountsMessagesOf, IsCountCallRefusal, IsMessageCount, IsMessageRefusal, ShowsCounts};
 ghost use Rattle.lookup_c.specs.declared.fault.Fault.{Fault};
 
@@ -106,6 +106,7 @@ pub extern "C" fn volgwain_soundness_count(
     text: &mut [u8],
 ) -> u32
     ensures code { result ≡ refusal.new.code }
+    ensures no_refusal { result ≡ 0 → refusal.new ≡ placed 0 0 0 0 0 0 0 }
     ensures done { let E = ⟦<BabyBear4 as Over<BabyBear>>⟧.fields in
         result ≡ 0 → CountsMessages E airs.now traces.now counts.new }
     ensures refused { let E = ⟦<BabyBear4 as Over<BabyBear>>⟧.fields in

@@ -1,7 +1,7 @@
 //! The call of a verifier on the plan of a batch.
 ghost use Rattle.std.specs.Prelude.{◌≡◌, ◌≢◌, MatchResult};
 ghost use Rattle.lookup_c.specs.Batches.{planned};
-ghost use Rattle.lookup_c.specs.Refusals.{IsRefusal};
+ghost use Rattle.lookup_c.specs.Refusals.{IsRefusal, placed};
 ghost use Rattle.lookup_c.specs.Verifying.{IsVerifiedBy, IsVerifyRefusal, IsVerifyingRefusal, VerifiesTables};
 ghost use Rattle.lookup_c.specs.declared.fault.Fault.{Fault};
 
@@ -80,6 +80,7 @@ pub extern "C" fn volgwain_verify(
     text: &mut [u8],
 ) -> u32
     ensures code { result ≡ refusal.new.code }
+    ensures no_refusal { result ≡ 0 → refusal.new ≡ placed 0 0 0 0 0 0 0 }
     ensures accepted { let E = ⟦<BabyBear4 as Over<BabyBear>>⟧.fields in
         result ≡ 0
         → VerifiesTables E airs.now traces.now alpha.now beta.now witness.now }

@@ -1,7 +1,8 @@
 //! Witnesses as a verifier gets them.
-ghost use Rattle.std.specs.Prelude.{◌≡◌, MatchResult};
+ghost use Rattle.std.specs.Prelude.{◌≡◌, MatchResult, length, true};
+ghost use Rattle.lookup_tables.specs.Numbers.{AreGroupsBelow};
 ghost use Rattle.lookup_tables.specs.Traces.{makes_rows};
-ghost use Rattle.lookup_c.specs.Witnesses.{AreWitness, IsAuxiliaryRefusal, IsTerminalRefusal, IsWitnessRefusal, auxiliary_of, terminal_of};
+ghost use Rattle.lookup_c.specs.Witnesses.{AreWitness, IsAuxiliaryRefusal, IsTerminal, IsTerminalRefusal, IsWitnessRefusal, auxiliary_of, terminal_of};
 
 use crate::fault::{Fault, Part};
 use crate::inputs::list_of;
@@ -33,7 +34,10 @@ fn read_auxiliary(
     air: usize,
     witness: &AirWitness<'_>,
 ) -> Result<RowMajorMatrix<BabyBear4>, Fault>
-    ensures { MatchResult result (λ m. m ≡ auxiliary_of witness.now)
+    ensures { MatchResult result
+        (λ m. (m ≡ auxiliary_of witness.now)
+        × (makes_rows (length witness.now.auxiliary.now) witness.now.width ≡ true)
+        × AreGroupsBelow (length witness.now.auxiliary.now) witness.now.auxiliary.now)
         (IsAuxiliaryRefusal air witness.now) }
 {
     let width = witness.width;
@@ -48,7 +52,8 @@ fn read_auxiliary(
 ///
 /// Refuses one that is present and no element.
 fn read_terminal(air: usize, terminal: Terminal) -> Result<Option<LookupTerminal<BabyBear4>>, Fault>
-    ensures { MatchResult result (λ t. t ≡ terminal_of terminal) (IsTerminalRefusal air terminal) }
+    ensures { MatchResult result (λ t. (t ≡ terminal_of terminal) × IsTerminal terminal)
+        (IsTerminalRefusal air terminal) }
 {
     if terminal.present == 0 {
         return Ok(None);

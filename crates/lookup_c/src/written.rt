@@ -1,8 +1,8 @@
 //! Tables that calls write.
-ghost use Rattle.std.specs.Prelude.{◌≡◌, ◌<◌, ◌≤◌, MatchResult, length, take};
+ghost use Rattle.std.specs.Prelude.{◌≡◌, ◌<◌, ◌≤◌, MatchResult, length};
 ghost use Rattle.lookup.specs.Lookups.{lookups_of};
 ghost use Rattle.lookup_tables.specs.Written.{SaysWritten};
-ghost use Rattle.lookup_c.specs.Written.{HasTableRoom, IsTableRoomRefusal, IsUnsayableRefusal, sizes_of};
+ghost use Rattle.lookup_c.specs.Written.{HasTableRoom, IsTableRoomRefusal, IsUnsayableRefusal, WritesTables, arrays, room_of, sizes_of, written_over};
 ghost use Rattle.lookup_c.specs.declared.fault.Fault.TheVariants.{Length};
 
 use crate::fault::{Fault, Part};
@@ -87,7 +87,7 @@ pub(crate) fn check_table_room(tables: &Written, room: TableSizes) -> Result<(),
 /// Writes items from the start of an array on.
 fn write_items<T: Copy>(array: &mut [T], values: &[T])
     requires { length values.now ≤ length array.old }
-    ensures { take (length values.now) array.new ≡ values.now }
+    ensures { array.new ≡ written_over values.now array.old }
 {
     for index in 0..values.len() {
         array[index] = values[index];
@@ -102,15 +102,10 @@ pub(crate) fn write_tables(
     names: &mut [u8],
     records: &mut [Record],
 ) -> TableSizes
-    requires room_for_nodes { length tables.now.nodes.items ≤ length nodes.old }
-    requires room_for_tuples { length tables.now.tuples.items ≤ length tuples.old }
-    requires room_for_names { length tables.now.names.items ≤ length names.old }
-    requires room_for_records { length tables.now.records.items ≤ length records.old }
-    ensures sizes { result ≡ sizes_of tables.now }
-    ensures nodes { take result.nodes nodes.new ≡ tables.now.nodes.items }
-    ensures tuples { take result.tuples tuples.new ≡ tables.now.tuples.items }
-    ensures names { take result.names names.new ≡ tables.now.names.items }
-    ensures records { take result.records records.new ≡ tables.now.records.items }
+    requires { HasTableRoom (sizes_of tables.now)
+        (room_of (arrays nodes.old tuples.old names.old records.old)) }
+    ensures { WritesTables tables.now (arrays nodes.old tuples.old names.old records.old)
+        (arrays nodes.new tuples.new names.new records.new) result }
 {
     write_items(nodes, &tables.nodes);
     write_items(tuples, &tables.tuples);
