@@ -49,14 +49,12 @@ impl Air {
     /// # }
     /// ```
     ///
-    /// Refuses a text that is not that of lookups ([`Code::BadText`]), lists of different lengths
-    /// or a column that is not the place in the list ([`Code::MalformedLookup`]), a row that is
-    /// neither this one nor the next one ([`Code::DoesNotFit`]), and a list of too many nodes
-    /// ([`Code::BadTable`]).
+    /// Refuses a text that is not that of lookups ([`Code::BadText`]), lists of different lengths or
+    /// a column that is not the place in the list ([`Code::MalformedLookup`]), and a list of too
+    /// many nodes ([`Code::BadTable`]).
     ///
     /// [`Code::BadText`]: crate::Code::BadText
     /// [`Code::MalformedLookup`]: crate::Code::MalformedLookup
-    /// [`Code::DoesNotFit`]: crate::Code::DoesNotFit
     /// [`Code::BadTable`]: crate::Code::BadTable
     pub fn from_json(json: &str) -> Result<Self, Error> {
         Ok(Air { tables: Arc::new(ffi::read_json(json)?) })

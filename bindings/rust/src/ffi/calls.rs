@@ -1,4 +1,5 @@
-//! A safe function for each call of the library.
+//! A safe function for each call of the library. Its one unsafe block meets what the header asks for
+//! as the module above says.
 
 use super::declared::{self, Counts, Grid, PlanSizes, Refusal, TableSizes, Terminal, Wide};
 use crate::batch::{GridCount, SoundnessCount};
@@ -29,7 +30,7 @@ pub(crate) fn generate(
 ) -> Result<(), Error> {
     let (tables, traces) = (raw_tables(tables), raw_traces(traces));
     let challenges = challenges.as_flattened();
-    answer(|refusal, text| unsafe {
+    answer(|refusal, text, size| unsafe {
         declared::volgwain_generate(
             &tables,
             &traces,
@@ -39,8 +40,8 @@ pub(crate) fn generate(
             auxiliary.len(),
             terminal,
             refusal,
-            text.as_mut_ptr().cast::<c_char>(),
-            text.len(),
+            text,
+            size,
         )
     })
 }
@@ -48,14 +49,14 @@ pub(crate) fn generate(
 /// Gives the degree of each lookup's constraint.
 pub(crate) fn degrees(tables: &Tables, degrees: &mut [usize]) -> Result<(), Error> {
     let tables = raw_tables(tables);
-    answer(|refusal, text| unsafe {
+    answer(|refusal, text, size| unsafe {
         declared::volgwain_degrees(
             &tables,
             degrees.as_mut_ptr(),
             degrees.len(),
             refusal,
-            text.as_mut_ptr().cast::<c_char>(),
-            text.len(),
+            text,
+            size,
         )
     })
 }
@@ -63,7 +64,7 @@ pub(crate) fn degrees(tables: &Tables, degrees: &mut [usize]) -> Result<(), Erro
 /// Packs the lookups of an AIR.
 pub(crate) fn pack(tables: &Tables, max_degree: usize) -> Result<Tables, Error> {
     let raw = raw_tables(tables);
-    written(Room::of(tables), |out, sizes, refusal, text| unsafe {
+    written(Room::of(tables), |out, sizes, refusal, text, size| unsafe {
         declared::volgwain_pack(
             &raw,
             max_degree,
@@ -77,15 +78,15 @@ pub(crate) fn pack(tables: &Tables, max_degree: usize) -> Result<Tables, Error> 
             out.records.len(),
             sizes,
             refusal,
-            text.as_mut_ptr().cast::<c_char>(),
-            text.len(),
+            text,
+            size,
         )
     })
 }
 
 /// Reads the lookups of an AIR from JSON.
 pub(crate) fn read_json(json: &str) -> Result<Tables, Error> {
-    written(Room::of_json(json), |out, sizes, refusal, text| unsafe {
+    written(Room::of_json(json), |out, sizes, refusal, text, size| unsafe {
         declared::volgwain_read_json(
             json.as_ptr().cast::<c_char>(),
             json.len(),
@@ -99,8 +100,8 @@ pub(crate) fn read_json(json: &str) -> Result<Tables, Error> {
             out.records.len(),
             sizes,
             refusal,
-            text.as_mut_ptr().cast::<c_char>(),
-            text.len(),
+            text,
+            size,
         )
     })
 }
@@ -109,7 +110,7 @@ pub(crate) fn read_json(json: &str) -> Result<Tables, Error> {
 pub(crate) fn plan(airs: &[Planned<'_>], ids: &mut [usize]) -> Result<PlanSizes, Error> {
     let airs = raw_airs(airs);
     let mut sizes = PlanSizes::default();
-    answer(|refusal, text| unsafe {
+    answer(|refusal, text, size| unsafe {
         declared::volgwain_plan(
             airs.as_ptr(),
             airs.len(),
@@ -117,8 +118,8 @@ pub(crate) fn plan(airs: &[Planned<'_>], ids: &mut [usize]) -> Result<PlanSizes,
             ids.len(),
             &mut sizes,
             refusal,
-            text.as_mut_ptr().cast::<c_char>(),
-            text.len(),
+            text,
+            size,
         )
     })?;
     Ok(sizes)
@@ -135,7 +136,7 @@ pub(crate) fn generate_by_ids(
     terminal: &mut Terminal,
 ) -> Result<(), Error> {
     let (tables, traces) = (raw_tables(tables), raw_traces(traces));
-    answer(|refusal, text| unsafe {
+    answer(|refusal, text, size| unsafe {
         declared::volgwain_generate_by_ids(
             &tables,
             &traces,
@@ -148,8 +149,8 @@ pub(crate) fn generate_by_ids(
             auxiliary.len(),
             terminal,
             refusal,
-            text.as_mut_ptr().cast::<c_char>(),
-            text.len(),
+            text,
+            size,
         )
     })
 }
@@ -164,7 +165,7 @@ pub(crate) fn prove(
     terminals: &mut [Terminal],
 ) -> Result<(), Error> {
     let (airs, traces) = (raw_airs(airs), all_raw_traces(traces));
-    answer(|refusal, text| unsafe {
+    answer(|refusal, text, size| unsafe {
         declared::volgwain_prove(
             airs.as_ptr(),
             airs.len(),
@@ -177,8 +178,8 @@ pub(crate) fn prove(
             terminals.as_mut_ptr(),
             terminals.len(),
             refusal,
-            text.as_mut_ptr().cast::<c_char>(),
-            text.len(),
+            text,
+            size,
         )
     })
 }
@@ -193,7 +194,7 @@ pub(crate) fn verify(
 ) -> Result<(), Error> {
     let (airs, traces) = (raw_airs(airs), all_raw_traces(traces));
     let witness: Vec<declared::AirWitness> = witness.iter().map(raw_witness).collect();
-    answer(|refusal, text| unsafe {
+    answer(|refusal, text, size| unsafe {
         declared::volgwain_verify(
             airs.as_ptr(),
             airs.len(),
@@ -204,8 +205,8 @@ pub(crate) fn verify(
             witness.as_ptr(),
             witness.len(),
             refusal,
-            text.as_mut_ptr().cast::<c_char>(),
-            text.len(),
+            text,
+            size,
         )
     })
 }
@@ -217,7 +218,7 @@ pub(crate) fn soundness_count(
 ) -> Result<SoundnessCount, Error> {
     let (airs, traces) = (raw_airs(airs), all_raw_traces(traces));
     let mut counts = Counts::default();
-    answer(|refusal, text| unsafe {
+    answer(|refusal, text, size| unsafe {
         declared::volgwain_soundness_count(
             airs.as_ptr(),
             airs.len(),
@@ -225,8 +226,8 @@ pub(crate) fn soundness_count(
             traces.len(),
             &mut counts,
             refusal,
-            text.as_mut_ptr().cast::<c_char>(),
-            text.len(),
+            text,
+            size,
         )
     })?;
     Ok(SoundnessCount {
@@ -246,7 +247,7 @@ pub(crate) fn grid_count(
 ) -> Result<GridCount, Error> {
     let (airs, traces) = (raw_airs(airs), all_raw_traces(traces));
     let mut grid = Grid::default();
-    answer(|refusal, text| unsafe {
+    answer(|refusal, text, size| unsafe {
         declared::volgwain_grid_count(
             airs.as_ptr(),
             airs.len(),
@@ -258,8 +259,8 @@ pub(crate) fn grid_count(
             betas.len(),
             &mut grid,
             refusal,
-            text.as_mut_ptr().cast::<c_char>(),
-            text.len(),
+            text,
+            size,
         )
     })?;
     let bound = (grid.bounded != 0).then(|| number(grid.bound));
@@ -270,30 +271,30 @@ pub(crate) fn grid_count(
 pub(crate) fn debug_check(airs: &[&Tables], traces: &[Traces<'_>]) -> Result<(), Error> {
     let airs: Vec<declared::Tables> = airs.iter().copied().map(raw_tables).collect();
     let traces = all_raw_traces(traces);
-    answer(|refusal, text| unsafe {
+    answer(|refusal, text, size| unsafe {
         declared::volgwain_debug_check(
             airs.as_ptr(),
             airs.len(),
             traces.as_ptr(),
             traces.len(),
             refusal,
-            text.as_mut_ptr().cast::<c_char>(),
-            text.len(),
+            text,
+            size,
         )
     })
 }
 
-/// Makes a call, which gets a refusal and the room for its text to be written, and returns a code.
+/// Makes a call, which gets a refusal and room for its text to be written, and returns a code.
 ///
 /// A refused call changes nothing else. So where the text is longer than the room, the call is made
 /// again.
-fn answer(mut call: impl FnMut(&mut Refusal, &mut [u8]) -> u32) -> Result<(), Error> {
+fn answer(mut call: impl FnMut(&mut Refusal, *mut c_char, usize) -> u32) -> Result<(), Error> {
     let mut refusal = Refusal::default();
-    let mut text = vec![0; TEXT_SIZE];
-    let mut code = call(&mut refusal, &mut text);
+    let mut text = vec![0u8; TEXT_SIZE];
+    let mut code = call(&mut refusal, text.as_mut_ptr().cast(), text.len());
     if code != 0 && refusal.text_length > text.len() {
         text.resize(refusal.text_length, 0);
-        code = call(&mut refusal, &mut text);
+        code = call(&mut refusal, text.as_mut_ptr().cast(), text.len());
     }
     if code == 0 {
         return Ok(());
@@ -306,12 +307,14 @@ fn answer(mut call: impl FnMut(&mut Refusal, &mut [u8]) -> u32) -> Result<(), Er
 /// length that the call asks for, and the call is made again.
 fn written(
     mut room: Room,
-    mut call: impl FnMut(&mut Tables, &mut TableSizes, &mut Refusal, &mut [u8]) -> u32,
+    mut call: impl FnMut(&mut Tables, &mut TableSizes, &mut Refusal, *mut c_char, usize) -> u32,
 ) -> Result<Tables, Error> {
     loop {
         let mut tables = Tables::empty(room);
         let mut sizes = TableSizes::default();
-        match answer(|refusal, text| call(&mut tables, &mut sizes, refusal, text)) {
+        let answer =
+            answer(|refusal, text, size| call(&mut tables, &mut sizes, refusal, text, size));
+        match answer {
             Ok(()) => {
                 tables.nodes.truncate(sizes.nodes);
                 tables.tuples.truncate(sizes.tuples);

@@ -241,13 +241,20 @@ fn other_texts_are_refused() {
         (r#""Local""#, r#""Nowhere""#, Code::BadText),
         (r#""column":1"#, r#""column":2"#, Code::MalformedLookup),
         (r#""elements":[[]]"#, r#""elements":[[],[]]"#, Code::MalformedLookup),
-        (r#"{"Main":{"offset":0}}"#, r#"{"Main":{"offset":2}}"#, Code::DoesNotFit),
+        (r#"{"Main":{"offset":0}}"#, r#"{"Main":{"offset":4294967296}}"#, Code::BadTable),
     ];
     for (old, new, code) in changes {
         let changed = text.replacen(old, new, 1);
         assert_ne!(changed, text, "{old} is in the text");
         assert_eq!(Air::from_json(&changed).unwrap_err().code(), code, "{new}");
     }
+    // a row that is neither this one nor the next one can be read, and fits no trace
+    let changed = text.replacen(r#"{"Main":{"offset":0}}"#, r#"{"Main":{"offset":2}}"#, 1);
+    let traces = Traces::main(&[1; 4], 4).with_preprocessed(&[1], 1).with_public_values(&[1; 3]);
+    let challenges = [[Element::new([9, 2, 6, 5]), Element::new([3, 1, 4, 15])]; 2];
+    let fits = |text: &str| Air::from_json(text)?.generate(&traces, &challenges);
+    assert!(fits(&text).is_ok());
+    assert_eq!(fits(&changed).unwrap_err().code(), Code::DoesNotFit);
     assert_eq!(Air::from_json("").unwrap_err().code(), Code::BadText);
     assert_eq!(Air::from_json("[]x").unwrap_err().code(), Code::BadText);
 }
