@@ -106,10 +106,10 @@ fn checksum_of(answers: &[Answer]) -> u32 {
 }
 
 fn verify(airs: &[Air], answers: &[Answer]) -> Verdict {
-    for (place, (air, answer)) in airs.iter().zip(answers).enumerate() {
+    for (index, (air, answer)) in airs.iter().zip(answers).enumerate() {
         let failing = first_failing_row(&air.main, WIDTH, &air.lookups, &air.challenges, answer);
         if let Some(row) = failing {
-            return Verdict::ConstraintFailed { air: place, row };
+            return Verdict::ConstraintFailed { air: index, row };
         }
     }
     let sum = answers.iter().fold(Quartic::ZERO, |sum, (_, terminal)| sum + *terminal);
@@ -182,12 +182,12 @@ fn refuses_changes(numbers: &Numbers) {
     let (mut answers, width, last) = (prove(&airs), LOOKUPS + 1, numbers.rows() - 1);
     for air in 0..2 {
         for (row, cell) in [(0, 0), (0, 3), (last / 2, 0), (last / 2, 1), (last, 0), (last, 4)] {
-            let place = row * width + cell;
-            let kept = answers[air].0[place];
-            answers[air].0[place] = kept + Quartic::ONE;
+            let index = row * width + cell;
+            let kept = answers[air].0[index];
+            answers[air].0[index] = kept + Quartic::ONE;
             let row = if cell == 0 && row > 0 { row - 1 } else { row };
             assert_eq!(verify(&airs, &answers), Verdict::ConstraintFailed { air, row });
-            answers[air].0[place] = kept;
+            answers[air].0[index] = kept;
         }
         let kept = answers[air].1;
         answers[air].1 = kept + Quartic::ONE;

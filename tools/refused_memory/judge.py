@@ -1,23 +1,22 @@
 """The judge of the lines that a group of calls writes where memory is refused, and a test of the judge.
 
 A line `CALL: ANSWER` is the same as with all memory, or is the call's refusal for memory, by `calls.txt`. A line
-`WHAT CALL: VALUE` says what a call leaves:
+`STATE CALL: VALUE` says what a call leaves:
 
-    input of    never changed
+    input of    is never changed
     before      what a builder or a list holds: all that was accepted so far, and no more; so is `after`
     left by     what was asserted: after a refusal the first items of all of it
-    count of    after a refusal at most what it is else
+    count of    after a refusal at most what it is with all memory
     filled by   after a refusal an empty list
 """
 import os
 
 NEVER = "-"
-NO_INPUT = "no input"
 STATES = ("before", "after", "left by", "count of", "filled by", "input of")
 
 
 def parted(line):
-    """What a line says, of which call, and the answer or the value. What it says is empty for an answer."""
+    """The state that a line tells of, the call, and the answer or the value. The state is empty for an answer."""
     name, _, value = line.partition(": ")
     for state in STATES:
         if name.startswith(f"{state} "):
@@ -71,7 +70,7 @@ def begins(value, whole):
 
 
 class Judge:
-    """Compares the lines of a run with the ample ones."""
+    """Compares the lines of a run with those that are written with all memory."""
 
     def __init__(self, ample, refusals):
         self.ample, self.refusals = ample, refusals
@@ -86,48 +85,52 @@ class Judge:
             if state in ("before", "after"):
                 self.held[place] = states
 
-    def faults(self, lines, seen):
-        """What is wrong with the lines. Adds to `seen` each call that is refused."""
-        refused, accepted = False, 0
-        for place, (line, good) in enumerate(zip(lines, self.ample)):
+    def judged(self, lines):
+        """What is wrong with the lines, and the calls that are refused."""
+        faults, calls, refused, accepted = [], [], False, 0
+        for place, (line, ample) in enumerate(zip(lines, self.ample)):
             state, call, value = parted(line)
-            same, wanted = line == good, parted(good)
-            if (state, call) != wanted[:2]:
-                yield apart(line, good)
-                return
+            same, wanted = line == ample, ample
+            if (state, call) != parted(ample)[:2]:
+                return [*faults, apart(line, ample)], calls
             if state == "":
                 refused = not same
                 accepted += same
-                if refused:
-                    seen.append(NO_INPUT if value == NO_INPUT else call)
-                well = same or value == NO_INPUT or value == self.refusals.get(call) != NEVER
+                calls += [call] if refused else []
+                right = same or value == self.refusals.get(call) != NEVER
             elif state in ("before", "after"):
                 accepted = 0 if place in self.firsts else accepted
-                well = value == self.held[place][accepted]
-            elif state == "left by":
-                well = same or refused and begins(value, wanted[2])
-            elif state == "count of":
-                well = same or refused and int(value) <= int(wanted[2])
+                wanted = f"{state} {call}: {self.held[place][accepted]}"
+                right = line == wanted
             else:
-                well = same or state == "filled by" and refused and value == "[]"
-            if not well:
-                is_held = state in ("before", "after")
-                yield apart(line, f"{state} {call}: {self.held[place][accepted]}" if is_held else good)
+                right = same or refused and self.may_be_left(state, value, parted(ample)[2])
+            faults += [] if right else [apart(line, wanted)]
+        return faults, calls
+
+    @staticmethod
+    def may_be_left(state, value, ample):
+        """Whether a refused call may leave this value, in place of that with all memory."""
+        if state == "left by":
+            return begins(value, ample)
+        if state == "count of":
+            return int(value) <= int(ample)
+        return state == "filled by" and value == "[]"
 
 
-# Lines of a group with all memory. Then what a run writes otherwise, by place, and how many faults that has.
+# Lines of a group with all memory. Then what a run writes in place of some of them, and how many faults that has.
 AMPLE = [
     "a: Ok(1)",
     "count of a: 2",
     "before b: []",
     "b: Ok(())",
     "after b: [1]",
-    "before b: [1]",
     "b: Ok(())",
     "after b: [1, 2]",
     "c: Ok(())",
     'left by c: [Add(1, "],"), 23]',
     "d: Ok(3)",
+    "e: Ok(())",
+    "filled by e: [4]",
     "input of it: 7",
 ]
 JUDGED = [
@@ -136,31 +139,33 @@ JUDGED = [
     ({0: "a: Err(Memory)", 1: "count of a: 3"}, 1),
     ({0: "a: Err(AllocError)"}, 1),
     ({1: "count of a: 1"}, 1),
-    ({3: "b: Err(Memory)", 4: "after b: []", 5: "before b: []", 7: "after b: [1]"}, 0),
-    ({6: "b: Err(Memory)", 7: "after b: [1]"}, 0),
-    ({3: "b: Err(Memory)"}, 3),
-    ({6: "b: Err(Memory)"}, 1),
-    ({8: "c: Err(Memory)", 9: "left by c: []"}, 0),
-    ({8: "c: Err(Memory)", 9: 'left by c: [Add(1, "],")]'}, 0),
-    ({8: "c: Err(Memory)", 9: 'left by c: [Add(1, "],"), 2]'}, 1),
-    ({8: "c: Err(Memory)", 9: "left by c: [Add(1)]"}, 1),
-    ({8: "c: Err(Memory)", 9: "left by c: ["}, 1),
-    ({8: "c: Err(Memory)", 9: "left by c: [23]"}, 1),
-    ({9: 'left by c: [Add(1, "],")]'}, 1),
-    ({10: "d: Err(Memory)"}, 1),
-    ({10: "d: no input"}, 0),
-    ({11: "input of it: 8"}, 1),
-    ({10: "e: Ok(3)"}, 1),
+    ({3: "b: Err(Memory)", 4: "after b: []", 6: "after b: [1]"}, 0),
+    ({5: "b: Err(Memory)", 6: "after b: [1]"}, 0),
+    ({3: "b: Err(Memory)"}, 2),
+    ({5: "b: Err(Memory)"}, 1),
+    ({7: "c: Err(Memory)", 8: "left by c: []"}, 0),
+    ({7: "c: Err(Memory)", 8: 'left by c: [Add(1, "],")]'}, 0),
+    ({7: "c: Err(Memory)", 8: 'left by c: [Add(1, "],"), 2]'}, 1),
+    ({7: "c: Err(Memory)", 8: "left by c: [Add(1)]"}, 1),
+    ({7: "c: Err(Memory)", 8: "left by c: ["}, 1),
+    ({7: "c: Err(Memory)", 8: "left by c: [23]"}, 1),
+    ({8: 'left by c: [Add(1, "],")]'}, 1),
+    ({9: "d: Err(Memory)"}, 1),
+    ({9: "x: Ok(3)"}, 1),
+    ({10: "e: Err(Memory)", 11: "filled by e: []"}, 0),
+    ({10: "e: Err(Memory)", 11: "filled by e: [1]"}, 1),
+    ({11: "filled by e: []"}, 1),
+    ({12: "input of it: 8"}, 1),
 ]
 
 
 def judge_itself():
     """Whether the judge finds as many faults in lines as there are."""
-    refusals = {"a": "Err(Memory)", "b": "Err(Memory)", "c": "Err(Memory)", "d": NEVER}
+    refusals = {**dict.fromkeys("abce", "Err(Memory)"), "d": NEVER}
     judge, wrong = Judge(AMPLE, refusals), []
-    for changes, wanted in JUDGED:
-        found = list(judge.faults([changes.get(place, line) for place, line in enumerate(AMPLE)], []))
-        wrong += [] if len(found) == wanted else [f"{changes}: {found}, and not {wanted} faults"]
+    for changes, count in JUDGED:
+        faults, _ = judge.judged([changes.get(place, line) for place, line in enumerate(AMPLE)])
+        wrong += [] if len(faults) == count else [f"{changes}: {faults}, and not {count} faults"]
     print(*wrong, sep="\n", end="\n" if wrong else "")
     print(f"the judge: {len(JUDGED) - len(wrong)} of {len(JUDGED)} runs judged as they have to be")
     return 1 if wrong else 0

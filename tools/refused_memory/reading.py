@@ -14,78 +14,88 @@ def members(pairs):
     return {"": [name for name, _ in pairs], **dict(pairs)}
 
 
-def negative_as_none(text):
-    # of `-0` too: no number that is read has a sign
+def unsigned(text):
+    """A whole number, or None if it has a sign: no number that is read has one, not even `-0`."""
     return None if text.startswith("-") else int(text)
 
 
 def no_constant(_text):
+    """Refuses `NaN` and the infinities, which Python reads."""
     raise Refused
 
 
 def value_of(text):
     """The value of a text of JSON, where numbers that are not whole or have a sign are None."""
-    numbers = {"parse_int": negative_as_none, "parse_float": lambda _: None, "parse_constant": no_constant}
+    numbers = {"parse_int": unsigned, "parse_float": lambda _: None, "parse_constant": no_constant}
     try:
         return json.loads(text.decode(), object_pairs_hook=members, **numbers)
     except (ValueError, RecursionError):
         raise Refused from None
 
 
-def wants(condition):
+def require(condition):
+    """Refuses the text unless the condition holds."""
     if not condition:
         raise Refused
 
 
 def member(value, name, **absent):
-    wants(isinstance(value, dict) and value[""].count(name) <= 1)
+    """The member of an object, or `absent` if that is given and there is none."""
+    require(isinstance(value, dict) and value[""].count(name) <= 1)
     if name not in value:
-        wants(absent)
+        require(absent)
         return absent["absent"]
     return value[name]
 
 
 def number(value, below=1 << 64):
-    wants(isinstance(value, int) and not isinstance(value, bool) and value < below)
+    """A whole number below this one."""
+    require(isinstance(value, int) and not isinstance(value, bool) and value < below)
     return value
 
 
 def text_of(value):
-    wants(isinstance(value, str))
+    """A text."""
+    require(isinstance(value, str))
     return value
 
 
 def items(value, read, count=None):
-    wants(isinstance(value, list) and count in (None, len(value)))
+    """A list of what `read` reads, of as many items as `count` says."""
+    require(isinstance(value, list) and count in (None, len(value)))
     return [read(item) for item in value]
 
 
 def variant(value, plain, full):
     """A variant: its name alone, or an object of one member by the reader of that name."""
     if isinstance(value, str):
-        wants(value in plain)
+        require(value in plain)
         return value
-    wants(isinstance(value, dict) and len(value[""]) == 1 and value[""][0] in full)
+    require(isinstance(value, dict) and len(value[""]) == 1 and value[""][0] in full)
     name = value[""][0]
     return {name: full[name](value[name])}
 
 
 def variable(value):
+    """A cell of a trace, or a public value."""
     offset = {name: lambda it: {"offset": number(member(it, "offset"))} for name in ("Main", "Preprocessed")}
     return {"entry": variant(member(value, "entry"), ("Public",), offset), "index": number(member(value, "index"))}
 
 
 def leaf(value):
+    """A leaf of an expression."""
     full = {"Variable": variable, "Constant": lambda it: number(it, 7)}
     return variant(value, ("IsFirstRow", "IsLastRow", "IsTransition"), full)
 
 
 def expression(value):
+    """An expression."""
     pair = {name: lambda it: items(it, expression, 2) for name in ("Add", "Sub", "Mul")}
     return variant(value, (), {"Leaf": leaf, "Neg": expression, **pair})
 
 
 def lookup(value):
+    """A lookup."""
     flags = member(value, "flags", absent=None)
     return {
         "kind": variant(member(value, "kind"), ("Local",), {"Global": text_of}),
@@ -109,10 +119,12 @@ def lookups(value):
 
 
 def columns(value):
+    """A list of columns."""
     return items(value, number)
 
 
 def reader(value):
+    """The declaration of a reader."""
     return {
         "table": text_of(member(value, "table")),
         "position": number(member(value, "position")),
@@ -121,6 +133,7 @@ def reader(value):
 
 
 def table(value):
+    """The declaration of a table."""
     return {
         "name": text_of(member(value, "name")),
         "window": variant(member(value, "window"), ("Main", "Preprocessed"), {}),
@@ -144,6 +157,7 @@ def declarations(value):
 
 
 def column_faults(empty, named, width, before):
+    """What is wrong with a list of columns, and with the columns before it, in a window of this width."""
     yield from ("ColumnOutOfRange" for it in before if it >= width)
     if not named:
         yield empty

@@ -7,46 +7,50 @@ import tempfile
 from kit import kit
 
 HERE = os.path.dirname(os.path.realpath(__file__))
+# What all runs of a program may take, from the first to the last.
 SECONDS = 120
 
 # A run of a program: its status, how many requests for memory it made, how many of them were refused, the blocks that
 # it did not free, the greatest number of bytes that it held at once, and what it wrote.
-Ran = collections.namedtuple("Ran", "status requests refused live peak output errors")
+Run = collections.namedtuple("Run", "status requests refused live peak output errors")
 
 
-def made_shim(folder):
-    """The compiled shim, made by the kit's own compiler and linker."""
-    tools, made = f"{kit().KIT}/toolchain/bin", f"{folder}/refusing"
+def compiled_shim(folder):
+    """The shim, as the kit's own compiler and linker make it."""
+    tools, shim = f"{kit().KIT}/toolchain/bin", f"{folder}/refusing"
     flags = ["--target=x86_64-unknown-linux-gnu", "-O2", "-fPIC", "-ffreestanding", "-fno-builtin"]
     warnings = ["-Wall", "-Wextra", "-Werror"]
-    compiler = [f"{tools}/clang", *flags, *warnings, "-c", f"{HERE}/refusing.c", "-o", f"{made}.o"]
+    compiler = [f"{tools}/clang", *flags, *warnings, "-c", f"{HERE}/refusing.c", "-o", f"{shim}.o"]
     subprocess.run(compiler, check=True)
-    linker = [f"{tools}/ld.lld", "-shared", "-nostdlib", "-o", f"{made}.so", f"{made}.o"]
+    linker = [f"{tools}/ld.lld", "-shared", "-nostdlib", "-o", f"{shim}.so", f"{shim}.o"]
     subprocess.run(linker, check=True)
-    return f"{made}.so"
+    return f"{shim}.so"
 
 
-def swept(shim, program, words, given=b"", later=False, last=None):
-    """The runs of a program: with all memory, and then with each request refused in turn, up to the number `last`."""
+def runs(shim, program, words, given=b"", later=False, last=None):
+    """The runs of a program: with all memory, and then with each request refused in turn, up to the number `last`.
+    `later` says whether all later requests are refused as well."""
     with (
         tempfile.TemporaryFile() as report,
         tempfile.TemporaryFile() as output,
         tempfile.TemporaryFile() as errors,
-        tempfile.TemporaryFile() as entered,
+        tempfile.TemporaryFile() as input_,
     ):
-        entered.write(given)
-        entered.flush()
+        input_.write(given)
+        input_.flush()
         env = {"LD_PRELOAD": shim, "REFUSE_REPORT": str(report.fileno()), "REFUSE_LATER": str(int(later))}
         env.update({} if last is None else {"REFUSE_LAST": str(last)})
-        streams = {"stdin": entered, "stdout": output, "stderr": errors, "pass_fds": [report.fileno()]}
-        ran = subprocess.run([program, *words], check=False, env=env, timeout=SECONDS, **streams)
-        if ran.returncode:
-            raise RuntimeError(f"{program} {words}: the shim ended with status {ran.returncode}")
-        files = []
-        for file in (report, output, errors):
-            file.seek(0)
-            files.append(file.read())
-    return list(runs_of(*files))
+        streams = {"stdin": input_, "stdout": output, "stderr": errors, "pass_fds": [report.fileno()]}
+        ended = subprocess.run([program, *words], check=False, env=env, timeout=SECONDS, **streams)
+        if ended.returncode:
+            raise RuntimeError(f"{program} {words}: the shim ended with status {ended.returncode}")
+        return list(runs_of(*(text_of(file) for file in (report, output, errors))))
+
+
+def text_of(file):
+    """All that was written to a file."""
+    file.seek(0)
+    return file.read()
 
 
 def runs_of(report, output, errors):
@@ -55,10 +59,5 @@ def runs_of(report, output, errors):
     for line in report.decode().splitlines():
         status, *numbers, output_end, errors_end = map(int, line.split())
         status = os.waitstatus_to_exitcode(status)
-        yield Ran(status, *numbers, output[ends[0] : output_end], errors[ends[1] : errors_end])
+        yield Run(status, *numbers, output[ends[0] : output_end], errors[ends[1] : errors_end])
         ends = (output_end, errors_end)
-
-
-def unfreed(ran):
-    """What a run did not free."""
-    return [f"{ran.live} blocks are not freed"] if ran.live else []

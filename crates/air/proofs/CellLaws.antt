@@ -8,7 +8,7 @@ use Rattle.expressions.specs.Builder.{MeansRow}
 use Rattle.expressions.specs.declared.error.AirError.{AirError}
 use Rattle.air.specs.Cell.{IsNarrow}
 
--- what means a variable of a row is, at each window that is stood for, the cell at its place
+-- what means a variable of a row is, at each window that is stood for, the cell at its index
 pub cell_is : {V W A E : Type 0} (stands : W → Type 0) (meaning : V → W → A) (width : ℕ) (cells : W → List A) (variables : List V) (i : ℕ) (v : V) (x : E) (value : E → W → A) → MeansRow stands meaning width cells variables → slice_get variables i ≡ Some v → ((w : W) → value x w ≡ meaning v w)
     → (w : W) → stands w → slice_get (cells w) i ≡ Some (value x w)
 cell_is {V} {W} {A} stands meaning width cells variables i v x value row found is w s =
@@ -17,7 +17,7 @@ cell_is {V} {W} {A} stands meaning width cells variables i v x value row found i
     read : slice_get (cells w) i ≡ Some (meaning v w)
     read = rw (← row.reads w s, slice_get-map, found) refl
 
--- where a row of variables has none at a place, the row is not longer
+-- where a row of variables has none at an index, the row is not longer
 pub no_cell : {V W A : Type 0} (stands : W → Type 0) (meaning : V → W → A) (width : ℕ) (cells : W → List A) (variables : List V) (i : ℕ) → MeansRow stands meaning width cells variables → slice_get variables i ≡ None → width < i + 1
 no_cell stands meaning width cells variables i row none =
     elim (slice_get_cases variables i).1 [

@@ -1,4 +1,4 @@
 pub mod CellLaws
 pub mod Cells
-pub mod Places
 pub mod RecordedRows
+pub mod VariableRows

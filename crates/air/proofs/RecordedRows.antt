@@ -2,7 +2,7 @@
 use Rattle.std.proofs.Common.{◌≡◌, ℕ, zero, suc, ◌+◌, ◌<◌, List, [], ◌∷◌, length, get_or, Some, slice_get, ap, ◌∙◌, sym, subst, arith}
 use Rattle.std.proofs.lemmas.Option.{slice_get_within}
 use Rattle.field.specs.Ring.{Ring}
-use Rattle.air.proofs.Places.{means_cells}
+use Rattle.air.proofs.VariableRows.{means_cells}
 use Rattle.expressions.specs.Builder.{MeansRow}
 use Rattle.expressions.specs.Degree.{degree_of, entry_degree}
 use Rattle.expressions.specs.ExtDegree.{ext_degree_of, ext_entry_degree}
@@ -44,14 +44,14 @@ entry_at entry_of index_of entry k (u ∷ vs) (suc i) v are found =
 -- the trees of a row of base variables have the degree of its entry
 pub base_row_degree : {F : Type 0} (entry : BaseEntry) (width : ℕ) (vs : List (SymbolicVariable F)) (i t : ℕ) (v : SymbolicVariable F) (e : Tree F) → IsVariableRow (λ u. u.entry) (λ u. u.index) entry width vs → slice_get vs i ≡ Some v → e ≡ leaf (Variable v) → degree_of t e ≡ entry_degree entry
 base_row_degree entry width vs i t v e row found same =
-    ap (degree_of t) same ∙ ap entry_degree (entry_at (λ u. u.entry) (λ u. u.index) entry 0 vs i v row.places found)
+    ap (degree_of t) same ∙ ap entry_degree (entry_at (λ u. u.entry) (λ u. u.index) entry 0 vs i v row.indices found)
 
 -- so have those of a row of variables of the extension
 pub ext_row_degree : {F EF : Type 0} (entry : ExtEntry) (width : ℕ) (vs : List (SymbolicVariableExt F EF)) (i t : ℕ) (v : SymbolicVariableExt F EF) (e : ExtTree F EF) → IsVariableRow (λ u. u.entry) (λ u. u.index) entry width vs → slice_get vs i ≡ Some v → e ≡ variable v → ext_degree_of t e ≡ ext_entry_degree entry
 ext_row_degree entry width vs i t v e row found same =
-    ap (ext_degree_of t) same ∙ ap ext_entry_degree (entry_at (λ u. u.entry) (λ u. u.index) entry 0 vs i v row.places found)
+    ap (ext_degree_of t) same ∙ ap ext_entry_degree (entry_at (λ u. u.entry) (λ u. u.index) entry 0 vs i v row.indices found)
 
--- each variable of a row has its place as index
+-- the index of each variable of a row is where it stands there
 index_at : {V E : Type 0} (entry_of : V → E) (index_of : V → ℕ) (entry : E) (k : ℕ) (vs : List V) (i : ℕ) (v : V) → AreVariables entry_of index_of entry k vs → slice_get vs i ≡ Some v → index_of v ≡ k + i
 index_at entry_of index_of entry k [] i v are found = cc
 index_at entry_of index_of entry k (u ∷ vs) zero v are found =
@@ -62,12 +62,12 @@ index_at entry_of index_of entry k (u ∷ vs) (suc i) v are found =
     let later : index_of v ≡ k + 1 + i = index_at entry_of index_of entry (k + 1) vs i v are.2 found in
     omega (arith, later)
 
--- the trees of a row of base variables stay within a layout that has the row's places
+-- the trees of a row of base variables stay within a layout that has the row's indices
 pub base_row_within : {F : Type 0} (layout : AirLayout) (entry : BaseEntry) (width : ℕ) (vs : List (SymbolicVariable F)) (i : ℕ) (v : SymbolicVariable F) (e : Tree F) → IsVariableRow (λ u. u.entry) (λ u. u.index) entry width vs → ((k : ℕ) → k < width → EntryFits layout entry k) → slice_get vs i ≡ Some v → e ≡ leaf (Variable v) → Fits layout e
 base_row_within {F} layout entry width vs i v e row places found same =
     let within : i < width = omega (arith, row.len, slice_get_within vs i v found) in
-    let index : v.index ≡ i = omega (arith, index_at (λ u. u.entry) (λ u. u.index) entry 0 vs i v row.places found) in
+    let index : v.index ≡ i = omega (arith, index_at (λ u. u.entry) (λ u. u.index) entry 0 vs i v row.indices found) in
     let P : Tree F → Type 0 = λ t. Fits layout t in
     let Q : BaseEntry → Type 0 = λ n. EntryFits layout n v.index in
     let R : ℕ → Type 0 = λ k. EntryFits layout entry k in
-    subst P (sym same) (subst Q (sym (entry_at (λ u. u.entry) (λ u. u.index) entry 0 vs i v row.places found)) (subst R (sym index) (places i within)))
+    subst P (sym same) (subst Q (sym (entry_at (λ u. u.entry) (λ u. u.index) entry 0 vs i v row.indices found)) (subst R (sym index) (places i within)))

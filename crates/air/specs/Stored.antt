@@ -4,7 +4,7 @@ use Rattle.expressions.specs.declared.variable.BaseEntry.TheVariants.{Main, Prep
 use Rattle.expressions.specs.declared.variable.ExtEntry.TheVariants.{Challenge, Permutation, PermutationValue}
 use Rattle.air.specs.declared.recording.variables.LayoutVariables.TheInside.{Inside}
 
--- the variables are those of the layout, each at its place
+-- the variables are those of the layout, each at its index
 pub record IsStored {F EF : Type 0} (s : Inside F EF) : Type 0 where
   pub main : IsVariableMatrix (λ v. v.entry) (λ v. v.index) (Main 0) (Main 1) s.layout.main_width s.main
   pub preprocessed : IsVariableMatrix (λ v. v.entry) (λ v. v.index) (Preprocessed 0) (Preprocessed 1) s.layout.preprocessed_width s.preprocessed

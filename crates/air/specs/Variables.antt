@@ -11,7 +11,7 @@ AreVariables entry_of index_of entry i (v ∷ vs) =
 -- as many variables of one entry as the width, with the indices from 0 upwards
 pub record IsVariableRow {V E : Type 0} (entry_of : V → E) (index_of : V → ℕ) (entry : E) (width : ℕ) (variables : List V) : Type 0 where
   pub len : length variables ≡ width
-  pub places : AreVariables entry_of index_of entry 0 variables
+  pub indices : AreVariables entry_of index_of entry 0 variables
 
 -- two rows of variables, each row of one entry
 pub record IsVariableMatrix {V E : Type 0} (entry_of : V → E) (index_of : V → ℕ) (current next : E) (width : ℕ) (m : Matrix V) : Type 0 where

@@ -4,6 +4,6 @@ mod builder;
 mod check;
 mod inputs;
 
-pub use builder::DebugConstraintBuilder;
+pub use builder::{DebugConstraintBuilder, judge};
 pub use check::check_rows;
 pub use inputs::RowInputs;

@@ -1,17 +1,19 @@
-//! The builders that record constraints or check them on given rows, and the cells of a row for who
-//! writes an AIR. Re-exports all of `expressions`.
+//! The builders that record constraints or check them on given rows, the cells of a row for who
+//! writes an AIR, and the traces of an AIR as one value. Re-exports all of `expressions`.
 #![tactic(auto)]
 
 mod cell;
 mod debug;
 mod recording;
+mod traces;
 
 pub use cell::{current_cell, current_cells, next_cell};
-pub use debug::{DebugConstraintBuilder, RowInputs, check_rows};
+pub use debug::{DebugConstraintBuilder, RowInputs, check_rows, judge};
 pub use expressions::{
     Air, AirBuilder, AirError, AirLayout, BaseAir, BaseEntry, BaseLeaf, BuilderView, Expression,
     ExtEntry, ExtLeaf, ExtensionBuilder, FilteredAirBuilder, LayoutPart, PermutationAirBuilder,
-    Seen, SeenExt, SymbolicExpression, SymbolicExpressionExt, SymbolicVariable,
+    SeenExtWindow, SeenWindow, SymbolicExpression, SymbolicExpressionExt, SymbolicVariable,
     SymbolicVariableExt, WholeNumbers, copy_expressions, resolve_over,
 };
 pub use recording::{ConstraintLayout, SymbolicAirBuilder};
+pub use traces::Traces;

@@ -1,7 +1,7 @@
 //! Recording constraints, over all windows of a layout.
 
 mod builder;
-mod place;
+mod variable_kind;
 mod variables;
 
 pub use builder::{ConstraintLayout, SymbolicAirBuilder};

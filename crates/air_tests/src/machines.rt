@@ -145,8 +145,8 @@ fn combined<F: Field, E: Expression<F>>(
 /// The expression of a value of the base field.
 fn expression_of<AB: AirBuilder>(alloc: Global, builder: &AB, value: Value) -> Built<AB::Expr> {
     match value {
-        Value::Current(place) => found(builder.main(alloc)?.current(place)),
-        Value::Next(place) if place < 2 => next_cell(alloc, builder, 2, place),
+        Value::Current(index) => found(builder.main(alloc)?.current(index)),
+        Value::Next(index) if index < 2 => next_cell(alloc, builder, 2, index),
         Value::One => Ok(AB::Expr::constant(AB::F::ONE)),
         Value::Fixed => found(builder.preprocessed().current(0)),
         Value::Public => found(builder.public_values().first().copied()),
@@ -275,9 +275,9 @@ fn ext_expression_of<AB: PermutationAirBuilder>(
     value: Value,
 ) -> Built<AB::ExprEF> {
     match value {
-        Value::PermutationCurrent(place) => found(builder.permutation(alloc)?.current(place)),
-        Value::PermutationNext(place) => found(builder.permutation(alloc)?.next(place)),
-        Value::Challenge(place) => found(builder.permutation_randomness().get(place).copied()),
+        Value::PermutationCurrent(index) => found(builder.permutation(alloc)?.current(index)),
+        Value::PermutationNext(index) => found(builder.permutation(alloc)?.next(index)),
+        Value::Challenge(index) => found(builder.permutation_randomness().get(index).copied()),
         Value::PermutationValue => found(builder.permutation_values().first().copied()),
         base => Ok(AB::lift(expression_of(alloc, builder, base)?)),
     }

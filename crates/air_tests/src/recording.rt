@@ -44,9 +44,9 @@ pub fn record_selected(alloc: Global) -> Result<Recorder, AirError> {
     )
 }
 
-/// The selector of the constraint at this place, which it is multiplied by.
-fn selector_at(recorder: &Recorder, place: usize) -> Option<BaseLeaf<F7>> {
-    match recorder.base_constraints().get(place)? {
+/// The selector of the constraint at this index, which it is multiplied by.
+fn selector_at(recorder: &Recorder, index: usize) -> Option<BaseLeaf<F7>> {
+    match recorder.base_constraints().get(index)? {
         SymbolicExpression::Mul(selector, _) => match &**selector {
             SymbolicExpression::Leaf(leaf) => Some(*leaf),
             _ => None,
@@ -55,15 +55,15 @@ fn selector_at(recorder: &Recorder, place: usize) -> Option<BaseLeaf<F7>> {
     }
 }
 
-/// Whether constraints were recorded at these places of the one order, and no others.
-fn has_places(recorder: &Recorder, base: &[usize], extension: &[usize]) -> bool {
-    let places = recorder.constraint_layout();
-    places.base_indices.as_slice() == base && places.ext_indices.as_slice() == extension
+/// Whether constraints were recorded at these indices of the one order, and no others.
+fn has_indices(recorder: &Recorder, base: &[usize], extension: &[usize]) -> bool {
+    let indices = recorder.constraint_layout();
+    indices.base_indices.as_slice() == base && indices.ext_indices.as_slice() == extension
 }
 
 /// Ends the test where the filtered constraints are recorded in another order or with other selectors.
 fn is_in_order(rt: &impl Abort, recorder: &Recorder) {
-    holds(rt, "places", has_places(recorder, &[0, 1, 2], &[]));
+    holds(rt, "places", has_indices(recorder, &[0, 1, 2], &[]));
     holds(rt, "no other", recorder.extension_constraints().is_empty());
     let (first, last) = (selector_at(recorder, 0), selector_at(recorder, 1));
     let step = selector_at(recorder, 2);
@@ -108,7 +108,7 @@ fn record_both_kinds(alloc: Global) -> Result<Recorder, AirError> {
 fn has_both_kinds(rt: &impl Abort, recorder: &Recorder) {
     let constraints = recorder.extension_constraints();
     let (first, second) = (constraints.first(), constraints.get(1));
-    holds(rt, "places", has_places(recorder, &[1], &[0, 2, 3]));
+    holds(rt, "places", has_indices(recorder, &[1], &[0, 2, 3]));
     holds(
         rt,
         "a cell",

@@ -58,11 +58,11 @@ fn values_on(alloc: Global, main: &RowMajorMatrix<F7>, constraint: &Base) -> [Op
     ]
 }
 
-/// The values of the constraint of this place on the rows of a trace of three rows.
-fn values_of(alloc: Global, place: usize) -> Option<[Option<F7>; 3]> {
+/// The values of the constraint of this index on the rows of a trace of three rows.
+fn values_of(alloc: Global, index: usize) -> Option<[Option<F7>; 3]> {
     let main = trace_of(alloc, &[1, 3, 3, 4, 5, 6], 2)?;
     let recorder = record_selected(alloc).ok()?;
-    let values = match recorder.base_constraints().get(place) {
+    let values = match recorder.base_constraints().get(index) {
         Some(constraint) => Some(values_on(alloc, &main, constraint)),
         None => None,
     };
@@ -70,15 +70,15 @@ fn values_of(alloc: Global, place: usize) -> Option<[Option<F7>; 3]> {
     values
 }
 
-/// Whether the constraint of this place has these values.
-fn is_valued(alloc: Global, place: usize, values: [u32; 3]) -> bool {
+/// Whether the constraint of this index has these values.
+fn is_valued(alloc: Global, index: usize, values: [u32; 3]) -> bool {
     let [first, second, third] = values;
     let wanted = [
         Some(F7::new(first)),
         Some(F7::new(second)),
         Some(F7::new(third)),
     ];
-    values_of(alloc, place) == Some(wanted)
+    values_of(alloc, index) == Some(wanted)
 }
 
 #[test]

@@ -57,19 +57,23 @@ pub fn answered(
 }
 
 /// What the counter answers on a trace of one column.
-fn counted(alloc: Global, on_every_row: bool, values: &[u32]) -> Answer {
+fn check_counts(alloc: Global, on_every_row: bool, values: &[u32]) -> Answer {
     answered(alloc, Claim::Counts { on_every_row }, values, 1, None)
 }
 
 #[test]
 fn a_counter_is_checked_row_by_row(rt: HostRuntime) {
     let alloc = rt.alloc();
-    fails_at(&rt, "a jump", counted(alloc, false, &[0, 1, 3]), 1);
-    fails_at(&rt, "no way back", counted(alloc, true, &[0, 1, 2]), 2);
-    passes(&rt, "a cycle", counted(alloc, true, &[0, 1, 2, 3, 4, 5, 6]));
-    passes(&rt, "three steps", counted(alloc, false, &[0, 1, 2]));
-    passes(&rt, "no row", counted(alloc, false, &[]));
+    fails_at(&rt, "a jump", check_counts(alloc, false, &[0, 1, 3]), 1);
+    fails_at(&rt, "no way back", check_counts(alloc, true, &[0, 1, 2]), 2);
+    passes(
+        &rt,
+        "a cycle",
+        check_counts(alloc, true, &[0, 1, 2, 3, 4, 5, 6]),
+    );
+    passes(&rt, "three steps", check_counts(alloc, false, &[0, 1, 2]));
+    passes(&rt, "no row", check_counts(alloc, false, &[]));
     // One row is first and last, has no step, and is its own next row.
-    passes(&rt, "one row", counted(alloc, false, &[5]));
-    fails_at(&rt, "one row, itself", counted(alloc, true, &[5]), 0);
+    passes(&rt, "one row", check_counts(alloc, false, &[5]));
+    fails_at(&rt, "one row, itself", check_counts(alloc, true, &[5]), 0);
 }

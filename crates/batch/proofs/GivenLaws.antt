@@ -10,10 +10,10 @@ use Rattle.std.specs.Map.{lookup}
 use Rattle.indexmap.specs.IndexMap.{insert_entry}
 use Rattle.lookup_model.specs.LookupDegree.{greatest}
 use Rattle.lookup_model.specs.declared.types.Lookup.{Lookup}
-use Rattle.lookup.specs.Buses.{same_name}
-use Rattle.lookup.proofs.GroupLaws.{same_name-Decides}
+use Rattle.lookup_model.specs.Names.{same_name}
+use Rattle.lookup_model.proofs.Names.{same_name-Decides}
 use Rattle.lookup.proofs.NamedWidthLaws.{at_inserted, greatest_push}
-use Rattle.batch.specs.Numbering.{AreGiven, IsBusId, IsKnown}
+use Rattle.batch.specs.Numbering.{AreGivenInOrder, IsBusId, IsKnown}
 use Rattle.batch.specs.Order.{AreInOrder, bus_at, next_id, same_bus}
 use Rattle.batch.specs.declared.ids.GivenIds.{GivenIds}
 
@@ -59,12 +59,12 @@ module _ {F : Type 0} where
 
     steps_more : ((i : ℕ) (d : ℕ × Lookup F) → i < length all → (get_or all i d).0 ≤ next_id (take i all)) → a.0 ≤ next_id all
         → (i : ℕ) (d : ℕ × Lookup F) → i < length more → (get_or more i d).0 ≤ next_id (take i more)
-    steps_more steps last i d lt = by_place (cases_lt i (length all))
+    steps_more steps last i d lt = by_index (cases_lt i (length all))
       where
-        by_place : (i < length all) ⊎ (length all ≤ i) → (get_or more i d).0 ≤ next_id (take i more)
-        by_place (inl early) =
+        by_index : (i < length all) ⊎ (length all ≤ i) → (get_or more i d).0 ≤ next_id (take i more)
+        by_index (inl early) =
             subst₂ (λ (x : ℕ × Lookup F) (xs : List (ℕ × Lookup F)). x.0 ≤ next_id xs) (sym (get_or_append_left all (a ∷ []) d i early)) (sym (take-append-le i all (a ∷ []) (omega (arith, early)))) (steps i d early)
-        by_place (inr late) =
+        by_index (inr late) =
             let at : length all ≡ i = omega (arith, late, lt, length_push all a) in
             subst₂ (λ (x : ℕ × Lookup F) (xs : List (ℕ × Lookup F)). x.0 ≤ next_id xs) (sym (get_or_push all a d i at))
             (sym (take-append-le i all (a ∷ []) (omega (arith, at)) ∙ take_all i all (omega (arith, at)))) last
@@ -136,9 +136,9 @@ module _ {F : Type 0} where
     now_known name on =
         (length all, omega (arith, length_push all a), λ d. subst (λ (b : ℕ × Lookup F). (bus_at b ≡ Some name) × (b.0 ≡ a.0)) (sym (get_or_push all a d (length all) refl)) (on, refl))
 
-module _ {F : Type 0} (all : List (ℕ × Lookup F)) (before after : GivenIds) (given : AreGiven all before) (a : ℕ × Lookup F) where
+module _ {F : Type 0} (all : List (ℕ × Lookup F)) (before after : GivenIds) (given : AreGivenInOrder all before) (a : ℕ × Lookup F) where
   -- a local lookup
-  pub local_given : bus_at a ≡ None → (a.0 ≡ before.next) × (after.next ≡ a.0 + 1) × (after.names.entries ≡ before.names.entries) → AreGiven (all ++ a ∷ []) after
+  pub local_given : bus_at a ≡ None → (a.0 ≡ before.next) × (after.next ≡ a.0 + 1) × (after.names.entries ≡ before.names.entries) → AreGivenInOrder (all ++ a ∷ []) after
   local_given none is = record {
     in_order =
         subst (AreInOrder (all ++ a ∷ [])) (omega (arith, is.0, is.1))
@@ -161,7 +161,7 @@ module _ {F : Type 0} (all : List (ℕ × Lookup F)) (before after : GivenIds) (
         subst (AreInOrder (all ++ a ∷ [])) (sym (is.is_old (λ same. absurd (omega (arith, same, low)))))
         (joined all a before.next given.in_order name.now j here found on)
 
-    pub bus_given : AreGiven (all ++ a ∷ []) after
+    pub bus_given : AreGivenInOrder (all ++ a ∷ []) after
     bus_given = record {
       in_order = order_more (lookup (λ k. same_name name.now k.now) before.names.entries) is.id_is (given.names name.now);
       names = λ q.
@@ -174,7 +174,7 @@ module _ {F : Type 0} (all : List (ℕ × Lookup F)) (before after : GivenIds) (
         by_name q false e = still_known all a q (lookup (λ k. same_name q k.now) before.names.entries) (λ is. absurd (true≢false (sym ((same_name-Decides q name.now).1 (cc (sym is ∙ on))) ∙ e))) (given.names q)
 
 -- before the first lookup
-pub none_given : {F : Type 0} (given : GivenIds) → given.next ≡ 0 → given.names.entries ≡ [] → AreGiven {F = F} [] given
+pub none_given : {F : Type 0} (given : GivenIds) → given.next ≡ 0 → given.names.entries ≡ [] → AreGivenInOrder {F = F} [] given
 none_given {F} given next none = record {
   in_order = record {
     buses = λ i j d before within. absurd (omega (arith, within));
@@ -186,9 +186,9 @@ none_given {F} given next none = record {
 
 -- the ids of an AIR, with one more
 pub given_more : {F : Type 0} (all : List (ℕ × Lookup F)) (ids : List ℕ) (lookups : List (Lookup F)) (i id : ℕ) (l : Lookup F) (more : List ℕ) (after : GivenIds) → i < length lookups → l ≡ get_or lookups i l → length ids ≡ i → more ≡ ids ++ id ∷ []
-    → AreGiven ((all ++ zip ids (take i lookups)) ++ (id, l) ∷ []) after → AreGiven (all ++ zip more (take (i + 1) lookups)) after
+    → AreGivenInOrder ((all ++ zip ids (take i lookups)) ++ (id, l) ∷ []) after → AreGivenInOrder (all ++ zip more (take (i + 1) lookups)) after
 given_more {F} all ids lookups i id l more after lt is long more_is given =
     let longer : take (i + 1) lookups ≡ take i lookups ++ l ∷ [] = take_more lookups i l lt ∙ ap (λ y. take i lookups ++ y ∷ []) (sym is) in
     let same : length ids ≡ length (take i lookups) = long ∙ sym (length-take-le i lookups (omega (arith, lt))) in
     let zipped : zip more (take (i + 1) lookups) ≡ zip ids (take i lookups) ++ (id, l) ∷ [] = (λ j. zip (more_is j) (longer j)) ∙ zip_push ids (take i lookups) id l same in
-    subst (λ (xs : List (ℕ × Lookup F)). AreGiven xs after) (append_assoc all (zip ids (take i lookups)) ((id, l) ∷ []) ∙ ap (λ t. all ++ t) (sym zipped)) given
+    subst (λ (xs : List (ℕ × Lookup F)). AreGivenInOrder xs after) (append_assoc all (zip ids (take i lookups)) ((id, l) ∷ []) ∙ ap (λ t. all ++ t) (sym zipped)) given

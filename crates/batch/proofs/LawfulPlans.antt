@@ -10,11 +10,11 @@ use Rattle.lookup_model.specs.Batches.Instances.{Instance}
 use Rattle.lookup_model.specs.LookupDegree.{greatest}
 use Rattle.lookup_model.specs.Outline.{bus_of}
 use Rattle.lookup_model.specs.declared.types.Lookup.{Lookup}
-use Rattle.lookup.proofs.GroupLaws.{same_name-Decides}
+use Rattle.lookup_model.proofs.Names.{same_name-Decides}
 use Rattle.lookup.specs.Lookups.{lookups_of}
 use Rattle.lookup.specs.declared.lookups.Lookups.{Lookups}
 use Rattle.batch.specs.Order.{same_bus}
-use Rattle.batch.specs.PlanFacts.{IsPlan, assigned, lookup_widths, tuple_widths}
+use Rattle.batch.specs.PlanFacts.{IsPlan, assigned, lookup_widths, all_tuple_widths}
 use Rattle.batch.specs.Traces.{batch_over}
 use Rattle.batch.specs.declared.trace.BatchTrace.{BatchTrace}
 use Rattle.batch.proofs.GivenLaws.{below_next}
@@ -43,10 +43,10 @@ module _ {F : Type 0} (most : ℕ) where
       let whole = greatest_append (lookup_widths l) (flat_map lookup_widths ls) in
       All-cons IsNarrow l ls (tuples_narrow l.elements.items (omega (arith, whole, le))) (lookups_narrow ls (omega (arith, whole, le)))
 
-  airs_narrow : (airs : List (Lookups F)) → greatest (tuple_widths airs) ≤ most → All (λ air. All IsNarrow (lookups_of air)) airs
+  airs_narrow : (airs : List (Lookups F)) → greatest (all_tuple_widths airs) ≤ most → All (λ air. All IsNarrow (lookups_of air)) airs
   airs_narrow [] le = All-nil (λ air. All IsNarrow (lookups_of air))
   airs_narrow (air ∷ airs) le =
-      let whole = greatest_append (flat_map lookup_widths (lookups_of air)) (tuple_widths airs) in
+      let whole = greatest_append (flat_map lookup_widths (lookups_of air)) (all_tuple_widths airs) in
       All-cons (λ a. All IsNarrow (lookups_of a)) air airs (lookups_narrow (lookups_of air) (omega (arith, whole, le))) (airs_narrow airs (omega (arith, whole, le)))
 
 -- the lookups of a batch over a plan, with their ids

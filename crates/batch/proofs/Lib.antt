@@ -1,4 +1,5 @@
 pub mod AssignedLaws
+pub mod CountLaws
 pub mod DistinctLaws
 pub mod GivenLaws
 pub mod GridLaws
@@ -6,6 +7,6 @@ pub mod LawfulPlans
 pub mod OneWidths
 pub mod PlanCalls
 pub mod PlanLaws
-pub mod Places
+pub mod ItemLaws
 pub mod TableLaws
 pub mod TraceLaws

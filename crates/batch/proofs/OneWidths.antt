@@ -11,9 +11,10 @@ use Rattle.lookup_model.specs.Batches.Ids.{HaveOneWidth}
 use Rattle.lookup_model.specs.Outline.{Outline, bus_of, fields_of}
 use Rattle.lookup_model.specs.declared.types.Lookup.{Lookup}
 use Rattle.lookup_rows.proofs.NetEntries.{any-first_seen}
-use Rattle.lookup.proofs.GroupLaws.{same_name-Decides}
+use Rattle.lookup_model.proofs.Names.{same_name-Decides}
 use Rattle.lookup.specs.BusWidths.{widths_of}
-use Rattle.lookup.specs.Buses.{bus_names, is_named, on_bus, same_name}
+use Rattle.lookup.specs.Buses.{bus_names, on_bus}
+use Rattle.lookup_model.specs.Names.{is_named, same_name}
 use Rattle.lookup.specs.Lookups.{lookups_of}
 use Rattle.lookup.specs.NamedWidths.{AgreeOnWidths, first_width, named_widths}
 use Rattle.lookup.specs.declared.lookups.Lookups.{Lookups}
@@ -144,7 +145,7 @@ module _ {F : Type 0} where
   one_widths ids airs m numbered agree even =
       λ k d lt j e within same.
       subst (λ (b : ℕ × Lookup F). HaveOneWidth (get_or (assigned ids airs) k d).1 b.1) (get_or_default (assigned ids airs) j d e within)
-      (at_places k j d lt within (same ∙ ap (λ (b : ℕ × Lookup F). b.0) (get_or_default (assigned ids airs) j e d within)))
+      (at_indices k j d lt within (same ∙ ap (λ (b : ℕ × Lookup F). b.0) (get_or_default (assigned ids airs) j e d within)))
     where
       wide : (k : ℕ) (d : ℕ × Lookup F) → k < length (assigned ids airs) → IsOnWidth (bus_widths_of airs) (get_or (assigned ids airs) k d).1
       wide k d lt = all_here (λ a. IsOnWidth (bus_widths_of airs) a.1) (assigned ids airs) k d lt (all_assigned (IsOnWidth (bus_widths_of airs)) ids airs numbered.as_many (on_widths (bus_widths_of airs) airs agree))
@@ -160,9 +161,9 @@ module _ {F : Type 0} where
           by_bus (Some name) is =
               one_width_on (bus_widths_of airs) name (get_or (assigned ids airs) k d).1 (get_or (assigned ids airs) k d).1 (wide k d lt name is) (wide k d lt name is)
 
-      at_places : (k j : ℕ) (d : ℕ × Lookup F) → k < length (assigned ids airs) → j < length (assigned ids airs) → (get_or (assigned ids airs) k d).0 ≡ (get_or (assigned ids airs) j d).0
+      at_indices : (k j : ℕ) (d : ℕ × Lookup F) → k < length (assigned ids airs) → j < length (assigned ids airs) → (get_or (assigned ids airs) k d).0 ≡ (get_or (assigned ids airs) j d).0
           → HaveOneWidth (get_or (assigned ids airs) k d).1 (get_or (assigned ids airs) j d).1
-      at_places k j d lt within same = by_order (cases_order k j)
+      at_indices k j d lt within same = by_order (cases_order k j)
         where
           by_order : (k ≡ j) ⊎ ((k < j) ⊎ (j < k)) → HaveOneWidth (get_or (assigned ids airs) k d).1 (get_or (assigned ids airs) j d).1
           by_order (inl e) = subst (λ n. HaveOneWidth (get_or (assigned ids airs) k d).1 (get_or (assigned ids airs) n d).1) e (itself k d lt)

@@ -16,7 +16,7 @@ use Rattle.lookup.specs.TupleWidths.{IsTupleWidths}
 use Rattle.lookup.proofs.NamedWidthLaws.{greatest_push}
 use Rattle.lookup.specs.Guards.{IsHeightRefusal, weighted_height_sum}
 use Rattle.lookup.specs.Lookups.{lookups_of}
-use Rattle.lookup.specs.NamedWidths.{AgreeOnWidths, IsFirstMismatch}
+use Rattle.lookup.specs.NamedWidths.{AgreeOnWidths, IsFirstWidthMismatch}
 use Rattle.lookup.specs.declared.lookups.Lookups.{Lookups}
 use Rattle.batch.proofs.LawfulPlans.{greatest_append}
 use Rattle.batch.proofs.OneWidths.{one_widths}
@@ -37,14 +37,14 @@ plan_is p airs heights ids W m heights_are agree even numbered few light width =
 }
 
 -- refusals that keep their names
-pub bus_passed : (widths : List (List ℕ × ℕ)) (e : LookupError) → IsFirstMismatch widths e → of_lookup e ≡ OfLookup e
-bus_passed widths e first = ap of_lookup first.refusal.error_is ∙ ap OfLookup (sym first.refusal.error_is)
+pub bus_passed : (widths : List (List ℕ × ℕ)) (e : LookupError) → IsFirstWidthMismatch widths e → of_lookup e ≡ OfLookup e
+bus_passed widths e first = ap of_lookup first.fault.refusal.error_is ∙ ap OfLookup (sym first.fault.refusal.error_is)
 
 pub widths_passed : (context : List ℕ) (width other : ℕ) (e : LookupError) → IsTupleWidths context width other e → of_lookup e ≡ OfLookup e
 widths_passed context width other e is = ap of_lookup is.error_is ∙ ap OfLookup (sym is.error_is)
 
 pub local_passed : {F : Type 0} (airs : List (Lookups F)) (e : LookupError) → IsFirstLocalMismatch airs e → of_lookup e ≡ OfLookup e
-local_passed airs e first = widths_passed _ _ _ e first.mismatch.mismatch.refusal
+local_passed airs e first = widths_passed _ _ _ e first.fault.fault.uneven.refusal
 
 pub height_passed : (p sum : ℕ) (e : LookupError) → IsHeightRefusal p sum e → of_lookup e ≡ OfLookup e
 height_passed p sum e is = ap of_lookup is.error_is ∙ ap OfLookup (sym is.error_is)

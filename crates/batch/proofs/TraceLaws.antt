@@ -1,5 +1,5 @@
 -- The batch of a plan over its traces.
-use Rattle.std.proofs.Common.{◌≡◌, ◌↔◌, ◌<◌, ◌≤◌, ◌+◌, ◌-◌, ◌++◌, ◌∷◌, ℕ, zero, suc, Bool, true, false, true≢false, IsTrue, List, [], None, Some, All, drop, get_or, length, map, take, refl, sym, ap, ap₂, subst, ◌∙◌, arith}
+use Rattle.std.proofs.Common.{◌≡◌, ◌↔◌, ◌<◌, ◌≤◌, ◌+◌, ◌-◌, ◌++◌, ◌∷◌, ℕ, zero, suc, Bool, true, false, true≢false, IsTrue, List, [], Some, All, drop, get_or, length, map, take, refl, sym, ap, ap₂, subst, ◌∙◌, arith}
 use Rattle.std.proofs.lemmas.List.{get_or-map, length-map, map_push, take_more}
 use Rattle.std.proofs.lemmas.List.Elements.{All-cons, All-nil}
 use Rattle.std.proofs.lemmas.Slice.Zip.{get_or-zip, length-zip}
@@ -14,11 +14,11 @@ use Rattle.lookup_model.specs.declared.types.Lookup.{Lookup}
 use Rattle.lookup.specs.Lookups.{lookups_of}
 use Rattle.lookup.specs.declared.lookups.Lookups.{Lookups}
 use Rattle.lookup_model.proofs.Lists.{all_back, all_front}
-use Rattle.batch.proofs.Places.{HoldsBelow, holds_next}
+use Rattle.batch.proofs.ItemLaws.{HoldsBelow, holds_next}
 use Rattle.batch.specs.Lists.{lists_of}
 use Rattle.batch.specs.Pairs.{HaveIdsBelow}
 use Rattle.batch.specs.Plans.{plan_batch}
-use Rattle.batch.specs.Traces.{FitsAt, IsFirstUnfit, instance_alone, instance_over, shown_of}
+use Rattle.batch.specs.Traces.{FitsAt, IsFirstUnfit, instance_alone, instance_over, main_alone, shown_of}
 use Rattle.batch.specs.declared.error.BatchError.TheVariants.{TraceMismatch}
 use Rattle.batch.specs.declared.trace.BatchTrace.{BatchTrace}
 
@@ -108,22 +108,21 @@ module _ {F : Type 0} where
     first_unfit unfit =
         let (b, is, there) = trace_there bs heights i same lt in
         record {
-          place = i;
-          unfit = (instance_of b, get_or heights i 0);
+          index = i;
+          item = (instance_of b, get_or heights i 0);
           is_there = there;
-          fails = λ here. absurd (true≢false (sym (told.1 ((all_of_one (λ c. FitsAt (instance_of c, get_or heights i 0)) bs i b lt is).1 here)) ∙ unfit));
           before = so_far;
-          error_is = refl;
+          fault = (λ here. absurd (true≢false (sym (told.1 ((all_of_one (λ c. FitsAt (instance_of c, get_or heights i 0)) bs i b lt is).1 here)) ∙ unfit)), refl);
         }
 
 -- over main traces alone, the batch of a plan is that of these
-pub alone_is : {F : Type 0} (airs : List (List ℕ × Lookups F)) (traces : List (BatchTrace F)) (mains : List (Matrix F)) → map shown_of traces ≡ map (λ main. (main, None, [])) mains
+pub alone_is : {F : Type 0} (airs : List (List ℕ × Lookups F)) (traces : List (BatchTrace F)) (mains : List (Matrix F)) → map shown_of traces ≡ map main_alone mains
     → map (λ t. instance_over t.0 t.1) (zip airs traces) ≡ map (λ t. instance_alone t.0 t.1) (zip airs mains)
 alone_is [] traces mains same = refl
 alone_is (a ∷ airs) [] [] same = refl
 alone_is (a ∷ airs) [] (m ∷ ms) same = absurd (cc same)
 alone_is (a ∷ airs) (t ∷ ts) [] same = absurd (cc same)
 alone_is (a ∷ airs) (t ∷ ts) (m ∷ ms) same =
-    let head : shown_of t ≡ (m, None, []) = cc same in
-    let rest : map shown_of ts ≡ map (λ main. (main, None, [])) ms = cc same in
-    ap₂ (λ x xs. x ∷ xs) (λ i. record { lookups = lookups_of a.1; main = (head i).0; preprocessed = (head i).1; public_values = (head i).2; ids = a.0 }) (alone_is airs ts ms rest)
+    let head : shown_of t ≡ main_alone m = ap (λ all. get_or all 0 (shown_of t)) same in
+    let rest : map shown_of ts ≡ map main_alone ms = cc same in
+    ap₂ (λ x xs. x ∷ xs) (λ i. record { lookups = lookups_of a.1; traces = head i; ids = a.0 }) (alone_is airs ts ms rest)

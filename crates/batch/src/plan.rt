@@ -10,7 +10,9 @@ use crate::grid::{GridCount, counted_grid};
 use crate::ids::{PlanIds, plan_ids};
 use crate::trace::BatchTrace;
 use crate::widths::{check_local_widths, widest_tuple};
-use checker::{BatchInstance, Witness, check_witness, generate_batch};
+use checker::{
+    BatchInstance, SoundnessCount, Witness, check_witness, generate_batch, soundness_count,
+};
 use field::{ExtensionField, Field, Over};
 use lookup::{Challenges, Lookups, check_bus_widths, check_multiplicity_height_bound};
 use std::alloc::{AllocError, Global};
@@ -37,7 +39,8 @@ impl<F: Field> BatchPlan<F> {
     ghost use Rattle.batch.specs.Checks.{HaveEvenWidths, IsPlanRefusal};
     ghost use Rattle.batch.specs.Grids.{CountsPlanGrid, StaysWithinBound};
     ghost use Rattle.batch.specs.PlanBatches.{IsPlanBatch};
-    ghost use Rattle.batch.specs.Plans.{PassIsCounted, PassesOnlyPlain, Proves, ProvesBalanced, ProvesOnly, ProvesRegular, ProvesSatisfied, RefusesUnaccepted, Verifies, plan_batch};
+    ghost use Rattle.batch.specs.Plans.{PassIsCounted, VerifiesOnlyPlain, Proves, ProvesBalanced, ProvesOnly, ProvesRegular, ProvesSatisfied, RefusesOnlyUnaccepted, Verifies, plan_batch};
+    ghost use Rattle.batch.specs.SoundnessCounts.{CountsPlan, CountsSoundly};
     ghost use Rattle.batch.specs.Tables.{made_table};
     ghost use Rattle.batch.specs.Traces.{IsTraceRefusal};
 
@@ -152,7 +155,7 @@ impl<F: Field> BatchPlan<F> {
     /// Whether a witness is accepted over these traces, at a pair of challenges; see
     /// [`check_witness`](checker::check_witness).
     ///
-    /// If it is, alpha is one of those that [`soundness_count`](checker::soundness_count) counts. If
+    /// If it is, alpha is one of those that [`soundness_count`](BatchPlan::soundness_count) counts. If
     /// all flags are lawful and no denominator vanishes, only the witness of `prove` can be.
     ///
     /// Refuses traces as `prove` does, then `LengthMismatch` if the auxiliary traces or the terminals
@@ -170,11 +173,11 @@ impl<F: Field> BatchPlan<F> {
             (made_table EF.ring alpha beta self.now.max_message_width self.now.num_ids)
             self.now.heights.items traces.now
             (plan_batch self.now.airs.items self.now.ids.items traces.now) witness.now result }
-        ensures refusal { RefusesUnaccepted ⟦<EF as Over<F>>⟧.fields
+        ensures refusal { RefusesOnlyUnaccepted ⟦<EF as Over<F>>⟧.fields
             (made_table EF.ring alpha beta self.now.max_message_width self.now.num_ids)
             self.now.heights.items traces.now
             (plan_batch self.now.airs.items self.now.ids.items traces.now) witness.now result }
-        ensures only { PassesOnlyPlain ⟦<EF as Over<F>>⟧.fields
+        ensures only { VerifiesOnlyPlain ⟦<EF as Over<F>>⟧.fields
             (made_table EF.ring alpha beta self.now.max_message_width self.now.num_ids)
             (plan_batch self.now.airs.items self.now.ids.items traces.now) witness.now result }
         ensures counted { PassIsCounted ⟦<EF as Over<F>>⟧.fields
@@ -194,12 +197,36 @@ impl<F: Field> BatchPlan<F> {
         Ok(())
     }
 
+    /// How many distinct messages the batch over these traces has, how many of them do not balance, and
+    /// at how few challenges of `EF` it can still be accepted; see
+    /// [`soundness_count`](checker::soundness_count).
+    ///
+    /// Refuses traces as `prove` does, then `Air` with the first fault of flags, then `CountOverflow` if
+    /// `W * k * (k - 1) / 2` does not fit `u128`, where `k` messages do not balance and `W` is
+    /// `max_message_width`. Also fails when out of memory.
+    pub fn soundness_count<EF: ExtensionField<F>>(
+        &self,
+        alloc: Global,
+        traces: &[BatchTrace<'_, F>],
+    ) -> Result<SoundnessCount, BatchError>
+        ensures answer { CountsPlan ⟦<EF as Over<F>>⟧.fields
+            (plan_batch self.now.airs.items self.now.ids.items traces.now)
+            self.now.max_message_width self.now.heights.items traces.now result }
+        ensures sound { CountsSoundly ⟦<EF as Over<F>>⟧.fields
+            (plan_batch self.now.airs.items self.now.ids.items traces.now)
+            self.now.max_message_width result }
+    {
+        let batch = self.batch_over(alloc, traces)?;
+        let counts = soundness_count::<F, EF>(alloc, batch.as_slice(), self.max_message_width)?;
+        Ok(counts)
+    }
+
     /// At how many pairs of these alphas and betas the batch over these traces is accepted, whoever makes
     /// the witness, and a bound on that number; see [`GridCount`].
     ///
     /// Refuses traces as `prove` does, then `RepeatedChallenge` if the alphas or the betas have one of
     /// them twice, then `Air` with the first fault of flags, as
-    /// [`soundness_count`](checker::soundness_count) does, then `CountOverflow` if some messages do not
+    /// [`soundness_count`](BatchPlan::soundness_count) does, then `CountOverflow` if some messages do not
     /// balance and `W * k * (k - 1) / 2` or the bound does not fit `u128`. Also fails when out of memory.
     pub fn grid_count<EF: ExtensionField<F>>(
         &self,

@@ -1,4 +1,5 @@
 //! What the tests share: sets of lookups, traces, and plans of them.
+mod counts;
 mod example;
 mod grids;
 mod numbering;

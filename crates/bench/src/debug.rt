@@ -30,7 +30,7 @@ pub(crate) fn check(
         return Ok(NO_ROWS);
     };
     let lookups = lookups_of(alloc, shape)?;
-    if !do_fit(&main, &lookups) {
+    if !lookups_fit(&main, &lookups) {
         return Ok(NO_ROWS);
     }
     let mut answer = BALANCED;
@@ -43,7 +43,7 @@ pub(crate) fn check(
 }
 
 /// Whether the lookups fit the trace.
-fn do_fit(main: &RowMajorMatrix<BabyBear>, lookups: &[Lookup<BabyBear>]) -> bool
+fn lookups_fit(main: &RowMajorMatrix<BabyBear>, lookups: &[Lookup<BabyBear>]) -> bool
     ensures { IsTrue result ↔ LookupsFit (layout_of_traces main.now None []) lookups.now }
 {
     fits(lookups, &AirLayout::of_traces(main, None, &[]))

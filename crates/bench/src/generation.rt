@@ -33,8 +33,8 @@ pub(crate) fn generate(
     }
     let mut sum = BabyBear4::ZERO;
     for _ in 0..rounds {
-        let (aux, terminal) = generated(alloc, &traces.asks, asks.as_slice(), &challenges)?;
-        let (other_aux, other_terminal) = generated(
+        let (aux, terminal) = generate_alone(alloc, &traces.asks, asks.as_slice(), &challenges)?;
+        let (other_aux, other_terminal) = generate_alone(
             alloc,
             &traces.provides,
             provides.as_slice(),
@@ -61,7 +61,7 @@ fn can_generate(
 }
 
 /// The auxiliary trace and the terminal of one AIR.
-fn generated(
+fn generate_alone(
     alloc: Global,
     main: &RowMajorMatrix<BabyBear>,
     lookups: &[Lookup<BabyBear>],

@@ -35,20 +35,20 @@ fn on_buses(alloc: Global, count: usize, buses: usize) -> Result<Lookups<BabyBea
     requires { 0 < buses }
 {
     let mut records = Vec::with_capacity(alloc, count)?;
-    for place in 0..count {
-        records.push(on_bus(alloc, place, place % buses)?)?;
+    for index in 0..count {
+        records.push(on_bus(alloc, index, index % buses)?)?;
     }
     Lookups::from_records(alloc, records)
 }
 
 /// The lookup of this column on this bus.
-fn on_bus(alloc: Global, place: usize, bus: usize) -> Result<Lookup<BabyBear>, AllocError> {
+fn on_bus(alloc: Global, index: usize, bus: usize) -> Result<Lookup<BabyBear>, AllocError> {
     Ok(Lookup {
         kind: Kind::Global(format!(in alloc; "bus {bus}")?),
-        elements: Vec::from_array(alloc, [columns(alloc, 4 * (place % 8), 4)?])?,
+        elements: Vec::from_array(alloc, [columns(alloc, 4 * (index % 8), 4)?])?,
         multiplicities: Vec::from_array(alloc, [column(32)])?,
         count_weight: 1,
-        column: place,
+        column: index,
         flags: None,
     })
 }

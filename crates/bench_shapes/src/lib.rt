@@ -9,7 +9,7 @@ ghost use Rattle.lookup_model.specs.Records.{LookupsFit};
 mod shapes;
 
 use crate::shapes::challenges_of;
-use air::AirLayout;
+use air::{AirLayout, Traces};
 use field::{BabyBear, BabyBear4, PrimeCharacteristicRing};
 use lookup_generation::generate_permutation;
 use lookup_model::{Lookup, LookupError, LookupTerminal, fits};
@@ -34,12 +34,12 @@ pub fn generate(
     };
     let lookups = lookups_of(alloc, shape)?;
     let challenges = challenges_of(alloc, shape)?;
-    if lookups.len() > challenges.len() / 2 || !do_fit(&main, &lookups) {
+    if lookups.len() > challenges.len() / 2 || !lookups_fit(&main, &lookups) {
         return Ok(REFUSED);
     }
     let mut sum = BabyBear4::ZERO;
     for _ in 0..rounds {
-        let (auxiliary, terminal) = generated(alloc, &main, &lookups, &challenges)?;
+        let (auxiliary, terminal) = generate_alone(alloc, &main, &lookups, &challenges)?;
         if skip != 1 {
             sum = checksum(&auxiliary, terminal);
         }
@@ -66,14 +66,14 @@ pub fn trace(
 }
 
 /// Whether the lookups fit the trace.
-fn do_fit(main: &RowMajorMatrix<BabyBear>, lookups: &[Lookup<BabyBear>]) -> bool
+fn lookups_fit(main: &RowMajorMatrix<BabyBear>, lookups: &[Lookup<BabyBear>]) -> bool
     ensures { IsTrue result ↔ LookupsFit (layout_of_traces main.now None []) lookups.now }
 {
     fits(lookups, &AirLayout::of_traces(main, None, &[]))
 }
 
 /// The auxiliary trace and the terminal, over a main trace alone.
-fn generated(
+fn generate_alone(
     alloc: Global,
     main: &RowMajorMatrix<BabyBear>,
     lookups: &[Lookup<BabyBear>],
@@ -82,7 +82,12 @@ fn generated(
     requires fit { LookupsFit (layout_of_traces main.now None []) lookups.now }
     requires challenges { 2 * length lookups.now ≤ length challenges.now }
 {
-    generate_permutation(alloc, main, None, &[], lookups, challenges)
+    let traces = Traces {
+        main,
+        preprocessed: None,
+        public_values: &[],
+    };
+    generate_permutation(alloc, &traces, lookups, challenges)
 }
 
 fn checksum(

@@ -2,7 +2,8 @@
 use Rattle.std.proofs.Common.{◌≡◌, ℕ, ◌+◌, ◌%◌, ◌<◌, inl, inr, Option, None, Some, List, MatchOption, Result, Ok, Err, sym, subst, subst₂}
 use Rattle.std.specs.List.{AllByRecursion}
 use Rattle.matrix.specs.Matrix.{Matrix, height, row}
-use Rattle.expressions.specs.Window.{ExtWindow, window_at}
+use Rattle.air.specs.Traces.{window_of}
+use Rattle.expressions.specs.Window.{ExtWindow}
 use Rattle.lookup_model.specs.Challenges.{ChallengeTable, column_challenges}
 use Rattle.lookup_model.specs.Constraints.{lookup_constraints}
 use Rattle.field.specs.Extension.{Extension}
@@ -30,9 +31,9 @@ module _ {F K : Type 0} (E : Extension F K) (table : ChallengeTable K) (i : Inst
   abbrev IsZeroOn : Matrix K → ℕ → List K → List K → Type 0
   IsZeroOn auxiliary r challenges values =
       let w : ExtWindow F K = record {
-        base = window_at i.main i.preprocessed i.public_values (height i.main) r;
+        base = window_of i.traces r;
         permutation = row auxiliary r;
-        permutation_next = row auxiliary ((r + 1) % height i.main);
+        permutation_next = row auxiliary ((r + 1) % height i.traces.main);
         challenges = challenges;
         permutation_values = values;
       } in
@@ -43,7 +44,7 @@ module _ {F K : Type 0} (E : Extension F K) (table : ChallengeTable K) (i : Inst
     pub holds_from : (r : ℕ) → IsZeroOn auxiliary r challenges values → HoldsAt E table i (auxiliary, terminal) r
     holds_from r zeros = subst₂ (IsZeroOn auxiliary r) challenges_are values_are zeros
 
-    pub fails_from : (r : ℕ) → r < height i.main → ¬ IsZeroOn auxiliary r challenges values → ((s : ℕ) → s < r → IsZeroOn auxiliary s challenges values) → IsFirstFailing E table i (auxiliary, terminal) r
+    pub fails_from : (r : ℕ) → r < height i.traces.main → ¬ IsZeroOn auxiliary r challenges values → ((s : ℕ) → s < r → IsZeroOn auxiliary s challenges values) → IsFirstFailing E table i (auxiliary, terminal) r
     fails_from r lt fails before = record {
       within = lt;
       fails = λ holds. fails (subst₂ (IsZeroOn auxiliary r) (sym challenges_are) (sym values_are) holds);

@@ -7,7 +7,7 @@ use Rattle.field.specs.Ring.{sub_in}
 use Rattle.field.specs.laws.RingFacts.{same_from_difference}
 use Rattle.expressions.specs.Window.{Window}
 use Rattle.expressions.specs.declared.base_expression.SymbolicExpression.{SymbolicExpression}
-use Rattle.lookup_columns.specs.ChunkColumns.{HoldSelected, IsHeld, IsHeldIfSet, key_denominator}
+use Rattle.lookup_columns.specs.ChunkColumns.{HoldSelected, IsHeld, IsHeldIfSet, key_denominator_over}
 use Rattle.lookup_columns.specs.declared.branches.BranchColumns.{BranchColumns}
 use Rattle.lookup_evaluation.specs.declared.quotient.Quotient.{Quotient}
 use Rattle.lookup_model.specs.Constraints.{fraction_denominator, fraction_left, fraction_numerator}
@@ -37,18 +37,18 @@ abbrev pub over_column : {F K : Type 0} → Extension F K → List K → ℕ →
 over_column E challenges column =
     tuple_denominator E (slice_index_or challenges (2 * column) E.ring.zero) (slice_index_or challenges (2 * column + 1) E.ring.zero)
 
-module _ {F K : Type 0} (E : Extension F K) (challenges : List K) (column : ℕ) (w : Window F) (place : ℕ) where
+module _ {F K : Type 0} (E : Extension F K) (challenges : List K) (column : ℕ) (w : Window F) (index : ℕ) where
   abbrev branches_of : List (Vec (SymbolicExpression F) Global × SymbolicExpression F) → List (Message F)
   branches_of zs = map (λ b. branch_at E.base w column b.0.items b.1) zs
 
   -- What is held under the column as its id is held over the challenges of the column.
-  pub held_over : (columns : List (BranchColumns F K)) (zs : List (Vec (SymbolicExpression F) Global × SymbolicExpression F)) → AllZip (IsHeld (key_denominator E.ring E.embed challenges) place) columns (branches_of zs) → AllZip (IsHeld (over_tuples (over_column E challenges column)) place) columns (branches_of zs)
+  pub held_over : (columns : List (BranchColumns F K)) (zs : List (Vec (SymbolicExpression F) Global × SymbolicExpression F)) → AllZip (IsHeld (key_denominator_over E.ring E.embed challenges) index) columns (branches_of zs) → AllZip (IsHeld (over_tuples (over_column E challenges column)) index) columns (branches_of zs)
   held_over [] [] h = tt
   held_over [] (z ∷ zs) h = absurd h
   held_over (c ∷ columns) [] h = absurd h
   held_over (c ∷ columns) (z ∷ zs) h = (h.0, held_over columns zs h.1)
 
-  if_set_over : (columns : List (BranchColumns F K)) (zs : List (Vec (SymbolicExpression F) Global × SymbolicExpression F)) → AllZip (IsHeldIfSet E.base (key_denominator E.ring E.embed challenges) place) columns (branches_of zs) → AllZip (IsHeldIfSet E.base (over_tuples (over_column E challenges column)) place) columns (branches_of zs)
+  if_set_over : (columns : List (BranchColumns F K)) (zs : List (Vec (SymbolicExpression F) Global × SymbolicExpression F)) → AllZip (IsHeldIfSet E.base (key_denominator_over E.ring E.embed challenges) index) columns (branches_of zs) → AllZip (IsHeldIfSet E.base (over_tuples (over_column E challenges column)) index) columns (branches_of zs)
   if_set_over [] [] h = tt
   if_set_over [] (z ∷ zs) h = absurd h
   if_set_over (c ∷ columns) [] h = absurd h
@@ -58,5 +58,5 @@ module _ {F K : Type 0} (E : Extension F K) (challenges : List K) (column : ℕ)
   )
 
   -- the same where a flag is set
-  pub selected_over : (columns : List (BranchColumns F K)) (flags : List F) (zs : List (Vec (SymbolicExpression F) Global × SymbolicExpression F)) → HoldSelected E.base (key_denominator E.ring E.embed challenges) place columns flags (branches_of zs) → HoldSelected E.base (over_tuples (over_column E challenges column)) place columns flags (branches_of zs)
+  pub selected_over : (columns : List (BranchColumns F K)) (flags : List F) (zs : List (Vec (SymbolicExpression F) Global × SymbolicExpression F)) → HoldSelected E.base (key_denominator_over E.ring E.embed challenges) index columns flags (branches_of zs) → HoldSelected E.base (over_tuples (over_column E challenges column)) index columns flags (branches_of zs)
   selected_over columns flags zs h = record { flags_are = h.flags_are; held = if_set_over columns zs h.held }

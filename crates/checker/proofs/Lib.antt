@@ -5,7 +5,6 @@ pub mod CountLaws
 pub mod FractionLaws
 pub mod HoldsLaws
 pub mod IdLaws
-pub mod Layouts
 pub mod PackedBatches
 pub mod ReadLaws
 pub mod ResultLaws

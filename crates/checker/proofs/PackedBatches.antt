@@ -5,8 +5,8 @@ use Rattle.std.proofs.lemmas.List.Sorted.{All-permutation, IsPermutation-append,
 use Rattle.std.specs.List.{AllByRecursion, AllZip}
 use Rattle.std.specs.List.Sorted.{IsPermutation}
 use Rattle.field.specs.Ring.{Ring}
-use Rattle.matrix.specs.Matrix.{Matrix}
-use Rattle.lookup_model.specs.Challenges.{ChallengeTable, table_denominator}
+use Rattle.air.specs.Traces.{AirTraces}
+use Rattle.lookup_model.specs.Challenges.{ChallengeTable, table_key_denominator}
 use Rattle.field.specs.Extension.{Extension, IsLawful}
 use Rattle.lookup_model.specs.Message.{Message}
 use Rattle.lookup_model.specs.Plain.{quotient, trace_messages}
@@ -28,12 +28,9 @@ module _ {F : Type 0} (R : Ring F) (eq : F → F → Bool) where
   one_kept before after (inl same) =
       subst (λ (i : Instance F). IsPermutation (trace_messages (sent_rows_of R eq before)) (trace_messages (sent_rows_of R eq i))) (sym same) (IsPermutation-refl (trace_messages (sent_rows_of R eq before)))
   one_kept before after (inr packed) =
-      let Same : Matrix F → Option (Matrix F) → List F → Type 0 = λ main preprocessed public_values.
-      IsPermutation (trace_messages (sent_rows_of R eq before)) (trace_messages (sent_rows_under R eq (id_of after.ids) main preprocessed public_values after.lookups)) in
-      subst (λ (m : Matrix F). Same m after.preprocessed after.public_values) (sym packed.main)
-      (subst (λ (p : Option (Matrix F)). Same before.main p after.public_values) (sym packed.preprocessed)
-      (subst (λ (v : List F). Same before.main before.preprocessed v) (sym packed.public_values)
-      (trace_kept R eq before.lookups after.lookups packed.messages (id_of before.ids) (id_of after.ids) packed.ids before.main before.preprocessed before.public_values)))
+      let Same : AirTraces F → Type 0 = λ traces.
+      IsPermutation (trace_messages (sent_rows_of R eq before)) (trace_messages (sent_rows_under R eq (id_of after.ids) traces after.lookups)) in
+      subst Same (sym packed.traces) (trace_kept R eq before.lookups after.lookups packed.messages (id_of before.ids) (id_of after.ids) packed.ids before.traces)
 
   -- so does the whole batch
   batch_kept : (before after : List (Instance F)) → ArePacked R eq before after → IsPermutation (batch_messages R eq before) (batch_messages R eq after)
@@ -60,15 +57,15 @@ module _ {F K : Type 0} {E : Extension F K} (laws : IsLawful E) where
     plain_kept (b ∷ bs) [] packed = absurd packed
     plain_kept (b ∷ bs) (a ∷ later) packed = (
       terminal_is laws table a
-          ∙ sum_in-permutation laws.ring (λ (m : Message F). quotient E (table_denominator E table) m.multiplicity m.key) _ _ (one_kept E.base E.base_eq b a packed.0)
+          ∙ sum_in-permutation laws.ring (λ (m : Message F). quotient E (table_key_denominator E table) m.multiplicity m.key) _ _ (one_kept E.base E.base_eq b a packed.0)
           ∙ sym (terminal_is laws table b),
       plain_kept bs later packed.1,
     )
 
     -- no denominator of the packed batch vanishes
-    none_kept : (before after : List (Instance F)) → ArePacked E.base E.base_eq before after → NoneVanishes E (table_denominator E table) (batch_messages E.base E.base_eq before) → NoneVanishes E (table_denominator E table) (batch_messages E.base E.base_eq after)
+    none_kept : (before after : List (Instance F)) → ArePacked E.base E.base_eq before after → NoneVanishes E (table_key_denominator E table) (batch_messages E.base E.base_eq before) → NoneVanishes E (table_key_denominator E table) (batch_messages E.base E.base_eq after)
     none_kept before after packed none =
-        let Nonzero = λ (m : Message F). table_denominator E table m.key ≢ E.ring.zero in
+        let Nonzero = λ (m : Message F). table_key_denominator E table m.key ≢ E.ring.zero in
         recursion_from_All Nonzero _ (All-permutation Nonzero _ _ (batch_kept E.base E.base_eq before after packed) (All-from_recursion Nonzero _ none))
 
   -- the terminals stay

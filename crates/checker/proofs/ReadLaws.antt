@@ -4,36 +4,36 @@ use Rattle.std.proofs.lemmas.Option.{slice_get_within}
 use Rattle.field.specs.Ring.{Ring}
 use Rattle.lookup_columns.proofs.ChunkColumnLaws.{read_is}
 use Rattle.lookup_columns.proofs.ZipLaws.{Beside, beside}
-use Rattle.lookup_columns.specs.ChunkColumns.{HasFlag, HoldSelected, IsHeld, IsHeldIfSet, IsPlaced}
+use Rattle.lookup_columns.specs.ChunkColumns.{HasFlag, HoldSelected, IsHeld, IsHeldIfSet, IsHeldSelected}
 use Rattle.lookup_columns.specs.declared.branches.BranchColumns.{BranchColumns}
 use Rattle.lookup_model.specs.Message.{Key, Message}
 
-module _ {F K : Type 0} (R : Ring F) (denominator : Key F → K) (place : ℕ) (columns : List (BranchColumns F K)) (flags : List F) (messages : List (Message F)) (selected : HoldSelected R denominator place columns flags messages) (i : ℕ) (c : BranchColumns F K) (lt : i < length columns) (is : c ≡ get_or columns i c) where
+module _ {F K : Type 0} (R : Ring F) (denominator : Key F → K) (index : ℕ) (columns : List (BranchColumns F K)) (flags : List F) (messages : List (Message F)) (selected : HoldSelected R denominator index columns flags messages) (i : ℕ) (c : BranchColumns F K) (lt : i < length columns) (is : c ≡ get_or columns i c) where
   -- the flag and the message beside a column
-  pub flag : Beside (HasFlag place) flags i c
-  flag = beside (HasFlag place) columns flags i c selected.flags_are lt is
+  pub flag : Beside (HasFlag index) flags i c
+  flag = beside (HasFlag index) columns flags i c selected.flags_are lt is
 
-  pub message : Beside (IsHeldIfSet R denominator place) messages i c
-  message = beside (IsHeldIfSet R denominator place) columns messages i c selected.held lt is
+  pub message : Beside (IsHeldIfSet R denominator index) messages i c
+  message = beside (IsHeldIfSet R denominator index) columns messages i c selected.held lt is
 
-  -- the column has a flag at this place
-  pub flag_within : place < length c.flags.items
-  flag_within = slice_get_within c.flags.items place flag.item flag.holds
+  -- the column has a flag at this index
+  pub flag_within : index < length c.flags.items
+  flag_within = slice_get_within c.flags.items index flag.item flag.holds
 
-  module _ (f : F) (f_is : f ≡ get_or c.flags.items place f) where
+  module _ (f : F) (f_is : f ≡ get_or c.flags.items index f) where
     -- it is the one that is read
     pub flag_read : flag.item ≡ f
-    flag_read = read_is c.flags.items place f flag.item flag.holds f_is
+    flag_read = read_is c.flags.items index f flag.item flag.holds f_is
 
     module _ (set : f ≢ R.zero) where
-      placed : IsPlaced denominator place c message.item
+      placed : IsHeldSelected denominator index c message.item
       placed = message.holds f (flag.holds ∙ ap Some flag_read) set
 
-      -- if it is not zero, a place is kept for the row
-      pub place_within : place < length c.places.items
-      place_within = slice_get_within c.places.items place placed.at placed.there
+      -- if it is not zero, an index is kept for the row
+      pub index_within : index < length c.indices.items
+      index_within = slice_get_within c.indices.items index placed.at placed.there
 
       -- where the column has the message
-      pub held_there : (at : ℕ) → at ≡ get_or c.places.items place at → IsHeld denominator at c message.item
+      pub held_there : (at : ℕ) → at ≡ get_or c.indices.items index at → IsHeld denominator at c message.item
       held_there at at_is =
-          subst (λ n. IsHeld denominator n c message.item) (read_is c.places.items place at placed.at placed.there at_is) placed.held
+          subst (λ n. IsHeld denominator n c message.item) (read_is c.indices.items index at placed.at placed.there at_is) placed.held

@@ -1,6 +1,6 @@
 -- The check of one AIR's result.
 use Rattle.std.specs.Prelude.{◌≡◌, ◌<◌, ◌⊎◌, ℕ, Result, MatchResult}
-use Rattle.matrix.specs.Matrix.{height}
+use Rattle.air.specs.Traces.{height_of}
 use Rattle.lookup_model.specs.Challenges.{ChallengeTable}
 use Rattle.field.specs.Extension.{Extension}
 use Rattle.lookup_model.specs.declared.error.LookupError.{LookupError}
@@ -18,7 +18,7 @@ module _ {F K : Type 0} (E : Extension F K) (table : ChallengeTable K) (air : �
   -- the constraints hold on all rows, or the first row where one fails; or memory runs out
   abbrev pub ChecksRows : Result (Unit {0}) LookupError → Type 0
   ChecksRows answer = MatchResult answer
-      (λ _. (r : ℕ) → r < height i.main → HoldsAt E table i result r)
+      (λ _. (r : ℕ) → r < height_of i.traces → HoldsAt E table i result r)
       (λ e. (e ≡ Memory) ⊎ ((r : ℕ) × IsFirstFailing E table i result r × (e ≡ ConstraintFailed air r)))
 
   -- a satisfied result, or its refusal; or memory runs out

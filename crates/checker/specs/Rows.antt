@@ -4,6 +4,7 @@ use Rattle.std.specs.List.{AllByRecursion}
 use Rattle.std.specs.Option.{ForSome, option_copied}
 use Rattle.std.specs.declared.alloc.AllocError.{AllocError}
 use Rattle.matrix.specs.Matrix.{height}
+use Rattle.expressions.specs.Faults.{FailsFirstAt}
 use Rattle.air.specs.Row.{input_layout, input_window}
 use Rattle.air.specs.declared.debug.inputs.RowInputs.{RowInputs}
 use Rattle.lookup_model.specs.Constraints.{Constraint, accumulator_constraints, fraction_constraint, lookup_constraints, terminal_at}
@@ -49,10 +50,8 @@ module _ {F K : Type 0} (E : Extension F K) (inputs : RowInputs F K) where
     HoldsOn r = AllByRecursion (IsZeroOn r) (lookup_constraints E lookups)
 
     -- row r is the first on which one is not
-    pub record IsFirstFailingOn (r : ℕ) : Type 0 where
-      pub within : r < height inputs.main.now
-      pub fails : ¬ HoldsOn r
-      pub before : (s : ℕ) → s < r → HoldsOn s
+    abbrev pub IsFirstFailingOn : ℕ → Type 0
+    IsFirstFailingOn r = FailsFirstAt HoldsOn (height inputs.main.now) r
 
     -- the first row on which a constraint is not zero, or all are zero on every row; or memory runs out
     abbrev pub FindsFailing : Result (Option ℕ) AllocError → Type 0

@@ -7,11 +7,11 @@ ghost use Rattle.matrix.specs.Matrix.{height};
 
 use crate::accumulator::accumulator_holds_until;
 use crate::fractions::fraction_holds_until;
-use air::RowInputs;
+use air::{RowInputs, Traces};
 use field::{ExtensionField, Field, Over};
 use lookup::Lookup;
 use lookup_columns::{
-    ColumnMemory, LookupSteps, Traces, columns_of_lookup, rows_between, steps_of_lookups,
+    ColumnMemory, LookupSteps, columns_of_lookup, rows_between, steps_of_lookups,
 };
 use lookup_generation::chunk_end;
 use std::alloc::{AllocError, Global};
@@ -68,7 +68,7 @@ fn chunk_holds_until<'a, F: Field, EF: ExtensionField<F>>(
         preprocessed: inputs.preprocessed,
         public_values: inputs.public_values,
     };
-    let rows = rows_between(alloc, &mut memory.places, first, end)?;
+    let rows = rows_between(alloc, &mut memory.indices, first, end)?;
     let mut until = accumulator_holds_until(inputs, lookups, first, end);
     for i in 0..lookups.len() {
         let lookup = &lookups[i];
@@ -84,6 +84,6 @@ fn chunk_holds_until<'a, F: Field, EF: ExtensionField<F>>(
         until = fraction_holds_until(inputs, lookup, &columns, first, until);
         memory.put_branches(columns)?;
     }
-    memory.places.put(rows)?;
+    memory.indices.put(rows)?;
     Ok(until)
 }

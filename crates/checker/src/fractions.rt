@@ -40,26 +40,26 @@ pub(crate) fn fraction_holds_until<'a, F: Field, EF: ExtensionField<F>>(
     end
 }
 
-/// Whether the constraint of a lookup's fraction is zero on a row, which stands at this place of the
+/// Whether the constraint of a lookup's fraction is zero on a row, which stands at this index of the
 /// lookup's columns.
 fn fraction_holds<'a, F: Field, EF: ExtensionField<F>>(
     inputs: &'a RowInputs<'a, F, EF>,
     lookup: &Lookup<F>,
     columns: &[BranchColumns<F, EF>],
-    place: usize,
+    index: usize,
     row: usize,
 ) -> bool
     requires row_exists { row < height inputs.now.permutation.now }
     requires cell { lookup.now.column + 1 < inputs.now.permutation.now.width }
     requires columns { HoldLookup F.ring EF.ring EF.embed inputs.now.challenges.now
-        (input_window inputs.now row).base place lookup.now columns.now }
+        (input_window inputs.now row).base index lookup.now columns.now }
     ensures { IsTrue result
         ↔ FractionHolds ⟦<EF as Over<F>>⟧.fields inputs.now lookup.now row }
 {
     let fraction = inputs.permutation.row_slice(row)[lookup.column + 1];
     match &lookup.flags {
-        None => is_satisfied(additive_quotient(columns, place), fraction),
-        Some(_) => is_satisfied(exclusive_quotient(columns, place), fraction),
+        None => is_satisfied(additive_quotient(columns, index), fraction),
+        Some(_) => is_satisfied(exclusive_quotient(columns, index), fraction),
     }
 }
 
@@ -74,12 +74,12 @@ fn is_satisfied<EF: Field>(quotient: Quotient<EF>, fraction: EF) -> bool
 /// no product.
 fn additive_quotient<F: Field, EF: ExtensionField<F>>(
     columns: &[BranchColumns<F, EF>],
-    place: usize,
+    index: usize,
 ) -> Quotient<EF>
     requires { (denominator : Key F → EF) × (messages : List (Message F))
-        × AllZip (IsHeld denominator place) columns.now messages }
+        × AllZip (IsHeld denominator index) columns.now messages }
     ensures { (denominator : List F → EF) (messages : List (Message F))
-        → AllZip (IsHeld (over_tuples denominator) place) columns.now messages
+        → AllZip (IsHeld (over_tuples denominator) index) columns.now messages
         → IsQuotientOf ⟦<EF as Over<F>>⟧.fields denominator None messages result }
 {
     let Some((first, others)) = columns.split_first() else {
@@ -89,14 +89,14 @@ fn additive_quotient<F: Field, EF: ExtensionField<F>>(
         };
     };
     let mut quotient = Quotient {
-        numerator: EF::embed(first.multiplicities[place]),
-        denominator: first.denominators[place],
+        numerator: EF::embed(first.multiplicities[index]),
+        denominator: first.denominators[index],
     };
     for branch in others {
         quotient = with_branch(
             quotient,
-            branch.multiplicities[place],
-            branch.denominators[place],
+            branch.multiplicities[index],
+            branch.denominators[index],
         );
     }
     quotient
@@ -122,20 +122,20 @@ fn with_branch<F: Field, EF: ExtensionField<F>>(
 /// nothing, and only the others are read; a flag of 2 counts as 2.
 fn exclusive_quotient<F: Field, EF: ExtensionField<F>>(
     columns: &[BranchColumns<F, EF>],
-    place: usize,
+    index: usize,
 ) -> Quotient<EF>
     requires { (denominator : Key F → EF) × (flags : List F) × (messages : List (Message F))
-        × HoldSelected F.ring denominator place columns.now flags messages }
+        × HoldSelected F.ring denominator index columns.now flags messages }
     ensures { (denominator : List F → EF) (flags : List F) (messages : List (Message F))
-        → HoldSelected F.ring (over_tuples denominator) place columns.now flags messages
+        → HoldSelected F.ring (over_tuples denominator) index columns.now flags messages
         → IsQuotientOf ⟦<EF as Over<F>>⟧.fields denominator (Some flags) messages result }
 {
     let mut numerator = F::ZERO;
     let mut denominator = EF::ONE;
     for branch in columns {
-        let flag = branch.flags[place];
+        let flag = branch.flags[index];
         if !flag.is_zero() {
-            let at = branch.places[place];
+            let at = branch.indices[index];
             numerator = numerator + flag * branch.multiplicities[at];
             denominator = denominator + (branch.denominators[at] - EF::ONE).scaled(flag);
         }

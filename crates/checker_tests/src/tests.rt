@@ -188,7 +188,7 @@ fn have_prefixes<F: Field>(instances: &[BatchInstance<'_, F>], count: usize) -> 
 }
 
 /// What generation makes of a batch, which has to fit.
-fn generated<F: Field, EF: ExtensionField<F>>(
+fn generate<F: Field, EF: ExtensionField<F>>(
     rt: &impl Abort,
     alloc: Global,
     instances: &[BatchInstance<'_, F>],
@@ -251,7 +251,7 @@ fn expect_made(
     results: &[(&[u32], u32)],
     answer: Result<(), LookupError>,
 ) {
-    let made = generated(rt, alloc, instances, challenges).expect(rt, "no fault");
+    let made = generate(rt, alloc, instances, challenges).expect(rt, "no fault");
     for (air, (cells, terminal)) in results.iter().enumerate() {
         let right = has_result(&made, air, cells, *terminal);
         holds(rt, "the result", right);

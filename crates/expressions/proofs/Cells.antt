@@ -4,7 +4,7 @@ use Rattle.std.proofs.lemmas.Option.{get_or_from_slice_get, slice_get-map}
 use Rattle.expressions.specs.Builder.{MeansRow}
 use Rattle.expressions.specs.Meaning.{row_at}
 
--- a variable of a row means, at each window that is stood for, the cell at its place
+-- a variable of a row means, at each window that is stood for, the cell at its index
 pub reads_at : {V W A : Type 0} (stands_for : W → Type 0) (meaning : V → W → A) (width : ℕ) (cells : W → List A) (variables : List V) (i : ℕ) (v : V) (w : W) (none : A) → MeansRow stands_for meaning width cells variables → slice_get variables i ≡ Some v → stands_for w → meaning v w ≡ slice_index_or (cells w) i none
 reads_at {V} {W} {A} stands_for meaning width cells variables i v w none row found stands =
     sym (get_or_from_slice_get (cells w) i (meaning v w) none read)
@@ -18,11 +18,11 @@ row_at_means stands_for meaning width zero cells cells_next current next small h
 row_at_means stands_for meaning width (suc zero) cells cells_next current next small here after = after
 row_at_means stands_for meaning width (suc (suc k)) cells cells_next current next small here after = absurd (omega arith)
 
--- a place below the width is within a row
+-- an index below the width is within a row
 pub within_row : {V W A : Type 0} {stands_for : W → Type 0} {meaning : V → W → A} {width : ℕ} {cells : W → List A} {variables : List V} (i : ℕ) → MeansRow stands_for meaning width cells variables → i < width → i < length variables
 within_row i row below = rw row.len below
 
--- a place within the row at an offset other than 0 is in the next row
+-- an index within the row at an offset other than 0 is in the next row
 pub row_at_other : {V : Type 0} (offset i : ℕ) (current next : List V) → (offset ≡ 0 → ⊥) → i < length (row_at offset current next) → row_at offset current next ≡ next
 row_at_other zero i current next other below = absurd (other refl)
 row_at_other (suc zero) i current next other below = refl

@@ -5,6 +5,7 @@ pub mod ExtDegree
 pub mod ExtLayout
 pub mod ExtMeaning
 pub mod ExtTree
+pub mod Faults
 pub mod Filter
 pub mod Layout
 pub mod MainWindow

@@ -40,9 +40,9 @@ pub enum SymbolicExpression<F> {
 }
 
 /// What a base expression is evaluated at; contracts see a window. Never constructed.
-pub struct Seen<F>(PhantomData<F>);
+pub struct SeenWindow<F>(PhantomData<F>);
 
-impl<F> Model for Seen<F> {
+impl<F> Model for SeenWindow<F> {
     ghost use Rattle.expressions.specs.Window.{Window, empty_window};
 
     ghost Value = { Window F };
@@ -85,7 +85,7 @@ impl<F: Field> Expression<F> for SymbolicExpression<F> {
     ghost use Rattle.expressions.specs.Tree.{tree_of, leaf, add, sub, mul, neg};
     ghost use Rattle.expressions.specs.Window.{Window};
 
-    type Seen = Seen<F>;
+    type Seen = SeenWindow<F>;
 
     ghost value = { λ e w. value_of F.ring w (tree_of e) };
 

@@ -51,9 +51,9 @@ pub enum SymbolicExpressionExt<F, EF> {
 
 /// What an extension expression is evaluated at; contracts see a window of a permutation argument.
 /// Never constructed.
-pub struct SeenExt<F, EF>(PhantomData<(F, EF)>);
+pub struct SeenExtWindow<F, EF>(PhantomData<(F, EF)>);
 
-impl<F, EF> Model for SeenExt<F, EF> {
+impl<F, EF> Model for SeenExtWindow<F, EF> {
     ghost use Rattle.expressions.specs.Window.{ExtWindow, empty_ext_window};
 
     ghost Value = { ExtWindow F EF };
@@ -93,7 +93,7 @@ impl<F: Field, EF: ExtensionField<F>> Expression<EF> for SymbolicExpressionExt<F
     ghost use Rattle.expressions.specs.ExtMeaning.{ext_value_of};
     ghost use Rattle.expressions.specs.ExtTree.{ext_tree_of, constant, add, sub, mul, neg};
 
-    type Seen = SeenExt<F, EF>;
+    type Seen = SeenExtWindow<F, EF>;
 
     ghost value = { λ e w. ext_value_of F.ring EF.ring EF.embed w (ext_tree_of e) };
 

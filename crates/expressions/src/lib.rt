@@ -20,11 +20,11 @@ mod variable;
 mod view;
 
 pub use air::{Air, BaseAir};
-pub use base_expression::{BaseLeaf, Seen, SymbolicExpression, copy_expressions};
+pub use base_expression::{BaseLeaf, SeenWindow, SymbolicExpression, copy_expressions};
 pub use builder::AirBuilder;
 pub use error::{AirError, LayoutPart};
 pub use expression::{Expression, WholeNumbers};
-pub use ext_expression::{ExtLeaf, SeenExt, SymbolicExpressionExt};
+pub use ext_expression::{ExtLeaf, SeenExtWindow, SymbolicExpressionExt};
 pub use extension::{ExtensionBuilder, PermutationAirBuilder};
 pub use filtered::FilteredAirBuilder;
 pub use layout::AirLayout;

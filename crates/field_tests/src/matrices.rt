@@ -14,9 +14,9 @@ fn matrix_of(alloc: Global, values: &[u8]) -> Option<RowMajorMatrix<u8>>
     Some(RowMajorMatrix::new(Vec::from_slice(alloc, values).ok()?, 2))
 }
 
-/// Whether this is the row at this place.
-fn has_row(matrix: &RowMajorMatrix<u8>, place: usize, row: &[u8]) -> bool {
-    place < matrix.height() && matrix.row_slice(place) == row
+/// Whether this is the row at this index.
+fn has_row(matrix: &RowMajorMatrix<u8>, index: usize, row: &[u8]) -> bool {
+    index < matrix.height() && matrix.row_slice(index) == row
 }
 
 #[test]

@@ -12,7 +12,7 @@ use Rattle.lookup_model.specs.Message.{Key, Message, same_key}
 use Rattle.lookup_model.specs.Fault.{vanishes}
 use Rattle.lookup_model.specs.Net.{first_seen, keys, net, unbalanced_keys}
 use Rattle.lookup_model.specs.Plain.{counted, net_sum, quotient}
-use Rattle.generation_tests.specs.PlainProgram.{IsFractionOf, message_of, messages_of, net_message, net_vanishes}
+use Rattle.generation_tests.specs.PlainProgram.{IsSumOfQuotients, as_message, as_messages, net_message, net_vanishes}
 use Rattle.generation_tests.specs.declared.plain.PlainMessage.{PlainMessage}
 use Rattle.lookup_rows.proofs.FirstSeen.{first_seen-push}
 use Rattle.std.proofs.lemmas.List.Elements.{filter-append}
@@ -30,34 +30,34 @@ one_item (y ∷ []) x few some is = λ i. sym is i ∷ []
 one_item (y ∷ z ∷ xs) x few some is = absurd (omega (arith, few))
 
 -- the messages up to one and that one
-pub messages-more : {F : Type 0} (ms : List (PlainMessage F)) (i : ℕ) (m : PlainMessage F) → i < length ms → m ≡ get_or ms i m → messages_of (take (i + 1) ms) ≡ messages_of (take i ms) ++ message_of m ∷ []
-messages-more ms i m lt is = map_more message_of ms i m lt ∙ ap (λ t. messages_of (take i ms) ++ message_of t ∷ []) (sym is)
+pub messages-more : {F : Type 0} (ms : List (PlainMessage F)) (i : ℕ) (m : PlainMessage F) → i < length ms → m ≡ get_or ms i m → as_messages (take (i + 1) ms) ≡ as_messages (take i ms) ++ as_message m ∷ []
+messages-more ms i m lt is = map_more as_message ms i m lt ∙ ap (λ t. as_messages (take i ms) ++ as_message t ∷ []) (sym is)
 
 module _ {F : Type 0} {R : Ring F} (laws : IsCommutativeRing R) (eq : F → F → Bool) (ms : List (PlainMessage F)) (i : ℕ) (m : PlainMessage F) (key : Key F) (lt : i < length ms) (is : m ≡ get_or ms i m) where
   -- another message of the key adds its multiplicity
-  pub net-same : (sum next : F) → same_key eq key (message_of m).key ≡ true → sum ≡ net R eq (messages_of (take i ms)) key → next ≡ R.add sum m.multiplicity → next ≡ net R eq (messages_of (take (i + 1) ms)) key
+  pub net-same : (sum next : F) → same_key eq key (as_message m).key ≡ true → sum ≡ net R eq (as_messages (take i ms)) key → next ≡ R.add sum m.multiplicity → next ≡ net R eq (as_messages (take (i + 1) ms)) key
   net-same sum next same so_far next_is =
       let mine = λ (n : Message F). same_key eq key n.key in
-      let before = messages_of (take i ms) in
+      let before = as_messages (take i ms) in
       next_is ∙ ap (λ t. R.add t m.multiplicity) so_far ∙ sym (sum_in-push laws (map (λ n. n.multiplicity) (filter mine before)) m.multiplicity)
-      ∙ ap (sum_in R) (sym (map-append (λ (n : Message F). n.multiplicity) (filter mine before) (message_of m ∷ [])))
-      ∙ ap (λ b. sum_in R (map (λ (n : Message F). n.multiplicity) (filter mine before ++ cond b (message_of m ∷ []) []))) (sym same)
-      ∙ ap (λ t. sum_in R (map (λ (n : Message F). n.multiplicity) t)) (sym (filter-append mine before (message_of m ∷ [])))
+      ∙ ap (sum_in R) (sym (map-append (λ (n : Message F). n.multiplicity) (filter mine before) (as_message m ∷ [])))
+      ∙ ap (λ b. sum_in R (map (λ (n : Message F). n.multiplicity) (filter mine before ++ cond b (as_message m ∷ []) []))) (sym same)
+      ∙ ap (λ t. sum_in R (map (λ (n : Message F). n.multiplicity) t)) (sym (filter-append mine before (as_message m ∷ [])))
       ∙ ap (λ t. net R eq t key) (sym (messages-more ms i m lt is))
 
   -- a message of another key adds nothing
-  pub net-other : (sum : F) → same_key eq key (message_of m).key ≡ false → sum ≡ net R eq (messages_of (take i ms)) key → sum ≡ net R eq (messages_of (take (i + 1) ms)) key
+  pub net-other : (sum : F) → same_key eq key (as_message m).key ≡ false → sum ≡ net R eq (as_messages (take i ms)) key → sum ≡ net R eq (as_messages (take (i + 1) ms)) key
   net-other sum other so_far =
       let mine = λ (n : Message F). same_key eq key n.key in
-      let before = messages_of (take i ms) in
+      let before = as_messages (take i ms) in
       so_far ∙ ap (λ t. sum_in R (map (λ (n : Message F). n.multiplicity) t)) (sym (append-nil (filter mine before)))
-      ∙ ap (λ b. sum_in R (map (λ (n : Message F). n.multiplicity) (filter mine before ++ cond b (message_of m ∷ []) []))) (sym other)
-      ∙ ap (λ t. sum_in R (map (λ (n : Message F). n.multiplicity) t)) (sym (filter-append mine before (message_of m ∷ [])))
+      ∙ ap (λ b. sum_in R (map (λ (n : Message F). n.multiplicity) (filter mine before ++ cond b (as_message m ∷ []) []))) (sym other)
+      ∙ ap (λ t. sum_in R (map (λ (n : Message F). n.multiplicity) t)) (sym (filter-append mine before (as_message m ∷ [])))
       ∙ ap (λ t. net R eq t key) (sym (messages-more ms i m lt is))
 
 module _ {F K : Type 0} {E : Extension F K} (laws : IsLawful E) (denominator : Key F → K) where
   -- the fraction of some messages and that of others add up to that of all
-  pub fraction_of_both : (ms ns : List (Message F)) (f q next : K) → next ≡ E.ring.add f q → IsFractionOf E denominator ms f → IsFractionOf E denominator ns q → IsFractionOf E denominator (ms ++ ns) next
+  pub fraction_of_both : (ms ns : List (Message F)) (f q next : K) → next ≡ E.ring.add f q → IsSumOfQuotients E denominator ms f → IsSumOfQuotients E denominator ns q → IsSumOfQuotients E denominator (ms ++ ns) next
   fraction_of_both ms ns f q next next_is first second =
       let same = filter-append (λ (m : Message F). not (E.base_eq m.multiplicity E.base.zero)) ms ns in
       let of_message = λ (m : Message F). quotient E denominator m.multiplicity m.key in
@@ -152,24 +152,24 @@ module _ {F K : Type 0} {E : Extension F K} (laws : IsLawful E) (denominator : K
       (All-at (Holds (same_key E.base_eq) (keys E.base_eq ms)) names i m.key held (omega (arith, lt, length-map ms (λ n. n.key))) (mapped_at (λ n. n.key) ms i m lt is))
 
   abbrev pub keys_of : List (PlainMessage F) → List (Key F)
-  keys_of ms = keys E.base_eq (messages_of ms)
+  keys_of ms = keys E.base_eq (as_messages ms)
 
   module _ (ms : List (PlainMessage F)) (i : ℕ) (m : PlainMessage F) (lt : i < length ms) (is : m ≡ get_or ms i m) where
-    keys_push : (b : Bool) → list_any (λ n. same_key E.base_eq (message_of n).key (message_of m).key) (take i ms) ≡ b → keys_of (take (i + 1) ms) ≡ cond b (keys_of (take i ms)) (keys_of (take i ms) ++ (message_of m).key ∷ [])
+    keys_push : (b : Bool) → list_any (λ n. same_key E.base_eq (as_message n).key (as_message m).key) (take i ms) ≡ b → keys_of (take (i + 1) ms) ≡ cond b (keys_of (take i ms)) (keys_of (take i ms) ++ (as_message m).key ∷ [])
     keys_push b seen =
-        let before = map (λ (n : Message F). n.key) (messages_of (take i ms)) in
+        let before = map (λ (n : Message F). n.key) (as_messages (take i ms)) in
         ap (keys E.base_eq) (messages-more ms i m lt is)
-        ∙ ap (first_seen (same_key E.base_eq)) (map-append (λ (n : Message F). n.key) (messages_of (take i ms)) (message_of m ∷ []))
-        ∙ first_seen-push (same_key E.base_eq) (same_key-Decides E.base_eq laws.base_eq) before (message_of m).key
-        ∙ ap (λ t. cond t (keys_of (take i ms)) (keys_of (take i ms) ++ (message_of m).key ∷ [])) (any_key (take i ms) ∙ seen)
+        ∙ ap (first_seen (same_key E.base_eq)) (map-append (λ (n : Message F). n.key) (as_messages (take i ms)) (as_message m ∷ []))
+        ∙ first_seen-push (same_key E.base_eq) (same_key-Decides E.base_eq laws.base_eq) before (as_message m).key
+        ∙ ap (λ t. cond t (keys_of (take i ms)) (keys_of (take i ms) ++ (as_message m).key ∷ [])) (any_key (take i ms) ∙ seen)
       where
-        any_key : (ns : List (PlainMessage F)) → list_any (λ y. same_key E.base_eq y (message_of m).key) (map (λ n. n.key) (messages_of ns)) ≡ list_any (λ n. same_key E.base_eq (message_of n).key (message_of m).key) ns
+        any_key : (ns : List (PlainMessage F)) → list_any (λ y. same_key E.base_eq y (as_message m).key) (map (λ n. n.key) (as_messages ns)) ≡ list_any (λ n. same_key E.base_eq (as_message n).key (as_message m).key) ns
         any_key [] = refl
-        any_key (n ∷ ns) = ap (λ t. same_key E.base_eq (message_of n).key (message_of m).key || t) (any_key ns)
+        any_key (n ∷ ns) = ap (λ t. same_key E.base_eq (as_message n).key (as_message m).key || t) (any_key ns)
 
     -- a key that was seen adds nothing, and a new one goes last
-    pub keys-seen : list_any (λ n. same_key E.base_eq (message_of n).key (message_of m).key) (take i ms) ≡ true → keys_of (take (i + 1) ms) ≡ keys_of (take i ms)
+    pub keys-seen : list_any (λ n. same_key E.base_eq (as_message n).key (as_message m).key) (take i ms) ≡ true → keys_of (take (i + 1) ms) ≡ keys_of (take i ms)
     keys-seen seen = keys_push true seen
 
-    pub keys-new : list_any (λ n. same_key E.base_eq (message_of n).key (message_of m).key) (take i ms) ≡ false → keys_of (take (i + 1) ms) ≡ keys_of (take i ms) ++ (message_of m).key ∷ []
+    pub keys-new : list_any (λ n. same_key E.base_eq (as_message n).key (as_message m).key) (take i ms) ≡ false → keys_of (take (i + 1) ms) ≡ keys_of (take i ms) ++ (as_message m).key ∷ []
     keys-new new = keys_push false new

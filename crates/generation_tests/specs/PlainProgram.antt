@@ -12,16 +12,16 @@ use Rattle.lookup_model.specs.Sent.{Sent}
 use Rattle.generation_tests.specs.declared.plain.PlainMessage.{PlainMessage}
 
 -- a message of the program
-abbrev pub message_of : {F : Type 0} → PlainMessage F → Message F
-message_of m = record { key = record { id = m.id; tuple = m.tuple.items }; multiplicity = m.multiplicity }
+abbrev pub as_message : {F : Type 0} → PlainMessage F → Message F
+as_message m = record { key = record { id = m.id; tuple = m.tuple.items }; multiplicity = m.multiplicity }
 
 -- a list of them
-abbrev pub messages_of : {F : Type 0} → List (PlainMessage F) → List (Message F)
-messages_of ms = map message_of ms
+abbrev pub as_messages : {F : Type 0} → List (PlainMessage F) → List (Message F)
+as_messages ms = map as_message ms
 
 -- what an additive lookup with these messages sends
 abbrev pub sent_of : {F : Type 0} → List (PlainMessage F) → Sent F
-sent_of ms = record { flags = None; messages = messages_of ms }
+sent_of ms = record { flags = None; messages = as_messages ms }
 
 -- whether the denominator of a key whose net is not zero is zero
 abbrev pub net_vanishes : {F K : Type 0} → Extension F K → (Key F → K) → List (Message F) → Bool
@@ -32,6 +32,6 @@ abbrev pub net_message : {F : Type 0} → Ring F → (F → F → Bool) → List
 net_message R eq messages key = record { key = key; multiplicity = net R eq messages key }
 
 -- f is the sum of the quotients of the counted messages, and none of their denominators vanishes
-pub record IsFractionOf {F K : Type 0} (E : Extension F K) (denominator : Key F → K) (ms : List (Message F)) (f : K) : Type 0 where
+pub record IsSumOfQuotients {F K : Type 0} (E : Extension F K) (denominator : Key F → K) (ms : List (Message F)) (f : K) : Type 0 where
   pub value : f ≡ sum_in E.ring (map (quotient_of E denominator) (counted E.base E.base_eq ms))
   pub divides : vanishes E denominator (counted E.base E.base_eq ms) ≡ false

@@ -3,9 +3,9 @@
 ghost use Rattle.std.specs.Prelude.{◌≡◌, ◌≢◌, ◌+◌, ◌*◌, ◌<◌, ◌⊎◌, ◌||◌, All, IfOk, IsTrue, List, [], ◌∷◌, Some, false, length, map, MatchOption, MatchResult};
 ghost use Rattle.std.specs.List.{list_all, list_any};
 ghost use Rattle.field.specs.Polynomial.{combined};
-ghost use Rattle.generation_tests.specs.PlainProgram.{IsFractionOf, message_of, messages_of, net_vanishes, sent_of};
-ghost use Rattle.lookup_model.specs.Denominators.{column_denominator};
-ghost use Rattle.lookup_model.specs.Fault.{fault_of, set_places, vanishes};
+ghost use Rattle.generation_tests.specs.PlainProgram.{IsSumOfQuotients, as_message, as_messages, net_vanishes, sent_of};
+ghost use Rattle.lookup_model.specs.Denominators.{key_denominator};
+ghost use Rattle.lookup_model.specs.Fault.{fault_of, set_indices, vanishes};
 ghost use Rattle.lookup_model.specs.Message.{Message, same_key};
 ghost use Rattle.lookup_model.specs.Net.{net};
 ghost use Rattle.lookup_model.specs.Plain.{counted, net_sum, plain_fraction, quotient};
@@ -31,8 +31,8 @@ pub fn fraction_of<F: Field, EF: ExtensionField<F>>(
 ) -> Option<EF>
     requires { All (λ m. 2 * m.id + 1 < length challenges.now) messages.now }
     ensures { let E = ⟦<EF as Over<F>>⟧.fields in
-        let denominator = column_denominator E challenges.now in
-        let vanishing = vanishes E denominator (counted F.ring F.eq (messages_of messages.now)) in
+        let denominator = key_denominator E challenges.now in
+        let vanishing = vanishes E denominator (counted F.ring F.eq (as_messages messages.now)) in
         MatchOption result (IsTrue vanishing)
         (λ f. (f ≡ plain_fraction E denominator (sent_of messages.now)) × (vanishing ≡ false)) }
 {
@@ -51,15 +51,15 @@ pub fn terminal_of<F: Field, EF: ExtensionField<F>>(
 ) -> Option<EF>
     requires { All (λ m. 2 * m.id + 1 < length challenges.now) messages.now }
     ensures { let E = ⟦<EF as Over<F>>⟧.fields in
-        let denominator = column_denominator E challenges.now in
-        let vanishing = net_vanishes E denominator (messages_of messages.now) in
+        let denominator = key_denominator E challenges.now in
+        let vanishing = net_vanishes E denominator (as_messages messages.now) in
         MatchOption result (IsTrue vanishing)
-        (λ t. (t ≡ net_sum E denominator (messages_of messages.now)) × (vanishing ≡ false)) }
+        (λ t. (t ≡ net_sum E denominator (as_messages messages.now)) × (vanishing ≡ false)) }
 {
     let mut sum = EF::ZERO;
-    for place in 0..messages.len() {
-        let message = &messages[place];
-        if !holds(&messages[..place], message) {
+    for index in 0..messages.len() {
+        let message = &messages[index];
+        if !holds(&messages[..index], message) {
             sum = sum + quotient_of(message, net_of(messages, message), challenges)?;
         }
     }
@@ -81,8 +81,8 @@ pub fn exclusive_fraction_of<F: Field, EF: ExtensionField<F>>(
     requires ids { All (λ m. 2 * m.id + 1 < length challenges.now) messages.now }
     requires lengths { length messages.now ≡ length flags.now }
     ensures { let E = ⟦<EF as Over<F>>⟧.fields in
-        let denominator = column_denominator E challenges.now in
-        let sent = sent F.ring F.eq (Some flags.now) (messages_of messages.now) in
+        let denominator = key_denominator E challenges.now in
+        let sent = sent F.ring F.eq (Some flags.now) (as_messages messages.now) in
         MatchResult result
         (λ f. (f ≡ plain_fraction E denominator sent)
         × (fault_of E denominator row lookup sent ≡ None))
@@ -91,14 +91,14 @@ pub fn exclusive_fraction_of<F: Field, EF: ExtensionField<F>>(
     if !are_boolean(flags) {
         return Err(LookupError::FlagNotBoolean { row, lookup });
     }
-    let places = places_of_set(alloc, flags)?;
-    if places.len() > 1 {
+    let indices = indices_of_set(alloc, flags)?;
+    if indices.len() > 1 {
         return Err(LookupError::FlagsNotExclusive { row, lookup });
     }
-    if places.is_empty() {
+    if indices.is_empty() {
         return Ok(EF::ZERO);
     }
-    single_quotient(row, lookup, &messages[places[0]], challenges)
+    single_quotient(row, lookup, &messages[indices[0]], challenges)
 }
 
 /// The quotient of a message, also where its multiplicity is zero.
@@ -110,8 +110,8 @@ fn single_quotient<F: Field, EF: ExtensionField<F>>(
 ) -> Result<EF, LookupError>
     requires { 2 * message.now.id + 1 < length challenges.now }
     ensures { let E = ⟦<EF as Over<F>>⟧.fields in
-        let denominator = column_denominator E challenges.now in
-        let key = (message_of message.now).key in
+        let denominator = key_denominator E challenges.now in
+        let key = (as_message message.now).key in
         MatchResult result
         (λ q. (denominator key ≢ EF.ring.zero)
         × (q ≡ quotient E denominator message.now.multiplicity key))
@@ -145,17 +145,17 @@ fn is_boolean<F: Field>(flag: F) -> bool
     flag == F::ZERO || flag == F::ONE
 }
 
-/// The places of the flags that are one, in order.
-fn places_of_set<F: Field>(alloc: Global, flags: &[F]) -> Result<Vec<usize>, AllocError>
-    ensures { IfOk result (λ places. places.items ≡ set_places F.ring F.eq 0 flags.now) }
+/// The indices of the flags that are one, in order.
+fn indices_of_set<F: Field>(alloc: Global, flags: &[F]) -> Result<Vec<usize>, AllocError>
+    ensures { IfOk result (λ indices. indices.items ≡ set_indices F.ring F.eq 0 flags.now) }
 {
-    let mut places = Vec::new(alloc);
-    for place in 0..flags.len() {
-        if flags[place] == F::ONE {
-            places.push(place)?;
+    let mut indices = Vec::new(alloc);
+    for index in 0..flags.len() {
+        if flags[index] == F::ONE {
+            indices.push(index)?;
         }
     }
-    Ok(places)
+    Ok(indices)
 }
 
 /// A multiplicity over the denominator of a message's key: zero where the multiplicity is, else
@@ -167,11 +167,11 @@ fn quotient_of<F: Field, EF: ExtensionField<F>>(
 ) -> Option<EF>
     requires { 2 * message.now.id + 1 < length challenges.now }
     ensures { let E = ⟦<EF as Over<F>>⟧.fields in
-        let denominator = column_denominator E challenges.now in
+        let denominator = key_denominator E challenges.now in
         let alone : List (Message F) = record
-        { key = (message_of message.now).key; multiplicity = multiplicity } ∷ [] in
+        { key = (as_message message.now).key; multiplicity = multiplicity } ∷ [] in
         MatchOption result (IsTrue (vanishes E denominator (counted F.ring F.eq alone)))
-        (λ q. IsFractionOf E denominator alone q) }
+        (λ q. IsSumOfQuotients E denominator alone q) }
 {
     if multiplicity.is_zero() {
         return Some(EF::ZERO);
@@ -190,8 +190,8 @@ fn denominator_of<F: Field, EF: ExtensionField<F>>(
     challenges: &[EF],
 ) -> EF
     requires { 2 * message.now.id + 1 < length challenges.now }
-    ensures { result ≡ column_denominator ⟦<EF as Over<F>>⟧.fields challenges.now
-        (message_of message.now).key }
+    ensures { result ≡ key_denominator ⟦<EF as Over<F>>⟧.fields challenges.now
+        (as_message message.now).key }
 {
     challenges[2 * message.id] - combined_of(&message.tuple, challenges[2 * message.id + 1])
 }
@@ -209,7 +209,7 @@ fn combined_of<F: Field, EF: ExtensionField<F>>(tuple: &[F], beta: EF) -> EF
 
 /// The sum of the multiplicities of the messages that have the key of `like`.
 fn net_of<F: Field>(messages: &[PlainMessage<F>], like: &PlainMessage<F>) -> F
-    ensures { result ≡ net F.ring F.eq (messages_of messages.now) (message_of like.now).key }
+    ensures { result ≡ net F.ring F.eq (as_messages messages.now) (as_message like.now).key }
 {
     let mut sum = F::ZERO;
     for message in messages {
@@ -222,7 +222,7 @@ fn net_of<F: Field>(messages: &[PlainMessage<F>], like: &PlainMessage<F>) -> F
 
 /// Whether one of the messages has the key of `like`.
 fn holds<F: Field>(messages: &[PlainMessage<F>], like: &PlainMessage<F>) -> bool
-    ensures { result ≡ list_any (λ m. same_key F.eq (message_of m).key (message_of like.now).key)
+    ensures { result ≡ list_any (λ m. same_key F.eq (as_message m).key (as_message like.now).key)
         messages.now }
 {
     for message in messages {
@@ -235,7 +235,7 @@ fn holds<F: Field>(messages: &[PlainMessage<F>], like: &PlainMessage<F>) -> bool
 
 /// Whether two messages have one key.
 fn is_same<F: Field>(a: &PlainMessage<F>, b: &PlainMessage<F>) -> bool
-    ensures { result ≡ same_key F.eq (message_of a.now).key (message_of b.now).key }
+    ensures { result ≡ same_key F.eq (as_message a.now).key (as_message b.now).key }
 {
     a.id == b.id && a.tuple == b.tuple
 }

@@ -96,12 +96,12 @@ fn group<F: Field>(rt: &impl Abort, alloc: Global, branches: u8, column: usize) 
     let mut multiplicities = Vec::new(alloc);
     let mut flags = Vec::new(alloc);
     for branch in 0..branches {
-        let place = 2 * usize::from(branch);
+        let index = 2 * usize::from(branch);
         elements
-            .push(alone(rt, alloc, cell(place + 1)))
+            .push(alone(rt, alloc, cell(index + 1)))
             .expect(rt, "memory");
         multiplicities.push(one()).expect(rt, "memory");
-        flags.push(cell(place)).expect(rt, "memory");
+        flags.push(cell(index)).expect(rt, "memory");
     }
     let mut lookup = local(elements, multiplicities, column);
     lookup.flags = Some(flags);
@@ -165,7 +165,7 @@ impl<EF> Made<EF> {
 }
 
 /// What generation makes of lookups over traces that they have to fit.
-fn generated_over<'a, F: Field, EF: ExtensionField<F>>(
+fn generate_over<'a, F: Field, EF: ExtensionField<F>>(
     rt: &impl Abort,
     alloc: Global,
     main: &'a RowMajorMatrix<F>,
@@ -192,7 +192,7 @@ fn generated_over<'a, F: Field, EF: ExtensionField<F>>(
 }
 
 /// The same over a main trace alone.
-fn generated<F: Field, EF: ExtensionField<F>>(
+fn generate<F: Field, EF: ExtensionField<F>>(
     rt: &impl Abort,
     alloc: Global,
     main: &RowMajorMatrix<F>,
@@ -200,7 +200,7 @@ fn generated<F: Field, EF: ExtensionField<F>>(
     challenges: &[EF],
 ) -> Result<Made<EF>, LookupError> {
     let no_values: Vec<F> = Vec::new(alloc);
-    generated_over(
+    generate_over(
         rt,
         alloc,
         main,

@@ -175,19 +175,20 @@ module _ {E : Type 0} where
   -- a local lookup without a fault is not refused
   not_refused : (tuples : List (Tuple E)) (e : LookupError) → IsFaultless tuples → ¬ IsLocalRefusal tuples e
   not_refused tuples e faultless (inl (heavy, is)) = absurd (omega (arith, heavy, faultless.weight))
-  not_refused tuples e faultless (inr (light, (width, other, has, is))) =
-      has.differs (one_width tuples faultless.width other has.place faultless.widths has.found ∙ sym (one_width tuples faultless.width width 0 faultless.widths has.first))
+  not_refused tuples e faultless (inr (light, uneven)) =
+      let has = uneven.differ in
+      has.differs (one_width tuples faultless.width uneven.other has.index faultless.widths has.found ∙ sym (one_width tuples faultless.width uneven.width 0 faultless.widths has.first))
 
   -- none of several is
   pub none_refused : (locals : List (List (Tuple E))) (e : LookupError) → All IsFaultless locals → ¬ IsFirstLocalRefusal locals e
   none_refused locals e all first = by_list locals first.before all first.split
     where
-      by_list : (locals before : List (List (Tuple E))) → All IsFaultless locals → locals ≡ before ++ first.tuples ∷ first.after → ⊥
+      by_list : (locals before : List (List (Tuple E))) → All IsFaultless locals → locals ≡ before ++ first.item ∷ first.after → ⊥
       by_list [] [] all split = absurd (cc split)
       by_list [] (b ∷ before) all split = absurd (cc split)
       by_list (l ∷ ls) [] all split =
-          let same : l ≡ first.tuples = cc split in
-          not_refused first.tuples e (rw (sym same) (All-head IsFaultless l ls all)) first.refusal
+          let same : l ≡ first.item = cc split in
+          not_refused first.item e (rw (sym same) (All-head IsFaultless l ls all)) first.fault
       by_list (l ∷ ls) (b ∷ before) all split =
-          let rest : ls ≡ before ++ first.tuples ∷ first.after = cc split in
+          let rest : ls ≡ before ++ first.item ∷ first.after = cc split in
           by_list ls before (All-tail IsFaultless l ls all) rest

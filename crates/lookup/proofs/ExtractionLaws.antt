@@ -23,22 +23,22 @@ module _ {E : Type 0} where
   pub refused_later : (tuples : List (Tuple E)) (rest : List (List (Tuple E))) (e : LookupError) → IsFaultless tuples → IsFirstLocalRefusal rest e → IsFirstLocalRefusal (tuples ∷ rest) e
   refused_later tuples rest e faultless first = record {
     before = tuples ∷ first.before;
-    tuples = first.tuples;
+    item = first.item;
     after = first.after;
     split = ap (λ t. tuples ∷ t) first.split;
-    faultless = All-cons IsFaultless tuples first.before faultless first.faultless;
-    refusal = first.refusal;
+    good = All-cons IsFaultless tuples first.before faultless first.good;
+    fault = first.fault;
   }
 
   -- the refusal of the first one
   pub refused_first : (tuples : List (Tuple E)) (rest : List (List (Tuple E))) (e : LookupError) → IsLocalRefusal tuples e → IsFirstLocalRefusal (tuples ∷ rest) e
   refused_first tuples rest e refusal = record {
     before = [];
-    tuples = tuples;
+    item = tuples;
     after = rest;
     split = refl;
-    faultless = λ i d lt. absurd (omega (arith, lt));
-    refusal = refusal;
+    good = λ i d lt. absurd (omega (arith, lt));
+    fault = refusal;
   }
 
 module _ {L M R E : Type 0} (seen : L → Outline E) (lookup_at : ℕ → M → Outline E) (seen_interaction : R → M) where

@@ -32,7 +32,7 @@ module _ {A : Type 0} (Fits : List A → Type 0) (hereditary : IsHereditary Fits
   later_full q [] full = tt
   later_full q (r ∷ rs) full = full.1
 
-  -- Full parts from a place on are no more than those of a split from an earlier place on.
+  -- Full parts from an index on are no more than those of a split from an earlier index on.
   no_more : (parts split : List (A × List A)) (a b : ℕ) → b ≤ a → flat_map part_items parts ≡ drop a whole → AreFull Fits parts
       → flat_map part_items split ≡ drop b whole → AllByRecursion (λ part. (part.1 ≡ []) ⊎ Fits (part_items part)) split → length parts ≤ length split
   no_more [] split a b le cut full other fits = omega arith

@@ -24,11 +24,11 @@ module _ {A : Type 0} where
     grown_one x (f ∷ fs) next back e = absurd (cc e)
 
     grown_more : (part : A × List A) (x : A) → IsGrown J part → J part x → IsGrown J (with_next part x)
-    grown_more part x grown joins front next back e = by_place (snoc_split part.1 front back x next e)
+    grown_more part x grown joins front next back e = by_index (snoc_split part.1 front back x next e)
       where
-        by_place : ((part.1 ≡ front) × (x ≡ next)) ⊎ ((rest : List A) × (part.1 ≡ front ++ next ∷ rest)) → J (part.0, front) next
-        by_place (inl h) = subst (λ (fs : List A). J (part.0, fs) next) h.0 (subst (λ (y : A). J part y) h.1 joins)
-        by_place (inr h) = grown front next h.0 h.1
+        by_index : ((part.1 ≡ front) × (x ≡ next)) ⊎ ((rest : List A) × (part.1 ≡ front ++ next ∷ rest)) → J (part.0, front) next
+        by_index (inl h) = subst (λ (fs : List A). J (part.0, fs) next) h.0 (subst (λ (y : A). J part y) h.1 joins)
+        by_index (inr h) = grown front next h.0 h.1
 
     all_grown_more : (parts : List (A × List A)) (part : A × List A) (x : A) → AllByRecursion (IsGrown J) (parts ++ part ∷ []) → J part x → AllByRecursion (IsGrown J) (parts ++ with_next part x ∷ [])
     all_grown_more parts part x all joins =

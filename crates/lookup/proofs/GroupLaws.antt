@@ -1,11 +1,8 @@
 -- Groups of lookups, lookup by lookup.
-use Rattle.std.proofs.Common.{◌≡◌, ◌<◌, ◌+◌, ℕ, zero, suc, length, get_or, slice_get, take, Bool, true, false, cond, not, ◌||◌, is_some, unwrap_or, List, [], ◌∷◌, ◌++◌, Option, None, Some, map, option_map, nat_eq, nat_lt, position, refl, sym, ap, ◌∙◌, true≢false, Decides}
-use Rattle.std.proofs.lemmas.Bool.Decides.{Decides-eqb}
+use Rattle.std.proofs.Common.{◌≡◌, ◌<◌, ◌+◌, ℕ, zero, suc, length, get_or, slice_get, take, Bool, true, false, cond, not, ◌||◌, is_some, unwrap_or, List, [], ◌∷◌, ◌++◌, Option, None, Some, map, option_map, nat_lt, position, refl, sym, ap, ◌∙◌, true≢false}
 use Rattle.std.proofs.lemmas.List.{append-nil, length-map, map-append}
 use Rattle.std.proofs.lemmas.List.Elements.{filter-append, filter_map-append}
 use Rattle.std.proofs.lemmas.Option.{slice_get-map}
-use Rattle.std.proofs.lemmas.Slice.Eq.{slice_eq-Decides}
-use Rattle.std.specs.Cmp.Lexicographic.{pointwise}
 use Rattle.std.specs.List.{cons_option, filter_map, list_any, prefix_len}
 use Rattle.std.specs.Map.{keys_of, lookup, values_of}
 use Rattle.std.specs.Option.{option_map_or}
@@ -18,16 +15,14 @@ use Rattle.expressions.specs.declared.base_expression.SymbolicExpression.{Symbol
 use Rattle.indexmap.proofs.MapLemmas.{Found, Found-position, insert_entry-first}
 use Rattle.indexmap.specs.IndexMap.{insert_entry, set_value_at}
 use Rattle.lookup_model.proofs.Lookups.Regrouping.{first_seen_separate}
+use Rattle.lookup_model.proofs.Names.{same_name-Decides}
 use Rattle.lookup_model.specs.Net.{first_seen}
 use Rattle.lookup_model.specs.Outline.{Outline, bus_of, fields_of}
 use Rattle.lookup_rows.proofs.FirstSeen.{first_seen-push}
 use Rattle.lookup_rows.proofs.NetEntries.{any-first_seen, insert-valued, lookup-valued, mapped-more, turned}
 use Rattle.lookup_model.specs.declared.types.Lookup.{Lookup}
-use Rattle.lookup.specs.Buses.{bus_groups, bus_names, group_of, is_named, on_bus, owned_group, owned_group_of, same_name}
-
--- the test of names decides their equality
-pub same_name-Decides : (a b : List ℕ) → Decides (same_name a b) (a ≡ b)
-same_name-Decides a b = slice_eq-Decides Decides-eqb a b (pointwise nat_eq a b) refl
+use Rattle.lookup.specs.Buses.{bus_groups, bus_names, group_of, on_bus, owned_group, owned_group_of}
+use Rattle.lookup_model.specs.Names.{is_named, same_name}
 
 module _ {E : Type 0} where
   names : List (Outline E) → List (List ℕ)

@@ -14,7 +14,7 @@ module _ {F A : Type 0} (view : A → List (Lookup F)) (airs : List A) (heights 
   long : length zipped ≡ length airs
   long = omega (arith, length-zip (map view airs) heights, length-map airs view, as_many)
 
-  -- the pair at a place
+  -- the pair at an index
   pair_is : (i : ℕ) (air : A) (d : ℕ) → i < length airs → air ≡ get_or airs i air → get_or zipped i (view air, d) ≡ (view air, get_or heights i d)
   pair_is i air d lt is =
       get_or-zip (map view airs) heights i (view air, d) (omega (arith, length-map airs view, lt)) (omega (arith, as_many, lt))

@@ -13,7 +13,7 @@ use Rattle.field.specs.laws.RingFacts.{neg_neg, neg_zero, of_nat-add}
 use Rattle.field.specs.laws.RingSolver.{var, con, :neg, ◌:+◌, ring_given}
 use Rattle.field.specs.Sums.{sum_in}
 use Rattle.matrix.specs.Matrix.{height}
-use Rattle.expressions.specs.Window.{window_at}
+use Rattle.air.specs.Traces.{window_of}
 use Rattle.lookup_model.specs.Plain.{trace_messages}
 use Rattle.lookup_model.specs.Sent.{Sent, sent_at}
 use Rattle.lookup_model.specs.declared.types.Lookup.{Lookup}
@@ -24,7 +24,7 @@ use Rattle.lookup_model.specs.Trace.{sent_row_under}
 use Rattle.lookup_model.specs.Batches.Instances.{Instance}
 use Rattle.lookup_model.specs.Batches.Messages.{batch_messages, id_of, sent_rows_of}
 use Rattle.lookup.specs.Guards.{weighted_height, weighted_height_sum}
-use Rattle.lookup.specs.Weights.{HeightLaws, IsPartOf, Part, RowKeepsWeights, TraceKeepsWeights, all_parts, provided_keys, query_sum, size_of}
+use Rattle.lookup.specs.Weights.{HeightLaws, HasRole, Role, RowKeepsWeights, TraceKeepsWeights, all_roles, provided_keys, query_sum, size_of}
 
 module _ {A : Type 0} {R : Ring A} (laws : IsCommutativeRing R) where
   -- a signed number is a difference of two
@@ -66,11 +66,11 @@ module _ {A : Type 0} {R : Ring A} (laws : IsCommutativeRing R) where
 
 module _ {F : Type 0} {R : Ring F} (laws : IsCommutativeRing R) (eq : F → F → Bool) (decides : (a b : Key F) → Decides (same_key eq a b) (a ≡ b)) (key : Key F) where
   -- no provided entry has the key
-  abbrev NoneProvided : List (Message F × Part) → Type 0
+  abbrev NoneProvided : List (Message F × Role) → Type 0
   NoneProvided marked = IsAmong key (provided_keys marked) → ⊥
 
   -- then the net is the sum of the query numbers
-  net_is : (ms : List (Message F)) (ps : List Part) → AllZip (IsPartOf R) ms ps → NoneProvided (zip ms ps) → net R eq ms key ≡ of_int R (query_sum eq key (zip ms ps))
+  net_is : (ms : List (Message F)) (ps : List Role) → AllZip (HasRole R) ms ps → NoneProvided (zip ms ps) → net R eq ms key ≡ of_int R (query_sum eq key (zip ms ps))
   unfolding of_nat
   net_is [] [] each none = refl
   net_is [] (p ∷ ps) each none = absurd each
@@ -87,7 +87,7 @@ module _ {F : Type 0} {R : Ring F} (laws : IsCommutativeRing R) (eq : F → F �
       by_test false rest = rest
 
   -- and no greater than all sizes together
-  query_sum-small : (ms : List (Message F)) (ps : List Part) → nat_abs (query_sum eq key (zip ms ps)) ≤ sum_by size_of ps
+  query_sum-small : (ms : List (Message F)) (ps : List Role) → nat_abs (query_sum eq key (zip ms ps)) ≤ sum_by size_of ps
   query_sum-small [] ps = omega (arith, ints)
   query_sum-small (m ∷ ms) [] = omega (arith, ints)
   query_sum-small (m ∷ ms) (None ∷ ps) = omega (arith, ints, query_sum-small ms ps, sum_by-cons size_of None ps)
@@ -107,7 +107,7 @@ module _ {F : Type 0} {R : Ring F} (laws : IsCommutativeRing R) (eq : F → F �
       by_test false e (inr absent) = inr (λ s. elim s [ inl same ↦ cc (e, (decides key k).1 same) | inr there ↦ absent there ])
 
   -- the law over one list of messages
-  pub provided_key : (p : ℕ) → HasCharacteristic R p → (ms : List (Message F)) (ps : List Part) → AllZip (IsPartOf R) ms ps → sum_by size_of ps < p → IsBalanced R eq ms → query_sum eq key (zip ms ps) ≢ pos 0 → IsAmong key (provided_keys (zip ms ps))
+  pub provided_key : (p : ℕ) → HasCharacteristic R p → (ms : List (Message F)) (ps : List Role) → AllZip (HasRole R) ms ps → sum_by size_of ps < p → IsBalanced R eq ms → query_sum eq key (zip ms ps) ≢ pos 0 → IsAmong key (provided_keys (zip ms ps))
   provided_key p char ms ps each light balanced ne = elim (is_among (provided_keys (zip ms ps))) [
     | inl there ↦ there
     | inr absent ↦ absurd (ne (small_zero laws p char (query_sum eq key (zip ms ps)) (omega (arith, query_sum-small ms ps, light)) (sym (net_is ms ps each absent) ∙ balanced key)))
@@ -120,18 +120,18 @@ AllZip-both P (x ∷ xs) [] us vs first second = absurd first
 AllZip-both P (x ∷ xs) (y ∷ ys) us vs first second = (first.0, AllZip-both P xs ys us vs first.1 second)
 
 module _ {F : Type 0} (R : Ring F) where
-  -- parts of some messages, no greater than a bound
-  pub record AreBounded (ms : List (Message F)) (ps : List Part) (bound : ℕ) : Type 0 where
-    pub divided : AllZip (IsPartOf R) ms ps
+  -- roles of some messages, no greater than a bound
+  pub record AreBounded (ms : List (Message F)) (ps : List Role) (bound : ℕ) : Type 0 where
+    pub divided : AllZip (HasRole R) ms ps
     pub within : sum_by size_of ps ≤ bound
 
-  bounded_both : (ms ns : List (Message F)) (ps qs : List Part) (a b c : ℕ) → AreBounded ms ps a → AreBounded ns qs b → a + b ≤ c → AreBounded (ms ++ ns) (ps ++ qs) c
+  bounded_both : (ms ns : List (Message F)) (ps qs : List Role) (a b c : ℕ) → AreBounded ms ps a → AreBounded ns qs b → a + b ≤ c → AreBounded (ms ++ ns) (ps ++ qs) c
   bounded_both ms ns ps qs a b c first second le = record {
-    divided = AllZip-both (IsPartOf R) ms ps ns qs first.divided second.divided;
+    divided = AllZip-both (HasRole R) ms ps ns qs first.divided second.divided;
     within = omega (arith, sum_by-append size_of ps qs, first.within, second.within, le);
   }
 
-  row_bounded : (lookups : List (Lookup F)) (row : List (Sent F)) (parts : List (List Part)) → length row ≡ length lookups → RowKeepsWeights R lookups row parts → AreBounded (flat_map (λ s. s.messages) row) (flat_map (λ p. p) parts) (sum_by (λ l. l.count_weight) lookups)
+  row_bounded : (lookups : List (Lookup F)) (row : List (Sent F)) (roles : List (List Role)) → length row ≡ length lookups → RowKeepsWeights R lookups row roles → AreBounded (flat_map (λ s. s.messages) row) (flat_map (λ p. p) roles) (sum_by (λ l. l.count_weight) lookups)
   row_bounded [] [] [] same keeps = record { divided = tt; within = omega arith }
   row_bounded [] [] (p ∷ ps) same keeps = absurd keeps
   row_bounded [] (s ∷ ss) ps same keeps = absurd (omega (arith, same))
@@ -141,7 +141,7 @@ module _ {F : Type 0} (R : Ring F) where
       bounded_both s.messages (flat_map (λ t. t.messages) ss) p (flat_map (λ q. q) ps) l.count_weight (sum_by (λ k. k.count_weight) ls) (sum_by (λ k. k.count_weight) (l ∷ ls))
       (record { divided = keeps.0.divided; within = keeps.0.within }) (row_bounded ls ss ps (omega (arith, same)) keeps.1) (omega (arith, sum_by-cons (λ k. k.count_weight) l ls))
 
-  trace_bounded : (lookups : List (Lookup F)) (rows : List (List (Sent F))) (division : List (List (List Part))) → AllByRecursion (λ row. length row ≡ length lookups) rows → AllZip (RowKeepsWeights R lookups) rows division
+  trace_bounded : (lookups : List (Lookup F)) (rows : List (List (Sent F))) (division : List (List (List Role))) → AllByRecursion (λ row. length row ≡ length lookups) rows → AllZip (RowKeepsWeights R lookups) rows division
       → AreBounded (trace_messages rows) (flat_map (λ row. flat_map (λ p. p) row) division) (sum_by (λ l. l.count_weight) lookups * length rows)
   trace_bounded lookups [] [] long keeps = record { divided = tt; within = omega arith }
   trace_bounded lookups [] (d ∷ ds) long keeps = absurd keeps
@@ -153,35 +153,35 @@ module _ {F : Type 0} (R : Ring F) where
 
   -- the weighted height of an AIR
   abbrev own : Instance F → ℕ
-  own i = weighted_height (i.lookups, height i.main)
+  own i = weighted_height (i.lookups, height i.traces.main)
 
-  batch_bounded : (eq : F → F → Bool) (instances : List (Instance F)) (divisions : List (List (List (List Part)))) → AllZip (TraceKeepsWeights R eq) instances divisions → AreBounded (batch_messages R eq instances) (all_parts divisions) (sum_by own instances)
+  batch_bounded : (eq : F → F → Bool) (instances : List (Instance F)) (divisions : List (List (List (List Role)))) → AllZip (TraceKeepsWeights R eq) instances divisions → AreBounded (batch_messages R eq instances) (all_roles divisions) (sum_by own instances)
   batch_bounded eq [] [] keeps = record { divided = tt; within = omega arith }
   batch_bounded eq [] (d ∷ ds) keeps = absurd keeps
   batch_bounded eq (i ∷ is) [] keeps = absurd keeps
   batch_bounded eq (i ∷ is) (d ∷ ds) keeps =
       let rows = sent_rows_of R eq i in
-      let window = λ (r : ℕ). window_at i.main i.preprocessed i.public_values (height i.main) r in
+      let window = λ (r : ℕ). window_of i.traces r in
       let w = sum_by (λ (l : Lookup F). l.count_weight) i.lookups in
-      let high : length rows ≡ height i.main = length-map-range_with_len (λ r. sent_row_under R eq (id_of i.ids) (window r) i.lookups) 0 (height i.main) in
-      let area : w * length rows ≡ w * height i.main = ap (λ n. w * n) high in
-      bounded_both (trace_messages rows) (batch_messages R eq is) (flat_map (λ row. flat_map (λ p. p) row) d) (all_parts ds) (w * length rows) (sum_by own is) (sum_by own (i ∷ is))
-      (trace_bounded i.lookups rows d (long (range_with_len 0 (height i.main))) keeps.0) (batch_bounded eq is ds keeps.1) (omega (arith, area, sum_by-cons own i is))
+      let high : length rows ≡ height i.traces.main = length-map-range_with_len (λ r. sent_row_under R eq (id_of i.ids) (window r) i.lookups) 0 (height i.traces.main) in
+      let area : w * length rows ≡ w * height i.traces.main = ap (λ n. w * n) high in
+      bounded_both (trace_messages rows) (batch_messages R eq is) (flat_map (λ row. flat_map (λ p. p) row) d) (all_roles ds) (w * length rows) (sum_by own is) (sum_by own (i ∷ is))
+      (trace_bounded i.lookups rows d (long (range_with_len 0 (height i.traces.main))) keeps.0) (batch_bounded eq is ds keeps.1) (omega (arith, area, sum_by-cons own i is))
     where
-      long : (rs : List ℕ) → AllByRecursion (λ row. length row ≡ length i.lookups) (map (λ r. sent_row_under R eq (id_of i.ids) (window_at i.main i.preprocessed i.public_values (height i.main) r) i.lookups) rs)
+      long : (rs : List ℕ) → AllByRecursion (λ row. length row ≡ length i.lookups) (map (λ r. sent_row_under R eq (id_of i.ids) (window_of i.traces r) i.lookups) rs)
       long [] = tt
-      long (r ∷ rs) = (length-map i.lookups (λ lookup. sent_at R eq (window_at i.main i.preprocessed i.public_values (height i.main) r) (id_of i.ids lookup) lookup), long rs)
+      long (r ∷ rs) = (length-map i.lookups (λ lookup. sent_at R eq (window_of i.traces r) (id_of i.ids lookup) lookup), long rs)
 
   -- the sum over a batch is that over its lookups and heights
-  own_sum : (instances : List (Instance F)) → sum_by own instances ≡ weighted_height_sum (map (λ i. i.lookups) instances) (map (λ i. height i.main) instances)
+  own_sum : (instances : List (Instance F)) → sum_by own instances ≡ weighted_height_sum (map (λ i. i.lookups) instances) (map (λ i. height i.traces.main) instances)
   own_sum [] = refl
   own_sum (i ∷ is) =
       sum_by-cons own i is ∙ ap (λ n. own i + n) (own_sum is)
-      ∙ sym (sum_by-cons weighted_height (i.lookups, height i.main) (zip (map (λ j. j.lookups) is) (map (λ j. height j.main) is)))
+      ∙ sym (sum_by-cons weighted_height (i.lookups, height i.traces.main) (zip (map (λ j. j.lookups) is) (map (λ j. height j.traces.main) is)))
 
 -- the law of all batches with these lookups and heights
 pub height_laws : {F : Type 0} {R : Ring F} → IsCommutativeRing R → (eq : F → F → Bool) → ((a b : F) → Decides (eq a b) (a ≡ b)) → (p : ℕ) → HasCharacteristic R p → (airs : List (List (Lookup F))) (heights : List ℕ) → weighted_height_sum airs heights < p → HeightLaws R eq airs heights
 height_laws {F} {R} laws eq decides p char airs heights light instances lookups_are heights_are divisions keeps balanced key ne =
     let bounded = batch_bounded R eq instances divisions keeps in
     let sum_is : sum_by (own R) instances ≡ weighted_height_sum airs heights = own_sum R instances ∙ (λ k. weighted_height_sum (lookups_are k) (heights_are k)) in
-    provided_key laws eq (same_key-Decides eq decides) key p char (batch_messages R eq instances) (all_parts divisions) bounded.divided (omega (arith, bounded.within, sum_is, light)) balanced ne
+    provided_key laws eq (same_key-Decides eq decides) key p char (batch_messages R eq instances) (all_roles divisions) bounded.divided (omega (arith, bounded.within, sum_is, light)) balanced ne

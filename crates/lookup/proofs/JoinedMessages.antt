@@ -13,12 +13,13 @@ use Rattle.lookup_model.specs.Outline.{Outline, fields_of}
 use Rattle.lookup_model.specs.Sent.{branch_at, sent, sent_at, values}
 use Rattle.lookup_model.specs.declared.error.LookupError.{LookupError}
 use Rattle.lookup_model.specs.declared.types.Lookup.{Lookup}
-use Rattle.lookup.specs.Buses.{is_named, on_bus}
+use Rattle.lookup.specs.Buses.{on_bus}
+use Rattle.lookup_model.specs.Names.{is_named}
 use Rattle.lookup.specs.Cuts.{part_items}
 use Rattle.lookup.specs.Packing.{AreFilled, additive, is_additive, joined}
 use Rattle.lookup.proofs.FewestColumns.{IsOn, members_on}
 use Rattle.lookup.specs.TrialDegrees.{IsPlain}
-use Rattle.lookup.proofs.GroupLaws.{same_name-Decides}
+use Rattle.lookup_model.proofs.Names.{same_name-Decides}
 use Rattle.lookup.proofs.ZippedLists.{zip-append, zip_mapped}
 use Rattle.lookup_model.proofs.Lists.{all_back, all_front}
 

@@ -1,5 +1,5 @@
 -- A packing keeps the weight, the messages and the nets.
-use Rattle.std.proofs.Common.{◌≡◌, ◌+◌, ℕ, Bool, true, false, cond, not, List, [], ◌∷◌, ◌++◌, Option, None, Result, map, All, refl, sym, ap, subst, ◌∙◌, arith}
+use Rattle.std.proofs.Common.{◌≡◌, ◌+◌, ℕ, Bool, true, false, cond, not, List, [], ◌∷◌, ◌++◌, None, Result, map, All, refl, sym, ap, subst, ◌∙◌, arith}
 use Rattle.std.proofs.lemmas.List.{append-nil}
 use Rattle.std.proofs.lemmas.List.Elements.{filter-append}
 use Rattle.std.proofs.lemmas.List.Folds.{flat_map-map}
@@ -9,8 +9,9 @@ use Rattle.std.specs.List.{AllByRecursion, filter, filter_map, flat_map, range_w
 use Rattle.std.specs.List.Sorted.{IsPermutation}
 use Rattle.std.specs.Option.{is_some, option_map_or}
 use Rattle.field.specs.Ring.{IsCommutativeRing, Ring}
-use Rattle.matrix.specs.Matrix.{Matrix, height}
-use Rattle.expressions.specs.Window.{Window, window_at}
+use Rattle.matrix.specs.Matrix.{height}
+use Rattle.expressions.specs.Window.{Window}
+use Rattle.air.specs.Traces.{AirTraces, window_of}
 use Rattle.expressions.specs.declared.base_expression.SymbolicExpression.{SymbolicExpression}
 use Rattle.lookup_model.proofs.Lookups.Regrouping.{filter_passes, first_seen_separate}
 use Rattle.lookup_model.specs.Message.{Key, Message, same_key}
@@ -22,7 +23,8 @@ use Rattle.lookup_model.specs.Sent.{sent_at}
 use Rattle.lookup_model.specs.Trace.{sent_row_under, sent_rows_under}
 use Rattle.lookup_model.specs.declared.error.LookupError.{LookupError}
 use Rattle.lookup_model.specs.declared.types.Lookup.{Lookup}
-use Rattle.lookup.specs.Buses.{bus_names, on_bus, same_name}
+use Rattle.lookup.specs.Buses.{bus_names, on_bus}
+use Rattle.lookup_model.specs.Names.{same_name}
 use Rattle.lookup.specs.Cuts.{part_items}
 use Rattle.lookup.specs.Kept.{HasIdOfBus, HaveSameIds, KeepsMessages, KeepsNets, KeepsTotalWeight, other_ids, row_messages}
 use Rattle.lookup.specs.Packing.{AreFilled, IsPacking, additive, is_additive, joined, numbered_from, passing}
@@ -240,15 +242,15 @@ module _ {F : Type 0} {R : Ring F} (laws : IsCommutativeRing R) (eq : F → F �
       ∙ sym (sum_in-passing laws (λ m. m.multiplicity) (λ m. same_key eq key m.key) xs)
 
 -- messages of a trace, row by row
-pub trace_kept : {F : Type 0} (R : Ring F) (eq : F → F → Bool) (before after : List (Lookup F)) → KeepsMessages R eq before after → (id_before id_after : Lookup F → ℕ) → HaveSameIds id_before before id_after after → (main : Matrix F) (preprocessed : Option (Matrix F)) (public_values : List F)
-    → IsPermutation (trace_messages (sent_rows_under R eq id_before main preprocessed public_values before)) (trace_messages (sent_rows_under R eq id_after main preprocessed public_values after))
-trace_kept {F} R eq before after kept id_before id_after same main preprocessed public_values = each (range_with_len 0 (height main))
+pub trace_kept : {F : Type 0} (R : Ring F) (eq : F → F → Bool) (before after : List (Lookup F)) → KeepsMessages R eq before after → (id_before id_after : Lookup F → ℕ) → HaveSameIds id_before before id_after after → (traces : AirTraces F)
+    → IsPermutation (trace_messages (sent_rows_under R eq id_before traces before)) (trace_messages (sent_rows_under R eq id_after traces after))
+trace_kept {F} R eq before after kept id_before id_after same traces = each (range_with_len 0 (height traces.main))
   where
-    each : (rs : List ℕ) → IsPermutation (trace_messages (map (λ r. sent_row_under R eq id_before (window_at main preprocessed public_values (height main) r) before) rs)) (trace_messages (map (λ r. sent_row_under R eq id_after (window_at main preprocessed public_values (height main) r) after) rs))
+    each : (rs : List ℕ) → IsPermutation (trace_messages (map (λ r. sent_row_under R eq id_before (window_of traces r) before) rs)) (trace_messages (map (λ r. sent_row_under R eq id_after (window_of traces r) after) rs))
     each [] = IsPermutation-refl []
-    each (r ∷ rs) = IsPermutation-append _ _ _ _ (kept id_before id_after same (window_at main preprocessed public_values (height main) r)) (each rs)
+    each (r ∷ rs) = IsPermutation-append _ _ _ _ (kept id_before id_after same (window_of traces r)) (each rs)
 
 -- what keeps the messages of every row keeps the nets of a trace
 pub kept_nets : {F : Type 0} {R : Ring F} (laws : IsCommutativeRing R) (eq : F → F → Bool) (before after : List (Lookup F)) → KeepsMessages R eq before after → KeepsNets R eq before after
-kept_nets {F} {R} laws eq before after kept id_before id_after same main preprocessed public_values key =
-    net-permutation laws eq _ _ (trace_kept R eq before after kept id_before id_after same main preprocessed public_values) key
+kept_nets {F} {R} laws eq before after kept id_before id_after same traces key =
+    net-permutation laws eq _ _ (trace_kept R eq before after kept id_before id_after same traces) key

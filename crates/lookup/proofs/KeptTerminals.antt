@@ -10,9 +10,9 @@ use Rattle.lookup.proofs.KeptLaws.{trace_kept}
 use Rattle.lookup.proofs.RearrangedSums.{sum_in-permutation}
 
 pub kept_terminal : {F K : Type 0} {E : Extension F K} (laws : IsLawful E) (before after : List (Lookup F)) → KeepsMessages E.base E.base_eq before after → KeepsTerminal E before after
-kept_terminal {F} {K} {E} laws before after kept id_before id_after same main preprocessed public_values denominator =
-    let first = trace_messages (sent_rows_under E.base E.base_eq id_before main preprocessed public_values before) in
-    let second = trace_messages (sent_rows_under E.base E.base_eq id_after main preprocessed public_values after) in
+kept_terminal {F} {K} {E} laws before after kept id_before id_after same traces denominator =
+    let first = trace_messages (sent_rows_under E.base E.base_eq id_before traces before) in
+    let second = trace_messages (sent_rows_under E.base E.base_eq id_after traces after) in
     net_sum-messages laws denominator second
-    ∙ sum_in-permutation laws.ring (λ m. quotient E denominator m.multiplicity m.key) first second (trace_kept E.base E.base_eq before after kept id_before id_after same main preprocessed public_values)
+    ∙ sum_in-permutation laws.ring (λ m. quotient E denominator m.multiplicity m.key) first second (trace_kept E.base E.base_eq before after kept id_before id_after same traces)
     ∙ sym (net_sum-messages laws denominator first)

@@ -11,11 +11,11 @@ use Rattle.std.specs.Map.{lookup}
 use Rattle.indexmap.specs.IndexMap.{insert_entry}
 use Rattle.lookup_model.specs.LookupDegree.{greatest}
 use Rattle.lookup_model.specs.declared.error.LookupError.{LookupError}
-use Rattle.lookup.specs.Buses.{same_name}
-use Rattle.lookup.specs.NamedWidths.{AgreeOnWidths, IsFirstMismatch, IsMismatch, first_width, seen_widths}
+use Rattle.lookup_model.specs.Names.{same_name}
+use Rattle.lookup.specs.NamedWidths.{AgreeOnWidths, IsFirstWidthMismatch, IsWidthMismatch, first_width, seen_widths}
 use Rattle.lookup.specs.declared.bus_widths.NamedWidth.{NamedWidth}
-use Rattle.lookup.proofs.GroupLaws.{same_name-Decides}
-use Rattle.lookup.proofs.PackLaws.{at_place}
+use Rattle.lookup_model.proofs.Names.{same_name-Decides}
+use Rattle.lookup.proofs.PackLaws.{at_index}
 
 -- the greater of two numbers
 max_is : (a b : ℕ) → ord_max nat_cmp a b ≡ max a b
@@ -129,20 +129,21 @@ module _ (widths : List (List ℕ × ℕ)) (name : List ℕ) (width : ℕ) where
 
 -- a width that is not
 pub mismatch_here : (widths : List (List ℕ × ℕ)) (i : ℕ) (name : List ℕ) (width v : ℕ) (e : LookupError) → slice_get widths i ≡ Some (name, width) → AgreeOnWidths (take i widths)
-    → v ≡ unwrap_or (first_width (take i widths) name) width → v ≢ width → IsMismatch name v width e → IsFirstMismatch widths e
+    → v ≡ unwrap_or (first_width (take i widths) name) width → v ≢ width → IsWidthMismatch name v width e → IsFirstWidthMismatch widths e
 mismatch_here widths i name width v e there agree is other refusal =
-    let (later, whole, next) = at_place widths i (name, width) there in
+    let (later, whole, next) = at_index widths i (name, width) there in
     record {
       before = take i widths;
-      name = name;
-      expected = v;
-      actual = width;
+      item = (name, width);
       after = later;
       split = whole;
-      agree = agree;
-      first = by_first (first_width (take i widths) name) is;
-      differs = λ same. other (sym same);
-      refusal = refusal;
+      good = agree;
+      fault = record {
+        expected = v;
+        first = by_first (first_width (take i widths) name) is;
+        differs = λ same. other (sym same);
+        refusal = refusal;
+      };
     }
   where
     by_first : (o : Option ℕ) → v ≡ unwrap_or o width → o ≡ Some v
@@ -150,7 +151,7 @@ mismatch_here widths i name width v e there agree is other refusal =
     by_first (Some x) is = ap Some (sym is)
 
 module _ (widths : List NamedWidth) (i : ℕ) (d : NamedWidth) (lt : i < length widths) where
-  -- the width at a place
+  -- the width at an index
   abbrev named : NamedWidth
   named = get_or widths i d
 
@@ -170,7 +171,7 @@ module _ (widths : List NamedWidth) (i : ℕ) (d : NamedWidth) (lt : i < length 
     pub widest_more : (widest next : ℕ) → after ≡ inserted (λ k. k.now) es named.name v → AgreeOnWidths below → v ≡ named.width → widest ≡ greatest (map (λ w. w.1) below) → next ≡ ord_max nat_cmp widest named.width
         → HoldsFirst (λ k. k.now) after (take (i + 1) (seen_widths widths)) × AgreeOnWidths (take (i + 1) (seen_widths widths)) × (next ≡ greatest (map (λ w. w.1) (take (i + 1) (seen_widths widths))))
     widest_more widest next after_is agree same so_far next_is =
-        let (later, whole, longer) = at_place (seen_widths widths) i (named.name.now, named.width) there in (
+        let (later, whole, longer) = at_index (seen_widths widths) i (named.name.now, named.width) there in (
           rw longer (holds_more (λ k. k.now) es after below named.name named.width v holds v_is after_is),
           rw longer (agree_more below named.name.now named.width agree (sym value_is ∙ same)),
           rw longer
@@ -179,7 +180,7 @@ module _ (widths : List NamedWidth) (i : ℕ) (d : NamedWidth) (lt : i < length 
         )
 
     -- one that is not
-    pub widest_mismatch : (e : LookupError) → AgreeOnWidths below → v ≢ named.width → IsMismatch named.name.now v named.width e → IsFirstMismatch (seen_widths widths) e
+    pub widest_mismatch : (e : LookupError) → AgreeOnWidths below → v ≢ named.width → IsWidthMismatch named.name.now v named.width e → IsFirstWidthMismatch (seen_widths widths) e
     widest_mismatch e agree other refusal = mismatch_here (seen_widths widths) i named.name.now named.width v e there agree value_is other refusal
 
 module _ {X Y : Type 0} where

@@ -8,22 +8,23 @@ use Rattle.lookup_model.specs.Outline.{Outline}
 use Rattle.lookup_model.specs.declared.error.LookupError.{LookupError}
 use Rattle.lookup_model.specs.declared.error.LookupError.TheVariants.{Memory}
 use Rattle.lookup.specs.BusWidths.{IsWidthRefusal, widths_of}
-use Rattle.lookup.specs.Buses.{bus_names, is_named, on_bus, same_name}
+use Rattle.lookup.specs.Buses.{bus_names, on_bus}
+use Rattle.lookup_model.specs.Names.{is_named, same_name}
 use Rattle.lookup.specs.Cuts.{part_items}
 use Rattle.lookup.specs.Packing.{AreFilled, IsFillRefusal, IsPacking, Packs, additive, is_additive, joined, numbered, passing}
 use Rattle.lookup.proofs.FillLaws.{joined_one}
-use Rattle.lookup.proofs.GroupLaws.{same_name-Decides}
+use Rattle.lookup_model.proofs.Names.{same_name-Decides}
 use Rattle.lookup.proofs.JoinedMessages.{on_some_bus}
 
 none_behind : {A : Type 0} (xs : List A) (y : A) (ys : List A) → xs ++ y ∷ ys ≡ [] → ⊥
 none_behind [] y ys e = cc e
 none_behind (x ∷ xs) y ys e = cc e
 
--- the item at a place has what all items have
-at_place_of : {A : Type 0} (P : A → Type 0) (xs : List A) (i : ℕ) (x : A) → AllByRecursion P xs → slice_get xs i ≡ Some x → P x
-at_place_of P [] i x all e = absurd (cc e)
-at_place_of P (y ∷ ys) zero x all e = let is : y ≡ x = cc e in subst P is all.0
-at_place_of P (y ∷ ys) (suc i) x all e = at_place_of P ys i x all.1 e
+-- the item at an index has what all items have
+at_index_of : {A : Type 0} (P : A → Type 0) (xs : List A) (i : ℕ) (x : A) → AllByRecursion P xs → slice_get xs i ≡ Some x → P x
+at_index_of P [] i x all e = absurd (cc e)
+at_index_of P (y ∷ ys) zero x all e = let is : y ≡ x = cc e in subst P is all.0
+at_index_of P (y ∷ ys) (suc i) x all e = at_index_of P ys i x all.1 e
 
 module _ {E : Type 0} (o : Outline E) where
   -- a cut of one lookup makes that lookup
@@ -73,9 +74,9 @@ module _ {E : Type 0} (o : Outline E) where
 
     never_stuck : (e : LookupError) → IsFillRefusal answers most (o ∷ []) e → ⊥
     never_stuck e refusal =
-        let members = on_bus refusal.name (additive (o ∷ [])) in
-        let few_members : length members ≤ 1 = omega (arith, few (λ p. is_named refusal.name p.bus) (additive (o ∷ [])), few is_additive (o ∷ [])) in
-        let stuck = refusal.stuck in
+        let members = on_bus refusal.item (additive (o ∷ [])) in
+        let few_members : length members ≤ 1 = omega (arith, few (λ p. is_named refusal.item p.bus) (additive (o ∷ [])), few is_additive (o ∷ [])) in
+        let stuck = refusal.fault in
         let tried = flat_map part_items (stuck.closed ++ stuck.part ∷ []) in
         let many : length members ≡ length tried + suc (length stuck.rest) = ap length stuck.members_are ∙ length-append tried (stuck.next ∷ stuck.rest) in
         let some : length tried ≡ length (flat_map part_items stuck.closed) + suc (length (stuck.part.1 ++ [])) = ap length (flat_map-append part_items stuck.closed (stuck.part ∷ [])) ∙ length-append (flat_map part_items stuck.closed) (stuck.part.0 ∷ stuck.part.1 ++ []) in
@@ -84,10 +85,10 @@ module _ {E : Type 0} (o : Outline E) where
   -- if all its tuples have one width, it is not refused for its widths
   one_width : (width : ℕ) → AllByRecursion (λ n. n ≡ width) (widths_of o) → (e : LookupError) → IsWidthRefusal (o ∷ []) e → ⊥
   one_width width even e refusal =
-      let all = on_this refusal.name in
-      let differ = refusal.differ in
-      let first = at_place_of (λ n. n ≡ width) (flat_map widths_of (on_bus refusal.name (o ∷ []))) 0 refusal.width all differ.first in
-      let second = at_place_of (λ n. n ≡ width) (flat_map widths_of (on_bus refusal.name (o ∷ []))) differ.place refusal.other all differ.found in
+      let all = on_this refusal.item in
+      let differ = refusal.fault.differ in
+      let first = at_index_of (λ n. n ≡ width) (flat_map widths_of (on_bus refusal.item (o ∷ []))) 0 refusal.fault.width all differ.first in
+      let second = at_index_of (λ n. n ≡ width) (flat_map widths_of (on_bus refusal.item (o ∷ []))) differ.index refusal.fault.other all differ.found in
       differ.differs (second ∙ sym first)
     where
       on_this : (name : List ℕ) → AllByRecursion (λ n. n ≡ width) (flat_map widths_of (on_bus name (o ∷ [])))

@@ -11,22 +11,23 @@ use Rattle.lookup_model.proofs.HornerRule.{map-map}
 use Rattle.lookup_model.specs.Outline.{Outline, fields_of}
 use Rattle.lookup_model.specs.declared.error.LookupError.{LookupError}
 use Rattle.lookup_model.specs.declared.types.Lookup.{Lookup}
-use Rattle.lookup.specs.Buses.{bus_groups, bus_names, group_of, is_named, on_bus, owned_group}
+use Rattle.lookup.specs.Buses.{bus_groups, bus_names, group_of, on_bus, owned_group}
+use Rattle.lookup_model.specs.Names.{is_named}
 use Rattle.lookup.specs.Packing.{AreColumnsAdded, IsFillRefusal, IsFilling, IsFirstStuck, IsPacking, IsStuck, additive, joined, numbered, passing}
 use Rattle.lookup.specs.Trials.{IsBusTrial, IsTrialAmong}
 use Rattle.lookup.proofs.ListLaws.{AllZip-map, map_split}
 
--- an item at its place
-pub at_place : {A : Type 0} (xs : List A) (i : ℕ) (x : A) → slice_get xs i ≡ Some x → (later : List A) × (xs ≡ take i xs ++ x ∷ later) × (take (i + 1) xs ≡ take i xs ++ x ∷ [])
-at_place [] i x e = absurd (cc e)
-at_place (y ∷ ys) zero x e = let is : y ≡ x = cc e in (ys, ap (λ t. t ∷ ys) is, ap (λ t. t ∷ []) is)
-at_place (y ∷ ys) (suc i) x e =
-    let (later, whole, next) = at_place ys i x e in
+-- an item at its index
+pub at_index : {A : Type 0} (xs : List A) (i : ℕ) (x : A) → slice_get xs i ≡ Some x → (later : List A) × (xs ≡ take i xs ++ x ∷ later) × (take (i + 1) xs ≡ take i xs ++ x ∷ [])
+at_index [] i x e = absurd (cc e)
+at_index (y ∷ ys) zero x e = let is : y ≡ x = cc e in (ys, ap (λ t. t ∷ ys) is, ap (λ t. t ∷ []) is)
+at_index (y ∷ ys) (suc i) x e =
+    let (later, whole, next) = at_index ys i x e in
     let more : suc i + 1 ≡ suc (i + 1) = omega arith in
     (later, ap (λ t. y ∷ t) whole, ap (λ n. take n (y ∷ ys)) more ∙ ap (λ t. y ∷ t) next)
 
 module _ {F : Type 0} where
-  -- the bus at a place of a map of groups
+  -- the bus at an index of a map of groups
   pub bus_here : (os : List (Outline (SymbolicExpression F))) (es : List (Bor (List ℕ) × Vec (Bor (Lookup F)) Global)) (i : ℕ) (k : Bor (List ℕ)) (v : Vec (Bor (Lookup F)) Global) → map group_of es ≡ bus_groups os → slice_get es i ≡ Some (k, v)
       → (slice_get (bus_names os) i ≡ Some k.now) × (map (λ r. fields_of r.now) v.items ≡ on_bus k.now os)
   bus_here os es i k v groups there = by_name (slice_get (bus_names os) i) refl at
@@ -50,14 +51,13 @@ module _ {E : Type 0} (answers : Outline E → Result ℕ LookupError → Type 0
   -- the first bus that is stuck, by its name
   pub fill_refusal : (buses : List (List (Outline E))) (e : LookupError) → buses ≡ map (λ name. on_bus name (additive before)) (bus_names (additive before)) → IsFirstStuck answers most buses e → IsFillRefusal answers most before e
   fill_refusal buses e are stuck =
-      let (earlier, name, later, names, earlier_is, name_is, later_is) = map_split (λ name. on_bus name (additive before)) (bus_names (additive before)) stuck.earlier stuck.bus stuck.later (sym are ∙ stuck.buses_are) in record {
-        earlier = earlier;
-        name = name;
-        later = later;
-        names = names;
-        cuts = stuck.cuts;
-        filled = AllZip-map (λ bus cut. IsFilling answers most cut bus) (λ n. on_bus n (additive before)) earlier stuck.cuts (subst (λ (t : List (List (Outline E))). AllZip (λ bus cut. IsFilling answers most cut bus) t stuck.cuts) (sym earlier_is) stuck.filled);
-        stuck = subst (λ (t : List (Outline E)). IsStuck answers most t e) (sym name_is) stuck.stuck;
+      let (earlier, name, later, names, earlier_is, name_is, later_is) = map_split (λ name. on_bus name (additive before)) (bus_names (additive before)) stuck.before stuck.item stuck.after (sym are ∙ stuck.split) in record {
+        before = earlier;
+        item = name;
+        after = later;
+        split = names;
+        good = (stuck.good.0, AllZip-map (λ bus cut. IsFilling answers most cut bus) (λ n. on_bus n (additive before)) earlier stuck.good.0 (subst (λ (t : List (List (Outline E))). AllZip (λ bus cut. IsFilling answers most cut bus) t stuck.good.0) (sym earlier_is) stuck.good.1));
+        fault = subst (λ (t : List (Outline E)). IsStuck answers most t e) (sym name_is) stuck.fault;
       }
 
   -- what passes through, and the columns of all buses

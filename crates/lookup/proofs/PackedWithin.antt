@@ -10,7 +10,8 @@ use Rattle.lookup_model.specs.Outline.{Outline, fields_of}
 use Rattle.lookup_model.specs.Records.{AreRecords, IsWithin, LookupsFit}
 use Rattle.lookup_model.specs.declared.error.LookupError.{LookupError}
 use Rattle.lookup_model.specs.declared.types.Lookup.{Lookup}
-use Rattle.lookup.specs.Buses.{bus_names, is_named}
+use Rattle.lookup.specs.Buses.{bus_names}
+use Rattle.lookup_model.specs.Names.{is_named}
 use Rattle.lookup.specs.Cuts.{part_items}
 use Rattle.lookup.specs.Packing.{AreFilled, IsPacking, additive, is_additive, joined, numbered_from, passing}
 use Rattle.lookup.proofs.Within.{IsInside, IsOutlineInside, inside_of, lookup_inside}

@@ -9,9 +9,10 @@ use Rattle.std.specs.Option.{is_some}
 use Rattle.lookup_model.proofs.Lookups.Regrouping.{Holds, IsSeparate, first_seen_holds}
 use Rattle.lookup_rows.proofs.NetEntries.{turned}
 use Rattle.lookup_model.specs.Outline.{Outline}
-use Rattle.lookup.specs.Buses.{bus_names, is_named, on_bus, same_name}
+use Rattle.lookup.specs.Buses.{bus_names, on_bus}
+use Rattle.lookup_model.specs.Names.{is_named, same_name}
 use Rattle.lookup.specs.Packing.{is_additive}
-use Rattle.lookup.proofs.GroupLaws.{same_name-Decides}
+use Rattle.lookup_model.proofs.Names.{same_name-Decides}
 
 -- a first part moved behind the second
 moved : {M : Type 0} (zs xs ys : List M) → IsPermutation (zs ++ (xs ++ ys)) (xs ++ (zs ++ ys))

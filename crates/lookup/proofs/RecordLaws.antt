@@ -12,15 +12,15 @@ use Rattle.lookup.specs.Packing.{numbered_from}
 
 -- one more well formed record
 pub AreRecords-push : {F : Type 0} (lookups : List (Lookup F)) (l : Lookup F) → AreRecords lookups → IsRecordAt (length lookups) l → AreRecords (lookups ++ l ∷ [])
-AreRecords-push {F} lookups l records record_at i lookup lt there = by_place (cases_lt i (length lookups))
+AreRecords-push {F} lookups l records record_at i lookup lt there = by_index (cases_lt i (length lookups))
   where
     found : get_or (lookups ++ l ∷ []) i lookup ≡ lookup
     found = get_or_from_slice_get (lookups ++ l ∷ []) i lookup lookup there
 
-    by_place : (i < length lookups) ⊎ (length lookups ≤ i) → IsRecordAt i lookup
-    by_place (inl below) =
+    by_index : (i < length lookups) ⊎ (length lookups ≤ i) → IsRecordAt i lookup
+    by_index (inl below) =
         records i lookup below (slice_get-get_or lookups i lookup below ∙ ap Some (sym (get_or-append lookups (l ∷ []) lookup i below) ∙ found))
-    by_place (inr above) =
+    by_index (inr above) =
         let last : i ≡ length lookups = omega (arith, lt, above, length_push lookups l) in
         let same : l ≡ lookup = sym (get_or-append_seam lookups l [] lookup) ∙ ap (λ n. get_or (lookups ++ l ∷ []) n lookup) (sym last) ∙ found in
         subst (λ (n : ℕ). IsRecordAt n lookup) (sym last) (subst (λ (x : Lookup F). IsRecordAt (length lookups) x) same record_at)

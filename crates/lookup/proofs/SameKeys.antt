@@ -104,5 +104,5 @@ module _ {F : Type 0} {R : Ring F} (laws : IsCommutativeRing R) (eq : F → F �
 
 -- what keeps the messages of every row keeps the keys of a trace
 pub kept_keys : {F : Type 0} {R : Ring F} (laws : IsCommutativeRing R) (eq : F → F → Bool) (decides : (a b : F) → Decides (eq a b) (a ≡ b)) (before after : List (Lookup F)) → KeepsMessages R eq before after → KeepsKeys R eq before after
-kept_keys {F} {R} laws eq decides before after kept id_before id_after same main preprocessed public_values =
-    keys-permutation laws eq decides _ _ (trace_kept R eq before after kept id_before id_after same main preprocessed public_values)
+kept_keys {F} {R} laws eq decides before after kept id_before id_after same traces =
+    keys-permutation laws eq decides _ _ (trace_kept R eq before after kept id_before id_after same traces)

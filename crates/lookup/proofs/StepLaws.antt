@@ -14,7 +14,8 @@ use Rattle.lookup_model.specs.Outline.{Outline, bus_of, fields_of}
 use Rattle.lookup_model.specs.Records.{HasEqualLengths}
 use Rattle.lookup_model.specs.declared.error.LookupError.{LookupError}
 use Rattle.lookup_model.specs.declared.types.Lookup.{Lookup}
-use Rattle.lookup.specs.Buses.{bus_groups, is_named, on_bus, owned_group}
+use Rattle.lookup.specs.Buses.{bus_groups, on_bus, owned_group}
+use Rattle.lookup_model.specs.Names.{is_named}
 use Rattle.lookup.specs.Cuts.{part_items}
 use Rattle.lookup.specs.Packing.{additive, is_additive, trial}
 use Rattle.lookup.specs.Trials.{IsColumns, IsMember, IsStep, IsTrial, IsTrialAmong, IsTried, columns_of, open_column}

@@ -48,48 +48,48 @@ all_same width (w ∷ ws) e = by_test (is_other width w) refl e (all_same width 
     by_test true f h rest = absurd (cc h)
     by_test false f h rest = (not_other width w f, rest h)
 
--- the place of the first other width
-pub record IsPlace (ws : List ℕ) (width other : ℕ) : Type 0 where
-  pub place : ℕ
+-- the index of the first other width
+pub record IsFirstOther (ws : List ℕ) (width other : ℕ) : Type 0 where
+  pub index : ℕ
   pub differs : other ≢ width
-  pub found : slice_get ws place ≡ Some other
-  pub before : (i v : ℕ) → i < place → slice_get ws i ≡ Some v → v ≡ width
+  pub found : slice_get ws index ≡ Some other
+  pub before : (i v : ℕ) → i < index → slice_get ws i ≡ Some v → v ≡ width
 
-other_place : (width other : ℕ) (ws : List ℕ) → find (is_other width) ws ≡ Some other → IsPlace ws width other
-other_place width other [] e = absurd (cc e)
-other_place width other (w ∷ ws) e = by_test (is_other width w) refl e (other_place width other ws)
+first_other : (width other : ℕ) (ws : List ℕ) → find (is_other width) ws ≡ Some other → IsFirstOther ws width other
+first_other width other [] e = absurd (cc e)
+first_other width other (w ∷ ws) e = by_test (is_other width w) refl e (first_other width other ws)
   where
-    by_test : (b : Bool) → is_other width w ≡ b → cond b (Some w) (find (is_other width) ws) ≡ Some other → (find (is_other width) ws ≡ Some other → IsPlace ws width other) → IsPlace (w ∷ ws) width other
+    by_test : (b : Bool) → is_other width w ≡ b → cond b (Some w) (find (is_other width) ws) ≡ Some other → (find (is_other width) ws ≡ Some other → IsFirstOther ws width other) → IsFirstOther (w ∷ ws) width other
     by_test true f h rest =
         let is : w ≡ other = cc h in record {
-          place = 0;
+          index = 0;
           differs = λ same. other_differs width w f (is ∙ same);
           found = ap Some is;
           before = λ i v lt. absurd (omega (arith, lt));
         }
     by_test false f h rest =
         let later = rest h in record {
-          place = suc later.place;
+          index = suc later.index;
           differs = later.differs;
           found = later.found;
           before = earlier later;
         }
       where
-        earlier : (later : IsPlace ws width other) (i v : ℕ) → i < suc later.place → slice_get (w ∷ ws) i ≡ Some v → v ≡ width
+        earlier : (later : IsFirstOther ws width other) (i v : ℕ) → i < suc later.index → slice_get (w ∷ ws) i ≡ Some v → v ≡ width
         earlier later zero v lt there = let is : w ≡ v = cc there in sym is ∙ not_other width w f
         earlier later (suc i) v lt there = later.before i v (omega (arith, lt)) there
 
 -- the first width and the first other one
 pub has_other : (width other : ℕ) (ws : List ℕ) → slice_get ws 0 ≡ Some width → find (is_other width) ws ≡ Some other → HasOtherWidth ws width other
 has_other width other ws first found =
-    let at = other_place width other ws found in
-    record { place = at.place; first = first; differs = at.differs; found = at.found; before = at.before }
+    let at = first_other width other ws found in
+    record { index = at.index; first = first; differs = at.differs; found = at.found; before = at.before }
 
 -- the first list whose length differs from that of the first one
 pub other_width : {A : Type 0} (f : A → ℕ) (xs : List A) (i : ℕ) (first x : A) (width other : ℕ) → slice_get xs 0 ≡ Some first → f first ≡ width → slice_get xs i ≡ Some x → f x ≡ other → other ≢ width
     → ((j : ℕ) (t : A) → j < i → slice_get xs j ≡ Some t → f t ≡ width) → HasOtherWidth (map f xs) width other
 other_width {A} f xs i first x width other at_first first_is at_x x_is differs below = record {
-  place = i;
+  index = i;
   first = slice_get-map f xs 0 ∙ ap (option_map f) at_first ∙ ap Some first_is;
   differs = differs;
   found = slice_get-map f xs i ∙ ap (option_map f) at_x ∙ ap Some x_is;
@@ -101,14 +101,14 @@ other_width {A} f xs i first x width other at_first first_is at_x x_is differs b
     by_item j v lt (Some t) is there =
         let value : f t ≡ v = cc there in sym value ∙ below j t lt is
 
--- what holds of the items below a place and of the one there
+-- what holds of the items below an index and of the one there
 pub holds_below : {A : Type 0} (P : A → Type 0) (xs : List A) (n : ℕ) (x : A) → n < length xs → x ≡ get_or xs n x → P x → ((i : ℕ) (t : A) → i < n → slice_get xs i ≡ Some t → P t)
     → (i : ℕ) (t : A) → i < n + 1 → slice_get xs i ≡ Some t → P t
-holds_below {A} P xs n x lt is here below i t next there = by_place (cases_lt i n)
+holds_below {A} P xs n x lt is here below i t next there = by_index (cases_lt i n)
   where
-    by_place : (i < n) ⊎ (n ≤ i) → P t
-    by_place (inl less) = below i t less there
-    by_place (inr least) =
+    by_index : (i < n) ⊎ (n ≤ i) → P t
+    by_index (inl less) = below i t less there
+    by_index (inr least) =
         let same : i ≡ n = omega arith in
         let found : slice_get xs n ≡ Some t = subst (λ (m : ℕ). slice_get xs m ≡ Some t) same there in
         let equal : x ≡ t = cc (ap Some is ∙ sym (slice_get-get_or xs n x lt) ∙ found) in
@@ -124,7 +124,7 @@ other_is width w differs = by_test (nat_eq w width) refl
 same_is : (width w : ℕ) → w ≡ width → is_other width w ≡ false
 same_is width w is = ap not ((Decides-eqb w width).1 is)
 
--- the images of the items below a place, of the one there, and of the rest
+-- the images of the items below an index, of the one there, and of the rest
 cut_at : {A B : Type 0} (g : A → List B) (xs : List A) (i : ℕ) (x : A) → i < length xs → x ≡ get_or xs i x → (rest : List B) × (flat_map g xs ≡ flat_map g (take i xs) ++ (g x ++ rest)) × (flat_map g (take (i + 1) xs) ≡ flat_map g (take i xs) ++ g x)
 cut_at g [] i x lt is = absurd (omega (arith, lt))
 cut_at g (y ∷ ys) zero x lt is = (flat_map g ys, ap (λ t. g t ++ flat_map g ys) (sym is), ap (λ t. g t ++ []) (sym is) ∙ append-nil (g x))
@@ -141,7 +141,7 @@ flat_map-map g f [] = refl
 flat_map-map g f (x ∷ xs) = ap (λ t. g (f x) ++ t) (flat_map-map g f xs)
 
 module _ {A B C : Type 0} (g : B → List C) (f : A → B) (xs : List A) (i : ℕ) (x : A) (lt : i < length xs) (is : x ≡ get_or xs i x) where
-  -- nothing is found in the images below a place, and something in that of the item there
+  -- nothing is found in the images below an index, and something in that of the item there
   pub found_in : (p : C → Bool) (y : C) → find p (flat_map g (map f (take i xs))) ≡ None → find p (g (f x)) ≡ Some y → find p (flat_map g (map f xs)) ≡ Some y
   found_in p y none found =
       let (rest, whole, next) = cut_at (λ z. g (f z)) xs i x lt is in
@@ -157,7 +157,7 @@ module _ {A B C : Type 0} (g : B → List C) (f : A → B) (xs : List A) (i : �
       ∙ find-append p (flat_map (λ z. g (f z)) (take i xs)) (g (f x)) (ap (find p) (sym (flat_map-map g f (take i xs))) ∙ none)
       ∙ nothing
 
-  -- the first of all images, where those below the place are empty
+  -- the first of all images, where those below the index are empty
   pub first_in : (y : C) → flat_map g (map f (take i xs)) ≡ [] → slice_get (g (f x)) 0 ≡ Some y → slice_get (flat_map g (map f xs)) 0 ≡ Some y
   first_in y none there =
       let (rest, whole, next) = cut_at (λ z. g (f z)) xs i x lt is in
@@ -176,7 +176,7 @@ module _ {A : Type 0} (f : A → ℕ) (width : ℕ) (xs : List A) (i : ℕ) (x :
   below : find (is_other width) (flat_map (λ n. n ∷ []) (map f (take i xs))) ≡ None
   below = ap (find (is_other width)) (sym (map_as_flat f (take i xs))) ∙ none
 
-  -- the first other width is that of the item at a place
+  -- the first other width is that of the item at an index
   pub other_here : f x ≢ width → find (is_other width) (map f xs) ≡ Some (f x)
   other_here differs =
       ap (find (is_other width)) (map_as_flat f xs)

@@ -1,10 +1,11 @@
 -- One width for all tuples of a bus.
 use Rattle.std.specs.Prelude.{◌≡◌, ℕ, List, [], ◌∷◌, ◌++◌, codes, length, map}
 use Rattle.std.specs.List.{AllByRecursion, flat_map}
+use Rattle.expressions.specs.Faults.{SplitsAtFault}
 use Rattle.lookup_model.specs.Outline.{Outline}
 use Rattle.lookup_model.specs.declared.error.LookupError.{LookupError}
 use Rattle.lookup.specs.Buses.{bus_names, on_bus}
-use Rattle.lookup.specs.TupleWidths.{HasOtherWidth, IsTupleWidths}
+use Rattle.lookup.specs.TupleWidths.{AreUnevenWidths}
 
 -- all widths are the same
 abbrev pub HasOneWidth : List ℕ → Type 0
@@ -28,13 +29,8 @@ module _ {E : Type 0} where
   HaveBusWidths os = AllByRecursion (λ name. HasOneWidth (bus_widths name os)) (bus_names os)
 
   -- The refusal of the first bus with two widths, by its first width and the first other one.
-  pub record IsWidthRefusal (os : List (Outline E)) (e : LookupError) : Type 0 where
-    pub earlier : List (List ℕ)
-    pub name : List ℕ
-    pub later : List (List ℕ)
-    pub names : bus_names os ≡ earlier ++ name ∷ later
-    pub even : AllByRecursion (λ n. HasOneWidth (bus_widths n os)) earlier
-    pub width : ℕ
-    pub other : ℕ
-    pub differ : HasOtherWidth (bus_widths name os) width other
-    pub refusal : IsTupleWidths (bus_context name) width other e
+  abbrev pub IsWidthRefusal : List (Outline E) → LookupError → Type 0
+  IsWidthRefusal os e = SplitsAtFault
+      (AllByRecursion (λ name. HasOneWidth (bus_widths name os)))
+      (λ _ name. AreUnevenWidths (bus_context name) (bus_widths name os) e)
+      (bus_names os)

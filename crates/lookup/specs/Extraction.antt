@@ -1,6 +1,7 @@
 -- The lookups that are extracted from an AIR's records.
 use Rattle.std.specs.Prelude.{◌≡◌, ◌+◌, ◌<◌, ◌≤◌, ◌⊎◌, ℕ, List, [], ◌∷◌, ◌++◌, length, map, None, Some, All, Result, Ok, Err, MatchResult}
 use Rattle.std.specs.List.{enumerate_from, sum_by}
+use Rattle.expressions.specs.Faults.{SplitsAtFault}
 use Rattle.expressions.specs.declared.error.AirError.{AirError}
 use Rattle.expressions.specs.declared.layout.AirLayout.{AirLayout}
 use Rattle.lookup_model.specs.LookupDegree.{greatest}
@@ -10,7 +11,7 @@ use Rattle.lookup_model.specs.Weight.{weight_bound}
 use Rattle.lookup_model.specs.declared.error.LookupError.{LookupError}
 use Rattle.lookup_model.specs.declared.error.LookupError.TheVariants.{Memory, CountWeightOverflow}
 use Rattle.lookup_record.specs.Interaction.{Tuple, GlobalInteraction, ExclusiveInteraction}
-use Rattle.lookup.specs.TupleWidths.{HasOtherWidth, IsTupleWidths}
+use Rattle.lookup.specs.TupleWidths.{AreUnevenWidths}
 use Rattle.lookup_record.specs.RecordedAir.{EvaluatesNew, recorded_air}
 use Rattle.lookup_record.specs.declared.symbolic.InteractionSymbolicBuilder.{InteractionSymbolicBuilder}
 use Rattle.lookup.specs.Lookups.{lookups_of}
@@ -81,16 +82,11 @@ module _ {E : Type 0} where
   IsLocalRefusal tuples e =
       ((weight_bound ≤ sum_by (λ t. t.weight) tuples) × (e ≡ CountWeightOverflow))
       ⊎ ((sum_by (λ t. t.weight) tuples < weight_bound)
-      × ((width : ℕ) × (other : ℕ) × HasOtherWidth (tuple_widths tuples) width other × IsTupleWidths local_context width other e))
+      × AreUnevenWidths local_context (tuple_widths tuples) e)
 
   -- the refusal of the first local interaction that has a fault
-  pub record IsFirstLocalRefusal (locals : List (List (Tuple E))) (e : LookupError) : Type 0 where
-    pub before : List (List (Tuple E))
-    pub tuples : List (Tuple E)
-    pub after : List (List (Tuple E))
-    pub split : locals ≡ before ++ tuples ∷ after
-    pub faultless : All IsFaultless before
-    pub refusal : IsLocalRefusal tuples e
+  abbrev pub IsFirstLocalRefusal : List (List (Tuple E)) → LookupError → Type 0
+  IsFirstLocalRefusal locals e = SplitsAtFault (All IsFaultless) (λ _ tuples. IsLocalRefusal tuples e) locals
 
 -- The answer is the extraction from what evaluating the AIR left in a new builder, or the first
 -- refusal: out of memory, the AIR's own, or that of the first local interaction with a fault.

@@ -1,10 +1,10 @@
 -- What packing keeps: the weight of all lookups and every message, and so the keys and their nets.
-use Rattle.std.specs.Prelude.{◌≡◌, ℕ, Bool, List, Option, None, Some, map, not}
+use Rattle.std.specs.Prelude.{◌≡◌, ℕ, Bool, List, None, Some, map, not}
 use Rattle.std.specs.List.{AllByRecursion, filter, flat_map, sum_by}
 use Rattle.std.specs.List.Sorted.{IsPermutation}
 use Rattle.field.specs.Ring.{Ring}
-use Rattle.matrix.specs.Matrix.{Matrix}
 use Rattle.expressions.specs.Window.{Window}
+use Rattle.air.specs.Traces.{AirTraces}
 use Rattle.field.specs.Extension.{Extension}
 use Rattle.lookup_model.specs.Message.{Key, Message}
 use Rattle.lookup_model.specs.Net.{keys, net, unbalanced_keys}
@@ -51,9 +51,9 @@ module _ {F : Type 0} where
     abbrev pub KeepsNets : List (Lookup F) → List (Lookup F) → Type 0
     KeepsNets before after =
         (id_before id_after : Lookup F → ℕ) → HaveSameIds id_before before id_after after
-        → (main : Matrix F) (preprocessed : Option (Matrix F)) (public_values : List F) (key : Key F)
-        → net R eq (trace_messages (sent_rows_under R eq id_after main preprocessed public_values after)) key
-        ≡ net R eq (trace_messages (sent_rows_under R eq id_before main preprocessed public_values before)) key
+        → (traces : AirTraces F) (key : Key F)
+        → net R eq (trace_messages (sent_rows_under R eq id_after traces after)) key
+        ≡ net R eq (trace_messages (sent_rows_under R eq id_before traces before)) key
 
     -- The distinct keys of messages are those of others, in some order, and so are those whose net is
     -- not zero.
@@ -66,9 +66,9 @@ module _ {F : Type 0} where
     abbrev pub KeepsKeys : List (Lookup F) → List (Lookup F) → Type 0
     KeepsKeys before after =
         (id_before id_after : Lookup F → ℕ) → HaveSameIds id_before before id_after after
-        → (main : Matrix F) (preprocessed : Option (Matrix F)) (public_values : List F)
-        → HaveSameKeys (trace_messages (sent_rows_under R eq id_before main preprocessed public_values before))
-        (trace_messages (sent_rows_under R eq id_after main preprocessed public_values after))
+        → (traces : AirTraces F)
+        → HaveSameKeys (trace_messages (sent_rows_under R eq id_before traces before))
+        (trace_messages (sent_rows_under R eq id_after traces after))
 
     -- What packing keeps of all that lookups send.
     pub record KeepsSent (before after : List (Lookup F)) : Type 0 where
@@ -81,6 +81,6 @@ module _ {F : Type 0} where
 abbrev pub KeepsTerminal : {F K : Type 0} → Extension F K → List (Lookup F) → List (Lookup F) → Type 0
 KeepsTerminal {F} {K} E before after =
     (id_before id_after : Lookup F → ℕ) → HaveSameIds id_before before id_after after
-    → (main : Matrix F) (preprocessed : Option (Matrix F)) (public_values : List F) (denominator : Key F → K)
-    → plain_terminal E denominator (sent_rows_under E.base E.base_eq id_after main preprocessed public_values after)
-    ≡ plain_terminal E denominator (sent_rows_under E.base E.base_eq id_before main preprocessed public_values before)
+    → (traces : AirTraces F) (denominator : Key F → K)
+    → plain_terminal E denominator (sent_rows_under E.base E.base_eq id_after traces after)
+    ≡ plain_terminal E denominator (sent_rows_under E.base E.base_eq id_before traces before)

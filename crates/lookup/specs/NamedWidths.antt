@@ -1,15 +1,17 @@
 -- The widths of the tuples that are sent on buses, over all AIRs.
-use Rattle.std.specs.Prelude.{◌≡◌, ◌≢◌, ◌++◌, ℕ, List, ◌∷◌, Option, Some, map}
+use Rattle.std.specs.Prelude.{◌≡◌, ◌≢◌, ℕ, List, Option, Some, map}
 use Rattle.std.specs.List.{AllByRecursion, flat_map}
 use Rattle.std.specs.Map.{lookup}
 use Rattle.std.specs.String.{string_bytes}
 use Rattle.std.specs.declared.alloc.Global.{Global}
 use Rattle.std.specs.declared.string.String.{String}
+use Rattle.expressions.specs.Faults.{SplitsAtFault}
 use Rattle.lookup_model.specs.Outline.{Outline}
 use Rattle.lookup_model.specs.declared.error.LookupError.{LookupError}
 use Rattle.lookup_model.specs.declared.error.LookupError.TheVariants.{BusWidthMismatch}
 use Rattle.lookup.specs.BusWidths.{widths_of}
-use Rattle.lookup.specs.Buses.{bus_groups, same_name}
+use Rattle.lookup.specs.Buses.{bus_groups}
+use Rattle.lookup_model.specs.Names.{same_name}
 use Rattle.lookup.specs.declared.bus_widths.NamedWidth.{NamedWidth}
 
 module _ {E : Type 0} where
@@ -35,20 +37,18 @@ abbrev pub AgreeOnWidths : List (List ℕ × ℕ) → Type 0
 AgreeOnWidths widths = AllByRecursion (λ w. first_width widths w.0 ≡ Some w.1) widths
 
 -- the refusal of a width on a bus of this name
-pub record IsMismatch (name : List ℕ) (expected actual : ℕ) (e : LookupError) : Type 0 where
+pub record IsWidthMismatch (name : List ℕ) (expected actual : ℕ) (e : LookupError) : Type 0 where
   pub text : String Global
   pub text_is : string_bytes text ≡ name
   pub error_is : e ≡ BusWidthMismatch text expected actual
 
--- the refusal of the first width that is not the first under its name
-pub record IsFirstMismatch (widths : List (List ℕ × ℕ)) (e : LookupError) : Type 0 where
-  pub before : List (List ℕ × ℕ)
-  pub name : List ℕ
+-- the refusal of a width that is not the first under its name
+pub record DiffersFromFirst (before : List (List ℕ × ℕ)) (named : List ℕ × ℕ) (e : LookupError) : Type 0 where
   pub expected : ℕ
-  pub actual : ℕ
-  pub after : List (List ℕ × ℕ)
-  pub split : widths ≡ before ++ (name, actual) ∷ after
-  pub agree : AgreeOnWidths before
-  pub first : first_width before name ≡ Some expected
-  pub differs : actual ≢ expected
-  pub refusal : IsMismatch name expected actual e
+  pub first : first_width before named.0 ≡ Some expected
+  pub differs : named.1 ≢ expected
+  pub refusal : IsWidthMismatch named.0 expected named.1 e
+
+-- the refusal of the first such width
+abbrev pub IsFirstWidthMismatch : List (List ℕ × ℕ) → LookupError → Type 0
+IsFirstWidthMismatch widths e = SplitsAtFault AgreeOnWidths (λ before named. DiffersFromFirst before named e) widths

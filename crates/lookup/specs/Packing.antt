@@ -2,6 +2,7 @@
 use Rattle.std.specs.Prelude.{◌≡◌, ◌<◌, ◌≤◌, ◌+◌, ◌⊎◌, ◌&&◌, ℕ, Bool, not, List, [], ◌∷◌, ◌++◌, map, Result, Ok, Err, MatchResult}
 use Rattle.std.specs.List.{AllZip, enumerate_from, filter, flat_map, sum_by}
 use Rattle.std.specs.Option.{is_some}
+use Rattle.expressions.specs.Faults.{SplitsAtFault}
 use Rattle.lookup_model.specs.Outline.{Outline}
 use Rattle.lookup_model.specs.Weight.{weight_bound}
 use Rattle.lookup_model.specs.declared.error.LookupError.{LookupError}
@@ -49,15 +50,15 @@ module _ {E : Type 0} where
   -- what a closure answers to a lookup: a degree, or a refusal
   module _ (answers : Outline E → Result ℕ LookupError → Type 0) (max_degree : ℕ) where
     -- an answer to the trial of a part with a further lookup is within the degree, or above it
-    abbrev pub IsWithin : Outline E × List (Outline E) → Outline E → Type 0
-    IsWithin part next = (n : ℕ) × answers (trial (joined part) next) (Ok n) × (n ≤ max_degree)
+    abbrev pub IsWithinDegree : Outline E × List (Outline E) → Outline E → Type 0
+    IsWithinDegree part next = (n : ℕ) × answers (trial (joined part) next) (Ok n) × (n ≤ max_degree)
 
     abbrev pub IsAbove : Outline E × List (Outline E) → Outline E → Type 0
     IsAbove part next = (n : ℕ) × answers (trial (joined part) next) (Ok n) × (max_degree < n)
 
     -- A lookup joins a part: the trial is within the degree, and the weights have a sum that fits.
     abbrev pub Joins : Outline E × List (Outline E) → Outline E → Type 0
-    Joins part next = IsWithin part next × ((joined part).count_weight + next.count_weight < weight_bound)
+    Joins part next = IsWithinDegree part next × ((joined part).count_weight + next.count_weight < weight_bound)
 
     -- A greedy cut of the lookups of one bus, by the answers to its trials.
     abbrev pub IsFilling : List (Outline E × List (Outline E)) → List (Outline E) → Type 0
@@ -73,7 +74,7 @@ module _ {E : Type 0} where
       pub members_are : members ≡ flat_map part_items (closed ++ part ∷ []) ++ next ∷ rest
       pub greedy : AreGreedy Joins IsAbove (closed ++ part ∷ [])
       pub refusal : answers (trial (joined part) next) (Err e)
-          ⊎ ((e ≡ CountWeightOverflow) × IsWithin part next × (weight_bound ≤ (joined part).count_weight + next.count_weight))
+          ⊎ ((e ≡ CountWeightOverflow) × IsWithinDegree part next × (weight_bound ≤ (joined part).count_weight + next.count_weight))
 
     -- Columns with those of each bus of a list behind them, each with its greedy cut; and the refusal
     -- of the first bus of a list whose filling is refused.
@@ -81,14 +82,11 @@ module _ {E : Type 0} where
     AreColumnsAdded buses before after =
         (cuts : List (List (Outline E × List (Outline E)))) × AllZip (λ bus cut. IsFilling cut bus) buses cuts × (after ≡ before ++ flat_map (λ cut. map joined cut) cuts)
 
-    pub record IsFirstStuck (buses : List (List (Outline E))) (e : LookupError) : Type 0 where
-      pub earlier : List (List (Outline E))
-      pub bus : List (Outline E)
-      pub later : List (List (Outline E))
-      pub buses_are : buses ≡ earlier ++ bus ∷ later
-      pub cuts : List (List (Outline E × List (Outline E)))
-      pub filled : AllZip (λ b cut. IsFilling cut b) earlier cuts
-      pub stuck : IsStuck bus e
+    abbrev pub IsFirstStuck : List (List (Outline E)) → LookupError → Type 0
+    IsFirstStuck buses e = SplitsAtFault
+        (λ earlier. (cuts : List (List (Outline E × List (Outline E)))) × AllZip (λ b cut. IsFilling cut b) earlier cuts)
+        (λ _ bus. IsStuck bus e)
+        buses
 
     -- each bus has its greedy cut
     abbrev pub AreFilled : List (Outline E) → List (List ℕ) → List (List (Outline E × List (Outline E))) → Type 0
@@ -102,14 +100,11 @@ module _ {E : Type 0} where
       pub columns : after ≡ numbered (passing before ++ flat_map (λ cut. map joined cut) cuts)
 
     -- The refusal of the first bus whose filling is refused.
-    pub record IsFillRefusal (before : List (Outline E)) (e : LookupError) : Type 0 where
-      pub earlier : List (List ℕ)
-      pub name : List ℕ
-      pub later : List (List ℕ)
-      pub names : bus_names (additive before) ≡ earlier ++ name ∷ later
-      pub cuts : List (List (Outline E × List (Outline E)))
-      pub filled : AreFilled (additive before) earlier cuts
-      pub stuck : IsStuck (on_bus name (additive before)) e
+    abbrev pub IsFillRefusal : List (Outline E) → LookupError → Type 0
+    IsFillRefusal before e = SplitsAtFault
+        (λ earlier. (cuts : List (List (Outline E × List (Outline E)))) × AreFilled (additive before) earlier cuts)
+        (λ _ name. IsStuck (on_bus name (additive before)) e)
+        (bus_names (additive before))
 
     -- The answer of packing, memory aside: where a bus has two widths, the refusal of the first such
     -- bus; else a packing, or the first refusal of a filling.

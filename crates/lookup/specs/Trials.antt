@@ -17,8 +17,8 @@ use Rattle.lookup.specs.declared.packing.trials.Trial.TheVariants.{Apart, Joined
 
 module _ {F : Type 0} where
   -- what a closure answers to a lookup with these fields
-  abbrev pub Answers : (Lookup F → Result ℕ LookupError → Type 0) → Outline (SymbolicExpression F) → Result ℕ LookupError → Type 0
-  Answers returns o r = (lookup : Lookup F) × (fields_of lookup ≡ o) × HasEqualLengths lookup × returns lookup r
+  abbrev pub AnswersTrial : (Lookup F → Result ℕ LookupError → Type 0) → Outline (SymbolicExpression F) → Result ℕ LookupError → Type 0
+  AnswersTrial returns o r = (lookup : Lookup F) × (fields_of lookup ≡ o) × HasEqualLengths lookup × returns lookup r
 
   -- a well formed lookup without flags
   pub record IsMember (lookup : Lookup F) : Type 0 where

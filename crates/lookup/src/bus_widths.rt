@@ -6,7 +6,7 @@ ghost use Rattle.lookup_model.specs.LookupDegree.{greatest};
 ghost use Rattle.lookup_model.specs.Outline.{fields_of};
 ghost use Rattle.lookup.specs.BusWidths.{widths_of};
 ghost use Rattle.lookup.specs.Lookups.{lookups_of};
-ghost use Rattle.lookup.specs.NamedWidths.{AgreeOnWidths, IsFirstMismatch, IsMismatch, all_named_widths, named_widths, seen_widths};
+ghost use Rattle.lookup.specs.NamedWidths.{AgreeOnWidths, IsFirstWidthMismatch, IsWidthMismatch, all_named_widths, named_widths, seen_widths};
 
 use crate::lookups::Lookups;
 use crate::packing::by_bus;
@@ -26,7 +26,7 @@ pub fn check_bus_widths<F: Field>(alloc: Global, airs: &[Lookups<F>]) -> Result<
     ensures { let widths = all_named_widths (map
         (λ air. map fields_of (lookups_of air)) airs.now) in MatchResult result
         (λ widest. AgreeOnWidths widths × (widest ≡ greatest (map (λ w. w.1) widths)))
-        (λ e. (e ≡ LookupError.Memory) ⊎ IsFirstMismatch widths e) }
+        (λ e. (e ≡ LookupError.Memory) ⊎ IsFirstWidthMismatch widths e) }
 {
     let widths = widths_on_buses(alloc, airs)?;
     widest(alloc, widths.as_slice())
@@ -64,8 +64,8 @@ fn push_air<'a, F: Field>(
         ++ named_widths (map fields_of lookups.now)) }
 {
     let buses = by_bus(alloc, lookups)?;
-    for place in 0..buses.len() {
-        if let Some((name, members)) = buses.get_index(place) {
+    for index in 0..buses.len() {
+        if let Some((name, members)) = buses.get_index(index) {
             push_bus(widths, name, members)?;
         }
     }
@@ -111,12 +111,12 @@ fn widest(alloc: Global, widths: &[NamedWidth<'_>]) -> Result<usize, LookupError
     ensures { MatchResult result
         (λ widest. AgreeOnWidths (seen_widths widths.now)
         × (widest ≡ greatest (map (λ w. w.1) (seen_widths widths.now))))
-        (λ e. (e ≡ LookupError.Memory) ⊎ IsFirstMismatch (seen_widths widths.now) e) }
+        (λ e. (e ≡ LookupError.Memory) ⊎ IsFirstWidthMismatch (seen_widths widths.now) e) }
 {
     let mut firsts = IndexMap::new(alloc);
     let mut widest = 0;
-    for place in 0..widths.len() {
-        let named = widths[place];
+    for index in 0..widths.len() {
+        let named = widths[index];
         let first = value_at(&mut firsts, named.name, named.width)?;
         if first != named.width {
             return Err(mismatch(alloc, named.name, first, named.width));
@@ -141,7 +141,7 @@ fn value_at<K: Eq + Hash + Drop>(
 
 /// The refusal of a width that differs from the first one of its bus, or out of memory for its text.
 fn mismatch(alloc: Global, name: &str, expected: usize, actual: usize) -> LookupError
-    ensures { (result ≡ LookupError.Memory) ⊎ IsMismatch name.now expected actual result }
+    ensures { (result ≡ LookupError.Memory) ⊎ IsWidthMismatch name.now expected actual result }
 {
     match String::from_str(alloc, name) {
         Ok(bus) => LookupError::BusWidthMismatch {

@@ -163,7 +163,7 @@ fn with_exclusives<F: Field>(
 /// 1, 2, …
 ///
 /// Refuses the fault of the first local interaction that has one.
-pub(crate) fn extracted<F: Field>(
+pub(crate) fn extract_lookups<F: Field>(
     alloc: Global,
     locals: Vec<SymbolicLocalInteraction<F>>,
     globals: Vec<SymbolicInteraction<F>>,

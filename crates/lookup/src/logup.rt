@@ -1,10 +1,10 @@
 //! The LogUp gadget (eprint 2022/1530).
 ghost use Rattle.std.specs.Prelude.{◌≡◌, ◌<◌, ◌+◌, ◌*◌, ◌≤◌, ◌⊎◌, IfErr, length};
 ghost use Rattle.std.specs.Option.{ForSome, option_copied};
+ghost use Rattle.air.specs.Traces.{air_traces};
 ghost use Rattle.expressions.specs.Layout.{layout_of_traces};
-ghost use Rattle.lookup_generation.specs.Inverses.{ForInverses};
+ghost use Rattle.lookup_generation.specs.Inverses.{ForExtensions};
 ghost use Rattle.lookup_generation.specs.Progress.{HaveNoTuples, started_chunks};
-ghost use Rattle.field.specs.Extension.{extension};
 ghost use Rattle.lookup_model.specs.Generation.{AnswersGeneration};
 ghost use Rattle.lookup_model.specs.LookupDegree.{IsDegree, lookup_degree};
 ghost use Rattle.lookup_model.specs.Records.{HasEqualLengths, LookupsFit};
@@ -12,7 +12,7 @@ ghost use Rattle.lookup_model.specs.Terminals.{terminal_sum, terminal_value};
 ghost use Rattle.matrix.specs.Matrix.{height};
 
 use crate::protocol::LookupProtocol;
-use air::{AirBuilder, AirError, ExtensionBuilder, PermutationAirBuilder};
+use air::{AirBuilder, AirError, ExtensionBuilder, PermutationAirBuilder, Traces};
 use field::{ExtensionDomain, ExtensionField, Field, Inverter};
 use lookup_model::{Lookup, LookupError, LookupTerminal};
 use lookup_rows::LookupTraceBuilder;
@@ -79,10 +79,10 @@ impl LogUpGadget {
         requires fit { LookupsFit (layout_of_traces main.now
             (option_copied preprocessed) public_values.now) lookups.now }
         requires challenges { 2 * length lookups.now ≤ length challenges.now }
-        ensures answers { ForInverses EF.ring
-            (λ inverse. AnswersGeneration (extension F.ring F.eq EF.ring EF.eq EF.embed inverse)
-            main.now (option_copied preprocessed.entry) public_values.now lookups.now challenges.now
-            result) }
+        ensures answers { ForExtensions F.ring F.eq EF.ring EF.eq EF.embed (λ E.
+            AnswersGeneration E
+            (air_traces main.now (option_copied preprocessed.entry) public_values.now)
+            lookups.now challenges.now result) }
         ensures counted { I.count inverter.new
             ≤ I.count inverter.old + started_chunks (height main.now) }
         ensures spared { IfErr result (λ e. (e ≡ LookupError.Memory)
@@ -90,15 +90,12 @@ impl LogUpGadget {
         ensures nothing_sent { HaveNoTuples lookups.now
             → I.count inverter.new ≡ I.count inverter.old }
     {
-        lookup_generation::generate_counted(
-            alloc,
+        let traces = Traces {
             main,
             preprocessed,
             public_values,
-            lookups,
-            challenges,
-            inverter,
-        )
+        };
+        lookup_generation::generate_counted(alloc, &traces, lookups, challenges, inverter)
     }
 }
 
@@ -139,14 +136,12 @@ impl LookupProtocol for LogUpGadget {
         lookups: &[Lookup<F>],
         challenges: &[EF],
     ) -> Result<(RowMajorMatrix<EF>, Option<LookupTerminal<EF>>), LookupError> {
-        lookup_generation::generate_permutation(
-            alloc,
+        let traces = Traces {
             main,
             preprocessed,
             public_values,
-            lookups,
-            challenges,
-        )
+        };
+        lookup_generation::generate_permutation(alloc, &traces, lookups, challenges)
     }
 
     fn verify_terminal_sum<EF: Field>(

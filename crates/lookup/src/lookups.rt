@@ -32,7 +32,7 @@ impl<F: Field> Lookups<F> {
     ghost use Rattle.lookup.specs.Fewest.{AnswersDegree, HasFewestColumns};
     ghost use Rattle.lookup.specs.Kept.{KeepsSent};
     ghost use Rattle.lookup.specs.Packing.{Packs};
-    ghost use Rattle.lookup.specs.Trials.{Answers, IsBusTrial};
+    ghost use Rattle.lookup.specs.Trials.{AnswersTrial, IsBusTrial};
 
     /// The lookups that an AIR records in a new builder with its own layout: local ones, then those
     /// on buses, then groups, each in the order of their pushes, in the columns 0, 1, 2, …
@@ -58,7 +58,7 @@ impl<F: Field> Lookups<F> {
         let layout = AirLayout::from_air(air);
         let builder = InteractionSymbolicBuilder::from_air(alloc, air, layout)?;
         let (locals, globals, exclusives) = builder.into_interactions();
-        let lookups = extraction::extracted(alloc, locals, globals, exclusives)?;
+        let lookups = extraction::extract_lookups(alloc, locals, globals, exclusives)?;
         Ok(Lookups { lookups })
     }
 
@@ -79,7 +79,7 @@ impl<F: Field> Lookups<F> {
     }
 
     /// Fills the columns of each bus greedily, by the degree that the closure gives; see
-    /// [`packed`](crate::packing::packed).
+    /// [`pack_lookups`](crate::packing::pack_lookups).
     ///
     /// Local lookups and those with flags come first, in their order, then the buses in the order of
     /// their first other lookups. Refuses `TupleWidths` at the first bus with two widths, then what
@@ -97,13 +97,13 @@ impl<F: Field> Lookups<F> {
     ) -> Result<Self, LookupError>
         requires callable { (lookup : _) → IsBusTrial (map fields_of (lookups_of self)) lookup.now
             → D.pre degree lookup }
-        ensures packs { Packs (Answers (FnReturnsAt D.Fn degree)) max_degree
+        ensures packs { Packs (AnswersTrial (FnReturnsAt D.Fn degree)) max_degree
             (λ set. map fields_of (lookups_of set)) (map fields_of (lookups_of self)) result }
         ensures kept { IfOk result (λ set. KeepsSent F.ring F.eq (lookups_of self)
             (lookups_of set)) }
         ensures fits { IfOk result (λ set. StillFit (lookups_of self) (lookups_of set)) }
     {
-        let lookups = packing::packed(alloc, self.lookups, max_degree, degree)?;
+        let lookups = packing::pack_lookups(alloc, self.lookups, max_degree, degree)?;
         Ok(Lookups { lookups })
     }
 
@@ -127,7 +127,7 @@ impl<F: Field> Lookups<F> {
             (lookups_of set)) }
         ensures fits { IfOk result (λ set. StillFit (lookups_of self) (lookups_of set)) }
     {
-        let lookups = packing::packed_by_degree(alloc, self.lookups, max_degree)?;
+        let lookups = packing::pack_by_degree(alloc, self.lookups, max_degree)?;
         Ok(Lookups { lookups })
     }
 

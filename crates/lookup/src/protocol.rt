@@ -1,6 +1,7 @@
 //! The calls of a lookup argument.
 ghost use Rattle.std.specs.Prelude.{◌≡◌, ◌≢◌, ◌+◌, ◌*◌, ◌≤◌, ◌<◌, [], ◌∷◌, All, MatchResult, length};
 ghost use Rattle.std.specs.Option.{ForSome, option_copied};
+ghost use Rattle.air.specs.Traces.{air_traces};
 ghost use Rattle.expressions.specs.Layout.{layout_of_traces};
 ghost use Rattle.lookup_evaluation.specs.Asserted.{EvaluatesOn};
 ghost use Rattle.lookup_model.specs.Constraints.{accumulator_constraints, fraction_constraint, lookup_constraints};
@@ -175,9 +176,9 @@ pub trait LookupProtocol: Sized {
         requires fit { LookupsFit (layout_of_traces main.now
             (option_copied preprocessed) public_values.now) lookups.now }
         requires challenges { 2 * length lookups.now ≤ length challenges.now }
-        ensures { AnswersGeneration ⟦<EF as Over<F>>⟧.fields main.now
-            (option_copied preprocessed.entry) public_values.now lookups.now
-            challenges.now result };
+        ensures { AnswersGeneration ⟦<EF as Over<F>>⟧.fields
+            (air_traces main.now (option_copied preprocessed.entry) public_values.now)
+            lookups.now challenges.now result };
 
     /// Whether the terminals of all AIRs cancel.
     ///

@@ -11,13 +11,13 @@ use Rattle.expressions.specs.Window.{Window}
 use Rattle.expressions.specs.declared.base_expression.SymbolicExpression.{SymbolicExpression}
 use Rattle.lookup_model.proofs.Coefficients.{value_at-push}
 use Rattle.lookup_model.specs.Sent.{value, values}
-use Rattle.lookup_columns.specs.Columns.{denominator_at, denominator_column}
+use Rattle.lookup_columns.specs.Columns.{tuple_denominator_at, tuple_denominators}
 use Rattle.lookup_columns.proofs.ColumnLaws.{map_of_two}
 
 module _ {F K : Type 0} (R : Ring F) {S : Ring K} (laws : IsCommutativeRing S) (embed : F → K) (alpha beta : K) where
   -- one more element in front of a tuple
   pub denominator_front : (w : Window F) (e : SymbolicExpression F) (es : List (SymbolicExpression F))
-      → sub_in S (denominator_at R S embed alpha beta w es) (S.mul (power S beta (length es)) (embed (value R w e))) ≡ denominator_at R S embed alpha beta w (e ∷ es)
+      → sub_in S (tuple_denominator_at R S embed alpha beta w es) (S.mul (power S beta (length es)) (embed (value R w e))) ≡ tuple_denominator_at R S embed alpha beta w (e ∷ es)
   denominator_front w e es =
       let ys = map embed (values R w es) in
       let y = embed (value R w e) in
@@ -32,15 +32,15 @@ module _ {F K : Type 0} (R : Ring F) {S : Ring K} (laws : IsCommutativeRing S) (
   module _ (window : ℕ → Window F) (rows : List ℕ) where
     -- the same on some rows
     pub column_front : (e : SymbolicExpression F) (es : List (SymbolicExpression F)) {ds v : List K} {xs : List F}
-        → ds ≡ denominator_column R S embed window alpha beta rows es → xs ≡ map (λ r. value R (window r) e) rows
+        → ds ≡ tuple_denominators R S embed window alpha beta rows es → xs ≡ map (λ r. value R (window r) e) rows
         → v ≡ map (λ p. sub_in S p.0 (S.mul (power S beta (length es)) (embed p.1))) (zip ds xs)
-        → v ≡ denominator_column R S embed window alpha beta rows (e ∷ es)
+        → v ≡ tuple_denominators R S embed window alpha beta rows (e ∷ es)
     column_front e es d x w =
         map_of_two (λ (d : K) (x : F). sub_in S d (S.mul (power S beta (length es)) (embed x))) _ _ rows d x w
         ∙ (λ i. map (λ r. denominator_front (window r) e es i) rows)
 
     -- no element at all
-    pub column_of_none : {ds : List K} → ds ≡ map (λ _. alpha) rows → ds ≡ denominator_column R S embed window alpha beta rows []
+    pub column_of_none : {ds : List K} → ds ≡ map (λ _. alpha) rows → ds ≡ tuple_denominators R S embed window alpha beta rows []
     column_of_none d = d ∙ ap (λ a. map (λ _. a) rows) (ring_law laws (alpha ∷ []) (var 0) (var 0 :- con 0) refl)
 
   -- the next power of beta

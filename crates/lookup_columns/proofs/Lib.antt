@@ -1,7 +1,7 @@
 pub mod ChunkColumnLaws
 pub mod ColumnLaws
 pub mod LessenedLaws
-pub mod PlacedLaws
+pub mod SelectedRows
 pub mod SlotLaws
 pub mod SpareLaws
 pub mod StepLaws

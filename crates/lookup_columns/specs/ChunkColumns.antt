@@ -6,63 +6,63 @@ use Rattle.std.specs.declared.vec.Vec.{Vec}
 use Rattle.field.specs.Ring.{Ring}
 use Rattle.expressions.specs.Window.{Window}
 use Rattle.expressions.specs.declared.base_expression.SymbolicExpression.{SymbolicExpression}
-use Rattle.lookup_columns.specs.Columns.{denominator_of}
+use Rattle.lookup_columns.specs.Columns.{tuple_denominator_over}
 use Rattle.lookup_model.specs.Message.{Key, Message}
 use Rattle.lookup_model.specs.Sent.{branches_at, values}
 use Rattle.lookup_model.specs.declared.types.Lookup.{Lookup}
 use Rattle.lookup_columns.specs.declared.branches.BranchColumns.{BranchColumns}
 
--- Row r is the one at place i. It stands among the selected rows, at the place that is kept at i.
-pub record IsSelected (places selected : List ℕ) (i r : ℕ) : Type 0 where
+-- Row r is the one at index i. It stands among the selected rows, at the index that is kept at i.
+pub record IsSelected (indices selected : List ℕ) (i r : ℕ) : Type 0 where
   pub at : ℕ
-  pub there : slice_get places i ≡ Some at
+  pub there : slice_get indices i ≡ Some at
   pub selected_there : slice_get selected at ≡ Some r
 
 module _ {F K : Type 0} where
-  -- At this place, a column holds the multiplicity and the denominator of this message.
+  -- At this index, a column holds the multiplicity and the denominator of this message.
   abbrev pub IsHeld : (Key F → K) → ℕ → BranchColumns F K → Message F → Type 0
-  IsHeld denominator place c m =
-      (slice_get c.multiplicities.items place ≡ Some m.multiplicity) × (slice_get c.denominators.items place ≡ Some (denominator m.key))
+  IsHeld denominator index c m =
+      (slice_get c.multiplicities.items index ≡ Some m.multiplicity) × (slice_get c.denominators.items index ≡ Some (denominator m.key))
 
-  -- the denominator of a key whose id is a column, as `column_denominator` of an extension has it
-  abbrev pub key_denominator : Ring K → (F → K) → List K → Key F → K
-  key_denominator S embed challenges key =
-      denominator_of S embed (slice_index_or challenges (2 * key.id) S.zero) (slice_index_or challenges (2 * key.id + 1) S.zero) key.tuple
+  -- the denominator of a key whose id is a column, as `key_denominator` of an extension has it
+  abbrev pub key_denominator_over : Ring K → (F → K) → List K → Key F → K
+  key_denominator_over S embed challenges key =
+      tuple_denominator_over S embed (slice_index_or challenges (2 * key.id) S.zero) (slice_index_or challenges (2 * key.id + 1) S.zero) key.tuple
 
-  -- At this place, a column holds this flag.
+  -- At this index, a column holds this flag.
   abbrev pub HasFlag : ℕ → BranchColumns F K → F → Type 0
-  HasFlag place c f = slice_get c.flags.items place ≡ Some f
+  HasFlag index c f = slice_get c.flags.items index ≡ Some f
 
-  -- The place that is kept for the row at `place`, where the multiplicity and the denominator are
+  -- The index that is kept for the row at `index`, where the multiplicity and the denominator are
   -- those of this message.
-  pub record IsPlaced (denominator : Key F → K) (place : ℕ) (c : BranchColumns F K) (m : Message F) : Type 0 where
+  pub record IsHeldSelected (denominator : Key F → K) (index : ℕ) (c : BranchColumns F K) (m : Message F) : Type 0 where
     pub at : ℕ
-    pub there : slice_get c.places.items place ≡ Some at
+    pub there : slice_get c.indices.items index ≡ Some at
     pub held : IsHeld denominator at c m
 
-  -- A column holds the message, if its flag at this place is not zero.
+  -- A column holds the message, if its flag at this index is not zero.
   abbrev pub IsHeldIfSet : Ring F → (Key F → K) → ℕ → BranchColumns F K → Message F → Type 0
-  IsHeldIfSet R denominator place c m = (f : F) → HasFlag place c f → f ≢ R.zero → IsPlaced denominator place c m
+  IsHeldIfSet R denominator index c m = (f : F) → HasFlag index c f → f ≢ R.zero → IsHeldSelected denominator index c m
 
-  -- At this place, the columns hold these flags, and the messages whose flags are not zero.
-  pub record HoldSelected (R : Ring F) (denominator : Key F → K) (place : ℕ) (columns : List (BranchColumns F K)) (flags : List F) (messages : List (Message F)) : Type 0 where
-    pub flags_are : AllZip (HasFlag place) columns flags
-    pub held : AllZip (IsHeldIfSet R denominator place) columns messages
+  -- At this index, the columns hold these flags, and the messages whose flags are not zero.
+  pub record HoldSelected (R : Ring F) (denominator : Key F → K) (index : ℕ) (columns : List (BranchColumns F K)) (flags : List F) (messages : List (Message F)) : Type 0 where
+    pub flags_are : AllZip (HasFlag index) columns flags
+    pub held : AllZip (IsHeldIfSet R denominator index) columns messages
 
-  -- At this place, the columns hold what a lookup sends at a window.
-  pub record HoldLookup (R : Ring F) (S : Ring K) (embed : F → K) (challenges : List K) (w : Window F) (place : ℕ) (lookup : Lookup F) (columns : List (BranchColumns F K)) : Type 0 where
-    pub additive : lookup.flags ≡ None → AllZip (IsHeld (key_denominator S embed challenges) place) columns (branches_at R w lookup.column lookup)
-    pub exclusive : (flags : Vec (SymbolicExpression F) Global) → lookup.flags ≡ Some flags → HoldSelected R (key_denominator S embed challenges) place columns (values R w flags.items) (branches_at R w lookup.column lookup)
+  -- At this index, the columns hold what a lookup sends at a window.
+  pub record HoldLookup (R : Ring F) (S : Ring K) (embed : F → K) (challenges : List K) (w : Window F) (index : ℕ) (lookup : Lookup F) (columns : List (BranchColumns F K)) : Type 0 where
+    pub additive : lookup.flags ≡ None → AllZip (IsHeld (key_denominator_over S embed challenges) index) columns (branches_at R w lookup.column lookup)
+    pub exclusive : (flags : Vec (SymbolicExpression F) Global) → lookup.flags ≡ Some flags → HoldSelected R (key_denominator_over S embed challenges) index columns (values R w flags.items) (branches_at R w lookup.column lookup)
 
   -- the same for each lookup
   abbrev pub HoldLookups : Ring F → Ring K → (F → K) → List K → Window F → ℕ → List (Lookup F) → List (Vec (BranchColumns F K) Global) → Type 0
-  HoldLookups R S embed challenges w place =
-      AllZip (λ lookup columns. HoldLookup R S embed challenges w place lookup columns.items)
+  HoldLookups R S embed challenges w index =
+      AllZip (λ lookup columns. HoldLookup R S embed challenges w index lookup columns.items)
 
-  -- Place by place, the columns hold what a lookup sends on these rows.
+  -- Index by index, the columns hold what a lookup sends on these rows.
   abbrev pub AreColumns : Ring F → Ring K → (F → K) → List K → (ℕ → Window F) → List ℕ → Lookup F → List (BranchColumns F K) → Type 0
   AreColumns R S embed challenges window rows lookup columns =
-      (place r : ℕ) → slice_get rows place ≡ Some r → HoldLookup R S embed challenges (window r) place lookup columns
+      (index r : ℕ) → slice_get rows index ≡ Some r → HoldLookup R S embed challenges (window r) index lookup columns
 
   -- the same for each lookup
   abbrev pub AreLookupColumns : Ring F → Ring K → (F → K) → List K → (ℕ → Window F) → List ℕ → List (Lookup F) → List (Vec (BranchColumns F K) Global) → Type 0
@@ -73,6 +73,6 @@ module _ {F K : Type 0} where
 abbrev pub selected_rows : {F : Type 0} → Ring F → (F → F → Bool) → List F → List ℕ → List ℕ
 selected_rows R eq flags rows = map (λ p. p.1) (filter (λ p. not (eq p.0 R.zero)) (zip flags rows))
 
--- Each of these rows whose flag is not zero stands among the selected ones, at its place.
-pub record ArePlaced {F : Type 0} (R : Ring F) (flags : List F) (rows places selected : List ℕ) : Type 0 where
-  pub at : (i r : ℕ) (f : F) → slice_get rows i ≡ Some r → slice_get flags i ≡ Some f → f ≢ R.zero → IsSelected places selected i r
+-- Each of these rows whose flag is not zero stands among the selected ones, at its index.
+pub record AreSelected {F : Type 0} (R : Ring F) (flags : List F) (rows indices selected : List ℕ) : Type 0 where
+  pub at : (i r : ℕ) (f : F) → slice_get rows i ≡ Some r → slice_get flags i ≡ Some f → f ≢ R.zero → IsSelected indices selected i r

@@ -10,8 +10,8 @@ use Rattle.expressions.specs.declared.base_expression.SymbolicExpression.{Symbol
 use Rattle.lookup_model.specs.Sent.{values}
 
 -- the denominator of a tuple of these values: `alpha - t`, where t is the tuple combined by beta
-abbrev pub denominator_of : {F K : Type 0} → Ring K → (F → K) → K → K → List F → K
-denominator_of S embed alpha beta tuple = sub_in S alpha (combined S (map embed tuple) beta)
+abbrev pub tuple_denominator_over : {F K : Type 0} → Ring K → (F → K) → K → K → List F → K
+tuple_denominator_over S embed alpha beta tuple = sub_in S alpha (combined S (map embed tuple) beta)
 
 module _ {F : Type 0} (R : Ring F) where
   -- the values of a leaf on these rows
@@ -23,9 +23,9 @@ module _ {F : Type 0} (R : Ring F) where
   column window rows t = map (λ r. value_of R (window r) t) rows
 
   -- the denominator of a tuple at a window
-  abbrev pub denominator_at : {K : Type 0} → Ring K → (F → K) → K → K → Window F → List (SymbolicExpression F) → K
-  denominator_at S embed alpha beta w tuple = denominator_of S embed alpha beta (values R w tuple)
+  abbrev pub tuple_denominator_at : {K : Type 0} → Ring K → (F → K) → K → K → Window F → List (SymbolicExpression F) → K
+  tuple_denominator_at S embed alpha beta w tuple = tuple_denominator_over S embed alpha beta (values R w tuple)
 
   -- the denominators of a tuple on these rows
-  abbrev pub denominator_column : {K : Type 0} → Ring K → (F → K) → (ℕ → Window F) → K → K → List ℕ → List (SymbolicExpression F) → List K
-  denominator_column S embed window alpha beta rows tuple = map (λ r. denominator_at S embed alpha beta (window r) tuple) rows
+  abbrev pub tuple_denominators : {K : Type 0} → Ring K → (F → K) → (ℕ → Window F) → K → K → List ℕ → List (SymbolicExpression F) → List K
+  tuple_denominators S embed window alpha beta rows tuple = map (λ r. tuple_denominator_at S embed alpha beta (window r) tuple) rows

@@ -1,10 +1,10 @@
 //! The values of lookups on some rows, a column at a time.
 ghost use Rattle.std.specs.Prelude.{◌≡◌, ◌+◌, ◌*◌, ◌<◌, ℕ, All, IfOk, Some, length, slice_get};
 ghost use Rattle.std.specs.List.{AllZip};
-ghost use Rattle.lookup_columns.specs.ChunkColumns.{AreColumns, HoldSelected, IsHeld, key_denominator};
+ghost use Rattle.lookup_columns.specs.ChunkColumns.{AreColumns, HoldSelected, IsHeld, key_denominator_over};
 ghost use Rattle.lookup_columns.specs.LookupSteps.{AreLookupSteps};
 ghost use Rattle.lookup_columns.specs.Steps.{AreStepsOf};
-ghost use Rattle.lookup_columns.specs.Traces.{layout_of, height_of, window_of};
+ghost use Rattle.air.specs.Traces.{height_of, layout_of, traces_of, window_of};
 ghost use Rattle.lookup_model.specs.Message.{Message};
 ghost use Rattle.lookup_model.specs.Records.{AllFit, HasEqualLengths, IsWithin};
 ghost use Rattle.lookup_model.specs.Sent.{branches_at, values};
@@ -14,8 +14,7 @@ use crate::denominators::denominators_of;
 use crate::lookup_steps::LookupSteps;
 use crate::memory::ColumnMemory;
 use crate::rows::selected_rows;
-use crate::traces::Traces;
-use expressions::SymbolicExpression;
+use air::{SymbolicExpression, Traces};
 use field::{ExtensionDomain, Field};
 use lookup_model::Lookup;
 use std::alloc::{AllocError, Global};
@@ -25,9 +24,9 @@ use std::alloc::{AllocError, Global};
 pub struct BranchColumns<F, EF> {
     /// The flag of each row, in an exclusive lookup.
     pub flags: Vec<F>,
-    /// For each row whose flag is not zero, its place among these rows. What stands at the other rows
+    /// For each row whose flag is not zero, its index among these rows. What stands at the other rows
     /// has no meaning. Only in an exclusive lookup.
-    pub places: Vec<usize>,
+    pub indices: Vec<usize>,
     /// The multiplicities, of each row or of each row whose flag is not zero.
     pub multiplicities: Vec<F>,
     /// The denominators of the same rows.
@@ -42,23 +41,23 @@ fn branch_columns<F: Field, EF: ExtensionDomain<F>>(
     steps: &LookupSteps<F>,
     branch: usize,
     flags: Vec<F>,
-    places: Vec<usize>,
+    indices: Vec<usize>,
     traces: &Traces<'_, F>,
     challenges: &[EF],
     rows: &[usize],
 ) -> Result<BranchColumns<F, EF>, AllocError>
     requires steps { AreLookupSteps steps.now lookup.now }
     requires lengths { HasEqualLengths lookup.now }
-    requires within { IsWithin (layout_of traces.now) lookup.now }
+    requires within { IsWithin (layout_of (traces_of traces.now)) lookup.now }
     requires challenges { 2 * lookup.now.column + 1 < length challenges.now }
-    requires rows_exist { All (λ r. r < height_of traces.now) rows.now }
+    requires rows_exist { All (λ r. r < height_of (traces_of traces.now)) rows.now }
     requires branch_exists { branch < length lookup.now.elements.items }
-    ensures flags { IfOk result (λ v. (v.flags ≡ flags) × (v.places ≡ places)) }
-    ensures held { IfOk result (λ v. (place r : ℕ) (m : Message F)
-        → slice_get rows.now place ≡ Some r
-        → slice_get (branches_at F.ring (window_of traces.now r) lookup.now.column lookup.now)
-        branch ≡ Some m
-        → IsHeld (key_denominator EF.ring EF.embed challenges.now) place v m) }
+    ensures flags { IfOk result (λ v. (v.flags ≡ flags) × (v.indices ≡ indices)) }
+    ensures held { IfOk result (λ v. (index r : ℕ) (m : Message F)
+        → slice_get rows.now index ≡ Some r
+        → slice_get (branches_at F.ring (window_of (traces_of traces.now) r) lookup.now.column
+        lookup.now) branch ≡ Some m
+        → IsHeld (key_denominator_over EF.ring EF.embed challenges.now) index v m) }
 {
     let alpha = challenges[2 * lookup.column];
     let beta = challenges[2 * lookup.column + 1];
@@ -81,7 +80,7 @@ fn branch_columns<F: Field, EF: ExtensionDomain<F>>(
     )?;
     Ok(BranchColumns {
         flags,
-        places,
+        indices,
         multiplicities,
         denominators,
     })
@@ -99,12 +98,12 @@ fn additive_columns<F: Field, EF: ExtensionDomain<F>>(
 ) -> Result<Vec<BranchColumns<F, EF>>, AllocError>
     requires steps { AreLookupSteps steps.now lookup.now }
     requires lengths { HasEqualLengths lookup.now }
-    requires within { IsWithin (layout_of traces.now) lookup.now }
+    requires within { IsWithin (layout_of (traces_of traces.now)) lookup.now }
     requires challenges { 2 * lookup.now.column + 1 < length challenges.now }
-    requires rows_exist { All (λ r. r < height_of traces.now) rows.now }
-    ensures { IfOk result (λ v. (place r : ℕ) → slice_get rows.now place ≡ Some r
-        → AllZip (IsHeld (key_denominator EF.ring EF.embed challenges.now) place) v.items
-        (branches_at F.ring (window_of traces.now r) lookup.now.column lookup.now)) }
+    requires rows_exist { All (λ r. r < height_of (traces_of traces.now)) rows.now }
+    ensures { IfOk result (λ v. (index r : ℕ) → slice_get rows.now index ≡ Some r
+        → AllZip (IsHeld (key_denominator_over EF.ring EF.embed challenges.now) index) v.items
+        (branches_at F.ring (window_of (traces_of traces.now) r) lookup.now.column lookup.now)) }
 {
     let mut branches = Vec::with_capacity(alloc, lookup.elements.len())?;
     for branch in 0..lookup.elements.len() {
@@ -139,25 +138,25 @@ fn exclusive_columns<F: Field, EF: ExtensionDomain<F>>(
 ) -> Result<Vec<BranchColumns<F, EF>>, AllocError>
     requires steps { AreLookupSteps steps.now lookup.now }
     requires lengths { HasEqualLengths lookup.now }
-    requires within { IsWithin (layout_of traces.now) lookup.now }
+    requires within { IsWithin (layout_of (traces_of traces.now)) lookup.now }
     requires challenges { 2 * lookup.now.column + 1 < length challenges.now }
-    requires rows_exist { All (λ r. r < height_of traces.now) rows.now }
+    requires rows_exist { All (λ r. r < height_of (traces_of traces.now)) rows.now }
     requires flag_steps { AllZip AreStepsOf steps.now.flags.items flags.now }
     requires flag_number { length flags.now ≡ length lookup.now.elements.items }
-    requires flags_fit { AllFit (layout_of traces.now) flags.now }
-    ensures { IfOk result (λ v. (place r : ℕ) → slice_get rows.now place ≡ Some r
-        → let w = window_of traces.now r in
-        HoldSelected F.ring (key_denominator EF.ring EF.embed challenges.now) place v.items
+    requires flags_fit { AllFit (layout_of (traces_of traces.now)) flags.now }
+    ensures { IfOk result (λ v. (index r : ℕ) → slice_get rows.now index ≡ Some r
+        → let w = window_of (traces_of traces.now) r in
+        HoldSelected F.ring (key_denominator_over EF.ring EF.embed challenges.now) index v.items
         (values F.ring w flags.now) (branches_at F.ring w lookup.now.column lookup.now)) }
 {
     let mut branches = Vec::with_capacity(alloc, flags.len())?;
     for branch in 0..flags.len() {
         let column = column_of(alloc, &mut memory.slots, &steps.flags[branch], traces, rows)?;
-        let (places, selected) = selected_rows(alloc, &mut memory.places, &column, rows)?;
+        let (indices, selected) = selected_rows(alloc, &mut memory.indices, &column, rows)?;
         let columns = branch_columns(
-            alloc, memory, lookup, steps, branch, column, places, traces, challenges, &selected,
+            alloc, memory, lookup, steps, branch, column, indices, traces, challenges, &selected,
         )?;
-        memory.places.put(selected)?;
+        memory.indices.put(selected)?;
         branches.push(columns)?;
     }
     Ok(branches)
@@ -181,11 +180,11 @@ pub fn columns_of_lookup<F: Field, EF: ExtensionDomain<F>>(
 ) -> Result<Vec<BranchColumns<F, EF>>, AllocError>
     requires steps { AreLookupSteps steps.now lookup.now }
     requires lengths { HasEqualLengths lookup.now }
-    requires within { IsWithin (layout_of traces.now) lookup.now }
+    requires within { IsWithin (layout_of (traces_of traces.now)) lookup.now }
     requires challenges { 2 * lookup.now.column + 1 < length challenges.now }
-    requires rows_exist { All (λ r. r < height_of traces.now) rows.now }
+    requires rows_exist { All (λ r. r < height_of (traces_of traces.now)) rows.now }
     ensures { IfOk result (λ v. AreColumns F.ring EF.ring EF.embed challenges.now
-        (window_of traces.now) rows.now lookup.now v.items) }
+        (window_of (traces_of traces.now)) rows.now lookup.now v.items) }
 {
     match &lookup.flags {
         None => additive_columns(alloc, memory, lookup, steps, traces, challenges, rows),

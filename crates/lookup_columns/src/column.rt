@@ -8,13 +8,12 @@ ghost use Rattle.expressions.specs.Tree.{Tree};
 ghost use Rattle.lookup_columns.specs.Columns.{column, leaf_column};
 ghost use Rattle.lookup_columns.specs.Slots.{after, filled};
 ghost use Rattle.lookup_columns.specs.Steps.{StepFits, steps_in_order};
-ghost use Rattle.lookup_columns.specs.Traces.{layout_of, height_of, window_of};
+ghost use Rattle.air.specs.Traces.{height_of, layout_of, traces_of, window_of};
 ghost use Rattle.matrix.specs.Matrix.{height, row};
 
 use crate::slots::Slots;
 use crate::step::Step;
-use crate::traces::Traces;
-use expressions::{BaseEntry, BaseLeaf};
+use air::{BaseEntry, BaseLeaf, Traces};
 use field::{Domain, Field};
 use matrix::RowMajorMatrix;
 use std::alloc::{AllocError, Global};
@@ -147,10 +146,10 @@ fn push_leaf<F: Field>(
     traces: &Traces<'_, F>,
     rows: &[usize],
 ) -> Result<(), AllocError>
-    requires fits { LeafFits (layout_of traces.now) leaf }
-    requires rows_exist { All (λ r. r < height_of traces.now) rows.now }
+    requires fits { LeafFits (layout_of (traces_of traces.now)) leaf }
+    requires rows_exist { All (λ r. r < height_of (traces_of traces.now)) rows.now }
     ensures { OnOk result (to.new.items ≡ to.old.items
-        ++ leaf_column F.ring (window_of traces.now) rows.now leaf) }
+        ++ leaf_column F.ring (window_of (traces_of traces.now)) rows.now leaf) }
 {
     match leaf {
         BaseLeaf::Variable(variable) => {
@@ -224,10 +223,10 @@ fn work_out<F: Field>(
     traces: &Traces<'_, F>,
     rows: &[usize],
 ) -> Result<(), AllocError>
-    requires fits { StepFits (layout_of traces.now) step }
-    requires rows_exist { All (λ r. r < height_of traces.now) rows.now }
-    ensures { OnOk result (filled slots.new ≡ after F.ring (window_of traces.now) rows.now step
-        (filled slots.old)) }
+    requires fits { StepFits (layout_of (traces_of traces.now)) step }
+    requires rows_exist { All (λ r. r < height_of (traces_of traces.now)) rows.now }
+    ensures { OnOk result (filled slots.new ≡ after F.ring (window_of (traces_of traces.now))
+        rows.now step (filled slots.old)) }
 {
     let mut values = slots.take(alloc, rows.len())?;
     match step {
@@ -271,10 +270,10 @@ pub fn column_of<F: Field>(
     traces: &Traces<'_, F>,
     rows: &[usize],
 ) -> Result<Vec<F>, AllocError>
-    requires fits { All (StepFits (layout_of traces.now)) steps.now }
-    requires rows_exist { All (λ r. r < height_of traces.now) rows.now }
+    requires fits { All (StepFits (layout_of (traces_of traces.now))) steps.now }
+    requires rows_exist { All (λ r. r < height_of (traces_of traces.now)) rows.now }
     ensures { (tree : Tree F) → steps.now ≡ steps_in_order tree → IfOk result (λ v. v.items
-        ≡ column F.ring (window_of traces.now) rows.now tree) }
+        ≡ column F.ring (window_of (traces_of traces.now)) rows.now tree) }
 {
     slots.clear()?;
     for step in steps {

@@ -3,20 +3,20 @@ ghost use Rattle.std.specs.Prelude.{◌≡◌, ◌<◌, ◌++◌, All, IfOk, Lis
 ghost use Rattle.std.specs.List.{AllZip, zip};
 ghost use Rattle.field.specs.Ring.{sub_in};
 ghost use Rattle.expressions.specs.declared.base_expression.SymbolicExpression.{SymbolicExpression};
-ghost use Rattle.lookup_columns.specs.Columns.{denominator_column};
+ghost use Rattle.lookup_columns.specs.Columns.{tuple_denominators};
 ghost use Rattle.lookup_columns.specs.Steps.{AreStepsOf, StepsFit};
-ghost use Rattle.lookup_columns.specs.Traces.{layout_of, height_of, window_of};
+ghost use Rattle.air.specs.Traces.{height_of, layout_of, traces_of, window_of};
 
 use crate::column::{column_of, push_alike};
 use crate::slots::Slots;
-use crate::spare::Spare;
+use crate::spare::SpareLists;
 use crate::step::Step;
-use crate::traces::Traces;
+use air::Traces;
 use field::{Domain, ExtensionDomain, Field};
 use std::alloc::{AllocError, Global};
 
 /// Appends `e - power * x` for each element `e`, where `x` stands beside it in `column`.
-fn push_lessened<F: Field, EF: ExtensionDomain<F>>(
+fn push_minus_scaled<F: Field, EF: ExtensionDomain<F>>(
     to: &mut Vec<EF>,
     elements: &[EF],
     power: EF,
@@ -46,18 +46,18 @@ fn push_lessened<F: Field, EF: ExtensionDomain<F>>(
 pub fn denominators_of<F: Field, EF: ExtensionDomain<F>>(
     alloc: Global,
     slots: &mut Slots<F>,
-    spare: &mut Spare<EF>,
+    spare: &mut SpareLists<EF>,
     tuple: &[Vec<Step<F>>],
     traces: &Traces<'_, F>,
     rows: &[usize],
     alpha: EF,
     beta: EF,
 ) -> Result<Vec<EF>, AllocError>
-    requires fits { All (StepsFit (layout_of traces.now)) tuple.now }
-    requires rows_exist { All (λ r. r < height_of traces.now) rows.now }
+    requires fits { All (StepsFit (layout_of (traces_of traces.now))) tuple.now }
+    requires rows_exist { All (λ r. r < height_of (traces_of traces.now)) rows.now }
     ensures { (expressions : List (SymbolicExpression F)) → AllZip AreStepsOf tuple.now expressions
-        → IfOk result (λ v. v.items ≡ denominator_column F.ring EF.ring EF.embed
-        (window_of traces.now) alpha beta
+        → IfOk result (λ v. v.items ≡ tuple_denominators F.ring EF.ring EF.embed
+        (window_of (traces_of traces.now)) alpha beta
         rows.now expressions) }
 {
     let mut denominators = spare.take(alloc, rows.len())?;
@@ -68,7 +68,7 @@ pub fn denominators_of<F: Field, EF: ExtensionDomain<F>>(
         left -= 1;
         let column = column_of(alloc, slots, &tuple[left], traces, rows)?;
         let mut lessened = spare.take(alloc, rows.len())?;
-        push_lessened(&mut lessened, &denominators, power, &column)?;
+        push_minus_scaled(&mut lessened, &denominators, power, &column)?;
         slots.put(column)?;
         spare.put(denominators)?;
         denominators = lessened;

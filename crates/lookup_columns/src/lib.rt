@@ -15,7 +15,6 @@ mod rows;
 mod slots;
 mod spare;
 mod step;
-mod traces;
 
 pub use branches::{BranchColumns, columns_of_lookup};
 pub use column::{column_of, next_row};
@@ -24,6 +23,5 @@ pub use lookup_steps::{LookupSteps, steps_of_lookups};
 pub use memory::ColumnMemory;
 pub use rows::rows_between;
 pub use slots::Slots;
-pub use spare::Spare;
+pub use spare::SpareLists;
 pub use step::{Step, steps_of, steps_of_each};
-pub use traces::Traces;

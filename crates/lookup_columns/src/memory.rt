@@ -1,7 +1,7 @@
 //! The lists of columns, whose memory is used again for the next ones.
 use crate::branches::BranchColumns;
 use crate::slots::Slots;
-use crate::spare::Spare;
+use crate::spare::SpareLists;
 use std::alloc::{AllocError, Global};
 
 /// Lists that columns have filled, put away for the next ones.
@@ -9,10 +9,10 @@ use std::alloc::{AllocError, Global};
 pub struct ColumnMemory<F, EF> {
     /// For the values of expressions.
     pub(crate) slots: Slots<F>,
-    /// For rows, and for places of rows.
-    pub places: Spare<usize>,
+    /// For rows, and for indices of rows.
+    pub indices: SpareLists<usize>,
     /// For the denominators of a tuple.
-    pub(crate) denominators: Spare<EF>,
+    pub(crate) denominators: SpareLists<EF>,
 }
 
 impl<F: Drop, EF: Drop> ColumnMemory<F, EF> {
@@ -20,8 +20,8 @@ impl<F: Drop, EF: Drop> ColumnMemory<F, EF> {
     pub fn new(alloc: Global) -> ColumnMemory<F, EF> {
         ColumnMemory {
             slots: Slots::new(alloc),
-            places: Spare::new(alloc),
-            denominators: Spare::new(alloc),
+            indices: SpareLists::new(alloc),
+            denominators: SpareLists::new(alloc),
         }
     }
 
@@ -37,12 +37,12 @@ impl<F: Drop, EF: Drop> ColumnMemory<F, EF> {
     fn put_branch(&mut self, branch: BranchColumns<F, EF>) -> Result<(), AllocError> {
         let BranchColumns {
             flags,
-            places,
+            indices,
             multiplicities,
             denominators,
         } = branch;
         self.slots.put(flags)?;
-        self.places.put(places)?;
+        self.indices.put(indices)?;
         self.slots.put(multiplicities)?;
         self.denominators.put(denominators)
     }

@@ -1,16 +1,16 @@
 //! Lists of rows.
 ghost use Rattle.std.specs.Prelude.{◌≡◌, ◌-◌, ◌<◌, ◌≤◌, ℕ, All, IfOk, length};
 ghost use Rattle.std.specs.List.{range_with_len};
-ghost use Rattle.lookup_columns.specs.ChunkColumns.{ArePlaced, selected_rows};
+ghost use Rattle.lookup_columns.specs.ChunkColumns.{AreSelected, selected_rows};
 
-use crate::spare::Spare;
+use crate::spare::SpareLists;
 use field::{Domain, Field};
 use std::alloc::{AllocError, Global};
 
 /// The indices of the rows from `first` up to `end`. Fails only when out of memory.
 pub fn rows_between(
     alloc: Global,
-    spare: &mut Spare<usize>,
+    spare: &mut SpareLists<usize>,
     first: usize,
     end: usize,
 ) -> Result<Vec<usize>, AllocError>
@@ -24,28 +24,28 @@ pub fn rows_between(
     Ok(rows)
 }
 
-/// For each row whose flag is not zero its place among these rows, and then these rows. What stands at
-/// the place of another row has no meaning.
+/// For each row whose flag is not zero its index among these rows, and then these rows. What stands at
+/// the index of another row has no meaning.
 pub(crate) fn selected_rows<F: Field>(
     alloc: Global,
-    spare: &mut Spare<usize>,
+    spare: &mut SpareLists<usize>,
     flags: &[F],
     rows: &[usize],
 ) -> Result<(Vec<usize>, Vec<usize>), AllocError>
     requires { length flags.now ≡ length rows.now }
     ensures selected { IfOk result (λ v. v.1.items
         ≡ selected_rows F.ring F.eq flags.now rows.now) }
-    ensures places { IfOk result (λ v. ArePlaced F.ring flags.now rows.now v.0.items v.1.items) }
+    ensures indices { IfOk result (λ v. AreSelected F.ring flags.now rows.now v.0.items v.1.items) }
     ensures rows_exist { (n : ℕ) → All (λ r. r < n) rows.now
         → IfOk result (λ v. All (λ r. r < n) v.1.items) }
 {
-    let mut places = spare.take(alloc, rows.len())?;
+    let mut indices = spare.take(alloc, rows.len())?;
     let mut selected = spare.take(alloc, rows.len())?;
     for i in 0..rows.len() {
-        places.push(selected.len())?;
+        indices.push(selected.len())?;
         if !flags[i].is_zero() {
             selected.push(rows[i])?;
         }
     }
-    Ok((places, selected))
+    Ok((indices, selected))
 }

@@ -2,14 +2,14 @@
 ghost use Rattle.std.specs.Prelude.{◌≡◌, ◌<◌, ◌∷◌, [], IfErr, IfOk, OnOk, drop, max, slice_index_or, vec_capacity};
 ghost use Rattle.lookup_columns.specs.Slots.{filled, last_of, spare_rooms, without_last};
 
-use crate::spare::Spare;
+use crate::spare::SpareLists;
 use std::alloc::{AllocError, Global};
 
 /// Slots for lists, and lists that are put away, whose memory is used again.
 #[derive(Drop)]
 pub struct Slots<F> {
     lists: Vec<Vec<F>>,
-    spare: Spare<F>,
+    spare: SpareLists<F>,
 }
 
 impl<F: Drop> Slots<F> {
@@ -20,7 +20,7 @@ impl<F: Drop> Slots<F> {
     {
         Slots {
             lists: Vec::new(alloc),
-            spare: Spare::new(alloc),
+            spare: SpareLists::new(alloc),
         }
     }
 
@@ -67,8 +67,8 @@ impl<F: Drop> Slots<F> {
         (first, last)
     }
 
-    /// An empty list with room for this many items, as `Spare::take` finds one. Fails only when out of
-    /// memory.
+    /// An empty list with room for this many items, as `SpareLists::take` finds one. Fails only when
+    /// out of memory.
     pub(crate) fn take(&mut self, alloc: Global, room: usize) -> Result<Vec<F>, AllocError>
         ensures empty { IfOk result (λ list. list.items ≡ []) }
         ensures used_again { IfOk result (λ list. vec_capacity list

@@ -1,21 +1,21 @@
 //! Lists whose memory is used again.
 ghost use Rattle.std.specs.Prelude.{◌≡◌, ◌<◌, ◌∷◌, [], IfErr, IfOk, OnOk, drop, max, slice_index_or, vec_capacity};
-ghost use Rattle.lookup_columns.specs.Spare.{rooms};
+ghost use Rattle.lookup_columns.specs.SpareLists.{rooms};
 
 use std::alloc::{AllocError, Global};
 
 /// Lists that are not in use. Their memory is kept for the next ones.
 #[derive(Drop)]
-pub struct Spare<T> {
+pub struct SpareLists<T> {
     lists: Vec<Vec<T>>,
 }
 
-impl<T: Drop> Spare<T> {
+impl<T: Drop> SpareLists<T> {
     /// No lists.
-    pub fn new(alloc: Global) -> Spare<T>
+    pub fn new(alloc: Global) -> SpareLists<T>
         ensures { rooms result ≡ [] }
     {
-        Spare {
+        SpareLists {
             lists: Vec::new(alloc),
         }
     }

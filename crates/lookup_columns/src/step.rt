@@ -7,7 +7,7 @@ ghost use Rattle.expressions.specs.declared.layout.AirLayout.{AirLayout};
 ghost use Rattle.lookup_columns.specs.Steps.{AreStepsOf, StepsFit, steps_in_order};
 ghost use Rattle.lookup_model.specs.Records.{AllFit};
 
-use expressions::{BaseLeaf, SymbolicExpression};
+use air::{BaseLeaf, SymbolicExpression};
 use field::Field;
 use std::alloc::{AllocError, Global};
 

@@ -9,7 +9,8 @@ use Rattle.std.specs.List.{flat_map, range_with_len}
 use Rattle.std.specs.Option.{ForSome, option_map}
 use Rattle.std.specs.declared.alloc.Global.{Global}
 use Rattle.std.specs.declared.vec.Vec.{Vec}
-use Rattle.expressions.specs.Window.{Window, window_at}
+use Rattle.air.specs.Traces.{window_of}
+use Rattle.expressions.specs.Window.{Window}
 use Rattle.expressions.specs.declared.base_expression.SymbolicExpression.{SymbolicExpression}
 use Rattle.field.specs.Ring.{Ring}
 use Rattle.lookup_model.proofs.Branches.{length-branches_at, length-zipped, mapped_at, zipped_at, zipped_more}
@@ -17,12 +18,11 @@ use Rattle.lookup_model.specs.Message.{Message}
 use Rattle.lookup_model.specs.Records.{HasEqualLengths}
 use Rattle.lookup_model.specs.Sent.{branch_at, branches_at, flags_at, value, values}
 use Rattle.lookup_model.specs.declared.types.Lookup.{Lookup}
-use Rattle.matrix.specs.Matrix.{height}
 use Rattle.lookup_debug.specs.Appended.{Appends}
-use Rattle.lookup_debug.specs.Contributions.{Contribution, Place, Traced, amounts, contributions_at, contributions_from, contributions_on, nonzero}
+use Rattle.lookup_debug.specs.Contributions.{Contribution, SentLocation, Traced, amounts, contributions_at, contributions_from, contributions_on, nonzero}
 use Rattle.lookup_debug.specs.Walks.{IsWalk}
 use Rattle.lookup_debug.specs.declared.arena.Contributions.{Contributions}
-use Rattle.lookup_debug.proofs.CutLaws.{appends-more}
+use Rattle.lookup_debug.proofs.SpanLaws.{appends-more}
 
 -- the values of one more element of a tuple
 pub values_step : {F : Type 0} (R : Ring F) (w : Window F) (es : List (SymbolicExpression F)) (i : ℕ) (e : SymbolicExpression F) (v : F) (before now after : List F)
@@ -35,21 +35,21 @@ values_step R w es i e v before now after lt is v_is so_far this =
     ∙ append_assoc before (values R w (take i es)) (value R w e ∷ [])
     ∙ ap (λ t. before ++ t) (sym (map_more (value R w) es i e lt ∙ ap (λ x. values R w (take i es) ++ value R w x ∷ []) (sym is)))
 
-module _ {F : Type 0} (R : Ring F) (eq : F → F → Bool) (place : Place) where
+module _ {F : Type 0} (R : Ring F) (eq : F → F → Bool) (location : SentLocation) where
   -- one more branch with its amount
   from_more : (branches : List (Message F)) (sizes : List F) → length sizes ≡ length branches
       → (i : ℕ) (m : Message F) (a : F) → i < length branches → m ≡ get_or branches i m
       → a ≡ get_or sizes i a
-      → nonzero R eq (take (i + 1) (contributions_from place branches sizes)) ≡ nonzero R eq (take i (contributions_from place branches sizes)) ++ nonzero R eq (record { tuple = m.key.tuple; amount = a; place = place } ∷ [])
+      → nonzero R eq (take (i + 1) (contributions_from location branches sizes)) ≡ nonzero R eq (take i (contributions_from location branches sizes)) ++ nonzero R eq (record { tuple = m.key.tuple; amount = a; location = location } ∷ [])
   from_more branches sizes same i m a lt m_is a_is =
-      let all = contributions_from place branches sizes in
-      ap (nonzero R eq) (zipped_more (λ (b : Message F × F). record { tuple = b.0.key.tuple; amount = b.1; place = place }) branches sizes same i m a lt m_is a_is)
-      ∙ filter-append (λ (c : Contribution F). not (eq c.amount R.zero)) (take i all) (record { tuple = m.key.tuple; amount = a; place = place } ∷ [])
+      let all = contributions_from location branches sizes in
+      ap (nonzero R eq) (zipped_more (λ (b : Message F × F). record { tuple = b.0.key.tuple; amount = b.1; location = location }) branches sizes same i m a lt m_is a_is)
+      ∙ filter-append (λ (c : Contribution F). not (eq c.amount R.zero)) (take i all) (record { tuple = m.key.tuple; amount = a; location = location } ∷ [])
 
   -- there are as many contributions as branches
   length-from : (branches : List (Message F)) (sizes : List F) → length sizes ≡ length branches
-      → length (contributions_from place branches sizes) ≡ length branches
-  length-from branches sizes same = length-zipped (λ (b : Message F × F). record { tuple = b.0.key.tuple; amount = b.1; place = place }) branches sizes same
+      → length (contributions_from location branches sizes) ≡ length branches
+  length-from branches sizes same = length-zipped (λ (b : Message F × F). record { tuple = b.0.key.tuple; amount = b.1; location = location }) branches sizes same
 
   module _ (w : Window F) (lookup : Lookup F) (lengths : HasEqualLengths lookup) where
     abbrev branches : List (Message F)
@@ -83,7 +83,7 @@ module _ {F : Type 0} (R : Ring F) (eq : F → F → Bool) (place : Place) where
         by_flags None h = as_many_counts
         by_flags (Some fs) h = as_many_flagged fs.items (h fs refl)
 
-    pub length-sized : length (contributions_from place branches sizes) ≡ length lookup.elements.items
+    pub length-sized : length (contributions_from location branches sizes) ≡ length lookup.elements.items
     length-sized = length-from branches sizes as_many_sizes ∙ length-branches_at R w 0 lookup lengths
 
     module _ (i : ℕ) (tuple : Vec (SymbolicExpression F) Global) (multiplicity : SymbolicExpression F) (lt : i < length lookup.elements.items) (tuple_is : tuple ≡ get_or lookup.elements.items i tuple) (multiplicity_is : multiplicity ≡ get_or lookup.multiplicities.items i multiplicity) where
@@ -106,7 +106,7 @@ module _ {F : Type 0} (R : Ring F) (eq : F → F → Bool) (place : Place) where
     -- one more branch with its amount
     pub sized_more : (i : ℕ) (tuple : Vec (SymbolicExpression F) Global) → i < length lookup.elements.items → tuple ≡ get_or lookup.elements.items i tuple
         → (amount : F) → slice_get sizes i ≡ Some amount
-        → nonzero R eq (take (i + 1) (contributions_from place branches sizes)) ≡ nonzero R eq (take i (contributions_from place branches sizes)) ++ nonzero R eq (record { tuple = values R w tuple.items; amount = amount; place = place } ∷ [])
+        → nonzero R eq (take (i + 1) (contributions_from location branches sizes)) ≡ nonzero R eq (take i (contributions_from location branches sizes)) ++ nonzero R eq (record { tuple = values R w tuple.items; amount = amount; location = location } ∷ [])
     sized_more i tuple lt tuple_is amount there = elim (slice_get_cases lookup.multiplicities.items i).1 [
       | inl m ↦
           from_more branches sizes as_many_sizes i (branch i tuple m.0 lt tuple_is (sym m.3)) amount (within i tuple m.0 lt tuple_is (sym m.3)) (branch_is i tuple m.0 lt tuple_is (sym m.3)) (sym (get_or_from_slice_get sizes i amount amount there))
@@ -117,13 +117,13 @@ module _ {F : Type 0} (R : Ring F) (eq : F → F → Bool) (place : Place) where
     pub sized_step : (i : ℕ) (tuple : Vec (SymbolicExpression F) Global) → i < length lookup.elements.items → tuple ≡ get_or lookup.elements.items i tuple
         → (amount : F) → slice_get sizes i ≡ Some amount
         → (before now after : Contributions F) (es : List (SymbolicExpression F)) → es ≡ tuple.items
-        → Appends before now (nonzero R eq (take i (contributions_from place branches sizes)))
-        → Appends now after (nonzero R eq (record { tuple = values R w es; amount = amount; place = place } ∷ []))
-        → Appends before after (nonzero R eq (take (i + 1) (contributions_from place branches sizes)))
+        → Appends before now (nonzero R eq (take i (contributions_from location branches sizes)))
+        → Appends now after (nonzero R eq (record { tuple = values R w es; amount = amount; location = location } ∷ []))
+        → Appends before after (nonzero R eq (take (i + 1) (contributions_from location branches sizes)))
     sized_step i tuple lt tuple_is amount there before now after es es_are so_far this =
-        let front = nonzero R eq (take i (contributions_from place branches sizes)) in
-        subst (Appends before after) ((λ k. front ++ nonzero R eq (record { tuple = values R w (es_are k); amount = amount; place = place } ∷ [])) ∙ sym (sized_more i tuple lt tuple_is amount there))
-        (appends-more before now after front (nonzero R eq (record { tuple = values R w es; amount = amount; place = place } ∷ [])) so_far this)
+        let front = nonzero R eq (take i (contributions_from location branches sizes)) in
+        subst (Appends before after) ((λ k. front ++ nonzero R eq (record { tuple = values R w (es_are k); amount = amount; location = location } ∷ [])) ∙ sym (sized_more i tuple lt tuple_is amount there))
+        (appends-more before now after front (nonzero R eq (record { tuple = values R w es; amount = amount; location = location } ∷ [])) so_far this)
 
     module _ (i : ℕ) (multiplicity : SymbolicExpression F) (lt : i < length lookup.elements.items) (multiplicity_is : multiplicity ≡ get_or lookup.multiplicities.items i multiplicity) where
       -- without flags the amount of a branch is its multiplicity
@@ -160,14 +160,14 @@ rows_more f n = ap (flat_map f) (range_more 0 n n (omega arith)) ∙ flat_map-ap
     range_more a n j is = sym (map-id (range_with_len a (n + 1))) ∙ map-range_with_len_more (λ k. k) a n j is ∙ ap (λ t. t ++ j ∷ []) (map-id (range_with_len a n))
 
 -- One more row, which is that of this window.
-pub row_step : {F A : Type 0} {Ready : A → Type 0} {Does : A → A → List (Contribution F) → Type 0} (walk : IsWalk Ready Does) (R : Ring F) (eq : F → F → Bool) (instance place : ℕ) (t : Traced F) (lookup : Lookup F) (row : ℕ)
+pub row_step : {F A : Type 0} {Ready : A → Type 0} {Does : A → A → List (Contribution F) → Type 0} (walk : IsWalk Ready Does) (R : Ring F) (eq : F → F → Bool) (instance index : ℕ) (t : Traced F) (lookup : Lookup F) (row : ℕ)
     (before now after : A) (w : Window F)
-    → w ≡ window_at t.main t.preprocessed t.public_values (height t.main) row
-    → Does before now (flat_map (contributions_on R eq instance place t lookup) (range_with_len 0 row))
-    → Does now after (contributions_at R eq (record { instance = instance; lookup = place; row = row }) w lookup)
-    → Does before after (flat_map (contributions_on R eq instance place t lookup) (range_with_len 0 (row + 1)))
-row_step {Does = Does} walk R eq instance place t lookup row before now after w w_is so_far this =
-    let f = contributions_on R eq instance place t lookup in
-    let here = contributions_at R eq (record { instance = instance; lookup = place; row = row }) w lookup in
-    subst (Does before after) (ap (λ v. flat_map f (range_with_len 0 row) ++ contributions_at R eq (record { instance = instance; lookup = place; row = row }) v lookup) w_is ∙ sym (rows_more f row))
+    → w ≡ window_of t.traces row
+    → Does before now (flat_map (contributions_on R eq instance index t lookup) (range_with_len 0 row))
+    → Does now after (contributions_at R eq (record { instance = instance; lookup = index; row = row }) w lookup)
+    → Does before after (flat_map (contributions_on R eq instance index t lookup) (range_with_len 0 (row + 1)))
+row_step {Does = Does} walk R eq instance index t lookup row before now after w w_is so_far this =
+    let f = contributions_on R eq instance index t lookup in
+    let here = contributions_at R eq (record { instance = instance; lookup = index; row = row }) w lookup in
+    subst (Does before after) (ap (λ v. flat_map f (range_with_len 0 row) ++ contributions_at R eq (record { instance = instance; lookup = index; row = row }) v lookup) w_is ∙ sym (rows_more f row))
     (walk.joins before now after (flat_map f (range_with_len 0 row)) here so_far this)

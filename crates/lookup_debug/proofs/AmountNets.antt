@@ -11,7 +11,7 @@ use Rattle.field.specs.Sums.{sum_in}
 use Rattle.lookup_model.specs.Net.{first_seen}
 use Rattle.lookup_model.proofs.Lookups.Regrouping.{IsSeparate, first_seen_separate}
 use Rattle.lookup_rows.proofs.NetEntries.{entries-push, net-lookup, net-none, net_in, turned}
-use Rattle.lookup_debug.specs.Appended.{placeless}
+use Rattle.lookup_debug.specs.Appended.{without_location}
 use Rattle.lookup_debug.specs.Contributions.{Contribution}
 use Rattle.lookup_debug.specs.Mismatch.{net_amount}
 use Rattle.lookup_debug.specs.Nets.{amount_nets}
@@ -21,22 +21,22 @@ abbrev pub tuple_nets : {F : Type 0} → Ring F → (F → F → Bool) → List 
 tuple_nets R eq cs = map (λ tuple. (tuple, net_amount R eq cs tuple)) (first_seen (pointwise eq) (map (λ c. c.tuple) cs))
 
 module _ {F : Type 0} where
-  tuples_placeless : (cs : List (Contribution F)) → map (λ a. a.0) (map placeless cs) ≡ map (λ c. c.tuple) cs
-  tuples_placeless [] = refl
-  tuples_placeless (c ∷ cs) = ap (λ t. c.tuple ∷ t) (tuples_placeless cs)
+  tuples_without_location : (cs : List (Contribution F)) → map (λ a. a.0) (map without_location cs) ≡ map (λ c. c.tuple) cs
+  tuples_without_location [] = refl
+  tuples_without_location (c ∷ cs) = ap (λ t. c.tuple ∷ t) (tuples_without_location cs)
 
   -- the amounts of the tuples that pass a test
-  amounts_placeless : (p : List F → Bool) (cs : List (Contribution F)) → map (λ a. a.1) (filter (λ a. p a.0) (map placeless cs)) ≡ map (λ c. c.amount) (filter (λ c. p c.tuple) cs)
-  amounts_placeless p [] = refl
-  amounts_placeless p (c ∷ cs) = by_test (p c.tuple) (amounts_placeless p cs)
+  amounts_without_location : (p : List F → Bool) (cs : List (Contribution F)) → map (λ a. a.1) (filter (λ a. p a.0) (map without_location cs)) ≡ map (λ c. c.amount) (filter (λ c. p c.tuple) cs)
+  amounts_without_location p [] = refl
+  amounts_without_location p (c ∷ cs) = by_test (p c.tuple) (amounts_without_location p cs)
     where
       rest : List (List F × F)
-      rest = filter (λ a. p a.0) (map placeless cs)
+      rest = filter (λ a. p a.0) (map without_location cs)
 
       kept : List (Contribution F)
       kept = filter (λ d. p d.tuple) cs
 
-      by_test : (b : Bool) → map (λ a. a.1) rest ≡ map (λ d. d.amount) kept → map (λ a. a.1) (cond b (placeless c ∷ rest) rest) ≡ map (λ d. d.amount) (cond b (c ∷ kept) kept)
+      by_test : (b : Bool) → map (λ a. a.1) rest ≡ map (λ d. d.amount) kept → map (λ a. a.1) (cond b (without_location c ∷ rest) rest) ≡ map (λ d. d.amount) (cond b (c ∷ kept) kept)
       by_test true e = ap (λ t. c.amount ∷ t) e
       by_test false e = e
 
@@ -50,10 +50,10 @@ module _ {F : Type 0} {R : Ring F} (laws : IsCommutativeRing R) (eq : F → F �
   abbrev net_of : List (List F × F) → List F → F
   net_of = net_in same decides laws (λ a. a.0) (λ a. a.1)
 
-  -- the places of contributions play no part in their nets
-  pub nets_placeless : (cs : List (Contribution F)) → amount_nets R eq (map placeless cs) ≡ tuple_nets R eq cs
-  nets_placeless cs =
-      λ i. map (λ tuple. (tuple, sum_in R (amounts_placeless (same tuple) cs i))) (first_seen same (tuples_placeless cs i))
+  -- the locations of contributions play no part in their nets
+  pub nets_without_location : (cs : List (Contribution F)) → amount_nets R eq (map without_location cs) ≡ tuple_nets R eq cs
+  nets_without_location cs =
+      λ i. map (λ tuple. (tuple, sum_in R (amounts_without_location (same tuple) cs i))) (first_seen same (tuples_without_location cs i))
 
   -- lists with the same nets have the same nets after one more tuple
   nets_push : (ts bs : List (List F × F)) (x : List F × F) → amount_nets R eq ts ≡ amount_nets R eq bs → amount_nets R eq (ts ++ x ∷ []) ≡ amount_nets R eq (bs ++ x ∷ [])
@@ -75,12 +75,12 @@ module _ {F : Type 0} {R : Ring F} (laws : IsCommutativeRing R) (eq : F → F �
       ∙ ap (amount_nets R eq) (append_assoc bs (x ∷ []) xs)
 
   -- a list with the nets of some contributions has those of more of them, once these are appended
-  pub nets_go_on : (before list : List (List F × F)) (cs more : List (Contribution F)) → amount_nets R eq before ≡ amount_nets R eq (map placeless cs) → list ≡ before ++ map placeless more
-      → amount_nets R eq list ≡ amount_nets R eq (map placeless (cs ++ more))
+  pub nets_go_on : (before list : List (List F × F)) (cs more : List (Contribution F)) → amount_nets R eq before ≡ amount_nets R eq (map without_location cs) → list ≡ before ++ map without_location more
+      → amount_nets R eq list ≡ amount_nets R eq (map without_location (cs ++ more))
   nets_go_on before list cs more e is =
       ap (amount_nets R eq) is
-      ∙ nets_more before (map placeless cs) (map placeless more) e
-      ∙ ap (amount_nets R eq) (sym (map-append placeless cs more))
+      ∙ nets_more before (map without_location cs) (map without_location more) e
+      ∙ ap (amount_nets R eq) (sym (map-append without_location cs more))
 
   -- items that are separate are each seen once
   seen_apart : (k : List F) (ks : List (List F)) → AllByRecursion (λ y. same k y ≡ false) ks → filter (λ y. not (same k y)) ks ≡ ks

@@ -9,13 +9,13 @@ use Rattle.field.specs.Ring.{Ring, IsCommutativeRing}
 use Rattle.lookup_model.specs.Net.{first_seen}
 use Rattle.lookup_debug.specs.Contributions.{Contribution}
 use Rattle.lookup_debug.specs.Mismatch.{Precedes, IsFirst, net_amount, text_cmp}
-use Rattle.lookup_debug.specs.Nets.{IsFirstPlace, tuple_entries}
+use Rattle.lookup_debug.specs.Nets.{IsFirstIndex, tuple_entries}
 use Rattle.lookup_debug.proofs.AmountNets.{tuple_nets}
 use Rattle.lookup_debug.proofs.LeastSteps.{some_is, three_ways}
 use Rattle.lookup_rows.proofs.NetEntries.{any-first_seen, net-none}
 use Rattle.lookup_debug.proofs.SeenOrder.{seen_before}
 
--- what a mapped list has at a place
+-- what a mapped list has at an index
 at_map : {X Y : Type 0} (f : X → Y) (xs : List X) (i : ℕ) (x : X) → slice_get xs i ≡ Some x → slice_get (map f xs) i ≡ Some (f x)
 at_map f xs i x e = slice_get-map f xs i ∙ ap (option_map f) e
 
@@ -25,7 +25,7 @@ from_map f [] i y e = absurd (true≢false (sym (ap is_some e)))
 from_map f (x ∷ xs) zero y e = (x, refl, some_is (f x) y e)
 from_map f (x ∷ xs) (suc i) y e = from_map f xs i y e
 
--- the place of an item that is among some
+-- the index of an item that is among some
 any_at : {A : Type 0} (same : A → A → Bool) (decides : (a b : A) → Decides (same a b) (a ≡ b)) (b : A) (ks : List A) → list_any (λ y. same y b) ks ≡ true → (j : ℕ) × (slice_get ks j ≡ Some b)
 any_at same decides b [] e = absurd (true≢false (sym e))
 any_at same decides b (k ∷ ks) e = by_test (same k b) refl (any_at same decides b ks)
@@ -60,7 +60,7 @@ module _ {F : Type 0} {R : Ring F} (laws : IsCommutativeRing R) (eq : F → F �
 
   -- the least is first, and its entry has its net
   pub first_of_least : (es : List (Bor (List F) × F)) (cs : List (Contribution F)) (i : ℕ) → tuple_entries es ≡ tuple_nets R eq cs
-      → (least : IsFirstPlace R eq text es (length es) (Some i)) → IsFirst R eq text cs least.entry.0.now × (least.entry.1 ≡ net_amount R eq cs least.entry.0.now)
+      → (least : IsFirstIndex R eq text es (length es) (Some i)) → IsFirst R eq text cs least.entry.0.now × (least.entry.1 ≡ net_amount R eq cs least.entry.0.now)
   first_of_least es cs i is least =
       let ks = seen cs in
       let net = net_amount R eq cs in
@@ -82,16 +82,16 @@ module _ {F : Type 0} {R : Ring F} (laws : IsCommutativeRing R) (eq : F → F �
       by_order other sooner Equal e ne = inr (e, sooner)
       by_order other sooner Greater e ne = absurd (ne refl)
 
-      by_place : slice_get (seen cs) i ≡ Some least.entry.0.now → (other : List F) → net_amount R eq cs other ≢ R.zero → other ≢ least.entry.0.now
+      by_index : slice_get (seen cs) i ≡ Some least.entry.0.now → (other : List F) → net_amount R eq cs other ≢ R.zero → other ≢ least.entry.0.now
           → (j : ℕ) → slice_get (seen cs) j ≡ Some other → (j < i) ⊎ ((j ≡ i) ⊎ (i < j))
           → IsBefore cs least.entry.0.now other
-      by_place own other ne apart j there (inr (inl same)) =
+      by_index own other ne apart j there (inr (inl same)) =
           absurd (apart (some_is other least.entry.0.now (sym there ∙ ap (slice_get (seen cs)) same ∙ own)))
-      by_place own other ne apart j there (inl sooner) =
+      by_index own other ne apart j there (inl sooner) =
           let found = from_map (λ (e : Bor (List F) × F). (e.0.now, e.1)) es j (other, net_amount R eq cs other) (ap (λ t. slice_get t j) is ∙ at_map (λ k. (k, net_amount R eq cs k)) (seen cs) j other there) in
           let passing = nonzero_is found.0.1 (λ z. ne (sym (ap (λ (p : List F × F). p.1) found.2) ∙ z)) in
           inl (ap (text_cmp text least.entry.0.now) (sym (ap (λ (p : List F × F). p.0) found.2)) ∙ least.before j found.0 sooner found.1 passing)
-      by_place own other ne apart j there (inr (inr later)) =
+      by_index own other ne apart j there (inr (inr later)) =
           let found = from_map (λ (e : Bor (List F) × F). (e.0.now, e.1)) es j (other, net_amount R eq cs other) (ap (λ t. slice_get t j) is ∙ at_map (λ k. (k, net_amount R eq cs k)) (seen cs) j other there) in
           let passing = nonzero_is found.0.1 (λ z. ne (sym (ap (λ (p : List F × F). p.1) found.2) ∙ z)) in
           by_order other (seen_before (pointwise eq) decides (tuples cs) i j least.entry.0.now other later own there) (text_cmp text least.entry.0.now other) refl
@@ -102,7 +102,7 @@ module _ {F : Type 0} {R : Ring F} (laws : IsCommutativeRing R) (eq : F → F �
           → IsBefore cs least.entry.0.now other
       by_seen own other ne apart true e =
           let found = any_at (pointwise eq) decides other (seen cs) (any-first_seen (pointwise eq) decides (tuples cs) other ∙ e) in
-          by_place own other ne apart found.0 found.1 (three_ways found.0 i)
+          by_index own other ne apart found.0 found.1 (three_ways found.0 i)
       by_seen own other ne apart false e = absurd (ne (net-none (pointwise eq) decides laws (λ (c : Contribution F). c.tuple) (λ c. c.amount) cs other e))
 
   zero_is : (v : F) → not (eq v R.zero) ≡ false → v ≡ R.zero
@@ -114,13 +114,13 @@ module _ {F : Type 0} {R : Ring F} (laws : IsCommutativeRing R) (eq : F → F �
 
   -- where none passes every net is zero
   pub all_zero : (es : List (Bor (List F) × F)) (cs : List (Contribution F)) → tuple_entries es ≡ tuple_nets R eq cs
-      → IsFirstPlace R eq text es (length es) None → (tuple : List F) → net_amount R eq cs tuple ≡ R.zero
+      → IsFirstIndex R eq text es (length es) None → (tuple : List F) → net_amount R eq cs tuple ≡ R.zero
   all_zero es cs is none tuple = by_seen (list_any (λ y. pointwise eq y tuple) (tuples cs)) refl
     where
       by_seen : (b : Bool) → list_any (λ y. pointwise eq y tuple) (tuples cs) ≡ b → net_amount R eq cs tuple ≡ R.zero
       by_seen true e =
           let ks = seen cs in
-          let place = any_at (pointwise eq) decides tuple ks (any-first_seen (pointwise eq) decides (tuples cs) tuple ∙ e) in
-          let found = from_map (λ (e : Bor (List F) × F). (e.0.now, e.1)) es place.0 (tuple, net_amount R eq cs tuple) (ap (λ t. slice_get t place.0) is ∙ at_map (λ k. (k, net_amount R eq cs k)) ks place.0 tuple place.1) in
-          sym (ap (λ (p : List F × F). p.1) found.2) ∙ zero_is found.0.1 (none place.0 found.0 (slice_get_within es place.0 found.0 found.1) found.1)
+          let index = any_at (pointwise eq) decides tuple ks (any-first_seen (pointwise eq) decides (tuples cs) tuple ∙ e) in
+          let found = from_map (λ (e : Bor (List F) × F). (e.0.now, e.1)) es index.0 (tuple, net_amount R eq cs tuple) (ap (λ t. slice_get t index.0) is ∙ at_map (λ k. (k, net_amount R eq cs k)) ks index.0 tuple index.1) in
+          sym (ap (λ (p : List F × F). p.1) found.2) ∙ zero_is found.0.1 (none index.0 found.0 (slice_get_within es index.0 found.0 found.1) found.1)
       by_seen false e = net-none (pointwise eq) decides laws (λ (c : Contribution F). c.tuple) (λ c. c.amount) cs tuple e

@@ -54,21 +54,21 @@ module _ {F : Type 0} (R : Ring F) (eq : F → F → Bool) where
     -- the mismatch of one group
     pub mismatch-here : (label : List ℕ) (cs : List (Contribution F)) (fault : _) → IsMismatchOf R eq text label cs fault → IsFirstMismatch R eq text (record { label = label; contributions = cs } ∷ []) fault
     mismatch-here label cs fault is = record {
-      place = 0;
-      group = record { label = label; contributions = cs };
-      there = refl;
+      index = 0;
+      item = record { label = label; contributions = cs };
+      is_there = refl;
       before = λ i other lt. absurd (omega (arith, lt));
-      mismatch = is;
+      fault = is;
     }
 
     -- it is the first whatever groups come after
     pub mismatch-sooner : (gs hs : List (Group F)) (fault : _) → IsFirstMismatch R eq text gs fault → IsFirstMismatch R eq text (gs ++ hs) fault
     mismatch-sooner gs hs fault is = record {
-      place = is.place;
-      group = is.group;
-      there = longer gs is.place is.group is.there;
-      before = λ i other lt there. is.before i other lt (shorter gs is.place is.group i other is.there lt there);
-      mismatch = is.mismatch;
+      index = is.index;
+      item = is.item;
+      is_there = longer gs is.index is.item is.is_there;
+      before = λ i other lt there. is.before i other lt (shorter gs is.index is.item i other is.is_there lt there);
+      fault = is.fault;
     }
       where
         longer : (gs : List (Group F)) (i : ℕ) (group : Group F) → slice_get gs i ≡ Some group → slice_get (gs ++ hs) i ≡ Some group
@@ -88,16 +88,16 @@ module _ {F : Type 0} (R : Ring F) (eq : F → F → Bool) where
     mismatch-later (g ∷ gs) hs fault each is =
         let rest = mismatch-later gs hs fault (balance-tail g gs each) is in
         record {
-          place = suc rest.place;
-          group = rest.group;
-          there = rest.there;
-          before = by_place (balance-head g gs each) rest;
-          mismatch = rest.mismatch;
+          index = suc rest.index;
+          item = rest.item;
+          is_there = rest.is_there;
+          before = by_index (balance-head g gs each) rest;
+          fault = rest.fault;
         }
       where
-        by_place : Balances R eq g.contributions → (rest : IsFirstMismatch R eq text (gs ++ hs) fault) → (i : ℕ) (other : Group F) → i < suc rest.place → slice_get (g ∷ gs ++ hs) i ≡ Some other → Balances R eq other.contributions
-        by_place here rest zero other lt there = subst (λ (h : Group F). Balances R eq h.contributions) (some_is g other there) here
-        by_place here rest (suc i) other lt there = rest.before i other (omega (arith, lt)) there
+        by_index : Balances R eq g.contributions → (rest : IsFirstMismatch R eq text (gs ++ hs) fault) → (i : ℕ) (other : Group F) → i < suc rest.index → slice_get (g ∷ gs ++ hs) i ≡ Some other → Balances R eq other.contributions
+        by_index here rest zero other lt there = subst (λ (h : Group F). Balances R eq h.contributions) (some_is g other there) here
+        by_index here rest (suc i) other lt there = rest.before i other (omega (arith, lt)) there
 
     -- the answer of a check of groups after others that balance
     pub answers-after : (gs hs : List (Group F)) → EachBalances R eq gs → (result : Result ⊤ (LookupFault F)) → AnswersGroups R eq text hs result → AnswersGroups R eq text (gs ++ hs) result

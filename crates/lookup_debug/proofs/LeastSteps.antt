@@ -8,7 +8,7 @@ use Rattle.std.specs.Cmp.Lexicographic.{lists_total, nat_list_cmp_total}
 use Rattle.field.specs.Ring.{Ring}
 use Rattle.lookup_debug.specs.Mismatch.{text_cmp}
 use Rattle.lookup_debug.specs.Least.{IsLeast, NonePasses}
-use Rattle.lookup_debug.specs.Nets.{IsFirstPlace}
+use Rattle.lookup_debug.specs.Nets.{IsFirstIndex}
 
 -- an item is determined by its option
 pub some_is : {A : Type 0} (a b : A) → Some a ≡ Some b → a ≡ b
@@ -52,7 +52,7 @@ same-equal {order = order} total x = by_reverse (order x x) (total.antisymm x x)
 pub text_total : {F : Type 0} (text : F → List ℕ) → IsTotalOrder (λ (a b : Bor (List F)). text_cmp text a.now b.now)
 text_total text = on_total (λ (a : Bor (List _)). map text a.now) (lists_total nat_list_cmp_total)
 
--- The entries of a map of nets up to a place, and the entry there.
+-- The entries of a map of nets up to an index, and the entry there.
 module _ {F : Type 0} (R : Ring F) (eq : F → F → Bool) (text : F → List ℕ) (es : List (Bor (List F) × F)) (n : ℕ) (last : Bor (List F) × F) (at : slice_get es n ≡ Some last) where
   abbrev order : Bor (List F) → Bor (List F) → Ordering
   order a b = text_cmp text a.now b.now
@@ -64,7 +64,7 @@ module _ {F : Type 0} (R : Ring F) (eq : F → F → Bool) (text : F → List �
   total = text_total text
 
   -- an entry that does not pass changes nothing
-  pub skipped : (best : Option ℕ) → passes last.1 ≡ false → IsFirstPlace R eq text es n best → IsFirstPlace R eq text es (n + 1) best
+  pub skipped : (best : Option ℕ) → passes last.1 ≡ false → IsFirstIndex R eq text es n best → IsFirstIndex R eq text es (n + 1) best
   skipped None fails none = λ j e lt here. elim (less_or_last j n lt) [
     | inl less ↦ none j e less here
     | inr is ↦ ap (λ (p : Bor (List F) × F). passes p.1) (some_is e last (sym here ∙ ap (slice_get es) is ∙ at)) ∙ fails
@@ -101,7 +101,7 @@ module _ {F : Type 0} (R : Ring F) (eq : F → F → Bool) (text : F → List �
         there = at;
         within = omega arith;
         passing = passing;
-        before = λ j e lt here so. by_place under j e lt here so (three_ways j i);
+        before = λ j e lt here so. by_index under j e lt here so (three_ways j i);
         after = λ j e later lt. absurd (omega (arith, later, lt));
       }
     where
@@ -114,10 +114,10 @@ module _ {F : Type 0} (R : Ring F) (eq : F → F → Bool) (text : F → List �
           ∙ under
       by_order e Greater f under ne = absurd (ne refl)
 
-      by_place : order last.0 least.entry.0 ≡ Less → (j : ℕ) (e : Bor (List F) × F) → j < n → slice_get es j ≡ Some e → passes e.1 ≡ true → (j < i) ⊎ ((j ≡ i) ⊎ (i < j)) → order last.0 e.0 ≡ Less
-      by_place under j e lt here so (inl sooner) = total.trans last.0 least.entry.0 e.0 under (least.before j e sooner here so)
-      by_place under j e lt here so (inr (inl same)) = ap (λ (p : Bor (List F) × F). order last.0 p.0) (some_is e least.entry (sym here ∙ ap (slice_get es) same ∙ least.there)) ∙ under
-      by_place under j e lt here so (inr (inr later)) = by_order e (order least.entry.0 e.0) refl under (least.after j e later lt here so)
+      by_index : order last.0 least.entry.0 ≡ Less → (j : ℕ) (e : Bor (List F) × F) → j < n → slice_get es j ≡ Some e → passes e.1 ≡ true → (j < i) ⊎ ((j ≡ i) ⊎ (i < j)) → order last.0 e.0 ≡ Less
+      by_index under j e lt here so (inl sooner) = total.trans last.0 least.entry.0 e.0 under (least.before j e sooner here so)
+      by_index under j e lt here so (inr (inl same)) = ap (λ (p : Bor (List F) × F). order last.0 p.0) (some_is e least.entry (sym here ∙ ap (slice_get es) same ∙ least.there)) ∙ under
+      by_index under j e lt here so (inr (inr later)) = by_order e (order least.entry.0 e.0) refl under (least.after j e later lt here so)
 
   -- one that is not less does not
   pub kept : (i : ℕ) (other : Bor (List F) × F) → slice_get es i ≡ Some other → order last.0 other.0 ≢ Less → IsLeast order passes es n i → IsLeast order passes es (n + 1) i

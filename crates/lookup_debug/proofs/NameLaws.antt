@@ -1,26 +1,18 @@
 -- The names that a set holds, name by name.
-use Rattle.std.proofs.Common.{◌≡◌, Bool, cond, Decides, List, [], ◌∷◌, ◌++◌, ◌||◌, ◌+◌, ◌<◌, None, Option, Some, append_assoc, get_or, length, map, nat_eq, take, ℕ, refl, ap, sym, ◌∙◌, true, false}
-use Rattle.std.proofs.lemmas.Bool.Decides.{Decides-eqb}
+use Rattle.std.proofs.Common.{◌≡◌, Bool, cond, List, [], ◌∷◌, ◌++◌, ◌||◌, ◌+◌, ◌<◌, None, Option, Some, append_assoc, get_or, length, map, take, ℕ, refl, ap, sym, ◌∙◌, true, false}
 use Rattle.std.proofs.lemmas.List.{append-nil, map-append}
 use Rattle.std.proofs.lemmas.List.Elements.{filter_map-append}
-use Rattle.std.proofs.lemmas.Slice.Eq.{slice_eq-Decides}
 use Rattle.std.specs.Borrow.{Bor}
-use Rattle.std.specs.Cmp.Lexicographic.{pointwise}
 use Rattle.std.specs.List.{cons_option, filter_map, list_any}
 use Rattle.indexmap.specs.IndexSet.{insert_key}
 use Rattle.lookup_model.proofs.Lookups.Rows.{take_item}
+use Rattle.lookup_model.proofs.Names.{same_name-Decides}
+use Rattle.lookup_model.specs.Names.{same_name}
 use Rattle.lookup_model.specs.Net.{first_seen}
 use Rattle.lookup_model.specs.Outline.{bus_of}
 use Rattle.lookup_model.specs.declared.types.Lookup.{Lookup}
 use Rattle.lookup_rows.proofs.FirstSeen.{first_seen-push}
 use Rattle.lookup_rows.proofs.NetEntries.{any-first_seen, turned}
-
--- whether two names are the same, which decides their equality
-abbrev same_name : List ℕ → List ℕ → Bool
-same_name a b = pointwise nat_eq a b
-
-same_name-Decides : (a b : List ℕ) → Decides (same_name a b) (a ≡ b)
-same_name-Decides a b = slice_eq-Decides Decides-eqb a b (same_name a b) refl
 
 -- a key that is seen through a view
 any-viewed : (k : List ℕ) (ks : List (Bor (List ℕ)))

@@ -8,29 +8,29 @@ use Rattle.expressions.specs.Window.{Window}
 use Rattle.lookup_model.specs.Message.{Message}
 use Rattle.lookup_model.specs.Sent.{branches_at, chosen, flags_at, sent, sent_at}
 use Rattle.lookup_model.specs.declared.types.Lookup.{Lookup}
-use Rattle.lookup_debug.specs.Contributions.{Contribution, Place, amounts, contributions_at, contributions_from, nonzero}
+use Rattle.lookup_debug.specs.Contributions.{Contribution, SentLocation, amounts, contributions_at, contributions_from, nonzero}
 use Rattle.lookup_debug.specs.SentContributions.{message_contribution, sent_contributions}
 
-module _ {F : Type 0} {R : Ring F} (laws : IsCommutativeRing R) (eq : F → F → Bool) (decides : (a b : F) → Decides (eq a b) (a ≡ b)) (place : Place) where
+module _ {F : Type 0} {R : Ring F} (laws : IsCommutativeRing R) (eq : F → F → Bool) (decides : (a b : F) → Decides (eq a b) (a ≡ b)) (location : SentLocation) where
   -- each flag is zero or one
   abbrev pub AreBoolean : List F → Type 0
   AreBoolean flags = list_all (λ f. eq f R.zero || eq f R.one) flags ≡ true
 
-  without_flags : (branches : List (Message F)) → contributions_from place branches (map (λ m. m.multiplicity) branches) ≡ map (message_contribution place) branches
+  without_flags : (branches : List (Message F)) → contributions_from location branches (map (λ m. m.multiplicity) branches) ≡ map (message_contribution location) branches
   without_flags [] = refl
-  without_flags (b ∷ bs) = ap (λ t. message_contribution place b ∷ t) (without_flags bs)
+  without_flags (b ∷ bs) = ap (λ t. message_contribution location b ∷ t) (without_flags bs)
 
   -- the contributions of branches with flags
   abbrev flagged : List F → List (Message F) → List (Contribution F)
-  flagged flags branches = nonzero R eq (contributions_from place branches (map (λ b. R.mul b.0 b.1.multiplicity) (zip flags branches)))
+  flagged flags branches = nonzero R eq (contributions_from location branches (map (λ b. R.mul b.0 b.1.multiplicity) (zip flags branches)))
 
   abbrev kept : Contribution F → Bool
   kept c = not (eq c.amount R.zero)
 
   abbrev of_branch : F → Message F → Contribution F
-  of_branch f b = record { tuple = b.key.tuple; amount = R.mul f b.multiplicity; place = place }
+  of_branch f b = record { tuple = b.key.tuple; amount = R.mul f b.multiplicity; location = location }
 
-  with_flags : (flags : List F) (branches : List (Message F)) → AreBoolean flags → flagged flags branches ≡ nonzero R eq (map (message_contribution place) (chosen R eq flags branches))
+  with_flags : (flags : List F) (branches : List (Message F)) → AreBoolean flags → flagged flags branches ≡ nonzero R eq (map (message_contribution location) (chosen R eq flags branches))
   with_flags [] [] boolean = refl
   with_flags [] (b ∷ bs) boolean = refl
   with_flags (f ∷ fs) [] boolean = refl
@@ -40,8 +40,8 @@ module _ {F : Type 0} {R : Ring F} (laws : IsCommutativeRing R) (eq : F → F �
       parts = and_parts (eq f R.zero || eq f R.one) (list_all (λ g. eq g R.zero || eq g R.one) fs) boolean
 
       -- a set flag counts its branch once
-      set : f ≡ R.one → of_branch f b ≡ message_contribution place b
-      set one = ap (λ x. record { tuple = b.key.tuple; amount = x; place = place }) (ap (λ g. R.mul g b.multiplicity) one ∙ one_mul laws b.multiplicity)
+      set : f ≡ R.one → of_branch f b ≡ message_contribution location b
+      set one = ap (λ x. record { tuple = b.key.tuple; amount = x; location = location }) (ap (λ g. R.mul g b.multiplicity) one ∙ one_mul laws b.multiplicity)
 
       -- another flag counts nothing
       unset : (p : Bool) → eq f R.zero ≡ p → eq f R.one ≡ false → kept (of_branch f b) ≡ false
@@ -49,16 +49,16 @@ module _ {F : Type 0} {R : Ring F} (laws : IsCommutativeRing R) (eq : F → F �
           ap not ((decides (R.mul f b.multiplicity) R.zero).1 (ap (λ g. R.mul g b.multiplicity) ((decides f R.zero).0 zero) ∙ zero_mul laws b.multiplicity))
       unset false zero other = absurd (cc (sym parts.0 ∙ (λ i. zero i || other i)))
 
-      by_test : (p : Bool) → eq f R.one ≡ p → flagged fs bs ≡ nonzero R eq (map (message_contribution place) (chosen R eq fs bs))
+      by_test : (p : Bool) → eq f R.one ≡ p → flagged fs bs ≡ nonzero R eq (map (message_contribution location) (chosen R eq fs bs))
           → cond (kept (of_branch f b)) (of_branch f b ∷ flagged fs bs) (flagged fs bs)
-          ≡ nonzero R eq (map (message_contribution place) (map (λ c. c.1) (cond p ((f, b) ∷ filter (λ c. eq c.0 R.one) (zip fs bs)) (filter (λ c. eq c.0 R.one) (zip fs bs)))))
+          ≡ nonzero R eq (map (message_contribution location) (map (λ c. c.1) (cond p ((f, b) ∷ filter (λ c. eq c.0 R.one) (zip fs bs)) (filter (λ c. eq c.0 R.one) (zip fs bs)))))
       by_test true one rest =
           (λ i. cond (kept (set ((decides f R.one).0 one) i)) (set ((decides f R.one).0 one) i ∷ rest i) (rest i))
       by_test false other rest =
           ap (λ t. cond t (of_branch f b ∷ flagged fs bs) (flagged fs bs)) (unset (eq f R.zero) refl other) ∙ rest
 
   by_flags : (flags : Option (List F)) (branches : List (Message F)) → IfSome flags AreBoolean
-      → nonzero R eq (contributions_from place branches (amounts R flags branches)) ≡ sent_contributions R eq place (sent R eq flags branches)
+      → nonzero R eq (contributions_from location branches (amounts R flags branches)) ≡ sent_contributions R eq location (sent R eq flags branches)
   by_flags None branches boolean = ap (nonzero R eq) (without_flags branches)
   by_flags (Some flags) branches boolean = with_flags flags branches boolean
 
@@ -68,6 +68,6 @@ module _ {F : Type 0} {R : Ring F} (laws : IsCommutativeRing R) (eq : F → F �
   flags_kept (Some flags) branches = refl
 
   -- so it is of a lookup at a window
-  pub contributions_sent : (w : Window F) (lookup : Lookup F) → IfSome (sent_at R eq w 0 lookup).flags AreBoolean → contributions_at R eq place w lookup ≡ sent_contributions R eq place (sent_at R eq w 0 lookup)
+  pub contributions_sent : (w : Window F) (lookup : Lookup F) → IfSome (sent_at R eq w 0 lookup).flags AreBoolean → contributions_at R eq location w lookup ≡ sent_contributions R eq location (sent_at R eq w 0 lookup)
   contributions_sent w lookup boolean =
       by_flags (flags_at R w lookup) (branches_at R w 0 lookup) (subst (λ (flags : Option (List F)). IfSome flags AreBoolean) (flags_kept (flags_at R w lookup) (branches_at R w 0 lookup)) boolean)

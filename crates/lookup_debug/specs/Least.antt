@@ -4,7 +4,7 @@ use Rattle.std.specs.declared.cmp.Ordering.{Ordering}
 use Rattle.std.specs.declared.cmp.Ordering.TheVariants.{Less, Greater}
 
 module _ {A V : Type 0} (R : A → A → Ordering) (passes : V → Bool) (es : List (A × V)) (n : ℕ) where
-  -- Of the first n entries that pass, the one at this place is least: the passing ones before it are
+  -- Of the first n entries that pass, the one at this index is least: the passing ones before it are
   -- greater, and none after it is less.
   pub record IsLeast (i : ℕ) : Type 0 where
     pub entry : A × V
@@ -18,7 +18,7 @@ module _ {A V : Type 0} (R : A → A → Ordering) (passes : V → Bool) (es : L
   abbrev pub NonePasses : Type 0
   NonePasses = (j : ℕ) (e : A × V) → j < n → slice_get es j ≡ Some e → passes e.1 ≡ false
 
-  -- the place of the least, or none where none passes
+  -- the index of the least, or none where none passes
   abbrev pub IsBest : Option ℕ → Type 0
   IsBest None = NonePasses
   IsBest (Some i) = IsLeast i

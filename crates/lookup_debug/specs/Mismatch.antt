@@ -1,5 +1,5 @@
 -- The first mismatch.
-use Rattle.std.specs.Prelude.{◌≡◌, ◌≢◌, ◌<◌, ◌⊎◌, ℕ, Bool, true, false, List, [], ◌∷◌, Some, map, slice_get}
+use Rattle.std.specs.Prelude.{◌≡◌, ◌≢◌, ◌⊎◌, ℕ, Bool, true, false, List, [], ◌∷◌, Some, map, slice_get}
 use Rattle.std.specs.Cmp.Lexicographic.{pointwise, slice_cmp}
 use Rattle.std.specs.List.{filter}
 use Rattle.std.specs.Ordering.{nat_cmp}
@@ -9,9 +9,10 @@ use Rattle.std.specs.declared.cmp.Ordering.{Ordering}
 use Rattle.std.specs.declared.cmp.Ordering.TheVariants.{Less, Equal}
 use Rattle.std.specs.declared.string.String.{String}
 use Rattle.std.specs.declared.vec.Vec.{Vec}
+use Rattle.expressions.specs.Faults.{HasFirstFault}
 use Rattle.field.specs.Ring.{Ring}
 use Rattle.field.specs.Sums.{sum_in}
-use Rattle.lookup_debug.specs.Contributions.{Contribution, Place, Traced, place_of}
+use Rattle.lookup_debug.specs.Contributions.{Contribution, SentLocation, Traced, location_of}
 use Rattle.lookup_debug.specs.Groups.{Group, groups}
 use Rattle.lookup_debug.specs.declared.fault.Location.{Location}
 use Rattle.lookup_debug.specs.declared.fault.LookupFault.{LookupFault}
@@ -27,14 +28,14 @@ abbrev pub text_cmp : {F : Type 0} → (F → List ℕ) → List F → List F �
 text_cmp text a b = slice_cmp (slice_cmp nat_cmp) (map text a) (map text b)
 
 -- a mismatch with these parts
-pub record HasParts {F : Type 0} (label : List ℕ) (tuple : List (List ℕ)) (net : F) (places : List Place) (fault : LookupFault F) : Type 0 where
+pub record HasParts {F : Type 0} (label : List ℕ) (tuple : List (List ℕ)) (net : F) (tuple_locations : List SentLocation) (fault : LookupFault F) : Type 0 where
   pub name : String Global
   pub texts : Vec (String Global) Global
   pub locations : Vec Location Global
   pub fault_is : fault ≡ Mismatch name texts net locations
   pub label_is : string_bytes name ≡ label
   pub tuple_is : map (λ t. string_bytes t) texts.items ≡ tuple
-  pub places_are : map place_of locations.items ≡ places
+  pub locations_are : map location_of locations.items ≡ tuple_locations
 
 module _ {F : Type 0} (R : Ring F) (eq : F → F → Bool) where
   -- the contributions of a tuple
@@ -42,8 +43,8 @@ module _ {F : Type 0} (R : Ring F) (eq : F → F → Bool) where
   of_tuple cs tuple = filter (λ c. pointwise eq tuple c.tuple) cs
 
   -- where a tuple is sent
-  abbrev pub places : List F → List (Contribution F) → List Place
-  places tuple cs = map (λ c. c.place) (of_tuple cs tuple)
+  abbrev pub tuple_locations : List F → List (Contribution F) → List SentLocation
+  tuple_locations tuple cs = map (λ c. c.location) (of_tuple cs tuple)
 
   -- and its net
   abbrev pub net_amount : List (Contribution F) → List F → F
@@ -70,19 +71,15 @@ module _ {F : Type 0} (R : Ring F) (eq : F → F → Bool) where
           → (text_cmp text tuple other ≡ Less) ⊎ ((text_cmp text tuple other ≡ Equal) × Precedes (map (λ c. c.tuple) cs) tuple other)
 
     -- A fault is the mismatch of a group: under its label, the tuple that is first, with its net and
-    -- the places of its contributions.
+    -- the locations of its contributions.
     pub record IsMismatchOf (label : List ℕ) (cs : List (Contribution F)) (fault : LookupFault F) : Type 0 where
       pub tuple : List F
       pub first : IsFirst cs tuple
-      pub fault_is : HasParts label (map text tuple) (net_amount cs tuple) (places tuple cs) fault
+      pub fault_is : HasParts label (map text tuple) (net_amount cs tuple) (tuple_locations tuple cs) fault
 
     -- A fault is the mismatch of the first of some groups that has one.
-    pub record IsFirstMismatch (gs : List (Group F)) (fault : LookupFault F) : Type 0 where
-      pub place : ℕ
-      pub group : Group F
-      pub there : slice_get gs place ≡ Some group
-      pub before : (i : ℕ) (other : Group F) → i < place → slice_get gs i ≡ Some other → Balances other.contributions
-      pub mismatch : IsMismatchOf group.label group.contributions fault
+    abbrev pub IsFirstMismatch : List (Group F) → LookupFault F → Type 0
+    IsFirstMismatch gs fault = HasFirstFault (λ g. Balances g.contributions) (λ _ g. IsMismatchOf g.label g.contributions fault) gs
 
     -- and of the first of all groups
     abbrev pub IsMismatch : List (Traced F) → LookupFault F → Type 0

@@ -18,6 +18,6 @@ amount_nets R eq xs =
 abbrev pub tuple_entries : {F : Type 0} → List (Bor (List F) × F) → List (List F × F)
 tuple_entries es = map (λ e. (e.0.now, e.1)) es
 
--- Of the first n entries, the place of the first tuple by its texts whose net is not zero.
-abbrev pub IsFirstPlace : {F : Type 0} → Ring F → (F → F → Bool) → (F → List ℕ) → List (Bor (List F) × F) → ℕ → Option ℕ → Type 0
-IsFirstPlace {F} R eq text es n best = IsBest (λ (a b : Bor (List F)). text_cmp text a.now b.now) (λ v. not (eq v R.zero)) es n best
+-- Of the first n entries, the index of the first tuple by its texts whose net is not zero.
+abbrev pub IsFirstIndex : {F : Type 0} → Ring F → (F → F → Bool) → (F → List ℕ) → List (Bor (List F) × F) → ℕ → Option ℕ → Type 0
+IsFirstIndex {F} R eq text es n best = IsBest (λ (a b : Bor (List F)). text_cmp text a.now b.now) (λ v. not (eq v R.zero)) es n best

@@ -5,18 +5,18 @@ use Rattle.std.proofs.Common.{◌∙◌, ap, append_assoc, subst, sym}
 use Rattle.std.proofs.lemmas.List.{append-nil, map-append}
 use Rattle.std.proofs.lemmas.List.Elements.{filter-append}
 use Rattle.field.specs.Ring.{Ring}
-use Rattle.lookup_debug.specs.Appended.{AppendsPlaces, Collects, FindsPlaces, placeless}
+use Rattle.lookup_debug.specs.Appended.{AppendsLocations, Collects, FindsLocations, without_location}
 use Rattle.lookup_debug.specs.Arena.{AreWithin, amounts_in}
-use Rattle.lookup_debug.specs.Contributions.{Contribution, place_of}
-use Rattle.lookup_debug.specs.Mismatch.{of_tuple, places}
+use Rattle.lookup_debug.specs.Contributions.{Contribution, location_of}
+use Rattle.lookup_debug.specs.Mismatch.{of_tuple, tuple_locations}
 use Rattle.lookup_debug.specs.Nets.{amount_nets}
 use Rattle.lookup_debug.specs.Walks.{IsWalk}
 use Rattle.lookup_debug.specs.declared.arena.Contributions.{Contributions}
 
 module _ {F : Type 0} (R : Ring F) (eq : F → F → Bool) where
-  -- the nets of a list of contributions are those that the cuts have
+  -- the nets of a list of contributions are those that the spans have
   abbrev HasNets : Contributions F → List (Contribution F) → Type 0
-  HasNets cuts cs = amount_nets R eq (amounts_in cuts) ≡ amount_nets R eq (map placeless cs)
+  HasNets spans cs = amount_nets R eq (amounts_in spans) ≡ amount_nets R eq (map without_location cs)
 
   -- the first pass, which collects
   pub collects_walk : IsWalk AreWithin (Collects R eq)
@@ -29,24 +29,24 @@ module _ {F : Type 0} (R : Ring F) (eq : F → F → Bool) where
     );
   }
 
-  -- the places of two lists one after the other
-  pub places-append : (tuple : List F) (xs ys : List (Contribution F)) → places R eq tuple (xs ++ ys) ≡ places R eq tuple xs ++ places R eq tuple ys
-  places-append tuple xs ys =
-      ap (map (λ (c : Contribution F). c.place)) (filter-append (λ (c : Contribution F). pointwise eq tuple c.tuple) xs ys)
-      ∙ map-append (λ (c : Contribution F). c.place) (of_tuple R eq xs tuple) (of_tuple R eq ys tuple)
+  -- the locations of two lists one after the other
+  pub tuple_locations-append : (tuple : List F) (xs ys : List (Contribution F)) → tuple_locations R eq tuple (xs ++ ys) ≡ tuple_locations R eq tuple xs ++ tuple_locations R eq tuple ys
+  tuple_locations-append tuple xs ys =
+      ap (map (λ (c : Contribution F). c.location)) (filter-append (λ (c : Contribution F). pointwise eq tuple c.tuple) xs ys)
+      ∙ map-append (λ (c : Contribution F). c.location) (of_tuple R eq xs tuple) (of_tuple R eq ys tuple)
 
-  -- the second pass, which finds the places of one tuple
-  pub places_walk : IsWalk (λ _. ⊤) (FindsPlaces R eq)
-  places_walk = record {
+  -- the second pass, which finds the locations of one tuple
+  pub locations_walk : IsWalk (λ _. ⊤) (FindsLocations R eq)
+  locations_walk = record {
     leaves = λ a b xs done. tt;
-    rests = λ a ready. (refl, sym (append-nil (map place_of a.locations.items)));
+    rests = λ a ready. (refl, sym (append-nil (map location_of a.locations.items)));
     joins = λ a b c xs ys first then.
-        let old = map place_of a.locations.items in
+        let old = map location_of a.locations.items in
         let tuple = a.tuple.now in (
           then.0 ∙ first.0,
-          subst (λ t. AppendsPlaces R eq t b.locations c.locations ys) first.0 then.1
-              ∙ ap (λ ps. ps ++ places R eq tuple ys) first.1
-              ∙ append_assoc old (places R eq tuple xs) (places R eq tuple ys)
-              ∙ ap (λ ps. old ++ ps) (sym (places-append tuple xs ys)),
+          subst (λ t. AppendsLocations R eq t b.locations c.locations ys) first.0 then.1
+              ∙ ap (λ ps. ps ++ tuple_locations R eq tuple ys) first.1
+              ∙ append_assoc old (tuple_locations R eq tuple xs) (tuple_locations R eq tuple ys)
+              ∙ ap (λ ps. old ++ ps) (sym (tuple_locations-append tuple xs ys)),
         );
   }

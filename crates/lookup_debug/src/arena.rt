@@ -11,7 +11,7 @@ use std::alloc::{AllocError, Global};
 
 /// A tuple with its amount. The tuple is `elements[start..end]`.
 #[derive(Clone, Copy)]
-pub(crate) struct Cut<F> {
+pub(crate) struct TupleSpan<F> {
     pub(crate) start: usize,
     pub(crate) end: usize,
     pub(crate) amount: F,
@@ -26,7 +26,7 @@ const FREE_CONTRIBUTIONS: usize = 1 << 18;
 #[derive(Drop)]
 pub(crate) struct Contributions<F> {
     pub(crate) elements: Vec<F>,
-    pub(crate) cuts: Vec<Cut<F>>,
+    pub(crate) spans: Vec<TupleSpan<F>>,
     limit: usize,
 }
 
@@ -38,7 +38,7 @@ impl<F: Field> Contributions<F> {
     {
         Contributions {
             elements: Vec::new(alloc),
-            cuts: Vec::new(alloc),
+            spans: Vec::new(alloc),
             limit: FREE_CONTRIBUTIONS,
         }
     }
@@ -49,7 +49,7 @@ impl<F: Field> Contributions<F> {
         ensures empty { amounts_in self.new ≡ [] }
     {
         self.elements.clear();
-        self.cuts.clear();
+        self.spans.clear();
         self.limit = FREE_CONTRIBUTIONS;
     }
 
@@ -62,7 +62,7 @@ impl<F: Field> Contributions<F> {
         let start = self.elements.len();
         self.elements.extend_from_slice(tuple)?;
         let end = self.elements.len();
-        self.cuts.push(Cut { start, end, amount })?;
+        self.spans.push(TupleSpan { start, end, amount })?;
         Ok(())
     }
 }
@@ -78,9 +78,9 @@ pub(crate) fn nets<'a, F: Field>(
 {
     let elements = contributions.elements.as_slice();
     let mut nets = IndexMap::new(alloc);
-    for cut in &contributions.cuts {
-        let tuple = &elements[cut.start..cut.end];
-        add_at(&mut nets, tuple, cut.amount)?;
+    for span in &contributions.spans {
+        let tuple = &elements[span.start..span.end];
+        add_at(&mut nets, tuple, span.amount)?;
     }
     Ok(nets)
 }
@@ -96,18 +96,18 @@ pub(crate) fn merge_at_limit<F: Field>(
         × (amount_nets F.ring F.eq (amounts_in contributions.new)
         ≡ amount_nets F.ring F.eq (amounts_in contributions.old))) }
 {
-    if contributions.cuts.len() < contributions.limit {
+    if contributions.spans.len() < contributions.limit {
         return Ok(());
     }
-    let mut merged = merged(alloc, contributions)?;
-    let tuples = merged.cuts.len();
+    let mut merged = merge_equal(alloc, contributions)?;
+    let tuples = merged.spans.len();
     merged.limit = tuples.saturating_mul(8).saturating_add(FREE_CONTRIBUTIONS);
     *contributions = merged;
     Ok(())
 }
 
 /// Each tuple once, with its net, in the order in which the tuples are first seen.
-fn merged<F: Field>(
+fn merge_equal<F: Field>(
     alloc: Global,
     contributions: &Contributions<F>,
 ) -> Result<Contributions<F>, AllocError>
@@ -117,19 +117,19 @@ fn merged<F: Field>(
 {
     let nets = nets(alloc, contributions)?;
     let mut merged = Contributions::new(alloc);
-    for place in 0..nets.len() {
-        let (tuple, net) = entry_at(&nets, place);
+    for index in 0..nets.len() {
+        let (tuple, net) = entry_at(&nets, index);
         merged.push(tuple, net)?;
     }
     Ok(merged)
 }
 
-/// The entry at a place.
-pub(crate) fn entry_at<'a, F: Field>(nets: &IndexMap<&'a [F], F>, place: usize) -> (&'a [F], F)
-    requires { place < index_map_len nets.now }
-    ensures { slice_get nets.now.entries place ≡ Some result }
+/// The entry at an index.
+pub(crate) fn entry_at<'a, F: Field>(nets: &IndexMap<&'a [F], F>, index: usize) -> (&'a [F], F)
+    requires { index < index_map_len nets.now }
+    ensures { slice_get nets.now.entries index ≡ Some result }
 {
-    match nets.get_index(place) {
+    match nets.get_index(index) {
         Some((tuple, net)) => (*tuple, *net),
         None => unreachable!(),
     }

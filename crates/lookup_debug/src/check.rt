@@ -1,14 +1,12 @@
 //! The debug check.
 ghost use Rattle.std.specs.Prelude.{◌≡◌, ◌⊎◌, All, IfOk, MatchResult, Some, map, slice_get, string_bytes};
-ghost use Rattle.std.specs.Option.{ForSome, option_copied};
-ghost use Rattle.expressions.specs.Layout.{layout_of_traces};
+ghost use Rattle.air.specs.Traces.{AreEven, layout_of};
 ghost use Rattle.lookup_debug.specs.Checks.{AnswersGroup, AnswersGroups, local_groups_in};
-ghost use Rattle.lookup_debug.specs.Contributions.{AreFitting, IsFitting, contributions_of, place_of, traced_of};
-ghost use Rattle.lookup_debug.specs.Groups.{bus_group, bus_names, is_missing, local_groups, local_label};
+ghost use Rattle.lookup_debug.specs.Contributions.{AreFitting, IsTracedFitting, contributions_of, location_of, traced_of};
+ghost use Rattle.lookup_debug.specs.Groups.{bus_group, is_missing, local_groups, local_label, traced_bus_names};
 ghost use Rattle.lookup_debug.specs.Mismatch.{AllBalance, HasParts, IsMismatch};
 ghost use Rattle.lookup_model.specs.Outline.{bus_of};
 ghost use Rattle.lookup_model.specs.Records.{LookupsFit};
-ghost use Rattle.matrix.specs.Matrix.{height};
 
 use crate::arena::Contributions;
 use crate::fault::{Location, LookupFault};
@@ -16,7 +14,7 @@ use crate::first::first_mismatch;
 use crate::groups::bus_names;
 use crate::instance::LookupDebugInstance;
 use crate::labels::{label_of_bus, label_of_local};
-use crate::places::Places;
+use crate::tuple_locations::TupleLocations;
 use crate::walk::{walk_bus, walk_lookup};
 use field::Field;
 use lookup_model::{Kind, Lookup};
@@ -36,10 +34,9 @@ pub fn check_lookups<F: Field>(
     alloc: Global,
     instances: &[LookupDebugInstance<'_, F>],
 ) -> Result<(), LookupFault<F>>
-    requires fit { All (λ i. LookupsFit (layout_of_traces i.main_trace.now
-        (option_copied i.preprocessed_trace) i.public_values.now) i.lookups.now) instances.now }
-    requires heights { All (λ i. ForSome (option_copied i.preprocessed_trace)
-        (λ m. height m ≡ height i.main_trace.now)) instances.now }
+    requires fit { All (λ i. LookupsFit (layout_of (traced_of i).traces) i.lookups.now)
+        instances.now }
+    requires heights { All (λ i. AreEven (traced_of i).traces) instances.now }
     ensures { MatchResult result
         (λ _. AllBalance F.ring F.eq (map traced_of instances.now))
         (λ e. (e ≡ LookupFault.Memory)
@@ -73,14 +70,14 @@ fn check_locals_of<F: Field>(
     traced: &LookupDebugInstance<'_, F>,
     instance: usize,
 ) -> Result<(), LookupFault<F>>
-    requires { IsFitting (traced_of traced.now) }
+    requires { IsTracedFitting (traced_of traced.now) }
     ensures { AnswersGroups F.ring F.eq F.text
         (local_groups_in F.ring F.eq (instance, traced_of traced.now)) result }
 {
-    for place in 0..traced.lookups.len() {
-        let lookup = &traced.lookups[place];
+    for index in 0..traced.lookups.len() {
+        let lookup = &traced.lookups[index];
         if is_local(lookup) {
-            check_local(alloc, contributions, traced, lookup, instance, place)?;
+            check_local(alloc, contributions, traced, lookup, instance, index)?;
         }
     }
     Ok(())
@@ -103,22 +100,22 @@ fn check_local<F: Field>(
     traced: &LookupDebugInstance<'_, F>,
     lookup: &Lookup<F>,
     instance: usize,
-    place: usize,
+    index: usize,
 ) -> Result<(), LookupFault<F>>
-    requires there { slice_get traced.now.lookups.now place ≡ Some lookup.now }
-    requires fit { IsFitting (traced_of traced.now) }
-    ensures { AnswersGroup F.ring F.eq F.text (local_label instance place)
-        (contributions_of F.ring F.eq instance place (traced_of traced.now) lookup.now) result }
+    requires there { slice_get traced.now.lookups.now index ≡ Some lookup.now }
+    requires fit { IsTracedFitting (traced_of traced.now) }
+    ensures { AnswersGroup F.ring F.eq F.text (local_label instance index)
+        (contributions_of F.ring F.eq instance index (traced_of traced.now) lookup.now) result }
 {
     contributions.clear();
-    walk_lookup(alloc, contributions, traced, lookup, instance, place)?;
+    walk_lookup(alloc, contributions, traced, lookup, instance, index)?;
     let Some(found) = first_mismatch(alloc, contributions)? else {
         return Ok(());
     };
-    let label = label_of_local(alloc, instance, place)?;
-    let mut places = Places::new(alloc, found.0);
-    walk_lookup(alloc, &mut places, traced, lookup, instance, place)?;
-    Err(mismatch(alloc, label, found, places.into_locations())?)
+    let label = label_of_local(alloc, instance, index)?;
+    let mut locations = TupleLocations::new(alloc, found.0);
+    walk_lookup(alloc, &mut locations, traced, lookup, instance, index)?;
+    Err(mismatch(alloc, label, found, locations.into_locations())?)
 }
 
 /// Checks all buses.
@@ -129,11 +126,12 @@ fn check_buses<F: Field>(
 ) -> Result<(), LookupFault<F>>
     requires { AreFitting instances.now }
     ensures { let all = map traced_of instances.now in
-        AnswersGroups F.ring F.eq F.text (map (bus_group F.ring F.eq all) (bus_names all)) result }
+        AnswersGroups F.ring F.eq F.text
+        (map (bus_group F.ring F.eq all) (traced_bus_names all)) result }
 {
     let names = bus_names(alloc, instances)?;
-    for place in 0..names.len() {
-        check_bus(alloc, contributions, instances, names[place])?;
+    for index in 0..names.len() {
+        check_bus(alloc, contributions, instances, names[index])?;
     }
     Ok(())
 }
@@ -155,9 +153,9 @@ fn check_bus<F: Field>(
         return Ok(());
     };
     let label = label_of_bus(alloc, name)?;
-    let mut places = Places::new(alloc, found.0);
-    walk_bus(alloc, &mut places, instances, name)?;
-    Err(mismatch(alloc, label, found, places.into_locations())?)
+    let mut locations = TupleLocations::new(alloc, found.0);
+    walk_bus(alloc, &mut locations, instances, name)?;
+    Err(mismatch(alloc, label, found, locations.into_locations())?)
 }
 
 /// The mismatch of a tuple with this net, in a group with this label.
@@ -168,7 +166,7 @@ fn mismatch<F: Field>(
     locations: Vec<Location>,
 ) -> Result<LookupFault<F>, AllocError>
     ensures { IfOk result (HasParts (string_bytes label)
-        (map F.text found.entry.0.now) found.entry.1 (map place_of locations.items)) }
+        (map F.text found.entry.0.now) found.entry.1 (map location_of locations.items)) }
 {
     let (tuple, net) = found;
     let tuple = texts_of(alloc, tuple)?;

@@ -4,13 +4,13 @@ ghost use Rattle.expressions.specs.Layout.{Fits};
 ghost use Rattle.expressions.specs.Tree.{tree_of};
 ghost use Rattle.lookup_debug.specs.Appended.{Appends, Collects};
 ghost use Rattle.lookup_debug.specs.Arena.{AreWithin};
-ghost use Rattle.lookup_debug.specs.Contributions.{Place, amounts, contributions_at, nonzero};
+ghost use Rattle.lookup_debug.specs.Contributions.{SentLocation, amounts, contributions_at, nonzero};
 ghost use Rattle.lookup_debug.specs.Visits.{collects_walk};
 ghost use Rattle.lookup_rows.specs.TraceBuilder.{builder_layout, builder_window};
 ghost use Rattle.lookup_model.specs.Records.{AllFit, HasEqualLengths, IsWithin};
 ghost use Rattle.lookup_model.specs.Sent.{branches_at, flags_at, value, values};
 
-use crate::arena::{Contributions, Cut, merge_at_limit};
+use crate::arena::{Contributions, TupleSpan, merge_at_limit};
 use crate::fault::Location;
 use crate::walk::RowVisitor;
 use air::SymbolicExpression;
@@ -44,11 +44,11 @@ fn push_branch<F: Field>(
 ) -> Result<(), AllocError>
     requires within { AreWithin contributions.now }
     requires fits { AllFit (builder_layout builder.now) tuple.now }
-    ensures { (place : Place) → OnOk result (Appends contributions.old contributions.new
+    ensures { (location : SentLocation) → OnOk result (Appends contributions.old contributions.new
         (nonzero F.ring F.eq (record {
           tuple = values F.ring (builder_window builder.now) tuple.now;
           amount = amount;
-          place = place;
+          location = location;
         } ∷ []))) }
 {
     if amount == F::ZERO {
@@ -57,7 +57,7 @@ fn push_branch<F: Field>(
     let start = contributions.elements.len();
     push_tuple(&mut contributions.elements, tuple, builder)?;
     let end = contributions.elements.len();
-    contributions.cuts.push(Cut { start, end, amount })?;
+    contributions.spans.push(TupleSpan { start, end, amount })?;
     Ok(())
 }
 
@@ -111,8 +111,8 @@ fn push_on_row<F: Field>(
     requires within { AreWithin contributions.now }
     requires lengths { HasEqualLengths lookup.now }
     requires fits { IsWithin (builder_layout builder.now) lookup.now }
-    ensures { (place : Place) → OnOk result (Appends contributions.old contributions.new
-        (contributions_at F.ring F.eq place (builder_window builder.now) lookup.now)) }
+    ensures { (location : SentLocation) → OnOk result (Appends contributions.old contributions.new
+        (contributions_at F.ring F.eq location (builder_window builder.now) lookup.now)) }
 {
     for branch in 0..lookup.elements.len() {
         let tuple = &lookup.elements[branch];

@@ -1,8 +1,8 @@
 //! What the debug check finds.
 ghost use Rattle.std.specs.Prelude.{◌≡◌, IfOk, OnOk, ◌++◌, codes, string_bytes, map};
 ghost use Rattle.std.specs.List.{flat_map, join_by};
-ghost use Rattle.lookup_debug.specs.Contributions.{place_of};
-ghost use Rattle.lookup_debug.specs.FaultText.{fault_text, place_text};
+ghost use Rattle.lookup_debug.specs.Contributions.{location_of};
+ghost use Rattle.lookup_debug.specs.FaultText.{fault_text, location_text};
 
 use field::Field;
 use std::alloc::{AllocError, AllocFailed, Global};
@@ -59,7 +59,7 @@ impl<F, T: Drop> From<AllocFailed<T>> for LookupFault<F> {
 
 impl<F: Field> LookupFault<F> {
     /// The fault as a sentence: `Lookup mismatch (LABEL): tuple [T, T] has net multiplicity N at instance
-    /// I lookup L row R`, with further places after `; `, or `out of memory`.
+    /// I lookup L row R`, with further locations after `; `, or `out of memory`.
     ///
     /// Fails only when out of memory.
     pub fn text(&self, alloc: Global) -> Result<String, AllocError>
@@ -111,14 +111,14 @@ fn push_further_elements(line: &mut String, elements: &[String]) -> Result<(), A
     Ok(())
 }
 
-/// Appends the texts of places, separated by a semicolon and a space.
+/// Appends the texts of locations, separated by a semicolon and a space.
 fn push_locations(
     alloc: Global,
     line: &mut String,
     locations: &[Location],
 ) -> Result<(), AllocError>
     ensures { OnOk result (string_bytes line.new ≡ string_bytes line.old
-        ++ join_by place_text (codes "; ") (map place_of locations.now)) }
+        ++ join_by location_text (codes "; ") (map location_of locations.now)) }
 {
     if let Some((first, rest)) = locations.split_first() {
         push_location(alloc, line, first)?;
@@ -127,14 +127,14 @@ fn push_locations(
     Ok(())
 }
 
-/// Appends further places, each after a semicolon and a space.
+/// Appends further locations, each after a semicolon and a space.
 fn push_further_locations(
     alloc: Global,
     line: &mut String,
     locations: &[Location],
 ) -> Result<(), AllocError>
     ensures { OnOk result (string_bytes line.new ≡ string_bytes line.old
-        ++ flat_map (λ p. codes "; " ++ place_text p) (map place_of locations.now)) }
+        ++ flat_map (λ p. codes "; " ++ location_text p) (map location_of locations.now)) }
 {
     for location in locations {
         line.push_str("; ")?;
@@ -143,10 +143,10 @@ fn push_further_locations(
     Ok(())
 }
 
-/// Appends the text of a place.
+/// Appends the text of a location.
 fn push_location(alloc: Global, line: &mut String, location: &Location) -> Result<(), AllocError>
     ensures { OnOk result (string_bytes line.new ≡ string_bytes line.old
-        ++ place_text (place_of location.now)) }
+        ++ location_text (location_of location.now)) }
 {
     let Location {
         instance,

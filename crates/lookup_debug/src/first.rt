@@ -3,11 +3,11 @@ ghost use Rattle.std.specs.Prelude.{◌≡◌, ◌<◌, ◌+◌, IfOk, List, Mat
 ghost use Rattle.std.specs.Cmp.Lexicographic.{slice_cmp};
 ghost use Rattle.std.specs.Ordering.{nat_cmp};
 ghost use Rattle.indexmap.specs.IndexMap.{index_map_len};
-ghost use Rattle.lookup_debug.specs.Appended.{placeless};
+ghost use Rattle.lookup_debug.specs.Appended.{without_location};
 ghost use Rattle.lookup_debug.specs.Arena.{AreWithin, amounts_in};
 ghost use Rattle.lookup_debug.specs.Contributions.{Contribution};
 ghost use Rattle.lookup_debug.specs.Mismatch.{Balances, IsFirst, net_amount, text_cmp};
-ghost use Rattle.lookup_debug.specs.Nets.{IsFirstPlace, amount_nets};
+ghost use Rattle.lookup_debug.specs.Nets.{IsFirstIndex, amount_nets};
 
 use crate::arena::{Contributions, entry_at, nets};
 use field::Field;
@@ -25,51 +25,51 @@ pub(crate) fn first_mismatch<'a, F: Field>(
     requires within { AreWithin contributions.now }
     ensures { (cs : List (Contribution F))
         → amount_nets F.ring F.eq (amounts_in contributions.now)
-        ≡ amount_nets F.ring F.eq (map placeless cs)
+        ≡ amount_nets F.ring F.eq (map without_location cs)
         → IfOk result (λ found. MatchOption found
         (Balances F.ring F.eq cs)
         (λ m. IsFirst F.ring F.eq F.text cs m.0.now × (m.1 ≡ net_amount F.ring F.eq cs m.0.now))) }
 {
     let nets = nets(alloc, contributions)?;
-    let Some(place) = least(alloc, &nets)? else {
+    let Some(index) = least(alloc, &nets)? else {
         return Ok(None);
     };
-    Ok(Some(entry_at(&nets, place)))
+    Ok(Some(entry_at(&nets, index)))
 }
 
-/// The place of the least tuple whose net is not zero, and of several with its texts the first.
+/// The index of the least tuple whose net is not zero, and of several with its texts the first.
 fn least<F: Field>(alloc: Global, nets: &IndexMap<&[F], F>) -> Result<Option<usize>, AllocError>
-    ensures { IfOk result (IsFirstPlace F.ring F.eq F.text nets.now.entries
+    ensures { IfOk result (IsFirstIndex F.ring F.eq F.text nets.now.entries
         (index_map_len nets.now)) }
 {
     let mut best = None;
-    for place in 0..nets.len() {
-        best = better(alloc, nets, best, place)?;
+    for index in 0..nets.len() {
+        best = better(alloc, nets, best, index)?;
     }
     Ok(best)
 }
 
-/// That of the entries up to `place` and with it, where `best` is that of the entries before it.
+/// That of the entries up to `index` and with it, where `best` is that of the entries before it.
 fn better<F: Field>(
     alloc: Global,
     nets: &IndexMap<&[F], F>,
     best: Option<usize>,
-    place: usize,
+    index: usize,
 ) -> Result<Option<usize>, AllocError>
-    requires within { place < index_map_len nets.now }
-    requires best { IsFirstPlace F.ring F.eq F.text nets.now.entries place best }
-    ensures { IfOk result (IsFirstPlace F.ring F.eq F.text nets.now.entries (place + 1)) }
+    requires within { index < index_map_len nets.now }
+    requires best { IsFirstIndex F.ring F.eq F.text nets.now.entries index best }
+    ensures { IfOk result (IsFirstIndex F.ring F.eq F.text nets.now.entries (index + 1)) }
 {
-    let (tuple, net) = entry_at(nets, place);
+    let (tuple, net) = entry_at(nets, index);
     if net == F::ZERO {
         return Ok(best);
     }
     let Some(least) = best else {
-        return Ok(Some(place));
+        return Ok(Some(index));
     };
     let (other, _) = entry_at(nets, least);
     if text_order(alloc, tuple, other)? == Ordering::Less {
-        Ok(Some(place))
+        Ok(Some(index))
     } else {
         Ok(Some(least))
     }
@@ -79,13 +79,13 @@ fn better<F: Field>(
 fn text_order<F: Field>(alloc: Global, a: &[F], b: &[F]) -> Result<Ordering, AllocError>
     ensures { IfOk result (λ o. o ≡ text_cmp F.text a.now b.now) }
 {
-    let mut place = 0;
-    while place < a.len() && place < b.len() {
-        let order = element_order(alloc, a[place], b[place])?;
+    let mut index = 0;
+    while index < a.len() && index < b.len() {
+        let order = element_order(alloc, a[index], b[index])?;
         if order != Ordering::Equal {
             return Ok(order);
         }
-        place += 1;
+        index += 1;
     }
     Ok(a.len().cmp(&b.len()))
 }

@@ -4,7 +4,8 @@ ghost use Rattle.std.specs.Cmp.Lexicographic.{pointwise};
 ghost use Rattle.std.specs.List.{filter_map};
 ghost use Rattle.indexmap.specs.IndexSet.{keys};
 ghost use Rattle.lookup_debug.specs.Contributions.{traced_of};
-ghost use Rattle.lookup_debug.specs.Groups.{bus_names, is_named};
+ghost use Rattle.lookup_debug.specs.Groups.{traced_bus_names};
+ghost use Rattle.lookup_model.specs.Names.{is_named};
 ghost use Rattle.lookup_model.specs.Net.{first_seen};
 ghost use Rattle.lookup_model.specs.Outline.{bus_of};
 
@@ -20,17 +21,17 @@ pub(crate) fn bus_names<'a, F: Field>(
     instances: &'a [LookupDebugInstance<'a, F>],
 ) -> Result<Vec<&'a str>, AllocError>
     ensures { IfOk result (λ names. map (λ n. n.now) names.items
-        ≡ bus_names (map traced_of instances.now)) }
+        ≡ traced_bus_names (map traced_of instances.now)) }
 {
     let mut names = IndexSet::new(alloc);
     for instance in instances {
         add_names(&mut names, instance.lookups)?;
     }
-    listed(alloc, names)
+    collect_names(alloc, names)
 }
 
 /// The names of a set, in their order.
-fn listed<'a>(alloc: Global, names: IndexSet<&'a str>) -> Result<Vec<&'a str>, AllocError>
+fn collect_names<'a>(alloc: Global, names: IndexSet<&'a str>) -> Result<Vec<&'a str>, AllocError>
     ensures { IfOk result (λ list. list.items ≡ keys names.entry) }
 {
     names.into_iter().collect(alloc)

@@ -2,8 +2,8 @@
 //! it.
 ghost use Rattle.std.specs.Prelude.{◌≡◌, List, OnOk, Some, filter, map, slice_get};
 ghost use Rattle.std.specs.List.{flat_map};
-ghost use Rattle.lookup_debug.specs.Contributions.{AreFitting, Contribution, IsFitting, contributions_at, contributions_of, place_of, traced_of};
-ghost use Rattle.lookup_debug.specs.Groups.{is_on, placed, placed_contributions, placed_in};
+ghost use Rattle.lookup_debug.specs.Contributions.{AreFitting, Contribution, IsTracedFitting, contributions_at, contributions_of, location_of, traced_of};
+ghost use Rattle.lookup_debug.specs.Groups.{is_on, all_lookups, lookup_contributions, lookups_in};
 ghost use Rattle.lookup_debug.specs.Walks.{IsWalk};
 ghost use Rattle.lookup_rows.specs.TraceBuilder.{builder_layout, builder_window};
 ghost use Rattle.lookup_model.specs.Records.{HasEqualLengths, IsWithin};
@@ -11,6 +11,7 @@ ghost use Rattle.lookup_model.specs.Records.{HasEqualLengths, IsWithin};
 use crate::fault::Location;
 use crate::groups::is_on_bus;
 use crate::instance::LookupDebugInstance;
+use air::Traces;
 use field::Field;
 use lookup_model::Lookup;
 use lookup_rows::{LookupTraceBuilder, row_builder};
@@ -37,40 +38,38 @@ pub(crate) trait RowVisitor<F: Field> {
         requires lengths { HasEqualLengths lookup.now }
         requires fits { IsWithin (builder_layout builder.now) lookup.now }
         ensures { OnOk result (does self.old self.new
-            (contributions_at F.ring F.eq (place_of location) (builder_window builder.now)
+            (contributions_at F.ring F.eq (location_of location) (builder_window builder.now)
             lookup.now)) };
 
     ghost walks: { IsWalk ready does };
 }
 
-/// Visits the lookup at `place` of an AIR on all rows of its traces.
+/// Visits the lookup at `index` of an AIR on all rows of its traces.
 pub(crate) fn walk_lookup<F: Field, V: RowVisitor<F>>(
     alloc: Global,
     visitor: &mut V,
     traced: &LookupDebugInstance<'_, F>,
     lookup: &Lookup<F>,
     instance: usize,
-    place: usize,
+    index: usize,
 ) -> Result<(), AllocError>
     requires ready { V.ready visitor.now }
-    requires there { slice_get traced.now.lookups.now place ≡ Some lookup.now }
-    requires fit { IsFitting (traced_of traced.now) }
+    requires there { slice_get traced.now.lookups.now index ≡ Some lookup.now }
+    requires fit { IsTracedFitting (traced_of traced.now) }
     ensures { OnOk result (V.does visitor.old visitor.new
-        (contributions_of F.ring F.eq instance place (traced_of traced.now) lookup.now)) }
+        (contributions_of F.ring F.eq instance index (traced_of traced.now) lookup.now)) }
 {
+    let traces = Traces {
+        main: traced.main_trace,
+        preprocessed: traced.preprocessed_trace,
+        public_values: traced.public_values,
+    };
     let rows = traced.main_trace.height();
     for row in 0..rows {
-        let builder = row_builder(
-            traced.main_trace,
-            traced.preprocessed_trace,
-            traced.public_values,
-            traced.permutation_challenges,
-            rows,
-            row,
-        );
+        let builder = row_builder(&traces, traced.permutation_challenges, rows, row);
         let location = Location {
             instance,
-            lookup: place,
+            lookup: index,
             row,
         };
         visitor.visit(alloc, lookup, &builder, location)?;
@@ -88,8 +87,8 @@ pub(crate) fn walk_bus<F: Field, V: RowVisitor<F>>(
     requires ready { V.ready visitor.now }
     requires fit { AreFitting instances.now }
     ensures { OnOk result (V.does visitor.old visitor.new
-        (flat_map (placed_contributions F.ring F.eq)
-        (filter (is_on name.now) (placed (map traced_of instances.now))))) }
+        (flat_map (lookup_contributions F.ring F.eq)
+        (filter (is_on name.now) (all_lookups (map traced_of instances.now))))) }
 {
     for instance in 0..instances.len() {
         walk_bus_of(alloc, visitor, &instances[instance], instance, name)?;
@@ -106,15 +105,15 @@ fn walk_bus_of<F: Field, V: RowVisitor<F>>(
     name: &str,
 ) -> Result<(), AllocError>
     requires ready { V.ready visitor.now }
-    requires fit { IsFitting (traced_of traced.now) }
+    requires fit { IsTracedFitting (traced_of traced.now) }
     ensures { OnOk result (V.does visitor.old visitor.new
-        (flat_map (placed_contributions F.ring F.eq)
-        (filter (is_on name.now) (placed_in (instance, traced_of traced.now))))) }
+        (flat_map (lookup_contributions F.ring F.eq)
+        (filter (is_on name.now) (lookups_in (instance, traced_of traced.now))))) }
 {
-    for place in 0..traced.lookups.len() {
-        let lookup = &traced.lookups[place];
+    for index in 0..traced.lookups.len() {
+        let lookup = &traced.lookups[index];
         if is_on_bus(lookup, name) {
-            walk_lookup(alloc, visitor, traced, lookup, instance, place)?;
+            walk_lookup(alloc, visitor, traced, lookup, instance, index)?;
         }
     }
     Ok(())

@@ -10,7 +10,7 @@ ghost use Rattle.lookup_model.specs.LookupDegree.{additive_denominator_degree, a
 ghost use Rattle.lookup_model.specs.Records.{AllFit, HasEqualLengths, IsWithin};
 ghost use Rattle.lookup_model.specs.Sent.{branches_at, value, values};
 
-use crate::denominator::{denominator, lifted};
+use crate::denominator::{denominator, lift_expression};
 use crate::quotient::{Quotient, add_quotient, no_quotient};
 use expressions::{PermutationAirBuilder, SymbolicExpression};
 use field::Over;
@@ -56,7 +56,7 @@ fn with_tuple<AB: PermutationAirBuilder>(
         ≤ AB.ExprEF.degree quotient.denominator t + tuple_degree t tuple.now) }
 {
     let denominator = denominator(alloc, builder, main, tuple, alpha, beta)?;
-    let numerator = lifted(alloc, builder, main, multiplicity)?;
+    let numerator = lift_expression(alloc, builder, main, multiplicity)?;
     add_quotient(alloc, quotient, numerator, denominator)
 }
 

@@ -12,7 +12,7 @@ ghost use Rattle.lookup_model.specs.LookupDegree.{exclusive_denominator_degree, 
 ghost use Rattle.lookup_model.specs.Records.{AllFit, HasEqualLengths, IsWithin};
 ghost use Rattle.lookup_model.specs.Sent.{branches_at, value, values};
 
-use crate::denominator::{denominator, lifted};
+use crate::denominator::{denominator, lift_expression};
 use crate::quotient::Quotient;
 use expressions::{Expression, PermutationAirBuilder, SymbolicExpression};
 use field::{Field, Over, PrimeCharacteristicRing};
@@ -76,7 +76,7 @@ fn select<K: Field, E: Expression<K>>(
 }
 
 /// The selected quotient: zero over one if no flag is set.
-fn selected<K: Field, E: Expression<K>>(
+fn selected_quotient<K: Field, E: Expression<K>>(
     alloc: Global,
     selection: Selection<E>,
 ) -> Result<Quotient<E>, AllocError>
@@ -140,8 +140,8 @@ fn with_branch<AB: PermutationAirBuilder>(
         ≤ max (AB.ExprEF.degree selection.flags t) (expression_degree t flag.now)) }
 {
     let denominator = denominator(alloc, builder, main, tuple, alpha, beta)?;
-    let numerator = lifted(alloc, builder, main, multiplicity)?;
-    let flag = lifted(alloc, builder, main, flag)?;
+    let numerator = lift_expression(alloc, builder, main, multiplicity)?;
+    let flag = lift_expression(alloc, builder, main, flag)?;
     select(alloc, selection, flag, numerator, denominator)
 }
 
@@ -247,5 +247,5 @@ pub(crate) fn exclusive_quotient<AB: PermutationAirBuilder>(
         (lookup_branch_degrees t lookup.now)) }
 {
     let selection = selection_of(alloc, builder, main, lookup, flags, alpha, beta)?;
-    selected(alloc, selection)
+    selected_quotient(alloc, selection)
 }

@@ -3,7 +3,7 @@ ghost use Rattle.std.specs.Prelude.{◌≡◌, ◌+◌, ◌*◌, ◌<◌, ◌≤
 ghost use Rattle.expressions.specs.MainWindow.{IsMainWindow};
 ghost use Rattle.expressions.specs.Window.{ExtWindow};
 ghost use Rattle.lookup_evaluation.specs.Asserted.{EvaluatesOn, IsConstraintOn};
-ghost use Rattle.lookup_model.specs.Constraints.{denominator_at, fraction_constraint, fraction_denominator, fraction_numerator};
+ghost use Rattle.lookup_model.specs.Constraints.{column_tuple_denominator, fraction_constraint, fraction_denominator, fraction_numerator};
 ghost use Rattle.lookup_model.specs.LookupDegree.{lookup_degree};
 ghost use Rattle.lookup_model.specs.Records.{HasEqualLengths, IsWithin};
 ghost use Rattle.lookup_model.specs.Sent.{branches_at, flags_at};
@@ -11,7 +11,7 @@ ghost use Rattle.lookup_model.specs.Sent.{branches_at, flags_at};
 use crate::additive::additive_quotient;
 use crate::cells::{column_challenges, fraction_cell};
 use crate::exclusive::exclusive_quotient;
-use crate::quotient::{Quotient, pinned};
+use crate::quotient::{Quotient, pin_fraction};
 use expressions::{AirBuilder, AirError, BuilderView, ExtensionBuilder, PermutationAirBuilder};
 use field::Over;
 use lookup_model::Lookup;
@@ -40,14 +40,14 @@ pub fn quotient_of<AB: PermutationAirBuilder>(
         → AB.stands_for_ext builder.now w
         → let E = ⟦<AB::EF as Over<AB::F>>⟧.fields in
         AB.ExprEF.value r.numerator (AB.seen_ext w)
-        ≡ fraction_numerator E (denominator_at E lookup.now.column w)
+        ≡ fraction_numerator E (column_tuple_denominator E lookup.now.column w)
         (flags_at AB.F.ring w.base lookup.now)
         (branches_at AB.F.ring w.base lookup.now.column lookup.now)) }
     ensures denominator { IfOk result (λ r. (w : ExtWindow AB.F AB.EF)
         → AB.stands_for_ext builder.now w
         → let E = ⟦<AB::EF as Over<AB::F>>⟧.fields in
         AB.ExprEF.value r.denominator (AB.seen_ext w)
-        ≡ fraction_denominator E (denominator_at E lookup.now.column w)
+        ≡ fraction_denominator E (column_tuple_denominator E lookup.now.column w)
         (flags_at AB.F.ring w.base lookup.now)
         (branches_at AB.F.ring w.base lookup.now.column lookup.now)) }
     ensures degree { IfOk result (λ r. (t : ℕ)
@@ -81,7 +81,7 @@ fn fraction_expression<AB: PermutationAirBuilder>(
     let permutation = builder.permutation(alloc)?;
     let quotient = quotient_of(alloc, builder, &main, lookup)?;
     let fraction = fraction_cell(builder, &permutation, lookup.column);
-    Ok(pinned(alloc, quotient, fraction)?)
+    Ok(pin_fraction(alloc, quotient, fraction)?)
 }
 
 /// Asserts the lookup's equation.

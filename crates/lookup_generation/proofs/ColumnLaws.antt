@@ -6,8 +6,7 @@ use Rattle.std.proofs.lemmas.Slice.Zip.{all_zipped_more}
 use Rattle.std.specs.List.{AllZip, flat_map, range_with_len, slice_get}
 use Rattle.std.specs.Option.{option_map_or, option_or}
 use Rattle.lookup_columns.proofs.ZipLaws.{taken_more}
-use Rattle.lookup_columns.specs.Traces.{window_of}
-use Rattle.lookup_columns.specs.declared.traces.Traces.{Traces}
+use Rattle.air.specs.Traces.{AirTraces, window_of}
 use Rattle.lookup_columns.proofs.ChunkColumnLaws.{range-more}
 use Rattle.lookup_generation.specs.Fraction.{IsRatio}
 use Rattle.lookup_generation.specs.Progress.{AnswersColumn, AnswersColumns, AreFirstIn, HasColumn, HasColumns, HaveNoFault, IsFirstIn, column_fractions, sent_on}
@@ -71,14 +70,14 @@ module _ {F K : Type 0} (E : Extension F K) (denominator : Key F → K) where
   IsFirstIn-here sends column first before after fault is so_far = record { fault_is = is; faultless = so_far.faultless }
 
   -- no lookup yet
-  pub HasColumns-none : (traces : Traces F) (first end : ℕ) (ratios : List (Ratio K)) → ratios ≡ [] → HasColumns E denominator traces [] first end ratios
+  pub HasColumns-none : (traces : AirTraces F) (first end : ℕ) (ratios : List (Ratio K)) → ratios ≡ [] → HasColumns E denominator traces [] first end ratios
   HasColumns-none traces first end ratios none = record {
     ratios_are = subst (λ (rs : List (Ratio K)). AllZip (IsRatio E.ring) rs []) (sym none) tt;
     faultless = λ r low high. refl;
   }
 
   -- one more lookup
-  module _ (traces : Traces F) (lookups : List (Lookup F)) (records : AreRecords lookups) (c : ℕ) (lookup : Lookup F) (lt : c < length lookups) (is : lookup ≡ get_or lookups c lookup) where
+  module _ (traces : AirTraces F) (lookups : List (Lookup F)) (records : AreRecords lookups) (c : ℕ) (lookup : Lookup F) (lt : c < length lookups) (is : lookup ≡ get_or lookups c lookup) where
     sents : List (Lookup F) → ℕ → List (Sent F)
     sents ls r = sent_row E.base E.base_eq (window_of traces r) ls
 

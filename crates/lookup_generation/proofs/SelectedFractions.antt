@@ -3,7 +3,7 @@ use Rattle.std.proofs.Common.{◌≡◌, ◌≢◌, ℕ, ◌<◌, ◌||◌, fals
 use Rattle.std.proofs.lemmas.Bool.{false_from_ne_true}
 use Rattle.field.specs.Sums.{sum_in}
 use Rattle.field.specs.Extension.{Extension, IsLawful}
-use Rattle.lookup_model.specs.Fault.{are_boolean, fault_of, set_places, vanishes}
+use Rattle.lookup_model.specs.Fault.{are_boolean, fault_of, set_indices, vanishes}
 use Rattle.lookup_model.specs.Message.{Key, Message}
 use Rattle.lookup_model.specs.Plain.{plain_fraction}
 use Rattle.lookup_model.specs.Sent.{Sent, chosen, sent}
@@ -18,17 +18,17 @@ module _ {F K : Type 0} {E : Extension F K} (laws : IsLawful E) (denominator : K
   selected = sent E.base E.base_eq (Some flags) branches
 
   -- no set flag gives zero, and no fault
-  pub none_selected : set_places E.base E.base_eq 0 flags ≡ [] → (E.ring.zero ≡ plain_fraction E denominator selected) × (fault_of E denominator row column selected ≡ None)
+  pub none_selected : set_indices E.base E.base_eq 0 flags ≡ [] → (E.ring.zero ≡ plain_fraction E denominator selected) × (fault_of E denominator row column selected ≡ None)
   none_selected none =
       let empty = chosen_none E.base E.base_eq 0 flags branches none in (
         ap (λ ms. plain_fraction E denominator (record { flags = Some flags; messages = ms })) (sym empty),
         exclusive_faultless E denominator row column flags (chosen E.base E.base_eq flags branches) lawful (omega (arith, ap length none)) (ap (vanishes E denominator) empty),
       )
 
-  module _ (place : ℕ) (m : Message F) (one : set_places E.base E.base_eq 0 flags ≡ place ∷ []) (within : place < length branches) (is : m ≡ get_or branches place m) where
+  module _ (index : ℕ) (m : Message F) (one : set_indices E.base E.base_eq 0 flags ≡ index ∷ []) (within : index < length branches) (is : m ≡ get_or branches index m) where
     -- the message of the one set flag is what is sent
     only : chosen E.base E.base_eq flags branches ≡ m ∷ []
-    only = chosen_one E.base E.base_eq 0 place flags branches m (one ∙ ap (λ p. p ∷ []) (omega arith)) within is
+    only = chosen_one E.base E.base_eq 0 index flags branches m (one ∙ ap (λ p. p ∷ []) (omega arith)) within is
 
     -- its quotient is the fraction, where its denominator is not zero
     pub one_selected : denominator m.key ≢ E.ring.zero → (quotient_of E denominator m ≡ plain_fraction E denominator selected) × (fault_of E denominator row column selected ≡ None)

@@ -1,10 +1,8 @@
 -- An auxiliary trace while it is being made.
 use Rattle.std.specs.Prelude.{◌≡◌, ◌⊎◌, ◌<◌, ◌≤◌, ◌+◌, ◌-◌, ◌/◌, ℕ, All, Bool, List, [], ◌++◌, map, take, slice_get, slice_index_or, None, Option, Some, MatchOption}
 use Rattle.std.specs.List.{AllZip, flat_map, range_with_len}
-use Rattle.std.specs.Option.{option_copied}
 use Rattle.field.specs.Ring.{Ring}
-use Rattle.lookup_columns.specs.Traces.{window_of}
-use Rattle.lookup_columns.specs.declared.traces.Traces.{Traces}
+use Rattle.air.specs.Traces.{AirTraces, window_of}
 use Rattle.matrix.specs.Matrix.{Matrix, height, row}
 use Rattle.field.specs.Extension.{Extension}
 use Rattle.lookup_model.specs.Fault.{fault_of, row_faults, trace_faults}
@@ -19,21 +17,17 @@ use Rattle.lookup_generation.specs.declared.ratio.Ratio.{Ratio}
 use Rattle.lookup_model.specs.declared.error.LookupError.{LookupError}
 use Rattle.lookup_model.specs.declared.error.LookupError.TheVariants.{Memory}
 
--- what lookups send on each row of traces
-abbrev pub sent_rows_of : {F : Type 0} → Ring F → (F → F → Bool) → Traces F → List (Lookup F) → List (List (Sent F))
-sent_rows_of R eq traces = sent_rows R eq traces.main.now (option_copied traces.preprocessed) traces.public_values.now
-
 -- out of memory, or the first of these faults
 abbrev pub IsFirstOf : List LookupError → LookupError → Type 0
 IsFirstOf faults e = (e ≡ Memory) ⊎ (slice_get faults 0 ≡ Some e)
 
 -- what a lookup sends on each row of traces, under its column as its id
-abbrev pub sent_on : {F : Type 0} → Ring F → (F → F → Bool) → Traces F → Lookup F → ℕ → Sent F
+abbrev pub sent_on : {F : Type 0} → Ring F → (F → F → Bool) → AirTraces F → Lookup F → ℕ → Sent F
 sent_on R eq traces lookup r = sent_at R eq (window_of traces r) lookup.column lookup
 
--- the values at one place of each row of a matrix
+-- the cells of one column of a matrix, row by row
 abbrev pub column_cells : {T : Type 0} → T → Matrix T → ℕ → List T
-column_cells default m place = map (λ r. slice_index_or (row m r) place default) (range_with_len 0 (height m))
+column_cells default m index = map (λ r. slice_index_or (row m r) index default) (range_with_len 0 (height m))
 
 module _ {F K : Type 0} (E : Extension F K) (denominator : Key F → K) where
   -- the fractions of what is sent on n rows from `first` on
@@ -61,7 +55,7 @@ module _ {F K : Type 0} (E : Extension F K) (denominator : Key F → K) where
   AnswersColumn sends column first end before after found =
       MatchOption found (HasColumn sends column first end before after) (IsFirstIn sends column first)
 
-  module _ (traces : Traces F) (lookups : List (Lookup F)) where
+  module _ (traces : AirTraces F) (lookups : List (Lookup F)) where
     -- what lookups send on these rows has no fault
     abbrev pub HaveNoFault : ℕ → ℕ → Type 0
     HaveNoFault first end =
@@ -91,7 +85,7 @@ module _ {F K : Type 0} (E : Extension F K) (denominator : Key F → K) where
     -- before `end` has a fault.
     pub record AreRatios (first end : ℕ) (ratios : List (Ratio K)) : Type 0 where
       pub ratios_are : AllZip (IsRatio E.ring) ratios (all_fractions first (end - first))
-      pub faultless : trace_faults E denominator (take end (sent_rows_of E.base E.base_eq traces lookups)) ≡ []
+      pub faultless : trace_faults E denominator (take end (sent_rows E.base E.base_eq traces lookups)) ≡ []
 
   -- the cells are those of the first r rows, and the accumulator is that of row r
   pub record HasCells (rows : List (List (Sent F))) (r : ℕ) (cells : List K) (accumulator : K) : Type 0 where

@@ -1,35 +1,35 @@
 //! The fraction of an exclusive lookup on one row.
 ghost use Rattle.std.specs.Prelude.{◌≡◌, ◌≢◌, ◌<◌, All, IfOk, List, [], length, MatchResult};
 ghost use Rattle.std.specs.List.{AllZip};
+ghost use Rattle.air.specs.Traces.{traces_of, window_of};
 ghost use Rattle.lookup_rows.specs.Selection.{AnswersFlags};
-ghost use Rattle.lookup_rows.specs.TraceBuilder.{builder_challenges, builder_window};
 ghost use Rattle.lookup_generation.specs.Inverses.{ForExtensions};
-ghost use Rattle.lookup_columns.specs.ChunkColumns.{HasFlag, HoldSelected, key_denominator};
+ghost use Rattle.lookup_columns.specs.ChunkColumns.{HasFlag, HoldSelected, key_denominator_over};
 ghost use Rattle.lookup_generation.specs.Fraction.{IsRatio};
 ghost use Rattle.lookup_generation.specs.RowAnswers.{AnswersExclusive};
 ghost use Rattle.lookup_model.specs.Sent.{branches_at, values};
 
 use crate::ratio::Ratio;
-use air::SymbolicExpression;
+use air::{SymbolicExpression, Traces};
 use field::{ExtensionDomain, Field};
 use lookup_columns::BranchColumns;
 use lookup_model::{Lookup, LookupError};
-use lookup_rows::{LookupTraceBuilder, SetFlags, with_flag};
+use lookup_rows::{SetFlags, with_flag};
 
-/// The set flags of an exclusive lookup, at a place of its columns.
+/// The set flags of an exclusive lookup, at an index of its columns.
 fn set_flags_at<F: Field, EF: ExtensionDomain<F>>(
     columns: &[BranchColumns<F, EF>],
-    place: usize,
+    index: usize,
     row: usize,
     column: usize,
 ) -> Result<SetFlags, LookupError>
-    requires { All (λ c. place < length c.flags.items) columns.now }
-    ensures { (flags : List F) → AllZip (HasFlag place) columns.now flags
+    requires { All (λ c. index < length c.flags.items) columns.now }
+    ensures { (flags : List F) → AllZip (HasFlag index) columns.now flags
         → AnswersFlags F.ring F.eq row column flags result }
 {
     let mut set = SetFlags::Nothing;
     for branch in 0..columns.len() {
-        let flag = columns[branch].flags[place];
+        let flag = columns[branch].flags[index];
         set = with_flag(set, branch, flag, row, column)?;
     }
     Ok(set)
@@ -48,7 +48,7 @@ fn branch_ratio<F: Field, EF: ExtensionDomain<F>>(
         (λ r. (denominator ≢ EF.ring.zero)
         × ((q : EF) → EF.ring.mul denominator q ≡ EF.embed multiplicity → IsRatio EF.ring r q))
         (λ e. (e ≡ LookupError.VanishingDenominator row column) × (denominator ≡ EF.ring.zero)) }
-    ensures sound { IfOk result (λ r. r.denominator ≢ EF.ring.zero) }
+    ensures defined { IfOk result (λ r. r.denominator ≢ EF.ring.zero) }
 {
     if denominator.is_zero() {
         Err(LookupError::VanishingDenominator {
@@ -60,8 +60,8 @@ fn branch_ratio<F: Field, EF: ExtensionDomain<F>>(
     }
 }
 
-/// The ratio of the tuple whose flag is set, zero if no flag is set, read off the lookup's columns at
-/// the row's place in its chunk.
+/// The ratio of the tuple whose flag is set on a row of the traces, zero if no flag is set, read off
+/// the lookup's columns at the row's index in its chunk.
 ///
 /// Refused, in this order: a flag that is neither zero nor one, more than one set flag, and a
 /// denominator that vanishes, even if its multiplicity is zero. The denominators of the other
@@ -69,27 +69,27 @@ fn branch_ratio<F: Field, EF: ExtensionDomain<F>>(
 pub(crate) fn exclusive_fraction<F: Field, EF: ExtensionDomain<F>>(
     lookup: &Lookup<F>,
     columns: &[BranchColumns<F, EF>],
-    place: usize,
+    index: usize,
     flags: &[SymbolicExpression<F>],
-    builder: &LookupTraceBuilder<'_, F, EF>,
+    traces: &Traces<'_, F>,
+    challenges: &[EF],
+    row: usize,
 ) -> Result<Ratio<EF>, LookupError>
-    requires { HoldSelected F.ring (key_denominator EF.ring EF.embed
-        (builder_challenges builder.now)) place columns.now
-        (values F.ring (builder_window builder.now) flags.now)
-        (branches_at F.ring (builder_window builder.now) lookup.now.column lookup.now) }
+    requires { HoldSelected F.ring (key_denominator_over EF.ring EF.embed challenges.now) index
+        columns.now (values F.ring (window_of (traces_of traces.now) row) flags.now)
+        (branches_at F.ring (window_of (traces_of traces.now) row) lookup.now.column lookup.now) }
     ensures answers { ForExtensions F.ring F.eq EF.ring EF.eq EF.embed (λ E.
-        AnswersExclusive E builder.now lookup.now flags.now result) }
-    ensures sound { IfOk result (λ r. r.denominator ≢ EF.ring.zero) }
+        AnswersExclusive E challenges.now (traces_of traces.now) row lookup.now flags.now result) }
+    ensures defined { IfOk result (λ r. r.denominator ≢ EF.ring.zero) }
     ensures bare { lookup.now.elements.items ≡ []
         → IfOk result (λ r. r.denominator ≡ EF.ring.one) }
 {
-    let row = builder.row();
     let column = lookup.column;
-    match set_flags_at(columns, place, row, column)? {
+    match set_flags_at(columns, index, row, column)? {
         SetFlags::Nothing => Ok(Ratio::zero()),
         SetFlags::One(branch) => {
             let branch = &columns[branch];
-            let at = branch.places[place];
+            let at = branch.indices[index];
             branch_ratio(
                 branch.multiplicities[at],
                 branch.denominators[at],

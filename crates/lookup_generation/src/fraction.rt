@@ -1,20 +1,20 @@
 //! The fraction of one lookup on one row, as a ratio: nothing is divided yet.
 ghost use Rattle.std.specs.Prelude.{◌≡◌, ◌≢◌, ◌+◌, ◌<◌, None, Some, IfOk, IfErr, List, [], ◌∷◌, ◌++◌};
 ghost use Rattle.std.specs.List.{AllZip};
+ghost use Rattle.air.specs.Traces.{traces_of, window_of};
 ghost use Rattle.lookup_generation.specs.Inverses.{ForExtensions};
-ghost use Rattle.lookup_columns.specs.ChunkColumns.{HoldLookup, IsHeld, key_denominator};
+ghost use Rattle.lookup_columns.specs.ChunkColumns.{HoldLookup, IsHeld, key_denominator_over};
 ghost use Rattle.lookup_generation.specs.RowAnswers.{AnswersAdditive, AnswersFraction};
 ghost use Rattle.lookup_generation.specs.Fraction.{IsFractionOf};
 ghost use Rattle.lookup_model.specs.Message.{Key, Message};
 ghost use Rattle.lookup_model.specs.Sent.{branches_at};
-ghost use Rattle.lookup_rows.specs.TraceBuilder.{builder_challenges, builder_window};
 
 use crate::exclusive::exclusive_fraction;
 use crate::ratio::Ratio;
+use air::Traces;
 use field::{ExtensionDomain, Field};
 use lookup_columns::BranchColumns;
 use lookup_model::{Lookup, LookupError};
-use lookup_rows::LookupTraceBuilder;
 
 /// The fraction so far plus, if its multiplicity is not zero, the quotient of one more tuple.
 ///
@@ -34,7 +34,7 @@ fn with_branch<F: Field, EF: ExtensionDomain<F>>(
         → IsFractionOf E denominators (messages ++ message ∷ []) next)) }
     ensures refused { IfErr result (λ e. (e ≡ LookupError.VanishingDenominator row column)
         × (multiplicity ≢ F.ring.zero) × (denominator ≡ EF.ring.zero)) }
-    ensures sound { IfOk result (λ next. fraction.denominator ≢ EF.ring.zero
+    ensures defined { IfOk result (λ next. fraction.denominator ≢ EF.ring.zero
         → next.denominator ≢ EF.ring.zero) }
 {
     if multiplicity.is_zero() {
@@ -49,56 +49,56 @@ fn with_branch<F: Field, EF: ExtensionDomain<F>>(
     }
 }
 
-/// The sum of the quotients of all tuples of a lookup whose multiplicity is not zero.
+/// The sum of the quotients of all tuples of a lookup whose multiplicity on a row of the traces is not
+/// zero, read off the lookup's columns at the row's index in its chunk.
 fn additive_fraction<F: Field, EF: ExtensionDomain<F>>(
     lookup: &Lookup<F>,
     columns: &[BranchColumns<F, EF>],
-    place: usize,
-    builder: &LookupTraceBuilder<'_, F, EF>,
+    index: usize,
+    traces: &Traces<'_, F>,
+    challenges: &[EF],
+    row: usize,
 ) -> Result<Ratio<EF>, LookupError>
-    requires { AllZip (IsHeld (key_denominator EF.ring EF.embed
-        (builder_challenges builder.now)) place) columns.now
-        (branches_at F.ring (builder_window builder.now) lookup.now.column lookup.now) }
+    requires { AllZip (IsHeld (key_denominator_over EF.ring EF.embed challenges.now) index)
+        columns.now
+        (branches_at F.ring (window_of (traces_of traces.now) row) lookup.now.column lookup.now) }
     ensures answers { ForExtensions F.ring F.eq EF.ring EF.eq EF.embed (λ E.
-        AnswersAdditive E builder.now lookup.now result) }
-    ensures sound { IfOk result (λ r. r.denominator ≢ EF.ring.zero) }
+        AnswersAdditive E challenges.now (traces_of traces.now) row lookup.now result) }
+    ensures defined { IfOk result (λ r. r.denominator ≢ EF.ring.zero) }
     ensures bare { lookup.now.elements.items ≡ []
         → IfOk result (λ r. r.denominator ≡ EF.ring.one) }
 {
     let mut fraction = Ratio::zero();
     for branch in columns {
-        let multiplicity = branch.multiplicities[place];
-        let denominator = branch.denominators[place];
-        fraction = with_branch(
-            fraction,
-            multiplicity,
-            denominator,
-            builder.row(),
-            lookup.column,
-        )?;
+        let multiplicity = branch.multiplicities[index];
+        let denominator = branch.denominators[index];
+        fraction = with_branch(fraction, multiplicity, denominator, row, lookup.column)?;
     }
     Ok(fraction)
 }
 
-/// The fraction of a lookup on the builder's row, read off its columns at the row's place in its chunk.
+/// The fraction of a lookup on a row of the traces, read off its columns at the row's index in its
+/// chunk.
 ///
 /// Refuses the lookup's fault on that row, if it has one.
 pub(crate) fn fraction<F: Field, EF: ExtensionDomain<F>>(
     lookup: &Lookup<F>,
     columns: &[BranchColumns<F, EF>],
-    place: usize,
-    builder: &LookupTraceBuilder<'_, F, EF>,
+    index: usize,
+    traces: &Traces<'_, F>,
+    challenges: &[EF],
+    row: usize,
 ) -> Result<Ratio<EF>, LookupError>
-    requires { HoldLookup F.ring EF.ring EF.embed (builder_challenges builder.now)
-        (builder_window builder.now) place lookup.now columns.now }
+    requires { HoldLookup F.ring EF.ring EF.embed challenges.now
+        (window_of (traces_of traces.now) row) index lookup.now columns.now }
     ensures answers { ForExtensions F.ring F.eq EF.ring EF.eq EF.embed (λ E.
-        AnswersFraction E builder.now lookup.now result) }
-    ensures sound { IfOk result (λ r. r.denominator ≢ EF.ring.zero) }
+        AnswersFraction E challenges.now (traces_of traces.now) row lookup.now result) }
+    ensures defined { IfOk result (λ r. r.denominator ≢ EF.ring.zero) }
     ensures bare { lookup.now.elements.items ≡ []
         → IfOk result (λ r. r.denominator ≡ EF.ring.one) }
 {
     match &lookup.flags {
-        None => additive_fraction(lookup, columns, place, builder),
-        Some(flags) => exclusive_fraction(lookup, columns, place, flags, builder),
+        None => additive_fraction(lookup, columns, index, traces, challenges, row),
+        Some(flags) => exclusive_fraction(lookup, columns, index, flags, traces, challenges, row),
     }
 }

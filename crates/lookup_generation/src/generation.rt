@@ -2,29 +2,28 @@
 //! column at a time, and divided by at most one inverse.
 ghost use Rattle.std.specs.Prelude.{◌≡◌, ◌+◌, ◌-◌, ◌*◌, ◌%◌, ℕ, ◌<◌, ◌≤◌, ◌⊎◌, ◌++◌, ◌∷◌, [], None, IfErr, IfOk, IfSome, MatchResult, length, take};
 ghost use Rattle.std.specs.List.{AllZip};
-ghost use Rattle.std.specs.Option.{ForSome, option_copied, option_map_or};
-ghost use Rattle.expressions.specs.Layout.{layout_of_traces};
-ghost use Rattle.lookup_columns.specs.Traces.{layout_of, height_of, window_of};
-ghost use Rattle.lookup_model.specs.Denominators.{column_denominator};
+ghost use Rattle.std.specs.Option.{option_map_or};
+ghost use Rattle.air.specs.Traces.{height_of, layout_of, traces_of, window_of};
+ghost use Rattle.lookup_model.specs.Denominators.{key_denominator};
 ghost use Rattle.lookup_model.specs.Fault.{trace_faults};
 ghost use Rattle.field.specs.Sums.{sum_in};
 ghost use Rattle.lookup_generation.specs.Fraction.{AreDefined, AreWhole};
 ghost use Rattle.lookup_generation.specs.Inverses.{ForExtensions};
 ghost use Rattle.lookup_columns.specs.ChunkColumns.{HoldLookup, HoldLookups};
 ghost use Rattle.lookup_columns.specs.LookupSteps.{AreLookupSteps};
-ghost use Rattle.lookup_generation.specs.Progress.{AnswersColumn, AnswersColumns, AreRatios, HasRows, HaveNoTuples, IsFirstOf, column_cells, sent_on, sent_rows_of, started_chunks};
+ghost use Rattle.lookup_generation.specs.Progress.{AnswersColumn, AnswersColumns, AreRatios, HasRows, HaveNoTuples, IsFirstOf, column_cells, sent_on, started_chunks};
 ghost use Rattle.lookup_model.specs.Records.{LookupsFit};
 ghost use Rattle.lookup_model.specs.Generation.{AnswersGeneration};
-ghost use Rattle.matrix.specs.Matrix.{height};
+ghost use Rattle.lookup_model.specs.Trace.{sent_rows};
 
 use crate::columns::columns_of_lookups;
 use crate::fraction::fraction;
 use crate::memory::ChunkMemory;
 use crate::ratio::{Ratio, values_of};
+use air::Traces;
 use field::{Domain, ExtensionDomain, ExtensionField, Field, InverseCount, Inverter, Over};
-use lookup_columns::{BranchColumns, LookupSteps, Traces, rows_between, steps_of_lookups};
+use lookup_columns::{BranchColumns, LookupSteps, rows_between, steps_of_lookups};
 use lookup_model::{Lookup, LookupError, LookupTerminal};
-use lookup_rows::row_builder;
 use matrix::RowMajorMatrix;
 use std::alloc::{AllocError, Global};
 
@@ -53,15 +52,15 @@ fn push_column<F: Field, EF: ExtensionDomain<F>>(
     end: usize,
 ) -> Result<Option<RowFault>, AllocError>
     requires from { first ≤ end }
-    requires up_to { end ≤ height_of traces.now }
+    requires up_to { end ≤ height_of (traces_of traces.now) }
     requires columns { (row : ℕ) → first ≤ row → row < end
-        → HoldLookup F.ring EF.ring EF.embed challenges.now (window_of traces.now row)
+        → HoldLookup F.ring EF.ring EF.embed challenges.now (window_of (traces_of traces.now) row)
         (row - first) lookup.now columns.now }
     ensures answers { ForExtensions F.ring F.eq EF.ring EF.eq EF.embed (λ E.
-        IfOk result (λ found. AnswersColumn E (column_denominator E challenges.now)
-        (sent_on F.ring F.eq traces.now lookup.now) lookup.now.column first end
+        IfOk result (λ found. AnswersColumn E (key_denominator E challenges.now)
+        (sent_on F.ring F.eq (traces_of traces.now) lookup.now) lookup.now.column first end
         ratios.old.items ratios.new.items found)) }
-    ensures sound { IfOk result (λ found. found ≡ None → (n : ℕ)
+    ensures defined { IfOk result (λ found. found ≡ None → (n : ℕ)
         → AreDefined EF.ring n ratios.old.items
         → AreDefined EF.ring (n + (end - first)) ratios.new.items) }
     ensures bare { lookup.now.elements.items ≡ [] → AreWhole EF.ring ratios.old.items
@@ -69,17 +68,8 @@ fn push_column<F: Field, EF: ExtensionDomain<F>>(
     ensures there { IfOk result (λ found. IfSome found
         (λ fault. (first ≤ fault.row) × (fault.row < end))) }
 {
-    let height = traces.main.height();
     for row in first..end {
-        let builder = row_builder(
-            traces.main,
-            traces.preprocessed,
-            traces.public_values,
-            challenges,
-            height,
-            row,
-        );
-        match fraction(lookup, columns, row - first, &builder) {
+        match fraction(lookup, columns, row - first, traces, challenges, row) {
             Ok(ratio) => ratios.push(ratio)?,
             Err(error) => return Ok(Some(RowFault { row, error })),
         }
@@ -112,18 +102,18 @@ fn push_columns<F: Field, EF: ExtensionDomain<F>>(
     first: usize,
     end: usize,
 ) -> Result<Option<RowFault>, AllocError>
-    requires fit { LookupsFit (layout_of traces.now) lookups.now }
+    requires fit { LookupsFit (layout_of (traces_of traces.now)) lookups.now }
     requires from { first ≤ end }
-    requires up_to { end ≤ height_of traces.now }
+    requires up_to { end ≤ height_of (traces_of traces.now) }
     requires columns { (row : ℕ) → first ≤ row → row < end
-        → HoldLookups F.ring EF.ring EF.embed challenges.now (window_of traces.now row)
+        → HoldLookups F.ring EF.ring EF.embed challenges.now (window_of (traces_of traces.now) row)
         (row - first) lookups.now columns.now }
     requires wide { length columns.now ≡ length lookups.now }
     requires none_yet { ratios.old.items ≡ [] }
     ensures answers { ForExtensions F.ring F.eq EF.ring EF.eq EF.embed (λ E.
-        IfOk result (AnswersColumns E (column_denominator E challenges.now) traces.now lookups.now
-        first end ratios.new.items)) }
-    ensures sound { IfOk result (λ found. found ≡ None
+        IfOk result (AnswersColumns E (key_denominator E challenges.now)
+        (traces_of traces.now) lookups.now first end ratios.new.items)) }
+    ensures defined { IfOk result (λ found. found ≡ None
         → AreDefined EF.ring (length lookups.now * (end - first)) ratios.new.items) }
     ensures bare { HaveNoTuples lookups.now
         → IfOk result (λ _. AreWhole EF.ring ratios.new.items) }
@@ -154,24 +144,24 @@ fn ratios_of<F: Field, EF: ExtensionDomain<F>>(
     end: usize,
 ) -> Result<Vec<Ratio<EF>>, LookupError>
     requires steps { AllZip AreLookupSteps steps.now lookups.now }
-    requires fit { LookupsFit (layout_of traces.now) lookups.now }
+    requires fit { LookupsFit (layout_of (traces_of traces.now)) lookups.now }
     requires challenges { 2 * length lookups.now ≤ length challenges.now }
     requires from { first ≤ end }
-    requires up_to { end ≤ height_of traces.now }
+    requires up_to { end ≤ height_of (traces_of traces.now) }
     requires faultless { ForExtensions F.ring F.eq EF.ring EF.eq EF.embed (λ E.
-        trace_faults E (column_denominator E challenges.now)
-        (take first (sent_rows_of F.ring F.eq traces.now lookups.now)) ≡ []) }
+        trace_faults E (key_denominator E challenges.now)
+        (take first (sent_rows F.ring F.eq (traces_of traces.now) lookups.now)) ≡ []) }
     ensures answers { ForExtensions F.ring F.eq EF.ring EF.eq EF.embed (λ E.
-        let denominator = column_denominator E challenges.now in
+        let denominator = key_denominator E challenges.now in
         MatchResult result
-        (λ v. AreRatios E denominator traces.now lookups.now first end v.items)
+        (λ v. AreRatios E denominator (traces_of traces.now) lookups.now first end v.items)
         (IsFirstOf (trace_faults E denominator
-        (sent_rows_of F.ring F.eq traces.now lookups.now)))) }
-    ensures sound { IfOk result (λ v. AreDefined EF.ring
+        (sent_rows F.ring F.eq (traces_of traces.now) lookups.now)))) }
+    ensures defined { IfOk result (λ v. AreDefined EF.ring
         (length lookups.now * (end - first)) v.items) }
     ensures bare { HaveNoTuples lookups.now → IfOk result (λ v. AreWhole EF.ring v.items) }
 {
-    let rows = rows_between(alloc, &mut memory.columns.places, first, end)?;
+    let rows = rows_between(alloc, &mut memory.columns.indices, first, end)?;
     let columns = columns_of_lookups(
         alloc,
         &mut memory.columns,
@@ -198,7 +188,7 @@ fn ratios_of<F: Field, EF: ExtensionDomain<F>>(
     match fault {
         Some(RowFault { row: _, error }) => Err(error),
         None => {
-            memory.columns.places.put(rows)?;
+            memory.columns.indices.put(rows)?;
             memory.put_columns(columns)?;
             Ok(ratios)
         }
@@ -206,23 +196,23 @@ fn ratios_of<F: Field, EF: ExtensionDomain<F>>(
 }
 
 /// Appends a row of the auxiliary trace to `cells`: the accumulator, and the fraction of each lookup,
-/// which stands at `place` of a row of `fractions`. Returns the accumulator of the next row.
+/// which stands at `index` in its row of `fractions`. Returns the accumulator of the next row.
 fn push_row<K: Domain>(
     cells: &mut Vec<K>,
     accumulator: K,
     fractions: &RowMajorMatrix<K>,
-    place: usize,
+    index: usize,
 ) -> Result<K, AllocError>
-    requires { place < fractions.now.width }
+    requires { index < fractions.now.width }
     ensures { IfOk result (λ next. (cells.new.items ≡ cells.old.items
-        ++ accumulator ∷ column_cells K.ring.zero fractions.now place)
+        ++ accumulator ∷ column_cells K.ring.zero fractions.now index)
         × (next ≡ K.ring.add accumulator
-        (sum_in K.ring (column_cells K.ring.zero fractions.now place)))) }
+        (sum_in K.ring (column_cells K.ring.zero fractions.now index)))) }
 {
     cells.push(accumulator)?;
     let mut next = accumulator;
     for lookup in 0..fractions.height() {
-        let fraction = fractions.row_slice(lookup)[place];
+        let fraction = fractions.row_slice(lookup)[index];
         cells.push(fraction)?;
         next = next + fraction;
     }
@@ -247,17 +237,17 @@ fn push_chunk<F: Field, EF: ExtensionDomain<F>, I: Inverter<EF>>(
     inverter: &mut I,
 ) -> Result<EF, LookupError>
     requires steps { AllZip AreLookupSteps steps.now lookups.now }
-    requires fit { LookupsFit (layout_of traces.now) lookups.now }
+    requires fit { LookupsFit (layout_of (traces_of traces.now)) lookups.now }
     requires challenges { 2 * length lookups.now ≤ length challenges.now }
     requires from { first < end }
-    requires up_to { end ≤ height_of traces.now }
+    requires up_to { end ≤ height_of (traces_of traces.now) }
     requires so_far { ForExtensions F.ring F.eq EF.ring EF.eq EF.embed (λ E.
-        let denominator = column_denominator E challenges.now in
-        let rows = sent_rows_of F.ring F.eq traces.now lookups.now in
+        let denominator = key_denominator E challenges.now in
+        let rows = sent_rows F.ring F.eq (traces_of traces.now) lookups.now in
         HasRows E denominator rows first cells.now.items accumulator) }
     ensures rows { ForExtensions F.ring F.eq EF.ring EF.eq EF.embed (λ E.
-        let denominator = column_denominator E challenges.now in
-        let rows = sent_rows_of F.ring F.eq traces.now lookups.now in
+        let denominator = key_denominator E challenges.now in
+        let rows = sent_rows F.ring F.eq (traces_of traces.now) lookups.now in
         MatchResult result
         (HasRows E denominator rows end cells.new.items)
         (IsFirstOf (trace_faults E denominator rows))) }
@@ -276,8 +266,8 @@ fn push_chunk<F: Field, EF: ExtensionDomain<F>, I: Inverter<EF>>(
     let num_rows = end - first;
     let fractions = RowMajorMatrix::new(values, num_rows);
     let mut next = accumulator;
-    for place in 0..num_rows {
-        next = push_row(cells, next, &fractions, place)?;
+    for index in 0..num_rows {
+        next = push_row(cells, next, &fractions, index)?;
     }
     memory.fractions.put(fractions.into_values())?;
     Ok(next)
@@ -308,21 +298,22 @@ fn generate<F: Field, EF: ExtensionDomain<F>, I: Inverter<EF>>(
     challenges: &[EF],
     inverter: &mut I,
 ) -> Result<(Vec<EF>, EF), LookupError>
-    requires fit { LookupsFit (layout_of traces.now) lookups.now }
+    requires fit { LookupsFit (layout_of (traces_of traces.now)) lookups.now }
     requires challenges { 2 * length lookups.now ≤ length challenges.now }
     requires some { 0 < length lookups.now }
     ensures rows { ForExtensions F.ring F.eq EF.ring EF.eq EF.embed (λ E.
-        let denominator = column_denominator E challenges.now in
-        let rows = sent_rows_of F.ring F.eq traces.now lookups.now in
+        let denominator = key_denominator E challenges.now in
+        let rows = sent_rows F.ring F.eq (traces_of traces.now) lookups.now in
         MatchResult result
-        (λ r. HasRows E denominator rows (height_of traces.now) r.0.items r.1)
+        (λ r. HasRows E denominator rows (height_of (traces_of traces.now)) r.0.items r.1)
         (IsFirstOf (trace_faults E denominator rows))) }
     ensures many { IfOk result (λ r. length r.0.items
-        ≡ height_of traces.now * (length lookups.now + 1)) }
+        ≡ height_of (traces_of traces.now) * (length lookups.now + 1)) }
     ensures counted { I.count inverter.new ≤ I.count inverter.old + started_chunks
-        (height_of traces.now) }
+        (height_of (traces_of traces.now)) }
     ensures spared { IfErr result (λ e. (e ≡ LookupError.Memory)
-        ⊎ (I.count inverter.new < I.count inverter.old + started_chunks (height_of traces.now))) }
+        ⊎ (I.count inverter.new < I.count inverter.old + started_chunks
+        (height_of (traces_of traces.now)))) }
     ensures nothing_sent { HaveNoTuples lookups.now → I.count inverter.new ≡ I.count inverter.old }
 {
     let height = traces.main.height();
@@ -358,37 +349,28 @@ fn generate<F: Field, EF: ExtensionDomain<F>, I: Inverter<EF>>(
 ///
 /// It answers as [`generate_permutation`] does. `inverter` is asked at most once for each chunk of rows
 /// that is started, at least once less where a fault is refused, and never where no lookup has tuples.
-pub fn generate_counted<'a, F: Field, EF: ExtensionDomain<F>, I: Inverter<EF>>(
+pub fn generate_counted<F: Field, EF: ExtensionDomain<F>, I: Inverter<EF>>(
     alloc: Global,
-    main: &'a RowMajorMatrix<F>,
-    preprocessed: Option<&'a RowMajorMatrix<F>>,
-    public_values: &[F],
+    traces: &Traces<'_, F>,
     lookups: &[Lookup<F>],
     challenges: &[EF],
     inverter: &mut I,
 ) -> Result<(RowMajorMatrix<EF>, Option<LookupTerminal<EF>>), LookupError>
-    requires heights { ForSome (option_copied preprocessed) (λ m. height m ≡ height main.now) }
-    requires fit { LookupsFit (layout_of_traces main.now (option_copied preprocessed)
-        public_values.now) lookups.now }
+    requires fit { LookupsFit (layout_of (traces_of traces.now)) lookups.now }
     requires challenges { 2 * length lookups.now ≤ length challenges.now }
     ensures answers { ForExtensions F.ring F.eq EF.ring EF.eq EF.embed (λ E. AnswersGeneration E
-        main.now (option_copied preprocessed.entry) public_values.now lookups.now challenges.now
-        result) }
+        (traces_of traces.now) lookups.now challenges.now result) }
     ensures counted { I.count inverter.new ≤ I.count inverter.old + started_chunks
-        (height main.now) }
+        (height_of (traces_of traces.now)) }
     ensures spared { IfErr result (λ e. (e ≡ LookupError.Memory)
-        ⊎ (I.count inverter.new < I.count inverter.old + started_chunks (height main.now))) }
+        ⊎ (I.count inverter.new < I.count inverter.old + started_chunks
+        (height_of (traces_of traces.now)))) }
     ensures nothing_sent { HaveNoTuples lookups.now → I.count inverter.new ≡ I.count inverter.old }
 {
     if lookups.is_empty() {
         return Ok((RowMajorMatrix::new(Vec::new(alloc), 0), None));
     }
-    let traces = Traces {
-        main,
-        preprocessed,
-        public_values,
-    };
-    let (cells, terminal) = generate(alloc, &traces, lookups, challenges, inverter)?;
+    let (cells, terminal) = generate(alloc, traces, lookups, challenges, inverter)?;
     Ok((
         RowMajorMatrix::new(cells, lookups.len() + 1),
         Some(LookupTerminal(terminal)),
@@ -397,38 +379,26 @@ pub fn generate_counted<'a, F: Field, EF: ExtensionDomain<F>, I: Inverter<EF>>(
 
 /// The auxiliary trace of one AIR and its terminal.
 ///
-/// The trace has the height of `main` and one column more than there are lookups: first the
+/// The trace has the height of `traces` and one column more than there are lookups: first the
 /// accumulator, the sum of all fractions on the rows before, and then the fraction of each lookup.
-/// Without lookups it has width 0, and there is no terminal. The preprocessed trace, if there is one,
-/// is as high as `main`. `challenges` are an alpha and a beta for each lookup, in the order of their
-/// columns. The running sum is that of LogUp (<https://eprint.iacr.org/2022/1530>).
+/// Without lookups it has width 0, and there is no terminal. `challenges` are an alpha and a beta for
+/// each lookup, in the order of their columns. The running sum is that of LogUp
+/// (<https://eprint.iacr.org/2022/1530>).
 ///
 /// Refuses the first fault in the order row, lookup, and returns nothing of the trace. In a group, a
 /// flag that is neither zero nor one comes first, then more than one set flag, and then a denominator
 /// that vanishes. Out of memory is refused under its own name.
-pub fn generate_permutation<'a, F: Field, EF: ExtensionField<F>>(
+pub fn generate_permutation<F: Field, EF: ExtensionField<F>>(
     alloc: Global,
-    main: &'a RowMajorMatrix<F>,
-    preprocessed: Option<&'a RowMajorMatrix<F>>,
-    public_values: &[F],
+    traces: &Traces<'_, F>,
     lookups: &[Lookup<F>],
     challenges: &[EF],
 ) -> Result<(RowMajorMatrix<EF>, Option<LookupTerminal<EF>>), LookupError>
-    requires heights { ForSome (option_copied preprocessed) (λ m. height m ≡ height main.now) }
-    requires fit { LookupsFit (layout_of_traces main.now (option_copied preprocessed)
-        public_values.now) lookups.now }
+    requires fit { LookupsFit (layout_of (traces_of traces.now)) lookups.now }
     requires challenges { 2 * length lookups.now ≤ length challenges.now }
-    ensures { AnswersGeneration ⟦<EF as Over<F>>⟧.fields main.now (option_copied preprocessed.entry)
-        public_values.now lookups.now challenges.now result }
+    ensures { AnswersGeneration ⟦<EF as Over<F>>⟧.fields (traces_of traces.now) lookups.now
+        challenges.now result }
 {
     let mut count = InverseCount::new();
-    generate_counted(
-        alloc,
-        main,
-        preprocessed,
-        public_values,
-        lookups,
-        challenges,
-        &mut count,
-    )
+    generate_counted(alloc, traces, lookups, challenges, &mut count)
 }

@@ -11,7 +11,8 @@ use Rattle.std.specs.List.{Contains, list_any}
 use Rattle.std.specs.String.{string_bytes}
 use Rattle.std.specs.declared.alloc.Global.{Global}
 use Rattle.std.specs.declared.string.String.{String}
-use Rattle.lookup_indexed.specs.Faults.{AreColumns, HasFirstFault, IsColumnFault, IsFirstColumnFault, Names}
+use Rattle.expressions.specs.Faults.{SplitsAtFault}
+use Rattle.lookup_indexed.specs.Faults.{AreDistinctColumns, IsColumnFault, IsFirstColumnFault, Names}
 use Rattle.lookup_indexed.specs.declared.error.IndexedLookupError.{IndexedLookupError}
 use Rattle.lookup_indexed.specs.declared.error.IndexedLookupError.TheVariants.{Memory}
 
@@ -20,8 +21,8 @@ pub named : (table : List ℕ) (refusal : String Global → IndexedLookupError) 
 named table refusal name is =
     inr (record { name = name; name_is = is; refusal_is = refl })
 
--- the first fault is that of the column at a place before which there is none
-pub first_column_fault : (table : List ℕ) (width : ℕ) (columns : List ℕ) (i : ℕ) (e : IndexedLookupError) → i < length columns → AreColumns width (take i columns) → IsColumnFault table width e (take i columns) (get_or columns i 0) → IsFirstColumnFault table width columns e
+-- the first fault is that of the column at an index before which there is none
+pub first_column_fault : (table : List ℕ) (width : ℕ) (columns : List ℕ) (i : ℕ) (e : IndexedLookupError) → i < length columns → AreDistinctColumns width (take i columns) → IsColumnFault table width e (take i columns) (get_or columns i 0) → IsFirstColumnFault table width columns e
 first_column_fault table width columns i e lt good fault = record {
   before = take i columns;
   item = get_or columns i 0;
@@ -32,9 +33,9 @@ first_column_fault table width columns i e lt good fault = record {
 }
 
 -- one more column without a fault
-pub columns_more : (width : ℕ) (columns : List ℕ) (i : ℕ) → i < length columns → AreColumns width (take i columns) → get_or columns i 0 < width → list_any (nat_eq (get_or columns i 0)) (take i columns) ≡ false → AreColumns width (take (i + 1) columns)
+pub columns_more : (width : ℕ) (columns : List ℕ) (i : ℕ) → i < length columns → AreDistinctColumns width (take i columns) → get_or columns i 0 < width → list_any (nat_eq (get_or columns i 0)) (take i columns) ≡ false → AreDistinctColumns width (take (i + 1) columns)
 columns_more width columns i lt good within new =
-    subst (λ (cs : List ℕ). AreColumns width cs) (sym (take_more columns i 0 lt)) (record {
+    subst (λ (cs : List ℕ). AreDistinctColumns width cs) (sym (take_more columns i 0 lt)) (record {
       within = All-push (λ c. c < width) (take i columns) (get_or columns i 0) good.within within;
       distinct = IsDistinct-push nat_eq_equiv (take i columns) (get_or columns i 0) good.distinct new;
     })
@@ -44,8 +45,8 @@ pub met_before : (columns : List ℕ) (column : ℕ) → list_any (nat_eq column
 met_before columns column met = Contains-from_any (λ x y h. eqb-true x y h) column columns met
 
 module _ {X Y : Type 0} (f : X → Y) (P : Y → Type 0) (xs : List X) (i : ℕ) where
-  -- the first fault of a list of declarations is that of the item at a place before which there is none
-  pub first_fault : (x : X) (IsFault : List Y → Y → Type 0) → i < length xs → x ≡ get_or xs i x → All P (map f (take i xs)) → IsFault (map f (take i xs)) (f x) → HasFirstFault (All P) IsFault (map f xs)
+  -- the first fault of a list of declarations is that of the item at an index before which there is none
+  pub first_fault : (x : X) (IsFault : List Y → Y → Type 0) → i < length xs → x ≡ get_or xs i x → All P (map f (take i xs)) → IsFault (map f (take i xs)) (f x) → SplitsAtFault (All P) IsFault (map f xs)
   first_fault x IsFault lt is good fault = record {
     before = map f (take i xs);
     item = f x;
@@ -62,6 +63,6 @@ module _ {X Y : Type 0} (f : X → Y) (P : Y → Type 0) (xs : List X) (i : ℕ)
       (sym (ap (map f) (take_more xs i x lt ∙ ap (λ y. take i xs ++ y ∷ []) (sym is)) ∙ map_push f (take i xs) x))
       (All-push P (map f (take i xs)) (f x) all one)
 
-  -- after the last place all have been met
+  -- after the last index all have been met
   pub all_met : length xs ≤ i → All P (map f (take i xs)) → All P (map f xs)
   all_met le all = subst (λ (ys : List X). All P (map f ys)) (take_all i xs le) all

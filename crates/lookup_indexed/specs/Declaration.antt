@@ -28,5 +28,5 @@ read_of r =
     record { table = string_bytes r.table; position = r.position; payload = r.payload.items }
 
 -- the table that a record declares
-abbrev pub table_of : IndexedTable → Table
-table_of t = record { name = string_bytes t.name; window = t.window; columns = t.columns.items }
+abbrev pub declared_table : IndexedTable → Table
+declared_table t = record { name = string_bytes t.name; window = t.window; columns = t.columns.items }

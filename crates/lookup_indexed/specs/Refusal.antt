@@ -5,6 +5,6 @@ use Rattle.lookup_indexed.specs.declared.error.IndexedLookupError.{IndexedLookup
 use Rattle.lookup_indexed.specs.declared.error.IndexedLookupError.TheVariants.{Memory, Air}
 
 -- out of memory keeps its name
-abbrev pub from_air : AirError → IndexedLookupError
-from_air air.Memory = Memory
-from_air e = Air e
+abbrev pub declaration_refusal : AirError → IndexedLookupError
+declaration_refusal air.Memory = Memory
+declaration_refusal e = Air e

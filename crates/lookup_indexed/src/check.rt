@@ -1,7 +1,7 @@
 //! Checks of readers and tables against the widths of a layout.
 ghost use Rattle.std.specs.Prelude.{◌≡◌, ◌⊎◌, All, MatchResult, map};
-ghost use Rattle.lookup_indexed.specs.Declaration.{read_of, table_of};
-ghost use Rattle.lookup_indexed.specs.Faults.{AreFaultless, IsFaultlessRead, IsFaultlessTable, IsFirstFault, IsFirstReadFault, IsFirstTableFault, IsReadFault, IsTableFault, Names, window_width};
+ghost use Rattle.lookup_indexed.specs.Declaration.{read_of, declared_table};
+ghost use Rattle.lookup_indexed.specs.Faults.{AreFaultlessDeclarations, IsFaultlessRead, IsFaultlessTable, IsFirstDeclarationFault, IsFirstReadFault, IsFirstTableFault, IsReadFault, IsTableFault, Names, window_width};
 
 use crate::columns::{check_columns, out_of_range};
 use crate::error::IndexedLookupError;
@@ -29,9 +29,11 @@ pub fn check_declarations(
     layout: &AirLayout,
 ) -> Result<(), IndexedLookupError>
     ensures { MatchResult result
-        (λ _. AreFaultless layout.now (map read_of reads.now) (map table_of tables.now))
+        (λ _. AreFaultlessDeclarations layout.now
+        (map read_of reads.now) (map declared_table tables.now))
         (λ e. (e ≡ IndexedLookupError.Memory)
-        ⊎ IsFirstFault layout.now (map read_of reads.now) (map table_of tables.now) e) }
+        ⊎ IsFirstDeclarationFault layout.now
+        (map read_of reads.now) (map declared_table tables.now) e) }
 {
     check_reads(alloc, reads, layout.main_width)?;
     check_tables(alloc, tables, layout)
@@ -54,9 +56,9 @@ fn check_tables(
     layout: &AirLayout,
 ) -> Result<(), IndexedLookupError>
     ensures { MatchResult result
-        (λ _. All (IsFaultlessTable layout.now) (map table_of tables.now))
+        (λ _. All (IsFaultlessTable layout.now) (map declared_table tables.now))
         (λ e. (e ≡ IndexedLookupError.Memory)
-        ⊎ IsFirstTableFault layout.now (map table_of tables.now) e) }
+        ⊎ IsFirstTableFault layout.now (map declared_table tables.now) e) }
 {
     for table in tables {
         check_table(alloc, table, layout)?;
@@ -85,8 +87,9 @@ fn check_table(
     layout: &AirLayout,
 ) -> Result<(), IndexedLookupError>
     ensures { MatchResult result
-        (λ _. IsFaultlessTable layout.now (table_of table.now))
-        (λ e. (e ≡ IndexedLookupError.Memory) ⊎ IsTableFault layout.now e (table_of table.now)) }
+        (λ _. IsFaultlessTable layout.now (declared_table table.now))
+        (λ e. (e ≡ IndexedLookupError.Memory)
+        ⊎ IsTableFault layout.now e (declared_table table.now)) }
 {
     let name = table.name.as_str();
     if table.columns.is_empty() {

@@ -1,6 +1,6 @@
 //! The columns of one declaration.
 ghost use Rattle.std.specs.Prelude.{◌≡◌, ◌⊎◌, MatchResult};
-ghost use Rattle.lookup_indexed.specs.Faults.{AreColumns, IsFirstColumnFault, Names};
+ghost use Rattle.lookup_indexed.specs.Faults.{AreDistinctColumns, IsFirstColumnFault, Names};
 
 use crate::error::IndexedLookupError;
 use std::alloc::Global;
@@ -17,7 +17,7 @@ pub(crate) fn check_columns(
     width: usize,
 ) -> Result<(), IndexedLookupError>
     ensures { MatchResult result
-        (λ _. AreColumns width columns.now)
+        (λ _. AreDistinctColumns width columns.now)
         (λ e. (e ≡ IndexedLookupError.Memory) ⊎ IsFirstColumnFault table.now width columns.now e) }
 {
     let mut seen = HashSet::new(alloc);

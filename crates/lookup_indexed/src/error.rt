@@ -110,9 +110,9 @@ impl<T: Drop> From<AllocFailed<T>> for IndexedLookupError {
 
 /// Out of memory keeps its name; any other refusal is passed on.
 impl From<AirError> for IndexedLookupError {
-    ghost use Rattle.lookup_indexed.specs.Refusal.{from_air};
+    ghost use Rattle.lookup_indexed.specs.Refusal.{declaration_refusal};
 
-    ghost from_gives = { λ error e. e ≡ from_air error };
+    ghost from_gives = { λ error e. e ≡ declaration_refusal error };
 
     fn from(error: AirError) -> IndexedLookupError {
         match error {

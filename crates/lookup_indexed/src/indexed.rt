@@ -1,6 +1,6 @@
 //! Indexed lookups, whose readers name the entry that they read.
 ghost use Rattle.std.specs.Prelude.{◌≡◌, IfOk};
-ghost use Rattle.lookup_indexed.specs.Declaration.{read_of, table_of};
+ghost use Rattle.lookup_indexed.specs.Declaration.{read_of, declared_table};
 
 use serde::{Deserialize, DeserializeOwned, Deserializer, Format, Name, Serialize};
 use std::alloc::{AllocError, Global};
@@ -83,7 +83,7 @@ impl IndexedTable {
     ///
     /// Fails only when out of memory.
     pub fn copy(&self, alloc: Global) -> Result<Self, AllocError>
-        ensures { IfOk result (λ t. table_of t ≡ table_of self.now) }
+        ensures { IfOk result (λ t. declared_table t ≡ declared_table self.now) }
     {
         Ok(IndexedTable {
             name: String::from_str(alloc, self.name.as_str())?,

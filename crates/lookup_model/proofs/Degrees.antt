@@ -89,7 +89,7 @@ module _ {F : Type 0} (t : ℕ) (lookup : Lookup F) (lengths : HasEqualLengths l
   abbrev pub branch : BranchDegrees
   branch = branch_degrees t tuple.items multiplicity
 
-  -- the branch at its place
+  -- the branch at its index
   branch_is : branch ≡ get_or branches i branch
   branch_is =
       zipped_at (λ b. branch_degrees t b.0.items b.1) lookup.elements.items lookup.multiplicities.items lengths.multiplicities i tuple multiplicity lt tuple_is multiplicity_is

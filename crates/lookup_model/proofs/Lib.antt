@@ -8,8 +8,10 @@ pub mod Counting
 pub mod DegreeBounds
 pub mod Degrees
 pub mod HornerRule
+pub mod Layouts
 pub mod Lists
 pub mod Lookups
+pub mod Names
 pub mod Prefixes
 pub mod RecordLaws
 pub mod SumDegreeLaws

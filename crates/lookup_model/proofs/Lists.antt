@@ -18,7 +18,7 @@ module _ {A : Type 0} (P : A → Type 0) where
   all_both [] ys first second = second
   all_both (x ∷ xs) ys first second = (first.0, all_both xs ys first.1 second)
 
-  -- what holds of each item holds of the one at a place
+  -- what holds of each item holds of the one at an index
   pub all_here : (xs : List A) (i : ℕ) (d : A) → i < length xs → AllByRecursion P xs → P (get_or xs i d)
   all_here [] i d lt all = absurd (omega (arith, lt))
   all_here (x ∷ xs) zero d lt all = all.0
@@ -61,7 +61,7 @@ module _ {A B : Type 0} where
   same_map f g (x ∷ xs) each = λ i. each.0 i ∷ same_map f g xs each.1 i
 
 module _ {A : Type 0} where
-  -- the item at a place within a list
+  -- the item at an index within a list
   pub item_at : (xs : List A) (i : ℕ) → i < length xs → (x : A) × (x ≡ get_or xs i x)
   item_at [] i lt = absurd (omega (arith, lt))
   item_at (x ∷ xs) zero lt = (x, refl)

@@ -11,11 +11,11 @@ use Rattle.lookup_model.specs.declared.types.Lookup.{Lookup}
 
 -- one more well formed record
 pub AreRecordsBelow-more : {F : Type 0} (lookups : List (Lookup F)) (i : ℕ) (lookup : Lookup F) → AreRecordsBelow i lookups → slice_get lookups i ≡ Some lookup → IsRecordAt i lookup → AreRecordsBelow (i + 1) lookups
-AreRecordsBelow-more {F} lookups i lookup below is_there is k other k_below k_is = by_place (cases_lt k i)
+AreRecordsBelow-more {F} lookups i lookup below is_there is k other k_below k_is = by_index (cases_lt k i)
   where
-    by_place : (k < i) ⊎ (i ≤ k) → IsRecordAt k other
-    by_place (inl lt) = below k other lt k_is
-    by_place (inr le) =
+    by_index : (k < i) ⊎ (i ≤ k) → IsRecordAt k other
+    by_index (inl lt) = below k other lt k_is
+    by_index (inr le) =
         let e : k ≡ i = omega arith in
         let same : slice_get lookups i ≡ Some other = subst (λ (n : ℕ). slice_get lookups n ≡ Some other) e k_is in
         let other_is : lookup ≡ other = cc (sym is_there ∙ same) in

@@ -30,13 +30,13 @@ abbrev pub column_challenges : {K : Type 0} → ChallengeTable K → List ℕ �
 column_challenges table ids = flat_map (λ id. table.prefix id ∷ table.beta ∷ []) ids
 
 -- the denominator of a key: the prefix of its id minus its combined tuple
-abbrev pub denominator_in : {K : Type 0} → Ring K → ChallengeTable K → Key K → K
-denominator_in S table key = sub_in S (table.prefix key.id) (combined S key.tuple table.beta)
+abbrev pub table_key_denominator_over : {K : Type 0} → Ring K → ChallengeTable K → Key K → K
+table_key_denominator_over S table key = sub_in S (table.prefix key.id) (combined S key.tuple table.beta)
 
 -- a key of the traces, with its tuple in the extension
 abbrev pub lifted : {F K : Type 0} → Extension F K → Key F → Key K
 lifted E key = record { id = key.id; tuple = map E.embed key.tuple }
 
 -- the denominator of a key of the traces
-abbrev pub table_denominator : {F K : Type 0} → Extension F K → ChallengeTable K → Key F → K
-table_denominator E table key = denominator_in E.ring table (lifted E key)
+abbrev pub table_key_denominator : {F K : Type 0} → Extension F K → ChallengeTable K → Key F → K
+table_key_denominator E table key = table_key_denominator_over E.ring table (lifted E key)

@@ -77,13 +77,13 @@ module _ {F K : Type 0} (E : Extension F K) where
   terminal_at w = slice_index_or w.permutation_values 0 E.ring.zero
 
   -- the denominator of a tuple of the lookup in a column, over the challenges of that column
-  abbrev pub denominator_at : ℕ → ExtWindow F K → List F → K
-  denominator_at column w = tuple_denominator E (slice_index_or w.challenges (2 * column) E.ring.zero) (slice_index_or w.challenges (2 * column + 1) E.ring.zero)
+  abbrev pub column_tuple_denominator : ℕ → ExtWindow F K → List F → K
+  column_tuple_denominator column w = tuple_denominator E (slice_index_or w.challenges (2 * column) E.ring.zero) (slice_index_or w.challenges (2 * column + 1) E.ring.zero)
 
   -- The fraction of a lookup: U * f - V without flags, D * f - N with flags.
   abbrev pub fraction_constraint : Lookup F → Constraint F K
   fraction_constraint lookup = record {
-    meaning = λ w. fraction_left E (denominator_at lookup.column w) (flags_at E.base w.base lookup) (branches_at E.base w.base lookup.column lookup) (fraction_at lookup.column w);
+    meaning = λ w. fraction_left E (column_tuple_denominator lookup.column w) (flags_at E.base w.base lookup) (branches_at E.base w.base lookup.column lookup) (fraction_at lookup.column w);
     degree = λ t. lookup_degree t lookup;
   }
 

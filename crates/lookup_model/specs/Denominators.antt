@@ -12,6 +12,6 @@ module _ {F K : Type 0} (E : Extension F K) where
 
   -- The denominator of a key whose id is a column. Column c takes challenge 2c as its alpha and
   -- challenge 2c + 1 as its beta.
-  abbrev pub column_denominator : List K → Key F → K
-  column_denominator challenges key =
+  abbrev pub key_denominator : List K → Key F → K
+  key_denominator challenges key =
       tuple_denominator (slice_index_or challenges (2 * key.id) E.ring.zero) (slice_index_or challenges (2 * key.id + 1) E.ring.zero) key.tuple

@@ -15,12 +15,12 @@ abbrev pub are_boolean : {F : Type 0} → Ring F → (F → F → Bool) → List
 are_boolean R eq flags = list_all (λ f. eq f R.zero || eq f R.one) flags
 
 -- the indices of the set flags, counted from n
-abbrev pub set_places : {F : Type 0} → Ring F → (F → F → Bool) → ℕ → List F → List ℕ
-set_places R eq n flags = map (λ p. p.0) (filter (λ p. eq p.1 R.one) (enumerate_from n flags))
+abbrev pub set_indices : {F : Type 0} → Ring F → (F → F → Bool) → ℕ → List F → List ℕ
+set_indices R eq n flags = map (λ p. p.0) (filter (λ p. eq p.1 R.one) (enumerate_from n flags))
 
 -- lawful flags: each is zero or one, and at most one is set, counted in whole numbers
 abbrev pub IsLawfulSelection : {F : Type 0} → Ring F → (F → F → Bool) → List F → Type 0
-IsLawfulSelection R eq flags = IsTrue (are_boolean R eq flags) × (length (set_places R eq 0 flags) ≤ 1)
+IsLawfulSelection R eq flags = IsTrue (are_boolean R eq flags) × (length (set_indices R eq 0 flags) ≤ 1)
 
 -- The fault of the flags of a lookup on a row, if it has flags: one that is neither zero nor one,
 -- and then more than one that is set.
@@ -28,7 +28,7 @@ abbrev pub flag_fault_of : {F : Type 0} → Ring F → (F → F → Bool) → �
 flag_fault_of R eq row lookup None = None
 flag_fault_of R eq row lookup (Some flags) =
     if not (are_boolean R eq flags) then Some (FlagNotBoolean row lookup)
-    else (if nat_lt 1 (length (set_places R eq 0 flags)) then Some (FlagsNotExclusive row lookup) else None)
+    else (if nat_lt 1 (length (set_indices R eq 0 flags)) then Some (FlagsNotExclusive row lookup) else None)
 
 -- The messages whose denominators count: without flags those of nonzero multiplicity, with flags all
 -- that are sent.

@@ -9,6 +9,7 @@ pub mod Generated
 pub mod Generation
 pub mod LookupDegree
 pub mod Message
+pub mod Names
 pub mod Net
 pub mod Outline
 pub mod Plain

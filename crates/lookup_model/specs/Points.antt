@@ -2,7 +2,7 @@
 use Rattle.std.specs.Prelude.{◌≡◌, ◌+◌, ◌<◌, ℕ}
 use Rattle.field.specs.Polynomial.{combined}
 use Rattle.field.specs.Ring.{Ring, of_nat, power, sub_in}
-use Rattle.lookup_model.specs.Challenges.{ChallengeTable, denominator_in, lifted}
+use Rattle.lookup_model.specs.Challenges.{ChallengeTable, table_key_denominator_over, lifted}
 use Rattle.field.specs.Extension.{Extension}
 use Rattle.lookup_model.specs.Message.{Key}
 
@@ -16,4 +16,4 @@ point_of E width beta key = point_in E.ring width beta (lifted E key)
 
 -- In this table the denominator of each key whose id is below n is alpha minus its point.
 abbrev pub HasPoints : {K : Type 0} → Ring K → ℕ → K → K → ℕ → ChallengeTable K → Type 0
-HasPoints {K} S width alpha beta n table = (key : Key K) → key.id < n → denominator_in S table key ≡ sub_in S alpha (point_in S width beta key)
+HasPoints {K} S width alpha beta n table = (key : Key K) → key.id < n → table_key_denominator_over S table key ≡ sub_in S alpha (point_in S width beta key)

@@ -5,6 +5,7 @@ use Rattle.std.specs.List.{AllByRecursion}
 use Rattle.std.specs.Option.{is_some}
 use Rattle.matrix.specs.Matrix.{IsShaped, Matrix, height}
 use Rattle.expressions.specs.Window.{ExtWindow, ext_window_at}
+use Rattle.air.specs.Traces.{AirTraces, height_of}
 use Rattle.lookup_model.specs.Constraints.{lookup_constraints}
 use Rattle.field.specs.Extension.{Extension}
 use Rattle.lookup_model.specs.declared.types.Lookup.{Lookup}
@@ -33,9 +34,9 @@ module _ {F : Type 0} where
 
 module _ {F K : Type 0} where
   -- the window of row r of the traces, with the auxiliary trace, the challenges and the terminal
-  abbrev pub witness_window : Matrix F → Option (Matrix F) → List F → List K → Matrix K → Option (LookupTerminal K) → ℕ → ExtWindow F K
-  witness_window main preprocessed public_values challenges auxiliary terminal r =
-      ext_window_at main preprocessed public_values auxiliary challenges (values_of_terminal terminal) r
+  abbrev pub witness_window : AirTraces F → List K → Matrix K → Option (LookupTerminal K) → ℕ → ExtWindow F K
+  witness_window traces challenges auxiliary terminal r =
+      ext_window_at traces.main traces.preprocessed traces.public_values auxiliary challenges (values_of_terminal terminal) r
 
   -- An auxiliary trace and a terminal have the shape that the lookups ask for: a terminal, one
   -- column more than there are lookups, as many rows as the main trace, whole rows. Without
@@ -47,11 +48,11 @@ module _ {F K : Type 0} where
     pub whole : IsShaped auxiliary
 
   -- every constraint is zero on row r
-  abbrev pub HoldsOnRow : Extension F K → Matrix F → Option (Matrix F) → List F → List (Lookup F) → List K → Matrix K → Option (LookupTerminal K) → ℕ → Type 0
-  HoldsOnRow E main preprocessed public_values lookups challenges auxiliary terminal r =
-      AllByRecursion (λ constraint. constraint.meaning (witness_window main preprocessed public_values challenges auxiliary terminal r) ≡ E.ring.zero) (lookup_constraints E lookups)
+  abbrev pub HoldsOnRow : Extension F K → AirTraces F → List (Lookup F) → List K → Matrix K → Option (LookupTerminal K) → ℕ → Type 0
+  HoldsOnRow E traces lookups challenges auxiliary terminal r =
+      AllByRecursion (λ constraint. constraint.meaning (witness_window traces challenges auxiliary terminal r) ≡ E.ring.zero) (lookup_constraints E lookups)
 
   -- A witness is satisfied if it has the shape and every constraint is zero on every row.
-  pub record IsSatisfied (E : Extension F K) (main : Matrix F) (preprocessed : Option (Matrix F)) (public_values : List F) (lookups : List (Lookup F)) (challenges : List K) (auxiliary : Matrix K) (terminal : Option (LookupTerminal K)) : Type 0 where
-    pub shape : HasShape lookups (height main) auxiliary terminal
-    pub equations : (r : ℕ) → r < height main → HoldsOnRow E main preprocessed public_values lookups challenges auxiliary terminal r
+  pub record IsSatisfied (E : Extension F K) (traces : AirTraces F) (lookups : List (Lookup F)) (challenges : List K) (auxiliary : Matrix K) (terminal : Option (LookupTerminal K)) : Type 0 where
+    pub shape : HasShape lookups (height_of traces) auxiliary terminal
+    pub equations : (r : ℕ) → r < height_of traces → HoldsOnRow E traces lookups challenges auxiliary terminal r

@@ -105,13 +105,13 @@ impl<F: DeserializeOwned> Members<F> {
 fn fill<T: DeserializeOwned, R: Format>(
     alloc: Global,
     name: &str,
-    place: &mut Option<T>,
+    member: &mut Option<T>,
     from: &mut Deserializer<'_, '_, R>,
 ) -> Result<(), R::Error> {
-    if place.is_some() {
+    if member.is_some() {
         return Err(from.duplicate(name));
     }
-    *place = Some(T::deserialize_owned(alloc, from)?);
+    *member = Some(T::deserialize_owned(alloc, from)?);
     Ok(())
 }
 

@@ -11,7 +11,7 @@ use Rattle.lookup_model.specs.Sent.{sent}
 use Rattle.lookup_record.specs.Interaction.{Branch, Interaction, exclusive, global, local}
 use Rattle.lookup_record.specs.Messages.{IsExclusiveQuery, IsUnitQuery, PushesOne, flag_and_fields}
 use Rattle.lookup.specs.Sends.{bus_and_weight, interaction_sends, interaction_tuples, message_under}
-use Rattle.lookup_program.specs.Machines.{SendsLike, message_of}
+use Rattle.lookup_program.specs.Machines.{SendsLike, value_message}
 use Rattle.lookup_program.specs.Pushes.{AreTwoKeys, IsCellTuple}
 use Rattle.lookup_program.specs.declared.airs.MachineAir.TheVariants.{Entries, Group, Keys, RangeCheck}
 
@@ -69,7 +69,7 @@ module _ {F E S W : Type 0} (R : Ring F) (eq : F → F → Bool) (value : E → 
   tuple_values column tuple w here is = ap (map (at w)) is.1 ∙ ap (λ v. v ∷ []) (cell_value column is.0 w here is.2)
 
   -- a message whose tuple and count have these values
-  message_is : (w : W) (tuple : List E) (count : E) (x m : F) → map (at w) tuple ≡ x ∷ [] → at w count ≡ m → message_under (at w) 0 tuple count ≡ message_of x m
+  message_is : (w : W) (tuple : List E) (count : E) (x m : F) → map (at w) tuple ≡ x ∷ [] → at w count ≡ m → message_under (at w) 0 tuple count ≡ value_message x m
   message_is w tuple count x m at_tuple at_count i = record { key = record { id = 0; tuple = at_tuple i }; multiplicity = at_count i }
 
   -- the local lookup of a range check

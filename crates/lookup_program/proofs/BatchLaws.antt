@@ -19,7 +19,7 @@ use Rattle.lookup_model.specs.Batches.Instances.{Instance, IsFitting}
 use Rattle.lookup_model.specs.Batches.Messages.{id_of, sent_rows_of}
 use Rattle.lookup_model.specs.Batches.Witnesses.{plain_result, plain_witness}
 use Rattle.lookup_model.specs.declared.fault.BatchFault.{BatchFault}
-use Rattle.lookup_model.specs.Challenges.{ChallengeTable, table_denominator}
+use Rattle.lookup_model.specs.Challenges.{ChallengeTable, table_key_denominator}
 use Rattle.field.specs.Extension.{Extension}
 use Rattle.lookup_model.specs.Generated.{plain_matrix, plain_terminal_of}
 use Rattle.lookup_model.specs.Fault.{trace_faults}
@@ -28,10 +28,10 @@ use Rattle.lookup_model.specs.Trace.{sent_row_under}
 use Rattle.lookup_model.specs.declared.types.Lookup.{Lookup}
 use Rattle.lookup.specs.Lookups.{lookups_of}
 use Rattle.lookup.specs.Sends.{lookup_bus_and_weight}
-use Rattle.lookup_program.specs.Machines.{air_bus_and_weight, air_cells, air_sends, air_trace, airs_of, columns_of, first_column_of, width_of}
-use Rattle.lookup_program.specs.Program.{AreFaultless, IsFirstFault, air_faults, air_result, machine_witness, run_table}
+use Rattle.lookup_program.specs.Machines.{air_bus_and_weight, air_cells, air_sends, air_trace, airs_of, input_columns, first_column_of, width_of}
+use Rattle.lookup_program.specs.Program.{AreFaultlessAirs, IsFirstAirFault, air_faults, air_result, machine_witness, run_table}
 use Rattle.lookup_program.specs.Refusal.{of_batch}
-use Rattle.lookup_program.specs.Traces.{IsTraceOf, instance_over}
+use Rattle.lookup_program.specs.Traces.{IsTraceOf, traced_instance}
 use Rattle.lookup_program.specs.declared.airs.MachineAir.{MachineAir}
 use Rattle.lookup_program.specs.declared.airs.MachineAir.TheVariants.{Entries, Group, Keys, RangeCheck}
 use Rattle.lookup_program.specs.declared.machine.Machine.{Machine}
@@ -96,7 +96,7 @@ zero_id zero = refl
 zero_id (suc column) = refl
 
 -- the AIRs of a machine hold columns of its input
-pub airs_within : (machine : Machine) → All (λ air. first_column_of air + width_of air ≤ columns_of machine) (airs_of machine)
+pub airs_within : (machine : Machine) → All (λ air. first_column_of air + width_of air ≤ input_columns machine) (airs_of machine)
 airs_within Range = All-cons (λ air. first_column_of air + width_of air ≤ 3) RangeCheck [] (omega arith) (All-nil (λ air. first_column_of air + width_of air ≤ 3))
 airs_within Bus = All-cons (λ air. first_column_of air + width_of air ≤ 3) Keys (Entries ∷ []) (omega arith)
     (All-cons (λ air. first_column_of air + width_of air ≤ 3) Entries [] (omega arith) (All-nil (λ air. first_column_of air + width_of air ≤ 3)))
@@ -122,7 +122,7 @@ trace_rows air input holds some =
 
 -- the batch's instance of an AIR: public values and ids are the same for all
 abbrev pub instance : {F : Type 0} → AirTrace F → Instance F
-instance trace = instance_over [] ids trace
+instance trace = traced_instance [] ids trace
 
 module _ {F : Type 0} (R : Ring F) (eq : F → F → Bool) (input : Matrix F) (air : MachineAir) (trace : AirTrace F) (is : IsTraceOf R eq input air trace) where
   -- the AIR has one lookup
@@ -175,11 +175,11 @@ module _ {F K : Type 0} (E : Extension F K) (alpha beta : K) (input : Matrix F) 
   result_is air trace is =
       let one = one_lookup E.base E.base_eq input air trace is in
       let rows = sent_by_air E.base E.base_eq input air trace is in
-      λ i. (plain_matrix E (table_denominator E table) (one.1 i) (rows i), plain_terminal_of E (table_denominator E table) (one.1 i) (rows i))
+      λ i. (plain_matrix E (table_key_denominator E table) (one.1 i) (rows i), plain_terminal_of E (table_key_denominator E table) (one.1 i) (rows i))
 
   -- and so are its faults
   faults_are : (air : MachineAir) (trace : AirTrace F) → IsTraceOf E.base E.base_eq input air trace → instance_faults E table (instance trace) ≡ air_faults E alpha beta input air
-  faults_are air trace is = ap (trace_faults E (table_denominator E table)) (sent_by_air E.base E.base_eq input air trace is)
+  faults_are air trace is = ap (trace_faults E (table_key_denominator E table)) (sent_by_air E.base E.base_eq input air trace is)
 
   -- likewise of all
   results_are : (airs : List MachineAir) (traces : List (AirTrace F)) → AllZip (IsTraceOf E.base E.base_eq input) airs traces → plain_witness E table (map instance traces) ≡ map (air_result E alpha beta input) airs
@@ -194,7 +194,7 @@ module _ {F K : Type 0} (E : Extension F K) (alpha beta : K) (input : Matrix F) 
   all_faults_are (a ∷ later) [] all = absurd all
   all_faults_are (a ∷ later) (t ∷ ts) all = λ i. faults_are a t all.0 i ∷ all_faults_are later ts all.1 i
 
-  -- an item whose image stands at a place
+  -- an item whose image stands at an index
   item_at : {A B : Type 0} (f : A → B) (xs : List A) (i : ℕ) (y : B) → slice_get (map f xs) i ≡ Some y → (x : A) × (slice_get xs i ≡ Some x) × (f x ≡ y)
   item_at f [] i y there = absurd (cc there)
   item_at f (x ∷ xs) zero y there =
@@ -203,7 +203,7 @@ module _ {F K : Type 0} (E : Extension F K) (alpha beta : K) (input : Matrix F) 
   item_at f (x ∷ xs) (suc i) y there = item_at f xs i y there
 
   module _ (machine : Machine) (traces : List (AirTrace F)) (all : AllZip (IsTraceOf E.base E.base_eq input) (airs_of machine) traces) where
-    -- an AIR's faults are those of an instance at its place
+    -- an AIR's faults are those of an instance at its index
     instance_at : (i : ℕ) (air : MachineAir) → slice_get (airs_of machine) i ≡ Some air → (x : Instance F) × (slice_get (map instance traces) i ≡ Some x) × (instance_faults E table x ≡ air_faults E alpha beta input air)
     instance_at i air there =
         item_at (instance_faults E table) (map instance traces) i (air_faults E alpha beta input air)
@@ -220,21 +220,19 @@ module _ {F K : Type 0} (E : Extension F K) (alpha beta : K) (input : Matrix F) 
     witness_is = results_are (airs_of machine) traces all
 
     -- no AIR has a fault
-    pub faultless_is : AreInstancesFaultless E table (map instance traces) → AreFaultless E machine alpha beta input
+    pub faultless_is : AreInstancesFaultless E table (map instance traces) → AreFaultlessAirs E machine alpha beta input
     faultless_is none i air there =
         let x = instance_at i air there in
         sym x.2 ∙ none i x.0 x.1
 
     -- or the first fault is that of the machine
-    pub first_fault_is : (fault : BatchFault) → IsFirstInstanceFault E table (map instance traces) fault → IsFirstFault E machine alpha beta input (of_batch (of_fault fault))
+    pub first_fault_is : (fault : BatchFault) → IsFirstInstanceFault E table (map instance traces) fault → IsFirstAirFault E machine alpha beta input (of_batch (of_fault fault))
     first_fault_is fault first =
-        let air = air_at first.place first.instance first.is_there in
+        let air = air_at first.index first.item first.is_there in
         record {
-          place = first.place;
-          air = air.0;
-          error = fault.error;
+          index = first.index;
+          item = air.0;
           is_there = air.1;
-          is_first = ap (λ l. slice_get l 0) air.2 ∙ first.is_first;
           before = λ i other lt there. let x = instance_at i other there in sym x.2 ∙ first.before i x.0 lt x.1;
-          error_is = ap (λ at. of_batch (refusal_at at fault.error)) first.air_is;
+          fault = (fault.error, ap (λ l. slice_get l 0) air.2 ∙ first.fault.1, ap (λ at. of_batch (refusal_at at fault.error)) first.fault.0);
         }

@@ -29,7 +29,7 @@ use Rattle.lookup.specs.declared.lookups.Lookups.{Lookups}
 use Rattle.lookup.proofs.Extracted.{extracted_kinds, extracted_send, extracted_tuples, none_refused, one_in_order}
 use Rattle.lookup_program.specs.Machines.{AreLookupsOf, SendsLike, air_bus_and_weight, width_of}
 use Rattle.air.specs.Cell.{IsCellsRefusal}
-use Rattle.lookup_program.specs.Pushes.{Evaluates}
+use Rattle.lookup_program.specs.Pushes.{EvaluatesOnePush}
 use Rattle.lookup_program.specs.declared.airs.MachineAir.{MachineAir}
 use Rattle.lookup_program.specs.declared.airs.MachineAir.TheVariants.{Entries, Group, Keys, RangeCheck}
 use Rattle.lookup_program.proofs.AirLaws.{one_item}
@@ -68,7 +68,7 @@ module _ (F EF : Type 0) (R : Ring F) (eq : F → F → Bool) (air : MachineAir)
   -- how the AIR is evaluated
   abbrev air_evaluates : Builder → Result (Unit {0}) AirError → Builder → Type 0
   air_evaluates before answer after =
-      Evaluates pushes refuses (λ b e. e ≡ AirMemory) (λ b. (recorded b.inner).layout) (IsMeant before) (width_of air) before answer after
+      EvaluatesOnePush pushes refuses (λ b e. e ≡ AirMemory) (λ b. (recorded b.inner).layout) (IsMeant before) (width_of air) before answer after
       × OnOk answer (PushedWithin (recorded_air before) → PushedWithin (recorded_air after))
 
   -- the one interaction that it leaves

@@ -4,13 +4,13 @@ use Rattle.std.proofs.lemmas.List.{append-nil}
 use Rattle.std.proofs.lemmas.List.Elements.{All-cons, All-map, All-nil}
 use Rattle.std.specs.List.{AllByRecursion, AllZip, enumerate_from, filter, filter_map, flat_map, range_with_len}
 use Rattle.std.specs.Cmp.Lexicographic.{pointwise}
-use Rattle.std.specs.Option.{ForSome}
 use Rattle.field.specs.Ring.{Ring, IsCommutativeRing}
 use Rattle.matrix.specs.Matrix.{Matrix, height, row}
-use Rattle.expressions.specs.Layout.{layout_of_traces, layout_of_widths}
+use Rattle.air.specs.Traces.{AreEven, layout_of}
+use Rattle.expressions.specs.Layout.{layout_of_widths}
 use Rattle.expressions.specs.Window.{window_at}
 use Rattle.field.specs.Extension.{Extension}
-use Rattle.lookup_model.specs.Challenges.{table_denominator}
+use Rattle.lookup_model.specs.Challenges.{table_key_denominator}
 use Rattle.lookup_model.specs.Fault.{IsLawfulSelection, are_boolean}
 use Rattle.lookup_model.specs.Net.{first_seen}
 use Rattle.lookup_model.specs.Outline.{bus_of}
@@ -24,7 +24,7 @@ use Rattle.lookup.specs.Lookups.{lookups_of}
 use Rattle.lookup.specs.Sends.{lookup_bus_and_weight}
 use Rattle.lookup_debug.specs.Contributions.{Contribution, Traced, contributions_of, contributions_on, traced_of}
 use Rattle.lookup_debug.specs.FaultText.{fault_text, mismatch_text}
-use Rattle.lookup_debug.specs.Groups.{Group, Placed, bus_label, groups, is_local, is_on, local_group, local_label, placed_contributions, placed_in}
+use Rattle.lookup_debug.specs.Groups.{Group, LookupAt, bus_label, groups, is_local, is_on, local_group, local_label, lookup_contributions, lookups_in}
 use Rattle.lookup_debug.specs.Mismatch.{AllBalance, Balances, IsFirst, IsMismatch, IsMismatchOf, net_amount}
 use Rattle.lookup_debug.specs.declared.fault.LookupFault.{LookupFault}
 use Rattle.lookup_debug.specs.declared.instance.LookupDebugInstance.{LookupDebugInstance}
@@ -32,7 +32,7 @@ use Rattle.lookup_debug.specs.SentContributions.{sent_contributions}
 use Rattle.lookup_debug.proofs.SentContributionLaws.{contributions_sent}
 use Rattle.lookup_program.specs.Machines.{air_bus_and_weight, air_sends, air_trace, airs_of}
 use Rattle.lookup_program.specs.Mismatches.{AreFlagsBoolean, HasBooleanFlags, air_contributions, label_of, machine_contributions, mismatch_line}
-use Rattle.lookup_program.specs.Program.{AreFaultless, air_rows, run_table}
+use Rattle.lookup_program.specs.Program.{AreFaultlessAirs, air_rows, run_table}
 use Rattle.lookup_program.specs.Traces.{IsTraceOf, traced_over}
 use Rattle.lookup_program.specs.declared.airs.MachineAir.{MachineAir}
 use Rattle.lookup_program.specs.declared.airs.MachineAir.TheVariants.{Entries, Group as GroupAir, Keys, RangeCheck}
@@ -57,11 +57,11 @@ at_row P f a (suc n) all (suc k) lt =
     subst (λ r. P (f r)) there (at_row P f (a + 1) n all.1 k (omega (arith, lt)))
 
 -- without a fault each flag of a machine is zero or one
-pub flags_boolean : {F K : Type 0} (E : Extension F K) (machine : Machine) (alpha beta : K) (input : Matrix F) → AreFaultless E machine alpha beta input → AreFlagsBoolean E.base E.base_eq machine input
+pub flags_boolean : {F K : Type 0} (E : Extension F K) (machine : Machine) (alpha beta : K) (input : Matrix F) → AreFaultlessAirs E machine alpha beta input → AreFlagsBoolean E.base E.base_eq machine input
 flags_boolean {F} E machine alpha beta input faultless i air is r lt =
     let trace = air_trace air input in
     let sends : ℕ → Sent F = λ k. air_sends E.base E.base_eq air (row trace k) in
-    let lawful = lawful_rows E (table_denominator E (run_table E alpha beta)) (air_rows E alpha beta input air) (faultless i air is) in
+    let lawful = lawful_rows E (table_key_denominator E (run_table E alpha beta)) (air_rows E alpha beta input air) (faultless i air is) in
     let here : HasLawfulFlags E.base E.base_eq (sends (0 + r)) = at_row (HasLawfulFlags E.base E.base_eq) sends 0 (height trace) lawful r lt in
     let same : 0 + r ≡ r = omega arith in
     boolean (sends r) (subst (λ k. HasLawfulFlags E.base E.base_eq (sends k)) same here)
@@ -93,22 +93,22 @@ module _ {F : Type 0} {R : Ring F} (laws : IsCommutativeRing R) (eq : F → F �
         cc one
 
     -- contributes what the AIR does
-    air_is : (place : ℕ) → AreAirFlagsBoolean air → contributions_of R eq place 0 (traced_over trace) the_lookup ≡ air_contributions R eq place air (air_trace air input)
-    air_is place boolean =
-        same_parts (contributions_on R eq place 0 (traced_over trace) the_lookup) part 0 (height trace.main) (λ r lt. on_row r (omega (arith, lt)))
-        ∙ ap (λ (m : Matrix F). flat_map (λ r. sent_contributions R eq (record { instance = place; lookup = 0; row = r }) (air_sends R eq air (row m r))) (range_with_len 0 (height m))) is.main
+    air_is : (index : ℕ) → AreAirFlagsBoolean air → contributions_of R eq index 0 (traced_over trace) the_lookup ≡ air_contributions R eq index air (air_trace air input)
+    air_is index boolean =
+        same_parts (contributions_on R eq index 0 (traced_over trace) the_lookup) part 0 (height trace.main) (λ r lt. on_row r (omega (arith, lt)))
+        ∙ ap (λ (m : Matrix F). flat_map (λ r. sent_contributions R eq (record { instance = index; lookup = 0; row = r }) (air_sends R eq air (row m r))) (range_with_len 0 (height m))) is.main
       where
         part : ℕ → List (Contribution F)
-        part r = sent_contributions R eq (record { instance = place; lookup = 0; row = r }) (air_sends R eq air (row trace.main r))
+        part r = sent_contributions R eq (record { instance = index; lookup = 0; row = r }) (air_sends R eq air (row trace.main r))
 
-        on_row : (r : ℕ) → r < height trace.main → contributions_on R eq place 0 (traced_over trace) the_lookup r ≡ part r
+        on_row : (r : ℕ) → r < height trace.main → contributions_on R eq index 0 (traced_over trace) the_lookup r ≡ part r
         on_row r lt =
             let w = window_at trace.main None [] (height trace.main) r in
             let sent : sent_at R eq w 0 the_lookup ≡ air_sends R eq air (row trace.main r) = sends_row r lt in
             let there : HasBooleanFlags R eq (air_sends R eq air (row trace.main r)) =
             subst (λ (m : Matrix F). r < height m → HasBooleanFlags R eq (air_sends R eq air (row m r))) (sym is.main) (boolean r) lt in
-            contributions_sent laws eq decides (record { instance = place; lookup = 0; row = r }) w the_lookup (subst (HasBooleanFlags R eq) (sym sent) there)
-            ∙ ap (sent_contributions R eq (record { instance = place; lookup = 0; row = r })) sent
+            contributions_sent laws eq decides (record { instance = index; lookup = 0; row = r }) w the_lookup (subst (HasBooleanFlags R eq) (sym sent) there)
+            ∙ ap (sent_contributions R eq (record { instance = index; lookup = 0; row = r })) sent
 
     -- the bus of its lookup
     kind_is : bus_of the_lookup.kind ≡ (air_bus_and_weight air).0
@@ -117,28 +117,28 @@ module _ {F : Type 0} {R : Ring F} (laws : IsCommutativeRing R) (eq : F → F �
         let same : lookup_bus_and_weight the_lookup ≡ air_bus_and_weight air = cc both in
         ap (λ p. p.0) same
 
-    -- and its place among others
-    abbrev placed_lookup : ℕ → Placed F
-    placed_lookup i = record { instance = i; place = 0; traced = traced_over trace; lookup = the_lookup }
+    -- and its index among others
+    abbrev the_lookup_at : ℕ → LookupAt F
+    the_lookup_at i = record { instance = i; index = 0; traced = traced_over trace; lookup = the_lookup }
 
-    placed_is : (i : ℕ) → placed_in (i, traced_over trace) ≡ placed_lookup i ∷ []
-    placed_is i = ap (λ ls. map (λ l. record { instance = i; place = l.0; traced = traced_over trace; lookup = l.1 }) (enumerate_from 0 ls)) (one_lookup R eq input air trace is).1
+    lookup_at_is : (i : ℕ) → lookups_in (i, traced_over trace) ≡ the_lookup_at i ∷ []
+    lookup_at_is i = ap (λ ls. map (λ l. record { instance = i; index = l.0; traced = traced_over trace; lookup = l.1 }) (enumerate_from 0 ls)) (one_lookup R eq input air trace is).1
 
   -- the groups of some lookups
-  abbrev groups_over : List (Placed F) → List (Group F)
+  abbrev groups_over : List (LookupAt F) → List (Group F)
   groups_over ps =
       map (local_group R eq) (filter is_local ps)
-      ++ map (λ name. record { label = bus_label name; contributions = flat_map (placed_contributions R eq) (filter (is_on name) ps) }) (first_seen (pointwise nat_eq) (filter_map (λ p. bus_of p.lookup.kind) ps))
+      ++ map (λ name. record { label = bus_label name; contributions = flat_map (lookup_contributions R eq) (filter (is_on name) ps) }) (first_seen (pointwise nat_eq) (filter_map (λ p. bus_of p.lookup.kind) ps))
 
-  one_local : (p : Placed F) → bus_of p.lookup.kind ≡ None → groups_over (p ∷ []) ≡ local_group R eq p ∷ []
+  one_local : (p : LookupAt F) → bus_of p.lookup.kind ≡ None → groups_over (p ∷ []) ≡ local_group R eq p ∷ []
   one_local p none = rw none refl
 
-  on_one_bus : (name : List ℕ) (p : Placed F) → bus_of p.lookup.kind ≡ Some name → pointwise nat_eq name name ≡ true
-      → groups_over (p ∷ []) ≡ record { label = bus_label name; contributions = placed_contributions R eq p ++ [] } ∷ []
+  on_one_bus : (name : List ℕ) (p : LookupAt F) → bus_of p.lookup.kind ≡ Some name → pointwise nat_eq name name ≡ true
+      → groups_over (p ∷ []) ≡ record { label = bus_label name; contributions = lookup_contributions R eq p ++ [] } ∷ []
   on_one_bus name p is same = rw (is, same) refl
 
-  two_on_one_bus : (name : List ℕ) (p q : Placed F) → bus_of p.lookup.kind ≡ Some name → bus_of q.lookup.kind ≡ Some name → pointwise nat_eq name name ≡ true
-      → groups_over (p ∷ q ∷ []) ≡ record { label = bus_label name; contributions = placed_contributions R eq p ++ (placed_contributions R eq q ++ []) } ∷ []
+  two_on_one_bus : (name : List ℕ) (p q : LookupAt F) → bus_of p.lookup.kind ≡ Some name → bus_of q.lookup.kind ≡ Some name → pointwise nat_eq name name ≡ true
+      → groups_over (p ∷ q ∷ []) ≡ record { label = bus_label name; contributions = lookup_contributions R eq p ++ (lookup_contributions R eq q ++ []) } ∷ []
   two_on_one_bus name p q first second same = rw (first, second, same) refl
 
   -- a machine has one group
@@ -149,21 +149,21 @@ module _ {F : Type 0} {R : Ring F} (laws : IsCommutativeRing R) (eq : F → F �
       → groups R eq (map traced_over traces) ≡ machine_group machine ∷ []
   groups_are Range [] all boolean = absurd all
   groups_are Range (t ∷ []) all boolean =
-      ap groups_over (ap (λ ps. ps ++ []) (placed_is RangeCheck t all.0 0))
-      ∙ one_local (placed_lookup RangeCheck t all.0 0) (kind_is RangeCheck t all.0)
+      ap groups_over (ap (λ ps. ps ++ []) (lookup_at_is RangeCheck t all.0 0))
+      ∙ one_local (the_lookup_at RangeCheck t all.0 0) (kind_is RangeCheck t all.0)
       ∙ ap (λ cs. record { label = local_label 0 0; contributions = cs } ∷ []) (air_is RangeCheck t all.0 0 (boolean 0 RangeCheck refl) ∙ sym (append-nil _))
   groups_are Range (t ∷ u ∷ ts) all boolean = absurd all.1
   groups_are Exclusive [] all boolean = absurd all
   groups_are Exclusive (t ∷ []) all boolean =
-      ap groups_over (ap (λ ps. ps ++ []) (placed_is GroupAir t all.0 0))
-      ∙ on_one_bus (codes "rc") (placed_lookup GroupAir t all.0 0) (kind_is GroupAir t all.0) refl
+      ap groups_over (ap (λ ps. ps ++ []) (lookup_at_is GroupAir t all.0 0))
+      ∙ on_one_bus (codes "rc") (the_lookup_at GroupAir t all.0 0) (kind_is GroupAir t all.0) refl
       ∙ ap (λ cs. record { label = bus_label (codes "rc"); contributions = cs ++ [] } ∷ []) (air_is GroupAir t all.0 0 (boolean 0 GroupAir refl))
   groups_are Exclusive (t ∷ u ∷ ts) all boolean = absurd all.1
   groups_are Bus [] all boolean = absurd all
   groups_are Bus (t ∷ []) all boolean = absurd all.1
   groups_are Bus (t ∷ u ∷ []) all boolean =
-      ap groups_over (ap₂ (λ ps qs. ps ++ (qs ++ [])) (placed_is Keys t all.0 0) (placed_is Entries u all.1.0 1))
-      ∙ two_on_one_bus (codes "b") (placed_lookup Keys t all.0 0) (placed_lookup Entries u all.1.0 1) (kind_is Keys t all.0) (kind_is Entries u all.1.0) refl
+      ap groups_over (ap₂ (λ ps qs. ps ++ (qs ++ [])) (lookup_at_is Keys t all.0 0) (lookup_at_is Entries u all.1.0 1))
+      ∙ two_on_one_bus (codes "b") (the_lookup_at Keys t all.0 0) (the_lookup_at Entries u all.1.0 1) (kind_is Keys t all.0) (kind_is Entries u all.1.0) refl
       ∙ ap₂ (λ cs ds. record { label = bus_label (codes "b"); contributions = cs ++ (ds ++ []) } ∷ []) (air_is Keys t all.0 0 (boolean 0 Keys refl)) (air_is Entries u all.1.0 1 (boolean 1 Entries refl))
   groups_are Bus (t ∷ u ∷ v ∷ ts) all boolean = absurd all.1.1
 
@@ -175,27 +175,27 @@ module _ {F : Type 0} {R : Ring F} (laws : IsCommutativeRing R) (eq : F → F �
     -- the mismatch of that group
     pub mismatched : (text : F → List ℕ) (fault : LookupFault F) → IsMismatch R eq text (map traced_over traces) fault
         → (tuple : List F) × IsFirst R eq text (machine_contributions R eq machine input) tuple × (fault_text text fault ++ codes "\n" ≡ mismatch_line R eq text machine input tuple)
-    mismatched text fault m = at_place m.place m.group (ap (λ gs. slice_get gs m.place) (sym (groups_are machine traces all boolean)) ∙ m.there) m.mismatch
+    mismatched text fault m = at_index m.index m.group (ap (λ gs. slice_get gs m.index) (sym (groups_are machine traces all boolean)) ∙ m.there) m.mismatch
       where
-        at_place : (i : ℕ) (group : Group F) → slice_get (machine_group machine ∷ []) i ≡ Some group → IsMismatchOf R eq text group.label group.contributions fault
+        at_index : (i : ℕ) (group : Group F) → slice_get (machine_group machine ∷ []) i ≡ Some group → IsMismatchOf R eq text group.label group.contributions fault
             → (tuple : List F) × IsFirst R eq text (machine_contributions R eq machine input) tuple × (fault_text text fault ++ codes "\n" ≡ mismatch_line R eq text machine input tuple)
-        at_place zero group is here =
+        at_index zero group is here =
             let same : machine_group machine ≡ group = cc is in
             let told : IsMismatchOf R eq text (label_of machine) (machine_contributions R eq machine input) fault =
             subst (λ (g : Group F). IsMismatchOf R eq text g.label g.contributions fault) (sym same) here in
             let parts = told.fault_is in
             let net = text (net_amount R eq (machine_contributions R eq machine input) told.tuple) in
-            let whole = ap (fault_text text) parts.fault_is ∙ (λ i. mismatch_text (parts.label_is i) (parts.tuple_is i) net (parts.places_are i)) in
+            let whole = ap (fault_text text) parts.fault_is ∙ (λ i. mismatch_text (parts.label_is i) (parts.tuple_is i) net (parts.indices_are i)) in
             (told.tuple, told.first, ap (λ t. t ++ codes "\n") whole)
-        at_place (suc i) group is here = absurd (cc is)
+        at_index (suc i) group is here = absurd (cc is)
 
 -- traces of a machine are fit for the debug check
 module _ {F : Type 0} (R : Ring F) (eq : F → F → Bool) (input : Matrix F) where
   abbrev Fits : Traced F → Type 0
-  Fits t = LookupsFit (layout_of_traces t.main t.preprocessed t.public_values) t.lookups
+  Fits t = LookupsFit (layout_of t.traces) t.lookups
 
   abbrev HaveOneHeight : Traced F → Type 0
-  HaveOneHeight t = ForSome t.preprocessed (λ m. height m ≡ height t.main)
+  HaveOneHeight t = AreEven t.traces
 
   all_fit : (airs : List MachineAir) (traces : List (AirTrace F)) → AllZip (IsTraceOf R eq input) airs traces → All Fits (map traced_over traces)
   all_fit [] [] all = All-nil Fits

@@ -1,5 +1,5 @@
 -- The plan of a machine's AIRs over the rows of its input: its ids, its batch, and why it is refused.
-use Rattle.std.proofs.Common.{◌≡◌, ◌≢◌, ◌⊎◌, ◌<◌, ◌≤◌, ◌+◌, ◌*◌, ◌++◌, ℕ, zero, suc, Bool, IsTrue, List, [], ◌∷◌, Option, Some, None, All, inl, inr, length, map, slice_get, refl, sym, ap, ap₂, subst, subst₂, arith, ◌∙◌}
+use Rattle.std.proofs.Common.{◌≡◌, ◌≢◌, ◌⊎◌, ◌<◌, ◌≤◌, ◌+◌, ◌*◌, ◌++◌, ℕ, zero, suc, Bool, IsTrue, List, [], ◌∷◌, Option, Some, All, inl, inr, length, get_or, map, slice_get, refl, sym, ap, ap₂, subst, subst₂, arith, ◌∙◌}
 use Rattle.std.proofs.lemmas.List.{length-map}
 use Rattle.std.proofs.lemmas.List.Elements.{All-cons, All-nil}
 use Rattle.std.proofs.lemmas.List.Sums.{sum_by-cons}
@@ -22,9 +22,9 @@ use Rattle.batch.specs.Traces.{FitsAt, batch_over}
 use Rattle.batch.specs.declared.error.BatchError.{BatchError}
 use Rattle.batch.specs.declared.error.BatchError.TheVariants.{Lookup as OfLookup}
 use Rattle.batch.specs.declared.trace.BatchTrace.{BatchTrace}
-use Rattle.lookup_program.specs.Machines.{air_bus_and_weight, air_trace, airs_of, columns_of, first_column_of, width_of}
+use Rattle.lookup_program.specs.Machines.{air_bus_and_weight, air_trace, airs_of, input_columns, first_column_of, width_of}
 use Rattle.lookup_program.specs.Program.{height_sum}
-use Rattle.batch.specs.Traces.{shown_of}
+use Rattle.batch.specs.Traces.{main_alone, shown_of}
 use Rattle.lookup_program.specs.Traces.{IsTraceOf}
 use Rattle.lookup_program.specs.declared.airs.MachineAir.{MachineAir}
 use Rattle.lookup_program.specs.declared.airs.MachineAir.TheVariants.{Entries, Group, Keys, RangeCheck}
@@ -62,14 +62,14 @@ module _ {F : Type 0} where
       (omega (arith, low), omega (arith, low, same), omega (arith, low, same, order.count))
 
   -- the batch of AIRs, all of whose lookups have id 0
-  pub batch_is : (traces : List (AirTrace F)) (shown : List (BatchTrace F)) → map shown_of shown ≡ map (λ t. (t.main, None, [])) traces → batch_over (map (λ t. ids) traces) (sets traces) shown ≡ map instance traces
+  pub batch_is : (traces : List (AirTrace F)) (shown : List (BatchTrace F)) → map shown_of shown ≡ map (λ t. main_alone t.main) traces → batch_over (map (λ t. ids) traces) (sets traces) shown ≡ map instance traces
   batch_is [] [] same = refl
   batch_is [] (b ∷ bs) same = absurd (cc same)
   batch_is (t ∷ ts) [] same = absurd (cc same)
   batch_is (t ∷ ts) (b ∷ bs) same =
-      let head : shown_of b ≡ (t.main, None, []) = cc same in
-      let rest : map shown_of bs ≡ map (λ u. (u.main, None, [])) ts = cc same in
-      ap₂ (λ x xs. x ∷ xs) (λ i. record { lookups = lookups_of t.lookups; main = (head i).0; preprocessed = (head i).1; public_values = (head i).2; ids = ids }) (batch_is ts bs rest)
+      let head : shown_of b ≡ main_alone t.main = ap (λ all. get_or all 0 (shown_of b)) same in
+      let rest : map shown_of bs ≡ map (λ u. main_alone u.main) ts = cc same in
+      ap₂ (λ x xs. x ∷ xs) (λ i. record { lookups = lookups_of t.lookups; traces = head i; ids = ids }) (batch_is ts bs rest)
 
 module _ {F : Type 0} (R : Ring F) (eq : F → F → Bool) (input : Matrix F) where
   -- the tuples of these AIRs have one value
@@ -166,5 +166,5 @@ module _ {F : Type 0} (R : Ring F) (eq : F → F → Bool) (input : Matrix F) wh
         (error, subst (λ (sum : ℕ). IsHeightRefusal p sum error) height_sum_is refusal, is)
 
     -- its batch is within the columns of the input
-    pub machine_fits : input.width ≡ columns_of machine → 0 < height input → All FitsAt (zip (map instance traces) (heights traces))
+    pub machine_fits : input.width ≡ input_columns machine → 0 < height input → All FitsAt (zip (map instance traces) (heights traces))
     machine_fits wide some = fitted (airs_of machine) traces (λ n d lt. omega (arith, airs_within machine n d lt, wide)) some all

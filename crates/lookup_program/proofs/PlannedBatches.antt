@@ -1,5 +1,5 @@
 -- What a plan of a machine's AIRs proves.
-use Rattle.std.proofs.Common.{◌≡◌, ◌⊎◌, ◌<◌, ℕ, Bool, inl, inr, List, [], None, All, length, map, sym, ap, ap₂, subst, subst₂, arith, ◌∙◌}
+use Rattle.std.proofs.Common.{◌≡◌, ◌⊎◌, ◌<◌, ℕ, Bool, inl, inr, List, All, length, map, sym, ap, ap₂, subst, subst₂, arith, ◌∙◌}
 use Rattle.std.proofs.lemmas.List.{length-map}
 use Rattle.std.specs.List.{AllZip, zip}
 use Rattle.std.specs.declared.alloc.Global.{Global}
@@ -29,10 +29,10 @@ use Rattle.batch.specs.Traces.{AreTraces, FitsAt, IsTraceRefusal, batch_over}
 use Rattle.batch.specs.declared.error.BatchError.{BatchError}
 use Rattle.batch.specs.declared.error.BatchError.TheVariants.{Memory as BatchMemory}
 use Rattle.batch.specs.declared.trace.BatchTrace.{BatchTrace}
-use Rattle.lookup_program.specs.Machines.{airs_of, columns_of}
-use Rattle.lookup_program.specs.Program.{AreFaultless, IsFirstFault, IsHeavy, height_sum, machine_witness, run_table}
+use Rattle.lookup_program.specs.Machines.{airs_of, input_columns}
+use Rattle.lookup_program.specs.Program.{AreFaultlessAirs, IsFirstAirFault, IsHeavyInput, height_sum, machine_witness, run_table}
 use Rattle.lookup_program.specs.Refusal.{of_batch}
-use Rattle.batch.specs.Traces.{shown_of}
+use Rattle.batch.specs.Traces.{main_alone, shown_of}
 use Rattle.lookup_program.specs.Traces.{IsTraceOf}
 use Rattle.lookup_program.specs.declared.error.RunError.TheVariants.{Memory}
 use Rattle.lookup_program.specs.declared.machine.Machine.{Machine}
@@ -43,16 +43,16 @@ use Rattle.lookup_program.proofs.PlannedWidths.{width_is_one}
 
 -- a plan that is refused is too heavy
 pub is_heavy : {F : Type 0} (R : Ring F) (eq : F → F → Bool) (input : Matrix F) (machine : Machine) (traces : List (AirTrace F)) → AllZip (IsTraceOf R eq input) (airs_of machine) traces → (p : ℕ) → IsPrime p
-    → (airs : List (Lookups F)) (hs : List ℕ) → airs ≡ sets traces → hs ≡ heights traces → (e : BatchError) → IsPlanRefusal p airs hs e → IsHeavy p machine input (of_batch e)
+    → (airs : List (Lookups F)) (hs : List ℕ) → airs ≡ sets traces → hs ≡ heights traces → (e : BatchError) → IsPlanRefusal p airs hs e → IsHeavyInput p machine input (of_batch e)
 is_heavy R eq input machine traces all p prime airs hs airs_are heights_are e refusal =
     let heavy = refused_for_height R eq input machine traces all p prime.above_one e (subst₂ (λ ls ns. IsPlanRefusal p ls ns e) airs_are heights_are refusal) in
     (heavy.0, heavy.1, ap of_batch heavy.2)
 
 -- the traces that a plan is given are those of the AIRs
-pub shown_is : {F : Type 0} (traces : List (AirTrace F)) (own mains : List (Matrix F)) → own ≡ mains → (made : List (BatchTrace F)) → map shown_of made ≡ map (λ main. (main, None, [])) own
-    → (shown : List (BatchTrace F)) → shown ≡ made → mains ≡ map (λ t. t.main) traces → map shown_of shown ≡ map (λ t. (t.main, None, [])) traces
+pub shown_is : {F : Type 0} (traces : List (AirTrace F)) (own mains : List (Matrix F)) → own ≡ mains → (made : List (BatchTrace F)) → map shown_of made ≡ map main_alone own
+    → (shown : List (BatchTrace F)) → shown ≡ made → mains ≡ map (λ t. t.main) traces → map shown_of shown ≡ map (λ t. main_alone t.main) traces
 shown_is traces own mains same made are shown shown_same mains_are =
-    ap (map shown_of) shown_same ∙ are ∙ ap (map (λ main. (main, None, []))) (same ∙ mains_are) ∙ map-map (λ main. (main, None, [])) (λ t. t.main) traces
+    ap (map shown_of) shown_same ∙ are ∙ ap (map main_alone) (same ∙ mains_are) ∙ map-map main_alone (λ t. t.main) traces
 
 module _ {F K : Type 0} (E : Extension F K) (machine : Machine) (alpha beta : K) (input : Matrix F) (traces : List (AirTrace F)) (all : AllZip (IsTraceOf E.base E.base_eq input) (airs_of machine) traces)
     (p : ℕ) (airs : List (Lookups F)) (hs : List ℕ) (given : List (Vec ℕ Global)) (W m : ℕ) (facts : IsPlan p airs hs (lists_of given) W m) (airs_are : airs ≡ sets traces) (heights_are : hs ≡ heights traces) where
@@ -74,21 +74,21 @@ module _ {F K : Type 0} (E : Extension F K) (machine : Machine) (alpha beta : K)
       ap₂ (λ ls ns. weighted_height_sum (map lookups_of ls) ns) airs_are heights_are ∙ height_sum_is E.base E.base_eq input machine traces all in
       omega (arith, facts.light, sum)
 
-  module _ (shown : List (BatchTrace F)) (shown_are : map shown_of shown ≡ map (λ t. (t.main, None, [])) traces) where
+  module _ (shown : List (BatchTrace F)) (shown_are : map shown_of shown ≡ map (λ t. main_alone t.main) traces) where
     -- its batch is that of the machine
     batch_same : plan_batch airs given shown ≡ map instance traces
     batch_same = (λ i. batch_over (zeros.0 i) (airs_are i) shown) ∙ batch_is traces shown shown_are
 
     -- the traces fit
-    traces_fit : input.width ≡ columns_of machine → 0 < height input → AreTraces hs shown (plan_batch airs given shown)
+    traces_fit : input.width ≡ input_columns machine → 0 < height input → AreTraces hs shown (plan_batch airs given shown)
     traces_fit wide some = record {
-      as_many = sym (length-map shown shown_of) ∙ ap length shown_are ∙ length-map traces (λ t. (t.main, None, [])) ∙ sym (ap length heights_are ∙ length-map traces (λ t. height t.main));
+      as_many = sym (length-map shown shown_of) ∙ ap length shown_are ∙ length-map traces (λ t. main_alone t.main) ∙ sym (ap length heights_are ∙ length-map traces (λ t. height t.main));
       fit = subst₂ (λ (batch : List (Instance F)) (ns : List ℕ). All FitsAt (zip batch ns)) (sym batch_same) (sym heights_are) (machine_fits E.base E.base_eq input machine traces all wide some);
     }
 
     -- what it proves is the machine's witness
     pub proved : (w : Witness K) → AreTraces hs shown (plan_batch airs given shown) × (results_of w ≡ plain_witness E (made_table E.ring alpha beta W m) (plan_batch airs given shown)) × HasOneOfEach (plan_batch airs given shown) w × AreInstancesFaultless E (made_table E.ring alpha beta W m) (plan_batch airs given shown)
-        → (results_of w ≡ machine_witness E machine alpha beta input) × (length w.aux.items ≡ length w.terminals.items) × AreFaultless E machine alpha beta input × (height_sum machine input < p)
+        → (results_of w ≡ machine_witness E machine alpha beta input) × (length w.aux.items ≡ length w.terminals.items) × AreFaultlessAirs E machine alpha beta input × (height_sum machine input < p)
     proved w (fit, plain, complete, faultless) = (
       plain ∙ (λ i. plain_witness E (made_is i) (batch_same i)) ∙ witness_is E alpha beta input machine traces all,
       complete.0 ∙ sym complete.1,
@@ -97,11 +97,11 @@ module _ {F K : Type 0} (E : Extension F K) (machine : Machine) (alpha beta : K)
     )
 
     -- what it refuses is the machine's first fault
-    pub refused : input.width ≡ columns_of machine → 0 < height input → (e : BatchError)
+    pub refused : input.width ≡ input_columns machine → 0 < height input → (e : BatchError)
         → (e ≡ BatchMemory) ⊎ (IsTraceRefusal hs shown (plan_batch airs given shown) e ⊎ (AreTraces hs shown (plan_batch airs given shown) × ((fault : BatchFault) × IsFirstInstanceFault E (made_table E.ring alpha beta W m) (plan_batch airs given shown) fault × (e ≡ of_fault fault))))
-        → (of_batch e ≡ Memory) ⊎ (IsHeavy p machine input (of_batch e) ⊎ ((height_sum machine input < p) × IsFirstFault E machine alpha beta input (of_batch e)))
+        → (of_batch e ≡ Memory) ⊎ (IsHeavyInput p machine input (of_batch e) ⊎ ((height_sum machine input < p) × IsFirstAirFault E machine alpha beta input (of_batch e)))
     refused wide some e (inl memory) = inl (ap of_batch memory)
     refused wide some e (inr (inl unfit)) = absurd (unfit_traces hs shown (plan_batch airs given shown) e unfit (traces_fit wide some))
     refused wide some e (inr (inr (fit, (fault, first, is)))) =
         let own = first_fault_is E alpha beta input machine traces all fault (subst₂ (λ (t : ChallengeTable K) (is : List (Instance F)). IsFirstInstanceFault E t is fault) made_is batch_same first) in
-        inr (inr (light, subst (λ (b : BatchError). IsFirstFault E machine alpha beta input (of_batch b)) (sym is) own))
+        inr (inr (light, subst (λ (b : BatchError). IsFirstAirFault E machine alpha beta input (of_batch b)) (sym is) own))

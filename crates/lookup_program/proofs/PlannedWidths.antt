@@ -9,14 +9,15 @@ use Rattle.lookup_model.specs.Outline.{Outline, fields_of}
 use Rattle.lookup_model.specs.declared.error.LookupError.{LookupError}
 use Rattle.lookup_model.specs.declared.types.Lookup.{Lookup}
 use Rattle.lookup.specs.BusWidths.{widths_of}
-use Rattle.lookup.specs.Buses.{bus_names, bus_groups, is_named, on_bus, same_name}
+use Rattle.lookup.specs.Buses.{bus_names, bus_groups, on_bus}
+use Rattle.lookup_model.specs.Names.{is_named, same_name}
 use Rattle.lookup.specs.Lookups.{lookups_of}
-use Rattle.lookup.specs.NamedWidths.{IsFirstMismatch, first_width, named_widths}
+use Rattle.lookup.specs.NamedWidths.{IsFirstWidthMismatch, first_width, named_widths}
 use Rattle.lookup.specs.declared.lookups.Lookups.{Lookups}
 use Rattle.lookup_model.proofs.Lists.{all_back, all_front}
-use Rattle.batch.proofs.Places.{there_holds}
+use Rattle.batch.proofs.ItemLaws.{there_holds}
 use Rattle.batch.specs.Checks.{IsFirstLocalMismatch, bus_widths_of}
-use Rattle.batch.specs.PlanFacts.{lookup_widths, message_width, tuple_widths}
+use Rattle.batch.specs.PlanFacts.{lookup_widths, message_width, all_tuple_widths}
 
 -- what holds of each item of each part holds of each item of all parts
 all_flat : {A B : Type 0} (P : B → Type 0) (f : A → List B) (xs : List A) → All (λ x. All P (f x)) xs → All P (flat_map f xs)
@@ -70,23 +71,23 @@ module _ {F : Type 0} where
         (λ n d lt. named_ones (map fields_of _) (All-map HasOnes fields_of _ (λ m l le. All-map (λ tuple. length tuple ≡ 1) (λ tuple. tuple.items) _ (ones n d lt m l le)))))
 
     -- no width on a bus differs
-    pub no_bus_mismatch : ¬ IsFirstMismatch (bus_widths_of airs) e
+    pub no_bus_mismatch : ¬ IsFirstWidthMismatch (bus_widths_of airs) e
     no_bus_mismatch first =
-        let rest : List (List ℕ × ℕ) = (first.name, first.actual) ∷ first.after in
+        let rest : List (List ℕ × ℕ) = first.item ∷ first.after in
         let all : AllByRecursion IsOne (first.before ++ rest) = recursion_from_All IsOne (first.before ++ rest) (subst (All IsOne) first.split widths_are_ones) in
-        let expected : first.expected ≡ 1 = found_one first.name first.before first.expected (all_front IsOne first.before rest all) first.first in
-        let actual : first.actual ≡ 1 = (all_back IsOne first.before rest all).0 in
-        first.differs (actual ∙ sym expected)
+        let expected : first.fault.expected ≡ 1 = found_one first.item.0 first.before first.fault.expected (all_front IsOne first.before rest all) first.fault.first in
+        let actual : first.item.1 ≡ 1 = (all_back IsOne first.before rest all).0 in
+        first.fault.differs (actual ∙ sym expected)
 
     -- and none of a local lookup
     pub no_local_mismatch : ¬ IsFirstLocalMismatch airs e
     no_local_mismatch first =
-        let inner = first.mismatch in
-        let tuples = there_holds (λ l. All (λ tuple. length tuple.items ≡ 1) l.elements.items) (lookups_of first.air) inner.place inner.lookup (there_holds AreOnes airs first.place first.air ones first.is_there) inner.is_there in
-        let widths : All (λ w. w ≡ 1) (lookup_widths inner.lookup) = All-map (λ w. w ≡ 1) (λ tuple. length tuple.items) inner.lookup.elements.items tuples in
-        let differ = inner.mismatch.differ in
-        let width : inner.mismatch.width ≡ 1 = there_holds (λ w. w ≡ 1) (lookup_widths inner.lookup) 0 inner.mismatch.width widths differ.first in
-        let other : inner.mismatch.other ≡ 1 = there_holds (λ w. w ≡ 1) (lookup_widths inner.lookup) differ.place inner.mismatch.other widths differ.found in
+        let inner = first.fault in
+        let tuples = there_holds (λ l. All (λ tuple. length tuple.items ≡ 1) l.elements.items) (lookups_of first.item) inner.index inner.item (there_holds AreOnes airs first.index first.item ones first.is_there) inner.is_there in
+        let widths : All (λ w. w ≡ 1) (lookup_widths inner.item) = All-map (λ w. w ≡ 1) (λ tuple. length tuple.items) inner.item.elements.items tuples in
+        let differ = inner.fault.uneven.differ in
+        let width : inner.fault.uneven.width ≡ 1 = there_holds (λ w. w ≡ 1) (lookup_widths inner.item) 0 inner.fault.uneven.width widths differ.first in
+        let other : inner.fault.uneven.other ≡ 1 = there_holds (λ w. w ≡ 1) (lookup_widths inner.item) differ.index inner.fault.uneven.other widths differ.found in
         differ.differs (other ∙ sym width)
 
 -- the greatest of some ones is at most 1
@@ -97,7 +98,7 @@ ones_below (w ∷ ws) all = omega (arith, all.0, ones_below ws all.1)
 -- so the table is made for tuples of one value
 pub width_is_one : {F : Type 0} (airs : List (Lookups F)) → All AreOnes airs → message_width airs ≡ 1
 width_is_one airs ones =
-    let all : All (λ w. w ≡ 1) (tuple_widths airs) =
+    let all : All (λ w. w ≡ 1) (all_tuple_widths airs) =
     all_flat (λ w. w ≡ 1) (λ air. flat_map lookup_widths (lookups_of air)) airs
     (λ n d lt. all_flat (λ w. w ≡ 1) lookup_widths _ (λ m l le. All-map (λ w. w ≡ 1) (λ tuple. length tuple.items) _ (ones n d lt m l le))) in
-    omega (arith, ones_below (tuple_widths airs) (recursion_from_All (λ w. w ≡ 1) (tuple_widths airs) all))
+    omega (arith, ones_below (all_tuple_widths airs) (recursion_from_All (λ w. w ≡ 1) (all_tuple_widths airs) all))

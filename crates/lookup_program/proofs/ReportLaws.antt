@@ -21,7 +21,7 @@ enumerate_push : {X : Type 0} (n : ℕ) (xs : List X) (x : X) → enumerate_from
 enumerate_push n [] x = ap (λ k. (k, x) ∷ []) (omega arith)
 enumerate_push n (y ∷ ys) x = ap (λ t. (n, y) ∷ t) (enumerate_push (n + 1) ys x ∙ ap (λ k. enumerate_from (n + 1) ys ++ (k, x) ∷ []) (omega arith))
 
--- pairs of the items at a place
+-- pairs of the items at an index
 zip_at : {A B : Type 0} (xs : List A) (ys : List B) (i : ℕ) (x : A) (y : B) → length xs ≡ length ys → i < length xs → x ≡ get_or xs i x → y ≡ get_or ys i y → (x, y) ≡ get_or (zip xs ys) i (x, y)
 zip_at [] ys i x y same lt first second = absurd (omega (arith, lt))
 zip_at (a ∷ xs) [] i x y same lt first second = absurd (omega (arith, same))

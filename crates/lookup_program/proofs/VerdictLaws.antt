@@ -11,9 +11,9 @@ use Rattle.lookup_model.specs.declared.error.LookupError.TheVariants.{TerminalSu
 use Rattle.lookup_model.specs.declared.types.LookupTerminal.{LookupTerminal}
 use Rattle.lookup_program.specs.Fields.{Fields}
 use Rattle.lookup_program.specs.Input.{IsInput}
-use Rattle.lookup_program.specs.Machines.{columns_of}
+use Rattle.lookup_program.specs.Machines.{input_columns}
 use Rattle.lookup_program.specs.Mismatches.{IsMismatchLine}
-use Rattle.lookup_program.specs.Program.{AreFaultless, IsReport, height_sum, machine_witness}
+use Rattle.lookup_program.specs.Program.{AreFaultlessAirs, IsReport, height_sum, machine_witness}
 use Rattle.lookup_program.specs.Report.{verdict_line, witness_lines}
 use Rattle.lookup_program.specs.declared.machine.Machine.{Machine}
 use Rattle.checker.proofs.WitnessLaws.{seconds}
@@ -30,8 +30,8 @@ cancels sum zero (Err e) (is, other) = (λ none. absurd (cc none), λ same. absu
 module _ {F K : Type 0} (fields : Fields F K) (machine : Machine) (alpha beta : K) (input : List ℕ) (rows : Matrix F) where
   -- the report of rows without a fault
   pub report_is : (w : Witness K) (terminals : List (Option (LookupTerminal K))) (cancel : Result (Unit {0}) LookupError) (balanced : Bool) (lines verdict : List ℕ) (text : String Global) (mismatch : Option (String Global))
-      → IsInput fields.extension.base (columns_of machine) fields.bound input rows
-      → (results_of w ≡ machine_witness fields.extension machine alpha beta rows) × (length w.aux.items ≡ length w.terminals.items) × AreFaultless fields.extension machine alpha beta rows × (height_sum machine rows < fields.characteristic)
+      → IsInput fields.extension.base (input_columns machine) fields.bound input rows
+      → (results_of w ≡ machine_witness fields.extension machine alpha beta rows) × (length w.aux.items ≡ length w.terminals.items) × AreFaultlessAirs fields.extension machine alpha beta rows × (height_sum machine rows < fields.characteristic)
       → terminals ≡ w.terminals.items → MatchResult cancel (λ _. terminal_sum fields.extension.ring terminals ≡ fields.extension.ring.zero) (λ e. (e ≡ TerminalSumNonZero) × (terminal_sum fields.extension.ring terminals ≢ fields.extension.ring.zero))
       → balanced ≡ is_ok cancel → lines ≡ witness_lines fields.text (results_of w) → verdict ≡ verdict_line balanced → string_bytes text ≡ lines ++ verdict
       → IsMismatchLine fields.extension.base fields.extension.base_eq fields.base_text machine rows mismatch

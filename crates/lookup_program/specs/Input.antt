@@ -32,7 +32,7 @@ module _ (columns bound : ℕ) (text : List ℕ) where
   NoneRefused = NoneRefusedOf (length (lines_of text))
 
   -- this is why the first refused line, which has `before` lines in front of it, is refused
-  pub record IsFirstRefusal (e : RunError) : Type 0 where
+  pub record IsFirstLineRefusal (e : RunError) : Type 0 where
     pub before : ℕ
     pub line : List ℕ
     pub stands : slice_get (lines_of text) before ≡ Some line
@@ -41,7 +41,7 @@ module _ (columns bound : ℕ) (text : List ℕ) where
 
   -- this is why the text is refused: because of its first refused line, or because it has no words
   abbrev pub IsInputRefusal : RunError → Type 0
-  IsInputRefusal e = IsFirstRefusal e ⊎ (NoneRefused × (all_words text ≡ []) × (e ≡ NoRows))
+  IsInputRefusal e = IsFirstLineRefusal e ⊎ (NoneRefused × (all_words text ≡ []) × (e ≡ NoRows))
 
   -- no line is refused, and these are the numbers that the words write, line after line
   pub record AreNumbers (numbers : List ℕ) : Type 0 where

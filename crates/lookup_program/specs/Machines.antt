@@ -19,10 +19,10 @@ use Rattle.lookup_program.specs.declared.machine.Machine.{Machine}
 use Rattle.lookup_program.specs.declared.machine.Machine.TheVariants.{Bus, Exclusive, Range}
 
 -- the number of columns of a machine's input
-abbrev pub columns_of : Machine → ℕ
-columns_of Range = 3
-columns_of Bus = 3
-columns_of Exclusive = 4
+abbrev pub input_columns : Machine → ℕ
+input_columns Range = 3
+input_columns Bus = 3
+input_columns Exclusive = 4
 
 -- the name of a machine
 abbrev pub name_of : Machine → List ℕ
@@ -68,8 +68,8 @@ air_bus_and_weight Entries = (Some (codes "b"), 0)
 air_bus_and_weight Group = (Some (codes "rc"), 1)
 
 -- a message about one value, under id 0
-abbrev pub message_of : {F : Type 0} → F → F → Message F
-message_of value multiplicity = record { key = record { id = 0; tuple = value ∷ [] }; multiplicity = multiplicity }
+abbrev pub value_message : {F : Type 0} → F → F → Message F
+value_message value multiplicity = record { key = record { id = 0; tuple = value ∷ [] }; multiplicity = multiplicity }
 
 module _ {F : Type 0} (R : Ring F) (eq : F → F → Bool) where
   -- What an AIR sends on a row of its trace. The range check reads cell 0 once, and provides cell 1
@@ -83,10 +83,10 @@ module _ {F : Type 0} (R : Ring F) (eq : F → F → Bool) where
       cell column = slice_index_or cells column R.zero
 
       by_air : MachineAir → Sent F
-      by_air RangeCheck = sent R eq None (message_of (cell 0) R.one ∷ message_of (cell 1) (R.neg (cell 2)) ∷ [])
-      by_air Keys = sent R eq None (message_of (cell 0) R.one ∷ [])
-      by_air Entries = sent R eq None (message_of (cell 0) (R.neg (cell 1)) ∷ [])
-      by_air Group = sent R eq (Some (cell 0 ∷ cell 2 ∷ [])) (message_of (cell 1) R.one ∷ message_of (cell 3) R.one ∷ [])
+      by_air RangeCheck = sent R eq None (value_message (cell 0) R.one ∷ value_message (cell 1) (R.neg (cell 2)) ∷ [])
+      by_air Keys = sent R eq None (value_message (cell 0) R.one ∷ [])
+      by_air Entries = sent R eq None (value_message (cell 0) (R.neg (cell 1)) ∷ [])
+      by_air Group = sent R eq (Some (cell 0 ∷ cell 2 ∷ [])) (value_message (cell 1) R.one ∷ value_message (cell 3) R.one ∷ [])
 
   -- an interaction that sends what the AIR sends, at each window that the builder stands for, with
   -- the AIR's bus and weight, and with tuples of one value

@@ -23,10 +23,10 @@ label_of Bus = bus_label (codes "b")
 label_of Exclusive = bus_label (codes "rc")
 
 module _ {F : Type 0} (R : Ring F) (eq : F → F → Bool) where
-  -- what the AIR at this place contributes to it, with its one lookup on each row of its trace
+  -- what the AIR at this index contributes to it, with its one lookup on each row of its trace
   abbrev pub air_contributions : ℕ → MachineAir → Matrix F → List (Contribution F)
-  air_contributions place air trace =
-      flat_map (λ r. sent_contributions R eq (record { instance = place; lookup = 0; row = r }) (air_sends R eq air (row trace r))) (range_with_len 0 (height trace))
+  air_contributions index air trace =
+      flat_map (λ r. sent_contributions R eq (record { instance = index; lookup = 0; row = r }) (air_sends R eq air (row trace r))) (range_with_len 0 (height trace))
 
   -- what all AIRs of a machine contribute, over the rows of an input
   abbrev pub machine_contributions : Machine → Matrix F → List (Contribution F)
@@ -46,7 +46,7 @@ module _ {F : Type 0} (R : Ring F) (eq : F → F → Bool) where
     abbrev pub mismatch_line : Machine → Matrix F → List F → List ℕ
     mismatch_line machine input tuple =
         let cs = machine_contributions machine input in
-        mismatch_text (label_of machine) (map text tuple) (text (net_amount R eq cs tuple)) (map (λ c. c.place) (of_tuple R eq cs tuple)) ++ codes "\n"
+        mismatch_text (label_of machine) (map text tuple) (text (net_amount R eq cs tuple)) (map (λ c. c.location) (of_tuple R eq cs tuple)) ++ codes "\n"
 
     -- the line of the first tuple that does not balance; none if all do
     abbrev pub IsMismatchLine : Machine → Matrix F → Option (String Global) → Type 0

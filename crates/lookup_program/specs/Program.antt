@@ -5,10 +5,11 @@ use Rattle.std.specs.List.{range_with_len, sum_by}
 use Rattle.std.specs.declared.alloc.Global.{Global}
 use Rattle.std.specs.declared.string.String.{String}
 use Rattle.matrix.specs.Matrix.{Matrix, height, row}
+use Rattle.expressions.specs.Faults.{HasFirstFault}
 use Rattle.batch.specs.declared.error.BatchError.TheVariants.{Air as OfAir, Lookup as OfLookup}
 use Rattle.lookup_model.specs.Batches.Witnesses.{AirResult}
 use Rattle.lookup.specs.Guards.{IsHeightRefusal}
-use Rattle.lookup_model.specs.Challenges.{ChallengeTable, prefix_of_bus, table_denominator}
+use Rattle.lookup_model.specs.Challenges.{ChallengeTable, prefix_of_bus, table_key_denominator}
 use Rattle.field.specs.Extension.{Extension}
 use Rattle.lookup_model.specs.Fault.{trace_faults}
 use Rattle.lookup_model.specs.Plain.{plain_cells, plain_terminal}
@@ -17,7 +18,7 @@ use Rattle.lookup_model.specs.Terminals.{terminal_sum}
 use Rattle.lookup_model.specs.declared.error.LookupError.{LookupError}
 use Rattle.lookup_program.specs.Fields.{Fields}
 use Rattle.lookup_program.specs.Input.{IsInput, IsInputRefusal}
-use Rattle.lookup_program.specs.Machines.{air_bus_and_weight, air_sends, air_trace, airs_of, columns_of, name_of}
+use Rattle.lookup_program.specs.Machines.{air_bus_and_weight, air_sends, air_trace, airs_of, input_columns, name_of}
 use Rattle.lookup_program.specs.Mismatches.{IsMismatchLine}
 use Rattle.lookup_program.specs.Refusal.{ShowsWord}
 use Rattle.lookup_program.specs.Report.{verdict_line, witness_lines}
@@ -32,8 +33,8 @@ abbrev pub height_sum : {F : Type 0} → Machine → Matrix F → ℕ
 height_sum machine input = sum_by (λ air. (air_bus_and_weight air).1 * height (air_trace air input)) (airs_of machine)
 
 -- the refusal of an input whose height sum reaches the characteristic
-abbrev pub IsHeavy : {F : Type 0} → ℕ → Machine → Matrix F → RunError → Type 0
-IsHeavy p machine input e = (error : LookupError) × IsHeightRefusal p (height_sum machine input) error × (e ≡ Batch (OfLookup error))
+abbrev pub IsHeavyInput : {F : Type 0} → ℕ → Machine → Matrix F → RunError → Type 0
+IsHeavyInput p machine input e = (error : LookupError) × IsHeightRefusal p (height_sum machine input) error × (e ≡ Batch (OfLookup error))
 
 -- the challenge table of a run: tuples have one value, and the one id is 0
 abbrev pub run_table : {F K : Type 0} → Extension F K → K → K → ChallengeTable K
@@ -49,12 +50,12 @@ module _ {F K : Type 0} (E : Extension F K) (alpha beta : K) (input : Matrix F) 
   -- the plain result of an AIR: an accumulator and the fractions of its one lookup, and its terminal
   abbrev pub air_result : MachineAir → AirResult K
   air_result air =
-      let denominator = table_denominator E (run_table E alpha beta) in
+      let denominator = table_key_denominator E (run_table E alpha beta) in
       (record { values = plain_cells E denominator (air_rows air); width = 2 }, Some (record { 0 = plain_terminal E denominator (air_rows air) }))
 
   -- the faults of an AIR
   abbrev pub air_faults : MachineAir → List LookupError
-  air_faults air = trace_faults E (table_denominator E (run_table E alpha beta)) (air_rows air)
+  air_faults air = trace_faults E (table_key_denominator E (run_table E alpha beta)) (air_rows air)
 
 module _ {F K : Type 0} (E : Extension F K) (machine : Machine) (alpha beta : K) (input : Matrix F) where
   -- the plain witness of a machine, AIR by AIR
@@ -62,18 +63,15 @@ module _ {F K : Type 0} (E : Extension F K) (machine : Machine) (alpha beta : K)
   machine_witness = map (air_result E alpha beta input) (airs_of machine)
 
   -- no AIR has a fault
-  abbrev pub AreFaultless : Type 0
-  AreFaultless = (i : ℕ) (air : MachineAir) → slice_get (airs_of machine) i ≡ Some air → air_faults E alpha beta input air ≡ []
+  abbrev pub AreFaultlessAirs : Type 0
+  AreFaultlessAirs = (i : ℕ) (air : MachineAir) → slice_get (airs_of machine) i ≡ Some air → air_faults E alpha beta input air ≡ []
 
   -- why there is no witness: the first fault of the first AIR that has one
-  pub record IsFirstFault (e : RunError) : Type 0 where
-    pub place : ℕ
-    pub air : MachineAir
-    pub error : LookupError
-    pub is_there : slice_get (airs_of machine) place ≡ Some air
-    pub is_first : slice_get (air_faults E alpha beta input air) 0 ≡ Some error
-    pub before : (i : ℕ) (other : MachineAir) → i < place → slice_get (airs_of machine) i ≡ Some other → air_faults E alpha beta input other ≡ []
-    pub error_is : e ≡ Batch (OfAir place error)
+  abbrev pub IsFirstAirFault : RunError → Type 0
+  IsFirstAirFault e = HasFirstFault
+      (λ air. air_faults E alpha beta input air ≡ [])
+      (λ index air. (error : LookupError) × (slice_get (air_faults E alpha beta input air) 0 ≡ Some error) × (e ≡ Batch (OfAir index error)))
+      (airs_of machine)
 
 -- a word that gives no challenge is refused
 abbrev pub IsBadChallenge : {K : Type 0} → (List ℕ → K → Type 0) → List ℕ → RunError → Type 0
@@ -85,9 +83,9 @@ module _ {F K : Type 0} (fields : Fields F K) (machine : Machine) where
   -- height sum is below the characteristic, and no AIR has a fault.
   pub record IsReport (alpha beta : K) (input : List ℕ) (report : Report) : Type 0 where
     pub rows : Matrix F
-    pub read : IsInput fields.extension.base (columns_of machine) fields.bound input rows
+    pub read : IsInput fields.extension.base (input_columns machine) fields.bound input rows
     pub light : height_sum machine rows < fields.characteristic
-    pub faultless : AreFaultless fields.extension machine alpha beta rows
+    pub faultless : AreFaultlessAirs fields.extension machine alpha beta rows
     pub balanced : IsTrue report.balanced
         ↔ (terminal_sum fields.extension.ring (map (λ r. r.1) (machine_witness fields.extension machine alpha beta rows)) ≡ fields.extension.ring.zero)
     pub text : string_bytes report.text
@@ -98,10 +96,10 @@ module _ {F K : Type 0} (fields : Fields F K) (machine : Machine) where
   -- then that of the first AIR that has a fault
   abbrev pub IsReportRefusal : K → K → List ℕ → RunError → Type 0
   IsReportRefusal alpha beta input e =
-      IsInputRefusal (columns_of machine) fields.bound input e
-      ⊎ ((rows : Matrix F) × IsInput fields.extension.base (columns_of machine) fields.bound input rows
-      × (IsHeavy fields.characteristic machine rows e
-      ⊎ ((height_sum machine rows < fields.characteristic) × IsFirstFault fields.extension machine alpha beta rows e)))
+      IsInputRefusal (input_columns machine) fields.bound input e
+      ⊎ ((rows : Matrix F) × IsInput fields.extension.base (input_columns machine) fields.bound input rows
+      × (IsHeavyInput fields.characteristic machine rows e
+      ⊎ ((height_sum machine rows < fields.characteristic) × IsFirstAirFault fields.extension machine alpha beta rows e)))
 
   -- The answer to the words of two challenges and the bytes of an input. Alpha is checked before
   -- beta, and both before the input is read. Out of memory may come at any point.

@@ -1,11 +1,13 @@
 -- The AIRs of a machine as the program holds them.
 use Rattle.std.specs.List.{AllZip}
-use Rattle.std.specs.Prelude.{◌≡◌, ℕ, Bool, List, [], None}
+use Rattle.std.specs.Prelude.{◌≡◌, ℕ, Bool, List, None}
 use Rattle.field.specs.Ring.{Ring}
 use Rattle.matrix.specs.Matrix.{Matrix}
+use Rattle.air.specs.Traces.{air_traces}
 use Rattle.lookup_model.specs.Batches.Instances.{Instance}
 use Rattle.lookup.specs.Lookups.{lookups_of}
 use Rattle.lookup_debug.specs.Contributions.{Traced}
+use Rattle.batch.specs.Traces.{main_alone}
 use Rattle.lookup_program.specs.Machines.{AreLookupsOf, air_trace, airs_of}
 use Rattle.lookup_program.specs.declared.airs.MachineAir.{MachineAir}
 use Rattle.lookup_program.specs.declared.machine.Machine.{Machine}
@@ -17,23 +19,17 @@ pub record IsTraceOf {F : Type 0} (R : Ring F) (eq : F → F → Bool) (input : 
   pub main : trace.main ≡ air_trace air input
 
 -- the instance of an AIR in a batch, with these public values and ids
-abbrev pub instance_over : {F : Type 0} → List F → List ℕ → AirTrace F → Instance F
-instance_over public_values ids trace = record {
+abbrev pub traced_instance : {F : Type 0} → List F → List ℕ → AirTrace F → Instance F
+traced_instance public_values ids trace = record {
   lookups = lookups_of trace.lookups;
-  main = trace.main;
-  preprocessed = None;
-  public_values = public_values;
+  traces = air_traces trace.main None public_values;
   ids = ids;
 }
 
 -- an AIR as the debug check is given it
 abbrev pub traced_over : {F : Type 0} → AirTrace F → Traced F
-traced_over trace = record {
-  main = trace.main;
-  preprocessed = None;
-  public_values = [];
-  lookups = lookups_of trace.lookups;
-}
+traced_over trace =
+    record { traces = main_alone trace.main; lookups = lookups_of trace.lookups }
 
 -- these are the AIRs of a machine over some input
 abbrev pub AreTracesOf : {F : Type 0} → Ring F → (F → F → Bool) → List (AirTrace F) → Type 0

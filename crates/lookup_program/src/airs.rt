@@ -2,9 +2,9 @@
 ghost use Rattle.std.specs.Prelude.{◌≡◌, ◌<◌, All, IfErr, IfOk, OnOk};
 ghost use Rattle.air.specs.Cell.{IsCellsRefusal};
 ghost use Rattle.lookup_record.specs.Pushed.{pushed_local};
-ghost use Rattle.lookup_record.specs.Within.{IsWithin, KeyWithin};
+ghost use Rattle.lookup_record.specs.Within.{IsInteractionWithin, KeyWithin};
 ghost use Rattle.lookup_program.specs.Machines.{SendsLike, first_column_of, width_of};
-ghost use Rattle.lookup_program.specs.Pushes.{AreTwoKeys, Evaluates, IsCellTuple, pushed_if_accepted};
+ghost use Rattle.lookup_program.specs.Pushes.{AreTwoKeys, EvaluatesOnePush, IsCellTuple, pushed_if_accepted};
 ghost use Rattle.lookup_program.specs.declared.airs.MachineAir.TheVariants.{RangeCheck};
 
 use air::{Air, AirBuilder, AirError, BaseAir, Expression, current_cell};
@@ -73,7 +73,7 @@ impl<F> BaseAir<F> for MachineAir {
 /// Pushes the one lookup. Refused is a row without the columns, by the layout that it has.
 impl<AB: InteractionBuilder> Air<AB> for MachineAir {
     ghost evaluates = { λ air before answer after.
-        Evaluates AB.pushes AB.refuses_push AB.window_refuses AB.layout
+        EvaluatesOnePush AB.pushes AB.refuses_push AB.window_refuses AB.layout
         (SendsLike AB.F.ring AB.F.eq (λ x w. AB.Expr.value x (AB.seen w)) (AB.stands_for before)
         (λ w. w.main) air) (width_of air) before answer after
         × OnOk answer (AB.pushed_within before → AB.pushed_within after) };
@@ -115,8 +115,8 @@ fn range_tuples<AB: InteractionBuilder>(
     ensures sends { IfOk result (λ tuples. SendsLike AB.F.ring AB.F.eq
         (λ x w. AB.Expr.value x (AB.seen w)) (AB.stands_for builder.now) (λ w. w.main) RangeCheck
         (pushed_local tuples.items)) }
-    ensures within { IfOk result (λ tuples. IsWithin AB.Expr.within (AB.layout builder.now)
-        (pushed_local tuples.items)) }
+    ensures within { IfOk result (λ tuples. IsInteractionWithin AB.Expr.within
+        (AB.layout builder.now) (pushed_local tuples.items)) }
 {
     let mut tuples = Vec::new(alloc);
     tuples.push((tuple(alloc, builder, 3, 0)?, Count::from(1)))?;

@@ -15,7 +15,7 @@ pub enum Machine {
 }
 
 impl Machine {
-    ghost use Rattle.lookup_program.specs.Machines.{airs_of, columns_of, name_of};
+    ghost use Rattle.lookup_program.specs.Machines.{airs_of, input_columns, name_of};
 
     /// The machine with this name.
     pub fn from_name(name: &str) -> Option<Machine>
@@ -33,7 +33,7 @@ impl Machine {
     /// How many columns a row of the input has.
     pub fn columns(self) -> usize
         ensures some { 0 < result }
-        ensures columns { result ≡ columns_of self }
+        ensures columns { result ≡ input_columns self }
     {
         match self {
             Machine::Range | Machine::Bus => 3,

@@ -4,8 +4,8 @@ ghost use Rattle.std.specs.List.{AllZip, flat_map};
 ghost use Rattle.matrix.specs.Matrix.{height};
 ghost use Rattle.lookup_model.specs.Batches.Witnesses.{results_of};
 ghost use Rattle.lookup_program.specs.Fields.{run_fields};
-ghost use Rattle.lookup_program.specs.Machines.{airs_of, columns_of};
-ghost use Rattle.lookup_program.specs.Program.{AreFaultless, IsFirstFault, IsHeavy, IsReport, IsReportRefusal, height_sum, machine_witness};
+ghost use Rattle.lookup_program.specs.Machines.{airs_of, input_columns};
+ghost use Rattle.lookup_program.specs.Program.{AreFaultlessAirs, IsFirstAirFault, IsHeavyInput, IsReport, IsReportRefusal, height_sum, machine_witness};
 ghost use Rattle.lookup_program.specs.Report.{air_lines, row_line, witness_lines};
 ghost use Rattle.lookup_program.specs.Traces.{IsTraceOf};
 
@@ -78,18 +78,18 @@ fn prove_machine<F: Field, EF: ExtensionField<F>>(
     input: &RowMajorMatrix<F>,
     traces: Vec<AirTrace<F>>,
 ) -> Result<Witness<EF>, RunError>
-    requires width { input.now.width ≡ columns_of machine }
+    requires width { input.now.width ≡ input_columns machine }
     requires rows { 0 < height input.now }
     requires traces { AllZip (IsTraceOf F.ring F.eq input.now) (airs_of machine) traces.items }
     ensures { let E = ⟦<EF as Over<F>>⟧.fields in
         let alpha = challenges.0 in let beta = challenges.1 in MatchResult result
         (λ w. (results_of w ≡ machine_witness E machine alpha beta input.now)
         × (length w.aux.items ≡ length w.terminals.items)
-        × AreFaultless E machine alpha beta input.now
+        × AreFaultlessAirs E machine alpha beta input.now
         × (height_sum machine input.now < F.CHARACTERISTIC))
-        (λ e. (e ≡ RunError.Memory) ⊎ (IsHeavy F.CHARACTERISTIC machine input.now e
+        (λ e. (e ≡ RunError.Memory) ⊎ (IsHeavyInput F.CHARACTERISTIC machine input.now e
         ⊎ ((height_sum machine input.now < F.CHARACTERISTIC)
-        × IsFirstFault E machine alpha beta input.now e))) }
+        × IsFirstAirFault E machine alpha beta input.now e))) }
 {
     let AirParts {
         lookups,

@@ -3,7 +3,7 @@ ghost use Rattle.std.specs.Prelude.{◌≡◌, ◌+◌, ◌%◌, ◌<◌, ◌++�
 ghost use Rattle.std.specs.List.{list_all};
 ghost use Rattle.field.specs.Ring.{of_nat};
 ghost use Rattle.matrix.specs.Matrix.{height};
-ghost use Rattle.lookup_program.specs.Input.{AreNumbers, IsFirstRefusal, IsInput, IsInputRefusal, line_refusal};
+ghost use Rattle.lookup_program.specs.Input.{AreNumbers, IsFirstLineRefusal, IsInput, IsInputRefusal, line_refusal};
 ghost use Rattle.lookup_program.specs.Words.{is_number, number_bound, number_of, numbers_or_zeros, words_of};
 
 use crate::challenge::number;
@@ -60,7 +60,7 @@ fn read_numbers(
     ensures whole_rows { IfOk result (λ v. vec_len v % columns ≡ 0) }
     ensures cases { let bound = number_bound bound in MatchResult result
         (λ v. AreNumbers columns bound text.now v.items)
-        (λ e. (e ≡ RunError.Memory) ⊎ IsFirstRefusal columns bound text.now e) }
+        (λ e. (e ≡ RunError.Memory) ⊎ IsFirstLineRefusal columns bound text.now e) }
 {
     let mut numbers = Vec::new(alloc);
     let mut line = 0usize;

@@ -1,10 +1,10 @@
 //! The AIRs of a machine over the rows of its input.
-ghost use Rattle.std.specs.Prelude.{◌≡◌, ◌≤◌, ◌+◌, [], None, IfOk, MatchResult, map};
+ghost use Rattle.std.specs.Prelude.{◌≡◌, ◌≤◌, ◌+◌, IfOk, MatchResult, map};
 ghost use Rattle.std.specs.List.{AllZip};
 ghost use Rattle.lookup.specs.Lookups.{lookups_of};
 ghost use Rattle.lookup_debug.specs.Contributions.{traced_of};
-ghost use Rattle.lookup_program.specs.Machines.{AreLookupsOf, air_trace, airs_of, columns_of, first_column_of, width_of};
-ghost use Rattle.batch.specs.Traces.{shown_of};
+ghost use Rattle.lookup_program.specs.Machines.{AreLookupsOf, air_trace, airs_of, input_columns, first_column_of, width_of};
+ghost use Rattle.batch.specs.Traces.{main_alone, shown_of};
 ghost use Rattle.lookup_program.specs.Traces.{IsTraceOf, traced_over};
 ghost use Rattle.matrix.specs.Matrix.{height};
 
@@ -33,7 +33,7 @@ pub fn air_traces<F: Field, EF: ExtensionField<F>>(
     machine: Machine,
     input: &RowMajorMatrix<F>,
 ) -> Result<Vec<AirTrace<F>>, RunError>
-    requires { input.now.width ≡ columns_of machine }
+    requires { input.now.width ≡ input_columns machine }
     ensures { MatchResult result
         (λ traces. AllZip (IsTraceOf F.ring F.eq input.now) (airs_of machine) traces.items)
         (λ e. e ≡ RunError.Memory) }
@@ -137,8 +137,7 @@ pub fn plan_traces<'a, F: Field>(
     alloc: Global,
     mains: &'a [RowMajorMatrix<F>],
 ) -> Result<Vec<BatchTrace<'a, F>>, AllocError>
-    ensures { IfOk result (λ traces. map shown_of traces.items
-        ≡ map (λ main. (main, None, [])) mains.now) }
+    ensures { IfOk result (λ traces. map shown_of traces.items ≡ map main_alone mains.now) }
 {
     let mut traces = Vec::new(alloc);
     for main in mains {

@@ -2,11 +2,11 @@
 use Rattle.std.specs.Prelude.{◌≡◌, ◌⊎◌, List, map, Result, Ok, Err, MatchResult}
 use Rattle.expressions.specs.declared.error.AirError.{AirError}
 use Rattle.expressions.specs.declared.layout.AirLayout.{AirLayout}
-use Rattle.lookup_indexed.specs.Declaration.{read_of, table_of}
+use Rattle.lookup_indexed.specs.Declaration.{read_of, declared_table}
 use Rattle.lookup_indexed.specs.declared.indexed.IndexedRead.{IndexedRead}
 use Rattle.lookup_indexed.specs.declared.indexed.IndexedTable.{IndexedTable}
-use Rattle.lookup_indexed.specs.Faults.{AreFaultless, IsFirstFault}
-use Rattle.lookup_indexed.specs.Refusal.{from_air}
+use Rattle.lookup_indexed.specs.Faults.{AreFaultlessDeclarations, IsFirstDeclarationFault}
+use Rattle.lookup_indexed.specs.Refusal.{declaration_refusal}
 use Rattle.lookup_indexed.specs.declared.error.IndexedLookupError.{IndexedLookupError}
 use Rattle.lookup_indexed.specs.declared.error.IndexedLookupError.TheVariants.{Memory}
 use Rattle.lookup_record.specs.RecordedAir.{EvaluatesNew, recorded_air}
@@ -26,8 +26,8 @@ tables_of s = s.tables.items
 abbrev pub Declares : {A F EF : Type 0} → (A → InteractionSymbolicBuilder F EF → Result (Unit {0}) AirError → InteractionSymbolicBuilder F EF → Type 0) → A → AirLayout → Result IndexedLookups IndexedLookupError → Type 0
 Declares {A} {F} {EF} evaluates air layout answer = MatchResult answer
     (λ set. (b : InteractionSymbolicBuilder F EF) × EvaluatesNew evaluates air layout (Ok b)
-    × (map read_of (reads_of set) ≡ (recorded_air b).reads) × (map table_of (tables_of set) ≡ (recorded_air b).tables)
-    × AreFaultless layout (recorded_air b).reads (recorded_air b).tables)
+    × (map read_of (reads_of set) ≡ (recorded_air b).reads) × (map declared_table (tables_of set) ≡ (recorded_air b).tables)
+    × AreFaultlessDeclarations layout (recorded_air b).reads (recorded_air b).tables)
     (λ e. (e ≡ Memory)
-    ⊎ (((refusal : AirError) × EvaluatesNew evaluates air layout (Err refusal) × (e ≡ from_air refusal))
-    ⊎ ((b : InteractionSymbolicBuilder F EF) × EvaluatesNew evaluates air layout (Ok b) × IsFirstFault layout (recorded_air b).reads (recorded_air b).tables e)))
+    ⊎ (((refusal : AirError) × EvaluatesNew evaluates air layout (Err refusal) × (e ≡ declaration_refusal refusal))
+    ⊎ ((b : InteractionSymbolicBuilder F EF) × EvaluatesNew evaluates air layout (Ok b) × IsFirstDeclarationFault layout (recorded_air b).reads (recorded_air b).tables e)))

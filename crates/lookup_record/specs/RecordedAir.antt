@@ -5,7 +5,7 @@ use Rattle.expressions.specs.declared.error.AirError.{AirError}
 use Rattle.expressions.specs.declared.error.AirError.TheVariants.{Memory}
 use Rattle.expressions.specs.declared.layout.AirLayout.{AirLayout}
 use Rattle.expressions.specs.declared.base_expression.SymbolicExpression.{SymbolicExpression}
-use Rattle.lookup_indexed.specs.Declaration.{Read, Table, Declaration, read, table, read_of, table_of}
+use Rattle.lookup_indexed.specs.Declaration.{Read, Table, Declaration, read, table, read_of, declared_table}
 use Rattle.lookup_record.specs.Interaction.{Tuple, GlobalInteraction, ExclusiveInteraction, Interaction, global, local, exclusive}
 use Rattle.lookup_record.specs.Records.{global_of, local_of, exclusive_of}
 use Rattle.lookup_record.specs.declared.symbolic.InteractionSymbolicBuilder.{InteractionSymbolicBuilder}
@@ -28,7 +28,7 @@ recorded_air b = record {
   locals = map local_of b.local_interactions.items;
   exclusives = map exclusive_of b.exclusive_interactions.items;
   reads = map read_of b.indexed_reads.items;
-  tables = map table_of b.indexed_tables.items;
+  tables = map declared_table b.indexed_tables.items;
 }
 
 -- nothing is recorded yet

@@ -9,7 +9,7 @@ use Rattle.expressions.specs.declared.error.AirError.{AirError}
 use Rattle.expressions.specs.declared.layout.AirLayout.{AirLayout}
 use Rattle.lookup_indexed.specs.Declaration.{Declaration, read, table}
 use Rattle.lookup_record.specs.Interaction.{Interaction, global, local, exclusive}
-use Rattle.lookup_record.specs.Within.{BranchWithin, GlobalWithin, IsWithin, TupleWithin}
+use Rattle.lookup_record.specs.Within.{BranchWithin, GlobalWithin, IsInteractionWithin, TupleWithin}
 use Rattle.lookup_record.specs.RecordedAir.{RecordedAir, no_air_recorded, recorded_air, with_interaction, with_declaration}
 use Rattle.lookup_record.specs.declared.symbolic.InteractionSymbolicBuilder.{InteractionSymbolicBuilder}
 
@@ -20,7 +20,7 @@ pub record PushedWithin {F EF : Type 0} (r : RecordedAir F EF) : Type 0 where
   pub exclusives : All (λ m. All (BranchWithin (λ l x. Fits l (tree_of x)) r.constraints.layout) m.branches) r.exclusives
 
 -- one more interaction within the layout
-pub with_interaction-within : {F EF : Type 0} (r : RecordedAir F EF) (m : Interaction (SymbolicExpression F)) → IsWithin (λ l x. Fits l (tree_of x)) r.constraints.layout m → PushedWithin r → PushedWithin (with_interaction r m)
+pub with_interaction-within : {F EF : Type 0} (r : RecordedAir F EF) (m : Interaction (SymbolicExpression F)) → IsInteractionWithin (λ l x. Fits l (tree_of x)) r.constraints.layout m → PushedWithin r → PushedWithin (with_interaction r m)
 with_interaction-within r (global m) one all = record { globals = All-push (GlobalWithin (λ l x. Fits l (tree_of x)) r.constraints.layout) r.globals m all.globals one; locals = all.locals; exclusives = all.exclusives }
 with_interaction-within r (local tuples) one all = record { globals = all.globals; locals = All-push (λ tuples. All (TupleWithin (λ l x. Fits l (tree_of x)) r.constraints.layout) tuples) r.locals tuples all.locals one; exclusives = all.exclusives }
 with_interaction-within r (exclusive m) one all = record { globals = all.globals; locals = all.locals; exclusives = All-push (λ m. All (BranchWithin (λ l x. Fits l (tree_of x)) r.constraints.layout) m.branches) r.exclusives m all.exclusives one }

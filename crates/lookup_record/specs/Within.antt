@@ -25,7 +25,7 @@ module _ {E L : Type 0} (within : L → E → Type 0) (layout : L) where
   KeyWithin g = within layout g.0 × All (within layout) g.1.items
 
   -- all of an interaction
-  abbrev pub IsWithin : Interaction E → Type 0
-  IsWithin (global m) = GlobalWithin m
-  IsWithin (local tuples) = All TupleWithin tuples
-  IsWithin (exclusive m) = All BranchWithin m.branches
+  abbrev pub IsInteractionWithin : Interaction E → Type 0
+  IsInteractionWithin (global m) = GlobalWithin m
+  IsInteractionWithin (local tuples) = All TupleWithin tuples
+  IsInteractionWithin (exclusive m) = All BranchWithin m.branches

@@ -5,7 +5,7 @@ ghost use Rattle.expressions.specs.declared.error.AirError.{AirError};
 ghost use Rattle.lookup_indexed.specs.Declaration.{Declaration, read, table};
 ghost use Rattle.lookup_record.specs.Interaction.{Interaction};
 ghost use Rattle.lookup_record.specs.Pushed.{pushed_exclusive, pushed_global, pushed_local};
-ghost use Rattle.lookup_record.specs.Within.{IsWithin};
+ghost use Rattle.lookup_record.specs.Within.{IsInteractionWithin};
 ghost use Rattle.lookup_indexed.specs.declared.indexed.TraceWindow.{TraceWindow};
 
 use crate::count::Count;
@@ -87,7 +87,7 @@ pub trait InteractionBuilder: AirBuilder {
         → Self.layout c ≡ Self.layout b };
 
     ghost push_within: { (b : Self) (m : Interaction Self.Expr) (c : Self) → pushes b m c
-        → IsWithin Self.Expr.within (Self.layout b) m → Self.pushed_within b
+        → IsInteractionWithin Self.Expr.within (Self.layout b) m → Self.pushed_within b
         → Self.pushed_within c };
 }
 

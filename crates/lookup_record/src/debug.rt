@@ -37,7 +37,7 @@ impl<'a, F: Field, EF: ExtensionField<F>> InteractionBuilder for DebugConstraint
     ) -> Result<(), AirError>
         ensures { MatchResult result (λ _. self.new ≡ self.old) (λ _. ⊥) }
     {
-        ignored((fields, count))
+        drop_pushed((fields, count))
     }
 
     fn push_local_interaction(
@@ -47,7 +47,7 @@ impl<'a, F: Field, EF: ExtensionField<F>> InteractionBuilder for DebugConstraint
     ) -> Result<(), AirError>
         ensures { MatchResult result (λ _. self.new ≡ self.old) (λ _. ⊥) }
     {
-        ignored(tuples)
+        drop_pushed(tuples)
     }
 
     fn push_exclusive_interaction(
@@ -58,7 +58,7 @@ impl<'a, F: Field, EF: ExtensionField<F>> InteractionBuilder for DebugConstraint
     ) -> Result<(), AirError>
         ensures { MatchResult result (λ _. self.new ≡ self.old) (λ _. ⊥) }
     {
-        ignored(branches)
+        drop_pushed(branches)
     }
 
     fn num_global_interactions(&self) -> usize {
@@ -99,7 +99,7 @@ impl<'a, F: Field, EF: ExtensionField<F>> IndexedLookupBuilder
         _position: usize,
         payload: Vec<usize>,
     ) -> Result<(), AirError> {
-        ignored(payload)
+        drop_pushed(payload)
     }
 
     fn push_indexed_table(
@@ -109,7 +109,7 @@ impl<'a, F: Field, EF: ExtensionField<F>> IndexedLookupBuilder
         _window: TraceWindow,
         columns: Vec<usize>,
     ) -> Result<(), AirError> {
-        ignored(columns)
+        drop_pushed(columns)
     }
 
     fn num_indexed_reads(&self) -> usize {
@@ -122,7 +122,7 @@ impl<'a, F: Field, EF: ExtensionField<F>> IndexedLookupBuilder
 }
 
 /// Drops what is pushed.
-fn ignored<T: Drop>(_pushed: T) -> Result<(), AirError>
+fn drop_pushed<T: Drop>(_pushed: T) -> Result<(), AirError>
     ensures { result ≡ Ok tt }
 {
     Ok(())

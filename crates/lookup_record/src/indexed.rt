@@ -1,8 +1,8 @@
 //! Indexed lookups, whose readers name the entry that they read.
 ghost use Rattle.std.specs.Prelude.{◌≡◌, ◌⊎◌, ◌↔◌, [], IfOk, IsTrue, MatchResult, map};
 ghost use Rattle.expressions.specs.Layout.{layout_of_widths};
-ghost use Rattle.lookup_indexed.specs.Declaration.{read_of, table_of};
-ghost use Rattle.lookup_indexed.specs.Faults.{AreFaultless, IsFirstFault};
+ghost use Rattle.lookup_indexed.specs.Declaration.{read_of, declared_table};
+ghost use Rattle.lookup_indexed.specs.Faults.{AreFaultlessDeclarations, IsFirstDeclarationFault};
 ghost use Rattle.lookup_indexed.specs.declared.error.IndexedLookupError.TheVariants.{Memory};
 
 use crate::symbolic::InteractionSymbolicBuilder;
@@ -48,9 +48,11 @@ impl IndexedLookups {
     ) -> Result<Self, IndexedLookupError>
         ensures { MatchResult result
             (λ set. (reads_of set ≡ reads.items) × (tables_of set ≡ tables.items)
-            × AreFaultless layout.now (map read_of reads.items) (map table_of tables.items))
+            × AreFaultlessDeclarations layout.now
+            (map read_of reads.items) (map declared_table tables.items))
             (λ e. (e ≡ Memory)
-            ⊎ IsFirstFault layout.now (map read_of reads.items) (map table_of tables.items) e) }
+            ⊎ IsFirstDeclarationFault layout.now
+            (map read_of reads.items) (map declared_table tables.items) e) }
     {
         lookup_indexed::check_declarations(alloc, &reads, &tables, layout)?;
         Ok(IndexedLookups { reads, tables })
@@ -101,8 +103,8 @@ impl IndexedLookups {
     pub fn copy(&self, alloc: Global) -> Result<Self, AllocError>
         ensures reads { IfOk result (λ r. map read_of (reads_of r)
             ≡ map read_of (reads_of self.now)) }
-        ensures tables { IfOk result (λ r. map table_of (tables_of r)
-            ≡ map table_of (tables_of self.now)) }
+        ensures tables { IfOk result (λ r. map declared_table (tables_of r)
+            ≡ map declared_table (tables_of self.now)) }
     {
         Ok(IndexedLookups {
             reads: copy_reads(alloc, self.reads())?,
@@ -124,7 +126,7 @@ fn copy_reads(alloc: Global, reads: &[IndexedRead]) -> Result<Vec<IndexedRead>, 
 
 /// Copies of the tables.
 fn copy_tables(alloc: Global, tables: &[IndexedTable]) -> Result<Vec<IndexedTable>, AllocError>
-    ensures { IfOk result (λ v. map table_of v.items ≡ map table_of tables.now) }
+    ensures { IfOk result (λ v. map declared_table v.items ≡ map declared_table tables.now) }
 {
     let mut copies = Vec::new(alloc);
     for table in tables {

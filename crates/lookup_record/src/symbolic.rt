@@ -39,7 +39,7 @@ pub struct InteractionSymbolicBuilder<F, EF> {
 }
 
 impl<F: Field, EF: ExtensionField<F>> InteractionSymbolicBuilder<F, EF> {
-    ghost use Rattle.lookup_indexed.specs.Declaration.{read_of, table_of};
+    ghost use Rattle.lookup_indexed.specs.Declaration.{read_of, declared_table};
     ghost use Rattle.lookup_record.specs.RecordedAir.{EvaluatesNew, no_air_recorded, recorded_air};
     ghost use Rattle.lookup_record.specs.Records.{exclusive_of, global_of, local_of};
     ghost use Rattle.lookup_record.specs.RecordedWithin.{EvaluatesWithin, PushedWithin};
@@ -134,7 +134,7 @@ impl<F: Field, EF: ExtensionField<F>> InteractionSymbolicBuilder<F, EF> {
     /// The readers and the tables, each in the order in which they were declared. Drops all else.
     pub fn into_declarations(self) -> (Vec<IndexedRead>, Vec<IndexedTable>)
         ensures reads { map read_of result.0.items ≡ (recorded_air self).reads }
-        ensures tables { map table_of result.1.items ≡ (recorded_air self).tables }
+        ensures tables { map declared_table result.1.items ≡ (recorded_air self).tables }
     {
         (self.indexed_reads, self.indexed_tables)
     }
@@ -148,7 +148,7 @@ impl<F: Field, EF: ExtensionField<F>> InteractionSymbolicBuilder<F, EF> {
 
     /// The tables, in the order in which they were declared.
     pub fn indexed_tables(&self) -> &[IndexedTable]
-        ensures { map table_of result.now ≡ (recorded_air self.now).tables }
+        ensures { map declared_table result.now ≡ (recorded_air self.now).tables }
     {
         self.indexed_tables.as_slice()
     }
@@ -189,10 +189,10 @@ impl<F: Field, EF: ExtensionField<F>> InteractionSymbolicBuilder<F, EF> {
         ensures extension { IfOk result (λ l. l.ext_indices.items
             ≡ (recorded_air self.now).constraints.ext_indices) }
     {
-        let places = self.inner.constraint_layout();
+        let indices = self.inner.constraint_layout();
         Ok(ConstraintLayout {
-            base_indices: Vec::from_slice(alloc, places.base_indices.as_slice())?,
-            ext_indices: Vec::from_slice(alloc, places.ext_indices.as_slice())?,
+            base_indices: Vec::from_slice(alloc, indices.base_indices.as_slice())?,
+            ext_indices: Vec::from_slice(alloc, indices.ext_indices.as_slice())?,
         })
     }
 }

@@ -1,13 +1,13 @@
 -- Collected messages grow by lookups and rows, and the faults of flags by themselves.
-use Rattle.std.proofs.Common.{◌≡◌, ℕ, ◌+◌, ◌<◌, Bool, true, Option, None, Some, List, [], ◌∷◌, ◌++◌, length, take, drop, get_or, refl, sym, ap, ◌∙◌, arith}
+use Rattle.std.proofs.Common.{◌≡◌, ℕ, ◌+◌, ◌<◌, Bool, true, None, Some, List, [], ◌∷◌, ◌++◌, length, take, drop, get_or, refl, sym, ap, ◌∙◌, arith}
 use Rattle.std.proofs.Math.Seq.{take-append_seam}
 use Rattle.std.proofs.lemmas.List.{append-nil, append_assoc, flat_map_more, length-take}
 use Rattle.std.proofs.lemmas.List.FromFn.{get_or-map-range_with_len, length-map-range_with_len}
 use Rattle.std.specs.List.{flat_map, slice_get}
 use Rattle.field.specs.Ring.{Ring}
-use Rattle.matrix.specs.Matrix.{Matrix, height}
-use Rattle.expressions.specs.Window.{window_at}
-use Rattle.lookup_model.specs.Fault.{are_boolean, flag_fault_of, set_places}
+use Rattle.matrix.specs.Matrix.{height}
+use Rattle.air.specs.Traces.{AirTraces, window_of}
+use Rattle.lookup_model.specs.Fault.{are_boolean, flag_fault_of, set_indices}
 use Rattle.lookup_model.specs.FlagFault.{row_flag_faults, sent_flag_fault, trace_flag_faults}
 use Rattle.lookup_model.specs.Message.{Message}
 use Rattle.lookup_model.specs.Sent.{Sent, chosen}
@@ -22,16 +22,16 @@ use Rattle.lookup_rows.specs.declared.messages.SentMessage.{SentMessage}
 
 module _ {F : Type 0} (R : Ring F) (eq : F → F → Bool) (row column : ℕ) (branches : List (Message F)) (flags : List F) (boolean : are_boolean R eq flags ≡ true) where
   -- flags of which none is set choose nothing
-  pub no_flag : set_places R eq 0 flags ≡ [] → (chosen R eq flags branches ≡ []) × (flag_fault_of R eq row column (Some flags) ≡ None)
+  pub no_flag : set_indices R eq 0 flags ≡ [] → (chosen R eq flags branches ≡ []) × (flag_fault_of R eq row column (Some flags) ≡ None)
   no_flag none = (
     chosen_none R eq 0 flags branches none,
     flags_faultless R eq row column flags boolean (omega (arith, ap length none)),
   )
 
   -- one set flag chooses its branch
-  pub one_flag : (place : ℕ) (m : Message F) → set_places R eq 0 flags ≡ place ∷ [] → place < length branches → m ≡ get_or branches place m → (chosen R eq flags branches ≡ m ∷ []) × (flag_fault_of R eq row column (Some flags) ≡ None)
-  one_flag place m one within is = (
-    chosen_one R eq 0 place flags branches m (one ∙ ap (λ p. p ∷ []) (omega arith)) within is,
+  pub one_flag : (index : ℕ) (m : Message F) → set_indices R eq 0 flags ≡ index ∷ [] → index < length branches → m ≡ get_or branches index m → (chosen R eq flags branches ≡ m ∷ []) × (flag_fault_of R eq row column (Some flags) ≡ None)
+  one_flag index m one within is = (
+    chosen_one R eq 0 index flags branches m (one ∙ ap (λ p. p ∷ []) (omega arith)) within is,
     flags_faultless R eq row column flags boolean (omega (arith, ap length one)),
   )
 
@@ -74,27 +74,27 @@ module _ {F : Type 0} (R : Ring F) (eq : F → F → Bool) where
   }
 
 -- row r is what the window of row r sends
-module _ {F : Type 0} (R : Ring F) (eq : F → F → Bool) (id : Lookup F → ℕ) (main : Matrix F) (preprocessed : Option (Matrix F)) (public_values : List F) (lookups : List (Lookup F)) where
+module _ {F : Type 0} (R : Ring F) (eq : F → F → Bool) (id : Lookup F → ℕ) (traces : AirTraces F) (lookups : List (Lookup F)) where
   abbrev all_rows : List (List (Sent F))
-  all_rows = sent_rows_under R eq id main preprocessed public_values lookups
+  all_rows = sent_rows_under R eq id traces lookups
 
   abbrev row_at : ℕ → List (Sent F)
-  row_at k = sent_row_under R eq id (window_at main preprocessed public_values (height main) k) lookups
+  row_at k = sent_row_under R eq id (window_of traces k) lookups
 
-  pub length-all_rows : length all_rows ≡ height main
-  length-all_rows = length-map-range_with_len row_at 0 (height main)
+  pub length-all_rows : length all_rows ≡ height traces.main
+  length-all_rows = length-map-range_with_len row_at 0 (height traces.main)
 
-  here : (r : ℕ) → r < height main → row_at r ≡ get_or all_rows r (row_at r)
-  here r lt = sym (get_or-map-range_with_len row_at 0 (height main) r r (row_at r) lt (omega arith))
+  here : (r : ℕ) → r < height traces.main → row_at r ≡ get_or all_rows r (row_at r)
+  here r lt = sym (get_or-map-range_with_len row_at 0 (height traces.main) r r (row_at r) lt (omega arith))
 
-  pub length-take-rows : (r : ℕ) → r < height main → length (take r all_rows) ≡ r
+  pub length-take-rows : (r : ℕ) → r < height traces.main → length (take r all_rows) ≡ r
   length-take-rows r lt = omega (arith, length-take r all_rows, length-all_rows, lt)
 
-  pub one_more_row : (r : ℕ) → r < height main → take (r + 1) all_rows ≡ take r all_rows ++ row_at r ∷ []
+  pub one_more_row : (r : ℕ) → r < height traces.main → take (r + 1) all_rows ≡ take r all_rows ++ row_at r ∷ []
   one_more_row r lt = take_item all_rows r (row_at r) (omega (arith, length-all_rows, lt)) (here r lt)
 
   -- where its flags have a fault, the first one of it is the first one of the trace
-  pub first_row_fault : (r : ℕ) → r < height main → (e : LookupError) → trace_flag_faults R eq (take r all_rows) ≡ [] → slice_get (row_flag_faults R eq r (row_at r)) 0 ≡ Some e → slice_get (trace_flag_faults R eq all_rows) 0 ≡ Some e
+  pub first_row_fault : (r : ℕ) → r < height traces.main → (e : LookupError) → trace_flag_faults R eq (take r all_rows) ≡ [] → slice_get (row_flag_faults R eq r (row_at r)) 0 ≡ Some e → slice_get (trace_flag_faults R eq all_rows) 0 ≡ Some e
   first_row_fault r lt e so_far fault =
       ap (λ t. slice_get (trace_flag_faults R eq t) 0) (split_at all_rows r (row_at r) (omega (arith, length-all_rows, lt)) (here r lt))
       ∙ trace_faults-first (sent_flag_fault R eq) r (take r all_rows) (drop (r + 1) all_rows) (row_at r) e (length-take-rows r lt) fault so_far

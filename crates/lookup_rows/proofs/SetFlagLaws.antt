@@ -3,10 +3,10 @@ use Rattle.std.proofs.Common.{◌≡◌, ◌↔◌, ℕ, Bool, IsTrue, true, fal
 use Rattle.std.proofs.lemmas.Bool.{or_left, or_right}
 use Rattle.std.proofs.lemmas.List.{append-nil}
 use Rattle.field.specs.Ring.{IsDomain, Ring}
-use Rattle.lookup_model.specs.Fault.{set_places}
-use Rattle.lookup_rows.specs.Selection.{ArePlaces, AreSetFlags}
+use Rattle.lookup_model.specs.Fault.{set_indices}
+use Rattle.lookup_rows.specs.Selection.{AreIndices, AreSetFlags}
 use Rattle.lookup_rows.specs.declared.flags.SetFlags.{SetFlags}
-use Rattle.lookup_model.proofs.Lookups.Selections.{boolean-more, places-more, set_is_one, zero_is_unset}
+use Rattle.lookup_model.proofs.Lookups.Selections.{boolean-more, indices-more, set_is_one, zero_is_unset}
 
 module _ {F : Type 0} (R : Ring F) (eq : F → F → Bool) (decides : (a b : F) → IsTrue (eq a b) ↔ (a ≡ b)) where
   abbrev is_one : F → Bool
@@ -16,12 +16,12 @@ module _ {F : Type 0} (R : Ring F) (eq : F → F → Bool) (decides : (a b : F) 
   pub zero_flag : IsDomain R → (fs : List F) (f : F) (set : SetFlags) → f ≡ R.zero → AreSetFlags R eq fs set → AreSetFlags R eq (fs ++ f ∷ []) set
   zero_flag domain fs f set e so_far = record {
     boolean = boolean-more R eq decides fs f (or_left (eq f R.zero) (eq f R.one) ((decides f R.zero).1 e)) so_far.boolean;
-    places = subst (ArePlaces set) (sym (places-more is_one fs f false (zero_is_unset R eq decides domain f e) ∙ append-nil (set_places R eq 0 fs))) so_far.places;
+    indices = subst (AreIndices set) (sym (indices-more is_one fs f false (zero_is_unset R eq decides domain f e) ∙ append-nil (set_indices R eq 0 fs))) so_far.indices;
   }
 
   -- one more that is one
-  pub one_flag : (fs : List F) (f : F) (set next : SetFlags) (place : ℕ) → length fs ≡ place → f ≡ R.one → ((places : List ℕ) → ArePlaces set places → ArePlaces next (places ++ place ∷ [])) → AreSetFlags R eq fs set → AreSetFlags R eq (fs ++ f ∷ []) next
-  one_flag fs f set next place at e further so_far = record {
+  pub one_flag : (fs : List F) (f : F) (set next : SetFlags) (index : ℕ) → length fs ≡ index → f ≡ R.one → ((indices : List ℕ) → AreIndices set indices → AreIndices next (indices ++ index ∷ [])) → AreSetFlags R eq fs set → AreSetFlags R eq (fs ++ f ∷ []) next
+  one_flag fs f set next index at e further so_far = record {
     boolean = boolean-more R eq decides fs f (or_right (eq f R.zero) (eq f R.one) (set_is_one R eq decides f e)) so_far.boolean;
-    places = subst (ArePlaces next) (sym (places-more is_one fs f true (set_is_one R eq decides f e) ∙ (λ i. set_places R eq 0 fs ++ at i ∷ []))) (further (set_places R eq 0 fs) so_far.places);
+    indices = subst (AreIndices next) (sym (indices-more is_one fs f true (set_is_one R eq decides f e) ∙ (λ i. set_indices R eq 0 fs ++ at i ∷ []))) (further (set_indices R eq 0 fs) so_far.indices);
   }

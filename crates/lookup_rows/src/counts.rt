@@ -31,8 +31,8 @@ fn nonzero_count<F: Field>(nets: &IndexMap<KeyRef<'_, F>, F>) -> usize
     ensures { result ≡ length (filter (λ v. not (F.eq v F.ring.zero)) (values nets.now)) }
 {
     let mut count = 0;
-    for place in 0..nets.len() {
-        if !(nets[place] == F::ZERO) {
+    for index in 0..nets.len() {
+        if !(nets[index] == F::ZERO) {
             count += 1;
         }
     }

@@ -2,7 +2,7 @@
 ghost use Rattle.std.specs.Prelude.{◌≡◌, ◌≢◌, IfErr, IfOk, List, ℕ, [], ◌∷◌, ◌++◌, length};
 ghost use Rattle.lookup_model.specs.Records.{AllFit};
 ghost use Rattle.lookup_model.specs.Sent.{values};
-ghost use Rattle.lookup_rows.specs.Selection.{AnswersFlags, ArePlaces, AreSetFlags};
+ghost use Rattle.lookup_rows.specs.Selection.{AnswersFlags, AreIndices, AreSetFlags};
 ghost use Rattle.lookup_rows.specs.TraceBuilder.{builder_layout, builder_row, builder_window};
 
 use crate::trace_builder::LookupTraceBuilder;
@@ -22,26 +22,27 @@ pub enum SetFlags {
 }
 
 /// The set flags plus one more.
-fn with_place(set: SetFlags, place: usize) -> SetFlags
-    ensures { (places : List ℕ) → ArePlaces set places → ArePlaces result (places ++ place ∷ []) }
+fn with_index(set: SetFlags, index: usize) -> SetFlags
+    ensures { (indices : List ℕ) → AreIndices set indices
+        → AreIndices result (indices ++ index ∷ []) }
 {
     match set {
-        SetFlags::Nothing => SetFlags::One(place),
+        SetFlags::Nothing => SetFlags::One(index),
         SetFlags::One(_) | SetFlags::Several => SetFlags::Several,
     }
 }
 
-/// The set flags, plus the flag at `place` if it is set.
+/// The set flags, plus the flag at `index` if it is set.
 ///
 /// Refuses a flag that is neither zero nor one, with the row and the lookup's column.
 pub fn with_flag<F: Field>(
     set: SetFlags,
-    place: usize,
+    index: usize,
     flag: F,
     row: usize,
     column: usize,
 ) -> Result<SetFlags, LookupError>
-    ensures next { IfOk result (λ next. (flags : List F) → length flags ≡ place
+    ensures next { IfOk result (λ next. (flags : List F) → length flags ≡ index
         → AreSetFlags F.ring F.eq flags set
         → AreSetFlags F.ring F.eq (flags ++ flag ∷ []) next) }
     ensures refused { IfErr result (λ e. (e ≡ LookupError.FlagNotBoolean row column)
@@ -50,7 +51,7 @@ pub fn with_flag<F: Field>(
     if flag.is_zero() {
         Ok(set)
     } else if flag == F::ONE {
-        Ok(with_place(set, place))
+        Ok(with_index(set, index))
     } else {
         Err(LookupError::FlagNotBoolean {
             row,
@@ -70,9 +71,9 @@ pub(crate) fn set_flags<F: Field, EF: Domain>(
         (values F.ring (builder_window builder.now) flags.now) result }
 {
     let mut set = SetFlags::Nothing;
-    for place in 0..flags.len() {
-        let flag = builder.value_of(&flags[place]);
-        set = with_flag(set, place, flag, builder.row(), column)?;
+    for index in 0..flags.len() {
+        let flag = builder.value_of(&flags[index]);
+        set = with_flag(set, index, flag, builder.row(), column)?;
     }
     Ok(set)
 }

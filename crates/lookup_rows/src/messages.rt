@@ -1,7 +1,7 @@
 //! The messages of an AIR, collected row by row.
 ghost use Rattle.std.specs.Prelude.{◌≡◌, ◌<◌, ◌⊎◌, ◌∷◌, ◌++◌, [], None, Some, IfErr, MatchResult, length, slice_get, slice_index_or};
-ghost use Rattle.std.specs.Option.{ForSome, option_copied};
-ghost use Rattle.expressions.specs.Layout.{Fits, layout_of_traces};
+ghost use Rattle.air.specs.Traces.{layout_of, traces_of};
+ghost use Rattle.expressions.specs.Layout.{Fits};
 ghost use Rattle.expressions.specs.Tree.{tree_of};
 ghost use Rattle.lookup_rows.specs.SentMessages.{HasSentRow, HasSentRows, StayInFront, messages_of};
 ghost use Rattle.lookup_rows.specs.TraceBuilder.{builder_layout, builder_window};
@@ -10,15 +10,13 @@ ghost use Rattle.lookup_model.specs.FlagFault.{row_flag_faults, trace_flag_fault
 ghost use Rattle.lookup_model.specs.Records.{AllFit, HasEqualLengths, IsWithin, LookupsFit};
 ghost use Rattle.lookup_model.specs.Sent.{branch_at, branches_at, sent, sent_at, values};
 ghost use Rattle.lookup_model.specs.Trace.{sent_row_under, sent_rows_under};
-ghost use Rattle.matrix.specs.Matrix.{height};
 
 use crate::flags::{SetFlags, set_flags};
 use crate::row::row_builder;
 use crate::trace_builder::LookupTraceBuilder;
-use air::SymbolicExpression;
+use air::{SymbolicExpression, Traces};
 use field::Field;
 use lookup_model::{Lookup, LookupError};
-use matrix::RowMajorMatrix;
 use std::alloc::Global;
 
 /// A message: the id under which it is sent, the values of its tuple, and its multiplicity.
@@ -192,22 +190,17 @@ fn push_row_messages<F: Field>(
 
 /// Appends the messages of an AIR, row by row. After a refusal some of them may be there, behind the
 /// earlier ones.
-fn push_rows<F: Field>(
+fn push_rows<'a, F: Field>(
     alloc: Global,
     messages: &mut Vec<SentMessage<F>>,
-    main: &RowMajorMatrix<F>,
-    preprocessed: Option<&RowMajorMatrix<F>>,
-    public_values: &[F],
+    traces: &Traces<'a, F>,
     lookups: &[Lookup<F>],
     ids: &[usize],
 ) -> Result<(), LookupError>
-    requires heights { ForSome (option_copied preprocessed) (λ m. height m ≡ height main.now) }
-    requires fit { LookupsFit (layout_of_traces main.now (option_copied preprocessed)
-        public_values.now) lookups.now }
+    requires fit { LookupsFit (layout_of (traces_of traces.now)) lookups.now }
     requires ids { length ids.now ≡ length lookups.now }
     ensures pushes { let rows = sent_rows_under F.ring F.eq
-        (λ l. slice_index_or ids.now l.column 0) main.now (option_copied preprocessed.entry)
-        public_values.now lookups.now in
+        (λ l. slice_index_or ids.now l.column 0) (traces_of traces.now) lookups.now in
         MatchResult result
         (λ _. HasSentRows F.ring F.eq messages.old.items messages.new.items rows)
         (λ e. (e ≡ LookupError.Memory)
@@ -215,10 +208,10 @@ fn push_rows<F: Field>(
     ensures front { StayInFront messages.old.items messages.new.items }
 {
     // messages need no challenges, so the field stands where its extension would
-    let challenges: &[F] = &[];
-    let height = main.height();
+    let challenges: &'a [F] = &[];
+    let height = traces.main.height();
     for row in 0..height {
-        let builder = row_builder(main, preprocessed, public_values, challenges, height, row);
+        let builder = row_builder(traces, challenges, height, row);
         push_row_messages(alloc, messages, ids, lookups, &builder)?;
     }
     Ok(())
@@ -233,19 +226,14 @@ fn push_rows<F: Field>(
 pub fn push_messages<F: Field>(
     alloc: Global,
     messages: &mut Vec<SentMessage<F>>,
-    main: &RowMajorMatrix<F>,
-    preprocessed: Option<&RowMajorMatrix<F>>,
-    public_values: &[F],
+    traces: &Traces<'_, F>,
     lookups: &[Lookup<F>],
     ids: &[usize],
 ) -> Result<(), LookupError>
-    requires heights { ForSome (option_copied preprocessed) (λ m. height m ≡ height main.now) }
-    requires fit { LookupsFit (layout_of_traces main.now (option_copied preprocessed)
-        public_values.now) lookups.now }
+    requires fit { LookupsFit (layout_of (traces_of traces.now)) lookups.now }
     requires ids { length ids.now ≡ length lookups.now }
     ensures pushes { let rows = sent_rows_under F.ring F.eq
-        (λ l. slice_index_or ids.now l.column 0) main.now (option_copied preprocessed.entry)
-        public_values.now lookups.now in
+        (λ l. slice_index_or ids.now l.column 0) (traces_of traces.now) lookups.now in
         MatchResult result
         (λ _. HasSentRows F.ring F.eq messages.old.items messages.new.items rows)
         (λ e. (e ≡ LookupError.Memory)
@@ -253,15 +241,7 @@ pub fn push_messages<F: Field>(
     ensures unchanged { IfErr result (λ _. messages.new.items ≡ messages.old.items) }
 {
     let before = messages.len();
-    match push_rows(
-        alloc,
-        messages,
-        main,
-        preprocessed,
-        public_values,
-        lookups,
-        ids,
-    ) {
+    match push_rows(alloc, messages, traces, lookups, ids) {
         Ok(()) => Ok(()),
         Err(error) => {
             messages.truncate(before);

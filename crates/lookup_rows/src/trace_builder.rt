@@ -1,10 +1,10 @@
 //! The builder that evaluates lookups on one row of a trace.
-ghost use Rattle.std.specs.Prelude.{◌≡◌, ◌≢◌, ◌+◌, ◌<◌, ◌≤◌, length, MatchResult, slice_index_or};
+ghost use Rattle.std.specs.Prelude.{◌≡◌, ◌+◌, ◌<◌, ◌≤◌, length, slice_index_or};
 ghost use Rattle.expressions.specs.Meaning.{row_at};
 
 use air::{
     AirBuilder, AirError, BaseEntry, BaseLeaf, ExtensionBuilder, PermutationAirBuilder,
-    SymbolicExpression, SymbolicVariable,
+    SymbolicExpression, SymbolicVariable, judge,
 };
 use field::{Domain, ExtensionDomain, ExtensionField, Field};
 use matrix::{RowWindow, ViewPair, WindowAccess};
@@ -161,18 +161,6 @@ impl<'a, F: Field, EF> LookupTraceBuilder<'a, F, EF> {
             SymbolicExpression::Mul(a, b) => self.value_of(a) * self.value_of(b),
             SymbolicExpression::Neg(a) => -self.value_of(a),
         }
-    }
-}
-
-/// Accepts zero and refuses anything else, with the row.
-fn judge<K: Domain>(x: K, row: usize) -> Result<(), AirError>
-    ensures { MatchResult result (λ _. x ≡ K.ring.zero) (λ e. (x ≢ K.ring.zero)
-        × (e ≡ AirError.Assertion row)) }
-{
-    if x.is_zero() {
-        Ok(())
-    } else {
-        Err(AirError::Assertion { row })
     }
 }
 

@@ -1,5 +1,5 @@
 -- The batch of a memory check over a plan.
-use Rattle.std.proofs.Common.{◌≡◌, ◌≢◌, ℕ, inl, inr, List, [], None, All, Result, Ok, Err, IfErr, OnOk, length, map, refl, sym, ap, subst, ◌∙◌}
+use Rattle.std.proofs.Common.{◌≡◌, ◌≢◌, ℕ, inl, inr, List, All, Result, Ok, Err, IfErr, OnOk, length, map, refl, sym, ap, subst, ◌∙◌}
 use Rattle.std.proofs.lemmas.List.{length-map}
 use Rattle.std.specs.List.{zip}
 use Rattle.std.specs.declared.alloc.Global.{Global}
@@ -20,16 +20,16 @@ use Rattle.lookup_model.specs.declared.witness.Witness.{Witness}
 use Rattle.batch.proofs.PlanCalls.{unfit_traces, wrong_count}
 use Rattle.batch.proofs.TraceLaws.{alone_is}
 use Rattle.batch.specs.Lists.{lists_of}
-use Rattle.batch.specs.Plans.{PassIsCounted, Proves, RefusesUnaccepted, Verifies, plan_batch}
+use Rattle.batch.specs.Plans.{PassIsCounted, Proves, RefusesOnlyUnaccepted, Verifies, plan_batch}
 use Rattle.batch.specs.Tables.{made_table}
-use Rattle.batch.specs.Traces.{AreTraces as ArePlanTraces, FitsAt, IsFirstUnfit, IsTraceRefusal, batch_alone, shown_of}
+use Rattle.batch.specs.Traces.{AreTraces as ArePlanTraces, FitsAt, IsFirstUnfit, IsTraceRefusal, batch_alone, main_alone, shown_of}
 use Rattle.batch.specs.declared.error.BatchError.{BatchError}
 use Rattle.batch.specs.declared.error.BatchError.TheVariants.{LengthMismatch, Lookup as OfLookup, Memory}
 use Rattle.batch.specs.declared.trace.BatchTrace.{BatchTrace}
-use Rattle.memory_check.specs.Memory.{AreTraces, IsAcceptedMemory, IsMemoryRefusal}
+use Rattle.memory_check.specs.Memory.{AreMemoryTraces, IsAcceptedMemory, IsMemoryRefusal}
 
 module _ {F K : Type 0} (E : Extension F K) (alpha beta : K) (airs : List (Lookups F)) (heights : List ℕ) (ids : List (Vec ℕ Global)) (W m : ℕ) (mains : List (Matrix F))
-    (traces : List (BatchTrace F)) (shown : map shown_of traces ≡ map (λ main. (main, None, [])) mains) where
+    (traces : List (BatchTrace F)) (shown : map shown_of traces ≡ map main_alone mains) where
   abbrev own : List (Instance F)
   own = plan_batch airs ids traces
 
@@ -44,9 +44,9 @@ module _ {F K : Type 0} (E : Extension F K) (alpha beta : K) (airs : List (Looku
   same = alone_is (zip (lists_of ids) airs) traces mains shown
 
   as_many : length traces ≡ length mains
-  as_many = sym (length-map traces shown_of) ∙ ap length shown ∙ length-map mains (λ main. (main, None, []))
+  as_many = sym (length-map traces shown_of) ∙ ap length shown ∙ length-map mains main_alone
 
-  traces_are : ArePlanTraces heights traces own → AreTraces E alpha beta airs heights ids W m mains
+  traces_are : ArePlanTraces heights traces own → AreMemoryTraces E alpha beta airs heights ids W m mains
   traces_are are = record {
     as_many = sym as_many ∙ are.as_many;
     fit = subst (λ (is : List (Instance F)). All FitsAt (zip is heights)) same are.fit;
@@ -91,7 +91,7 @@ module _ {F K : Type 0} (E : Extension F K) (alpha beta : K) (airs : List (Looku
     memory_accepted (Err e) verifies counted = tt
 
     -- and what is refused does not balance
-    pub memory_refused : (answer : Result (Unit {0}) BatchError) → Verifies E table heights traces own w answer → RefusesUnaccepted E table heights traces own w answer → IfErr answer (IsMemoryRefusal E alpha beta airs heights ids W m mains)
+    pub memory_refused : (answer : Result (Unit {0}) BatchError) → Verifies E table heights traces own w answer → RefusesOnlyUnaccepted E table heights traces own w answer → IfErr answer (IsMemoryRefusal E alpha beta airs heights ids W m mains)
     memory_refused (Ok u) verifies refuses = tt
     memory_refused (Err e) (inl memory) refuses = inl memory
     memory_refused (Err e) (inr (inl unfit)) refuses = absurd (unfit_traces heights traces own e unfit are)

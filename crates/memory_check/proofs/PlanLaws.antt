@@ -23,7 +23,7 @@ use Rattle.memory_check.specs.Pushes.{AcceptedAll, IsRefusedAfter}
 -- the refusal of a local lookup is passed on
 passed_on : {F : Type 0} (tuples : List (Tuple (SymbolicExpression F))) (e : LookupError) → IsLocalRefusal tuples e → of_lookup e ≡ OfLookup e
 passed_on tuples e (inl (heavy, is)) = ap of_lookup is ∙ ap (λ x. OfLookup x) (sym is)
-passed_on tuples e (inr (light, (width, other, differ, is))) = ap of_lookup is.error_is ∙ ap (λ x. OfLookup x) (sym is.error_is)
+passed_on tuples e (inr (light, uneven)) = ap of_lookup uneven.refusal.error_is ∙ ap (λ x. OfLookup x) (sym uneven.refusal.error_is)
 
 module _ {F EF : Type 0} where
   -- the ghost members of a builder that records
@@ -77,7 +77,7 @@ module _ {F EF : Type 0} (columns : ℕ) (layout : AirLayout) (wide : columns �
       → IsLookupsRefusal F (of_lookup e)
   lookups_refused Left e (inl memory) = inl (ap of_lookup memory)
   lookups_refused Left e (inr (inl (refusal, evaluated, is))) = inl (ap of_lookup (is ∙ ap from_air (in_new_builder refusal evaluated)))
-  lookups_refused Left e (inr (inr (b, left, first))) = inr (e, (recorded_air b).locals, first, passed_on first.tuples e first.refusal)
+  lookups_refused Left e (inr (inr (b, left, first))) = inr (e, (recorded_air b).locals, first, passed_on first.item e first.fault)
 
 -- the refusal of a plan of lookups that fit
 pub plan_refused : {F P : Type 0} (A : P → Type 0) (p : ℕ) (airs : List (Lookups F)) (heights given : List ℕ) (result : Result P BatchError) → heights ≡ given → SetsFit airs

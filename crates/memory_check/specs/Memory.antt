@@ -64,14 +64,14 @@ module _ {F K : Type 0} (E : Extension F K) (alpha beta : K) (airs : List (Looku
   table = made_table E.ring alpha beta W m
 
   -- there are traces for each AIR, of the heights of the plan, and they fit
-  pub record AreTraces : Type 0 where
+  pub record AreMemoryTraces : Type 0 where
     pub as_many : length mains ≡ length heights
     pub fit : All FitsAt (zip batch heights)
 
   -- The traces fit, no AIR has a fault, and the plain witness is accepted. So alpha is accepting at
   -- beta, which counted soundness says of few if the batch does not balance.
   pub record IsAcceptedMemory : Type 0 where
-    pub traces_are : AreTraces
+    pub traces_are : AreMemoryTraces
     pub faultless : AreFaultless E table batch
     pub accepted : IsAccepted E table batch (plain_witness E table batch)
     pub accepting : IsAccepting E batch W beta alpha
@@ -97,4 +97,4 @@ module _ {F K : Type 0} (E : Extension F K) (alpha beta : K) (airs : List (Looku
 
   -- the refusal of traces that do not fit, or else that of the batch; or memory runs out
   abbrev pub IsMemoryRefusal : BatchError → Type 0
-  IsMemoryRefusal e = (e ≡ Memory) ⊎ (IsUnfit e ⊎ (AreTraces × (IsFault e ⊎ IsUnbalanced e)))
+  IsMemoryRefusal e = (e ≡ Memory) ⊎ (IsUnfit e ⊎ (AreMemoryTraces × (IsFault e ⊎ IsUnbalanced e)))

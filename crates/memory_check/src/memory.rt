@@ -1,6 +1,6 @@
 //! The memory check: from its AIRs to a plan, and from traces to an accepted witness.
-ghost use Rattle.std.specs.Prelude.{◌≡◌, [], ◌∷◌, None, IfErr, IfOk, OnOk};
-ghost use Rattle.batch.specs.Traces.{shown_of};
+ghost use Rattle.std.specs.Prelude.{◌≡◌, [], ◌∷◌, IfErr, IfOk, OnOk};
+ghost use Rattle.batch.specs.Traces.{main_alone, shown_of};
 ghost use Rattle.memory_check.specs.Memory.{SetsFit, IsAcceptedMemory, IsLookupsRefusal, IsMemoryPlanRefusal, IsMemoryRefusal, mains_of};
 
 use crate::airs::{AccessesAir, BoundaryAir, GapsAir};
@@ -64,7 +64,7 @@ fn memory_lookups<F: Field, EF: ExtensionField<F>>(
 /// that vanishes; at most other challenges none does. Then it refuses what [`BatchPlan::verify`]
 /// refuses, and the messages do not balance. Also fails when out of memory. If messages balance and no
 /// denominator vanishes, they are accepted. If they do not, few challenges accept them:
-/// [`soundness_count`](checker::soundness_count) says how few.
+/// [`BatchPlan::soundness_count`] says how few.
 pub fn check_memory<F: Field, EF: ExtensionField<F>>(
     alloc: Global,
     plan: &BatchPlan<F>,
@@ -91,7 +91,7 @@ pub fn check_memory<F: Field, EF: ExtensionField<F>>(
 
 /// A main trace without preprocessed trace and public values.
 fn alone<F>(main: &RowMajorMatrix<F>) -> BatchTrace<'_, F>
-    ensures { shown_of result ≡ (main.now, None, []) }
+    ensures { shown_of result ≡ main_alone main.now }
 {
     BatchTrace {
         main,

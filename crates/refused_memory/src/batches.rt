@@ -1,22 +1,17 @@
 //! Calls over batches.
 ghost use Rattle.std.specs.Prelude.{◌≡◌, ◌↔◌, ◌<◌, All, IsTrue, length};
-ghost use Rattle.std.specs.Option.{ForSome, option_copied};
-ghost use Rattle.expressions.specs.Layout.{layout_of_traces};
-ghost use Rattle.lookup_model.specs.Records.{LookupsFit};
-ghost use Rattle.matrix.specs.Matrix.{height};
 
-use crate::inputs::{BALANCED, LOCAL, LOOKUPS, ON_A_BUS, UNBALANCED, lookups_of, trace};
-use crate::show::{show, show_or_no_input, state};
-use air::AirLayout;
+use crate::inputs::{BALANCED, LOOKUPS, UNBALANCED, lookups_of, trace};
+use crate::show::{show, state};
 use checker::{
     BatchFault, BatchInstance, SoundnessCount, Witness, check_witness, generate_batch,
     ids_are_kept, ids_are_lawful, instances_fit, some_witness, soundness_count,
 };
-use field::{F7, Field};
-use lookup::debug_util::{LookupDebugInstance, LookupFault, check_lookups};
-use lookup::{Challenges, Lookup, LookupError, fits};
+use field::Field;
+use lookup::{Challenges, Lookup, LookupError};
 use matrix::RowMajorMatrix;
-use std::alloc::{AllocError, Global};
+use serde::DeserializeOwned;
+use std::alloc::Global;
 use std::fmt::Debug;
 use std::io::Write;
 
@@ -35,6 +30,7 @@ fn instance<'a, F: Field>(
     }
 }
 
+/// Whether all ids are below the number of prefixes.
 fn are_below(ids: &[usize], count: usize) -> bool
     ensures { IsTrue result ↔ All (λ id. id < count) ids.now }
 {
@@ -50,20 +46,13 @@ fn have_ids<F: Field>(instances: &[BatchInstance<'_, F>]) -> bool
         .all(|instance| instance.ids.len() == instance.lookups.len())
 }
 
+/// Whether there is a prefix for each id.
 fn have_prefixes<F: Field>(instances: &[BatchInstance<'_, F>], count: usize) -> bool
     ensures { IsTrue result ↔ All (λ b. All (λ id. id < count) b.ids.now) instances.now }
 {
     instances
         .iter()
         .all(|instance| are_below(instance.ids, count))
-}
-
-/// What is answered where a batch does not fit.
-fn misfit() -> BatchFault {
-    BatchFault {
-        air: Some(99),
-        error: LookupError::DegreeOverflow,
-    }
 }
 
 /// What generation makes of a batch.
@@ -73,7 +62,7 @@ fn generate_fitting<F: Field>(
     table: &Challenges<F>,
 ) -> Result<Witness<F>, BatchFault> {
     if !instances_fit(instances) || !have_prefixes(instances, table.bus_prefix.len()) {
-        return Err(misfit());
+        return Err(BatchFault::of_air(99, LookupError::DegreeOverflow));
     }
     generate_batch(alloc, instances, table)
 }
@@ -113,11 +102,11 @@ fn count_lawful<F: Field>(
     instances: &[BatchInstance<'_, F>],
 ) -> Result<SoundnessCount, BatchFault> {
     if !instances_fit(instances) || !have_ids(instances) {
-        return Err(misfit());
+        return Err(BatchFault::of_air(99, LookupError::DegreeOverflow));
     }
     match ids_are_lawful(alloc, instances, 1, 2) {
         Ok(true) => soundness_count::<F, F>(alloc, instances, 1),
-        Ok(false) => Err(misfit()),
+        Ok(false) => Err(BatchFault::of_air(99, LookupError::DegreeOverflow)),
         Err(_) => Err(BatchFault {
             air: None,
             error: LookupError::Memory,
@@ -125,243 +114,99 @@ fn count_lawful<F: Field>(
     }
 }
 
-/// Calls over a batch.
-fn on_batch<W: Write, F: Field + Debug>(
-    alloc: Global,
-    out: &mut W,
-    instances: &[BatchInstance<'_, F>],
-    table: &Challenges<F>,
-) {
-    if have_ids(instances) {
-        show(
-            out,
-            "ids_are_lawful",
-            ids_are_lawful(alloc, instances, 1, 2),
-        );
-    }
-    show(out, "soundness_count", count_lawful(alloc, instances));
-    show(
-        out,
-        "generate_batch",
-        generate_fitting(alloc, instances, table),
-    );
-    show(
-        out,
-        "some_witness",
-        some_fitting_witness(alloc, instances, table),
-    );
-    show(out, "instances_fit", instances_fit(instances));
-    for before in instances {
-        let after = instance(before.lookups, before.main, before.ids);
-        show(out, "ids_are_kept", ids_are_kept(alloc, before, &after));
-    }
-}
-
-/// The answer to the witness of one AIR with one lookup.
-pub fn check_alone<F: Field>(
-    alloc: Global,
-    main: &RowMajorMatrix<F>,
-    lookups: &[Lookup<F>],
-) -> Option<Result<(), LookupError>> {
-    let instances = [instance(lookups, main, &[0])];
-    let (five, two) = (F::from_u32(5), F::from_u32(2));
-    let table = Challenges::new(alloc, five, two, 1, 1).ok()?;
-    let witness = generate_fitting(alloc, instances.as_slice(), &table).ok()?;
-    Some(check_fitting(alloc, instances.as_slice(), &table, &witness))
-}
-
-/// The calls that make and that check the witness of a batch, at a table at which it is accepted or not.
-fn on_witness<W: Write, F: Field + Debug>(
-    alloc: Global,
-    out: &mut W,
-    instances: &[BatchInstance<'_, F>],
-    table: &Challenges<F>,
-) -> Option<()> {
-    let witness = generate_fitting(alloc, instances, table).ok()?;
-    for _ in 0..2 {
-        on_batch(alloc, out, instances, table);
-        let answer = check_fitting(alloc, instances, table, &witness);
-        show(out, "check_witness", answer);
-        state(out, "input of", "batch", &witness);
-    }
-    Some(())
-}
-
 /// The table of an alpha and the beta 2, for tuples of one element and two ids.
 fn table<F: Field>(alloc: Global, alpha: u32) -> Option<Challenges<F>> {
     Challenges::new(alloc, F::from_u32(alpha), F::from_u32(2), 1, 2).ok()
 }
 
-/// Calls over a batch of two AIRs whose messages balance.
-fn on_balanced<W: Write, F: Field + Debug>(
+/// The answer to the witness of one AIR with one lookup.
+pub(crate) fn check_alone<F: Field>(
     alloc: Global,
-    out: &mut W,
+    main: &RowMajorMatrix<F>,
     lookups: &[Lookup<F>],
-    even: &RowMajorMatrix<F>,
-    odd: &RowMajorMatrix<F>,
-) -> Option<()> {
-    let at_five = table::<F>(alloc, 5)?;
-    let balanced = [
-        instance(lookups, even, &[0, 1, 1, 1]),
-        instance(&[], odd, &[]),
-    ];
-    on_witness(alloc, out, balanced.as_slice(), &at_five)
+) -> Option<Result<(), LookupError>> {
+    let instances = [instance(lookups, main, &[0])];
+    let table = table::<F>(alloc, 5)?;
+    let witness = generate_fitting(alloc, instances.as_slice(), &table).ok()?;
+    Some(check_fitting(alloc, instances.as_slice(), &table, &witness))
 }
 
-/// Calls over a batch whose messages don't balance, at alpha 5, or at alpha 1, where a denominator vanishes.
-fn on_unbalanced<W: Write, F: Field + Debug>(
+/// Calls over a batch at an alpha, on a witness that was made at the alpha 5.
+fn at_alpha<W: Write, F: Field + Debug>(
     alloc: Global,
     out: &mut W,
-    lookups: &[Lookup<F>],
-    odd: &RowMajorMatrix<F>,
+    instances: &[BatchInstance<'_, F>],
     alpha: u32,
+    witness: &Witness<F>,
 ) -> Option<()> {
     let table = table::<F>(alloc, alpha)?;
-    let unbalanced = [instance(lookups, odd, &[0, 1, 1, 1])];
-    if alpha == 5 {
-        return on_witness(alloc, out, unbalanced.as_slice(), &table);
-    }
-    on_batch(alloc, out, unbalanced.as_slice(), &table);
-    on_batch(alloc, out, unbalanced.as_slice(), &table);
+    let answer = generate_fitting(alloc, instances, &table);
+    show(out, "generate_batch", answer);
+    let answer = some_fitting_witness(alloc, instances, &table);
+    show(out, "some_witness", answer);
+    let answer = check_fitting(alloc, instances, &table, witness);
+    show(out, "check_witness", answer);
     Some(())
 }
 
-pub fn batch<W: Write>(alloc: Global, out: &mut W) -> Option<()> {
-    let (even, odd) = (trace(alloc, &BALANCED, 3)?, trace(alloc, &UNBALANCED, 3)?);
-    let lookups: Vec<Lookup<F7>> = lookups_of(alloc, LOOKUPS)?;
-    let lookups = lookups.as_slice();
-    on_balanced(alloc, out, lookups, &even, &odd)?;
-    on_unbalanced(alloc, out, lookups, &odd, 5)?;
-    on_unbalanced(alloc, out, lookups, &odd, 1)?;
-    state(out, "input of", "batch", &lookups);
-    state(out, "input of", "batch", &(&even, &odd));
-    Some(())
-}
-
-fn has_fitting_lookups<F: Field>(instance: &LookupDebugInstance<'_, F>) -> bool
-    ensures { IsTrue result ↔ LookupsFit (layout_of_traces instance.now.main_trace.now
-        (option_copied instance.now.preprocessed_trace) instance.now.public_values.now)
-        instance.now.lookups.now }
-{
-    let layout = AirLayout::of_traces(
-        instance.main_trace,
-        instance.preprocessed_trace,
-        instance.public_values,
-    );
-    fits(instance.lookups, &layout)
-}
-
-fn has_one_height<F: Field>(instance: &LookupDebugInstance<'_, F>) -> bool
-    ensures { IsTrue result ↔ ForSome (option_copied instance.now.preprocessed_trace)
-        (λ m. height m ≡ height instance.now.main_trace.now) }
-{
-    match instance.preprocessed_trace {
-        Some(trace) => trace.height() == instance.main_trace.height(),
-        None => true,
-    }
-}
-
-/// The answer of the debug check, and none where the AIRs do not fit.
-fn check_all<F: Field>(
-    alloc: Global,
-    instances: &[LookupDebugInstance<'_, F>],
-) -> Option<LookupFault<F>> {
-    if !instances
-        .iter()
-        .all(|instance| has_fitting_lookups(instance))
-    {
-        return None;
-    }
-    if !instances.iter().all(|instance| has_one_height(instance)) {
-        return None;
-    }
-    check_lookups(alloc, instances).err()
-}
-
-fn debug_instance<'a, F: Field>(
-    lookups: &'a [Lookup<F>],
-    main: &'a RowMajorMatrix<F>,
-) -> LookupDebugInstance<'a, F> {
-    LookupDebugInstance {
-        main_trace: main,
-        preprocessed_trace: None,
-        public_values: &[],
-        lookups,
-        permutation_challenges: &[],
-    }
-}
-
-/// The answer of the debug check to one AIR.
-pub fn fault_of<F: Field>(
-    alloc: Global,
-    main: &RowMajorMatrix<F>,
-    lookups: &[Lookup<F>],
-) -> Option<LookupFault<F>> {
-    let instances = [debug_instance(lookups, main)];
-    check_all(alloc, instances.as_slice())
-}
-
-/// The text of a mismatch, and none for want of memory.
-pub fn text_of<F: Field>(
-    alloc: Global,
-    fault: &LookupFault<F>,
-) -> Option<Result<String, AllocError>> {
-    match fault {
-        LookupFault::Mismatch { .. } => Some(fault.text(alloc)),
-        LookupFault::Memory => None,
-    }
-}
-
-/// The answer to two AIRs, of which the second has no lookups.
-fn fault_of_two<F: Field>(
-    alloc: Global,
-    main: &RowMajorMatrix<F>,
-    lookups: &[Lookup<F>],
-    other: &RowMajorMatrix<F>,
-) -> Option<LookupFault<F>> {
-    let instances = [debug_instance(lookups, main), debug_instance(&[], other)];
-    check_all(alloc, instances.as_slice())
-}
-
-/// The debug check over the traces of AIRs.
-fn on_debug<W: Write, F: Field + Debug>(
+/// All calls over a batch: those without challenges, and those at the alphas 5 and 1. At the alpha 1 a
+/// denominator vanishes.
+fn on_witness<W: Write, F: Field + Debug>(
     alloc: Global,
     out: &mut W,
-    local: &[Lookup<F>],
-    on_a_bus: &[Lookup<F>],
-    even: &RowMajorMatrix<F>,
-    odd: &RowMajorMatrix<F>,
-) {
-    let call = "check_lookups";
-    show(out, call, fault_of(alloc, odd, local));
-    show(out, call, fault_of_two(alloc, odd, on_a_bus, even));
-    show(out, call, fault_of(alloc, even, on_a_bus));
-    state(out, "input of", "debug", &(even, odd));
-    state(out, "input of", "debug", &(local, on_a_bus));
-}
-
-/// The text of a mismatch, twice.
-fn mismatch<W: Write, F: Field>(
-    alloc: Global,
-    out: &mut W,
-    main: &RowMajorMatrix<F>,
-    lookups: &[Lookup<F>],
+    instances: &[BatchInstance<'_, F>],
+    witness: &Witness<F>,
 ) -> Option<()> {
-    let fault = fault_of(alloc, main, lookups)?;
-    if matches!(fault, LookupFault::Memory) {
-        return None;
+    if have_ids(instances) {
+        let answer = ids_are_lawful(alloc, instances, 1, 2);
+        show(out, "ids_are_lawful", answer);
     }
-    show_or_no_input(out, "LookupFault::text", text_of(alloc, &fault));
-    show_or_no_input(out, "LookupFault::text", text_of(alloc, &fault));
+    show(out, "soundness_count", count_lawful(alloc, instances));
+    show(out, "instances_fit", instances_fit(instances));
+    for before in instances {
+        let after = instance(before.lookups, before.main, before.ids);
+        show(out, "ids_are_kept", ids_are_kept(alloc, before, &after));
+    }
+    at_alpha(alloc, out, instances, 5, witness)?;
+    at_alpha(alloc, out, instances, 1, witness)?;
+    state(out, "input of", "batch", &(instances, witness));
     Some(())
 }
 
-pub fn debug<W: Write>(alloc: Global, out: &mut W) -> Option<()> {
-    let (even, odd) = (trace(alloc, &BALANCED, 3)?, trace(alloc, &UNBALANCED, 3)?);
-    let local: Vec<Lookup<F7>> = lookups_of(alloc, LOCAL)?;
-    let on_a_bus: Vec<Lookup<F7>> = lookups_of(alloc, ON_A_BUS)?;
-    let (local, on_a_bus) = (local.as_slice(), on_a_bus.as_slice());
-    on_debug(alloc, out, local, on_a_bus, &even, &odd);
-    on_debug(alloc, out, local, on_a_bus, &even, &odd);
-    mismatch(alloc, out, &odd, on_a_bus)
+/// The same twice, on the witness that is made at the alpha 5.
+fn on_instances<W: Write, F: Field + Debug>(
+    alloc: Global,
+    out: &mut W,
+    instances: &[BatchInstance<'_, F>],
+) -> Option<()> {
+    let table = table::<F>(alloc, 5)?;
+    let witness = generate_fitting(alloc, instances, &table).ok()?;
+    drop(table);
+    on_witness(alloc, out, instances, &witness)?;
+    on_witness(alloc, out, instances, &witness)
+}
+
+/// The same over two AIRs over the trace of these numbers, of which the second has no lookups.
+fn over_numbers<W: Write, F: Field + Debug>(
+    alloc: Global,
+    out: &mut W,
+    lookups: &[Lookup<F>],
+    numbers: &[u32],
+) -> Option<()> {
+    let main = trace(alloc, numbers, 3)?;
+    let instances = [
+        instance(lookups, &main, &[0, 1, 1, 1]),
+        instance(&[], &main, &[]),
+    ];
+    on_instances(alloc, out, instances.as_slice())
+}
+
+/// The calls over batches, whose messages balance or don't.
+pub(crate) fn batch<W: Write, F: Field + Debug + DeserializeOwned>(
+    alloc: Global,
+    out: &mut W,
+) -> Option<()> {
+    let lookups: Vec<Lookup<F>> = lookups_of(alloc, LOOKUPS)?;
+    over_numbers(alloc, out, lookups.as_slice(), &BALANCED)?;
+    over_numbers(alloc, out, lookups.as_slice(), &UNBALANCED)
 }

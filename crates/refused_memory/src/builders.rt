@@ -27,95 +27,21 @@ where
     show(out, "current_cells", cells);
 }
 
-/// The call that makes a builder, and the check of a layout.
-fn make_builder<W: Write, F: Field + Debug>(alloc: Global, out: &mut W) {
-    show(
-        out,
-        "SymbolicAirBuilder::new",
-        SymbolicAirBuilder::<F, F>::new(alloc, layout()),
-    );
-    let answer = layout().validate_against_air::<F, EachRecord>(&EachRecord);
-    show(out, "validate_against_air", answer);
-}
-
-/// The assertions, by number.
-const ASSERTIONS: [&str; 3] = [
-    "assert_zero",
-    "assert_zero_ext",
-    "assert_zero on the first row",
-];
-
-/// Asserts a cell on the first row. One filter stands for all three, which differ by their condition alone.
-fn assert_on_first_row<AB: AirBuilder>(alloc: Global, builder: &mut AB) -> Result<(), AirError> {
-    let x = current_cell(alloc, &*builder, 3, 0)?;
-    builder.when_first_row().assert_zero(alloc, x)
-}
-
-/// Asserts a cell.
-fn assert_cell<AB: AirBuilder>(alloc: Global, builder: &mut AB) -> Result<(), AirError> {
-    let x = current_cell(alloc, &*builder, 3, 0)?;
-    builder.assert_zero(alloc, x)
-}
-
-/// Asserts a cell over the extension.
-pub fn assert_ext_cell<AB: ExtensionBuilder>(
-    alloc: Global,
-    builder: &mut AB,
-) -> Result<(), AirError> {
-    let x = current_cell(alloc, &*builder, 3, 0)?;
-    builder.assert_zero_ext(alloc, AB::lift(x))
-}
-
-/// Makes the assertion of this number.
-fn assert_by_number<AB: ExtensionBuilder>(
-    alloc: Global,
-    builder: &mut AB,
-    call: usize,
-) -> Result<(), AirError> {
-    match call {
-        0 => assert_cell(alloc, builder),
-        1 => assert_ext_cell(alloc, builder),
-        _ => assert_on_first_row(alloc, builder),
-    }
-}
-
-/// An assertion, five times: the list of constraints grows at the first and at the fifth. Each with the builder
-/// before and after it.
-fn assert_five_times<W: Write, AB: ExtensionBuilder + Debug>(
-    alloc: Global,
-    out: &mut W,
-    builder: &mut AB,
-    call: usize,
-    name: &str,
-) {
-    for _ in 0..5 {
-        state(out, "before", name, builder);
-        show(out, name, assert_by_number(alloc, builder, call));
-        state(out, "after", name, builder);
-    }
-}
-
-/// An assertion on a builder of its own.
-fn assert_on_builder<W: Write, F: Field + Debug>(
-    alloc: Global,
-    out: &mut W,
-    call: usize,
-) -> Option<()> {
-    let mut builder = builder::<F>(alloc)?;
-    assert_five_times(alloc, out, &mut builder, call, ASSERTIONS[call % 3]);
-    drop(builder);
-    Some(())
-}
-
 /// Asserts that three cells are zero.
 fn assert_cells<AB: AirBuilder>(alloc: Global, builder: &mut AB) -> Result<(), AirError> {
     let cells = current_cells(alloc, &*builder, 3, &[0, 1, 2])?;
     builder.assert_zeros(alloc, cells)
 }
 
-/// Assertions that stay where a later one is refused.
-fn assert_several<W: Write, F: Field + Debug>(alloc: Global, out: &mut W) -> Option<()> {
+/// The call that makes a builder, the check of its layout, the calls that read one, and assertions that stay if a
+/// later one is refused.
+fn on_builder<W: Write, F: Field + Debug>(alloc: Global, out: &mut W) -> Option<()> {
+    let answer = SymbolicAirBuilder::<F, F>::new(alloc, layout());
+    show(out, "SymbolicAirBuilder::new", answer);
+    let answer = layout().validate_against_air::<F, EachRecord>(&EachRecord);
+    show(out, "validate_against_air", answer);
     let mut builder = builder::<F>(alloc)?;
+    read_builder(alloc, out, &builder);
     let call = "assert_zeros";
     show(out, call, assert_cells(alloc, &mut builder));
     state(out, "left by", call, &builder.base_constraints());
@@ -123,23 +49,17 @@ fn assert_several<W: Write, F: Field + Debug>(alloc: Global, out: &mut W) -> Opt
     Some(())
 }
 
-pub fn builders<W: Write, F: Field + Debug>(alloc: Global, out: &mut W) -> Option<()> {
-    let builder = builder::<F>(alloc)?;
-    for _ in 0..2 {
-        make_builder::<W, F>(alloc, out);
-        read_builder(alloc, out, &builder);
-    }
-    drop(builder);
-    assert_several::<W, F>(alloc, out)?;
-    assert_several::<W, F>(alloc, out)?;
-    for call in 0..3usize {
-        assert_on_builder::<W, F>(alloc, out, call)?;
-    }
-    Some(())
+/// Asserts a cell on the first row. One filter stands for all three, which differ by their condition alone.
+fn assert_on_first_row<AB: AirBuilder>(alloc: Global, builder: &mut AB) -> Result<(), AirError> {
+    let x = current_cell(alloc, &*builder, 3, 0)?;
+    builder.when_first_row().assert_zero(alloc, x)
 }
 
-/// The pushes and the calls of buses, by number.
-const PUSHES: [&str; 10] = [
+/// The number of the assertion over the extension.
+pub(crate) const ASSERT_ZERO_EXT: usize = 11;
+
+/// The pushes and the calls of buses, by number, and then the assertions.
+const CALLS: [&str; 13] = [
     "push_interaction",
     "push_local_interaction",
     "push_exclusive_interaction",
@@ -150,39 +70,66 @@ const PUSHES: [&str; 10] = [
     "lookup_key_exclusive",
     "send",
     "receive",
+    "assert_zero",
+    "assert_zero_ext",
+    "assert_zero on the first row",
 ];
 
-/// A push, five times, each with the builder before and after it.
-fn push_five_times<W: Write, AB: InteractionBuilder + IndexedLookupBuilder + Debug>(
+/// Makes the push or the assertion of this number.
+pub(crate) fn call_by_number<AB: ExtensionBuilder + InteractionBuilder + IndexedLookupBuilder>(
     alloc: Global,
-    out: &mut W,
     builder: &mut AB,
     call: usize,
-    name: &str,
-) {
+) -> Result<(), AirError> {
+    match call {
+        10 => {
+            let x = current_cell(alloc, &*builder, 3, 0)?;
+            builder.assert_zero(alloc, x)
+        }
+        11 => {
+            let x = current_cell(alloc, &*builder, 3, 0)?;
+            builder.assert_zero_ext(alloc, AB::lift(x))
+        }
+        12 => assert_on_first_row(alloc, builder),
+        _ => push(alloc, builder, call),
+    }
+}
+
+/// A call five times, with the builder before and after: a list grows at the first and at the fifth.
+fn call_five_times<
+    W: Write,
+    AB: ExtensionBuilder + InteractionBuilder + IndexedLookupBuilder + Debug,
+>(alloc: Global, out: &mut W, builder: &mut AB, call: usize) {
+    let name = CALLS[call % 13];
+    state(out, "before", name, builder);
     for _ in 0..5 {
-        state(out, "before", name, builder);
-        show(out, name, push(alloc, builder, call));
+        show(out, name, call_by_number(alloc, builder, call));
         state(out, "after", name, builder);
     }
 }
 
-/// A push on a recorder of its own.
-fn push_on_recorder<W: Write, F: Field + Debug>(
-    alloc: Global,
-    out: &mut W,
-    call: usize,
-) -> Option<()> {
-    let mut builder = recorder::<F>(alloc)?;
-    push_five_times(alloc, out, &mut builder, call, PUSHES[call % 10]);
-    drop(builder);
+/// A call on a recorder of its own.
+fn on_recorder<W: Write, F: Field + Debug>(alloc: Global, out: &mut W, call: usize) -> Option<()> {
+    let mut recorder = recorder::<F>(alloc)?;
+    call_five_times(alloc, out, &mut recorder, call);
+    drop(recorder);
+    Some(())
+}
+
+/// The calls that make, read and fill a builder.
+pub(crate) fn builders<W: Write, F: Field + Debug>(alloc: Global, out: &mut W) -> Option<()> {
+    on_builder::<W, F>(alloc, out)?;
+    on_builder::<W, F>(alloc, out)?;
+    for call in 10..13usize {
+        on_recorder::<W, F>(alloc, out, call)?;
+    }
     Some(())
 }
 
 /// All pushes and calls of buses.
-pub fn pushes<W: Write, F: Field + Debug>(alloc: Global, out: &mut W) -> Option<()> {
+pub(crate) fn pushes<W: Write, F: Field + Debug>(alloc: Global, out: &mut W) -> Option<()> {
     for call in 0..10usize {
-        push_on_recorder::<W, F>(alloc, out, call)?;
+        on_recorder::<W, F>(alloc, out, call)?;
     }
     Some(())
 }

@@ -1,29 +1,23 @@
 //! Deep expressions: one call on an expression of a given form and depth, by name.
 //!
 //! An expression is the constant 3 under layers of one form: a negation, or a sum, difference or product whose other
-//! operand, on the left or on the right, is a constant that changes nothing.
-use crate::batches::{check_alone, fault_of, text_of};
-use crate::generations::generate_fitting;
-use crate::inputs::{BALANCED, builder, layout, trace};
-use crate::show::{show, show_or_no_input};
+//! operand, on the left or on the right, is a constant that changes nothing. It is dropped by the call `drop` alone: a
+//! drop takes stack as well.
+use crate::batches::check_alone;
+use crate::faults::fault_of;
+use crate::generations::{generate_fitting, outline};
+use crate::inputs::{BALANCED, elements, layout, trace};
+use crate::show::show;
 use crate::texts::written;
-use crate::trees::resolve;
+use crate::trees::resolved;
 use air::{Expression, SymbolicExpression, SymbolicExpressionExt};
-use field::{F7, Field};
+use field::Field;
 use lookup::{Kind, Lookup};
 use serde::Serialize;
 use std::alloc::{AllocError, Global};
 use std::fmt::Debug;
 use std::io::Write;
-
-/// The constant beside an expression.
-fn neutral<F: Field>(form: &str) -> F {
-    if form.starts_with("mul") {
-        F::ONE
-    } else {
-        F::ZERO
-    }
-}
+use std::mem::forget;
 
 /// The node of a form.
 fn node<F: Field, E: Expression<F>>(
@@ -50,7 +44,12 @@ fn covered<F: Field, E: Expression<F>>(
     if form == "neg" {
         return tree.neg(alloc);
     }
-    let beside: E = E::constant(neutral::<F>(form));
+    let neutral = if form.starts_with("mul") {
+        F::ONE
+    } else {
+        F::ZERO
+    };
+    let beside: E = E::constant(neutral);
     if form.ends_with("right") {
         node::<F, E>(alloc, form, beside, tree)
     } else {
@@ -67,123 +66,71 @@ fn chain<F: Field, E: Expression<F>>(alloc: Global, form: &str, depth: usize) ->
     Some(tree)
 }
 
-/// What is in one of two boxes.
-fn unboxed<T: Drop>(left: Box<T>, right: Box<T>, on_the_right: bool) -> T {
-    if on_the_right {
-        Box::into_inner(right)
-    } else {
-        Box::into_inner(left)
+/// Whether there is an answer, which is not dropped.
+fn is_answered<T: Drop, E: Drop>(answer: Result<T, E>) -> bool {
+    match answer {
+        Ok(value) => {
+            forget(value);
+            true
+        }
+        Err(_) => false,
     }
 }
 
-/// The operand of a node, or the leaf itself.
-fn operand<F: Field>(tree: SymbolicExpression<F>, on_the_right: bool) -> SymbolicExpression<F> {
-    match tree {
-        SymbolicExpression::Neg(inner) => Box::into_inner(inner),
-        SymbolicExpression::Add(left, right) => unboxed(left, right, on_the_right),
-        SymbolicExpression::Sub(left, right) => unboxed(left, right, on_the_right),
-        SymbolicExpression::Mul(left, right) => unboxed(left, right, on_the_right),
-        leaf => leaf,
-    }
-}
-
-/// Takes an expression apart from its root on, without recursion. Returns whether it has exactly so many layers.
-fn take_apart<F: Field>(tree: SymbolicExpression<F>, form: &str, depth: usize) -> bool {
-    let on_the_right = form.ends_with("right");
-    let mut left = tree;
-    for _ in 1..depth {
-        left = operand(left, on_the_right);
-    }
-    let is_node = !matches!(left, SymbolicExpression::Leaf(_));
-    let last = operand(left, on_the_right);
-    is_node && matches!(last, SymbolicExpression::Leaf(_))
-}
-
-/// The operand of a node over the extension, or the leaf itself.
-fn ext_operand<F: Field>(
-    tree: SymbolicExpressionExt<F, F>,
-    on_the_right: bool,
-) -> SymbolicExpressionExt<F, F> {
-    match tree {
-        SymbolicExpressionExt::Neg(inner) => Box::into_inner(inner),
-        SymbolicExpressionExt::Add(left, right) => unboxed(left, right, on_the_right),
-        SymbolicExpressionExt::Sub(left, right) => unboxed(left, right, on_the_right),
-        SymbolicExpressionExt::Mul(left, right) => unboxed(left, right, on_the_right),
-        leaf => leaf,
-    }
-}
-
-/// The same over the extension.
-fn take_ext_apart<F: Field>(tree: SymbolicExpressionExt<F, F>, form: &str, depth: usize) -> bool {
-    let on_the_right = form.ends_with("right");
-    let mut left = tree;
-    for _ in 1..depth {
-        left = ext_operand(left, on_the_right);
-    }
-    let is_node = !matches!(left, SymbolicExpressionExt::Leaf(_));
-    let last = ext_operand(left, on_the_right);
-    is_node && matches!(last, SymbolicExpressionExt::Leaf(_))
-}
-
-/// What an expression resolves to on a builder of its own.
-fn resolve_alone<F: Field>(
-    alloc: Global,
-    tree: &SymbolicExpression<F>,
-) -> Option<SymbolicExpression<F>> {
-    let builder = builder::<F>(alloc)?;
-    let answer = resolve(alloc, &builder, tree);
-    drop(builder);
-    answer.ok()
-}
-
-/// Makes a call on an expression.
-fn on_tree<W: Write, F: Field + Debug + Serialize>(
+/// The drop, the copy and the text of an expression, of either kind.
+fn deep_tree<W: Write, F: Field, E: Expression<F> + Debug>(
     alloc: Global,
     out: &mut W,
     call: &str,
     form: &str,
-    tree: &SymbolicExpression<F>,
     depth: usize,
 ) -> Option<()> {
-    match call {
-        "copy" => show(out, call, take_apart(tree.copy(alloc).ok()?, form, depth)),
-        "resolve" => show(
-            out,
-            call,
-            take_apart(resolve_alone(alloc, tree)?, form, depth),
-        ),
-        "degree_multiple" => show(out, call, tree.degree_multiple()),
-        "fits" => show(out, call, tree.fits(&layout())),
-        "fmt" => {
-            let _ = writeln!(out, "{call}: {tree:?}");
-        }
-        "serialize" => show(out, call, written(alloc, tree)),
-        _ => return None,
+    let tree = chain::<F, E>(alloc, form, depth)?;
+    if call.starts_with("drop") {
+        drop(tree);
+        show(out, call, depth);
+        return Some(());
     }
+    if call.starts_with("copy") {
+        show(out, call, is_answered(tree.copy(alloc)));
+    } else {
+        let _ = writeln!(out, "{call}: {tree:?}");
+    }
+    forget(tree);
     Some(())
 }
 
-/// Makes a call on an expression over the extension.
-fn on_ext_tree<W: Write, F: Field + Debug>(
+/// The degree of an expression over the extension.
+fn deep_ext_degree<W: Write, F: Field>(
     alloc: Global,
     out: &mut W,
     call: &str,
     form: &str,
-    tree: &SymbolicExpressionExt<F, F>,
     depth: usize,
 ) -> Option<()> {
+    let tree = chain::<F, SymbolicExpressionExt<F, F>>(alloc, form, depth)?;
+    show(out, call, tree.degree_multiple());
+    forget(tree);
+    Some(())
+}
+
+/// A call that base expressions alone have.
+fn deep_base_tree<W: Write, F: Field + Serialize>(
+    alloc: Global,
+    out: &mut W,
+    call: &str,
+    form: &str,
+    depth: usize,
+) -> Option<()> {
+    let tree = chain::<F, SymbolicExpression<F>>(alloc, form, depth)?;
     match call {
-        "copy, ext" => show(
-            out,
-            call,
-            take_ext_apart(tree.copy(alloc).ok()?, form, depth),
-        ),
-        "degree_multiple, ext" => show(out, call, tree.degree_multiple()),
-        "fmt, ext" => {
-            let _ = writeln!(out, "{call}: {tree:?}");
-        }
+        "resolve" => show(out, call, is_answered(resolved(alloc, &tree, false)?)),
+        "degree_multiple" => show(out, call, tree.degree_multiple()),
+        "fits" => show(out, call, tree.fits(&layout())),
+        "serialize" => show(out, call, written(alloc, &tree)),
         _ => return None,
     }
+    forget(tree);
     Some(())
 }
 
@@ -207,77 +154,28 @@ fn lookup_of<F: Field>(alloc: Global, tree: SymbolicExpression<F>) -> Option<Loo
 }
 
 /// Makes a call on the lookup of an expression.
-fn on_lookup<W: Write>(
+fn on_lookup<W: Write, F: Field + Debug>(
     alloc: Global,
     out: &mut W,
     call: &str,
-    lookups: &[Lookup<F7>],
+    lookups: &[Lookup<F>],
 ) -> Option<()> {
-    let main = trace(alloc, &BALANCED, 3)?;
-    let challenges = [F7::new(5), F7::new(2)];
+    let main = trace::<F>(alloc, &BALANCED, 3)?;
     match call {
         "generate_permutation" => {
+            let challenges = elements::<F>(alloc, &[5, 2])?;
             let answer = generate_fitting(alloc, &main, lookups, challenges.as_slice());
-            show(
-                out,
-                call,
-                answer.map(|(aux, terminal)| (aux.height(), terminal)),
-            );
+            show(out, call, outline(answer));
         }
-        "check_lookups" => {
-            let fault = fault_of(alloc, &main, lookups)?;
-            show_or_no_input(out, call, text_of(alloc, &fault));
-        }
-        "check_witness" => show_or_no_input(out, call, check_alone(alloc, &main, lookups)),
+        "check_lookups" => show(out, call, fault_of(alloc, &main, lookups)?.text(alloc)),
+        "check_witness" => show(out, call, check_alone(alloc, &main, lookups)?),
         _ => return None,
     }
     Some(())
 }
 
-/// Takes the expressions of a tuple apart.
-fn take_tuple_apart<F: Field>(tuple: Vec<SymbolicExpression<F>>, form: &str, depth: usize) {
-    for tree in tuple {
-        take_apart(tree, form, depth);
-    }
-}
-
-/// Makes a call on the lookup of an expression, and takes it apart.
-fn deep_in_lookup<W: Write>(
-    alloc: Global,
-    out: &mut W,
-    call: &str,
-    form: &str,
-    depth: usize,
-) -> Option<()> {
-    let tree = chain::<F7, SymbolicExpression<F7>>(alloc, form, depth)?;
-    let lookups = [lookup_of(alloc, tree)?];
-    let answer = on_lookup(alloc, out, call, lookups.as_slice());
-    let [lookup] = lookups;
-    for tuple in lookup.elements {
-        take_tuple_apart(tuple, form, depth);
-    }
-    answer
-}
-
-/// Makes the call of this name on an expression of this form and depth.
-pub fn deep<W: Write>(
-    alloc: Global,
-    out: &mut W,
-    call: &str,
-    form: &str,
-    depth: usize,
-) -> Option<()> {
-    if call.ends_with("ext") {
-        return deep_over_ext::<W, F7>(alloc, out, call, form, depth);
-    }
-    if call.starts_with("generate") || call.starts_with("check") {
-        return deep_in_lookup(alloc, out, call, form, depth);
-    }
-    deep_alone::<W, F7>(alloc, out, call, form, depth)
-}
-
-/// A call on an expression by itself.
-fn deep_alone<W: Write, F: Field + Debug + Serialize>(
+/// Such a call on the lookup of an expression of this form and depth.
+fn deep_lookup<W: Write, F: Field + Debug>(
     alloc: Global,
     out: &mut W,
     call: &str,
@@ -285,31 +183,31 @@ fn deep_alone<W: Write, F: Field + Debug + Serialize>(
     depth: usize,
 ) -> Option<()> {
     let tree = chain::<F, SymbolicExpression<F>>(alloc, form, depth)?;
-    if call == "drop" {
-        drop(tree);
-        show(out, call, depth);
-        return Some(());
-    }
-    let answer = on_tree(alloc, out, call, form, &tree, depth);
-    take_apart(tree, form, depth);
+    let lookups = alone(alloc, lookup_of(alloc, tree)?)?;
+    let answer = on_lookup(alloc, out, call, lookups.as_slice());
+    forget(lookups);
     answer
 }
 
-/// The same over the extension.
-fn deep_over_ext<W: Write, F: Field + Debug>(
+/// Makes the call of this name on an expression of this form and depth.
+pub(crate) fn deep<W: Write, F: Field + Debug + Serialize>(
     alloc: Global,
     out: &mut W,
     call: &str,
     form: &str,
     depth: usize,
 ) -> Option<()> {
-    let tree = chain::<F, SymbolicExpressionExt<F, F>>(alloc, form, depth)?;
-    if call == "drop, ext" {
-        drop(tree);
-        show(out, call, depth);
-        return Some(());
+    if call == "degree_multiple, ext" {
+        return deep_ext_degree::<W, F>(alloc, out, call, form, depth);
     }
-    let answer = on_ext_tree(alloc, out, call, form, &tree, depth);
-    take_ext_apart(tree, form, depth);
-    answer
+    if call.ends_with("ext") {
+        return deep_tree::<W, F, SymbolicExpressionExt<F, F>>(alloc, out, call, form, depth);
+    }
+    if call == "drop" || call == "copy" || call == "fmt" {
+        return deep_tree::<W, F, SymbolicExpression<F>>(alloc, out, call, form, depth);
+    }
+    if call.starts_with("generate") || call.starts_with("check") {
+        return deep_lookup::<W, F>(alloc, out, call, form, depth);
+    }
+    deep_base_tree::<W, F>(alloc, out, call, form, depth)
 }

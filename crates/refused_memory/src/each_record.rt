@@ -8,7 +8,7 @@ use lookup::{
 use std::alloc::Global;
 
 /// Makes the push or the call of a bus of this number.
-pub fn push<AB: InteractionBuilder + IndexedLookupBuilder>(
+pub(crate) fn push<AB: InteractionBuilder + IndexedLookupBuilder>(
     alloc: Global,
     builder: &mut AB,
     call: usize,
@@ -16,7 +16,6 @@ pub fn push<AB: InteractionBuilder + IndexedLookupBuilder>(
     ensures { OnOk result (AB.layout builder.new ≡ AB.layout builder.old) }
 {
     match call {
-        0 => push_message(alloc, builder),
         1 => push_local(alloc, builder),
         2 => push_group(alloc, builder),
         3 => push_read(alloc, builder),
@@ -24,14 +23,6 @@ pub fn push<AB: InteractionBuilder + IndexedLookupBuilder>(
         7 => look_up_exclusively(alloc, builder),
         _ => call_bus(alloc, builder, call),
     }
-}
-
-/// Pushes a message.
-fn push_message<AB: InteractionBuilder>(alloc: Global, builder: &mut AB) -> Result<(), AirError>
-    ensures { OnOk result (AB.layout builder.new ≡ AB.layout builder.old) }
-{
-    let key = current_cells(alloc, &*builder, 3, &[0, 1])?;
-    builder.push_interaction(alloc, "other", key, Count::from(1))
 }
 
 /// Pushes a local lookup of one tuple.
@@ -71,7 +62,7 @@ fn push_table<AB: IndexedLookupBuilder>(alloc: Global, builder: &mut AB) -> Resu
     builder.push_indexed_table(alloc, "table", TraceWindow::Main, columns)
 }
 
-/// Makes the call of a bus of this number.
+/// Pushes a message, or makes the call of a bus of this number.
 fn call_bus<AB: InteractionBuilder>(
     alloc: Global,
     builder: &mut AB,
@@ -82,6 +73,7 @@ fn call_bus<AB: InteractionBuilder>(
     let key = current_cells(alloc, &*builder, 3, &[0, 1])?;
     let uses = current_cell(alloc, &*builder, 3, 2)?;
     match call {
+        0 => builder.push_interaction(alloc, "other", key, Count::bounded(uses, 2)),
         5 => LookupBus::new("keys").lookup_key(alloc, builder, key, Count::bounded(uses, 2)),
         6 => LookupBus::new("keys").table_entry(alloc, builder, key, uses),
         8 => PermutationCheckBus::new("sent").send(alloc, builder, key, Count::bounded(uses, 2)),
@@ -116,7 +108,7 @@ fn assert_difference<AB: AirBuilder>(alloc: Global, builder: &mut AB) -> Result<
 }
 
 /// Three columns. It asserts that a cell less itself is zero, and pushes one record of each kind.
-pub struct EachRecord;
+pub(crate) struct EachRecord;
 
 impl<F> BaseAir<F> for EachRecord {
     ghost width = { λ _. 3 };
@@ -154,7 +146,7 @@ impl<AB: InteractionBuilder + IndexedLookupBuilder> Air<AB> for EachRecord {
 }
 
 /// Three columns. It asserts that a cell less itself is zero, and pushes nothing.
-pub struct OneAssertion;
+pub(crate) struct OneAssertion;
 
 impl<F> BaseAir<F> for OneAssertion {
     ghost width = { λ _. 3 };

@@ -9,12 +9,10 @@ use crate::inputs::{BALANCED, LOCAL, LOOKUPS, builder, lookups_of, trace};
 use crate::layouts::{has_room, layout_of};
 use crate::show::{show, state};
 use air::{AirError, Expression, PermutationAirBuilder, RowInputs, check_rows};
-use field::{F7, Field, PrimeCharacteristicRing};
-use lookup::{
-    IndexedLookupBuilder, InteractionBuilder, InteractionSymbolicBuilder, LogUpGadget, Lookup,
-    LookupProtocol, has_equal_lengths,
-};
+use field::{Field, PrimeCharacteristicRing};
+use lookup::{LogUpGadget, Lookup, LookupProtocol, has_equal_lengths};
 use matrix::RowMajorMatrix;
+use serde::DeserializeOwned;
 use std::alloc::Global;
 use std::fmt::Debug;
 use std::io::Write;
@@ -28,104 +26,89 @@ fn have_cells<F>(lookups: &[Lookup<F>], width: usize) -> bool
         .all(|lookup| lookup.column < width.saturating_sub(1))
 }
 
-/// Asserts the constraints of lookups, for which a builder has to have room.
-fn evaluate_all<AB: PermutationAirBuilder>(
-    alloc: Global,
-    builder: &mut AB,
-    lookups: &[Lookup<AB::F>],
-) -> Result<(), AirError> {
-    let layout = layout_of(alloc, &*builder)?;
-    if !has_room(lookups, &layout) {
-        return Err(AirError::DegreeOverflow);
-    }
-    LogUpGadget::new().eval_all(alloc, builder, lookups)
-}
+/// The evaluations, by number.
+const EVALUATIONS: [&str; 4] = [
+    "eval_all",
+    "eval_air_and_lookups",
+    "eval_accumulator",
+    "eval_fraction",
+];
 
-/// Asserts the constraints of the accumulator, with the terminal 0.
-fn evaluate_accumulator<AB: PermutationAirBuilder>(
-    alloc: Global,
-    builder: &mut AB,
-    lookups: &[Lookup<AB::F>],
-) -> Result<(), AirError> {
-    let layout = layout_of(alloc, &*builder)?;
-    if !have_cells(lookups, layout.permutation_width) {
-        return Err(AirError::DegreeOverflow);
-    }
-    let terminal = AB::ExprEF::constant(AB::EF::ZERO);
-    LogUpGadget::new().eval_accumulator(alloc, builder, lookups, terminal)
-}
-
-/// Asserts the constraint of the fraction of one lookup alone.
-fn evaluate_fraction<AB: PermutationAirBuilder>(
-    alloc: Global,
-    builder: &mut AB,
-    lookups: &[Lookup<AB::F>],
-) -> Result<(), AirError> {
-    let layout = layout_of(alloc, &*builder)?;
-    if !has_room(lookups, &layout) {
-        return Err(AirError::DegreeOverflow);
-    }
-    match lookups {
-        [lookup] if has_equal_lengths(lookup) && lookup.column == 0 => {
-            LogUpGadget::new().eval_fraction(alloc, builder, lookup)
-        }
-        _ => Err(AirError::DegreeOverflow),
-    }
-}
-
-/// Evaluates an AIR, and then lookups, for which the builder has to have room.
-fn evaluate_air_and_lookups<AB: PermutationAirBuilder>(
-    alloc: Global,
-    builder: &mut AB,
-    lookups: &[Lookup<AB::F>],
-) -> Result<(), AirError> {
-    let layout = layout_of(alloc, &*builder)?;
-    if !has_room(lookups, &layout) {
-        return Err(AirError::DegreeOverflow);
-    }
-    LogUpGadget::new().eval_air_and_lookups(alloc, &OneAssertion, builder, lookups)
-}
-
-/// Makes the evaluation of this number.
-fn evaluate_by_number<AB: PermutationAirBuilder>(
+/// Makes the evaluation of this number, for which a builder has to have room: the accumulator's with the
+/// terminal 0, and a fraction's of one lookup alone.
+fn evaluate<AB: PermutationAirBuilder>(
     alloc: Global,
     builder: &mut AB,
     lookups: &[Lookup<AB::F>],
     call: usize,
 ) -> Result<(), AirError> {
+    let layout = layout_of(alloc, &*builder)?;
+    if !has_room(lookups, &layout) {
+        return Err(AirError::DegreeOverflow);
+    }
+    let gadget = LogUpGadget::new();
     match call {
-        0 => evaluate_all(alloc, builder, lookups),
-        1 => evaluate_accumulator(alloc, builder, lookups),
-        2 => evaluate_air_and_lookups(alloc, builder, lookups),
-        _ => evaluate_fraction(alloc, builder, lookups),
+        0 => gadget.eval_all(alloc, builder, lookups),
+        1 => gadget.eval_air_and_lookups(alloc, &OneAssertion, builder, lookups),
+        2 => {
+            if !have_cells(lookups, layout.permutation_width) {
+                return Err(AirError::DegreeOverflow);
+            }
+            let terminal = AB::ExprEF::constant(AB::EF::ZERO);
+            gadget.eval_accumulator(alloc, builder, lookups, terminal)
+        }
+        _ => match lookups {
+            [lookup] if has_equal_lengths(lookup) && lookup.column == 0 => {
+                gadget.eval_fraction(alloc, builder, lookup)
+            }
+            _ => Err(AirError::DegreeOverflow),
+        },
     }
 }
 
-/// Evaluation on a recorder, and what it leaves there.
-fn evaluate_on_builder<W: Write, F: Field + Debug>(
+/// An evaluation on a builder of its own, and what it leaves there.
+fn on_builder<W: Write, F: Field + Debug>(
     alloc: Global,
     out: &mut W,
     lookups: &[Lookup<F>],
     call: usize,
-    name: &str,
 ) -> Option<()> {
+    let name = EVALUATIONS[call % 4];
     let mut builder = builder::<F>(alloc)?;
-    let answer = evaluate_by_number(alloc, &mut builder, lookups, call);
+    let answer = evaluate(alloc, &mut builder, lookups, call);
     show(out, name, answer);
     state(out, "left by", name, &builder.extension_constraints());
     drop(builder);
     Some(())
 }
 
+/// All evaluations, that of a fraction of the local lookup alone.
+fn evaluate_all<W: Write, F: Field + Debug>(
+    alloc: Global,
+    out: &mut W,
+    lookups: &[Lookup<F>],
+    local: &[Lookup<F>],
+) -> Option<()> {
+    on_builder(alloc, out, lookups, 0)?;
+    on_builder(alloc, out, lookups, 1)?;
+    on_builder(alloc, out, lookups, 2)?;
+    on_builder(alloc, out, local, 3)?;
+    state(out, "input of", "evaluation", &(lookups, local));
+    Some(())
+}
+
 /// No preprocessed trace beside this one.
-fn no_preprocessed<'a>(_main: &'a RowMajorMatrix<F7>) -> Option<&'a RowMajorMatrix<F7>>
+fn no_preprocessed<'a, F>(_main: &'a RowMajorMatrix<F>) -> Option<&'a RowMajorMatrix<F>>
     ensures { result ≡ None }
 {
     None
 }
 
-/// The answer of the row checker. Over one field, since the AIR's builder borrows the inputs.
-fn check_each_row<'a>(alloc: Global, inputs: &'a RowInputs<'a, F7, F7>) -> Result<(), AirError>
+/// The answer of the row checker.
+fn check_each_row<'a, F: Field>(
+    alloc: Global,
+    inputs: &'a RowInputs<'a, F, F>,
+) -> Result<(), AirError>
     requires preprocessed { OptionHeightFits (height inputs.now.main.now)
         (option_copied inputs.now.preprocessed) }
     requires permutation { HeightFits (height inputs.now.main.now) inputs.now.permutation.now }
@@ -133,49 +116,32 @@ fn check_each_row<'a>(alloc: Global, inputs: &'a RowInputs<'a, F7, F7>) -> Resul
     check_rows(alloc, &EachRecord, inputs)
 }
 
-/// The row checker over a trace.
-fn show_checked<W: Write>(alloc: Global, out: &mut W, main: &RowMajorMatrix<F7>) {
-    let inputs: RowInputs<'_, F7, F7> = RowInputs {
-        main,
-        preprocessed: no_preprocessed(main),
+/// The row checker twice over one trace.
+fn check_twice<W: Write, F: Field + Debug>(alloc: Global, out: &mut W) -> Option<()> {
+    let main: RowMajorMatrix<F> = trace(alloc, &BALANCED, 3)?;
+    let inputs: RowInputs<'_, F, F> = RowInputs {
+        main: &main,
+        preprocessed: no_preprocessed(&main),
         public_values: &[],
-        permutation: main,
+        permutation: &main,
         challenges: &[],
         permutation_values: &[],
     };
     show(out, "check_rows", check_each_row(alloc, &inputs));
+    show(out, "check_rows", check_each_row(alloc, &inputs));
+    state(out, "input of", "check_rows", &main);
+    Some(())
 }
 
-/// Evaluations of lookups, the second of one lookup alone.
-fn evaluate<W: Write, F: Field + Debug>(
+/// The calls of evaluation, over the same lookups twice.
+pub(crate) fn evaluation<W: Write, F: Field + Debug + DeserializeOwned>(
     alloc: Global,
     out: &mut W,
-    lookups: &[Lookup<F>],
-    local: &[Lookup<F>],
 ) -> Option<()> {
-    evaluate_on_builder(alloc, out, lookups, 0, "eval_all")?;
-    evaluate_on_builder(alloc, out, lookups, 1, "eval_accumulator")?;
-    evaluate_on_builder(alloc, out, lookups, 2, "eval_air_and_lookups")?;
-    evaluate_on_builder(alloc, out, local, 3, "eval_fraction")?;
-    state(out, "input of", "evaluation", &lookups);
-    Some(())
-}
-
-/// The row checker twice over a trace.
-fn check_twice<W: Write>(alloc: Global, out: &mut W) -> Option<()> {
-    let main: RowMajorMatrix<F7> = trace(alloc, &BALANCED, 3)?;
-    for _ in 0..2 {
-        show_checked(alloc, out, &main);
-        state(out, "input of", "check_rows", &main);
-    }
-    Some(())
-}
-
-pub fn evaluation<W: Write>(alloc: Global, out: &mut W) -> Option<()> {
-    check_twice(alloc, out)?;
-    let lookups: Vec<Lookup<F7>> = lookups_of(alloc, LOOKUPS)?;
-    let local: Vec<Lookup<F7>> = lookups_of(alloc, LOCAL)?;
+    check_twice::<W, F>(alloc, out)?;
+    let lookups: Vec<Lookup<F>> = lookups_of(alloc, LOOKUPS)?;
+    let local: Vec<Lookup<F>> = lookups_of(alloc, LOCAL)?;
     let (lookups, local) = (lookups.as_slice(), local.as_slice());
-    evaluate(alloc, out, lookups, local)?;
-    evaluate(alloc, out, lookups, local)
+    evaluate_all(alloc, out, lookups, local)?;
+    evaluate_all(alloc, out, lookups, local)
 }

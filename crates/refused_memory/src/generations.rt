@@ -1,23 +1,20 @@
 //! Calls of generation.
-ghost use Rattle.std.specs.Prelude.{◌≡◌, None};
-
-use crate::inputs::{BALANCED, LOCAL, LOOKUPS, UNLAWFUL, lookups_of, trace};
+use crate::inputs::{BALANCED, LOCAL, LOOKUPS, UNLAWFUL, elements, lookups_of, trace};
 use crate::show::{show, state};
 use air::AirLayout;
-use field::{
-    BabyBear, BabyBear4, ExtensionField, F7, Field, InverseCount, PrimeCharacteristicRing,
-};
+use field::{ExtensionField, Field, InverseCount};
 use lookup::{Challenges, LogUpGadget, Lookup, LookupError, LookupProtocol, LookupTerminal, fits};
 use matrix::RowMajorMatrix;
+use serde::DeserializeOwned;
 use std::alloc::Global;
 use std::fmt::Debug;
 use std::io::Write;
 
 /// What generation gives: the auxiliary trace and the terminal.
-pub type Generated<EF> = Result<(RowMajorMatrix<EF>, Option<LookupTerminal<EF>>), LookupError>;
+type Generated<EF> = Result<(RowMajorMatrix<EF>, Option<LookupTerminal<EF>>), LookupError>;
 
 /// What generation makes of lookups that fit.
-pub fn generate_fitting<F: Field, EF: ExtensionField<F>>(
+pub(crate) fn generate_fitting<F: Field, EF: ExtensionField<F>>(
     alloc: Global,
     main: &RowMajorMatrix<F>,
     lookups: &[Lookup<F>],
@@ -45,6 +42,16 @@ fn generate_counted<F: Field, EF: ExtensionField<F>>(
     LogUpGadget::new().generate_counted(alloc, main, None, &[], lookups, challenges, count)
 }
 
+/// The height and the terminal of what generation gives.
+pub(crate) fn outline<EF: Field>(
+    generated: Generated<EF>,
+) -> Result<(usize, Option<LookupTerminal<EF>>), LookupError> {
+    match generated {
+        Ok((aux, terminal)) => Ok((aux.height(), terminal)),
+        Err(error) => Err(error),
+    }
+}
+
 /// Both calls over one trace.
 fn show_generated<W: Write, F: Field, EF: ExtensionField<F> + Debug>(
     alloc: Global,
@@ -53,25 +60,49 @@ fn show_generated<W: Write, F: Field, EF: ExtensionField<F> + Debug>(
     lookups: &[Lookup<F>],
     challenges: &[EF],
 ) {
-    show(
-        out,
-        "generate_permutation",
-        generate_fitting(alloc, main, lookups, challenges),
-    );
+    let answer = generate_fitting(alloc, main, lookups, challenges);
+    show(out, "generate_permutation", answer);
     let (call, mut count) = ("generate_counted", InverseCount::new());
-    show(
-        out,
-        call,
-        generate_counted(alloc, main, lookups, challenges, &mut count),
-    );
+    let answer = generate_counted(alloc, main, lookups, challenges, &mut count);
+    show(out, call, answer);
     state(out, "count of", call, &count.get());
 }
 
-/// One row so many times.
-fn repeated_row<F: PrimeCharacteristicRing>(
+/// Generation over the trace of these numbers, without a fault, with one, and of no lookups. At the alpha 3 a
+/// denominator vanishes.
+fn over_numbers<W: Write, F: Field + Debug, EF: ExtensionField<F> + Debug>(
     alloc: Global,
-    rows: usize,
-) -> Option<RowMajorMatrix<F>> {
+    out: &mut W,
+    lookups: &[Lookup<F>],
+    numbers: &[u32],
+) -> Option<()> {
+    let main = trace(alloc, numbers, 3)?;
+    let challenges = elements::<EF>(alloc, &[5, 2, 5, 2, 5, 2, 5, 2])?;
+    let faulty = elements::<EF>(alloc, &[3, 2, 5, 2, 5, 2, 5, 2])?;
+    for _ in 0..2 {
+        show_generated(alloc, out, &main, lookups, challenges.as_slice());
+        show_generated(alloc, out, &main, lookups, faulty.as_slice());
+        show_generated(alloc, out, &main, &[], challenges.as_slice());
+    }
+    state(out, "input of", "generation", &main);
+    Some(())
+}
+
+/// The calls of generation, over a trace that balances and over one with an unlawful flag.
+pub(crate) fn generation<
+    W: Write,
+    F: Field + Debug + DeserializeOwned,
+    EF: ExtensionField<F> + Debug,
+>(alloc: Global, out: &mut W) -> Option<()> {
+    let lookups: Vec<Lookup<F>> = lookups_of(alloc, LOOKUPS)?;
+    over_numbers::<W, F, EF>(alloc, out, lookups.as_slice(), &BALANCED)?;
+    over_numbers::<W, F, EF>(alloc, out, lookups.as_slice(), &UNLAWFUL)?;
+    state(out, "input of", "generation", &lookups);
+    Some(())
+}
+
+/// One row so many times.
+fn repeated_row<F: Field>(alloc: Global, rows: usize) -> Option<RowMajorMatrix<F>> {
     let mut numbers = Vec::new(alloc);
     for _ in 0..rows {
         numbers.extend_from_slice(&[3u32, 4, 1]).ok()?;
@@ -79,98 +110,48 @@ fn repeated_row<F: PrimeCharacteristicRing>(
     trace(alloc, numbers.as_slice(), 3)
 }
 
-/// Calls on a table of challenges, and on terminals.
-fn on_table<W: Write, EF: Field + Debug>(
+/// Generation of two chunks of rows, twice: the height and the terminal alone.
+pub(crate) fn chunks<W: Write, F: Field + Debug + DeserializeOwned>(
     alloc: Global,
     out: &mut W,
-    table: &Challenges<EF>,
-    terminals: &[Option<LookupTerminal<EF>>],
-) {
-    let answer = Challenges::new(alloc, EF::from_u32(5), EF::from_u32(2), 1, 2);
-    show(out, "Challenges::new", answer.map(|table| table.bus_prefix));
-    if table.bus_prefix.len() > 1 {
-        show(out, "for_columns", table.for_columns(alloc, &[1, 0]));
-    }
-    let sum = LogUpGadget::new().verify_terminal_sum(terminals);
-    show(out, "verify_terminal_sum", sum);
-}
-
-/// The same, twice, over the table of two numbers.
-fn on_own_table<W: Write, EF: Field + Debug>(
-    alloc: Global,
-    out: &mut W,
-    terminals: &[Option<LookupTerminal<EF>>],
 ) -> Option<()> {
-    let table = Challenges::new(alloc, EF::from_u32(5), EF::from_u32(2), 1, 2).ok()?;
-    for _ in 0..2 {
-        on_table(alloc, out, &table, terminals);
-        state(out, "input of", "challenges", &table.bus_prefix);
-    }
-    Some(())
-}
-
-/// Calls over a field, and over an extension of another.
-pub fn challenges<W: Write>(alloc: Global, out: &mut W) -> Option<()> {
-    let terminals = [Some(LookupTerminal(F7::new(5))), None];
-    on_own_table::<W, F7>(alloc, out, terminals.as_slice())?;
-    let terminals = [Some(LookupTerminal(BabyBear4::from_u32(5))), None];
-    on_own_table::<W, BabyBear4>(alloc, out, terminals.as_slice())
-}
-
-/// Generation over a trace, with a fault and without.
-fn over_small<W: Write>(
-    alloc: Global,
-    out: &mut W,
-    lookups: &[Lookup<F7>],
-    main: &RowMajorMatrix<F7>,
-) {
-    let challenges = [5, 2, 5, 2, 5, 2, 5, 2].map(F7::new);
-    let faulty = [3, 2, 5, 2, 5, 2, 5, 2].map(F7::new);
-    show_generated(alloc, out, main, lookups, challenges.as_slice());
-    show_generated(alloc, out, main, lookups, faulty.as_slice());
-    show_generated(alloc, out, main, &[], challenges.as_slice());
-    state(out, "input of", "generation", main);
-    state(out, "input of", "generation", &lookups);
-}
-
-pub fn generation<W: Write>(alloc: Global, out: &mut W) -> Option<()> {
-    let lookups: Vec<Lookup<F7>> = lookups_of(alloc, LOOKUPS)?;
-    let small = trace(alloc, &BALANCED, 3)?;
-    let unlawful = trace(alloc, &UNLAWFUL, 3)?;
-    for _ in 0..2 {
-        over_small(alloc, out, lookups.as_slice(), &small);
-        over_small(alloc, out, lookups.as_slice(), &unlawful);
-    }
-    Some(())
-}
-
-/// Generation of two chunks of rows: the height and the terminal alone.
-pub fn chunks<W: Write>(alloc: Global, out: &mut W) -> Option<()> {
-    let lookups: Vec<Lookup<F7>> = lookups_of(alloc, LOCAL)?;
-    let (lookups, challenges) = (lookups.as_slice(), [5, 2].map(F7::new));
-    let high = repeated_row(alloc, 1025)?;
+    let lookups: Vec<Lookup<F>> = lookups_of(alloc, LOCAL)?;
+    let main = repeated_row::<F>(alloc, 1025)?;
+    let challenges = elements::<F>(alloc, &[5, 2])?;
+    let (lookups, challenges) = (lookups.as_slice(), challenges.as_slice());
     for _ in 0..2 {
         let (call, mut count) = ("generate_counted", InverseCount::new());
-        let answer = generate_counted(alloc, &high, lookups, challenges.as_slice(), &mut count);
-        show(
-            out,
-            call,
-            answer.map(|(aux, terminal)| (aux.height(), terminal)),
-        );
+        let answer = generate_counted(alloc, &main, lookups, challenges, &mut count);
+        show(out, call, outline(answer));
         state(out, "count of", call, &count.get());
     }
     Some(())
 }
 
-/// Generation over an extension.
-pub fn ext_generation<W: Write>(alloc: Global, out: &mut W) -> Option<()> {
-    let lookups: Vec<Lookup<BabyBear>> = lookups_of(alloc, LOOKUPS)?;
-    let challenges = [5, 2, 6, 2, 7, 2, 8, 2].map(BabyBear4::from_u32);
-    let main = trace(alloc, &BALANCED, 3)?;
+/// The calls of a table of challenges, and on a list of a terminal and none, twice.
+fn on_table<W: Write, EF: Field + Debug>(alloc: Global, out: &mut W) -> Option<()> {
+    let table = Challenges::new(alloc, EF::from_u32(5), EF::from_u32(2), 1, 2).ok()?;
+    let mut terminals = Vec::new(alloc);
+    terminals.push(Some(LookupTerminal(EF::from_u32(5)))).ok()?;
+    terminals.push(None).ok()?;
     for _ in 0..2 {
-        show_generated(alloc, out, &main, lookups.as_slice(), challenges.as_slice());
-        state(out, "input of", "generation", &main);
-        state(out, "input of", "generation", &lookups);
+        let answer = Challenges::new(alloc, EF::from_u32(5), EF::from_u32(2), 1, 2);
+        show(out, "Challenges::new", answer.map(|table| table.bus_prefix));
+        if table.bus_prefix.len() > 1 {
+            show(out, "for_columns", table.for_columns(alloc, &[1, 0]));
+        }
+        let sum = LogUpGadget::new().verify_terminal_sum(terminals.as_slice());
+        show(out, "verify_terminal_sum", sum);
+        state(out, "input of", "challenges", &table.bus_prefix);
     }
     Some(())
+}
+
+/// The calls of challenges and of terminals, over a field and over an extension of another.
+pub(crate) fn challenges<W: Write, F: Field + Debug, EF: Field + Debug>(
+    alloc: Global,
+    out: &mut W,
+) -> Option<()> {
+    on_table::<W, F>(alloc, out)?;
+    on_table::<W, EF>(alloc, out)
 }

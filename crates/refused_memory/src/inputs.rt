@@ -1,78 +1,73 @@
 //! The inputs of the calls.
-use air::{
-    AirLayout, BaseEntry, BaseLeaf, SymbolicAirBuilder, SymbolicExpression, SymbolicVariable,
-};
+use crate::texts::read;
+use air::{AirLayout, SymbolicAirBuilder};
 use field::{Field, PrimeCharacteristicRing};
 use lookup::{InteractionSymbolicBuilder, Lookup};
 use matrix::RowMajorMatrix;
-use serde::{Deserialize, DeserializeOwned};
+use serde::DeserializeOwned;
 use std::alloc::Global;
 
 /// A local lookup that reads cell 0 and provides cell 1, cell 2 times; the same by two lookups on a bus; and a
 /// group on that bus with the flag of cell 2, whose count is 0.
-pub const LOOKUPS: &str =
+pub(crate) const LOOKUPS: &str =
     r#"[{"kind":"Local","elements":[[{"Leaf":{"Variable":{"entry":{"Main":{"offset":0}},"index":0}}}],[{"Leaf":{"Variable":{"entry":{"Main":{"offset":0}},"index":1}}}]],"multiplicities":[{"Leaf":{"Constant":1}},{"Neg":{"Leaf":{"Variable":{"entry":{"Main":{"offset":0}},"index":2}}}}],"count_weight":1,"column":0,"flags":null},{"kind":{"Global":"keys"},"elements":[[{"Leaf":{"Variable":{"entry":{"Main":{"offset":0}},"index":0}}}]],"multiplicities":[{"Leaf":{"Constant":1}}],"count_weight":1,"column":1,"flags":null},{"kind":{"Global":"keys"},"elements":[[{"Leaf":{"Variable":{"entry":{"Main":{"offset":0}},"index":1}}}]],"multiplicities":[{"Neg":{"Leaf":{"Variable":{"entry":{"Main":{"offset":0}},"index":2}}}}],"count_weight":0,"column":2,"flags":null},{"kind":{"Global":"keys"},"elements":[[{"Leaf":{"Variable":{"entry":{"Main":{"offset":0}},"index":0}}}]],"multiplicities":[{"Leaf":{"Constant":0}}],"count_weight":1,"column":3,"flags":[{"Leaf":{"Variable":{"entry":{"Main":{"offset":0}},"index":2}}}]}]"#;
 
 /// The local one alone.
-pub const LOCAL: &str =
+pub(crate) const LOCAL: &str =
     r#"[{"kind":"Local","elements":[[{"Leaf":{"Variable":{"entry":{"Main":{"offset":0}},"index":0}}}],[{"Leaf":{"Variable":{"entry":{"Main":{"offset":0}},"index":1}}}]],"multiplicities":[{"Leaf":{"Constant":1}},{"Neg":{"Leaf":{"Variable":{"entry":{"Main":{"offset":0}},"index":2}}}}],"count_weight":1,"column":0,"flags":null}]"#;
 
 /// Those on the bus alone.
-pub const ON_A_BUS: &str =
+pub(crate) const ON_A_BUS: &str =
     r#"[{"kind":{"Global":"keys"},"elements":[[{"Leaf":{"Variable":{"entry":{"Main":{"offset":0}},"index":0}}}]],"multiplicities":[{"Leaf":{"Constant":1}}],"count_weight":1,"column":0,"flags":null},{"kind":{"Global":"keys"},"elements":[[{"Leaf":{"Variable":{"entry":{"Main":{"offset":0}},"index":1}}}]],"multiplicities":[{"Neg":{"Leaf":{"Variable":{"entry":{"Main":{"offset":0}},"index":2}}}}],"count_weight":0,"column":1,"flags":null}]"#;
 
 /// Two on a bus whose tuples have two widths.
-pub const UNEVEN: &str =
+pub(crate) const UNEVEN: &str =
     r#"[{"kind":{"Global":"keys"},"elements":[[{"Leaf":{"Variable":{"entry":{"Main":{"offset":0}},"index":0}}}]],"multiplicities":[{"Leaf":{"Constant":1}}],"count_weight":1,"column":0,"flags":null},{"kind":{"Global":"keys"},"elements":[[{"Leaf":{"Variable":{"entry":{"Main":{"offset":0}},"index":0}}},{"Leaf":{"Variable":{"entry":{"Main":{"offset":0}},"index":1}}}]],"multiplicities":[{"Leaf":{"Constant":1}}],"count_weight":1,"column":1,"flags":null}]"#;
 
 /// A local lookup whose tuples have two widths.
-pub const UNEVEN_LOCAL: &str =
+pub(crate) const UNEVEN_LOCAL: &str =
     r#"[{"kind":"Local","elements":[[],[{"Leaf":"IsFirstRow"}]],"multiplicities":[{"Leaf":{"Constant":1}},{"Leaf":{"Constant":1}}],"count_weight":1,"column":0,"flags":null}]"#;
 
 /// The difference of two cells times the negative of a third, and a selector and 1.
-pub const TREES: &str =
+pub(crate) const TREES: &str =
     r#"[{"Mul":[{"Sub":[{"Leaf":{"Variable":{"entry":{"Main":{"offset":0}},"index":0}}},{"Leaf":{"Variable":{"entry":{"Main":{"offset":0}},"index":1}}}]},{"Neg":{"Leaf":{"Variable":{"entry":{"Main":{"offset":0}},"index":2}}}}]},{"Add":[{"Leaf":"IsFirstRow"},{"Leaf":{"Constant":1}}]}]"#;
 
 /// Two rows that balance.
-pub const BALANCED: [u32; 6] = [3, 4, 1, 4, 3, 1];
+pub(crate) const BALANCED: [u32; 6] = [3, 4, 1, 4, 3, 1];
 
 /// Two rows, of which the second provides a key that neither reads.
-pub const UNBALANCED: [u32; 6] = [3, 4, 1, 4, 6, 1];
+pub(crate) const UNBALANCED: [u32; 6] = [3, 4, 1, 4, 6, 1];
 
 /// A row whose flag is 2.
-pub const UNLAWFUL: [u32; 3] = [3, 4, 2];
+pub(crate) const UNLAWFUL: [u32; 3] = [3, 4, 2];
 
 /// The lookups of a text.
-pub fn lookups_of<F: DeserializeOwned>(
+pub(crate) fn lookups_of<F: DeserializeOwned>(
     alloc: Global,
     text: &'static str,
 ) -> Option<Vec<Lookup<F>>> {
-    read(alloc, text)
+    read(alloc, text.as_bytes()).ok()
 }
 
-/// The value of a text.
-pub fn read<'a, T: Deserialize<'a>>(alloc: Global, text: &'a str) -> Option<T> {
-    serde_json::from_str(alloc, text).ok()
-}
-
-/// A cell of the current row of the main trace.
-pub fn cell<F>(index: usize) -> SymbolicExpression<F> {
-    SymbolicExpression::Leaf(BaseLeaf::Variable(SymbolicVariable::new(
-        BaseEntry::Main { offset: 0 },
-        index,
-    )))
-}
-
-/// A matrix of these numbers, row after row.
-pub fn trace<F: PrimeCharacteristicRing>(
+/// The elements of these numbers.
+pub(crate) fn elements<F: PrimeCharacteristicRing>(
     alloc: Global,
     numbers: &[u32],
-    width: usize,
-) -> Option<RowMajorMatrix<F>> {
+) -> Option<Vec<F>> {
     let mut values = Vec::new(alloc);
     for number in numbers {
         values.push(F::from_u32(*number)).ok()?;
     }
+    Some(values)
+}
+
+/// A matrix of these numbers, row after row. None if they don't make whole rows.
+pub(crate) fn trace<F: PrimeCharacteristicRing>(
+    alloc: Global,
+    numbers: &[u32],
+    width: usize,
+) -> Option<RowMajorMatrix<F>> {
+    let values = elements(alloc, numbers)?;
     if width == 0 || values.len() % width != 0 {
         return None;
     }
@@ -80,17 +75,17 @@ pub fn trace<F: PrimeCharacteristicRing>(
 }
 
 /// A builder without constraints.
-pub fn builder<F: Field>(alloc: Global) -> Option<SymbolicAirBuilder<F, F>> {
+pub(crate) fn builder<F: Field>(alloc: Global) -> Option<SymbolicAirBuilder<F, F>> {
     SymbolicAirBuilder::new(alloc, layout()).ok()
 }
 
 /// A recorder without records.
-pub fn recorder<F: Field>(alloc: Global) -> Option<InteractionSymbolicBuilder<F, F>> {
+pub(crate) fn recorder<F: Field>(alloc: Global) -> Option<InteractionSymbolicBuilder<F, F>> {
     InteractionSymbolicBuilder::new(alloc, layout()).ok()
 }
 
 /// The layout of [`EachRecord`](crate::each_record::EachRecord) with room for four lookups.
-pub fn layout() -> AirLayout {
+pub(crate) fn layout() -> AirLayout {
     AirLayout {
         preprocessed_width: 0,
         main_width: 3,

@@ -8,7 +8,7 @@ use matrix::WindowAccess;
 use std::alloc::Global;
 
 /// The widths that a builder works with.
-pub fn layout_of<AB: PermutationAirBuilder>(
+pub(crate) fn layout_of<AB: PermutationAirBuilder>(
     alloc: Global,
     builder: &AB,
 ) -> Result<AirLayout, AirError>
@@ -27,7 +27,7 @@ pub fn layout_of<AB: PermutationAirBuilder>(
 }
 
 /// Whether a builder of these widths has room for lookups.
-pub fn has_room<F>(lookups: &[Lookup<F>], layout: &AirLayout) -> bool
+pub(crate) fn has_room<F>(lookups: &[Lookup<F>], layout: &AirLayout) -> bool
     ensures fit { IsTrue result → LookupsFit layout.now lookups.now }
     ensures challenges { IsTrue result
         → 2 * length lookups.now ≤ layout.now.num_permutation_challenges }

@@ -12,10 +12,13 @@ mod builders;
 mod depths;
 mod each_record;
 mod evaluations;
+mod faults;
 mod fields;
 mod generations;
 mod inputs;
 mod layouts;
+mod lines;
+mod messages;
 mod plans;
 mod records;
 mod sets;
@@ -23,21 +26,18 @@ mod show;
 mod texts;
 mod trees;
 
-use field::F7;
+use field::{BabyBear, BabyBear4, F7};
+use lines::TextKind;
 use std::alloc::Global;
 use std::env;
 use std::io::{BufReader, BufWriter, Read, Write};
 use std::process::ExitCode;
-use texts::TextKind;
 
-/// Makes the calls of a group. None where one of its inputs can't be made.
+/// Makes the calls of a group. None if one of its inputs can't be made.
 fn group<W: Write>(alloc: Global, name: &str, out: &mut W) -> Option<()> {
     match name {
-        "fields" => {
-            fields::fields(alloc, out);
-            Some(())
-        }
-        "expressions" => trees::expressions(alloc, out),
+        "fields" => fields::fields(alloc, out),
+        "expressions" => trees::expressions::<W, F7>(alloc, out),
         "builders" => builders::builders::<W, F7>(alloc, out),
         "pushes" => builders::pushes::<W, F7>(alloc, out),
         "records" => records::records::<W, F7>(alloc, out),
@@ -49,12 +49,12 @@ fn group<W: Write>(alloc: Global, name: &str, out: &mut W) -> Option<()> {
 /// The same of lookups. A function of its own, since each further arm of a `match` costs more to prove.
 fn group_of_lookups<W: Write>(alloc: Global, name: &str, out: &mut W) -> Option<()> {
     match name {
-        "lookups" => sets::lookups(alloc, out),
-        "sets" => sets::sets(alloc, out),
-        "json" => texts::json(alloc, out),
-        "challenges" => generations::challenges(alloc, out),
-        "generation" => generations::generation(alloc, out),
-        "chunks" => generations::chunks(alloc, out),
+        "lookups" => sets::lookups::<W, F7>(alloc, out),
+        "sets" => sets::sets::<W, F7>(alloc, out),
+        "json" => lines::json::<W, F7>(alloc, out),
+        "challenges" => generations::challenges::<W, F7, BabyBear4>(alloc, out),
+        "generation" => generations::generation::<W, F7, F7>(alloc, out),
+        "extension" => generations::generation::<W, BabyBear, BabyBear4>(alloc, out),
         _ => group_of_batches(alloc, name, out),
     }
 }
@@ -62,17 +62,18 @@ fn group_of_lookups<W: Write>(alloc: Global, name: &str, out: &mut W) -> Option<
 /// The same of batches, and of what is left.
 fn group_of_batches<W: Write>(alloc: Global, name: &str, out: &mut W) -> Option<()> {
     match name {
-        "extension" => generations::ext_generation(alloc, out),
-        "evaluation" => evaluations::evaluation(alloc, out),
-        "batch" => batches::batch(alloc, out),
-        "debug" => batches::debug(alloc, out),
-        "plans" => plans::batch_plans(alloc, out),
-        "memory" => plans::memory(alloc, out),
+        "chunks" => generations::chunks::<W, F7>(alloc, out),
+        "evaluation" => evaluations::evaluation::<W, F7>(alloc, out),
+        "messages" => messages::messages::<W, F7>(alloc, out),
+        "batch" => batches::batch::<W, F7>(alloc, out),
+        "debug" => faults::debug::<W, F7>(alloc, out),
+        "plans" => plans::plans::<W, F7>(alloc, out),
+        "memory" => plans::memory::<W, BabyBear, BabyBear4>(alloc, out),
         _ => None,
     }
 }
 
-/// What the words ask for. None where an input can't be made, or memory runs out.
+/// Does what the words ask for. None if an input can't be made.
 fn answer<R: Read + Drop, W: Write>(
     alloc: Global,
     words: &[String],
@@ -84,30 +85,30 @@ fn answer<R: Read + Drop, W: Write>(
         [word, kind] if word.as_str() == "lines" => {
             let kind = TextKind::of_word(kind.as_str())?;
             let input = BufReader::new(alloc, input).ok()?;
-            texts::lines(alloc, input, out, kind)
+            lines::lines(alloc, input, out, kind)
         }
         [word, call, form, depth] if word.as_str() == "deep" => {
             let depth = depth.as_str().parse::<usize>().ok()?;
-            depths::deep(alloc, out, call.as_str(), form.as_str(), depth)
+            depths::deep::<W, F7>(alloc, out, call.as_str(), form.as_str(), depth)
         }
         _ => None,
     }
 }
 
-/// The status is 3 where an input of the calls can't be made.
+/// The status is 3 if an input of the calls can't be made.
 fn main(rt: HostRuntime) -> ExitCode {
     let alloc = rt.alloc();
-    let Ok(mut out) = BufWriter::new(alloc, rt.stdout()) else {
-        return ExitCode::from(3);
-    };
     let Ok(words) = env::args(&rt) else {
         return ExitCode::from(3);
     };
     let Ok(words) = words.skip(1).collect::<Vec<String>>(alloc) else {
         return ExitCode::from(3);
     };
-    let made = answer(alloc, words.as_slice(), rt.stdin(), &mut out);
-    if out.flush().is_ok() && made.is_some() {
+    let Ok(mut out) = BufWriter::new(alloc, rt.stdout()) else {
+        return ExitCode::from(3);
+    };
+    let answered = answer(alloc, words.as_slice(), rt.stdin(), &mut out);
+    if out.flush().is_ok() && answered.is_some() {
         ExitCode::SUCCESS
     } else {
         ExitCode::from(3)

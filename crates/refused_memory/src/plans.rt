@@ -1,34 +1,40 @@
 //! Calls of plans, and of the memory check.
-use crate::inputs::{BALANCED, LOOKUPS, UNBALANCED, UNEVEN, UNEVEN_LOCAL, trace};
+use crate::inputs::{BALANCED, LOOKUPS, UNBALANCED, UNEVEN, UNEVEN_LOCAL, elements, trace};
 use crate::sets::set;
-use crate::show::{show, show_or_no_input, state};
+use crate::show::{show, state};
 use batch::{BatchError, BatchPlan, BatchTrace};
 use checker::Witness;
-use field::{BabyBear, BabyBear4, F7, PrimeCharacteristicRing};
+use field::{ExtensionField, Field};
 use matrix::RowMajorMatrix;
 use memory_check::{MemoryTraces, check_memory, memory_plan};
+use serde::DeserializeOwned;
 use std::alloc::Global;
+use std::fmt::Debug;
 use std::io::Write;
 
 /// A plan of one AIR whose lookups have this text. None if an input can't be made.
-fn plan_of(
+fn plan_of<F: Field + DeserializeOwned>(
     alloc: Global,
     text: &'static str,
     heights: &[usize],
-) -> Option<Result<BatchPlan<F7>, BatchError>> {
-    let airs = Vec::from_array(alloc, [set(alloc, text)?]).ok()?;
+) -> Option<Result<BatchPlan<F>, BatchError>> {
+    let airs = Vec::from_array(alloc, [set::<F>(alloc, text)?]).ok()?;
     let heights = Vec::from_slice(alloc, heights).ok()?;
     Some(BatchPlan::new(alloc, airs, heights))
 }
 
 /// Plans that are accepted, and refused for their heights, their widths and their weights.
-fn make_plans<W: Write>(alloc: Global, out: &mut W) {
+fn make_plans<W: Write, F: Field + Debug + DeserializeOwned>(
+    alloc: Global,
+    out: &mut W,
+) -> Option<()> {
     let call = "BatchPlan::new";
-    show_or_no_input(out, call, plan_of(alloc, LOOKUPS, &[2]));
-    show_or_no_input(out, call, plan_of(alloc, LOOKUPS, &[2, 2]));
-    show_or_no_input(out, call, plan_of(alloc, UNEVEN, &[2]));
-    show_or_no_input(out, call, plan_of(alloc, UNEVEN_LOCAL, &[2]));
-    show_or_no_input(out, call, plan_of(alloc, LOOKUPS, &[3]));
+    show(out, call, plan_of::<F>(alloc, LOOKUPS, &[2])?);
+    show(out, call, plan_of::<F>(alloc, LOOKUPS, &[2, 2])?);
+    show(out, call, plan_of::<F>(alloc, UNEVEN, &[2])?);
+    show(out, call, plan_of::<F>(alloc, UNEVEN_LOCAL, &[2])?);
+    show(out, call, plan_of::<F>(alloc, LOOKUPS, &[3])?);
+    Some(())
 }
 
 /// A main trace alone.
@@ -40,79 +46,77 @@ fn alone<F>(main: &RowMajorMatrix<F>) -> BatchTrace<'_, F> {
     }
 }
 
-/// The witness of a trace.
-fn witness(alloc: Global, plan: &BatchPlan<F7>, main: &RowMajorMatrix<F7>) -> Option<Witness<F7>> {
-    let traces = [alone(main)];
-    plan.prove(alloc, traces.as_slice(), F7::new(5), F7::new(2))
-        .ok()
+/// The witness of the trace that balances.
+fn witness_of<F: Field>(alloc: Global, plan: &BatchPlan<F>) -> Option<Witness<F>> {
+    let main = trace(alloc, &BALANCED, 3)?;
+    let traces = [alone(&main)];
+    let (alpha, beta) = (F::from_u32(5), F::from_u32(2));
+    plan.prove(alloc, traces.as_slice(), alpha, beta).ok()
 }
 
-/// The calls of a prover and a verifier.
-fn on_plan<W: Write>(
+/// The calls of a prover and a verifier, and what a plan says of itself, which takes no memory.
+fn on_trace<W: Write, F: Field + Debug>(
     alloc: Global,
     out: &mut W,
-    plan: &BatchPlan<F7>,
-    main: &RowMajorMatrix<F7>,
-    witness: &Witness<F7>,
+    plan: &BatchPlan<F>,
+    main: &RowMajorMatrix<F>,
+    witness: &Witness<F>,
+    challenges: &[F],
 ) {
     let traces = [alone(main)];
     let traces = traces.as_slice();
-    let (alpha, beta) = (F7::new(5), F7::new(2));
+    let (alpha, beta) = (F::from_u32(5), F::from_u32(2));
     let answer = plan.prove(alloc, traces, alpha, beta);
     show(out, "BatchPlan::prove", answer);
     let answer = plan.verify(alloc, traces, alpha, beta, witness);
     show(out, "BatchPlan::verify", answer);
-    let (alphas, betas) = ([1, 5].map(F7::new), [2, 3].map(F7::new));
-    let answer = plan.grid_count(alloc, traces, alphas.as_slice(), betas.as_slice());
+    let answer = plan.soundness_count::<F>(alloc, traces);
+    show(out, "BatchPlan::soundness_count", answer);
+    let answer = plan.grid_count(alloc, traces, challenges, challenges);
     show(out, "BatchPlan::grid_count", answer);
-}
-
-/// What a plan says of itself, which takes no memory.
-fn parts<W: Write>(out: &mut W, plan: &BatchPlan<F7>) {
     show(out, "BatchPlan::ids", plan.ids().len());
-    show(
-        out,
-        "BatchPlan::max_message_width",
-        plan.max_message_width(),
-    );
+    let width = plan.max_message_width();
+    show(out, "BatchPlan::max_message_width", width);
     show(out, "BatchPlan::num_ids", plan.num_ids());
 }
 
-/// All calls of a plan over a trace, twice.
-fn over<W: Write>(
+/// The same over the trace of these numbers, twice.
+fn over_numbers<W: Write, F: Field + Debug>(
     alloc: Global,
     out: &mut W,
-    plan: &BatchPlan<F7>,
+    plan: &BatchPlan<F>,
+    witness: &Witness<F>,
     numbers: &[u32],
-    witness: &Witness<F7>,
 ) -> Option<()> {
+    let challenges = elements::<F>(alloc, &[1, 5])?;
     let main = trace(alloc, numbers, 3)?;
-    for _ in 0..2 {
-        on_plan(alloc, out, plan, &main, witness);
-        state(out, "input of", "plans", &main);
-    }
+    on_trace(alloc, out, plan, &main, witness, challenges.as_slice());
+    on_trace(alloc, out, plan, &main, witness, challenges.as_slice());
+    state(out, "input of", "plans", &(plan, &main, witness));
     Some(())
 }
 
-/// All calls of a plan.
-fn on_all<W: Write>(alloc: Global, out: &mut W, plan: &BatchPlan<F7>) -> Option<()> {
-    parts(out, plan);
-    let main = trace(alloc, &BALANCED, 3)?;
-    let accepted = witness(alloc, plan, &main)?;
-    over(alloc, out, plan, &BALANCED, &accepted)?;
-    over(alloc, out, plan, &UNBALANCED, &accepted)?;
-    over(alloc, out, plan, &UNBALANCED[..3], &accepted)?;
-    state(out, "input of", "plans", &accepted);
-    state(out, "input of", "plans", plan);
-    parts(out, plan);
-    Some(())
+/// All calls of a plan: over a trace that balances, over one that doesn't, and over one of another height.
+fn on_plan<W: Write, F: Field + Debug>(
+    alloc: Global,
+    out: &mut W,
+    plan: &BatchPlan<F>,
+) -> Option<()> {
+    let witness = witness_of(alloc, plan)?;
+    over_numbers(alloc, out, plan, &witness, &BALANCED)?;
+    over_numbers(alloc, out, plan, &witness, &UNBALANCED)?;
+    over_numbers(alloc, out, plan, &witness, &UNBALANCED[..3])
 }
 
-pub fn batch_plans<W: Write>(alloc: Global, out: &mut W) -> Option<()> {
-    make_plans(alloc, out);
-    make_plans(alloc, out);
-    let plan = plan_of(alloc, LOOKUPS, &[2])?.ok()?;
-    on_all(alloc, out, &plan)
+/// The calls that make plans, and those of a plan.
+pub(crate) fn plans<W: Write, F: Field + Debug + DeserializeOwned>(
+    alloc: Global,
+    out: &mut W,
+) -> Option<()> {
+    make_plans::<W, F>(alloc, out)?;
+    make_plans::<W, F>(alloc, out)?;
+    let plan = plan_of::<F>(alloc, LOOKUPS, &[2])?.ok()?;
+    on_plan(alloc, out, &plan)
 }
 
 /// Address 1 is written at time 1 and read at 3, address 2 is read at 2 and written at 7.
@@ -125,7 +129,7 @@ const BOUNDARY: [u32; 8] = [1, 5, 6, 3, 2, 9, 8, 7];
 const GAPS: [u32; 10] = [0, 1, 1, 2, 2, 0, 3, 0, 4, 1];
 
 /// The traces of a memory.
-fn memory_traces(alloc: Global) -> Option<MemoryTraces<BabyBear>> {
+fn memory_traces<F: Field>(alloc: Global) -> Option<MemoryTraces<F>> {
     Some(MemoryTraces {
         accesses: trace(alloc, &ACCESSES, 5)?,
         boundary: trace(alloc, &BOUNDARY, 4)?,
@@ -133,33 +137,22 @@ fn memory_traces(alloc: Global) -> Option<MemoryTraces<BabyBear>> {
     })
 }
 
-/// Calls of the memory check, at challenges at which it is accepted, and at others.
-fn on_memory<W: Write>(
+/// The calls of the memory check, at challenges at which it is accepted and at others, over the same traces
+/// twice.
+pub(crate) fn memory<W: Write, F: Field + Debug, EF: ExtensionField<F>>(
     alloc: Global,
     out: &mut W,
-    plan: &BatchPlan<BabyBear>,
-    traces: &MemoryTraces<BabyBear>,
-) {
-    let (alpha, beta) = (BabyBear4::from_u32(100000), BabyBear4::from_u32(1000));
-    let answer = check_memory(alloc, plan, traces, alpha, beta);
-    show(out, "check_memory", answer);
-    let answer = check_memory(alloc, plan, traces, BabyBear4::ZERO, BabyBear4::ZERO);
-    show(out, "check_memory", answer);
-    state(out, "input of", "memory", traces);
-}
-
-/// The plan of a memory.
-fn plan_of_memory(alloc: Global) -> Result<BatchPlan<BabyBear>, BatchError> {
-    memory_plan::<BabyBear, BabyBear4>(alloc, 4, 2, 5)
-}
-
-pub fn memory<W: Write>(alloc: Global, out: &mut W) -> Option<()> {
-    let call = "memory_plan";
-    let traces = memory_traces(alloc)?;
-    let plan = plan_of_memory(alloc).ok()?;
+) -> Option<()> {
+    let traces = memory_traces::<F>(alloc)?;
+    let plan = memory_plan::<F, EF>(alloc, 4, 2, 5).ok()?;
     for _ in 0..2 {
-        show(out, call, plan_of_memory(alloc));
-        on_memory(alloc, out, &plan, &traces);
+        show(out, "memory_plan", memory_plan::<F, EF>(alloc, 4, 2, 5));
+        let (alpha, beta) = (EF::from_u32(100000), EF::from_u32(1000));
+        let answer = check_memory(alloc, &plan, &traces, alpha, beta);
+        show(out, "check_memory", answer);
+        let answer = check_memory(alloc, &plan, &traces, EF::ZERO, EF::ZERO);
+        show(out, "check_memory", answer);
     }
+    state(out, "input of", "memory", &(&plan, &traces));
     Some(())
 }

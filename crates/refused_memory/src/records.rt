@@ -1,13 +1,13 @@
 //! Calls of recorders, of records, of counts and of indexed declarations.
-use crate::builders::assert_ext_cell;
+use crate::builders::{ASSERT_ZERO_EXT, call_by_number};
 use crate::each_record::EachRecord;
-use crate::inputs::{cell, layout};
-use crate::show::{show, show_or_no_input, state};
-use air::{AirBuilder, AirLayout, Expression, SymbolicExpression};
+use crate::inputs::layout;
+use crate::show::{show, state};
+use crate::texts::read;
+use air::{AirBuilder, AirError, AirLayout, Expression, SymbolicExpression};
 use field::Field;
 use lookup::{
-    Count, IndexedLookupError, IndexedLookups, IndexedRead, IndexedTable,
-    InteractionSymbolicBuilder, TraceWindow,
+    Count, IndexedDeclarations, IndexedLookupError, IndexedLookups, InteractionSymbolicBuilder,
 };
 use lookup_indexed::check_declarations;
 use std::alloc::Global;
@@ -16,54 +16,31 @@ use std::io::Write;
 
 type Recorder<F> = InteractionSymbolicBuilder<F, F>;
 
-/// A layout of too few columns for the AIR.
-fn narrow() -> AirLayout {
-    AirLayout {
-        main_width: 2,
-        ..layout()
+/// A recorder of the AIR over a layout.
+fn recorder_of_air<F: Field>(alloc: Global, layout: AirLayout) -> Result<Recorder<F>, AirError> {
+    Recorder::<F>::from_air(alloc, &EachRecord, layout)
+}
+
+/// A recorder of the AIR with one more assertion.
+fn filled_recorder<F: Field>(alloc: Global) -> Option<Recorder<F>> {
+    let mut recorder = recorder_of_air::<F>(alloc, layout()).ok()?;
+    let answer = call_by_number(alloc, &mut recorder, ASSERT_ZERO_EXT);
+    if answer.is_err() {
+        drop(recorder);
+        return None;
     }
-}
-
-/// Calls that make a recorder.
-fn make_recorders<W: Write, F: Field + Debug>(alloc: Global, out: &mut W) {
-    show(
-        out,
-        "InteractionSymbolicBuilder::new",
-        Recorder::<F>::new(alloc, layout()),
-    );
-    show(
-        out,
-        "InteractionSymbolicBuilder::from_air",
-        Recorder::<F>::from_air(alloc, &EachRecord, layout()),
-    );
-    show(
-        out,
-        "InteractionSymbolicBuilder::from_air, narrow",
-        Recorder::<F>::from_air(alloc, &EachRecord, narrow()),
-    );
-}
-
-/// Calls that read a recorder.
-fn read_recorder<W: Write, F: Field + Debug>(alloc: Global, out: &mut W, builder: &Recorder<F>) {
-    show(out, "base_constraints", builder.base_constraints(alloc));
-    show(
-        out,
-        "extension_constraints",
-        builder.extension_constraints(alloc),
-    );
-    show(out, "constraint_layout", builder.constraint_layout(alloc));
-    show(out, "main of a recorder", builder.main(alloc));
+    Some(recorder)
 }
 
 /// Copies of the records.
-fn copy_records<W: Write, F: Field + Debug>(alloc: Global, out: &mut W, builder: &Recorder<F>) {
-    for record in builder.global_interactions() {
+fn copy_records<W: Write, F: Field + Debug>(alloc: Global, out: &mut W, recorder: &Recorder<F>) {
+    for record in recorder.global_interactions() {
         show(out, "copy of an interaction", record.copy(alloc));
     }
-    for record in builder.local_interactions() {
+    for record in recorder.local_interactions() {
         show(out, "copy of a local interaction", record.copy(alloc));
     }
-    for record in builder.exclusive_interactions() {
+    for record in recorder.exclusive_interactions() {
         show(out, "copy of a group", record.copy(alloc));
         for branch in &record.branches {
             show(out, "copy of a branch", branch.copy(alloc));
@@ -72,148 +49,116 @@ fn copy_records<W: Write, F: Field + Debug>(alloc: Global, out: &mut W, builder:
 }
 
 /// Copies of the declarations.
-fn copy_declarations<W: Write, F: Field>(alloc: Global, out: &mut W, builder: &Recorder<F>) {
-    for read in builder.indexed_reads() {
+fn copy_declarations<W: Write, F: Field>(alloc: Global, out: &mut W, recorder: &Recorder<F>) {
+    for read in recorder.indexed_reads() {
         show(out, "copy of a read", read.copy(alloc));
     }
-    for table in builder.indexed_tables() {
+    for table in recorder.indexed_tables() {
         show(out, "copy of a table", table.copy(alloc));
     }
 }
 
-/// A count of weight 3, the negative of a cell.
-fn negative<F: Field>(alloc: Global) -> Option<Count<SymbolicExpression<F>>> {
-    Some(Count::bounded(cell(2).neg(alloc).ok()?, 3))
+/// Calls that make a recorder, over layouts of which one has too few columns for the AIR, and calls on one.
+fn on_recorder<W: Write, F: Field + Debug>(alloc: Global, out: &mut W, recorder: &Recorder<F>) {
+    let answer = Recorder::<F>::new(alloc, layout());
+    show(out, "InteractionSymbolicBuilder::new", answer);
+    let answer = recorder_of_air::<F>(alloc, layout());
+    show(out, "InteractionSymbolicBuilder::from_air", answer);
+    let narrow = AirLayout {
+        main_width: 2,
+        ..layout()
+    };
+    let answer = recorder_of_air::<F>(alloc, narrow);
+    show(out, "InteractionSymbolicBuilder::from_air, narrow", answer);
+    show(out, "base_constraints", recorder.base_constraints(alloc));
+    let constraints = recorder.extension_constraints(alloc);
+    show(out, "extension_constraints", constraints);
+    show(out, "constraint_layout", recorder.constraint_layout(alloc));
+    show(out, "main of a recorder", recorder.main(alloc));
+    copy_records(alloc, out, recorder);
+    copy_declarations(alloc, out, recorder);
+    state(out, "input of", "records", recorder);
 }
 
-/// Calls of counts.
-fn counts<W: Write, F: Field + Debug>(
-    alloc: Global,
-    out: &mut W,
-    of: &Count<SymbolicExpression<F>>,
-) {
-    show(out, "copy of a count", of.copy(alloc));
-    let negated = negative::<F>(alloc).map(|count| count.negate(alloc));
-    show_or_no_input(out, "negate", negated);
-}
-
-/// A recorder of an AIR with one more assertion.
-fn filled_recorder<F: Field>(alloc: Global) -> Option<Recorder<F>> {
-    let mut builder = Recorder::<F>::from_air(alloc, &EachRecord, layout()).ok()?;
-    let answer = assert_ext_cell(alloc, &mut builder);
-    if answer.is_err() {
-        drop(builder);
-        return None;
-    }
-    Some(builder)
-}
-
-/// Calls on a recorder.
-fn on_recorder<W: Write, F: Field + Debug>(alloc: Global, out: &mut W, builder: &Recorder<F>) {
-    make_recorders::<W, F>(alloc, out);
-    read_recorder(alloc, out, builder);
-    copy_records(alloc, out, builder);
-    copy_declarations(alloc, out, builder);
-    state(out, "input of", "records", builder);
-}
-
-pub fn records<W: Write, F: Field + Debug>(alloc: Global, out: &mut W) -> Option<()> {
-    let three = negative::<F>(alloc)?;
-    counts(alloc, out, &three);
-    counts(alloc, out, &three);
-    let builder = filled_recorder::<F>(alloc)?;
-    on_recorder(alloc, out, &builder);
-    on_recorder(alloc, out, &builder);
-    drop(builder);
+/// Calls of a count of weight 3, the negative of 1.
+fn counts<W: Write, F: Field + Debug>(alloc: Global, out: &mut W) -> Option<()> {
+    let one: SymbolicExpression<F> = SymbolicExpression::constant(F::ONE);
+    let count = Count::bounded(one.neg(alloc).ok()?, 3);
+    show(out, "copy of a count", count.copy(alloc));
+    show(out, "copy of a count", count.copy(alloc));
+    show(out, "negate", count.negate(alloc));
     Some(())
 }
 
-/// A reader of columns.
-fn reader(alloc: Global, position: usize, payload: &[usize]) -> Option<Vec<IndexedRead>> {
-    let read = IndexedRead {
-        table: String::from_str(alloc, "table").ok()?,
-        position,
-        payload: Vec::from_slice(alloc, payload).ok()?,
-    };
-    Vec::from_array(alloc, [read]).ok()
+/// The calls of counts, recorders and records.
+pub(crate) fn records<W: Write, F: Field + Debug>(alloc: Global, out: &mut W) -> Option<()> {
+    counts::<W, F>(alloc, out)?;
+    counts::<W, F>(alloc, out)?;
+    let recorder = filled_recorder::<F>(alloc)?;
+    on_recorder(alloc, out, &recorder);
+    on_recorder(alloc, out, &recorder);
+    drop(recorder);
+    Some(())
 }
 
-/// A table of columns.
-fn table(alloc: Global, columns: &[usize]) -> Option<Vec<IndexedTable>> {
-    let table = IndexedTable {
-        name: String::from_str(alloc, "table").ok()?,
-        window: TraceWindow::Main,
-        columns: Vec::from_slice(alloc, columns).ok()?,
-    };
-    Vec::from_array(alloc, [table]).ok()
-}
+/// Declarations that are accepted.
+const FAULTLESS: &str =
+    r#"{"reads":[{"table":"t","position":0,"payload":[1,2]}],"tables":[{"name":"t","window":"Main","columns":[1]}]}"#;
 
-/// The check of a reader and a table. None if they can't be made.
-fn check_lists(
-    alloc: Global,
-    position: usize,
-    payload: &[usize],
-    columns: &[usize],
-) -> Option<Result<(), IndexedLookupError>> {
-    let (reads, tables) = (reader(alloc, position, payload)?, table(alloc, columns)?);
-    Some(check_declarations(alloc, reads.as_slice(), tables.as_slice(), &layout()))
-}
+/// A reader whose position is no column.
+const MISPLACED: &str =
+    r#"{"reads":[{"table":"t","position":9,"payload":[1]}],"tables":[{"name":"t","window":"Main","columns":[1]}]}"#;
 
-/// The set of a reader and a table. None if they can't be made.
-fn build_set(
-    alloc: Global,
-    position: usize,
-    payload: &[usize],
-    columns: &[usize],
-) -> Option<Result<IndexedLookups, IndexedLookupError>> {
-    let (reads, tables) = (reader(alloc, position, payload)?, table(alloc, columns)?);
-    Some(IndexedLookups::new(alloc, reads, tables, &layout()))
-}
+/// A reader of nothing.
+const EMPTY_PAYLOAD: &str =
+    r#"{"reads":[{"table":"t","position":0,"payload":[]}],"tables":[{"name":"t","window":"Main","columns":[1]}]}"#;
 
-/// Both calls.
-fn declare<W: Write>(
-    alloc: Global,
-    out: &mut W,
-    position: usize,
-    payload: &[usize],
-    columns: &[usize],
-) {
-    let answer = check_lists(alloc, position, payload, columns);
-    show_or_no_input(out, "check_declarations", answer);
-    let answer = build_set(alloc, position, payload, columns);
-    show_or_no_input(out, "IndexedLookups::new", answer);
+/// A reader of one column twice.
+const REPEATED: &str =
+    r#"{"reads":[{"table":"t","position":0,"payload":[1,1]}],"tables":[{"name":"t","window":"Main","columns":[1]}]}"#;
+
+/// A table without columns.
+const EMPTY_TABLE: &str =
+    r#"{"reads":[{"table":"t","position":0,"payload":[1]}],"tables":[{"name":"t","window":"Main","columns":[]}]}"#;
+
+/// A table of what is no column.
+const OUT_OF_RANGE: &str =
+    r#"{"reads":[{"table":"t","position":0,"payload":[1]}],"tables":[{"name":"t","window":"Main","columns":[9]}]}"#;
+
+/// The check of the declarations of a text, and the set of them.
+fn declare<W: Write>(alloc: Global, out: &mut W, text: &'static str) -> Option<()> {
+    let list: IndexedDeclarations = read(alloc, text.as_bytes()).ok()?;
+    let IndexedDeclarations { reads, tables } = list;
+    let answer = check_declarations(alloc, reads.as_slice(), tables.as_slice(), &layout());
+    show(out, "check_declarations", answer);
+    let answer = IndexedLookups::new(alloc, reads, tables, &layout());
+    show(out, "IndexedLookups::new", answer);
+    Some(())
 }
 
 /// A set that is accepted, and one with each fault.
-fn declare_all<W: Write>(alloc: Global, out: &mut W) {
-    declare(alloc, out, 0, &[1, 2], &[1]);
-    declare(alloc, out, 9, &[1], &[1]);
-    declare(alloc, out, 0, &[], &[1]);
-    declare(alloc, out, 0, &[1, 1], &[1]);
-    declare(alloc, out, 0, &[1], &[]);
-    declare(alloc, out, 0, &[1], &[9]);
-}
-
-/// Calls of sets of declarations.
-fn on_declarations<W: Write, F: Field>(alloc: Global, out: &mut W, accepted: &IndexedLookups) {
-    show(
-        out,
-        "IndexedLookups::from_air",
-        IndexedLookups::from_air::<F, F, EachRecord>(alloc, &EachRecord),
-    );
-    show(out, "copy of indexed lookups", accepted.copy(alloc));
-    declare_all(alloc, out);
-    state(out, "input of", "declarations", accepted);
+fn declare_all<W: Write>(alloc: Global, out: &mut W) -> Option<()> {
+    declare(alloc, out, FAULTLESS)?;
+    declare(alloc, out, MISPLACED)?;
+    declare(alloc, out, EMPTY_PAYLOAD)?;
+    declare(alloc, out, REPEATED)?;
+    declare(alloc, out, EMPTY_TABLE)?;
+    declare(alloc, out, OUT_OF_RANGE)
 }
 
 /// The declarations of the AIR.
-pub fn indexed<F: Field>(alloc: Global) -> Option<IndexedLookups> {
-    IndexedLookups::from_air::<F, F, EachRecord>(alloc, &EachRecord).ok()
+pub(crate) fn declared<F: Field>(alloc: Global) -> Result<IndexedLookups, IndexedLookupError> {
+    IndexedLookups::from_air::<F, F, EachRecord>(alloc, &EachRecord)
 }
 
-pub fn declarations<W: Write, F: Field>(alloc: Global, out: &mut W) -> Option<()> {
-    let accepted = indexed::<F>(alloc)?;
-    on_declarations::<W, F>(alloc, out, &accepted);
-    on_declarations::<W, F>(alloc, out, &accepted);
+/// The calls of indexed declarations, over the same set twice.
+pub(crate) fn declarations<W: Write, F: Field>(alloc: Global, out: &mut W) -> Option<()> {
+    let accepted = declared::<F>(alloc).ok()?;
+    for _ in 0..2 {
+        show(out, "IndexedLookups::from_air", declared::<F>(alloc));
+        show(out, "copy of indexed lookups", accepted.copy(alloc));
+        declare_all(alloc, out)?;
+    }
+    state(out, "input of", "declarations", &accepted);
     Some(())
 }

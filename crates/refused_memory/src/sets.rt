@@ -1,12 +1,15 @@
 //! Calls on lookups and on sets of them.
 use crate::each_record::EachRecord;
 use crate::inputs::{LOOKUPS, UNEVEN, UNEVEN_LOCAL, layout, lookups_of};
-use crate::show::{show, show_or_no_input, state};
-use field::{F7, Field};
+use crate::show::{show, state};
+use crate::texts::read;
+use field::Field;
 use lookup::{
     LogUpGadget, Lookup, LookupError, LookupProtocol, Lookups, assert_uniform_tuple_width,
     check_bus_widths, check_multiplicity_height_bound, has_equal_lengths,
 };
+use serde::DeserializeOwned;
+use serde_json::error::Category;
 use std::alloc::Global;
 use std::fmt::Debug;
 use std::io::Write;
@@ -15,40 +18,29 @@ use std::io::Write;
 const MISPLACED: &str =
     r#"[{"kind":"Local","elements":[],"multiplicities":[],"count_weight":1,"column":1,"flags":null}]"#;
 
+/// The answer of the call that makes the set of a text, if that can be read.
+pub(crate) fn set_of_text<F: Field + DeserializeOwned>(
+    alloc: Global,
+    text: &[u8],
+) -> Result<Result<Lookups<F>, LookupError>, Category> {
+    let lookups: Vec<Lookup<F>> = read(alloc, text)?;
+    Ok(Lookups::from_records(alloc, lookups))
+}
+
 /// The set of a text.
-pub fn set(alloc: Global, text: &'static str) -> Option<Lookups<F7>> {
-    set_of_records(alloc, text)?.ok()
-}
-
-/// The answer of the call that makes the set of a text.
-fn set_of_records(alloc: Global, text: &'static str) -> Option<Result<Lookups<F7>, LookupError>> {
-    Some(Lookups::from_records(alloc, lookups_of(alloc, text)?))
-}
-
-/// Calls that make a set of a text.
-fn make_sets<W: Write>(alloc: Global, out: &mut W) {
-    show_or_no_input(out, "from_records", set_of_records(alloc, LOOKUPS));
-    show_or_no_input(out, "from_records", set_of_records(alloc, MISPLACED));
-}
-
-/// The call that makes a set of an AIR.
-fn extract<W: Write, F: Field + Debug>(alloc: Global, out: &mut W) {
-    show(
-        out,
-        "Lookups::from_air",
-        Lookups::<F>::from_air::<F, EachRecord>(alloc, &EachRecord),
-    );
+pub(crate) fn set<F: Field + DeserializeOwned>(
+    alloc: Global,
+    text: &'static str,
+) -> Option<Lookups<F>> {
+    set_of_text::<F>(alloc, text.as_bytes()).ok()?.ok()
 }
 
 /// Calls on a lookup.
 fn on_lookup<W: Write, F: Field + Debug>(alloc: Global, out: &mut W, lookup: &Lookup<F>) {
     show(out, "copy of a lookup", lookup.copy(alloc));
     show(out, "copy of a kind", lookup.kind.copy(alloc));
-    show(
-        out,
-        "assert_uniform_tuple_width",
-        assert_uniform_tuple_width(alloc, lookup.elements.as_slice(), "context"),
-    );
+    let answer = assert_uniform_tuple_width(alloc, lookup.elements.as_slice(), "context");
+    show(out, "assert_uniform_tuple_width", answer);
     if has_equal_lengths(lookup) {
         let gadget = LogUpGadget::new();
         show(out, "constraint_degree", gadget.constraint_degree(lookup));
@@ -57,94 +49,87 @@ fn on_lookup<W: Write, F: Field + Debug>(alloc: Global, out: &mut W, lookup: &Lo
     }
 }
 
-/// What packing makes of a copy, by a closure for the degree.
-fn pack_by<F: Field, D: Fn(&Lookup<F>) -> Result<usize, LookupError>>(
+/// Calls on the lookups of a text, each by itself and twice.
+fn on_lookups<W: Write, F: Field + Debug + DeserializeOwned>(
     alloc: Global,
-    set: &Lookups<F>,
-    degree: D,
-) -> Option<Result<Lookups<F>, LookupError>>
-    requires { D.IsAlwaysCallable degree }
-{
-    let copy = set.copy(alloc).ok()?;
-    Some(copy.pack_same_bus_with_degree(alloc, 3, degree))
+    out: &mut W,
+    text: &'static str,
+) -> Option<()> {
+    let lookups: Vec<Lookup<F>> = lookups_of(alloc, text)?;
+    for lookup in lookups.as_slice() {
+        on_lookup(alloc, out, lookup);
+        on_lookup(alloc, out, lookup);
+    }
+    state(out, "input of", "lookups", &lookups);
+    Some(())
 }
 
-/// What packing makes of a copy, by the gadget's degree.
-fn pack_by_gadget<F: Field>(
+/// The calls of lookups, over well-formed ones and over one whose tuples have two widths.
+pub(crate) fn lookups<W: Write, F: Field + Debug + DeserializeOwned>(
     alloc: Global,
-    set: &Lookups<F>,
-) -> Option<Result<Lookups<F>, LookupError>> {
-    let copy = set.copy(alloc).ok()?;
-    Some(copy.pack_same_bus(alloc, &LogUpGadget::new(), 16))
+    out: &mut W,
+) -> Option<()> {
+    on_lookups::<W, F>(alloc, out, LOOKUPS)?;
+    on_lookups::<W, F>(alloc, out, UNEVEN_LOCAL)
 }
 
-/// Packing, which consumes the set.
-fn pack<W: Write, F: Field + Debug>(alloc: Global, out: &mut W, set: &Lookups<F>) {
-    show_or_no_input(out, "pack_same_bus", pack_by_gadget(alloc, set));
-    let call = "pack_same_bus_with_degree";
-    show_or_no_input(
-        out,
-        call,
-        pack_by(alloc, set, |lookup| Ok(lookup.elements.len())),
-    );
-    show_or_no_input(
-        out,
-        call,
-        pack_by(alloc, set, |_| Err(LookupError::BadRecord { lookup: 9 })),
-    );
-}
-
-/// Calls on a set.
-fn on_set<W: Write, F: Field + Debug>(alloc: Global, out: &mut W, set: &Lookups<F>) {
+/// Calls on a set, and packing, which consumes a copy: by the gadget's degree, and by a closure for it.
+fn on_set<W: Write, F: Field + Debug>(alloc: Global, out: &mut W, set: &Lookups<F>) -> Option<()> {
     show(out, "copy of a set", set.copy(alloc));
     show(out, "total_count_weight", set.total_count_weight());
     show(out, "Lookups::fits", set.fits(&layout()));
+    let copy = set.copy(alloc).ok()?;
+    let answer = copy.pack_same_bus(alloc, &LogUpGadget::new(), 16);
+    show(out, "pack_same_bus", answer);
+    let call = "pack_same_bus_with_degree";
+    let copy = set.copy(alloc).ok()?;
+    let answer = copy.pack_same_bus_with_degree(alloc, 3, |lookup| Ok(lookup.elements.len()));
+    show(out, call, answer);
+    let copy = set.copy(alloc).ok()?;
+    let answer = copy.pack_same_bus_with_degree(
+        alloc,
+        3,
+        |_| Err(LookupError::BadRecord { lookup: 9 }),
+    );
+    show(out, call, answer);
+    Some(())
 }
 
-/// Calls on the sets of all AIRs.
-fn on_sets<W: Write, F: Field + Debug>(alloc: Global, out: &mut W, sets: &[Lookups<F>]) {
+/// Calls that make sets, calls on each of these sets and on all of them, and on the first alone.
+fn on_all<W: Write, F: Field + Debug + DeserializeOwned>(
+    alloc: Global,
+    out: &mut W,
+    sets: &[Lookups<F>],
+    first: &[Lookups<F>],
+) -> Option<()> {
+    let call = "from_records";
+    show(out, call, set_of_text::<F>(alloc, LOOKUPS.as_bytes()).ok()?);
+    show(
+        out,
+        call,
+        set_of_text::<F>(alloc, MISPLACED.as_bytes()).ok()?,
+    );
+    let answer = Lookups::<F>::from_air::<F, EachRecord>(alloc, &EachRecord);
+    show(out, "Lookups::from_air", answer);
     show(out, "check_bus_widths", check_bus_widths(alloc, sets));
+    show(out, "check_bus_widths", check_bus_widths(alloc, first));
     if sets.len() == 2 {
         let bound = check_multiplicity_height_bound(sets, &[1, 2]);
         show(out, "check_multiplicity_height_bound", bound);
     }
-}
-
-/// Calls on the sets of two AIRs.
-fn on_even<W: Write, F: Field + Debug>(alloc: Global, out: &mut W, sets: &[Lookups<F>]) {
-    on_sets(alloc, out, sets);
     for set in sets {
-        on_set(alloc, out, set);
-        pack(alloc, out, set);
+        on_set(alloc, out, set)?;
     }
     state(out, "input of", "sets", &sets);
-}
-
-/// Calls on lookups, each by itself.
-fn on_lookups<W: Write, F: Field + Debug>(alloc: Global, out: &mut W, lookups: &[Lookup<F>]) {
-    for lookup in lookups {
-        on_lookup(alloc, out, lookup);
-    }
-    state(out, "input of", "lookups", &lookups);
-}
-
-pub fn lookups<W: Write>(alloc: Global, out: &mut W) -> Option<()> {
-    let records: Vec<Lookup<F7>> = lookups_of(alloc, LOOKUPS)?;
-    let wide: Vec<Lookup<F7>> = lookups_of(alloc, UNEVEN_LOCAL)?;
-    for _ in 0..2 {
-        on_lookups(alloc, out, records.as_slice());
-        on_lookups(alloc, out, wide.as_slice());
-    }
     Some(())
 }
 
-pub fn sets<W: Write>(alloc: Global, out: &mut W) -> Option<()> {
-    let even = [set(alloc, LOOKUPS)?, set(alloc, UNEVEN)?];
-    for _ in 0..2 {
-        make_sets(alloc, out);
-        extract::<W, F7>(alloc, out);
-        on_even(alloc, out, even.as_slice());
-        on_sets(alloc, out, &even[..1]);
-    }
-    Some(())
+/// The calls of sets, over the same two sets twice.
+pub(crate) fn sets<W: Write, F: Field + Debug + DeserializeOwned>(
+    alloc: Global,
+    out: &mut W,
+) -> Option<()> {
+    let sets = [set::<F>(alloc, LOOKUPS)?, set::<F>(alloc, UNEVEN)?];
+    on_all(alloc, out, sets.as_slice(), &sets[..1])?;
+    on_all(alloc, out, sets.as_slice(), &sets[..1])
 }

@@ -1,29 +1,24 @@
 //! Calls of expressions.
-use crate::inputs::{TREES, builder, layout, read};
+use crate::inputs::{TREES, builder, layout};
 use crate::layouts::layout_of;
-use crate::show::{show, show_or_no_input, state};
+use crate::show::{show, state};
+use crate::texts::read;
 use air::{
     AirError, Expression, ExtLeaf, PermutationAirBuilder, SymbolicExpression,
     SymbolicExpressionExt, copy_expressions, resolve_over,
 };
-use field::{F7, Field};
-use std::alloc::{AllocError, Global};
+use field::Field;
+use serde::DeserializeOwned;
+use std::alloc::Global;
 use std::fmt::Debug;
 use std::io::Write;
 
-/// A copy of the negative of 1.
-fn copy_negative<F: Field, E: Expression<F>>(alloc: Global) -> Option<Result<E, AllocError>> {
-    let one: E = E::constant(F::ONE);
-    let tree = one.neg(alloc).ok()?;
-    Some(tree.copy(alloc))
-}
-
 /// The building calls of a kind of expressions, by these names, and a copy.
-pub fn nodes<W: Write, F: Field, E: Expression<F> + Debug>(
+pub(crate) fn nodes<W: Write, F: Field, E: Expression<F> + Debug>(
     alloc: Global,
     out: &mut W,
     names: &[&str; 5],
-) {
+) -> Option<()> {
     let (one, other): (E, E) = (E::constant(F::ONE), E::constant(F::ONE));
     show(out, names[0], one.add(alloc, other));
     let (one, other): (E, E) = (E::constant(F::ONE), E::constant(F::ONE));
@@ -32,113 +27,97 @@ pub fn nodes<W: Write, F: Field, E: Expression<F> + Debug>(
     show(out, names[2], one.mul(alloc, other));
     let one: E = E::constant(F::ONE);
     show(out, names[3], one.neg(alloc));
-    show_or_no_input(out, names[4], copy_negative::<F, E>(alloc));
+    let one: E = E::constant(F::ONE);
+    let negative = one.neg(alloc).ok()?;
+    show(out, names[4], negative.copy(alloc));
+    Some(())
 }
 
 const OF_TREES: [&str; 5] = ["add", "sub", "mul", "neg", "copy"];
 
 const OF_EXT_TREES: [&str; 5] = ["add, ext", "sub, ext", "mul, ext", "neg, ext", "copy, ext"];
 
-/// A copy of a leaf that holds a base expression.
-fn copy_leaf<F: Field>(alloc: Global) -> Option<Result<ExtLeaf<F, F>, AllocError>> {
+/// Calls on an expression over the extension, and on its leaf, which holds a base expression.
+fn on_ext_tree<W: Write, F: Field + Debug>(alloc: Global, out: &mut W) -> Option<()> {
     let one: SymbolicExpression<F> = SymbolicExpression::constant(F::ONE);
-    let leaf = ExtLeaf::Base(one.neg(alloc).ok()?);
-    Some(leaf.copy(alloc))
-}
-
-/// Calls on one expression.
-fn on_tree<W: Write, F: Field + Debug>(alloc: Global, out: &mut W, tree: &SymbolicExpression<F>) {
-    show(out, "copy of a tree", tree.copy(alloc));
-    show(out, "degree_multiple", tree.degree_multiple());
+    let leaf: ExtLeaf<F, F> = ExtLeaf::Base(one.neg(alloc).ok()?);
+    show(out, "copy of a leaf", leaf.copy(alloc));
+    let tree = SymbolicExpressionExt::Leaf(leaf);
+    show(out, "degree_multiple, ext", tree.degree_multiple());
     let degree = tree.degree_multiple_with_transition(2);
-    show(out, "degree_multiple_with_transition", degree);
-    show(out, "fits", tree.fits(&layout()));
-}
-
-/// Both degrees of an expression over the extension, which take no memory.
-fn degrees_of_ext<W: Write, F: Field>(out: &mut W) {
-    let one: SymbolicExpressionExt<F, F> = Expression::constant(F::ONE);
-    show(out, "degree_multiple, ext", one.degree_multiple());
-    let degree = one.degree_multiple_with_transition(2);
     show(out, "degree_multiple_with_transition, ext", degree);
+    Some(())
 }
 
-/// Resolves an expression that fits the layout of a builder.
-pub fn resolve<AB: PermutationAirBuilder>(
+/// Resolves an expression that fits the layout of a builder, or does so over a window of its own.
+fn resolve<AB: PermutationAirBuilder>(
     alloc: Global,
     builder: &AB,
     tree: &SymbolicExpression<AB::F>,
+    over_window: bool,
 ) -> Result<AB::Expr, AirError> {
     let layout = layout_of(alloc, builder)?;
     if !tree.fits(&layout) {
         return Err(AirError::DegreeOverflow);
     }
-    tree.resolve(alloc, builder)
-}
-
-/// The same over a window of its own.
-fn resolve_over_main<AB: PermutationAirBuilder>(
-    alloc: Global,
-    builder: &AB,
-    tree: &SymbolicExpression<AB::F>,
-) -> Result<AB::Expr, AirError> {
-    let layout = layout_of(alloc, builder)?;
-    if !tree.fits(&layout) {
-        return Err(AirError::DegreeOverflow);
+    if !over_window {
+        return tree.resolve(alloc, builder);
     }
     let main = builder.main(alloc)?;
     Ok(resolve_over(alloc, tree, builder, &main)?)
 }
 
-/// Calls that resolve an expression.
-fn show_resolved<W: Write, AB: PermutationAirBuilder>(
+/// What an expression resolves to on a builder of its own. None if that can't be made.
+pub(crate) fn resolved<F: Field>(
     alloc: Global,
-    out: &mut W,
-    builder: &AB,
-    tree: &SymbolicExpression<AB::F>,
-)
-where
-    AB::Expr: Debug,
-{
-    show(out, "resolve", resolve(alloc, builder, tree));
-    show(out, "resolve_over", resolve_over_main(alloc, builder, tree));
+    tree: &SymbolicExpression<F>,
+    over_window: bool,
+) -> Option<Result<SymbolicExpression<F>, AirError>> {
+    let builder = builder::<F>(alloc)?;
+    let answer = resolve(alloc, &builder, tree, over_window);
+    drop(builder);
+    Some(answer)
 }
 
-/// Calls on expressions and on a builder.
+/// Calls on one expression.
+fn on_tree<W: Write, F: Field + Debug>(
+    alloc: Global,
+    out: &mut W,
+    tree: &SymbolicExpression<F>,
+) -> Option<()> {
+    show(out, "copy of a tree", tree.copy(alloc));
+    show(out, "degree_multiple", tree.degree_multiple());
+    let degree = tree.degree_multiple_with_transition(2);
+    show(out, "degree_multiple_with_transition", degree);
+    show(out, "fits", tree.fits(&layout()));
+    show(out, "resolve", resolved(alloc, tree, false)?);
+    show(out, "resolve_over", resolved(alloc, tree, true)?);
+    Some(())
+}
+
+/// Calls that build expressions, and calls on a list of them.
 fn on_trees<W: Write, F: Field + Debug>(
     alloc: Global,
     out: &mut W,
     trees: &[SymbolicExpression<F>],
 ) -> Option<()> {
-    let builder = builder::<F>(alloc)?;
+    nodes::<W, F, SymbolicExpression<F>>(alloc, out, &OF_TREES)?;
+    nodes::<W, F, SymbolicExpressionExt<F, F>>(alloc, out, &OF_EXT_TREES)?;
+    on_ext_tree::<W, F>(alloc, out)?;
+    show(out, "copy_expressions", copy_expressions(alloc, trees));
     for tree in trees {
-        on_tree(alloc, out, tree);
-        show_resolved(alloc, out, &builder, tree);
+        on_tree(alloc, out, tree)?;
     }
-    drop(builder);
+    state(out, "input of", "expressions", &trees);
     Some(())
 }
 
-/// Calls without a builder.
-fn without_builder<W: Write, F: Field + Debug>(
+/// The calls of expressions, over the same list twice.
+pub(crate) fn expressions<W: Write, F: Field + Debug + DeserializeOwned>(
     alloc: Global,
     out: &mut W,
-    trees: &[SymbolicExpression<F>],
-) {
-    nodes::<W, F, SymbolicExpression<F>>(alloc, out, &OF_TREES);
-    nodes::<W, F, SymbolicExpressionExt<F, F>>(alloc, out, &OF_EXT_TREES);
-    show_or_no_input(out, "copy of a leaf", copy_leaf::<F>(alloc));
-    degrees_of_ext::<W, F>(out);
-    show(out, "copy_expressions", copy_expressions(alloc, trees));
-    state(out, "input of", "expressions", &trees);
-}
-
-pub fn expressions<W: Write>(alloc: Global, out: &mut W) -> Option<()> {
-    let trees: Vec<SymbolicExpression<F7>> = read(alloc, TREES)?;
-    let trees = trees.as_slice();
-    for _ in 0..2 {
-        without_builder(alloc, out, trees);
-        on_trees(alloc, out, trees)?;
-    }
-    Some(())
+) -> Option<()> {
+    let trees: Vec<SymbolicExpression<F>> = read(alloc, TREES.as_bytes()).ok()?;
+    on_trees(alloc, out, trees.as_slice())?;
+    on_trees(alloc, out, trees.as_slice())
 }

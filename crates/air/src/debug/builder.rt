@@ -104,8 +104,8 @@ fn window_of_option<T>(
     }
 }
 
-/// Whether an assertion on a row holds.
-fn judge<K: Domain>(x: K, row: usize) -> Result<(), AirError>
+/// Whether an assertion on a row holds: `x` is zero, or `AirError::Assertion` names the row.
+pub fn judge<K: Domain>(x: K, row: usize) -> Result<(), AirError>
     ensures { MatchResult result (λ _. x ≡ K.ring.zero)
         (λ e. (x ≢ K.ring.zero) × (e ≡ AirError.Assertion row)) }
 {

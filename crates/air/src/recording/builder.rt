@@ -81,19 +81,19 @@ impl<F: Field, EF: ExtensionField<F>> SymbolicAirBuilder<F, EF> {
 /// Appends both a constraint and its position, or neither.
 fn append<X: Drop>(
     constraints: &mut Vec<X>,
-    places: &mut Vec<usize>,
+    indices: &mut Vec<usize>,
     constraint: X,
-    place: usize,
+    index: usize,
 ) -> Result<(), AllocError>
     ensures appended { OnOk result ((constraints.new.items ≡ constraints.old.items
         ++ constraint ∷ [])
-        × (places.new.items ≡ places.old.items ++ place ∷ [])) }
+        × (indices.new.items ≡ indices.old.items ++ index ∷ [])) }
     ensures refused { OnErr result ((constraints.new.items ≡ constraints.old.items)
-        × (places.new.items ≡ places.old.items)) }
+        × (indices.new.items ≡ indices.old.items)) }
 {
-    places.push(place)?;
+    indices.push(index)?;
     if let Err(refused) = constraints.push(constraint) {
-        let _ = places.pop();
+        let _ = indices.pop();
         return Err(AllocError::from(refused));
     }
     Ok(())

@@ -4,13 +4,13 @@ ghost use Rattle.air.specs.Variables.{IsVariableMatrix, IsVariableRow};
 ghost use Rattle.expressions.specs.declared.variable.BaseEntry.TheVariants.{Main, Preprocessed, Public};
 ghost use Rattle.expressions.specs.declared.variable.ExtEntry.TheVariants.{Challenge, Permutation, PermutationValue};
 
-use crate::recording::place::{variable_rows, variables};
+use crate::recording::variable_kind::{variable_rows, variables};
 use expressions::{AirLayout, BaseEntry, ExtEntry, SymbolicVariable, SymbolicVariableExt};
 use matrix::RowMajorMatrix;
 use std::alloc::{AllocError, Global};
 use std::marker::Model;
 
-/// All variables of a layout, each at its place.
+/// All variables of a layout, each at its index.
 #[derive(Debug, Drop)]
 pub struct LayoutVariables<F, EF> {
     layout: AirLayout,

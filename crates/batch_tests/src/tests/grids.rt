@@ -9,7 +9,7 @@ use std::alloc::Global;
 use std::process::Abort;
 
 /// The count over one main trace of these numbers.
-fn counted(
+fn count_grid(
     rt: &impl Abort,
     alloc: Global,
     plan: &BatchPlan<F7>,
@@ -44,12 +44,12 @@ fn grids_of_the_range_machine(rt: HostRuntime) {
     let none = none.as_slice();
     let unbalanced = [3u32, 1, 0, 4, 1, 0];
     let of = |alphas: &[F7], betas: &[F7]| {
-        counted(&rt, alloc, &plan, unbalanced.as_slice(), 3, alphas, betas)
+        count_grid(&rt, alloc, &plan, unbalanced.as_slice(), 3, alphas, betas)
     };
     expect_count(&rt, "all pairs", of(all, all), 14, Some(35));
     expect_count(&rt, "no alphas", of(none, all), 0, Some(28));
     expect_count(&rt, "no betas", of(all, none), 0, Some(7));
-    let balanced = counted(&rt, alloc, &plan, &[3, 4, 1, 4, 3, 1], 3, all, all);
+    let balanced = count_grid(&rt, alloc, &plan, &[3, 4, 1, 4, 3, 1], 3, all, all);
     expect_count(&rt, "messages that balance", balanced, 35, None);
     let (ones, twos) = ([1, 1].map(F7::new), [2, 2].map(F7::new));
     let repeated = of(ones.as_slice(), twos.as_slice());
@@ -94,10 +94,10 @@ fn grids_of_two_tuples(rt: HostRuntime) {
     let all = [0, 1, 2, 3, 4, 5, 6].map(F7::new);
     let all = all.as_slice();
     let twice = of_two(&rt, alloc, [&[0], &[0]], 1);
-    let counts = counted(&rt, alloc, &twice, &[3], 1, all, all);
+    let counts = count_grid(&rt, alloc, &twice, &[3], 1, all, all);
     expect_count(&rt, "a key twice", counts, 7, Some(7));
     let pairs = of_two(&rt, alloc, [&[0, 1], &[1, 0]], 6);
-    let counts = counted(&rt, alloc, &pairs, &[1, 0], 2, all, all);
+    let counts = count_grid(&rt, alloc, &pairs, &[1, 0], 2, all, all);
     expect_count(&rt, "two pairs", counts, 7, Some(35));
 }
 

@@ -140,8 +140,8 @@ fn a_trace_without_rows_does_not_fit(rt: HostRuntime) {
 
 /// The plan of one lookup of a preprocessed cell and a public value, over two rows.
 fn fixed_plan(rt: &impl Abort, alloc: Global) -> BatchPlan<F7> {
-    let place = BaseEntry::Preprocessed { offset: 0 };
-    let fixed = SymbolicExpression::Leaf(BaseLeaf::Variable(SymbolicVariable::new(place, 0)));
+    let entry = BaseEntry::Preprocessed { offset: 0 };
+    let fixed = SymbolicExpression::Leaf(BaseLeaf::Variable(SymbolicVariable::new(entry, 0)));
     let given = SymbolicVariable::new(BaseEntry::Public, 0);
     let given = SymbolicExpression::Leaf(BaseLeaf::Variable(given));
     let tuple = Vec::from_array(alloc, [fixed]).expect(rt, "memory");

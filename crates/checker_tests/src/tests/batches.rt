@@ -2,7 +2,7 @@
 //! and one AIR with all kinds of traces.
 use super::counts::{count, counts};
 use super::{
-    cell, checked, expect_made, generated, group, holds, instance, list, lookup, rechecked, table,
+    cell, checked, expect_made, generate, group, holds, instance, list, lookup, rechecked, table,
     terminal, trace,
 };
 use air::{BaseEntry, BaseLeaf, Expression, SymbolicExpression, SymbolicVariable};
@@ -107,7 +107,7 @@ fn the_first_air_with_a_fault(rt: HostRuntime) {
         instance(provides.as_slice(), &entries, &[0]),
     ];
     let challenges = table(&rt, alloc, 1, 2, 1);
-    let refused = match generated(&rt, alloc, instances.as_slice(), &challenges) {
+    let refused = match generate(&rt, alloc, instances.as_slice(), &challenges) {
         Ok(_) => false,
         Err(fault) => {
             fault.air == Some(1)
@@ -131,11 +131,11 @@ fn an_air_without_lookups_between_two_others(rt: HostRuntime) {
     ];
     let instances = instances.as_slice();
     let challenges = table(&rt, alloc, 5, 2, 1);
-    let mut made = generated(&rt, alloc, instances, &challenges).expect(&rt, "no fault");
+    let mut made = generate(&rt, alloc, instances, &challenges).expect(&rt, "no fault");
     let accepted = rechecked(&rt, alloc, instances, &challenges, &made);
     holds(&rt, "accepted", accepted.is_ok());
-    if let Some(place) = made.terminals.get_mut(1) {
-        *place = terminal(0);
+    if let Some(second) = made.terminals.get_mut(1) {
+        *second = terminal(0);
     }
     let present = LookupError::TerminalPresenceMismatch {
         air: 1,
@@ -150,7 +150,7 @@ fn an_air_without_lookups_between_two_others(rt: HostRuntime) {
 fn no_air(rt: HostRuntime) {
     let alloc = rt.alloc();
     let challenges = table(&rt, alloc, 5, 2, 0);
-    let made = generated::<F7, F7>(&rt, alloc, &[], &challenges).expect(&rt, "no fault");
+    let made = generate::<F7, F7>(&rt, alloc, &[], &challenges).expect(&rt, "no fault");
     let accepted = rechecked::<F7, F7>(&rt, alloc, &[], &challenges, &made);
     holds(&rt, "accepted", accepted.is_ok());
 }

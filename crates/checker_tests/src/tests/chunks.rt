@@ -3,7 +3,7 @@
 //! A cell is spoiled by one more. A spoiled fraction breaks the constraint of its lookup on its own row,
 //! whose denominator is not zero. A spoiled accumulator breaks the step that leads to it, on the row
 //! before; on the first row it breaks the start.
-use super::{alone, cell, checked, generated, group, holds, instance, list, range, trace};
+use super::{alone, cell, checked, generate, group, holds, instance, list, range, trace};
 use air::{Expression, SymbolicExpression};
 use checker::Witness;
 use field::{BabyBear, BabyBear4, F7, Field, PrimeCharacteristicRing};
@@ -38,7 +38,7 @@ fn made(
     challenges: &Challenges<BabyBear4>,
 ) -> Witness<BabyBear4> {
     let instances = [instance(air.lookups.as_slice(), &air.main, air.ids.as_slice())];
-    generated(rt, alloc, instances.as_slice(), challenges).expect(rt, "no fault")
+    generate(rt, alloc, instances.as_slice(), challenges).expect(rt, "no fault")
 }
 
 /// The answer to this auxiliary trace, with this terminal.
@@ -70,8 +70,8 @@ fn spoiled<EF: Field>(
     let mut values = Vec::new(alloc);
     values.extend_from_slice(aux.values()).expect(rt, "memory");
     for (row, column) in cells {
-        let place = row.saturating_mul(width).saturating_add(*column);
-        match values.get_mut(place) {
+        let index = row.saturating_mul(width).saturating_add(*column);
+        match values.get_mut(index) {
             Some(cell) => *cell = *cell + EF::ONE,
             None => panic!(rt; "no such cell"),
         }

@@ -1,5 +1,5 @@
 //! The counts of batches of one AIR with one lookup, and the refusals of its flags.
-use super::{generated, group, have_ids, holds, instance, list, lookup, range, table, trace};
+use super::{generate, group, have_ids, holds, instance, list, lookup, range, table, trace};
 use checker::{
     BatchFault, BatchInstance, SoundnessCount, accepted_is_accepting, counted_soundness,
     ids_are_kept, ids_are_lawful, instances_fit, joint_soundness, packing_keeps_batch,
@@ -198,7 +198,7 @@ fn set_flags_are_refused(rt: HostRuntime) {
     let instances = [instance(lookups.as_slice(), &main, &[0])];
     let challenges = table(&rt, alloc, 5, 2, 1);
     let refused = LookupError::FlagsNotExclusive { row: 0, lookup: 0 };
-    let made = generated(&rt, alloc, instances.as_slice(), &challenges);
+    let made = generate(&rt, alloc, instances.as_slice(), &challenges);
     holds(&rt, "by generation", is_of_air_zero(made.err(), refused));
 }
 
@@ -210,7 +210,7 @@ fn a_selected_denominator_vanishes_under_a_count_of_zero(rt: HostRuntime) {
     let instances = [instance(lookups.as_slice(), &main, &[0])];
     let challenges = table(&rt, alloc, 1, 2, 1);
     let refused = LookupError::VanishingDenominator { row: 0, lookup: 0 };
-    let made = generated(&rt, alloc, instances.as_slice(), &challenges);
+    let made = generate(&rt, alloc, instances.as_slice(), &challenges);
     holds(&rt, "by generation", is_of_air_zero(made.err(), refused));
     let counted = counts::<F7, F7>(&rt, alloc, instances.as_slice(), 1);
     let one = counted.ok() == Some(count(1, 0, 0, None));

@@ -22,7 +22,7 @@ const GAPS: [u32; 10] = [0, 1, 1, 2, 2, 0, 3, 0, 4, 1];
 /// characteristic, and no message of small numbers combines to one of them.
 const CHALLENGES: (u32, u32) = (100000, 1000);
 
-/// A matrix of these numbers, row after row, in which these places hold another number.
+/// A matrix of these numbers, row after row, in which these indices hold another number.
 fn trace(
     rt: &impl Abort,
     alloc: Global,
@@ -36,9 +36,9 @@ fn trace(
             .push(BabyBear::from_u32(*number))
             .expect(rt, "memory");
     }
-    for (place, number) in changes {
-        assert!(rt; *place < values.len());
-        values[*place] = BabyBear::from_u32(*number);
+    for (index, number) in changes {
+        assert!(rt; *index < values.len());
+        values[*index] = BabyBear::from_u32(*number);
     }
     assert!(rt; width > 0 && values.len() % width == 0);
     RowMajorMatrix::new(values, width)

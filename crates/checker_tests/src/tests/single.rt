@@ -74,11 +74,11 @@ fn each_refusal_of_a_witness(rt: HostRuntime) {
 #[test]
 fn each_changed_cell_is_refused(rt: HostRuntime) {
     let alloc = rt.alloc();
-    for (place, row) in [(0usize, 0usize), (1, 0), (2, 0), (3, 1), (4, 1)] {
-        assert!(rt; place < 5);
+    for (index, row) in [(0usize, 0usize), (1, 0), (2, 0), (3, 1), (4, 1)] {
+        assert!(rt; index < 5);
         for more in 1..7u32 {
             let mut changed = [0u32, 4, 4, 3, 0];
-            changed[place] = (changed[place].saturating_add(more)) % 7;
+            changed[index] = (changed[index].saturating_add(more)) % 7;
             let last = terminal(changed[4]);
             let refused = answer(&rt, alloc, &changed[..4], 2, last);
             let failed = LookupError::ConstraintFailed { air: 0, row };

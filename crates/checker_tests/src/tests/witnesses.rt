@@ -1,5 +1,5 @@
 //! Witnesses of whole traces over BabyBear, as its own extension and over its quartic one.
-use super::{alone, cell, generated, group, holds, instance, list, range, rechecked, trace};
+use super::{alone, cell, generate, group, holds, instance, list, range, rechecked, trace};
 use air::{Expression, SymbolicExpression};
 use checker::Witness;
 use field::{BabyBear, BabyBear4, ExtensionDomain, ExtensionField, Field, PrimeCharacteristicRing};
@@ -42,10 +42,10 @@ impl<EF: ExtensionField<BabyBear>> Batch<EF> {
     }
 
     /// What generation makes of it.
-    fn generated(&self, rt: &impl Abort, alloc: Global) -> Witness<EF> {
+    fn generate(&self, rt: &impl Abort, alloc: Global) -> Witness<EF> {
         let lookups = self.lookups.as_slice();
         let instances = [instance(lookups, &self.main, self.ids.as_slice())];
-        generated(rt, alloc, instances.as_slice(), &self.challenges).expect(rt, "no fault")
+        generate(rt, alloc, instances.as_slice(), &self.challenges).expect(rt, "no fault")
     }
 
     /// The answer to a witness.
@@ -93,7 +93,7 @@ fn balances<EF: ExtensionField<BabyBear>>(rt: &impl Abort, alloc: Global, pair: 
     }
     let main = trace(rt, alloc, BALANCED.as_slice(), 3);
     let batch = Batch::new(rt, alloc, main, lookups, pair, 1);
-    let made = batch.generated(rt, alloc);
+    let made = batch.generate(rt, alloc);
     holds(rt, "four columns", cells(&made).len() == 32);
     holds(rt, "the terminal", terminal(rt, &made) == EF::ZERO);
     let accepted = batch.answer(rt, alloc, &made);
@@ -141,7 +141,7 @@ fn expect_quotients<EF: ExtensionField<BabyBear>>(
     last: (u32, i32),
     answer: Result<(), LookupError>,
 ) -> Witness<EF> {
-    let made = batch.generated(rt, alloc);
+    let made = batch.generate(rt, alloc);
     let are_these = are_quotients(cells(&made), quotients);
     holds(rt, "the cells", are_these);
     let is_last = terminal(rt, &made) * EF::from_u32(last.0) == EF::from_i32(last.1);
@@ -208,8 +208,8 @@ fn a_read_without_a_provider_stays<EF: ExtensionField<BabyBear>>(rt: &impl Abort
     let quotients = [(1, 0), (113, 1), (113, 1), (1, 0)];
     let refused = Err(LookupError::TerminalSumNonZero);
     let mut made = expect_quotients(rt, alloc, &batch, quotients.as_slice(), (113, 1), refused);
-    if let Some(place) = made.terminals.get_mut(0) {
-        *place = Some(LookupTerminal(EF::ZERO));
+    if let Some(terminal) = made.terminals.get_mut(0) {
+        *terminal = Some(LookupTerminal(EF::ZERO));
     }
     let failed = LookupError::ConstraintFailed { air: 0, row: 1 };
     let changed = batch.answer(rt, alloc, &made);
@@ -223,17 +223,17 @@ fn a_zero_multiplicity_provides_nothing(rt: HostRuntime) {
 }
 
 /// The answer to a witness of rows that read what they provide. Its cells and its terminal are zero, but
-/// for the cell in this place, which is 99.
+/// for the cell at this index, which is 99.
 fn broken_answer<EF: ExtensionField<BabyBear>>(
     rt: &impl Abort,
     alloc: Global,
-    place: usize,
+    index: usize,
 ) -> Result<(), LookupError> {
     let rows = [10, 10, 1, 20, 20, 1, 30, 30, 1, 40, 40, 1];
     let batch: Batch<EF> = range_batch(rt, alloc, rows.as_slice(), 31, 41);
     let mut broken = [0; 8];
-    assert!(rt; place < 8);
-    broken[place] = 99;
+    assert!(rt; index < 8);
+    broken[index] = 99;
     let mut values = Vec::new(alloc);
     for number in broken {
         values.push(EF::from_u32(number)).expect(rt, "memory");
@@ -249,9 +249,9 @@ fn broken_answer<EF: ExtensionField<BabyBear>>(
 /// A changed accumulator is refused at the row before it, which leads to it, or on the first row
 /// at once; a changed fraction on its own row.
 fn broken_cells_are_refused<EF: ExtensionField<BabyBear>>(rt: &impl Abort, alloc: Global) {
-    for (place, row) in [0, 0, 0, 1, 1, 2, 2, 3usize].iter().enumerate() {
+    for (index, row) in [0, 0, 0, 1, 1, 2, 2, 3usize].iter().enumerate() {
         let failed = LookupError::ConstraintFailed { air: 0, row: *row };
-        let answer = broken_answer::<EF>(rt, alloc, place);
+        let answer = broken_answer::<EF>(rt, alloc, index);
         holds(rt, "a changed cell", answer == Err(failed));
     }
 }
@@ -276,7 +276,7 @@ const KEYS: [([u32; 4], u32); 8] = [
 
 /// The cells of these rows, and the accumulators and fractions at a prefix, with their sum in the end: a
 /// row that sends a key has one over the prefix without it, and one that sends none has zero.
-fn selected(
+fn select(
     rt: &impl Abort,
     alloc: Global,
     rows: &[([u32; 4], u32)],
@@ -303,12 +303,12 @@ fn branches_are_selected_in_the_extension(rt: HostRuntime) {
     let alloc = rt.alloc();
     let prefix = BabyBear4::new([7, 1, 0, 0].map(BabyBear::new));
     let beta = BabyBear4::embed(BabyBear::new(11));
-    let (numbers, mut expected) = selected(&rt, alloc, KEYS.as_slice(), prefix);
+    let (numbers, mut expected) = select(&rt, alloc, KEYS.as_slice(), prefix);
     let main = trace(&rt, alloc, numbers.as_slice(), 4);
     let lookup = group(&rt, alloc, [(0, 1), (2, 3)], BabyBear::ONE);
     let lookups = alone(&rt, alloc, lookup);
     let batch = Batch::new(&rt, alloc, main, lookups, (prefix - beta, beta), 1);
-    let made = batch.generated(&rt, alloc);
+    let made = batch.generate(&rt, alloc);
     let sum = expected.pop();
     holds(&rt, "the cells", cells(&made) == expected.as_slice());
     holds(&rt, "the terminal", Some(terminal(&rt, &made)) == sum);

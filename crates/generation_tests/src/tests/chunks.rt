@@ -12,7 +12,7 @@ use std::alloc::Global;
 use std::process::Abort;
 
 /// What generation makes of lookups over a main trace, by an inverter.
-pub(super) fn counted<F: Field, EF: ExtensionDomain<F>, I: Inverter<EF>>(
+pub(super) fn generate_counted<F: Field, EF: ExtensionDomain<F>, I: Inverter<EF>>(
     rt: &impl Abort,
     alloc: Global,
     main: &RowMajorMatrix<F>,
@@ -48,7 +48,7 @@ fn with_count(
     challenges: &[F7],
 ) -> (Result<Made<F7>, LookupError>, u64) {
     let mut count = InverseCount::new();
-    let made = counted(rt, alloc, main, lookups, challenges, &mut count);
+    let made = generate_counted(rt, alloc, main, lookups, challenges, &mut count);
     (made, count.get())
 }
 
@@ -171,7 +171,7 @@ fn an_extension_counts_as_well(rt: HostRuntime) {
     let x = BabyBear4::new([0, 1, 0, 0].map(BabyBear::new));
     let challenges = [x, BabyBear4::ZERO];
     let mut count = InverseCount::new();
-    let made = counted(
+    let made = generate_counted(
         &rt,
         alloc,
         &main,

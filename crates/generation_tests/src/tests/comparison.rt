@@ -1,7 +1,7 @@
 //! Generated traces against those of the plain program.
 ghost use Rattle.std.specs.Prelude.{◌+◌, ◌*◌, ◌<◌, ◌↔◌, All, IsTrue};
 
-use super::{Made, alone, generated, group, holds, list, range, trace};
+use super::{Made, alone, generate, group, holds, list, range, trace};
 use crate::plain::{self, PlainMessage};
 use field::{F2, F7, Field};
 use lookup::{Lookup, LookupError};
@@ -170,7 +170,7 @@ fn compare_ranges(
     challenges: &[F7],
 ) {
     let ranges = ranges(rt, alloc, rows, challenges);
-    let made = generated(rt, alloc, &ranges.main, lookups, challenges);
+    let made = generate(rt, alloc, &ranges.main, lookups, challenges);
     ranges.expected.compare(rt, made, ranges.terminal);
 }
 
@@ -280,7 +280,7 @@ fn compare_groups(
     }
     let main = trace::<F2>(rt, alloc, numbers, width);
     let lookups = [group(rt, alloc, branches, 0)];
-    let made = generated(rt, alloc, &main, lookups.as_slice(), challenges);
+    let made = generate(rt, alloc, &main, lookups.as_slice(), challenges);
     let terminal = exclusive_terminal(rt, expected.sent.as_slice(), challenges);
     expected.compare(rt, made, terminal);
 }

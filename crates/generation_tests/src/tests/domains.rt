@@ -9,7 +9,7 @@ ghost use Rattle.field.specs.laws.Residue.{residue_equality};
 ghost use Rattle.field.specs.laws.ResidueRing.{residue_characteristic, residue_ring_lawful};
 ghost use Rattle.field.specs.Ring.{sub_in};
 
-use super::chunks::counted;
+use super::chunks::generate_counted;
 use super::{are_numbers, holds, range, trace};
 use field::{Domain, ExtensionDomain, F2, Inverter, PrimeCharacteristicRing};
 use lookup::LookupError;
@@ -198,7 +198,7 @@ fn bits_by_their_own_inverter(rt: HostRuntime) {
     let lookups = [range(&rt, alloc, 0)];
     let mut inverter = BitInverter { calls: 0 };
     let challenges = [Bit::ONE, Bit::ONE];
-    let made = counted(
+    let made = generate_counted(
         &rt,
         alloc,
         &main,
@@ -211,7 +211,7 @@ fn bits_by_their_own_inverter(rt: HostRuntime) {
     holds(&rt, "the cells", cells && made.terminal == Some(Bit::ONE));
     holds(&rt, "at most one inverse", inverter.get() <= 1);
     let challenges = [Bit::ZERO, Bit::ONE];
-    let refused = counted(
+    let refused = generate_counted(
         &rt,
         alloc,
         &main,

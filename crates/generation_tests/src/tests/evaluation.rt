@@ -136,7 +136,7 @@ fn have_degrees(rt: &impl Abort, builder: &Recorder, transition: usize, degrees:
     constraints.len() == degrees.len()
 }
 
-/// Fails unless the one constraint of the AIR comes first, and then those of lookups, in these places
+/// Fails unless the one constraint of the AIR comes first, and then those of lookups, at these indices
 /// and of these degrees, where the transition selector has degree 0 and 1.
 fn expect(
     rt: &impl Abort,
@@ -144,14 +144,14 @@ fn expect(
     what: &str,
     refused: Option<AirError>,
     lookups: &[Lookup<F7>],
-    places: &[usize],
+    indices: &[usize],
     degrees: (&[usize], &[usize]),
 ) {
     let (answer, builder) = recorded(rt, alloc, refused, lookups);
     holds(rt, what, answer == refused);
     let layout = builder.constraint_layout();
     holds(rt, what, layout.base_indices.as_slice() == [0].as_slice());
-    holds(rt, what, layout.ext_indices.as_slice() == places);
+    holds(rt, what, layout.ext_indices.as_slice() == indices);
     holds(rt, what, have_degrees(rt, &builder, 0, degrees.0));
     holds(rt, what, have_degrees(rt, &builder, 1, degrees.1));
     drop(builder);
@@ -167,16 +167,16 @@ fn constraints_are_recorded_after_those_of_the_air(rt: HostRuntime) {
     let branches = list(&rt, alloc, [group(&rt, alloc, 4, 0)]);
     let refusal = Some(AirError::DegreeOverflow);
     let degrees: (&[usize], &[usize]) = (&[2, 2, 1, 2], &[2, 2, 2, 2]);
-    let places: &[usize] = &[1, 2, 3, 4];
+    let indices: &[usize] = &[1, 2, 3, 4];
     let one = one.as_slice();
-    expect(&rt, alloc, "one lookup", None, one, places, degrees);
+    expect(&rt, alloc, "one lookup", None, one, indices, degrees);
     let degrees: (&[usize], &[usize]) = (&[3, 2, 1, 2], &[3, 2, 2, 2]);
     let group = branches.as_slice();
-    expect(&rt, alloc, "a group", None, group, places, degrees);
+    expect(&rt, alloc, "a group", None, group, indices, degrees);
     let degrees: (&[usize], &[usize]) = (&[3, 2, 2, 1, 2], &[3, 2, 2, 2, 2]);
-    let places: &[usize] = &[1, 2, 3, 4, 5];
+    let indices: &[usize] = &[1, 2, 3, 4, 5];
     let two = two.as_slice();
-    expect(&rt, alloc, "two lookups", None, two, places, degrees);
+    expect(&rt, alloc, "two lookups", None, two, indices, degrees);
     let nothing: (&[usize], &[usize]) = (&[], &[]);
     expect(&rt, alloc, "no lookups", None, &[], &[], nothing);
     expect(&rt, alloc, "a refusal", refusal, one, &[], nothing);

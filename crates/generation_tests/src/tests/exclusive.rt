@@ -1,5 +1,5 @@
 //! Exclusive lookups: which branch a row sends, and which faults it can have.
-use super::{Made, alone, are_numbers, generated, group, holds, list, local, pair, trace};
+use super::{Made, alone, are_numbers, generate, group, holds, list, local, pair, trace};
 use air::{Expression, SymbolicExpression};
 use field::{F2, F7, Field, PrimeCharacteristicRing};
 use lookup::{Lookup, LookupError};
@@ -41,7 +41,7 @@ fn made_at<F: Field>(
     let main = trace::<F>(rt, alloc, rows, width);
     let lookups = alone(rt, alloc, lookup);
     let challenges = pair(rt, alloc, F::from_u32(prefix), F::from_u32(2));
-    generated(rt, alloc, &main, lookups.as_slice(), challenges.as_slice())
+    generate(rt, alloc, &main, lookups.as_slice(), challenges.as_slice())
 }
 
 /// Fails unless the auxiliary cells end with these.

@@ -1,5 +1,5 @@
 //! Challenges, generated traces and sums of terminals, at values calculated by hand.
-use super::{Made, are_numbers, generated, holds, pair, single, trace};
+use super::{Made, are_numbers, generate, holds, pair, single, trace};
 use air::AirLayout;
 use field::{BabyBear, BabyBear4, ExtensionField, F7, PrimeCharacteristicRing};
 use lookup::{
@@ -34,7 +34,7 @@ fn of_one_row<EF: ExtensionField<BabyBear>>(
     let main = trace::<BabyBear>(rt, alloc, row, row.len());
     let lookups = [single(rt, alloc, row.len(), 0)];
     let challenges = pair(rt, alloc, alpha, beta);
-    generated(rt, alloc, &main, lookups.as_slice(), challenges.as_slice()).expect(rt, "no fault")
+    generate(rt, alloc, &main, lookups.as_slice(), challenges.as_slice()).expect(rt, "no fault")
 }
 
 /// Fails unless the fraction and the terminal of such a row are this number.
@@ -68,7 +68,7 @@ fn the_first_fault_is_refused(rt: HostRuntime) {
     second.kind = Kind::Global(String::from_str(alloc, "b").expect(&rt, "memory"));
     let lookups = [single(&rt, alloc, 1, 0), second];
     let challenges = [F7::new(4), F7::new(1), F7::new(5), F7::new(1)];
-    let made = generated(&rt, alloc, &main, lookups.as_slice(), challenges.as_slice());
+    let made = generate(&rt, alloc, &main, lookups.as_slice(), challenges.as_slice());
     let fault = LookupError::VanishingDenominator { row: 0, lookup: 1 };
     let is_first = made.err() == Some(fault);
     holds(&rt, "the fault of the second lookup", is_first);
@@ -78,7 +78,7 @@ fn the_first_fault_is_refused(rt: HostRuntime) {
 fn no_lookups_have_no_columns(rt: HostRuntime) {
     let alloc = rt.alloc();
     let main = trace::<F7>(&rt, alloc, &[3, 4], 1);
-    let made = generated::<F7, F7>(&rt, alloc, &main, &[], &[]).expect(&rt, "no fault");
+    let made = generate::<F7, F7>(&rt, alloc, &main, &[], &[]).expect(&rt, "no fault");
     let has_none = made.auxiliary.width() == 0 && made.auxiliary.values().is_empty();
     holds(&rt, "no columns", has_none);
     holds(&rt, "no terminal", made.terminal.is_none());

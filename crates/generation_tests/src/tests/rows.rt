@@ -1,6 +1,6 @@
 //! The builder that stands for one row with the next one.
 use super::holds;
-use air::{AirBuilder, AirError};
+use air::{AirBuilder, AirError, judge};
 use field::{F7, PrimeCharacteristicRing};
 use lookup::traits::LookupTraceBuilder;
 use lookup_rows::{SetFlags, with_flag};
@@ -70,6 +70,13 @@ fn a_row_with_its_next_row(rt: HostRuntime) {
         "3 is not zero",
         refused == Some(AirError::Assertion { row: 1 }),
     );
+}
+
+#[test]
+fn an_assertion_is_judged(rt: HostRuntime) {
+    holds(&rt, "zero", judge(F7::new(0), 3).is_ok());
+    let refused = judge(F7::new(1), 3).err();
+    holds(&rt, "one", refused == Some(AirError::Assertion { row: 3 }));
 }
 
 #[test]

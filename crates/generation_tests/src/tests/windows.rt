@@ -1,5 +1,5 @@
 //! What lookups read of the traces.
-use super::{Made, are_numbers, generated_over, holds, list, local, one, trace};
+use super::{Made, are_numbers, generate_over, holds, list, local, one, trace};
 use air::{BaseEntry, BaseLeaf, Expression, SymbolicExpression, SymbolicVariable};
 use field::F7;
 use std::alloc::Global;
@@ -27,7 +27,7 @@ fn made_of(
     let tuple = list(rt, alloc, [element]);
     let lookups = [local(list(rt, alloc, [tuple]), list(rt, alloc, [one()]), 0)];
     let challenges = [F7::new(0), F7::new(2)];
-    let made = generated_over(
+    let made = generate_over(
         rt,
         alloc,
         &main,

@@ -1,10 +1,10 @@
 //! One width for all tuples of a bus.
-ghost use Rattle.std.specs.Prelude.{◌≡◌, ◌<◌, ◌⊎◌, ℕ, Some, MatchOption, MatchResult, find, length, map, nat_eq, not, slice_get};
+ghost use Rattle.std.specs.Prelude.{◌≡◌, ◌<◌, ◌⊎◌, Some, MatchOption, MatchResult, find, length, map, nat_eq, not, slice_get};
 ghost use Rattle.std.specs.List.{flat_map};
 ghost use Rattle.indexmap.specs.IndexMap.{index_map_len};
 ghost use Rattle.lookup_model.specs.Outline.{fields_of};
 ghost use Rattle.lookup.specs.BusWidths.{HasOneWidth, HaveBusWidths, IsWidthRefusal, bus_context, widths_of};
-ghost use Rattle.lookup.specs.TupleWidths.{HasOtherWidth, IsTupleWidths};
+ghost use Rattle.lookup.specs.TupleWidths.{AreUnevenWidths, HasOtherWidth};
 
 use crate::packing::buses::by_bus;
 use expressions::SymbolicExpression;
@@ -27,22 +27,22 @@ pub(crate) fn assert_bus_widths<F: Field>(
         (λ e. (e ≡ LookupError.Memory) ⊎ IsWidthRefusal (map fields_of lookups.now) e) }
 {
     let buses = by_bus(alloc, lookups)?;
-    for place in 0..buses.len() {
-        let (name, members) = bus_at(&buses, place);
+    for index in 0..buses.len() {
+        let (name, members) = bus_at(&buses, index);
         assert_bus_width(alloc, name, members)?;
     }
     Ok(())
 }
 
-/// The name and the lookups of the bus at a place.
+/// The name and the lookups of the bus at an index.
 fn bus_at<'a, 'b, F: Field>(
     buses: &'b IndexMap<&'a str, Vec<&'a Lookup<F>>>,
-    place: usize,
+    index: usize,
 ) -> (&'a str, &'b Vec<&'a Lookup<F>>)
-    requires { place < index_map_len buses.now }
-    ensures { slice_get buses.now.entries place ≡ Some (result.0, result.1.now) }
+    requires { index < index_map_len buses.now }
+    ensures { slice_get buses.now.entries index ≡ Some (result.0, result.1.now) }
 {
-    match buses.get_index(place) {
+    match buses.get_index(index) {
         Some((name, members)) => (*name, members),
         None => unreachable!(),
     }
@@ -56,9 +56,8 @@ fn assert_bus_width<F: Field>(
 ) -> Result<(), LookupError>
     ensures { MatchResult result
         (λ _. HasOneWidth (flat_map widths_of (map (λ r. fields_of r.now) members.now)))
-        (λ e. (e ≡ LookupError.Memory) ⊎ ((width : ℕ) × (other : ℕ)
-        × HasOtherWidth (flat_map widths_of (map (λ r. fields_of r.now) members.now)) width other
-        × IsTupleWidths (bus_context name.now) width other e)) }
+        (λ e. (e ≡ LookupError.Memory) ⊎ AreUnevenWidths (bus_context name.now)
+        (flat_map widths_of (map (λ r. fields_of r.now) members.now)) e) }
 {
     match two_widths(members) {
         None => Ok(()),

@@ -87,8 +87,8 @@ fn push_under_name<F: Field>(
         return Ok(());
     };
     match groups.get_index_of(name) {
-        Some(place) => {
-            groups[place].push(lookup)?;
+        Some(index) => {
+            groups[index].push(lookup)?;
             Ok(())
         }
         None => {

@@ -9,7 +9,7 @@ ghost use Rattle.lookup_model.specs.declared.types.Lookup.{Lookup};
 ghost use Rattle.lookup.specs.Fewest.{AnswersDegree};
 ghost use Rattle.lookup.specs.Packing.{trial};
 ghost use Rattle.lookup.specs.TrialDegrees.{KeepsDegrees, kept_at_any_weight};
-ghost use Rattle.lookup.specs.Trials.{Answers, IsMember};
+ghost use Rattle.lookup.specs.Trials.{AnswersTrial, IsMember};
 
 use field::Field;
 use lookup_model::{Lookup, LookupError, SumDegrees};
@@ -64,7 +64,7 @@ pub(crate) struct Asked<'a, D> {
 impl<F: Field, D: Fn(&Lookup<F>) -> Result<usize, LookupError>> TrialDegrees<F> for Asked<'_, D> {
     type Kept = ();
 
-    ghost answers = { λ s. Answers (FnReturnsAt D.Fn s.degree.now) };
+    ghost answers = { λ s. AnswersTrial (FnReturnsAt D.Fn s.degree.now) };
 
     ghost may_ask = { λ s lookup. (r : Bor (Lookup F)) → r.now ≡ lookup → D.pre s.degree.now r };
 

@@ -5,7 +5,7 @@ ghost use Rattle.lookup.specs.Packing.{IsFilling, IsStuck, joined};
 ghost use Rattle.lookup.specs.Trials.{IsColumns, IsMember, IsStep, IsTrial, IsTrialAmong, IsTrialRefusal, columns_of};
 
 use crate::packing::degrees::TrialDegrees;
-use crate::packing::trials::{Trial, tried};
+use crate::packing::trials::{Trial, try_together};
 use field::Field;
 use lookup_model::{Lookup, LookupError};
 use std::alloc::Global;
@@ -28,7 +28,7 @@ struct Columns<F, K> {
 /// trial allows it, and opens a new one otherwise.
 ///
 /// Refuses the first trial that is refused.
-pub(crate) fn filled<F: Field, T: TrialDegrees<F>>(
+pub(crate) fn fill_columns<F: Field, T: TrialDegrees<F>>(
     alloc: Global,
     members: Vec<Lookup<F>>,
     max_degree: usize,
@@ -84,7 +84,7 @@ fn with_next<F: Field, T: TrialDegrees<F>>(
         None => Column { lookup: next, kept },
         Some(open) => {
             let kept_both = degrees.keep_trial(open.kept, kept);
-            match tried(open.lookup, next, kept_both, max_degree, degrees)? {
+            match try_together(open.lookup, next, kept_both, max_degree, degrees)? {
                 Trial::Joined(both) => Column {
                     lookup: both,
                     kept: kept_both,

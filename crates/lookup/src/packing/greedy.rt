@@ -7,12 +7,12 @@ ghost use Rattle.lookup.specs.Buses.{owned_group};
 ghost use Rattle.lookup.specs.Fewest.{AnswersDegree};
 ghost use Rattle.lookup.specs.Kept.{KeepsSent};
 ghost use Rattle.lookup.specs.Packing.{AreColumnsAdded, IsFirstStuck, Packs, additive, is_additive, numbered, passing};
-ghost use Rattle.lookup.specs.Trials.{Answers, IsBusTrial, IsMember, IsTrialAmong};
+ghost use Rattle.lookup.specs.Trials.{AnswersTrial, IsBusTrial, IsMember, IsTrialAmong};
 
 use crate::packing::bus_widths::assert_bus_widths;
 use crate::packing::buses::moved_by_bus;
 use crate::packing::degrees::{Asked, GadgetDegrees, TrialDegrees};
-use crate::packing::filling::filled;
+use crate::packing::filling::fill_columns;
 use field::Field;
 use lookup_model::{Kind, Lookup, LookupError};
 use std::alloc::{AllocError, Global};
@@ -36,7 +36,7 @@ use std::alloc::{AllocError, Global};
 ///   `CountWeightOverflow` if the trial is within the degree and the weights have no sum that fits.
 ///
 /// Out of memory is refused under its own name. After a refusal the lookups are dropped.
-pub fn packed<F: Field, D: Fn(&Lookup<F>) -> Result<usize, LookupError>>(
+pub fn pack_lookups<F: Field, D: Fn(&Lookup<F>) -> Result<usize, LookupError>>(
     alloc: Global,
     lookups: Vec<Lookup<F>>,
     max_degree: usize,
@@ -45,12 +45,12 @@ pub fn packed<F: Field, D: Fn(&Lookup<F>) -> Result<usize, LookupError>>(
     requires callable { (lookup : _) → IsBusTrial (map fields_of lookups.items) lookup.now
         → D.pre degree lookup }
     requires lengths { All HasEqualLengths lookups.items }
-    ensures packs { Packs (Answers (FnReturnsAt D.Fn degree)) max_degree
+    ensures packs { Packs (AnswersTrial (FnReturnsAt D.Fn degree)) max_degree
         (λ v. map fields_of v.items) (map fields_of lookups.items) result }
     ensures records { IfOk result (λ v. AreRecords v.items) }
     ensures kept { IfOk result (λ v. KeepsSent F.ring F.eq lookups.items v.items) }
 {
-    packed_by(alloc, lookups, max_degree, &Asked { degree: &degree })
+    pack_by(alloc, lookups, max_degree, &Asked { degree: &degree })
 }
 
 /// Likewise by the degree of the constraint that the gadget asserts for a lookup, where the
@@ -58,7 +58,7 @@ pub fn packed<F: Field, D: Fn(&Lookup<F>) -> Result<usize, LookupError>>(
 ///
 /// What a trial refuses is `DegreeOverflow`, if its degree does not fit `usize`, or
 /// `CountWeightOverflow`.
-pub fn packed_by_degree<F: Field>(
+pub fn pack_by_degree<F: Field>(
     alloc: Global,
     lookups: Vec<Lookup<F>>,
     max_degree: usize,
@@ -69,11 +69,11 @@ pub fn packed_by_degree<F: Field>(
     ensures records { IfOk result (λ v. AreRecords v.items) }
     ensures kept { IfOk result (λ v. KeepsSent F.ring F.eq lookups.items v.items) }
 {
-    packed_by(alloc, lookups, max_degree, &GadgetDegrees)
+    pack_by(alloc, lookups, max_degree, &GadgetDegrees)
 }
 
 /// Packs by these degrees.
-fn packed_by<F: Field, T: TrialDegrees<F>>(
+fn pack_by<F: Field, T: TrialDegrees<F>>(
     alloc: Global,
     lookups: Vec<Lookup<F>>,
     max_degree: usize,
@@ -88,14 +88,14 @@ fn packed_by<F: Field, T: TrialDegrees<F>>(
     ensures kept { IfOk result (λ v. KeepsSent F.ring F.eq lookups.items v.items) }
 {
     assert_bus_widths(alloc, &lookups)?;
-    let (columns, additive) = parted(alloc, lookups)?;
+    let (columns, additive) = split_joinable(alloc, lookups)?;
     let buses = moved_by_bus(alloc, additive)?;
     let columns = with_buses(alloc, columns, buses, max_degree, degrees)?;
     Ok(in_columns(alloc, columns)?)
 }
 
 /// The lookups that pass through, and those that may be joined.
-fn parted<F: Field>(
+fn split_joinable<F: Field>(
     alloc: Global,
     lookups: Vec<Lookup<F>>,
 ) -> Result<(Vec<Lookup<F>>, Vec<Lookup<F>>), AllocError>
@@ -106,7 +106,7 @@ fn parted<F: Field>(
         × All IsMember r.1.items) }
 {
     let mut columns = Vec::new(alloc);
-    let mut additive = Vec::new(alloc);
+    let mut additive = Vec::with_capacity(alloc, lookups.len())?;
     for lookup in lookups {
         if may_be_joined(&lookup) {
             additive.push(lookup)?;
@@ -152,7 +152,7 @@ fn with_buses<F: Field, T: TrialDegrees<F>>(
 {
     let mut columns = columns;
     for members in buses {
-        let mut filled = filled(alloc, members, max_degree, degrees)?;
+        let mut filled = fill_columns(alloc, members, max_degree, degrees)?;
         columns.append(&mut filled)?;
     }
     Ok(columns)
@@ -168,7 +168,7 @@ fn in_columns<F: Field>(
         ≡ numbered (map fields_of lookups.items)) }
     ensures records { IfOk result (λ v. AreRecords v.items) }
 {
-    let mut columns = Vec::new(alloc);
+    let mut columns = Vec::with_capacity(alloc, lookups.len())?;
     for next in lookups {
         let mut lookup = next;
         let column = columns.len();

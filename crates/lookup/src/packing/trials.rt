@@ -25,7 +25,7 @@ pub(crate) enum Trial<F> {
 ///
 /// Refuses what is refused for the degree, and `CountWeightOverflow` if the degree is within the
 /// budget and the weights have no sum that fits.
-pub(crate) fn tried<F: Field, T: TrialDegrees<F>>(
+pub(crate) fn try_together<F: Field, T: TrialDegrees<F>>(
     column: Lookup<F>,
     next: Lookup<F>,
     kept: T::Kept,

@@ -1,6 +1,6 @@
 //! Widths of tuples that are folded into one lookup.
-ghost use Rattle.std.specs.Prelude.{◌≡◌, ◌⊎◌, ℕ, [], All, MatchResult, length, map};
-ghost use Rattle.lookup.specs.TupleWidths.{HasOtherWidth, IsTupleWidths};
+ghost use Rattle.std.specs.Prelude.{◌≡◌, ◌⊎◌, [], All, MatchResult, length, map};
+ghost use Rattle.lookup.specs.TupleWidths.{AreUnevenWidths, IsTupleWidths};
 
 use expressions::SymbolicExpression;
 use lookup_model::LookupError;
@@ -18,9 +18,8 @@ pub fn assert_uniform_tuple_width<F>(
     ensures { MatchResult result
         (λ width. All (λ tuple. length tuple.items ≡ width) tuples.now
         × (tuples.now ≡ [] → width ≡ 0))
-        (λ e. (e ≡ LookupError.Memory) ⊎ ((width : ℕ) × (other : ℕ)
-        × HasOtherWidth (map (λ tuple. length tuple.items) tuples.now) width other
-        × IsTupleWidths context.now width other e)) }
+        (λ e. (e ≡ LookupError.Memory)
+        ⊎ AreUnevenWidths context.now (map (λ tuple. length tuple.items) tuples.now) e) }
 {
     let Some(first) = tuples.first() else {
         return Ok(0);

@@ -30,9 +30,9 @@ use Rattle.lookup_model.proofs.Batches.SolutionSums.{sum_of_none, sums_together}
 use Rattle.lookup_model.proofs.Batches.Zipped.{nothing_flat, zipped_flat, zipped_images}
 
 module _ {F K : Type 0} {E : Extension F K} (laws : IsLawful E) (table : ChallengeTable K) where
-  module _ (i : Instance F) (some : 0 < length i.lookups) (nonempty : 0 < height i.main) (auxiliary : Matrix K) (terminal : Option (LookupTerminal K)) (satisfied : IsSatisfiedAt E table i (auxiliary, terminal)) where
+  module _ (i : Instance F) (some : 0 < length i.lookups) (nonempty : 0 < height i.traces.main) (auxiliary : Matrix K) (terminal : Option (LookupTerminal K)) (satisfied : IsSatisfiedAt E table i (auxiliary, terminal)) where
     abbrev window_of : ℕ → ExtWindow F K
-    window_of r = witness_window i.main i.preprocessed i.public_values (column_challenges table i.ids) auxiliary terminal r
+    window_of r = witness_window i.traces (column_challenges table i.ids) auxiliary terminal r
 
     abbrev IsZeroAt : ℕ → Constraint F K → Type 0
     IsZeroAt r constraint = constraint.meaning (window_of r) ≡ E.ring.zero
@@ -41,14 +41,14 @@ module _ {F K : Type 0} {E : Extension F K} (laws : IsLawful E) (table : Challen
     fractions_on r = map (λ lookup. fraction_at E lookup.column (window_of r)) i.lookups
 
     -- the fractions of a row solve its equations
-    solved_on : (r : ℕ) → r < height i.main → AllZip (Solves E.ring) (row_equations E (challenged_window E table i r) i.lookups) (fractions_on r)
+    solved_on : (r : ℕ) → r < height i.traces.main → AllZip (Solves E.ring) (row_equations E (challenged_window E table i r) i.lookups) (fractions_on r)
     solved_on r lt =
         zipped_images (Solves E.ring) (equation_at E (challenged_window E table i r)) (λ lookup. fraction_at E lookup.column (window_of r)) i.lookups
         (all_weaker (λ lookup. IsZeroAt r (fraction_constraint E lookup)) (λ lookup. Solves E.ring (equation_at E (challenged_window E table i r) lookup) (fraction_at E lookup.column (window_of r)))
         (λ lookup is_zero. same_from_difference laws.ring _ _ is_zero) i.lookups
         (all_of_map (IsZeroAt r) (fraction_constraint E) i.lookups (all_front (IsZeroAt r) (map (fraction_constraint E) i.lookups) (accumulator_constraints E i.lookups (terminal_at E) (λ t. 0)) (satisfied.equations r lt))))
 
-    three_zeros : (r : ℕ) → r < height i.main → AllByRecursion (IsZeroAt r) (first_constraint E ∷ transition_constraint E i.lookups ∷ last_constraint E i.lookups (terminal_at E) (λ t. 0) ∷ [])
+    three_zeros : (r : ℕ) → r < height i.traces.main → AllByRecursion (IsZeroAt r) (first_constraint E ∷ transition_constraint E i.lookups ∷ last_constraint E i.lookups (terminal_at E) (λ t. 0) ∷ [])
     three_zeros r lt =
         subst (AllByRecursion (IsZeroAt r)) (accumulator_constraints-some E i.lookups (terminal_at E) (λ t. 0) some)
         (all_back (IsZeroAt r) (map (fraction_constraint E) i.lookups) (accumulator_constraints E i.lookups (terminal_at E) (λ t. 0)) (satisfied.equations r lt))
@@ -63,27 +63,27 @@ module _ {F K : Type 0} {E : Extension F K} (laws : IsLawful E) (table : Challen
         ring_given laws.ring (a ∷ b ∷ c ∷ []) ((con 1, con 0, (var 2 :- var 0) :- var 1) ∷ []) (var 0 :+ var 1) (var 2) (sym e, tt) refl
 
     -- from each row on, the accumulator and the fractions sum to the terminal
-    summed_from : (a m : ℕ) → a + suc m ≡ height i.main → E.ring.add (accumulator_at E (window_of a)) (sum_in E.ring (flat_map fractions_on (range_with_len a (suc m)))) ≡ terminal_at E (window_of a)
+    summed_from : (a m : ℕ) → a + suc m ≡ height i.traces.main → E.ring.add (accumulator_at E (window_of a)) (sum_in E.ring (flat_map fractions_on (range_with_len a (suc m)))) ≡ terminal_at E (window_of a)
     summed_from a zero at =
-        let lt : a < height i.main = omega (arith, at) in
+        let lt : a < height i.traces.main = omega (arith, at) in
         ap (λ fs. E.ring.add (accumulator_at E (window_of a)) (sum_in E.ring fs)) (append-nil (fractions_on a))
         ∙ put_together (accumulator_at E (window_of a)) (fractions_at E i.lookups (window_of a)) (terminal_at E (window_of a))
-        (selected (a + 1 == height i.main) _ (eq-eqb (a + 1) (height i.main) (omega (arith, at))) (three_zeros a lt).1.1.0)
+        (selected (a + 1 == height i.traces.main) _ (eq-eqb (a + 1) (height i.traces.main) (omega (arith, at))) (three_zeros a lt).1.1.0)
     summed_from a (suc m) at =
-        let lt : a < height i.main = omega (arith, at) in
-        let inner : a + 1 < height i.main = omega (arith, at) in
+        let lt : a < height i.traces.main = omega (arith, at) in
+        let inner : a + 1 < height i.traces.main = omega (arith, at) in
         let rest = flat_map fractions_on (range_with_len (a + 1) (suc m)) in
-        let on : not (a + 1 == height i.main) ≡ true = ap not (ne_eqb (a + 1) (height i.main) (λ e. absurd (omega (arith, e, inner)))) in
+        let on : not (a + 1 == height i.traces.main) ≡ true = ap not (ne_eqb (a + 1) (height i.traces.main) (λ e. absurd (omega (arith, e, inner)))) in
         let step : E.ring.add (accumulator_at E (window_of a)) (fractions_at E i.lookups (window_of a)) ≡ accumulator_at E (window_of (a + 1)) =
-        put_together (accumulator_at E (window_of a)) (fractions_at E i.lookups (window_of a)) (slice_index_or (row auxiliary ((a + 1) % height i.main)) 0 E.ring.zero)
-        (selected (not (a + 1 == height i.main)) _ on (three_zeros a lt).1.0)
+        put_together (accumulator_at E (window_of a)) (fractions_at E i.lookups (window_of a)) (slice_index_or (row auxiliary ((a + 1) % height i.traces.main)) 0 E.ring.zero)
+        (selected (not (a + 1 == height i.traces.main)) _ on (three_zeros a lt).1.0)
         ∙ ap (λ n. slice_index_or (row auxiliary n) 0 E.ring.zero) (mod-eq_of_lt inner) in
         ap (E.ring.add (accumulator_at E (window_of a))) (sum_in-append laws.ring (fractions_on a) rest)
         ∙ sym (laws.ring.add_assoc (accumulator_at E (window_of a)) (sum_in E.ring (fractions_on a)) (sum_in E.ring rest))
         ∙ ap (λ t. E.ring.add t (sum_in E.ring rest)) step
         ∙ summed_from (a + 1) m (omega (arith, at))
 
-    all_summed : (n : ℕ) → n ≡ height i.main → sum_in E.ring (flat_map fractions_on (range_with_len 0 n)) ≡ terminal_at E (window_of 0)
+    all_summed : (n : ℕ) → n ≡ height i.traces.main → sum_in E.ring (flat_map fractions_on (range_with_len 0 n)) ≡ terminal_at E (window_of 0)
     all_summed zero at = absurd (omega (arith, at, nonempty))
     all_summed (suc m) at =
         let total = sum_in E.ring (flat_map fractions_on (range_with_len 0 (suc m))) in
@@ -99,11 +99,11 @@ module _ {F K : Type 0} {E : Extension F K} (laws : IsLawful E) (table : Challen
     -- an AIR with lookups
     some_sums : CanSumTo E.ring (air_equations E table i) (terminal_value E.ring terminal)
     some_sums =
-        let present = (shape-some i.lookups (height i.main) auxiliary terminal some satisfied.shape).2 in
+        let present = (shape-some i.lookups (height i.traces.main) auxiliary terminal some satisfied.shape).2 in
         record {
-          fractions = flat_map fractions_on (range_with_len 0 (height i.main));
-          solve = zipped_flat (Solves E.ring) (λ r. row_equations E (challenged_window E table i r) i.lookups) fractions_on 0 (height i.main) (λ r lt. solved_on r (omega (arith, lt)));
-          sum = all_summed (height i.main) refl ∙ terminal_is present.0 present.1;
+          fractions = flat_map fractions_on (range_with_len 0 (height i.traces.main));
+          solve = zipped_flat (Solves E.ring) (λ r. row_equations E (challenged_window E table i r) i.lookups) fractions_on 0 (height i.traces.main) (λ r lt. solved_on r (omega (arith, lt)));
+          sum = all_summed (height i.traces.main) refl ∙ terminal_is present.0 present.1;
         }
 
   -- the terminal of an AIR is a sum of its fractions
@@ -112,9 +112,9 @@ module _ {F K : Type 0} {E : Extension F K} (laws : IsLawful E) (table : Challen
     where
       by_lookups : (ls : List (Lookup F)) → i.lookups ≡ ls → CanSumTo E.ring (air_equations E table i) (terminal_value E.ring terminal)
       by_lookups [] is =
-          let none = shape-none i.lookups (height i.main) auxiliary terminal is satisfied.shape in
+          let none = shape-none i.lookups (height i.traces.main) auxiliary terminal is satisfied.shape in
           let empty : air_equations E table i ≡ [] =
-          nothing_flat (λ r. row_equations E (challenged_window E table i r) i.lookups) (λ r. ap (row_equations E (challenged_window E table i r)) is) (range_with_len 0 (height i.main)) in
+          nothing_flat (λ r. row_equations E (challenged_window E table i r) i.lookups) (λ r. ap (row_equations E (challenged_window E table i r)) is) (range_with_len 0 (height i.traces.main)) in
           subst (λ (es : List (Equation K)). CanSumTo E.ring es (terminal_value E.ring terminal)) (sym empty)
           (subst (CanSumTo E.ring []) (ap (terminal_value E.ring) (sym none.1)) (sum_of_none laws.ring))
       by_lookups (l ∷ ls) is =

@@ -4,9 +4,10 @@ use Rattle.std.specs.List.{AllByRecursion, AllZip, filter, range_with_len, zip}
 use Rattle.std.specs.declared.alloc.Global.{Global}
 use Rattle.std.specs.declared.vec.Vec.{Vec}
 use Rattle.matrix.specs.Matrix.{height}
-use Rattle.expressions.specs.Window.{Window, window_at}
+use Rattle.expressions.specs.Window.{Window}
+use Rattle.air.specs.Traces.{window_of}
 use Rattle.expressions.specs.declared.base_expression.SymbolicExpression.{SymbolicExpression}
-use Rattle.lookup_model.specs.Denominators.{column_denominator, tuple_denominator}
+use Rattle.lookup_model.specs.Denominators.{key_denominator, tuple_denominator}
 use Rattle.field.specs.Extension.{Extension, IsLawful}
 use Rattle.lookup_model.specs.Message.{Key, Message}
 use Rattle.lookup_model.specs.Sent.{branch_at, chosen, flags_at, sent, sent_at}
@@ -15,7 +16,7 @@ use Rattle.lookup_model.specs.declared.types.Lookup.{Lookup}
 use Rattle.lookup_model.proofs.Lookups.SatisfiedRows.{all_indexed}
 use Rattle.lookup_model.specs.Batches.Instances.{Instance, IsFitting}
 use Rattle.lookup_model.specs.Batches.Messages.{id_of, sent_rows_of}
-use Rattle.lookup_model.specs.Challenges.{ChallengeTable, column_challenges, table_denominator}
+use Rattle.lookup_model.specs.Challenges.{ChallengeTable, column_challenges, table_key_denominator}
 use Rattle.lookup_model.specs.Trace.{sent_row, sent_row_under, sent_rows}
 use Rattle.lookup_model.proofs.Batches.Rekeyed.{AreRekeyed, AreRowsAlike, IsAlike}
 
@@ -48,10 +49,10 @@ module _ {F K : Type 0} {E : Extension F K} (laws : IsLawful E) (table : Challen
   challenges = column_challenges table instance.ids
 
   abbrev pub column_den : Key F → K
-  column_den = column_denominator E challenges
+  column_den = key_denominator E challenges
 
   abbrev pub den : Key F → K
-  den = table_denominator E table
+  den = table_key_denominator E table
 
   abbrev Branches : Type 0
   Branches = List (Vec (SymbolicExpression F) Global × SymbolicExpression F)
@@ -98,8 +99,8 @@ module _ {F K : Type 0} {E : Extension F K} (laws : IsLawful E) (table : Challen
           (flags_at E.base w lookup) (zip lookup.elements.items lookup.multiplicities.items)
 
   -- the rows by columns are the rows by ids
-  pub alike_rows : AreRowsAlike laws column_den den (sent_rows E.base E.base_eq instance.main instance.preprocessed instance.public_values instance.lookups) (sent_rows_of E.base E.base_eq instance)
+  pub alike_rows : AreRowsAlike laws column_den den (sent_rows E.base E.base_eq instance.traces instance.lookups) (sent_rows_of E.base E.base_eq instance)
   alike_rows =
-      let window = λ (r : ℕ). window_at instance.main instance.preprocessed instance.public_values (height instance.main) r in
-      AllZip-images (AllZip (IsAlike laws column_den den)) (λ r. sent_row E.base E.base_eq (window r) instance.lookups) (λ r. sent_row_under E.base E.base_eq (id_of instance.ids) (window r) instance.lookups) (range_with_len 0 (height instance.main))
-      (all_items (λ r. AllZip (IsAlike laws column_den den) (sent_row E.base E.base_eq (window r) instance.lookups) (sent_row_under E.base E.base_eq (id_of instance.ids) (window r) instance.lookups)) (λ r. alike_row (window r)) (range_with_len 0 (height instance.main)))
+      let window = λ (r : ℕ). window_of instance.traces r in
+      AllZip-images (AllZip (IsAlike laws column_den den)) (λ r. sent_row E.base E.base_eq (window r) instance.lookups) (λ r. sent_row_under E.base E.base_eq (id_of instance.ids) (window r) instance.lookups) (range_with_len 0 (height instance.traces.main))
+      (all_items (λ r. AllZip (IsAlike laws column_den den) (sent_row E.base E.base_eq (window r) instance.lookups) (sent_row_under E.base E.base_eq (id_of instance.ids) (window r) instance.lookups)) (λ r. alike_row (window r)) (range_with_len 0 (height instance.traces.main)))

@@ -42,7 +42,7 @@ length_flat f width a (suc m) each =
     ∙ omega (arith, each a (omega arith), length_flat f width (a + 1) m (λ r lt. each r (omega (arith, lt))))
 
 module _ {F K : Type 0} {E : Extension F K} (laws : IsLawful E) (table : ChallengeTable K) where
-  module _ (i : Instance F) (records : AreRecords i.lookups) (some : 0 < length i.lookups) (rows : List (List K)) (each : AllZip (λ (r : ℕ) (row : List K). AllZip (Solves E.ring) (row_equations E (challenged_window E table i r) i.lookups) row) (range_with_len 0 (height i.main)) rows) where
+  module _ (i : Instance F) (records : AreRecords i.lookups) (some : 0 < length i.lookups) (rows : List (List K)) (each : AllZip (λ (r : ℕ) (row : List K). AllZip (Solves E.ring) (row_equations E (challenged_window E table i r) i.lookups) row) (range_with_len 0 (height i.traces.main)) rows) where
     abbrev fractions_on : ℕ → List K
     fractions_on r = get_or rows r []
 
@@ -54,39 +54,39 @@ module _ {F K : Type 0} {E : Extension F K} (laws : IsLawful E) (table : Challen
     made_row r = sum_below r ∷ fractions_on r
 
     abbrev auxiliary : Matrix K
-    auxiliary = record { values = flat_map made_row (range_with_len 0 (height i.main)); width = length i.lookups + 1 }
+    auxiliary = record { values = flat_map made_row (range_with_len 0 (height i.traces.main)); width = length i.lookups + 1 }
 
     abbrev terminal : Option (LookupTerminal K)
     terminal = Some (record { 0 = sum_in E.ring (flat_map (λ row. row) rows) })
 
     abbrev window_of : ℕ → ExtWindow F K
-    window_of r = witness_window i.main i.preprocessed i.public_values (column_challenges table i.ids) auxiliary terminal r
+    window_of r = witness_window i.traces (column_challenges table i.ids) auxiliary terminal r
 
-    many : length rows ≡ height i.main
-    many = zipped_long (λ (r : ℕ) (row : List K). AllZip (Solves E.ring) (row_equations E (challenged_window E table i r) i.lookups) row) (range_with_len 0 (height i.main)) rows each ∙ length-range_with_len 0 (height i.main)
+    many : length rows ≡ height i.traces.main
+    many = zipped_long (λ (r : ℕ) (row : List K). AllZip (Solves E.ring) (row_equations E (challenged_window E table i r) i.lookups) row) (range_with_len 0 (height i.traces.main)) rows each ∙ length-range_with_len 0 (height i.traces.main)
 
-    solved_on : (r : ℕ) → r < height i.main → AllZip (Solves E.ring) (row_equations E (challenged_window E table i r) i.lookups) (fractions_on r)
+    solved_on : (r : ℕ) → r < height i.traces.main → AllZip (Solves E.ring) (row_equations E (challenged_window E table i r) i.lookups) (fractions_on r)
     solved_on r lt =
         let same : 0 + r ≡ r = omega arith in
         subst (λ (n : ℕ). AllZip (Solves E.ring) (row_equations E (challenged_window E table i n) i.lookups) (fractions_on r)) same
-        (ranged_at (λ (n : ℕ) (row : List K). AllZip (Solves E.ring) (row_equations E (challenged_window E table i n) i.lookups) row) 0 (height i.main) r rows lt each)
+        (ranged_at (λ (n : ℕ) (row : List K). AllZip (Solves E.ring) (row_equations E (challenged_window E table i n) i.lookups) row) 0 (height i.traces.main) r rows lt each)
 
-    length-fractions : (r : ℕ) → r < height i.main → length (fractions_on r) ≡ length i.lookups
+    length-fractions : (r : ℕ) → r < height i.traces.main → length (fractions_on r) ≡ length i.lookups
     length-fractions r lt =
         zipped_long (Solves E.ring) (row_equations E (challenged_window E table i r) i.lookups) (fractions_on r) (solved_on r lt) ∙ length-map i.lookups (equation_at E (challenged_window E table i r))
 
     -- row r of the auxiliary trace
-    row_is : (r : ℕ) → r < height i.main → row auxiliary r ≡ made_row r
-    row_is r lt = row_of_parts made_row (length i.lookups + 1) (height i.main) r (λ n below. omega (arith, length-fractions n below)) lt
+    row_is : (r : ℕ) → r < height i.traces.main → row auxiliary r ≡ made_row r
+    row_is r lt = row_of_parts made_row (length i.lookups + 1) (height i.traces.main) r (λ n below. omega (arith, length-fractions n below)) lt
 
     -- the fraction of a lookup on it
-    fraction_is : (r : ℕ) → r < height i.main → (k : ℕ) (lookup : Lookup F) → k < length i.lookups → lookup ≡ get_or i.lookups k lookup → fraction_at E lookup.column (window_of r) ≡ get_or (fractions_on r) k E.ring.zero
+    fraction_is : (r : ℕ) → r < height i.traces.main → (k : ℕ) (lookup : Lookup F) → k < length i.lookups → lookup ≡ get_or i.lookups k lookup → fraction_at E lookup.column (window_of r) ≡ get_or (fractions_on r) k E.ring.zero
     fraction_is r lt k lookup below is =
-        let place : lookup.column + 1 ≡ suc k = omega (arith, column_is i.lookups k lookup records below is) in
+        let index : lookup.column + 1 ≡ suc k = omega (arith, column_is i.lookups k lookup records below is) in
         ap (λ xs. slice_index_or xs (lookup.column + 1) E.ring.zero) (row_is r lt)
-        ∙ ap (λ n. slice_index_or (made_row r) n E.ring.zero) place
+        ∙ ap (λ n. slice_index_or (made_row r) n E.ring.zero) index
 
-    fractions_are : (r : ℕ) → r < height i.main → fractions_at E i.lookups (window_of r) ≡ sum_in E.ring (fractions_on r)
+    fractions_are : (r : ℕ) → r < height i.traces.main → fractions_at E i.lookups (window_of r) ≡ sum_in E.ring (fractions_on r)
     fractions_are r lt =
         let f = λ (l : Lookup F). fraction_at E l.column (window_of r) in
         ap (sum_in E.ring) (ext_get_or E.ring.zero (map f i.lookups) (fractions_on r) (length-map i.lookups f ∙ sym (length-fractions r lt)) (λ k inside. at k (omega (arith, inside, length-map i.lookups f))))
@@ -98,11 +98,11 @@ module _ {F K : Type 0} {E : Extension F K} (laws : IsLawful E) (table : Challen
             get_or_default (map f i.lookups) k E.ring.zero (f lookup) (omega (arith, length-map i.lookups f, below))
             ∙ sym (mapped_at f i.lookups k lookup below is) ∙ fraction_is r lt k lookup below is
 
-    accumulator_is : (r : ℕ) → r < height i.main → accumulator_at E (window_of r) ≡ sum_below r
+    accumulator_is : (r : ℕ) → r < height i.traces.main → accumulator_at E (window_of r) ≡ sum_below r
     accumulator_is r lt = ap (λ xs. slice_index_or xs 0 E.ring.zero) (row_is r lt)
 
     -- the sum after a row
-    after_row : (r : ℕ) → r < height i.main → sum_below (r + 1) ≡ E.ring.add (accumulator_at E (window_of r)) (fractions_at E i.lookups (window_of r))
+    after_row : (r : ℕ) → r < height i.traces.main → sum_below (r + 1) ≡ E.ring.add (accumulator_at E (window_of r)) (fractions_at E i.lookups (window_of r))
     after_row r lt =
         ap (λ rs. sum_in E.ring (flat_map (λ row. row) rs)) (take_more rows r [] (omega (arith, many, lt)))
         ∙ ap (sum_in E.ring) (flat_map-append (λ row. row) (take r rows) (fractions_on r ∷ []))
@@ -122,7 +122,7 @@ module _ {F K : Type 0} {E : Extension F K} (laws : IsLawful E) (table : Challen
     selected_zero false left on = zero_mul laws.ring left
 
     -- each lookup's constraint
-    fraction_zero : (r : ℕ) → r < height i.main → (k : ℕ) (lookup : Lookup F) → k < length i.lookups → lookup ≡ get_or i.lookups k lookup → (fraction_constraint E lookup).meaning (window_of r) ≡ E.ring.zero
+    fraction_zero : (r : ℕ) → r < height i.traces.main → (k : ℕ) (lookup : Lookup F) → k < length i.lookups → lookup ≡ get_or i.lookups k lookup → (fraction_constraint E lookup).meaning (window_of r) ≡ E.ring.zero
     fraction_zero r lt k lookup below is =
         let e = equation_at E (challenged_window E table i r) in
         let solves : Solves E.ring (e lookup) (get_or (fractions_on r) k E.ring.zero) =
@@ -130,19 +130,19 @@ module _ {F K : Type 0} {E : Extension F K} (laws : IsLawful E) (table : Challen
         ap (λ f. sub_in E.ring (E.ring.mul (e lookup).denominator f) (e lookup).numerator) (fraction_is r lt k lookup below is)
         ∙ ap (λ t. sub_in E.ring t (e lookup).numerator) solves ∙ laws.ring.add_neg (e lookup).numerator
 
-    first_zero : (r : ℕ) → r < height i.main → E.ring.mul (of_bool E.ring (r == 0)) (accumulator_at E (window_of r)) ≡ E.ring.zero
+    first_zero : (r : ℕ) → r < height i.traces.main → E.ring.mul (of_bool E.ring (r == 0)) (accumulator_at E (window_of r)) ≡ E.ring.zero
     first_zero r lt = selected_zero (r == 0) (accumulator_at E (window_of r)) (λ e. accumulator_is r lt ∙ ap sum_below (eqb-true r 0 e))
 
-    transition_zero : (r : ℕ) → r < height i.main → E.ring.mul (of_bool E.ring (not (r + 1 == height i.main))) (sub_in E.ring (sub_in E.ring (slice_index_or (row auxiliary ((r + 1) % height i.main)) 0 E.ring.zero) (accumulator_at E (window_of r))) (fractions_at E i.lookups (window_of r))) ≡ E.ring.zero
-    transition_zero r lt = selected_zero (not (r + 1 == height i.main)) _ (λ e.
-        let inner : r + 1 < height i.main = omega (arith, lt, eqb-false (r + 1) (height i.main) (not-true (r + 1 == height i.main) e)) in
-        taken_apart (accumulator_at E (window_of r)) (fractions_at E i.lookups (window_of r)) (slice_index_or (row auxiliary ((r + 1) % height i.main)) 0 E.ring.zero)
+    transition_zero : (r : ℕ) → r < height i.traces.main → E.ring.mul (of_bool E.ring (not (r + 1 == height i.traces.main))) (sub_in E.ring (sub_in E.ring (slice_index_or (row auxiliary ((r + 1) % height i.traces.main)) 0 E.ring.zero) (accumulator_at E (window_of r))) (fractions_at E i.lookups (window_of r))) ≡ E.ring.zero
+    transition_zero r lt = selected_zero (not (r + 1 == height i.traces.main)) _ (λ e.
+        let inner : r + 1 < height i.traces.main = omega (arith, lt, eqb-false (r + 1) (height i.traces.main) (not-true (r + 1 == height i.traces.main) e)) in
+        taken_apart (accumulator_at E (window_of r)) (fractions_at E i.lookups (window_of r)) (slice_index_or (row auxiliary ((r + 1) % height i.traces.main)) 0 E.ring.zero)
         (ap (λ n. slice_index_or (row auxiliary n) 0 E.ring.zero) (mod-eq_of_lt inner) ∙ accumulator_is (r + 1) inner ∙ after_row r lt))
 
-    last_zero : (r : ℕ) → r < height i.main → E.ring.mul (of_bool E.ring (r + 1 == height i.main)) (sub_in E.ring (sub_in E.ring (sum_in E.ring (flat_map (λ row. row) rows)) (accumulator_at E (window_of r))) (fractions_at E i.lookups (window_of r))) ≡ E.ring.zero
-    last_zero r lt = selected_zero (r + 1 == height i.main) _ (λ e.
+    last_zero : (r : ℕ) → r < height i.traces.main → E.ring.mul (of_bool E.ring (r + 1 == height i.traces.main)) (sub_in E.ring (sub_in E.ring (sum_in E.ring (flat_map (λ row. row) rows)) (accumulator_at E (window_of r))) (fractions_at E i.lookups (window_of r))) ≡ E.ring.zero
+    last_zero r lt = selected_zero (r + 1 == height i.traces.main) _ (λ e.
         taken_apart (accumulator_at E (window_of r)) (fractions_at E i.lookups (window_of r)) (sum_in E.ring (flat_map (λ row. row) rows))
-        (ap (λ rs. sum_in E.ring (flat_map (λ row. row) rs)) (sym (take_all (r + 1) rows (omega (arith, many, eqb-true (r + 1) (height i.main) e)))) ∙ after_row r lt))
+        (ap (λ rs. sum_in E.ring (flat_map (λ row. row) rs)) (sym (take_all (r + 1) rows (omega (arith, many, eqb-true (r + 1) (height i.traces.main) e)))) ∙ after_row r lt))
 
     -- the result with lookups
     made_satisfied : IsSatisfiedAt E table i (auxiliary, terminal)
@@ -157,16 +157,16 @@ module _ {F K : Type 0} {E : Extension F K} (laws : IsLawful E) (table : Challen
         IsZeroAt : ℕ → Constraint F K → Type 0
         IsZeroAt r constraint = constraint.meaning (window_of r) ≡ E.ring.zero
 
-        long : length (flat_map made_row (range_with_len 0 (height i.main))) ≡ height i.main * (length i.lookups + 1)
-        long = length_flat made_row (length i.lookups + 1) 0 (height i.main) (λ r lt. omega (arith, length-fractions r (omega (arith, lt))))
+        long : length (flat_map made_row (range_with_len 0 (height i.traces.main))) ≡ height i.traces.main * (length i.lookups + 1)
+        long = length_flat made_row (length i.lookups + 1) 0 (height i.traces.main) (λ r lt. omega (arith, length-fractions r (omega (arith, lt))))
 
-        shape : (ls : List (Lookup F)) → 0 < length ls → length ls ≡ length i.lookups → HasShape ls (height i.main) auxiliary terminal
+        shape : (ls : List (Lookup F)) → 0 < length ls → length ls ≡ length i.lookups → HasShape ls (height i.traces.main) auxiliary terminal
         shape [] nonempty same = absurd (omega (arith, nonempty))
         shape (l ∷ ls) nonempty same = record {
           presence = refl;
           width = ap (λ n. n + 1) (sym same);
-          high = height_of (flat_map made_row (range_with_len 0 (height i.main))) (height i.main) (length i.lookups) long;
-          whole = IsShaped-product (flat_map made_row (range_with_len 0 (height i.main))) (height i.main) (length i.lookups) long;
+          high = height_of (flat_map made_row (range_with_len 0 (height i.traces.main))) (height i.traces.main) (length i.lookups) long;
+          whole = IsShaped-product (flat_map made_row (range_with_len 0 (height i.traces.main))) (height i.traces.main) (length i.lookups) long;
         }
 
   -- each sum of the fractions of an AIR is the terminal of a result
@@ -176,13 +176,13 @@ module _ {F K : Type 0} {E : Extension F K} (laws : IsLawful E) (table : Challen
       by_lookups : (ls : List (Lookup F)) → i.lookups ≡ ls → (result : AirResult K) × IsSatisfiedAt E table i result × (terminal_value E.ring result.1 ≡ total)
       by_lookups [] is =
           let empty : air_equations E table i ≡ [] =
-          nothing_flat (λ r. row_equations E (challenged_window E table i r) i.lookups) (λ r. ap (row_equations E (challenged_window E table i r)) is) (range_with_len 0 (height i.main)) in (
+          nothing_flat (λ r. row_equations E (challenged_window E table i r) i.lookups) (λ r. ap (row_equations E (challenged_window E table i r)) is) (range_with_len 0 (height i.traces.main)) in (
             (record { values = []; width = 0 }, None),
-            none_satisfied E i.main i.preprocessed i.public_values (column_challenges table i.ids) i.lookups (record { values = []; width = 0 }) is refl,
+            none_satisfied E i.traces (column_challenges table i.ids) i.lookups (record { values = []; width = 0 }) is refl,
             none_sums laws.ring total (subst (λ (es : List (Equation K)). CanSumTo E.ring es total) empty sums),
           )
       by_lookups (l ∷ ls) is =
-          let (rows, each, joined) = zipped_rows (Solves E.ring) (λ r. row_equations E (challenged_window E table i r) i.lookups) 0 (height i.main) sums.fractions sums.solve in (
+          let (rows, each, joined) = zipped_rows (Solves E.ring) (λ r. row_equations E (challenged_window E table i r) i.lookups) 0 (height i.traces.main) sums.fractions sums.solve in (
             (auxiliary i fitting.fit.records (omega (arith, ap length is)) rows each, terminal i fitting.fit.records (omega (arith, ap length is)) rows each),
             made_satisfied i fitting.fit.records (omega (arith, ap length is)) rows each,
             ap (sum_in E.ring) joined ∙ sums.sum,

@@ -8,10 +8,11 @@ use Rattle.field.specs.laws.Distinct.{all_both}
 use Rattle.field.specs.Sums.{sum_in}
 use Rattle.matrix.specs.Matrix.{Matrix, height, row}
 use Rattle.expressions.specs.Window.{ExtWindow, Window, window_at}
+use Rattle.air.specs.Traces.{AirTraces}
 use Rattle.lookup_model.proofs.Branches.{length-branches_at, mapped_at}
 use Rattle.lookup_model.proofs.ConstraintLaws.{accumulator_constraints-some}
 use Rattle.lookup_model.specs.Constraints.{Constraint, accumulator_at, accumulator_constraints, first_constraint, transition_constraint, last_constraint, fraction_at, fraction_constraint, fractions_at, fraction_denominator, fraction_numerator, terminal_at}
-use Rattle.lookup_model.specs.Denominators.{column_denominator, tuple_denominator}
+use Rattle.lookup_model.specs.Denominators.{key_denominator, tuple_denominator}
 use Rattle.field.specs.Extension.{Extension, IsLawful}
 use Rattle.lookup_model.specs.Generated.{plain_matrix, plain_terminal_of}
 use Rattle.lookup_model.proofs.HornerRule.{map-map}
@@ -36,18 +37,18 @@ use Rattle.lookup_model.proofs.Lists.{all_front, all_back, all_here, all_of_map,
 use Rattle.lookup_model.proofs.Batches.SentFacts.{sent_ids}
 use Rattle.lookup_model.proofs.Batches.OnlyFractions.{denominator_nonzero, no_fault, one_fraction}
 
-module _ {F K : Type 0} {E : Extension F K} (laws : IsLawful E) (challenges : List K) (main : Matrix F) (preprocessed : Option (Matrix F)) (public_values : List F) (lookups : List (Lookup F)) (records : AreRecords lookups) (some : 0 < length lookups) where
+module _ {F K : Type 0} {E : Extension F K} (laws : IsLawful E) (challenges : List K) (traces : AirTraces F) (lookups : List (Lookup F)) (records : AreRecords lookups) (some : 0 < length lookups) where
   abbrev den : Key F → K
-  den = column_denominator E challenges
+  den = key_denominator E challenges
 
   abbrev pf : Sent F → K
   pf = plain_fraction E den
 
   abbrev rows : List (List (Sent F))
-  rows = sent_rows E.base E.base_eq main preprocessed public_values lookups
+  rows = sent_rows E.base E.base_eq traces lookups
 
   abbrev base_window : ℕ → Window F
-  base_window r = window_at main preprocessed public_values (height main) r
+  base_window r = window_at traces.main traces.preprocessed traces.public_values (height traces.main) r
 
   abbrev sent_of : ℕ → Lookup F → Sent F
   sent_of r lookup = sent_at E.base E.base_eq (base_window r) lookup.column lookup
@@ -55,28 +56,28 @@ module _ {F K : Type 0} {E : Extension F K} (laws : IsLawful E) (challenges : Li
   abbrev sents_of : ℕ → List (Sent F)
   sents_of r = sent_row E.base E.base_eq (base_window r) lookups
 
-  high : length rows ≡ height main
-  high = length-sent_rows E.base E.base_eq main preprocessed public_values lookups
+  high : length rows ≡ height traces.main
+  high = length-sent_rows E.base E.base_eq traces lookups
 
-  sents_at : (r : ℕ) → r < height main → get_or rows r [] ≡ sents_of r
+  sents_at : (r : ℕ) → r < height traces.main → get_or rows r [] ≡ sents_of r
   sents_at r lt =
-      get_or_default rows r [] (sents_of r) (omega (arith, high, lt)) ∙ sym (sent_rows-at E.base E.base_eq main preprocessed public_values lookups r lt)
+      get_or_default rows r [] (sents_of r) (omega (arith, high, lt)) ∙ sym (sent_rows-at E.base E.base_eq traces lookups r lt)
 
-  module _ (lawful : AllByRecursion (AllByRecursion (HasLawfulFlags E.base E.base_eq)) rows) (none : NoneVanishes E den (trace_messages rows)) (auxiliary : Matrix K) (terminal : Option (LookupTerminal K)) (satisfied : IsSatisfied E main preprocessed public_values lookups challenges auxiliary terminal) where
+  module _ (lawful : AllByRecursion (AllByRecursion (HasLawfulFlags E.base E.base_eq)) rows) (none : NoneVanishes E den (trace_messages rows)) (auxiliary : Matrix K) (terminal : Option (LookupTerminal K)) (satisfied : IsSatisfied E traces lookups challenges auxiliary terminal) where
     abbrev window_of : ℕ → ExtWindow F K
-    window_of r = witness_window main preprocessed public_values challenges auxiliary terminal r
+    window_of r = witness_window traces challenges auxiliary terminal r
 
     abbrev IsZeroAt : ℕ → Constraint F K → Type 0
     IsZeroAt r constraint = constraint.meaning (window_of r) ≡ E.ring.zero
 
     -- the flags of one lookup on one row, and the denominators of its messages
-    lawful_at : (r : ℕ) → r < height main → (k : ℕ) (lookup : Lookup F) → k < length lookups → lookup ≡ get_or lookups k lookup → HasLawfulFlags E.base E.base_eq (sent_of r lookup)
+    lawful_at : (r : ℕ) → r < height traces.main → (k : ℕ) (lookup : Lookup F) → k < length lookups → lookup ≡ get_or lookups k lookup → HasLawfulFlags E.base E.base_eq (sent_of r lookup)
     lawful_at r lt k lookup below is =
         let row_lawful : AllByRecursion (HasLawfulFlags E.base E.base_eq) (sents_of r) =
         subst (AllByRecursion (HasLawfulFlags E.base E.base_eq)) (sents_at r lt) (all_here (AllByRecursion (HasLawfulFlags E.base E.base_eq)) rows r [] (omega (arith, high, lt)) lawful) in
         subst (HasLawfulFlags E.base E.base_eq) (sym (mapped_at (sent_of r) lookups k lookup below is)) (all_here (HasLawfulFlags E.base E.base_eq) (sents_of r) k (sent_of r lookup) (omega (arith, length-map lookups (sent_of r), below)) row_lawful)
 
-    none_at : (r : ℕ) → r < height main → (k : ℕ) (lookup : Lookup F) → k < length lookups → lookup ≡ get_or lookups k lookup → NoneVanishes E den (sent_of r lookup).messages
+    none_at : (r : ℕ) → r < height traces.main → (k : ℕ) (lookup : Lookup F) → k < length lookups → lookup ≡ get_or lookups k lookup → NoneVanishes E den (sent_of r lookup).messages
     none_at r lt k lookup below is =
         let Nonzero = λ (m : Message F). den m.key ≢ E.ring.zero in
         let AllNonzero = λ (s : Sent F). AllByRecursion Nonzero s.messages in
@@ -87,7 +88,7 @@ module _ {F K : Type 0} {E : Extension F K} (laws : IsLawful E) (challenges : Li
         subst AllNonzero (sym (mapped_at (sent_of r) lookups k lookup below is)) (all_here AllNonzero (sents_of r) k (sent_of r lookup) (omega (arith, length-map lookups (sent_of r), below)) row_none)
 
     -- the fraction of a lookup on a row
-    fraction_is : (r : ℕ) → r < height main → (k : ℕ) (lookup : Lookup F) → k < length lookups → lookup ≡ get_or lookups k lookup → fraction_at E lookup.column (window_of r) ≡ pf (sent_of r lookup)
+    fraction_is : (r : ℕ) → r < height traces.main → (k : ℕ) (lookup : Lookup F) → k < length lookups → lookup ≡ get_or lookups k lookup → fraction_at E lookup.column (window_of r) ≡ pf (sent_of r lookup)
     fraction_is r lt k lookup below is =
         let w = base_window r in
         let lengths = equal_lengths lookups k lookup records below is in
@@ -109,57 +110,57 @@ module _ {F K : Type 0} {E : Extension F K} (laws : IsLawful E) (challenges : Li
         over m at ne e =
             ne (ap (λ c. tuple_denominator E (slice_index_or challenges (2 * c) E.ring.zero) (slice_index_or challenges (2 * c + 1) E.ring.zero) m.key.tuple) at ∙ e)
 
-    fractions_are : (r : ℕ) → r < height main → fractions_at E lookups (window_of r) ≡ sum_in E.ring (map pf (sents_of r))
+    fractions_are : (r : ℕ) → r < height traces.main → fractions_at E lookups (window_of r) ≡ sum_in E.ring (map pf (sents_of r))
     fractions_are r lt =
         ap (sum_in E.ring)
         (same_map (λ l. fraction_at E l.column (window_of r)) (λ l. pf (sent_of r l)) lookups (all_indexed (λ l. fraction_at E l.column (window_of r) ≡ pf (sent_of r l)) lookups (fraction_is r lt))
         ∙ sym (map-map pf (sent_of r) lookups))
 
     -- the accumulator's equations
-    accumulator_zeros : (r : ℕ) → r < height main → AllByRecursion (IsZeroAt r) (accumulator_constraints E lookups (terminal_at E) (λ t. 0))
+    accumulator_zeros : (r : ℕ) → r < height traces.main → AllByRecursion (IsZeroAt r) (accumulator_constraints E lookups (terminal_at E) (λ t. 0))
     accumulator_zeros r lt = all_back (IsZeroAt r) (map (fraction_constraint E) lookups) (accumulator_constraints E lookups (terminal_at E) (λ t. 0)) (satisfied.equations r lt)
 
-    three_zeros : (r : ℕ) → r < height main → AllByRecursion (IsZeroAt r) (first_constraint E ∷ transition_constraint E lookups ∷ last_constraint E lookups (terminal_at E) (λ t. 0) ∷ [])
+    three_zeros : (r : ℕ) → r < height traces.main → AllByRecursion (IsZeroAt r) (first_constraint E ∷ transition_constraint E lookups ∷ last_constraint E lookups (terminal_at E) (λ t. 0) ∷ [])
     three_zeros r lt = subst (AllByRecursion (IsZeroAt r)) (accumulator_constraints-some E lookups (terminal_at E) (λ t. 0) some) (accumulator_zeros r lt)
 
     -- the accumulator of each row
-    accumulator_is : (r : ℕ) → r < height main → accumulator_at E (window_of r) ≡ plain_accumulator E den rows r
+    accumulator_is : (r : ℕ) → r < height traces.main → accumulator_at E (window_of r) ≡ plain_accumulator E den rows r
     accumulator_is zero lt = zero_selected laws.ring (zero == 0) (accumulator_at E (window_of zero)) refl (three_zeros zero lt).0
     accumulator_is (suc r) lt =
-        let below : r < height main = omega (arith, lt) in
-        let inner : r + 1 < height main = omega (arith, lt) in
+        let below : r < height traces.main = omega (arith, lt) in
+        let inner : r + 1 < height traces.main = omega (arith, lt) in
         let more : r + 1 ≡ suc r = omega arith in
-        let next : (r + 1) % height main ≡ suc r = mod-eq_of_lt inner ∙ more in
-        let on : not (r + 1 == height main) ≡ true = ap not (ne_eqb (r + 1) (height main) (λ e. absurd (omega (arith, e, lt)))) in
+        let next : (r + 1) % height traces.main ≡ suc r = mod-eq_of_lt inner ∙ more in
+        let on : not (r + 1 == height traces.main) ≡ true = ap not (ne_eqb (r + 1) (height traces.main) (λ e. absurd (omega (arith, e, lt)))) in
         let step : accumulator_at E (window_of (suc r)) ≡ E.ring.add (accumulator_at E (window_of r)) (fractions_at E lookups (window_of r)) =
         ap (λ i. slice_index_or (row auxiliary i) 0 E.ring.zero) (sym next)
-        ∙ put_together laws.ring (accumulator_at E (window_of r)) (fractions_at E lookups (window_of r)) (slice_index_or (row auxiliary ((r + 1) % height main)) 0 E.ring.zero)
-        (zero_selected laws.ring (not (r + 1 == height main)) _ on (three_zeros r below).1.0) in
+        ∙ put_together laws.ring (accumulator_at E (window_of r)) (fractions_at E lookups (window_of r)) (slice_index_or (row auxiliary ((r + 1) % height traces.main)) 0 E.ring.zero)
+        (zero_selected laws.ring (not (r + 1 == height traces.main)) _ on (three_zeros r below).1.0) in
         step ∙ (λ i. E.ring.add (accumulator_is r below i) (fractions_are r below i))
-        ∙ sym (plain_accumulator-more E den laws rows r (sents_of r) (omega (arith, high, below)) (sent_rows-at E.base E.base_eq main preprocessed public_values lookups r below))
+        ∙ sym (plain_accumulator-more E den laws rows r (sents_of r) (omega (arith, high, below)) (sent_rows-at E.base E.base_eq traces lookups r below))
         ∙ ap (plain_accumulator E den rows) more
 
     -- the width, the height and the terminal
-    shape : (auxiliary.width ≡ length lookups + 1) × (height auxiliary ≡ height main) × ((t : LookupTerminal K) × (terminal ≡ Some t))
-    shape = shape-some lookups (height main) auxiliary terminal some satisfied.shape
+    shape : (auxiliary.width ≡ length lookups + 1) × (height auxiliary ≡ height traces.main) × ((t : LookupTerminal K) × (terminal ≡ Some t))
+    shape = shape-some lookups (height traces.main) auxiliary terminal some satisfied.shape
 
     -- the length of a row
-    long : length auxiliary.values ≡ height main * auxiliary.width
+    long : length auxiliary.values ≡ height traces.main * auxiliary.width
     long = satisfied.shape.whole ∙ ap (λ n. n * auxiliary.width) shape.1
 
-    length-row : (r : ℕ) → r < height main → length (row auxiliary r) ≡ suc (length lookups)
+    length-row : (r : ℕ) → r < height traces.main → length (row auxiliary r) ≡ suc (length lookups)
     length-row r lt =
         let w = auxiliary.width in
-        let rest = height main - (r + 1) in
-        let parts : height main ≡ (r + 1) + rest = omega (arith, lt) in
+        let rest = height traces.main - (r + 1) in
+        let parts : height traces.main ≡ (r + 1) + rest = omega (arith, lt) in
         let both : ((r + 1) + rest) * w ≡ (r + 1) * w + rest * w = omega arith in
-        let split : height main * w ≡ (r + 1) * w + rest * w = ap (λ n. n * w) parts ∙ both in
+        let split : height traces.main * w ≡ (r + 1) * w + rest * w = ap (λ n. n * w) parts ∙ both in
         let wide : (r + 1) * w ≡ r * w + w = omega arith in
         length-take ((r + 1) * w - r * w) (drop (r * w) auxiliary.values)
         ∙ omega (arith, length-drop (r * w) auxiliary.values, long, split, wide, shape.0)
 
     -- each row
-    row_is : (r : ℕ) → r < height main → row auxiliary r ≡ plain_row E den rows r
+    row_is : (r : ℕ) → r < height traces.main → row auxiliary r ≡ plain_row E den rows r
     row_is r lt =
         ext_get_or E.ring.zero (row auxiliary r) (plain_accumulator E den rows r ∷ map pf (sents_of r))
         (length-row r lt ∙ omega (arith, length-map (sents_of r) pf, length-map lookups (sent_of r)))
@@ -171,30 +172,30 @@ module _ {F K : Type 0} {E : Extension F K} (laws : IsLawful E) (challenges : Li
         at (suc k) inside =
             let below : k < length lookups = omega (arith, inside) in
             let (lookup, is) = item_at lookups k below in
-            let place : lookup.column + 1 ≡ suc k = omega (arith, column_is lookups k lookup records below is) in
-            ap (λ i. get_or (row auxiliary r) i E.ring.zero) (sym place) ∙ fraction_is r lt k lookup below is
+            let index : lookup.column + 1 ≡ suc k = omega (arith, column_is lookups k lookup records below is) in
+            ap (λ i. get_or (row auxiliary r) i E.ring.zero) (sym index) ∙ fraction_is r lt k lookup below is
             ∙ mapped_at (λ l. pf (sent_of r l)) lookups k lookup below is
             ∙ sym (get_or_default (map (λ l. pf (sent_of r l)) lookups) k E.ring.zero (pf (sent_of r lookup)) (omega (arith, length-map lookups (λ l. pf (sent_of r l)), below)))
             ∙ ap (λ xs. get_or xs k E.ring.zero) (sym (map-map pf (sent_of r) lookups))
 
     values_are : auxiliary.values ≡ plain_cells E den rows
     values_are =
-        sym (joined_rows auxiliary.values auxiliary.width (height main) long)
-        ∙ same_parts (row auxiliary) (plain_row E den rows) 0 (height main) (λ r lt. row_is r (omega (arith, lt)))
+        sym (joined_rows auxiliary.values auxiliary.width (height traces.main) long)
+        ∙ same_parts (row auxiliary) (plain_row E den rows) 0 (height traces.main) (λ r lt. row_is r (omega (arith, lt)))
         ∙ ap (λ n. flat_map (plain_row E den rows) (range_with_len 0 n)) (sym high)
 
-    module _ (nonempty : 0 < height main) where
+    module _ (nonempty : 0 < height traces.main) where
       -- the terminal
       terminal_is : (t : LookupTerminal K) → terminal ≡ Some t → t.0 ≡ plain_terminal E den rows
       terminal_is t is =
-          let r = height main - 1 in
-          let lt : r < height main = omega (arith, nonempty) in
-          let last : r + 1 ≡ height main = omega (arith, nonempty) in
+          let r = height traces.main - 1 in
+          let lt : r < height traces.main = omega (arith, nonempty) in
+          let last : r + 1 ≡ height traces.main = omega (arith, nonempty) in
           ap (λ o. slice_index_or (values_of_terminal o) 0 E.ring.zero) (sym is)
           ∙ put_together laws.ring (accumulator_at E (window_of r)) (fractions_at E lookups (window_of r)) (terminal_at E (window_of r))
-          (zero_selected laws.ring (r + 1 == height main) _ (eq-eqb (r + 1) (height main) last) (three_zeros r lt).1.1.0)
+          (zero_selected laws.ring (r + 1 == height traces.main) _ (eq-eqb (r + 1) (height traces.main) last) (three_zeros r lt).1.1.0)
           ∙ (λ i. E.ring.add (accumulator_is r lt i) (fractions_are r lt i))
-          ∙ sym (plain_accumulator-more E den laws rows r (sents_of r) (omega (arith, high, lt)) (sent_rows-at E.base E.base_eq main preprocessed public_values lookups r lt))
+          ∙ sym (plain_accumulator-more E den laws rows r (sents_of r) (omega (arith, high, lt)) (sent_rows-at E.base E.base_eq traces lookups r lt))
           ∙ ap (λ t. sum_in E.ring (flat_map (λ s. map pf s) t)) (take_all (r + 1) rows (omega (arith, high, last)))
           ∙ sym (plain_terminal-sum laws den rows)
 

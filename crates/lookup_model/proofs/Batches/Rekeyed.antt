@@ -142,17 +142,17 @@ module _ {F K : Type 0} {E : Extension F K} (laws : IsLawful E) (den den' : Key 
       with_flags flags ms ns keyed =
           ap (λ b. option_or (flag_fault_of E.base E.base_eq row column flags) (if b then Some (VanishingDenominator row column) else None)) (same_dividing flags ms ns keyed)
 
-  same_row_faults : (row place : ℕ) (ss ts : List (Sent F)) → AllZip IsAlike ss ts → filter_map (λ p. fault_of E den row p.0 p.1) (enumerate_from place ss) ≡ filter_map (λ p. fault_of E den' row p.0 p.1) (enumerate_from place ts)
-  same_row_faults row place [] [] same = refl
-  same_row_faults row place [] (t ∷ ts) same = absurd same
-  same_row_faults row place (s ∷ ss) [] same = absurd same
-  same_row_faults row place (s ∷ ss) (t ∷ ts) same = λ i. cons_option (same_fault row place s t same.0 i) (same_row_faults row (place + 1) ss ts same.1 i)
+  same_row_faults : (row index : ℕ) (ss ts : List (Sent F)) → AllZip IsAlike ss ts → filter_map (λ p. fault_of E den row p.0 p.1) (enumerate_from index ss) ≡ filter_map (λ p. fault_of E den' row p.0 p.1) (enumerate_from index ts)
+  same_row_faults row index [] [] same = refl
+  same_row_faults row index [] (t ∷ ts) same = absurd same
+  same_row_faults row index (s ∷ ss) [] same = absurd same
+  same_row_faults row index (s ∷ ss) (t ∷ ts) same = λ i. cons_option (same_fault row index s t same.0 i) (same_row_faults row (index + 1) ss ts same.1 i)
 
-  same_faults_from : (place : ℕ) (rows others : List (List (Sent F))) → AreRowsAlike rows others → flat_map (λ p. row_faults E den p.0 p.1) (enumerate_from place rows) ≡ flat_map (λ p. row_faults E den' p.0 p.1) (enumerate_from place others)
-  same_faults_from place [] [] same = refl
-  same_faults_from place [] (t ∷ ts) same = absurd same
-  same_faults_from place (s ∷ ss) [] same = absurd same
-  same_faults_from place (s ∷ ss) (t ∷ ts) same = λ i. same_row_faults place 0 s t same.0 i ++ same_faults_from (place + 1) ss ts same.1 i
+  same_faults_from : (index : ℕ) (rows others : List (List (Sent F))) → AreRowsAlike rows others → flat_map (λ p. row_faults E den p.0 p.1) (enumerate_from index rows) ≡ flat_map (λ p. row_faults E den' p.0 p.1) (enumerate_from index others)
+  same_faults_from index [] [] same = refl
+  same_faults_from index [] (t ∷ ts) same = absurd same
+  same_faults_from index (s ∷ ss) [] same = absurd same
+  same_faults_from index (s ∷ ss) (t ∷ ts) same = λ i. same_row_faults index 0 s t same.0 i ++ same_faults_from (index + 1) ss ts same.1 i
 
   pub same_faults : (rows others : List (List (Sent F))) → AreRowsAlike rows others → trace_faults E den rows ≡ trace_faults E den' others
   same_faults rows others same = same_faults_from 0 rows others same

@@ -4,7 +4,7 @@ use Rattle.std.proofs.lemmas.List.{map-append}
 use Rattle.std.specs.List.{filter, flat_map, range_with_len}
 use Rattle.field.specs.Sums.{sum_in}
 use Rattle.matrix.specs.Matrix.{height}
-use Rattle.expressions.specs.Window.{window_at}
+use Rattle.air.specs.Traces.{window_of}
 use Rattle.lookup_model.specs.Generated.{plain_terminal_of}
 use Rattle.field.specs.Extension.{Extension, IsLawful}
 use Rattle.lookup_model.specs.Message.{Key, Message}
@@ -18,7 +18,7 @@ use Rattle.lookup_model.proofs.Lookups.Terminals.{net_sum-messages}
 use Rattle.lookup_model.specs.Batches.Instances.{Instance}
 use Rattle.lookup_model.specs.Batches.Messages.{batch_messages, id_of, sent_rows_of}
 use Rattle.lookup_model.specs.Batches.Witnesses.{plain_result, plain_witness}
-use Rattle.lookup_model.specs.Challenges.{ChallengeTable, table_denominator}
+use Rattle.lookup_model.specs.Challenges.{ChallengeTable, table_key_denominator}
 use Rattle.lookup_model.specs.Trace.{sent_row_under}
 
 module _ {F K : Type 0} {E : Extension F K} (laws : IsLawful E) (denominator : Key F → K) where
@@ -44,7 +44,7 @@ module _ {F K : Type 0} {E : Extension F K} (laws : IsLawful E) (denominator : K
 
 module _ {F K : Type 0} {E : Extension F K} (laws : IsLawful E) (table : ChallengeTable K) where
   abbrev den : Key F → K
-  den = table_denominator E table
+  den = table_key_denominator E table
 
   abbrev messages_of : Instance F → List (Message F)
   messages_of instance = trace_messages (sent_rows_of E.base E.base_eq instance)
@@ -58,10 +58,10 @@ module _ {F K : Type 0} {E : Extension F K} (laws : IsLawful E) (table : Challen
   terminal_is instance = by_lookups instance.lookups
     where
       rows : List (Lookup F) → List (List (Sent F))
-      rows ls = map (λ r. sent_row_under E.base E.base_eq (id_of instance.ids) (window_at instance.main instance.preprocessed instance.public_values (height instance.main) r) ls) (range_with_len 0 (height instance.main))
+      rows ls = map (λ r. sent_row_under E.base E.base_eq (id_of instance.ids) (window_of instance.traces r) ls) (range_with_len 0 (height instance.traces.main))
 
-      by_lookups : (ls : List (Lookup F)) → terminal_value E.ring (plain_terminal_of E (table_denominator E table) ls (rows ls)) ≡ message_sum laws den (trace_messages (rows ls))
-      by_lookups [] = sym (ap (message_sum laws den) (no_messages (λ r. []) (λ r. refl) (range_with_len 0 (height instance.main))))
+      by_lookups : (ls : List (Lookup F)) → terminal_value E.ring (plain_terminal_of E (table_key_denominator E table) ls (rows ls)) ≡ message_sum laws den (trace_messages (rows ls))
+      by_lookups [] = sym (ap (message_sum laws den) (no_messages (λ r. []) (λ r. refl) (range_with_len 0 (height instance.traces.main))))
       by_lookups (l ∷ ls) = net_sum-messages laws den (trace_messages (rows (l ∷ ls)))
 
   -- the terminals of the plain witness sum to the net sum of all messages

@@ -18,7 +18,7 @@ use Rattle.lookup_model.specs.Plain.{quotient}
 use Rattle.lookup_model.specs.Terminals.{terminal_sum}
 use Rattle.lookup_model.proofs.Lookups.KeyLaws.{same_key-Decides}
 use Rattle.lookup_model.proofs.Lookups.Regrouping.{All-filter, Holds, filter_passes, first_seen_holds}
-use Rattle.lookup_model.specs.Challenges.{ChallengeTable, bus_table, table_denominator}
+use Rattle.lookup_model.specs.Challenges.{ChallengeTable, bus_table, table_key_denominator}
 use Rattle.lookup_model.specs.Points.{point_of}
 use Rattle.lookup_model.specs.Batches.Counts.{IsAccepting, IsSharing, message_count, unbalanced, unbalanced_count}
 use Rattle.lookup_model.specs.Batches.Instances.{Instance, IsFitting}
@@ -31,7 +31,7 @@ use Rattle.lookup_model.proofs.Batches.Totals.{plain_total-nets}
 
 module _ {F K : Type 0} {E : Extension F K} (laws : IsLawful E) (W : ℕ) (beta : K) where
   -- the denominator of a key in the table of alpha is alpha minus its point
-  pub denominator_is : (alpha : K) (key : Key F) → table_denominator E (bus_table E.ring W beta alpha) key ≡ sub_in E.ring alpha (point_of E W beta key)
+  pub denominator_is : (alpha : K) (key : Key F) → table_key_denominator E (bus_table E.ring W beta alpha) key ≡ sub_in E.ring alpha (point_of E W beta key)
   denominator_is alpha key =
       ring_law laws.ring (alpha ∷ of_nat E.ring (key.id + 1) ∷ power E.ring beta W ∷ combined E.ring (map E.embed key.tuple) beta ∷ [])
       ((var 0 :+ var 1 :* var 2) :- var 3) (var 0 :- (var 3 :- var 1 :* var 2)) refl
@@ -80,18 +80,18 @@ module _ {F K : Type 0} {E : Extension F K} (laws : IsLawful E) (W : ℕ) (beta 
         avoids_open : AllByRecursion (λ key. alpha ≢ point key) open_keys
         avoids_open = All-filter (λ key. alpha ≢ point key) (λ key. not (E.base_eq (net_of key) E.base.zero)) all_keys avoids_keys
 
-        none_from : (ms : List (Message F)) → AllByRecursion (Holds (same_key E.base_eq) all_keys) (map (λ m. m.key) ms) → NoneVanishes E (table_denominator E (bus_table E.ring W beta alpha)) ms
+        none_from : (ms : List (Message F)) → AllByRecursion (Holds (same_key E.base_eq) all_keys) (map (λ m. m.key) ms) → NoneVanishes E (table_key_denominator E (bus_table E.ring W beta alpha)) ms
         none_from [] held = tt
         none_from (m ∷ ms) held =
             (λ e. all_held (same_key E.base_eq) decides (λ key. alpha ≢ point key) all_keys m.key avoids_keys held.0 (same_from_difference laws.ring alpha (point m.key) (sym (denominator_is alpha m.key) ∙ e)), none_from ms held.1)
 
-        none : NoneVanishes E (table_denominator E (bus_table E.ring W beta alpha)) messages
+        none : NoneVanishes E (table_key_denominator E (bus_table E.ring W beta alpha)) messages
         none = none_from messages (first_seen_holds (same_key E.base_eq) decides (map (λ m. m.key) messages))
 
         plain : witness ≡ plain_witness E (bus_table E.ring W beta alpha) instances
         plain = only_witness laws (bus_table E.ring W beta alpha) instances fitting lawful none witness accepted.satisfied
 
-        quotients_are : (ks : List (Key F)) → sum_in E.ring (map (λ m. quotient E (λ key. sub_in E.ring alpha (point key)) m.multiplicity m.key) (map as_message ks)) ≡ sum_in E.ring (map (λ key. quotient E (table_denominator E (bus_table E.ring W beta alpha)) (net_of key) key) ks)
+        quotients_are : (ks : List (Key F)) → sum_in E.ring (map (λ m. quotient E (λ key. sub_in E.ring alpha (point key)) m.multiplicity m.key) (map as_message ks)) ≡ sum_in E.ring (map (λ key. quotient E (table_key_denominator E (bus_table E.ring W beta alpha)) (net_of key) key) ks)
         quotients_are [] = refl
         quotients_are (key ∷ ks) = λ i. E.ring.add (E.ring.mul (E.embed (net_of key)) (E.inverse (sym (denominator_is alpha key) i))) (quotients_are ks i)
 

@@ -27,17 +27,17 @@ module _ {A : Type 0} where
 -- Whatever the fault of a lookup is, if one without a fault has lawful flags, so has each of a row and
 -- of a trace without faults.
 module _ {F : Type 0} (R : Ring F) (eq : F → F → Bool) (lookup_fault : ℕ → ℕ → Sent F → Option LookupError) (of_one : (row column : ℕ) (s : Sent F) → lookup_fault row column s ≡ None → HasLawfulFlags R eq s) where
-  of_row : (row place : ℕ) (sents : List (Sent F)) → filter_map (λ p. lookup_fault row p.0 p.1) (enumerate_from place sents) ≡ [] → AllByRecursion (HasLawfulFlags R eq) sents
-  of_row row place [] none = tt
-  of_row row place (s ∷ ss) none =
-      let parts = none_before (lookup_fault row place s) (filter_map (λ (p : ℕ × Sent F). lookup_fault row p.0 p.1) (enumerate_from (place + 1) ss)) none in
-      (of_one row place s parts.0, of_row row (place + 1) ss parts.1)
+  of_row : (row index : ℕ) (sents : List (Sent F)) → filter_map (λ p. lookup_fault row p.0 p.1) (enumerate_from index sents) ≡ [] → AllByRecursion (HasLawfulFlags R eq) sents
+  of_row row index [] none = tt
+  of_row row index (s ∷ ss) none =
+      let parts = none_before (lookup_fault row index s) (filter_map (λ (p : ℕ × Sent F). lookup_fault row p.0 p.1) (enumerate_from (index + 1) ss)) none in
+      (of_one row index s parts.0, of_row row (index + 1) ss parts.1)
 
-  of_rows : (place : ℕ) (rows : List (List (Sent F))) → flat_map (λ p. faults_of_row lookup_fault p.0 p.1) (enumerate_from place rows) ≡ [] → AllByRecursion (AllByRecursion (HasLawfulFlags R eq)) rows
-  of_rows place [] none = tt
-  of_rows place (row ∷ rows) none =
-      let parts = both_empty (faults_of_row lookup_fault place row) (flat_map (λ (p : ℕ × List (Sent F)). faults_of_row lookup_fault p.0 p.1) (enumerate_from (place + 1) rows)) none in
-      (of_row place 0 row parts.0, of_rows (place + 1) rows parts.1)
+  of_rows : (index : ℕ) (rows : List (List (Sent F))) → flat_map (λ p. faults_of_row lookup_fault p.0 p.1) (enumerate_from index rows) ≡ [] → AllByRecursion (AllByRecursion (HasLawfulFlags R eq)) rows
+  of_rows index [] none = tt
+  of_rows index (row ∷ rows) none =
+      let parts = both_empty (faults_of_row lookup_fault index row) (flat_map (λ (p : ℕ × List (Sent F)). faults_of_row lookup_fault p.0 p.1) (enumerate_from (index + 1) rows)) none in
+      (of_row index 0 row parts.0, of_rows (index + 1) rows parts.1)
 
 module _ {F K : Type 0} (E : Extension F K) where
   -- the flags of rows without a fault are lawful

@@ -8,7 +8,8 @@ use Rattle.std.specs.declared.alloc.Global.{Global}
 use Rattle.std.specs.declared.vec.Vec.{Vec}
 use Rattle.field.specs.Ring.{Ring}
 use Rattle.matrix.specs.Matrix.{height}
-use Rattle.expressions.specs.Window.{Window, window_at}
+use Rattle.expressions.specs.Window.{Window}
+use Rattle.air.specs.Traces.{window_of}
 use Rattle.expressions.specs.declared.base_expression.SymbolicExpression.{SymbolicExpression}
 use Rattle.lookup_model.specs.Message.{Message, same_key}
 use Rattle.lookup_model.specs.Net.{first_seen, keys}
@@ -97,7 +98,7 @@ module _ {F : Type 0} (R : Ring F) (eq : F → F → Bool) (W m : ℕ) (width : 
       of_branches (t ∷ ts) (count ∷ ms) widths narrow =
           (record { below = lawful.below; has_width = length-map t.items (value R w) ∙ widths.0; narrow = omega (arith, length-map t.items (value R w), narrow.0) }, of_branches ts ms widths.1 narrow.1)
 
-  -- the items of two lists of one length at a place of both
+  -- the items of two lists of one length at an index of both
   zip_here : {A B : Type 0} (P : A × B → Type 0) (xs : List A) (ys : List B) (k : ℕ) (d : A) (y : B) → length xs ≡ length ys → AllByRecursion P (zip xs ys) → k < length ys → y ≡ get_or ys k y → P (get_or xs k d, y)
   zip_here P xs [] k d y same all lt is = absurd (omega (arith, lt))
   zip_here P [] (b ∷ ys) k d y same all lt is = absurd (omega (arith, same))
@@ -106,10 +107,10 @@ module _ {F : Type 0} (R : Ring F) (eq : F → F → Bool) (W m : ℕ) (width : 
 
   instance_lawful : (instance : Instance F) → IsFitting instance → AllByRecursion IsLawfulLookup (zip instance.ids instance.lookups) → AllByRecursion IsLawfulMessage (trace_messages (sent_rows_of R eq instance))
   instance_lawful instance fitting lawful =
-      let window = λ (r : ℕ). window_at instance.main instance.preprocessed instance.public_values (height instance.main) r in
+      let window = λ (r : ℕ). window_of instance.traces r in
       let of_row = λ (row : List (Sent F)). flat_map (λ (s : Sent F). s.messages) row in
       all_joined IsLawfulMessage of_row (sent_rows_of R eq instance)
-      (all_images (λ row. AllByRecursion IsLawfulMessage (of_row row)) (λ r. sent_row_under R eq (id_of instance.ids) (window r) instance.lookups) (range_with_len 0 (height instance.main))
+      (all_images (λ row. AllByRecursion IsLawfulMessage (of_row row)) (λ r. sent_row_under R eq (id_of instance.ids) (window r) instance.lookups) (range_with_len 0 (height instance.traces.main))
       (each_of (λ r. AllByRecursion IsLawfulMessage (of_row (sent_row_under R eq (id_of instance.ids) (window r) instance.lookups))) (λ r.
       all_joined IsLawfulMessage (λ (s : Sent F). s.messages) (sent_row_under R eq (id_of instance.ids) (window r) instance.lookups)
       (all_images (λ (s : Sent F). AllByRecursion IsLawfulMessage s.messages) (λ lookup. sent_at R eq (window r) (id_of instance.ids lookup) lookup) instance.lookups
@@ -117,7 +118,7 @@ module _ {F : Type 0} (R : Ring F) (eq : F → F → Bool) (W m : ℕ) (width : 
       let at : lookup.column ≡ k = column_is instance.lookups k lookup fitting.fit.records below is in
       sent_lawful (window r) (id_of instance.ids lookup) lookup
       (subst (λ (c : ℕ). IsLawfulLookup (slice_index_or instance.ids c 0, lookup)) (sym at) (zip_here IsLawfulLookup instance.ids instance.lookups k 0 lookup fitting.ids lawful below is))))))
-      (range_with_len 0 (height instance.main))))
+      (range_with_len 0 (height instance.traces.main))))
 
   batch_lawful : (instances : List (Instance F)) → AllByRecursion IsFitting instances → AllByRecursion IsLawfulLookup (identified instances) → AllByRecursion IsLawfulMessage (batch_messages R eq instances)
   batch_lawful [] fitting lawful = tt

@@ -5,7 +5,7 @@ use Rattle.std.specs.Option.{option_or}
 use Rattle.std.specs.Prelude.{if◌then◌else◌}
 use Rattle.field.specs.Ring.{Ring}
 use Rattle.field.specs.Extension.{Extension}
-use Rattle.lookup_model.specs.Fault.{IsLawfulSelection, are_boolean, fault_of, flag_fault_of, set_places, vanishes}
+use Rattle.lookup_model.specs.Fault.{IsLawfulSelection, are_boolean, fault_of, flag_fault_of, set_indices, vanishes}
 use Rattle.lookup_model.specs.Message.{Key, Message}
 use Rattle.lookup_model.specs.Plain.{counted}
 use Rattle.lookup_model.specs.Sent.{Sent, sent}
@@ -55,15 +55,15 @@ module _ (row column : ℕ) where
 
 module _ {F : Type 0} (R : Ring F) (eq : F → F → Bool) (row column : ℕ) where
   -- lawful flags have no fault
-  pub flags_faultless : (flags : List F) → are_boolean R eq flags ≡ true → length (set_places R eq 0 flags) ≤ 1 → flag_fault_of R eq row column (Some flags) ≡ None
-  flags_faultless flags e few = λ i. by_flag_tests row column (e i) (le-ltb 1 (length (set_places R eq 0 flags)) few i)
+  pub flags_faultless : (flags : List F) → are_boolean R eq flags ≡ true → length (set_indices R eq 0 flags) ≤ 1 → flag_fault_of R eq row column (Some flags) ≡ None
+  flags_faultless flags e few = λ i. by_flag_tests row column (e i) (le-ltb 1 (length (set_indices R eq 0 flags)) few i)
 
   -- and flags without a fault are lawful
   pub flags_none : (flags : Option (List F)) → flag_fault_of R eq row column flags ≡ None → IfSome flags (IsLawfulSelection R eq)
   flags_none None none = tt
   flags_none (Some flags) none =
-      let passed = flag_tests_passed row column (are_boolean R eq flags) (nat_lt 1 (length (set_places R eq 0 flags))) none in
-      (passed.0, ltb-false 1 (length (set_places R eq 0 flags)) passed.1)
+      let passed = flag_tests_passed row column (are_boolean R eq flags) (nat_lt 1 (length (set_indices R eq 0 flags))) none in
+      (passed.0, ltb-false 1 (length (set_indices R eq 0 flags)) passed.1)
 
 -- if neither of two options is there, the first is not
 first_none : {A : Type 0} (a b : Option A) → option_or a b ≡ None → a ≡ None
@@ -80,15 +80,15 @@ module _ {F K : Type 0} (E : Extension F K) (denominator : Key F → K) (row col
   exclusive = record { flags = Some flags; messages = messages }
 
   -- where the flags are lawful, the denominator that is selected is the fault
-  pub vanishing_fault : are_boolean E.base E.base_eq flags ≡ true → length (set_places E.base E.base_eq 0 flags) ≤ 1 → vanishes E denominator messages ≡ true → fault_of E denominator row column exclusive ≡ Some (VanishingDenominator row column)
-  vanishing_fault e few vanishing = λ i. by_tests row column (e i) (le-ltb 1 (length (set_places E.base E.base_eq 0 flags)) few i) (vanishing i)
+  pub vanishing_fault : are_boolean E.base E.base_eq flags ≡ true → length (set_indices E.base E.base_eq 0 flags) ≤ 1 → vanishes E denominator messages ≡ true → fault_of E denominator row column exclusive ≡ Some (VanishingDenominator row column)
+  vanishing_fault e few vanishing = λ i. by_tests row column (e i) (le-ltb 1 (length (set_indices E.base E.base_eq 0 flags)) few i) (vanishing i)
 
   -- where all three tests are passed there is no fault
-  pub exclusive_faultless : are_boolean E.base E.base_eq flags ≡ true → length (set_places E.base E.base_eq 0 flags) ≤ 1 → vanishes E denominator messages ≡ false → fault_of E denominator row column exclusive ≡ None
-  exclusive_faultless e few divides = λ i. by_tests row column (e i) (le-ltb 1 (length (set_places E.base E.base_eq 0 flags)) few i) (divides i)
+  pub exclusive_faultless : are_boolean E.base E.base_eq flags ≡ true → length (set_indices E.base E.base_eq 0 flags) ≤ 1 → vanishes E denominator messages ≡ false → fault_of E denominator row column exclusive ≡ None
+  exclusive_faultless e few divides = λ i. by_tests row column (e i) (le-ltb 1 (length (set_indices E.base E.base_eq 0 flags)) few i) (divides i)
 
   -- and no fault is that they are
-  pub exclusive_none : fault_of E denominator row column exclusive ≡ None → (are_boolean E.base E.base_eq flags ≡ true) × (length (set_places E.base E.base_eq 0 flags) ≤ 1) × (vanishes E denominator messages ≡ false)
+  pub exclusive_none : fault_of E denominator row column exclusive ≡ None → (are_boolean E.base E.base_eq flags ≡ true) × (length (set_indices E.base E.base_eq 0 flags) ≤ 1) × (vanishes E denominator messages ≡ false)
   exclusive_none none =
-      let passed = tests_passed row column (are_boolean E.base E.base_eq flags) (nat_lt 1 (length (set_places E.base E.base_eq 0 flags))) (vanishes E denominator messages) none in
-      (passed.0, ltb-false 1 (length (set_places E.base E.base_eq 0 flags)) passed.1, passed.2)
+      let passed = tests_passed row column (are_boolean E.base E.base_eq flags) (nat_lt 1 (length (set_indices E.base E.base_eq 0 flags))) (vanishes E denominator messages) none in
+      (passed.0, ltb-false 1 (length (set_indices E.base E.base_eq 0 flags)) passed.1, passed.2)

@@ -11,7 +11,7 @@ use Rattle.field.specs.Sums.{product_in, sum_in, taken_out}
 use Rattle.expressions.specs.Window.{Window}
 use Rattle.expressions.specs.declared.base_expression.SymbolicExpression.{SymbolicExpression}
 use Rattle.lookup_model.specs.Constraints.{fraction_left}
-use Rattle.lookup_model.specs.Denominators.{column_denominator, tuple_denominator}
+use Rattle.lookup_model.specs.Denominators.{key_denominator, tuple_denominator}
 use Rattle.field.specs.Extension.{Extension, IsLawful}
 use Rattle.lookup_model.specs.Fault.{vanishes}
 use Rattle.lookup_model.specs.Plain.{quotient_of}
@@ -73,26 +73,26 @@ module _ {F K : Type 0} {E : Extension F K} (laws : IsLawful E) (denominator : K
           let (here, left) = by_denominator (E.eq (denominator m.key) E.ring.zero) refl rest in (here, further left)
 
 module _ {F K : Type 0} {E : Extension F K} (laws : IsLawful E) (challenges : List K) (column : ℕ) (w : Window F) where
-  abbrev denominator_of : List F → K
-  denominator_of = tuple_denominator E (slice_index_or challenges (2 * column) E.ring.zero) (slice_index_or challenges (2 * column + 1) E.ring.zero)
+  abbrev denominator_of_tuple : List F → K
+  denominator_of_tuple = tuple_denominator E (slice_index_or challenges (2 * column) E.ring.zero) (slice_index_or challenges (2 * column + 1) E.ring.zero)
 
   abbrev of_key : Key F → K
-  of_key = column_denominator E challenges
+  of_key = key_denominator E challenges
 
   abbrev branches_of : List (Vec (SymbolicExpression F) Global × SymbolicExpression F) → List (Message F)
   branches_of zs = map (λ b. branch_at E.base w column b.0.items b.1) zs
 
   -- the denominators of a column's messages are those over the challenges of the column
-  by_column : (zs : List (Vec (SymbolicExpression F) Global × SymbolicExpression F)) → AllByRecursion (λ m. E.ring.mul (of_key m.key) (quotient_of E of_key m) ≡ E.embed m.multiplicity) (branches_of zs) → AllByRecursion (λ m. E.ring.mul (denominator_of m.key.tuple) (quotient_of E of_key m) ≡ E.embed m.multiplicity) (branches_of zs)
+  by_column : (zs : List (Vec (SymbolicExpression F) Global × SymbolicExpression F)) → AllByRecursion (λ m. E.ring.mul (of_key m.key) (quotient_of E of_key m) ≡ E.embed m.multiplicity) (branches_of zs) → AllByRecursion (λ m. E.ring.mul (denominator_of_tuple m.key.tuple) (quotient_of E of_key m) ≡ E.embed m.multiplicity) (branches_of zs)
   by_column [] each = tt
   by_column (z ∷ zs) each = (each.0, by_column zs each.1)
 
   -- the plain fraction of an additive lookup satisfies its constraint
-  pub additive_satisfied : (zs : List (Vec (SymbolicExpression F) Global × SymbolicExpression F)) (f : K) → f ≡ plain_fraction E of_key (record { flags = None; messages = branches_of zs }) → vanishes E of_key (counted E.base E.base_eq (branches_of zs)) ≡ false → fraction_left E denominator_of None (branches_of zs) f ≡ E.ring.zero
+  pub additive_satisfied : (zs : List (Vec (SymbolicExpression F) Global × SymbolicExpression F)) (f : K) → f ≡ plain_fraction E of_key (record { flags = None; messages = branches_of zs }) → vanishes E of_key (counted E.base E.base_eq (branches_of zs)) ≡ false → fraction_left E denominator_of_tuple None (branches_of zs) f ≡ E.ring.zero
   additive_satisfied zs f f_is none =
       let ms = branches_of zs in
       let p = λ (m : Message F). E.embed m.multiplicity in
-      let d = λ (m : Message F). denominator_of m.key.tuple in
+      let d = λ (m : Message F). denominator_of_tuple m.key.tuple in
       let whole : E.ring.mul (product_in E.ring (map d ms)) f ≡ sum_of laws.ring p d ms =
       ap (E.ring.mul (product_in E.ring (map d ms))) (f_is ∙ plain_fraction-all laws of_key (record { flags = None; messages = ms }))
       ∙ cleared laws.ring p d (quotient_of E of_key) ms (by_column zs (divides_each laws of_key ms none)) in

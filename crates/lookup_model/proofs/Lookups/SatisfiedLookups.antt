@@ -11,7 +11,7 @@ use Rattle.expressions.specs.Window.{Window}
 use Rattle.expressions.specs.declared.base_expression.SymbolicExpression.{SymbolicExpression}
 use Rattle.lookup_model.proofs.Branches.{length-branches_at}
 use Rattle.lookup_model.specs.Constraints.{flagged_denominators, fraction_left}
-use Rattle.lookup_model.specs.Denominators.{column_denominator, tuple_denominator}
+use Rattle.lookup_model.specs.Denominators.{key_denominator, tuple_denominator}
 use Rattle.field.specs.Extension.{Extension, IsLawful}
 use Rattle.lookup_model.specs.Fault.{fault_of}
 use Rattle.lookup_model.specs.Message.{Key, Message}
@@ -25,26 +25,26 @@ use Rattle.lookup_model.proofs.Lookups.SatisfiedSelections.{selection_satisfied}
 use Rattle.lookup_model.proofs.Lookups.Selections.{chosen_few}
 
 module _ {F K : Type 0} {E : Extension F K} (laws : IsLawful E) (challenges : List K) (column row : ℕ) (w : Window F) where
-  abbrev denominator_of : List F → K
-  denominator_of = tuple_denominator E (slice_index_or challenges (2 * column) E.ring.zero) (slice_index_or challenges (2 * column + 1) E.ring.zero)
+  abbrev denominator_of_tuple : List F → K
+  denominator_of_tuple = tuple_denominator E (slice_index_or challenges (2 * column) E.ring.zero) (slice_index_or challenges (2 * column + 1) E.ring.zero)
 
   abbrev of_key : Key F → K
-  of_key = column_denominator E challenges
+  of_key = key_denominator E challenges
 
   abbrev branches_of : List (Vec (SymbolicExpression F) Global × SymbolicExpression F) → List (Message F)
   branches_of zs = map (λ b. branch_at E.base w column b.0.items b.1) zs
 
   -- the denominators of a column's messages are those over the challenges of the column
-  by_column : (fs : List F) (zs : List (Vec (SymbolicExpression F) Global × SymbolicExpression F)) → flagged_denominators E denominator_of fs (branches_of zs) ≡ sum_in E.ring (map (λ (b : F × Message F). E.ring.mul (E.embed b.0) (of_key b.1.key)) (zip fs (branches_of zs)))
+  by_column : (fs : List F) (zs : List (Vec (SymbolicExpression F) Global × SymbolicExpression F)) → flagged_denominators E denominator_of_tuple fs (branches_of zs) ≡ sum_in E.ring (map (λ (b : F × Message F). E.ring.mul (E.embed b.0) (of_key b.1.key)) (zip fs (branches_of zs)))
   by_column [] zs = refl
   by_column (f ∷ fs) [] = refl
   by_column (f ∷ fs) (z ∷ zs) =
-      ap (E.ring.add (E.ring.mul (E.embed f) (denominator_of (branch_at E.base w column z.0.items z.1).key.tuple))) (by_column fs zs)
+      ap (E.ring.add (E.ring.mul (E.embed f) (denominator_of_tuple (branch_at E.base w column z.0.items z.1).key.tuple))) (by_column fs zs)
 
   -- with flags or without
   by_flags : (flags : Option (List F)) (zs : List (Vec (SymbolicExpression F) Global × SymbolicExpression F)) (f : K) → IfSome flags (λ fs. length fs ≡ length (branches_of zs))
       → f ≡ plain_fraction E of_key (sent E.base E.base_eq flags (branches_of zs)) → fault_of E of_key row column (sent E.base E.base_eq flags (branches_of zs)) ≡ None
-      → fraction_left E denominator_of flags (branches_of zs) f ≡ E.ring.zero
+      → fraction_left E denominator_of_tuple flags (branches_of zs) f ≡ E.ring.zero
   by_flags None zs f same f_is none =
       additive_satisfied laws challenges column w zs f f_is (additive_none E of_key row column (branches_of zs) none)
   by_flags (Some fs) zs f same f_is none =
@@ -59,7 +59,7 @@ module _ {F K : Type 0} {E : Extension F K} (laws : IsLawful E) (challenges : Li
 
   -- a lookup whose lists have equal lengths
   pub lookup_satisfied : (lookup : Lookup F) (f : K) → HasEqualLengths lookup → f ≡ plain_fraction E of_key (sent_at E.base E.base_eq w column lookup) → fault_of E of_key row column (sent_at E.base E.base_eq w column lookup) ≡ None
-      → fraction_left E denominator_of (flags_at E.base w lookup) (branches_at E.base w column lookup) f ≡ E.ring.zero
+      → fraction_left E denominator_of_tuple (flags_at E.base w lookup) (branches_at E.base w column lookup) f ≡ E.ring.zero
   lookup_satisfied lookup f lengths f_is none =
       by_flags (flags_at E.base w lookup) (zip lookup.elements.items lookup.multiplicities.items) f
       (as_many_flags lookup.flags (length (branches_at E.base w column lookup)) (λ fs is. lengths.flags fs is ∙ sym (length-branches_at E.base w column lookup lengths))) f_is none

@@ -10,8 +10,9 @@ use Rattle.field.specs.Ring.{of_bool, sub_in}
 use Rattle.field.specs.Sums.{sum_in}
 use Rattle.matrix.specs.Matrix.{Matrix, height, row}
 use Rattle.expressions.specs.Window.{ExtWindow, Window, window_at}
+use Rattle.air.specs.Traces.{AirTraces}
 use Rattle.lookup_model.specs.Constraints.{Constraint, accumulator_at, accumulator_constraints, fraction_at, fraction_constraint, fractions_at, terminal_at}
-use Rattle.lookup_model.specs.Denominators.{column_denominator}
+use Rattle.lookup_model.specs.Denominators.{key_denominator}
 use Rattle.field.specs.Extension.{Extension, IsLawful}
 use Rattle.lookup_model.specs.Fault.{fault_of, row_faults, trace_faults}
 use Rattle.lookup_model.specs.Message.{Key}
@@ -34,7 +35,7 @@ use Rattle.lookup_model.proofs.Lookups.Terminals.{plain_terminal-sum}
 use Rattle.lookup_model.proofs.Lists.{all_both}
 
 module _ {A : Type 0} where
-  -- what holds of the items at their places holds of each
+  -- what holds of the items at their indices holds of each
   pub all_indexed : (P : A → Type 0) (xs : List A) → ((i : ℕ) (x : A) → i < length xs → x ≡ get_or xs i x → P x) → AllByRecursion P xs
   all_indexed P [] each = tt
   all_indexed P (x ∷ xs) each =
@@ -104,15 +105,15 @@ module _ {F K : Type 0} (E : Extension F K) (denominator : Key F → K) where
       let last : cons_option (fault_of E denominator r (length front) s) [] ≡ [] = nothing_after (row_faults E denominator r front) _ (sym (row_faults-append (fault_of E denominator) r front (s ∷ [])) ∙ upto) in
       ap (λ n. fault_of E denominator r n s) (sym at) ∙ no_option (fault_of E denominator r (length front) s) [] last
 
-module _ {F K : Type 0} {E : Extension F K} (laws : IsLawful E) (challenges : List K) (main : Matrix F) (preprocessed : Option (Matrix F)) (public_values : List F) (lookups : List (Lookup F)) (records : AreRecords lookups) (some : 0 < length lookups) where
+module _ {F K : Type 0} {E : Extension F K} (laws : IsLawful E) (challenges : List K) (traces : AirTraces F) (lookups : List (Lookup F)) (records : AreRecords lookups) (some : 0 < length lookups) where
   abbrev den : Key F → K
-  den = column_denominator E challenges
+  den = key_denominator E challenges
 
   abbrev pf : Sent F → K
   pf = plain_fraction E den
 
   abbrev rows : List (List (Sent F))
-  rows = sent_rows E.base E.base_eq main preprocessed public_values lookups
+  rows = sent_rows E.base E.base_eq traces lookups
 
   abbrev auxiliary : Matrix K
   auxiliary = record { values = plain_cells E den rows; width = length lookups + 1 }
@@ -121,10 +122,10 @@ module _ {F K : Type 0} {E : Extension F K} (laws : IsLawful E) (challenges : Li
   terminal = Some (record { 0 = plain_terminal E den rows })
 
   abbrev base_window : ℕ → Window F
-  base_window r = window_at main preprocessed public_values (height main) r
+  base_window r = window_at traces.main traces.preprocessed traces.public_values (height traces.main) r
 
   abbrev window_of : ℕ → ExtWindow F K
-  window_of r = witness_window main preprocessed public_values challenges auxiliary terminal r
+  window_of r = witness_window traces challenges auxiliary terminal r
 
   abbrev sent_of : ℕ → Lookup F → Sent F
   sent_of r lookup = sent_at E.base E.base_eq (base_window r) lookup.column lookup
@@ -132,76 +133,76 @@ module _ {F K : Type 0} {E : Extension F K} (laws : IsLawful E) (challenges : Li
   abbrev sents_of : ℕ → List (Sent F)
   sents_of r = sent_row E.base E.base_eq (base_window r) lookups
 
-  high : length rows ≡ height main
-  high = length-sent_rows E.base E.base_eq main preprocessed public_values lookups
+  high : length rows ≡ height traces.main
+  high = length-sent_rows E.base E.base_eq traces lookups
 
-  sents_at : (r : ℕ) → r < height main → get_or rows r [] ≡ sents_of r
+  sents_at : (r : ℕ) → r < height traces.main → get_or rows r [] ≡ sents_of r
   sents_at r lt =
-      get_or_default rows r [] (sents_of r) (omega (arith, high, lt)) ∙ sym (sent_rows-at E.base E.base_eq main preprocessed public_values lookups r lt)
+      get_or_default rows r [] (sents_of r) (omega (arith, high, lt)) ∙ sym (sent_rows-at E.base E.base_eq traces lookups r lt)
 
   -- row r of the auxiliary trace
-  row_is : (r : ℕ) → r < height main → row auxiliary r ≡ plain_accumulator E den rows r ∷ map pf (sents_of r)
+  row_is : (r : ℕ) → r < height traces.main → row auxiliary r ≡ plain_accumulator E den rows r ∷ map pf (sents_of r)
   row_is r lt =
       row_of_parts (plain_row E den rows) (length lookups + 1) (length rows) r
-      (λ i below. omega (arith, length-map (get_or rows i []) pf, length-sent_rows-at E.base E.base_eq main preprocessed public_values lookups i (omega (arith, below, high))))
+      (λ i below. omega (arith, length-map (get_or rows i []) pf, length-sent_rows-at E.base E.base_eq traces lookups i (omega (arith, below, high))))
       (omega (arith, high, lt))
       ∙ ap (λ s. plain_accumulator E den rows r ∷ map pf s) (sents_at r lt)
 
   -- the fraction of a lookup on it
-  fraction_is : (r : ℕ) → r < height main → (k : ℕ) (lookup : Lookup F) → k < length lookups → lookup ≡ get_or lookups k lookup → fraction_at E lookup.column (window_of r) ≡ pf (sent_of r lookup)
+  fraction_is : (r : ℕ) → r < height traces.main → (k : ℕ) (lookup : Lookup F) → k < length lookups → lookup ≡ get_or lookups k lookup → fraction_at E lookup.column (window_of r) ≡ pf (sent_of r lookup)
   fraction_is r lt k lookup below is =
       let g = λ (l : Lookup F). pf (sent_of r l) in
-      let place : lookup.column + 1 ≡ suc k = omega (arith, column_is lookups k lookup records below is) in
+      let index : lookup.column + 1 ≡ suc k = omega (arith, column_is lookups k lookup records below is) in
       ap (λ xs. slice_index_or xs (lookup.column + 1) E.ring.zero) (row_is r lt)
-      ∙ ap (λ i. slice_index_or (plain_accumulator E den rows r ∷ map pf (sents_of r)) i E.ring.zero) place
+      ∙ ap (λ i. slice_index_or (plain_accumulator E den rows r ∷ map pf (sents_of r)) i E.ring.zero) index
       ∙ ap (λ xs. get_or xs k E.ring.zero) (map-map pf (sent_of r) lookups)
       ∙ get_or_default (map g lookups) k E.ring.zero (g lookup) (omega (arith, length-map lookups g, below))
       ∙ sym (mapped_at g lookups k lookup below is)
 
-  fractions_are : (r : ℕ) → r < height main → fractions_at E lookups (window_of r) ≡ sum_in E.ring (map pf (sents_of r))
+  fractions_are : (r : ℕ) → r < height traces.main → fractions_at E lookups (window_of r) ≡ sum_in E.ring (map pf (sents_of r))
   fractions_are r lt =
       ap (sum_in E.ring)
       (map_same (λ l. fraction_at E l.column (window_of r)) (λ l. pf (sent_of r l)) lookups (all_indexed (λ l. fraction_at E l.column (window_of r) ≡ pf (sent_of r l)) lookups (fraction_is r lt))
       ∙ sym (map-map pf (sent_of r) lookups))
 
-  accumulator_is : (r : ℕ) → r < height main → accumulator_at E (window_of r) ≡ plain_accumulator E den rows r
+  accumulator_is : (r : ℕ) → r < height traces.main → accumulator_at E (window_of r) ≡ plain_accumulator E den rows r
   accumulator_is r lt = ap (λ xs. slice_index_or xs 0 E.ring.zero) (row_is r lt)
 
   -- the accumulator after a row
-  after_row : (r : ℕ) → r < height main → plain_accumulator E den rows (r + 1) ≡ E.ring.add (accumulator_at E (window_of r)) (fractions_at E lookups (window_of r))
+  after_row : (r : ℕ) → r < height traces.main → plain_accumulator E den rows (r + 1) ≡ E.ring.add (accumulator_at E (window_of r)) (fractions_at E lookups (window_of r))
   after_row r lt =
-      plain_accumulator-more E den laws rows r (sents_of r) (omega (arith, high, lt)) (sent_rows-at E.base E.base_eq main preprocessed public_values lookups r lt)
+      plain_accumulator-more E den laws rows r (sents_of r) (omega (arith, high, lt)) (sent_rows-at E.base E.base_eq traces lookups r lt)
       ∙ (λ i. E.ring.add (sym (accumulator_is r lt) i) (sym (fractions_are r lt) i))
 
   module _ (faultless : trace_faults E den rows ≡ []) where
     -- each lookup's constraint
-    fraction_zero : (r : ℕ) → r < height main → (k : ℕ) (lookup : Lookup F) → k < length lookups → lookup ≡ get_or lookups k lookup → (fraction_constraint E lookup).meaning (window_of r) ≡ E.ring.zero
+    fraction_zero : (r : ℕ) → r < height traces.main → (k : ℕ) (lookup : Lookup F) → k < length lookups → lookup ≡ get_or lookups k lookup → (fraction_constraint E lookup).meaning (window_of r) ≡ E.ring.zero
     fraction_zero r lt k lookup below is =
         let there : sent_of r lookup ≡ get_or (sents_of r) k (sent_of r lookup) = mapped_at (sent_of r) lookups k lookup below is in
-        let row_none = no_row_fault E den rows r (sents_of r) (omega (arith, high, lt)) (sent_rows-at E.base E.base_eq main preprocessed public_values lookups r lt) faultless in
+        let row_none = no_row_fault E den rows r (sents_of r) (omega (arith, high, lt)) (sent_rows-at E.base E.base_eq traces lookups r lt) faultless in
         let none = no_lookup_fault E den r (sents_of r) k (sent_of r lookup) (omega (arith, length-map lookups (sent_of r), below)) there row_none in
         lookup_satisfied laws challenges lookup.column r (base_window r) lookup (fraction_at E lookup.column (window_of r)) (equal_lengths lookups k lookup records below is) (fraction_is r lt k lookup below is)
         (ap (λ c. fault_of E den r c (sent_of r lookup)) (column_is lookups k lookup records below is) ∙ none)
 
-    first_zero : (r : ℕ) → r < height main → E.ring.mul (of_bool E.ring (r == 0)) (accumulator_at E (window_of r)) ≡ E.ring.zero
+    first_zero : (r : ℕ) → r < height traces.main → E.ring.mul (of_bool E.ring (r == 0)) (accumulator_at E (window_of r)) ≡ E.ring.zero
     first_zero r lt =
         selected_zero laws.ring (r == 0) (accumulator_at E (window_of r)) (λ e. accumulator_is r lt ∙ ap (plain_accumulator E den rows) (eqb-true r 0 e))
 
-    transition_zero : (r : ℕ) → r < height main → E.ring.mul (of_bool E.ring (not (r + 1 == height main))) (sub_in E.ring (sub_in E.ring (slice_index_or (row auxiliary ((r + 1) % height main)) 0 E.ring.zero) (accumulator_at E (window_of r))) (fractions_at E lookups (window_of r))) ≡ E.ring.zero
-    transition_zero r lt = selected_zero laws.ring (not (r + 1 == height main)) _ (λ e.
-        let inner : r + 1 < height main = omega (arith, lt, eqb-false (r + 1) (height main) (not-true (r + 1 == height main) e)) in
-        taken_apart laws.ring (accumulator_at E (window_of r)) (fractions_at E lookups (window_of r)) (slice_index_or (row auxiliary ((r + 1) % height main)) 0 E.ring.zero)
+    transition_zero : (r : ℕ) → r < height traces.main → E.ring.mul (of_bool E.ring (not (r + 1 == height traces.main))) (sub_in E.ring (sub_in E.ring (slice_index_or (row auxiliary ((r + 1) % height traces.main)) 0 E.ring.zero) (accumulator_at E (window_of r))) (fractions_at E lookups (window_of r))) ≡ E.ring.zero
+    transition_zero r lt = selected_zero laws.ring (not (r + 1 == height traces.main)) _ (λ e.
+        let inner : r + 1 < height traces.main = omega (arith, lt, eqb-false (r + 1) (height traces.main) (not-true (r + 1 == height traces.main) e)) in
+        taken_apart laws.ring (accumulator_at E (window_of r)) (fractions_at E lookups (window_of r)) (slice_index_or (row auxiliary ((r + 1) % height traces.main)) 0 E.ring.zero)
         (ap (λ i. slice_index_or (row auxiliary i) 0 E.ring.zero) (mod-eq_of_lt inner) ∙ accumulator_is (r + 1) inner ∙ after_row r lt))
 
-    last_zero : (r : ℕ) → r < height main → E.ring.mul (of_bool E.ring (r + 1 == height main)) (sub_in E.ring (sub_in E.ring (plain_terminal E den rows) (accumulator_at E (window_of r))) (fractions_at E lookups (window_of r))) ≡ E.ring.zero
-    last_zero r lt = selected_zero laws.ring (r + 1 == height main) _ (λ e.
+    last_zero : (r : ℕ) → r < height traces.main → E.ring.mul (of_bool E.ring (r + 1 == height traces.main)) (sub_in E.ring (sub_in E.ring (plain_terminal E den rows) (accumulator_at E (window_of r))) (fractions_at E lookups (window_of r))) ≡ E.ring.zero
+    last_zero r lt = selected_zero laws.ring (r + 1 == height traces.main) _ (λ e.
         taken_apart laws.ring (accumulator_at E (window_of r)) (fractions_at E lookups (window_of r)) (plain_terminal E den rows)
         (plain_terminal-sum laws den rows
-        ∙ ap (λ t. sum_in E.ring (flat_map (λ s. map pf s) t)) (sym (take_all (r + 1) rows (omega (arith, high, eqb-true (r + 1) (height main) e))))
+        ∙ ap (λ t. sum_in E.ring (flat_map (λ s. map pf s) t)) (sym (take_all (r + 1) rows (omega (arith, high, eqb-true (r + 1) (height traces.main) e))))
         ∙ after_row r lt))
 
     -- the plain result with lookups
-    pub plain_satisfied : IsSatisfied E main preprocessed public_values lookups challenges auxiliary terminal
+    pub plain_satisfied : IsSatisfied E traces lookups challenges auxiliary terminal
     plain_satisfied = record {
       shape = shape lookups some refl;
       equations = λ r lt.
@@ -213,21 +214,21 @@ module _ {F K : Type 0} {E : Extension F K} (laws : IsLawful E) (challenges : Li
         IsZeroAt : ℕ → Constraint F K → Type 0
         IsZeroAt r constraint = constraint.meaning (window_of r) ≡ E.ring.zero
 
-        long : length (plain_cells E den rows) ≡ height main * (length lookups + 1)
-        long = length-plain_rows E den rows (length lookups) (λ k below. length-sent_rows-at E.base E.base_eq main preprocessed public_values lookups k (omega (arith, below, high))) 0 (length rows) (omega arith) ∙ ap (λ n. n * (length lookups + 1)) high
+        long : length (plain_cells E den rows) ≡ height traces.main * (length lookups + 1)
+        long = length-plain_rows E den rows (length lookups) (λ k below. length-sent_rows-at E.base E.base_eq traces lookups k (omega (arith, below, high))) 0 (length rows) (omega arith) ∙ ap (λ n. n * (length lookups + 1)) high
 
-        shape : (ls : List (Lookup F)) → 0 < length ls → length ls ≡ length lookups → HasShape ls (height main) auxiliary terminal
+        shape : (ls : List (Lookup F)) → 0 < length ls → length ls ≡ length lookups → HasShape ls (height traces.main) auxiliary terminal
         shape [] nonempty same = absurd (omega (arith, nonempty))
         shape (l ∷ ls) nonempty same = record {
           presence = refl;
           width = ap (λ n. n + 1) (sym same);
-          high = height_of (plain_cells E den rows) (height main) (length lookups) long;
-          whole = IsShaped-product (plain_cells E den rows) (height main) (length lookups) long;
+          high = height_of (plain_cells E den rows) (height traces.main) (length lookups) long;
+          whole = IsShaped-product (plain_cells E den rows) (height traces.main) (length lookups) long;
         }
 
 -- without lookups no cell and no terminal are a satisfied witness
-pub none_satisfied : {F K : Type 0} (E : Extension F K) (main : Matrix F) (preprocessed : Option (Matrix F)) (public_values : List F) (challenges : List K) (lookups : List (Lookup F)) (auxiliary : Matrix K) → lookups ≡ [] → auxiliary ≡ record { values = []; width = 0 } → IsSatisfied E main preprocessed public_values lookups challenges auxiliary None
-none_satisfied {F} {K} E main preprocessed public_values challenges lookups auxiliary none is =
-    subst (λ (ls : List (Lookup F)). IsSatisfied E main preprocessed public_values ls challenges auxiliary None) (sym none)
-    (subst (λ m. IsSatisfied E main preprocessed public_values [] challenges m None) (sym is)
+pub none_satisfied : {F K : Type 0} (E : Extension F K) (traces : AirTraces F) (challenges : List K) (lookups : List (Lookup F)) (auxiliary : Matrix K) → lookups ≡ [] → auxiliary ≡ record { values = []; width = 0 } → IsSatisfied E traces lookups challenges auxiliary None
+none_satisfied {F} {K} E traces challenges lookups auxiliary none is =
+    subst (λ (ls : List (Lookup F)). IsSatisfied E traces ls challenges auxiliary None) (sym none)
+    (subst (λ m. IsSatisfied E traces [] challenges m None) (sym is)
     (record { shape = record { presence = refl; width = refl; high = refl; whole = refl }; equations = λ r lt. tt }))

@@ -6,72 +6,72 @@ use Rattle.std.proofs.lemmas.List.Elements.{filter-append}
 use Rattle.std.proofs.lemmas.List.Folds.{list_all-append}
 use Rattle.std.specs.List.{enumerate_from, filter, list_all, zip}
 use Rattle.field.specs.Ring.{IsDomain, Ring}
-use Rattle.lookup_model.specs.Fault.{are_boolean, set_places}
+use Rattle.lookup_model.specs.Fault.{are_boolean, set_indices}
 use Rattle.lookup_model.specs.Sent.{chosen}
 use Rattle.lookup_model.proofs.Lookups.Rows.{enumerate_from-append}
 
 module _ {F : Type 0} (is_set : F → Bool) where
-  -- the places of the flags that pass a test, where the first flag has place n
-  abbrev pub places_that : ℕ → List F → List ℕ
-  places_that n fs = map (λ (p : ℕ × F). p.0) (filter (λ (p : ℕ × F). is_set p.1) (enumerate_from n fs))
+  -- the indices of the flags that pass a test, where the first flag has index n
+  abbrev pub indices_that : ℕ → List F → List ℕ
+  indices_that n fs = map (λ (p : ℕ × F). p.0) (filter (λ (p : ℕ × F). is_set p.1) (enumerate_from n fs))
 
-  -- the places of flags that go on
-  places-append : (n : ℕ) (xs ys : List F) → places_that n (xs ++ ys) ≡ places_that n xs ++ places_that (n + length xs) ys
-  places-append n xs ys =
+  -- the indices of flags that go on
+  indices-append : (n : ℕ) (xs ys : List F) → indices_that n (xs ++ ys) ≡ indices_that n xs ++ indices_that (n + length xs) ys
+  indices-append n xs ys =
       let passes = λ (p : ℕ × F). is_set p.1 in
       ap (λ t. map (λ (p : ℕ × F). p.0) (filter passes t)) (enumerate_from-append n xs ys)
       ∙ ap (map (λ (p : ℕ × F). p.0)) (filter-append passes (enumerate_from n xs) (enumerate_from (n + length xs) ys))
       ∙ map-append (λ (p : ℕ × F). p.0) (filter passes (enumerate_from n xs)) (filter passes (enumerate_from (n + length xs) ys))
 
-  -- the places with that of one more flag
-  pub places-more : (fs : List F) (f : F) (t : Bool) → is_set f ≡ t → places_that 0 (fs ++ f ∷ []) ≡ places_that 0 fs ++ map (λ (q : ℕ × F). q.0) (cond t ((length fs, f) ∷ []) [])
-  places-more fs f t e =
-      places-append 0 fs (f ∷ []) ∙ (λ i. places_that 0 fs ++ map (λ (q : ℕ × F). q.0) (cond (e i) ((zero_plus i, f) ∷ []) []))
+  -- the indices with that of one more flag
+  pub indices-more : (fs : List F) (f : F) (t : Bool) → is_set f ≡ t → indices_that 0 (fs ++ f ∷ []) ≡ indices_that 0 fs ++ map (λ (q : ℕ × F). q.0) (cond t ((length fs, f) ∷ []) [])
+  indices-more fs f t e =
+      indices-append 0 fs (f ∷ []) ∙ (λ i. indices_that 0 fs ++ map (λ (q : ℕ × F). q.0) (cond (e i) ((zero_plus i, f) ∷ []) []))
     where
       zero_plus : 0 + length fs ≡ length fs
       zero_plus = omega arith
 
 module _ {F : Type 0} (R : Ring F) (eq : F → F → Bool) where
-  -- a place is not before the first one
-  pub places_from : (n : ℕ) (fs : List F) (p : ℕ) (ps : List ℕ) → set_places R eq n fs ≡ p ∷ ps → n ≤ p
-  places_from n [] p ps e = absurd (cc e)
-  places_from n (f ∷ fs) p ps e = by_test (eq f R.one) e (places_from (n + 1) fs p ps)
+  -- an index is not before the first one
+  pub indices_from : (n : ℕ) (fs : List F) (p : ℕ) (ps : List ℕ) → set_indices R eq n fs ≡ p ∷ ps → n ≤ p
+  indices_from n [] p ps e = absurd (cc e)
+  indices_from n (f ∷ fs) p ps e = by_test (eq f R.one) e (indices_from (n + 1) fs p ps)
     where
-      by_test : (b : Bool) → map (λ (q : ℕ × F). q.0) (cond b ((n, f) ∷ filter (λ q. eq q.1 R.one) (enumerate_from (n + 1) fs)) (filter (λ q. eq q.1 R.one) (enumerate_from (n + 1) fs))) ≡ p ∷ ps → (set_places R eq (n + 1) fs ≡ p ∷ ps → n + 1 ≤ p) → n ≤ p
+      by_test : (b : Bool) → map (λ (q : ℕ × F). q.0) (cond b ((n, f) ∷ filter (λ q. eq q.1 R.one) (enumerate_from (n + 1) fs)) (filter (λ q. eq q.1 R.one) (enumerate_from (n + 1) fs))) ≡ p ∷ ps → (set_indices R eq (n + 1) fs ≡ p ∷ ps → n + 1 ≤ p) → n ≤ p
       by_test true at later = let first : n ≡ p = cc at in omega (arith, first)
       by_test false at later = omega (arith, later at)
 
   -- and within the flags
-  pub place_within : (n : ℕ) (fs : List F) (p : ℕ) (ps : List ℕ) → set_places R eq n fs ≡ p ∷ ps → p < n + length fs
-  place_within n [] p ps e = absurd (cc e)
-  place_within n (f ∷ fs) p ps e = by_test (eq f R.one) e (place_within (n + 1) fs p ps)
+  pub index_within : (n : ℕ) (fs : List F) (p : ℕ) (ps : List ℕ) → set_indices R eq n fs ≡ p ∷ ps → p < n + length fs
+  index_within n [] p ps e = absurd (cc e)
+  index_within n (f ∷ fs) p ps e = by_test (eq f R.one) e (index_within (n + 1) fs p ps)
     where
-      by_test : (b : Bool) → map (λ (q : ℕ × F). q.0) (cond b ((n, f) ∷ filter (λ q. eq q.1 R.one) (enumerate_from (n + 1) fs)) (filter (λ q. eq q.1 R.one) (enumerate_from (n + 1) fs))) ≡ p ∷ ps → (set_places R eq (n + 1) fs ≡ p ∷ ps → p < n + 1 + length fs) → p < n + suc (length fs)
+      by_test : (b : Bool) → map (λ (q : ℕ × F). q.0) (cond b ((n, f) ∷ filter (λ q. eq q.1 R.one) (enumerate_from (n + 1) fs)) (filter (λ q. eq q.1 R.one) (enumerate_from (n + 1) fs))) ≡ p ∷ ps → (set_indices R eq (n + 1) fs ≡ p ∷ ps → p < n + 1 + length fs) → p < n + suc (length fs)
       by_test true at later = let first : n ≡ p = cc at in omega (arith, first)
       by_test false at later = omega (arith, later at)
 
   module _ {X : Type 0} where
     -- no more branches are chosen than flags are set
-    pub chosen_few : (n : ℕ) (fs : List F) (bs : List X) → length (chosen R eq fs bs) ≤ length (set_places R eq n fs)
+    pub chosen_few : (n : ℕ) (fs : List F) (bs : List X) → length (chosen R eq fs bs) ≤ length (set_indices R eq n fs)
     chosen_few n [] bs = omega arith
     chosen_few n (f ∷ fs) [] = omega arith
     chosen_few n (f ∷ fs) (b ∷ bs) = by_test (eq f R.one) (chosen_few (n + 1) fs bs)
       where
-        by_test : (t : Bool) → length (chosen R eq fs bs) ≤ length (set_places R eq (n + 1) fs) → length (map (λ (q : F × X). q.1) (cond t ((f, b) ∷ filter (λ q. eq q.0 R.one) (zip fs bs)) (filter (λ q. eq q.0 R.one) (zip fs bs))))
+        by_test : (t : Bool) → length (chosen R eq fs bs) ≤ length (set_indices R eq (n + 1) fs) → length (map (λ (q : F × X). q.1) (cond t ((f, b) ∷ filter (λ q. eq q.0 R.one) (zip fs bs)) (filter (λ q. eq q.0 R.one) (zip fs bs))))
             ≤ length (map (λ (q : ℕ × F). q.0) (cond t ((n, f) ∷ filter (λ q. eq q.1 R.one) (enumerate_from (n + 1) fs)) (filter (λ q. eq q.1 R.one) (enumerate_from (n + 1) fs))))
         by_test true few = omega (arith, few)
         by_test false few = few
 
     -- where no flag is set none is chosen
-    pub chosen_none : (n : ℕ) (fs : List F) (bs : List X) → set_places R eq n fs ≡ [] → chosen R eq fs bs ≡ []
+    pub chosen_none : (n : ℕ) (fs : List F) (bs : List X) → set_indices R eq n fs ≡ [] → chosen R eq fs bs ≡ []
     chosen_none n fs bs none = empty (chosen R eq fs bs) (omega (arith, chosen_few n fs bs, ap length none))
       where
         empty : (xs : List X) → length xs ≤ 0 → xs ≡ []
         empty [] le = refl
         empty (x ∷ xs) le = absurd (omega (arith, le))
 
-    -- where one is set, the branch at its place is chosen
-    pub chosen_one : (n k : ℕ) (fs : List F) (bs : List X) (b : X) → set_places R eq n fs ≡ (n + k) ∷ [] → k < length bs → b ≡ get_or bs k b → chosen R eq fs bs ≡ b ∷ []
+    -- where one is set, the branch at its index is chosen
+    pub chosen_one : (n k : ℕ) (fs : List F) (bs : List X) (b : X) → set_indices R eq n fs ≡ (n + k) ∷ [] → k < length bs → b ≡ get_or bs k b → chosen R eq fs bs ≡ b ∷ []
     chosen_one n k [] bs b one lt is = absurd (cc one)
     chosen_one n k (f ∷ fs) [] b one lt is = absurd (omega (arith, lt))
     chosen_one n zero (f ∷ fs) (x ∷ bs) b one lt is = by_test (eq f R.one) one
@@ -79,12 +79,12 @@ module _ {F : Type 0} (R : Ring F) (eq : F → F → Bool) where
         by_test : (t : Bool) → map (λ (q : ℕ × F). q.0) (cond t ((n, f) ∷ filter (λ q. eq q.1 R.one) (enumerate_from (n + 1) fs)) (filter (λ q. eq q.1 R.one) (enumerate_from (n + 1) fs))) ≡ (n + 0) ∷ []
             → map (λ (q : F × X). q.1) (cond t ((f, x) ∷ filter (λ q. eq q.0 R.one) (zip fs bs)) (filter (λ q. eq q.0 R.one) (zip fs bs))) ≡ b ∷ []
         by_test true at =
-            let rest : set_places R eq (n + 1) fs ≡ [] = cc at in λ i. sym is i ∷ chosen_none (n + 1) fs bs rest i
-        by_test false at = absurd (omega (arith, places_from (n + 1) fs (n + 0) [] at))
-    chosen_one n (suc j) (f ∷ fs) (x ∷ bs) b one lt is = by_test (eq f R.one) one (λ (at : set_places R eq (n + 1) fs ≡ (n + 1 + j) ∷ []). chosen_one (n + 1) j fs bs b at (omega (arith, lt)) is)
+            let rest : set_indices R eq (n + 1) fs ≡ [] = cc at in λ i. sym is i ∷ chosen_none (n + 1) fs bs rest i
+        by_test false at = absurd (omega (arith, indices_from (n + 1) fs (n + 0) [] at))
+    chosen_one n (suc j) (f ∷ fs) (x ∷ bs) b one lt is = by_test (eq f R.one) one (λ (at : set_indices R eq (n + 1) fs ≡ (n + 1 + j) ∷ []). chosen_one (n + 1) j fs bs b at (omega (arith, lt)) is)
       where
         by_test : (t : Bool) → map (λ (q : ℕ × F). q.0) (cond t ((n, f) ∷ filter (λ q. eq q.1 R.one) (enumerate_from (n + 1) fs)) (filter (λ q. eq q.1 R.one) (enumerate_from (n + 1) fs))) ≡ (n + suc j) ∷ []
-            → (set_places R eq (n + 1) fs ≡ (n + 1 + j) ∷ [] → chosen R eq fs bs ≡ b ∷ [])
+            → (set_indices R eq (n + 1) fs ≡ (n + 1 + j) ∷ [] → chosen R eq fs bs ≡ b ∷ [])
             → map (λ (q : F × X). q.1) (cond t ((f, x) ∷ filter (λ q. eq q.0 R.one) (zip fs bs)) (filter (λ q. eq q.0 R.one) (zip fs bs))) ≡ b ∷ []
         by_test true at further = let first : n ≡ n + suc j = cc at in absurd (omega (arith, first))
         by_test false at further = further (at ∙ ap (λ p. p ∷ []) (omega arith))

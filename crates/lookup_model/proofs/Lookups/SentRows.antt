@@ -1,13 +1,13 @@
 -- What a row sends, lookup by lookup.
-use Rattle.std.proofs.Common.{◌≡◌, ℕ, ◌<◌, Bool, Option, List, [], length, get_or, sym, ap, ◌∙◌, arith}
+use Rattle.std.proofs.Common.{◌≡◌, ℕ, ◌<◌, Bool, List, [], length, get_or, sym, ap, ◌∙◌, arith}
 use Rattle.std.proofs.lemmas.List.{length-map}
 use Rattle.std.proofs.lemmas.List.FromFn.{get_or-map-range_with_len, length-map-range_with_len}
 use Rattle.std.proofs.lemmas.Option.{slice_get_read}
 use Rattle.field.specs.Ring.{Ring}
-use Rattle.expressions.specs.Window.{window_at}
+use Rattle.air.specs.Traces.{AirTraces, window_of}
 use Rattle.lookup_model.specs.Records.{AreRecords, HasEqualLengths}
 use Rattle.lookup_model.specs.Sent.{sent_at}
-use Rattle.matrix.specs.Matrix.{Matrix, height}
+use Rattle.matrix.specs.Matrix.{height}
 use Rattle.lookup_model.specs.Trace.{sent_row, sent_rows}
 use Rattle.lookup_model.specs.declared.types.Lookup.{Lookup}
 
@@ -20,19 +20,19 @@ pub equal_lengths : {F : Type 0} (lookups : List (Lookup F)) (i : ℕ) (lookup :
 equal_lengths lookups i lookup records lt is = (records i lookup lt (slice_get_read lookups (length lookups) i lookup (λ _. length lookups) lt is)).1
 
 -- row r is what the window of row r sends
-pub sent_rows-at : {F : Type 0} (R : Ring F) (eq : F → F → Bool) (main : Matrix F) (preprocessed : Option (Matrix F)) (public_values : List F) (lookups : List (Lookup F)) (r : ℕ) → r < height main
-    → let row = sent_row R eq (window_at main preprocessed public_values (height main) r) lookups in row ≡ get_or (sent_rows R eq main preprocessed public_values lookups) r row
-sent_rows-at R eq main preprocessed public_values lookups r lt =
-    let f = λ (k : ℕ). sent_row R eq (window_at main preprocessed public_values (height main) k) lookups in
-    sym (get_or-map-range_with_len f 0 (height main) r r (f r) lt (omega arith))
+pub sent_rows-at : {F : Type 0} (R : Ring F) (eq : F → F → Bool) (traces : AirTraces F) (lookups : List (Lookup F)) (r : ℕ) → r < height traces.main
+    → let row = sent_row R eq (window_of traces r) lookups in row ≡ get_or (sent_rows R eq traces lookups) r row
+sent_rows-at R eq traces lookups r lt =
+    let f = λ (k : ℕ). sent_row R eq (window_of traces k) lookups in
+    sym (get_or-map-range_with_len f 0 (height traces.main) r r (f r) lt (omega arith))
 
 -- the number of rows is the height of the trace
-pub length-sent_rows : {F : Type 0} (R : Ring F) (eq : F → F → Bool) (main : Matrix F) (preprocessed : Option (Matrix F)) (public_values : List F) (lookups : List (Lookup F)) → length (sent_rows R eq main preprocessed public_values lookups) ≡ height main
-length-sent_rows R eq main preprocessed public_values lookups =
-    length-map-range_with_len (λ k. sent_row R eq (window_at main preprocessed public_values (height main) k) lookups) 0 (height main)
+pub length-sent_rows : {F : Type 0} (R : Ring F) (eq : F → F → Bool) (traces : AirTraces F) (lookups : List (Lookup F)) → length (sent_rows R eq traces lookups) ≡ height traces.main
+length-sent_rows R eq traces lookups =
+    length-map-range_with_len (λ k. sent_row R eq (window_of traces k) lookups) 0 (height traces.main)
 
 -- the length of each row is the number of lookups
-pub length-sent_rows-at : {F : Type 0} (R : Ring F) (eq : F → F → Bool) (main : Matrix F) (preprocessed : Option (Matrix F)) (public_values : List F) (lookups : List (Lookup F)) (r : ℕ) → r < height main → length (get_or (sent_rows R eq main preprocessed public_values lookups) r []) ≡ length lookups
-length-sent_rows-at R eq main preprocessed public_values lookups r lt =
-    let f = λ (k : ℕ). sent_row R eq (window_at main preprocessed public_values (height main) k) lookups in
-    ap length (get_or-map-range_with_len f 0 (height main) r r [] lt (omega arith)) ∙ length-map lookups (λ l. sent_at R eq (window_at main preprocessed public_values (height main) r) l.column l)
+pub length-sent_rows-at : {F : Type 0} (R : Ring F) (eq : F → F → Bool) (traces : AirTraces F) (lookups : List (Lookup F)) (r : ℕ) → r < height traces.main → length (get_or (sent_rows R eq traces lookups) r []) ≡ length lookups
+length-sent_rows-at R eq traces lookups r lt =
+    let f = λ (k : ℕ). sent_row R eq (window_of traces k) lookups in
+    ap length (get_or-map-range_with_len f 0 (height traces.main) r r [] lt (omega arith)) ∙ length-map lookups (λ l. sent_at R eq (window_of traces r) l.column l)

@@ -3,10 +3,10 @@ use Rattle.std.specs.Prelude.{◌≡◌, ℕ, List, [], map}
 use Rattle.std.specs.List.{AllZip, flat_map, range_with_len}
 use Rattle.field.specs.Ring.{Ring}
 use Rattle.field.specs.Sums.{sum_in}
-use Rattle.matrix.specs.Matrix.{height}
-use Rattle.expressions.specs.Window.{ExtWindow, window_at}
+use Rattle.expressions.specs.Window.{ExtWindow}
+use Rattle.air.specs.Traces.{height_of, window_of}
 use Rattle.lookup_model.specs.Challenges.{ChallengeTable, column_challenges}
-use Rattle.lookup_model.specs.Constraints.{denominator_at, fraction_denominator, fraction_numerator}
+use Rattle.lookup_model.specs.Constraints.{column_tuple_denominator, fraction_denominator, fraction_numerator}
 use Rattle.field.specs.Extension.{Extension}
 use Rattle.lookup_model.specs.Sent.{branches_at, flags_at}
 use Rattle.lookup_model.specs.declared.types.Lookup.{Lookup}
@@ -34,8 +34,8 @@ module _ {F K : Type 0} (E : Extension F K) where
   -- The equation of a lookup's fraction at a window: U * f = V without flags, D * f = N with flags.
   abbrev pub equation_at : ExtWindow F K → Lookup F → Equation K
   equation_at w lookup = record {
-    numerator = fraction_numerator E (denominator_at E lookup.column w) (flags_at E.base w.base lookup) (branches_at E.base w.base lookup.column lookup);
-    denominator = fraction_denominator E (denominator_at E lookup.column w) (flags_at E.base w.base lookup) (branches_at E.base w.base lookup.column lookup);
+    numerator = fraction_numerator E (column_tuple_denominator E lookup.column w) (flags_at E.base w.base lookup) (branches_at E.base w.base lookup.column lookup);
+    denominator = fraction_denominator E (column_tuple_denominator E lookup.column w) (flags_at E.base w.base lookup) (branches_at E.base w.base lookup.column lookup);
   }
 
   -- those of all lookups of an AIR
@@ -46,7 +46,7 @@ module _ {F K : Type 0} (E : Extension F K) where
     -- row r of an AIR with the challenges of its columns, and nothing of an auxiliary trace
     abbrev pub challenged_window : Instance F → ℕ → ExtWindow F K
     challenged_window i r = record {
-      base = window_at i.main i.preprocessed i.public_values (height i.main) r;
+      base = window_of i.traces r;
       permutation = [];
       permutation_next = [];
       challenges = column_challenges table i.ids;
@@ -55,7 +55,7 @@ module _ {F K : Type 0} (E : Extension F K) where
 
     -- the equations of an AIR, row by row and lookup by lookup
     abbrev pub air_equations : Instance F → List (Equation K)
-    air_equations i = flat_map (λ r. row_equations (challenged_window i r) i.lookups) (range_with_len 0 (height i.main))
+    air_equations i = flat_map (λ r. row_equations (challenged_window i r) i.lookups) (range_with_len 0 (height_of i.traces))
 
     -- those of a batch, AIR by AIR
     abbrev pub batch_equations : List (Instance F) → List (Equation K)

@@ -1,9 +1,8 @@
 -- The AIRs of a batch, as contracts see them.
-use Rattle.std.specs.Prelude.{◌≡◌, ◌<◌, ℕ, List, Option, All, length, map}
+use Rattle.std.specs.Prelude.{◌≡◌, ◌<◌, ℕ, List, All, length, map}
 use Rattle.std.specs.Box.{boxed_slice_items}
-use Rattle.std.specs.Option.{ForSome, option_copied}
-use Rattle.matrix.specs.Matrix.{Matrix, height}
-use Rattle.expressions.specs.Layout.{layout_of_traces}
+use Rattle.std.specs.Option.{option_copied}
+use Rattle.air.specs.Traces.{AirTraces, AreEven, air_traces, height_of, layout_of}
 use Rattle.lookup_model.specs.Records.{LookupsFit}
 use Rattle.lookup_model.specs.declared.challenges.Challenges.{Challenges}
 use Rattle.lookup_model.specs.declared.types.Lookup.{Lookup}
@@ -12,18 +11,14 @@ use Rattle.lookup_model.specs.declared.instance.BatchInstance.{BatchInstance}
 -- one AIR of a batch: its lookups with an id for each, and its traces
 pub record Instance (F : Type 0) : Type 0 where
   pub lookups : List (Lookup F)
-  pub main : Matrix F
-  pub preprocessed : Option (Matrix F)
-  pub public_values : List F
+  pub traces : AirTraces F
   pub ids : List ℕ
 
 -- the AIR that a value of the program holds
 abbrev pub instance_of : {F : Type 0} → BatchInstance F → Instance F
 instance_of b = record {
   lookups = b.lookups.now;
-  main = b.main.now;
-  preprocessed = option_copied b.preprocessed;
-  public_values = b.public_values.now;
+  traces = air_traces b.main.now (option_copied b.preprocessed) b.public_values.now;
   ids = b.ids.now;
 }
 
@@ -34,9 +29,9 @@ instances_of bs = map instance_of bs
 -- The lookups fit the traces, the traces have one height, which is not zero if there are lookups, and
 -- there is an id for each lookup.
 pub record IsFitting {F : Type 0} (instance : Instance F) : Type 0 where
-  pub fit : LookupsFit (layout_of_traces instance.main instance.preprocessed instance.public_values) instance.lookups
-  pub heights : ForSome instance.preprocessed (λ m. height m ≡ height instance.main)
-  pub nonempty : 0 < length instance.lookups → 0 < height instance.main
+  pub fit : LookupsFit (layout_of instance.traces) instance.lookups
+  pub heights : AreEven instance.traces
+  pub nonempty : 0 < length instance.lookups → 0 < height_of instance.traces
   pub ids : length instance.ids ≡ length instance.lookups
 
 -- each AIR of a batch is so

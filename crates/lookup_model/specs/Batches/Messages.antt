@@ -2,7 +2,7 @@
 use Rattle.std.specs.Prelude.{◌≢◌, ℕ, Bool, List, IfSome, slice_index_or}
 use Rattle.std.specs.List.{AllByRecursion, flat_map}
 use Rattle.field.specs.Ring.{Ring}
-use Rattle.lookup_model.specs.Challenges.{ChallengeTable, table_denominator}
+use Rattle.lookup_model.specs.Challenges.{ChallengeTable, table_key_denominator}
 use Rattle.field.specs.Extension.{Extension}
 use Rattle.lookup_model.specs.Fault.{IsLawfulSelection}
 use Rattle.lookup_model.specs.Message.{Key, Message}
@@ -19,7 +19,7 @@ id_of ids lookup = slice_index_or ids lookup.column 0
 module _ {F : Type 0} (R : Ring F) (eq : F → F → Bool) where
   -- what the lookups of an AIR send on each row of its traces, each under its id
   abbrev pub sent_rows_of : Instance F → List (List (Sent F))
-  sent_rows_of i = sent_rows_under R eq (id_of i.ids) i.main i.preprocessed i.public_values i.lookups
+  sent_rows_of i = sent_rows_under R eq (id_of i.ids) i.traces i.lookups
 
   -- all messages of a batch, AIR by AIR
   abbrev pub batch_messages : List (Instance F) → List (Message F)
@@ -40,4 +40,4 @@ NoneVanishes E denominator messages = AllByRecursion (λ m. denominator m.key �
 -- A batch is regular at a challenge table: its flags are lawful, and no denominator vanishes.
 pub record IsRegular {F K : Type 0} (E : Extension F K) (table : ChallengeTable K) (instances : List (Instance F)) : Type 0 where
   pub flags : AreFlagsLawful E.base E.base_eq instances
-  pub denominators : NoneVanishes E (table_denominator E table) (batch_messages E.base E.base_eq instances)
+  pub denominators : NoneVanishes E (table_key_denominator E table) (batch_messages E.base E.base_eq instances)

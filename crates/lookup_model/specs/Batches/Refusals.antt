@@ -3,6 +3,8 @@
 use Rattle.std.specs.Prelude.{◌≡◌, ◌≢◌, ◌<◌, ◌⊎◌, ℕ, List, Some, map, slice_get}
 use Rattle.std.specs.Option.{is_some}
 use Rattle.matrix.specs.Matrix.{height}
+use Rattle.expressions.specs.Faults.{FailsFirstAt}
+use Rattle.air.specs.Traces.{height_of}
 use Rattle.lookup_model.specs.Challenges.{ChallengeTable, column_challenges}
 use Rattle.field.specs.Extension.{Extension}
 use Rattle.lookup_model.specs.Terminals.{terminal_sum}
@@ -20,23 +22,21 @@ module _ {F K : Type 0} where
       ⊎ ((has_terminal i.lookups ≡ is_some result.1)
       × (((result.0.width ≢ auxiliary_width i.lookups) × (e ≡ PermutationWidthMismatch air (auxiliary_width i.lookups)))
       ⊎ ((result.0.width ≡ auxiliary_width i.lookups)
-      × ((height result.0 ≢ auxiliary_height i.lookups (height i.main)) × (e ≡ PermutationHeightMismatch air)))))
+      × ((height result.0 ≢ auxiliary_height i.lookups (height_of i.traces)) × (e ≡ PermutationHeightMismatch air)))))
 
   -- the result of an AIR has the shape that its lookups ask for
   abbrev pub HasShapeAt : Instance F → AirResult K → Type 0
-  HasShapeAt i result = HasShape i.lookups (height i.main) result.0 result.1
+  HasShapeAt i result = HasShape i.lookups (height_of i.traces) result.0 result.1
 
 module _ {F K : Type 0} (E : Extension F K) (table : ChallengeTable K) where
   -- every constraint of an AIR is zero on row r
   abbrev pub HoldsAt : Instance F → AirResult K → ℕ → Type 0
   HoldsAt i result r =
-      HoldsOnRow E i.main i.preprocessed i.public_values i.lookups (column_challenges table i.ids) result.0 result.1 r
+      HoldsOnRow E i.traces i.lookups (column_challenges table i.ids) result.0 result.1 r
 
   -- row r is the first on which a constraint is not zero
-  pub record IsFirstFailing (i : Instance F) (result : AirResult K) (r : ℕ) : Type 0 where
-    pub within : r < height i.main
-    pub fails : ¬ HoldsAt i result r
-    pub before : (s : ℕ) → s < r → HoldsAt i result s
+  abbrev pub IsFirstFailing : Instance F → AirResult K → ℕ → Type 0
+  IsFirstFailing i result r = FailsFirstAt (HoldsAt i result) (height_of i.traces) r
 
   -- the refusal of one AIR's result: for its shape, else at the first row where a constraint fails
   abbrev pub IsAirRefusal : ℕ → Instance F → AirResult K → LookupError → Type 0

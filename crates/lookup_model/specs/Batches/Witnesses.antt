@@ -2,7 +2,7 @@
 use Rattle.std.specs.Prelude.{◌≡◌, List, Option, length, map}
 use Rattle.std.specs.List.{AllZip, zip}
 use Rattle.matrix.specs.Matrix.{Matrix}
-use Rattle.lookup_model.specs.Challenges.{ChallengeTable, column_challenges, table_denominator}
+use Rattle.lookup_model.specs.Challenges.{ChallengeTable, column_challenges, table_key_denominator}
 use Rattle.field.specs.Extension.{Extension}
 use Rattle.lookup_model.specs.Generated.{plain_matrix, plain_terminal_of}
 use Rattle.lookup_model.specs.Terminals.{terminal_sum}
@@ -29,7 +29,7 @@ module _ {F K : Type 0} (E : Extension F K) (table : ChallengeTable K) where
   -- the constraints of one AIR hold on all of its rows
   abbrev pub IsSatisfiedAt : Instance F → AirResult K → Type 0
   IsSatisfiedAt i r =
-      IsSatisfied E i.main i.preprocessed i.public_values i.lookups (column_challenges table i.ids) r.0 r.1
+      IsSatisfied E i.traces i.lookups (column_challenges table i.ids) r.0 r.1
 
   -- A witness is satisfied if it has a result for each AIR, and the constraints of each hold.
   abbrev pub AreSatisfied : List (Instance F) → List (AirResult K) → Type 0
@@ -48,7 +48,7 @@ module _ {F K : Type 0} (E : Extension F K) (table : ChallengeTable K) where
   abbrev pub plain_result : Instance F → AirResult K
   plain_result i =
       let rows = sent_rows_of E.base E.base_eq i in
-      (plain_matrix E (table_denominator E table) i.lookups rows, plain_terminal_of E (table_denominator E table) i.lookups rows)
+      (plain_matrix E (table_key_denominator E table) i.lookups rows, plain_terminal_of E (table_key_denominator E table) i.lookups rows)
 
   -- the plain witness of a batch
   abbrev pub plain_witness : List (Instance F) → List (AirResult K)

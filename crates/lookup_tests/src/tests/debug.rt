@@ -94,7 +94,7 @@ fn expect_of_air<F: Field>(
 }
 
 /// A local lookup of cell 0, as often as cell `count` says.
-fn counted<F: Field>(rt: &impl Abort, alloc: Global, count: usize, column: usize) -> Lookup<F> {
+fn with_count<F: Field>(rt: &impl Abort, alloc: Global, count: usize, column: usize) -> Lookup<F> {
     let tuple = alone(rt, alloc, cell(0));
     local(
         alone(rt, alloc, tuple),
@@ -105,7 +105,7 @@ fn counted<F: Field>(rt: &impl Abort, alloc: Global, count: usize, column: usize
 
 /// The same on a bus.
 fn on_bus(rt: &impl Abort, alloc: Global, bus: &str, count: usize, column: usize) -> Lookup<F7> {
-    let mut lookup = counted(rt, alloc, count, column);
+    let mut lookup = with_count(rt, alloc, count, column);
     lookup.kind = Kind::Global(text(rt, alloc, bus));
     lookup
 }
@@ -119,16 +119,16 @@ fn is_ten(fault: &LookupFault<BabyBear>) -> bool {
             net,
             locations,
         } => {
-            let place = Location {
+            let location = Location {
                 instance: 0,
                 lookup: 0,
                 row: 1,
             };
             let is_tuple = tuple.len() == 1 && tuple[0].as_str() == "10";
-            let is_place = locations.len() == 1 && locations[0] == place;
+            let is_there = locations.len() == 1 && locations[0] == location;
             label.as_str() == "instance 0 local lookup 0"
                 && is_tuple
-                && is_place
+                && is_there
                 && *net == BabyBear::ONE
         }
         _ => false,
@@ -280,8 +280,8 @@ fn local_lookups_come_first(rt: HostRuntime) {
     let main: RowMajorMatrix<F7> = trace(&rt, alloc, &[3, 1, 6], 3);
     let lookups = [
         on_bus(&rt, alloc, "a", 1, 0),
-        counted(&rt, alloc, 1, 1),
-        counted(&rt, alloc, 2, 2),
+        with_count(&rt, alloc, 1, 1),
+        with_count(&rt, alloc, 2, 2),
     ];
     let none: [Lookup<F7>; 0] = [];
     let instances = [
@@ -403,7 +403,7 @@ fn more_rows_than_are_kept(rt: HostRuntime) {
             .expect(&rt, "memory");
     }
     numbers.extend_from_slice(&[7, 1]).expect(&rt, "memory");
-    let lookups = [counted(&rt, alloc, 1, 0)];
+    let lookups = [with_count(&rt, alloc, 1, 0)];
     let text =
         "Lookup mismatch (instance 0 local lookup 0): tuple [7] has net multiplicity 2 at instance 0 lookup 0 row 0; instance 0 lookup 0 row 280001";
     expect_of_air::<BabyBear>(&rt, alloc, lookups.as_slice(), numbers.as_slice(), 2, text);

@@ -198,7 +198,7 @@ impl<AB: InteractionBuilder> Air<AB> for Steps<'_> {
 }
 
 /// The lookups of an AIR of four columns that does these.
-fn extracted<F: Field, EF: ExtensionField<F>>(
+fn extract<F: Field, EF: ExtensionField<F>>(
     alloc: Global,
     steps: &[Step<'_>],
 ) -> Result<Lookups<F>, LookupError> {
@@ -248,7 +248,7 @@ fn expect_lookups(
     expected: &[(&str, u64, usize, bool)],
     total: u128,
 ) {
-    let lookups = extracted::<F7, F7>(alloc, steps).expect(rt, "lookups");
+    let lookups = extract::<F7, F7>(alloc, steps).expect(rt, "lookups");
     holds(rt, "the lookups", are_lookups(lookups.as_slice(), expected));
     holds(rt, "the weight", lookups.total_count_weight() == total);
 }
@@ -285,7 +285,7 @@ fn lookups_of_pushes(rt: HostRuntime) {
     let keys = &[("rc", 1, 2, true)];
     expect_lookups(&rt, alloc, &[Step::Keys("rc")], keys, 1);
     let three = [Step::Range, Step::Range, Step::Range];
-    let lookups = extracted::<BabyBear, BabyBear4>(alloc, three.as_slice());
+    let lookups = extract::<BabyBear, BabyBear4>(alloc, three.as_slice());
     let lookups = lookups.expect(&rt, "range lookups");
     let are_three = are_lookups(lookups.as_slice(), &[("", 1, 2, false); 3]);
     holds(&rt, "three range lookups", are_three);
@@ -293,7 +293,7 @@ fn lookups_of_pushes(rt: HostRuntime) {
 
 /// Fails unless an AIR that does these steps is refused for this.
 fn expect_refusal(rt: &impl Abort, alloc: Global, steps: &[Step<'_>], refusal: LookupError) {
-    let refused = extracted::<F7, F7>(alloc, steps).err();
+    let refused = extract::<F7, F7>(alloc, steps).err();
     assert!(rt; refused == Some(refusal));
 }
 
@@ -369,7 +369,7 @@ impl<AB: InteractionBuilder> Air<AB> for Fixed {
 }
 
 /// The lookups of this AIR. Over any field, since the recorder's types cost much to prove over a given one.
-fn extracted_fixed<F: Field, EF: ExtensionField<F>>(
+fn extract_fixed<F: Field, EF: ExtensionField<F>>(
     alloc: Global,
 ) -> Result<Lookups<F>, LookupError> {
     Lookups::from_air::<EF, Fixed>(alloc, &Fixed)
@@ -377,7 +377,7 @@ fn extracted_fixed<F: Field, EF: ExtensionField<F>>(
 
 #[test]
 fn a_preprocessed_cell_is_extracted(rt: HostRuntime) {
-    let lookups = extracted_fixed::<F7, F7>(rt.alloc()).expect(&rt, "a lookup");
+    let lookups = extract_fixed::<F7, F7>(rt.alloc()).expect(&rt, "a lookup");
     let is_one = are_lookups(lookups.as_slice(), &[("", 1, 1, false)]);
     holds(&rt, "one lookup", is_one);
     let mut layout = AirLayout::default();

@@ -101,7 +101,7 @@ fn set(rt: &impl Abort, alloc: Global, members: &[Member<'_>]) -> Lookups<F7> {
 }
 
 /// What the gadget packs of these within a degree.
-fn packed(
+fn pack(
     rt: &impl Abort,
     alloc: Global,
     members: &[Member<'_>],
@@ -112,12 +112,12 @@ fn packed(
 
 /// Whether columns have these buses, numbers of tuples and weights, and are numbered in order.
 fn are_columns(columns: &[Lookup<F7>], expected: &[(&str, usize, u64)]) -> bool {
-    for (place, column) in columns.iter().enumerate() {
-        let Some((bus, tuples, weight)) = expected.get(place) else {
+    for (index, column) in columns.iter().enumerate() {
+        let Some((bus, tuples, weight)) = expected.get(index) else {
             return false;
         };
         let is_column = is_on(column, bus)
-            && column.column == place
+            && column.column == index
             && column.elements.len() == *tuples
             && column.count_weight == *weight;
         if !is_column {
@@ -133,7 +133,7 @@ fn equal_lookups(rt: HostRuntime) {
     let all: [Member<'_>; 16] = [on("a"); 16];
     for number in 1..17usize {
         for budget in 2..9usize {
-            let columns = packed(&rt, alloc, &all[..number], budget).expect(&rt, "packed");
+            let columns = pack(&rt, alloc, &all[..number], budget).expect(&rt, "packed");
             let mut tuples: usize = 0;
             for column in columns.as_slice() {
                 tuples = tuples.saturating_add(column.elements.len());
@@ -154,7 +154,7 @@ fn expect_columns(
     budget: usize,
     expected: &[(&str, usize, u64)],
 ) {
-    let columns = packed(rt, alloc, members, budget).expect(rt, what);
+    let columns = pack(rt, alloc, members, budget).expect(rt, what);
     holds(rt, what, are_columns(columns.as_slice(), expected));
 }
 
@@ -229,7 +229,7 @@ fn weights_of_more_than_32_bits(rt: HostRuntime) {
 fn the_degree_of_a_cube(rt: HostRuntime) {
     let alloc = rt.alloc();
     let a = on("a");
-    let columns = packed(&rt, alloc, &[a, a, power("a", 3), a], 3).expect(&rt, "packed");
+    let columns = pack(&rt, alloc, &[a, a, power("a", 3), a], 3).expect(&rt, "packed");
     let columns = columns.as_slice();
     assert!(rt; columns.len() == 3 && has_equal_lengths(&columns[1]));
     let degree = LogUpGadget::new().constraint_degree(&columns[1]);
@@ -238,7 +238,7 @@ fn the_degree_of_a_cube(rt: HostRuntime) {
 
 /// Fails unless the gadget refuses to pack these for this.
 fn expect_refusal(rt: &impl Abort, alloc: Global, members: &[Member<'_>], refusal: LookupError) {
-    let refused = packed(rt, alloc, members, 16).err();
+    let refused = pack(rt, alloc, members, 16).err();
     assert!(rt; refused == Some(refusal));
 }
 
@@ -427,7 +427,7 @@ fn expect_fewest(rt: &impl Abort, alloc: Global, length: usize, budget: usize) {
             members.push(power("a", rest % 5)).expect(rt, "memory");
             rest /= 5;
         }
-        let columns = packed(rt, alloc, members.as_slice(), budget).expect(rt, "packed");
+        let columns = pack(rt, alloc, members.as_slice(), budget).expect(rt, "packed");
         assert!(rt;
             columns.as_slice().len() == fewest(degrees.as_slice(), budget),
             "list {number}, budget {budget}"

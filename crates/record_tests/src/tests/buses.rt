@@ -29,8 +29,8 @@ fn buses_keep_their_names(rt: HostRuntime) {
 /// Whether the messages of a recorder are these, each a bus, its fields, its count modulo 7 and its
 /// weight, in this order.
 fn are_recorded(recorder: &Recorder, messages: &[(&str, &[u32], u32, u64)]) -> bool {
-    for (place, (bus, fields, count, weight)) in messages.iter().enumerate() {
-        let message = recorder.global_interactions().get(place);
+    for (index, (bus, fields, count, weight)) in messages.iter().enumerate() {
+        let message = recorder.global_interactions().get(index);
         if !is_message(message, bus, fields, *count, *weight) {
             return false;
         }

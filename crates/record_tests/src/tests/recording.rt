@@ -13,10 +13,10 @@ use matrix::WindowAccess;
 use std::alloc::Global;
 use std::process::Abort;
 
-/// Whether the one local lookup that is recorded has this tuple in this place.
-fn has_tuple(recorder: &Recorder, place: usize, fields: &[u32], weight: u64) -> bool {
+/// Whether the one local lookup that is recorded has this tuple at this index.
+fn has_tuple(recorder: &Recorder, index: usize, fields: &[u32], weight: u64) -> bool {
     match recorder.local_interactions().first() {
-        Some(local) => is_tuple(local.tuples.as_slice().get(place), fields, weight),
+        Some(local) => is_tuple(local.tuples.as_slice().get(index), fields, weight),
         None => false,
     }
 }
@@ -39,18 +39,18 @@ fn local_lookups_keep_their_tuples(rt: HostRuntime) {
     drop(recorder);
 }
 
-/// Whether the recorded group in this place is on this bus and has as many branches.
-fn is_group(recorder: &Recorder, place: usize, bus: &str, branches: usize) -> bool {
-    match recorder.exclusive_interactions().get(place) {
+/// Whether the recorded group at this index is on this bus and has as many branches.
+fn is_group(recorder: &Recorder, index: usize, bus: &str, branches: usize) -> bool {
+    match recorder.exclusive_interactions().get(index) {
         Some(group) => group.bus_name.as_str() == bus && group.branches.len() == branches,
         None => false,
     }
 }
 
-/// Whether the first recorded group has this branch in this place, of one field.
+/// Whether the first recorded group has this branch at this index, of one field.
 fn has_branch(
     recorder: &Recorder,
-    place: usize,
+    index: usize,
     flag: u32,
     count: u32,
     field: u32,
@@ -58,7 +58,7 @@ fn has_branch(
 ) -> bool {
     match recorder.exclusive_interactions().first() {
         Some(group) => {
-            let branch = group.branches.as_slice().get(place);
+            let branch = group.branches.as_slice().get(index);
             is_branch(branch, flag, count, &[field], weight)
         }
         None => false,
@@ -145,16 +145,16 @@ fn has_constraints(rt: &impl Abort, alloc: Global, recorder: &Recorder) -> bool 
     base.len() == 1 && extension.len() == 3 && is_leaf
 }
 
-/// Whether the constraints of the recorder have these places in the order of all assertions.
-fn has_places(
+/// Whether the constraints of the recorder have these indices in the order of all assertions.
+fn has_indices(
     rt: &impl Abort,
     alloc: Global,
     recorder: &Recorder,
     base: &[usize],
     extension: &[usize],
 ) -> bool {
-    let places = recorder.constraint_layout(alloc).expect(rt, "memory");
-    places.base_indices.as_slice() == base && places.ext_indices.as_slice() == extension
+    let indices = recorder.constraint_layout(alloc).expect(rt, "memory");
+    indices.base_indices.as_slice() == base && indices.ext_indices.as_slice() == extension
 }
 
 #[test]
@@ -164,7 +164,7 @@ fn constraints_are_recorded_beside(rt: HostRuntime) {
     assert_all(&rt, alloc, &mut recorder);
     let are_there = has_constraints(&rt, alloc, &recorder);
     holds(&rt, "the constraints", are_there);
-    let are_in_order = has_places(&rt, alloc, &recorder, &[1], &[0, 2, 3]);
+    let are_in_order = has_indices(&rt, alloc, &recorder, &[1], &[0, 2, 3]);
     holds(&rt, "their places", are_in_order);
     drop(recorder);
 }

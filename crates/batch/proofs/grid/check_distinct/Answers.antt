@@ -11,23 +11,23 @@ returns-then-not-branch g c =
     let same = g.K.PartialEq.eq in
     let decides = g.met.K.PrimeCharacteristicRing.eq_is in
     let list = c.args.list.now in
-    let place = c.loop-place.place in
-    let x = c.index-list-place.result in
-    let longer : take (place + 1) list ≡ take place list ++ x ∷ [] = take_more list place x c.loop-place-test.true ∙ ap (λ y. take place list ++ y ∷ []) (sym c.index-list-place.is) in
-    let found : list_any (same x) (take place list) ≡ true = ap (list_any (same x)) (sym c.loop-place.invariant.seen) ∙ was_found _ c.in_ok-insert.field-0 c.in_ok-insert.ensures.added c.if-not-branch.true in
-    inr ((λ distinct. repeated_push same decides x (take place list) found (subst IsDistinct longer (distinct_take (place + 1) list distinct))), refl)
+    let index = c.loop-index.index in
+    let x = c.index-list-index.result in
+    let longer : take (index + 1) list ≡ take index list ++ x ∷ [] = take_more list index x c.loop-index-test.true ∙ ap (λ y. take index list ++ y ∷ []) (sym c.index-list-index.is) in
+    let found : list_any (same x) (take index list) ≡ true = ap (list_any (same x)) (sym c.loop-index.invariant.seen) ∙ was_found _ c.in_ok-insert.field-0 c.in_ok-insert.ensures.added c.if-not-branch.true in
+    inr ((λ distinct. repeated_push same decides x (take index list) found (subst IsDistinct longer (distinct_take (index + 1) list distinct))), refl)
 
-pub loop-place-preserved : goal.loop-place-preserved
-loop-place-preserved g c =
+pub loop-index-preserved : goal.loop-index-preserved
+loop-index-preserved g c =
     let same = g.K.PartialEq.eq in
     let decides = g.met.K.PrimeCharacteristicRing.eq_is in
     let list = c.args.list.now in
-    let place = c.loop-place.place in
-    let x = c.index-list-place.result in
-    let so_far = c.loop-place.invariant in
-    let longer : take (place + 1) list ≡ take place list ++ x ∷ [] = take_more list place x c.loop-place-test.true ∙ ap (λ y. take place list ++ y ∷ []) (sym c.index-list-place.is) in
-    let unfound : list_any (same x) (take place list) ≡ false = ap (list_any (same x)) (sym so_far.seen) ∙ was_unfound _ c.in_ok-insert.field-0 c.in_ok-insert.ensures.added c.if-not-branch.false in
+    let index = c.loop-index.index in
+    let x = c.index-list-index.result in
+    let so_far = c.loop-index.invariant in
+    let longer : take (index + 1) list ≡ take index list ++ x ∷ [] = take_more list index x c.loop-index-test.true ∙ ap (λ y. take index list ++ y ∷ []) (sym c.index-list-index.is) in
+    let unfound : list_any (same x) (take index list) ≡ false = ap (list_any (same x)) (sym so_far.seen) ∙ was_unfound _ c.in_ok-insert.field-0 c.in_ok-insert.ensures.added c.if-not-branch.false in
     record {
-      seen = c.in_ok-insert.ensures.keys ∙ ap (λ ks. insert_key same ks x) so_far.seen ∙ new_goes_last same x (take place list) unfound ∙ sym longer;
-      distinct = subst IsDistinct (sym longer) (distinct_push same decides x (take place list) unfound so_far.distinct);
+      seen = c.in_ok-insert.ensures.keys ∙ ap (λ ks. insert_key same ks x) so_far.seen ∙ new_goes_last same x (take index list) unfound ∙ sym longer;
+      distinct = subst IsDistinct (sym longer) (distinct_push same decides x (take index list) unfound so_far.distinct);
     }

@@ -11,22 +11,22 @@ use Rattle.batch.proofs.pairs.accepting_alphas.Goals as goal
 pub overflow_add-accepting : goal.overflow_add-accepting
 overflow_add-accepting g c =
     let E = of_laws g.met.EF.ExtensionField.lawful_fields in
-    let within : c.loop-place.accepting ≤ length (take c.loop-place.place c.args.alphas.now) = number_within (IsAccepting E (instances_of c.args.instances.now) c.args.max_message_width c.args.beta) (take c.loop-place.place c.args.alphas.now) c.loop-place.accepting c.loop-place.invariant in
-    omega (arith, within, length-take c.loop-place.place c.args.alphas.now, c.loop-place-test.true)
+    let within : c.loop-index.accepting ≤ length (take c.loop-index.index c.args.alphas.now) = number_within (IsAccepting E (instances_of c.args.instances.now) c.args.max_message_width c.args.beta) (take c.loop-index.index c.args.alphas.now) c.loop-index.accepting c.loop-index.invariant in
+    omega (arith, within, length-take c.loop-index.index c.args.alphas.now, c.loop-index-test.true)
 
-pub loop-place-preserved : goal.loop-place-preserved
-loop-place-preserved g c =
+pub loop-index-preserved : goal.loop-index-preserved
+loop-index-preserved g c =
     let E = of_laws g.met.EF.ExtensionField.lawful_fields in
     let P = IsAccepting E (instances_of c.args.instances.now) c.args.max_message_width c.args.beta in
     let alphas = c.args.alphas.now in
-    let place = c.loop-place.place in
-    let alpha = c.index-alphas-place.result in
-    let longer : take (place + 1) alphas ≡ take place alphas ++ alpha ∷ [] =
-    take_more alphas place alpha c.loop-place-test.true ∙ ap (λ t. take place alphas ++ t ∷ []) (sym c.index-alphas-place.is) in
+    let index = c.loop-index.index in
+    let alpha = c.index-alphas-index.result in
+    let longer : take (index + 1) alphas ≡ take index alphas ++ alpha ∷ [] =
+    take_more alphas index alpha c.loop-index-test.true ∙ ap (λ t. take index alphas ++ t ∷ []) (sym c.index-alphas-index.is) in
     let says = c.in_ok-accepts_pair.ensures in
     elim c.if-branch.branch [
-      | then-branch w ↦ subst (IsNumberOf P (take (place + 1) alphas)) (sym w.accepting-is)
-          (subst (λ (xs : List _). IsNumberOf P xs (c.loop-place.accepting + 1)) (sym longer) (number_having P (take place alphas) alpha c.loop-place.accepting (says.0 w.if-branch.true) c.loop-place.invariant))
-      | else-branch w ↦ subst (IsNumberOf P (take (place + 1) alphas)) (sym w.accepting-is)
-          (subst (λ (xs : List _). IsNumberOf P xs c.loop-place.accepting) (sym longer) (number_lacking P (take place alphas) alpha c.loop-place.accepting (λ has. cc (w.if-branch.false, says.1 has)) c.loop-place.invariant))
+      | then-branch w ↦ subst (IsNumberOf P (take (index + 1) alphas)) (sym w.accepting-is)
+          (subst (λ (xs : List _). IsNumberOf P xs (c.loop-index.accepting + 1)) (sym longer) (number_having P (take index alphas) alpha c.loop-index.accepting (says.0 w.if-branch.true) c.loop-index.invariant))
+      | else-branch w ↦ subst (IsNumberOf P (take (index + 1) alphas)) (sym w.accepting-is)
+          (subst (λ (xs : List _). IsNumberOf P xs c.loop-index.accepting) (sym longer) (number_lacking P (take index alphas) alpha c.loop-index.accepting (λ has. cc (w.if-branch.false, says.1 has)) c.loop-index.invariant))
     ]

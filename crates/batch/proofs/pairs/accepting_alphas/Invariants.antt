@@ -5,7 +5,7 @@ use Rattle.lookup_model.specs.Batches.Instances.{instances_of}
 use Rattle.lookup_model.specs.Batches.Grid.{IsNumberOf}
 use Rattle.batch.proofs.pairs.accepting_alphas.Given as goal
 
-abbrev pub invariant-loop-place : goal.invariant-loop-place
-invariant-loop-place g l =
+abbrev pub invariant-loop-index : goal.invariant-loop-index
+invariant-loop-index g l =
     let E = of_laws g.met.EF.ExtensionField.lawful_fields in
-    IsNumberOf (IsAccepting E (instances_of l.instances) l.max_message_width l.beta) (take l.place l.alphas) l.accepting
+    IsNumberOf (IsAccepting E (instances_of l.instances) l.max_message_width l.beta) (take l.index l.alphas) l.accepting

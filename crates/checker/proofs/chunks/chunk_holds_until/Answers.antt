@@ -14,7 +14,7 @@ use Rattle.field.specs.laws.Extension.{of_laws}
 use Rattle.lookup_model.specs.Records.{IsWithin}
 use Rattle.matrix.specs.Matrix.{height}
 use Rattle.checker.proofs.HoldsLaws.{BothHold, both_fewer, both_from, both_more, holds_from}
-use Rattle.checker.proofs.Layouts.{LookupsFit-with_auxiliary, with_auxiliary}
+use Rattle.lookup_model.proofs.Layouts.{LookupsFit-with_auxiliary, with_auxiliary}
 use Rattle.checker.proofs.UntilLaws.{both_until, same_until}
 use Rattle.checker.specs.Rows.{HoldsUntil}
 use Rattle.checker.proofs.chunks.chunk_holds_until.Goals as goal
@@ -73,14 +73,14 @@ fraction_holds_until-until-requires-clause-columns g c = λ row low high.
     let inputs = c.args.inputs.now in
     let first = c.args.first in
     let n = c.args.end - first in
-    let place = row - first in
+    let index = row - first in
     let rows = c.deref.result.now in
     let lookup = c.index-lookups-i.result in
-    let here : first + place ≡ row = omega (arith, low) in
-    let inside : place < n = omega (arith, low, high, c.loop-i.invariant.up_to) in
-    let there : slice_get rows place ≡ Some row = range_at first n place rows (c.deref.ensures.value ∙ c.in_ok-rows.ensures) inside ∙ ap Some here in
-    subst (λ (columns : List (BranchColumns _ _)). HoldLookup R S g.EF.ExtensionDomain.embed inputs.challenges.now (input_window inputs row).base place lookup columns) (sym c.deref-in-loop-i.ensures.value)
-    (c.in_ok-columns.ensures place row there)
+    let here : first + index ≡ row = omega (arith, low) in
+    let inside : index < n = omega (arith, low, high, c.loop-i.invariant.up_to) in
+    let there : slice_get rows index ≡ Some row = range_at first n index rows (c.deref.ensures.value ∙ c.in_ok-rows.ensures) inside ∙ ap Some here in
+    subst (λ (columns : List (BranchColumns _ _)). HoldLookup R S g.EF.ExtensionDomain.embed inputs.challenges.now (input_window inputs row).base index lookup columns) (sym c.deref-in-loop-i.ensures.value)
+    (c.in_ok-columns.ensures index row there)
 
 pub loop-i-preserved : goal.loop-i-preserved
 loop-i-preserved g c =

@@ -6,11 +6,11 @@ use Rattle.checker.proofs.chunks.first_failing_in_chunks.Goals as goal
 -- what holds on all rows before a first one, and from there on until some row, holds on all rows before
 -- that one
 joined : (P : ℕ → Type 0) (first end r : ℕ) → ((s : ℕ) → s < first → P s) → HoldsUntil P first end r → (s : ℕ) → s < r → P s
-joined P first end r before until s lt = by_place (cases_lt s first)
+joined P first end r before until s lt = by_index (cases_lt s first)
   where
-    by_place : (s < first) ⊎ (first ≤ s) → P s
-    by_place (inl earlier) = before s earlier
-    by_place (inr late) = until.holds s late lt
+    by_index : (s < first) ⊎ (first ≤ s) → P s
+    by_index (inl earlier) = before s earlier
+    by_index (inr late) = until.holds s late lt
 
 pub returns-then-until-end : goal.returns-then-until-end
 returns-then-until-end g c = record {

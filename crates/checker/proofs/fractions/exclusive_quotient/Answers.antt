@@ -6,7 +6,7 @@ use Rattle.field.specs.Ring.{sub_in}
 use Rattle.lookup_columns.proofs.ChunkColumnLaws.{read_is}
 use Rattle.lookup_columns.specs.ChunkColumns.{HasFlag, IsHeldIfSet}
 use Rattle.field.specs.laws.Extension.{of_laws}
-use Rattle.checker.proofs.ReadLaws.{flag, flag_read, flag_within, held_there, message, place_within}
+use Rattle.checker.proofs.ReadLaws.{flag, flag_read, flag_within, held_there, message, index_within}
 use Rattle.checker.proofs.SelectionLaws.{HasSums, all_sums, no_sums, sums_more, sums_skipped}
 use Rattle.checker.specs.Quotients.{over_tuples}
 use Rattle.checker.proofs.fractions.exclusive_quotient.Goals.{then-not-is_zero, else-not-is_zero}
@@ -14,26 +14,26 @@ use Rattle.checker.proofs.fractions.exclusive_quotient.Goals as goal
 
 pub index-flag-requires : goal.index-flag-requires
 index-flag-requires g c =
-    omega (arith, flag_within g.F.PrimeCharacteristicRing.ring c.requires.0 c.args.place c.args.columns.now c.requires.1 c.requires.2 c.requires.3 c.loop-branch.branch-index c.branch-item.result c.loop-branch-test.true c.branch-item.is)
+    omega (arith, flag_within g.F.PrimeCharacteristicRing.ring c.requires.0 c.args.index c.args.columns.now c.requires.1 c.requires.2 c.requires.3 c.loop-branch.branch-index c.branch-item.result c.loop-branch-test.true c.branch-item.is)
 
 pub index-at-requires : goal.index-at-requires
 index-at-requires g c =
     let R = g.F.PrimeCharacteristicRing.ring in
     let set : c.index-flag.result.now ≢ R.zero = λ e. true≢false (sym (c.is_zero.ensures.1 e) ∙ c.if-not-is_zero.true) in
-    omega (arith, place_within R c.requires.0 c.args.place c.args.columns.now c.requires.1 c.requires.2 c.requires.3 c.loop-branch.branch-index c.branch-item.result c.loop-branch-test.true c.branch-item.is c.index-flag.result.now c.index-flag.ensures set)
+    omega (arith, index_within R c.requires.0 c.args.index c.args.columns.now c.requires.1 c.requires.2 c.requires.3 c.loop-branch.branch-index c.branch-item.result c.loop-branch-test.true c.branch-item.is c.index-flag.result.now c.index-flag.ensures set)
 
 pub index-requires : goal.index-requires
 index-requires g c =
     let R = g.F.PrimeCharacteristicRing.ring in
     let set : c.index-flag.result.now ≢ R.zero = λ e. true≢false (sym (c.is_zero.ensures.1 e) ∙ c.if-not-is_zero.true) in
-    let held = held_there R c.requires.0 c.args.place c.args.columns.now c.requires.1 c.requires.2 c.requires.3 c.loop-branch.branch-index c.branch-item.result c.loop-branch-test.true c.branch-item.is c.index-flag.result.now c.index-flag.ensures set c.index-at.result.now c.index-at.ensures in
+    let held = held_there R c.requires.0 c.args.index c.args.columns.now c.requires.1 c.requires.2 c.requires.3 c.loop-branch.branch-index c.branch-item.result c.loop-branch-test.true c.branch-item.is c.index-flag.result.now c.index-flag.ensures set c.index-at.result.now c.index-at.ensures in
     omega (arith, slice_get_within _ c.index-at.result.now _ held.0)
 
 pub index-requires-then-not-is_zero : goal.index-requires-then-not-is_zero
 index-requires-then-not-is_zero g c =
     let R = g.F.PrimeCharacteristicRing.ring in
     let set : c.index-flag.result.now ≢ R.zero = λ e. true≢false (sym (c.is_zero.ensures.1 e) ∙ c.if-not-is_zero.true) in
-    let held = held_there R c.requires.0 c.args.place c.args.columns.now c.requires.1 c.requires.2 c.requires.3 c.loop-branch.branch-index c.branch-item.result c.loop-branch-test.true c.branch-item.is c.index-flag.result.now c.index-flag.ensures set c.index-at.result.now c.index-at.ensures in
+    let held = held_there R c.requires.0 c.args.index c.args.columns.now c.requires.1 c.requires.2 c.requires.3 c.loop-branch.branch-index c.branch-item.result c.loop-branch-test.true c.branch-item.is c.index-flag.result.now c.index-flag.ensures set c.index-at.result.now c.index-at.ensures in
     omega (arith, slice_get_within _ c.index-at.result.now _ held.1)
 
 pub loop-branch-init : goal.loop-branch-init
@@ -51,7 +51,7 @@ loop-branch-preserved g c = λ denominator flags messages selected.
     let embeds = g.met.EF.ExtensionDomain.embeds in
     let base = g.met.F.PrimeCharacteristicRing in
     let met = g.met.EF.PrimeCharacteristicRing in
-    let place = c.args.place in
+    let index = c.args.index in
     let columns = c.args.columns.now in
     let i = c.loop-branch.branch-index in
     let branch = c.branch-item.result in
@@ -59,17 +59,17 @@ loop-branch-preserved g c = λ denominator flags messages selected.
     let d = c.loop-branch.denominator in
     let read = c.index-flag.result.now in
     let over = over_tuples denominator in
-    let one = flag R over place columns flags messages selected i branch c.loop-branch-test.true c.branch-item.is in
-    let sent = message R over place columns flags messages selected i branch c.loop-branch-test.true c.branch-item.is in
+    let one = flag R over index columns flags messages selected i branch c.loop-branch-test.true c.branch-item.is in
+    let sent = message R over index columns flags messages selected i branch c.loop-branch-test.true c.branch-item.is in
     let m = sent.item in
-    let f_is : one.item ≡ read = flag_read R over place columns flags messages selected i branch c.loop-branch-test.true c.branch-item.is read c.index-flag.ensures in
-    let same : length messages ≡ length flags = omega (arith, AllZip-long (HasFlag place) columns flags selected.flags_are, AllZip-long (IsHeldIfSet R over place) columns messages selected.held) in
+    let f_is : one.item ≡ read = flag_read R over index columns flags messages selected i branch c.loop-branch-test.true c.branch-item.is read c.index-flag.ensures in
+    let same : length messages ≡ length flags = omega (arith, AllZip-long (HasFlag index) columns flags selected.flags_are, AllZip-long (IsHeldIfSet R over index) columns messages selected.held) in
     let so_far = c.loop-branch.invariant denominator flags messages selected in
     elim c.if-not-is_zero.branch [
       | then-not-is_zero w ↦
           let set : read ≢ R.zero = λ e. true≢false (sym (c.is_zero.ensures.1 e) ∙ w.if-not-is_zero.true) in
           let at = w.index-at.result.now in
-          let held = held_there R over place columns flags messages selected i branch c.loop-branch-test.true c.branch-item.is read c.index-flag.ensures set at w.index-at.ensures in
+          let held = held_there R over index columns flags messages selected i branch c.loop-branch-test.true c.branch-item.is read c.index-flag.ensures set at w.index-at.ensures in
           let m_is : w.index.result.now ≡ m.multiplicity = sym (read_is branch.multiplicities.items at w.index.result.now m.multiplicity held.0 w.index.ensures) in
           let d_is : w.index-then-not-is_zero.result.now ≡ denominator m.key.tuple =
           sym (read_is branch.denominators.items at w.index-then-not-is_zero.result.now (denominator m.key.tuple) held.1 w.index-then-not-is_zero.ensures) in
@@ -88,9 +88,9 @@ loop-branch-preserved g c = λ denominator flags messages selected.
 pub returns : goal.returns
 returns g c = λ denominator flags messages selected.
     let E = of_laws g.met.EF.ExtensionField.lawful_fields in
-    let place = c.args.place in
+    let index = c.args.index in
     let columns = c.args.columns.now in
-    let long = AllZip-long (HasFlag place) columns flags selected.flags_are in
-    let same : length messages ≡ length flags = omega (arith, long, AllZip-long (IsHeldIfSet E.base (over_tuples denominator) place) columns messages selected.held) in
+    let long = AllZip-long (HasFlag index) columns flags selected.flags_are in
+    let same : length messages ≡ length flags = omega (arith, long, AllZip-long (IsHeldIfSet E.base (over_tuples denominator) index) columns messages selected.held) in
     let all = all_sums E denominator flags messages g.EF.PrimeCharacteristicRing.lawful g.met.EF.ExtensionDomain.embeds same c.loop-branch.branch-index c.loop-branch.numerator c.loop-branch.denominator (omega (arith, long, c.loop-branch-test.false)) (c.loop-branch.invariant denominator flags messages selected) in
     (c.embed.ensures ∙ all.0, all.1)

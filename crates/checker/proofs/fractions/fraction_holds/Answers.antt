@@ -6,7 +6,7 @@ use Rattle.std.specs.declared.alloc.Global.{Global}
 use Rattle.std.specs.declared.vec.Vec.{Vec}
 use Rattle.air.specs.Row.{input_window}
 use Rattle.expressions.specs.declared.base_expression.SymbolicExpression.{SymbolicExpression}
-use Rattle.lookup_columns.specs.ChunkColumns.{key_denominator}
+use Rattle.lookup_columns.specs.ChunkColumns.{key_denominator_over}
 use Rattle.lookup_model.specs.Constraints.{fraction_at, fraction_left}
 use Rattle.field.specs.laws.Extension.{of_laws}
 use Rattle.lookup_model.specs.Sent.{branches_at, flags_at, values}
@@ -17,14 +17,14 @@ pub additive_quotient-requires : goal.additive_quotient-requires
 additive_quotient-requires g c =
     let lookup = c.args.lookup.now in
     let w = (input_window c.args.inputs.now c.args.row).base in
-    (key_denominator g.EF.PrimeCharacteristicRing.ring g.EF.ExtensionDomain.embed c.args.inputs.now.challenges.now, branches_at g.F.PrimeCharacteristicRing.ring w lookup.column lookup, c.requires.columns.additive c.in-None.is)
+    (key_denominator_over g.EF.PrimeCharacteristicRing.ring g.EF.ExtensionDomain.embed c.args.inputs.now.challenges.now, branches_at g.F.PrimeCharacteristicRing.ring w lookup.column lookup, c.requires.columns.additive c.in-None.is)
 
 pub exclusive_quotient-requires : goal.exclusive_quotient-requires
 exclusive_quotient-requires g c =
     let R = g.F.PrimeCharacteristicRing.ring in
     let lookup = c.args.lookup.now in
     let w = (input_window c.args.inputs.now c.args.row).base in
-    (key_denominator g.EF.PrimeCharacteristicRing.ring g.EF.ExtensionDomain.embed c.args.inputs.now.challenges.now, values R w c.in-Some.field-0.items, branches_at R w lookup.column lookup, c.requires.columns.exclusive c.in-Some.field-0 c.in-Some.is)
+    (key_denominator_over g.EF.PrimeCharacteristicRing.ring g.EF.ExtensionDomain.embed c.args.inputs.now.challenges.now, values R w c.in-Some.field-0.items, branches_at R w lookup.column lookup, c.requires.columns.exclusive c.in-Some.field-0 c.in-Some.is)
 
 pub returns-in-None : goal.returns-in-None
 returns-in-None g c =
@@ -37,7 +37,7 @@ returns-in-None g c =
     let over = over_column E challenges lookup.column in
     let f = c.index-row_slice-lookup.result in
     let q = c.additive_quotient.result in
-    let quotient = c.additive_quotient.ensures over messages (held_over E challenges lookup.column window.base c.args.place c.args.columns.now (zip lookup.elements.items lookup.multiplicities.items) (c.requires.columns.additive c.in-None.is)) in
+    let quotient = c.additive_quotient.ensures over messages (held_over E challenges lookup.column window.base c.args.index c.args.columns.now (zip lookup.elements.items lookup.multiplicities.items) (c.requires.columns.additive c.in-None.is)) in
     let flags_are : flags_at E.base window.base lookup ≡ None = ap (option_map (λ (flags : Vec (SymbolicExpression _) Global). values E.base window.base flags.items)) c.in-None.is in
     let f_is : f ≡ fraction_at E lookup.column window =
     get_or_read c.row_slice.result.now (lookup.column + 1) f (omega (arith, c.row_slice.ensures.len, c.requires.cell)) c.index-row_slice-lookup.is E.ring.zero ∙ ap (λ xs. slice_index_or xs (lookup.column + 1) E.ring.zero) c.row_slice.ensures.row in
@@ -58,7 +58,7 @@ returns-in-Some g c =
     let over = over_column E challenges lookup.column in
     let f = c.index-row_slice-lookup.result in
     let q = c.exclusive_quotient.result in
-    let quotient = c.exclusive_quotient.ensures over flags messages (selected_over E challenges lookup.column window.base c.args.place c.args.columns.now flags (zip lookup.elements.items lookup.multiplicities.items) (c.requires.columns.exclusive c.in-Some.field-0 c.in-Some.is)) in
+    let quotient = c.exclusive_quotient.ensures over flags messages (selected_over E challenges lookup.column window.base c.args.index c.args.columns.now flags (zip lookup.elements.items lookup.multiplicities.items) (c.requires.columns.exclusive c.in-Some.field-0 c.in-Some.is)) in
     let flags_are : flags_at E.base window.base lookup ≡ Some flags = ap (option_map (λ (fs : Vec (SymbolicExpression _) Global). values E.base window.base fs.items)) c.in-Some.is in
     let f_is : f ≡ fraction_at E lookup.column window =
     get_or_read c.row_slice.result.now (lookup.column + 1) f (omega (arith, c.row_slice.ensures.len, c.requires.cell)) c.index-row_slice-lookup.is E.ring.zero ∙ ap (λ xs. slice_index_or xs (lookup.column + 1) E.ring.zero) c.row_slice.ensures.row in

@@ -1,18 +1,13 @@
-use Rattle.std.proofs.Common.{◌≡◌, inl, inr, subst, arith}
-use Rattle.std.proofs.lemmas.Bool.{cases_lt}
+use Rattle.std.proofs.Common.{arith}
 use Rattle.field.specs.laws.Extension.{of_laws}
 use Rattle.checker.specs.Rows.{FractionHolds}
+use Rattle.checker.proofs.UntilLaws.{holds_on_next}
 use Rattle.checker.proofs.fractions.fraction_holds_until.Goals as goal
 
 pub loop-row-preserved : goal.loop-row-preserved
-loop-row-preserved g c = λ s low high.
+loop-row-preserved g c =
     let E = of_laws g.met.EF.ExtensionField.lawful_fields in
-    elim (cases_lt s c.loop-row.row) [
-      | inl earlier ↦ c.loop-row.invariant s low earlier
-      | inr late ↦
-          let at : c.loop-row.row ≡ s = omega (arith, late, high) in
-          subst (FractionHolds E c.args.inputs.now c.args.lookup.now) at (c.fraction_holds.ensures.0 c.if-not-fraction_holds.false)
-    ]
+    holds_on_next (FractionHolds E c.args.inputs.now c.args.lookup.now) c.args.first c.loop-row.row c.loop-row.invariant (c.fraction_holds.ensures.0 c.if-not-fraction_holds.false)
 
 pub returns : goal.returns
 returns g c = record {

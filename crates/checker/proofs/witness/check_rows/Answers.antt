@@ -1,17 +1,16 @@
 use Rattle.std.proofs.Common.{ap, inr, length, refl, ◌∙◌, arith}
-use Rattle.std.specs.Option.{option_copied}
-use Rattle.expressions.specs.Layout.{layout_of_traces}
+use Rattle.air.specs.Traces.{layout_of}
 use Rattle.lookup_model.specs.Challenges.{table_of}
 use Rattle.field.specs.laws.Extension.{of_laws}
 use Rattle.lookup_model.specs.Batches.Instances.{instance_of}
 use Rattle.checker.proofs.CheckLaws.{fails_from, found_none, found_some, holds_from}
-use Rattle.checker.proofs.Layouts.{LookupsFit-with_auxiliary}
+use Rattle.lookup_model.proofs.Layouts.{LookupsFit-with_auxiliary}
 use Rattle.checker.proofs.witness.check_rows.Goals as goal
 
 pub first_failing_row-requires-clause-fit : goal.first_failing_row-requires-clause-fit
 first_failing_row-requires-clause-fit g c =
     let i = c.args.instance.now in
-    LookupsFit-with_auxiliary (layout_of_traces i.main.now (option_copied i.preprocessed) i.public_values.now) c.args.aux.now.width (length c.as_slice.result.now) (length c.as_slice-2.result.now) i.lookups.now c.requires.fit.fit
+    LookupsFit-with_auxiliary (layout_of (instance_of i).traces) c.args.aux.now.width (length c.as_slice.result.now) (length c.as_slice-2.result.now) i.lookups.now c.requires.fit.fit
 
 pub first_failing_row-requires-clause-challenges : goal.first_failing_row-requires-clause-challenges
 first_failing_row-requires-clause-challenges g c =

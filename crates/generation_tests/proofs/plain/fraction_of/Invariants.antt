@@ -1,10 +1,10 @@
 use Rattle.std.proofs.Common.{take}
-use Rattle.lookup_model.specs.Denominators.{column_denominator}
+use Rattle.lookup_model.specs.Denominators.{key_denominator}
 use Rattle.field.specs.laws.Extension.{of_laws}
-use Rattle.generation_tests.specs.PlainProgram.{IsFractionOf, messages_of}
+use Rattle.generation_tests.specs.PlainProgram.{IsSumOfQuotients, as_messages}
 use Rattle.generation_tests.proofs.plain.fraction_of.Given as goal
 
 abbrev pub invariant-loop-message : goal.invariant-loop-message
 invariant-loop-message g l =
     let E = of_laws g.met.EF.ExtensionField.lawful_fields in
-    IsFractionOf E (column_denominator E l.challenges) (messages_of (take l.message-index l.messages)) l.sum
+    IsSumOfQuotients E (key_denominator E l.challenges) (as_messages (take l.message-index l.messages)) l.sum

@@ -1,11 +1,11 @@
 use Rattle.std.proofs.Common.{map, take}
-use Rattle.lookup_model.specs.Denominators.{column_denominator}
+use Rattle.lookup_model.specs.Denominators.{key_denominator}
 use Rattle.field.specs.laws.Extension.{of_laws}
 use Rattle.lookup_model.specs.Net.{keys}
-use Rattle.generation_tests.specs.PlainProgram.{IsFractionOf, messages_of, net_message}
+use Rattle.generation_tests.specs.PlainProgram.{IsSumOfQuotients, as_messages, net_message}
 use Rattle.generation_tests.proofs.plain.terminal_of.Given as goal
 
-abbrev pub invariant-loop-place : goal.invariant-loop-place
-invariant-loop-place g l =
+abbrev pub invariant-loop-index : goal.invariant-loop-index
+invariant-loop-index g l =
     let E = of_laws g.met.EF.ExtensionField.lawful_fields in
-    IsFractionOf E (column_denominator E l.challenges) (map (net_message E.base E.base_eq (messages_of l.messages)) (keys E.base_eq (messages_of (take l.place l.messages)))) l.sum
+    IsSumOfQuotients E (key_denominator E l.challenges) (map (net_message E.base E.base_eq (as_messages l.messages)) (keys E.base_eq (as_messages (take l.index l.messages)))) l.sum

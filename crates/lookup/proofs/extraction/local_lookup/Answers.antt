@@ -27,7 +27,15 @@ returns-in_err-assert_uniform_tuple_width g c =
     let p = err_from_is_err_and c.from_residual-in_err-assert_uniform_tuple_width.result c.from_residual-in_err-assert_uniform_tuple_width.ensures.1 in
     rw (p.1, p.2) (elim c.in_err-assert_uniform_tuple_width.ensures [
       | inl memory ↦ inl memory
-      | inr w ↦ inr (inr (weight, (w.0, w.1, subst (λ (ws : List ℕ). HasOtherWidth ws w.0 w.1) (ap (map (λ tuple. length tuple.items)) c.deref.ensures.value ∙ same_widths (λ tuple. tuple.items) c.loop-fields.elements.items tuples elements) w.2, w.3)))
+      | inr w ↦ inr (inr (
+        weight,
+        record {
+          width = w.width;
+          other = w.other;
+          differ = subst (λ (ws : List ℕ). HasOtherWidth ws w.width w.other) (ap (map (λ tuple. length tuple.items)) c.deref.ensures.value ∙ same_widths (λ tuple. tuple.items) c.loop-fields.elements.items tuples elements) w.differ;
+          refusal = w.refusal;
+        },
+      ))
     ])
 
 pub returns : goal.returns

@@ -6,9 +6,9 @@ use Rattle.field.specs.Ring.{sub_in}
 use Rattle.expressions.specs.Tree.{tree_of}
 use Rattle.std.proofs.lemmas.Slice.Zip.{AllZip-long}
 use Rattle.lookup_columns.proofs.ZipLaws.{beside}
-use Rattle.lookup_columns.specs.Columns.{denominator_at}
+use Rattle.lookup_columns.specs.Columns.{tuple_denominator_at}
 use Rattle.lookup_columns.specs.Steps.{AreStepsOf, StepFits, StepsFit}
-use Rattle.lookup_columns.specs.ChunkColumns.{key_denominator}
+use Rattle.lookup_columns.specs.ChunkColumns.{key_denominator_over}
 use Rattle.lookup_columns.specs.LookupSteps.{AreTupleSteps}
 use Rattle.lookup_columns.proofs.ChunkColumnLaws.{mapped_there}
 use Rattle.lookup_columns.proofs.StepLaws.{all_steps_fit}
@@ -18,7 +18,7 @@ use Rattle.lookup_model.proofs.RecordLaws.{All-at}
 use Rattle.lookup_model.specs.Message.{Message}
 use Rattle.lookup_model.specs.Records.{AllFit, IsWithin}
 use Rattle.lookup_model.specs.Sent.{branch_at, branches_at, value, values}
-use Rattle.lookup_columns.specs.Traces.{layout_of, window_of}
+use Rattle.air.specs.Traces.{layout_of, traces_of, window_of}
 use Rattle.lookup_columns.proofs.branches.branch_columns.Goals as goal
 
 pub index-requires : goal.index-requires
@@ -32,7 +32,7 @@ index-requires-2 g c =
 pub column_of-requires-clause-fits : goal.column_of-requires-clause-fits
 unfolding IsWithin
 column_of-requires-clause-fits g c =
-    let layout = layout_of c.args.traces.now in
+    let layout = layout_of (traces_of c.args.traces.now) in
     let steps = c.args.steps.now.multiplicities.items in
     let es = c.args.lookup.now.multiplicities.items in
     let lt : c.args.branch < length steps = omega (arith, AllZip-long AreStepsOf steps es c.requires.steps.multiplicities, c.requires.lengths.multiplicities, c.requires.branch_exists) in
@@ -42,7 +42,7 @@ column_of-requires-clause-fits g c =
 pub denominators_of-requires-clause-fits : goal.denominators_of-requires-clause-fits
 unfolding IsWithin
 denominators_of-requires-clause-fits g c =
-    let layout = layout_of c.args.traces.now in
+    let layout = layout_of (traces_of c.args.traces.now) in
     let steps = c.args.steps.now.elements.items in
     let tuples = c.args.lookup.now.elements.items in
     let lt : c.args.branch < length steps = omega (arith, AllZip-long AreTupleSteps steps tuples c.requires.steps.elements, c.requires.branch_exists) in
@@ -52,13 +52,13 @@ denominators_of-requires-clause-fits g c =
     (all_steps_fit layout c.index-2.result.now.items tuple.items tuple_beside.holds (All-at (λ t. AllFit layout t.items) tuples c.args.branch tuple c.requires.within.0 c.requires.branch_exists tuple_beside.there))
 
 pub returns-clause-held : goal.returns-clause-held
-returns-clause-held g c = λ place r m there m_there.
+returns-clause-held g c = λ index r m there m_there.
     let R = g.F.PrimeCharacteristicRing.ring in
     let S = g.EF.PrimeCharacteristicRing.ring in
     let embed = g.EF.ExtensionDomain.embed in
     let challenges = c.args.challenges.now in
-    let D = key_denominator S embed challenges in
-    let windows = window_of c.args.traces.now in
+    let D = key_denominator_over S embed challenges in
+    let windows = window_of (traces_of c.args.traces.now) in
     let w = windows r in
     let lookup = c.args.lookup.now in
     let column = lookup.column in
@@ -75,12 +75,12 @@ returns-clause-held g c = λ place r m there m_there.
     let ms = branches_at R w column lookup in
     let alpha_is = get_or_read challenges (2 * column) c.index-challenges-lookup.result (omega (arith, c.requires.challenges)) c.index-challenges-lookup.is S.zero in
     let beta_is = get_or_read challenges (2 * column + 1) c.index-challenges-lookup-2.result c.requires.challenges c.index-challenges-lookup-2.is S.zero in
-    let at = denominator_at R S embed c.index-challenges-lookup.result c.index-challenges-lookup-2.result in
-    let over = mapped_there (λ row. at (windows row) tuple.items) c.args.rows.now c.in_ok-denominators.denominators.items place r (c.in_ok-denominators.ensures tuple.items (subst (λ (l : List _). AllZip AreStepsOf l tuple.items) (sym c.deref-2.ensures.value) tuple_beside.holds)) there in
+    let at = tuple_denominator_at R S embed c.index-challenges-lookup.result c.index-challenges-lookup-2.result in
+    let over = mapped_there (λ row. at (windows row) tuple.items) c.args.rows.now c.in_ok-denominators.denominators.items index r (c.in_ok-denominators.ensures tuple.items (subst (λ (l : List _). AllZip AreStepsOf l tuple.items) (sym c.deref-2.ensures.value) tuple_beside.holds)) there in
     let is : branch_at R w column tuple.items multiplicity ≡ m =
     zipped_at (λ b. branch_at R w column b.0.items b.1) lookup.elements.items lookup.multiplicities.items c.requires.lengths.multiplicities i tuple multiplicity lt tuple_beside.there multiplicity_beside.there
     ∙ get_or_from_slice_get ms i m (branch_at R w column tuple.items multiplicity) m_there in (
-      mapped_there (λ row. value R (windows row) multiplicity) c.args.rows.now c.in_ok-multiplicities.multiplicities.items place r (c.in_ok-multiplicities.ensures (tree_of multiplicity) (c.deref.ensures.value ∙ multiplicity_beside.holds)) there ∙ ap (λ (n : Message _). Some n.multiplicity) is,
+      mapped_there (λ row. value R (windows row) multiplicity) c.args.rows.now c.in_ok-multiplicities.multiplicities.items index r (c.in_ok-multiplicities.ensures (tree_of multiplicity) (c.deref.ensures.value ∙ multiplicity_beside.holds)) there ∙ ap (λ (n : Message _). Some n.multiplicity) is,
       over ∙ (λ k. Some (sub_in S (alpha_is k) (combined S (map embed (values R w tuple.items)) (beta_is k)))) ∙ ap (λ (n : Message _). Some (D n.key)) is,
     )
 

@@ -4,8 +4,8 @@ use Rattle.std.proofs.Math.Seq.{drop-length}
 use Rattle.std.specs.List.{zip}
 use Rattle.field.proofs.DotProduct.{drop_read}
 use Rattle.field.specs.Ring.{power, sub_in}
-use Rattle.lookup_columns.specs.Columns.{denominator_column}
-use Rattle.lookup_columns.specs.Traces.{layout_of, window_of}
+use Rattle.lookup_columns.specs.Columns.{tuple_denominators}
+use Rattle.air.specs.Traces.{layout_of, traces_of, window_of}
 use Rattle.lookup_columns.proofs.LessenedLaws.{column_front, column_of_none, no_power, power_more}
 use Rattle.std.proofs.lemmas.Slice.Zip.{AllZip-long}
 use Rattle.lookup_columns.proofs.ZipLaws.{beside}
@@ -20,7 +20,7 @@ loop-left-init g c =
     let S = g.EF.PrimeCharacteristicRing.ring in
     let met = g.met.EF.PrimeCharacteristicRing in
     let steps = c.args.tuple.now in
-    let ws = window_of c.args.traces.now in
+    let ws = window_of (traces_of c.args.traces.now) in
     let none = sym (drop-length steps) in (
       omega arith,
       c.ONE-power.ensures ∙ met.one_is ∙ no_power S c.args.beta ∙ ap (λ l. power S c.args.beta (length l)) none,
@@ -28,7 +28,7 @@ loop-left-init g c =
           let nothing = sym (drop-length es) ∙ ap (λ n. drop n es) (AllZip-long AreStepsOf steps es are) in
           column_of_none R g.EF.PrimeCharacteristicRing.lawful g.EF.ExtensionDomain.embed c.args.alpha c.args.beta ws c.args.rows.now
           (c.in_ok-push_alike.ensures ∙ ap (λ v. v ++ map (λ _. c.args.alpha) c.args.rows.now) c.in_ok-denominators.ensures.empty)
-          ∙ ap (denominator_column R S g.EF.ExtensionDomain.embed ws c.args.alpha c.args.beta c.args.rows.now) nothing,
+          ∙ ap (tuple_denominators R S g.EF.ExtensionDomain.embed ws c.args.alpha c.args.beta c.args.rows.now) nothing,
     )
 
 pub offset_bounds-tuple-left : goal.offset_bounds-tuple-left
@@ -39,7 +39,7 @@ bounds-tuple-left g c = omega (arith, c.loop-left.invariant.0, c.loop-left-test.
 
 pub column_of-requires-clause-fits : goal.column_of-requires-clause-fits
 column_of-requires-clause-fits g c =
-    let fits = StepFits (layout_of c.args.traces.now) in
+    let fits = StepFits (layout_of (traces_of c.args.traces.now)) in
     subst (λ (l : List _). All fits l) (sym c.deref.ensures.value)
     (All-at (λ v. All fits v.items) c.args.tuple.now (c.loop-left.left - 1) c.index-tuple-left.result c.requires.fits (omega (arith, c.loop-left.invariant.0, c.loop-left-test.true)) c.index-tuple-left.is)
 
@@ -51,7 +51,7 @@ loop-left-preserved g c =
     let embed = g.EF.ExtensionDomain.embed in
     let beta = c.args.beta in
     let steps = c.args.tuple.now in
-    let ws = window_of c.args.traces.now in
+    let ws = window_of (traces_of c.args.traces.now) in
     let left = c.loop-left.left in
     let step = c.index-tuple-left.result in
     let so_far = c.loop-left.invariant in
@@ -68,19 +68,19 @@ loop-left-preserved g c =
           column_front R g.EF.PrimeCharacteristicRing.lawful embed c.args.alpha beta ws c.args.rows.now e rest
           (c.deref-in-loop-left.ensures.value ∙ so_far.2 es are)
           (c.deref-in-loop-left-2.ensures.value ∙ c.in_ok-column.ensures (tree_of e) (c.deref.ensures.value ∙ other.holds))
-          (c.in_ok-push_lessened.ensures
+          (c.in_ok-push_minus_scaled.ensures
           ∙ ap (λ v. v ++ map (λ p. sub_in S p.0 (S.mul c.loop-left.power (embed p.1))) (zip c.deref-in-loop-left.result.now c.deref-in-loop-left-2.result.now)) c.in_ok-lessened.ensures.empty
           ∙ ap (λ q. map (λ p. sub_in S p.0 (S.mul q (embed p.1))) (zip c.deref-in-loop-left.result.now c.deref-in-loop-left-2.result.now)) (so_far.1 ∙ ap (power S beta) many))
-          ∙ ap (denominator_column R S embed ws c.args.alpha beta c.args.rows.now) (sym (drop_read es (left - 1) e other.within other.there ∙ ap (λ n. e ∷ drop n es) one_more)),
+          ∙ ap (tuple_denominators R S embed ws c.args.alpha beta c.args.rows.now) (sym (drop_read es (left - 1) e other.within other.there ∙ ap (λ n. e ∷ drop n es) one_more)),
     )
 
 pub returns : goal.returns
 returns g c = λ es are.
     let S = g.EF.PrimeCharacteristicRing.ring in
-    let ws = window_of c.args.traces.now in
+    let ws = window_of (traces_of c.args.traces.now) in
     let none_left : c.loop-left.left ≡ 0 = omega (arith, c.loop-left-test.false) in
     c.loop-left.invariant.2 es are
-    ∙ ap (λ n. denominator_column g.F.PrimeCharacteristicRing.ring S g.EF.ExtensionDomain.embed ws c.args.alpha c.args.beta c.args.rows.now (drop n es)) none_left
+    ∙ ap (λ n. tuple_denominators g.F.PrimeCharacteristicRing.ring S g.EF.ExtensionDomain.embed ws c.args.alpha c.args.beta c.args.rows.now (drop n es)) none_left
 
 pub column_of-requires-clause-rows_exist : goal.column_of-requires-clause-rows_exist
 column_of-requires-clause-rows_exist g c = c.requires.rows_exist

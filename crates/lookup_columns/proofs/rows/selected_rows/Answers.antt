@@ -2,9 +2,9 @@ use Rattle.std.proofs.Common.{◌≡◌, ◌<◌, ◌+◌, ◌∷◌, ◌++◌, 
 use Rattle.std.proofs.lemmas.Bool.{false_from_ne_true, true≢false}
 use Rattle.std.proofs.lemmas.List.{append-nil, get_or_default, length-take, length_push}
 use Rattle.std.proofs.lemmas.List.Elements.{All-push}
-use Rattle.lookup_columns.specs.ChunkColumns.{ArePlaced, selected_rows}
+use Rattle.lookup_columns.specs.ChunkColumns.{AreSelected, selected_rows}
 use Rattle.lookup_columns.proofs.ZipLaws.{taken_more}
-use Rattle.lookup_columns.proofs.PlacedLaws.{placed_more, placed_skipped, selected_push}
+use Rattle.lookup_columns.proofs.SelectedRows.{selected_more, selected_skipped, selected_push}
 use Rattle.lookup_columns.proofs.rows.selected_rows.Goals.{then-not-is_zero+in_ok-push-2, else-not-is_zero}
 use Rattle.lookup_columns.proofs.rows.selected_rows.Goals as goal
 
@@ -16,7 +16,7 @@ loop-i-preserved g c =
     let i = c.loop-i.i in
     let flags = c.args.flags.now in
     let rows = c.args.rows.now in
-    let places = c.loop-i.places.items in
+    let indices = c.loop-i.indices.items in
     let selected = c.loop-i.selected.items in
     let f = c.index-flags-i.result in
     let r = get_or rows i 0 in
@@ -25,10 +25,10 @@ loop-i-preserved g c =
     let lt : i < length rows = omega (arith, c.loop-i-test.true) in
     let flag_more = taken_more flags i f (omega (arith, lt, c.requires)) c.index-flags-i.is in
     let row_more = taken_more rows i r lt (get_or_default rows i 0 r lt) in
-    let places_are = c.in_ok-push.ensures.items in
+    let indices_are = c.in_ok-push.ensures.items in
     let flags_long : length (take i flags) ≡ length (take i rows) = omega (arith, length-take i flags, length-take i rows, c.requires, lt) in
-    let places_long : length places ≡ length (take i rows) = omega (arith, so_far.0, length-take i rows, lt) in
-    let many : length c.push.new.self.items ≡ i + 1 = ap length places_are ∙ length_push places n ∙ ap (λ m. m + 1) so_far.0 in
+    let indices_long : length indices ≡ length (take i rows) = omega (arith, so_far.0, length-take i rows, lt) in
+    let many : length c.push.new.self.items ≡ i + 1 = ap length indices_are ∙ length_push indices n ∙ ap (λ m. m + 1) so_far.0 in
     let more = selected_push R eq (take i flags) (take i rows) f r flags_long in
     elim c.if-not-is_zero.branch [
       | then-not-is_zero+in_ok-push-2 w ↦
@@ -37,8 +37,8 @@ loop-i-preserved g c =
           false_from_ne_true (eq f R.zero) (λ e. true≢false (sym (c.is_zero.ensures.1 ((met.eq_is f R.zero).0 e)) ∙ w.if-not-is_zero.true)) in (
             many,
             selected_are ∙ (λ k. so_far.1 k ++ cond (sym set k) [] (r ∷ [])) ∙ sym more ∙ (λ k. selected_rows R eq (sym flag_more k) (sym row_more k)),
-            subst (λ (X : Type 0). X) (λ k. ArePlaced R (sym flag_more k) (sym row_more k) (sym places_are k) (sym selected_are k))
-                (placed_more R (take i flags) (take i rows) places selected f r flags_long places_long so_far.2 n (omega (arith, c.len.ensures))),
+            subst (λ (X : Type 0). X) (λ k. AreSelected R (sym flag_more k) (sym row_more k) (sym indices_are k) (sym selected_are k))
+                (selected_more R (take i flags) (take i rows) indices selected f r flags_long indices_long so_far.2 n (omega (arith, c.len.ensures))),
             λ m below. subst (λ (l : List ℕ). All (λ q. q < m) l) (sym selected_are) (All-push (λ q. q < m) selected r (so_far.3 m below) (below i 0 lt)),
           )
       | else-not-is_zero w ↦
@@ -46,8 +46,8 @@ loop-i-preserved g c =
           let unset : f ≡ R.zero = c.is_zero.ensures.0 w.if-not-is_zero.false in (
             many,
             selected_are ∙ so_far.1 ∙ sym (append-nil (selected_rows R eq (take i flags) (take i rows))) ∙ (λ k. selected_rows R eq (take i flags) (take i rows) ++ cond (sym ((met.eq_is f R.zero).1 unset) k) [] (r ∷ [])) ∙ sym more ∙ (λ k. selected_rows R eq (sym flag_more k) (sym row_more k)),
-            subst (λ (X : Type 0). X) (λ k. ArePlaced R (sym flag_more k) (sym row_more k) (sym places_are k) (sym selected_are k))
-                (placed_skipped R (take i flags) (take i rows) places selected f r flags_long places_long so_far.2 n unset),
+            subst (λ (X : Type 0). X) (λ k. AreSelected R (sym flag_more k) (sym row_more k) (sym indices_are k) (sym selected_are k))
+                (selected_skipped R (take i flags) (take i rows) indices selected f r flags_long indices_long so_far.2 n unset),
             λ m below. subst (λ (l : List ℕ). All (λ q. q < m) l) (sym selected_are) (so_far.3 m below),
           )
     ]

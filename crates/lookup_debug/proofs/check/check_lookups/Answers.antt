@@ -1,7 +1,7 @@
 use Rattle.std.proofs.Common.{inl, inr, map}
 use Rattle.std.proofs.lemmas.Result.{err_from_is_err_and}
 use Rattle.lookup_debug.specs.Contributions.{traced_of}
-use Rattle.lookup_debug.specs.Groups.{bus_group, bus_names, local_groups}
+use Rattle.lookup_debug.specs.Groups.{bus_group, local_groups, traced_bus_names}
 use Rattle.lookup_debug.proofs.GroupSteps.{answers-after, mismatch-sooner}
 use Rattle.lookup_debug.proofs.check.check_lookups.Goals as goal
 
@@ -19,7 +19,7 @@ returns-in_err-check_locals g c =
     let p = err_from_is_err_and c.from_residual.result c.from_residual.ensures.1 in
     rw (p.1, p.2) (elim c.in_err-check_locals.ensures [
       | inl memory ↦ inl memory
-      | inr is ↦ inr (mismatch-sooner R eq g.F.Field.text (local_groups R eq all) (map (bus_group R eq all) (bus_names all)) c.in_err-check_locals.field-0.0 is)
+      | inr is ↦ inr (mismatch-sooner R eq g.F.Field.text (local_groups R eq all) (map (bus_group R eq all) (traced_bus_names all)) c.in_err-check_locals.field-0.0 is)
     ])
 
 pub returns : goal.returns
@@ -27,4 +27,4 @@ returns g c =
     let R = g.F.PrimeCharacteristicRing.ring in
     let eq = g.F.PartialEq.eq in
     let all = map traced_of c.args.instances.now in
-    answers-after R eq g.F.Field.text (local_groups R eq all) (map (bus_group R eq all) (bus_names all)) c.in_ok-check_locals.ensures c.check_buses.result c.check_buses.ensures
+    answers-after R eq g.F.Field.text (local_groups R eq all) (map (bus_group R eq all) (traced_bus_names all)) c.in_ok-check_locals.ensures c.check_buses.result c.check_buses.ensures

@@ -9,5 +9,5 @@ returns g c = record {
   fault_is = refl;
   label_is = refl;
   tuple_is = c.in_ok-tuple.ensures;
-  places_are = refl;
+  locations_are = refl;
 }

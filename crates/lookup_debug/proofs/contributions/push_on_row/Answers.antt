@@ -8,7 +8,7 @@ use Rattle.lookup_model.specs.Sent.{branches_at, flags_at}
 use Rattle.lookup_debug.specs.Appended.{Appends}
 use Rattle.lookup_debug.specs.Contributions.{Contribution, amounts, contributions_from, nonzero}
 use Rattle.lookup_debug.proofs.AmountLaws.{length-sized, sized_step}
-use Rattle.lookup_debug.proofs.CutLaws.{appends-none}
+use Rattle.lookup_debug.proofs.SpanLaws.{appends-none}
 use Rattle.lookup_debug.proofs.contributions.push_on_row.Goals as goal
 
 pub push_branch-requires-clause-fits : goal.push_branch-requires-clause-fits
@@ -21,20 +21,20 @@ pub push_branch-requires-clause-within : goal.push_branch-requires-clause-within
 push_branch-requires-clause-within g c = (c.loop-branch.invariant (record { instance = 0; lookup = 0; row = 0 })).0
 
 pub loop-branch-init : goal.loop-branch-init
-loop-branch-init g c place = appends-none c.args.contributions.now c.requires.within
+loop-branch-init g c location = appends-none c.args.contributions.now c.requires.within
 
 pub loop-branch-preserved : goal.loop-branch-preserved
-loop-branch-preserved g c place =
-    sized_step g.F.PrimeCharacteristicRing.ring g.F.PartialEq.eq place (builder_window c.args.builder.now) c.args.lookup.now c.requires.lengths c.loop-branch.branch c.index-tuple.result.now (omega arith) c.index-tuple.ensures
+loop-branch-preserved g c location =
+    sized_step g.F.PrimeCharacteristicRing.ring g.F.PartialEq.eq location (builder_window c.args.builder.now) c.args.lookup.now c.requires.lengths c.loop-branch.branch c.index-tuple.result.now (omega arith) c.index-tuple.ensures
     c.amount_of-amount.result c.amount_of-amount.ensures
-    c.args.contributions.now c.loop-branch.contributions c.push_branch.new.contributions c.deref.result.now c.deref.ensures.value (c.loop-branch.invariant place) (c.in_ok-push_branch.ensures place)
+    c.args.contributions.now c.loop-branch.contributions c.push_branch.new.contributions c.deref.result.now c.deref.ensures.value (c.loop-branch.invariant location) (c.in_ok-push_branch.ensures location)
 
 pub returns : goal.returns
-returns g c place =
+returns g c location =
     let R = g.F.PrimeCharacteristicRing.ring in
     let eq = g.F.PartialEq.eq in
     let w = builder_window c.args.builder.now in
     let lookup = c.args.lookup.now in
     let branches = branches_at R w 0 lookup in
-    let all = contributions_from place branches (amounts R (flags_at R w lookup) branches) in
-    subst (λ (cs : List (Contribution _)). Appends c.args.contributions.now c.loop-branch.contributions (nonzero R eq cs)) (take_all c.loop-branch.branch all (omega (arith, length-sized R eq place w lookup c.requires.lengths))) (c.loop-branch.invariant place)
+    let all = contributions_from location branches (amounts R (flags_at R w lookup) branches) in
+    subst (λ (cs : List (Contribution _)). Appends c.args.contributions.now c.loop-branch.contributions (nonzero R eq cs)) (take_all c.loop-branch.branch all (omega (arith, length-sized R eq location w lookup c.requires.lengths))) (c.loop-branch.invariant location)

@@ -7,7 +7,7 @@ use Rattle.lookup_model.proofs.Branches.{mapped_at}
 use Rattle.lookup_model.specs.Net.{first_seen}
 use Rattle.lookup_model.specs.Outline.{bus_of}
 use Rattle.lookup_debug.specs.Contributions.{Traced, traced_of}
-use Rattle.lookup_debug.specs.Groups.{Placed, placed_in}
+use Rattle.lookup_debug.specs.Groups.{LookupAt, lookups_in}
 use Rattle.lookup_debug.proofs.BusLaws.{names_more, numbered_all}
 use Rattle.lookup_debug.proofs.groups.bus_names.Goals as goal
 
@@ -25,6 +25,6 @@ pub returns : goal.returns
 returns g c =
     let instances = c.args.instances.now in
     let ts = map traced_of instances in
-    let names = λ (ps : List (ℕ × Traced _)). first_seen (pointwise nat_eq) (filter_map (λ (p : Placed _). bus_of p.lookup.kind) (flat_map placed_in ps)) in
+    let names = λ (ps : List (ℕ × Traced _)). first_seen (pointwise nat_eq) (filter_map (λ (p : LookupAt _). bus_of p.lookup.kind) (flat_map lookups_in ps)) in
     let all = ap names (numbered_all ts c.loop-instance.instance-index (omega (arith, c.loop-instance-test.false, length-map instances traced_of))) in
-    IfOk-weaker c.listed.result _ _ (λ list is. ap (map (λ n. n.now)) is ∙ c.loop-instance.invariant ∙ all) c.listed.ensures
+    IfOk-weaker c.collect_names.result _ _ (λ list is. ap (map (λ n. n.now)) is ∙ c.loop-instance.invariant ∙ all) c.collect_names.ensures

@@ -3,8 +3,8 @@ use Rattle.std.proofs.lemmas.List.{length-map}
 use Rattle.std.specs.List.{filter, flat_map}
 use Rattle.lookup_model.proofs.Branches.{mapped_at}
 use Rattle.lookup_model.proofs.RecordLaws.{All-at}
-use Rattle.lookup_debug.specs.Contributions.{IsFitting, Traced, traced_of}
-use Rattle.lookup_debug.specs.Groups.{is_on, placed_contributions, placed_in}
+use Rattle.lookup_debug.specs.Contributions.{IsTracedFitting, Traced, traced_of}
+use Rattle.lookup_debug.specs.Groups.{is_on, lookup_contributions, lookups_in}
 use Rattle.lookup_debug.specs.declared.instance.LookupDebugInstance.{LookupDebugInstance}
 use Rattle.lookup_debug.proofs.BusLaws.{numbered_all, step_instance}
 use Rattle.lookup_debug.proofs.walk.walk_bus.Goals as goal
@@ -15,7 +15,7 @@ walk_bus_of-requires-clause-ready g c =
 
 pub walk_bus_of-requires-clause-fit : goal.walk_bus_of-requires-clause-fit
 walk_bus_of-requires-clause-fit g c =
-    All-at (λ (i : LookupDebugInstance _). IsFitting (traced_of i)) c.args.instances.now c.loop-instance.instance c.index-instances-instance.result c.requires.fit c.loop-instance-test.true c.index-instances-instance.is
+    All-at (λ (i : LookupDebugInstance _). IsTracedFitting (traced_of i)) c.args.instances.now c.loop-instance.instance c.index-instances-instance.result c.requires.fit c.loop-instance-test.true c.index-instances-instance.is
 
 pub loop-instance-init : goal.loop-instance-init
 loop-instance-init g c = g.met.V.RowVisitor.walks.rests c.args.visitor.now c.requires.ready
@@ -32,8 +32,8 @@ loop-instance-preserved g c =
 
 pub returns : goal.returns
 returns g c =
-    let f = placed_contributions g.F.PrimeCharacteristicRing.ring g.F.PartialEq.eq in
+    let f = lookup_contributions g.F.PrimeCharacteristicRing.ring g.F.PartialEq.eq in
     let on = is_on c.args.name.now in
     let instances = c.args.instances.now in
     let ts = map traced_of instances in
-    subst (λ (ns : List (ℕ × Traced _)). g.V.RowVisitor.does c.args.visitor.now c.loop-instance.visitor (flat_map f (filter on (flat_map placed_in ns)))) (numbered_all ts c.loop-instance.instance (omega (arith, c.loop-instance-test.false, length-map instances traced_of))) c.loop-instance.invariant
+    subst (λ (ns : List (ℕ × Traced _)). g.V.RowVisitor.does c.args.visitor.now c.loop-instance.visitor (flat_map f (filter on (flat_map lookups_in ns)))) (numbered_all ts c.loop-instance.instance (omega (arith, c.loop-instance-test.false, length-map instances traced_of))) c.loop-instance.invariant

@@ -5,52 +5,53 @@ use Rattle.std.specs.List.{filter, flat_map}
 use Rattle.lookup_model.specs.Outline.{bus_of}
 use Rattle.lookup_model.specs.declared.types.Lookup.{Lookup}
 use Rattle.lookup_debug.specs.Contributions.{contributions_of, traced_of}
-use Rattle.lookup_debug.specs.Groups.{Placed, is_named, is_on, placed_contributions, placed_in}
-use Rattle.lookup_debug.proofs.BusLaws.{length-placed_in, step_off, step_on}
+use Rattle.lookup_debug.specs.Groups.{LookupAt, is_on, lookup_contributions, lookups_in}
+use Rattle.lookup_model.specs.Names.{is_named}
+use Rattle.lookup_debug.proofs.BusLaws.{length-lookups_in, step_off, step_on}
 use Rattle.lookup_debug.proofs.walk.walk_bus_of.Goals.{else-is_on_bus, then-is_on_bus+in_ok-walk_lookup}
 use Rattle.lookup_debug.proofs.walk.walk_bus_of.Goals as goal
 
 pub walk_lookup-requires-clause-ready : goal.walk_lookup-requires-clause-ready
-walk_lookup-requires-clause-ready g c = g.met.V.RowVisitor.walks.leaves _ _ _ c.loop-place.invariant
+walk_lookup-requires-clause-ready g c = g.met.V.RowVisitor.walks.leaves _ _ _ c.loop-index.invariant
 
 pub walk_lookup-requires-clause-there : goal.walk_lookup-requires-clause-there
 walk_lookup-requires-clause-there g c =
-    let ls = c.args.traced.now.lookups.now in slice_get-get_or ls c.loop-place.place c.index-traced-place.result c.loop-place-test.true
+    let ls = c.args.traced.now.lookups.now in slice_get-get_or ls c.loop-index.index c.index-traced-index.result c.loop-index-test.true
 
 pub walk_lookup-requires-clause-fit : goal.walk_lookup-requires-clause-fit
 walk_lookup-requires-clause-fit g c = c.requires.fit
 
-pub loop-place-init : goal.loop-place-init
-loop-place-init g c = g.met.V.RowVisitor.walks.rests c.args.visitor.now c.requires.ready
+pub loop-index-init : goal.loop-index-init
+loop-index-init g c = g.met.V.RowVisitor.walks.rests c.args.visitor.now c.requires.ready
 
-pub loop-place-preserved : goal.loop-place-preserved
-loop-place-preserved g c =
+pub loop-index-preserved : goal.loop-index-preserved
+loop-index-preserved g c =
     let R = g.F.PrimeCharacteristicRing.ring in
     let eq = g.F.PartialEq.eq in
     let walks = g.met.V.RowVisitor.walks in
     let name = c.args.name.now in
     let t = traced_of c.args.traced.now in
     let n = c.args.instance in
-    let j = c.loop-place.place in
-    let l = c.index-traced-place.result in
-    let is = c.index-traced-place.is in
+    let j = c.loop-index.index in
+    let l = c.index-traced-index.result in
+    let is = c.index-traced-index.is in
     let start = c.args.visitor.now in
-    let so_far = c.loop-place.visitor in
+    let so_far = c.loop-index.visitor in
     let after = c.if-is_on_bus.visitor in
     let named : is_named name (bus_of l.kind) ≡ c.is_on_bus.result = ap (λ (k : Lookup _). is_named name (bus_of k.kind)) is ∙ sym c.is_on_bus.ensures in
     elim c.if-is_on_bus.branch [
       | then-is_on_bus+in_ok-walk_lookup w ↦
           let made = w.walk_lookup.new.visitor in
-          step_on walks R eq name n t j l c.loop-place-test.true is start so_far c.loop-place.invariant made after w.visitor-is (named ∙ w.if-is_on_bus.true)
+          step_on walks R eq name n t j l c.loop-index-test.true is start so_far c.loop-index.invariant made after w.visitor-is (named ∙ w.if-is_on_bus.true)
           (subst (λ (k : Lookup _). g.V.RowVisitor.does so_far made (contributions_of R eq n j t k)) (sym is) w.in_ok-walk_lookup.ensures)
       | else-is_on_bus w ↦
-          step_off walks R eq name n t j l c.loop-place-test.true is start so_far c.loop-place.invariant after w.visitor-is (named ∙ w.if-is_on_bus.false)
+          step_off walks R eq name n t j l c.loop-index-test.true is start so_far c.loop-index.invariant after w.visitor-is (named ∙ w.if-is_on_bus.false)
     ]
 
 pub returns : goal.returns
 returns g c =
-    let f = placed_contributions g.F.PrimeCharacteristicRing.ring g.F.PartialEq.eq in
+    let f = lookup_contributions g.F.PrimeCharacteristicRing.ring g.F.PartialEq.eq in
     let on = is_on c.args.name.now in
     let t = traced_of c.args.traced.now in
-    let ps = placed_in (c.args.instance, t) in
-    subst (λ (qs : List (Placed _)). g.V.RowVisitor.does c.args.visitor.now c.loop-place.visitor (flat_map f (filter on qs))) (take_all c.loop-place.place ps (omega (arith, c.loop-place-test.false, length-placed_in c.args.instance t))) c.loop-place.invariant
+    let ps = lookups_in (c.args.instance, t) in
+    subst (λ (qs : List (LookupAt _)). g.V.RowVisitor.does c.args.visitor.now c.loop-index.visitor (flat_map f (filter on qs))) (take_all c.loop-index.index ps (omega (arith, c.loop-index-test.false, length-lookups_in c.args.instance t))) c.loop-index.invariant

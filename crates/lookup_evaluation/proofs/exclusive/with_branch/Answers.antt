@@ -12,14 +12,14 @@ denominator-requires-clause-beta g c = c.requires.beta
 pub denominator-requires-clause-main : goal.denominator-requires-clause-main
 denominator-requires-clause-main g c = c.requires.main
 
-pub lifted-requires-clause-fits : goal.lifted-requires-clause-fits
-lifted-requires-clause-fits g c = c.requires.multiplicity_fits
+pub lift_expression-requires-clause-fits : goal.lift_expression-requires-clause-fits
+lift_expression-requires-clause-fits g c = c.requires.multiplicity_fits
 
-pub lifted-requires-clause-main : goal.lifted-requires-clause-main
-lifted-requires-clause-main g c = c.requires.main
+pub lift_expression-requires-clause-main : goal.lift_expression-requires-clause-main
+lift_expression-requires-clause-main g c = c.requires.main
 
-pub lifted-requires-2-clause-fits : goal.lifted-requires-2-clause-fits
-lifted-requires-2-clause-fits g c = c.requires.flag_fits
+pub lift_expression-requires-2-clause-fits : goal.lift_expression-requires-2-clause-fits
+lift_expression-requires-2-clause-fits g c = c.requires.flag_fits
 
-pub lifted-requires-2-clause-main : goal.lifted-requires-2-clause-main
-lifted-requires-2-clause-main g c = c.requires.main
+pub lift_expression-requires-2-clause-main : goal.lift_expression-requires-2-clause-main
+lift_expression-requires-2-clause-main g c = c.requires.main

@@ -9,11 +9,10 @@ use Rattle.std.proofs.lemmas.Slice.Zip.{all_zipped_more, AllZip-long}
 use Rattle.lookup_columns.proofs.ZipLaws.{beside, taken_more}
 use Rattle.lookup_columns.specs.LookupSteps.{AreLookupSteps}
 use Rattle.lookup_model.proofs.Lookups.SentRows.{column_is, equal_lengths}
-use Rattle.lookup_columns.specs.Traces.{layout_of}
+use Rattle.air.specs.Traces.{layout_of, traces_of, window_of}
 use Rattle.lookup_model.proofs.RecordLaws.{All-at}
 use Rattle.lookup_model.specs.Records.{IsWithin}
 use Rattle.lookup_model.specs.declared.types.Lookup.{Lookup}
-use Rattle.lookup_columns.specs.Traces.{window_of}
 use Rattle.lookup_generation.proofs.columns.columns_of_lookups.Goals as goal
 
 pub offset_bounds-steps-lookup : goal.offset_bounds-steps-lookup
@@ -35,13 +34,13 @@ columns_of_lookup-requires-clause-steps g c =
     let here = c.index-steps-lookup.result in
     let at = column_is lookups i lookup c.requires.fit.records c.loop-lookup-test.true c.lookup-item.is in
     let long = AllZip-long AreLookupSteps steps lookups c.requires.steps in
-    let same_place = beside AreLookupSteps steps lookups i here c.requires.steps (omega (arith, long, c.loop-lookup-test.true)) (c.index-steps-lookup.is ∙ ap (λ n. get_or steps n here) at) in
-    let same : same_place.item ≡ lookup = same_place.there ∙ get_or_default lookups i same_place.item lookup c.loop-lookup-test.true ∙ sym c.lookup-item.is in
-    subst (AreLookupSteps here) same same_place.holds
+    let same_index = beside AreLookupSteps steps lookups i here c.requires.steps (omega (arith, long, c.loop-lookup-test.true)) (c.index-steps-lookup.is ∙ ap (λ n. get_or steps n here) at) in
+    let same : same_index.item ≡ lookup = same_index.there ∙ get_or_default lookups i same_index.item lookup c.loop-lookup-test.true ∙ sym c.lookup-item.is in
+    subst (AreLookupSteps here) same same_index.holds
 
 pub loop-lookup-preserved : goal.loop-lookup-preserved
 loop-lookup-preserved g c =
-    let windows = window_of c.args.traces.now in
+    let windows = window_of (traces_of c.args.traces.now) in
     let held = λ (lookup : Lookup _) (columns : Vec (BranchColumns _ _) Global). AreColumns g.F.PrimeCharacteristicRing.ring g.EF.PrimeCharacteristicRing.ring g.EF.ExtensionDomain.embed c.args.challenges.now windows c.args.rows.now lookup columns.items in
     let i = c.loop-lookup.lookup-index in
     subst₂ (AllZip held) (sym (taken_more c.args.lookups.now i c.lookup-item.result c.loop-lookup-test.true c.lookup-item.is)) (sym c.in_ok-push.ensures.items)
@@ -54,7 +53,7 @@ pub columns_of_lookup-requires-clause-lengths : goal.columns_of_lookup-requires-
 columns_of_lookup-requires-clause-lengths g c = equal_lengths c.args.lookups.now c.loop-lookup.lookup-index c.lookup-item.result c.requires.fit.records c.loop-lookup-test.true c.lookup-item.is
 
 pub columns_of_lookup-requires-clause-within : goal.columns_of_lookup-requires-clause-within
-columns_of_lookup-requires-clause-within g c = All-at (IsWithin (layout_of c.args.traces.now)) c.args.lookups.now c.loop-lookup.lookup-index c.lookup-item.result c.requires.fit.within c.loop-lookup-test.true c.lookup-item.is
+columns_of_lookup-requires-clause-within g c = All-at (IsWithin (layout_of (traces_of c.args.traces.now))) c.args.lookups.now c.loop-lookup.lookup-index c.lookup-item.result c.requires.fit.within c.loop-lookup-test.true c.lookup-item.is
 
 pub columns_of_lookup-requires-clause-challenges : goal.columns_of_lookup-requires-clause-challenges
 columns_of_lookup-requires-clause-challenges g c =

@@ -17,9 +17,9 @@ returns-in_err-set g c = λ flags held.
     let R = g.F.PrimeCharacteristicRing.ring in
     let eq = g.F.PartialEq.eq in
     let i = c.loop-branch.branch in
-    let b : Beside (HasFlag c.args.place) flags i c.index-columns-branch.result =
-    beside (HasFlag c.args.place) c.args.columns.now flags i c.index-columns-branch.result held (omega arith) c.index-columns-branch.is in
-    let here = read_is _ c.args.place c.index-flag.result.now b.item b.holds (c.index-flag.ensures ∙ ap (λ (t : BranchColumns _ _). slice_index_or t.flags.items c.args.place c.index-flag.result.now) (sym c.index-columns-branch.is)) in
+    let b : Beside (HasFlag c.args.index) flags i c.index-columns-branch.result =
+    beside (HasFlag c.args.index) c.args.columns.now flags i c.index-columns-branch.result held (omega arith) c.index-columns-branch.is in
+    let here = read_is _ c.args.index c.index-flag.result.now b.item b.holds (c.index-flag.ensures ∙ ap (λ (t : BranchColumns _ _). slice_index_or t.flags.items c.args.index c.index-flag.result.now) (sym c.index-columns-branch.is)) in
     let p = err_from_is_err_and c.from_residual.result c.from_residual.ensures.1 in
     let why = c.in_err-set.ensures.refused in
     rw (p.1, p.2) (inr (
@@ -33,9 +33,9 @@ loop-branch-preserved g c = λ flags held.
     let R = g.F.PrimeCharacteristicRing.ring in
     let eq = g.F.PartialEq.eq in
     let i = c.loop-branch.branch in
-    let b : Beside (HasFlag c.args.place) flags i c.index-columns-branch.result =
-    beside (HasFlag c.args.place) c.args.columns.now flags i c.index-columns-branch.result held (omega arith) c.index-columns-branch.is in
-    let here = read_is _ c.args.place c.index-flag.result.now b.item b.holds (c.index-flag.ensures ∙ ap (λ (t : BranchColumns _ _). slice_index_or t.flags.items c.args.place c.index-flag.result.now) (sym c.index-columns-branch.is)) in
+    let b : Beside (HasFlag c.args.index) flags i c.index-columns-branch.result =
+    beside (HasFlag c.args.index) c.args.columns.now flags i c.index-columns-branch.result held (omega arith) c.index-columns-branch.is in
+    let here = read_is _ c.args.index c.index-flag.result.now b.item b.holds (c.index-flag.ensures ∙ ap (λ (t : BranchColumns _ _). slice_index_or t.flags.items c.args.index c.index-flag.result.now) (sym c.index-columns-branch.is)) in
     subst (λ (fs : List _). AreSetFlags R eq fs c.in_ok-set.set)
     ((λ k. take i flags ++ sym here k ∷ []) ∙ sym (taken_more flags i b.item b.within b.there))
     (c.in_ok-set.ensures.next (take i flags) (omega (arith, length-take i flags, b.within)) (c.loop-branch.invariant flags held))
@@ -45,5 +45,5 @@ returns g c = λ flags held.
     let R = g.F.PrimeCharacteristicRing.ring in
     let eq = g.F.PartialEq.eq in
     subst (λ (fs : List _). AreSetFlags R eq fs c.loop-branch.set)
-    (take_all c.loop-branch.branch flags (omega (arith, AllZip-long (HasFlag c.args.place) c.args.columns.now flags held, c.loop-branch-test.false)))
+    (take_all c.loop-branch.branch flags (omega (arith, AllZip-long (HasFlag c.args.index) c.args.columns.now flags held, c.loop-branch-test.false)))
     (c.loop-branch.invariant flags held)

@@ -2,24 +2,24 @@ use Rattle.std.proofs.Common.{◌≡◌, inl, inr, List, None, Some, ap, sym, su
 use Rattle.std.proofs.lemmas.Result.{MatchResult-weaker}
 use Rattle.std.specs.Option.{option_map}
 use Rattle.expressions.specs.declared.base_expression.SymbolicExpression.{SymbolicExpression}
-use Rattle.lookup_model.specs.Denominators.{column_denominator}
+use Rattle.lookup_model.specs.Denominators.{key_denominator}
 use Rattle.field.specs.Extension.{extension}
 use Rattle.lookup_model.specs.Fault.{fault_of}
 use Rattle.lookup_model.specs.Plain.{plain_fraction}
 use Rattle.lookup_model.specs.Sent.{branches_at, sent, sent_at, values}
 use Rattle.lookup_generation.specs.Fraction.{IsRatio}
-use Rattle.lookup_rows.specs.TraceBuilder.{builder_challenges, builder_row, builder_window}
+use Rattle.air.specs.Traces.{traces_of, window_of}
 use Rattle.lookup_model.proofs.Lookups.LookupFaults.{additive_faultless, additive_fault}
-use Rattle.lookup_columns.specs.ChunkColumns.{HoldSelected, key_denominator}
+use Rattle.lookup_columns.specs.ChunkColumns.{HoldSelected, key_denominator_over}
 use Rattle.lookup_generation.proofs.fraction.fraction.Goals as goal
 
 pub returns-in-None-clause-answers : goal.returns-in-None-clause-answers
 returns-in-None-clause-answers g c = λ inverse is_inverse.
     let E = extension g.F.PrimeCharacteristicRing.ring g.F.PartialEq.eq g.EF.PrimeCharacteristicRing.ring g.EF.PartialEq.eq g.EF.ExtensionDomain.embed inverse in
-    let denominator = column_denominator E (builder_challenges c.args.builder.now) in
-    let row = (builder_row c.args.builder.now) in
+    let denominator = key_denominator E c.args.challenges.now in
+    let row = c.args.row in
     let lookup = c.args.lookup.now in
-    let w = builder_window c.args.builder.now in
+    let w = window_of (traces_of c.args.traces.now) c.args.row in
     let branches = branches_at E.base w lookup.column lookup in
     let sent_is : sent E.base E.base_eq None branches ≡ sent_at E.base E.base_eq w lookup.column lookup =
     ap (λ o. sent E.base E.base_eq (option_map (λ flags. values E.base w flags.items) o) branches) (sym c.in-None.is) in
@@ -34,10 +34,10 @@ returns-in-None-clause-answers g c = λ inverse is_inverse.
 pub returns-in-Some-clause-answers : goal.returns-in-Some-clause-answers
 returns-in-Some-clause-answers g c = λ inverse is_inverse.
     let E = extension g.F.PrimeCharacteristicRing.ring g.F.PartialEq.eq g.EF.PrimeCharacteristicRing.ring g.EF.PartialEq.eq g.EF.ExtensionDomain.embed inverse in
-    let denominator = column_denominator E (builder_challenges c.args.builder.now) in
-    let row = (builder_row c.args.builder.now) in
+    let denominator = key_denominator E c.args.challenges.now in
+    let row = c.args.row in
     let lookup = c.args.lookup.now in
-    let w = builder_window c.args.builder.now in
+    let w = window_of (traces_of c.args.traces.now) c.args.row in
     let branches = branches_at E.base w lookup.column lookup in
     let sent_is : sent E.base E.base_eq (Some (values E.base w c.deref.result.now)) branches ≡ sent_at E.base E.base_eq w lookup.column lookup =
     ap (λ t. sent E.base E.base_eq (Some (values E.base w t)) branches) c.deref.ensures.value
@@ -61,8 +61,8 @@ additive_fraction-requires g c = c.requires.additive c.in-None.is
 
 pub exclusive_fraction-requires : goal.exclusive_fraction-requires
 exclusive_fraction-requires g c =
-    let w = builder_window c.args.builder.now in
+    let w = window_of (traces_of c.args.traces.now) c.args.row in
     let lookup = c.args.lookup.now in
     let R = g.F.PrimeCharacteristicRing.ring in
-    let denominator = key_denominator g.EF.PrimeCharacteristicRing.ring g.EF.ExtensionDomain.embed (builder_challenges c.args.builder.now) in
-    subst (λ (es : List (SymbolicExpression _)). HoldSelected R denominator c.args.place c.args.columns.now (values R w es) (branches_at R w lookup.column lookup)) (sym c.deref.ensures.value) (c.requires.exclusive _ c.in-Some.is)
+    let denominator = key_denominator_over g.EF.PrimeCharacteristicRing.ring g.EF.ExtensionDomain.embed c.args.challenges.now in
+    subst (λ (es : List (SymbolicExpression _)). HoldSelected R denominator c.args.index c.args.columns.now (values R w es) (branches_at R w lookup.column lookup)) (sym c.deref.ensures.value) (c.requires.exclusive _ c.in-Some.is)

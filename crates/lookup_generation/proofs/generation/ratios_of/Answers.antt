@@ -3,9 +3,9 @@ use Rattle.std.proofs.lemmas.Slice.Zip.{AllZip-long}
 use Rattle.std.specs.List.{slice_get}
 use Rattle.std.specs.declared.alloc.Global.{Global}
 use Rattle.std.specs.declared.vec.Vec.{Vec}
-use Rattle.lookup_columns.specs.Traces.{height_of, window_of}
+use Rattle.air.specs.Traces.{height_of, traces_of, window_of}
 use Rattle.field.specs.laws.Extension.{lawful_extension}
-use Rattle.lookup_model.specs.Denominators.{column_denominator}
+use Rattle.lookup_model.specs.Denominators.{key_denominator}
 use Rattle.field.specs.Extension.{extension, IsLawful}
 use Rattle.lookup_model.specs.declared.types.Lookup.{Lookup}
 use Rattle.lookup_columns.proofs.ChunkColumnLaws.{range_at, range_below, zip_weaker}
@@ -19,7 +19,7 @@ use Rattle.lookup_generation.proofs.generation.ratios_of.Goals as goal
 pub columns_of_lookups-requires-clause-rows_exist :
     goal.columns_of_lookups-requires-clause-rows_exist
 columns_of_lookups-requires-clause-rows_exist g c =
-    range_below c.args.first (c.args.end - c.args.first) (height_of c.args.traces.now) c.deref.result.now (c.deref.ensures.value ∙ c.in_ok-rows.ensures) (omega (arith, c.requires.from, c.requires.up_to))
+    range_below c.args.first (c.args.end - c.args.first) (height_of (traces_of c.args.traces.now)) c.deref.result.now (c.deref.ensures.value ∙ c.in_ok-rows.ensures) (omega (arith, c.requires.from, c.requires.up_to))
 
 pub push_columns-requires-clause-columns : goal.push_columns-requires-clause-columns
 push_columns-requires-clause-columns g c = λ row low high.
@@ -27,43 +27,43 @@ push_columns-requires-clause-columns g c = λ row low high.
     let S = g.EF.PrimeCharacteristicRing.ring in
     let embed = g.EF.ExtensionDomain.embed in
     let challenges = c.args.challenges.now in
-    let windows = window_of c.args.traces.now in
-    let place = row - c.args.first in
+    let windows = window_of (traces_of c.args.traces.now) in
+    let index = row - c.args.first in
     let rows = c.deref.result.now in
-    let here : c.args.first + place ≡ row = omega (arith, low) in
-    let there : slice_get rows place ≡ Some row =
-    range_at c.args.first (c.args.end - c.args.first) place rows (c.deref.ensures.value ∙ c.in_ok-rows.ensures) (omega (arith, low, high)) ∙ ap Some here in
-    let held = λ (lookup : Lookup _) (columns : Vec (BranchColumns _ _) Global). HoldLookup R S embed challenges (windows row) place lookup columns.items in
+    let here : c.args.first + index ≡ row = omega (arith, low) in
+    let there : slice_get rows index ≡ Some row =
+    range_at c.args.first (c.args.end - c.args.first) index rows (c.deref.ensures.value ∙ c.in_ok-rows.ensures) (omega (arith, low, high)) ∙ ap Some here in
+    let held = λ (lookup : Lookup _) (columns : Vec (BranchColumns _ _) Global). HoldLookup R S embed challenges (windows row) index lookup columns.items in
     let all = λ (lookup : Lookup _) (columns : Vec (BranchColumns _ _) Global). AreColumns R S embed challenges windows rows lookup columns.items in
-    let columns : HoldLookups R S embed challenges (windows row) place c.args.lookups.now c.in_ok-columns.columns.items =
-    zip_weaker held all (λ lookup columns are. are place row there) c.args.lookups.now c.in_ok-columns.columns.items c.in_ok-columns.ensures in
-    subst (HoldLookups R S embed challenges (windows row) place c.args.lookups.now) (sym c.deref-2.ensures.value) columns
+    let columns : HoldLookups R S embed challenges (windows row) index c.args.lookups.now c.in_ok-columns.columns.items =
+    zip_weaker held all (λ lookup columns are. are index row there) c.args.lookups.now c.in_ok-columns.columns.items c.in_ok-columns.ensures in
+    subst (HoldLookups R S embed challenges (windows row) index c.args.lookups.now) (sym c.deref-2.ensures.value) columns
 
 pub push_columns-requires-clause-wide : goal.push_columns-requires-clause-wide
 push_columns-requires-clause-wide g c =
-    let all = λ (lookup : Lookup _) (columns : Vec (BranchColumns _ _) Global). AreColumns g.F.PrimeCharacteristicRing.ring g.EF.PrimeCharacteristicRing.ring g.EF.ExtensionDomain.embed c.args.challenges.now (window_of c.args.traces.now) c.deref.result.now lookup columns.items in
+    let all = λ (lookup : Lookup _) (columns : Vec (BranchColumns _ _) Global). AreColumns g.F.PrimeCharacteristicRing.ring g.EF.PrimeCharacteristicRing.ring g.EF.ExtensionDomain.embed c.args.challenges.now (window_of (traces_of c.args.traces.now)) c.deref.result.now lookup columns.items in
     ap length c.deref-2.ensures.value ∙ AllZip-long all c.args.lookups.now c.in_ok-columns.columns.items c.in_ok-columns.ensures
 
 pub returns-in_ok-put_columns-in-None-clause-answers : goal.returns-in_ok-put_columns-in-None-clause-answers
 returns-in_ok-put_columns-in-None-clause-answers g c = λ inverse is_inverse.
     let E = extension g.F.PrimeCharacteristicRing.ring g.F.PartialEq.eq g.EF.PrimeCharacteristicRing.ring g.EF.PartialEq.eq g.EF.ExtensionDomain.embed inverse in
     let laws : IsLawful E = lawful_extension g.F.PrimeCharacteristicRing.lawful g.met.F.PrimeCharacteristicRing.eq_is g.EF.PrimeCharacteristicRing.lawful g.met.EF.Domain.domain g.met.EF.PrimeCharacteristicRing.eq_is g.met.EF.ExtensionDomain.embeds is_inverse in
-    let denominator = column_denominator E c.args.challenges.now in
+    let denominator = key_denominator E c.args.challenges.now in
     let ratios = c.push_columns.new.ratios.items in
-    let none : HasColumns E denominator c.args.traces.now c.args.lookups.now c.args.first c.args.end ratios =
-    subst (AnswersColumns E denominator c.args.traces.now c.args.lookups.now c.args.first c.args.end ratios) c.in-None.is (c.in_ok-fault.ensures.answers inverse is_inverse) in
-    AreRatios-found laws denominator c.args.traces.now c.args.lookups.now c.args.first c.args.end ratios c.requires.from c.requires.up_to (c.requires.faultless inverse is_inverse) none
+    let none : HasColumns E denominator (traces_of c.args.traces.now) c.args.lookups.now c.args.first c.args.end ratios =
+    subst (AnswersColumns E denominator (traces_of c.args.traces.now) c.args.lookups.now c.args.first c.args.end ratios) c.in-None.is (c.in_ok-fault.ensures.answers inverse is_inverse) in
+    AreRatios-found laws denominator (traces_of c.args.traces.now) c.args.lookups.now c.args.first c.args.end ratios c.requires.from c.requires.up_to (c.requires.faultless inverse is_inverse) none
 
 pub returns-in-Some-clause-answers : goal.returns-in-Some-clause-answers
 returns-in-Some-clause-answers g c = λ inverse is_inverse.
     let E = extension g.F.PrimeCharacteristicRing.ring g.F.PartialEq.eq g.EF.PrimeCharacteristicRing.ring g.EF.PartialEq.eq g.EF.ExtensionDomain.embed inverse in
     let laws : IsLawful E = lawful_extension g.F.PrimeCharacteristicRing.lawful g.met.F.PrimeCharacteristicRing.eq_is g.EF.PrimeCharacteristicRing.lawful g.met.EF.Domain.domain g.met.EF.PrimeCharacteristicRing.eq_is g.met.EF.ExtensionDomain.embeds is_inverse in
-    let denominator = column_denominator E c.args.challenges.now in
+    let denominator = key_denominator E c.args.challenges.now in
     let fault = c.in-Some.field-0 in
     let there = subst (λ (f : Option RowFault). IfSome f (λ x. (c.args.first ≤ x.row) × (x.row < c.args.end))) c.in-Some.is c.in_ok-fault.ensures.there in
-    let found : AreFirstIn E denominator c.args.traces.now c.args.lookups.now c.args.first fault =
-    subst (AnswersColumns E denominator c.args.traces.now c.args.lookups.now c.args.first c.args.end c.push_columns.new.ratios.items) c.in-Some.is (c.in_ok-fault.ensures.answers inverse is_inverse) in
-    first_found laws denominator c.args.traces.now c.args.lookups.now c.args.first fault there.0 (omega (arith, there.1, c.requires.up_to)) (c.requires.faultless inverse is_inverse) found
+    let found : AreFirstIn E denominator (traces_of c.args.traces.now) c.args.lookups.now c.args.first fault =
+    subst (AnswersColumns E denominator (traces_of c.args.traces.now) c.args.lookups.now c.args.first c.args.end c.push_columns.new.ratios.items) c.in-Some.is (c.in_ok-fault.ensures.answers inverse is_inverse) in
+    first_found laws denominator (traces_of c.args.traces.now) c.args.lookups.now c.args.first fault there.0 (omega (arith, there.1, c.requires.up_to)) (c.requires.faultless inverse is_inverse) found
 
 pub rows_between-requires : goal.rows_between-requires
 rows_between-requires g c = c.requires.from

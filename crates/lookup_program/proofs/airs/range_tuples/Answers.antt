@@ -2,7 +2,7 @@ use Rattle.std.proofs.Common.{◌++◌, ◌∷◌, [], List, map, ap, subst, sym
 use Rattle.std.proofs.lemmas.List.Elements.{All-cons, All-nil}
 use Rattle.lookup_record.specs.Interaction.{Tuple, local}
 use Rattle.lookup_record.specs.Pushed.{pushed_local, tuple_of}
-use Rattle.lookup_record.specs.Within.{IsWithin, TupleWithin}
+use Rattle.lookup_record.specs.Within.{IsInteractionWithin, TupleWithin}
 use Rattle.lookup_program.proofs.AirLaws.{range_does_send}
 use Rattle.field.specs.laws.RingFacts.{of_nat-one}
 use Rattle.lookup_program.proofs.airs.range_tuples.Goals as goal
@@ -28,5 +28,5 @@ returns-clause-within g c =
     let negated = c.in_ok-neg.ensures.within _ c.in_ok-current_cell.ensures.within in
     let last : Tuple _ = tuple_of (c.in_ok-tuple-2.field-0, c.provided-provided.result) in
     let provided : Inside last = record { fields = c.in_ok-tuple-2.ensures.within; count = rw c.provided-provided.ensures negated } in
-    subst (λ (l : List _). IsWithin g.AB.Expr.Expression.within (g.AB.AirBuilder.layout c.args.builder.now) (pushed_local l)) (sym items)
+    subst (λ (l : List _). IsInteractionWithin g.AB.Expr.Expression.within (g.AB.AirBuilder.layout c.args.builder.now) (pushed_local l)) (sym items)
     (All-cons Inside (tuple_of (c.in_ok-tuple.field-0, count)) (last ∷ []) read (All-cons Inside last [] provided (All-nil Inside)))

@@ -13,7 +13,7 @@ use Rattle.lookup_model.specs.declared.error.LookupError.TheVariants.{FlagNotBoo
 use Rattle.lookup_rows.proofs.flags.set_flags.Goals as goal
 
 pub value_of-flag-requires : goal.value_of-flag-requires
-value_of-flag-requires g c = Fits-at (builder_layout c.args.builder.now) c.args.flags.now c.loop-place.place _ c.requires (omega arith) c.index-flags-place.is
+value_of-flag-requires g c = Fits-at (builder_layout c.args.builder.now) c.args.flags.now c.loop-index.index _ c.requires (omega arith) c.index-flags-index.is
 
 pub returns-in_err-set : goal.returns-in_err-set
 returns-in_err-set g c =
@@ -22,10 +22,10 @@ returns-in_err-set g c =
     let look = value R (builder_window c.args.builder.now) in
     let flags = c.args.flags.now in
     let vals = values R (builder_window c.args.builder.now) flags in
-    let i = c.loop-place.place in
-    let flag = c.index-flags-place.result in
+    let i = c.loop-index.index in
+    let flag = c.index-flags-index.result in
     let lt : i < length flags = omega arith in
-    let split = split_at vals i (look flag) (omega (arith, length-map flags look)) (mapped_at look flags i flag lt c.index-flags-place.is) in
+    let split = split_at vals i (look flag) (omega (arith, length-map flags look)) (mapped_at look flags i flag lt c.index-flags-index.is) in
     let p = err_from_is_err_and c.from_residual.result c.from_residual.ensures.1 in
     let why = c.in_err-set.ensures.refused in
     rw (p.1, p.2) (inr (
@@ -33,22 +33,22 @@ returns-in_err-set g c =
       ap (are_boolean R eq) split ∙ not_boolean R eq g.met.F.PrimeCharacteristicRing.eq_is (take i vals) (drop (i + 1) vals) (look flag) (λ e. why.1 (c.value_of-flag.ensures ∙ e)) (λ e. why.2 (c.value_of-flag.ensures ∙ e)),
     ))
 
-pub loop-place-preserved : goal.loop-place-preserved
-loop-place-preserved g c =
+pub loop-index-preserved : goal.loop-index-preserved
+loop-index-preserved g c =
     let R = g.F.PrimeCharacteristicRing.ring in
     let eq = g.F.PartialEq.eq in
     let look = value R (builder_window c.args.builder.now) in
     let flags = c.args.flags.now in
-    let i = c.loop-place.place in
-    let flag = c.index-flags-place.result in
+    let i = c.loop-index.index in
+    let flag = c.index-flags-index.result in
     let lt : i < length flags = omega arith in
-    let more = mapped_more look flags i flag lt c.index-flags-place.is in
+    let more = mapped_more look flags i flag lt c.index-flags-index.is in
     subst (λ (fs : List _). AreSetFlags R eq fs c.in_ok-set.set) ((λ k. take i (values R (builder_window c.args.builder.now) flags) ++ c.value_of-flag.ensures k ∷ []) ∙ sym more)
-    (c.in_ok-set.ensures.next (take i (values R (builder_window c.args.builder.now) flags)) (omega (arith, length-take i (values R (builder_window c.args.builder.now) flags), length-map flags look)) c.loop-place.invariant)
+    (c.in_ok-set.ensures.next (take i (values R (builder_window c.args.builder.now) flags)) (omega (arith, length-take i (values R (builder_window c.args.builder.now) flags), length-map flags look)) c.loop-index.invariant)
 
 pub returns : goal.returns
 returns g c =
     let R = g.F.PrimeCharacteristicRing.ring in
     let eq = g.F.PartialEq.eq in
     let vals = values R (builder_window c.args.builder.now) c.args.flags.now in
-    subst (λ (fs : List _). AreSetFlags R eq fs c.loop-place.set) (take_all c.loop-place.place vals (omega (arith, c.loop-place-test.false, length-map c.args.flags.now (value R (builder_window c.args.builder.now))))) c.loop-place.invariant
+    subst (λ (fs : List _). AreSetFlags R eq fs c.loop-index.set) (take_all c.loop-index.index vals (omega (arith, c.loop-index-test.false, length-map c.args.flags.now (value R (builder_window c.args.builder.now))))) c.loop-index.invariant

@@ -4,8 +4,8 @@ use Rattle.lookup_rows.specs.Selection.{AreSetFlags}
 use Rattle.lookup_rows.specs.TraceBuilder.{builder_window}
 use Rattle.lookup_rows.proofs.flags.set_flags.Given as goal
 
-abbrev pub invariant-loop-place : goal.invariant-loop-place
-invariant-loop-place g l =
+abbrev pub invariant-loop-index : goal.invariant-loop-index
+invariant-loop-index g l =
     let R = g.F.PrimeCharacteristicRing.ring in
     let eq = g.F.PartialEq.eq in
-    AreSetFlags R eq (take l.place (values R (builder_window l.builder) l.flags)) l.set
+    AreSetFlags R eq (take l.index (values R (builder_window l.builder) l.flags)) l.set

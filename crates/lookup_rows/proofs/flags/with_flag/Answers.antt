@@ -12,4 +12,4 @@ pub returns-then-eq-clause-next : goal.returns-then-eq-clause-next
 returns-then-eq-clause-next g c =
     let R = g.F.PrimeCharacteristicRing.ring in
     let eq = g.F.PartialEq.eq in
-    λ flags at so_far. one_flag R eq g.met.F.PrimeCharacteristicRing.eq_is flags c.args.flag c.args.set c.with_place.result c.args.place at ((g.met.F.PrimeCharacteristicRing.eq_is c.args.flag c.ONE.result).0 (sym c.eq.ensures ∙ c.if-eq.true) ∙ c.ONE.ensures ∙ g.met.F.PrimeCharacteristicRing.one_is) c.with_place.ensures so_far
+    λ flags at so_far. one_flag R eq g.met.F.PrimeCharacteristicRing.eq_is flags c.args.flag c.args.set c.with_index.result c.args.index at ((g.met.F.PrimeCharacteristicRing.eq_is c.args.flag c.ONE.result).0 (sym c.eq.ensures ∙ c.if-eq.true) ∙ c.ONE.ensures ∙ g.met.F.PrimeCharacteristicRing.one_is) c.with_index.ensures so_far

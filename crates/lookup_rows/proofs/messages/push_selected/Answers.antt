@@ -6,7 +6,7 @@ use Rattle.lookup_model.proofs.Branches.{length-branches_at, zipped_at}
 use Rattle.lookup_model.proofs.RecordLaws.{All-at, Fits-at}
 use Rattle.lookup_model.specs.Records.{AllFit, IsWithin}
 use Rattle.lookup_model.specs.Sent.{branch_at, branches_at, value, values}
-use Rattle.lookup_model.proofs.Lookups.Selections.{place_within}
+use Rattle.lookup_model.proofs.Lookups.Selections.{index_within}
 use Rattle.lookup_rows.specs.Selection.{AreSetFlags}
 use Rattle.lookup_rows.specs.SentMessages.{messages_of}
 use Rattle.lookup_rows.specs.TraceBuilder.{builder_layout, builder_window}
@@ -21,7 +21,7 @@ index-tuple-requires g c =
     let w = builder_window c.args.builder.now in
     let vals = values R w c.args.flags.now in
     let set : AreSetFlags R eq vals (One c.in-One.branch) = subst (AreSetFlags R eq vals) c.in-One.is c.in_ok-set_flags.ensures in
-    omega (arith, place_within R eq 0 vals c.in-One.branch [] set.places, length-map c.args.flags.now (value R w), c.requires.flag_number)
+    omega (arith, index_within R eq 0 vals c.in-One.branch [] set.indices, length-map c.args.flags.now (value R w), c.requires.flag_number)
 
 pub index-multiplicity-requires : goal.index-multiplicity-requires
 index-multiplicity-requires g c =
@@ -30,7 +30,7 @@ index-multiplicity-requires g c =
     let w = builder_window c.args.builder.now in
     let vals = values R w c.args.flags.now in
     let set : AreSetFlags R eq vals (One c.in-One.branch) = subst (AreSetFlags R eq vals) c.in-One.is c.in_ok-set_flags.ensures in
-    omega (arith, place_within R eq 0 vals c.in-One.branch [] set.places, length-map c.args.flags.now (value R w), c.requires.flag_number, c.requires.lengths.multiplicities)
+    omega (arith, index_within R eq 0 vals c.in-One.branch [] set.indices, length-map c.args.flags.now (value R w), c.requires.flag_number, c.requires.lengths.multiplicities)
 
 pub push_branch-requires-clause-tuple_fits : goal.push_branch-requires-clause-tuple_fits
 unfolding IsWithin
@@ -41,7 +41,7 @@ push_branch-requires-clause-tuple_fits g c =
     let vals = values R w c.args.flags.now in
     let set : AreSetFlags R eq vals (One c.in-One.branch) = subst (AreSetFlags R eq vals) c.in-One.is c.in_ok-set_flags.ensures in
     let layout = builder_layout c.args.builder.now in
-    subst (λ (t : List (SymbolicExpression _)). AllFit layout t) (sym c.deref.ensures.value) (All-at (λ tuple. AllFit layout tuple.items) c.args.lookup.now.elements.items c.in-One.branch c.index-tuple.result.now c.requires.within.0 (omega (arith, place_within R eq 0 vals c.in-One.branch [] set.places, length-map c.args.flags.now (value R w), c.requires.flag_number)) c.index-tuple.ensures)
+    subst (λ (t : List (SymbolicExpression _)). AllFit layout t) (sym c.deref.ensures.value) (All-at (λ tuple. AllFit layout tuple.items) c.args.lookup.now.elements.items c.in-One.branch c.index-tuple.result.now c.requires.within.0 (omega (arith, index_within R eq 0 vals c.in-One.branch [] set.indices, length-map c.args.flags.now (value R w), c.requires.flag_number)) c.index-tuple.ensures)
 
 pub push_branch-requires-clause-multiplicity_fits :
     goal.push_branch-requires-clause-multiplicity_fits
@@ -52,7 +52,7 @@ push_branch-requires-clause-multiplicity_fits g c =
     let w = builder_window c.args.builder.now in
     let vals = values R w c.args.flags.now in
     let set : AreSetFlags R eq vals (One c.in-One.branch) = subst (AreSetFlags R eq vals) c.in-One.is c.in_ok-set_flags.ensures in
-    Fits-at (builder_layout c.args.builder.now) c.args.lookup.now.multiplicities.items c.in-One.branch _ c.requires.within.1 (omega (arith, place_within R eq 0 vals c.in-One.branch [] set.places, length-map c.args.flags.now (value R w), c.requires.flag_number, c.requires.lengths.multiplicities)) c.index-multiplicity.ensures
+    Fits-at (builder_layout c.args.builder.now) c.args.lookup.now.multiplicities.items c.in-One.branch _ c.requires.within.1 (omega (arith, index_within R eq 0 vals c.in-One.branch [] set.indices, length-map c.args.flags.now (value R w), c.requires.flag_number, c.requires.lengths.multiplicities)) c.index-multiplicity.ensures
 
 pub returns-in-Nothing-clause-pushes : goal.returns-in-Nothing-clause-pushes
 returns-in-Nothing-clause-pushes g c =
@@ -63,7 +63,7 @@ returns-in-Nothing-clause-pushes g c =
     let lookup = c.args.lookup.now in
     let before = messages_of c.args.messages.now.items in
     let set : AreSetFlags R eq vals Nothing = subst (AreSetFlags R eq vals) c.in-Nothing.is c.in_ok-set_flags.ensures in
-    let is = no_flag R eq c.args.builder.now.row lookup.column (branches_at R w c.args.id lookup) vals set.boolean set.places in
+    let is = no_flag R eq c.args.builder.now.row lookup.column (branches_at R w c.args.id lookup) vals set.boolean set.indices in
     (sym (append-nil before) ∙ ap (λ t. before ++ t) (sym is.0), is.1)
 
 pub returns-in-One-clause-pushes : goal.returns-in-One-clause-pushes
@@ -81,10 +81,10 @@ returns-in-One-clause-pushes g c =
     let multiplicity = c.index-multiplicity.result.now in
     let m = branch_at R w id tuple.items multiplicity in
     let set : AreSetFlags R eq vals (One k) = subst (AreSetFlags R eq vals) c.in-One.is c.in_ok-set_flags.ensures in
-    let lt : k < length lookup.elements.items = omega (arith, place_within R eq 0 vals k [] set.places, length-map c.args.flags.now (value R w), c.requires.flag_number) in
+    let lt : k < length lookup.elements.items = omega (arith, index_within R eq 0 vals k [] set.indices, length-map c.args.flags.now (value R w), c.requires.flag_number) in
     let within : k < length branches = omega (arith, lt, length-branches_at R w id lookup c.requires.lengths) in
     let at : m ≡ get_or branches k m = zipped_at (λ b. branch_at R w id b.0.items b.1) lookup.elements.items lookup.multiplicities.items c.requires.lengths.multiplicities k tuple multiplicity lt c.index-tuple.ensures c.index-multiplicity.ensures in
-    let is = one_flag R eq c.args.builder.now.row lookup.column branches vals set.boolean k m set.places within at in
+    let is = one_flag R eq c.args.builder.now.row lookup.column branches vals set.boolean k m set.indices within at in
     MatchResult-weaker c.push_branch.result c.push_branch.ensures.pushes
     (λ _ h. (h ∙ (λ i. before ++ branch_at R w id (c.deref.ensures.value i) multiplicity ∷ []) ∙ ap (λ t. before ++ t) (sym is.0), is.1))
     (λ e h. inl h)

@@ -6,8 +6,8 @@ use Rattle.lookup.proofs.PackedDegrees.{fewest_packed}
 use Rattle.lookup.proofs.PackedWithin.{packed_fit}
 use Rattle.lookup.proofs.lookups.Lookups.pack_same_bus.Goals as goal
 
-pub packed_by_degree-requires : goal.packed_by_degree-requires
-packed_by_degree-requires g c = λ k d lt. (c.args.self.records k (get_or c.args.self.lookups.items k d) lt (slice_get-get_or c.args.self.lookups.items k d lt)).1
+pub pack_by_degree-requires : goal.pack_by_degree-requires
+pack_by_degree-requires g c = λ k d lt. (c.args.self.records k (get_or c.args.self.lookups.items k d) lt (slice_get-get_or c.args.self.lookups.items k d lt)).1
 
 pub returns-clause-fewest : goal.returns-clause-fewest
 returns-clause-fewest g c =

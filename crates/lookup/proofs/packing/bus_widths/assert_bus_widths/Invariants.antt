@@ -5,6 +5,6 @@ use Rattle.lookup.specs.Buses.{bus_names}
 use Rattle.lookup.specs.BusWidths.{HasOneWidth, bus_widths}
 use Rattle.lookup.proofs.packing.bus_widths.assert_bus_widths.Given as goal
 
-abbrev pub invariant-loop-place : goal.invariant-loop-place
-invariant-loop-place g l =
-    AllByRecursion (λ name. HasOneWidth (bus_widths name (map fields_of l.fn.lookups))) (take l.place (bus_names (map fields_of l.fn.lookups)))
+abbrev pub invariant-loop-index : goal.invariant-loop-index
+invariant-loop-index g l =
+    AllByRecursion (λ name. HasOneWidth (bus_widths name (map fields_of l.fn.lookups))) (take l.index (bus_names (map fields_of l.fn.lookups)))

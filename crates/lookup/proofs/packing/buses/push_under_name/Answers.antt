@@ -11,7 +11,7 @@ returns-in_default g c = λ before is.
 pub returns-in_ok-push-in-Some-get_index_of : goal.returns-in_ok-push-in-Some-get_index_of
 returns-in_ok-push-in-Some-get_index_of g c = λ before is.
     let on : bus_of c.args.lookup.kind ≡ Some c.in-Some.name.now = sym c.bus_name.ensures ∙ ap (option_map (λ name. name.now)) c.in-Some.is in
-    owned_at before c.args.lookup c.args.groups.now.entries _ c.in-Some.name.now c.in-Some-get_index_of.place c.index_mut.result.now c.push.new.self is on
+    owned_at before c.args.lookup c.args.groups.now.entries _ c.in-Some.name.now c.in-Some-get_index_of.index c.index_mut.result.now c.push.new.self is on
     (sym c.get_index_of.ensures.index ∙ c.in-Some-get_index_of.is) c.index_mut.ensures.value c.in_ok-push-in-Some-get_index_of.ensures.items refl
 
 pub returns-in_ok-insert-in-None : goal.returns-in_ok-insert-in-None

@@ -7,12 +7,12 @@ use Rattle.lookup.proofs.StepLaws.{columns_are, first_step, joined_step, next_st
 use Rattle.lookup.proofs.packing.filling.with_next.Goals.{in-None, in-Some+in_ok-both-in-Some+in-Joined, in-Some+in_ok-both-in-Some+in-Apart+in_ok-push-in-Apart}
 use Rattle.lookup.proofs.packing.filling.with_next.Goals as goal
 
-pub tried-requires-clause-callable : goal.tried-requires-clause-callable
-tried-requires-clause-callable g c = λ lookup asked.
+pub try_together-requires-clause-callable : goal.try_together-requires-clause-callable
+try_together-requires-clause-callable g c = λ lookup asked.
     c.requires.callable (map fields_of c.args.columns.closed.items) (fields_of c.in-Some.open.lookup) lookup (columns_are (g.T.TrialDegrees.keeps c.args.degrees.now) (g.T.TrialDegrees.answers c.args.degrees.now) c.args.max_degree c.args.columns c.requires.columns c.in-Some.open (sym c.take.ensures.value ∙ c.in-Some.is)) asked
 
-pub tried-requires-clause-kept : goal.tried-requires-clause-kept
-tried-requires-clause-kept g c =
+pub try_together-requires-clause-kept : goal.try_together-requires-clause-kept
+try_together-requires-clause-kept g c =
     c.keep_trial-kept_both.ensures (fields_of c.in-Some.open.lookup) (fields_of c.args.next) (open_is (g.T.TrialDegrees.keeps c.args.degrees.now) (g.T.TrialDegrees.answers c.args.degrees.now) c.args.max_degree c.args.columns c.requires.columns c.in-Some.open (sym c.take.ensures.value ∙ c.in-Some.is)).1 c.keep-kept.ensures
 
 pub returns-in_err-both-in-Some : goal.returns-in_err-both-in-Some

@@ -22,7 +22,7 @@ loop-next-preserved g c =
 pub loop-next-init : goal.loop-next-init
 loop-next-init g c =
     let given = c.into_iter-next-iterator.ensures.into_iter_gives.0 in
-    let empty = c.new-columns.ensures.items in record {
+    let empty = c.in_ok-columns.ensures.items in record {
       left = subst (λ (t : List _). All HasEqualLengths t) (sym given) c.requires;
       records = subst (λ (t : List _). AreRecords t) (sym empty) (λ i l lt at. absurd (omega (arith, lt)));
       fields = λ i. map fields_of (empty i) ++ numbered_from (length (empty i)) (map fields_of (given i));

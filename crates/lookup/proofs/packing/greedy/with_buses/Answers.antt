@@ -34,13 +34,12 @@ returns-in_err-filled g c =
     rw (p.1, p.2) (elim c.in_err-filled.ensures [
       | inl memory ↦ inl memory
       | inr w ↦ inr (record {
-        earlier = inv.seen;
-        bus = owned_group c.in-Some.members;
-        later = map owned_group (into_iter_items c.next.new.self);
-        buses_are = sym (ap (λ t. inv.seen ++ map owned_group t) (sym c.in-Some.ensures.steps.0) ∙ inv.all);
-        cuts = inv.added.0;
-        filled = inv.added.1;
-        stuck = w;
+        before = inv.seen;
+        item = owned_group c.in-Some.members;
+        after = map owned_group (into_iter_items c.next.new.self);
+        split = sym (ap (λ t. inv.seen ++ map owned_group t) (sym c.in-Some.ensures.steps.0) ∙ inv.all);
+        good = (inv.added.0, inv.added.1);
+        fault = w;
       })
     ])
 
@@ -66,7 +65,7 @@ returns g c =
     let whole = all_seen owned_group inv.seen (map owned_group c.args.buses.items) (into_iter_items c.loop-members.members-iterator) none inv.all in
     (inv.lengths, (inv.added.0, subst (λ (t : List (List (Outline (SymbolicExpression g.row.F.Denot)))). AllZip (λ bus cut. IsFilling (g.T.TrialDegrees.answers c.args.degrees.now) c.args.max_degree cut bus) t inv.added.0) whole inv.added.1, inv.added.2))
 
-pub filled-requires-clause-callable : goal.filled-requires-clause-callable
-filled-requires-clause-callable g c =
+pub fill_columns-requires-clause-callable : goal.fill_columns-requires-clause-callable
+fill_columns-requires-clause-callable g c =
     let inv = c.loop-members.invariant in
     λ lookup is. c.requires.callable inv.seen (owned_group c.in-Some.members) (map owned_group (into_iter_items c.next.new.self)) lookup (sym (ap (λ t. inv.seen ++ map owned_group t) (sym c.in-Some.ensures.steps.0) ∙ inv.all)) is

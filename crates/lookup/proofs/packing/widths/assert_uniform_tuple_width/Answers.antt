@@ -13,7 +13,12 @@ returns-then-len-width g c =
     let found = slice_get-get_or tuples c.loop-tuple.tuple-index c.tuple-item.result c.loop-tuple-test.true ∙ ap Some (sym c.tuple-item.is) in
     elim c.tuple_widths.ensures [
       | inl memory ↦ inl memory
-      | inr is ↦ inr (c.len-width.result, c.len-then-len-width.result, other_width (λ t. length t.items) tuples c.loop-tuple.tuple-index c.in-Some.first.now c.tuple-item.result c.len-width.result c.len-then-len-width.result at_first width found other differs c.loop-tuple.invariant, is)
+      | inr is ↦ inr (record {
+        width = c.len-width.result;
+        other = c.len-then-len-width.result;
+        differ = other_width (λ t. length t.items) tuples c.loop-tuple.tuple-index c.in-Some.first.now c.tuple-item.result c.len-width.result c.len-then-len-width.result at_first width found other differs c.loop-tuple.invariant;
+        refusal = is;
+      })
     ]
 
 pub loop-tuple-preserved : goal.loop-tuple-preserved

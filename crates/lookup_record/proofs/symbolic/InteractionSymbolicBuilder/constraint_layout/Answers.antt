@@ -3,8 +3,8 @@ use Rattle.lookup_record.proofs.symbolic.InteractionSymbolicBuilder.constraint_l
 
 pub returns-clause-base : goal.returns-clause-base
 returns-clause-base g c =
-    c.in_ok-from_slice.ensures.items ∙ c.as_slice.ensures.value ∙ c.constraint_layout-places.ensures.base
+    c.in_ok-from_slice.ensures.items ∙ c.as_slice.ensures.value ∙ c.constraint_layout-indices.ensures.base
 
 pub returns-clause-extension : goal.returns-clause-extension
 returns-clause-extension g c =
-    c.in_ok-from_slice-2.ensures.items ∙ c.as_slice-2.ensures.value ∙ c.constraint_layout-places.ensures.extension
+    c.in_ok-from_slice-2.ensures.items ∙ c.as_slice-2.ensures.value ∙ c.constraint_layout-indices.ensures.extension

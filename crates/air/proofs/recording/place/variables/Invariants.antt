@@ -1,7 +1,0 @@
-use Rattle.std.proofs.Common.{◌≡◌, length}
-use Rattle.air.specs.Variables.{AreVariables}
-use Rattle.air.proofs.recording.place.variables.Given as goal
-
-abbrev pub invariant-loop-i : goal.invariant-loop-i
-invariant-loop-i g l =
-    (length l.all.items ≡ l.i) × AreVariables g.V.Place.entry_of g.V.Place.index_of l.entry 0 l.all.items

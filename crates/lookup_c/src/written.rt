@@ -1,0 +1,120 @@
+//! Tables that calls write.
+ghost use Rattle.std.specs.Prelude.{◌≡◌, ◌<◌, ◌≤◌, MatchResult, length, take};
+ghost use Rattle.lookup.specs.Lookups.{lookups_of};
+ghost use Rattle.lookup_tables.specs.Written.{SaysWritten};
+ghost use Rattle.lookup_c.specs.Written.{HasTableRoom, IsTableRoomRefusal, IsUnsayableRefusal, sizes_of};
+ghost use Rattle.lookup_c.specs.declared.fault.Fault.TheVariants.{Length};
+
+use crate::fault::{Fault, Part};
+use field::BabyBear;
+use lookup::Lookups;
+use lookup_tables::{Node, Record, Span, TableFault, Written, write_lookups};
+use std::alloc::Global;
+
+/// How many items of each table there are.
+#[repr(C)]
+#[derive(Clone, Copy, Drop)]
+pub struct TableSizes {
+    /// The nodes of expressions.
+    pub nodes: usize,
+    /// The ranges of tuples.
+    pub tuples: usize,
+    /// The bytes of names.
+    pub names: usize,
+    /// The lookups.
+    pub records: usize,
+}
+
+/// The sizes of tables.
+fn sizes_of(tables: &Written) -> TableSizes
+    ensures { result ≡ sizes_of tables.now }
+{
+    TableSizes {
+        nodes: tables.nodes.len(),
+        tuples: tables.tuples.len(),
+        names: tables.names.len(),
+        records: tables.records.len(),
+    }
+}
+
+/// Tables of the lookups of a set.
+///
+/// Refuses the first lookup that no tables say.
+pub(crate) fn tables_of(alloc: Global, set: &Lookups<BabyBear>) -> Result<Written, Fault>
+    ensures { MatchResult result (λ tables. SaysWritten tables (lookups_of set.now))
+        (IsUnsayableRefusal (lookups_of set.now)) }
+{
+    match write_lookups(alloc, set.as_slice()) {
+        Ok(tables) => Ok(tables),
+        Err((_, TableFault::Memory)) => Err(Fault::Memory),
+        Err((lookup, fault)) => Err(Fault::Table {
+            air: 0,
+            lookup,
+            fault,
+        }),
+    }
+}
+
+/// Whether an array has room for so many items.
+fn check_items(part: Part, expected: usize, actual: usize) -> Result<(), Fault>
+    ensures { MatchResult result (λ _. expected ≤ actual)
+        (λ fault. (actual < expected) × (fault ≡ Length part expected actual)) }
+{
+    if actual < expected {
+        return Err(Fault::Length {
+            part,
+            expected,
+            actual,
+        });
+    }
+    Ok(())
+}
+
+/// Whether arrays of these sizes have room for tables.
+///
+/// Refuses the first array that is too short: of nodes, tuples, names, and records.
+pub(crate) fn check_table_room(tables: &Written, room: TableSizes) -> Result<(), Fault>
+    ensures { MatchResult result (λ _. HasTableRoom (sizes_of tables.now) room)
+        (IsTableRoomRefusal (sizes_of tables.now) room) }
+{
+    let sizes = sizes_of(tables);
+    check_items(Part::Nodes, sizes.nodes, room.nodes)?;
+    check_items(Part::Tuples, sizes.tuples, room.tuples)?;
+    check_items(Part::Names, sizes.names, room.names)?;
+    check_items(Part::Records, sizes.records, room.records)
+}
+
+/// Writes items from the start of an array on.
+fn write_items<T: Copy>(array: &mut [T], values: &[T])
+    requires { length values.now ≤ length array.old }
+    ensures { take (length values.now) array.new ≡ values.now }
+{
+    for index in 0..values.len() {
+        array[index] = values[index];
+    }
+}
+
+/// Writes tables from the start of each array on, and answers their sizes.
+pub(crate) fn write_tables(
+    tables: &Written,
+    nodes: &mut [Node],
+    tuples: &mut [Span],
+    names: &mut [u8],
+    records: &mut [Record],
+) -> TableSizes
+    requires room_for_nodes { length tables.now.nodes.items ≤ length nodes.old }
+    requires room_for_tuples { length tables.now.tuples.items ≤ length tuples.old }
+    requires room_for_names { length tables.now.names.items ≤ length names.old }
+    requires room_for_records { length tables.now.records.items ≤ length records.old }
+    ensures sizes { result ≡ sizes_of tables.now }
+    ensures nodes { take result.nodes nodes.new ≡ tables.now.nodes.items }
+    ensures tuples { take result.tuples tuples.new ≡ tables.now.tuples.items }
+    ensures names { take result.names names.new ≡ tables.now.names.items }
+    ensures records { take result.records records.new ≡ tables.now.records.items }
+{
+    write_items(nodes, &tables.nodes);
+    write_items(tuples, &tables.tuples);
+    write_items(names, &tables.names);
+    write_items(records, &tables.records);
+    sizes_of(tables)
+}

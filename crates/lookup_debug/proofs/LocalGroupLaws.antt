@@ -1,0 +1,166 @@
+-- Lookups with their indices, one after another.
+use Rattle.std.proofs.Common.{◌≡◌, ◌<◌, ◌≤◌, ◌+◌, ◌++◌, ℕ, zero, suc, Bool, true, false, cond, List, [], ◌∷◌, Some, get_or, length, map, option_map, slice_get, take, refl, sym, ap, subst, ◌∙◌, true≢false, is_some, arith}
+use Rattle.std.proofs.lemmas.List.{map-append, take_all}
+use Rattle.std.proofs.lemmas.List.Elements.{filter-append}
+use Rattle.std.proofs.lemmas.List.Concat.{flat_map_single}
+use Rattle.std.proofs.lemmas.List.FromFn.{length-enumerate_from}
+use Rattle.std.proofs.lemmas.Option.{slice_get-map, slice_get_read}
+use Rattle.std.specs.List.{enumerate_from, filter, flat_map}
+use Rattle.field.specs.Ring.{Ring}
+use Rattle.lookup_model.specs.Outline.{bus_of}
+use Rattle.lookup_model.specs.declared.types.Lookup.{Lookup}
+use Rattle.lookup_debug.specs.Checks.{local_groups_in}
+use Rattle.lookup_debug.specs.Contributions.{Contribution, Traced, contributions_of, traced_of}
+use Rattle.lookup_debug.specs.Groups.{Group, LookupAt, bus_group, bus_label, is_local, is_missing, local_group, local_groups, local_label, lookups_in}
+use Rattle.lookup_debug.specs.Mismatch.{Balances, EachBalances, IsFirstMismatch, IsMismatchOf}
+use Rattle.lookup_debug.specs.declared.fault.LookupFault.{LookupFault}
+use Rattle.lookup_debug.specs.declared.instance.LookupDebugInstance.{LookupDebugInstance}
+use Rattle.lookup_debug.proofs.GroupSteps.{balance-cons, balance-more, mismatch-at, mismatch-here, none_balance}
+use Rattle.lookup_debug.proofs.LeastSteps.{some_is}
+
+-- an item with its number
+numbered_from : {A : Type 0} (n : ℕ) (xs : List A) (i : ℕ) (x : A) → slice_get xs i ≡ Some x → slice_get (enumerate_from n xs) i ≡ Some (n + i, x)
+numbered_from n [] i x e = absurd (true≢false (sym (ap is_some e)))
+numbered_from n (y ∷ ys) zero x e = let same : n ≡ n + 0 = omega arith in λ i. Some (same i, some_is y x e i)
+numbered_from n (y ∷ ys) (suc i) x e = let same : n + 1 + i ≡ n + suc i = omega arith in numbered_from (n + 1) ys i x e ∙ (λ j. Some (same j, x))
+
+pub numbered_at : {A : Type 0} (xs : List A) (i : ℕ) (x : A) → slice_get xs i ≡ Some x → slice_get (enumerate_from 0 xs) i ≡ Some (i, x)
+numbered_at xs i x e = let same : 0 + i ≡ i = omega arith in numbered_from 0 xs i x e ∙ (λ j. Some (same j, x))
+
+-- an AIR among those that a list of the program holds
+pub traced_at : {F : Type 0} (instances : List (LookupDebugInstance F)) (i : ℕ) (instance : LookupDebugInstance F) → i < length instances → instance ≡ get_or instances i instance → slice_get (map traced_of instances) i ≡ Some (traced_of instance)
+traced_at instances i instance lt is =
+    slice_get-map traced_of instances i ∙ ap (option_map traced_of) (slice_get_read instances (length instances) i instance refl lt is)
+
+-- images of items that pass a test, item by item
+pub kept_images : {X Y Z : Type 0} (h : X → Y) (p : Y → Bool) (f : Y → Z) (xs : List X) → map f (filter p (map h xs)) ≡ flat_map (λ x. cond (p (h x)) (f (h x) ∷ []) []) xs
+kept_images h p f [] = refl
+kept_images {X} {Y} {Z} h p f (x ∷ xs) = by_test (p (h x)) (kept_images h p f xs)
+  where
+    rest : List Y
+    rest = filter p (map h xs)
+
+    by_test : (b : Bool) → map f rest ≡ flat_map (λ y. cond (p (h y)) (f (h y) ∷ []) []) xs
+        → map f (cond b (h x ∷ rest) rest) ≡ cond b (f (h x) ∷ []) [] ++ flat_map (λ y. cond (p (h y)) (f (h y) ∷ []) []) xs
+    by_test true e = ap (λ t. f (h x) ∷ t) e
+    by_test false e = e
+
+-- those of the parts of some items, part by part
+pub kept_parts : {X Y Z : Type 0} (h : X → List Y) (p : Y → Bool) (f : Y → Z) (xs : List X) → map f (filter p (flat_map h xs)) ≡ flat_map (λ x. map f (filter p (h x))) xs
+kept_parts h p f [] = refl
+kept_parts h p f (x ∷ xs) =
+    ap (map f) (filter-append p (h x) (flat_map h xs))
+    ∙ map-append f (filter p (h x)) (filter p (flat_map h xs))
+    ∙ ap (λ t. map f (filter p (h x)) ++ t) (kept_parts h p f xs)
+
+module _ {F : Type 0} (R : Ring F) (eq : F → F → Bool) where
+  -- a lookup of an AIR at an index
+  abbrev lookup_at : ℕ × Traced F → ℕ × Lookup F → LookupAt F
+  lookup_at i l = record { instance = i.0; index = l.0; traced = i.1; lookup = l.1 }
+
+  -- its group if it is local
+  abbrev group_at : ℕ × Traced F → ℕ × Lookup F → List (Group F)
+  group_at i l = cond (is_local (lookup_at i l)) (local_group R eq (lookup_at i l) ∷ []) []
+
+  -- the groups of the first n lookups of an AIR that are local
+  abbrev pub first_local_groups : ℕ × Traced F → ℕ → List (Group F)
+  first_local_groups i n = flat_map (group_at i) (take n (enumerate_from 0 i.1.lookups))
+
+  -- those of the first n AIRs
+  abbrev pub first_air_groups : List (Traced F) → ℕ → List (Group F)
+  first_air_groups instances n = flat_map (local_groups_in R eq) (take n (enumerate_from 0 instances))
+
+  -- the local groups of an AIR, lookup by lookup
+  local_groups-parts : (i : ℕ × Traced F) → local_groups_in R eq i ≡ flat_map (group_at i) (enumerate_from 0 i.1.lookups)
+  local_groups-parts i = kept_images (lookup_at i) is_local (local_group R eq) (enumerate_from 0 i.1.lookups)
+
+  -- and all of them, AIR by AIR
+  air_groups-parts : (instances : List (Traced F)) → local_groups R eq instances ≡ flat_map (local_groups_in R eq) (enumerate_from 0 instances)
+  air_groups-parts instances = kept_parts lookups_in is_local (local_group R eq) (enumerate_from 0 instances)
+
+  -- a lookup of an AIR after some that balance
+  module _ (i : ℕ × Traced F) (index : ℕ) (lookup : Lookup F) (there : slice_get i.1.lookups index ≡ Some lookup) (before : EachBalances R eq (first_local_groups i index)) where
+    numbered : slice_get (enumerate_from 0 i.1.lookups) index ≡ Some (index, lookup)
+    numbered = numbered_at i.1.lookups index lookup there
+
+    -- what it contributes, and its group
+    abbrev own : List (Contribution F)
+    own = contributions_of R eq i.0 index i.1 lookup
+
+    abbrev group : Group F
+    group = local_group R eq (lookup_at i (index, lookup))
+
+    pub local_mismatch : (text : F → List ℕ) (fault : LookupFault F) → is_missing (bus_of lookup.kind) ≡ true
+        → IsMismatchOf R eq text (local_label i.0 index) own fault → IsFirstMismatch R eq text (local_groups_in R eq i) fault
+    local_mismatch text fault local is =
+        subst (λ gs. IsFirstMismatch R eq text gs fault) (sym (local_groups-parts i))
+        (mismatch-at R eq (group_at i) text (enumerate_from 0 i.1.lookups) index (index, lookup) fault numbered before
+        (subst (λ b. IsFirstMismatch R eq text (cond b (group ∷ []) []) fault) (sym local) (mismatch-here R eq text (local_label i.0 index) own fault is)))
+
+    pub local_balances : is_missing (bus_of lookup.kind) ≡ true → Balances R eq own → EachBalances R eq (first_local_groups i (index + 1))
+    local_balances local here =
+        balance-more R eq (group_at i) (enumerate_from 0 i.1.lookups) index (index, lookup) numbered before
+        (subst (λ b. EachBalances R eq (cond b (group ∷ []) [])) (sym local) (balance-cons R eq group [] here (none_balance R eq)))
+
+    -- nothing is checked of one that is not local
+    pub other_balances : is_missing (bus_of lookup.kind) ≡ false → EachBalances R eq (first_local_groups i (index + 1))
+    other_balances other =
+        balance-more R eq (group_at i) (enumerate_from 0 i.1.lookups) index (index, lookup) numbered before
+        (subst (λ b. EachBalances R eq (cond b (group ∷ []) [])) (sym other) (none_balance R eq))
+
+  -- all of them
+  pub locals_balance : (i : ℕ × Traced F) (n : ℕ) → length i.1.lookups ≤ n → EachBalances R eq (first_local_groups i n) → EachBalances R eq (local_groups_in R eq i)
+  locals_balance i n past before =
+      let all = take_all n (enumerate_from 0 i.1.lookups) (omega (arith, past, length-enumerate_from 0 i.1.lookups)) in
+      subst (EachBalances R eq) (ap (flat_map (group_at i)) all ∙ sym (local_groups-parts i)) before
+
+  -- an AIR after some that balance
+  module _ (instances : List (Traced F)) (index : ℕ) (traced : Traced F) (there : slice_get instances index ≡ Some traced) (before : EachBalances R eq (first_air_groups instances index)) where
+    pub air_mismatch : (text : F → List ℕ) (fault : LookupFault F) → IsFirstMismatch R eq text (local_groups_in R eq (index, traced)) fault → IsFirstMismatch R eq text (local_groups R eq instances) fault
+    air_mismatch text fault is =
+        subst (λ gs. IsFirstMismatch R eq text gs fault) (sym (air_groups-parts instances))
+        (mismatch-at R eq (local_groups_in R eq) text (enumerate_from 0 instances) index (index, traced) fault (numbered_at instances index traced there) before is)
+
+    pub air_balances : EachBalances R eq (local_groups_in R eq (index, traced)) → EachBalances R eq (first_air_groups instances (index + 1))
+    air_balances here = balance-more R eq (local_groups_in R eq) (enumerate_from 0 instances) index (index, traced) (numbered_at instances index traced there) before here
+
+  -- all of them
+  pub airs_balance : (instances : List (Traced F)) (n : ℕ) → length instances ≤ n → EachBalances R eq (first_air_groups instances n) → EachBalances R eq (local_groups R eq instances)
+  airs_balance instances n past before =
+      let all = take_all n (enumerate_from 0 instances) (omega (arith, past, length-enumerate_from 0 instances)) in
+      subst (EachBalances R eq) (ap (flat_map (local_groups_in R eq)) all ∙ sym (air_groups-parts instances)) before
+
+  -- buses by their names
+  module _ {N : Type 0} (text_of : N → List ℕ) (all : List (Traced F)) (names : List N) where
+    -- the group of a bus, alone
+    abbrev bus_at : N → List (Group F)
+    bus_at name = bus_group R eq all (text_of name) ∷ []
+
+    -- the groups of the first n buses
+    abbrev pub first_bus_groups : ℕ → List (Group F)
+    first_bus_groups n = flat_map bus_at (take n names)
+
+    bus_groups-parts : flat_map bus_at names ≡ map (bus_group R eq all) (map text_of names)
+    bus_groups-parts = flat_map_single (λ name. bus_group R eq all (text_of name)) names ∙ images_twice names
+      where
+        images_twice : (ns : List N) → map (λ name. bus_group R eq all (text_of name)) ns ≡ map (bus_group R eq all) (map text_of ns)
+        images_twice [] = refl
+        images_twice (n ∷ ns) = ap (λ t. bus_group R eq all (text_of n) ∷ t) (images_twice ns)
+
+    -- a bus after some that balance
+    module _ (index : ℕ) (name : N) (there : slice_get names index ≡ Some name) (before : EachBalances R eq (first_bus_groups index)) where
+      abbrev sent : List (Contribution F)
+      sent = (bus_group R eq all (text_of name)).contributions
+
+      pub bus_mismatch : (text : F → List ℕ) (fault : LookupFault F) → IsMismatchOf R eq text (bus_label (text_of name)) sent fault
+          → IsFirstMismatch R eq text (map (bus_group R eq all) (map text_of names)) fault
+      bus_mismatch text fault is =
+          subst (λ gs. IsFirstMismatch R eq text gs fault) bus_groups-parts
+          (mismatch-at R eq bus_at text names index name fault there before (mismatch-here R eq text (bus_label (text_of name)) sent fault is))
+
+      pub bus_balances : Balances R eq sent → EachBalances R eq (first_bus_groups (index + 1))
+      bus_balances here = balance-more R eq bus_at names index name there before (balance-cons R eq (bus_group R eq all (text_of name)) [] here (none_balance R eq))
+
+    -- all of them
+    pub buses_balance : (n : ℕ) → length names ≤ n → EachBalances R eq (first_bus_groups n) → EachBalances R eq (map (bus_group R eq all) (map text_of names))
+    buses_balance n past before = subst (EachBalances R eq) (ap (flat_map bus_at) (take_all n names past) ∙ bus_groups-parts) before
