@@ -3,7 +3,7 @@
 set -eu
 cd "$(dirname "$0")/.."
 kit=$(dirname "$(rt doc)")
-(cd crates/bench && rt lib >/dev/null)
+tools/archive bench >/dev/null
 work=$(mktemp -d)
 trap 'rm -rf "$work"' EXIT
 rustc -O --edition 2024 bench/driver.rs -o "$work/driver" \

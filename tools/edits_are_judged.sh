@@ -7,7 +7,7 @@ room=$(mktemp -d)
 trap 'rm -rf "$room"' EXIT
 mkdir -p "$room/crates" "$room/tools" "$room/wrong-bodies/matrix"
 cp "$top/HANDLES" "$room/"
-cp "$top/tools/wrong-bodies" "$room/tools/"
+cp "$top"/tools/{wrong-bodies,check-crate,kit.py} "$room/tools/"
 echo "matrix:" >"$room/crates.txt"
 cp -r "$top/crates/matrix" "$room/crates/"
 rm -rf "$room/crates/matrix/out"

@@ -29,3 +29,14 @@ def lanes():
     if given.isdigit() and int(given):
         return int(given)
     return max(1, min(kit().processors(), kit().free() // MEMORY_OF_A_CHECK))
+
+
+def crate_of(top, name):
+    """A crate of a repository, as the kit's command sees it."""
+    os.chdir(f"{top}/crates/{name}")
+    return kit().rtlib.Crate(os.getcwd(), top, {})
+
+
+def has_libraries(crate):
+    """Whether all libraries below a crate stand in its checkout, as `rt ci` leaves them."""
+    return all(os.path.isfile(f"{it.rlib}/format") for it in crate.below())

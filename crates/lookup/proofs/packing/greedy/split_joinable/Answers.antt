@@ -11,8 +11,8 @@ use Rattle.lookup.proofs.ListLaws.{kept_pushed, left_out}
 use Rattle.lookup.proofs.StepLaws.{additive_member}
 use Rattle.lookup.proofs.packing.greedy.split_joinable.Goals as goal
 
-pub loop-lookup-preserved-in-Continue-1 : goal.loop-lookup-preserved-in-Continue-1
-loop-lookup-preserved-in-Continue-1 g c =
+pub loop-lookup-preserved-in-Continue-branch-2 : goal.loop-lookup-preserved-in-Continue-branch-2
+loop-lookup-preserved-in-Continue-branch-2 g c =
     let inv = c.loop-lookup.invariant in
     let left = subst (λ (t : List (Lookup g.row.F.Denot)). All HasEqualLengths t) c.in-Some.ensures.steps.0 inv.left in
     let test : is_additive (fields_of c.in-Some.lookup) ≡ true = sym c.may_be_joined.ensures ∙ c.if-may_be_joined.true in record {
