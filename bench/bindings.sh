@@ -3,8 +3,8 @@
 set -eu
 cd "$(dirname "$0")/.."
 kit=$(dirname "$(rt doc)")
-(cd crates/bench && rt lib >/dev/null)
-(cd crates/lookup_c && rt lib >/dev/null)
+tools/archive bench >/dev/null
+tools/archive lookup_c >/dev/null
 work=$(mktemp -d)
 trap 'rm -rf "$work"' EXIT
 export VOLGWAIN_LIBRARY="$PWD/crates/lookup_c/out/liblookup_c.a" VOLGWAIN_HEAP="$kit/c/liblibc_c.a"

@@ -7,7 +7,7 @@ set -eu
 cd "$(dirname "$0")/.."
 top=$PWD
 kit=$(dirname "$(rt doc)")
-(cd crates/lookup_c && rt lib >/dev/null)
+tools/archive lookup_c >/dev/null
 library=$top/crates/lookup_c/out/liblookup_c.a
 heap=$kit/c/liblibc_c.a
 work=$(mktemp -d)

@@ -1,2 +1,4 @@
-pub mod WrittenLaws
+pub mod DebugLaws
 pub mod TableCalls
+pub mod TableWriting
+pub mod WrittenLaws

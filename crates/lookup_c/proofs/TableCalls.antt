@@ -20,6 +20,7 @@ use Rattle.lookup_tables.specs.declared.tables.Tables.{Tables}
 use Rattle.lookup_tables.specs.declared.traces.ReadTraces.{ReadTraces}
 use Rattle.lookup_tables.specs.declared.traces.Traces.{Traces}
 use Rattle.lookup_c.specs.Batches.{AreBatchTraces, AreSets, IsAirsRefusal, IsBatchTracesRefusal, IsPlanOf, IsSetRefusal, Planned, ShowTraces}
+use Rattle.lookup_c.specs.Debugging.{AreTableSets, IsTableSetsRefusal}
 use Rattle.lookup_c.specs.Generation.{Generates, GeneratesOver, IsGenerationRefusal, IsLookupsRefusal}
 use Rattle.lookup_c.specs.Identified.{GeneratesByIds, IsByIdsRefusal, challenges_by_ids}
 use Rattle.lookup_c.specs.Inputs.{IsTracesRefusal, said_traces, shown_traces}
@@ -72,6 +73,11 @@ generates_by_ids E tables traces ids sizes alpha beta answer lookups read challe
 pub first_refused_air : (airs : List Air) (i : ℕ) (d : Air) (sets : List (Lookups BabyBear)) (fault : Fault) → i < length airs → AreSets (take i airs) sets → IsSetRefusal i (get_or airs i d).tables fault → IsAirsRefusal airs fault
 first_refused_air airs i d sets fault there before refusal =
     inr (record { index = i; air = get_or airs i d; is_there = slice_get-get_or airs i d there; sets = sets; before = before; refusal = refusal })
+
+-- likewise of tables alone
+pub first_refused_set : (airs : List Tables) (i : ℕ) (d : Tables) (sets : List (Lookups BabyBear)) (fault : Fault) → i < length airs → AreTableSets (take i airs) sets → IsSetRefusal i (get_or airs i d) fault → IsTableSetsRefusal airs fault
+first_refused_set airs i d sets fault there before refusal =
+    inr (record { index = i; tables = get_or airs i d; is_there = slice_get-get_or airs i d there; sets = sets; before = before; refusal = refusal })
 
 -- likewise of traces
 pub first_refused_traces : (traces : List Traces) (i : ℕ) (d : Traces) (all : List ReadTraces) (fault : Fault) → i < length traces → AreBatchTraces (take i traces) all → IsTracesRefusal i (get_or traces i d) fault

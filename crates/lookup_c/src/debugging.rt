@@ -1,6 +1,6 @@
 //! The call that finds the first tuple that does not balance.
-ghost use Rattle.std.specs.Prelude.{◌≡◌, ◌≢◌, ◌⊎◌, All, MatchResult, length, map};
-ghost use Rattle.lookup_debug.specs.Contributions.{IsFitting, traced_of};
+ghost use Rattle.std.specs.Prelude.{◌≡◌, ◌≢◌, ◌⊎◌, MatchResult, length, map};
+ghost use Rattle.lookup_debug.specs.Contributions.{AreFitting, IsTracedFitting, traced_of};
 ghost use Rattle.lookup_c.specs.Debugging.{AreTableSets, ChecksTables, ChecksTraced, IsCheckRefusal, IsDebugCallRefusal, IsMisfitAt, IsTableSetsRefusal, IsUnfitAmong, all_traced, traced_tables};
 ghost use Rattle.lookup_c.specs.Refusals.{IsRefusal};
 ghost use Rattle.lookup_c.specs.declared.fault.Fault.{Fault};
@@ -39,7 +39,7 @@ fn debug_instance<'a>(
     traces: &'a ReadTraces,
 ) -> Result<LookupDebugInstance<'a, BabyBear>, Fault>
     ensures { MatchResult result
-        (λ i. (traced_of i ≡ traced_tables set.now traces.now) × IsFitting (traced_of i))
+        (λ i. (traced_of i ≡ traced_tables set.now traces.now) × IsTracedFitting (traced_of i))
         (IsMisfitAt air (traced_tables set.now traces.now)) }
 {
     let preprocessed = traces.preprocessed.as_ref();
@@ -73,7 +73,7 @@ fn debug_instances<'a>(
     requires { length sets.now ≡ length traces.now }
     ensures { MatchResult result
         (λ v. (map traced_of v.items ≡ all_traced sets.now traces.now)
-        × All (λ i. IsFitting (traced_of i)) v.items)
+        × AreFitting v.items)
         (λ fault. (fault ≡ Fault.Memory) ⊎ IsUnfitAmong (all_traced sets.now traces.now) fault) }
 {
     let mut instances = Vec::with_capacity(alloc, sets.len())?;
@@ -90,7 +90,7 @@ fn debug_instances<'a>(
 ///
 /// Refuses the first mismatch, with its text.
 fn check(alloc: Global, instances: &[LookupDebugInstance<'_, BabyBear>]) -> Result<(), Fault>
-    requires { All (λ i. IsFitting (traced_of i)) instances.now }
+    requires { AreFitting instances.now }
     ensures { MatchResult result
         (λ _. ChecksTraced ⟦<BabyBear as PrimeCharacteristicRing>⟧.ring
         ⟦<BabyBear as PartialEq>⟧.eq (map traced_of instances.now))

@@ -1,6 +1,6 @@
 -- What the nodes of trees do on a stack, of which only the depths are kept.
-use Rattle.std.proofs.Common.{◌≡◌, ◌++◌, ◌∷◌, ◌+◌, ◌<◌, ◌≤◌, ℕ, ◌&&◌, suc, List, [], All, Bool, true, false, if◌then◌else◌, nat_lt, max, take, ap, sym, refl, subst, ◌∙◌, append_assoc, arith}
-use Rattle.std.proofs.lemmas.Bool.{lt-ltb, iff_false}
+use Rattle.std.proofs.Common.{◌≡◌, ◌++◌, ◌∷◌, ◌+◌, ◌≤◌, ℕ, ◌&&◌, suc, List, [], All, Bool, true, false, if◌then◌else◌, nat_lt, max, ap, sym, refl, subst, ◌∙◌, append_assoc, arith}
+use Rattle.std.proofs.lemmas.Bool.{lt-ltb}
 use Rattle.std.proofs.lemmas.List.{append-nil}
 use Rattle.std.specs.List.{flat_map}
 use Rattle.expressions.specs.Depth.{depth_of}

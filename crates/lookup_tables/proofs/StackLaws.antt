@@ -1,9 +1,8 @@
 -- The stack of the reader of nodes.
-use Rattle.std.proofs.Common.{◌≡◌, ◌++◌, ◌∷◌, ◌+◌, ◌<◌, ◌≤◌, ℕ, zero, suc, List, [], All, get_or, length, map, take, Bool, true, false, nat_lt, max, ap, sym, refl, subst, ◌∙◌, append_assoc, arith}
+use Rattle.std.proofs.Common.{◌≡◌, ◌++◌, ◌∷◌, ◌<◌, ◌≤◌, ℕ, zero, suc, List, [], get_or, length, map, take, false, max, ap, sym, refl, subst, ◌∙◌, append_assoc, arith}
 use Rattle.std.proofs.lemmas.Bool.{le-ltb}
 use Rattle.std.proofs.lemmas.List.{append-nil, map_push, take_more}
 use Rattle.std.specs.List.{flat_map}
-use Rattle.expressions.specs.Depth.{depth_of}
 use Rattle.expressions.specs.Tree.{Tree, tree_of}
 use Rattle.expressions.specs.declared.base_expression.SymbolicExpression.{SymbolicExpression}
 use Rattle.lookup_tables.specs.Nodes.{AreTrees, BabyBear, IsFirstBadNode, IsShallow, node, nodes_of}

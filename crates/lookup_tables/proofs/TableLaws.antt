@@ -1,5 +1,5 @@
 -- Tables that are no lookups.
-use Rattle.std.proofs.Common.{◌≡◌, ◌≢◌, ◌++◌, ◌+◌, ◌<◌, ◌≤◌, ℕ, zero, suc, List, [], ◌∷◌, Option, None, Some, get_or, length, take, drop, map, refl, subst, sym, ap, ◌∙◌, arith}
+use Rattle.std.proofs.Common.{◌≡◌, ◌≢◌, ◌++◌, ◌+◌, ◌<◌, ◌≤◌, ℕ, zero, suc, List, [], ◌∷◌, None, Some, get_or, length, take, drop, map, refl, subst, sym, ap, ◌∙◌, arith}
 use Rattle.std.proofs.lemmas.List.{length-map, map_push, take-append-drop, take_all}
 use Rattle.std.proofs.lemmas.List.FromFn.{length-range_with_len, map-range_with_len_more}
 use Rattle.std.proofs.lemmas.Option.{slice_get-get_or}
@@ -9,9 +9,7 @@ use Rattle.std.proofs.lemmas.Str.{IsUtf8-string_bytes}
 use Rattle.std.specs.List.{AllZip, range_with_len}
 use Rattle.std.specs.Str.{IsUtf8}
 use Rattle.expressions.specs.Tree.{tree_of}
-use Rattle.expressions.specs.declared.base_expression.SymbolicExpression.{SymbolicExpression}
 use Rattle.lookup_model.specs.Outline.{bus_of}
-use Rattle.lookup_model.specs.declared.types.Kind.{Kind}
 use Rattle.lookup_model.specs.declared.types.Kind.TheVariants.{Local, Global}
 use Rattle.lookup_tables.specs.Nodes.{BabyBear, IsFirstBadNode}
 use Rattle.lookup_tables.specs.Tables.{AreFlags, AreLookups, IsBus, IsFirstBadRecord, IsInside, IsLookup, IsWritten, NothingIs, items_at}

@@ -1,6 +1,6 @@
 -- Nodes are those of one list of trees at most.
-use Rattle.std.proofs.Common.{◌≡◌, ◌++◌, ◌∷◌, ◌+◌, ◌<◌, ◌≤◌, ◌==◌, ℕ, List, [], Bool, true, false, if◌then◌else◌, map, reverse, ap, sym, refl, subst, ◌∙◌, append_assoc, arith}
-use Rattle.std.proofs.lemmas.List.{append-nil, reverse-append, reverse-reverse}
+use Rattle.std.proofs.Common.{◌≡◌, ◌++◌, ◌∷◌, ◌==◌, ℕ, List, [], if◌then◌else◌, reverse, ap, sym, refl, ◌∙◌, append_assoc}
+use Rattle.std.proofs.lemmas.List.{append-nil, reverse-append}
 use Rattle.std.specs.List.{flat_map}
 use native.Mathlib.Nat.{mod-eq_of_lt}
 use Rattle.field.specs.BabyBear.{baby_bear_of}
@@ -10,7 +10,6 @@ use Rattle.expressions.specs.declared.base_expression.BaseLeaf.{BaseLeaf}
 use Rattle.expressions.specs.declared.base_expression.BaseLeaf.TheVariants.{Variable, IsFirstRow, IsLastRow, IsTransition, Constant}
 use Rattle.expressions.specs.declared.variable.BaseEntry.{BaseEntry}
 use Rattle.expressions.specs.declared.variable.BaseEntry.TheVariants.{Preprocessed, Main, Public}
-use Rattle.expressions.specs.declared.variable.SymbolicVariable.{SymbolicVariable}
 use Rattle.lookup_tables.specs.Nodes.{BabyBear, entry_node, is_leaf, is_negation, leaf_node, node, nodes_of}
 use Rattle.lookup_tables.specs.declared.nodes.Node.{Node}
 use Rattle.lookup_tables.proofs.NodeLaws.{leaf_is_leaf}

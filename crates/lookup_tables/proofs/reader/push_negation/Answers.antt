@@ -1,4 +1,4 @@
-use Rattle.std.proofs.Common.{inr, arith}
+use Rattle.std.proofs.Common.{inr}
 use Rattle.lookup_tables.proofs.StackLaws.{full_one}
 use Rattle.lookup_tables.proofs.reader.push_negation.Goals as goal
 

@@ -1,4 +1,4 @@
-use Rattle.std.proofs.Common.{inl, inr, arith}
+use Rattle.std.proofs.Common.{inl, inr}
 use Rattle.std.proofs.lemmas.Result.{err_from_is_err_and}
 use Rattle.lookup_tables.proofs.TableLaws.{none_zipped}
 use Rattle.lookup_tables.proofs.ZipLaws.{zipped_next}
