@@ -165,7 +165,7 @@ fn print(name: &str, rows: usize, through: f64, others: &[f64]) {
 fn compare_generation(shape: u32, rows: usize) {
     let ((air, width, ids), numbers) = (shape_of(shape), numbers_of(shape, rows));
     let challenges: Vec<[Element; 2]> = ids.into_iter().map(challenge).collect();
-    let traces = Traces::main(&numbers, width);
+    let traces = Traces::new(&numbers, width);
     let generate = || air.generate(&traces, &challenges).expect("there is no fault");
     let own = |rounds, skip| unsafe {
         lookup_generate(numbers.as_ptr(), numbers.len(), shape, rounds, skip)
@@ -178,7 +178,7 @@ fn compare_generation(shape: u32, rows: usize) {
 
 fn compare_proving(rows: usize) {
     let (batch, numbers) = (batch_of(rows), batch_numbers(rows));
-    let traces = numbers.each_ref().map(|numbers| Traces::main(numbers, WIDTH));
+    let traces = numbers.each_ref().map(|numbers| Traces::new(numbers, WIDTH));
     let [asked, provided] = &numbers;
     let prove = || batch.prove(&traces, ALPHA.into(), BETA.into()).expect("there is no fault");
     let own = |rounds, skip| unsafe {
@@ -192,7 +192,7 @@ fn compare_proving(rows: usize) {
 
 fn compare_verifying(rows: usize) {
     let (batch, numbers) = (batch_of(rows), batch_numbers(rows));
-    let traces = numbers.each_ref().map(|numbers| Traces::main(numbers, WIDTH));
+    let traces = numbers.each_ref().map(|numbers| Traces::new(numbers, WIDTH));
     let [asked, provided] = &numbers;
     let (alpha, beta) = (ALPHA.into(), BETA.into());
     let witness = batch.prove(&traces, alpha, beta).expect("there is no fault");

@@ -26,6 +26,31 @@ static void check(int holds, const char *what)
     }
 }
 
+/* ---- the sizes of the structs, which the crate for Rust tests as well ---- */
+
+#define SIZE(name, size) check(sizeof(struct volgwain_##name) == (size), "the size of " #name)
+
+static void check_sizes(void)
+{
+    if (sizeof(size_t) != 8)
+        return;
+    SIZE(element, 16);
+    SIZE(node, 16);
+    SIZE(span, 16);
+    SIZE(record, 80);
+    SIZE(tables, 64);
+    SIZE(traces, 64);
+    SIZE(terminal, 20);
+    SIZE(refusal, 56);
+    SIZE(table_sizes, 32);
+    SIZE(air, 72);
+    SIZE(air_witness, 48);
+    SIZE(plan_sizes, 16);
+    SIZE(wide, 16);
+    SIZE(counts, 72);
+    SIZE(grid, 40);
+}
+
 /* ---- memory: how many blocks are live, and which requests are refused ---- */
 
 static long live = 0;
@@ -1448,6 +1473,7 @@ static void check_stack(void)
 
 int main(void)
 {
+    check_sizes();
     check_generation();
     check_proving();
     check_air_by_air();

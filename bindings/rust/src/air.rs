@@ -49,9 +49,9 @@ impl Air {
     /// # }
     /// ```
     ///
-    /// Refuses a text that is not that of lookups ([`Code::BadText`]), lists of different lengths or
-    /// a column that is not the place in the list ([`Code::MalformedLookup`]), and a list of too
-    /// many nodes ([`Code::BadTable`]).
+    /// Refuses a text that is not that of lookups ([`Code::BadText`]), lists of different lengths
+    /// or a column that is not the index in the list ([`Code::MalformedLookup`]), and a row offset
+    /// past 32 bits or a list of too many nodes ([`Code::BadTable`]).
     ///
     /// [`Code::BadText`]: crate::Code::BadText
     /// [`Code::MalformedLookup`]: crate::Code::MalformedLookup

@@ -13,7 +13,8 @@ use crate::witness::{Shape, Witness};
 /// All tuples under one id have one width, and weights times heights stay below the modulus.
 ///
 /// The traces that its calls take are one for each AIR, of its height and with all that its lookups
-/// read.
+/// read; but [`generate`](Batch::generate) and [`debug_check`](Batch::debug_check) do not compare
+/// heights.
 #[derive(Clone, Debug)]
 pub struct Batch {
     airs: Vec<Air>,
@@ -109,12 +110,11 @@ impl Batch {
     /// What [`prove`](Batch::prove) makes for the AIR of one index, so that AIRs can be worked on
     /// by many threads. The witness is that of this AIR alone; [`Witness::new`] joins them.
     ///
-    /// Refuses traces that its lookups do not fit, and then what `prove` refuses. It does not
-    /// compare the height of the traces with that of the batch.
+    /// Refuses an index past the last AIR ([`Code::NoSuchAir`]), traces that its lookups do not
+    /// fit, and then what `prove` refuses. It does not compare the height of the traces with that
+    /// of the batch.
     ///
-    /// # Panics
-    ///
-    /// If there is no such AIR.
+    /// [`Code::NoSuchAir`]: crate::Code::NoSuchAir
     pub fn generate(
         &self,
         air: usize,
@@ -122,19 +122,13 @@ impl Batch {
         alpha: Element,
         beta: Element,
     ) -> Result<Witness, Error> {
-        let (ids, air) = (&self.ids[air], &self.airs[air]);
+        let (Some(ids), Some(air)) = (self.ids.get(air), self.airs.get(air)) else {
+            return Err(Error::no_such_air(air));
+        };
+        let challenges = [alpha, beta];
         Witness::filled(&[air.shape(traces)], |cells, terminals| {
-            let challenges = [alpha, beta];
-            let terminal = &mut terminals[0];
-            ffi::generate_by_ids(
-                air.tables(),
-                traces,
-                ids,
-                &self.sizes,
-                challenges,
-                cells,
-                terminal,
-            )
+            let (tables, terminal) = (air.tables(), &mut terminals[0]);
+            ffi::generate_by_ids(tables, traces, ids, &self.sizes, challenges, cells, terminal)
         })
     }
 
@@ -154,8 +148,9 @@ impl Batch {
         ffi::verify(&self.planned(), traces, alpha, beta, &parts)
     }
 
-    /// Whether all tuples balance. Challenges are not needed: see
-    /// [`debug_check`](crate::debug_check).
+    /// Whether all tuples balance, as [`debug_check`](crate::debug_check) says of these AIRs.
+    /// Challenges are not needed. It does not compare the heights of the traces with those of the
+    /// batch.
     pub fn debug_check(&self, traces: &[Traces<'_>]) -> Result<(), Error> {
         air::debug_check(&self.airs, traces)
     }

@@ -92,8 +92,11 @@ pub enum Code {
     Mismatch,
     /// A text is not JSON, or not that of lookups. The text of the error says why, and where.
     BadText,
+    /// A batch has no AIR of this index. Has the index, as that of the AIR. It is of this crate
+    /// alone.
+    NoSuchAir,
     /// A code of a later library, which this crate does not know.
-    Unknown,
+    Unknown(u32),
 }
 
 /// A part of a call.
@@ -202,6 +205,12 @@ impl Error {
         Error::of_lookup(Code::WeightOverflow, lookup, &reason)
     }
 
+    /// A batch has no AIR of this index.
+    pub(crate) fn no_such_air(air: usize) -> Self {
+        let places = Places { air: Some(air), ..Places::default() };
+        Error::new(Code::NoSuchAir, places, format!("air {air}: no such AIR in the batch"))
+    }
+
     fn of_lookup(code: Code, lookup: usize, reason: &dyn fmt::Display) -> Self {
         let places = Places { lookup: Some(lookup), ..Places::default() };
         Error::new(code, places, format!("lookup {lookup}: {reason}"))
@@ -243,6 +252,7 @@ impl Places {
             Code::AuxiliaryWidth => Places { air, expected, ..none },
             Code::ConstraintFailed => Places { air, row, ..none },
             Code::DoesNotFit
+            | Code::NoSuchAir
             | Code::TraceMismatch
             | Code::AuxiliaryHeight
             | Code::WeightOverflow
@@ -254,7 +264,7 @@ impl Places {
             | Code::CountOverflow
             | Code::Mismatch
             | Code::BadText
-            | Code::Unknown => none,
+            | Code::Unknown(_) => none,
         }
     }
 }
@@ -292,7 +302,7 @@ impl Code {
     ];
 
     fn of(number: u32) -> Self {
-        numbered(&Code::ALL, number).unwrap_or(Code::Unknown)
+        numbered(&Code::ALL, number).unwrap_or(Code::Unknown(number))
     }
 }
 
@@ -326,4 +336,18 @@ impl Part {
 fn numbered<T: Copy>(items: &[T], number: u32) -> Option<T> {
     let index = usize::try_from(number).ok()?.checked_sub(1)?;
     items.get(index).copied()
+}
+
+#[cfg(test)]
+mod tests {
+    use super::*;
+
+    #[test]
+    fn codes_of_later_libraries_keep_their_number() {
+        let refusal = Refusal { code: 28, part: 17, air: 1, ..Refusal::default() };
+        let error = Error::refused(&refusal, b"later");
+        assert_eq!((error.code(), error.text()), (Code::Unknown(28), "later"));
+        assert_eq!((error.part(), error.air()), (None, None));
+        assert_eq!((Code::of(0), Code::of(27)), (Code::Unknown(0), Code::BadText));
+    }
 }

@@ -23,15 +23,15 @@
 //! let provides = Air::new([Lookup::on_bus("keys", [entries])])?;
 //!
 //! let batch = Batch::new([(&asks, 3), (&provides, 2)])?;
-//! let keys = Traces::main(&[3, 4, 3], 1);
-//! let table = Traces::main(&[3, 2, 4, 1], 2);
+//! let keys = Traces::new(&[3, 4, 3], 1);
+//! let table = Traces::new(&[3, 2, 4, 1], 2);
 //! // Draw them once the traces are fixed.
 //! let (alpha, beta) = (Element::new([9, 2, 6, 5]), Element::new([3, 1, 4, 15]));
 //! let witness = batch.prove(&[keys, table], alpha, beta)?;
 //! batch.verify(&[keys, table], alpha, beta, &witness)?;
 //!
 //! // With another key, the entry 3 is provided once too often.
-//! let keys = Traces::main(&[3, 4, 4], 1);
+//! let keys = Traces::new(&[3, 4, 4], 1);
 //! let fault = batch.debug_check(&[keys, table]).unwrap_err();
 //! let wanted = "Lookup mismatch (global lookup 'keys'): tuple [3] has net multiplicity \
 //!     2013265920 at instance 0 lookup 0 row 0; instance 1 lookup 0 row 0";
@@ -43,7 +43,7 @@
 //! All types are plain data, so they are [`Send`] and [`Sync`], and any number of threads may work
 //! on the same AIRs and batches at once. A call needs at most 256 KB of stack. Where the library
 //! can get no memory, a call answers [`Code::OutOfMemory`].
-#![deny(missing_docs, unsafe_code)]
+#![deny(missing_docs, unsafe_code, clippy::undocumented_unsafe_blocks)]
 
 mod air;
 mod batch;

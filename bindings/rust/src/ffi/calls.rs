@@ -1,5 +1,5 @@
-//! A safe function for each call of the library. Its one unsafe block meets what the header asks for
-//! as the module above says.
+//! A safe function for each call of the library. The one unsafe block of each meets what the header
+//! asks for, as the module above says.
 
 use super::declared::{self, Counts, Grid, PlanSizes, Refusal, TableSizes, Terminal, Wide};
 use crate::batch::{GridCount, SoundnessCount};
@@ -30,79 +30,95 @@ pub(crate) fn generate(
 ) -> Result<(), Error> {
     let (tables, traces) = (raw_tables(tables), raw_traces(traces));
     let challenges = challenges.as_flattened();
-    answer(|refusal, text, size| unsafe {
-        declared::volgwain_generate(
-            &tables,
-            &traces,
-            challenges.as_ptr(),
-            challenges.len(),
-            auxiliary.as_mut_ptr(),
-            auxiliary.len(),
-            terminal,
-            refusal,
-            text,
-            size,
-        )
+    answer(|refusal, text, size| {
+        // SAFETY: `tables`, `traces` and `challenges` are borrowed for the whole call, and
+        // `auxiliary` and `terminal` as mutable; each length is that of its slice.
+        unsafe {
+            declared::volgwain_generate(
+                &tables,
+                &traces,
+                challenges.as_ptr(),
+                challenges.len(),
+                auxiliary.as_mut_ptr(),
+                auxiliary.len(),
+                terminal,
+                refusal,
+                text,
+                size,
+            )
+        }
     })
 }
 
 /// Gives the degree of each lookup's constraint.
 pub(crate) fn degrees(tables: &Tables, degrees: &mut [usize]) -> Result<(), Error> {
     let tables = raw_tables(tables);
-    answer(|refusal, text, size| unsafe {
-        declared::volgwain_degrees(
-            &tables,
-            degrees.as_mut_ptr(),
-            degrees.len(),
-            refusal,
-            text,
-            size,
-        )
+    answer(|refusal, text, size| {
+        // SAFETY: `tables` is borrowed for the whole call, and `degrees`, whose length is given, as
+        // mutable.
+        unsafe {
+            declared::volgwain_degrees(
+                &tables,
+                degrees.as_mut_ptr(),
+                degrees.len(),
+                refusal,
+                text,
+                size,
+            )
+        }
     })
 }
 
 /// Packs the lookups of an AIR.
 pub(crate) fn pack(tables: &Tables, max_degree: usize) -> Result<Tables, Error> {
     let raw = raw_tables(tables);
-    written(Room::of(tables), |out, sizes, refusal, text, size| unsafe {
-        declared::volgwain_pack(
-            &raw,
-            max_degree,
-            out.nodes.as_mut_ptr(),
-            out.nodes.len(),
-            out.tuples.as_mut_ptr(),
-            out.tuples.len(),
-            out.names.as_mut_ptr(),
-            out.names.len(),
-            out.records.as_mut_ptr(),
-            out.records.len(),
-            sizes,
-            refusal,
-            text,
-            size,
-        )
+    written(Room::of(tables), |out, sizes, refusal, text, size| {
+        // SAFETY: `tables`, to which `raw` points, is borrowed for the whole call, and `out` and
+        // `sizes` as mutable; each length is that of its table.
+        unsafe {
+            declared::volgwain_pack(
+                &raw,
+                max_degree,
+                out.nodes.as_mut_ptr(),
+                out.nodes.len(),
+                out.tuples.as_mut_ptr(),
+                out.tuples.len(),
+                out.names.as_mut_ptr(),
+                out.names.len(),
+                out.records.as_mut_ptr(),
+                out.records.len(),
+                sizes,
+                refusal,
+                text,
+                size,
+            )
+        }
     })
 }
 
 /// Reads the lookups of an AIR from JSON.
 pub(crate) fn read_json(json: &str) -> Result<Tables, Error> {
-    written(Room::of_json(json), |out, sizes, refusal, text, size| unsafe {
-        declared::volgwain_read_json(
-            json.as_ptr().cast::<c_char>(),
-            json.len(),
-            out.nodes.as_mut_ptr(),
-            out.nodes.len(),
-            out.tuples.as_mut_ptr(),
-            out.tuples.len(),
-            out.names.as_mut_ptr(),
-            out.names.len(),
-            out.records.as_mut_ptr(),
-            out.records.len(),
-            sizes,
-            refusal,
-            text,
-            size,
-        )
+    written(Room::of_json(json), |out, sizes, refusal, text, size| {
+        // SAFETY: `json` is borrowed for the whole call, and `out` and `sizes` as mutable; each
+        // length is that of its table, and that of `json` in bytes.
+        unsafe {
+            declared::volgwain_read_json(
+                json.as_ptr().cast::<c_char>(),
+                json.len(),
+                out.nodes.as_mut_ptr(),
+                out.nodes.len(),
+                out.tuples.as_mut_ptr(),
+                out.tuples.len(),
+                out.names.as_mut_ptr(),
+                out.names.len(),
+                out.records.as_mut_ptr(),
+                out.records.len(),
+                sizes,
+                refusal,
+                text,
+                size,
+            )
+        }
     })
 }
 
@@ -110,17 +126,21 @@ pub(crate) fn read_json(json: &str) -> Result<Tables, Error> {
 pub(crate) fn plan(airs: &[Planned<'_>], ids: &mut [usize]) -> Result<PlanSizes, Error> {
     let airs = raw_airs(airs);
     let mut sizes = PlanSizes::default();
-    answer(|refusal, text, size| unsafe {
-        declared::volgwain_plan(
-            airs.as_ptr(),
-            airs.len(),
-            ids.as_mut_ptr(),
-            ids.len(),
-            &mut sizes,
-            refusal,
-            text,
-            size,
-        )
+    answer(|refusal, text, size| {
+        // SAFETY: the tables to which `airs` points are borrowed for the whole call, and `ids` and
+        // `sizes` as mutable; each length is that of its slice.
+        unsafe {
+            declared::volgwain_plan(
+                airs.as_ptr(),
+                airs.len(),
+                ids.as_mut_ptr(),
+                ids.len(),
+                &mut sizes,
+                refusal,
+                text,
+                size,
+            )
+        }
     })?;
     Ok(sizes)
 }
@@ -136,22 +156,26 @@ pub(crate) fn generate_by_ids(
     terminal: &mut Terminal,
 ) -> Result<(), Error> {
     let (tables, traces) = (raw_tables(tables), raw_traces(traces));
-    answer(|refusal, text, size| unsafe {
-        declared::volgwain_generate_by_ids(
-            &tables,
-            &traces,
-            ids.as_ptr(),
-            ids.len(),
-            sizes,
-            &alpha,
-            &beta,
-            auxiliary.as_mut_ptr(),
-            auxiliary.len(),
-            terminal,
-            refusal,
-            text,
-            size,
-        )
+    answer(|refusal, text, size| {
+        // SAFETY: `tables`, `traces`, `ids`, the sizes, alpha and beta are borrowed for the whole
+        // call, and `auxiliary` and `terminal` as mutable; each length is that of its slice.
+        unsafe {
+            declared::volgwain_generate_by_ids(
+                &tables,
+                &traces,
+                ids.as_ptr(),
+                ids.len(),
+                sizes,
+                &alpha,
+                &beta,
+                auxiliary.as_mut_ptr(),
+                auxiliary.len(),
+                terminal,
+                refusal,
+                text,
+                size,
+            )
+        }
     })
 }
 
@@ -165,22 +189,26 @@ pub(crate) fn prove(
     terminals: &mut [Terminal],
 ) -> Result<(), Error> {
     let (airs, traces) = (raw_airs(airs), all_raw_traces(traces));
-    answer(|refusal, text, size| unsafe {
-        declared::volgwain_prove(
-            airs.as_ptr(),
-            airs.len(),
-            traces.as_ptr(),
-            traces.len(),
-            &alpha,
-            &beta,
-            auxiliary.as_mut_ptr(),
-            auxiliary.len(),
-            terminals.as_mut_ptr(),
-            terminals.len(),
-            refusal,
-            text,
-            size,
-        )
+    answer(|refusal, text, size| {
+        // SAFETY: what `airs` and `traces` point to, alpha and beta are borrowed for the whole
+        // call, and `auxiliary` and `terminals` as mutable; each length is that of its slice.
+        unsafe {
+            declared::volgwain_prove(
+                airs.as_ptr(),
+                airs.len(),
+                traces.as_ptr(),
+                traces.len(),
+                &alpha,
+                &beta,
+                auxiliary.as_mut_ptr(),
+                auxiliary.len(),
+                terminals.as_mut_ptr(),
+                terminals.len(),
+                refusal,
+                text,
+                size,
+            )
+        }
     })
 }
 
@@ -194,20 +222,24 @@ pub(crate) fn verify(
 ) -> Result<(), Error> {
     let (airs, traces) = (raw_airs(airs), all_raw_traces(traces));
     let witness: Vec<declared::AirWitness> = witness.iter().map(raw_witness).collect();
-    answer(|refusal, text, size| unsafe {
-        declared::volgwain_verify(
-            airs.as_ptr(),
-            airs.len(),
-            traces.as_ptr(),
-            traces.len(),
-            &alpha,
-            &beta,
-            witness.as_ptr(),
-            witness.len(),
-            refusal,
-            text,
-            size,
-        )
+    answer(|refusal, text, size| {
+        // SAFETY: what `airs`, `traces` and `witness` point to, alpha and beta are borrowed for the
+        // whole call; each length is that of its slice. It writes the refusal and its text alone.
+        unsafe {
+            declared::volgwain_verify(
+                airs.as_ptr(),
+                airs.len(),
+                traces.as_ptr(),
+                traces.len(),
+                &alpha,
+                &beta,
+                witness.as_ptr(),
+                witness.len(),
+                refusal,
+                text,
+                size,
+            )
+        }
     })
 }
 
@@ -218,17 +250,21 @@ pub(crate) fn soundness_count(
 ) -> Result<SoundnessCount, Error> {
     let (airs, traces) = (raw_airs(airs), all_raw_traces(traces));
     let mut counts = Counts::default();
-    answer(|refusal, text, size| unsafe {
-        declared::volgwain_soundness_count(
-            airs.as_ptr(),
-            airs.len(),
-            traces.as_ptr(),
-            traces.len(),
-            &mut counts,
-            refusal,
-            text,
-            size,
-        )
+    answer(|refusal, text, size| {
+        // SAFETY: what `airs` and `traces` point to is borrowed for the whole call, and `counts` as
+        // mutable; each length is that of its slice.
+        unsafe {
+            declared::volgwain_soundness_count(
+                airs.as_ptr(),
+                airs.len(),
+                traces.as_ptr(),
+                traces.len(),
+                &mut counts,
+                refusal,
+                text,
+                size,
+            )
+        }
     })?;
     Ok(SoundnessCount {
         messages: number(counts.messages),
@@ -247,21 +283,25 @@ pub(crate) fn grid_count(
 ) -> Result<GridCount, Error> {
     let (airs, traces) = (raw_airs(airs), all_raw_traces(traces));
     let mut grid = Grid::default();
-    answer(|refusal, text, size| unsafe {
-        declared::volgwain_grid_count(
-            airs.as_ptr(),
-            airs.len(),
-            traces.as_ptr(),
-            traces.len(),
-            alphas.as_ptr(),
-            alphas.len(),
-            betas.as_ptr(),
-            betas.len(),
-            &mut grid,
-            refusal,
-            text,
-            size,
-        )
+    answer(|refusal, text, size| {
+        // SAFETY: what `airs` and `traces` point to, `alphas` and `betas` are borrowed for the
+        // whole call, and `grid` as mutable; each length is that of its slice.
+        unsafe {
+            declared::volgwain_grid_count(
+                airs.as_ptr(),
+                airs.len(),
+                traces.as_ptr(),
+                traces.len(),
+                alphas.as_ptr(),
+                alphas.len(),
+                betas.as_ptr(),
+                betas.len(),
+                &mut grid,
+                refusal,
+                text,
+                size,
+            )
+        }
     })?;
     let bound = (grid.bounded != 0).then(|| number(grid.bound));
     Ok(GridCount { accepted: number(grid.accepted), bound })
@@ -271,20 +311,25 @@ pub(crate) fn grid_count(
 pub(crate) fn debug_check(airs: &[&Tables], traces: &[Traces<'_>]) -> Result<(), Error> {
     let airs: Vec<declared::Tables> = airs.iter().copied().map(raw_tables).collect();
     let traces = all_raw_traces(traces);
-    answer(|refusal, text, size| unsafe {
-        declared::volgwain_debug_check(
-            airs.as_ptr(),
-            airs.len(),
-            traces.as_ptr(),
-            traces.len(),
-            refusal,
-            text,
-            size,
-        )
+    answer(|refusal, text, size| {
+        // SAFETY: what `airs` and `traces` point to is borrowed for the whole call; each length is
+        // that of its slice. It writes the refusal and its text alone.
+        unsafe {
+            declared::volgwain_debug_check(
+                airs.as_ptr(),
+                airs.len(),
+                traces.as_ptr(),
+                traces.len(),
+                refusal,
+                text,
+                size,
+            )
+        }
     })
 }
 
-/// Makes a call, which gets a refusal and room for its text to be written, and returns a code.
+/// Makes a call, which gets a refusal and room for its text to be written, and returns a code. Both
+/// are initialised, and borrowed by the call alone.
 ///
 /// A refused call changes nothing else. So where the text is longer than the room, the call is made
 /// again.

@@ -46,22 +46,25 @@ fn challenges(alpha: u32, beta: u32) -> [Element; 2] {
 fn a_range_check_is_generated() {
     // denominators 2 and 1, and then 1 and 2
     let rows = [3, 4, 1, 4, 3, 1];
-    let witness = range().generate(&Traces::main(&rows, 3), &[challenges(5, 2)]).unwrap();
+    let witness = range().generate(&Traces::new(&rows, 3), &[challenges(5, 2)]).unwrap();
     assert_eq!(parts(&witness), [base(&[0, MINUS_HALF, MINUS_HALF, HALF], 0)]);
     assert_eq!(witness.air(0).map(|part| (part.width, part.height())), Some((2, 2)));
     // further challenges are ignored
     let more = [challenges(5, 2), challenges(1, 1)];
-    assert_eq!(range().generate(&Traces::main(&rows, 3), &more), Ok(witness));
+    assert_eq!(range().generate(&Traces::new(&rows, 3), &more), Ok(witness));
 }
 
 #[test]
 fn fractions_are_in_the_extension() {
     // the prefix is alpha + beta, so the denominator of 0 is X, and then X + 1
-    let traces = [Traces::main(&[0, 1, 0], 3)];
+    let traces = [Traces::new(&[0, 1, 0], 3)];
     let (x, one) = (Element::new([0, 1, 0, 0]), Element::from(1));
     let ends = |beta| parts(&range_batch(1).prove(&traces, x, beta).unwrap());
+    // X * X^3 is 11, so 1/X is X^3 / 11
     let inverse = Element::new([0, 0, 0, 549_072_524]);
     assert_eq!(ends(Element::default()), [(vec![0.into(), inverse], Some(inverse))]);
+    // (X + 1) * (1 - X + X^2 - X^3) is 1 - X^4 = -10, so the inverse is (1 - X + X^2 - X^3) / -10,
+    // and -1/10 is (p - 1) / 10
     let inverse = Element::new([201_326_592, 1_811_939_329, 201_326_592, 1_811_939_329]);
     assert_eq!(ends(one), [(vec![0.into(), inverse], Some(inverse))]);
 }
@@ -70,13 +73,13 @@ fn fractions_are_in_the_extension() {
 fn the_last_element_of_a_tuple_has_power_zero() {
     // combined 1 * 4 + 2 * 2 + 3 = 11, so the denominator is 6
     let air = Air::new([Lookup::local([Message::query([1, 2, 3], 1)])]).unwrap();
-    let witness = air.generate(&Traces::main(&[0], 1), &[challenges(17, 2)]).unwrap();
+    let witness = air.generate(&Traces::new(&[0], 1), &[challenges(17, 2)]).unwrap();
     assert_eq!(parts(&witness), [base(&[0, 1_677_721_601], 1_677_721_601)]);
     // in a batch the prefix is 5 + 1 * 2^3 = 13, and the denominator 2
     let batch = Batch::new([(&air, 1)]).unwrap();
     assert_eq!(batch.max_message_width(), 3);
     let [alpha, beta] = challenges(5, 2);
-    let witness = batch.prove(&[Traces::main(&[0], 1)], alpha, beta).unwrap();
+    let witness = batch.prove(&[Traces::new(&[0], 1)], alpha, beta).unwrap();
     assert_eq!(parts(&witness), [base(&[0, HALF], HALF)]);
 }
 
@@ -88,8 +91,8 @@ fn keys_are_looked_up_across_airs() {
     let batch = Batch::new([(&asks, 2), (&provides, 2)]).unwrap();
     assert_eq!((batch.heights(), batch.airs()), (&[2, 2][..], &[asks, provides][..]));
     assert_eq!((batch.ids(), batch.num_ids()), (&[vec![0], vec![0]][..], 1));
-    let keys = Traces::main(&[3, 3], 1);
-    let table = Traces::main(&[3, 2, 4, 0], 2);
+    let keys = Traces::new(&[3, 3], 1);
+    let table = Traces::new(&[3, 2, 4, 0], 2);
     let [alpha, beta] = challenges(5, 2);
     // the prefix is 5 + 1 * 2 = 7, so the denominators of 3 and 4 are 4 and 3
     let witness = batch.prove(&[keys, table], alpha, beta).unwrap();
@@ -110,7 +113,7 @@ fn a_branch_is_sent_where_its_flag_is_set() {
     let rows = [1, 3, 0, 5, 0, 3, 0, 5, 0, 3, 1, 5];
     let [alpha, beta] = challenges(5, 2);
     // denominators 4 and 2
-    let witness = batch.prove(&[Traces::main(&rows, 4)], alpha, beta).unwrap();
+    let witness = batch.prove(&[Traces::new(&rows, 4)], alpha, beta).unwrap();
     let wanted = base(&[0, QUARTER, QUARTER, 0, QUARTER, HALF], THREE_QUARTERS);
     assert_eq!(parts(&witness), [wanted]);
 }
@@ -129,7 +132,7 @@ fn windows_go_round() {
     ];
     let air = Air::new([Lookup::local(messages)]).unwrap();
     let traces =
-        Traces::main(&[3, 4, 5], 1).with_preprocessed(&[7, 8, 9], 1).with_public_values(&[6, 6]);
+        Traces::new(&[3, 4, 5], 1).with_preprocessed(&[7, 8, 9], 1).with_public_values(&[6, 6]);
     let [alpha, beta] = [Element::new([9, 2, 6, 5]), Element::new([3, 1, 4, 15])];
     let batch = Batch::new([(&air, 3)]).unwrap();
     let witness = batch.prove(&[traces], alpha, beta).unwrap();
@@ -143,7 +146,7 @@ fn windows_go_round() {
 #[test]
 fn a_zero_multiplicity_may_stand_over_a_vanishing_denominator() {
     // the prefix is 3: the denominators are -1, and 0 with count 0
-    let traces = [Traces::main(&[4, 3, 0], 3)];
+    let traces = [Traces::new(&[4, 3, 0], 3)];
     let batch = range_batch(1);
     let [alpha, beta] = challenges(1, 2);
     let witness = batch.prove(&traces, alpha, beta).unwrap();
@@ -165,7 +168,7 @@ fn airs_without_lookups_have_no_witness() {
     assert!(none.is_empty());
     let batch = Batch::new([(&none, 7)]).unwrap();
     assert_eq!((batch.num_ids(), batch.max_message_width()), (0, 1));
-    let traces = [Traces::main(&[1; 7], 1)];
+    let traces = [Traces::new(&[1; 7], 1)];
     let [alpha, beta] = challenges(5, 2);
     let witness = batch.prove(&traces, alpha, beta).unwrap();
     assert_eq!(witness.air(0), Some(AirWitness { auxiliary: &[], width: 0, terminal: None }));
@@ -308,11 +311,11 @@ fn weights_of_joined_lookups_add() {
 fn the_first_tuple_that_does_not_balance_is_named() {
     // by their texts 10 comes before 9
     let air = Air::new([Lookup::local([Message::query([column(0)], 1)])]).unwrap();
-    let error = debug_check(std::slice::from_ref(&air), &[Traces::main(&[9, 10], 1)]).unwrap_err();
+    let error = debug_check(std::slice::from_ref(&air), &[Traces::new(&[9, 10], 1)]).unwrap_err();
     let wanted = "Lookup mismatch (instance 0 local lookup 0): tuple [10] has net multiplicity 1 \
                   at instance 0 lookup 0 row 1";
     assert_eq!(error.to_string(), wanted);
-    let error = range_batch(2).debug_check(&[Traces::main(&[3, 4, 2, 4, 3, 1], 3)]).unwrap_err();
+    let error = range_batch(2).debug_check(&[Traces::new(&[3, 4, 2, 4, 3, 1], 3)]).unwrap_err();
     let wanted = "Lookup mismatch (instance 0 local lookup 0): tuple [4] has net multiplicity \
                   2013265920 at instance 0 lookup 0 row 0; instance 0 lookup 0 row 1";
     assert_eq!(error.text(), wanted);
@@ -333,7 +336,7 @@ fn grid(batch: &Batch, trace: Traces<'_>) -> GridCount {
 
 #[test]
 fn messages_are_counted() {
-    let of = |rows: &[u32]| counts(&range_batch(rows.len() / 3), Traces::main(rows, 3));
+    let of = |rows: &[u32]| counts(&range_batch(rows.len() / 3), Traces::new(rows, 3));
     assert_eq!(of(&[3, 4, 1, 4, 3, 1]), (2, 0, 0, None));
     assert_eq!(of(&[4, 3, 0]), (2, 1, 0, Some(2)));
     assert_eq!(of(&[3, 1, 0, 4, 1, 0]), (3, 2, 1, Some(4)));
@@ -343,12 +346,12 @@ fn messages_are_counted() {
 #[test]
 fn pairs_of_challenges_are_counted() {
     // accepted unless the denominator of 3 or 4 is zero: alpha + beta is 3 at 4 pairs, and 4 at 5
-    let balanced = grid(&range_batch(2), Traces::main(&[3, 4, 1, 4, 3, 1], 3));
+    let balanced = grid(&range_batch(2), Traces::new(&[3, 4, 1, 4, 3, 1], 3));
     assert_eq!(balanced, GridCount { accepted: 40, bound: None });
     // 3 is sent twice in one lookup, whose fraction is free where its denominators are zero
     let twice = Lookup::local([Message::query([3], 1), Message::query([3], 1)]);
     let batch = Batch::new([(&Air::new([twice]).unwrap(), 1)]).unwrap();
-    let trace = Traces::main(&[0], 1);
+    let trace = Traces::new(&[0], 1);
     assert_eq!(counts(&batch, trace), (1, 1, 0, Some(1)));
     assert_eq!(grid(&batch, trace), GridCount { accepted: 4, bound: Some(7) });
     // two tuples that are one point at beta 1, whatever alpha is
