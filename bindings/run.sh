@@ -1,6 +1,6 @@
 #!/bin/sh
-# Builds the static library and runs the tests of its calls: those in C with gcc, those of the crate for
-# Rust with cargo, and the program of docs/RUST.md. Otherwise it needs the kit's command rt alone.
+# Builds the static library and runs the tests of its calls: in C, with gcc, and of the crate for Rust,
+# with cargo; and the programs of docs/C.md and docs/RUST.md. Otherwise it needs the kit's command rt alone.
 #
 # Where gcc or cargo is missing it says so, runs the rest, and ends with status 3.
 set -eu
@@ -19,7 +19,12 @@ is_missing() {
     echo "bindings/run.sh: $1 is missing, so $2" >&2
 }
 
-# The header alone, as C99 and as C++17, and then the test.
+# The first block of a language in a file.
+block() {
+    awk -v start="\`\`\`$2" '$0 == "```" { on = 0 } on { print } $0 == start && !n++ { on = 1 }' "$1"
+}
+
+# The header alone, as C99 and as C++17, then the test, and then the program of docs/C.md.
 test_c() {
     flags="-Wall -Wextra -Werror -pedantic -O1"
     printf '#include "volgwain.h"\n' >"$work/header.c"
@@ -32,6 +37,12 @@ test_c() {
     gcc $flags -std=c99 -Ibindings/c bindings/c/test.c -o "$work/test" "$library" "$heap" -lpthread \
         -Wl,--wrap=malloc,--wrap=realloc,--wrap=free
     "$work/test"
+    block docs/C.md c >"$work/program.c"
+    block docs/C.md text >"$work/expected"
+    gcc $flags -std=c99 -Ibindings/c "$work/program.c" -o "$work/program" "$library" "$heap"
+    "$work/program" >"$work/output"
+    diff "$work/expected" "$work/output"
+    echo "the program of docs/C.md writes what is shown there"
 }
 
 # The tests of the crate, and of its documentation.
@@ -39,16 +50,11 @@ test_rust() {
     (cd bindings/rust && cargo test --quiet --offline --locked)
 }
 
-# The first block of a language in docs/RUST.md.
-block() {
-    awk -v start="\`\`\`$1" '$0 == "```" { on = 0 } on { print } $0 == start && !n++ { on = 1 }' docs/RUST.md
-}
-
 # The program of docs/RUST.md, in a package of its own.
 try_program() {
     cargo new --quiet --vcs none "$work/keys"
-    block rust >"$work/keys/src/main.rs"
-    block text >"$work/expected"
+    block docs/RUST.md rust >"$work/keys/src/main.rs"
+    block docs/RUST.md text >"$work/expected"
     (cd "$work/keys" && cargo add --quiet --offline --path "$top/bindings/rust" &&
         cargo run --quiet --offline) >"$work/output"
     diff "$work/expected" "$work/output"
