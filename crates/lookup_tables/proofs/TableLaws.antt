@@ -12,10 +12,11 @@ use Rattle.expressions.specs.Tree.{tree_of}
 use Rattle.lookup_model.specs.Outline.{bus_of}
 use Rattle.lookup_model.specs.declared.types.Kind.TheVariants.{Local, Global}
 use Rattle.lookup_tables.specs.Nodes.{BabyBear, IsFirstBadNode}
-use Rattle.lookup_tables.specs.Tables.{AreFlags, AreLookups, IsBus, IsFirstBadRecord, IsInside, IsLookup, IsWritten, NothingIs, items_at}
+use Rattle.lookup_tables.specs.Tables.{AreFlags, AreLookups, IsBus, IsFirstBadRecord, IsInside, IsLookup, IsRecordFault, IsWritten, NothingIs, items_at}
 use Rattle.lookup_tables.specs.declared.nodes.Node.{Node}
 use Rattle.lookup_tables.specs.declared.tables.Record.{Record}
 use Rattle.lookup_tables.specs.declared.tables.Span.{Span}
+use Rattle.lookup_tables.specs.declared.tables.TableFault.{TableFault}
 
 pub none_ordered : {A : Type 0} (items : List A) (span : Span) → span.end < span.start → ¬ IsInside items span
 none_ordered items span wrong inside = absurd (omega (arith, wrong, inside.ordered))
@@ -60,14 +61,15 @@ no_flags_at nodes r one none None is = absurd (omega (arith, one, is))
 no_flags_at nodes r one none (Some flags) is = none flags is.1
 
 -- A record that is no lookup is the first one, if those before it are.
-pub first_bad_record : (tables : Tables) (i : ℕ) (d : Record) (lookups : List (Lookup BabyBear)) → i < length tables.records.now → AllZip (IsLookup tables) (take i tables.records.now) lookups
-    → NothingIs (IsLookup tables (get_or tables.records.now i d)) → IsFirstBadRecord tables i
-first_bad_record tables i d lookups there before none = record {
+pub first_bad_record : (tables : Tables) (i : ℕ) (d : Record) (lookups : List (Lookup BabyBear)) (e : TableFault) → i < length tables.records.now → AllZip (IsLookup tables) (take i tables.records.now) lookups
+    → NothingIs (IsLookup tables (get_or tables.records.now i d)) → IsRecordFault tables (get_or tables.records.now i d) e → IsFirstBadRecord tables i e
+first_bad_record tables i d lookups e there before none fault = record {
   r = get_or tables.records.now i d;
   is_there = slice_get-get_or tables.records.now i d there;
   lookups = lookups;
   before = before;
   bad = none;
+  fault = fault;
 }
 
 map_same : (xs : List ℕ) → map (λ n. n) xs ≡ xs

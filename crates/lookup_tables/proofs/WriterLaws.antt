@@ -1,11 +1,12 @@
 -- Tables that are written part by part.
-use Rattle.std.proofs.Common.{◌≡◌, ◌≢◌, ◌++◌, ◌∷◌, ◌+◌, ◌-◌, ◌<◌, ◌≤◌, ℕ, List, [], All, Option, None, Some, ap, append_assoc, arith, drop, get_or, length, length-append, map, max, subst, sym, take, ◌∙◌}
+use Rattle.std.proofs.Common.{◌≡◌, ◌≢◌, ◌++◌, ◌∷◌, ◌+◌, ◌-◌, ◌<◌, ◌≤◌, ◌⊎◌, ℕ, List, [], All, Option, None, Some, ap, append_assoc, arith, drop, get_or, inl, inr, length, length-append, map, subst, sym, take, ◌∙◌}
 use Rattle.std.proofs.Math.Seq.{drop-append_seam, take-append_seam}
+use Rattle.std.proofs.lemmas.Bool.{cases_lt}
 use Rattle.std.proofs.lemmas.List.{append-nil, map_push, take_all, take_more}
 use Rattle.std.proofs.lemmas.List.Concat.{flat_map-append}
 use Rattle.std.proofs.lemmas.List.Elements.{All-map}
 use Rattle.std.proofs.lemmas.Option.{slice_get-get_or}
-use Rattle.std.specs.List.{AllZip, flat_map, range_with_len}
+use Rattle.std.specs.List.{AllZip, flat_map, range_with_len, slice_get}
 use Rattle.std.specs.Option.{option_map}
 use Rattle.std.specs.declared.alloc.Global.{Global}
 use Rattle.std.specs.declared.vec.Vec.{Vec}
@@ -17,10 +18,12 @@ use Rattle.lookup_model.specs.Outline.{bus_of}
 use Rattle.lookup_model.specs.declared.types.Lookup.{Lookup}
 use Rattle.lookup_tables.specs.Nodes.{BabyBear, IsShallow, nodes_of}
 use Rattle.lookup_tables.specs.Tables.{AreFlags, AreTuples, IsBus, IsInside, IsLookup, IsWritten, items_at}
-use Rattle.lookup_tables.specs.Written.{AreSayable, HoldsFrom, IsLonger, IsNear, IsNearLeaf, IsSayable, IsSayableWithin, IsUnsayableAt, SayLists, SaysBus, SaysFlags, SaysRecord}
+use Rattle.lookup_tables.specs.Written.{HoldsFrom, IsLonger, IsLookupFault, IsNear, IsNearLeaf, IsSayable, IsTreeFault, IsUnsayableAt, SayLists, SaysBus, SaysFlags, SaysRecord}
 use Rattle.lookup_tables.specs.declared.nodes.Node.{Node}
 use Rattle.lookup_tables.specs.declared.tables.Record.{Record}
 use Rattle.lookup_tables.specs.declared.tables.Span.{Span}
+use Rattle.lookup_tables.specs.declared.tables.TableFault.{TableFault}
+use Rattle.lookup_tables.specs.declared.tables.TableFault.TheVariants.{Deep, Row}
 use Rattle.lookup_tables.specs.declared.tables.Tables.{Tables}
 
 -- a tree has a node at least
@@ -31,22 +34,35 @@ positive (sub a b) = omega arith
 positive (mul a b) = omega arith
 positive (neg a) = omega arith
 
-pub none_within : (t : Tree BabyBear) (depth : ℕ) → depth ≡ 0 → ¬ IsSayableWithin depth t
-none_within t depth none (near, shallow) = absurd (omega (arith, positive t, none, shallow))
+pub none_within : (t : Tree BabyBear) (depth : ℕ) → depth ≡ 0 → IsTreeFault depth t Deep
+none_within t depth none = omega (arith, positive t, none)
 
-pub far_leaf : (l : BaseLeaf BabyBear) (depth : ℕ) → ¬ IsNearLeaf l → ¬ IsSayableWithin depth (leaf l)
-far_leaf l depth far (near, shallow) = far near
+-- what is wrong with a leaf
+pub leaf_fault : (l : BaseLeaf BabyBear) (depth : ℕ) (e : TableFault) → e ≡ Row → ¬ IsNearLeaf l → IsTreeFault depth (leaf l) e
+leaf_fault l depth e is far = subst (λ (f : TableFault). IsTreeFault depth (leaf l) f) (sym is) far
 
--- an operation is not said if an operand is not, one level deeper
-module _ (a b : Tree BabyBear) (depth : ℕ) (some : depth ≢ 0) where
-  pub no_left : ¬ IsSayableWithin (depth - 1) a → ¬ ((IsNear a × IsNear b) × (1 + max (depth_of a) (depth_of b) ≤ depth))
-  no_left none (near, shallow) = none (near.0, omega (arith, some, shallow))
+-- what is wrong with an operand, one level deeper, is wrong with the operation
+pub fault_above : (t a : Tree BabyBear) (depth : ℕ) (e : TableFault) → depth ≢ 0 → (IsNear t → IsNear a) → depth_of a < depth_of t → IsTreeFault (depth - 1) a e → IsTreeFault depth t e
+fault_above t a depth Row some part lower far = λ near. far (part near)
+fault_above t a depth Deep some part lower deep = omega (arith, some, lower, deep)
+fault_above t a depth _ some part lower none = absurd none
 
-  pub no_right : ¬ IsSayableWithin (depth - 1) b → ¬ ((IsNear a × IsNear b) × (1 + max (depth_of a) (depth_of b) ≤ depth))
-  no_right none (near, shallow) = none (near.1, omega (arith, some, shallow))
+pub left_fault : (a b : Tree BabyBear) (depth : ℕ) (e : TableFault) → depth ≢ 0 → IsTreeFault (depth - 1) a e → IsTreeFault depth (add a b) e × IsTreeFault depth (sub a b) e × IsTreeFault depth (mul a b) e
+left_fault a b depth e some fault = (
+  fault_above (add a b) a depth e some (λ near. near.0) (omega arith) fault,
+  fault_above (sub a b) a depth e some (λ near. near.0) (omega arith) fault,
+  fault_above (mul a b) a depth e some (λ near. near.0) (omega arith) fault,
+)
 
-pub no_inner : (a : Tree BabyBear) (depth : ℕ) → depth ≢ 0 → ¬ IsSayableWithin (depth - 1) a → ¬ IsSayableWithin depth (neg a)
-no_inner a depth some none (near, shallow) = none (near, omega (arith, some, shallow))
+pub right_fault : (a b : Tree BabyBear) (depth : ℕ) (e : TableFault) → depth ≢ 0 → IsTreeFault (depth - 1) b e → IsTreeFault depth (add a b) e × IsTreeFault depth (sub a b) e × IsTreeFault depth (mul a b) e
+right_fault a b depth e some fault = (
+  fault_above (add a b) b depth e some (λ near. near.1) (omega arith) fault,
+  fault_above (sub a b) b depth e some (λ near. near.1) (omega arith) fault,
+  fault_above (mul a b) b depth e some (λ near. near.1) (omega arith) fault,
+)
+
+pub inner_fault : (a : Tree BabyBear) (depth : ℕ) (e : TableFault) → depth ≢ 0 → IsTreeFault (depth - 1) a e → IsTreeFault depth (neg a) e
+inner_fault a depth e some fault = fault_above (neg a) a depth e some (λ near. near) (omega arith) fault
 
 -- nodes that are appended one part after the other
 pub appended_three : {A : Type 0} (old one two three x y z : List A) → one ≡ old ++ x → two ≡ one ++ y → three ≡ two ++ z → three ≡ old ++ (x ++ (y ++ z))
@@ -114,14 +130,11 @@ list_next expressions i e old now after there is so_far pushed =
     ∙ (flat_map-append nodes_of (map tree_of (take i expressions)) (tree_of e ∷ []) ∙ ap (λ t. f (take i expressions) ++ t) (append-nil (nodes_of (tree_of e))))) in
     pushed ∙ (ap (λ t. t ++ nodes_of (tree_of e)) so_far ∙ (append_assoc old (f (take i expressions)) (nodes_of (tree_of e)) ∙ ap (λ t. old ++ t) (sym whole)))
 
--- a list with an expression that no nodes say, and one with too many nodes
-pub no_list : (expressions : List (SymbolicExpression BabyBear)) (i : ℕ) (e : SymbolicExpression BabyBear) → i < length expressions → e ≡ get_or expressions i e → ¬ IsSayableWithin 1024 (tree_of e) → ¬ AreSayable expressions
-no_list expressions i e there is none say =
-    none (subst (λ (x : SymbolicExpression BabyBear). IsSayableWithin 1024 (tree_of x)) (sym is) (say.each i e there))
-
-pub long_list : (old now : List Node) (expressions : List (SymbolicExpression BabyBear)) (start end' : ℕ) → now ≡ old ++ flat_map nodes_of (map tree_of expressions) → start ≡ length old → end' ≡ length now → 1048576 < end' - start → ¬ AreSayable expressions
-long_list old now expressions start end' now_is start_is end_is long say =
-    absurd (omega (arith, say.short, long, start_is, end_is, ap length now_is, length-append old (flat_map nodes_of (map tree_of expressions))))
+-- the nodes of a list are as many as were appended
+pub list_long : (old now : List Node) (expressions : List (SymbolicExpression BabyBear)) (start end' : ℕ) → now ≡ old ++ flat_map nodes_of (map tree_of expressions) → start ≡ length old → end' ≡ length now
+    → length (flat_map nodes_of (map tree_of expressions)) ≡ end' - start
+list_long old now expressions start end' now_is start_is end_is =
+    omega (arith, start_is, end_is, ap length now_is, length-append old (flat_map nodes_of (map tree_of expressions)))
 
 -- the tuples so far, with one more
 pub tuples_next : (tuples : List (Vec (SymbolicExpression BabyBear) Global)) (i : ℕ) (tuple : Vec (SymbolicExpression BabyBear) Global) (made : List Span) (span : Span) (now after : List Node)
@@ -138,12 +151,6 @@ tuples_next tuples i tuple made span now after there is longer so_far holds all 
     zip_push [] (t ∷ ts) are = absurd are
     zip_push (s ∷ ss) [] are = absurd are
     zip_push (s ∷ ss) (t ∷ ts) are = (are.0, zip_push ss ts are.1)
-
--- tuples of which one is not said
-pub no_tuples : (tuples : List (Vec (SymbolicExpression BabyBear) Global)) (i : ℕ) (tuple : Vec (SymbolicExpression BabyBear) Global) → i < length tuples → tuple ≡ get_or tuples i tuple → ¬ AreSayable tuple.items
-    → ¬ All (λ t. AreSayable t.items) tuples
-no_tuples tuples i tuple there is none say =
-    none (subst (λ (t : Vec (SymbolicExpression BabyBear) Global). AreSayable t.items) (sym is) (say i tuple there))
 
 -- all tuples are written, and their ranges stand there
 pub tuples_written : (tuples : List (Vec (SymbolicExpression BabyBear) Global)) (n : ℕ) (old made now : List Span) (nodes : List Node) (span : Span) → length tuples ≤ n → now ≡ old ++ made → span.start ≡ length old → span.end ≡ length now
@@ -204,12 +211,27 @@ records_next lookups i lookup records r t there is so_far here =
     zip_push (s ∷ rs) [] are = absurd are
     zip_push (s ∷ rs) (l ∷ ls) are = (are.0, zip_push rs ls are.1)
 
--- a lookup that no tables say
-pub unsayable_there : (lookups : List (Lookup BabyBear)) (i : ℕ) (lookup : Lookup BabyBear) → i < length lookups → lookup ≡ get_or lookups i lookup → ¬ IsSayable lookup → IsUnsayableAt lookups i
-unsayable_there lookups i lookup there is none = record {
+-- one lookup more is said
+pub said_next : (lookups : List (Lookup BabyBear)) (i : ℕ) (lookup : Lookup BabyBear) → i < length lookups → lookup ≡ get_or lookups i lookup → IsSayable lookup
+    → ((k : ℕ) (other : Lookup BabyBear) → k < i → slice_get lookups k ≡ Some other → IsSayable other) → (k : ℕ) (other : Lookup BabyBear) → k < i + 1 → slice_get lookups k ≡ Some other → IsSayable other
+said_next lookups i lookup there is here so_far k other below other_is = by_index (cases_lt k i)
+  where
+    by_index : (k < i) ⊎ (i ≤ k) → IsSayable other
+    by_index (inl earlier) = so_far k other earlier other_is
+    by_index (inr late) =
+        let same : k ≡ i = omega (arith, late, below) in
+        let also : slice_get lookups i ≡ Some other = subst (λ (n : ℕ). slice_get lookups n ≡ Some other) same other_is in
+        let other_same : get_or lookups i lookup ≡ other = cc (sym (slice_get-get_or lookups i lookup there) ∙ also) in
+        subst IsSayable (is ∙ other_same) here
+
+-- a lookup that tables do not say, behind those that they say
+pub unsayable_there : (lookups : List (Lookup BabyBear)) (i : ℕ) (lookup : Lookup BabyBear) (e : TableFault) → i < length lookups → lookup ≡ get_or lookups i lookup → IsLookupFault lookup e
+    → ((k : ℕ) (other : Lookup BabyBear) → k < i → slice_get lookups k ≡ Some other → IsSayable other) → IsUnsayableAt lookups i e
+unsayable_there lookups i lookup e there is fault before = record {
   lookup = get_or lookups i lookup;
   is_there = slice_get-get_or lookups i lookup there;
-  unsayable = λ say. none (subst IsSayable (sym is) say);
+  before = before;
+  fault = subst (λ (l : Lookup BabyBear). IsLookupFault l e) is fault;
 }
 
 -- all records are written

@@ -1,17 +1,20 @@
 -- Which lookups tables say.
-use Rattle.std.specs.Prelude.{◌≡◌, ◌≤◌, ◌-◌, ℕ, List, Option, Some, None, length, map, slice_get, slice_range, take}
+use Rattle.std.specs.Prelude.{◌≡◌, ◌≢◌, ◌⊎◌, ◌≤◌, ◌<◌, ◌+◌, ◌-◌, ℕ, List, Option, Some, None, length, map, slice_get, slice_range, take}
 use Rattle.std.specs.List.{AllZip, range_with_len}
 use Rattle.std.specs.Option.{option_map}
+use Rattle.std.specs.Str.{IsUtf8}
 use Rattle.std.specs.declared.alloc.Global.{Global}
 use Rattle.std.specs.declared.vec.Vec.{Vec}
 use Rattle.expressions.specs.Tree.{tree_of}
 use Rattle.expressions.specs.declared.base_expression.SymbolicExpression.{SymbolicExpression}
 use Rattle.lookup_model.specs.Outline.{bus_of, outline_of}
 use Rattle.lookup_model.specs.declared.types.Lookup.{Lookup}
-use Rattle.lookup_tables.specs.Nodes.{AreTrees, BabyBear}
+use Rattle.lookup_tables.specs.Nodes.{AreTrees, BabyBear, IsFirstBadNode}
 use Rattle.lookup_tables.specs.declared.nodes.Node.{Node}
 use Rattle.lookup_tables.specs.declared.tables.Record.{Record}
 use Rattle.lookup_tables.specs.declared.tables.Span.{Span}
+use Rattle.lookup_tables.specs.declared.tables.TableFault.{TableFault}
+use Rattle.lookup_tables.specs.declared.tables.TableFault.TheVariants.{Kind as BadKind, Long, Name, Node as BadNode, Range}
 use Rattle.lookup_tables.specs.declared.tables.Tables.{Tables}
 
 -- nothing is so
@@ -66,10 +69,43 @@ pub record SayLookups (tables : Tables) (lookups : List (Lookup BabyBear)) : Typ
   pub are : AreLookups tables lookups
   pub only : (others : List (Lookup BabyBear)) → AreLookups tables others → map outline_of others ≡ map outline_of lookups
 
--- Record i is no lookup, and all those before it are.
-pub record IsFirstBadRecord (tables : Tables) (i : ℕ) : Type 0 where
+-- why no expressions stand in a range of nodes
+abbrev pub IsSpanFault : List Node → Span → TableFault → Type 0
+IsSpanFault nodes span Range = ¬ IsInside nodes span
+IsSpanFault nodes span Long = IsInside nodes span × (1048576 < span.end - span.start)
+IsSpanFault nodes span (BadNode n) = (i : ℕ) × (n ≡ span.start + i) × IsFirstBadNode (items_at nodes span) i
+IsSpanFault nodes span _ = ⊥
+
+-- why tuples do not stand in these ranges of nodes
+abbrev pub IsTuplesFault : List Node → List Span → TableFault → Type 0
+IsTuplesFault nodes spans e = (i : ℕ) × (span : Span) × (slice_get spans i ≡ Some span) × IsSpanFault nodes span e
+
+-- why a record has no bus
+abbrev pub IsBusFault : List ℕ → Record → TableFault → Type 0
+IsBusFault names r BadKind = (r.kind ≢ 0) × (r.kind ≢ 1)
+IsBusFault names r Range = (r.kind ≡ 1) × (¬ IsInside names r.bus)
+IsBusFault names r Name = (r.kind ≡ 1) × (¬ IsUtf8 (items_at names r.bus))
+IsBusFault names r _ = ⊥
+
+-- why a record has no flags
+abbrev pub IsFlagsFault : List Node → Record → TableFault → Type 0
+IsFlagsFault nodes r e =
+    ((e ≡ BadKind) × (r.exclusive ≢ 0) × (r.exclusive ≢ 1)) ⊎ ((r.exclusive ≡ 1) × IsSpanFault nodes r.flags e)
+
+-- why a record is no lookup: for its bus, its tuples, its multiplicities, or its flags
+abbrev pub IsRecordFault : Tables → Record → TableFault → Type 0
+IsRecordFault tables r e =
+    IsBusFault tables.names.now r e
+    ⊎ (((e ≡ Range) × (¬ IsInside tables.tuples.now r.tuples))
+    ⊎ (IsTuplesFault tables.nodes.now (items_at tables.tuples.now r.tuples) e
+    ⊎ (IsSpanFault tables.nodes.now r.multiplicities e
+    ⊎ IsFlagsFault tables.nodes.now r e)))
+
+-- Record i is no lookup, and why, and all those before it are.
+pub record IsFirstBadRecord (tables : Tables) (i : ℕ) (e : TableFault) : Type 0 where
   pub r : Record
   pub is_there : slice_get tables.records.now i ≡ Some r
   pub lookups : List (Lookup BabyBear)
   pub before : AllZip (IsLookup tables) (take i tables.records.now) lookups
   pub bad : NothingIs (IsLookup tables r)
+  pub fault : IsRecordFault tables r e

@@ -1,9 +1,9 @@
 -- Traces as tables of numbers.
-use Rattle.std.specs.Prelude.{◌≡◌, ◌⊎◌, ◌%◌, ◌==◌, if◌then◌else◌, ℕ, Bool, false, List, Option, None, Some, length, map}
+use Rattle.std.specs.Prelude.{◌≡◌, ◌⊎◌, ◌%◌, ◌==◌, if◌then◌else◌, ℕ, Bool, false, true, List, Option, None, Some, length, map}
 use Rattle.field.specs.BabyBear.{baby_bear_of}
 use Rattle.matrix.specs.Matrix.{Matrix}
 use Rattle.lookup_tables.specs.Nodes.{BabyBear}
-use Rattle.lookup_tables.specs.Numbers.{IsFirstLarge}
+use Rattle.lookup_tables.specs.Numbers.{AreNumbersBelow, IsFirstLarge}
 use Rattle.lookup_tables.specs.declared.traces.ReadTraces.{ReadTraces}
 use Rattle.lookup_tables.specs.declared.traces.TraceFault.{TraceFault}
 use Rattle.lookup_tables.specs.declared.traces.TraceFault.TheVariants.{Memory, Large, Ragged}
@@ -37,11 +37,23 @@ preprocessed_trace_of t = preprocessed_of t.preprocessed.now t.preprocessed_widt
 abbrev pub public_values_of : Traces → List BabyBear
 public_values_of t = elements_of t.public_values.now
 
+-- numbers that make whole rows of this width, all below the modulus
+pub record AreRows (numbers : List ℕ) (width : ℕ) : Type 0 where
+  pub whole : makes_rows (length numbers) width ≡ true
+  pub below : AreNumbersBelow (length numbers) numbers
+
+-- numbers that are traces
+pub record AreCanonical (tables : Traces) : Type 0 where
+  pub main : AreRows tables.main.now tables.main_width
+  pub preprocessed : AreRows tables.preprocessed.now tables.preprocessed_width
+  pub public_values : AreNumbersBelow (length tables.public_values.now) tables.public_values.now
+
 -- these are the traces that the tables say
 pub record AreTracesOf (tables : Traces) (traces : ReadTraces) : Type 0 where
   pub main : traces.main ≡ main_trace tables
   pub preprocessed : traces.preprocessed ≡ preprocessed_trace_of tables
   pub public_values : traces.public_values.items ≡ public_values_of tables
+  pub canonical : AreCanonical tables
 
 -- the refusal of numbers that are no elements
 abbrev pub IsLargeFault : TracePart → List ℕ → TraceFault → Type 0

@@ -1,5 +1,5 @@
 -- Tables that are written.
-use Rattle.std.specs.Prelude.{◌≡◌, ◌≤◌, ◌<◌, ◌^◌, ◌++◌, ℕ, All, List, Option, None, Some, length, map, slice_get}
+use Rattle.std.specs.Prelude.{◌≡◌, ◌⊎◌, ◌≤◌, ◌<◌, ◌^◌, ◌++◌, ℕ, All, List, Option, None, Some, length, map, slice_get}
 use Rattle.std.specs.List.{flat_map}
 use Rattle.std.specs.declared.alloc.Global.{Global}
 use Rattle.std.specs.declared.vec.Vec.{Vec}
@@ -16,6 +16,8 @@ use Rattle.lookup_tables.specs.Tables.{AreLookups, IsInside, IsLookup, IsWritten
 use Rattle.lookup_tables.specs.declared.nodes.Node.{Node}
 use Rattle.lookup_tables.specs.declared.tables.Record.{Record}
 use Rattle.lookup_tables.specs.declared.tables.Span.{Span}
+use Rattle.lookup_tables.specs.declared.tables.TableFault.{TableFault}
+use Rattle.lookup_tables.specs.declared.tables.TableFault.TheVariants.{Deep, Many, Row}
 use Rattle.lookup_tables.specs.declared.tables.Tables.{Tables}
 use Rattle.lookup_tables.specs.declared.writer.Written.{Written}
 
@@ -59,11 +61,38 @@ pub record IsSayable (lookup : Lookup BabyBear) : Type 0 where
   pub multiplicities : AreSayable lookup.multiplicities.items
   pub flags : AreSayableFlags lookup.flags
 
--- lookup i is none
-pub record IsUnsayableAt (lookups : List (Lookup BabyBear)) (i : ℕ) : Type 0 where
+-- why nodes do not say a tree that is to be at most so deep
+abbrev pub IsTreeFault : ℕ → Tree BabyBear → TableFault → Type 0
+IsTreeFault depth t Row = ¬ IsNear t
+IsTreeFault depth t Deep = depth < depth_of t
+IsTreeFault depth t _ = ⊥
+
+-- why nodes do not say a list of expressions
+abbrev pub IsListFault : List (SymbolicExpression BabyBear) → TableFault → Type 0
+IsListFault expressions e =
+    ((e ≡ Many) × (1048576 < length (flat_map nodes_of (map tree_of expressions))))
+    ⊎ ((i : ℕ) × (x : SymbolicExpression BabyBear) × (slice_get expressions i ≡ Some x) × IsTreeFault 1024 (tree_of x) e)
+
+-- the same of tuples, and of flags, if there are any
+abbrev pub IsElementsFault : List (Vec (SymbolicExpression BabyBear) Global) → TableFault → Type 0
+IsElementsFault tuples e =
+    (i : ℕ) × (tuple : Vec (SymbolicExpression BabyBear) Global) × (slice_get tuples i ≡ Some tuple) × IsListFault tuple.items e
+
+abbrev pub IsOptionFault : Option (Vec (SymbolicExpression BabyBear) Global) → TableFault → Type 0
+IsOptionFault None e = ⊥
+IsOptionFault (Some flags) e = IsListFault flags.items e
+
+-- why tables do not say a lookup
+abbrev pub IsLookupFault : Lookup BabyBear → TableFault → Type 0
+IsLookupFault lookup e =
+    IsElementsFault lookup.elements.items e ⊎ (IsListFault lookup.multiplicities.items e ⊎ IsOptionFault lookup.flags e)
+
+-- tables do not say lookup i, and why, and they say all those before it
+pub record IsUnsayableAt (lookups : List (Lookup BabyBear)) (i : ℕ) (e : TableFault) : Type 0 where
   pub lookup : Lookup BabyBear
   pub is_there : slice_get lookups i ≡ Some lookup
-  pub unsayable : ¬ IsSayable lookup
+  pub before : (k : ℕ) (other : Lookup BabyBear) → k < i → slice_get lookups k ≡ Some other → IsSayable other
+  pub fault : IsLookupFault lookup e
 
 -- a list goes on from another one
 abbrev pub IsLonger : {A : Type 0} → List A → List A → Type 0

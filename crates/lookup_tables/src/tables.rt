@@ -2,7 +2,7 @@
 ghost use Rattle.std.specs.Prelude.{◌≡◌, ◌⊎◌, MatchResult};
 ghost use Rattle.std.specs.Option.{option_map};
 ghost use Rattle.lookup_model.specs.Outline.{bus_of};
-ghost use Rattle.lookup_tables.specs.Tables.{AreFlags, AreLookups, AreTuples, IsBus, IsFirstBadRecord, IsLookup, IsWritten, NothingIs, SayLookups};
+ghost use Rattle.lookup_tables.specs.Tables.{AreFlags, AreLookups, AreTuples, IsBus, IsBusFault, IsFirstBadRecord, IsFlagsFault, IsLookup, IsRecordFault, IsSpanFault, IsTuplesFault, IsWritten, NothingIs, SayLookups};
 ghost use Rattle.lookup_tables.specs.declared.tables.TableFault.TheVariants.{Memory};
 
 use crate::nodes::{Node, NodeFault};
@@ -88,6 +88,9 @@ pub enum TableFault {
     /// A cell that is written is of a row whose number does not fit 32 bits.
     #[error("the row of a cell does not fit 32 bits")]
     Row,
+    /// A list of expressions that is written has more than 1,048,576 nodes.
+    #[error("a list of expressions would have more than 1048576 nodes")]
+    Many,
 }
 
 impl From<AllocError> for TableFault {
@@ -115,7 +118,8 @@ fn expressions_at(
     span: Span,
 ) -> Result<Vec<SymbolicExpression<BabyBear>>, TableFault>
     ensures { MatchResult result (λ v. IsWritten nodes.now span v.items)
-        (λ e. (e ≡ Memory) ⊎ NothingIs (IsWritten nodes.now span)) }
+        (λ e. (e ≡ Memory)
+        ⊎ (NothingIs (IsWritten nodes.now span) × IsSpanFault nodes.now span e)) }
 {
     if span.start > span.end || span.end > nodes.len() {
         return Err(TableFault::Range);
@@ -137,7 +141,8 @@ fn tuples_at(
     spans: &[Span],
 ) -> Result<Vec<Vec<SymbolicExpression<BabyBear>>>, TableFault>
     ensures { MatchResult result (λ v. AreTuples nodes.now spans.now v.items)
-        (λ e. (e ≡ Memory) ⊎ NothingIs (AreTuples nodes.now spans.now)) }
+        (λ e. (e ≡ Memory)
+        ⊎ (NothingIs (AreTuples nodes.now spans.now) × IsTuplesFault nodes.now spans.now e)) }
 {
     let mut tuples = Vec::new(alloc);
     for span in spans {
@@ -149,7 +154,9 @@ fn tuples_at(
 /// The bus of a record.
 fn bus_at(alloc: Global, names: &[u8], record: &Record) -> Result<Kind, TableFault>
     ensures { MatchResult result (λ kind. IsBus names.now «record».now (bus_of kind))
-        (λ e. (e ≡ Memory) ⊎ NothingIs (λ kind. IsBus names.now «record».now (bus_of kind))) }
+        (λ e. (e ≡ Memory)
+        ⊎ (NothingIs (λ kind. IsBus names.now «record».now (bus_of kind))
+        × IsBusFault names.now «record».now e)) }
 {
     if record.kind == 0 {
         return Ok(Kind::Local);
@@ -175,7 +182,9 @@ fn flags_at(
 ) -> Result<Option<Vec<SymbolicExpression<BabyBear>>>, TableFault>
     ensures { MatchResult result
         (λ flags. AreFlags nodes.now «record».now (option_map (λ v. v.items) flags))
-        (λ e. (e ≡ Memory) ⊎ NothingIs (AreFlags nodes.now «record».now)) }
+        (λ e. (e ≡ Memory)
+        ⊎ (NothingIs (AreFlags nodes.now «record».now)
+        × IsFlagsFault nodes.now «record».now e)) }
 {
     match record.exclusive {
         0 => Ok(None),
@@ -193,7 +202,9 @@ fn lookup_at(
 ) -> Result<Lookup<BabyBear>, TableFault>
     ensures { MatchResult result
         (λ lookup. IsLookup tables.now «record».now lookup × (lookup.column ≡ column))
-        (λ e. (e ≡ Memory) ⊎ NothingIs (IsLookup tables.now «record».now)) }
+        (λ e. (e ≡ Memory)
+        ⊎ (NothingIs (IsLookup tables.now «record».now)
+        × IsRecordFault tables.now «record».now e)) }
 {
     let kind = bus_at(alloc, tables.names, record)?;
     let spans = record.tuples;
@@ -219,7 +230,7 @@ fn lookups_at(
     tables: &Tables<'_>,
 ) -> Result<Vec<Lookup<BabyBear>>, (usize, TableFault)>
     ensures { MatchResult result (λ v. AreLookups tables.now v.items)
-        (λ e. (e.1 ≡ Memory) ⊎ IsFirstBadRecord tables.now e.0) }
+        (λ e. (e.1 ≡ Memory) ⊎ IsFirstBadRecord tables.now e.0 e.1) }
 {
     let mut lookups = Vec::new(alloc);
     for (index, record) in tables.records.iter().enumerate() {
@@ -244,7 +255,7 @@ pub fn read_lookups(
     tables: &Tables<'_>,
 ) -> Result<Vec<Lookup<BabyBear>>, (usize, TableFault)>
     ensures { MatchResult result (λ v. SayLookups tables.now v.items)
-        (λ e. (e.1 ≡ Memory) ⊎ IsFirstBadRecord tables.now e.0) }
+        (λ e. (e.1 ≡ Memory) ⊎ IsFirstBadRecord tables.now e.0 e.1) }
 {
     lookups_at(alloc, tables)
 }

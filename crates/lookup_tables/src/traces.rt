@@ -1,6 +1,7 @@
 //! Traces as tables of numbers.
-ghost use Rattle.std.specs.Prelude.{◌≡◌, ◌⊎◌, true, MatchResult, length};
-ghost use Rattle.lookup_tables.specs.Traces.{AreTracesOf, IsLargeFault, IsPartFault, IsTraceFault, elements_of, makes_rows, preprocessed_of, trace_of};
+ghost use Rattle.std.specs.Prelude.{◌≡◌, ◌⊎◌, MatchResult, length};
+ghost use Rattle.lookup_tables.specs.Numbers.{AreNumbersBelow};
+ghost use Rattle.lookup_tables.specs.Traces.{AreRows, AreTracesOf, IsLargeFault, IsPartFault, IsTraceFault, elements_of, makes_rows, preprocessed_of, trace_of};
 ghost use Rattle.lookup_tables.specs.declared.traces.TraceFault.TheVariants.{Memory};
 
 use crate::numbers::{NumberFault, elements};
@@ -91,7 +92,9 @@ fn part_elements(
     part: TracePart,
     numbers: &[u32],
 ) -> Result<Vec<BabyBear>, TraceFault>
-    ensures { MatchResult result (λ v. v.items ≡ elements_of numbers.now)
+    ensures { MatchResult result
+        (λ v. (v.items ≡ elements_of numbers.now)
+        × AreNumbersBelow (length numbers.now) numbers.now)
         (λ e. (e ≡ Memory) ⊎ IsLargeFault part numbers.now e) }
 {
     match elements(alloc, numbers) {
@@ -120,7 +123,7 @@ fn trace(
     width: usize,
 ) -> Result<RowMajorMatrix<BabyBear>, TraceFault>
     ensures { MatchResult result
-        (λ m. (m ≡ trace_of numbers.now width) × (makes_rows (length numbers.now) width ≡ true))
+        (λ m. (m ≡ trace_of numbers.now width) × AreRows numbers.now width)
         (IsPartFault part numbers.now width) }
 {
     if !makes_rows(numbers.len(), width) {
@@ -136,7 +139,8 @@ fn preprocessed_trace(
     numbers: &[u32],
     width: usize,
 ) -> Result<Option<RowMajorMatrix<BabyBear>>, TraceFault>
-    ensures { MatchResult result (λ m. m ≡ preprocessed_of numbers.now width)
+    ensures { MatchResult result
+        (λ m. (m ≡ preprocessed_of numbers.now width) × AreRows numbers.now width)
         (IsPartFault TracePart.Preprocessed numbers.now width) }
 {
     let trace = trace(alloc, TracePart::Preprocessed, numbers, width)?;

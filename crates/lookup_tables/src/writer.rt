@@ -1,12 +1,11 @@
 //! Lookups written as tables.
-ghost use Rattle.std.specs.Prelude.{◌≡◌, ◌≤◌, ◌^◌, ◌⊎◌, ◌++◌, All, IfOk, MatchResult, length, map};
+ghost use Rattle.std.specs.Prelude.{◌≡◌, ◌≤◌, ◌<◌, ◌^◌, ◌⊎◌, ◌++◌, All, IfOk, MatchResult, length, map};
 ghost use Rattle.std.specs.List.{range_with_len};
-ghost use Rattle.expressions.specs.Depth.{depth_of};
 ghost use Rattle.expressions.specs.Tree.{tree_of};
 ghost use Rattle.lookup_model.specs.Outline.{bus_of};
 ghost use Rattle.lookup_tables.specs.Nodes.{entry_node, leaf_node, node, nodes_of};
 ghost use Rattle.lookup_tables.specs.Tables.{AreTuples, IsInside, IsWritten, items_at};
-ghost use Rattle.lookup_tables.specs.Written.{AreSayable, AreSayableFlags, HoldsFrom, IsLonger, IsNearEntry, IsNearLeaf, IsSayable, IsSayableWithin, IsUnsayableAt, SaysBus, SaysFlags, SaysRecord, SaysWritten};
+ghost use Rattle.lookup_tables.specs.Written.{AreSayable, AreSayableFlags, HoldsFrom, IsElementsFault, IsListFault, IsLonger, IsLookupFault, IsNearEntry, IsNearLeaf, IsOptionFault, IsSayable, IsSayableWithin, IsTreeFault, IsUnsayableAt, SaysBus, SaysFlags, SaysRecord, SaysWritten};
 ghost use Rattle.lookup_tables.specs.declared.tables.TableFault.TheVariants.{Memory};
 
 use crate::nodes::Node;
@@ -64,7 +63,8 @@ fn node(kind: u32, number: u32, index: usize) -> Node
 ///
 /// Refuses one of a row whose number does not fit 32 bits.
 fn variable_node(entry: BaseEntry, index: usize) -> Result<Node, TableFault>
-    ensures { MatchResult result (λ n. n ≡ entry_node entry index) (λ e. ¬ IsNearEntry entry) }
+    ensures { MatchResult result (λ n. (n ≡ entry_node entry index) × IsNearEntry entry)
+        (λ e. (e ≡ TableFault.Row) × (¬ IsNearEntry entry)) }
 {
     match entry {
         BaseEntry::Main { offset } => row_node(0, offset, index),
@@ -76,7 +76,8 @@ fn variable_node(entry: BaseEntry, index: usize) -> Result<Node, TableFault>
 /// The node of a cell of this row.
 fn row_node(kind: u32, row: usize, index: usize) -> Result<Node, TableFault>
     ensures { MatchResult result
-        (λ n. n ≡ node kind row index) (λ e. 2 ^ 32 ≤ row) }
+        (λ n. (n ≡ node kind row index) × (row < 2 ^ 32))
+        (λ e. (e ≡ TableFault.Row) × (2 ^ 32 ≤ row)) }
 {
     if row > LAST_ROW {
         return Err(TableFault::Row);
@@ -88,7 +89,8 @@ fn row_node(kind: u32, row: usize, index: usize) -> Result<Node, TableFault>
 ///
 /// Refuses a cell of a row whose number does not fit 32 bits.
 fn node_of(leaf: &BaseLeaf<BabyBear>) -> Result<Node, TableFault>
-    ensures { MatchResult result (λ n. n ≡ leaf_node leaf.now) (λ e. ¬ IsNearLeaf leaf.now) }
+    ensures { MatchResult result (λ n. (n ≡ leaf_node leaf.now) × IsNearLeaf leaf.now)
+        (λ e. (e ≡ TableFault.Row) × (¬ IsNearLeaf leaf.now)) }
 {
     match leaf {
         BaseLeaf::Variable(variable) => variable_node(variable.entry, variable.index),
@@ -107,8 +109,8 @@ fn push_nodes(
 ) -> Result<(), TableFault>
     ensures { MatchResult result
         (λ _. (nodes.new.items ≡ nodes.old.items ++ nodes_of (tree_of expression.now))
-        × (depth_of (tree_of expression.now) ≤ depth))
-        (λ e. (e ≡ Memory) ⊎ (¬ IsSayableWithin depth (tree_of expression.now))) }
+        × IsSayableWithin depth (tree_of expression.now))
+        (λ e. (e ≡ Memory) ⊎ IsTreeFault depth (tree_of expression.now) e) }
 {
     if depth == 0 {
         return Err(TableFault::Deep);
@@ -153,8 +155,9 @@ fn write_list(
 ) -> Result<Span, TableFault>
     ensures { MatchResult result
         (λ span. IsLonger nodes.old.items nodes.new.items
-        × HoldsFrom nodes.new.items (λ all. IsWritten all span expressions.now))
-        (λ e. (e ≡ Memory) ⊎ (¬ AreSayable expressions.now)) }
+        × HoldsFrom nodes.new.items (λ all. IsWritten all span expressions.now)
+        × AreSayable expressions.now)
+        (λ e. (e ≡ Memory) ⊎ IsListFault expressions.now e) }
 {
     let start = nodes.len();
     for expression in expressions {
@@ -162,7 +165,7 @@ fn write_list(
     }
     let end = nodes.len();
     if end - start > MOST_NODES {
-        return Err(TableFault::Long);
+        return Err(TableFault::Many);
     }
     Ok(Span { start, end })
 }
@@ -177,8 +180,9 @@ fn write_tuples(
         (λ span. IsLonger nodes.old.items nodes.new.items
         × IsLonger spans.old.items spans.new.items
         × HoldsFrom spans.new.items (λ all. IsInside all span
-        × HoldsFrom nodes.new.items (λ ns. AreTuples ns (items_at all span) tuples.now)))
-        (λ e. (e ≡ Memory) ⊎ (¬ All (λ tuple. AreSayable tuple.items) tuples.now)) }
+        × HoldsFrom nodes.new.items (λ ns. AreTuples ns (items_at all span) tuples.now))
+        × All (λ tuple. AreSayable tuple.items) tuples.now)
+        (λ e. (e ≡ Memory) ⊎ IsElementsFault tuples.now e) }
 {
     let start = spans.len();
     for tuple in tuples {
@@ -227,8 +231,9 @@ fn write_flags(
 ) -> Result<Marked, TableFault>
     ensures { MatchResult result
         (λ made. IsLonger nodes.old.items nodes.new.items
-        × HoldsFrom nodes.new.items (λ all. SaysFlags all made.mark made.span flags.now))
-        (λ e. (e ≡ Memory) ⊎ (¬ AreSayableFlags flags.now)) }
+        × HoldsFrom nodes.new.items (λ all. SaysFlags all made.mark made.span flags.now)
+        × AreSayableFlags flags.now)
+        (λ e. (e ≡ Memory) ⊎ IsOptionFault flags.now e) }
 {
     match flags {
         None => Ok(unmarked()),
@@ -249,8 +254,9 @@ fn write_lookup(
     ensures { MatchResult result
         (λ made. IsLonger nodes.old.items nodes.new.items
         × IsLonger spans.old.items spans.new.items × IsLonger names.old.items names.new.items
-        × SaysRecord nodes.new.items spans.new.items names.new.items made lookup.now)
-        (λ e. (e ≡ Memory) ⊎ (¬ IsSayable lookup.now)) }
+        × SaysRecord nodes.new.items spans.new.items names.new.items made lookup.now
+        × IsSayable lookup.now)
+        (λ e. (e ≡ Memory) ⊎ IsLookupFault lookup.now e) }
 {
     let bus = write_bus(names, &lookup.kind)?;
     let tuples = write_tuples(nodes, spans, &lookup.elements)?;
@@ -279,7 +285,7 @@ pub fn write_lookups(
     requires { map (λ lookup. lookup.column) lookups.now
         ≡ range_with_len 0 (length lookups.now) }
     ensures { MatchResult result (λ tables. SaysWritten tables lookups.now)
-        (λ e. (e.1 ≡ Memory) ⊎ IsUnsayableAt lookups.now e.0) }
+        (λ e. (e.1 ≡ Memory) ⊎ IsUnsayableAt lookups.now e.0 e.1) }
 {
     let mut nodes = Vec::new(alloc);
     let mut tuples = Vec::new(alloc);

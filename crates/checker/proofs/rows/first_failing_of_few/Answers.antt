@@ -1,4 +1,4 @@
-use Rattle.std.proofs.Common.{◌≡◌, inl, inr, subst, arith}
+use Rattle.std.proofs.Common.{rules, ◌≡◌, inl, inr, subst, arith}
 use Rattle.std.proofs.lemmas.Bool.{cases_lt}
 use Rattle.field.specs.laws.Extension.{of_laws}
 use Rattle.checker.specs.Rows.{HoldsOn}
@@ -19,3 +19,10 @@ returns g c = λ r lt. c.loop-row.invariant r (omega (arith, lt, c.loop-row-test
 
 pub check_row-requires-clause-checked : goal.check_row-requires-clause-checked
 check_row-requires-clause-checked g c = c.requires
+
+pub returns-in-Err : goal.returns-in-Err
+returns-in-Err g c = record {
+  within = omega (arith, c.loop-row-test.true, c.height-row-end.ensures.height);
+  fails = search rules;
+  before = c.loop-row.invariant;
+}

@@ -1,4 +1,4 @@
-use Rattle.std.proofs.Common.{◌≡◌, ◌≤◌, ◌<◌, ◌+◌, ◌-◌, ℕ, List, length, slice_range, drop, length-take, length-drop, inl, inr, arith}
+use Rattle.std.proofs.Common.{◌≡◌, ◌≤◌, ◌<◌, ◌+◌, ◌-◌, ℕ, List, length, slice_range, drop, length-take, length-drop, ap, inl, inr, arith}
 use Rattle.lookup_tables.specs.declared.nodes.Node.{Node}
 use Rattle.lookup_tables.proofs.TableLaws.{none_written}
 use Rattle.lookup_tables.proofs.tables.expressions_at.Goals as goal
@@ -18,5 +18,7 @@ overflow_add-result c = elim c.in-Err-Bad.ensures.reads [
 pub returns-in-Err-Bad : goal.returns-in-Err-Bad
 returns-in-Err-Bad c = elim c.in-Err-Bad.ensures.reads [
   | inl memory ↦ absurd (grind (arith, memory))
-  | inr first ↦ inr (none_written c.args.nodes.now c.args.span first.0 first.2)
+  | inr first ↦
+      let same : c.in-Err-Bad.index ≡ first.0 = cc first.1 in
+      inr (none_written c.args.nodes.now c.args.span first.0 first.2, (first.0, ap (λ i. c.args.span.start + i) same, first.2))
 ]

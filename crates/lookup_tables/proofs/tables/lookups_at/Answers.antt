@@ -13,7 +13,7 @@ loop-index-preserved c = record {
 pub returns-in-Err : goal.returns-in-Err
 returns-in-Err c = elim c.in-Err.ensures [
   | inl memory ↦ inl memory
-  | inr none ↦ inr (first_bad_record c.args.tables.now c.loop-index.index _ c.loop-index.lookups.items c.loop-index-test.true c.loop-index.invariant.are none)
+  | inr (none, fault) ↦ inr (first_bad_record c.args.tables.now c.loop-index.index _ c.loop-index.lookups.items c.in-Err.fault c.loop-index-test.true c.loop-index.invariant.are none fault)
 ]
 
 pub returns : goal.returns

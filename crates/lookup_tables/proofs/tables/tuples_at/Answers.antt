@@ -1,4 +1,5 @@
 use Rattle.std.proofs.Common.{inl, inr}
+use Rattle.std.proofs.lemmas.Option.{slice_get-get_or}
 use Rattle.std.proofs.lemmas.Result.{err_from_is_err_and}
 use Rattle.lookup_tables.proofs.TableLaws.{none_zipped}
 use Rattle.lookup_tables.proofs.ZipLaws.{zipped_next}
@@ -14,5 +15,8 @@ returns-in_err-expressions_at c =
     let p = err_from_is_err_and c.from_residual.result c.from_residual.ensures.1 in
     rw (p.1, p.2) (elim c.in_err-expressions_at.ensures [
       | inl memory ↦ inl memory
-      | inr none ↦ inr (none_zipped (λ span tuple. IsWritten c.args.nodes.now span tuple.items) c.args.spans.now c.loop-span.span-index _ c.loop-span-test.true (λ tuple w. none tuple.items w))
+      | inr (none, fault) ↦ inr (
+        none_zipped (λ span tuple. IsWritten c.args.nodes.now span tuple.items) c.args.spans.now c.loop-span.span-index _ c.loop-span-test.true (λ tuple w. none tuple.items w),
+        (c.loop-span.span-index, _, slice_get-get_or c.args.spans.now c.loop-span.span-index _ c.loop-span-test.true, fault),
+      )
     ])

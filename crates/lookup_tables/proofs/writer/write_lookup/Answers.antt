@@ -1,10 +1,11 @@
-use Rattle.std.proofs.Common.{List, refl, subst}
+use Rattle.std.proofs.Common.{All, List, inl, inr, refl, subst}
+use Rattle.std.proofs.lemmas.Result.{err_from_is_err_and}
 use Rattle.std.specs.declared.alloc.Global.{Global}
 use Rattle.std.specs.declared.vec.Vec.{Vec}
 use Rattle.expressions.specs.declared.base_expression.SymbolicExpression.{SymbolicExpression}
 use Rattle.lookup_tables.specs.Nodes.{BabyBear}
 use Rattle.lookup_tables.specs.Tables.{AreTuples, IsInside, IsWritten, items_at}
-use Rattle.lookup_tables.specs.Written.{HoldsFrom}
+use Rattle.lookup_tables.specs.Written.{AreSayable, HoldsFrom, IsElementsFault, IsListFault}
 use Rattle.lookup_tables.specs.declared.tables.Record.{Record}
 use Rattle.lookup_tables.proofs.WriterLaws.{longer_then, record_says}
 use Rattle.lookup_tables.proofs.writer.write_lookup.Goals as goal
@@ -35,4 +36,25 @@ returns c =
       c.in_ok-tuples.ensures.1,
       c.in_ok-bus.ensures.0,
       record_says lookup made nodes_1 nodes_2 nodes_3 spans names c.in_ok-multiplicities.ensures.0 c.in_ok-flags.ensures.0 c.in_ok-bus.ensures.1 tuples multiplicities c.in_ok-flags.ensures.1 refl,
+      record {
+        elements = subst (λ (ts : List (Vec (SymbolicExpression BabyBear) Global)). All (λ tuple. AreSayable tuple.items) ts) c.deref.ensures.value c.in_ok-tuples.ensures.3;
+        multiplicities = subst AreSayable c.deref-2.ensures.value c.in_ok-multiplicities.ensures.2;
+        flags = c.in_ok-flags.ensures.2;
+      },
     )
+
+pub returns-in_err-tuples : goal.returns-in_err-tuples
+returns-in_err-tuples c =
+    let p = err_from_is_err_and c.from_residual-in_err-tuples.result c.from_residual-in_err-tuples.ensures.1 in
+    rw (p.1, p.2) (elim c.in_err-tuples.ensures [
+      | inl memory ↦ inl memory
+      | inr fault ↦ inr (inl (subst (λ (ts : List (Vec (SymbolicExpression BabyBear) Global)). IsElementsFault ts c.in_err-tuples.field-0.0) c.deref.ensures.value fault))
+    ])
+
+pub returns-in_err-multiplicities : goal.returns-in_err-multiplicities
+returns-in_err-multiplicities c =
+    let p = err_from_is_err_and c.from_residual-in_err-multiplicities.result c.from_residual-in_err-multiplicities.ensures.1 in
+    rw (p.1, p.2) (elim c.in_err-multiplicities.ensures [
+      | inl memory ↦ inl memory
+      | inr fault ↦ inr (inr (inl (subst (λ (es : List (SymbolicExpression BabyBear)). IsListFault es c.in_err-multiplicities.field-0.0) c.deref-2.ensures.value fault)))
+    ])
