@@ -26,6 +26,31 @@ static void check(int holds, const char *what)
     }
 }
 
+/* ---- the sizes of the structs, which the crate for Rust tests as well ---- */
+
+#define SIZE(name, size) check(sizeof(struct volgwain_##name) == (size), "the size of " #name)
+
+static void check_sizes(void)
+{
+    if (sizeof(size_t) != 8)
+        return;
+    SIZE(element, 16);
+    SIZE(node, 16);
+    SIZE(span, 16);
+    SIZE(record, 80);
+    SIZE(tables, 64);
+    SIZE(traces, 64);
+    SIZE(terminal, 20);
+    SIZE(refusal, 56);
+    SIZE(table_sizes, 32);
+    SIZE(air, 72);
+    SIZE(air_witness, 48);
+    SIZE(plan_sizes, 16);
+    SIZE(wide, 16);
+    SIZE(counts, 72);
+    SIZE(grid, 40);
+}
+
 /* ---- memory: how many blocks are live, and which requests are refused ---- */
 
 static long live = 0;
@@ -836,15 +861,24 @@ static int is_packed(const struct pack *it)
         && is_span(&r[2].tuples, 3, 4) && is_span(&r[2].multiplicities, 8, 9);
 }
 
+/* Whether items from an index on are as make_pack left them. */
+#define IS_KEPT(array, from) \
+    (memcmp(&it->array[from], &before.array[from], sizeof before.array - (from) * sizeof *before.array) == 0)
+
+/* Whether all tables are kept from these lengths on. */
+static int are_kept(const struct pack *it, size_t nodes, size_t tuples, size_t names, size_t records)
+{
+    struct pack before;
+    make_pack(&before);
+    return IS_KEPT(packed_nodes, nodes) && IS_KEPT(packed_tuples, tuples) && IS_KEPT(packed_names, names)
+        && IS_KEPT(packed_records, records);
+}
+
 static int is_unpacked(const struct pack *it)
 {
     struct pack before;
     make_pack(&before);
-    return memcmp(it->packed_nodes, before.packed_nodes, sizeof before.packed_nodes) == 0
-        && memcmp(it->packed_tuples, before.packed_tuples, sizeof before.packed_tuples) == 0
-        && memcmp(it->packed_names, before.packed_names, sizeof before.packed_names) == 0
-        && memcmp(it->packed_records, before.packed_records, sizeof before.packed_records) == 0
-        && memcmp(&it->sizes, &before.sizes, sizeof before.sizes) == 0;
+    return are_kept(it, 0, 0, 0, 0) && memcmp(&it->sizes, &before.sizes, sizeof before.sizes) == 0;
 }
 
 static void check_unpacked(struct pack *it, const char *what, uint32_t code, uint32_t part, size_t lookup,
@@ -879,8 +913,10 @@ static void check_packing(void)
     struct volgwain_tables packed;
     struct volgwain_terminal one, other;
     size_t degrees[3] = {9, 9, 9};
+    size_t degree;
     make_pack(&it);
     check(pack(&it, 3) == VOLGWAIN_OK && is_packed(&it), "two of three keys share a column");
+    check(are_kept(&it, 9, 4, 2, 3), "what is past the packed tables");
     packed.nodes = it.packed_nodes;
     packed.nodes_length = it.sizes.nodes;
     packed.tuples = it.packed_tuples;
@@ -909,6 +945,12 @@ static void check_packing(void)
             && memcmp(&one, &other, sizeof one) == 0,
         "packing keeps the terminal");
 
+    for (degree = 0; degree < 6; degree++) {
+        static const size_t lengths[4] = {9, 4, 3, 4};
+        make_pack(&it);
+        memcpy(it.lengths, lengths, sizeof lengths);
+        check(pack(&it, degree) == VOLGWAIN_OK, "what the given records have together is room enough");
+    }
     make_pack(&it);
     check(pack(&it, 2) == VOLGWAIN_OK && are_sizes(&it.sizes, 9, 4, 3, 4), "within 2 none share one");
     make_pack(&it);
@@ -1002,6 +1044,7 @@ static void check_json(void)
     check(read_json(&it, range_json, strlen(range_json)) == VOLGWAIN_OK
             && are_sizes(&it.sizes, 5, 2, 0, 1),
         "the worked lookup is read");
+    check(are_kept(&it, 5, 2, 0, 1), "what is past the tables that are read");
     make_range(&one);
     one.tables.nodes = it.packed_nodes;
     one.tables.tuples = it.packed_tuples;
@@ -1448,6 +1491,7 @@ static void check_stack(void)
 
 int main(void)
 {
+    check_sizes();
     check_generation();
     check_proving();
     check_air_by_air();

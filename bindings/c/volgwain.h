@@ -6,16 +6,20 @@
    For every call:
 
    - Memory. No memory and no handle is handed over. A call reads what its const pointers point to, and
-     writes into the arrays of its caller; it keeps nothing once it returns. It frees all that it
-     allocates before that.
+     writes into the arrays of its caller. It frees all that it allocates before it returns, and keeps no
+     pointer.
    - Pointers. No pointer may be NULL, also where a length is 0. A length counts items, and not bytes. Each
-     array that a call writes must be initialised, and must overlap no other argument; those that it reads
-     may overlap one another.
+     array that a call writes must be initialised, and must not overlap any other argument; those that it
+     reads may overlap one another.
    - Answers. A call returns 0, or the code of a refusal, and fills *refusal in both cases. A refused call
-     leaves all else that it would write as it was, but for `text`.
-   - Texts. `text` gets what a refusal says, without a closing zero: its first bytes, as many as there is
-     room for; a cut may split a character of UTF-8. `refusal->text_length` is the length of the whole, and
-     0 where nothing was refused.
+     leaves all else that it would write as it was, but for `text`. In a call over one AIR `air` is 0, also
+     in the text.
+   - Order. Each call lists its codes from the first test to the last; code 1 may come at any point. That a
+     refusal is true of the arguments, and names the first record, number, AIR or row of its kind, is
+     proved. The order of the codes is only tested.
+   - Texts. `text` gets what a refusal says, in UTF-8 and without a closing zero: its first bytes, as many
+     as there is room for, so the cut may split a character. `refusal->text_length` is the length of the
+     whole in bytes, and 0 where nothing was refused.
    - Stack. A call needs at most 256 KB of it.
    - Threads. Calls may run at once, as long as what one of them writes no other reads or writes.
      malloc and its kin have to allow that. No call from a signal handler. */
@@ -125,10 +129,10 @@ enum {
     VOLGWAIN_OUT_OF_MEMORY = 1,
     VOLGWAIN_BAD_TABLE = 2,     /* air, lookup: the first record that is no lookup. part: 1 a node, and row
                                    is its index; 2 a range past its table; 3 a list of too many nodes; 4 a
-                                   kind that is neither 0 nor 1; 5 a name that is not UTF-8. Or, of lookups
-                                   that were packed or read, the first one that no tables say. part: 6 an
-                                   expression that is too deep; 7 a row that does not fit 32 bits; 8 a list of
-                                   too many nodes */
+                                   kind that is neither 0 nor 1; 5 a name that is not UTF-8. Or the first
+                                   lookup that a call cannot write: a packed one, or one of a text. part: 6
+                                   an expression that is too deep; 7 a row that does not fit 32 bits; 8 a
+                                   list of too many nodes */
     VOLGWAIN_BAD_NUMBER = 3,    /* part, air, row: the index of a number, or of a group of four, that is not
                                    below the modulus; of an id, that is not below num_ids; of the sizes of a
                                    plan, 0: max_message_width is 0 */
@@ -161,6 +165,7 @@ enum {
     VOLGWAIN_MISMATCH = 26,             /* a tuple does not balance; the text says which, and where */
     VOLGWAIN_BAD_TEXT = 27              /* a text is not JSON, or not that of lookups; the text of the refusal
                                            says why, and where */
+    /* 28 stands for refusals of the library that no call here can meet; that none does is only tested */
 };
 
 /* Parts of a call, in refusal.part for the codes 3, 4, 5 and 7. */
@@ -183,8 +188,7 @@ enum {
     VOLGWAIN_PART_RECORDS = 16
 };
 
-/* What was refused, and where: each code names the fields that it fills, and the others are 0. A call over
-   one AIR names it as 0. */
+/* What was refused, and where: each code names the fields that it fills, and the others are 0. */
 struct volgwain_refusal {
     uint32_t code;
     uint32_t part;
@@ -200,13 +204,14 @@ struct volgwain_refusal {
 
 /* Generates the auxiliary trace of one AIR, and its terminal.
 
-   challenges: an alpha and a beta for each lookup, in their order; further ones are ignored, but must be
-   below the modulus as well.
+   challenges: an alpha and a beta for each lookup, in their order. Further ones are ignored, but must be
+   below the modulus.
    auxiliary: exactly height * (lookups + 1) elements, row after row: the accumulator, and then the
    fraction of each lookup. Without lookups none, and the terminal is not present.
 
-   What is generated is the plain result, and satisfies all constraints of the lookups. AIRs can be generated
-   on threads of the caller's own, with challenges that share an alpha and a beta where lookups share a bus.
+   What is generated is the plain result, and it satisfies all constraints of the lookups; that no other
+   does is said of volgwain_prove. AIRs can be generated on threads of the caller's own, with challenges
+   that share an alpha and a beta where lookups share a bus.
 
    Refuses, in this order: 2, 5 and 3 of a trace, 3 of the challenges, 6, 7, 4 of the challenges, the first
    of 8, 9 and 10 in the order row, lookup, and 4 of the auxiliary trace. Or 1. */
@@ -240,15 +245,16 @@ struct volgwain_table_sizes {
    the lookups of a bus into consecutive columns within max_degree has fewer. Weights of joined lookups add.
    A lookup alone may have a greater degree.
 
-   nodes, tuples, names, records: the tables of the packed lookups. Each array is at least as long as what
-   is written, and sizes says how much that is. As many nodes and tuples as the ranges of all given records
-   have together, as many names as their buses, and as many records as there are always suffice.
+   nodes, tuples, names, records: the tables of the packed lookups. Each array must be at least as long as
+   what is written, and sizes says how much that is; what is past that stays as it was. As many nodes and
+   tuples as the ranges of all given records have together, as many names as their buses, and as many
+   records as there are suffice, which is only tested.
 
    The packed lookups send the same messages on every row, so they balance as those before do, and every
    terminal stays. Pack each AIR before the batch is planned; prover and verifier have to pack alike.
 
-   Refuses, in this order: 2, 11, 13 of a bus, 24 or 25 where a lookup is joined, 2 of a packed lookup with a
-   list of too many nodes, and 4 of the nodes, tuples, names and records. Or 1. */
+   Refuses, in this order: 2, 11, 13 of a bus, 24 or 25 where a lookup is joined, 2 with part 8 of a packed
+   lookup, whose index `lookup` then is, and 4 of the nodes, tuples, names and records. Or 1. */
 uint32_t volgwain_pack(const struct volgwain_tables *tables, size_t max_degree,
     struct volgwain_node *nodes, size_t nodes_length,
     struct volgwain_span *tuples, size_t tuples_length,
@@ -260,11 +266,13 @@ uint32_t volgwain_pack(const struct volgwain_tables *tables, size_t max_degree,
 /* Reads the lookups of an AIR from JSON, a list of lookups as serde writes them, into tables. Numbers are
    elements of the base field, and expressions nest as deep as JSON allows, some hundred levels.
 
-   nodes, tuples, names, records: the tables of the lookups that were read. Each array is at least as long as
-   what is written, and sizes says how much that is. Never more items than json has bytes.
+   nodes, tuples, names, records: the tables of the lookups that were read. Each array must be at least as
+   long as what is written, and sizes says how much that is; what is past that stays as it was. There are
+   never more items than json has bytes, which is only tested.
 
-   Refuses, in this order: 27, 11, 2 of a lookup that no tables say, and 4 of the nodes, tuples, names and
-   records. Or 1, also where memory runs out while the text is read. */
+   Which lookups a text says is only tested. Refuses, in this order: 27, 11, 2 with parts 6, 7 and 8 of a
+   lookup of the text, and 4 of the nodes, tuples, names and records. Or 1, also where memory runs out while
+   the text is read. */
 uint32_t volgwain_read_json(const char *json, size_t json_length,
     struct volgwain_node *nodes, size_t nodes_length,
     struct volgwain_span *tuples, size_t tuples_length,
@@ -313,8 +321,8 @@ uint32_t volgwain_plan(const struct volgwain_air *airs, size_t airs_length,
    ids: those of the AIR's lookups, in their order, as volgwain_plan gave them; sizes: those of the plan.
    auxiliary: exactly height * (lookups + 1) elements.
 
-   With what volgwain_plan gave, the AIRs of a batch can be generated on threads of the caller's own, and make
-   the witness of volgwain_prove.
+   With what volgwain_plan gave, the AIRs of a batch can be generated on threads of the caller's own. That
+   together they are the witness of volgwain_prove is only tested.
 
    Refuses, in this order: 2, 5 and 3 of a trace, 3 of alpha and then beta, 4 of the ids, 3 of the sizes, 3 of
    an id, 6, 7, the first of 8, 9 and 10 in the order row, lookup, and 4 of the auxiliary trace. Or 1. */
