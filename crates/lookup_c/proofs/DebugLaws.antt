@@ -1,5 +1,5 @@
 -- The AIRs of a debug check, one after another.
-use Rattle.std.proofs.Common.{◌≡◌, ◌∙◌, ◌∷◌, ◌++◌, ◌+◌, ◌<◌, [], ℕ, zero, suc, All, List, ap, ap₂, arith, get_or, length, map, refl, subst, sym, take}
+use Rattle.std.proofs.Common.{◌≡◌, ◌∙◌, ◌∷◌, ◌++◌, ◌+◌, ◌<◌, ◌≤◌, [], ℕ, zero, suc, All, List, ap, ap₂, arith, get_or, length, map, refl, subst, sym, take}
 use Rattle.std.proofs.lemmas.List.{map_push, take_more}
 use Rattle.std.proofs.lemmas.List.Elements.{All-map}
 use Rattle.std.proofs.lemmas.Option.{slice_get-get_or}
@@ -15,6 +15,9 @@ long : (sets : List (Lookups BabyBear)) (traces : List ReadTraces) → length se
 long [] traces same = refl
 long (s ∷ ss) [] same = absurd (omega (arith, same))
 long (s ∷ ss) (t ∷ ts) same = ap suc (long ss ts (omega (arith, same)))
+
+pub all_taken : (sets : List (Lookups BabyBear)) (traces : List ReadTraces) (n : ℕ) → length sets ≡ length traces → length sets ≤ n → length (all_traced sets traces) ≤ n
+all_taken sets traces n same all = omega (arith, long sets traces same, all)
 
 traced_at : (sets : List (Lookups BabyBear)) (traces : List ReadTraces) (i : ℕ) (s : Lookups BabyBear) (t : ReadTraces) (d : Traced BabyBear) → i < length sets → i < length traces
     → get_or (all_traced sets traces) i d ≡ traced_tables (get_or sets i s) (get_or traces i t)

@@ -1,17 +1,24 @@
 -- What calls over elements answer, as answers over tables of numbers.
-use Rattle.std.proofs.Common.{◌≡◌, ◌∙◌, ◌∷◌, ◌<◌, [], ℕ, All, List, MatchResult, Result, ap₂, get_or, inl, inr, length, map, refl, subst, subst₂, take}
+use Rattle.std.proofs.Common.{◌≡◌, ◌∙◌, ◌∷◌, ◌<◌, ◌≤◌, ◌^◌, [], ℕ, Bool, All, List, MatchResult, Result, ap, ap₂, get_or, inl, inr, length, map, refl, subst, subst₂, take}
 use Rattle.std.proofs.lemmas.List.Elements.{All-cons, All-nil}
 use Rattle.std.proofs.lemmas.Option.{slice_get-get_or}
 use Rattle.std.proofs.lemmas.Result.{MatchResult-weaker}
+use Rattle.field.specs.Ring.{Ring}
 use Rattle.field.specs.Quartic.{Quartic}
 use Rattle.air.specs.Traces.{AirTraces, air_traces}
 use Rattle.batch.specs.Tables.{made_table}
 use Rattle.batch.specs.Traces.{shown_of}
+use Rattle.batch.specs.declared.grid.GridCount.{GridCount}
 use Rattle.batch.specs.declared.trace.BatchTrace.{BatchTrace}
+use Rattle.lookup_debug.specs.Contributions.{Traced}
+use Rattle.lookup_model.specs.declared.count.SoundnessCount.{SoundnessCount}
 use Rattle.lookup_model.specs.declared.witness.Witness.{Witness}
 use Rattle.lookup.specs.declared.lookups.Lookups.{Lookups}
 use Rattle.field.specs.Extension.{Extension}
 use Rattle.lookup_model.specs.Challenges.{column_challenges}
+use Rattle.lookup_model.specs.LookupDegree.{lookup_degree}
+use Rattle.lookup_model.specs.declared.error.LookupError.{LookupError}
+use Rattle.lookup_model.specs.declared.error.LookupError.TheVariants.{DegreeOverflow}
 use Rattle.lookup_model.specs.declared.types.Lookup.{Lookup}
 use Rattle.lookup_tables.specs.Nodes.{BabyBear}
 use Rattle.lookup_tables.specs.Numbers.{AreGroupsBelow, IsGroup, quartic_of}
@@ -21,7 +28,10 @@ use Rattle.lookup_tables.specs.declared.tables.Tables.{Tables}
 use Rattle.lookup_tables.specs.declared.traces.ReadTraces.{ReadTraces}
 use Rattle.lookup_tables.specs.declared.traces.Traces.{Traces}
 use Rattle.lookup_c.specs.Batches.{AreBatchTraces, AreCanonicalTraces, AreSets, IsAirsRefusal, IsBatchTracesRefusal, IsPlanOf, IsSetRefusal, Planned, ShowTraces}
-use Rattle.lookup_c.specs.Debugging.{AreTableSets, IsTableSetsRefusal}
+use Rattle.lookup_c.specs.Counting.{CountsTables, IsCountedBy, IsCountingRefusal, IsGridCallRefusal}
+use Rattle.lookup_c.specs.Soundness.{CountsMessagesOf, IsCountCallRefusal, IsMessageCount, IsMessageRefusal}
+use Rattle.lookup_c.specs.Degrees.{IsDegreeRefusal}
+use Rattle.lookup_c.specs.Debugging.{AreTableSets, ChecksTables, ChecksTraced, IsCheckRefusal, IsDebugCallRefusal, IsTableSetsRefusal, all_traced}
 use Rattle.lookup_c.specs.Generation.{Generates, GeneratesOver, IsGenerationRefusal, IsLookupsRefusal}
 use Rattle.lookup_c.specs.Identified.{GeneratesByIds, IsByIdsRefusal, challenges_by_ids}
 use Rattle.lookup_c.specs.Inputs.{IsTracesRefusal, said_traces, shown_traces}
@@ -30,6 +40,7 @@ use Rattle.lookup_c.specs.Verifying.{IsVerifiedBy, IsVerifyRefusal, IsVerifyingR
 use Rattle.lookup_c.specs.Witnesses.{AreWitness, IsAirWitness, IsAuxiliaryRefusal, IsTerminalRefusal, IsWitnessRefusal}
 use Rattle.lookup_c.specs.declared.airs.Air.{Air}
 use Rattle.lookup_c.specs.declared.fault.Fault.{Fault}
+use Rattle.lookup_c.specs.declared.fault.Fault.TheVariants.{Lookup as OfLookup}
 use Rattle.lookup_c.specs.declared.witness.AirWitness.{AirWitness}
 use Rattle.lookup_c.specs.declared.generation.Generated.{Generated}
 use Rattle.lookup_c.specs.declared.planning.Plan.{Plan}
@@ -95,6 +106,16 @@ pub refused_terminal : (numbers : List AirWitness) (i : ℕ) (d : AirWitness) (f
 refused_terminal numbers i d fault there before refusal =
     inr (record { index = i; air = get_or numbers i d; is_there = slice_get-get_or numbers i d there; before = before; refusal = inr refusal })
 
+-- a degree that does not fit is that of one of the lookups
+pub degree_refused : (lookups : List (Lookup BabyBear)) (i : ℕ) (d : Lookup BabyBear) (e : LookupError) → i < length lookups → d ≡ get_or lookups i d → e ≡ DegreeOverflow → 2 ^ 64 ≤ lookup_degree 0 d → IsDegreeRefusal lookups (OfLookup 0 e)
+degree_refused lookups i d e there is over large = inr (
+  i,
+  get_or lookups i d,
+  slice_get-get_or lookups i d there,
+  subst (λ (l : Lookup BabyBear). 2 ^ 64 ≤ lookup_degree 0 l) is large,
+  ap (OfLookup 0) over,
+)
+
 -- what contracts see of traces that tables say
 shown_all : (traces : List Traces) (all : List ReadTraces) → AreBatchTraces traces all → map shown_traces all ≡ map said_traces traces
 shown_all [] [] are = refl
@@ -135,3 +156,32 @@ module _ (E : Extension BabyBear (Quartic BabyBear)) (airs : List Air) (traces :
       MatchResult-weaker answer whole
       (λ _ verifies. record { plan = plan; plan_is = plan_is; traces_below = traces_below; alpha_below = a_below; beta_below = b_below; given = given; shown = shown; witness = witness; witness_is = witness_is; verifies = verifies })
       (λ fault refusal. inr (inr (inr (inr (inr (inr (record { plan = plan; plan_is = plan_is; given = given; shown = shown; witness = witness; witness_is = witness_is; refusal = refusal })))))))
+
+module _ (E : Extension BabyBear (Quartic BabyBear)) (airs : List Air) (traces : List Traces) (plan : Planned) (given : List (BatchTrace BabyBear)) (plan_is : IsPlanOf airs plan) (traces_below : AreCanonicalTraces traces) (shown : ShowTraces traces given) where
+  -- a count of a grid
+  pub counts_tables : (alphas betas : List (List ℕ)) (a b : List (Quartic BabyBear)) (answer : Result GridCount Fault) → a ≡ map quartic_of alphas → b ≡ map quartic_of betas → AreGroupsBelow (length alphas) alphas → AreGroupsBelow (length betas) betas
+      → MatchResult answer (IsCountedBy E plan given a b) (IsCountingRefusal E plan given a b)
+      → MatchResult answer (CountsTables E airs traces alphas betas) (IsGridCallRefusal E airs traces alphas betas)
+  counts_tables alphas betas a b answer a_are b_are a_below b_below over =
+      let whole = subst₂ (λ (x y : List (Quartic BabyBear)). MatchResult answer (IsCountedBy E plan given x y) (IsCountingRefusal E plan given x y)) a_are b_are over in
+      MatchResult-weaker answer whole
+      (λ count counts. record { plan = plan; plan_is = plan_is; traces_below = traces_below; alphas_below = a_below; betas_below = b_below; given = given; shown = shown; counts = counts })
+      (λ fault refusal. inr (inr (inr (inr (inr (record { plan = plan; plan_is = plan_is; given = given; shown = shown; refusal = refusal }))))))
+
+  -- and one of messages
+  pub messages_tables : (answer : Result SoundnessCount Fault) → MatchResult answer (IsMessageCount E plan given) (IsMessageRefusal E plan given) → MatchResult answer (CountsMessagesOf E airs traces) (IsCountCallRefusal E airs traces)
+  messages_tables answer over =
+      MatchResult-weaker answer over
+      (λ count counts. record { plan = plan; plan_is = plan_is; traces_below = traces_below; given = given; shown = shown; counts = counts })
+      (λ fault refusal. inr (inr (inr (record { plan = plan; plan_is = plan_is; given = given; shown = shown; refusal = refusal }))))
+
+-- a debug check
+pub checks_tables : (R : Ring BabyBear) (eq : BabyBear → BabyBear → Bool) (text : BabyBear → List ℕ) (airs : List Tables) (traces : List Traces) (sets : List (Lookups BabyBear)) (all : List ReadTraces) (ts : List (Traced BabyBear))
+    (answer : Result (Unit {0}) Fault) → AreTableSets airs sets → AreBatchTraces traces all → length traces ≡ length airs → ts ≡ all_traced sets all
+    → MatchResult answer (λ _. ChecksTraced R eq ts) (IsCheckRefusal R eq text ts)
+    → MatchResult answer (λ _. ChecksTables R eq airs traces) (IsDebugCallRefusal R eq text airs traces)
+checks_tables R eq text airs traces sets all ts answer sets_are all_are as_many ts_are over =
+    let whole = subst (λ (us : List (Traced BabyBear)). MatchResult answer (λ _. ChecksTraced R eq us) (IsCheckRefusal R eq text us)) ts_are over in
+    MatchResult-weaker answer whole
+    (λ _ balance. record { sets = sets; sets_are = sets_are; all = all; all_are = all_are; as_many = as_many; balance = balance })
+    (λ fault refusal. inr (inr (inr (inr (record { sets = sets; sets_are = sets_are; all = all; all_are = all_are; refusal = inr refusal })))))

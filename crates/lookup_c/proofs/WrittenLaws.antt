@@ -1,6 +1,6 @@
 -- Items that are written one after another, and lists of them part by part.
 use Rattle.std.proofs.Common.{◌≡◌, ◌<◌, ◌≤◌, ◌+◌, ◌++◌, ◌∷◌, ◌∙◌, [], ℕ, List, ap, append_assoc, arith, drop, get_or, length, length-append, map, set, sym, take}
-use Rattle.std.proofs.lemmas.List.{append-nil, map_push, take-append-drop, take_all, take_more, take_more_set, drop_more, length-take-le, set_at}
+use Rattle.std.proofs.lemmas.List.{append-nil, map_more, map_push, take-append-drop, take_all, take_more, take_more_set, drop_more, length-take-le, set_at}
 use Rattle.std.proofs.lemmas.List.Concat.{flat_map-append}
 use Rattle.std.specs.List.{flat_map}
 
@@ -78,3 +78,7 @@ pub over_all : {A : Type 0} (values start after : List A) (i : ℕ) → i < leng
 over_all values start after i below all written =
     let full : i ≡ length values = omega (arith, below, all) in
     written ∙ (λ k. take_all i values all k ++ drop (full k) start)
+
+-- one more item is appended, of the next item of a list
+pub map_next : {A B : Type 0} (f : A → B) (xs : List A) (i : ℕ) (d : A) (before after : List B) (y : B) → i < length xs → after ≡ before ++ y ∷ [] → y ≡ f (get_or xs i d) → before ≡ map f (take i xs) → after ≡ map f (take (i + 1) xs)
+map_next f xs i d before after y there pushed is so_far = pushed ∙ ((λ k. so_far k ++ is k ∷ []) ∙ sym (map_more f xs i d there))
