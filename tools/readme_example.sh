@@ -1,24 +1,37 @@
 #!/usr/bin/env bash
-# Each block of the README's example stands, apart from layout, in the test that runs it, and its first
-# run is the program's stored one.
+# Each block of the README's example stands, apart from layout, in the test that runs it, and the one from
+# Rust in the program of docs/RUST.md, which tools/bindings.sh runs. The first run is the program's stored one.
 set -eu
 cd "$(dirname "${BASH_SOURCE[0]}")/.."
 test=crates/batch_tests/src/tests/example.rt
-source=$(tr -d ' \n' <"$test")
+program=docs/RUST.md
 blocks=$(mktemp -d)
 trap 'rm -r "$blocks"' EXIT
 awk -v folder="$blocks" '/^```rust$/ { n++; on = 1; next } /^```$/ { on = 0 } on { print > (folder "/" n) }' README.md
-count=0
+# Whether a block, which is not empty, stands in a file.
+stands_in() {
+  local part whole
+  part=$(tr -d ' \n' <"$1")
+  whole=$(tr -d ' \n' <"$2")
+  [ -n "$part" ] && [ "${whole#*"$part"}" != "$whole" ]
+}
+tested=0
+from_rust=0
 for block in "$blocks"/*; do
-  example=$(tr -d ' \n' <"$block")
-  if [ -z "$example" ] || [ "${source#*"$example"}" = "$source" ]; then
-    echo "a block of the README's example is not in $test" >&2
+  if stands_in "$block" "$test"; then
+    tested=$((tested + 1))
+  elif stands_in "$block" "$program"; then
+    from_rust=$((from_rust + 1))
+  else
+    echo "a block of the README's example is in neither $test nor $program" >&2
     exit 1
   fi
-  count=$((count + 1))
 done
-[ "$count" -eq 4 ] || { echo "the README has $count blocks of its example, and not 4" >&2; exit 1; }
-echo "the README's example is what $test runs"
+if [ "$tested" -ne 3 ] || [ "$from_rust" -ne 1 ]; then
+  echo "the README has $tested blocks of $test and $from_rust of $program, and not 3 and 1" >&2
+  exit 1
+fi
+echo "the README's example is what $test and the program of $program run"
 run=crates/lookup_run
 rows=$(awk '{ printf "%s\\n", $0 }' "$run/stdin")
 words=$(tr '\n' ' ' <"$run/args")

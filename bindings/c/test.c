@@ -1,0 +1,1526 @@
+/* The calls of volgwain.h on small traces: their answers, each code but 14, 23 and 25, which take billions of
+   lookups, messages or nodes, memory that runs out at each request, four threads at once, and a stack of
+   256 KB. */
+#define _POSIX_C_SOURCE 200809L
+#include "volgwain.h"
+
+#include <pthread.h>
+#include <stdio.h>
+#include <stdlib.h>
+#include <string.h>
+
+/* 1/2 is (p + 1) / 2 and 1/4 is (3p + 1) / 4 */
+#define HALF 1006632961u
+#define MINUS_HALF 1006632960u
+#define QUARTER 1509949441u
+
+#define COUNT(list) (sizeof(list) / sizeof((list)[0]))
+
+static int failures = 0;
+
+static void check(int holds, const char *what)
+{
+    if (!holds) {
+        printf("failed: %s\n", what);
+        failures++;
+    }
+}
+
+/* ---- the sizes of the structs, which the crate for Rust tests as well ---- */
+
+#define SIZE(name, size) check(sizeof(struct volgwain_##name) == (size), "the size of " #name)
+
+static void check_sizes(void)
+{
+    if (sizeof(size_t) != 8)
+        return;
+    SIZE(element, 16);
+    SIZE(node, 16);
+    SIZE(span, 16);
+    SIZE(record, 80);
+    SIZE(tables, 64);
+    SIZE(traces, 64);
+    SIZE(terminal, 20);
+    SIZE(refusal, 56);
+    SIZE(table_sizes, 32);
+    SIZE(air, 72);
+    SIZE(air_witness, 48);
+    SIZE(plan_sizes, 16);
+    SIZE(wide, 16);
+    SIZE(counts, 72);
+    SIZE(grid, 40);
+}
+
+/* ---- memory: how many blocks are live, and which requests are refused ---- */
+
+static long live = 0;
+static long before_refusal = -1; /* how many requests are granted yet; -1: all */
+static int refuses_all = 0;      /* whether later requests are refused too */
+
+void *__real_malloc(size_t size);
+void *__real_realloc(void *block, size_t size);
+void __real_free(void *block);
+void *__wrap_malloc(size_t size);
+void *__wrap_realloc(void *block, size_t size);
+void __wrap_free(void *block);
+
+static int is_refused(void)
+{
+    if (before_refusal < 0)
+        return 0;
+    if (before_refusal == 0) {
+        if (!refuses_all)
+            before_refusal = -1;
+        return 1;
+    }
+    before_refusal--;
+    return 0;
+}
+
+void *__wrap_malloc(size_t size)
+{
+    void *block = is_refused() ? NULL : __real_malloc(size);
+    if (block != NULL)
+        __atomic_add_fetch(&live, 1, __ATOMIC_SEQ_CST);
+    return block;
+}
+
+void *__wrap_realloc(void *block, size_t size)
+{
+    void *moved = is_refused() ? NULL : __real_realloc(block, size);
+    if (moved != NULL && block == NULL)
+        __atomic_add_fetch(&live, 1, __ATOMIC_SEQ_CST);
+    return moved;
+}
+
+void __wrap_free(void *block)
+{
+    if (block != NULL)
+        __atomic_sub_fetch(&live, 1, __ATOMIC_SEQ_CST);
+    __real_free(block);
+}
+
+/* ---- one AIR with a local lookup: [read] with count 1, [provide] with count -mult ---- */
+
+struct range {
+    struct volgwain_node nodes[5];
+    struct volgwain_span tuples[2];
+    uint8_t names[3];
+    struct volgwain_record records[1];
+    uint32_t main[6];
+    uint32_t preprocessed[3];
+    struct volgwain_element challenges[2];
+    struct volgwain_tables tables;
+    struct volgwain_traces traces;
+    struct volgwain_element auxiliary[4];
+    size_t auxiliary_length;
+    struct volgwain_terminal terminal;
+    struct volgwain_refusal refusal;
+    char text[200];
+};
+
+static void make_range(struct range *it)
+{
+    static const struct range made = {
+        {{VOLGWAIN_MAIN, 0, 0}, {VOLGWAIN_MAIN, 0, 1}, {VOLGWAIN_CONSTANT, 1, 0},
+            {VOLGWAIN_MAIN, 0, 2}, {VOLGWAIN_NEGATION, 0, 0}},
+        {{0, 1}, {1, 2}},
+        {'b', 'u', 's'},
+        {{0, 0, 1, {0, 3}, {0, 2}, {2, 5}, {2, 4}}},
+        {3, 4, 1, 4, 3, 1},
+        {7, 7, 7},
+        {{{5, 0, 0, 0}}, {{2, 0, 0, 0}}},
+        {0, 0, 0, 0, 0, 0, 0, 0},
+        {0, 0, 0, 0, 0, 0, 0, 0},
+        {{{9, 9, 9, 9}}, {{9, 9, 9, 9}}, {{9, 9, 9, 9}}, {{9, 9, 9, 9}}},
+        4,
+        {9, {{9, 9, 9, 9}}},
+        {9, 9, 9, 9, 9, 9, 9, 9},
+        ""};
+    *it = made;
+    it->tables.nodes = it->nodes;
+    it->tables.nodes_length = 5;
+    it->tables.tuples = it->tuples;
+    it->tables.tuples_length = 2;
+    it->tables.names = it->names;
+    it->tables.names_length = 3;
+    it->tables.records = it->records;
+    it->tables.records_length = 1;
+    it->traces.main = it->main;
+    it->traces.main_length = 6;
+    it->traces.main_width = 3;
+    it->traces.preprocessed = it->preprocessed;
+    it->traces.public_values = it->main;
+}
+
+static uint32_t generate(struct range *it)
+{
+    return volgwain_generate(&it->tables, &it->traces, it->challenges, COUNT(it->challenges),
+        it->auxiliary, it->auxiliary_length, &it->terminal, &it->refusal, it->text, sizeof it->text);
+}
+
+static int is_base(const struct volgwain_element *x, uint32_t c0)
+{
+    return x->c[0] == c0 && x->c[1] == 0 && x->c[2] == 0 && x->c[3] == 0;
+}
+
+/* fractions 1/2 - 1 and 1 - 1/2, their running sum, and its end */
+static int is_generated(const struct range *it)
+{
+    return it->refusal.code == 0 && it->refusal.text_length == 0 && is_base(&it->auxiliary[0], 0)
+        && is_base(&it->auxiliary[1], MINUS_HALF) && is_base(&it->auxiliary[2], MINUS_HALF)
+        && is_base(&it->auxiliary[3], HALF) && it->terminal.present == 1
+        && is_base(&it->terminal.value, 0);
+}
+
+static int is_untouched(const struct range *it)
+{
+    struct range before;
+    make_range(&before);
+    return memcmp(it->auxiliary, before.auxiliary, sizeof before.auxiliary) == 0
+        && memcmp(&it->terminal, &before.terminal, sizeof before.terminal) == 0;
+}
+
+static int has_text(const struct volgwain_refusal *refusal, const char *text, const char *expected)
+{
+    return refusal->text_length == strlen(expected)
+        && memcmp(text, expected, strlen(expected)) == 0;
+}
+
+/* a call is refused with these places, and has written nothing else */
+static void check_refused(struct range *it, const char *what, uint32_t code, uint32_t part, size_t row,
+    size_t lookup, size_t expected, size_t actual)
+{
+    const struct volgwain_refusal *r = &it->refusal;
+    uint32_t answer = generate(it);
+    check(answer == code && r->code == code && r->part == part && r->air == 0 && r->row == row
+            && r->lookup == lookup && r->expected == expected && r->actual == actual,
+        what);
+    check(is_untouched(it), what);
+    check(r->text_length > 0, what);
+}
+
+static void check_generation(void)
+{
+    struct range it;
+    make_range(&it);
+    check(generate(&it) == VOLGWAIN_OK && is_generated(&it), "the worked rows are generated");
+
+    make_range(&it);
+    it.challenges[0].c[0] = 3;
+    check_refused(&it, "vanishing", VOLGWAIN_VANISHING_DENOMINATOR, 0, 0, 0, 0, 0);
+    check(has_text(&it.refusal, it.text, "air 0: row 0, lookup 0: vanishing denominator"),
+        "the text of a vanishing denominator");
+    it.text[3] = '#';
+    volgwain_generate(&it.tables, &it.traces, it.challenges, 2, it.auxiliary, 4, &it.terminal,
+        &it.refusal, it.text, 3);
+    check(it.text[3] == '#' && it.refusal.text_length == 45, "a text is cut");
+
+    make_range(&it);
+    it.challenges[0].c[0] = 4;
+    check_refused(&it, "vanishing at provide", VOLGWAIN_VANISHING_DENOMINATOR, 0, 0, 0, 0, 0);
+
+    make_range(&it);
+    it.nodes[4].index = 1;
+    check_refused(&it, "a negation with an index", VOLGWAIN_BAD_TABLE, 1, 4, 0, 0, 0);
+    make_range(&it);
+    it.nodes[4].kind = 11;
+    check_refused(&it, "no kind", VOLGWAIN_BAD_TABLE, 1, 4, 0, 0, 0);
+    make_range(&it);
+    it.nodes[0].kind = VOLGWAIN_SUM;
+    check_refused(&it, "a sum of nothing", VOLGWAIN_BAD_TABLE, 1, 0, 0, 0, 0);
+    make_range(&it);
+    it.nodes[2].number = VOLGWAIN_MODULUS;
+    check_refused(&it, "a constant past the modulus", VOLGWAIN_BAD_TABLE, 1, 2, 0, 0, 0);
+    make_range(&it);
+    it.records[0].multiplicities.end = 6;
+    check_refused(&it, "a range past the nodes", VOLGWAIN_BAD_TABLE, 2, 0, 0, 0, 0);
+    make_range(&it);
+    it.records[0].tuples.start = 3;
+    check_refused(&it, "a range that ends before it starts", VOLGWAIN_BAD_TABLE, 2, 0, 0, 0, 0);
+    make_range(&it);
+    it.records[0].kind = 2;
+    check_refused(&it, "no kind of bus", VOLGWAIN_BAD_TABLE, 4, 0, 0, 0, 0);
+    make_range(&it);
+    it.records[0].exclusive = 2;
+    check_refused(&it, "flags or none", VOLGWAIN_BAD_TABLE, 4, 0, 0, 0, 0);
+    make_range(&it);
+    it.records[0].kind = 1;
+    check(generate(&it) == VOLGWAIN_OK && is_generated(&it), "the same on a bus");
+    make_range(&it);
+    it.records[0].kind = 1;
+    it.names[1] = 0xff;
+    check_refused(&it, "no UTF-8", VOLGWAIN_BAD_TABLE, 5, 0, 0, 0, 0);
+
+    make_range(&it);
+    it.main[4] = 4000000000u;
+    check_refused(&it, "a cell past the modulus", VOLGWAIN_BAD_NUMBER, VOLGWAIN_PART_MAIN, 4, 0, 0, 0);
+    make_range(&it);
+    it.challenges[1].c[3] = VOLGWAIN_MODULUS;
+    check_refused(
+        &it, "a challenge past the modulus", VOLGWAIN_BAD_NUMBER, VOLGWAIN_PART_CHALLENGES, 1, 0, 0, 0);
+    make_range(&it);
+    it.traces.main_length = 5;
+    check_refused(&it, "ragged", VOLGWAIN_NO_WHOLE_ROWS, VOLGWAIN_PART_MAIN, 0, 0, 0, 0);
+    make_range(&it);
+    it.traces.preprocessed_length = 3;
+    check_refused(&it, "cells without a width", VOLGWAIN_NO_WHOLE_ROWS, VOLGWAIN_PART_PREPROCESSED, 0, 0,
+        0, 0);
+    make_range(&it);
+    it.traces.preprocessed_length = 3;
+    it.traces.preprocessed_width = 1;
+    check_refused(
+        &it, "three rows beside two", VOLGWAIN_OTHER_HEIGHT, VOLGWAIN_PART_PREPROCESSED, 0, 0, 0, 0);
+    make_range(&it);
+    it.nodes[3].index = 3;
+    check_refused(&it, "a column past the trace", VOLGWAIN_DOES_NOT_FIT, 0, 0, 0, 0, 0);
+    make_range(&it);
+    it.nodes[3].number = 2;
+    check_refused(&it, "a row past the window", VOLGWAIN_DOES_NOT_FIT, 0, 0, 0, 0, 0);
+    make_range(&it);
+    it.records[0].multiplicities.end = 3;
+    check_refused(&it, "one multiplicity for two tuples", VOLGWAIN_DOES_NOT_FIT, 0, 0, 0, 0, 0);
+
+    make_range(&it);
+    it.records[0].exclusive = 1;
+    check_refused(&it, "two flags that are set", VOLGWAIN_FLAGS_NOT_EXCLUSIVE, 0, 0, 0, 0, 0);
+    make_range(&it);
+    it.records[0].exclusive = 1;
+    it.main[5] = 2;
+    it.main[2] = 0;
+    check_refused(&it, "a flag of two", VOLGWAIN_FLAG_NOT_BOOLEAN, 0, 1, 0, 0, 0);
+
+    make_range(&it);
+    it.auxiliary_length = 3;
+    check_refused(&it, "room for three", VOLGWAIN_BAD_LENGTH, VOLGWAIN_PART_AUXILIARY, 0, 0, 4, 3);
+    make_range(&it);
+    check(volgwain_generate(&it.tables, &it.traces, it.challenges, 1, it.auxiliary, 4, &it.terminal,
+              &it.refusal, it.text, 0)
+                == VOLGWAIN_BAD_LENGTH
+            && it.refusal.part == VOLGWAIN_PART_CHALLENGES && it.refusal.expected == 2
+            && it.refusal.actual == 1 && is_untouched(&it),
+        "one challenge");
+
+    make_range(&it);
+    it.tables.records_length = 0;
+    it.auxiliary_length = 0;
+    check(generate(&it) == VOLGWAIN_OK && it.terminal.present == 0 && is_base(&it.terminal.value, 0),
+        "no lookups, no terminal");
+}
+
+/* ---- two AIRs on a bus: keys 3 and 3, and the entries 3, used twice, and 4, never used ---- */
+
+struct bus {
+    struct volgwain_node nodes[5];
+    struct volgwain_span tuples[1];
+    uint8_t names[4];
+    struct volgwain_record asks[1], provides[1];
+    struct volgwain_air airs[2];
+    uint32_t keys[2], entries[4];
+    struct volgwain_traces traces[2];
+    size_t traces_length;
+    struct volgwain_element alpha, beta;
+    struct volgwain_element auxiliary[8];
+    size_t auxiliary_length;
+    struct volgwain_terminal terminals[2];
+    size_t terminals_length;
+    struct volgwain_refusal refusal;
+    char text[300];
+};
+
+static void make_bus(struct bus *it)
+{
+    static const struct volgwain_node nodes[5] = {{VOLGWAIN_MAIN, 0, 0}, {VOLGWAIN_CONSTANT, 1, 0},
+        {VOLGWAIN_MAIN, 0, 1}, {VOLGWAIN_NEGATION, 0, 0}, {VOLGWAIN_MAIN, 0, 1}};
+    static const uint32_t keys[2] = {3, 3}, entries[4] = {3, 2, 4, 0};
+    static const struct volgwain_record asks = {1, 0, 1, {0, 4}, {0, 1}, {1, 2}, {0, 0}};
+    static const struct volgwain_record provides = {1, 0, 0, {0, 4}, {0, 1}, {2, 4}, {0, 0}};
+    int air;
+    memset(it, 9, sizeof *it);
+    memcpy(it->nodes, nodes, sizeof nodes);
+    memcpy(it->names, "keys", 4);
+    memcpy(it->keys, keys, sizeof keys);
+    memcpy(it->entries, entries, sizeof entries);
+    it->tuples[0].start = 0;
+    it->tuples[0].end = 1;
+    it->asks[0] = asks;
+    it->provides[0] = provides;
+    for (air = 0; air < 2; air++) {
+        struct volgwain_tables *tables = &it->airs[air].tables;
+        struct volgwain_traces *traces = &it->traces[air];
+        tables->nodes = it->nodes;
+        tables->nodes_length = 5;
+        tables->tuples = it->tuples;
+        tables->tuples_length = 1;
+        tables->names = it->names;
+        tables->names_length = 4;
+        tables->records = air == 0 ? it->asks : it->provides;
+        tables->records_length = 1;
+        it->airs[air].height = 2;
+        traces->main = air == 0 ? it->keys : it->entries;
+        traces->main_width = air == 0 ? 1 : 2;
+        traces->main_length = 2 * traces->main_width;
+        traces->preprocessed = it->keys;
+        traces->preprocessed_length = 0;
+        traces->preprocessed_width = 0;
+        traces->public_values = it->keys;
+        traces->public_values_length = 0;
+    }
+    memset(&it->alpha, 0, sizeof it->alpha);
+    memset(&it->beta, 0, sizeof it->beta);
+    it->alpha.c[0] = 5;
+    it->beta.c[0] = 2;
+    it->traces_length = 2;
+    it->auxiliary_length = 8;
+    it->terminals_length = 2;
+}
+
+static uint32_t prove(struct bus *it)
+{
+    return volgwain_prove(it->airs, 2, it->traces, it->traces_length, &it->alpha, &it->beta,
+        it->auxiliary, it->auxiliary_length, it->terminals, it->terminals_length, &it->refusal, it->text,
+        sizeof it->text);
+}
+
+static uint32_t verify_parts(struct bus *it, size_t parts, size_t width, size_t cells)
+{
+    struct volgwain_air_witness witness[2];
+    int air;
+    for (air = 0; air < 2; air++) {
+        witness[air].auxiliary = &it->auxiliary[4 * air];
+        witness[air].auxiliary_length = air == 0 ? cells : 4;
+        witness[air].width = air == 0 ? width : 2;
+        witness[air].terminal = it->terminals[air];
+    }
+    return volgwain_verify(it->airs, 2, it->traces, it->traces_length, &it->alpha, &it->beta, witness,
+        parts, &it->refusal, it->text, sizeof it->text);
+}
+
+static uint32_t verify(struct bus *it)
+{
+    return verify_parts(it, 2, 2, 4);
+}
+
+/* The prefix of the one id is 5 + 1 * 2^1 = 7, so the denominators of 3 and 4 are 4 and 3. */
+static int is_proved(const struct bus *it)
+{
+    const struct volgwain_element *a = it->auxiliary;
+    return it->refusal.code == 0 && is_base(&a[0], 0) && is_base(&a[1], QUARTER)
+        && is_base(&a[2], QUARTER) && is_base(&a[3], QUARTER) && is_base(&a[4], 0)
+        && is_base(&a[5], MINUS_HALF) && is_base(&a[6], MINUS_HALF) && is_base(&a[7], 0)
+        && it->terminals[0].present == 1 && is_base(&it->terminals[0].value, HALF)
+        && it->terminals[1].present == 1 && is_base(&it->terminals[1].value, MINUS_HALF);
+}
+
+static int is_unproved(const struct bus *it)
+{
+    struct bus before;
+    make_bus(&before);
+    return memcmp(it->auxiliary, before.auxiliary, sizeof before.auxiliary) == 0
+        && memcmp(it->terminals, before.terminals, sizeof before.terminals) == 0;
+}
+
+static void check_unproved(struct bus *it, const char *what, uint32_t code, uint32_t part, size_t air,
+    size_t row, size_t lookup, size_t expected, size_t actual)
+{
+    const struct volgwain_refusal *r = &it->refusal;
+    uint32_t answer = prove(it);
+    check(answer == code && r->code == code && r->part == part && r->air == air && r->row == row
+            && r->lookup == lookup && r->expected == expected && r->actual == actual,
+        what);
+    check(is_unproved(it), what);
+    check(r->text_length > 0, what);
+}
+
+static void check_proving(void)
+{
+    struct bus it;
+    make_bus(&it);
+    check(prove(&it) == VOLGWAIN_OK && is_proved(&it), "the worked batch is proved");
+
+    make_bus(&it);
+    it.provides[0].multiplicities.end = 9;
+    check_unproved(&it, "a range past the nodes", VOLGWAIN_BAD_TABLE, 2, 1, 0, 0, 0, 0);
+    make_bus(&it);
+    it.provides[0].multiplicities.end = it.provides[0].multiplicities.start;
+    check_unproved(&it, "no multiplicity", VOLGWAIN_MALFORMED_LOOKUP, 0, 1, 0, 0, 0, 0);
+    make_bus(&it);
+    it.tuples[0].end = 2;
+    it.airs[1].tables.tuples = &it.provides[0].multiplicities;
+    check_unproved(&it, "two cells beside one", VOLGWAIN_BUS_WIDTHS, 0, 0, 0, 0, 2, 1);
+    check(has_text(&it.refusal, it.text, "bus keys: tuple widths 2 and 1 differ"),
+        "the text of two widths");
+    make_bus(&it);
+    it.asks[0].weight = VOLGWAIN_MODULUS;
+    check_unproved(&it, "a weight of the modulus", VOLGWAIN_HEIGHT_BOUND, 0, 0, 0, 0, 0, 0);
+    make_bus(&it);
+    it.entries[2] = VOLGWAIN_MODULUS;
+    check_unproved(&it, "a cell", VOLGWAIN_BAD_NUMBER, VOLGWAIN_PART_MAIN, 1, 2, 0, 0, 0);
+    make_bus(&it);
+    it.traces[1].main_length = 3;
+    check_unproved(&it, "ragged", VOLGWAIN_NO_WHOLE_ROWS, VOLGWAIN_PART_MAIN, 1, 0, 0, 0, 0);
+    make_bus(&it);
+    it.alpha.c[2] = VOLGWAIN_MODULUS;
+    check_unproved(&it, "alpha", VOLGWAIN_BAD_NUMBER, VOLGWAIN_PART_ALPHAS, 0, 0, 0, 0, 0);
+    make_bus(&it);
+    it.beta.c[3] = VOLGWAIN_MODULUS;
+    check_unproved(&it, "beta", VOLGWAIN_BAD_NUMBER, VOLGWAIN_PART_BETAS, 0, 0, 0, 0, 0);
+    make_bus(&it);
+    it.traces_length = 1;
+    check_unproved(&it, "one trace", VOLGWAIN_BAD_LENGTH, VOLGWAIN_PART_BATCH, 0, 0, 0, 2, 1);
+    make_bus(&it);
+    it.airs[1].height = 3;
+    check_unproved(&it, "another height", VOLGWAIN_TRACE_MISMATCH, 0, 1, 0, 0, 0, 0);
+    make_bus(&it);
+    it.alpha.c[0] = 1;
+    check_unproved(&it, "vanishing", VOLGWAIN_VANISHING_DENOMINATOR, 0, 0, 0, 0, 0, 0);
+    make_bus(&it);
+    it.auxiliary_length = 7;
+    check_unproved(&it, "room for seven", VOLGWAIN_BAD_LENGTH, VOLGWAIN_PART_AUXILIARY, 0, 0, 0, 8, 7);
+    make_bus(&it);
+    it.terminals_length = 1;
+    check_unproved(&it, "one terminal", VOLGWAIN_BAD_LENGTH, VOLGWAIN_PART_TERMINALS, 0, 0, 0, 2, 1);
+}
+
+/* AIR by AIR, with the prefix of the one id and beta, the same is generated */
+static void check_air_by_air(void)
+{
+    static const struct volgwain_element challenges[2] = {{{7, 0, 0, 0}}, {{2, 0, 0, 0}}};
+    struct bus it;
+    int air;
+    make_bus(&it);
+    for (air = 0; air < 2; air++)
+        check(volgwain_generate(&it.airs[air].tables, &it.traces[air], challenges, 2,
+                  &it.auxiliary[4 * air], 4, &it.terminals[air], &it.refusal, it.text, sizeof it.text)
+                == VOLGWAIN_OK,
+            "an AIR of the batch is generated");
+    check(is_proved(&it), "AIR by AIR the witness is the same");
+}
+
+static uint32_t by_ids(struct bus *it, int air, const size_t *ids, size_t ids_length,
+    const struct volgwain_plan_sizes *sizes)
+{
+    return volgwain_generate_by_ids(&it->airs[air].tables, &it->traces[air], ids, ids_length, sizes,
+        &it->alpha, &it->beta, &it->auxiliary[4 * air], it->auxiliary_length / 2, &it->terminals[air],
+        &it->refusal, it->text, sizeof it->text);
+}
+
+static void check_by_ids_refused(struct bus *it, const char *what, size_t id, size_t ids_length,
+    size_t width, uint32_t code, uint32_t part, size_t row, size_t expected, size_t actual)
+{
+    const struct volgwain_refusal *r = &it->refusal;
+    struct volgwain_plan_sizes sizes = {1, 1};
+    size_t ids[2];
+    uint32_t answer;
+    ids[0] = id;
+    ids[1] = 0;
+    sizes.max_message_width = width;
+    answer = by_ids(it, 1, ids, ids_length, &sizes);
+    check(answer == code && r->code == code && r->part == part && r->air == 0 && r->row == row
+            && r->lookup == 0 && r->expected == expected && r->actual == actual && r->text_length > 0,
+        what);
+    check(is_unproved(it), what);
+}
+
+/* AIR by AIR under the ids and the sizes of the plan, likewise */
+static void check_generation_by_ids(void)
+{
+    struct bus it;
+    struct volgwain_plan_sizes sizes = {9, 9};
+    size_t ids[2] = {9, 9};
+    int air;
+    make_bus(&it);
+    check(volgwain_plan(it.airs, 2, ids, 2, &sizes, &it.refusal, it.text, sizeof it.text) == VOLGWAIN_OK,
+        "the batch is planned");
+    for (air = 0; air < 2; air++)
+        check(by_ids(&it, air, &ids[air], 1, &sizes) == VOLGWAIN_OK, "an AIR is generated by its ids");
+    check(is_proved(&it), "by ids the witness is the same");
+    /* of id 1 the prefix is 3 + 2 * 2^1 = 7, too */
+    make_bus(&it);
+    sizes.num_ids = 2;
+    ids[0] = ids[1] = 1;
+    it.alpha.c[0] = 3;
+    for (air = 0; air < 2; air++)
+        check(by_ids(&it, air, &ids[air], 1, &sizes) == VOLGWAIN_OK, "an AIR is generated by id 1");
+    check(is_proved(&it), "by id 1 the witness is the same");
+
+    make_bus(&it);
+    it.provides[0].multiplicities.end = 9;
+    check_by_ids_refused(&it, "a range past the nodes", 0, 1, 1, VOLGWAIN_BAD_TABLE, 2, 0, 0, 0);
+    make_bus(&it);
+    it.traces[1].main_length = 3;
+    check_by_ids_refused(&it, "ragged", 0, 1, 1, VOLGWAIN_NO_WHOLE_ROWS, VOLGWAIN_PART_MAIN, 0, 0, 0);
+    make_bus(&it);
+    it.entries[2] = VOLGWAIN_MODULUS;
+    check_by_ids_refused(&it, "a cell", 0, 1, 1, VOLGWAIN_BAD_NUMBER, VOLGWAIN_PART_MAIN, 2, 0, 0);
+    make_bus(&it);
+    it.alpha.c[3] = VOLGWAIN_MODULUS;
+    check_by_ids_refused(&it, "alpha", 0, 1, 1, VOLGWAIN_BAD_NUMBER, VOLGWAIN_PART_ALPHAS, 0, 0, 0);
+    make_bus(&it);
+    it.beta.c[1] = VOLGWAIN_MODULUS;
+    check_by_ids_refused(&it, "beta", 0, 1, 1, VOLGWAIN_BAD_NUMBER, VOLGWAIN_PART_BETAS, 0, 0, 0);
+    make_bus(&it);
+    check_by_ids_refused(&it, "two ids", 0, 2, 1, VOLGWAIN_BAD_LENGTH, VOLGWAIN_PART_IDS, 0, 1, 2);
+    make_bus(&it);
+    check_by_ids_refused(&it, "width 0", 0, 1, 0, VOLGWAIN_BAD_NUMBER, VOLGWAIN_PART_SIZES, 0, 0, 0);
+    make_bus(&it);
+    check_by_ids_refused(&it, "id 1 of 1", 1, 1, 1, VOLGWAIN_BAD_NUMBER, VOLGWAIN_PART_IDS, 0, 0, 0);
+    make_bus(&it);
+    it.traces[1].main_width = 1;
+    check_by_ids_refused(&it, "one column", 0, 1, 1, VOLGWAIN_DOES_NOT_FIT, 0, 0, 0, 0);
+    make_bus(&it);
+    it.alpha.c[0] = 1;
+    check_by_ids_refused(&it, "vanishing", 0, 1, 1, VOLGWAIN_VANISHING_DENOMINATOR, 0, 0, 0, 0);
+    make_bus(&it);
+    it.auxiliary_length = 6;
+    check_by_ids_refused(&it, "room", 0, 1, 1, VOLGWAIN_BAD_LENGTH, VOLGWAIN_PART_AUXILIARY, 0, 4, 3);
+}
+
+/* a local lookup with tuples of two widths */
+static void check_tuple_widths(void)
+{
+    struct range one;
+    struct volgwain_air air;
+    make_range(&one);
+    one.tuples[0].end = 2;
+    air.tables = one.tables;
+    air.height = 2;
+    check(volgwain_prove(&air, 1, &one.traces, 1, &one.challenges[0], &one.challenges[1], one.auxiliary, 4,
+              &one.terminal, 1, &one.refusal, one.text, sizeof one.text)
+                == VOLGWAIN_TUPLE_WIDTHS
+            && one.refusal.expected == 2 && one.refusal.actual == 1 && is_untouched(&one),
+        "two widths in a local lookup");
+}
+
+static void check_refused_witness(
+    struct bus *it, const char *what, uint32_t answer, uint32_t code, size_t air, size_t row)
+{
+    const struct volgwain_refusal *r = &it->refusal;
+    check(answer == code && r->code == code && r->air == air && r->row == row && r->text_length > 0, what);
+}
+
+static void check_verification(void)
+{
+    struct bus it;
+    make_bus(&it);
+    prove(&it);
+    check(verify(&it) == VOLGWAIN_OK && it.refusal.code == 0, "the witness is accepted");
+    check_refused_witness(&it, "one part", verify_parts(&it, 1, 2, 4), VOLGWAIN_BAD_LENGTH, 0, 0);
+    check_refused_witness(&it, "width 4", verify_parts(&it, 2, 4, 4), VOLGWAIN_AUXILIARY_WIDTH, 0, 0);
+    check(it.refusal.expected == 2, "the width that is expected");
+    check_refused_witness(&it, "one row", verify_parts(&it, 2, 2, 2), VOLGWAIN_AUXILIARY_HEIGHT, 0, 0);
+    check_refused_witness(&it, "ragged", verify_parts(&it, 2, 3, 4), VOLGWAIN_NO_WHOLE_ROWS, 0, 0);
+    it.auxiliary[7].c[2] = VOLGWAIN_MODULUS;
+    check_refused_witness(&it, "a cell", verify(&it), VOLGWAIN_BAD_NUMBER, 1, 3);
+    it.auxiliary[7].c[2] = 1;
+    check_refused_witness(&it, "a fraction", verify(&it), VOLGWAIN_CONSTRAINT_FAILED, 1, 1);
+    check(has_text(&it.refusal, it.text, "air 1: constraint failed at row 1"), "the text of a row");
+    it.auxiliary[7].c[2] = 0;
+    it.terminals[1].value.c[1] = VOLGWAIN_MODULUS;
+    check_refused_witness(&it, "a terminal", verify(&it), VOLGWAIN_BAD_NUMBER, 1, 0);
+    it.terminals[1].value.c[1] = 0;
+    it.terminals[0].present = 0;
+    check_refused_witness(&it, "no terminal", verify(&it), VOLGWAIN_TERMINAL_PRESENCE, 0, 0);
+    check(it.refusal.expected == 1 && it.refusal.actual == 0, "the presence that is expected");
+    it.terminals[0].present = 1;
+    check(verify(&it) == VOLGWAIN_OK, "the witness again");
+
+    /* an entry that is used once less: each AIR satisfies its constraints, and the sum is not zero */
+    make_bus(&it);
+    it.entries[1] = 1;
+    check(prove(&it) == VOLGWAIN_OK, "an unbalanced batch is proved");
+    check_refused_witness(&it, "unbalanced", verify(&it), VOLGWAIN_TERMINAL_SUM, 0, 0);
+}
+
+/* ---- degrees, plans, counts and the debug check ---- */
+
+static void check_degrees(void)
+{
+    struct range it;
+    size_t degrees[2] = {9, 9};
+    make_range(&it);
+    /* two tuples of degree 1: 1 + (1 + 1) */
+    check(volgwain_degrees(&it.tables, degrees, 1, &it.refusal, it.text, sizeof it.text) == VOLGWAIN_OK
+            && degrees[0] == 3 && degrees[1] == 9,
+        "the degree of two tuples");
+    degrees[0] = 9;
+    check(volgwain_degrees(&it.tables, degrees, 2, &it.refusal, it.text, sizeof it.text)
+                == VOLGWAIN_BAD_LENGTH
+            && it.refusal.part == VOLGWAIN_PART_DEGREES && it.refusal.expected == 1
+            && it.refusal.actual == 2 && degrees[0] == 9 && degrees[1] == 9,
+        "room for two degrees");
+    it.records[0].multiplicities.end = 3;
+    check(volgwain_degrees(&it.tables, degrees, 1, &it.refusal, it.text, sizeof it.text)
+            == VOLGWAIN_MALFORMED_LOOKUP,
+        "degrees of a malformed lookup");
+}
+
+static uint32_t plan(struct bus *it, size_t *ids, size_t room, struct volgwain_plan_sizes *sizes)
+{
+    return volgwain_plan(it->airs, 2, ids, room, sizes, &it->refusal, it->text, sizeof it->text);
+}
+
+static void check_planning(void)
+{
+    struct bus it;
+    struct volgwain_plan_sizes sizes = {9, 9};
+    size_t ids[2] = {9, 9};
+    make_bus(&it);
+    check(plan(&it, ids, 1, &sizes) == VOLGWAIN_BAD_LENGTH && it.refusal.part == VOLGWAIN_PART_IDS
+            && it.refusal.expected == 2 && it.refusal.actual == 1 && ids[0] == 9
+            && sizes.max_message_width == 9 && sizes.num_ids == 9,
+        "room for one id");
+    check(plan(&it, ids, 2, &sizes) == VOLGWAIN_OK && ids[0] == 0 && ids[1] == 0
+            && sizes.max_message_width == 1 && sizes.num_ids == 1,
+        "the lookups of a bus share an id");
+    it.provides[0].kind = 0;
+    check(plan(&it, ids, 2, &sizes) == VOLGWAIN_OK && ids[0] == 0 && ids[1] == 1 && sizes.num_ids == 2,
+        "a local lookup has its own");
+}
+
+static uint32_t count(struct bus *it, const struct volgwain_element *alphas, size_t alphas_length,
+    struct volgwain_grid *grid)
+{
+    return volgwain_grid_count(it->airs, 2, it->traces, it->traces_length, alphas, alphas_length,
+        &it->beta, 1, grid, &it->refusal, it->text, sizeof it->text);
+}
+
+static void check_counting(void)
+{
+    /* at 1 the denominator of 3 vanishes, and at 2 that of 4, which has multiplicity zero */
+    static const struct volgwain_element alphas[3] = {{{5, 0, 0, 0}}, {{2, 0, 0, 0}}, {{1, 0, 0, 0}}};
+    static const struct volgwain_element twice[2] = {{{5, 0, 0, 0}}, {{5, 0, 0, 0}}};
+    static const struct volgwain_element large[1] = {{{5, 0, 0, VOLGWAIN_MODULUS}}};
+    struct bus it;
+    struct volgwain_grid grid;
+    memset(&grid, 9, sizeof grid);
+    make_bus(&it);
+    check(count(&it, alphas, 3, &grid) == VOLGWAIN_OK && grid.accepted.low == 2
+            && grid.accepted.high == 0 && grid.bounded == 0 && grid.bound.low == 0
+            && grid.bound.high == 0,
+        "a balanced batch is accepted unless a denominator vanishes");
+    /* 2 messages, 1 of them unbalanced: at most 2 alphas at the one beta; at 2 a fraction is free */
+    it.entries[1] = 1;
+    check(count(&it, alphas, 3, &grid) == VOLGWAIN_OK && grid.accepted.low == 1
+            && grid.accepted.high == 0 && grid.bounded == 1 && grid.bound.low == 2
+            && grid.bound.high == 0,
+        "an unbalanced batch is accepted at few pairs");
+    check(count(&it, twice, 2, &grid) == VOLGWAIN_REPEATED_CHALLENGE && grid.accepted.low == 1,
+        "an alpha twice");
+    check(count(&it, large, 1, &grid) == VOLGWAIN_BAD_NUMBER
+            && it.refusal.part == VOLGWAIN_PART_ALPHAS && grid.bound.low == 2,
+        "an alpha past the modulus");
+}
+
+static uint32_t count_messages(struct bus *it, struct volgwain_counts *counts)
+{
+    return volgwain_soundness_count(it->airs, 2, it->traces, it->traces_length, counts, &it->refusal,
+        it->text, sizeof it->text);
+}
+
+static int are_counts(const struct volgwain_counts *it, uint64_t messages, uint64_t unbalanced,
+    uint64_t bad_betas, uint32_t bounded, uint64_t accepting_alphas)
+{
+    return it->messages.low == messages && it->messages.high == 0 && it->unbalanced.low == unbalanced
+        && it->unbalanced.high == 0 && it->bad_betas.low == bad_betas && it->bad_betas.high == 0
+        && it->bounded == bounded && it->accepting_alphas.low == accepting_alphas
+        && it->accepting_alphas.high == 0;
+}
+
+static void check_message_counts(void)
+{
+    struct bus it;
+    struct volgwain_counts counts;
+    memset(&counts, 9, sizeof counts);
+    make_bus(&it);
+    /* the messages 3 and 4, which both balance */
+    check(count_messages(&it, &counts) == VOLGWAIN_OK && are_counts(&counts, 2, 0, 0, 0, 0),
+        "the messages of a batch that balances");
+    it.keys[1] = 5;
+    /* 3, 4 and 5, of which 3 is provided once too often and 5 never */
+    check(count_messages(&it, &counts) == VOLGWAIN_OK && are_counts(&counts, 3, 2, 1, 1, 4),
+        "the messages of a batch that does not balance");
+    it.provides[0].exclusive = 1;
+    it.provides[0].flags.start = 2;
+    it.provides[0].flags.end = 3;
+    check(count_messages(&it, &counts) == VOLGWAIN_FLAG_NOT_BOOLEAN && it.refusal.air == 1
+            && it.refusal.row == 0 && it.refusal.lookup == 0,
+        "a flag of two");
+    it.airs[0].height = 1;
+    check(count_messages(&it, &counts) == VOLGWAIN_TRACE_MISMATCH && it.refusal.air == 0,
+        "another height");
+    it.traces_length = 1;
+    check(count_messages(&it, &counts) == VOLGWAIN_BAD_LENGTH && it.refusal.part == VOLGWAIN_PART_BATCH
+            && it.refusal.expected == 2 && it.refusal.actual == 1,
+        "one trace");
+    it.keys[0] = VOLGWAIN_MODULUS;
+    check(count_messages(&it, &counts) == VOLGWAIN_BAD_NUMBER && it.refusal.part == VOLGWAIN_PART_MAIN,
+        "a key past the modulus");
+    it.asks[0].kind = 2;
+    check(count_messages(&it, &counts) == VOLGWAIN_BAD_TABLE && it.refusal.part == 4, "no kind of bus");
+    check(are_counts(&counts, 3, 2, 1, 1, 4), "refused counts are kept");
+}
+
+/* ---- packing: a local lookup, and the keys of three columns on one bus ---- */
+
+struct pack {
+    struct volgwain_node nodes[6];
+    struct volgwain_span tuples[4];
+    uint8_t names[1];
+    struct volgwain_record records[4];
+    struct volgwain_tables tables;
+    uint32_t main[8];
+    struct volgwain_traces traces;
+    struct volgwain_node packed_nodes[10];
+    struct volgwain_span packed_tuples[5];
+    uint8_t packed_names[4];
+    struct volgwain_record packed_records[4];
+    size_t lengths[4];
+    struct volgwain_table_sizes sizes;
+    struct volgwain_refusal refusal;
+    char text[300];
+};
+
+static void make_pack(struct pack *it)
+{
+    static const struct volgwain_node nodes[6] = {{VOLGWAIN_MAIN, 0, 0}, {VOLGWAIN_MAIN, 0, 1},
+        {VOLGWAIN_MAIN, 0, 2}, {VOLGWAIN_CONSTANT, 1, 0}, {VOLGWAIN_MAIN, 0, 3}, {VOLGWAIN_NEGATION, 0, 0}};
+    static const struct volgwain_span tuples[4] = {{0, 1}, {1, 2}, {2, 3}, {0, 2}};
+    static const struct volgwain_record records[4] = {{1, 0, 1, {0, 1}, {0, 1}, {3, 4}, {0, 0}},
+        {0, 0, 7, {0, 0}, {0, 1}, {4, 6}, {0, 0}}, {1, 0, 2, {0, 1}, {1, 2}, {3, 4}, {0, 0}},
+        {1, 0, 4, {0, 1}, {2, 3}, {3, 4}, {0, 0}}};
+    static const uint32_t main[8] = {3, 4, 5, 6, 7, 8, 9, 10};
+    static const size_t lengths[4] = {10, 5, 4, 4};
+    memset(it, 9, sizeof *it);
+    memcpy(it->nodes, nodes, sizeof nodes);
+    memcpy(it->tuples, tuples, sizeof tuples);
+    memcpy(it->records, records, sizeof records);
+    memcpy(it->main, main, sizeof main);
+    memcpy(it->lengths, lengths, sizeof lengths);
+    it->names[0] = 'b';
+    it->tables.nodes = it->nodes;
+    it->tables.nodes_length = 6;
+    it->tables.tuples = it->tuples;
+    it->tables.tuples_length = 4;
+    it->tables.names = it->names;
+    it->tables.names_length = 1;
+    it->tables.records = it->records;
+    it->tables.records_length = 4;
+    it->traces.main = it->main;
+    it->traces.main_length = 8;
+    it->traces.main_width = 4;
+    it->traces.preprocessed = it->main;
+    it->traces.preprocessed_length = 0;
+    it->traces.preprocessed_width = 0;
+    it->traces.public_values = it->main;
+    it->traces.public_values_length = 0;
+}
+
+static uint32_t pack(struct pack *it, size_t max_degree)
+{
+    return volgwain_pack(&it->tables, max_degree, it->packed_nodes, it->lengths[0], it->packed_tuples,
+        it->lengths[1], it->packed_names, it->lengths[2], it->packed_records, it->lengths[3], &it->sizes,
+        &it->refusal, it->text, sizeof it->text);
+}
+
+static int is_node(const struct volgwain_node *it, uint32_t kind, uint32_t number, size_t index)
+{
+    return it->kind == kind && it->number == number && it->index == index;
+}
+
+static int is_span(const struct volgwain_span *it, size_t start, size_t end)
+{
+    return it->start == start && it->end == end;
+}
+
+static int are_sizes(const struct volgwain_table_sizes *it, size_t nodes, size_t tuples, size_t names,
+    size_t records)
+{
+    return it->nodes == nodes && it->tuples == tuples && it->names == names && it->records == records;
+}
+
+/* Two fractions without flags have the degree 3, so within it two of the three keys share a column: first the
+   local lookup of column 0 counted minus column 3, then columns 0 and 1, and then column 2. */
+static int is_packed(const struct pack *it)
+{
+    const struct volgwain_node *n = it->packed_nodes;
+    const struct volgwain_span *t = it->packed_tuples;
+    const struct volgwain_record *r = it->packed_records;
+    return it->refusal.code == 0 && it->refusal.text_length == 0 && are_sizes(&it->sizes, 9, 4, 2, 3)
+        && is_node(&n[0], VOLGWAIN_MAIN, 0, 0) && is_node(&n[1], VOLGWAIN_MAIN, 0, 3)
+        && is_node(&n[2], VOLGWAIN_NEGATION, 0, 0) && is_node(&n[3], VOLGWAIN_MAIN, 0, 0)
+        && is_node(&n[4], VOLGWAIN_MAIN, 0, 1) && is_node(&n[5], VOLGWAIN_CONSTANT, 1, 0)
+        && is_node(&n[6], VOLGWAIN_CONSTANT, 1, 0) && is_node(&n[7], VOLGWAIN_MAIN, 0, 2)
+        && is_node(&n[8], VOLGWAIN_CONSTANT, 1, 0) && is_span(&t[0], 0, 1) && is_span(&t[1], 3, 4)
+        && is_span(&t[2], 4, 5) && is_span(&t[3], 7, 8) && it->packed_names[0] == 'b'
+        && it->packed_names[1] == 'b' && r[0].kind == 0 && r[0].exclusive == 0 && r[0].weight == 7
+        && is_span(&r[0].tuples, 0, 1) && is_span(&r[0].multiplicities, 1, 3) && r[1].kind == 1
+        && r[1].exclusive == 0 && r[1].weight == 3 && is_span(&r[1].bus, 0, 1)
+        && is_span(&r[1].tuples, 1, 3) && is_span(&r[1].multiplicities, 5, 7) && r[2].kind == 1
+        && r[2].exclusive == 0 && r[2].weight == 4 && is_span(&r[2].bus, 1, 2)
+        && is_span(&r[2].tuples, 3, 4) && is_span(&r[2].multiplicities, 8, 9);
+}
+
+/* Whether items from an index on are as make_pack left them. */
+#define IS_KEPT(array, from) \
+    (memcmp(&it->array[from], &before.array[from], sizeof before.array - (from) * sizeof *before.array) == 0)
+
+/* Whether all tables are kept from these lengths on. */
+static int are_kept(const struct pack *it, size_t nodes, size_t tuples, size_t names, size_t records)
+{
+    struct pack before;
+    make_pack(&before);
+    return IS_KEPT(packed_nodes, nodes) && IS_KEPT(packed_tuples, tuples) && IS_KEPT(packed_names, names)
+        && IS_KEPT(packed_records, records);
+}
+
+static int is_unpacked(const struct pack *it)
+{
+    struct pack before;
+    make_pack(&before);
+    return are_kept(it, 0, 0, 0, 0) && memcmp(&it->sizes, &before.sizes, sizeof before.sizes) == 0;
+}
+
+static void check_unpacked(struct pack *it, const char *what, uint32_t code, uint32_t part, size_t lookup,
+    size_t expected, size_t actual)
+{
+    const struct volgwain_refusal *r = &it->refusal;
+    uint32_t answer = pack(it, 3);
+    check(answer == code && r->code == code && r->part == part && r->air == 0 && r->row == 0
+            && r->lookup == lookup && r->expected == expected && r->actual == actual,
+        what);
+    check(is_unpacked(it), what);
+    check(r->text_length > 0, what);
+}
+
+/* the terminal of the witness of these tables alone */
+static uint32_t terminal_of(struct pack *it, const struct volgwain_tables *tables, size_t columns,
+    struct volgwain_terminal *terminal)
+{
+    static const struct volgwain_element alpha = {{1000, 0, 0, 0}}, beta = {{2, 0, 0, 0}};
+    struct volgwain_element auxiliary[10];
+    struct volgwain_air air;
+    memset(auxiliary, 0, sizeof auxiliary);
+    air.tables = *tables;
+    air.height = 2;
+    return volgwain_prove(&air, 1, &it->traces, 1, &alpha, &beta, auxiliary, 2 * columns, terminal, 1,
+        &it->refusal, it->text, sizeof it->text);
+}
+
+static void check_packing(void)
+{
+    struct pack it;
+    struct volgwain_tables packed;
+    struct volgwain_terminal one, other;
+    size_t degrees[3] = {9, 9, 9};
+    size_t degree;
+    make_pack(&it);
+    check(pack(&it, 3) == VOLGWAIN_OK && is_packed(&it), "two of three keys share a column");
+    check(are_kept(&it, 9, 4, 2, 3), "what is past the packed tables");
+    packed.nodes = it.packed_nodes;
+    packed.nodes_length = it.sizes.nodes;
+    packed.tuples = it.packed_tuples;
+    packed.tuples_length = it.sizes.tuples;
+    packed.names = it.packed_names;
+    packed.names_length = it.sizes.names;
+    packed.records = it.packed_records;
+    packed.records_length = it.sizes.records;
+    check(volgwain_degrees(&packed, degrees, 3, &it.refusal, it.text, sizeof it.text) == VOLGWAIN_OK
+            && degrees[0] == 2 && degrees[1] == 3 && degrees[2] == 2,
+        "the degrees of the packed lookups");
+    memset(&one, 0, sizeof one);
+    memset(&other, 0, sizeof other);
+    check(terminal_of(&it, &it.tables, 5, &one) == VOLGWAIN_OK
+            && terminal_of(&it, &packed, 4, &other) == VOLGWAIN_OK && one.present == 1
+            && other.present == 1,
+        "both are proved");
+    /* ids are given in the order of lookups, and packing puts local ones first; so those on the bus alone */
+    packed.records = &it.packed_records[1];
+    packed.records_length = 2;
+    it.records[1] = it.records[2];
+    it.records[2] = it.records[3];
+    it.tables.records_length = 3;
+    check(terminal_of(&it, &it.tables, 4, &one) == VOLGWAIN_OK
+            && terminal_of(&it, &packed, 3, &other) == VOLGWAIN_OK
+            && memcmp(&one, &other, sizeof one) == 0,
+        "packing keeps the terminal");
+
+    for (degree = 0; degree < 6; degree++) {
+        static const size_t lengths[4] = {9, 4, 3, 4};
+        make_pack(&it);
+        memcpy(it.lengths, lengths, sizeof lengths);
+        check(pack(&it, degree) == VOLGWAIN_OK, "what the given records have together is room enough");
+    }
+    make_pack(&it);
+    check(pack(&it, 2) == VOLGWAIN_OK && are_sizes(&it.sizes, 9, 4, 3, 4), "within 2 none share one");
+    make_pack(&it);
+    check(pack(&it, 4) == VOLGWAIN_OK && are_sizes(&it.sizes, 9, 4, 1, 2), "within 4 all do");
+    make_pack(&it);
+    it.tables.records_length = 0;
+    it.lengths[0] = it.lengths[1] = it.lengths[2] = it.lengths[3] = 0;
+    check(pack(&it, 3) == VOLGWAIN_OK && are_sizes(&it.sizes, 0, 0, 0, 0), "no lookups are packed");
+
+    make_pack(&it);
+    it.lengths[0] = 8;
+    check_unpacked(&it, "room for eight nodes", VOLGWAIN_BAD_LENGTH, VOLGWAIN_PART_NODES, 0, 9, 8);
+    make_pack(&it);
+    it.lengths[1] = 3;
+    check_unpacked(&it, "room for three tuples", VOLGWAIN_BAD_LENGTH, VOLGWAIN_PART_TUPLES, 0, 4, 3);
+    make_pack(&it);
+    it.lengths[2] = 1;
+    check_unpacked(&it, "room for one name", VOLGWAIN_BAD_LENGTH, VOLGWAIN_PART_NAMES, 0, 2, 1);
+    make_pack(&it);
+    it.lengths[3] = 2;
+    check_unpacked(&it, "room for two records", VOLGWAIN_BAD_LENGTH, VOLGWAIN_PART_RECORDS, 0, 3, 2);
+    make_pack(&it);
+    it.records[2].kind = 2;
+    check_unpacked(&it, "no kind of bus", VOLGWAIN_BAD_TABLE, 4, 2, 0, 0);
+    make_pack(&it);
+    it.records[2].multiplicities.end = 3;
+    check_unpacked(&it, "no multiplicity", VOLGWAIN_MALFORMED_LOOKUP, 0, 2, 0, 0);
+    make_pack(&it);
+    it.records[2].tuples.start = 3;
+    it.records[2].tuples.end = 4;
+    check_unpacked(&it, "two cells beside one", VOLGWAIN_TUPLE_WIDTHS, 0, 0, 1, 2);
+    make_pack(&it);
+    it.records[0].weight = UINT64_MAX;
+    check_unpacked(&it, "weights past 64 bits", VOLGWAIN_WEIGHT_OVERFLOW, 0, 0, 0, 0);
+}
+
+/* ---- JSON: the worked rows' lookup, and one with all that there is ---- */
+
+static const char range_json[] =
+    "[{\"kind\":\"Local\",\"elements\":[[{\"Leaf\":{\"Variable\":{\"entry\":{\"Main\":{\"offset\":0}},"
+    "\"index\":0}}}],[{\"Leaf\":{\"Variable\":{\"entry\":{\"Main\":{\"offset\":0}},\"index\":1}}}]],"
+    "\"multiplicities\":[{\"Leaf\":{\"Constant\":1}},{\"Neg\":{\"Leaf\":{\"Variable\":{\"entry\":"
+    "{\"Main\":{\"offset\":0}},\"index\":2}}}}],\"count_weight\":1,\"column\":0,\"flags\":null}]";
+
+static const char whole_json[] =
+    "[{\"kind\":{\"Global\":\"b\\u00e9\"},\"elements\":[[{\"Sub\":[{\"Leaf\":{\"Variable\":{\"entry\":"
+    "{\"Preprocessed\":{\"offset\":1}},\"index\":3}}},{\"Mul\":[{\"Leaf\":{\"Variable\":{\"entry\":"
+    "\"Public\",\"index\":4}}},{\"Leaf\":\"IsLastRow\"}]}]}]],\"multiplicities\":[{\"Add\":"
+    "[{\"Leaf\":\"IsFirstRow\"},{\"Leaf\":\"IsTransition\"}]}],\"count_weight\":18446744073709551615,"
+    "\"column\":0,\"flags\":[{\"Leaf\":{\"Constant\":2013265920}}]}]";
+
+static uint32_t read_json(struct pack *it, const char *json, size_t length)
+{
+    return volgwain_read_json(json, length, it->packed_nodes, it->lengths[0], it->packed_tuples,
+        it->lengths[1], it->packed_names, it->lengths[2], it->packed_records, it->lengths[3], &it->sizes,
+        &it->refusal, it->text, sizeof it->text);
+}
+
+static int is_read(const struct pack *it)
+{
+    const struct volgwain_node *n = it->packed_nodes;
+    const struct volgwain_record *r = it->packed_records;
+    return it->refusal.code == 0 && are_sizes(&it->sizes, 9, 1, 3, 1)
+        && is_node(&n[0], VOLGWAIN_PREPROCESSED, 1, 3) && is_node(&n[1], VOLGWAIN_PUBLIC, 0, 4)
+        && is_node(&n[2], VOLGWAIN_LAST_ROW, 0, 0) && is_node(&n[3], VOLGWAIN_PRODUCT, 0, 0)
+        && is_node(&n[4], VOLGWAIN_DIFFERENCE, 0, 0) && is_node(&n[5], VOLGWAIN_FIRST_ROW, 0, 0)
+        && is_node(&n[6], VOLGWAIN_TRANSITION, 0, 0) && is_node(&n[7], VOLGWAIN_SUM, 0, 0)
+        && is_node(&n[8], VOLGWAIN_CONSTANT, 2013265920u, 0) && is_span(&it->packed_tuples[0], 0, 5)
+        && memcmp(it->packed_names, "b\xc3\xa9", 3) == 0 && r->kind == 1 && r->exclusive == 1
+        && r->weight == UINT64_MAX && is_span(&r->bus, 0, 3) && is_span(&r->tuples, 0, 1)
+        && is_span(&r->multiplicities, 5, 8) && is_span(&r->flags, 8, 9);
+}
+
+static void check_unread(struct pack *it, const char *what, const char *json, uint32_t code, uint32_t part,
+    size_t lookup, size_t expected, size_t actual)
+{
+    const struct volgwain_refusal *r = &it->refusal;
+    uint32_t answer = read_json(it, json, strlen(json));
+    check(answer == code && r->code == code && r->part == part && r->air == 0 && r->row == 0
+            && r->lookup == lookup && r->expected == expected && r->actual == actual,
+        what);
+    check(is_unpacked(it), what);
+    check(r->text_length > 0, what);
+}
+
+static void check_json(void)
+{
+    struct pack it;
+    struct range one;
+    make_pack(&it);
+    check(read_json(&it, range_json, strlen(range_json)) == VOLGWAIN_OK
+            && are_sizes(&it.sizes, 5, 2, 0, 1),
+        "the worked lookup is read");
+    check(are_kept(&it, 5, 2, 0, 1), "what is past the tables that are read");
+    make_range(&one);
+    one.tables.nodes = it.packed_nodes;
+    one.tables.tuples = it.packed_tuples;
+    one.tables.records = it.packed_records;
+    check(generate(&one) == VOLGWAIN_OK && is_generated(&one), "and the worked rows are generated");
+    make_pack(&it);
+    check(read_json(&it, whole_json, strlen(whole_json)) == VOLGWAIN_OK && is_read(&it),
+        "a lookup with all that there is");
+    make_pack(&it);
+    check(read_json(&it, "[]", 2) == VOLGWAIN_OK && are_sizes(&it.sizes, 0, 0, 0, 0), "no lookups");
+
+    make_pack(&it);
+    check_unread(&it, "no JSON", "[{", VOLGWAIN_BAD_TEXT, 0, 0, 0, 0);
+    check_unread(&it, "no lookups", "[7]", VOLGWAIN_BAD_TEXT, 0, 0, 0, 0);
+    check_unread(&it, "no text", "", VOLGWAIN_BAD_TEXT, 0, 0, 0, 0);
+    check_unread(&it, "no UTF-8", "[\xff]", VOLGWAIN_BAD_TEXT, 0, 0, 0, 0);
+    check_unread(&it, "a tuple without a count",
+        "[{\"kind\":\"Local\",\"elements\":[[]],\"multiplicities\":[],\"count_weight\":0,\"column\":0}]",
+        VOLGWAIN_MALFORMED_LOOKUP, 0, 0, 0, 0);
+    check_unread(&it, "another column",
+        "[{\"kind\":\"Local\",\"elements\":[],\"multiplicities\":[],\"count_weight\":0,\"column\":1}]",
+        VOLGWAIN_MALFORMED_LOOKUP, 0, 0, 0, 0);
+    check_unread(&it, "a row past 32 bits",
+        "[{\"kind\":\"Local\",\"elements\":[[]],\"multiplicities\":[{\"Leaf\":{\"Variable\":{\"entry\":"
+        "{\"Main\":{\"offset\":4294967296}},\"index\":0}}}],\"count_weight\":0,\"column\":0}]",
+        VOLGWAIN_BAD_TABLE, 7, 0, 0, 0);
+    it.lengths[0] = 4;
+    check_unread(&it, "room for four nodes", range_json, VOLGWAIN_BAD_LENGTH, VOLGWAIN_PART_NODES, 0, 5, 4);
+    it.lengths[0] = 5;
+    it.lengths[1] = 1;
+    check_unread(&it, "room for a tuple", range_json, VOLGWAIN_BAD_LENGTH, VOLGWAIN_PART_TUPLES, 0, 2, 1);
+    it.lengths[1] = 2;
+    it.lengths[3] = 0;
+    check_unread(
+        &it, "room for no record", range_json, VOLGWAIN_BAD_LENGTH, VOLGWAIN_PART_RECORDS, 0, 1, 0);
+    it.lengths[0] = 9;
+    it.lengths[2] = 2;
+    check_unread(&it, "room for two bytes", whole_json, VOLGWAIN_BAD_LENGTH, VOLGWAIN_PART_NAMES, 0, 3, 2);
+}
+
+static uint32_t debug_check(struct range *it, size_t traces_length)
+{
+    return volgwain_debug_check(
+        &it->tables, 1, &it->traces, traces_length, &it->refusal, it->text, sizeof it->text);
+}
+
+static void check_debugging(void)
+{
+    struct range it;
+    make_range(&it);
+    check(debug_check(&it, 1) == VOLGWAIN_OK, "the worked rows balance");
+    check(debug_check(&it, 0) == VOLGWAIN_BAD_LENGTH && it.refusal.part == VOLGWAIN_PART_BATCH
+            && it.refusal.expected == 1 && it.refusal.actual == 0,
+        "no traces");
+    it.main[2] = 2;
+    check(debug_check(&it, 1) == VOLGWAIN_MISMATCH, "the entry 4 is used once too often");
+    check(has_text(&it.refusal, it.text,
+              "Lookup mismatch (instance 0 local lookup 0): tuple [4] has net multiplicity 2013265920 at "
+              "instance 0 lookup 0 row 0; instance 0 lookup 0 row 1"),
+        "the text of a mismatch");
+    it.nodes[3].index = 3;
+    check(debug_check(&it, 1) == VOLGWAIN_DOES_NOT_FIT, "a column past the trace");
+}
+
+/* ---- memory that runs out ---- */
+
+static uint32_t try_generate(void)
+{
+    struct range it;
+    uint32_t code;
+    make_range(&it);
+    code = generate(&it);
+    check(code == VOLGWAIN_OK ? is_generated(&it) : is_untouched(&it), "generation without memory");
+    check(code == VOLGWAIN_OK || has_text(&it.refusal, it.text, "out of memory"), "its text");
+    return code;
+}
+
+static uint32_t try_prove(void)
+{
+    struct bus it;
+    uint32_t code;
+    make_bus(&it);
+    code = prove(&it);
+    check(code == VOLGWAIN_OK ? is_proved(&it) : is_unproved(&it), "a proof without memory");
+    return code;
+}
+
+static uint32_t try_verify(void)
+{
+    static const uint32_t cells[8] = {0, QUARTER, QUARTER, QUARTER, 0, MINUS_HALF, MINUS_HALF, 0};
+    struct bus it;
+    int i;
+    make_bus(&it);
+    memset(it.auxiliary, 0, sizeof it.auxiliary);
+    memset(it.terminals, 0, sizeof it.terminals);
+    for (i = 0; i < 8; i++)
+        it.auxiliary[i].c[0] = cells[i];
+    for (i = 0; i < 2; i++) {
+        it.terminals[i].present = 1;
+        it.terminals[i].value.c[0] = i == 0 ? HALF : MINUS_HALF;
+    }
+    return verify(&it);
+}
+
+static uint32_t try_degrees(void)
+{
+    struct range it;
+    size_t degree = 9;
+    uint32_t code;
+    make_range(&it);
+    code = volgwain_degrees(&it.tables, &degree, 1, &it.refusal, it.text, sizeof it.text);
+    check(degree == (code == VOLGWAIN_OK ? 3 : 9), "degrees without memory");
+    return code;
+}
+
+static uint32_t try_plan(void)
+{
+    struct bus it;
+    struct volgwain_plan_sizes sizes = {9, 9};
+    size_t ids[2] = {9, 9};
+    uint32_t code;
+    make_bus(&it);
+    code = plan(&it, ids, 2, &sizes);
+    check(ids[1] == (code == VOLGWAIN_OK ? 0 : 9) && sizes.num_ids == (code == VOLGWAIN_OK ? 1 : 9),
+        "a plan without memory");
+    return code;
+}
+
+static uint32_t try_count(void)
+{
+    static const struct volgwain_element alphas[3] = {{{5, 0, 0, 0}}, {{2, 0, 0, 0}}, {{1, 0, 0, 0}}};
+    struct bus it;
+    struct volgwain_grid grid;
+    uint32_t code;
+    memset(&grid, 0, sizeof grid);
+    make_bus(&it);
+    code = count(&it, alphas, 3, &grid);
+    check(grid.accepted.low == (code == VOLGWAIN_OK ? 2 : 0), "a count without memory");
+    return code;
+}
+
+static uint32_t try_debug_check(void)
+{
+    struct range it;
+    make_range(&it);
+    return debug_check(&it, 1);
+}
+
+static uint32_t try_generate_by_ids(void)
+{
+    static const struct volgwain_plan_sizes sizes = {1, 1};
+    static const size_t ids[1] = {0};
+    struct bus it;
+    uint32_t code;
+    make_bus(&it);
+    code = by_ids(&it, 0, ids, 1, &sizes);
+    check(code == VOLGWAIN_OK ? is_base(&it.auxiliary[1], QUARTER) : is_unproved(&it),
+        "generation by ids without memory");
+    return code;
+}
+
+static uint32_t try_soundness_count(void)
+{
+    struct bus it;
+    struct volgwain_counts counts;
+    uint32_t code;
+    memset(&counts, 0, sizeof counts);
+    make_bus(&it);
+    code = count_messages(&it, &counts);
+    check(counts.messages.low == (code == VOLGWAIN_OK ? 2 : 0), "counts without memory");
+    return code;
+}
+
+static uint32_t try_pack(void)
+{
+    struct pack it;
+    uint32_t code;
+    make_pack(&it);
+    code = pack(&it, 3);
+    check(code == VOLGWAIN_OK ? is_packed(&it) : is_unpacked(&it), "packing without memory");
+    return code;
+}
+
+static uint32_t try_read_json(void)
+{
+    struct pack it;
+    uint32_t code;
+    make_pack(&it);
+    code = read_json(&it, whole_json, strlen(whole_json));
+    check(code == VOLGWAIN_OK ? is_read(&it) : is_unpacked(&it), "JSON without memory");
+    check(code == VOLGWAIN_OK || has_text(&it.refusal, it.text, "out of memory"), "its text");
+    return code;
+}
+
+/* a mismatch, whose text needs memory */
+static uint32_t try_mismatch(void)
+{
+    struct range it;
+    uint32_t code;
+    make_range(&it);
+    it.main[2] = 2;
+    code = debug_check(&it, 1);
+    return code == VOLGWAIN_MISMATCH ? VOLGWAIN_OK : code;
+}
+
+/* Refuses each request of a call in turn, alone and with all later ones. */
+static void check_memory(const char *name, uint32_t (*call)(void))
+{
+    int all;
+    for (all = 0; all < 2; all++) {
+        long requests = 0;
+        uint32_t code;
+        do {
+            refuses_all = all;
+            before_refusal = requests;
+            code = call();
+            before_refusal = -1;
+            check(code == VOLGWAIN_OK || code == VOLGWAIN_OUT_OF_MEMORY, "the code of refused memory");
+            check(live == 0, "nothing is leaked");
+            requests++;
+        } while (code != VOLGWAIN_OK && requests < 10000);
+        check(requests > 5 && requests < 10000, name);
+        if (all == 0)
+            printf("%s: %ld requests for memory, each refused in turn\n", name, requests - 1);
+    }
+}
+
+/* ---- threads ---- */
+
+static void *run_calls(void *unused)
+{
+    long wrong = 0;
+    int round;
+    (void)unused;
+    for (round = 0; round < 200; round++) {
+        struct range one;
+        struct bus two;
+        struct pack three;
+        make_range(&one);
+        make_bus(&two);
+        make_pack(&three);
+        if (generate(&one) != VOLGWAIN_OK || !is_generated(&one))
+            wrong++;
+        if (prove(&two) != VOLGWAIN_OK || !is_proved(&two) || verify(&two) != VOLGWAIN_OK)
+            wrong++;
+        if (pack(&three, 3) != VOLGWAIN_OK || !is_packed(&three)
+            || read_json(&three, whole_json, strlen(whole_json)) != VOLGWAIN_OK || !is_read(&three))
+            wrong++;
+    }
+    return (void *)wrong;
+}
+
+static void check_threads(void)
+{
+    pthread_t threads[4];
+    int i;
+    for (i = 0; i < 4; i++)
+        if (pthread_create(&threads[i], NULL, run_calls, NULL) != 0)
+            exit(3);
+    for (i = 0; i < 4; i++) {
+        void *wrong = NULL;
+        pthread_join(threads[i], &wrong);
+        check(wrong == NULL, "four threads at once");
+    }
+}
+
+/* ---- a small stack: the deepest expressions that are read ---- */
+
+#define DEEPEST VOLGWAIN_MOST_DEPTH
+
+struct deep {
+    struct volgwain_node nodes[2 * DEEPEST + 2];
+    size_t length;
+    struct volgwain_node packed_nodes[8 * DEEPEST];
+    char json[12 * DEEPEST];
+};
+
+static struct deep deep;
+
+/* column 0 negated, so deep */
+static void make_negations(size_t depth)
+{
+    size_t i;
+    deep.length = 0;
+    for (i = 0; i < depth; i++) {
+        struct volgwain_node *node = &deep.nodes[deep.length++];
+        node->kind = i == 0 ? VOLGWAIN_MAIN : VOLGWAIN_NEGATION;
+        node->number = 0;
+        node->index = 0;
+    }
+}
+
+/* column 0, and zeros added to it from the right, or to which it is added last, so deep */
+static void make_sums(size_t depth, int leans_left)
+{
+    size_t i;
+    memset(deep.nodes, 0, sizeof deep.nodes);
+    deep.length = 2 * depth - 1;
+    for (i = 0; i < deep.length; i++) {
+        int is_sum = leans_left ? i > 0 && i % 2 == 0 : i >= depth;
+        int is_cell = leans_left ? i == 0 : i == depth - 1;
+        deep.nodes[i].kind = is_sum ? VOLGWAIN_SUM : is_cell ? VOLGWAIN_MAIN : VOLGWAIN_CONSTANT;
+    }
+}
+
+/* Every call on one lookup, [the expression] with the same multiplicity, on a trace of one row. A call that is
+   not refused goes on to the next one. */
+static uint32_t go_deep(struct volgwain_refusal *refusal)
+{
+    struct volgwain_span tuple = {0, 0};
+    struct volgwain_record record = {1, 0, 0, {0, 1}, {0, 1}, {0, 0}, {0, 0}};
+    struct volgwain_record records[2];
+    uint32_t cell[1] = {3};
+    uint8_t name[1] = {'b'}, packed_name[2];
+    struct volgwain_air air;
+    struct volgwain_traces traces = {NULL, 1, 1, NULL, 0, 0, NULL, 0};
+    struct volgwain_element challenges[2] = {{{5, 0, 0, 0}}, {{2, 0, 0, 0}}};
+    struct volgwain_element auxiliary[2] = {{{0, 0, 0, 0}}, {{0, 0, 0, 0}}};
+    struct volgwain_terminal terminal = {0, {{0, 0, 0, 0}}};
+    struct volgwain_air_witness witness;
+    struct volgwain_plan_sizes sizes = {0, 0};
+    struct volgwain_table_sizes table_sizes = {0, 0, 0, 0};
+    struct volgwain_span packed_tuples[2] = {{0, 0}, {0, 0}};
+    struct volgwain_record packed_records[2];
+    struct volgwain_counts counts;
+    struct volgwain_grid grid;
+    size_t id[1] = {0}, degree[1] = {0};
+    char text[1] = "";
+    uint32_t code;
+    memset(&counts, 0, sizeof counts);
+    memset(&grid, 0, sizeof grid);
+    memset(packed_records, 0, sizeof packed_records);
+    memset(packed_name, 0, sizeof packed_name);
+    tuple.end = deep.length;
+    record.multiplicities.end = deep.length;
+    records[0] = records[1] = record;
+    traces.main = cell;
+    traces.preprocessed = cell;
+    traces.public_values = cell;
+    air.tables.nodes = deep.nodes;
+    air.tables.nodes_length = deep.length;
+    air.tables.tuples = &tuple;
+    air.tables.tuples_length = 1;
+    air.tables.names = name;
+    air.tables.names_length = 1;
+    air.tables.records = records;
+    air.tables.records_length = 1;
+    air.height = 1;
+    code = volgwain_generate(&air.tables, &traces, challenges, 2, auxiliary, 2, &terminal, refusal, text, 0);
+    if (code != VOLGWAIN_OK)
+        return code;
+    code = volgwain_degrees(&air.tables, degree, 1, refusal, text, 0);
+    if (code != VOLGWAIN_OK)
+        return code;
+    code = volgwain_plan(&air, 1, id, 1, &sizes, refusal, text, 0);
+    if (code != VOLGWAIN_OK)
+        return code;
+    code = volgwain_generate_by_ids(&air.tables, &traces, id, 1, &sizes, &challenges[0], &challenges[1],
+        auxiliary, 2, &terminal, refusal, text, 0);
+    if (code != VOLGWAIN_OK)
+        return code;
+    code = volgwain_soundness_count(&air, 1, &traces, 1, &counts, refusal, text, 0);
+    if (code != VOLGWAIN_OK)
+        return code;
+    code = volgwain_grid_count(
+        &air, 1, &traces, 1, challenges, 1, &challenges[1], 1, &grid, refusal, text, 0);
+    if (code != VOLGWAIN_OK)
+        return code;
+    air.tables.records_length = 2;
+    code = volgwain_pack(&air.tables, 3, deep.packed_nodes, 8 * DEEPEST, packed_tuples, 2, packed_name, 2,
+        packed_records, 2, &table_sizes, refusal, text, 0);
+    air.tables.records_length = 1;
+    if (code != VOLGWAIN_OK)
+        return code;
+    code = volgwain_debug_check(&air.tables, 1, &traces, 1, refusal, text, 0);
+    if (code != VOLGWAIN_MISMATCH)
+        return code;
+    code = volgwain_prove(&air, 1, &traces, 1, &challenges[0], &challenges[1], auxiliary, 2, &terminal, 1,
+        refusal, text, 0);
+    if (code != VOLGWAIN_OK)
+        return code;
+    witness.auxiliary = auxiliary;
+    witness.auxiliary_length = 2;
+    witness.width = 2;
+    witness.terminal = terminal;
+    return volgwain_verify(&air, 1, &traces, 1, &challenges[0], &challenges[1], &witness, 1, refusal, text, 0);
+}
+
+/* a lookup whose multiplicity is a constant that is negated so often, from JSON */
+static uint32_t read_deep(size_t negations, struct volgwain_refusal *refusal)
+{
+    struct volgwain_span tuples[1] = {{0, 0}};
+    struct volgwain_record records[1];
+    struct volgwain_table_sizes sizes = {0, 0, 0, 0};
+    uint8_t names[1] = {0};
+    char text[1] = "";
+    size_t i;
+    memset(records, 0, sizeof records);
+    strcpy(deep.json, "[{\"kind\":\"Local\",\"elements\":[[]],\"multiplicities\":[");
+    for (i = 0; i < negations; i++)
+        strcat(deep.json, "{\"Neg\":");
+    strcat(deep.json, "{\"Leaf\":{\"Constant\":1}}");
+    for (i = 0; i < negations; i++)
+        strcat(deep.json, "}");
+    strcat(deep.json, "],\"count_weight\":0,\"column\":0}]");
+    return volgwain_read_json(deep.json, strlen(deep.json), deep.packed_nodes, DEEPEST, tuples, 1, names, 1,
+        records, 1, &sizes, refusal, text, 0);
+}
+
+static void *run_deep(void *unused)
+{
+    struct volgwain_refusal refusal;
+    int leans_left;
+    (void)unused;
+    /* one message that does not balance: its terminal is not zero */
+    make_negations(DEEPEST);
+    check(go_deep(&refusal) == VOLGWAIN_TERMINAL_SUM, "negations 1024 deep");
+    make_negations(DEEPEST + 1);
+    check(go_deep(&refusal) == VOLGWAIN_BAD_TABLE && refusal.part == 1 && refusal.row == DEEPEST,
+        "negations 1025 deep");
+    for (leans_left = 0; leans_left < 2; leans_left++) {
+        make_sums(DEEPEST, leans_left);
+        check(go_deep(&refusal) == VOLGWAIN_TERMINAL_SUM, "sums 1024 deep");
+        make_sums(DEEPEST + 1, leans_left);
+        check(go_deep(&refusal) == VOLGWAIN_BAD_TABLE && refusal.part == 1
+                && refusal.row == 2 * DEEPEST,
+            "sums 1025 deep");
+    }
+    check(read_deep(100, &refusal) == VOLGWAIN_OK, "JSON 100 deep");
+    check(read_deep(1000, &refusal) == VOLGWAIN_BAD_TEXT, "JSON 1000 deep");
+    return NULL;
+}
+
+static void check_stack(void)
+{
+    pthread_attr_t attributes;
+    pthread_t thread;
+    pthread_attr_init(&attributes);
+    if (pthread_attr_setstacksize(&attributes, 256 * 1024) != 0
+        || pthread_create(&thread, &attributes, run_deep, NULL) != 0)
+        exit(3);
+    pthread_join(thread, NULL);
+}
+
+int main(void)
+{
+    check_sizes();
+    check_generation();
+    check_proving();
+    check_air_by_air();
+    check_generation_by_ids();
+    check_tuple_widths();
+    check_verification();
+    check_degrees();
+    check_planning();
+    check_counting();
+    check_message_counts();
+    check_packing();
+    check_json();
+    check_debugging();
+    check(live == 0, "nothing is leaked");
+    check_memory("generate", try_generate);
+    check_memory("prove", try_prove);
+    check_memory("verify", try_verify);
+    check_memory("degrees", try_degrees);
+    check_memory("plan", try_plan);
+    check_memory("generate_by_ids", try_generate_by_ids);
+    check_memory("grid_count", try_count);
+    check_memory("soundness_count", try_soundness_count);
+    check_memory("pack", try_pack);
+    check_memory("read_json", try_read_json);
+    check_memory("debug_check", try_debug_check);
+    check_memory("debug_check of a mismatch", try_mismatch);
+    check_threads();
+    check_stack();
+    if (failures == 0)
+        printf("all calls answer as expected\n");
+    return failures == 0 ? 0 : 1;
+}

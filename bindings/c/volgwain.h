@@ -1,0 +1,438 @@
+/* Volgwain for C: the calls of a LogUp lookup layer over BabyBear, the integers modulo
+   2013265921 = 15 * 2^27 + 1, with challenges in its quartic extension, the polynomials modulo
+   X^4 - 11. C99 and C++17. The library is static: link liblookup_c.a and the kit's liblibc_c.a, which
+   calls malloc, realloc and free.
+
+   For every call:
+
+   - Memory. No memory and no handle is handed over. A call reads what its const pointers point to, and
+     writes into the arrays of its caller. It frees all that it allocates before it returns, and keeps no
+     pointer.
+   - Pointers. No pointer may be NULL, also where a length is 0. A length counts items, and not bytes. Each
+     array that a call writes must be initialised, and must not overlap any other argument; those that it
+     reads may overlap one another.
+   - Answers. A call returns 0, or the code of a refusal, and fills *refusal in both cases. A refused call
+     leaves all else that it would write as it was, but for `text`. In a call over one AIR `air` is 0, also
+     in the text.
+   - Order. Each call lists its codes from the first test to the last; code 1 may come at any point. That a
+     refusal is true of the arguments, and names the first record, number, AIR or row of its kind, is
+     proved. The order of the codes is only tested.
+   - Texts. `text` gets what a refusal says, in UTF-8 and without a closing zero: its first bytes, as many
+     as there is room for, so the cut may split a character. `refusal->text_length` is the length of the
+     whole in bytes, and 0 where nothing was refused.
+   - Stack. A call needs at most 256 KB of it.
+   - Threads. Calls may run at once, as long as what one of them writes no other reads or writes.
+     malloc and its kin have to allow that. No call from a signal handler. */
+#ifndef VOLGWAIN_H
+#define VOLGWAIN_H
+
+#include <stddef.h>
+#include <stdint.h>
+
+#ifdef __cplusplus
+extern "C" {
+#endif
+
+/* Numbers of the base field are uint32_t below the modulus. */
+#define VOLGWAIN_MODULUS 2013265921u
+
+/* The deepest expression, and the most nodes of one list of expressions, that are read. */
+#define VOLGWAIN_MOST_DEPTH 1024
+#define VOLGWAIN_MOST_NODES 1048576
+
+/* An element of the extension: four numbers below the modulus, lowest power first. */
+struct volgwain_element {
+    uint32_t c[4];
+};
+
+/* ---- expressions ---- */
+
+enum {
+    VOLGWAIN_MAIN = 0,         /* a cell of the main trace: number is its row, 0 or 1; index its column */
+    VOLGWAIN_PREPROCESSED = 1, /* a cell of the preprocessed trace, likewise */
+    VOLGWAIN_PUBLIC = 2,       /* a public value: index */
+    VOLGWAIN_FIRST_ROW = 3,    /* selectors: nothing else */
+    VOLGWAIN_LAST_ROW = 4,
+    VOLGWAIN_TRANSITION = 5,
+    VOLGWAIN_CONSTANT = 6,     /* number, below the modulus */
+    VOLGWAIN_SUM = 7,          /* of the two expressions before it */
+    VOLGWAIN_DIFFERENCE = 8,   /* the earlier one minus the later one */
+    VOLGWAIN_PRODUCT = 9,
+    VOLGWAIN_NEGATION = 10     /* of the expression before it */
+};
+
+/* A node of an expression. Expressions stand in postfix order: a list of them is the nodes of the first,
+   then those of the second, and so on, and an operation follows its operands. A field that a kind does
+   not have is 0. So each list of expressions is written in one way. */
+struct volgwain_node {
+    uint32_t kind;
+    uint32_t number;
+    size_t index;
+};
+
+/* ---- lookups ---- */
+
+/* A range of a table: from start up to, but not including, end. */
+struct volgwain_span {
+    size_t start;
+    size_t end;
+};
+
+/* A lookup. A range of nodes is a whole list of expressions: those of one tuple, all multiplicities, or
+   all flags. Ranges may overlap, or be the same. There is one multiplicity for each tuple and, with flags,
+   one flag for each. */
+struct volgwain_record {
+    uint32_t kind;      /* 0 local, 1 on a bus */
+    uint32_t exclusive; /* 0 without flags, 1 with flags */
+    uint64_t weight;    /* the most that the queries of one row add to a count */
+    struct volgwain_span bus;            /* of names, in UTF-8; not read for a local lookup */
+    struct volgwain_span tuples;         /* of tuples */
+    struct volgwain_span multiplicities; /* of nodes */
+    struct volgwain_span flags;          /* of nodes; not read without flags */
+};
+
+/* The lookups of one AIR, in the order of their columns. */
+struct volgwain_tables {
+    const struct volgwain_node *nodes;
+    size_t nodes_length;
+    const struct volgwain_span *tuples; /* for each tuple its range of nodes */
+    size_t tuples_length;
+    const uint8_t *names; /* the names of buses */
+    size_t names_length;
+    const struct volgwain_record *records; /* the lookups */
+    size_t records_length;
+};
+
+/* The traces and the public values of one AIR. A trace is its cells, row after row; a width is how many
+   of them make a row. A preprocessed trace of width 0 is none. Both have the same height. */
+struct volgwain_traces {
+    const uint32_t *main;
+    size_t main_length;
+    size_t main_width;
+    const uint32_t *preprocessed;
+    size_t preprocessed_length;
+    size_t preprocessed_width;
+    const uint32_t *public_values;
+    size_t public_values_length;
+};
+
+/* The terminal of an AIR, the sum of all its fractions: present is 1, and 0 if it has no lookups. */
+struct volgwain_terminal {
+    uint32_t present;
+    struct volgwain_element value;
+};
+
+/* ---- refusals ---- */
+
+enum {
+    VOLGWAIN_OK = 0,
+    VOLGWAIN_OUT_OF_MEMORY = 1,
+    VOLGWAIN_BAD_TABLE = 2,     /* air, lookup: the first record that is no lookup. part: 1 a node, and row
+                                   is its index; 2 a range past its table; 3 a list of too many nodes; 4 a
+                                   kind that is neither 0 nor 1; 5 a name that is not UTF-8. Or the first
+                                   lookup that a call cannot write: a packed one, or one of a text. part: 6
+                                   an expression that is too deep; 7 a row that does not fit 32 bits; 8 a
+                                   list of too many nodes */
+    VOLGWAIN_BAD_NUMBER = 3,    /* part, air, row: the index of a number, or of a group of four, that is not
+                                   below the modulus; of an id, that is not below num_ids; of the sizes of a
+                                   plan, 0: max_message_width is 0 */
+    VOLGWAIN_BAD_LENGTH = 4,    /* part, expected, actual: the length of an array; where the call says so, it
+                                   may be greater than expected */
+    VOLGWAIN_NO_WHOLE_ROWS = 5, /* part, air: the width of a trace does not divide its length, or is 0
+                                   where there are cells */
+    VOLGWAIN_DOES_NOT_FIT = 6,  /* air: a lookup has lists of different lengths, or reads past the traces, or a
+                                   row that is neither this one nor the next one */
+    VOLGWAIN_OTHER_HEIGHT = 7,  /* air: the preprocessed trace is not as high as the main one */
+    VOLGWAIN_VANISHING_DENOMINATOR = 8, /* air, row, lookup */
+    VOLGWAIN_FLAG_NOT_BOOLEAN = 9,      /* air, row, lookup */
+    VOLGWAIN_FLAGS_NOT_EXCLUSIVE = 10,  /* air, row, lookup */
+    VOLGWAIN_MALFORMED_LOOKUP = 11,     /* air, lookup: lists of different lengths, or another column */
+    VOLGWAIN_BUS_WIDTHS = 12,           /* expected, actual: tuples of two widths on one bus */
+    VOLGWAIN_TUPLE_WIDTHS = 13,         /* expected, actual: tuples of two widths in a local lookup, or on a
+                                           bus that is packed */
+    VOLGWAIN_TOO_MANY_IDS = 14,         /* actual */
+    VOLGWAIN_HEIGHT_BOUND = 15,         /* weights times heights reach the modulus */
+    VOLGWAIN_TRACE_MISMATCH = 16,       /* air: the traces do not have the height, or do not fit */
+    VOLGWAIN_TERMINAL_PRESENCE = 17,    /* air, expected, actual: 1 present, 0 absent */
+    VOLGWAIN_AUXILIARY_WIDTH = 18,      /* air, expected */
+    VOLGWAIN_AUXILIARY_HEIGHT = 19,     /* air */
+    VOLGWAIN_CONSTRAINT_FAILED = 20,    /* air, row: the first row of the first AIR */
+    VOLGWAIN_TERMINAL_SUM = 21,         /* the terminals do not sum to zero */
+    VOLGWAIN_REPEATED_CHALLENGE = 22,
+    VOLGWAIN_COUNT_OVERFLOW = 23,       /* a count does not fit 128 bits */
+    VOLGWAIN_WEIGHT_OVERFLOW = 24,      /* air: weights that are added do not fit 64 bits */
+    VOLGWAIN_DEGREE_OVERFLOW = 25,      /* air: a degree does not fit 64 bits */
+    VOLGWAIN_MISMATCH = 26,             /* a tuple does not balance; the text says which, and where */
+    VOLGWAIN_BAD_TEXT = 27              /* a text is not JSON, or not that of lookups; the text of the refusal
+                                           says why, and where */
+    /* 28 stands for refusals of the library that no call here can meet; that none does is only tested */
+};
+
+/* Parts of a call, in refusal.part for the codes 3, 4, 5 and 7. */
+enum {
+    VOLGWAIN_PART_MAIN = 1,
+    VOLGWAIN_PART_PREPROCESSED = 2,
+    VOLGWAIN_PART_PUBLIC_VALUES = 3,
+    VOLGWAIN_PART_CHALLENGES = 4,
+    VOLGWAIN_PART_ALPHAS = 5,
+    VOLGWAIN_PART_BETAS = 6,
+    VOLGWAIN_PART_AUXILIARY = 7,
+    VOLGWAIN_PART_TERMINALS = 8,
+    VOLGWAIN_PART_BATCH = 9, /* the traces, or what a witness has, for each AIR */
+    VOLGWAIN_PART_DEGREES = 10,
+    VOLGWAIN_PART_IDS = 11,
+    VOLGWAIN_PART_SIZES = 12,
+    VOLGWAIN_PART_NODES = 13, /* the tables that a call writes */
+    VOLGWAIN_PART_TUPLES = 14,
+    VOLGWAIN_PART_NAMES = 15,
+    VOLGWAIN_PART_RECORDS = 16
+};
+
+/* What was refused, and where: each code names the fields that it fills, and the others are 0. */
+struct volgwain_refusal {
+    uint32_t code;
+    uint32_t part;
+    size_t air;
+    size_t row;
+    size_t lookup;
+    size_t expected;
+    size_t actual;
+    size_t text_length;
+};
+
+/* ---- one AIR ---- */
+
+/* Generates the auxiliary trace of one AIR, and its terminal.
+
+   challenges: an alpha and a beta for each lookup, in their order. Further ones are ignored, but must be
+   below the modulus.
+   auxiliary: exactly height * (lookups + 1) elements, row after row: the accumulator, and then the
+   fraction of each lookup. Without lookups none, and the terminal is not present.
+
+   What is generated is the plain result, and it satisfies all constraints of the lookups; that no other
+   does is said of volgwain_prove. AIRs can be generated on threads of the caller's own, with challenges
+   that share an alpha and a beta where lookups share a bus.
+
+   Refuses, in this order: 2, 5 and 3 of a trace, 3 of the challenges, 6, 7, 4 of the challenges, the first
+   of 8, 9 and 10 in the order row, lookup, and 4 of the auxiliary trace. Or 1. */
+uint32_t volgwain_generate(const struct volgwain_tables *tables, const struct volgwain_traces *traces,
+    const struct volgwain_element *challenges, size_t challenges_length,
+    struct volgwain_element *auxiliary, size_t auxiliary_length,
+    struct volgwain_terminal *terminal,
+    struct volgwain_refusal *refusal, char *text, size_t text_size);
+
+/* Gives the degree of the constraint of each lookup of an AIR, if the transition selector has degree 0.
+
+   degrees: one for each lookup.
+
+   Refuses, in this order: 2, 11, 25 and 4 of the degrees. Or 1. */
+uint32_t volgwain_degrees(const struct volgwain_tables *tables,
+    size_t *degrees, size_t degrees_length,
+    struct volgwain_refusal *refusal, char *text, size_t text_size);
+
+/* How many items of each table a call has written, from the first on. */
+struct volgwain_table_sizes {
+    size_t nodes;
+    size_t tuples;
+    size_t names;
+    size_t records;
+};
+
+/* Packs the lookups of an AIR: those on one bus share columns, as many as max_degree allows, and so the
+   auxiliary trace gets narrower. Local lookups and those with flags stay as they are, and come first.
+   The others follow by bus; in their order, each joins the open column of its bus if the degree of the
+   joined lookup's constraint stays within max_degree, and opens a new column otherwise. No other cut of
+   the lookups of a bus into consecutive columns within max_degree has fewer. Weights of joined lookups add.
+   A lookup alone may have a greater degree.
+
+   nodes, tuples, names, records: the tables of the packed lookups. Each array must be at least as long as
+   what is written, and sizes says how much that is; what is past that stays as it was. As many nodes and
+   tuples as the ranges of all given records have together, as many names as their buses, and as many
+   records as there are suffice, which is only tested.
+
+   The packed lookups send the same messages on every row, so they balance as those before do, and every
+   terminal stays. Pack each AIR before the batch is planned; prover and verifier have to pack alike.
+
+   Refuses, in this order: 2, 11, 13 of a bus, 24 or 25 where a lookup is joined, 2 with part 8 of a packed
+   lookup, whose index `lookup` then is, and 4 of the nodes, tuples, names and records. Or 1. */
+uint32_t volgwain_pack(const struct volgwain_tables *tables, size_t max_degree,
+    struct volgwain_node *nodes, size_t nodes_length,
+    struct volgwain_span *tuples, size_t tuples_length,
+    uint8_t *names, size_t names_length,
+    struct volgwain_record *records, size_t records_length,
+    struct volgwain_table_sizes *sizes,
+    struct volgwain_refusal *refusal, char *text, size_t text_size);
+
+/* Reads the lookups of an AIR from JSON, a list of lookups as serde writes them, into tables. Numbers are
+   elements of the base field, and expressions nest as deep as JSON allows, some hundred levels.
+
+   nodes, tuples, names, records: the tables of the lookups that were read. Each array must be at least as
+   long as what is written, and sizes says how much that is; what is past that stays as it was. There are
+   never more items than json has bytes, which is only tested.
+
+   Which lookups a text says is only tested. Refuses, in this order: 27, 11, 2 with parts 6, 7 and 8 of a
+   lookup of the text, and 4 of the nodes, tuples, names and records. Or 1, also where memory runs out while
+   the text is read. */
+uint32_t volgwain_read_json(const char *json, size_t json_length,
+    struct volgwain_node *nodes, size_t nodes_length,
+    struct volgwain_span *tuples, size_t tuples_length,
+    uint8_t *names, size_t names_length,
+    struct volgwain_record *records, size_t records_length,
+    struct volgwain_table_sizes *sizes,
+    struct volgwain_refusal *refusal, char *text, size_t text_size);
+
+/* ---- a batch of AIRs ---- */
+
+/* An AIR of a batch, before its traces are seen. */
+struct volgwain_air {
+    struct volgwain_tables tables;
+    size_t height;
+};
+
+/* What a witness has for one AIR. */
+struct volgwain_air_witness {
+    const struct volgwain_element *auxiliary; /* the cells of the auxiliary trace, row after row */
+    size_t auxiliary_length;
+    size_t width;
+    struct volgwain_terminal terminal;
+};
+
+/* The sizes of a plan: the greatest width of all tuples, at least 1, and the number of ids. */
+struct volgwain_plan_sizes {
+    size_t max_message_width;
+    size_t num_ids;
+};
+
+/* Gives the plan of a batch, as it is known before traces are seen. Lookups on one bus share an id, also
+   across AIRs, and each local lookup has its own; ids are given from 0 on, in the order of the AIRs and
+   their lookups. With alpha and beta a lookup of id i has the challenges
+   alpha + (i + 1) * beta^max_message_width and beta.
+
+   ids: one for each lookup, AIR by AIR.
+
+   Refuses, in this order: 2 and 11 of an AIR, 12, 13, 14, 15, and 4 of the ids. Or 1. */
+uint32_t volgwain_plan(const struct volgwain_air *airs, size_t airs_length,
+    size_t *ids, size_t ids_length,
+    struct volgwain_plan_sizes *sizes,
+    struct volgwain_refusal *refusal, char *text, size_t text_size);
+
+/* Generates the auxiliary trace of one AIR of a planned batch, and its terminal, as volgwain_generate does.
+
+   ids: those of the AIR's lookups, in their order, as volgwain_plan gave them; sizes: those of the plan.
+   auxiliary: exactly height * (lookups + 1) elements.
+
+   With what volgwain_plan gave, the AIRs of a batch can be generated on threads of the caller's own. That
+   together they are the witness of volgwain_prove is only tested.
+
+   Refuses, in this order: 2, 5 and 3 of a trace, 3 of alpha and then beta, 4 of the ids, 3 of the sizes, 3 of
+   an id, 6, 7, the first of 8, 9 and 10 in the order row, lookup, and 4 of the auxiliary trace. Or 1. */
+uint32_t volgwain_generate_by_ids(const struct volgwain_tables *tables,
+    const struct volgwain_traces *traces,
+    const size_t *ids, size_t ids_length, const struct volgwain_plan_sizes *sizes,
+    const struct volgwain_element *alpha, const struct volgwain_element *beta,
+    struct volgwain_element *auxiliary, size_t auxiliary_length,
+    struct volgwain_terminal *terminal,
+    struct volgwain_refusal *refusal, char *text, size_t text_size);
+
+/* Makes the witness of a batch: the auxiliary traces and the terminals of all AIRs.
+
+   The AIRs make a plan: lookups on one bus share an id, each local lookup has its own, all tuples under
+   one id have one width, and weights times heights stay below the modulus. alpha and beta are drawn once
+   the traces are fixed.
+
+   traces: for each AIR.
+   auxiliary: the cells of all AIRs, one AIR after the other. An AIR has height * (lookups + 1) of them,
+   row after row, and none without lookups.
+   terminals: one for each AIR.
+
+   The witness satisfies the constraints of all lookups, and where all flags are lawful and no denominator
+   vanishes no other does. If all messages balance, the terminals sum to zero, so it is accepted.
+
+   Refuses, in this order: 2 and 11 of an AIR, 12, 13, 14, 15, 5 and 3 of traces, 3 of alpha and then beta,
+   4 of the number of traces, 16, the first of 8, 9 and 10 in the order AIR, row, lookup, and 4 of the
+   auxiliary traces and then the terminals. Or 1. */
+uint32_t volgwain_prove(const struct volgwain_air *airs, size_t airs_length,
+    const struct volgwain_traces *traces, size_t traces_length,
+    const struct volgwain_element *alpha, const struct volgwain_element *beta,
+    struct volgwain_element *auxiliary, size_t auxiliary_length,
+    struct volgwain_terminal *terminals, size_t terminals_length,
+    struct volgwain_refusal *refusal, char *text, size_t text_size);
+
+/* Whether a witness of a batch, whoever made it, is accepted: every constraint of every lookup holds on
+   every row, and the terminals sum to zero.
+
+   The plan, the traces and the challenges are as for volgwain_prove. witness: one for each AIR.
+
+   Returns 0 exactly if it is accepted, unless memory runs out. Refuses, in this order: what volgwain_prove
+   does up to 3 of beta; 5 and 3 of what the witness has for an AIR; 4 of the number of traces; 16; 4 of the
+   number of AIRs in the witness; AIR by AIR 17, 18, 19 and 20; and 21. Or 1. */
+uint32_t volgwain_verify(const struct volgwain_air *airs, size_t airs_length,
+    const struct volgwain_traces *traces, size_t traces_length,
+    const struct volgwain_element *alpha, const struct volgwain_element *beta,
+    const struct volgwain_air_witness *witness, size_t witness_length,
+    struct volgwain_refusal *refusal, char *text, size_t text_size);
+
+/* A number of 128 bits: high * 2^64 + low. */
+struct volgwain_wide {
+    uint64_t low;
+    uint64_t high;
+};
+
+/* The counts of a batch. messages: how many distinct messages n there are, each an id with the values of a
+   tuple, those of multiplicity zero too. unbalanced: how many k of them do not balance. bad_betas:
+   W * k * (k - 1) / 2, where W is the width of the plan. bounded is 0 if all messages balance, and otherwise
+   1; then accepting_alphas is n + k - 1. */
+struct volgwain_counts {
+    struct volgwain_wide messages;
+    struct volgwain_wide unbalanced;
+    struct volgwain_wide bad_betas;
+    uint32_t bounded;
+    struct volgwain_wide accepting_alphas;
+};
+
+/* Counts the messages of a batch. If k is above zero, then at all betas but bad_betas at the most, some
+   witness is accepted at no more than accepting_alphas alphas, whoever makes it.
+
+   Refuses, in this order: what volgwain_prove does up to 5 and 3 of traces, 4 of the number of traces, 16,
+   9 or 10 of flags in the order AIR, row, lookup, and 23. Or 1. */
+uint32_t volgwain_soundness_count(const struct volgwain_air *airs, size_t airs_length,
+    const struct volgwain_traces *traces, size_t traces_length,
+    struct volgwain_counts *counts,
+    struct volgwain_refusal *refusal, char *text, size_t text_size);
+
+/* accepted: the exact number of pairs at which some witness is accepted, whoever makes it. bounded is 0 if
+   all messages balance, and otherwise 1; then bound is at least accepted. */
+struct volgwain_grid {
+    struct volgwain_wide accepted;
+    uint32_t bounded;
+    struct volgwain_wide bound;
+};
+
+/* Counts at how many pairs of some alphas and betas a batch is accepted. With n distinct messages, k above
+   zero of them unbalanced, and W the width of the plan, the bound is
+   W * k * (k - 1) / 2 * alphas + (n + k - 1) * betas.
+
+   Refuses, in this order: what volgwain_prove does up to 5 and 3 of traces, 3 of the alphas and then the
+   betas, 4 of the number of traces, 16, 22, 9 or 10 of flags in the order AIR, row, lookup, and 23. Or 1. */
+uint32_t volgwain_grid_count(const struct volgwain_air *airs, size_t airs_length,
+    const struct volgwain_traces *traces, size_t traces_length,
+    const struct volgwain_element *alphas, size_t alphas_length,
+    const struct volgwain_element *betas, size_t betas_length,
+    struct volgwain_grid *grid,
+    struct volgwain_refusal *refusal, char *text, size_t text_size);
+
+/* Whether all tuples balance: those of each local lookup by itself, and those of each bus over all AIRs. A
+   branch with a flag counts flag times multiplicity.
+
+   Refuses, in this order: 4 of the number of traces, 2 and 11 of an AIR, 5 and 3 of traces, 6 and 7 of an
+   AIR, and 26 at the first local lookup or bus with a tuple that does not balance. Its text names the
+   tuple, by how much it does not, and each place where it is sent. Or 1. */
+uint32_t volgwain_debug_check(const struct volgwain_tables *airs, size_t airs_length,
+    const struct volgwain_traces *traces, size_t traces_length,
+    struct volgwain_refusal *refusal, char *text, size_t text_size);
+
+#ifdef __cplusplus
+}
+#endif
+
+#endif

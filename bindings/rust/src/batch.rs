@@ -1,0 +1,202 @@
+//! Batches of AIRs.
+
+use crate::air::{self, Air};
+use crate::element::Element;
+use crate::error::Error;
+use crate::ffi::{self, PlanSizes, Planned};
+use crate::traces::Traces;
+use crate::witness::{Shape, Witness};
+
+/// AIRs with the heights of their traces, and the plan that they make before any trace is seen.
+///
+/// Lookups on one bus share an id, also across AIRs, and each local lookup has an id of its own.
+/// All tuples under one id have one width, and weights times heights stay below the modulus.
+///
+/// The traces that its calls take are one for each AIR, of its height and with all that its lookups
+/// read; but [`generate`](Batch::generate) and [`debug_check`](Batch::debug_check) do not compare
+/// heights.
+#[derive(Clone, Debug)]
+pub struct Batch {
+    airs: Vec<Air>,
+    heights: Vec<usize>,
+    ids: Vec<Vec<usize>>,
+    sizes: PlanSizes,
+}
+
+/// At how many pairs of challenges a batch is accepted.
+#[derive(Clone, Copy, Debug, PartialEq, Eq, Hash)]
+pub struct GridCount {
+    /// The exact number of pairs at which some witness is accepted, whoever makes it.
+    pub accepted: u128,
+    /// What that number is at most, or `None` if all messages balance.
+    pub bound: Option<u128>,
+}
+
+/// How sound a batch is: all but `bad_betas` betas at most have no more than `accepting_alphas`
+/// alphas at which any witness is accepted.
+#[derive(Clone, Copy, Debug, PartialEq, Eq, Hash)]
+pub struct SoundnessCount {
+    /// The number `n` of distinct messages.
+    pub messages: u128,
+    /// The number `k` of those that do not balance.
+    pub unbalanced: u128,
+    /// `W * k * (k - 1) / 2`, where `W` is the greatest width of all tuples.
+    pub bad_betas: u128,
+    /// `n + k - 1`, or `None` if all messages balance.
+    pub accepting_alphas: Option<u128>,
+}
+
+impl Batch {
+    /// The batch of these AIRs, each with the height of its traces.
+    ///
+    /// Refuses tuples of two widths on one bus or in a local lookup, more ids than the field has
+    /// whole numbers, and weights times heights that reach the modulus.
+    pub fn new<'a>(airs: impl IntoIterator<Item = (&'a Air, usize)>) -> Result<Self, Error> {
+        let (airs, heights): (Vec<Air>, Vec<usize>) =
+            airs.into_iter().map(|(air, height)| (air.clone(), height)).unzip();
+        let mut ids = vec![0; airs.iter().map(|air| air.len()).sum()];
+        let planned: Vec<Planned<'_>> = planned(&airs, &heights);
+        let sizes = ffi::plan(&planned, &mut ids)?;
+        let mut left = ids.into_iter();
+        let of_air = |air: &Air| left.by_ref().take(air.len()).collect();
+        Ok(Batch { ids: airs.iter().map(of_air).collect(), airs, heights, sizes })
+    }
+
+    /// The AIRs.
+    pub fn airs(&self) -> &[Air] {
+        &self.airs
+    }
+
+    /// The height of each AIR's traces.
+    pub fn heights(&self) -> &[usize] {
+        &self.heights
+    }
+
+    /// The id of each AIR's lookups.
+    pub fn ids(&self) -> &[Vec<usize>] {
+        &self.ids
+    }
+
+    /// How many ids there are.
+    pub fn num_ids(&self) -> usize {
+        self.sizes.num_ids
+    }
+
+    /// The greatest width of all tuples, at least 1.
+    pub fn max_message_width(&self) -> usize {
+        self.sizes.max_message_width
+    }
+
+    /// The witness of the batch: its auxiliary traces and terminals. Draw `alpha` and `beta` once
+    /// the traces are fixed.
+    ///
+    /// It satisfies the constraints of all lookups, and where all flags are lawful and no
+    /// denominator vanishes no other does. If all messages balance, it is accepted.
+    ///
+    /// Refuses traces that are not those of the batch, and then the first row and lookup, AIR by
+    /// AIR, with a flag that is not 0 or 1, two flags that are set, or a denominator that vanishes.
+    pub fn prove(
+        &self,
+        traces: &[Traces<'_>],
+        alpha: Element,
+        beta: Element,
+    ) -> Result<Witness, Error> {
+        let shapes = self.shapes(traces);
+        Witness::filled(&shapes, |cells, terminals| {
+            ffi::prove(&self.planned(), traces, alpha, beta, cells, terminals)
+        })
+    }
+
+    /// What [`prove`](Batch::prove) makes for the AIR of one index, so that AIRs can be worked on
+    /// by many threads. The witness is that of this AIR alone; [`Witness::new`] joins them.
+    ///
+    /// Refuses an index past the last AIR ([`Code::NoSuchAir`]), traces that its lookups do not
+    /// fit, and then what `prove` refuses. It does not compare the height of the traces with that
+    /// of the batch.
+    ///
+    /// [`Code::NoSuchAir`]: crate::Code::NoSuchAir
+    pub fn generate(
+        &self,
+        air: usize,
+        traces: &Traces<'_>,
+        alpha: Element,
+        beta: Element,
+    ) -> Result<Witness, Error> {
+        let (Some(ids), Some(air)) = (self.ids.get(air), self.airs.get(air)) else {
+            return Err(Error::no_such_air(air));
+        };
+        let challenges = [alpha, beta];
+        Witness::filled(&[air.shape(traces)], |cells, terminals| {
+            let (tables, terminal) = (air.tables(), &mut terminals[0]);
+            ffi::generate_by_ids(tables, traces, ids, &self.sizes, challenges, cells, terminal)
+        })
+    }
+
+    /// Whether a witness, whoever made it, is accepted: every constraint of every lookup holds on
+    /// every row, and the terminals sum to zero.
+    ///
+    /// Refuses traces that are not those of the batch. Then the answer is the first fault of the
+    /// witness: AIR by AIR its shape, or a row on which a constraint fails, and in the end the sum.
+    pub fn verify(
+        &self,
+        traces: &[Traces<'_>],
+        alpha: Element,
+        beta: Element,
+        witness: &Witness,
+    ) -> Result<(), Error> {
+        let parts: Vec<_> = witness.airs().collect();
+        ffi::verify(&self.planned(), traces, alpha, beta, &parts)
+    }
+
+    /// Whether all tuples balance, as [`debug_check`](crate::debug_check) says of these AIRs.
+    /// Challenges are not needed. It does not compare the heights of the traces with those of the
+    /// batch.
+    pub fn debug_check(&self, traces: &[Traces<'_>]) -> Result<(), Error> {
+        air::debug_check(&self.airs, traces)
+    }
+
+    /// Counts distinct and unbalanced messages, and bounds the challenges at which any witness is
+    /// accepted.
+    ///
+    /// Refuses traces that are not those of the batch, and then a flag that is not 0 or 1, or two
+    /// flags that are set.
+    pub fn soundness_count(&self, traces: &[Traces<'_>]) -> Result<SoundnessCount, Error> {
+        ffi::soundness_count(&self.planned(), traces)
+    }
+
+    /// Counts at how many pairs of an alpha and a beta some witness is accepted, whoever makes it.
+    ///
+    /// Refuses traces that are not those of the batch, a challenge that is listed twice, and then
+    /// flags as [`soundness_count`](Batch::soundness_count) does.
+    pub fn grid_count(
+        &self,
+        traces: &[Traces<'_>],
+        alphas: &[Element],
+        betas: &[Element],
+    ) -> Result<GridCount, Error> {
+        ffi::grid_count(&self.planned(), traces, alphas, betas)
+    }
+
+    fn planned(&self) -> Vec<Planned<'_>> {
+        planned(&self.airs, &self.heights)
+    }
+
+    /// The shapes of the witness over these traces. For traces of another height there is none, and
+    /// the call is refused whatever room it has: it gets no room, which otherwise could be immense.
+    fn shapes(&self, traces: &[Traces<'_>]) -> Vec<Shape> {
+        let heights = traces.iter().map(|traces| traces.main.height());
+        let fit = heights.eq(self.heights.iter().copied());
+        let shape = |(air, height): (&Air, &usize)| Shape {
+            height: if fit { *height } else { 0 },
+            lookups: air.len(),
+        };
+        self.airs.iter().zip(&self.heights).map(shape).collect()
+    }
+}
+
+/// The AIRs as a plan takes them.
+fn planned<'a>(airs: &'a [Air], heights: &[usize]) -> Vec<Planned<'a>> {
+    let planned =
+        |(air, height): (&'a Air, &usize)| Planned { tables: air.tables(), height: *height };
+    airs.iter().zip(heights).map(planned).collect()
+}

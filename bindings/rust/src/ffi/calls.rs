@@ -1,0 +1,434 @@
+//! A safe function for each call of the library. The one unsafe block of each meets what the header
+//! asks for, as the module above says.
+
+use super::declared::{self, Counts, Grid, PlanSizes, Refusal, TableSizes, Terminal, Wide};
+use crate::batch::{GridCount, SoundnessCount};
+use crate::element::Element;
+use crate::error::Error;
+use crate::tables::{Room, Tables};
+use crate::traces::{Trace, Traces};
+use crate::witness::AirWitness;
+use std::ffi::c_char;
+
+/// How many bytes of a text are taken at first.
+const TEXT_SIZE: usize = 256;
+
+/// An AIR of a batch: its lookups, and the height of its traces.
+#[derive(Clone, Copy)]
+pub(crate) struct Planned<'a> {
+    pub(crate) tables: &'a Tables,
+    pub(crate) height: usize,
+}
+
+/// Generates the auxiliary trace and the terminal of one AIR.
+pub(crate) fn generate(
+    tables: &Tables,
+    traces: &Traces<'_>,
+    challenges: &[[Element; 2]],
+    auxiliary: &mut [Element],
+    terminal: &mut Terminal,
+) -> Result<(), Error> {
+    let (tables, traces) = (raw_tables(tables), raw_traces(traces));
+    let challenges = challenges.as_flattened();
+    answer(|refusal, text, size| {
+        // SAFETY: `tables`, `traces` and `challenges` are borrowed for the whole call, and
+        // `auxiliary` and `terminal` as mutable; each length is that of its slice.
+        unsafe {
+            declared::volgwain_generate(
+                &tables,
+                &traces,
+                challenges.as_ptr(),
+                challenges.len(),
+                auxiliary.as_mut_ptr(),
+                auxiliary.len(),
+                terminal,
+                refusal,
+                text,
+                size,
+            )
+        }
+    })
+}
+
+/// Gives the degree of each lookup's constraint.
+pub(crate) fn degrees(tables: &Tables, degrees: &mut [usize]) -> Result<(), Error> {
+    let tables = raw_tables(tables);
+    answer(|refusal, text, size| {
+        // SAFETY: `tables` is borrowed for the whole call, and `degrees`, whose length is given, as
+        // mutable.
+        unsafe {
+            declared::volgwain_degrees(
+                &tables,
+                degrees.as_mut_ptr(),
+                degrees.len(),
+                refusal,
+                text,
+                size,
+            )
+        }
+    })
+}
+
+/// Packs the lookups of an AIR.
+pub(crate) fn pack(tables: &Tables, max_degree: usize) -> Result<Tables, Error> {
+    let raw = raw_tables(tables);
+    written(Room::of(tables), |out, sizes, refusal, text, size| {
+        // SAFETY: `tables`, to which `raw` points, is borrowed for the whole call, and `out` and
+        // `sizes` as mutable; each length is that of its table.
+        unsafe {
+            declared::volgwain_pack(
+                &raw,
+                max_degree,
+                out.nodes.as_mut_ptr(),
+                out.nodes.len(),
+                out.tuples.as_mut_ptr(),
+                out.tuples.len(),
+                out.names.as_mut_ptr(),
+                out.names.len(),
+                out.records.as_mut_ptr(),
+                out.records.len(),
+                sizes,
+                refusal,
+                text,
+                size,
+            )
+        }
+    })
+}
+
+/// Reads the lookups of an AIR from JSON.
+pub(crate) fn read_json(json: &str) -> Result<Tables, Error> {
+    written(Room::of_json(json), |out, sizes, refusal, text, size| {
+        // SAFETY: `json` is borrowed for the whole call, and `out` and `sizes` as mutable; each
+        // length is that of its table, and that of `json` in bytes.
+        unsafe {
+            declared::volgwain_read_json(
+                json.as_ptr().cast::<c_char>(),
+                json.len(),
+                out.nodes.as_mut_ptr(),
+                out.nodes.len(),
+                out.tuples.as_mut_ptr(),
+                out.tuples.len(),
+                out.names.as_mut_ptr(),
+                out.names.len(),
+                out.records.as_mut_ptr(),
+                out.records.len(),
+                sizes,
+                refusal,
+                text,
+                size,
+            )
+        }
+    })
+}
+
+/// Gives the id of each lookup, AIR by AIR, and the sizes of the plan.
+pub(crate) fn plan(airs: &[Planned<'_>], ids: &mut [usize]) -> Result<PlanSizes, Error> {
+    let airs = raw_airs(airs);
+    let mut sizes = PlanSizes::default();
+    answer(|refusal, text, size| {
+        // SAFETY: the tables to which `airs` points are borrowed for the whole call, and `ids` and
+        // `sizes` as mutable; each length is that of its slice.
+        unsafe {
+            declared::volgwain_plan(
+                airs.as_ptr(),
+                airs.len(),
+                ids.as_mut_ptr(),
+                ids.len(),
+                &mut sizes,
+                refusal,
+                text,
+                size,
+            )
+        }
+    })?;
+    Ok(sizes)
+}
+
+/// Generates the auxiliary trace and the terminal of one AIR of a planned batch.
+pub(crate) fn generate_by_ids(
+    tables: &Tables,
+    traces: &Traces<'_>,
+    ids: &[usize],
+    sizes: &PlanSizes,
+    [alpha, beta]: [Element; 2],
+    auxiliary: &mut [Element],
+    terminal: &mut Terminal,
+) -> Result<(), Error> {
+    let (tables, traces) = (raw_tables(tables), raw_traces(traces));
+    answer(|refusal, text, size| {
+        // SAFETY: `tables`, `traces`, `ids`, the sizes, alpha and beta are borrowed for the whole
+        // call, and `auxiliary` and `terminal` as mutable; each length is that of its slice.
+        unsafe {
+            declared::volgwain_generate_by_ids(
+                &tables,
+                &traces,
+                ids.as_ptr(),
+                ids.len(),
+                sizes,
+                &alpha,
+                &beta,
+                auxiliary.as_mut_ptr(),
+                auxiliary.len(),
+                terminal,
+                refusal,
+                text,
+                size,
+            )
+        }
+    })
+}
+
+/// Makes the witness of a batch.
+pub(crate) fn prove(
+    airs: &[Planned<'_>],
+    traces: &[Traces<'_>],
+    alpha: Element,
+    beta: Element,
+    auxiliary: &mut [Element],
+    terminals: &mut [Terminal],
+) -> Result<(), Error> {
+    let (airs, traces) = (raw_airs(airs), all_raw_traces(traces));
+    answer(|refusal, text, size| {
+        // SAFETY: what `airs` and `traces` point to, alpha and beta are borrowed for the whole
+        // call, and `auxiliary` and `terminals` as mutable; each length is that of its slice.
+        unsafe {
+            declared::volgwain_prove(
+                airs.as_ptr(),
+                airs.len(),
+                traces.as_ptr(),
+                traces.len(),
+                &alpha,
+                &beta,
+                auxiliary.as_mut_ptr(),
+                auxiliary.len(),
+                terminals.as_mut_ptr(),
+                terminals.len(),
+                refusal,
+                text,
+                size,
+            )
+        }
+    })
+}
+
+/// Whether a witness is accepted.
+pub(crate) fn verify(
+    airs: &[Planned<'_>],
+    traces: &[Traces<'_>],
+    alpha: Element,
+    beta: Element,
+    witness: &[AirWitness<'_>],
+) -> Result<(), Error> {
+    let (airs, traces) = (raw_airs(airs), all_raw_traces(traces));
+    let witness: Vec<declared::AirWitness> = witness.iter().map(raw_witness).collect();
+    answer(|refusal, text, size| {
+        // SAFETY: what `airs`, `traces` and `witness` point to, alpha and beta are borrowed for the
+        // whole call; each length is that of its slice. It writes the refusal and its text alone.
+        unsafe {
+            declared::volgwain_verify(
+                airs.as_ptr(),
+                airs.len(),
+                traces.as_ptr(),
+                traces.len(),
+                &alpha,
+                &beta,
+                witness.as_ptr(),
+                witness.len(),
+                refusal,
+                text,
+                size,
+            )
+        }
+    })
+}
+
+/// Counts distinct and unbalanced messages, and bounds the challenges that accept.
+pub(crate) fn soundness_count(
+    airs: &[Planned<'_>],
+    traces: &[Traces<'_>],
+) -> Result<SoundnessCount, Error> {
+    let (airs, traces) = (raw_airs(airs), all_raw_traces(traces));
+    let mut counts = Counts::default();
+    answer(|refusal, text, size| {
+        // SAFETY: what `airs` and `traces` point to is borrowed for the whole call, and `counts` as
+        // mutable; each length is that of its slice.
+        unsafe {
+            declared::volgwain_soundness_count(
+                airs.as_ptr(),
+                airs.len(),
+                traces.as_ptr(),
+                traces.len(),
+                &mut counts,
+                refusal,
+                text,
+                size,
+            )
+        }
+    })?;
+    Ok(SoundnessCount {
+        messages: number(counts.messages),
+        unbalanced: number(counts.unbalanced),
+        bad_betas: number(counts.bad_betas),
+        accepting_alphas: (counts.bounded != 0).then(|| number(counts.accepting_alphas)),
+    })
+}
+
+/// Counts at how many pairs of challenges some witness is accepted.
+pub(crate) fn grid_count(
+    airs: &[Planned<'_>],
+    traces: &[Traces<'_>],
+    alphas: &[Element],
+    betas: &[Element],
+) -> Result<GridCount, Error> {
+    let (airs, traces) = (raw_airs(airs), all_raw_traces(traces));
+    let mut grid = Grid::default();
+    answer(|refusal, text, size| {
+        // SAFETY: what `airs` and `traces` point to, `alphas` and `betas` are borrowed for the
+        // whole call, and `grid` as mutable; each length is that of its slice.
+        unsafe {
+            declared::volgwain_grid_count(
+                airs.as_ptr(),
+                airs.len(),
+                traces.as_ptr(),
+                traces.len(),
+                alphas.as_ptr(),
+                alphas.len(),
+                betas.as_ptr(),
+                betas.len(),
+                &mut grid,
+                refusal,
+                text,
+                size,
+            )
+        }
+    })?;
+    let bound = (grid.bounded != 0).then(|| number(grid.bound));
+    Ok(GridCount { accepted: number(grid.accepted), bound })
+}
+
+/// Whether all tuples balance.
+pub(crate) fn debug_check(airs: &[&Tables], traces: &[Traces<'_>]) -> Result<(), Error> {
+    let airs: Vec<declared::Tables> = airs.iter().copied().map(raw_tables).collect();
+    let traces = all_raw_traces(traces);
+    answer(|refusal, text, size| {
+        // SAFETY: what `airs` and `traces` point to is borrowed for the whole call; each length is
+        // that of its slice. It writes the refusal and its text alone.
+        unsafe {
+            declared::volgwain_debug_check(
+                airs.as_ptr(),
+                airs.len(),
+                traces.as_ptr(),
+                traces.len(),
+                refusal,
+                text,
+                size,
+            )
+        }
+    })
+}
+
+/// Makes a call, which gets a refusal and room for its text to be written, and returns a code. Both
+/// are initialised, and borrowed by the call alone.
+///
+/// A refused call changes nothing else. So where the text is longer than the room, the call is made
+/// again.
+fn answer(mut call: impl FnMut(&mut Refusal, *mut c_char, usize) -> u32) -> Result<(), Error> {
+    let mut refusal = Refusal::default();
+    let mut text = vec![0u8; TEXT_SIZE];
+    let mut code = call(&mut refusal, text.as_mut_ptr().cast(), text.len());
+    if code != 0 && refusal.text_length > text.len() {
+        text.resize(refusal.text_length, 0);
+        code = call(&mut refusal, text.as_mut_ptr().cast(), text.len());
+    }
+    if code == 0 {
+        return Ok(());
+    }
+    text.truncate(refusal.text_length);
+    Err(Error::refused(&refusal, &text))
+}
+
+/// Makes a call that writes tables, into so much room. Where a table is too short, it gets the
+/// length that the call asks for, and the call is made again.
+fn written(
+    mut room: Room,
+    mut call: impl FnMut(&mut Tables, &mut TableSizes, &mut Refusal, *mut c_char, usize) -> u32,
+) -> Result<Tables, Error> {
+    loop {
+        let mut tables = Tables::empty(room);
+        let mut sizes = TableSizes::default();
+        let answer =
+            answer(|refusal, text, size| call(&mut tables, &mut sizes, refusal, text, size));
+        match answer {
+            Ok(()) => {
+                tables.nodes.truncate(sizes.nodes);
+                tables.tuples.truncate(sizes.tuples);
+                tables.names.truncate(sizes.names);
+                tables.records.truncate(sizes.records);
+                return Ok(tables);
+            }
+            Err(error) => room = room.grown(error)?,
+        }
+    }
+}
+
+fn raw_tables(tables: &Tables) -> declared::Tables {
+    declared::Tables {
+        nodes: tables.nodes.as_ptr(),
+        nodes_length: tables.nodes.len(),
+        tuples: tables.tuples.as_ptr(),
+        tuples_length: tables.tuples.len(),
+        names: tables.names.as_ptr(),
+        names_length: tables.names.len(),
+        records: tables.records.as_ptr(),
+        records_length: tables.records.len(),
+    }
+}
+
+fn raw_airs(airs: &[Planned<'_>]) -> Vec<declared::Air> {
+    let raw =
+        |air: &Planned<'_>| declared::Air { tables: raw_tables(air.tables), height: air.height };
+    airs.iter().map(raw).collect()
+}
+
+fn raw_traces(traces: &Traces<'_>) -> declared::Traces {
+    let preprocessed = traces.preprocessed.unwrap_or(Trace::new(&[], 0));
+    declared::Traces {
+        main: traces.main.cells.as_ptr(),
+        main_length: traces.main.cells.len(),
+        main_width: traces.main.width,
+        preprocessed: preprocessed.cells.as_ptr(),
+        preprocessed_length: preprocessed.cells.len(),
+        preprocessed_width: preprocessed.width,
+        public_values: traces.public_values.as_ptr(),
+        public_values_length: traces.public_values.len(),
+    }
+}
+
+fn all_raw_traces(traces: &[Traces<'_>]) -> Vec<declared::Traces> {
+    traces.iter().map(raw_traces).collect()
+}
+
+fn raw_witness(air: &AirWitness<'_>) -> declared::AirWitness {
+    declared::AirWitness {
+        auxiliary: air.auxiliary.as_ptr(),
+        auxiliary_length: air.auxiliary.len(),
+        width: air.width,
+        terminal: Terminal::of(air.terminal),
+    }
+}
+
+fn number(wide: Wide) -> u128 {
+    u128::from(wide.high) << 64 | u128::from(wide.low)
+}
+
+impl Terminal {
+    fn of(terminal: Option<Element>) -> Self {
+        Terminal { present: u32::from(terminal.is_some()), value: terminal.unwrap_or_default() }
+    }
+
+    /// The terminal, if it is present.
+    pub(crate) fn element(self) -> Option<Element> {
+        (self.present != 0).then_some(self.value)
+    }
+}

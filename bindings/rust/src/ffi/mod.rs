@@ -1,0 +1,53 @@
+//! The boundary to the library in C, and all that is unsafe in this crate.
+//!
+//! `declared` has the structs and functions of `bindings/c/volgwain.h`, and a test compares the
+//! two. `calls` has a safe function for each of them: it takes slices for pointers and lengths, and
+//! an [`Error`](crate::Error) for a refusal.
+//!
+//! What the header asks of a caller holds of every call made here:
+//!
+//! - no pointer is null, since those of slices and references are not, also of empty ones;
+//! - what a pointer names is borrowed until the call returns, and the library keeps no pointer;
+//! - a length is that of the slice;
+//! - what is written is initialised, and borrowed as mutable, so it overlaps nothing else.
+#![allow(unsafe_code)]
+
+mod calls;
+mod declared;
+
+pub(crate) use calls::{
+    Planned, debug_check, degrees, generate, generate_by_ids, grid_count, pack, plan, prove,
+    read_json, soundness_count, verify,
+};
+pub(crate) use declared::{Node, PlanSizes, Record, Refusal, Span, Terminal, kind};
+
+#[cfg(all(test, target_pointer_width = "64"))]
+mod tests {
+    use super::declared::*;
+    use crate::element::Element;
+
+    /// The size and the alignment of a type.
+    fn layout<T>() -> (usize, usize) {
+        (size_of::<T>(), align_of::<T>())
+    }
+
+    /// Those that bindings/c/test.c finds as well.
+    #[test]
+    fn structs_have_the_layout_of_the_header() {
+        assert_eq!(layout::<Element>(), (16, 4));
+        assert_eq!(layout::<Node>(), (16, 8));
+        assert_eq!(layout::<Span>(), (16, 8));
+        assert_eq!(layout::<Record>(), (80, 8));
+        assert_eq!(layout::<Tables>(), (64, 8));
+        assert_eq!(layout::<Traces>(), (64, 8));
+        assert_eq!(layout::<Terminal>(), (20, 4));
+        assert_eq!(layout::<Refusal>(), (56, 8));
+        assert_eq!(layout::<TableSizes>(), (32, 8));
+        assert_eq!(layout::<Air>(), (72, 8));
+        assert_eq!(layout::<AirWitness>(), (48, 8));
+        assert_eq!(layout::<PlanSizes>(), (16, 8));
+        assert_eq!(layout::<Wide>(), (16, 8));
+        assert_eq!(layout::<Counts>(), (72, 8));
+        assert_eq!(layout::<Grid>(), (40, 8));
+    }
+}

@@ -1,0 +1,126 @@
+//! Witnesses: auxiliary traces and terminals.
+
+use crate::element::Element;
+use crate::error::Error;
+use crate::ffi::Terminal;
+use std::ops::Range;
+
+/// What a witness has for one AIR.
+#[derive(Clone, Copy, Debug, PartialEq, Eq)]
+pub struct AirWitness<'a> {
+    /// The cells of the auxiliary trace, row after row: the accumulator, and then the fraction of
+    /// each lookup. An AIR without lookups has none.
+    pub auxiliary: &'a [Element],
+    /// How many cells make a row: one more than there are lookups, and 0 without lookups.
+    pub width: usize,
+    /// The sum of all fractions. An AIR without lookups has none.
+    pub terminal: Option<Element>,
+}
+
+impl AirWitness<'_> {
+    /// How many whole rows the auxiliary trace has.
+    pub fn height(&self) -> usize {
+        self.auxiliary.len().checked_div(self.width).unwrap_or(0)
+    }
+}
+
+/// The auxiliary traces and the terminals of a batch, AIR by AIR.
+#[derive(Clone, Debug, Default, PartialEq, Eq)]
+pub struct Witness {
+    cells: Vec<Element>,
+    airs: Vec<Share>,
+}
+
+/// The part of one AIR.
+#[derive(Clone, Debug, PartialEq, Eq)]
+struct Share {
+    cells: Range<usize>,
+    width: usize,
+    terminal: Option<Element>,
+}
+
+impl Witness {
+    /// The witness with these parts, whatever they are. [`Batch::verify`](crate::Batch::verify)
+    /// tells whether it is accepted.
+    pub fn new<'a>(airs: impl IntoIterator<Item = AirWitness<'a>>) -> Self {
+        let mut witness = Witness::default();
+        for air in airs {
+            let start = witness.cells.len();
+            witness.cells.extend_from_slice(air.auxiliary);
+            let cells = start..witness.cells.len();
+            witness.airs.push(Share { cells, width: air.width, terminal: air.terminal });
+        }
+        witness
+    }
+
+    /// How many AIRs it is for.
+    pub fn len(&self) -> usize {
+        self.airs.len()
+    }
+
+    /// Whether it is for no AIR.
+    pub fn is_empty(&self) -> bool {
+        self.airs.is_empty()
+    }
+
+    /// What it has for the AIR of this index, or `None` past the last one.
+    pub fn air(&self, index: usize) -> Option<AirWitness<'_>> {
+        self.airs.get(index).map(|share| share.of(&self.cells))
+    }
+
+    /// What it has for each AIR.
+    pub fn airs(&self) -> impl ExactSizeIterator<Item = AirWitness<'_>> {
+        self.airs.iter().map(|share| share.of(&self.cells))
+    }
+
+    /// Makes the witness of AIRs with these heights and numbers of lookups.
+    ///
+    /// `fill` is given the cells of all AIRs and the terminals, to be written.
+    pub(crate) fn filled(
+        shapes: &[Shape],
+        fill: impl FnOnce(&mut [Element], &mut [Terminal]) -> Result<(), Error>,
+    ) -> Result<Self, Error> {
+        let mut airs = Vec::with_capacity(shapes.len());
+        let mut end: usize = 0;
+        for shape in shapes {
+            let start = end;
+            let after = shape.cells().and_then(|cells| start.checked_add(cells));
+            end = after.ok_or_else(Error::memory)?;
+            airs.push(Share { cells: start..end, width: shape.width(), terminal: None });
+        }
+        let mut cells = Vec::new();
+        cells.try_reserve_exact(end).map_err(|_| Error::memory())?;
+        cells.resize(end, Element::default());
+        let mut terminals = vec![Terminal::default(); shapes.len()];
+        fill(&mut cells, &mut terminals)?;
+        for (share, terminal) in airs.iter_mut().zip(terminals) {
+            share.terminal = terminal.element();
+        }
+        Ok(Witness { cells, airs })
+    }
+}
+
+impl Share {
+    fn of<'a>(&self, cells: &'a [Element]) -> AirWitness<'a> {
+        let auxiliary = &cells[self.cells.clone()];
+        AirWitness { auxiliary, width: self.width, terminal: self.terminal }
+    }
+}
+
+/// The height of an AIR's traces, and how many lookups it has.
+#[derive(Clone, Copy, Debug)]
+pub(crate) struct Shape {
+    pub(crate) height: usize,
+    pub(crate) lookups: usize,
+}
+
+impl Shape {
+    fn width(self) -> usize {
+        if self.lookups == 0 { 0 } else { self.lookups + 1 }
+    }
+
+    /// How many cells the auxiliary trace has, if they can be counted.
+    fn cells(self) -> Option<usize> {
+        self.height.checked_mul(self.width())
+    }
+}

@@ -1,0 +1,4 @@
+pub mod DebugLaws
+pub mod TableCalls
+pub mod TableWriting
+pub mod WrittenLaws

@@ -1,0 +1,31 @@
+-- What is answered for the degrees of lookups.
+use Rattle.std.specs.Prelude.{◌≡◌, ◌≢◌, ◌⊎◌, ◌^◌, ◌≤◌, ℕ, List, Some, length, map, slice_get}
+use Rattle.lookup_model.specs.LookupDegree.{lookup_degree}
+use Rattle.lookup_model.specs.declared.error.LookupError.TheVariants.{DegreeOverflow}
+use Rattle.lookup_model.specs.declared.types.Lookup.{Lookup}
+use Rattle.lookup_tables.specs.Nodes.{BabyBear}
+use Rattle.lookup_tables.specs.Tables.{SayLookups}
+use Rattle.lookup_tables.specs.declared.tables.Tables.{Tables}
+use Rattle.lookup_c.specs.Batches.{IsSetRefusal}
+use Rattle.lookup_c.specs.declared.fault.Fault.{Fault}
+use Rattle.lookup_c.specs.declared.fault.Fault.TheVariants.{Length, Lookup as OfLookup, Memory}
+use Rattle.lookup_c.specs.declared.fault.Part.TheVariants.{Degrees}
+
+-- a degree that does not fit 64 bits; or memory runs out
+abbrev pub IsDegreeRefusal : List (Lookup BabyBear) → Fault → Type 0
+IsDegreeRefusal lookups fault =
+    (fault ≡ Memory)
+    ⊎ ((i : ℕ) × (lookup : Lookup BabyBear) × (slice_get lookups i ≡ Some lookup) × (2 ^ 64 ≤ lookup_degree 0 lookup) × (fault ≡ OfLookup 0 DegreeOverflow))
+
+-- the degree of each lookup that the tables say
+pub record GivesDegrees (tables : Tables) (degrees : List ℕ) : Type 0 where
+  pub lookups : List (Lookup BabyBear)
+  pub say : SayLookups tables lookups
+  pub degrees_are : degrees ≡ map (lookup_degree 0) lookups
+
+-- The refusal of the lookups, of a degree, or for the room.
+abbrev pub IsDegreesRefusal : Tables → ℕ → Fault → Type 0
+IsDegreesRefusal tables room fault =
+    IsSetRefusal 0 tables fault
+    ⊎ ((lookups : List (Lookup BabyBear)) × SayLookups tables lookups
+    × (IsDegreeRefusal lookups fault ⊎ ((length lookups ≢ room) × (fault ≡ Length Degrees (length lookups) room))))

@@ -1,0 +1,79 @@
+-- What generation under the ids of a plan answers from tables of numbers.
+use Rattle.std.specs.Prelude.{◌≡◌, ◌≢◌, ◌⊎◌, ◌<◌, ◌≤◌, ℕ, List, Option, length}
+use Rattle.field.specs.Extension.{Extension}
+use Rattle.field.specs.Quartic.{Quartic}
+use Rattle.matrix.specs.Matrix.{Matrix}
+use Rattle.expressions.specs.Faults.{HasFirstFault}
+use Rattle.lookup_model.specs.Challenges.{column_challenges}
+use Rattle.lookup_model.specs.declared.types.Lookup.{Lookup}
+use Rattle.lookup_model.specs.declared.types.LookupTerminal.{LookupTerminal}
+use Rattle.batch.specs.Tables.{made_table}
+use Rattle.lookup_tables.specs.Nodes.{BabyBear}
+use Rattle.lookup_tables.specs.Numbers.{IsGroup, quartic_of}
+use Rattle.lookup_tables.specs.Tables.{SayLookups}
+use Rattle.lookup_tables.specs.Traces.{AreCanonical}
+use Rattle.lookup_tables.specs.declared.tables.Tables.{Tables}
+use Rattle.lookup_tables.specs.declared.traces.Traces.{Traces}
+use Rattle.lookup_c.specs.Generation.{GeneratesOver, IsLookupsRefusal}
+use Rattle.lookup_c.specs.Inputs.{IsChallengeRefusal, IsTableRefusal, IsTracesRefusal, said_traces}
+use Rattle.lookup_c.specs.Outputs.{cells_of, terminal_numbers}
+use Rattle.lookup_c.specs.declared.fault.Fault.{Fault}
+use Rattle.lookup_c.specs.declared.fault.Fault.TheVariants.{Id, Length, Memory, Width}
+use Rattle.lookup_c.specs.declared.fault.Part.TheVariants.{Alphas, Auxiliary, Betas, Ids}
+use Rattle.lookup_c.specs.declared.outputs.Terminal.{Terminal}
+use Rattle.lookup_c.specs.declared.planning.Plan.{Plan}
+
+-- the refusal of the first id that is not below the number of ids
+abbrev pub IsFirstLargeId : List ℕ → ℕ → Fault → Type 0
+IsFirstLargeId ids num_ids fault = HasFirstFault (λ id. id < num_ids) (λ index id. (num_ids ≤ id) × (fault ≡ Id index)) ids
+
+-- the refusal of a width of zero, or of an id; or memory runs out
+abbrev pub IsIdsRefusal : List ℕ → Plan → Fault → Type 0
+IsIdsRefusal ids sizes fault =
+    (fault ≡ Memory)
+    ⊎ (((fault ≡ Width) × (sizes.max_message_width ≡ 0)) ⊎ IsFirstLargeId ids sizes.num_ids fault)
+
+-- the challenges that lookups with these ids have under a plan of these sizes
+abbrev pub challenges_by_ids : Extension BabyBear (Quartic BabyBear) → List ℕ → Plan → List ℕ → List ℕ → List (Quartic BabyBear)
+challenges_by_ids E ids sizes alpha beta =
+    column_challenges (made_table E.ring (quartic_of alpha) (quartic_of beta) sizes.max_message_width sizes.num_ids) ids
+
+module _ (E : Extension BabyBear (Quartic BabyBear)) (tables : Tables) (traces : Traces) (ids : List ℕ) (sizes : Plan) (alpha beta : List ℕ) where
+  -- Generation over the one list of lookups that the tables say, over the traces of these numbers, and
+  -- over the challenges that the ids have; all numbers are below the modulus.
+  pub record GeneratesByIds (auxiliary : Matrix (Quartic BabyBear)) (terminal : Option (LookupTerminal (Quartic BabyBear))) : Type 0 where
+    pub lookups : List (Lookup BabyBear)
+    pub say : SayLookups tables lookups
+    pub traces_below : AreCanonical traces
+    pub alpha_below : IsGroup alpha
+    pub beta_below : IsGroup beta
+    pub as_many : length ids ≡ length lookups
+    pub generates : GeneratesOver E (said_traces traces) (challenges_by_ids E ids sizes alpha beta) lookups auxiliary terminal
+
+  -- The refusal of the tables, of the traces, of a challenge, of the number of ids, of the sizes or an id, or
+  -- of generation.
+  abbrev pub IsByIdsRefusal : Fault → Type 0
+  IsByIdsRefusal fault =
+      IsTableRefusal 0 tables fault
+      ⊎ (IsTracesRefusal 0 traces fault
+      ⊎ (IsChallengeRefusal Alphas alpha fault
+      ⊎ (IsChallengeRefusal Betas beta fault
+      ⊎ (IsIdsRefusal ids sizes fault
+      ⊎ ((lookups : List (Lookup BabyBear)) × SayLookups tables lookups
+      × (((length ids ≢ length lookups) × (fault ≡ Length Ids (length lookups) (length ids)))
+      ⊎ IsLookupsRefusal E (said_traces traces) (challenges_by_ids E ids sizes alpha beta) lookups fault))))))
+
+  -- the numbers of what is generated
+  pub record GeneratesByIdsNumbers (cells : List (List ℕ)) (ending : Terminal) : Type 0 where
+    pub auxiliary : Matrix (Quartic BabyBear)
+    pub terminal : Option (LookupTerminal (Quartic BabyBear))
+    pub generates : GeneratesByIds auxiliary terminal
+    pub cells_are : cells ≡ cells_of auxiliary
+    pub ending_is : ending ≡ terminal_numbers terminal
+
+  -- The refusal of a call with room for so many cells: that of generation, or for the room.
+  abbrev pub IsGenerateByIdsRefusal : ℕ → Fault → Type 0
+  IsGenerateByIdsRefusal room fault =
+      IsByIdsRefusal fault
+      ⊎ ((auxiliary : Matrix (Quartic BabyBear)) × (terminal : Option (LookupTerminal (Quartic BabyBear))) × GeneratesByIds auxiliary terminal
+      × (length auxiliary.values ≢ room) × (fault ≡ Length Auxiliary (length auxiliary.values) room))

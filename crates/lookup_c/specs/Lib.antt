@@ -1,0 +1,17 @@
+pub mod Batches
+pub mod Counting
+pub mod Debugging
+pub mod Degrees
+pub mod Generation
+pub mod Identified
+pub mod Inputs
+pub mod Outputs
+pub mod Packing
+pub mod Planning
+pub mod Proving
+pub mod Reading
+pub mod Refusals
+pub mod Soundness
+pub mod Verifying
+pub mod Witnesses
+pub mod Written

@@ -1,0 +1,152 @@
+//! Why a call is refused, before it is written for C.
+ghost use Rattle.std.specs.Prelude.{◌≡◌};
+ghost use Rattle.lookup_c.specs.declared.fault.Fault.TheVariants.{Memory};
+
+use batch::BatchError;
+use lookup::LookupError;
+use lookup_tables::{TableFault, TraceFault};
+use std::alloc::{AllocError, AllocFailed};
+use std::fmt;
+use thiserror::Error;
+
+/// A list that a call gets beside tables and traces.
+#[derive(Clone, Copy, Debug)]
+pub enum Part {
+    /// An alpha and a beta for each lookup.
+    Challenges,
+    /// Alpha, or the alphas of a grid.
+    Alphas,
+    /// Beta, or the betas of a grid.
+    Betas,
+    /// The cells of auxiliary traces.
+    Auxiliary,
+    /// The terminals.
+    Terminals,
+    /// What there is for each AIR.
+    Batch,
+    /// The degrees.
+    Degrees,
+    /// The ids.
+    Ids,
+    /// The sizes of a plan.
+    Sizes,
+    /// The nodes that a call writes.
+    Nodes,
+    /// The ranges of tuples that a call writes.
+    Tuples,
+    /// The names that a call writes.
+    Names,
+    /// The records that a call writes.
+    Records,
+}
+
+impl fmt::Display for Part {
+    fn fmt<W: fmt::Write>(&self, f: &mut fmt::Formatter<W>) -> fmt::Result {
+        match self {
+            Part::Challenges => write!(f, "challenges"),
+            Part::Alphas => write!(f, "alphas"),
+            Part::Betas => write!(f, "betas"),
+            Part::Auxiliary => write!(f, "auxiliary trace"),
+            Part::Terminals => write!(f, "terminals"),
+            Part::Batch => write!(f, "entries for the AIRs"),
+            Part::Degrees => write!(f, "degrees"),
+            Part::Ids => write!(f, "ids"),
+            Part::Sizes => write!(f, "sizes of the plan"),
+            Part::Nodes => write!(f, "nodes"),
+            Part::Tuples => write!(f, "tuples"),
+            Part::Names => write!(f, "names"),
+            Part::Records => write!(f, "records"),
+        }
+    }
+}
+
+/// A refusal of a call.
+#[derive(Debug, Drop, Error)]
+pub enum Fault {
+    /// Out of memory.
+    #[error("out of memory")]
+    Memory,
+    /// A record of an AIR is no lookup.
+    #[error("air {air}, lookup {lookup}: {fault}")]
+    Table {
+        air: usize,
+        lookup: usize,
+        fault: TableFault,
+    },
+    /// The numbers of an AIR are no traces.
+    #[error("air {air}, {fault}")]
+    Traces {
+        air: usize,
+        fault: TraceFault,
+    },
+    /// One of the four numbers at this index of a list is not below the modulus.
+    #[error("air {air}, {part}: number {index} is not below the modulus")]
+    Large {
+        part: Part,
+        air: usize,
+        index: usize,
+    },
+    /// An id is not below the number of ids.
+    #[error("ids: number {index} is not below the number of ids")]
+    Id {
+        index: usize,
+    },
+    /// The width of a plan is zero.
+    #[error("the width of the plan is 0")]
+    Width,
+    /// A text is no JSON, or not that of lookups.
+    #[error("{0}")]
+    Text(serde_json::Error),
+    /// A list has another length than the call asks for, or is too short.
+    #[error("{part}: expected {expected}, got {actual}")]
+    Length {
+        part: Part,
+        expected: usize,
+        actual: usize,
+    },
+    /// The numbers of a witness make no whole rows.
+    #[error("air {air}, auxiliary trace: the numbers make no whole rows")]
+    Ragged {
+        air: usize,
+    },
+    /// The lookups do not fit the traces.
+    #[error("air {air}: the lookups do not fit the traces")]
+    Misfit {
+        air: usize,
+    },
+    /// The preprocessed trace does not have the height of the main trace.
+    #[error("air {air}: the preprocessed trace does not have the height of the main trace")]
+    Heights {
+        air: usize,
+    },
+    /// A refusal of the lookups of one AIR.
+    #[error("air {air}: {error}")]
+    Lookup {
+        air: usize,
+        error: LookupError,
+    },
+    /// A tuple that does not balance.
+    #[error("{text}")]
+    Mismatch {
+        text: String,
+    },
+    /// A refusal of a call on a plan.
+    #[error("{0}")]
+    Batch(BatchError),
+}
+
+impl From<AllocError> for Fault {
+    ghost from_gives = { λ _ e. e ≡ Memory };
+
+    fn from(_error: AllocError) -> Fault {
+        Fault::Memory
+    }
+}
+
+impl<T: Drop> From<AllocFailed<T>> for Fault {
+    ghost from_gives = { λ _ e. e ≡ Memory };
+
+    fn from(_error: AllocFailed<T>) -> Fault {
+        Fault::Memory
+    }
+}

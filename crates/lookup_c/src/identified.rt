@@ -1,0 +1,170 @@
+//! The call that generates the auxiliary trace of one AIR of a planned batch.
+ghost use Rattle.std.specs.Prelude.{◌≡◌, ◌≢◌, ◌<◌, All, MatchResult, length};
+ghost use Rattle.batch.specs.Tables.{made_table};
+ghost use Rattle.lookup_model.specs.Challenges.{column_challenges};
+ghost use Rattle.lookup_c.specs.Identified.{GeneratesByIds, GeneratesByIdsNumbers, IsByIdsRefusal, IsFirstLargeId, IsGenerateByIdsRefusal, IsIdsRefusal};
+ghost use Rattle.lookup_c.specs.Refusals.{IsRefusal, placed};
+ghost use Rattle.lookup_c.specs.declared.fault.Fault.{Fault};
+
+use crate::fault::{Fault, Part};
+use crate::generation::{Generated, generate};
+use crate::inputs::{challenge_of, lookups_of, traces_of};
+use crate::outputs::{Terminal, terminal_numbers, write_elements};
+use crate::planning::Plan;
+use crate::refusal::{Refusal, accept, refuse};
+use field::{BabyBear, BabyBear4, Over, PrimeCharacteristicRing};
+use lookup::Challenges;
+use lookup_tables::{Tables, Traces};
+use std::alloc::Global;
+
+/// Whether all ids are below a number.
+///
+/// Refuses the first one that is not.
+fn check_ids(ids: &[usize], num_ids: usize) -> Result<(), Fault>
+    ensures { MatchResult result (λ _. All (λ id. id < num_ids) ids.now)
+        (IsFirstLargeId ids.now num_ids) }
+{
+    for (index, id) in ids.iter().enumerate() {
+        if *id >= num_ids {
+            return Err(Fault::Id { index });
+        }
+    }
+    Ok(())
+}
+
+/// The challenges of lookups with these ids, under the plan of these sizes.
+fn challenges_of_ids(
+    alloc: Global,
+    ids: &[usize],
+    sizes: &Plan,
+    alpha: BabyBear4,
+    beta: BabyBear4,
+) -> Result<Vec<BabyBear4>, Fault>
+    ensures { MatchResult result
+        (λ v. v.items ≡ column_challenges (made_table
+        ⟦<BabyBear4 as PrimeCharacteristicRing>⟧.ring alpha beta sizes.now.max_message_width
+        sizes.now.num_ids) ids.now)
+        (IsIdsRefusal ids.now sizes.now) }
+{
+    let width = sizes.max_message_width;
+    if width == 0 {
+        return Err(Fault::Width);
+    }
+    match check_ids(ids, sizes.num_ids) {
+        Ok(()) => {}
+        Err(fault) => return Err(fault),
+    }
+    let challenges = Challenges::new(alloc, alpha, beta, width, sizes.num_ids)?;
+    Ok(challenges.for_columns(alloc, ids)?)
+}
+
+/// Generates over what tables say, under ids.
+///
+/// Refuses the first of these with a fault: the tables, the traces, alpha, beta, the number of ids, the
+/// sizes of the plan, an id, whether the lookups fit the traces, the heights of the traces, and the
+/// generation.
+fn generated_by_ids(
+    alloc: Global,
+    tables: &Tables<'_>,
+    traces: &Traces<'_>,
+    ids: &[usize],
+    sizes: &Plan,
+    alpha: &[u32; 4],
+    beta: &[u32; 4],
+) -> Result<Generated, Fault>
+    ensures { let E = ⟦<BabyBear4 as Over<BabyBear>>⟧.fields in
+        MatchResult result
+        (λ g. GeneratesByIds E tables.now traces.now ids.now sizes.now alpha.now beta.now
+        g.auxiliary g.terminal)
+        (IsByIdsRefusal E tables.now traces.now ids.now sizes.now alpha.now beta.now) }
+{
+    let lookups = lookups_of(alloc, 0, tables)?;
+    let traces = traces_of(alloc, 0, traces)?;
+    let alpha = challenge_of(Part::Alphas, *alpha)?;
+    let beta = challenge_of(Part::Betas, *beta)?;
+    if ids.len() != lookups.len() {
+        return Err(Fault::Length {
+            part: Part::Ids,
+            expected: lookups.len(),
+            actual: ids.len(),
+        });
+    }
+    let challenges = challenges_of_ids(alloc, ids, sizes, alpha, beta)?;
+    generate(alloc, &traces, &lookups, &challenges)
+}
+
+/// What is generated, for room for so many cells.
+fn generated_by_ids_for(
+    alloc: Global,
+    tables: &Tables<'_>,
+    traces: &Traces<'_>,
+    ids: &[usize],
+    sizes: &Plan,
+    alpha: &[u32; 4],
+    beta: &[u32; 4],
+    room: usize,
+) -> Result<Generated, Fault>
+    ensures { let E = ⟦<BabyBear4 as Over<BabyBear>>⟧.fields in
+        MatchResult result
+        (λ g. GeneratesByIds E tables.now traces.now ids.now sizes.now alpha.now beta.now
+        g.auxiliary g.terminal × (length g.auxiliary.values ≡ room))
+        (IsGenerateByIdsRefusal E tables.now traces.now ids.now sizes.now alpha.now beta.now
+        room) }
+{
+    let made = generated_by_ids(alloc, tables, traces, ids, sizes, alpha, beta)?;
+    let expected = made.auxiliary.values().len();
+    if expected != room {
+        return Err(Fault::Length {
+            part: Part::Auxiliary,
+            expected,
+            actual: room,
+        });
+    }
+    Ok(made)
+}
+
+/// Generates the auxiliary trace of one AIR of a planned batch, and its terminal.
+///
+/// The ids are those of the AIR's lookups, and the sizes those of the plan. The auxiliary trace is as
+/// `volgwain_generate` writes it.
+///
+/// Answers 0, or the code of a refusal. A refused call leaves the auxiliary trace and the terminal as they
+/// were.
+#[unsafe(no_mangle)]
+pub extern "C" fn volgwain_generate_by_ids(
+    alloc: Global,
+    tables: &Tables<'_>,
+    traces: &Traces<'_>,
+    ids: &[usize],
+    sizes: &Plan,
+    alpha: &[u32; 4],
+    beta: &[u32; 4],
+    auxiliary: &mut [[u32; 4]],
+    terminal: &mut Terminal,
+    refusal: &mut Refusal,
+    text: &mut [u8],
+) -> u32
+    ensures code { result ≡ refusal.new.code }
+    ensures no_refusal { result ≡ 0 → refusal.new ≡ placed 0 0 0 0 0 0 0 }
+    ensures done { let E = ⟦<BabyBear4 as Over<BabyBear>>⟧.fields in
+        result ≡ 0
+        → GeneratesByIdsNumbers E tables.now traces.now ids.now sizes.now alpha.now beta.now
+        auxiliary.new terminal.new }
+    ensures refused { let E = ⟦<BabyBear4 as Over<BabyBear>>⟧.fields in
+        result ≢ 0
+        → (fault : Fault) × IsRefusal fault refusal.new
+        × IsGenerateByIdsRefusal E tables.now traces.now ids.now sizes.now alpha.now beta.now
+        (length auxiliary.old) fault }
+    ensures kept { result ≢ 0 → auxiliary.new ≡ auxiliary.old }
+    ensures terminal_kept { result ≢ 0 → terminal.new ≡ terminal.old }
+{
+    let room = auxiliary.len();
+    match generated_by_ids_for(alloc, tables, traces, ids, sizes, alpha, beta, room) {
+        Ok(made) => {
+            write_elements(auxiliary, 0, made.auxiliary.values());
+            *terminal = terminal_numbers(made.terminal);
+            accept(refusal)
+        }
+        Err(fault) => refuse(&fault, refusal, text),
+    }
+}

@@ -1,0 +1,107 @@
+//! The call that reads lookups from JSON.
+ghost use Rattle.std.specs.Prelude.{◌≡◌, ◌≢◌, MatchResult};
+ghost use Rattle.std.specs.Str.{IsUtf8};
+ghost use Rattle.lookup_c.specs.Reading.{IsJsonCallRefusal, IsJsonRefusal, IsTextRefusal, ReadsTables};
+ghost use Rattle.lookup_c.specs.Refusals.{IsRefusal, placed};
+ghost use Rattle.lookup_c.specs.Written.{HasTableRoom, WritesTables, arrays, room_of, sizes_of};
+ghost use Rattle.lookup_tables.specs.declared.writer.Written.{Written};
+ghost use Rattle.lookup_c.specs.declared.fault.Fault.{Fault};
+
+use crate::fault::Fault;
+use crate::refusal::{Refusal, accept, refuse};
+use crate::written::{TableSizes, check_table_room, tables_of, write_tables};
+use field::BabyBear;
+use lookup::{Lookup, Lookups};
+use lookup_tables::{Node, Record, Span, Written};
+use serde_json::error::Category;
+use std::alloc::Global;
+
+/// Why a text was not read.
+fn text_fault(error: serde_json::Error) -> Fault
+    ensures { IsTextRefusal error result }
+{
+    if error.classify() == Category::Memory {
+        Fault::Memory
+    } else {
+        Fault::Text(error)
+    }
+}
+
+/// The set of lookups that a text says.
+///
+/// Refuses a text that is no JSON or not that of lookups, and then the first lookup whose lists have
+/// different lengths or whose column is not its index.
+fn set_from_json(alloc: Global, json: &[u8]) -> Result<Lookups<BabyBear>, Fault>
+    ensures { MatchResult result (λ _. IsUtf8 json.now) IsJsonRefusal }
+{
+    let records: Vec<Lookup<BabyBear>> = match serde_json::from_slice(alloc, json) {
+        Ok(records) => records,
+        Err(error) => return Err(text_fault(error)),
+    };
+    match Lookups::from_records(alloc, records) {
+        Ok(set) => Ok(set),
+        Err(error) => Err(Fault::Lookup { air: 0, error }),
+    }
+}
+
+/// Tables of the lookups that a text says.
+fn tables_from_json(alloc: Global, json: &[u8], room: TableSizes) -> Result<Written, Fault>
+    ensures { MatchResult result
+        (λ w. ReadsTables json.now w × HasTableRoom (sizes_of w) room)
+        (IsJsonCallRefusal json.now room) }
+{
+    let set = set_from_json(alloc, json)?;
+    let made = tables_of(alloc, &set)?;
+    match check_table_room(&made, room) {
+        Ok(()) => Ok(made),
+        Err(fault) => Err(fault),
+    }
+}
+
+/// Reads the lookups of an AIR from JSON into tables.
+///
+/// Each array is at least as long as what is written, from its start on; the sizes say how much that is.
+///
+/// Answers 0, or the code of a refusal. A refused call leaves the arrays and the sizes as they were.
+#[unsafe(no_mangle)]
+pub extern "C" fn volgwain_read_json(
+    alloc: Global,
+    json: &[u8],
+    nodes: &mut [Node],
+    tuples: &mut [Span],
+    names: &mut [u8],
+    records: &mut [Record],
+    sizes: &mut TableSizes,
+    refusal: &mut Refusal,
+    text: &mut [u8],
+) -> u32
+    ensures code { result ≡ refusal.new.code }
+    ensures no_refusal { result ≡ 0 → refusal.new ≡ placed 0 0 0 0 0 0 0 }
+    ensures done { result ≡ 0
+        → (made : Written) × ReadsTables json.now made
+        × WritesTables made (arrays nodes.old tuples.old names.old records.old)
+        (arrays nodes.new tuples.new names.new records.new) sizes.new }
+    ensures refused { result ≢ 0
+        → (fault : Fault) × IsRefusal fault refusal.new
+        × IsJsonCallRefusal json.now (room_of (arrays nodes.old tuples.old names.old records.old))
+        fault }
+    ensures nodes_kept { result ≢ 0 → nodes.new ≡ nodes.old }
+    ensures tuples_kept { result ≢ 0 → tuples.new ≡ tuples.old }
+    ensures names_kept { result ≢ 0 → names.new ≡ names.old }
+    ensures records_kept { result ≢ 0 → records.new ≡ records.old }
+    ensures sizes_kept { result ≢ 0 → sizes.new ≡ sizes.old }
+{
+    let room = TableSizes {
+        nodes: nodes.len(),
+        tuples: tuples.len(),
+        names: names.len(),
+        records: records.len(),
+    };
+    match tables_from_json(alloc, json, room) {
+        Ok(made) => {
+            *sizes = write_tables(&made, nodes, tuples, names, records);
+            accept(refusal)
+        }
+        Err(fault) => refuse(&fault, refusal, text),
+    }
+}

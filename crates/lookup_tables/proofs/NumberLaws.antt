@@ -1,0 +1,44 @@
+-- Numbers that are read one after another.
+use Rattle.std.proofs.Common.{◌≡◌, ◌⊎◌, ◌<◌, ◌≤◌, ◌+◌, ◌++◌, ◌∷◌, ◌∙◌, [], ℕ, List, Some, inl, inr, ap, arith, get_or, length, map, slice_index, subst, sym, take}
+use Rattle.std.proofs.lemmas.Bool.{cases_lt}
+use Rattle.std.proofs.lemmas.List.{map_push, take_more}
+use Rattle.std.proofs.lemmas.Option.{slice_get-get_or}
+use Rattle.std.specs.List.{slice_get}
+use Rattle.lookup_tables.specs.Numbers.{AreGroupsBelow, AreNumbersBelow, IsFirstLargeGroup, IsGroup}
+
+-- the values of one item more
+pub values_next : {A B : Type 0} (f : A → B) (xs : List A) (i : ℕ) (d : A) (before after : List B) (v : B) → i < length xs → v ≡ f (get_or xs i d) → after ≡ before ++ v ∷ []
+    → before ≡ map f (take i xs) → after ≡ map f (take (i + 1) xs)
+values_next f xs i d before after v there is pushed so_far =
+    pushed ∙ ((λ k. so_far k ++ is k ∷ []) ∙ (sym (map_push f (take i xs) (get_or xs i d)) ∙ ap (map f) (sym (take_more xs i d there))))
+
+-- one number more
+pub numbers_next : (numbers : List ℕ) (i : ℕ) → slice_index numbers i < 2013265921 → AreNumbersBelow i numbers → AreNumbersBelow (i + 1) numbers
+numbers_next numbers i here so_far k below = by_place (cases_lt k i)
+  where
+    by_place : (k < i) ⊎ (i ≤ k) → slice_index numbers k < 2013265921
+    by_place (inl earlier) = so_far k earlier
+    by_place (inr late) =
+        let same : k ≡ i = omega (arith, late, below) in
+        subst (λ (n : ℕ). slice_index numbers n < 2013265921) (sym same) here
+
+-- one group more
+pub groups_next : (groups : List (List ℕ)) (i : ℕ) (group : List ℕ) → slice_get groups i ≡ Some group → IsGroup group → AreGroupsBelow i groups → AreGroupsBelow (i + 1) groups
+groups_next groups i group is_there here so_far k other below there = by_place (cases_lt k i)
+  where
+    by_place : (k < i) ⊎ (i ≤ k) → IsGroup other
+    by_place (inl earlier) = so_far k other earlier there
+    by_place (inr late) =
+        let same : k ≡ i = omega (arith, late, below) in
+        let also : slice_get groups i ≡ Some other = subst (λ (n : ℕ). slice_get groups n ≡ Some other) same there in
+        let group_is : group ≡ other = cc (sym is_there ∙ also) in
+        subst IsGroup group_is here
+
+-- A group that is none is the first one, if those before it are.
+pub first_large_group : (groups : List (List ℕ)) (i : ℕ) (d : List ℕ) → i < length groups → ¬ IsGroup (get_or groups i d) → AreGroupsBelow i groups → IsFirstLargeGroup groups i
+first_large_group groups i d there large before = record {
+  group = get_or groups i d;
+  is_there = slice_get-get_or groups i d there;
+  large = large;
+  before = before;
+}

@@ -1,0 +1,75 @@
+-- Tables say one list of lookups at most.
+use Rattle.std.proofs.Common.{◌≡◌, ◌∷◌, ◌∙◌, List, [], Option, None, Some, ap, ap₂, arith, length, map, refl, sym, ℕ}
+use Rattle.std.proofs.lemmas.Slice.Zip.{AllZip-long}
+use Rattle.std.specs.List.{AllZip, range_with_len}
+use Rattle.std.specs.Option.{option_map}
+use Rattle.std.specs.declared.alloc.Global.{Global}
+use Rattle.std.specs.declared.vec.Vec.{Vec}
+use Rattle.expressions.specs.Tree.{tree_of}
+use Rattle.expressions.specs.declared.base_expression.SymbolicExpression.{SymbolicExpression}
+use Rattle.lookup_model.specs.Outline.{bus_of, outline_of}
+use Rattle.lookup_model.specs.declared.types.Lookup.{Lookup}
+use Rattle.lookup_tables.specs.Nodes.{BabyBear}
+use Rattle.lookup_tables.specs.Tables.{AreFlags, AreLookups, AreTuples, IsBus, IsLookup, IsWritten}
+use Rattle.lookup_tables.specs.declared.nodes.Node.{Node}
+use Rattle.lookup_tables.specs.declared.tables.Record.{Record}
+use Rattle.lookup_tables.specs.declared.tables.Span.{Span}
+use Rattle.lookup_tables.specs.declared.tables.Tables.{Tables}
+use Rattle.lookup_tables.proofs.Unique.{same_trees}
+
+-- one list of expressions stands in a range
+written_once : (nodes : List Node) (span : Span) (a b : List (SymbolicExpression BabyBear)) → IsWritten nodes span a → IsWritten nodes span b → map tree_of a ≡ map tree_of b
+written_once nodes span a b p q = same_trees (map tree_of a) (map tree_of b) (p.trees.same ∙ sym q.trees.same)
+
+-- one list of tuples stands in some ranges
+tuples_once : (nodes : List Node) (spans : List Span) (a b : List (Vec (SymbolicExpression BabyBear) Global)) → AreTuples nodes spans a → AreTuples nodes spans b
+    → map (λ tuple. map tree_of tuple.items) a ≡ map (λ tuple. map tree_of tuple.items) b
+tuples_once nodes [] [] [] p q = refl
+tuples_once nodes [] [] (y ∷ ys) p q = absurd q
+tuples_once nodes [] (x ∷ xs) b p q = absurd p
+tuples_once nodes (s ∷ ss) [] b p q = absurd p
+tuples_once nodes (s ∷ ss) (x ∷ xs) [] p q = absurd q
+tuples_once nodes (s ∷ ss) (x ∷ xs) (y ∷ ys) p q =
+    ap₂ (λ t ts. t ∷ ts) (written_once nodes s x.items y.items p.0 q.0) (tuples_once nodes ss xs ys p.1 q.1)
+
+-- a record has one bus, and one list of flags
+bus_once : (names : List ℕ) (r : Record) (a b : Option (List ℕ)) → IsBus names r a → IsBus names r b → a ≡ b
+bus_once names r None None p q = refl
+bus_once names r None (Some y) p q = absurd (omega (arith, p, q.0))
+bus_once names r (Some x) None p q = absurd (omega (arith, p.0, q))
+bus_once names r (Some x) (Some y) p q = ap Some (p.2 ∙ sym q.2)
+
+flags_once : (nodes : List Node) (r : Record) (a b : Option (Vec (SymbolicExpression BabyBear) Global)) → AreFlags nodes r (option_map (λ v. v.items) a) → AreFlags nodes r (option_map (λ v. v.items) b)
+    → option_map (λ v. map tree_of v.items) a ≡ option_map (λ v. map tree_of v.items) b
+flags_once nodes r None None p q = refl
+flags_once nodes r None (Some y) p q = absurd (omega (arith, p, q.0))
+flags_once nodes r (Some x) None p q = absurd (omega (arith, p.0, q))
+flags_once nodes r (Some x) (Some y) p q = ap Some (written_once nodes r.flags x.items y.items p.1 q.1)
+
+-- a record is one lookup, in each column
+lookup_once : (tables : Tables) (r : Record) (a b : Lookup BabyBear) → IsLookup tables r a → IsLookup tables r b → a.column ≡ b.column → outline_of a ≡ outline_of b
+lookup_once tables r a b p q columns = λ i. record {
+  bus = bus_once tables.names.now r (bus_of a.kind) (bus_of b.kind) p.bus q.bus i;
+  elements = tuples_once tables.nodes.now _ a.elements.items b.elements.items p.elements q.elements i;
+  multiplicities = written_once tables.nodes.now r.multiplicities a.multiplicities.items b.multiplicities.items p.multiplicities q.multiplicities i;
+  count_weight = (p.weight ∙ sym q.weight) i;
+  column = columns i;
+  flags = flags_once tables.nodes.now r a.flags b.flags p.flags q.flags i;
+}
+
+-- all records are one list of lookups, in each list of columns
+all_once : (tables : Tables) (rs : List Record) (a b : List (Lookup BabyBear)) → AllZip (IsLookup tables) rs a → AllZip (IsLookup tables) rs b → map (λ l. l.column) a ≡ map (λ l. l.column) b → map outline_of a ≡ map outline_of b
+all_once tables [] [] [] p q columns = refl
+all_once tables [] [] (y ∷ ys) p q columns = absurd q
+all_once tables [] (x ∷ xs) b p q columns = absurd p
+all_once tables (r ∷ rs) [] b p q columns = absurd p
+all_once tables (r ∷ rs) (x ∷ xs) [] p q columns = absurd q
+all_once tables (r ∷ rs) (x ∷ xs) (y ∷ ys) p q columns =
+    let first : x.column ≡ y.column = cc columns in
+    let others : map (λ l. l.column) xs ≡ map (λ l. l.column) ys = cc columns in
+    ap₂ (λ l ls. l ∷ ls) (lookup_once tables r x y p.0 q.0 first) (all_once tables rs xs ys p.1 q.1 others)
+
+pub lookups_once : (tables : Tables) (a b : List (Lookup BabyBear)) → AreLookups tables a → AreLookups tables b → map outline_of a ≡ map outline_of b
+lookups_once tables a b p q =
+    let many : length a ≡ length b = AllZip-long (IsLookup tables) tables.records.now a p.are ∙ sym (AllZip-long (IsLookup tables) tables.records.now b q.are) in
+    all_once tables tables.records.now a b p.are q.are (p.columns ∙ (ap (range_with_len 0) many ∙ sym q.columns))

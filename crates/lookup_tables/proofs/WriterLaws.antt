@@ -1,0 +1,246 @@
+-- Tables that are written part by part.
+use Rattle.std.proofs.Common.{◌≡◌, ◌≢◌, ◌++◌, ◌∷◌, ◌+◌, ◌-◌, ◌<◌, ◌≤◌, ◌⊎◌, ℕ, List, [], All, Option, None, Some, ap, append_assoc, arith, drop, get_or, inl, inr, length, length-append, map, subst, sym, take, ◌∙◌}
+use Rattle.std.proofs.Math.Seq.{drop-append_seam, take-append_seam}
+use Rattle.std.proofs.lemmas.Bool.{cases_lt}
+use Rattle.std.proofs.lemmas.List.{append-nil, map_push, take_all, take_more}
+use Rattle.std.proofs.lemmas.List.Concat.{flat_map-append}
+use Rattle.std.proofs.lemmas.List.Elements.{All-map}
+use Rattle.std.proofs.lemmas.Option.{slice_get-get_or}
+use Rattle.std.specs.List.{AllZip, flat_map, range_with_len, slice_get}
+use Rattle.std.specs.Option.{option_map}
+use Rattle.std.specs.declared.alloc.Global.{Global}
+use Rattle.std.specs.declared.vec.Vec.{Vec}
+use Rattle.expressions.specs.Depth.{depth_of}
+use Rattle.expressions.specs.Tree.{Tree, leaf, add, sub, mul, neg, tree_of}
+use Rattle.expressions.specs.declared.base_expression.BaseLeaf.{BaseLeaf}
+use Rattle.expressions.specs.declared.base_expression.SymbolicExpression.{SymbolicExpression}
+use Rattle.lookup_model.specs.Outline.{bus_of}
+use Rattle.lookup_model.specs.declared.types.Lookup.{Lookup}
+use Rattle.lookup_tables.specs.Nodes.{BabyBear, IsShallow, nodes_of}
+use Rattle.lookup_tables.specs.Tables.{AreFlags, AreTuples, IsBus, IsInside, IsLookup, IsWritten, items_at}
+use Rattle.lookup_tables.specs.Written.{HoldsFrom, IsLonger, IsLookupFault, IsNear, IsNearLeaf, IsSayable, IsTreeFault, IsUnsayableAt, SayLists, SaysBus, SaysFlags, SaysRecord}
+use Rattle.lookup_tables.specs.declared.nodes.Node.{Node}
+use Rattle.lookup_tables.specs.declared.tables.Record.{Record}
+use Rattle.lookup_tables.specs.declared.tables.Span.{Span}
+use Rattle.lookup_tables.specs.declared.tables.TableFault.{TableFault}
+use Rattle.lookup_tables.specs.declared.tables.TableFault.TheVariants.{Deep, Row}
+use Rattle.lookup_tables.specs.declared.tables.Tables.{Tables}
+
+-- a tree has a node at least
+positive : (t : Tree BabyBear) → 1 ≤ depth_of t
+positive (leaf l) = omega arith
+positive (add a b) = omega arith
+positive (sub a b) = omega arith
+positive (mul a b) = omega arith
+positive (neg a) = omega arith
+
+pub none_within : (t : Tree BabyBear) (depth : ℕ) → depth ≡ 0 → IsTreeFault depth t Deep
+none_within t depth none = omega (arith, positive t, none)
+
+-- what is wrong with a leaf
+pub leaf_fault : (l : BaseLeaf BabyBear) (depth : ℕ) (e : TableFault) → e ≡ Row → ¬ IsNearLeaf l → IsTreeFault depth (leaf l) e
+leaf_fault l depth e is far = subst (λ (f : TableFault). IsTreeFault depth (leaf l) f) (sym is) far
+
+-- what is wrong with an operand, one level deeper, is wrong with the operation
+pub fault_above : (t a : Tree BabyBear) (depth : ℕ) (e : TableFault) → depth ≢ 0 → (IsNear t → IsNear a) → depth_of a < depth_of t → IsTreeFault (depth - 1) a e → IsTreeFault depth t e
+fault_above t a depth Row some part lower far = λ near. far (part near)
+fault_above t a depth Deep some part lower deep = omega (arith, some, lower, deep)
+fault_above t a depth _ some part lower none = absurd none
+
+pub left_fault : (a b : Tree BabyBear) (depth : ℕ) (e : TableFault) → depth ≢ 0 → IsTreeFault (depth - 1) a e → IsTreeFault depth (add a b) e × IsTreeFault depth (sub a b) e × IsTreeFault depth (mul a b) e
+left_fault a b depth e some fault = (
+  fault_above (add a b) a depth e some (λ near. near.0) (omega arith) fault,
+  fault_above (sub a b) a depth e some (λ near. near.0) (omega arith) fault,
+  fault_above (mul a b) a depth e some (λ near. near.0) (omega arith) fault,
+)
+
+pub right_fault : (a b : Tree BabyBear) (depth : ℕ) (e : TableFault) → depth ≢ 0 → IsTreeFault (depth - 1) b e → IsTreeFault depth (add a b) e × IsTreeFault depth (sub a b) e × IsTreeFault depth (mul a b) e
+right_fault a b depth e some fault = (
+  fault_above (add a b) b depth e some (λ near. near.1) (omega arith) fault,
+  fault_above (sub a b) b depth e some (λ near. near.1) (omega arith) fault,
+  fault_above (mul a b) b depth e some (λ near. near.1) (omega arith) fault,
+)
+
+pub inner_fault : (a : Tree BabyBear) (depth : ℕ) (e : TableFault) → depth ≢ 0 → IsTreeFault (depth - 1) a e → IsTreeFault depth (neg a) e
+inner_fault a depth e some fault = fault_above (neg a) a depth e some (λ near. near) (omega arith) fault
+
+-- nodes that are appended one part after the other
+pub appended_three : {A : Type 0} (old one two three x y z : List A) → one ≡ old ++ x → two ≡ one ++ y → three ≡ two ++ z → three ≡ old ++ (x ++ (y ++ z))
+appended_three old one two three x y z e f g =
+    g ∙ (ap (λ t. t ++ z) (f ∙ ap (λ t. t ++ y) e)
+    ∙ (append_assoc (old ++ x) y z ∙ append_assoc old x (y ++ z)))
+
+pub appended_two : {A : Type 0} (old one two x y : List A) → one ≡ old ++ x → two ≡ one ++ y → two ≡ old ++ (x ++ y)
+appended_two old one two x y e f = f ∙ (ap (λ t. t ++ y) e ∙ append_assoc old x y)
+
+-- lists that go on from one another
+pub longer_same : {A : Type 0} (xs : List A) → IsLonger xs xs
+longer_same xs = ([], sym (append-nil xs))
+
+pub longer_is : {A : Type 0} (xs ys : List A) → ys ≡ xs → IsLonger xs ys
+longer_is xs ys e = ([], e ∙ sym (append-nil xs))
+
+pub longer_then : {A : Type 0} (xs ys zs : List A) → IsLonger xs ys → IsLonger ys zs → IsLonger xs zs
+longer_then xs ys zs (more, e) (further, f) = (more ++ further, f ∙ (ap (λ t. t ++ further) e ∙ append_assoc xs more further))
+
+-- what holds of each list that goes on from one holds of each that goes on from a longer one
+pub holds_later : {A : Type 0} (P : List A → Type 0) (xs ys : List A) → IsLonger xs ys → HoldsFrom xs P → HoldsFrom ys P
+holds_later P xs ys longer holds all further = holds all (longer_then xs ys all longer further)
+
+-- where the items stand that are appended
+module _ {A : Type 0} (old made now : List A) (span : Span) (now_is : now ≡ old ++ made) (start : span.start ≡ length old) (end' : span.end ≡ length now) (all more : List A) (all_is : all ≡ now ++ more) where
+  long : length now ≡ length old + length made
+  long = ap length now_is ∙ length-append old made
+
+  longer : length all ≡ length now + length more
+  longer = ap length all_is ∙ length-append now more
+
+  pub stands_inside : IsInside all span
+  stands_inside = record { ordered = omega (arith, start, end', long); ends = omega (arith, end', longer) }
+
+  pub stands_there : items_at all span ≡ made
+  stands_there =
+      let whole : all ≡ old ++ (made ++ more) = all_is ∙ (ap (λ t. t ++ more) now_is ∙ append_assoc old made more) in
+      let size : span.end - span.start ≡ length made = omega (arith, start, end', long) in
+      (λ i. take (size i) (drop (start i) (whole i)))
+      ∙ (ap (take (length made)) (drop-append_seam old (made ++ more)) ∙ take-append_seam made more)
+
+-- a list of expressions that is written
+pub list_written : (old now : List Node) (expressions : List (SymbolicExpression BabyBear)) (span : Span) → now ≡ old ++ flat_map nodes_of (map tree_of expressions) → span.start ≡ length old → span.end ≡ length now
+    → span.end - span.start ≤ 1048576 → All (λ e. depth_of (tree_of e) ≤ 1024) expressions
+    → HoldsFrom now (λ all. IsWritten all span expressions)
+list_written old now expressions span now_is start end' short shallow all (more, all_is) = record {
+  inside = stands_inside old (flat_map nodes_of (map tree_of expressions)) now span now_is start end' all more all_is;
+  short = short;
+  trees = record {
+    same = sym (stands_there old (flat_map nodes_of (map tree_of expressions)) now span now_is start end' all more all_is);
+    shallow = All-map IsShallow tree_of expressions shallow;
+  };
+}
+
+-- one expression more
+pub list_next : (expressions : List (SymbolicExpression BabyBear)) (i : ℕ) (e : SymbolicExpression BabyBear) (old now after : List Node) → i < length expressions → e ≡ get_or expressions i e
+    → now ≡ old ++ flat_map nodes_of (map tree_of (take i expressions)) → after ≡ now ++ nodes_of (tree_of e)
+    → after ≡ old ++ flat_map nodes_of (map tree_of (take (i + 1) expressions))
+list_next expressions i e old now after there is so_far pushed =
+    let f : List (SymbolicExpression BabyBear) → List Node = λ es. flat_map nodes_of (map tree_of es) in
+    let whole : f (take (i + 1) expressions) ≡ f (take i expressions) ++ nodes_of (tree_of e) =
+    ap f (take_more expressions i e there ∙ ap (λ x. take i expressions ++ x ∷ []) (sym is))
+    ∙ (ap (flat_map nodes_of) (map_push tree_of (take i expressions) e)
+    ∙ (flat_map-append nodes_of (map tree_of (take i expressions)) (tree_of e ∷ []) ∙ ap (λ t. f (take i expressions) ++ t) (append-nil (nodes_of (tree_of e))))) in
+    pushed ∙ (ap (λ t. t ++ nodes_of (tree_of e)) so_far ∙ (append_assoc old (f (take i expressions)) (nodes_of (tree_of e)) ∙ ap (λ t. old ++ t) (sym whole)))
+
+-- the nodes of a list are as many as were appended
+pub list_long : (old now : List Node) (expressions : List (SymbolicExpression BabyBear)) (start end' : ℕ) → now ≡ old ++ flat_map nodes_of (map tree_of expressions) → start ≡ length old → end' ≡ length now
+    → length (flat_map nodes_of (map tree_of expressions)) ≡ end' - start
+list_long old now expressions start end' now_is start_is end_is =
+    omega (arith, start_is, end_is, ap length now_is, length-append old (flat_map nodes_of (map tree_of expressions)))
+
+-- the tuples so far, with one more
+pub tuples_next : (tuples : List (Vec (SymbolicExpression BabyBear) Global)) (i : ℕ) (tuple : Vec (SymbolicExpression BabyBear) Global) (made : List Span) (span : Span) (now after : List Node)
+    → i < length tuples → tuple ≡ get_or tuples i tuple → IsLonger now after
+    → HoldsFrom now (λ all. AreTuples all made (take i tuples)) → HoldsFrom after (λ all. IsWritten all span tuple.items)
+    → HoldsFrom after (λ all. AreTuples all (made ++ span ∷ []) (take (i + 1) tuples))
+tuples_next tuples i tuple made span now after there is longer so_far holds all further =
+    subst (λ (ts : List (Vec (SymbolicExpression BabyBear) Global)). AreTuples all (made ++ span ∷ []) ts)
+    (sym (take_more tuples i tuple there ∙ ap (λ x. take i tuples ++ x ∷ []) (sym is)))
+    (zip_push made (take i tuples) (so_far all (longer_then now after all longer further)))
+  where
+    zip_push : (ss : List Span) (ts : List (Vec (SymbolicExpression BabyBear) Global)) → AreTuples all ss ts → AreTuples all (ss ++ span ∷ []) (ts ++ tuple ∷ [])
+    zip_push [] [] are = (holds all further, tt)
+    zip_push [] (t ∷ ts) are = absurd are
+    zip_push (s ∷ ss) [] are = absurd are
+    zip_push (s ∷ ss) (t ∷ ts) are = (are.0, zip_push ss ts are.1)
+
+-- all tuples are written, and their ranges stand there
+pub tuples_written : (tuples : List (Vec (SymbolicExpression BabyBear) Global)) (n : ℕ) (old made now : List Span) (nodes : List Node) (span : Span) → length tuples ≤ n → now ≡ old ++ made → span.start ≡ length old → span.end ≡ length now
+    → HoldsFrom nodes (λ all. AreTuples all made (take n tuples))
+    → HoldsFrom now (λ all. IsInside all span × HoldsFrom nodes (λ ns. AreTuples ns (items_at all span) tuples))
+tuples_written tuples n old made now nodes span whole now_is start end' holds all (more, all_is) = (
+  stands_inside old made now span now_is start end' all more all_is,
+  λ ns further.
+      subst (λ (ss : List Span). AreTuples ns ss tuples) (sym (stands_there old made now span now_is start end' all more all_is))
+      (subst (λ (ts : List (Vec (SymbolicExpression BabyBear) Global)). AreTuples ns made ts) (take_all n tuples whole) (holds ns further)),
+)
+
+-- a name that is written
+pub name_written : (name old now : List ℕ) (span : Span) → now ≡ old ++ name → span.start ≡ length old → span.end ≡ length now → HoldsFrom now (λ all. IsInside all span × (items_at all span ≡ name))
+name_written name old now span now_is start end' all (more, all_is) = (
+  stands_inside old name now span now_is start end' all more all_is,
+  stands_there old name now span now_is start end' all more all_is,
+)
+
+-- the record of a lookup whose parts are written
+module _ (lookup : Lookup BabyBear) (r : Record) (nodes_1 nodes_2 nodes_3 : List Node) (spans : List Span) (names : List ℕ) where
+  pub record_says : IsLonger nodes_1 nodes_2 → IsLonger nodes_2 nodes_3
+      → HoldsFrom names (λ all. SaysBus all r.kind r.bus (bus_of lookup.kind))
+      → HoldsFrom spans (λ all. IsInside all r.tuples × HoldsFrom nodes_1 (λ ns. AreTuples ns (items_at all r.tuples) lookup.elements.items))
+      → HoldsFrom nodes_2 (λ all. IsWritten all r.multiplicities lookup.multiplicities.items)
+      → HoldsFrom nodes_3 (λ all. SaysFlags all r.exclusive r.flags lookup.flags)
+      → lookup.count_weight ≡ r.weight → SaysRecord nodes_3 spans names r lookup
+  record_says longer_2 longer_3 bus tuples multiplicities flags weight t on_nodes on_spans on_names =
+      let from_2 = longer_then nodes_2 nodes_3 t.nodes.now longer_3 on_nodes in
+      let there = tuples t.tuples.now on_spans in record {
+        bus = bus_is (bus_of lookup.kind) (bus t.names.now on_names);
+        inside = there.0;
+        elements = there.1 t.nodes.now (longer_then nodes_1 nodes_2 t.nodes.now longer_2 from_2);
+        multiplicities = multiplicities t.nodes.now from_2;
+        flags = flags_are lookup.flags (flags t.nodes.now on_nodes);
+        weight = weight;
+      }
+    where
+      bus_is : (b : Option (List ℕ)) → SaysBus t.names.now r.kind r.bus b → IsBus t.names.now r b
+      bus_is None says = says
+      bus_is (Some name) says = says
+
+      flags_are : (f : Option (Vec (SymbolicExpression BabyBear) Global)) → SaysFlags t.nodes.now r.exclusive r.flags f → AreFlags t.nodes.now r (option_map (λ v. v.items) f)
+      flags_are None says = says
+      flags_are (Some v) says = says
+
+-- one record more, over tables that are longer
+pub records_next : (lookups : List (Lookup BabyBear)) (i : ℕ) (lookup : Lookup BabyBear) (records : List Record) (r : Record) (t : Tables) → i < length lookups → lookup ≡ get_or lookups i lookup
+    → AllZip (IsLookup t) records (take i lookups) → IsLookup t r lookup → AllZip (IsLookup t) (records ++ r ∷ []) (take (i + 1) lookups)
+records_next lookups i lookup records r t there is so_far here =
+    subst (λ (ls : List (Lookup BabyBear)). AllZip (IsLookup t) (records ++ r ∷ []) ls)
+    (sym (take_more lookups i lookup there ∙ ap (λ x. take i lookups ++ x ∷ []) (sym is)))
+    (zip_push records (take i lookups) so_far)
+  where
+    zip_push : (rs : List Record) (ls : List (Lookup BabyBear)) → AllZip (IsLookup t) rs ls → AllZip (IsLookup t) (rs ++ r ∷ []) (ls ++ lookup ∷ [])
+    zip_push [] [] are = (here, tt)
+    zip_push [] (l ∷ ls) are = absurd are
+    zip_push (s ∷ rs) [] are = absurd are
+    zip_push (s ∷ rs) (l ∷ ls) are = (are.0, zip_push rs ls are.1)
+
+-- one lookup more is said
+pub said_next : (lookups : List (Lookup BabyBear)) (i : ℕ) (lookup : Lookup BabyBear) → i < length lookups → lookup ≡ get_or lookups i lookup → IsSayable lookup
+    → ((k : ℕ) (other : Lookup BabyBear) → k < i → slice_get lookups k ≡ Some other → IsSayable other) → (k : ℕ) (other : Lookup BabyBear) → k < i + 1 → slice_get lookups k ≡ Some other → IsSayable other
+said_next lookups i lookup there is here so_far k other below other_is = by_index (cases_lt k i)
+  where
+    by_index : (k < i) ⊎ (i ≤ k) → IsSayable other
+    by_index (inl earlier) = so_far k other earlier other_is
+    by_index (inr late) =
+        let same : k ≡ i = omega (arith, late, below) in
+        let also : slice_get lookups i ≡ Some other = subst (λ (n : ℕ). slice_get lookups n ≡ Some other) same other_is in
+        let other_same : get_or lookups i lookup ≡ other = cc (sym (slice_get-get_or lookups i lookup there) ∙ also) in
+        subst IsSayable (is ∙ other_same) here
+
+-- a lookup that tables do not say, behind those that they say
+pub unsayable_there : (lookups : List (Lookup BabyBear)) (i : ℕ) (lookup : Lookup BabyBear) (e : TableFault) → i < length lookups → lookup ≡ get_or lookups i lookup → IsLookupFault lookup e
+    → ((k : ℕ) (other : Lookup BabyBear) → k < i → slice_get lookups k ≡ Some other → IsSayable other) → IsUnsayableAt lookups i e
+unsayable_there lookups i lookup e there is fault before = record {
+  lookup = get_or lookups i lookup;
+  is_there = slice_get-get_or lookups i lookup there;
+  before = before;
+  fault = subst (λ (l : Lookup BabyBear). IsLookupFault l e) is fault;
+}
+
+-- all records are written
+pub all_say : (lookups : List (Lookup BabyBear)) (n : ℕ) (nodes : List Node) (tuples : List Span) (names : List ℕ) (records : List Record) → length lookups ≤ n → map (λ l. l.column) lookups ≡ range_with_len 0 (length lookups)
+    → ((t : Tables) → IsLonger nodes t.nodes.now → IsLonger tuples t.tuples.now → IsLonger names t.names.now → AllZip (IsLookup t) records (take n lookups))
+    → SayLists nodes tuples names records lookups
+all_say lookups n nodes tuples names records whole columns say t nodes_are tuples_are names_are records_are = record {
+  are = subst (λ (ls : List (Lookup BabyBear)). AllZip (IsLookup t) t.records.now ls) (take_all n lookups whole)
+      (subst (λ (rs : List Record). AllZip (IsLookup t) rs (take n lookups)) (sym records_are)
+      (say t (longer_is nodes t.nodes.now nodes_are) (longer_is tuples t.tuples.now tuples_are) (longer_is names t.names.now names_are)));
+  columns = columns;
+}

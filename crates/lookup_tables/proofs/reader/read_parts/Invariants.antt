@@ -1,0 +1,6 @@
+use Rattle.std.proofs.Common.{◌≡◌, take}
+use Rattle.lookup_tables.specs.Stack.{written}
+use Rattle.lookup_tables.proofs.reader.read_parts.Given as goal
+
+abbrev pub invariant-loop-index : goal.invariant-loop-index
+invariant-loop-index l = written l.stack.items ≡ take l.index l.nodes

@@ -1,0 +1,24 @@
+use Rattle.std.proofs.Common.{◌≡◌, ◌≤◌, ◌<◌, ◌+◌, ◌-◌, ℕ, List, length, slice_range, drop, length-take, length-drop, ap, inl, inr, arith}
+use Rattle.lookup_tables.specs.declared.nodes.Node.{Node}
+use Rattle.lookup_tables.proofs.TableLaws.{none_written}
+use Rattle.lookup_tables.proofs.tables.expressions_at.Goals as goal
+
+in_range : (nodes : List Node) (a b i : ℕ) → a ≤ b → b ≤ length nodes → i < length (slice_range nodes a b) → a + i < b
+in_range nodes a b i ordered ends within = omega (arith, ordered, ends, within, length-take (b - a) (drop a nodes), length-drop a nodes)
+
+pub overflow_add-result : goal.overflow_add-result
+overflow_add-result c = elim c.in-Err-Bad.ensures.reads [
+  | inl memory ↦ absurd (grind (arith, memory))
+  | inr first ↦
+      let same : c.in-Err-Bad.index ≡ first.0 = cc first.1 in
+      let within = in_range c.args.nodes.now c.args.span.start c.args.span.end first.0 c.if-span.false c.if-span-nodes.false first.2.within in
+      omega (arith, same, within)
+]
+
+pub returns-in-Err-Bad : goal.returns-in-Err-Bad
+returns-in-Err-Bad c = elim c.in-Err-Bad.ensures.reads [
+  | inl memory ↦ absurd (grind (arith, memory))
+  | inr first ↦
+      let same : c.in-Err-Bad.index ≡ first.0 = cc first.1 in
+      inr (none_written c.args.nodes.now c.args.span first.0 first.2, (first.0, ap (λ i. c.args.span.start + i) same, first.2))
+]

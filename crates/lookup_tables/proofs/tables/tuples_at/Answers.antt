@@ -1,0 +1,22 @@
+use Rattle.std.proofs.Common.{inl, inr}
+use Rattle.std.proofs.lemmas.Option.{slice_get-get_or}
+use Rattle.std.proofs.lemmas.Result.{err_from_is_err_and}
+use Rattle.lookup_tables.proofs.TableLaws.{none_zipped}
+use Rattle.lookup_tables.proofs.ZipLaws.{zipped_next}
+use Rattle.lookup_tables.specs.Tables.{IsWritten}
+use Rattle.lookup_tables.proofs.tables.tuples_at.Goals as goal
+
+pub loop-span-preserved : goal.loop-span-preserved
+loop-span-preserved c =
+    zipped_next (λ span tuple. IsWritten c.args.nodes.now span tuple.items) c.args.spans.now c.loop-span.span-index _ c.loop-span.tuples.items _ c.in_ok-expressions_at.field-0 c.loop-span-test.true c.in_ok-push.ensures.items c.in_ok-expressions_at.ensures c.loop-span.invariant
+
+pub returns-in_err-expressions_at : goal.returns-in_err-expressions_at
+returns-in_err-expressions_at c =
+    let p = err_from_is_err_and c.from_residual.result c.from_residual.ensures.1 in
+    rw (p.1, p.2) (elim c.in_err-expressions_at.ensures [
+      | inl memory ↦ inl memory
+      | inr (none, fault) ↦ inr (
+        none_zipped (λ span tuple. IsWritten c.args.nodes.now span tuple.items) c.args.spans.now c.loop-span.span-index _ c.loop-span-test.true (λ tuple w. none tuple.items w),
+        (c.loop-span.span-index, _, slice_get-get_or c.args.spans.now c.loop-span.span-index _ c.loop-span-test.true, fault),
+      )
+    ])

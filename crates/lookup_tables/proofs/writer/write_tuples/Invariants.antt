@@ -1,0 +1,14 @@
+use Rattle.std.proofs.Common.{◌≡◌, ◌++◌, All, List, take}
+use Rattle.lookup_tables.specs.Tables.{AreTuples}
+use Rattle.lookup_tables.specs.Written.{AreSayable, HoldsFrom, IsLonger}
+use Rattle.lookup_tables.specs.declared.tables.Span.{Span}
+use Rattle.lookup_tables.proofs.writer.write_tuples.Given as goal
+
+abbrev pub invariant-loop-tuple : goal.invariant-loop-tuple
+invariant-loop-tuple l = record {
+  longer : IsLonger l.initial.nodes.items l.nodes.items;
+  made : List Span;
+  spans_are : l.spans.items ≡ l.initial.spans.items ++ made;
+  say : HoldsFrom l.nodes.items (λ all. AreTuples all made (take l.tuple-index l.tuples));
+  each : All (λ tuple. AreSayable tuple.items) (take l.tuple-index l.tuples);
+}

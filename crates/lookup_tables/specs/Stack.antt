@@ -1,0 +1,34 @@
+-- The stack of the reader of nodes.
+use Rattle.std.specs.Prelude.{ℕ, Bool, true, false, nat_lt, if◌then◌else◌, max, List, [], ◌∷◌}
+use Rattle.std.specs.List.{flat_map}
+use Rattle.expressions.specs.Tree.{tree_of}
+use Rattle.lookup_tables.specs.declared.nodes.Node.{Node}
+use Rattle.lookup_tables.specs.declared.part.Part.{Part}
+use Rattle.lookup_tables.specs.Nodes.{is_leaf, is_negation, is_operation, nodes_of}
+
+-- the nodes of the expressions on the stack
+abbrev pub written : List Part → List Node
+written parts = flat_map (λ p. nodes_of (tree_of p.expression)) parts
+
+-- their depths, the last one first, before these
+abbrev pub heights_on : List ℕ → List Part → List ℕ
+heights_on ds [] = ds
+heights_on ds (p ∷ ps) = heights_on (p.depth ∷ ds) ps
+
+abbrev pub heights : List Part → List ℕ
+heights = heights_on []
+
+-- whether one or two expressions of these depths are there, none at the bound
+abbrev pub has_one : List ℕ → Bool
+has_one [] = false
+has_one (d ∷ ds) = nat_lt d 1024
+
+abbrev pub has_two : List ℕ → Bool
+has_two [] = false
+has_two (d ∷ []) = false
+has_two (d ∷ e ∷ ds) = nat_lt (max e d) 1024
+
+-- whether a node goes on from a stack with expressions of these depths
+abbrev pub has_room : List ℕ → Node → Bool
+has_room ds n =
+    if is_leaf n then true else if is_negation n then has_one ds else if is_operation n then has_two ds else false

@@ -1,0 +1,23 @@
+//! Lookups and traces as tables of plain data: numbers, and structs of numbers and slices.
+//!
+//! A caller that has no Rattle types writes its expressions as nodes in postfix order, and its lookups
+//! as records that name ranges of them. `read_lookups` reads the lookups that tables say, `write_lookups`
+//! writes tables that say given lookups, and `read_traces` reads the traces that numbers say. `elements`,
+//! `extensions` and `element_numbers` lead from numbers to elements and back. `specs/` says which lookups
+//! a table says by the nodes of an expression, and not by the reader: there is one list of lookups at most.
+#![tactic(auto)]
+
+mod nodes;
+mod numbers;
+mod part;
+mod reader;
+mod tables;
+mod traces;
+mod writer;
+
+pub use nodes::{Node, NodeFault};
+pub use numbers::{NumberFault, element_numbers, elements, extension, extensions};
+pub use reader::read_expressions;
+pub use tables::{Record, Span, TableFault, Tables, read_lookups};
+pub use traces::{ReadTraces, TraceFault, TracePart, Traces, makes_rows, read_traces};
+pub use writer::{Written, write_lookups};

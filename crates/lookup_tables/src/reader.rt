@@ -1,0 +1,119 @@
+//! The reader of expressions.
+ghost use Rattle.std.specs.Prelude.{◌≡◌, ◌⊎◌, ◌++◌, ◌∷◌, [], ℕ, true, false, IfOk, MatchResult, map};
+ghost use Rattle.expressions.specs.Tree.{tree_of};
+ghost use Rattle.lookup_tables.specs.Nodes.{AreTrees, IsFirstBadNode, is_negation, is_operation};
+ghost use Rattle.lookup_tables.specs.Stack.{has_one, has_room, has_two, heights, written};
+ghost use Rattle.lookup_tables.specs.declared.nodes.NodeFault.TheVariants.{Memory, Bad};
+
+use crate::nodes::{Node, NodeFault, is_leaf, is_negation, is_operation, joined, leaf_of};
+use crate::part::Part;
+use expressions::{Expression, SymbolicExpression};
+use field::BabyBear;
+use std::alloc::Global;
+
+/// The deepest expression that is taken.
+pub(crate) const MOST_DEPTH: usize = 1024;
+
+/// Takes one node onto the stack.
+fn push_node(alloc: Global, stack: &mut Vec<Part>, node: &Node) -> Result<(), NodeFault>
+    ensures { MatchResult result
+        (λ _. written stack.new.items ≡ written stack.old.items ++ node.now ∷ [])
+        (λ e. (e ≡ Memory) ⊎ (has_room (heights stack.old.items) node.now ≡ false)) }
+{
+    if is_leaf(node) {
+        let expression = SymbolicExpression::Leaf(leaf_of(node));
+        stack.push(Part {
+            expression,
+            depth: 1,
+        })?;
+        Ok(())
+    } else if is_negation(node) {
+        push_negation(alloc, stack, node)
+    } else if is_operation(node) {
+        push_operation(alloc, stack, node)
+    } else {
+        Err(NodeFault::Bad(0))
+    }
+}
+
+fn push_negation(alloc: Global, stack: &mut Vec<Part>, node: &Node) -> Result<(), NodeFault>
+    requires { is_negation node.now ≡ true }
+    ensures { MatchResult result
+        (λ _. written stack.new.items ≡ written stack.old.items ++ node.now ∷ [])
+        (λ e. (e ≡ Memory) ⊎ (has_one (heights stack.old.items) ≡ false)) }
+{
+    match stack.pop() {
+        Some(part) => {
+            if part.depth >= MOST_DEPTH {
+                return Err(NodeFault::Bad(0));
+            }
+            let Part { expression, depth } = part;
+            stack.push(Part {
+                expression: expression.neg(alloc)?,
+                depth: depth + 1,
+            })?;
+            Ok(())
+        }
+        None => Err(NodeFault::Bad(0)),
+    }
+}
+
+fn push_operation(alloc: Global, stack: &mut Vec<Part>, node: &Node) -> Result<(), NodeFault>
+    requires { is_operation node.now ≡ true }
+    ensures { MatchResult result
+        (λ _. written stack.new.items ≡ written stack.old.items ++ node.now ∷ [])
+        (λ e. (e ≡ Memory) ⊎ (has_two (heights stack.old.items) ≡ false)) }
+{
+    let Some(right) = stack.pop() else {
+        return Err(NodeFault::Bad(0));
+    };
+    let Some(left) = stack.pop() else {
+        return Err(NodeFault::Bad(0));
+    };
+    if left.depth.max(right.depth) >= MOST_DEPTH {
+        return Err(NodeFault::Bad(0));
+    }
+    let depth = left.depth.max(right.depth) + 1;
+    let expression = joined(alloc, node, left.expression, right.expression)?;
+    stack.push(Part { expression, depth })?;
+    Ok(())
+}
+
+/// The expressions that nodes are those of, in order. There are no others.
+///
+/// Refuses the first node with which no expressions go on: one of no kind or with numbers that its kind
+/// does not have, an operation without operands, or one that would be deeper than 1024. Also fails when
+/// out of memory.
+pub fn read_expressions(
+    alloc: Global,
+    nodes: &[Node],
+) -> Result<Vec<SymbolicExpression<BabyBear>>, NodeFault>
+    ensures reads { MatchResult result
+        (λ v. AreTrees (map tree_of v.items) nodes.now)
+        (λ e. (e ≡ Memory) ⊎ (i : ℕ) × (e ≡ Bad i) × IsFirstBadNode nodes.now i) }
+    ensures only { IfOk result (λ v. (trees : _) → AreTrees trees nodes.now
+        → trees ≡ map tree_of v.items) }
+{
+    let parts = read_parts(alloc, nodes)?;
+    let mut expressions = Vec::with_capacity(alloc, parts.len())?;
+    for part in parts {
+        expressions.push(part.expression)?;
+    }
+    Ok(expressions)
+}
+
+fn read_parts(alloc: Global, nodes: &[Node]) -> Result<Vec<Part>, NodeFault>
+    ensures { MatchResult result
+        (λ v. written v.items ≡ nodes.now)
+        (λ e. (e ≡ Memory) ⊎ (i : ℕ) × (e ≡ Bad i) × IsFirstBadNode nodes.now i) }
+{
+    let mut stack = Vec::new(alloc);
+    for (index, node) in nodes.iter().enumerate() {
+        match push_node(alloc, &mut stack, node) {
+            Ok(()) => {}
+            Err(NodeFault::Memory) => return Err(NodeFault::Memory),
+            Err(NodeFault::Bad(_)) => return Err(NodeFault::Bad(index)),
+        }
+    }
+    Ok(stack)
+}

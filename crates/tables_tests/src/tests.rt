@@ -1,0 +1,382 @@
+//! What tables of numbers say.
+ghost use Rattle.std.specs.Prelude.{◌≡◌};
+
+use expressions::{BaseEntry, BaseLeaf, Expression, SymbolicExpression, SymbolicVariable};
+use field::{BabyBear, BabyBear4};
+use lookup_model::{Kind, Lookup};
+use lookup_tables::{
+    Node, NodeFault, NumberFault, Record, Span, TableFault, Tables, TraceFault, TracePart, Traces,
+    element_numbers, elements, extension, extensions, makes_rows, read_expressions, read_lookups,
+    read_traces, write_lookups,
+};
+use std::alloc::Global;
+use std::process::Abort;
+
+fn node(kind: u32, number: u32, index: usize) -> Node {
+    Node {
+        kind,
+        number,
+        index,
+    }
+}
+
+fn span(start: usize, end: usize) -> Span {
+    Span { start, end }
+}
+
+fn holds(rt: &impl Abort, what: &str, fact: bool) {
+    assert!(rt; fact, "{what}");
+}
+
+/// Whether an expression is a cell of the main trace in the next row.
+fn is_next_cell(expression: &SymbolicExpression<BabyBear>, column: usize) -> bool {
+    match expression {
+        SymbolicExpression::Leaf(BaseLeaf::Variable(variable)) => {
+            variable.entry == BaseEntry::Main { offset: 1 } && variable.index == column
+        }
+        _ => false,
+    }
+}
+
+/// Whether an expression is this constant.
+fn is_constant(expression: &SymbolicExpression<BabyBear>, n: u32) -> bool {
+    match expression {
+        SymbolicExpression::Leaf(BaseLeaf::Constant(c)) => c.as_canonical_u32() == n,
+        _ => false,
+    }
+}
+
+#[test]
+fn reads_a_difference(rt: HostRuntime) {
+    let nodes = [node(0, 1, 3), node(6, 7, 0), node(8, 0, 0), node(5, 0, 0)];
+    let Ok(list) = read_expressions(rt.alloc(), &nodes) else {
+        holds(&rt, "the nodes are read", false);
+        return;
+    };
+    let [difference, selector] = list.as_slice() else {
+        holds(&rt, "two expressions", false);
+        return;
+    };
+    let SymbolicExpression::Sub(left, right) = difference else {
+        holds(&rt, "a difference", false);
+        return;
+    };
+    holds(&rt, "the earlier operand", is_next_cell(left, 3));
+    holds(&rt, "the later operand", is_constant(right, 7));
+    let is_transition = match selector {
+        SymbolicExpression::Leaf(BaseLeaf::IsTransition) => true,
+        _ => false,
+    };
+    holds(&rt, "the selector", is_transition);
+}
+
+#[test]
+fn refuses_the_first_bad_node(rt: HostRuntime) {
+    let nodes = [node(0, 0, 0), node(7, 0, 0), node(11, 0, 0)];
+    let is_second = match read_expressions(rt.alloc(), &nodes) {
+        Err(NodeFault::Bad(1)) => true,
+        _ => false,
+    };
+    holds(&rt, "a sum of one", is_second);
+}
+
+#[test]
+fn reads_a_record(rt: HostRuntime) {
+    let nodes = [node(0, 1, 3), node(6, 7, 0)];
+    let tuples = [span(0, 2), span(1, 2)];
+    let records = [Record {
+        kind: 1,
+        exclusive: 1,
+        weight: 5,
+        bus: span(1, 4),
+        tuples: span(0, 2),
+        multiplicities: span(0, 2),
+        flags: span(1, 2),
+    }];
+    let tables = Tables {
+        nodes: &nodes,
+        tuples: &tuples,
+        names: b"a bus",
+        records: &records,
+    };
+    let Ok(lookups) = read_lookups(rt.alloc(), &tables) else {
+        holds(&rt, "the record is read", false);
+        return;
+    };
+    let [lookup] = lookups.as_slice() else {
+        holds(&rt, "one lookup", false);
+        return;
+    };
+    let is_named = match &lookup.kind {
+        Kind::Global(name) => name.as_str() == " bu",
+        Kind::Local => false,
+    };
+    holds(&rt, "the bus", is_named);
+    holds(&rt, "the tuples", lookup.elements.len() == 2);
+    holds(&rt, "the counts", lookup.multiplicities.len() == 2);
+    holds(&rt, "the weight", lookup.count_weight == 5);
+    holds(&rt, "the column", lookup.column == 0);
+    let flags = match &lookup.flags {
+        Some(flags) => flags.len(),
+        None => 9,
+    };
+    holds(&rt, "the flags", flags == 1);
+}
+
+#[test]
+fn names_what_is_wrong(rt: HostRuntime) {
+    let nodes = [node(0, 1, 3)];
+    let tuples = [span(0, 1)];
+    let records = [Record {
+        kind: 1,
+        exclusive: 0,
+        weight: 5,
+        bus: span(0, 1),
+        tuples: span(0, 1),
+        multiplicities: span(0, 1),
+        flags: span(0, 0),
+    }];
+    let tables = Tables {
+        nodes: &nodes,
+        tuples: &tuples,
+        names: &[0xff],
+        records: &records,
+    };
+    let is_name = match read_lookups(rt.alloc(), &tables) {
+        Err((0, TableFault::Name)) => true,
+        _ => false,
+    };
+    holds(&rt, "a name that is not UTF-8", is_name);
+}
+
+#[test]
+fn reads_traces(rt: HostRuntime) {
+    let numbers = Traces {
+        main: &[1, 2, 3, 4, 5, 6],
+        main_width: 3,
+        preprocessed: &[7, 8],
+        preprocessed_width: 1,
+        public_values: &[9],
+    };
+    let Ok(traces) = read_traces(rt.alloc(), &numbers) else {
+        holds(&rt, "the traces are read", false);
+        return;
+    };
+    holds(&rt, "the rows", traces.main.height() == 2);
+    holds(&rt, "the public values", traces.public_values.len() == 1);
+    let heights = match &traces.preprocessed {
+        Some(trace) => trace.height(),
+        None => 0,
+    };
+    holds(&rt, "the preprocessed rows", heights == 2);
+    holds(&rt, "five make no rows of three", !makes_rows(5, 3));
+    let ragged = Traces {
+        main: &[1, 2, 3],
+        main_width: 2,
+        preprocessed: &[],
+        preprocessed_width: 0,
+        public_values: &[],
+    };
+    let is_main = match read_traces(rt.alloc(), &ragged) {
+        Err(
+            TraceFault::Ragged {
+                part: TracePart::Main,
+            },
+        ) => true,
+        _ => false,
+    };
+    holds(&rt, "ragged rows", is_main);
+}
+
+#[test]
+fn reads_elements(rt: HostRuntime) {
+    let is_third = match elements(rt.alloc(), &[1, 2, 2_013_265_921]) {
+        Err(NumberFault::Large(2)) => true,
+        _ => false,
+    };
+    holds(&rt, "the modulus", is_third);
+    let Ok(list) = extensions(rt.alloc(), &[[1, 2, 3, 4]]) else {
+        holds(&rt, "four numbers", false);
+        return;
+    };
+    let [x] = list.as_slice() else {
+        holds(&rt, "one element", false);
+        return;
+    };
+    holds(&rt, "its numbers", element_numbers(*x) == [1, 2, 3, 4]);
+    holds(
+        &rt,
+        "no element",
+        extension([0, 0, 2_013_265_921, 0]).is_none(),
+    );
+    let zero = BabyBear4::new([BabyBear::new(0); 4]);
+    holds(&rt, "zero", extension([0, 0, 0, 0]) == Some(zero));
+}
+
+/// Whether two nodes are the same.
+fn is_node(a: &Node, b: &Node) -> bool {
+    a.kind == b.kind && a.number == b.number && a.index == b.index
+}
+
+/// Whether two ranges are the same.
+fn is_span(a: &Span, b: &Span) -> bool {
+    a.start == b.start && a.end == b.end
+}
+
+/// Fails unless these are the nodes.
+fn expect_nodes(rt: &impl Abort, written: &[Node], expected: &[Node]) {
+    holds(rt, "the number of nodes", written.len() == expected.len());
+    for (found, node) in written.iter().zip(expected) {
+        holds(rt, "a node", is_node(found, node));
+    }
+}
+
+#[test]
+fn writes_what_it_reads(rt: HostRuntime) {
+    let nodes = [
+        node(0, 0, 3),
+        node(1, 1, 2),
+        node(6, 7, 0),
+        node(8, 0, 0),
+        node(2, 0, 5),
+        node(3, 0, 0),
+        node(4, 0, 0),
+        node(7, 0, 0),
+        node(5, 0, 0),
+        node(10, 0, 0),
+        node(6, 1, 0),
+        node(0, 1, 0),
+        node(9, 0, 0),
+    ];
+    let tuples = [span(0, 4), span(4, 5)];
+    let records = [
+        Record {
+            kind: 0,
+            exclusive: 0,
+            weight: 1,
+            bus: span(0, 0),
+            tuples: span(1, 2),
+            multiplicities: span(5, 8),
+            flags: span(0, 0),
+        },
+        Record {
+            kind: 1,
+            exclusive: 1,
+            weight: 9,
+            bus: span(2, 5),
+            tuples: span(0, 2),
+            multiplicities: span(8, 10),
+            flags: span(10, 13),
+        },
+    ];
+    let tables = Tables {
+        nodes: &nodes,
+        tuples: &tuples,
+        names: b"a bus",
+        records: &records,
+    };
+    let Ok(lookups) = read_lookups(rt.alloc(), &tables) else {
+        holds(&rt, "the records are read", false);
+        return;
+    };
+    let Ok(made) = write_lookups(rt.alloc(), &lookups) else {
+        holds(&rt, "the lookups are written", false);
+        return;
+    };
+    // lookup after lookup: its tuples, its multiplicities, its flags
+    let expected = [
+        node(2, 0, 5),
+        node(3, 0, 0),
+        node(4, 0, 0),
+        node(7, 0, 0),
+        node(0, 0, 3),
+        node(1, 1, 2),
+        node(6, 7, 0),
+        node(8, 0, 0),
+        node(2, 0, 5),
+        node(5, 0, 0),
+        node(10, 0, 0),
+        node(6, 1, 0),
+        node(0, 1, 0),
+        node(9, 0, 0),
+    ];
+    expect_nodes(&rt, &made.nodes, &expected);
+    holds(&rt, "the names", made.names.as_slice() == b"bus".as_slice());
+    let [first, second, third] = made.tuples.as_slice() else {
+        holds(&rt, "three tuples", false);
+        return;
+    };
+    holds(&rt, "a tuple", is_span(first, &span(0, 1)));
+    holds(&rt, "a tuple of two", is_span(second, &span(4, 8)));
+    holds(&rt, "another tuple", is_span(third, &span(8, 9)));
+    let [local, global] = made.records.as_slice() else {
+        holds(&rt, "two records", false);
+        return;
+    };
+    holds(&rt, "no bus", local.kind == 0 && local.weight == 1);
+    holds(&rt, "no flags", local.exclusive == 0);
+    holds(&rt, "its tuples", is_span(&local.tuples, &span(0, 1)));
+    let counts = is_span(&local.multiplicities, &span(1, 4));
+    holds(&rt, "its counts", counts);
+    holds(&rt, "a bus", global.kind == 1 && global.weight == 9);
+    holds(&rt, "its name", is_span(&global.bus, &span(0, 3)));
+    holds(&rt, "two tuples", is_span(&global.tuples, &span(1, 3)));
+    let counts = is_span(&global.multiplicities, &span(9, 11));
+    holds(&rt, "two counts", counts);
+    holds(&rt, "flags", global.exclusive == 1);
+    holds(&rt, "one flag", is_span(&global.flags, &span(11, 14)));
+}
+
+/// A local lookup of no tuples with this multiplicity.
+fn counted(
+    rt: &impl Abort,
+    alloc: Global,
+    multiplicity: SymbolicExpression<BabyBear>,
+) -> Lookup<BabyBear>
+    ensures { result.column ≡ 0 }
+{
+    Lookup {
+        kind: Kind::Local,
+        elements: Vec::new(alloc),
+        multiplicities: Vec::from_array(alloc, [multiplicity]).expect(rt, "memory"),
+        count_weight: 0,
+        column: 0,
+        flags: None,
+    }
+}
+
+/// One, negated so often.
+fn negated(rt: &impl Abort, alloc: Global, times: usize) -> SymbolicExpression<BabyBear> {
+    let mut expression = SymbolicExpression::constant(BabyBear::new(1));
+    for _ in 0..times {
+        expression = expression.neg(alloc).expect(rt, "memory");
+    }
+    expression
+}
+
+#[test]
+fn refuses_what_nodes_do_not_say(rt: HostRuntime) {
+    let alloc = rt.alloc();
+    let deep = [counted(&rt, alloc, negated(&rt, alloc, 1024))];
+    let is_deep = match write_lookups(alloc, &deep) {
+        Err((0, TableFault::Deep)) => true,
+        _ => false,
+    };
+    holds(&rt, "1025 deep", is_deep);
+    let entry = BaseEntry::Main {
+        offset: 4_294_967_296,
+    };
+    let cell = SymbolicExpression::from(SymbolicVariable::new(entry, 0));
+    let far = [counted(&rt, alloc, cell)];
+    let is_far = match write_lookups(alloc, &far) {
+        Err((0, TableFault::Row)) => true,
+        _ => false,
+    };
+    holds(&rt, "a row past 32 bits", is_far);
+    let deepest = [counted(&rt, alloc, negated(&rt, alloc, 1023))];
+    let is_written = match write_lookups(alloc, &deepest) {
+        Ok(made) => made.nodes.len() == 1024,
+        Err(_) => false,
+    };
+    holds(&rt, "1024 deep", is_written);
+}
