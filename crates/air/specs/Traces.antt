@@ -37,5 +37,5 @@ module _ {F : Type 0} (traces : AirTraces F) where
   window_of r = window_at traces.main traces.preprocessed traces.public_values height_of r
 
   -- a preprocessed trace is as high as the main trace
-  abbrev pub AreEven : Type 0
-  AreEven = ForSome traces.preprocessed (λ m. height m ≡ height traces.main)
+  abbrev pub HaveOneHeight : Type 0
+  HaveOneHeight = ForSome traces.preprocessed (λ m. height m ≡ height traces.main)

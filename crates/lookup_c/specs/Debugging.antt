@@ -5,7 +5,7 @@ use Rattle.std.specs.String.{string_bytes}
 use Rattle.std.specs.declared.alloc.Global.{Global}
 use Rattle.std.specs.declared.string.String.{String}
 use Rattle.field.specs.Ring.{Ring}
-use Rattle.air.specs.Traces.{AreEven, layout_of}
+use Rattle.air.specs.Traces.{HaveOneHeight, layout_of}
 use Rattle.lookup.specs.Lookups.{lookups_of}
 use Rattle.lookup.specs.declared.lookups.Lookups.{Lookups}
 use Rattle.lookup_debug.specs.Contributions.{IsTracedFitting, Traced}
@@ -52,7 +52,7 @@ all_traced sets traces = map (λ t. traced_tables t.0 t.1) (zip sets traces)
 abbrev pub IsMisfitAt : ℕ → Traced BabyBear → Fault → Type 0
 IsMisfitAt air t fault =
     ((fault ≡ Misfit air) × (¬ LookupsFit (layout_of t.traces) t.lookups))
-    ⊎ ((fault ≡ Heights air) × (¬ AreEven t.traces))
+    ⊎ ((fault ≡ Heights air) × (¬ HaveOneHeight t.traces))
 
 -- so it is of the first of the AIRs that do not fit
 pub record IsUnfitAmong (ts : List (Traced BabyBear)) (fault : Fault) : Type 0 where

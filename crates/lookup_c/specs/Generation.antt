@@ -3,7 +3,7 @@ use Rattle.std.specs.Prelude.{◌≡◌, ◌≢◌, ◌⊎◌, ◌*◌, ◌-◌,
 use Rattle.field.specs.Extension.{Extension}
 use Rattle.field.specs.Quartic.{Quartic}
 use Rattle.matrix.specs.Matrix.{Matrix}
-use Rattle.air.specs.Traces.{AirTraces, AreEven, layout_of}
+use Rattle.air.specs.Traces.{AirTraces, HaveOneHeight, layout_of}
 use Rattle.lookup_model.specs.Denominators.{key_denominator}
 use Rattle.lookup_model.specs.Fault.{trace_faults}
 use Rattle.lookup_model.specs.Generated.{plain_matrix, plain_terminal_of}
@@ -42,7 +42,7 @@ module _ (E : Extension BabyBear (Quartic BabyBear)) (traces : AirTraces BabyBea
 
   -- the preprocessed trace has another height
   abbrev pub HasOtherHeight : Fault → Type 0
-  HasOtherHeight fault = (fault ≡ Heights 0) × (¬ AreEven traces)
+  HasOtherHeight fault = (fault ≡ Heights 0) × (¬ HaveOneHeight traces)
 
   -- there are fewer than two challenges for each lookup
   abbrev pub HasFewChallenges : Fault → Type 0

@@ -4,7 +4,7 @@ use Rattle.std.specs.List.{filter, flat_map, range_with_len, zip}
 use Rattle.std.specs.Option.{option_copied}
 use Rattle.field.specs.Ring.{Ring}
 use Rattle.expressions.specs.Window.{Window}
-use Rattle.air.specs.Traces.{AirTraces, AreEven, air_traces, height_of, layout_of, window_of}
+use Rattle.air.specs.Traces.{AirTraces, HaveOneHeight, air_traces, height_of, layout_of, window_of}
 use Rattle.lookup_model.specs.Message.{Message}
 use Rattle.lookup_model.specs.Records.{LookupsFit}
 use Rattle.lookup_model.specs.Sent.{branches_at, flags_at}
@@ -28,7 +28,7 @@ traced_of i = record {
 -- trace.
 pub record IsTracedFitting {F : Type 0} (traced : Traced F) : Type 0 where
   pub fit : LookupsFit (layout_of traced.traces) traced.lookups
-  pub heights : AreEven traced.traces
+  pub heights : HaveOneHeight traced.traces
 
 -- each of these AIRs is so
 abbrev pub AreFitting : {F : Type 0} → List (LookupDebugInstance F) → Type 0

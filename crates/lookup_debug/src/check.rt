@@ -1,6 +1,6 @@
 //! The debug check.
 ghost use Rattle.std.specs.Prelude.{◌≡◌, ◌⊎◌, All, IfOk, MatchResult, Some, map, slice_get, string_bytes};
-ghost use Rattle.air.specs.Traces.{AreEven, layout_of};
+ghost use Rattle.air.specs.Traces.{HaveOneHeight, layout_of};
 ghost use Rattle.lookup_debug.specs.Checks.{AnswersGroup, AnswersGroups, local_groups_in};
 ghost use Rattle.lookup_debug.specs.Contributions.{AreFitting, IsTracedFitting, contributions_of, location_of, traced_of};
 ghost use Rattle.lookup_debug.specs.Groups.{bus_group, is_missing, local_groups, local_label, traced_bus_names};
@@ -36,7 +36,7 @@ pub fn check_lookups<F: Field>(
 ) -> Result<(), LookupFault<F>>
     requires fit { All (λ i. LookupsFit (layout_of (traced_of i).traces) i.lookups.now)
         instances.now }
-    requires heights { All (λ i. AreEven (traced_of i).traces) instances.now }
+    requires heights { All (λ i. HaveOneHeight (traced_of i).traces) instances.now }
     ensures { MatchResult result
         (λ _. AllBalance F.ring F.eq (map traced_of instances.now))
         (λ e. (e ≡ LookupFault.Memory)

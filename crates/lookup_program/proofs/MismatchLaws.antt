@@ -6,7 +6,7 @@ use Rattle.std.specs.List.{AllByRecursion, AllZip, enumerate_from, filter, filte
 use Rattle.std.specs.Cmp.Lexicographic.{pointwise}
 use Rattle.field.specs.Ring.{Ring, IsCommutativeRing}
 use Rattle.matrix.specs.Matrix.{Matrix, height, row}
-use Rattle.air.specs.Traces.{AreEven, layout_of}
+use Rattle.air.specs.Traces.{HaveOneHeight, layout_of}
 use Rattle.expressions.specs.Layout.{layout_of_widths}
 use Rattle.expressions.specs.Window.{window_at}
 use Rattle.field.specs.Extension.{Extension}
@@ -194,8 +194,8 @@ module _ {F : Type 0} (R : Ring F) (eq : F → F → Bool) (input : Matrix F) wh
   abbrev Fits : Traced F → Type 0
   Fits t = LookupsFit (layout_of t.traces) t.lookups
 
-  abbrev HaveOneHeight : Traced F → Type 0
-  HaveOneHeight t = AreEven t.traces
+  abbrev HasOneHeight : Traced F → Type 0
+  HasOneHeight t = HaveOneHeight t.traces
 
   all_fit : (airs : List MachineAir) (traces : List (AirTrace F)) → AllZip (IsTraceOf R eq input) airs traces → All Fits (map traced_over traces)
   all_fit [] [] all = All-nil Fits
@@ -210,6 +210,6 @@ module _ {F : Type 0} (R : Ring F) (eq : F → F → Bool) (input : Matrix F) wh
   pub debug_fits : (airs : List MachineAir) (traces : List (AirTrace F)) (instances : List (LookupDebugInstance F)) → AllZip (IsTraceOf R eq input) airs traces → map traced_of instances ≡ map traced_over traces → All (λ i. Fits (traced_of i)) instances
   debug_fits airs traces instances all are = all_of_map Fits traced_of instances (subst (All Fits) (sym are) (all_fit airs traces all))
 
-  pub debug_heights : (traces : List (AirTrace F)) (instances : List (LookupDebugInstance F)) → map traced_of instances ≡ map traced_over traces → All (λ i. HaveOneHeight (traced_of i)) instances
+  pub debug_heights : (traces : List (AirTrace F)) (instances : List (LookupDebugInstance F)) → map traced_of instances ≡ map traced_over traces → All (λ i. HasOneHeight (traced_of i)) instances
   debug_heights traces instances are =
-      all_of_map HaveOneHeight traced_of instances (subst (All HaveOneHeight) (sym are) (All-map HaveOneHeight traced_over traces (λ n d lt. λ trace none. absurd (cc none))))
+      all_of_map HasOneHeight traced_of instances (subst (All HasOneHeight) (sym are) (All-map HasOneHeight traced_over traces (λ n d lt. λ trace none. absurd (cc none))))

@@ -2,7 +2,7 @@
 use Rattle.std.specs.Prelude.{◌≡◌, ◌<◌, ℕ, List, All, length, map}
 use Rattle.std.specs.Box.{boxed_slice_items}
 use Rattle.std.specs.Option.{option_copied}
-use Rattle.air.specs.Traces.{AirTraces, AreEven, air_traces, height_of, layout_of}
+use Rattle.air.specs.Traces.{AirTraces, HaveOneHeight, air_traces, height_of, layout_of}
 use Rattle.lookup_model.specs.Records.{LookupsFit}
 use Rattle.lookup_model.specs.declared.challenges.Challenges.{Challenges}
 use Rattle.lookup_model.specs.declared.types.Lookup.{Lookup}
@@ -30,7 +30,7 @@ instances_of bs = map instance_of bs
 -- there is an id for each lookup.
 pub record IsFitting {F : Type 0} (instance : Instance F) : Type 0 where
   pub fit : LookupsFit (layout_of instance.traces) instance.lookups
-  pub heights : AreEven instance.traces
+  pub heights : HaveOneHeight instance.traces
   pub nonempty : 0 < length instance.lookups → 0 < height_of instance.traces
   pub ids : length instance.ids ≡ length instance.lookups
 
