@@ -12,7 +12,7 @@ use Rattle.lookup_model.specs.Sent.{branches_at, values}
 use Rattle.lookup_model.specs.declared.types.Lookup.{Lookup}
 use Rattle.lookup_columns.specs.declared.branches.BranchColumns.{BranchColumns}
 
--- Row r is the one at index i. It stands among the selected rows, at the index that is kept at i.
+-- Row r, the one at index i, stands among the selected rows at the index that `indices` has at i.
 pub record IsSelected (indices selected : List ℕ) (i r : ℕ) : Type 0 where
   pub at : ℕ
   pub there : slice_get indices i ≡ Some at
@@ -59,7 +59,7 @@ module _ {F K : Type 0} where
   HoldLookups R S embed challenges w index =
       AllZip (λ lookup columns. HoldLookup R S embed challenges w index lookup columns.items)
 
-  -- Index by index, the columns hold what a lookup sends on these rows.
+  -- At the index of each of these rows, the columns hold what a lookup sends on that row.
   abbrev pub AreColumns : Ring F → Ring K → (F → K) → List K → (ℕ → Window F) → List ℕ → Lookup F → List (BranchColumns F K) → Type 0
   AreColumns R S embed challenges window rows lookup columns =
       (index r : ℕ) → slice_get rows index ≡ Some r → HoldLookup R S embed challenges (window r) index lookup columns

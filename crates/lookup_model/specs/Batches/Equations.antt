@@ -22,9 +22,9 @@ module _ {K : Type 0} (S : Ring K) where
   abbrev pub Solves : Equation K → K → Type 0
   Solves equation f = S.mul equation.denominator f ≡ equation.numerator
 
-  -- Solutions of the equations, one of each, can sum to this. Over a field that is so of no element if
-  -- an equation has no solution, of each one if all have and one is solved by everything, and else of
-  -- one element alone.
+  -- Solutions of the equations, one of each, can sum to this. Over a field they can sum to no element
+  -- if an equation has no solution, to every element if all have one and one is solved by everything,
+  -- and otherwise to one element alone.
   pub record CanSumTo (equations : List (Equation K)) (total : K) : Type 0 where
     pub fractions : List K
     pub solve : AllZip Solves equations fractions
