@@ -12,7 +12,7 @@ use Rattle.air.specs.Traces.{AirTraces}
 use Rattle.lookup_model.proofs.Branches.{length-branches_at, mapped_at}
 use Rattle.lookup_model.proofs.ConstraintLaws.{accumulator_constraints-some}
 use Rattle.lookup_model.specs.Constraints.{Constraint, accumulator_at, accumulator_constraints, first_constraint, transition_constraint, last_constraint, fraction_at, fraction_constraint, fractions_at, fraction_denominator, fraction_numerator, terminal_at}
-use Rattle.lookup_model.specs.Denominators.{key_denominator, tuple_denominator}
+use Rattle.lookup_model.specs.Denominators.{column_denominator, key_denominator}
 use Rattle.field.specs.Extension.{Extension, IsLawful}
 use Rattle.lookup_model.specs.Generated.{plain_matrix, plain_terminal_of}
 use Rattle.lookup_model.proofs.HornerRule.{map-map}
@@ -89,7 +89,7 @@ module _ {F K : Type 0} {E : Extension F K} (laws : IsLawful E) (challenges : Li
         let lengths = equal_lengths lookups k lookup records below is in
         let flags = flags_at E.base w lookup in
         let bs = branches_at E.base w lookup.column lookup in
-        let over_column : List F → K = tuple_denominator E (slice_index_or challenges (2 * lookup.column) E.ring.zero) (slice_index_or challenges (2 * lookup.column + 1) E.ring.zero) in
+        let over_column : List F → K = column_denominator E challenges lookup.column in
         let same : IfSome flags (λ fs. length fs ≡ length bs) =
         as_many_flags laws challenges lookup.column r w lookup.flags (length bs) (λ fs has. lengths.flags fs has ∙ sym (length-branches_at E.base w lookup.column lookup lengths)) in
         let here : IsZeroAt r (fraction_constraint E lookup) =
@@ -101,9 +101,9 @@ module _ {F K : Type 0} {E : Extension F K} (laws : IsLawful E) (challenges : Li
         here
         (lookup_satisfied laws challenges lookup.column r w lookup (pf (sent_of r lookup)) lengths refl (no_fault laws den r lookup.column (sent_of r lookup) (lawful_at r lt k lookup below is) (none_at r lt k lookup below is)))
       where
-        over : (m : Message F) → m.key.id ≡ lookup.column → den m.key ≢ E.ring.zero → tuple_denominator E (slice_index_or challenges (2 * lookup.column) E.ring.zero) (slice_index_or challenges (2 * lookup.column + 1) E.ring.zero) m.key.tuple ≢ E.ring.zero
+        over : (m : Message F) → m.key.id ≡ lookup.column → den m.key ≢ E.ring.zero → column_denominator E challenges lookup.column m.key.tuple ≢ E.ring.zero
         over m at ne e =
-            ne (ap (λ c. tuple_denominator E (slice_index_or challenges (2 * c) E.ring.zero) (slice_index_or challenges (2 * c + 1) E.ring.zero) m.key.tuple) at ∙ e)
+            ne (ap (λ c. column_denominator E challenges c m.key.tuple) at ∙ e)
 
     fractions_are : (r : ℕ) → r < height traces.main → fractions_at E lookups (window_of r) ≡ sum_in E.ring (map pf (sents_of r))
     fractions_are r lt = fractions_together E den traces lookups r (window_of r) (fraction_is r lt)

@@ -6,7 +6,8 @@ use Rattle.field.specs.Sums.{sum_in}
 use Rattle.expressions.specs.Window.{ExtWindow}
 use Rattle.air.specs.Traces.{height_of, window_of}
 use Rattle.lookup_model.specs.Challenges.{ChallengeTable, column_challenges}
-use Rattle.lookup_model.specs.Constraints.{column_tuple_denominator, fraction_denominator, fraction_numerator}
+use Rattle.lookup_model.specs.Constraints.{fraction_denominator, fraction_numerator}
+use Rattle.lookup_model.specs.Denominators.{column_denominator}
 use Rattle.field.specs.Extension.{Extension}
 use Rattle.lookup_model.specs.Sent.{branches_at, flags_at}
 use Rattle.lookup_model.specs.declared.types.Lookup.{Lookup}
@@ -34,8 +35,8 @@ module _ {F K : Type 0} (E : Extension F K) where
   -- The equation of a lookup's fraction at a window: U * f = V without flags, D * f = N with flags.
   abbrev pub equation_at : ExtWindow F K → Lookup F → Equation K
   equation_at w lookup = record {
-    numerator = fraction_numerator E (column_tuple_denominator E lookup.column w) (flags_at E.base w.base lookup) (branches_at E.base w.base lookup.column lookup);
-    denominator = fraction_denominator E (column_tuple_denominator E lookup.column w) (flags_at E.base w.base lookup) (branches_at E.base w.base lookup.column lookup);
+    numerator = fraction_numerator E (column_denominator E w.challenges lookup.column) (flags_at E.base w.base lookup) (branches_at E.base w.base lookup.column lookup);
+    denominator = fraction_denominator E (column_denominator E w.challenges lookup.column) (flags_at E.base w.base lookup) (branches_at E.base w.base lookup.column lookup);
   }
 
   -- those of all lookups of an AIR
