@@ -1,13 +1,14 @@
 -- The selected branch of an exclusive lookup, in its columns.
-use Rattle.std.proofs.Common.{◌≡◌, ◌↔◌, ℕ, zero, suc, ◌+◌, ◌<◌, Bool, true, false, IsTrue, cond, All, List, [], ◌∷◌, length, map, get_or, refl, sym, ap, ◌∙◌, arith}
+use Rattle.std.proofs.Common.{◌≡◌, ◌↔◌, ℕ, zero, suc, ◌+◌, ◌<◌, Bool, true, false, IsTrue, cond, All, List, [], ◌∷◌, length, map, get_or, refl, sym, ap, subst, ◌∙◌, arith}
 use Rattle.std.proofs.lemmas.Option.{slice_get_within}
 use Rattle.std.proofs.lemmas.Slice.Zip.{AllZip-long}
 use Rattle.std.specs.List.{AllZip, enumerate_from, filter}
 use Rattle.field.specs.Ring.{IsDomain, Ring}
 use Rattle.lookup_model.specs.Fault.{set_indices}
 use Rattle.lookup_model.specs.Message.{Key, Message}
-use Rattle.lookup_columns.specs.ChunkColumns.{HasFlag, HoldSelected, IsHeldIfSet, IsHeldSelected}
+use Rattle.lookup_columns.specs.ChunkColumns.{HasFlag, HoldSelected, IsHeld, IsHeldIfSet, IsHeldSelected}
 use Rattle.lookup_columns.specs.declared.branches.BranchColumns.{BranchColumns}
+use Rattle.lookup_columns.proofs.ChunkColumnLaws.{read_is}
 use Rattle.lookup_columns.proofs.ZipLaws.{Beside, beside}
 use Rattle.lookup_model.proofs.Lookups.Selections.{index_within, indices_from}
 
@@ -47,3 +48,19 @@ module _ {F K : Type 0} {R : Ring F} {eq : F → F → Bool} (decides : (a b : F
     message_selected =
         let set = index_is_set R eq 0 k flags [] flag.item (one ∙ ap (λ p. p ∷ []) (omega arith)) flag.there flag.within in
         message.holds flag.item flag.holds (λ e. domain.zero_is_not_one (sym e ∙ (decides flag.item R.one).0 set))
+
+    -- an index is kept for the row
+    pub index_there : index < length c.indices.items
+    index_there = slice_get_within c.indices.items index message_selected.at message_selected.there
+
+    -- where the message is
+    module _ (at : ℕ) (at_is : at ≡ get_or c.indices.items index at) where
+      pub held_there : IsHeld denominator at c message.item
+      held_there =
+          subst (λ n. IsHeld denominator n c message.item) (read_is c.indices.items index at message_selected.at message_selected.there at_is) message_selected.held
+
+      pub multiplicity_there : at < length c.multiplicities.items
+      multiplicity_there = slice_get_within c.multiplicities.items at message.item.multiplicity held_there.0
+
+      pub denominator_there : at < length c.denominators.items
+      denominator_there = slice_get_within c.denominators.items at (denominator message.item.key) held_there.1

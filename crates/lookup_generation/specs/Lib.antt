@@ -1,4 +1,4 @@
 pub mod Fraction
+pub mod Held
 pub mod Inverses
 pub mod Progress
-pub mod RowAnswers

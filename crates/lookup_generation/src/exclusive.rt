@@ -1,22 +1,23 @@
 //! The fraction of an exclusive lookup on one row.
-ghost use Rattle.std.specs.Prelude.{◌≡◌, ◌≢◌, ◌<◌, All, IfOk, List, [], length, MatchResult};
+ghost use Rattle.std.specs.Prelude.{◌≡◌, ◌≢◌, ◌<◌, All, false, IfOk, List, [], length, MatchResult, Some};
 ghost use Rattle.std.specs.List.{AllZip};
-ghost use Rattle.air.specs.Traces.{traces_of, window_of};
-ghost use Rattle.lookup_rows.specs.Selection.{AnswersFlags};
+ghost use Rattle.lookup_rows.specs.Selection.{AreSetFlags};
 ghost use Rattle.lookup_generation.specs.Inverses.{ForExtensions};
-ghost use Rattle.lookup_columns.specs.ChunkColumns.{HasFlag, HoldSelected, key_denominator_over};
-ghost use Rattle.lookup_generation.specs.Fraction.{IsRatio};
-ghost use Rattle.lookup_generation.specs.RowAnswers.{AnswersExclusive};
-ghost use Rattle.lookup_model.specs.Sent.{branches_at, values};
+ghost use Rattle.lookup_columns.specs.ChunkColumns.{HasFlag, HoldSelected};
+ghost use Rattle.lookup_generation.specs.Fraction.{AnswersFraction, IsRatio};
+ghost use Rattle.lookup_model.specs.Fault.{are_boolean};
+ghost use Rattle.lookup_model.specs.Message.{Key, Message};
+ghost use Rattle.lookup_model.specs.Sent.{sent};
 
 use crate::ratio::Ratio;
-use air::{SymbolicExpression, Traces};
 use field::{ExtensionDomain, Field};
 use lookup_columns::BranchColumns;
-use lookup_model::{Lookup, LookupError};
+use lookup_model::LookupError;
 use lookup_rows::{SetFlags, with_flag};
 
-/// The set flags of an exclusive lookup, at an index of its columns.
+/// The set flags of an exclusive lookup on a row, which stands at this index of its columns.
+///
+/// Refuses a flag that is neither zero nor one.
 fn set_flags_at<F: Field, EF: ExtensionDomain<F>>(
     columns: &[BranchColumns<F, EF>],
     index: usize,
@@ -25,7 +26,9 @@ fn set_flags_at<F: Field, EF: ExtensionDomain<F>>(
 ) -> Result<SetFlags, LookupError>
     requires { All (λ c. index < length c.flags.items) columns.now }
     ensures { (flags : List F) → AllZip (HasFlag index) columns.now flags
-        → AnswersFlags F.ring F.eq row column flags result }
+        → MatchResult result (AreSetFlags F.ring F.eq flags)
+        (λ e. (e ≡ LookupError.FlagNotBoolean row column)
+        × (are_boolean F.ring F.eq flags ≡ false)) }
 {
     let mut set = SetFlags::Nothing;
     for branch in 0..columns.len() {
@@ -60,31 +63,27 @@ fn branch_ratio<F: Field, EF: ExtensionDomain<F>>(
     }
 }
 
-/// The ratio of the tuple whose flag is set on a row of the traces, zero if no flag is set, read off
-/// the lookup's columns at the row's index in its chunk.
+/// The ratio of the tuple whose flag is set on a row, which stands at this index of the columns of an
+/// exclusive lookup, and zero if no flag is set.
 ///
 /// Refused, in this order: a flag that is neither zero nor one, more than one set flag, and a
 /// denominator that vanishes, even if its multiplicity is zero. The denominators of the other
 /// tuples are ignored.
 pub(crate) fn exclusive_fraction<F: Field, EF: ExtensionDomain<F>>(
-    lookup: &Lookup<F>,
     columns: &[BranchColumns<F, EF>],
     index: usize,
-    flags: &[SymbolicExpression<F>],
-    traces: &Traces<'_, F>,
-    challenges: &[EF],
     row: usize,
+    column: usize,
 ) -> Result<Ratio<EF>, LookupError>
-    requires { HoldSelected F.ring (key_denominator_over EF.ring EF.embed challenges.now) index
-        columns.now (values F.ring (window_of (traces_of traces.now) row) flags.now)
-        (branches_at F.ring (window_of (traces_of traces.now) row) lookup.now.column lookup.now) }
+    requires { (denominator : Key F → EF) × (flags : List F) × (messages : List (Message F))
+        × HoldSelected F.ring denominator index columns.now flags messages }
     ensures answers { ForExtensions F.ring F.eq EF.ring EF.eq EF.embed (λ E.
-        AnswersExclusive E challenges.now (traces_of traces.now) row lookup.now flags.now result) }
+        (denominator : Key F → EF) (flags : List F) (messages : List (Message F))
+        → HoldSelected F.ring denominator index columns.now flags messages
+        → AnswersFraction E denominator row column (sent F.ring F.eq (Some flags) messages) result) }
     ensures defined { IfOk result (λ r. r.denominator ≢ EF.ring.zero) }
-    ensures bare { lookup.now.elements.items ≡ []
-        → IfOk result (λ r. r.denominator ≡ EF.ring.one) }
+    ensures bare { columns.now ≡ [] → IfOk result (λ r. r.denominator ≡ EF.ring.one) }
 {
-    let column = lookup.column;
     match set_flags_at(columns, index, row, column)? {
         SetFlags::Nothing => Ok(Ratio::zero()),
         SetFlags::One(branch) => {
