@@ -3,6 +3,7 @@ use Rattle.std.specs.Prelude.{◌≡◌, ◌⊎◌, ◌<◌, ◌≤◌, ◌+◌,
 use Rattle.std.specs.List.{AllZip, flat_map, range_with_len}
 use Rattle.field.specs.Ring.{Ring}
 use Rattle.air.specs.Traces.{AirTraces, window_of}
+use Rattle.expressions.specs.Window.{Window}
 use Rattle.matrix.specs.Matrix.{Matrix, height, row}
 use Rattle.field.specs.Extension.{Extension}
 use Rattle.lookup_model.specs.Fault.{fault_of, row_faults, trace_faults}
@@ -21,9 +22,9 @@ use Rattle.lookup_model.specs.declared.error.LookupError.TheVariants.{Memory}
 abbrev pub IsFirstOf : List LookupError → LookupError → Type 0
 IsFirstOf faults e = (e ≡ Memory) ⊎ (slice_get faults 0 ≡ Some e)
 
--- what a lookup sends on each row of traces, under its column as its id
-abbrev pub sent_on : {F : Type 0} → Ring F → (F → F → Bool) → AirTraces F → Lookup F → ℕ → Sent F
-sent_on R eq traces lookup r = sent_at R eq (window_of traces r) lookup.column lookup
+-- what a lookup sends on each row, under its column as its id, where each row has a window
+abbrev pub sent_on : {F : Type 0} → Ring F → (F → F → Bool) → (ℕ → Window F) → Lookup F → ℕ → Sent F
+sent_on R eq window lookup r = sent_at R eq (window r) lookup.column lookup
 
 -- the cells of one column of a matrix, row by row
 abbrev pub column_cells : {T : Type 0} → T → Matrix T → ℕ → List T
@@ -44,10 +45,9 @@ module _ {F K : Type 0} (E : Extension F K) (denominator : Key F → K) where
     pub ratios : (fs : List K) → AllZip (IsRatio E.ring) before fs → AllZip (IsRatio E.ring) after (fs ++ column_fractions sends first (end - first))
     pub faultless : HasNoFault sends column first end
 
-  -- Out of memory on a row, or the fault of a lookup there. It has none on the rows from `first` up to
-  -- that one.
+  -- This is the fault of a lookup on its row. It has none on the rows from `first` up to that one.
   pub record IsFirstIn (sends : ℕ → Sent F) (column first : ℕ) (fault : RowFault) : Type 0 where
-    pub fault_is : (fault.error ≡ Memory) ⊎ (fault_of E denominator fault.row column (sends fault.row) ≡ Some fault.error)
+    pub fault_is : fault_of E denominator fault.row column (sends fault.row) ≡ Some fault.error
     pub faultless : HasNoFault sends column first fault.row
 
   -- The ratios of a lookup are appended. Otherwise its first fault is found.
@@ -55,15 +55,15 @@ module _ {F K : Type 0} (E : Extension F K) (denominator : Key F → K) where
   AnswersColumn sends column first end before after found =
       MatchOption found (HasColumn sends column first end before after) (IsFirstIn sends column first)
 
-  module _ (traces : AirTraces F) (lookups : List (Lookup F)) where
+  module _ (window : ℕ → Window F) (lookups : List (Lookup F)) where
     -- what lookups send on these rows has no fault
     abbrev pub HaveNoFault : ℕ → ℕ → Type 0
     HaveNoFault first end =
-        (r : ℕ) → first ≤ r → r < end → row_faults E denominator r (sent_row E.base E.base_eq (window_of traces r) lookups) ≡ []
+        (r : ℕ) → first ≤ r → r < end → row_faults E denominator r (sent_row E.base E.base_eq (window r) lookups) ≡ []
 
     -- the fractions of lookups on n rows from `first` on, lookup after lookup
     abbrev pub all_fractions : ℕ → ℕ → List K
-    all_fractions first n = flat_map (λ lookup. column_fractions (sent_on E.base E.base_eq traces lookup) first n) lookups
+    all_fractions first n = flat_map (λ lookup. column_fractions (sent_on E.base E.base_eq window lookup) first n) lookups
 
     -- The ratios are the fractions of lookups on the rows from `first` up to `end`, on which they have
     -- no fault.
@@ -71,20 +71,21 @@ module _ {F K : Type 0} (E : Extension F K) (denominator : Key F → K) where
       pub ratios_are : AllZip (IsRatio E.ring) ratios (all_fractions first (end - first))
       pub faultless : HaveNoFault first end
 
-    -- Out of memory on a row, or the first fault of lookups there. They have none on the rows from
-    -- `first` up to that one.
+    -- This is the first fault of lookups on its row. They have none on the rows from `first` up to that
+    -- one.
     pub record AreFirstIn (first : ℕ) (fault : RowFault) : Type 0 where
-      pub fault_is : (fault.error ≡ Memory) ⊎ (slice_get (row_faults E denominator fault.row (sent_row E.base E.base_eq (window_of traces fault.row) lookups)) 0 ≡ Some fault.error)
+      pub fault_is : slice_get (row_faults E denominator fault.row (sent_row E.base E.base_eq (window fault.row) lookups)) 0 ≡ Some fault.error
       pub faultless : HaveNoFault first fault.row
 
     -- The ratios are those of all lookups. Otherwise their first fault is found.
     abbrev pub AnswersColumns : ℕ → ℕ → List (Ratio K) → Option RowFault → Type 0
     AnswersColumns first end ratios found = MatchOption found (HasColumns first end ratios) (AreFirstIn first)
 
+  module _ (traces : AirTraces F) (lookups : List (Lookup F)) where
     -- The ratios are the fractions of the rows from `first` up to `end`, lookup after lookup, and no row
     -- before `end` has a fault.
     pub record AreRatios (first end : ℕ) (ratios : List (Ratio K)) : Type 0 where
-      pub ratios_are : AllZip (IsRatio E.ring) ratios (all_fractions first (end - first))
+      pub ratios_are : AllZip (IsRatio E.ring) ratios (all_fractions (window_of traces) lookups first (end - first))
       pub faultless : trace_faults E denominator (take end (sent_rows E.base E.base_eq traces lookups)) ≡ []
 
   -- the cells are those of the first r rows, and the accumulator is that of row r
