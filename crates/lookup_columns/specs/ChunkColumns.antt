@@ -53,16 +53,7 @@ module _ {F K : Type 0} where
     pub additive : lookup.flags ≡ None → AllZip (IsHeld (key_denominator_over S embed challenges) index) columns (branches_at R w lookup.column lookup)
     pub exclusive : (flags : Vec (SymbolicExpression F) Global) → lookup.flags ≡ Some flags → HoldSelected R (key_denominator_over S embed challenges) index columns (values R w flags.items) (branches_at R w lookup.column lookup)
 
-<<<<<<< HEAD
-  -- the same for each lookup
-  abbrev pub HoldLookups : Ring F → Ring K → (F → K) → List K → Window F → ℕ → List (Lookup F) → List (Vec (BranchColumns F K) Global) → Type 0
-  HoldLookups R S embed challenges w index =
-      AllZip (λ lookup columns. HoldLookup R S embed challenges w index lookup columns.items)
-
   -- At the index of each of these rows, the columns hold what a lookup sends on that row.
-=======
-  -- Index by index, the columns hold what a lookup sends on these rows.
->>>>>>> generation
   abbrev pub AreColumns : Ring F → Ring K → (F → K) → List K → (ℕ → Window F) → List ℕ → Lookup F → List (BranchColumns F K) → Type 0
   AreColumns R S embed challenges window rows lookup columns =
       (index r : ℕ) → slice_get rows index ≡ Some r → HoldLookup R S embed challenges (window r) index lookup columns
