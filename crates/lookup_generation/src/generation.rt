@@ -42,6 +42,7 @@ pub(crate) struct RowFault {
 /// `columns` are those of the lookup, from row `first` on.
 ///
 /// Returns the lookup's first fault on these rows, if it has one. What is then appended has no meaning.
+/// Else no denominator of what is appended is zero, and without tuples each is one.
 fn push_column<F: Field, EF: ExtensionDomain<F>>(
     ratios: &mut Vec<Ratio<EF>>,
     lookup: &Lookup<F>,
@@ -89,7 +90,8 @@ fn rows_before(fault: &Option<RowFault>, end: usize) -> usize
 /// to `end`, one column after the other. `columns` are those of each lookup, from row `first` on.
 ///
 /// Returns the first fault in the order row, lookup, if there is one. Once a lookup has a fault, further
-/// ones are looked at only on the rows before it.
+/// ones are looked at only on the rows before it. Without a fault no denominator is zero, and each is one
+/// where no lookup has tuples.
 fn push_columns<F: Field, EF: ExtensionDomain<F>>(
     ratios: &mut Vec<Ratio<EF>>,
     lookups: &[Lookup<F>],
@@ -124,7 +126,8 @@ fn push_columns<F: Field, EF: ExtensionDomain<F>>(
     Ok(fault)
 }
 
-/// The fractions of all lookups on the rows from `first` up to `end`, lookup after lookup, as ratios.
+/// The fractions of all lookups on the rows from `first` up to `end`, lookup after lookup, as ratios. No
+/// denominator is zero, and each is one where no lookup has tuples.
 ///
 /// Refuses the first fault in the order row, lookup.
 fn ratios_of<F: Field, EF: ExtensionDomain<F>>(
@@ -208,7 +211,8 @@ fn push_row<K: Domain>(
 /// Appends the rows from `first` up to `end` of the auxiliary trace to `cells`, by at most one inverse.
 /// Returns the accumulator of row `end`.
 ///
-/// Refuses the first fault in the order row, lookup. A fault is found before anything is inverted.
+/// Refuses the first fault in the order row, lookup. A fault is found before anything is inverted, and
+/// nothing is inverted where no lookup has tuples.
 fn push_chunk<F: Field, EF: ExtensionDomain<F>, I: Inverter<EF>>(
     alloc: Global,
     memory: &mut ChunkMemory<F, EF>,
@@ -276,7 +280,7 @@ pub fn chunk_end(first: usize, height: usize) -> usize
 
 /// The cells of the auxiliary trace, row after row, and the sum of all fractions.
 ///
-/// Refuses the first fault in the order row, lookup.
+/// Refuses the first fault in the order row, lookup. `inverter` is asked as [`generate_counted`] says.
 fn generate<F: Field, EF: ExtensionDomain<F>, I: Inverter<EF>>(
     alloc: Global,
     traces: &Traces<'_, F>,
