@@ -2,8 +2,8 @@ use Rattle.std.proofs.Common.{Option, List, ap, sym, ◌∙◌, subst}
 use Rattle.std.proofs.lemmas.Result.{IfOk-weaker}
 use Rattle.std.specs.Option.{IfSome, option_map}
 use Rattle.expressions.specs.declared.base_expression.SymbolicExpression.{SymbolicExpression}
-use Rattle.lookup_model.specs.Constraints.{additive_denominator, additive_numerator, column_tuple_denominator, exclusive_denominator, fraction_denominator, fraction_numerator}
-use Rattle.lookup_model.specs.Denominators.{tuple_denominator}
+use Rattle.lookup_model.specs.Constraints.{additive_denominator, additive_numerator, exclusive_denominator, fraction_denominator, fraction_numerator}
+use Rattle.lookup_model.specs.Denominators.{column_denominator, tuple_denominator}
 use Rattle.field.specs.laws.Extension.{of_laws}
 use Rattle.lookup_model.specs.Records.{AllFit, IsWithin}
 use Rattle.lookup_model.specs.Sent.{branches_at, values}
@@ -17,7 +17,7 @@ returns-in-None-clause-numerator g c =
     let branches = branches_at E.base w.base lookup.column lookup in
     means w stands
     ∙ (λ i. additive_numerator E (tuple_denominator E (c.column_challenges-alpha.ensures.alpha w stands i) (c.column_challenges-alpha.ensures.beta w stands i)) branches)
-    ∙ ap (λ flags. fraction_numerator E (column_tuple_denominator E lookup.column w) (option_map (λ fs. values E.base w.base fs.items) flags) branches) (sym c.in-None.is)) c.additive_quotient.ensures.numerator
+    ∙ ap (λ flags. fraction_numerator E (column_denominator E w.challenges lookup.column) (option_map (λ fs. values E.base w.base fs.items) flags) branches) (sym c.in-None.is)) c.additive_quotient.ensures.numerator
 
 pub returns-in-None-clause-denominator : goal.returns-in-None-clause-denominator
 returns-in-None-clause-denominator g c =
@@ -27,7 +27,7 @@ returns-in-None-clause-denominator g c =
     let branches = branches_at E.base w.base lookup.column lookup in
     means w stands
     ∙ (λ i. additive_denominator E (tuple_denominator E (c.column_challenges-alpha.ensures.alpha w stands i) (c.column_challenges-alpha.ensures.beta w stands i)) branches)
-    ∙ ap (λ flags. fraction_denominator E (column_tuple_denominator E lookup.column w) (option_map (λ fs. values E.base w.base fs.items) flags) branches) (sym c.in-None.is)) c.additive_quotient.ensures.denominator
+    ∙ ap (λ flags. fraction_denominator E (column_denominator E w.challenges lookup.column) (option_map (λ fs. values E.base w.base fs.items) flags) branches) (sym c.in-None.is)) c.additive_quotient.ensures.denominator
 
 pub exclusive_quotient-requires-clause-flags_fit :
     goal.exclusive_quotient-requires-clause-flags_fit
@@ -44,7 +44,7 @@ returns-clause-denominator g c =
     let branches = branches_at E.base w.base lookup.column lookup in
     means w stands
     ∙ (λ i. exclusive_denominator E (tuple_denominator E (c.column_challenges-alpha.ensures.alpha w stands i) (c.column_challenges-alpha.ensures.beta w stands i)) (values E.base w.base (c.deref.ensures.value i)) branches)
-    ∙ ap (λ flags. fraction_denominator E (column_tuple_denominator E lookup.column w) (option_map (λ fs. values E.base w.base fs.items) flags) branches) (sym c.in-Some.is)) c.exclusive_quotient.ensures.denominator
+    ∙ ap (λ flags. fraction_denominator E (column_denominator E w.challenges lookup.column) (option_map (λ fs. values E.base w.base fs.items) flags) branches) (sym c.in-Some.is)) c.exclusive_quotient.ensures.denominator
 
 pub additive_quotient-requires-clause-lengths : goal.additive_quotient-requires-clause-lengths
 additive_quotient-requires-clause-lengths g c = c.requires.lengths
