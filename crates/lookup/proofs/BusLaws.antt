@@ -1,5 +1,5 @@
 -- Buses by name, each with what it holds: a lookup that comes.
-use Rattle.std.proofs.Common.{◌≡◌, ◌×◌, ℕ, zero, suc, Bool, true, false, cond, is_some, List, [], ◌∷◌, ◌++◌, Option, None, Some, map, nat_lt, not, position, slice_get, refl, sym, ap, subst, ◌∙◌, true≢false}
+use Rattle.std.proofs.Common.{◌≡◌, ◌+◌, ℕ, zero, suc, Bool, true, false, cond, is_some, List, [], ◌∷◌, ◌++◌, Option, None, Some, map, nat_lt, not, position, slice_get, refl, sym, ap, subst, ◌∙◌, true≢false}
 use Rattle.std.proofs.lemmas.List.{length-map}
 use Rattle.std.specs.List.{AllZip, prefix_len}
 use Rattle.std.specs.Map.{keys_of, lookup, values_of}
@@ -60,7 +60,7 @@ module _ {E V : Type 0} (Holds : List (Outline E) → V → Type 0) where
 
   -- both inserted under a name
   module _ (k : String Global) (group : List (Outline E)) (v : V) (holds : Holds group v) where
-    inserted : List (String Global × V) → List (String Global × V)
+    abbrev inserted : List (String Global × V) → List (String Global × V)
     inserted es = insert_entry (λ a b. same_name (string_bytes a) (string_bytes b)) es k v
 
     entries_inserted : (gs : List (List ℕ × List (Outline E))) (es : List (String Global × V)) → AllZip IsEntry gs es → AllZip IsEntry (insert_entry same_name gs (string_bytes k) group) (inserted es)
@@ -83,11 +83,12 @@ module _ {E V : Type 0} (Holds : List (Outline E) → V → Type 0) where
   no_group name (g ∷ gs) [] h none = absurd h
   no_group name (g ∷ gs) (e ∷ es) h none =
       subst (λ n. cond (same_name name n) (Some g.1) (lookup (same_name name) gs) ≡ None) h.0.0
-      (by_test (same_name name (string_bytes e.0)) none)
+      (by_test (same_name name (string_bytes e.0)) none (no_group name gs es h.1))
     where
-      by_test : (p : Bool) → false ≡ is_some (cond p (Some e.1) (lookup (λ j. same_name name (string_bytes j)) es)) → cond p (Some g.1) (lookup (same_name name) gs) ≡ None
-      by_test true no = absurd (true≢false (sym no))
-      by_test false none = no_group name gs es h.1 none
+      by_test : (p : Bool) → false ≡ is_some (cond p (Some e.1) (lookup (λ j. same_name name (string_bytes j)) es))
+          → (false ≡ is_some (lookup (λ j. same_name name (string_bytes j)) es) → lookup (same_name name) gs ≡ None) → cond p (Some g.1) (lookup (same_name name) gs) ≡ None
+      by_test true there rest = absurd (true≢false (sym there))
+      by_test false there rest = rest there
 
   module _ (os : List (Outline E)) (name : List ℕ) (es : List (String Global × V)) (entries : AllZip IsEntry (bus_groups os) es) where
     module _ (i : ℕ) (at : position (λ j. same_name name (string_bytes j)) (keys_of es) ≡ Some i) (v : V) (had : slice_get (values_of es) i ≡ Some v) where

@@ -1,5 +1,5 @@
 -- The columns of a bus while its lookups come.
-use Rattle.std.specs.Prelude.{◌≡◌, ℕ, All, List, [], ◌∷◌, ◌++◌, MatchOption, Result, map}
+use Rattle.std.specs.Prelude.{◌≡◌, ◌⊎◌, ℕ, All, List, [], ◌∷◌, ◌++◌, MatchOption, Result, map}
 use Rattle.std.specs.List.{AllZip}
 use Rattle.std.specs.String.{string_bytes}
 use Rattle.std.specs.declared.alloc.Global.{Global}
@@ -7,6 +7,7 @@ use Rattle.std.specs.declared.string.String.{String}
 use Rattle.expressions.specs.declared.base_expression.SymbolicExpression.{SymbolicExpression}
 use Rattle.lookup_model.specs.Outline.{Outline, fields_of}
 use Rattle.lookup_model.specs.declared.error.LookupError.{LookupError}
+use Rattle.lookup_model.specs.declared.error.LookupError.TheVariants.{Memory}
 use Rattle.lookup.specs.Buses.{bus_groups}
 use Rattle.lookup.specs.Packing.{IsFilling, IsStuck, joined}
 use Rattle.lookup.specs.Trials.{IsMember}
@@ -31,9 +32,10 @@ module _ {F K : Type 0} where
       pub kept : keeps bus.kept (fields_of bus.last)
 
     module _ (answers : Outline (SymbolicExpression F) → Result ℕ LookupError → Type 0) (max_degree : ℕ) where
-      -- a bus that has taken these lookups: its columns, or the refusal of its first trial that is refused
+      -- A bus that has taken these lookups: its columns, or out of memory, or the refusal of its first trial
+      -- that is refused.
       abbrev pub IsFilled : List (Outline (SymbolicExpression F)) → Bus F K → Type 0
-      IsFilled members bus = MatchOption bus.refusal (IsOpen bus × AreColumns answers max_degree members (columns_of bus)) (λ e. IsStuck answers max_degree members e)
+      IsFilled members bus = MatchOption bus.refusal (IsOpen bus × AreColumns answers max_degree members (columns_of bus)) (λ e. (e ≡ Memory) ⊎ IsStuck answers max_degree members e)
 
       -- the buses of these lookups, each under its name
       abbrev pub AreFilledBuses : List (Outline (SymbolicExpression F)) → List (String Global × Bus F K) → Type 0

@@ -1,5 +1,5 @@
 //! Filling the columns of one bus.
-ghost use Rattle.std.specs.Prelude.{◌≡◌, ◌⊎◌, ◌∷◌, ◌++◌, [], List, MatchResult, None, OnOk, Some, ℕ, map};
+ghost use Rattle.std.specs.Prelude.{◌≡◌, ◌⊎◌, ◌∷◌, ◌++◌, [], List, MatchResult, None, Some, ℕ, map};
 ghost use Rattle.expressions.specs.declared.base_expression.SymbolicExpression.{SymbolicExpression};
 ghost use Rattle.lookup_model.specs.Outline.{Outline, fields_of};
 ghost use Rattle.lookup.specs.Fillings.{IsFilled, IsOpen, columns_of};
@@ -9,11 +9,11 @@ use crate::packing::degrees::TrialDegrees;
 use crate::packing::trials::try_together;
 use field::Field;
 use lookup_model::{Lookup, LookupError};
-use std::alloc::{AllocError, Global};
+use std::alloc::Global;
 use std::mem::replace;
 
-/// A bus while it is filled: its closed columns, and the open one, which is the last, with what is kept
-/// of it. Once a trial is refused, the refusal.
+/// A bus while it is filled: its closed columns, and the last one, which is open, with what is kept of
+/// it. Once a lookup is refused, the refusal.
 #[derive(Drop)]
 pub(crate) struct Bus<F, K> {
     closed: Vec<Lookup<F>>,
@@ -42,15 +42,13 @@ pub(crate) fn open_bus<F: Field, T: TrialDegrees<F>>(
 }
 
 /// Takes the next lookup of a bus: it joins the open column if the trial allows it, and opens a new one
-/// otherwise. If the trial is refused, the bus keeps the refusal, and later lookups are dropped.
-///
-/// Fails only when out of memory.
+/// otherwise. If that is refused, the bus keeps the refusal, and later lookups are dropped.
 pub(crate) fn push_on<F: Field, T: TrialDegrees<F>>(
     bus: &mut Bus<F, T::Kept>,
     next: Lookup<F>,
     max_degree: usize,
     degrees: &T,
-) -> Result<(), AllocError>
+)
     requires members { (members : List (Outline (SymbolicExpression F)))
         × IsFilled (T.keeps degrees.now) (T.answers degrees.now) max_degree members bus.old
         × ((lookup : _) → IsTrialAmong (members ++ fields_of next ∷ []) lookup
@@ -58,23 +56,19 @@ pub(crate) fn push_on<F: Field, T: TrialDegrees<F>>(
     requires next { IsMember next }
     ensures { (members : List (Outline (SymbolicExpression F)))
         → IsFilled (T.keeps degrees.now) (T.answers degrees.now) max_degree members bus.old
-        → OnOk result (IsFilled (T.keeps degrees.now) (T.answers degrees.now) max_degree
-        (members ++ fields_of next ∷ []) bus.new) }
+        → IsFilled (T.keeps degrees.now) (T.answers degrees.now) max_degree
+        (members ++ fields_of next ∷ []) bus.new }
 {
     if bus.refusal.is_some() {
-        return Ok(());
+        return;
     }
     match push_next(bus, next, max_degree, degrees) {
-        Ok(()) => Ok(()),
-        Err(LookupError::Memory) => Err(AllocError),
-        Err(refusal) => {
-            bus.refusal = Some(refusal);
-            Ok(())
-        }
+        Ok(()) => {}
+        Err(refusal) => bus.refusal = Some(refusal),
     }
 }
 
-/// Likewise of a bus whose trials so far are not refused.
+/// Likewise of a bus that is not refused so far.
 ///
 /// Refuses what the trial is refused for.
 fn push_next<F: Field, T: TrialDegrees<F>>(

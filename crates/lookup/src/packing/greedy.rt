@@ -27,7 +27,8 @@ use std::alloc::{AllocError, Global};
 /// buses in the order in which they are first seen. On each bus a lookup joins the open column if
 /// the degree of the trial is at most `max_degree`, and opens a new column otherwise. The trial has
 /// the tuples of both, and the weight and the old column number of the open column. The closure is
-/// asked about trials alone. Weights of joined lookups add, and the columns are numbered from 0.
+/// asked about trials alone, lookup by lookup, and of a bus about none behind one that is refused.
+/// Weights of joined lookups add, and the columns are numbered from 0.
 ///
 /// On every row the packed lookups send the messages of those before, if a column has the id that
 /// its lookups had. So the keys stay, each with its net, and so does the weight of all lookups.
@@ -159,9 +160,9 @@ fn push_on_bus<F: Field, T: TrialDegrees<F>>(
             let name = String::from_str(alloc, name)?;
             let bus = open_bus(alloc, next, degrees);
             buses.insert(name, bus)?;
-            Ok(())
         }
     }
+    Ok(())
 }
 
 /// Whether a lookup is sent on a bus and has no flags.

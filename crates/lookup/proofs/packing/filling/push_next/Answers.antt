@@ -1,4 +1,4 @@
-use Rattle.std.proofs.Common.{inl, inr, map, sym, subst}
+use Rattle.std.proofs.Common.{◌∷◌, ◌++◌, [], ap, subst, ◌∙◌}
 use Rattle.lookup_model.specs.Outline.{fields_of}
 use Rattle.lookup.specs.Trials.{IsTried}
 use Rattle.lookup.proofs.StepLaws.{joined_step, next_step}
@@ -18,6 +18,6 @@ returns g c =
           )
       | in-Some+in_ok-push-in-Some w ↦ (
           let apart = subst (λ t. IsTried (g.T.TrialDegrees.answers c.args.degrees.now) c.args.max_degree c.args.bus.now.last c.args.next c.try_together.new.column t) w.in-Some.is c.in_ok-try_together.ensures in
-          rw w.bus-is (next_step (g.T.TrialDegrees.keeps c.args.degrees.now) (g.T.TrialDegrees.answers c.args.degrees.now) c.args.max_degree c.args.bus.now c.requires.open _ c.args.next _ _ c.keep-kept.result apart w.in_ok-push-in-Some.ensures.items c.keep-kept.ensures)
+          rw (w.bus-is, w.replace-full.ensures.after) (next_step (g.T.TrialDegrees.keeps c.args.degrees.now) (g.T.TrialDegrees.answers c.args.degrees.now) c.args.max_degree c.args.bus.now c.requires.open _ c.args.next _ _ c.keep-kept.result apart (w.in_ok-push-in-Some.ensures.items ∙ ap (λ t. c.args.bus.now.closed.items ++ t ∷ []) w.replace-full.ensures.value) c.keep-kept.ensures)
           )
     ]

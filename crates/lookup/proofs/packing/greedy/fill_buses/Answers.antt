@@ -3,6 +3,7 @@ use Rattle.std.specs.Vec.Iter.{into_iter_items}
 use Rattle.std.proofs.Common.{◌≡◌, true, false, not, ◌∷◌, ◌++◌, [], map, arith, List, All, sym, ap, subst, ◌∙◌}
 use Rattle.std.proofs.lemmas.List.Elements.{All-head, All-push, All-tail}
 use Rattle.std.specs.List.{AllZip}
+use Rattle.std.specs.Map.{values_of}
 use Rattle.expressions.specs.declared.base_expression.SymbolicExpression.{SymbolicExpression}
 use Rattle.lookup_model.specs.Outline.{Outline, fields_of}
 use Rattle.lookup_model.specs.Records.{HasEqualLengths}
@@ -27,8 +28,8 @@ push_on_bus-requires-clause-seen g c =
     let all = kept_more fields_of is_additive inv.seen _ _ _ c.in-Some.lookup c.in-Some.ensures.steps.0 test inv.all in
     (inv.seen, inv.buses, λ name lookup is. c.requires.callable lookup (name, among_all (inv.seen ++ fields_of c.in-Some.lookup ∷ []) _ _ name lookup all is))
 
-pub loop-lookup-preserved-in-Continue-branch-2 : goal.loop-lookup-preserved-in-Continue-branch-2
-loop-lookup-preserved-in-Continue-branch-2 g c =
+pub loop-lookup-preserved-in-Continue-1 : goal.loop-lookup-preserved-in-Continue-1
+loop-lookup-preserved-in-Continue-1 g c =
     let inv = c.loop-lookup.invariant in
     let left = subst (λ (t : List (Lookup g.row.F.Denot)). All HasEqualLengths t) c.in-Some.ensures.steps.0 inv.left in
     let test : is_additive (fields_of c.in-Some.lookup) ≡ true = sym c.may_be_joined.ensures ∙ c.if-may_be_joined.true in record {
@@ -65,8 +66,8 @@ loop-lookup-init g c =
       buses = subst (λ t. AreFilledBuses (g.T.TrialDegrees.keeps c.args.degrees.now) (g.T.TrialDegrees.answers c.args.degrees.now) c.args.max_degree [] t) (sym c.new-buses.ensures.empty) tt;
     }
 
-pub returns-in_ok-buses : goal.returns-in_ok-buses
-returns-in_ok-buses g c =
+pub returns : goal.returns
+returns g c =
     let inv = c.loop-lookup.invariant in
     let columns = c.loop-lookup.columns.items in
     let none = nil_from_length (into_iter_items c.loop-lookup.lookup-iterator) (omega (arith, c.in-None.ensures.steps.0, c.loop-lookup.lookup-iterator.rest.ok.0)) in
@@ -75,5 +76,5 @@ returns-in_ok-buses g c =
       sym (append-nil (map fields_of columns)) ∙ ap (λ t. map fields_of columns ++ passing (map fields_of t)) (sym none) ∙ inv.pass,
       inv.lengths,
       subst (λ t. AllZip (IsFilled (g.T.TrialDegrees.keeps c.args.degrees.now) (g.T.TrialDegrees.answers c.args.degrees.now) c.args.max_degree) (map (λ g. g.1) (bus_groups (additive (map fields_of c.args.lookups.items)))) t) (sym c.in_ok-buses.ensures)
-      (subst (λ (os : List (Outline (SymbolicExpression g.row.F.Denot))). AllZip (IsFilled (g.T.TrialDegrees.keeps c.args.degrees.now) (g.T.TrialDegrees.answers c.args.degrees.now) c.args.max_degree) (map (λ g. g.1) (bus_groups os)) _) all held),
+          (subst (λ (os : List (Outline (SymbolicExpression g.row.F.Denot))). AllZip (IsFilled (g.T.TrialDegrees.keeps c.args.degrees.now) (g.T.TrialDegrees.answers c.args.degrees.now) c.args.max_degree) (map (λ g. g.1) (bus_groups os)) (values_of c.loop-lookup.buses.entries)) all held),
     )

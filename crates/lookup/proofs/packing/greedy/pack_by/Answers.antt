@@ -1,4 +1,4 @@
-use Rattle.std.proofs.Common.{◌≡◌, ◌∷◌, ◌++◌, [], List, map, inl, inr, refl, sym, ap, subst, ◌∙◌, arith, All}
+use Rattle.std.proofs.Common.{◌∷◌, ◌++◌, [], List, map, inl, inr, refl, sym, ap, subst, ◌∙◌, arith, All}
 use Rattle.std.proofs.lemmas.List.{append-nil, append_assoc, map-append, nil_from_length}
 use Rattle.std.proofs.lemmas.List.Elements.{All-append, All-push}
 use Rattle.std.proofs.lemmas.Result.{err_from_is_err_and}
@@ -12,7 +12,7 @@ use Rattle.lookup_model.specs.declared.types.Lookup.{Lookup}
 use Rattle.lookup.specs.Buses.{bus_groups}
 use Rattle.lookup.specs.BusWidths.{HaveBusWidths}
 use Rattle.lookup.specs.Fillings.{IsFilled}
-use Rattle.lookup.specs.Packing.{IsFilling, additive, joined, passing}
+use Rattle.lookup.specs.Packing.{IsFilling, IsStuck, additive, joined, passing}
 use Rattle.lookup.specs.Trials.{IsMember}
 use Rattle.lookup.proofs.KeptLaws.{kept_messages, kept_nets, kept_weight}
 use Rattle.lookup.proofs.ListLaws.{columns_behind, zip_next, zip_none}
@@ -46,9 +46,10 @@ loop-bus-preserved g c =
     let answers = g.T.TrialDegrees.answers c.args.degrees.now in
     let (members, later, later_is, filled, left) = zip_next (IsFilled (g.T.TrialDegrees.keeps c.args.degrees.now) (g.T.TrialDegrees.answers c.args.degrees.now) c.args.max_degree) inv.later bus _ (subst (λ t. AllZip (IsFilled (g.T.TrialDegrees.keeps c.args.degrees.now) (g.T.TrialDegrees.answers c.args.degrees.now) c.args.max_degree) inv.later t) c.in-Some.ensures.steps.0 inv.left) in
     let appended = c.in_ok-append_columns.ensures in
+    let columns_are = appended.1 ∙ append_assoc c.loop-bus.columns.items bus.closed.items (bus.last ∷ []) in
     let (is_open, columns) = free_bus (g.T.TrialDegrees.keeps c.args.degrees.now) (g.T.TrialDegrees.answers c.args.degrees.now) c.args.max_degree members bus filled appended.0 in
     let all = All-push IsMember bus.closed.items bus.last is_open.closed is_open.member in record {
-      lengths = subst (λ (t : List (Lookup g.row.F.Denot)). All HasEqualLengths t) (sym appended.1) (All-append HasEqualLengths _ _ inv.lengths (λ k d lt. (all k d lt).lengths));
+      lengths = subst (λ (t : List (Lookup g.row.F.Denot)). All HasEqualLengths t) (sym columns_are) (All-append HasEqualLengths _ _ inv.lengths (λ k d lt. (all k d lt).lengths));
       earlier = inv.earlier ++ members ∷ [];
       later = later;
       split = append_assoc inv.earlier (members ∷ []) later ∙ ap (λ t. inv.earlier ++ t) (sym later_is) ∙ inv.split;
@@ -56,7 +57,7 @@ loop-bus-preserved g c =
       added = (
         inv.added.0 ++ columns.cut ∷ [],
         all_zipped_more (λ group cut. IsFilling answers c.args.max_degree cut group) inv.earlier inv.added.0 members columns.cut inv.added.1 columns.filling,
-        columns_behind fields_of joined (passing (map fields_of c.args.lookups.items)) _ _ _ inv.added.0 columns.cut appended.1 inv.added.2 (map-append fields_of bus.closed.items (bus.last ∷ []) ∙ columns.columns_are),
+        columns_behind fields_of joined (passing (map fields_of c.args.lookups.items)) _ _ _ inv.added.0 columns.cut columns_are inv.added.2 (map-append fields_of bus.closed.items (bus.last ∷ []) ∙ columns.columns_are),
       );
     }
 
@@ -68,19 +69,21 @@ returns-in_err-append_columns-clause-packs g c =
     let e = c.in_err-append_columns.field-0.0 in
     let (members, later, later_is, filled, left) = zip_next (IsFilled (g.T.TrialDegrees.keeps c.args.degrees.now) (g.T.TrialDegrees.answers c.args.degrees.now) c.args.max_degree) inv.later bus _ (subst (λ t. AllZip (IsFilled (g.T.TrialDegrees.keeps c.args.degrees.now) (g.T.TrialDegrees.answers c.args.degrees.now) c.args.max_degree) inv.later t) c.in-Some.ensures.steps.0 inv.left) in
     let p = err_from_is_err_and c.from_residual-in_err-append_columns.result c.from_residual-in_err-append_columns.ensures.1 in
+    let widths = subst (λ (t : List (Lookup g.row.F.Denot)). HaveBusWidths (map fields_of t)) c.deref.ensures.value c.in_ok-assert_bus_widths.ensures in
+    let first = λ (stuck : IsStuck (g.T.TrialDegrees.answers c.args.degrees.now) c.args.max_degree members e). fill_refusal (g.T.TrialDegrees.answers c.args.degrees.now) c.args.max_degree before (map (λ g. g.1) (bus_groups (additive before))) e (groups_of (additive before)) (record {
+      before = inv.earlier;
+      item = members;
+      after = later;
+      split = sym inv.split ∙ ap (λ t. inv.earlier ++ t) later_is;
+      good = (inv.added.0, inv.added.1);
+      fault = stuck;
+    }) in
     rw (p.1, p.2) (elim c.in_err-append_columns.ensures [
       | inl memory ↦ inl memory
-      | inr refused ↦ inr (inr (
-        subst (λ (t : List (Lookup g.row.F.Denot)). HaveBusWidths (map fields_of t)) c.deref.ensures.value c.in_ok-assert_bus_widths.ensures,
-        fill_refusal (g.T.TrialDegrees.answers c.args.degrees.now) c.args.max_degree before (map (λ g. g.1) (bus_groups (additive before))) e (groups_of (additive before)) (record {
-          before = inv.earlier;
-          item = members;
-          after = later;
-          split = sym inv.split ∙ ap (λ t. inv.earlier ++ t) later_is;
-          good = (inv.added.0, inv.added.1);
-          fault = stuck_bus (g.T.TrialDegrees.keeps c.args.degrees.now) (g.T.TrialDegrees.answers c.args.degrees.now) c.args.max_degree members bus e filled refused;
-        }),
-      ))
+      | inr refused ↦ elim (stuck_bus (g.T.TrialDegrees.keeps c.args.degrees.now) (g.T.TrialDegrees.answers c.args.degrees.now) c.args.max_degree members bus e filled refused) [
+        | inl memory ↦ inl memory
+        | inr stuck ↦ inr (inr (widths, first stuck))
+      ]
     ])
 
 pub in_columns-requires : goal.in_columns-requires
@@ -96,8 +99,8 @@ returns-clause-packs g c =
     let answers = g.T.TrialDegrees.answers c.args.degrees.now in (
       subst (λ (t : List (Lookup g.row.F.Denot)). HaveBusWidths (map fields_of t)) c.deref.ensures.value c.in_ok-assert_bus_widths.ensures,
       all_packed answers c.args.max_degree before (map (λ g. g.1) (bus_groups (additive before))) (passing before) _ _ (groups_of (additive before)) refl
-      (subst (λ (t : List (List (Outline (SymbolicExpression g.row.F.Denot)))). AreColumnsAdded answers c.args.max_degree t (passing before) (map fields_of c.loop-bus.columns.items)) whole inv.added)
-      c.in_ok-in_columns.ensures.fields,
+          (subst (λ (t : List (List (Outline (SymbolicExpression g.row.F.Denot)))). AreColumnsAdded answers c.args.max_degree t (passing before) (map fields_of c.loop-bus.columns.items)) whole inv.added)
+          c.in_ok-in_columns.ensures.fields,
     )
 
 pub returns-clause-kept : goal.returns-clause-kept
