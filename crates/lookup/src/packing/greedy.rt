@@ -98,7 +98,7 @@ fn pack_by<F: Field, T: TrialDegrees<F>>(
     for bus in buses {
         append_columns(&mut columns, bus)?;
     }
-    Ok(in_columns(alloc, columns)?)
+    Ok(in_columns(columns))
 }
 
 /// The lookups that pass through, and the buses of the others, each filled.
@@ -176,21 +176,14 @@ fn may_be_joined<F: Field>(lookup: &Lookup<F>) -> bool
 }
 
 /// The lookups in the columns 0, 1, 2, …
-fn in_columns<F: Field>(
-    alloc: Global,
-    lookups: Vec<Lookup<F>>,
-) -> Result<Vec<Lookup<F>>, AllocError>
+fn in_columns<F: Field>(lookups: Vec<Lookup<F>>) -> Vec<Lookup<F>>
     requires { All HasEqualLengths lookups.items }
-    ensures fields { IfOk result (λ v. map fields_of v.items
-        ≡ numbered (map fields_of lookups.items)) }
-    ensures records { IfOk result (λ v. AreRecords v.items) }
+    ensures fields { map fields_of result.items ≡ numbered (map fields_of lookups.items) }
+    ensures records { AreRecords result.items }
 {
-    let mut columns = Vec::with_capacity(alloc, lookups.len())?;
-    for next in lookups {
-        let mut lookup = next;
-        let column = columns.len();
-        lookup.column = column;
-        columns.push(lookup)?;
+    let mut lookups = lookups;
+    for column in 0..lookups.len() {
+        lookups[column].column = column;
     }
-    Ok(columns)
+    lookups
 }

@@ -10,7 +10,7 @@ pub loop-lookup-preserved : goal.loop-lookup-preserved
 loop-lookup-preserved g c =
     let tuples = c.lookup-item.result.elements.items in
     passed_in widths_of fields_of c.args.lookups.now c.loop-lookup.lookup-index c.lookup-item.result c.loop-lookup-test.true c.lookup-item.is (is_other c.len-width.result) c.loop-lookup.invariant
-    (ap (find (is_other c.len-width.result)) (mapped_lengths (λ v. v.items) tuples ∙ ap (map (λ v. length v.items)) (sym c.deref.ensures.value)) ∙ sym c.in-None.ensures)
+    (ap (find (is_other c.len-width.result)) (mapped_lengths (λ v. v.items) tuples ∙ ap (map (λ v. length v.items)) (sym c.deref-in-loop-lookup.ensures.value)) ∙ sym c.in-None.ensures)
 
 pub returns : goal.returns
 returns g c = λ yes. (

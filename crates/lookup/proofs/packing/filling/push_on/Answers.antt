@@ -23,4 +23,4 @@ returns-in-Ok g c = λ members filled.
 
 pub returns-in-Err : goal.returns-in-Err
 returns-in-Err g c = λ members filled.
-    refused_on (g.T.TrialDegrees.keeps c.args.degrees.now) (g.T.TrialDegrees.answers c.args.degrees.now) c.args.max_degree members c.args.bus.now filled (none_of c.args.bus.now.refusal (sym c.is_some.ensures ∙ c.if-is_some.false)) (fields_of c.args.next) _ c.in-Err.refusal refl c.in-Err.ensures
+    refused_on (g.T.TrialDegrees.keeps c.args.degrees.now) (g.T.TrialDegrees.answers c.args.degrees.now) c.args.max_degree members c.args.bus.now filled (none_of c.args.bus.now.refusal (sym c.is_some.ensures ∙ c.if-is_some.false)) (fields_of c.args.next) (record c.push_next.new.bus { refusal = Some c.in-Err.refusal }) c.in-Err.refusal refl c.in-Err.ensures

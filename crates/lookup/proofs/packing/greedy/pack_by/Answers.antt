@@ -100,13 +100,13 @@ returns-clause-packs g c =
       subst (λ (t : List (Lookup g.row.F.Denot)). HaveBusWidths (map fields_of t)) c.deref.ensures.value c.in_ok-assert_bus_widths.ensures,
       all_packed answers c.args.max_degree before (map (λ g. g.1) (bus_groups (additive before))) (passing before) _ _ (groups_of (additive before)) refl
           (subst (λ (t : List (List (Outline (SymbolicExpression g.row.F.Denot)))). AreColumnsAdded answers c.args.max_degree t (passing before) (map fields_of c.loop-bus.columns.items)) whole inv.added)
-          c.in_ok-in_columns.ensures.fields,
+          c.in_columns.ensures.fields,
     )
 
 pub returns-clause-kept : goal.returns-clause-kept
 returns-clause-kept g c =
     let before = c.args.lookups.items in
-    let after = c.in_ok-in_columns.field-0.items in
+    let after = c.in_columns.result.items in
     let packs = (returns-clause-packs g c).1 in
     let eq = g.F.PartialEq.eq in
     let messages = kept_messages (g.T.TrialDegrees.answers c.args.degrees.now) c.args.max_degree before after packs g.F.PrimeCharacteristicRing.ring eq c.requires.lengths in
