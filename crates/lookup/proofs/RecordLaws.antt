@@ -67,7 +67,7 @@ one_numbered {F} lookups items after n x so_far lt is after_is = by_rest so_far.
         ∙ (λ i. set (items_are i) n (record (same i) { column = n }))
         ∙ set-append_right so_far.front (y ∷ ys) (length so_far.front) n placed refl (omega (arith, so_far.at))
         ∙ ap (λ k. so_far.front ++ set (y ∷ ys) k placed) none in
-        let head = All-head HasEqualLengths (y ∷ ys) y ys left in record {
+        let head = All-head HasEqualLengths y ys left in record {
           front = so_far.front ++ placed ∷ [];
           rest = ys;
           items_are = whole ∙ sym (append_assoc so_far.front (placed ∷ []) ys);
