@@ -9,6 +9,7 @@ use Rattle.lookup_model.specs.Weight.{weight_bound}
 use Rattle.lookup_model.specs.declared.error.LookupError.{LookupError}
 use Rattle.lookup_model.specs.declared.error.LookupError.TheVariants.{CountWeightOverflow}
 use Rattle.lookup.specs.Cuts.{AreClosed, IsGrown, part_items}
+use Rattle.lookup.specs.Fillings.{AreColumns}
 use Rattle.lookup.specs.Packing.{IsAbove, IsFilling, IsStuck, Joins, joined, trial}
 use Rattle.lookup.proofs.ListLaws.{map_split, snoc_split}
 use Rattle.lookup_model.proofs.Lists.{all_back, all_both, all_front}
@@ -81,26 +82,13 @@ module _ {E : Type 0} where
   }
 
 module _ {E : Type 0} (answers : Outline E → Result ℕ LookupError → Type 0) (most : ℕ) where
-  -- Columns are those of a greedy cut of the lookups that are seen.
-  pub record AreColumns (seen columns : List (Outline E)) : Type 0 where
-    pub cut : List (Outline E × List (Outline E))
-    pub filling : IsFilling answers most cut seen
-    pub columns_are : columns ≡ map joined cut
-
-  pub no_columns : AreColumns [] []
-  no_columns = record { cut = []; filling = (refl, (tt, tt)); columns_are = refl }
-
-  -- the first lookup opens a column
-  pub first_column : (seen columns after : List (Outline E)) (next : Outline E) → AreColumns seen columns → columns ≡ [] → after ≡ next ∷ [] → AreColumns (seen ++ next ∷ []) after
-  first_column seen columns after next filled none after_is = by_cut filled.cut filled.filling.0 (sym filled.columns_are ∙ none)
-    where
-      by_cut : (cut : List (Outline E × List (Outline E))) → flat_map part_items cut ≡ seen → map joined cut ≡ [] → AreColumns (seen ++ next ∷ []) after
-      by_cut (p ∷ ps) is empty = absurd (cc empty)
-      by_cut [] is empty = record {
-        cut = (next, []) ∷ [];
-        filling = (ap (λ t. t ++ next ∷ []) is, ((grown_one (Joins answers most) next, tt), tt));
-        columns_are = after_is ∙ ap (λ o. o ∷ []) (sym (joined_one next));
-      }
+  -- a lookup alone opens a column
+  pub one_column : (next : Outline E) → AreColumns answers most (next ∷ []) (next ∷ [])
+  one_column next = record {
+    cut = (next, []) ∷ [];
+    filling = (refl, ((grown_one (Joins answers most) next, tt), tt));
+    columns_are = ap (λ o. o ∷ []) (sym (joined_one next));
+  }
 
   -- the parts of columns of which there is a last one
   pub record HasLast (seen : List (Outline E)) (front : List (Outline E)) (last : Outline E) : Type 0 where
@@ -110,7 +98,7 @@ module _ {E : Type 0} (answers : Outline E → Result ℕ LookupError → Type 0
     pub front_is : map joined parts ≡ front
     pub last_is : joined part ≡ last
 
-  pub last_part : (seen columns front : List (Outline E)) (last : Outline E) → AreColumns seen columns → columns ≡ front ++ last ∷ [] → HasLast seen front last
+  pub last_part : (seen columns front : List (Outline E)) (last : Outline E) → AreColumns answers most seen columns → columns ≡ front ++ last ∷ [] → HasLast seen front last
   last_part seen columns front last filled is =
       let (parts, part, none, cut_is, front_is, last_is, none_is) = map_split joined filled.cut front last [] (sym filled.columns_are ∙ is) in
       by_rest none parts part cut_is front_is last_is none_is
@@ -128,7 +116,7 @@ module _ {E : Type 0} (answers : Outline E → Result ℕ LookupError → Type 0
   -- a lookup joins the last column
   pub joined_column : (seen front after : List (Outline E)) (last next : Outline E) → HasLast seen front last
       → ((n : ℕ) × answers (trial last next) (Ok n) × (n ≤ most)) → last.count_weight + next.count_weight < weight_bound
-      → after ≡ front ++ record (trial last next) { count_weight = last.count_weight + next.count_weight } ∷ [] → AreColumns (seen ++ next ∷ []) after
+      → after ≡ front ++ record (trial last next) { count_weight = last.count_weight + next.count_weight } ∷ [] → AreColumns answers most (seen ++ next ∷ []) after
   joined_column seen front after last next has low small after_is =
       let joins : Joins answers most has.part next = subst (λ (o : Outline E). ((n : ℕ) × answers (trial o next) (Ok n) × (n ≤ most)) × (o.count_weight + next.count_weight < weight_bound)) (sym has.last_is) (low, small) in
       record {
@@ -146,7 +134,7 @@ module _ {E : Type 0} (answers : Outline E → Result ℕ LookupError → Type 0
 
   -- a lookup opens a column behind the last one
   pub next_column : (seen columns front after : List (Outline E)) (last next : Outline E) → HasLast seen front last → columns ≡ front ++ last ∷ []
-      → ((n : ℕ) × answers (trial last next) (Ok n) × (most < n)) → after ≡ columns ++ next ∷ [] → AreColumns (seen ++ next ∷ []) after
+      → ((n : ℕ) × answers (trial last next) (Ok n) × (most < n)) → after ≡ columns ++ next ∷ [] → AreColumns answers most (seen ++ next ∷ []) after
   next_column seen columns front after last next has is high after_is =
       let stays : IsAbove answers most has.part next = subst (λ (o : Outline E). (n : ℕ) × answers (trial o next) (Ok n) × (most < n)) (sym has.last_is) high in
       let so_far : map joined (has.parts ++ has.part ∷ []) ≡ columns = map-append joined has.parts (has.part ∷ []) ∙ (λ i. has.front_is i ++ has.last_is i ∷ []) ∙ sym is in
@@ -161,6 +149,18 @@ module _ {E : Type 0} (answers : Outline E → Result ℕ LookupError → Type 0
             ∙ (λ i. sym so_far i ++ sym (joined_one next) i ∷ [])
             ∙ sym (map-append joined (has.parts ++ has.part ∷ []) ((next, []) ∷ []));
       }
+
+  -- a filling that is refused stays so when a further lookup comes
+  pub stuck_more : (members : List (Outline E)) (next : Outline E) (e : LookupError) → IsStuck answers most members e → IsStuck answers most (members ++ next ∷ []) e
+  stuck_more members next e stuck = record {
+    closed = stuck.closed;
+    part = stuck.part;
+    next = stuck.next;
+    rest = stuck.rest ++ next ∷ [];
+    members_are = ap (λ t. t ++ next ∷ []) stuck.members_are ∙ append_assoc (flat_map part_items (stuck.closed ++ stuck.part ∷ [])) (stuck.next ∷ stuck.rest) (next ∷ []);
+    greedy = stuck.greedy;
+    refusal = stuck.refusal;
+  }
 
   -- the filling comes to a trial that is refused
   pub stuck_at : (members seen front rest : List (Outline E)) (last next : Outline E) (e : LookupError) → HasLast seen front last → seen ++ next ∷ rest ≡ members

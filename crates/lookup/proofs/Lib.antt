@@ -1,3 +1,4 @@
+pub mod BusLaws
 mod DegreeLaws
 pub mod Evaluations
 pub mod Extracted

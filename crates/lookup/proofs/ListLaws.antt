@@ -81,3 +81,15 @@ columns_behind see make before columns made after cuts cut is so_far here =
     ap (map see) is ∙ map-append see columns made ∙ (λ i. so_far i ++ here i)
     ∙ append_assoc before (flat_map (λ c. map make c) cuts) (map make cut)
     ∙ ap (λ t. before ++ t) (ap (λ t. flat_map (λ c. map make c) cuts ++ t) (sym (append-nil (map make cut))) ∙ sym (flat_map-append (λ c. map make c) cuts (cut ∷ [])))
+
+module _ {A B : Type 0} (R : A → B → Type 0) where
+  -- the first pair of two lists that are zipped
+  pub zip_next : (xs : List A) (y : B) (ys : List B) → AllZip R xs (y ∷ ys) → (x : A) × (later : List A) × (xs ≡ x ∷ later) × R x y × AllZip R later ys
+  zip_next [] y ys h = absurd h
+  zip_next (x ∷ xs) y ys h = (x, xs, refl, h.0, h.1)
+
+  -- there is none
+  pub zip_none : (xs : List A) (ys : List B) → ys ≡ [] → AllZip R xs ys → xs ≡ []
+  zip_none [] ys none h = refl
+  zip_none (x ∷ xs) [] none h = absurd h
+  zip_none (x ∷ xs) (y ∷ ys) none h = absurd (cc none)

@@ -2,19 +2,17 @@
 use Rattle.std.proofs.Common.{◌≡◌, ◌+◌, ℕ, zero, suc, List, [], ◌∷◌, ◌++◌, Option, None, Some, Result, map, option_map, slice_get, take, refl, sym, ap, subst, ◌∙◌, arith}
 use Rattle.std.proofs.lemmas.Option.{slice_get-map}
 use Rattle.std.specs.Borrow.{Bor}
-use Rattle.std.specs.List.{AllByRecursion, AllZip, flat_map}
+use Rattle.std.specs.List.{AllZip, flat_map}
 use Rattle.std.specs.declared.alloc.Global.{Global}
 use Rattle.std.specs.declared.vec.Vec.{Vec}
+use Rattle.expressions.specs.Faults.{SplitsAtFault}
 use Rattle.expressions.specs.declared.base_expression.SymbolicExpression.{SymbolicExpression}
-use Rattle.lookup_model.proofs.Lookups.Regrouping.{All-filter}
 use Rattle.lookup_model.proofs.HornerRule.{map-map}
 use Rattle.lookup_model.specs.Outline.{Outline, fields_of}
 use Rattle.lookup_model.specs.declared.error.LookupError.{LookupError}
 use Rattle.lookup_model.specs.declared.types.Lookup.{Lookup}
-use Rattle.lookup.specs.Buses.{bus_groups, bus_names, group_of, on_bus, owned_group}
-use Rattle.lookup_model.specs.Names.{is_named}
-use Rattle.lookup.specs.Packing.{AreColumnsAdded, IsFillRefusal, IsFilling, IsFirstStuck, IsPacking, IsStuck, additive, joined, numbered, passing}
-use Rattle.lookup.specs.Trials.{IsBusTrial, IsTrialAmong}
+use Rattle.lookup.specs.Buses.{bus_groups, bus_names, group_of, on_bus}
+use Rattle.lookup.specs.Packing.{IsFillRefusal, IsFilling, IsPacking, IsStuck, additive, joined, numbered, passing}
 use Rattle.lookup.proofs.ListLaws.{AllZip-map, map_split}
 
 -- an item at its index
@@ -43,6 +41,19 @@ module _ {F : Type 0} where
           let same : name ≡ k.now = ap (λ p. p.0) pair in
           (is ∙ ap Some same, sym (ap (λ p. p.1) pair) ∙ ap (λ n. on_bus n os) same)
 
+module _ {E : Type 0} (answers : Outline E → Result ℕ LookupError → Type 0) (most : ℕ) where
+  -- columns with those of each bus of a list behind them, each with its greedy cut
+  abbrev pub AreColumnsAdded : List (List (Outline E)) → List (Outline E) → List (Outline E) → Type 0
+  AreColumnsAdded buses before after =
+      (cuts : List (List (Outline E × List (Outline E)))) × AllZip (λ bus cut. IsFilling answers most cut bus) buses cuts × (after ≡ before ++ flat_map (λ cut. map joined cut) cuts)
+
+  -- the refusal of the first bus of a list whose filling is refused
+  abbrev pub IsFirstStuck : List (List (Outline E)) → LookupError → Type 0
+  IsFirstStuck buses e = SplitsAtFault
+      (λ earlier. (cuts : List (List (Outline E × List (Outline E)))) × AllZip (λ b cut. IsFilling answers most cut b) earlier cuts)
+      (λ _ bus. IsStuck answers most bus e)
+      buses
+
 -- groups without their names
 pub groups_of : {E : Type 0} (os : List (Outline E)) → map (λ g. g.1) (bus_groups os) ≡ map (λ name. on_bus name os) (bus_names os)
 groups_of {E} os = map-map {B = List ℕ × List (Outline E)} (λ g. g.1) (λ name. (name, on_bus name os)) (bus_names os)
@@ -67,27 +78,3 @@ module _ {E : Type 0} (answers : Outline E → Result ℕ LookupError → Type 0
     filled = AllZip-map (λ bus cut. IsFilling answers most cut bus) (λ n. on_bus n (additive before)) (bus_names (additive before)) added.0 (subst (λ (t : List (List (Outline E))). AllZip (λ bus cut. IsFilling answers most cut bus) t added.0) are added.1);
     columns = after_is ∙ ap numbered (added.2 ∙ ap (λ t. t ++ flat_map (λ cut. map joined cut) added.0) front_is);
   }
-
--- a trial of one of the groups is a trial of a bus
-pub on_a_bus : {F : Type 0} (before : List (Outline (SymbolicExpression F))) (groups : List (List (Outline (SymbolicExpression F)))) (earlier : List (List (Outline (SymbolicExpression F)))) (bus : List (Outline (SymbolicExpression F))) (later : List (List (Outline (SymbolicExpression F)))) (lookup : Lookup F)
-    → groups ≡ map (λ name. on_bus name (additive before)) (bus_names (additive before)) → groups ≡ earlier ++ bus ∷ later → IsTrialAmong bus lookup → IsBusTrial before lookup
-on_a_bus {F} before groups earlier bus later lookup groups_are split is =
-    let (names, name, others, names_are, earlier_is, name_is, later_is) = map_split (λ name. on_bus name (additive before)) (bus_names (additive before)) earlier bus later (sym groups_are ∙ split) in
-    (name, subst (λ (os : List (Outline (SymbolicExpression F))). IsTrialAmong os lookup) (sym name_is) is)
-
-module _ {F : Type 0} where
-  all_groups : (P : Outline (SymbolicExpression F) → Type 0) (os : List (Outline (SymbolicExpression F))) → AllByRecursion P os → (names : List (List ℕ)) → AllByRecursion (AllByRecursion P) (map (λ name. on_bus name os) names)
-  all_groups P os all [] = tt
-  all_groups P os all (n ∷ ns) = (All-filter P (λ o. is_named n o.bus) os all, all_groups P os all ns)
-
-  -- what holds of the fields of all lookups holds of those of each bus
-  pub in_groups : (P : Outline (SymbolicExpression F) → Type 0) (os : List (Outline (SymbolicExpression F))) (vs : List (Vec (Lookup F) Global)) → map owned_group vs ≡ map (λ g. g.1) (bus_groups os) → AllByRecursion P os → AllByRecursion (λ v. AllByRecursion (λ l. P (fields_of l)) v.items) vs
-  in_groups P os vs are all = each vs (subst (λ (t : List (List (Outline (SymbolicExpression F)))). AllByRecursion (AllByRecursion P) t) (sym (are ∙ groups_of os)) (all_groups P os all (bus_names os)))
-    where
-      unmapped : (ls : List (Lookup F)) → AllByRecursion P (map fields_of ls) → AllByRecursion (λ l. P (fields_of l)) ls
-      unmapped [] h = tt
-      unmapped (l ∷ ls) h = (h.0, unmapped ls h.1)
-
-      each : (ws : List (Vec (Lookup F) Global)) → AllByRecursion (AllByRecursion P) (map owned_group ws) → AllByRecursion (λ v. AllByRecursion (λ l. P (fields_of l)) v.items) ws
-      each [] h = tt
-      each (w ∷ ws) h = (unmapped w.items h.0, each ws h.1)

@@ -1,14 +1,15 @@
 -- Lookups one after another, in the columns 0, 1, 2, …
-use Rattle.std.proofs.Common.{◌≡◌, ◌+◌, ◌<◌, ◌≤◌, ◌⊎◌, inl, inr, ℕ, List, [], ◌∷◌, ◌++◌, Some, length, map, get_or, sym, ap, subst, ◌∙◌, arith}
+use Rattle.std.proofs.Common.{◌≡◌, ◌+◌, ◌-◌, ◌<◌, ◌≤◌, ◌⊎◌, inl, inr, ℕ, All, List, [], ◌∷◌, ◌++◌, Some, length, map, get_or, set, refl, sym, ap, subst, ◌∙◌, arith, length-append}
 use Rattle.std.proofs.Math.ListN.{get_or-append}
 use Rattle.std.proofs.Math.Seq.{get_or-append_seam}
 use Rattle.std.proofs.lemmas.Bool.{cases_lt}
-use Rattle.std.proofs.lemmas.List.{append_assoc, length_push, map_push}
+use Rattle.std.proofs.lemmas.List.{append-nil, append_assoc, length_push, map_push, set-append_right}
+use Rattle.std.proofs.lemmas.List.Elements.{All-head, All-tail}
 use Rattle.std.proofs.lemmas.Option.{get_or_from_slice_get, slice_get-get_or}
-use Rattle.lookup_model.specs.Outline.{Outline}
-use Rattle.lookup_model.specs.Records.{AreRecords, IsRecordAt}
+use Rattle.lookup_model.specs.Outline.{Outline, fields_of}
+use Rattle.lookup_model.specs.Records.{AreRecords, HasEqualLengths, IsRecordAt}
 use Rattle.lookup_model.specs.declared.types.Lookup.{Lookup}
-use Rattle.lookup.specs.Packing.{numbered_from}
+use Rattle.lookup.specs.Packing.{numbered, numbered_from}
 
 -- one more well formed record
 pub AreRecords-push : {F : Type 0} (lookups : List (Lookup F)) (l : Lookup F) → AreRecords lookups → IsRecordAt (length lookups) l → AreRecords (lookups ++ l ∷ [])
@@ -39,3 +40,62 @@ next_numbered seen before after l x left later pushed next is =
     ∙ append_assoc (map seen before) (seen l ∷ []) (numbered_from (length before + 1) (map seen later))
     ∙ ap (λ o. map seen before ++ o ∷ numbered_from (length before + 1) (map seen later)) is
     ∙ ap (λ t. map seen before ++ numbered_from (length before) (map seen t)) (sym next)
+
+-- Lookups of which the first n stand in their columns.
+pub record AreNumbered {F : Type 0} (lookups items : List (Lookup F)) (n : ℕ) : Type 0 where
+  pub front : List (Lookup F)
+  pub rest : List (Lookup F)
+  pub items_are : items ≡ front ++ rest
+  pub long : length items ≡ length lookups
+  pub at : length front ≡ n
+  pub fields : map fields_of front ++ numbered_from (length front) (map fields_of rest) ≡ numbered (map fields_of lookups)
+  pub records : AreRecords front
+  pub left : All HasEqualLengths rest
+
+-- one more of them
+pub one_numbered : {F : Type 0} (lookups items after : List (Lookup F)) (n : ℕ) (x : Lookup F) → AreNumbered lookups items n → n < length items → x ≡ get_or items n x → after ≡ set items n (record x { column = n }) → AreNumbered lookups after (n + 1)
+one_numbered {F} lookups items after n x so_far lt is after_is = by_rest so_far.rest so_far.items_are so_far.fields so_far.left
+  where
+    by_rest : (rest : List (Lookup F)) → items ≡ so_far.front ++ rest → map fields_of so_far.front ++ numbered_from (length so_far.front) (map fields_of rest) ≡ numbered (map fields_of lookups) → All HasEqualLengths rest → AreNumbered lookups after (n + 1)
+    by_rest [] items_are fields left = absurd (omega (arith, lt, so_far.at, ap length items_are, length-append so_far.front []))
+    by_rest (y ∷ ys) items_are fields left =
+        let placed : Lookup F = record y { column = n } in
+        let same : x ≡ y = is ∙ (λ i. get_or (items_are i) (sym so_far.at i) x) ∙ get_or-append_seam so_far.front y ys x in
+        let none : n - length so_far.front ≡ 0 = omega (arith, so_far.at) in
+        let whole : after ≡ so_far.front ++ placed ∷ ys =
+        after_is
+        ∙ (λ i. set (items_are i) n (record (same i) { column = n }))
+        ∙ set-append_right so_far.front (y ∷ ys) (length so_far.front) n placed refl (omega (arith, so_far.at))
+        ∙ ap (λ k. so_far.front ++ set (y ∷ ys) k placed) none in
+        let head = All-head HasEqualLengths y ys left in record {
+          front = so_far.front ++ placed ∷ [];
+          rest = ys;
+          items_are = whole ∙ sym (append_assoc so_far.front (placed ∷ []) ys);
+          long = omega (arith, ap length whole, length-append so_far.front (placed ∷ ys), ap length items_are, length-append so_far.front (y ∷ ys), so_far.long);
+          at = length_push so_far.front placed ∙ ap (λ k. k + 1) so_far.at;
+          fields = next_numbered fields_of so_far.front (so_far.front ++ placed ∷ []) placed y (y ∷ ys) ys refl refl (λ i. record (fields_of y) { column = sym so_far.at i }) ∙ fields;
+          records = next_records so_far.front (so_far.front ++ placed ∷ []) placed n refl (sym so_far.at) so_far.records (refl, record { multiplicities = head.multiplicities; flags = head.flags });
+          left = All-tail HasEqualLengths y ys left;
+        }
+
+-- none of them, and all
+pub none_numbered : {F : Type 0} (lookups : List (Lookup F)) → All HasEqualLengths lookups → AreNumbered lookups lookups 0
+none_numbered lookups lengths = record {
+  front = [];
+  rest = lookups;
+  items_are = refl;
+  long = refl;
+  at = refl;
+  fields = refl;
+  records = λ i l lt there. absurd (omega (arith, lt));
+  left = lengths;
+}
+
+pub all_numbered : {F : Type 0} (lookups items : List (Lookup F)) (n : ℕ) → AreNumbered lookups items n → length items ≤ n → (map fields_of items ≡ numbered (map fields_of lookups)) × AreRecords items
+all_numbered {F} lookups items n done le = by_rest done.rest done.items_are done.fields
+  where
+    by_rest : (rest : List (Lookup F)) → items ≡ done.front ++ rest → map fields_of done.front ++ numbered_from (length done.front) (map fields_of rest) ≡ numbered (map fields_of lookups) → (map fields_of items ≡ numbered (map fields_of lookups)) × AreRecords items
+    by_rest (x ∷ xs) items_are fields = absurd (omega (arith, le, done.at, ap length items_are, length-append done.front (x ∷ xs)))
+    by_rest [] items_are fields =
+        let whole = items_are ∙ append-nil done.front in
+        (ap (map fields_of) whole ∙ sym (append-nil (map fields_of done.front)) ∙ fields, subst (λ (t : List (Lookup F)). AreRecords t) (sym whole) done.records)

@@ -1,9 +1,9 @@
 -- Steps of a filling, and the lookups that it takes.
-use Rattle.std.proofs.Common.{◌≡◌, inl, inr, ◌&&◌, ℕ, Bool, true, false, cond, not, List, [], ◌∷◌, ◌++◌, Option, None, Some, MatchOption, Result, length, map, All, refl, sym, ap, subst, ◌∙◌, arith, length-append, true≢false}
+use Rattle.std.proofs.Common.{◌≡◌, ◌⊎◌, inl, inr, ◌&&◌, ℕ, Bool, true, false, cond, not, List, [], ◌∷◌, ◌++◌, Option, None, Some, MatchOption, Result, length, map, All, refl, sym, ap, subst, ◌∙◌, arith, length-append, true≢false}
 use Rattle.std.proofs.Math.ListN.{get_or-append}
 use Rattle.std.proofs.lemmas.Grind.{flat_map-append}
-use Rattle.std.proofs.lemmas.List.{append-nil, length-map, map-append}
-use Rattle.std.proofs.lemmas.List.Elements.{All-cons, All-from_recursion, All-push, recursion_from_All}
+use Rattle.std.proofs.lemmas.List.{append-nil, append_assoc, length-map, map-append}
+use Rattle.std.proofs.lemmas.List.Elements.{filter-append, All-cons, All-push, recursion_from_All}
 use Rattle.std.specs.List.{AllByRecursion, flat_map}
 use Rattle.std.specs.declared.alloc.Global.{Global}
 use Rattle.std.specs.declared.vec.Vec.{Vec}
@@ -13,25 +13,41 @@ use Rattle.lookup_model.proofs.Lookups.Regrouping.{All-filter}
 use Rattle.lookup_model.specs.Outline.{Outline, bus_of, fields_of}
 use Rattle.lookup_model.specs.Records.{HasEqualLengths}
 use Rattle.lookup_model.specs.declared.error.LookupError.{LookupError}
+use Rattle.lookup_model.specs.declared.error.LookupError.TheVariants.{Memory}
 use Rattle.lookup_model.specs.declared.types.Lookup.{Lookup}
-use Rattle.lookup.specs.Buses.{bus_groups, on_bus, owned_group}
+use Rattle.lookup.specs.Buses.{on_bus}
 use Rattle.lookup_model.specs.Names.{is_named}
 use Rattle.lookup.specs.Cuts.{part_items}
-use Rattle.lookup.specs.Packing.{additive, is_additive, trial}
-use Rattle.lookup.specs.Trials.{IsColumns, IsMember, IsStep, IsTrial, IsTrialAmong, IsTried, columns_of, open_column}
-use Rattle.lookup.specs.declared.packing.filling.Column.{Column}
-use Rattle.lookup.specs.declared.packing.filling.Columns.{Columns}
-use Rattle.lookup.specs.declared.packing.trials.Trial.TheVariants.{Apart, Joined}
+use Rattle.lookup.specs.Fillings.{AreColumns, IsFilled, IsOpen, columns_of}
+use Rattle.lookup.specs.Packing.{IsStuck, additive, is_additive, trial}
+use Rattle.lookup.specs.Trials.{IsMember, IsStep, IsTrial, IsTrialAmong, IsTrialRefusal, IsTried}
+use Rattle.lookup.specs.declared.packing.filling.Bus.{Bus}
 use Rattle.lookup.specs.TrialDegrees.{IsPlain}
-use Rattle.lookup.proofs.PackLaws.{in_groups}
-use Rattle.lookup.proofs.FillLaws.{AreColumns, HasLast, first_column, joined_column, last_part, next_column}
+use Rattle.lookup.proofs.FillLaws.{HasLast, joined_column, last_part, next_column, one_column, stuck_at, stuck_more}
 
 -- columns with one more lookup
-pub stepped : {F : Type 0} (answers : Outline (SymbolicExpression F) → Result ℕ LookupError → Type 0) (most : ℕ) (seen before after : List (Outline (SymbolicExpression F))) (next : Outline (SymbolicExpression F))
-    → AreColumns answers most seen before → IsStep answers most before next after → AreColumns answers most (seen ++ next ∷ []) after
-stepped answers most seen before after next columns (inl h) = first_column answers most seen before after next columns h.0 h.1
-stepped answers most seen before after next columns (inr (front, last, is, inl h)) = joined_column answers most seen front after last next (last_part answers most seen before front last columns is) h.0 h.1 h.2
-stepped answers most seen before after next columns (inr (front, last, is, inr h)) = next_column answers most seen before front after last next (last_part answers most seen before front last columns is) is h.0 h.1
+pub stepped : {F : Type 0} (answers : Outline (SymbolicExpression F) → Result ℕ LookupError → Type 0) (most : ℕ) (seen front after : List (Outline (SymbolicExpression F))) (last next : Outline (SymbolicExpression F))
+    → AreColumns answers most seen (front ++ last ∷ []) → IsStep answers most front last next after → AreColumns answers most (seen ++ next ∷ []) after
+stepped answers most seen front after last next columns (inl h) = joined_column answers most seen front after last next (last_part answers most seen (front ++ last ∷ []) front last columns refl) h.0 h.1 h.2
+stepped answers most seen front after last next columns (inr h) = next_column answers most seen (front ++ last ∷ []) front after last next (last_part answers most seen (front ++ last ∷ []) front last columns refl) refl h.0 h.1
+
+-- a trial among the first of these lookups is one among all
+pub trial_front : {F : Type 0} (front more : List (Outline (SymbolicExpression F))) (lookup : Lookup F) → IsTrialAmong front lookup → IsTrialAmong (front ++ more) lookup
+trial_front front more lookup is = record {
+  front = is.front;
+  part = is.part;
+  next = is.next;
+  back = is.back ++ more;
+  members_are = ap (λ t. t ++ more) is.members_are ∙ append_assoc (is.front ++ part_items is.part) (is.next ∷ is.back) more;
+  is_trial = is.is_trial;
+}
+
+-- and so it is on the bus of a name
+pub among_all : {F : Type 0} (seen more all : List (Outline (SymbolicExpression F))) (name : List ℕ) (lookup : Lookup F) → seen ++ more ≡ all → IsTrialAmong (on_bus name seen) lookup → IsTrialAmong (on_bus name all) lookup
+among_all {F} seen more all name lookup whole is =
+    let on = λ (o : Outline (SymbolicExpression F)). is_named name o.bus in
+    subst (λ (os : List (Outline (SymbolicExpression F))). IsTrialAmong (on_bus name os) lookup) whole
+    (subst (λ (os : List (Outline (SymbolicExpression F))). IsTrialAmong os lookup) (sym (filter-append on seen more)) (trial_front (on_bus name seen) (on_bus name more) lookup is))
 
 -- the trial of the last column with the next lookup, of lookups that are seen and those that are left
 pub trial_among : {F : Type 0} (answers : Outline (SymbolicExpression F) → Result ℕ LookupError → Type 0) (most : ℕ) (members seen front rest : List (Outline (SymbolicExpression F))) (last next : Outline (SymbolicExpression F)) (lookup : Lookup F)
@@ -59,92 +75,90 @@ additive_member l joins lengths = record {
   no_flags = no_flags_of (λ fs. fs.items) (is_some (bus_of l.kind)) l.flags joins;
 }
 
--- columns with a further one behind them
-pushed_column : {F : Type 0} (front columns : List (Lookup F)) (last : Lookup F) → columns ≡ front ++ last ∷ [] → map fields_of columns ≡ map fields_of front ++ fields_of last ∷ []
-pushed_column front columns last is = ap (map fields_of) is ∙ map-append fields_of front (last ∷ [])
-
-module _ {F K : Type 0} (keeps : K → Outline (SymbolicExpression F) → Type 0) (answers : Outline (SymbolicExpression F) → Result ℕ LookupError → Type 0) (most : ℕ) (before : Columns F K) (columns : IsColumns keeps before) where
-  -- a step of a filling, and what is kept after it
-  abbrev Steps : Lookup F → Columns F K → Type 0
-  Steps next after = IsColumns keeps after × IsStep answers most (columns_of before) (fields_of next) (columns_of after)
-
-  -- the first lookup
-  pub first_step : before.last ≡ None → (next : Lookup F) (kept : K) → IsMember next → keeps kept (fields_of next) → Steps next (record { closed = before.closed; last = Some (record { lookup = next; kept = kept }) })
-  first_step is next kept member has =
-      let none : before.closed.items ≡ [] = subst (λ (o : Option (Column F K)). MatchOption o (before.closed.items ≡ []) (λ column. IsMember column.lookup × keeps column.kept (fields_of column.lookup))) is columns.last in (
-        record { closed = columns.closed; last = (member, has) },
-        inl ((λ i. map fields_of (none i) ++ open_column (is i)), ap (λ t. map fields_of t ++ fields_of next ∷ []) none),
+module _ {F K : Type 0} (keeps : K → Outline (SymbolicExpression F) → Type 0) (answers : Outline (SymbolicExpression F) → Result ℕ LookupError → Type 0) (most : ℕ) where
+  -- a bus with one lookup
+  pub filled_one : (bus : Bus F K) → bus.closed.items ≡ [] → bus.refusal ≡ None → IsMember bus.last → keeps bus.kept (fields_of bus.last) → IsFilled keeps answers most (fields_of bus.last ∷ []) bus
+  filled_one bus none free member has =
+      subst (λ (r : Option LookupError). MatchOption r (IsOpen keeps bus × AreColumns answers most (fields_of bus.last ∷ []) (columns_of bus)) (λ e. (e ≡ Memory) ⊎ IsStuck answers most (fields_of bus.last ∷ []) e)) (sym free) (
+        record { closed = subst (λ (t : List (Lookup F)). All IsMember t) (sym none) (λ k d lt. absurd (omega (arith, lt))); member = member; kept = has },
+        subst (λ (t : List (Lookup F)). AreColumns answers most (fields_of bus.last ∷ []) (map fields_of t ++ fields_of bus.last ∷ [])) (sym none) (one_column answers most (fields_of bus.last)),
       )
 
-  module _ (column : Column F K) (is : before.last ≡ Some column) where
-    -- the open column, and what is kept of it
-    pub open_is : IsMember column.lookup × keeps column.kept (fields_of column.lookup)
-    open_is = subst (λ (o : Option (Column F K)). MatchOption o (before.closed.items ≡ []) (λ column. IsMember column.lookup × keeps column.kept (fields_of column.lookup))) is columns.last
+  -- what is known of a bus, by whether it is refused
+  pub free_bus : (members : List (Outline (SymbolicExpression F))) (bus : Bus F K) → IsFilled keeps answers most members bus → bus.refusal ≡ None → IsOpen keeps bus × AreColumns answers most members (columns_of bus)
+  free_bus members bus filled free = subst (λ (r : Option LookupError). MatchOption r (IsOpen keeps bus × AreColumns answers most members (columns_of bus)) (λ e. (e ≡ Memory) ⊎ IsStuck answers most members e)) free filled
 
-    pub columns_are : columns_of before ≡ map fields_of before.closed.items ++ fields_of column.lookup ∷ []
-    columns_are = ap (λ (o : Option (Column F K)). map fields_of before.closed.items ++ open_column o) is
+  pub stuck_bus : (members : List (Outline (SymbolicExpression F))) (bus : Bus F K) (e : LookupError) → IsFilled keeps answers most members bus → bus.refusal ≡ Some e → (e ≡ Memory) ⊎ IsStuck answers most members e
+  stuck_bus members bus e filled stuck = subst (λ (r : Option LookupError). MatchOption r (IsOpen keeps bus × AreColumns answers most members (columns_of bus)) (λ e. (e ≡ Memory) ⊎ IsStuck answers most members e)) stuck filled
 
-    -- a lookup that joins it
-    pub joined_step : (next both : Lookup F) (kept : K) → IsTried answers most column.lookup next (Joined both) → ((o : Outline (SymbolicExpression F)) (n : ℕ) → keeps kept o → keeps kept (record o { count_weight = n })) → keeps kept (trial (fields_of column.lookup) (fields_of next))
-        → Steps next (record { closed = before.closed; last = Some (record { lookup = both; kept = kept }) })
+  -- a bus that is refused stays so
+  pub stuck_on : (members : List (Outline (SymbolicExpression F))) (bus : Bus F K) (next : Outline (SymbolicExpression F)) → IsFilled keeps answers most members bus → is_some bus.refusal ≡ true → IsFilled keeps answers most (members ++ next ∷ []) bus
+  stuck_on members bus next filled test = by_refusal bus.refusal test filled
+    where
+      by_refusal : (r : Option LookupError) → is_some r ≡ true → MatchOption r (IsOpen keeps bus × AreColumns answers most members (columns_of bus)) (λ e. (e ≡ Memory) ⊎ IsStuck answers most members e)
+          → MatchOption r (IsOpen keeps bus × AreColumns answers most (members ++ next ∷ []) (columns_of bus)) (λ e. (e ≡ Memory) ⊎ IsStuck answers most (members ++ next ∷ []) e)
+      by_refusal None test h = absurd (true≢false (sym test))
+      by_refusal (Some e) test (inl memory) = inl memory
+      by_refusal (Some e) test (inr stuck) = inr (stuck_more answers most members next e stuck)
+
+  module _ (members : List (Outline (SymbolicExpression F))) (bus : Bus F K) (filled : IsFilled keeps answers most members bus) (free : bus.refusal ≡ None) where
+    -- a bus with one more lookup
+    pub pushed_on : (next : Outline (SymbolicExpression F)) (after : Bus F K) → IsOpen keeps after → after.refusal ≡ bus.refusal → IsStep answers most (map fields_of bus.closed.items) (fields_of bus.last) next (columns_of after) → IsFilled keeps answers most (members ++ next ∷ []) after
+    pushed_on next after open_after same step =
+        subst (λ (r : Option LookupError). MatchOption r (IsOpen keeps after × AreColumns answers most (members ++ next ∷ []) (columns_of after)) (λ e. (e ≡ Memory) ⊎ IsStuck answers most (members ++ next ∷ []) e)) (sym (same ∙ free))
+        (open_after, stepped answers most members (map fields_of bus.closed.items) (columns_of after) (fields_of bus.last) next (free_bus members bus filled free).1 step)
+
+    -- its open column, as the last part of a greedy cut
+    pub open_part : HasLast answers most members (map fields_of bus.closed.items) (fields_of bus.last)
+    open_part = last_part answers most members (columns_of bus) (map fields_of bus.closed.items) (fields_of bus.last) (free_bus members bus filled free).1 refl
+
+    -- the next lookup's trial is one among all
+    pub tried_on : (next : Outline (SymbolicExpression F)) (lookup : Lookup F) → IsTrial (fields_of bus.last) next lookup → IsTrialAmong (members ++ next ∷ []) lookup
+    tried_on next lookup is = trial_among answers most (members ++ next ∷ []) members (map fields_of bus.closed.items) [] (fields_of bus.last) next lookup open_part refl is
+
+    -- and what it is refused for is kept
+    pub refused_on : (next : Outline (SymbolicExpression F)) (after : Bus F K) (e : LookupError) → after.refusal ≡ Some e → (e ≡ Memory) ⊎ IsTrialRefusal answers most (fields_of bus.last) next e → IsFilled keeps answers most (members ++ next ∷ []) after
+    refused_on next after e is refused =
+        subst (λ (r : Option LookupError). MatchOption r (IsOpen keeps after × AreColumns answers most (members ++ next ∷ []) (columns_of after)) (λ e. (e ≡ Memory) ⊎ IsStuck answers most (members ++ next ∷ []) e)) (sym is) (stuck refused)
+      where
+        stuck : (e ≡ Memory) ⊎ IsTrialRefusal answers most (fields_of bus.last) next e → (e ≡ Memory) ⊎ IsStuck answers most (members ++ next ∷ []) e
+        stuck (inl memory) = inl memory
+        stuck (inr refusal) = inr (stuck_at answers most (members ++ next ∷ []) members (map fields_of bus.closed.items) [] (fields_of bus.last) next e open_part refl refusal)
+
+  module _ (bus : Bus F K) (is_open : IsOpen keeps bus) where
+    -- a step of a filling, and what is kept after it
+    abbrev Steps : Lookup F → Bus F K → Type 0
+    Steps next after = IsOpen keeps after × (after.refusal ≡ bus.refusal) × IsStep answers most (map fields_of bus.closed.items) (fields_of bus.last) (fields_of next) (columns_of after)
+
+    -- a lookup that joins the open column
+    pub joined_step : (next both : Lookup F) (kept : K) → IsTried answers most bus.last next both None → ((o : Outline (SymbolicExpression F)) (n : ℕ) → keeps kept o → keeps kept (record o { count_weight = n })) → keeps kept (trial (fields_of bus.last) (fields_of next))
+        → Steps next (record bus { last = both; kept = kept })
     joined_step next both kept joins weighted has = (
-      record { closed = columns.closed; last = (joins.0, subst (keeps kept) (sym joins.3) (weighted _ _ has)) },
-      inr (map fields_of before.closed.items, fields_of column.lookup, columns_are, inl (joins.1, joins.2, ap (λ o. map fields_of before.closed.items ++ o ∷ []) joins.3)),
+      record { closed = is_open.closed; member = joins.0; kept = subst (keeps kept) (sym joins.3) (weighted _ _ has) },
+      refl,
+      inl (joins.1, joins.2, ap (λ o. map fields_of bus.closed.items ++ o ∷ []) joins.3),
     )
 
     -- one that opens a new column
-    pub next_step : (after : Vec (Lookup F) Global) (next a b : Lookup F) (kept : K) → IsTried answers most column.lookup next (Apart a b) → after.items ≡ before.closed.items ++ a ∷ [] → keeps kept (fields_of next)
-        → Steps next (record { closed = after; last = Some (record { lookup = b; kept = kept }) })
-    next_step after next a b kept apart put has =
-        let closed : map fields_of after.items ≡ columns_of before = pushed_column before.closed.items after.items a put ∙ ap (λ o. map fields_of before.closed.items ++ o ∷ []) apart.3 ∙ sym columns_are in (
+    pub next_step : (closed : Vec (Lookup F) Global) (next full left : Lookup F) (kept : K) → IsTried answers most bus.last next full (Some left) → closed.items ≡ bus.closed.items ++ full ∷ [] → keeps kept (fields_of next)
+        → Steps next (record bus { closed = closed; last = left; kept = kept })
+    next_step closed next full left kept apart put has =
+        let so_far : map fields_of closed.items ≡ map fields_of bus.closed.items ++ fields_of bus.last ∷ [] = ap (map fields_of) put ∙ map-append fields_of bus.closed.items (full ∷ []) ∙ ap (λ o. map fields_of bus.closed.items ++ o ∷ []) apart.3 in (
           record {
-            closed = subst (λ (t : List (Lookup F)). All IsMember t) (sym put) (All-push IsMember before.closed.items a columns.closed apart.0);
-            last = (apart.1, subst (keeps kept) (sym apart.4) has);
+            closed = subst (λ (t : List (Lookup F)). All IsMember t) (sym put) (All-push IsMember bus.closed.items full is_open.closed apart.0);
+            member = apart.1;
+            kept = subst (keeps kept) (sym apart.4) has;
           },
-          inr (map fields_of before.closed.items, fields_of column.lookup, columns_are, inr (apart.2, λ i. closed i ++ apart.4 i ∷ [])),
+          refl,
+          inr (apart.2, λ i. so_far i ++ apart.4 i ∷ []),
         )
 
-    -- the open column is closed in the end
-    pub all_closed : (after : List (Lookup F)) → after ≡ before.closed.items ++ column.lookup ∷ [] → All IsMember after × (map fields_of after ≡ columns_of before)
-    all_closed after put = (
-      subst (λ (t : List (Lookup F)). All IsMember t) (sym put) (All-push IsMember before.closed.items column.lookup columns.closed open_is.0),
-      pushed_column before.closed.items after column.lookup put ∙ sym columns_are,
-    )
-
--- a lookup whose fields are those of a plain one is a member, and the other way
+-- the fields of a lookup that may be joined are plain
 pub plain_of : {F : Type 0} (l : Lookup F) → IsMember l → IsPlain (fields_of l)
 plain_of l member = record {
   lengths = member.lengths.multiplicities ∙ sym (length-map l.elements.items (λ tuple. tuple.items));
   no_flags = ap (option_map (λ fs. fs.items)) member.no_flags;
 }
-
-none_mapped : {A B : Type 0} (f : A → B) (o : Option A) → option_map f o ≡ None → o ≡ None
-none_mapped f None e = refl
-none_mapped f (Some x) e = absurd (cc e)
-
-member_of_plain : {F : Type 0} (l : Lookup F) → IsPlain (fields_of l) → IsMember l
-member_of_plain l plain =
-    let none : l.flags ≡ None = none_mapped (λ fs. fs.items) l.flags plain.no_flags in record {
-      lengths = record { multiplicities = plain.lengths ∙ length-map l.elements.items (λ tuple. tuple.items); flags = λ x e. absurd (cc (sym none ∙ e)) };
-      no_flags = none;
-    }
-
--- the groups of members hold members
-pub buses_members : {F : Type 0} (ls : List (Lookup F)) (vs : List (Vec (Lookup F) Global)) → map owned_group vs ≡ map (λ g. g.1) (bus_groups (map fields_of ls)) → All IsMember ls → All (λ v. All IsMember v.items) vs
-buses_members {F} ls vs are members =
-    All-from_recursion (λ v. All IsMember v.items) vs (each vs (in_groups IsPlain (map fields_of ls) vs are (plains ls (recursion_from_All IsMember ls members))))
-  where
-    plains : (xs : List (Lookup F)) → AllByRecursion IsMember xs → AllByRecursion IsPlain (map fields_of xs)
-    plains [] h = tt
-    plains (x ∷ xs) h = (plain_of x h.0, plains xs h.1)
-
-    back : (xs : List (Lookup F)) → AllByRecursion (λ l. IsPlain (fields_of l)) xs → AllByRecursion IsMember xs
-    back [] h = tt
-    back (x ∷ xs) h = (member_of_plain x h.0, back xs h.1)
-
-    each : (ws : List (Vec (Lookup F) Global)) → AllByRecursion (λ v. AllByRecursion (λ l. IsPlain (fields_of l)) v.items) ws → AllByRecursion (λ v. All IsMember v.items) ws
-    each [] h = tt
-    each (w ∷ ws) h = (All-from_recursion IsMember w.items (back w.items h.0), each ws h.1)
 
 -- of well formed lookups those that may be joined are plain, on each bus
 pub plain_on : {F : Type 0} (ls : List (Lookup F)) (name : List ℕ) → All HasEqualLengths ls → AllByRecursion IsPlain (on_bus name (additive (map fields_of ls)))

@@ -1,5 +1,5 @@
 -- Trials: lookups with the tuples of another one behind their own.
-use Rattle.std.proofs.Common.{◌≡◌, ◌<◌, ◌≤◌, ◌+◌, inl, inr, ℕ, List, ◌++◌, None, Result, Ok, Err, length, map, take, drop, refl, sym, ap, subst, ◌∙◌, arith, length-append}
+use Rattle.std.proofs.Common.{◌≡◌, ◌<◌, ◌≤◌, ◌+◌, inl, inr, ℕ, List, ◌++◌, None, Some, Result, Ok, Err, length, map, take, drop, refl, sym, ap, subst, ◌∙◌, arith, length-append}
 use Rattle.std.proofs.Math.Seq.{drop-append-add, take-append_seam}
 use Rattle.std.proofs.lemmas.List.{map-append}
 use Rattle.std.specs.declared.alloc.Global.{Global}
@@ -12,7 +12,6 @@ use Rattle.lookup_model.specs.declared.error.LookupError.TheVariants.{CountWeigh
 use Rattle.lookup_model.specs.declared.types.Lookup.{Lookup}
 use Rattle.lookup.specs.Packing.{trial}
 use Rattle.lookup.specs.Trials.{IsMember, IsTrial, IsTrialRefusal, IsTried}
-use Rattle.lookup.specs.declared.packing.trials.Trial.TheVariants.{Apart, Joined}
 
 module _ {A : Type 0} where
   -- two lists one after the other, cut where the second begins
@@ -67,7 +66,7 @@ module _ {F : Type 0} where
 
     -- both in one
     pub joined_both : (n sum : ℕ) → answers (fields_of (with_tuples column elements multiplicities)) (Ok n) → n ≤ most → sum ≡ column.count_weight + next.count_weight → column.count_weight + next.count_weight < weight_bound
-        → IsTried answers most column next (Joined (record (with_tuples column elements multiplicities) { count_weight = sum }))
+        → IsTried answers most column next (record (with_tuples column elements multiplicities) { count_weight = sum }) None
     joined_both n sum answered le sum_is small = (
       member_of (record (with_tuples column elements multiplicities) { count_weight = sum }) as_long first.no_flags,
       (n, answer_is (Ok n) answered, le),
@@ -79,7 +78,7 @@ module _ {F : Type 0} where
     pub set_apart : (n pivot : ℕ) (front : Vec (Vec (SymbolicExpression F) Global) Global) (front_counts : Vec (SymbolicExpression F) Global) (back : Vec (Vec (SymbolicExpression F) Global) Global) (back_counts : Vec (SymbolicExpression F) Global)
         → answers (fields_of (with_tuples column elements multiplicities)) (Ok n) → most < n → pivot ≡ length column.elements.items
         → front.items ≡ take pivot elements.items → back.items ≡ drop pivot elements.items → front_counts.items ≡ take pivot multiplicities.items → back_counts.items ≡ drop pivot multiplicities.items
-        → IsTried answers most column next (Apart (with_tuples column front front_counts) (with_tuples next back back_counts))
+        → IsTried answers most column next (with_tuples column front front_counts) (Some (with_tuples next back back_counts))
     set_apart n pivot front front_counts back back_counts answered lt at taken dropped taken_counts dropped_counts =
         let e1 = front_again column.elements.items next.elements.items front.items elements.items pivot elements_are at taken in
         let e2 = back_again column.elements.items next.elements.items back.items elements.items pivot elements_are at dropped in

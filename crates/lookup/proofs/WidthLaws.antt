@@ -4,7 +4,12 @@ use Rattle.std.proofs.lemmas.Bool.{cases_lt}
 use Rattle.std.proofs.lemmas.Bool.Decides.{Decides-eqb}
 use Rattle.std.proofs.lemmas.List.{append-nil, append_assoc}
 use Rattle.std.proofs.lemmas.Option.{slice_get-get_or, slice_get-map}
-use Rattle.std.specs.List.{AllByRecursion, flat_map}
+use Rattle.std.specs.List.{AllByRecursion, filter, flat_map}
+use Rattle.lookup_model.proofs.Lists.{all_back, all_both, all_front}
+use Rattle.lookup_model.specs.Names.{is_named}
+use Rattle.lookup_model.specs.Outline.{Outline}
+use Rattle.lookup.specs.Buses.{bus_names}
+use Rattle.lookup.specs.BusWidths.{HasOneWidth, HaveBusWidths, bus_widths, widths_of}
 use Rattle.lookup.specs.TupleWidths.{HasOtherWidth}
 
 -- the test of a width that is not this one
@@ -192,3 +197,19 @@ module _ {A : Type 0} (f : A → ℕ) (width : ℕ) (xs : List A) (i : ℕ) (x :
 pub mapped_lengths : {A B : Type 0} (items : A → List B) (xs : List A) → map length (map items xs) ≡ map (λ x. length (items x)) xs
 mapped_lengths items [] = refl
 mapped_lengths items (x ∷ xs) = ap (λ t. length (items x) ∷ t) (mapped_lengths items xs)
+
+-- where all tuples have one width, those on each bus do
+pub all_buses : {E : Type 0} (os : List (Outline E)) → HasOneWidth (flat_map widths_of os) → HaveBusWidths os
+all_buses {E} os (width, all) = each (bus_names os)
+  where
+    on_one : (p : Outline E → Bool) (ps : List (Outline E)) → AllByRecursion (λ w. w ≡ width) (flat_map widths_of ps) → AllByRecursion (λ w. w ≡ width) (flat_map widths_of (filter p ps))
+    on_one p [] h = tt
+    on_one p (o ∷ ps) h = by_test (p o) (all_front (λ w. w ≡ width) (widths_of o) (flat_map widths_of ps) h) (on_one p ps (all_back (λ w. w ≡ width) (widths_of o) (flat_map widths_of ps) h))
+      where
+        by_test : (b : Bool) → AllByRecursion (λ w. w ≡ width) (widths_of o) → AllByRecursion (λ w. w ≡ width) (flat_map widths_of (filter p ps)) → AllByRecursion (λ w. w ≡ width) (flat_map widths_of (cond b (o ∷ filter p ps) (filter p ps)))
+        by_test true here rest = all_both (λ w. w ≡ width) (widths_of o) (flat_map widths_of (filter p ps)) here rest
+        by_test false here rest = rest
+
+    each : (names : List (List ℕ)) → AllByRecursion (λ name. HasOneWidth (bus_widths name os)) names
+    each [] = tt
+    each (name ∷ names) = ((width, on_one (λ o. is_named name o.bus) os all), each names)

@@ -2,9 +2,7 @@
 use Rattle.std.specs.Prelude.{ℕ, List, map}
 use Rattle.std.specs.Borrow.{Bor}
 use Rattle.std.specs.List.{filter, filter_map}
-use Rattle.std.specs.String.{string_bytes}
 use Rattle.std.specs.declared.alloc.Global.{Global}
-use Rattle.std.specs.declared.string.String.{String}
 use Rattle.std.specs.declared.vec.Vec.{Vec}
 use Rattle.expressions.specs.declared.base_expression.SymbolicExpression.{SymbolicExpression}
 use Rattle.lookup_model.specs.Names.{is_named, same_name}
@@ -28,10 +26,3 @@ module _ {E : Type 0} where
 -- what contracts see of a group of borrowed lookups
 abbrev pub group_of : {F : Type 0} → Bor (List ℕ) × Vec (Bor (Lookup F)) Global → List ℕ × List (Outline (SymbolicExpression F))
 group_of e = (e.0.now, map (λ r. fields_of r.now) e.1.items)
-
--- likewise of lookups that are owned, and with their name
-abbrev pub owned_group : {F : Type 0} → Vec (Lookup F) Global → List (Outline (SymbolicExpression F))
-owned_group v = map fields_of v.items
-
-abbrev pub owned_group_of : {F : Type 0} → String Global × Vec (Lookup F) Global → List ℕ × List (Outline (SymbolicExpression F))
-owned_group_of e = (string_bytes e.0, owned_group e.1)

@@ -3,6 +3,7 @@ pub mod Buses
 pub mod Cuts
 pub mod Extraction
 pub mod Fewest
+pub mod Fillings
 pub mod Guards
 pub mod Kept
 pub mod Lookups

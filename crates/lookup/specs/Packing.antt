@@ -76,18 +76,6 @@ module _ {E : Type 0} where
       pub refusal : answers (trial (joined part) next) (Err e)
           ⊎ ((e ≡ CountWeightOverflow) × IsWithinDegree part next × (weight_bound ≤ (joined part).count_weight + next.count_weight))
 
-    -- Columns with those of each bus of a list behind them, each with its greedy cut; and the refusal
-    -- of the first bus of a list whose filling is refused.
-    abbrev pub AreColumnsAdded : List (List (Outline E)) → List (Outline E) → List (Outline E) → Type 0
-    AreColumnsAdded buses before after =
-        (cuts : List (List (Outline E × List (Outline E)))) × AllZip (λ bus cut. IsFilling cut bus) buses cuts × (after ≡ before ++ flat_map (λ cut. map joined cut) cuts)
-
-    abbrev pub IsFirstStuck : List (List (Outline E)) → LookupError → Type 0
-    IsFirstStuck buses e = SplitsAtFault
-        (λ earlier. (cuts : List (List (Outline E × List (Outline E)))) × AllZip (λ b cut. IsFilling cut b) earlier cuts)
-        (λ _ bus. IsStuck bus e)
-        buses
-
     -- each bus has its greedy cut
     abbrev pub AreFilled : List (Outline E) → List (List ℕ) → List (List (Outline E × List (Outline E))) → Type 0
     AreFilled os names cuts = AllZip (λ name cut. IsFilling cut (on_bus name os)) names cuts

@@ -1,5 +1,5 @@
--- One step of a filling: an open column, and the lookup that is tried with it.
-use Rattle.std.specs.Prelude.{◌≡◌, ◌+◌, ◌<◌, ◌≤◌, ◌⊎◌, ℕ, All, List, [], ◌∷◌, ◌++◌, Option, None, Some, MatchOption, Result, Ok, Err, map}
+-- One step of a filling: an open column, and the lookup that is tried in it.
+use Rattle.std.specs.Prelude.{◌≡◌, ◌+◌, ◌<◌, ◌≤◌, ◌⊎◌, ℕ, List, [], ◌∷◌, ◌++◌, Option, None, Some, Result, Ok, Err}
 use Rattle.expressions.specs.declared.base_expression.SymbolicExpression.{SymbolicExpression}
 use Rattle.lookup_model.specs.Outline.{Outline, fields_of}
 use Rattle.lookup_model.specs.Records.{HasEqualLengths}
@@ -10,10 +10,6 @@ use Rattle.lookup_model.specs.declared.types.Lookup.{Lookup}
 use Rattle.lookup.specs.Buses.{on_bus}
 use Rattle.lookup.specs.Cuts.{part_items}
 use Rattle.lookup.specs.Packing.{additive, joined, trial}
-use Rattle.lookup.specs.declared.packing.filling.Column.{Column}
-use Rattle.lookup.specs.declared.packing.filling.Columns.{Columns}
-use Rattle.lookup.specs.declared.packing.trials.Trial.{Trial}
-use Rattle.lookup.specs.declared.packing.trials.Trial.TheVariants.{Apart, Joined}
 
 module _ {F : Type 0} where
   -- what a closure answers to a lookup with these fields
@@ -51,39 +47,23 @@ module _ {F : Type 0} where
     abbrev pub IsHigh : Outline (SymbolicExpression F) → Outline (SymbolicExpression F) → Type 0
     IsHigh a b = (n : ℕ) × answers (trial a b) (Ok n) × (max_degree < n)
 
-    -- two lookups are joined, or they stay as they are
-    abbrev pub IsTried : Lookup F → Lookup F → Trial F → Type 0
-    IsTried a b (Joined c) =
-        IsMember c × IsLow (fields_of a) (fields_of b) × ((fields_of a).count_weight + (fields_of b).count_weight < weight_bound)
-        × (fields_of c ≡ record (trial (fields_of a) (fields_of b)) { count_weight = (fields_of a).count_weight + (fields_of b).count_weight })
-    IsTried a b (Apart c d) =
-        IsMember c × IsMember d × IsHigh (fields_of a) (fields_of b) × (fields_of c ≡ fields_of a) × (fields_of d ≡ fields_of b)
+    -- A column and a lookup after their trial: they are joined, or both stay as they are. If the lookup is
+    -- left, it stays apart.
+    abbrev pub IsTried : Lookup F → Lookup F → Lookup F → Option (Lookup F) → Type 0
+    IsTried a b after None =
+        IsMember after × IsLow (fields_of a) (fields_of b) × ((fields_of a).count_weight + (fields_of b).count_weight < weight_bound)
+        × (fields_of after ≡ record (trial (fields_of a) (fields_of b)) { count_weight = (fields_of a).count_weight + (fields_of b).count_weight })
+    IsTried a b after (Some left) =
+        IsMember after × IsMember left × IsHigh (fields_of a) (fields_of b) × (fields_of after ≡ fields_of a) × (fields_of left ≡ fields_of b)
 
     -- the refusal of a trial: the closure's, or that of a sum of weights that does not fit
     abbrev pub IsTrialRefusal : Outline (SymbolicExpression F) → Outline (SymbolicExpression F) → LookupError → Type 0
     IsTrialRefusal a b e =
         answers (trial a b) (Err e) ⊎ ((e ≡ CountWeightOverflow) × IsLow a b × (weight_bound ≤ a.count_weight + b.count_weight))
 
-    -- Columns with one more lookup: the first one, one that joins the last column, or one behind it.
-    abbrev pub IsStep : List (Outline (SymbolicExpression F)) → Outline (SymbolicExpression F) → List (Outline (SymbolicExpression F)) → Type 0
-    IsStep before next after =
-        ((before ≡ []) × (after ≡ next ∷ []))
-        ⊎ ((front : List (Outline (SymbolicExpression F))) × (last : Outline (SymbolicExpression F)) × (before ≡ front ++ last ∷ [])
-        × ((IsLow last next × (last.count_weight + next.count_weight < weight_bound)
+    -- Columns of which the last one is open, with one more lookup: in the open one, or in one behind it.
+    abbrev pub IsStep : List (Outline (SymbolicExpression F)) → Outline (SymbolicExpression F) → Outline (SymbolicExpression F) → List (Outline (SymbolicExpression F)) → Type 0
+    IsStep front last next after =
+        (IsLow last next × (last.count_weight + next.count_weight < weight_bound)
         × (after ≡ front ++ record (trial last next) { count_weight = last.count_weight + next.count_weight } ∷ []))
-        ⊎ (IsHigh last next × (after ≡ before ++ next ∷ []))))
-
-module _ {F K : Type 0} where
-  -- the open column, if there is one
-  abbrev pub open_column : Option (Column F K) → List (Outline (SymbolicExpression F))
-  open_column None = []
-  open_column (Some column) = fields_of column.lookup ∷ []
-
-  -- the columns of a bus while they are filled, those that are closed and then the open one
-  abbrev pub columns_of : Columns F K → List (Outline (SymbolicExpression F))
-  columns_of columns = map fields_of columns.closed.items ++ open_column columns.last
-
-  -- they hold lookups that may be joined; without an open one none is closed; something is kept of that one
-  pub record IsColumns (keeps : K → Outline (SymbolicExpression F) → Type 0) (columns : Columns F K) : Type 0 where
-    pub closed : All IsMember columns.closed.items
-    pub last : MatchOption columns.last (columns.closed.items ≡ []) (λ column. IsMember column.lookup × keeps column.kept (fields_of column.lookup))
+        ⊎ (IsHigh last next × (after ≡ (front ++ last ∷ []) ++ next ∷ []))

@@ -1,5 +1,5 @@
 //! One width for all tuples of a bus.
-ghost use Rattle.std.specs.Prelude.{◌≡◌, ◌<◌, ◌⊎◌, Some, MatchOption, MatchResult, find, length, map, nat_eq, not, slice_get};
+ghost use Rattle.std.specs.Prelude.{◌≡◌, ◌<◌, ◌⊎◌, Some, MatchOption, MatchResult, find, length, map, nat_eq, not, slice_get, true};
 ghost use Rattle.std.specs.List.{flat_map};
 ghost use Rattle.indexmap.specs.IndexMap.{index_map_len};
 ghost use Rattle.lookup_model.specs.Outline.{fields_of};
@@ -14,7 +14,7 @@ use lookup_model::{Lookup, LookupError};
 use std::alloc::Global;
 
 /// Compares the widths of all tuples on each bus, those of groups too, in the order in which the
-/// buses are first seen.
+/// buses are first seen. Where all lookups have one width, no bus is looked for.
 ///
 /// Refuses `TupleWidths` with the context `bus "NAME"` at the first bus with two widths: its first
 /// width, and the first other one.
@@ -26,12 +26,35 @@ pub(crate) fn assert_bus_widths<F: Field>(
         (λ _. HaveBusWidths (map fields_of lookups.now))
         (λ e. (e ≡ LookupError.Memory) ⊎ IsWidthRefusal (map fields_of lookups.now) e) }
 {
+    if have_one_width(lookups) {
+        return Ok(());
+    }
     let buses = by_bus(alloc, lookups)?;
     for index in 0..buses.len() {
         let (name, members) = bus_at(&buses, index);
         assert_bus_width(alloc, name, members)?;
     }
     Ok(())
+}
+
+/// Whether all tuples have the width of the first one, whatever their buses.
+fn have_one_width<F: Field>(lookups: &[Lookup<F>]) -> bool
+    ensures { result ≡ true → HasOneWidth (flat_map widths_of (map fields_of lookups.now)) }
+{
+    let Some(first) = lookups.first() else {
+        return false;
+    };
+    let Some(tuple) = first.elements.first() else {
+        return false;
+    };
+    let width = tuple.len();
+    for lookup in lookups {
+        match other_width(&lookup.elements, width) {
+            Some(_) => return false,
+            None => {}
+        }
+    }
+    true
 }
 
 /// The name and the lookups of the bus at an index.

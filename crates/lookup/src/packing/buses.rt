@@ -1,10 +1,9 @@
 //! Groups of lookups by bus.
-ghost use Rattle.std.specs.Prelude.{◌≡◌, ◌++◌, [], ◌∷◌, List, IfOk, OnOk, map, None, Some, option_map};
+ghost use Rattle.std.specs.Prelude.{◌≡◌, ◌++◌, [], ◌∷◌, IfOk, OnOk, map, option_map};
 ghost use Rattle.std.specs.Option.{option_map_or};
 ghost use Rattle.indexmap.specs.IndexMap.{get, insert_entry, values};
-ghost use Rattle.expressions.specs.declared.base_expression.SymbolicExpression.{SymbolicExpression};
-ghost use Rattle.lookup_model.specs.Outline.{Outline, bus_of, fields_of};
-ghost use Rattle.lookup.specs.Buses.{bus_groups, group_of, owned_group, owned_group_of};
+ghost use Rattle.lookup_model.specs.Outline.{bus_of, fields_of};
+ghost use Rattle.lookup.specs.Buses.{bus_groups, group_of};
 
 use field::Field;
 use indexmap::IndexMap;
@@ -33,21 +32,8 @@ pub fn by_bus<'a, F: Field>(
     Ok(buses)
 }
 
-/// The groups of lookups that are moved into them, without their names.
-pub(crate) fn moved_by_bus<F: Field>(
-    alloc: Global,
-    lookups: Vec<Lookup<F>>,
-) -> Result<Vec<Vec<Lookup<F>>>, AllocError>
-    ensures { IfOk result (λ buses. map owned_group buses.items
-        ≡ map (λ g. g.1) (bus_groups (map fields_of lookups.items))) }
-{
-    let buses = moved_under_names(alloc, lookups)?;
-    let groups = values_of(alloc, buses)?;
-    Ok(groups)
-}
-
 /// The values of a map, in their order.
-fn values_of<K: Eq + Hash + Drop, V: Drop>(
+pub(crate) fn values_of<K: Eq + Hash + Drop, V: Drop>(
     alloc: Global,
     map: IndexMap<K, V>,
 ) -> Result<Vec<V>, AllocError>
@@ -56,52 +42,8 @@ fn values_of<K: Eq + Hash + Drop, V: Drop>(
     map.into_values().collect(alloc)
 }
 
-/// Likewise with their names.
-fn moved_under_names<F: Field>(
-    alloc: Global,
-    lookups: Vec<Lookup<F>>,
-) -> Result<IndexMap<String, Vec<Lookup<F>>>, AllocError>
-    ensures { IfOk result (λ buses. map owned_group_of buses.entries
-        ≡ bus_groups (map fields_of lookups.items)) }
-{
-    let mut buses = IndexMap::new(alloc);
-    for lookup in lookups {
-        push_under_name(alloc, &mut buses, lookup)?;
-    }
-    Ok(buses)
-}
-
-/// Moves a lookup to the end of the group of its bus. The group of a new bus goes last, under a copy of
-/// the name. A local lookup is dropped.
-fn push_under_name<F: Field>(
-    alloc: Global,
-    groups: &mut IndexMap<String, Vec<Lookup<F>>>,
-    lookup: Lookup<F>,
-) -> Result<(), AllocError>
-    ensures { (before : List (Outline (SymbolicExpression F)))
-        → map owned_group_of groups.old.entries ≡ bus_groups before
-        → OnOk result (map owned_group_of groups.new.entries
-        ≡ bus_groups (before ++ fields_of lookup ∷ [])) }
-{
-    let Some(name) = bus_name(&lookup) else {
-        return Ok(());
-    };
-    match groups.get_index_of(name) {
-        Some(index) => {
-            groups[index].push(lookup)?;
-            Ok(())
-        }
-        None => {
-            let name = String::from_str(alloc, name)?;
-            let group = Vec::from_array(alloc, [lookup])?;
-            groups.insert(name, group)?;
-            Ok(())
-        }
-    }
-}
-
 /// The name of the bus of a lookup, if there is one.
-fn bus_name<F: Field>(lookup: &Lookup<F>) -> Option<&str>
+pub(crate) fn bus_name<F: Field>(lookup: &Lookup<F>) -> Option<&str>
     ensures { option_map (λ name. name.now) result ≡ bus_of lookup.now.kind }
 {
     match &lookup.kind {

@@ -1,101 +1,131 @@
 //! Filling the columns of one bus.
-ghost use Rattle.std.specs.Prelude.{◌≡◌, ◌⊎◌, ◌∷◌, ◌++◌, [], All, MatchResult, map};
-ghost use Rattle.lookup_model.specs.Outline.{fields_of};
-ghost use Rattle.lookup.specs.Packing.{IsFilling, IsStuck, joined};
-ghost use Rattle.lookup.specs.Trials.{IsColumns, IsMember, IsStep, IsTrial, IsTrialAmong, IsTrialRefusal, columns_of};
+ghost use Rattle.std.specs.Prelude.{◌≡◌, ◌⊎◌, ◌∷◌, ◌++◌, [], List, MatchResult, None, Some, ℕ, map};
+ghost use Rattle.expressions.specs.declared.base_expression.SymbolicExpression.{SymbolicExpression};
+ghost use Rattle.lookup_model.specs.Outline.{Outline, fields_of};
+ghost use Rattle.lookup.specs.Fillings.{IsFilled, IsOpen, columns_of};
+ghost use Rattle.lookup.specs.Trials.{IsMember, IsStep, IsTrial, IsTrialAmong, IsTrialRefusal};
 
 use crate::packing::degrees::TrialDegrees;
-use crate::packing::trials::{Trial, try_together};
+use crate::packing::trials::try_together;
 use field::Field;
 use lookup_model::{Lookup, LookupError};
 use std::alloc::Global;
+use std::mem::replace;
 
-/// An open column, with what is kept of it.
+/// A bus while it is filled: its closed columns, and the last one, which is open, with what is kept of
+/// it. Once a lookup is refused, the refusal.
 #[derive(Drop)]
-struct Column<F, K> {
-    lookup: Lookup<F>,
-    kept: K,
-}
-
-/// The columns of a bus while they are filled: those that are closed, and the last one, which is open.
-#[derive(Drop)]
-struct Columns<F, K> {
+pub(crate) struct Bus<F, K> {
     closed: Vec<Lookup<F>>,
-    last: Option<Column<F, K>>,
+    last: Lookup<F>,
+    kept: K,
+    refusal: Option<LookupError>,
 }
 
-/// The columns of the lookups of one bus: each lookup joins the open column, the last one, if the
-/// trial allows it, and opens a new one otherwise.
-///
-/// Refuses the first trial that is refused.
-pub(crate) fn fill_columns<F: Field, T: TrialDegrees<F>>(
+/// A bus with its first lookup, which opens a column.
+pub(crate) fn open_bus<F: Field, T: TrialDegrees<F>>(
     alloc: Global,
-    members: Vec<Lookup<F>>,
-    max_degree: usize,
+    first: Lookup<F>,
     degrees: &T,
-) -> Result<Vec<Lookup<F>>, LookupError>
-    requires callable { (lookup : _) → IsTrialAmong (map fields_of members.items) lookup
-        → T.may_ask degrees.now lookup }
-    requires members { All IsMember members.items }
-    ensures { MatchResult result
-        (λ columns. All IsMember columns.items
-        × ((cut : _) × IsFilling (T.answers degrees.now) max_degree cut
-        (map fields_of members.items) × (map fields_of columns.items ≡ map joined cut)))
-        (λ e. (e ≡ LookupError.Memory)
-        ⊎ IsStuck (T.answers degrees.now) max_degree (map fields_of members.items) e) }
+) -> Bus<F, T::Kept>
+    requires { IsMember first }
+    ensures { (max_degree : ℕ) → IsFilled (T.keeps degrees.now) (T.answers degrees.now) max_degree
+        (fields_of first ∷ []) result }
 {
-    let mut columns = Columns {
+    let kept = degrees.keep(&first);
+    Bus {
         closed: Vec::new(alloc),
-        last: None,
-    };
-    for next in members {
-        columns = with_next(columns, next, max_degree, degrees)?;
+        last: first,
+        kept,
+        refusal: None,
     }
-    match columns.last.take() {
-        None => {}
-        Some(open) => columns.closed.push(open.lookup)?,
-    }
-    Ok(columns.closed)
 }
 
-/// These columns with one more lookup: in the open one, or in a new one.
-fn with_next<F: Field, T: TrialDegrees<F>>(
-    columns: Columns<F, T::Kept>,
+/// Takes the next lookup of a bus: it joins the open column if the trial allows it, and opens a new one
+/// otherwise. If that is refused, the bus keeps the refusal, and later lookups are dropped.
+pub(crate) fn push_on<F: Field, T: TrialDegrees<F>>(
+    bus: &mut Bus<F, T::Kept>,
     next: Lookup<F>,
     max_degree: usize,
     degrees: &T,
-) -> Result<Columns<F, T::Kept>, LookupError>
-    requires callable { (front : _) (last : _) (lookup : _)
-        → columns_of columns ≡ front ++ last ∷ []
-        → IsTrial last (fields_of next) lookup → T.may_ask degrees.now lookup }
-    requires columns { IsColumns (T.keeps degrees.now) columns }
+)
+    requires members { (members : List (Outline (SymbolicExpression F)))
+        × IsFilled (T.keeps degrees.now) (T.answers degrees.now) max_degree members bus.old
+        × ((lookup : _) → IsTrialAmong (members ++ fields_of next ∷ []) lookup
+        → T.may_ask degrees.now lookup) }
+    requires next { IsMember next }
+    ensures { (members : List (Outline (SymbolicExpression F)))
+        → IsFilled (T.keeps degrees.now) (T.answers degrees.now) max_degree members bus.old
+        → IsFilled (T.keeps degrees.now) (T.answers degrees.now) max_degree
+        (members ++ fields_of next ∷ []) bus.new }
+{
+    if bus.refusal.is_some() {
+        return;
+    }
+    match push_next(bus, next, max_degree, degrees) {
+        Ok(()) => {}
+        Err(refusal) => bus.refusal = Some(refusal),
+    }
+}
+
+/// Likewise of a bus that is not refused so far.
+///
+/// Refuses what the trial is refused for.
+fn push_next<F: Field, T: TrialDegrees<F>>(
+    bus: &mut Bus<F, T::Kept>,
+    next: Lookup<F>,
+    max_degree: usize,
+    degrees: &T,
+) -> Result<(), LookupError>
+    requires callable { (lookup : _) → IsTrial (fields_of bus.old.last) (fields_of next) lookup
+        → T.may_ask degrees.now lookup }
+    requires open { IsOpen (T.keeps degrees.now) bus.old }
     requires next { IsMember next }
     ensures { MatchResult result
-        (λ after. IsColumns (T.keeps degrees.now) after
-        × IsStep (T.answers degrees.now) max_degree (columns_of columns) (fields_of next)
-        (columns_of after))
+        (λ _. IsOpen (T.keeps degrees.now) bus.new × (bus.new.refusal ≡ bus.old.refusal)
+        × IsStep (T.answers degrees.now) max_degree (map fields_of bus.old.closed.items)
+        (fields_of bus.old.last) (fields_of next) (columns_of bus.new))
         (λ e. (e ≡ LookupError.Memory)
-        ⊎ ((front : _) × (last : _) × (columns_of columns ≡ front ++ last ∷ [])
-        × IsTrialRefusal (T.answers degrees.now) max_degree last (fields_of next) e)) }
+        ⊎ IsTrialRefusal (T.answers degrees.now) max_degree (fields_of bus.old.last)
+        (fields_of next) e) }
 {
-    let mut columns = columns;
     let kept = degrees.keep(&next);
-    let last = match columns.last.take() {
-        None => Column { lookup: next, kept },
-        Some(open) => {
-            let kept_both = degrees.keep_trial(open.kept, kept);
-            match try_together(open.lookup, next, kept_both, max_degree, degrees)? {
-                Trial::Joined(both) => Column {
-                    lookup: both,
-                    kept: kept_both,
-                },
-                Trial::Apart(open, next) => {
-                    columns.closed.push(open)?;
-                    Column { lookup: next, kept }
-                }
-            }
+    let kept_both = degrees.keep_trial(bus.kept, kept);
+    match try_together(&mut bus.last, next, kept_both, max_degree, degrees)? {
+        None => bus.kept = kept_both,
+        Some(next) => {
+            let full = replace(&mut bus.last, next);
+            bus.closed.push(full)?;
+            bus.kept = kept;
         }
-    };
-    columns.last = Some(last);
-    Ok(columns)
+    }
+    Ok(())
+}
+
+/// Puts the columns of a bus behind these.
+///
+/// Refuses what the bus is refused for.
+pub(crate) fn append_columns<F: Field, K: Copy>(
+    columns: &mut Vec<Lookup<F>>,
+    bus: Bus<F, K>,
+) -> Result<(), LookupError>
+    ensures { MatchResult result
+        (λ _. (bus.refusal ≡ None)
+        × (columns.new.items ≡ columns.old.items ++ bus.closed.items ++ bus.last ∷ []))
+        (λ e. (e ≡ LookupError.Memory) ⊎ (bus.refusal ≡ Some e)) }
+{
+    let Bus {
+        closed,
+        last,
+        refusal,
+        ..
+    } = bus;
+    match refusal {
+        Some(refusal) => return Err(refusal),
+        None => {}
+    }
+    let mut closed = closed;
+    columns.append(&mut closed)?;
+    columns.push(last)?;
+    Ok(())
 }

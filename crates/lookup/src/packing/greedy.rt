@@ -1,19 +1,23 @@
 //! Packing a list of lookups.
-ghost use Rattle.std.specs.Prelude.{◌≡◌, ◌⊎◌, ◌++◌, ◌∷◌, All, IfOk, MatchResult, map};
+ghost use Rattle.std.specs.Prelude.{◌≡◌, ◌++◌, ◌∷◌, [], All, IfOk, List, OnOk, ℕ, map};
 ghost use Rattle.std.specs.Fn.{FnReturnsAt};
-ghost use Rattle.lookup_model.specs.Outline.{fields_of};
+ghost use Rattle.std.specs.List.{AllZip};
+ghost use Rattle.expressions.specs.declared.base_expression.SymbolicExpression.{SymbolicExpression};
+ghost use Rattle.lookup_model.specs.Outline.{Outline, fields_of};
 ghost use Rattle.lookup_model.specs.Records.{AreRecords, HasEqualLengths};
-ghost use Rattle.lookup.specs.Buses.{owned_group};
+ghost use Rattle.lookup.specs.Buses.{bus_groups, on_bus};
 ghost use Rattle.lookup.specs.Fewest.{AnswersDegree};
+ghost use Rattle.lookup.specs.Fillings.{AreFilledBuses, IsFilled};
 ghost use Rattle.lookup.specs.Kept.{KeepsSent};
-ghost use Rattle.lookup.specs.Packing.{AreColumnsAdded, IsFirstStuck, Packs, additive, is_additive, numbered, passing};
+ghost use Rattle.lookup.specs.Packing.{Packs, additive, is_additive, numbered, passing};
 ghost use Rattle.lookup.specs.Trials.{AnswersTrial, IsBusTrial, IsMember, IsTrialAmong};
 
 use crate::packing::bus_widths::assert_bus_widths;
-use crate::packing::buses::moved_by_bus;
+use crate::packing::buses::{bus_name, values_of};
 use crate::packing::degrees::{Asked, GadgetDegrees, TrialDegrees};
-use crate::packing::filling::fill_columns;
+use crate::packing::filling::{Bus, append_columns, open_bus, push_on};
 use field::Field;
+use indexmap::IndexMap;
 use lookup_model::{Kind, Lookup, LookupError};
 use std::alloc::{AllocError, Global};
 
@@ -23,7 +27,8 @@ use std::alloc::{AllocError, Global};
 /// buses in the order in which they are first seen. On each bus a lookup joins the open column if
 /// the degree of the trial is at most `max_degree`, and opens a new column otherwise. The trial has
 /// the tuples of both, and the weight and the old column number of the open column. The closure is
-/// asked about trials alone. Weights of joined lookups add, and the columns are numbered from 0.
+/// asked about trials alone, lookup by lookup, and of a bus about none behind one that is refused.
+/// Weights of joined lookups add, and the columns are numbered from 0.
 ///
 /// On every row the packed lookups send the messages of those before, if a column has the id that
 /// its lookups had. So the keys stay, each with its net, and so does the weight of all lookups.
@@ -88,33 +93,76 @@ fn pack_by<F: Field, T: TrialDegrees<F>>(
     ensures kept { IfOk result (λ v. KeepsSent F.ring F.eq lookups.items v.items) }
 {
     assert_bus_widths(alloc, &lookups)?;
-    let (columns, additive) = split_joinable(alloc, lookups)?;
-    let buses = moved_by_bus(alloc, additive)?;
-    let columns = with_buses(alloc, columns, buses, max_degree, degrees)?;
-    Ok(in_columns(alloc, columns)?)
+    let (columns, buses) = fill_buses(alloc, lookups, max_degree, degrees)?;
+    let mut columns = columns;
+    for bus in buses {
+        append_columns(&mut columns, bus)?;
+    }
+    Ok(in_columns(columns))
 }
 
-/// The lookups that pass through, and those that may be joined.
-fn split_joinable<F: Field>(
+/// The lookups that pass through, and the buses of the others, each filled.
+fn fill_buses<F: Field, T: TrialDegrees<F>>(
     alloc: Global,
     lookups: Vec<Lookup<F>>,
-) -> Result<(Vec<Lookup<F>>, Vec<Lookup<F>>), AllocError>
-    requires { All HasEqualLengths lookups.items }
+    max_degree: usize,
+    degrees: &T,
+) -> Result<(Vec<Lookup<F>>, Vec<Bus<F, T::Kept>>), AllocError>
+    requires callable { (lookup : _) → IsBusTrial (map fields_of lookups.items) lookup
+        → T.may_ask degrees.now lookup }
+    requires lengths { All HasEqualLengths lookups.items }
     ensures { IfOk result (λ r. (map fields_of r.0.items ≡ passing (map fields_of lookups.items))
         × All HasEqualLengths r.0.items
-        × (map fields_of r.1.items ≡ additive (map fields_of lookups.items))
-        × All IsMember r.1.items) }
+        × AllZip (IsFilled (T.keeps degrees.now) (T.answers degrees.now) max_degree)
+        (map (λ g. g.1) (bus_groups (additive (map fields_of lookups.items)))) r.1.items) }
 {
     let mut columns = Vec::new(alloc);
-    let mut additive = Vec::with_capacity(alloc, lookups.len())?;
+    let mut buses = IndexMap::new(alloc);
     for lookup in lookups {
         if may_be_joined(&lookup) {
-            additive.push(lookup)?;
+            push_on_bus(alloc, &mut buses, lookup, max_degree, degrees)?;
         } else {
             columns.push(lookup)?;
         }
     }
-    Ok((columns, additive))
+    let buses = values_of(alloc, buses)?;
+    Ok((columns, buses))
+}
+
+/// Takes the next lookup of a bus. A new bus goes last, under a copy of its name. A local lookup is
+/// dropped.
+fn push_on_bus<F: Field, T: TrialDegrees<F>>(
+    alloc: Global,
+    buses: &mut IndexMap<String, Bus<F, T::Kept>>,
+    next: Lookup<F>,
+    max_degree: usize,
+    degrees: &T,
+) -> Result<(), AllocError>
+    requires seen { (seen : List (Outline (SymbolicExpression F)))
+        × AreFilledBuses (T.keeps degrees.now) (T.answers degrees.now) max_degree seen
+        buses.old.entries
+        × ((name : List ℕ) (lookup : Lookup F)
+        → IsTrialAmong (on_bus name (seen ++ fields_of next ∷ [])) lookup
+        → T.may_ask degrees.now lookup) }
+    requires next { IsMember next }
+    ensures { (seen : List (Outline (SymbolicExpression F)))
+        → AreFilledBuses (T.keeps degrees.now) (T.answers degrees.now) max_degree seen
+        buses.old.entries
+        → OnOk result (AreFilledBuses (T.keeps degrees.now) (T.answers degrees.now) max_degree
+        (seen ++ fields_of next ∷ []) buses.new.entries) }
+{
+    let Some(name) = bus_name(&next) else {
+        return Ok(());
+    };
+    match buses.get_index_of(name) {
+        Some(index) => push_on(&mut buses[index], next, max_degree, degrees),
+        None => {
+            let name = String::from_str(alloc, name)?;
+            let bus = open_bus(alloc, next, degrees);
+            buses.insert(name, bus)?;
+        }
+    }
+    Ok(())
 }
 
 /// Whether a lookup is sent on a bus and has no flags.
@@ -127,53 +175,15 @@ fn may_be_joined<F: Field>(lookup: &Lookup<F>) -> bool
     }
 }
 
-/// These columns, and behind them those of each bus in turn.
-///
-/// Refuses at the first trial that is refused.
-fn with_buses<F: Field, T: TrialDegrees<F>>(
-    alloc: Global,
-    columns: Vec<Lookup<F>>,
-    buses: Vec<Vec<Lookup<F>>>,
-    max_degree: usize,
-    degrees: &T,
-) -> Result<Vec<Lookup<F>>, LookupError>
-    requires callable { (earlier : _) (bus : _) (later : _) (lookup : _)
-        → map owned_group buses.items ≡ earlier ++ bus ∷ later → IsTrialAmong bus lookup
-        → T.may_ask degrees.now lookup }
-    requires columns { All HasEqualLengths columns.items }
-    requires buses { All (λ bus. All IsMember bus.items) buses.items }
-    ensures { MatchResult result
-        (λ after. All HasEqualLengths after.items
-        × AreColumnsAdded (T.answers degrees.now) max_degree
-        (map owned_group buses.items) (map fields_of columns.items) (map fields_of after.items))
-        (λ e. (e ≡ LookupError.Memory)
-        ⊎ IsFirstStuck (T.answers degrees.now) max_degree
-        (map owned_group buses.items) e) }
-{
-    let mut columns = columns;
-    for members in buses {
-        let mut filled = fill_columns(alloc, members, max_degree, degrees)?;
-        columns.append(&mut filled)?;
-    }
-    Ok(columns)
-}
-
 /// The lookups in the columns 0, 1, 2, …
-fn in_columns<F: Field>(
-    alloc: Global,
-    lookups: Vec<Lookup<F>>,
-) -> Result<Vec<Lookup<F>>, AllocError>
+fn in_columns<F: Field>(lookups: Vec<Lookup<F>>) -> Vec<Lookup<F>>
     requires { All HasEqualLengths lookups.items }
-    ensures fields { IfOk result (λ v. map fields_of v.items
-        ≡ numbered (map fields_of lookups.items)) }
-    ensures records { IfOk result (λ v. AreRecords v.items) }
+    ensures fields { map fields_of result.items ≡ numbered (map fields_of lookups.items) }
+    ensures records { AreRecords result.items }
 {
-    let mut columns = Vec::with_capacity(alloc, lookups.len())?;
-    for next in lookups {
-        let mut lookup = next;
-        let column = columns.len();
-        lookup.column = column;
-        columns.push(lookup)?;
+    let mut lookups = lookups;
+    for column in 0..lookups.len() {
+        lookups[column].column = column;
     }
-    Ok(columns)
+    lookups
 }

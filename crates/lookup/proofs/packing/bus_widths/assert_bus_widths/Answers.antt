@@ -8,6 +8,7 @@ use Rattle.lookup.specs.Buses.{bus_names, group_of, on_bus}
 use Rattle.lookup.specs.BusWidths.{HasOneWidth, bus_widths, widths_of}
 use Rattle.lookup.specs.TupleWidths.{HasOtherWidth}
 use Rattle.lookup.proofs.PackLaws.{at_index, bus_here}
+use Rattle.lookup.proofs.WidthLaws.{all_buses}
 use Rattle.lookup_model.proofs.Lists.{all_both}
 use Rattle.lookup.proofs.packing.bus_widths.assert_bus_widths.Goals as goal
 
@@ -48,3 +49,6 @@ returns g c =
     let os = map fields_of c.args.lookups.now in
     let long : length (bus_names os) ≡ length c.in_ok-buses.buses.entries = sym (length-map {B = List ℕ × List (Outline (SymbolicExpression g.row.F.Denot))} (bus_names os) (λ name. (name, on_bus name os))) ∙ sym (ap length c.in_ok-buses.ensures) ∙ length-map c.in_ok-buses.buses.entries group_of in
     subst (λ (t : List (List ℕ)). AllByRecursion (λ name. HasOneWidth (bus_widths name (map fields_of c.args.lookups.now))) t) (take_all c.loop-index.index (bus_names os) (omega (arith, long, c.loop-index-test.false, c.len-index-end.ensures.len))) c.loop-index.invariant
+
+pub returns-then-have_one_width : goal.returns-then-have_one_width
+returns-then-have_one_width g c = all_buses (map fields_of c.args.lookups.now) (c.have_one_width.ensures c.if-have_one_width.true)

@@ -1,31 +1,26 @@
-use Rattle.std.proofs.Common.{◌≡◌, ◌<◌, ◌≤◌, ◌+◌, inl, inr, refl, sym, subst, length, arith}
+use Rattle.std.proofs.Common.{◌≡◌, ◌<◌, ◌+◌, inl, inr, refl, sym, subst, length, arith}
 use Rattle.std.proofs.lemmas.Result.{err_from_is_err_and}
 use Rattle.expressions.specs.declared.base_expression.SymbolicExpression.{SymbolicExpression}
 use Rattle.lookup_model.specs.Outline.{Outline}
 use Rattle.lookup_model.specs.Weight.{weight_bound}
-use Rattle.lookup.proofs.TrialLaws.{asked, joined_both, overflown, refused, set_apart, trial_is, trial_member}
+use Rattle.lookup.proofs.TrialLaws.{asked, joined_both, refused, set_apart, trial_is, trial_member}
 use Rattle.lookup.proofs.packing.trials.try_together.Goals as goal
 
 pub returns-in_err-answer : goal.returns-in_err-answer
 returns-in_err-answer g c =
     let p = err_from_is_err_and c.from_residual-in_err-answer.result c.from_residual-in_err-answer.ensures.1 in
-    rw (p.1, p.2) (inr (refused (g.T.TrialDegrees.answers c.args.degrees.now) c.args.max_degree c.args.column c.args.next c.requires.column c.requires.next c.append.new.self c.append-2.new.self c.in_ok-append.ensures.items c.in_ok-append-2.ensures.items c.in_err-answer.field-0.0 c.in_err-answer.ensures))
+    rw (p.1, p.2) (inr (refused (g.T.TrialDegrees.answers c.args.degrees.now) c.args.max_degree c.args.column.now c.args.next c.requires.column c.requires.next c.append.new.self c.append-2.new.self c.in_ok-append.ensures.items c.in_ok-append-2.ensures.items c.in_err-answer.field-0.0 c.in_err-answer.ensures))
 
 pub returns-in-Some : goal.returns-in-Some
 returns-in-Some g c =
-    let sum : c.in-Some.sum ≡ c.args.column.count_weight + c.args.next.count_weight = omega (arith, c.in-Some.ensures) in
-    let small : c.args.column.count_weight + c.args.next.count_weight < weight_bound = omega (arith, c.in-Some.ensures) in
-    joined_both (g.T.TrialDegrees.answers c.args.degrees.now) c.args.max_degree c.args.column c.args.next c.requires.column c.requires.next c.append.new.self c.append-2.new.self c.in_ok-append.ensures.items c.in_ok-append-2.ensures.items c.in_ok-answer.answer c.in-Some.sum c.in_ok-answer.ensures (omega (arith, c.if-answer-max_degree.true)) sum small
+    let sum : c.in-Some.sum ≡ c.args.column.now.count_weight + c.args.next.count_weight = omega (arith, c.in-Some.ensures) in
+    let small : c.args.column.now.count_weight + c.args.next.count_weight < weight_bound = omega (arith, c.in-Some.ensures) in
+    joined_both (g.T.TrialDegrees.answers c.args.degrees.now) c.args.max_degree c.args.column.now c.args.next c.requires.column c.requires.next c.append.new.self c.append-2.new.self c.in_ok-append.ensures.items c.in_ok-append-2.ensures.items c.in_ok-answer.answer c.in-Some.sum c.in_ok-answer.ensures (omega (arith, c.if-answer-max_degree.true)) sum small
 
-pub returns-in-None : goal.returns-in-None
-returns-in-None g c =
-    let wide : weight_bound ≤ c.args.column.count_weight + c.args.next.count_weight = omega (arith, c.in-None.ensures) in
-    inr (overflown (g.T.TrialDegrees.answers c.args.degrees.now) c.args.max_degree c.args.column c.args.next c.requires.column c.requires.next c.append.new.self c.append-2.new.self c.in_ok-append.ensures.items c.in_ok-append-2.ensures.items c.in_ok-answer.answer c.in_ok-answer.ensures (omega (arith, c.if-answer-max_degree.true)) wide)
-
-pub returns-in_ok-next-2 : goal.returns-in_ok-next-2
-returns-in_ok-next-2 g c =
-    let at : c.len-pivot.result ≡ length c.args.column.elements.items = omega (arith, c.len-pivot.ensures, c.args.column.elements.ok.0) in
-    set_apart (g.T.TrialDegrees.answers c.args.degrees.now) c.args.max_degree c.args.column c.args.next c.requires.column c.requires.next c.append.new.self c.append-2.new.self c.in_ok-append.ensures.items c.in_ok-append-2.ensures.items c.in_ok-answer.answer c.len-pivot.result
+pub returns : goal.returns
+returns g c =
+    let at : c.len-pivot.result ≡ length c.args.column.now.elements.items = omega (arith, c.len-pivot.ensures, c.args.column.now.elements.ok.0) in
+    set_apart (g.T.TrialDegrees.answers c.args.degrees.now) c.args.max_degree c.args.column.now c.args.next c.requires.column c.requires.next c.append.new.self c.append-2.new.self c.in_ok-append.ensures.items c.in_ok-append-2.ensures.items c.in_ok-answer.answer c.len-pivot.result
     c.split_off.new.self c.split_off-else-answer-max_degree.new.self c.in_ok-next.field-0 c.in_ok-next-2.field-0 c.in_ok-answer.ensures (omega (arith, c.if-answer-max_degree.false)) at
     c.in_ok-next.ensures.items c.in_ok-next.ensures.tail c.in_ok-next-2.ensures.items c.in_ok-next-2.ensures.tail
 
@@ -50,11 +45,11 @@ returns-in_err-next-2 g c =
     rw (p.1, p.2) (inl refl)
 
 pub degree-requires-clause-asked : goal.degree-requires-clause-asked
-degree-requires-clause-asked g c = c.requires.callable _ (asked (g.T.TrialDegrees.answers c.args.degrees.now) c.args.max_degree c.args.column c.args.next c.requires.column c.requires.next c.append.new.self c.append-2.new.self c.in_ok-append.ensures.items c.in_ok-append-2.ensures.items)
+degree-requires-clause-asked g c = c.requires.callable _ (asked (g.T.TrialDegrees.answers c.args.degrees.now) c.args.max_degree c.args.column.now c.args.next c.requires.column c.requires.next c.append.new.self c.append-2.new.self c.in_ok-append.ensures.items c.in_ok-append-2.ensures.items)
 
 pub degree-requires-clause-member : goal.degree-requires-clause-member
-degree-requires-clause-member g c = trial_member (g.T.TrialDegrees.answers c.args.degrees.now) c.args.max_degree c.args.column c.args.next c.requires.column c.requires.next c.append.new.self c.append-2.new.self c.in_ok-append.ensures.items c.in_ok-append-2.ensures.items
+degree-requires-clause-member g c = trial_member (g.T.TrialDegrees.answers c.args.degrees.now) c.args.max_degree c.args.column.now c.args.next c.requires.column c.requires.next c.append.new.self c.append-2.new.self c.in_ok-append.ensures.items c.in_ok-append-2.ensures.items
 
 pub degree-requires-clause-kept : goal.degree-requires-clause-kept
 degree-requires-clause-kept g c =
-    subst (λ (o : Outline (SymbolicExpression g.row.F.Denot)). g.T.TrialDegrees.keeps c.args.degrees.now c.args.kept o) (sym (trial_is (g.T.TrialDegrees.answers c.args.degrees.now) c.args.max_degree c.args.column c.args.next c.requires.column c.requires.next c.append.new.self c.append-2.new.self c.in_ok-append.ensures.items c.in_ok-append-2.ensures.items)) c.requires.kept
+    subst (λ (o : Outline (SymbolicExpression g.row.F.Denot)). g.T.TrialDegrees.keeps c.args.degrees.now c.args.kept o) (sym (trial_is (g.T.TrialDegrees.answers c.args.degrees.now) c.args.max_degree c.args.column.now c.args.next c.requires.column c.requires.next c.append.new.self c.append-2.new.self c.in_ok-append.ensures.items c.in_ok-append-2.ensures.items)) c.requires.kept
