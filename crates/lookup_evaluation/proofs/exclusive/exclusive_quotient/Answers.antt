@@ -32,7 +32,7 @@ returns g c =
     let degree = g.AB.ExprEF.Expression.degree in
     let sums = c.in_ok-selection.ensures in
     let r = c.selected_quotient.result in
-    MatchResult-weaker r (both r c.selected_quotient.ensures.numerator (both r c.selected_quotient.ensures.denominator c.selected_quotient.ensures.degree)) (λ q is. record {
+    MatchResult-weaker r (both _ _ r c.selected_quotient.ensures.numerator (both _ _ r c.selected_quotient.ensures.denominator c.selected_quotient.ensures.degree)) (λ q is. record {
       numerator = λ w stands. ap (λ x. value x (g.AB.ExtensionBuilder.seen_ext w)) is.0 ∙ sums.numerator w stands;
       denominator = λ w stands.
           is.1.0 (g.AB.ExtensionBuilder.seen_ext w) ∙ (λ i. S.add (sums.denominator w stands i) (sub_in S S.one (sums.flags w stands i)));
