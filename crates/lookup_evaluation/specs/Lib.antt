@@ -1,1 +1,2 @@
 pub mod Asserted
+pub mod Quotients

@@ -6,6 +6,7 @@ ghost use Rattle.expressions.specs.Layout.{Fits};
 ghost use Rattle.expressions.specs.MainWindow.{IsMainWindow};
 ghost use Rattle.expressions.specs.Tree.{tree_of};
 ghost use Rattle.expressions.specs.Window.{ExtWindow};
+ghost use Rattle.lookup_evaluation.specs.Quotients.{IsQuotient};
 ghost use Rattle.lookup_model.specs.Constraints.{exclusive_denominator, exclusive_numerator, flagged_denominators};
 ghost use Rattle.lookup_model.specs.Denominators.{tuple_denominator};
 ghost use Rattle.lookup_model.specs.LookupDegree.{exclusive_denominator_degree, exclusive_numerator_degree, expression_degree, lookup_branch_degrees, tuple_degree};
@@ -14,7 +15,7 @@ ghost use Rattle.lookup_model.specs.Sent.{branches_at, value, values};
 
 use crate::denominator::{denominator, lift_expression};
 use crate::quotient::Quotient;
-use expressions::{Expression, PermutationAirBuilder, SymbolicExpression};
+use expressions::{BuilderView, Expression, PermutationAirBuilder, SymbolicExpression};
 use field::{Field, Over, PrimeCharacteristicRing};
 use lookup_model::Lookup;
 use std::alloc::{AllocError, Global};
@@ -225,26 +226,21 @@ pub(crate) fn exclusive_quotient<AB: PermutationAirBuilder>(
     requires alpha { (t : ℕ) → AB.ExprEF.degree alpha.now t ≡ 0 }
     requires beta { (t : ℕ) → AB.ExprEF.degree beta.now t ≡ 0 }
     requires main { IsMainWindow AB.AirBuilder AB.MainWindow.WindowAccess builder.now main.now }
-    ensures numerator { IfOk result (λ r. (w : ExtWindow AB.F AB.EF)
-        → AB.stands_for_ext builder.now w
-        → let E = ⟦<AB::EF as Over<AB::F>>⟧.fields in
-        AB.ExprEF.value r.numerator (AB.seen_ext w)
-        ≡ exclusive_numerator E (values AB.F.ring w.base flags.now)
-        (branches_at AB.F.ring w.base lookup.now.column lookup.now)) }
-    ensures denominator { IfOk result (λ r. (w : ExtWindow AB.F AB.EF)
-        → AB.stands_for_ext builder.now w
-        → let E = ⟦<AB::EF as Over<AB::F>>⟧.fields in
-        let denominator = tuple_denominator E (AB.ExprEF.value alpha.now (AB.seen_ext w))
+    ensures { IfOk result (λ r.
+        let E = ⟦<AB::EF as Over<AB::F>>⟧.fields in
+        let denominator = λ (w : ExtWindow AB.F AB.EF). tuple_denominator E
+        (AB.ExprEF.value alpha.now (AB.seen_ext w))
         (AB.ExprEF.value beta.now (AB.seen_ext w)) in
-        AB.ExprEF.value r.denominator (AB.seen_ext w)
-        ≡ exclusive_denominator E denominator (values AB.F.ring w.base flags.now)
-        (branches_at AB.F.ring w.base lookup.now.column lookup.now)) }
-    ensures numerator_degree { IfOk result (λ r. (t : ℕ) → AB.ExprEF.degree r.numerator t
-        ≤ exclusive_numerator_degree (map (expression_degree t) flags.now)
-        (lookup_branch_degrees t lookup.now)) }
-    ensures denominator_degree { IfOk result (λ r. (t : ℕ) → AB.ExprEF.degree r.denominator t
-        ≤ exclusive_denominator_degree (map (expression_degree t) flags.now)
-        (lookup_branch_degrees t lookup.now)) }
+        IsQuotient ⟦<AB as BuilderView>⟧ builder.now
+        (λ w. exclusive_numerator E (values AB.F.ring w.base flags.now)
+        (branches_at AB.F.ring w.base lookup.now.column lookup.now))
+        (λ w. exclusive_denominator E (denominator w) (values AB.F.ring w.base flags.now)
+        (branches_at AB.F.ring w.base lookup.now.column lookup.now))
+        (λ t. exclusive_numerator_degree (map (expression_degree t) flags.now)
+        (lookup_branch_degrees t lookup.now))
+        (λ t. exclusive_denominator_degree (map (expression_degree t) flags.now)
+        (lookup_branch_degrees t lookup.now))
+        r) }
 {
     let selection = selection_of(alloc, builder, main, lookup, flags, alpha, beta)?;
     selected_quotient(alloc, selection)
