@@ -1,4 +1,4 @@
--- Buses by name, each with what it holds: a lookup that comes.
+-- Groups of lookups by bus, beside the entries of a map: one more lookup.
 use Rattle.std.proofs.Common.{◌≡◌, ◌+◌, ℕ, zero, suc, Bool, true, false, cond, is_some, List, [], ◌∷◌, ◌++◌, Option, None, Some, map, nat_lt, not, position, slice_get, refl, sym, ap, subst, ◌∙◌, true≢false}
 use Rattle.std.proofs.lemmas.List.{length-map}
 use Rattle.std.specs.List.{AllZip, prefix_len}

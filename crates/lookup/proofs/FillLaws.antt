@@ -9,7 +9,7 @@ use Rattle.lookup_model.specs.Weight.{weight_bound}
 use Rattle.lookup_model.specs.declared.error.LookupError.{LookupError}
 use Rattle.lookup_model.specs.declared.error.LookupError.TheVariants.{CountWeightOverflow}
 use Rattle.lookup.specs.Cuts.{AreClosed, IsGrown, part_items}
-use Rattle.lookup.specs.Fillings.{AreColumns}
+use Rattle.lookup.specs.Fillings.{AreGreedyColumns}
 use Rattle.lookup.specs.Packing.{IsAbove, IsFilling, IsStuck, Joins, joined, trial}
 use Rattle.lookup.proofs.ListLaws.{map_split, snoc_split}
 use Rattle.lookup_model.proofs.Lists.{all_back, all_both, all_front}
@@ -83,7 +83,7 @@ module _ {E : Type 0} where
 
 module _ {E : Type 0} (answers : Outline E → Result ℕ LookupError → Type 0) (most : ℕ) where
   -- a lookup alone opens a column
-  pub one_column : (next : Outline E) → AreColumns answers most (next ∷ []) (next ∷ [])
+  pub one_column : (next : Outline E) → AreGreedyColumns answers most (next ∷ []) (next ∷ [])
   one_column next = record {
     cut = (next, []) ∷ [];
     filling = (refl, ((grown_one (Joins answers most) next, tt), tt));
@@ -98,7 +98,7 @@ module _ {E : Type 0} (answers : Outline E → Result ℕ LookupError → Type 0
     pub front_is : map joined parts ≡ front
     pub last_is : joined part ≡ last
 
-  pub last_part : (seen columns front : List (Outline E)) (last : Outline E) → AreColumns answers most seen columns → columns ≡ front ++ last ∷ [] → HasLast seen front last
+  pub last_part : (seen columns front : List (Outline E)) (last : Outline E) → AreGreedyColumns answers most seen columns → columns ≡ front ++ last ∷ [] → HasLast seen front last
   last_part seen columns front last filled is =
       let (parts, part, none, cut_is, front_is, last_is, none_is) = map_split joined filled.cut front last [] (sym filled.columns_are ∙ is) in
       by_rest none parts part cut_is front_is last_is none_is
@@ -116,7 +116,7 @@ module _ {E : Type 0} (answers : Outline E → Result ℕ LookupError → Type 0
   -- a lookup joins the last column
   pub joined_column : (seen front after : List (Outline E)) (last next : Outline E) → HasLast seen front last
       → ((n : ℕ) × answers (trial last next) (Ok n) × (n ≤ most)) → last.count_weight + next.count_weight < weight_bound
-      → after ≡ front ++ record (trial last next) { count_weight = last.count_weight + next.count_weight } ∷ [] → AreColumns answers most (seen ++ next ∷ []) after
+      → after ≡ front ++ record (trial last next) { count_weight = last.count_weight + next.count_weight } ∷ [] → AreGreedyColumns answers most (seen ++ next ∷ []) after
   joined_column seen front after last next has low small after_is =
       let joins : Joins answers most has.part next = subst (λ (o : Outline E). ((n : ℕ) × answers (trial o next) (Ok n) × (n ≤ most)) × (o.count_weight + next.count_weight < weight_bound)) (sym has.last_is) (low, small) in
       record {
@@ -134,7 +134,7 @@ module _ {E : Type 0} (answers : Outline E → Result ℕ LookupError → Type 0
 
   -- a lookup opens a column behind the last one
   pub next_column : (seen columns front after : List (Outline E)) (last next : Outline E) → HasLast seen front last → columns ≡ front ++ last ∷ []
-      → ((n : ℕ) × answers (trial last next) (Ok n) × (most < n)) → after ≡ columns ++ next ∷ [] → AreColumns answers most (seen ++ next ∷ []) after
+      → ((n : ℕ) × answers (trial last next) (Ok n) × (most < n)) → after ≡ columns ++ next ∷ [] → AreGreedyColumns answers most (seen ++ next ∷ []) after
   next_column seen columns front after last next has is high after_is =
       let stays : IsAbove answers most has.part next = subst (λ (o : Outline E). (n : ℕ) × answers (trial o next) (Ok n) × (most < n)) (sym has.last_is) high in
       let so_far : map joined (has.parts ++ has.part ∷ []) ≡ columns = map-append joined has.parts (has.part ∷ []) ∙ (λ i. has.front_is i ++ has.last_is i ∷ []) ∙ sym is in

@@ -1,9 +1,8 @@
 -- Steps of a filling, and the lookups that it takes.
-use Rattle.std.proofs.Common.{◌≡◌, ◌⊎◌, inl, inr, ◌&&◌, ℕ, Bool, true, false, cond, not, List, [], ◌∷◌, ◌++◌, Option, None, Some, MatchOption, Result, length, map, All, refl, sym, ap, subst, ◌∙◌, arith, length-append, true≢false}
-use Rattle.std.proofs.Math.ListN.{get_or-append}
+use Rattle.std.proofs.Common.{◌≡◌, ◌⊎◌, inl, inr, ◌&&◌, ℕ, Bool, true, false, cond, not, List, [], ◌∷◌, ◌++◌, Option, None, Some, MatchOption, Result, length, map, All, refl, sym, ap, subst, ◌∙◌, arith, true≢false}
 use Rattle.std.proofs.lemmas.Grind.{flat_map-append}
 use Rattle.std.proofs.lemmas.List.{append-nil, append_assoc, length-map, map-append}
-use Rattle.std.proofs.lemmas.List.Elements.{filter-append, All-cons, All-push, recursion_from_All}
+use Rattle.std.proofs.lemmas.List.Elements.{filter-append, All-push, recursion_from_All}
 use Rattle.std.specs.List.{AllByRecursion, flat_map}
 use Rattle.std.specs.declared.alloc.Global.{Global}
 use Rattle.std.specs.declared.vec.Vec.{Vec}
@@ -18,7 +17,7 @@ use Rattle.lookup_model.specs.declared.types.Lookup.{Lookup}
 use Rattle.lookup.specs.Buses.{on_bus}
 use Rattle.lookup_model.specs.Names.{is_named}
 use Rattle.lookup.specs.Cuts.{part_items}
-use Rattle.lookup.specs.Fillings.{AreColumns, IsFilled, IsOpen, columns_of}
+use Rattle.lookup.specs.Fillings.{AreGreedyColumns, IsFilled, IsOpen, columns_of}
 use Rattle.lookup.specs.Packing.{IsStuck, additive, is_additive, trial}
 use Rattle.lookup.specs.Trials.{IsMember, IsStep, IsTrial, IsTrialAmong, IsTrialRefusal, IsTried}
 use Rattle.lookup.specs.declared.packing.filling.Bus.{Bus}
@@ -27,7 +26,7 @@ use Rattle.lookup.proofs.FillLaws.{HasLast, joined_column, last_part, next_colum
 
 -- columns with one more lookup
 pub stepped : {F : Type 0} (answers : Outline (SymbolicExpression F) → Result ℕ LookupError → Type 0) (most : ℕ) (seen front after : List (Outline (SymbolicExpression F))) (last next : Outline (SymbolicExpression F))
-    → AreColumns answers most seen (front ++ last ∷ []) → IsStep answers most front last next after → AreColumns answers most (seen ++ next ∷ []) after
+    → AreGreedyColumns answers most seen (front ++ last ∷ []) → IsStep answers most front last next after → AreGreedyColumns answers most (seen ++ next ∷ []) after
 stepped answers most seen front after last next columns (inl h) = joined_column answers most seen front after last next (last_part answers most seen (front ++ last ∷ []) front last columns refl) h.0 h.1 h.2
 stepped answers most seen front after last next columns (inr h) = next_column answers most seen (front ++ last ∷ []) front after last next (last_part answers most seen (front ++ last ∷ []) front last columns refl) refl h.0 h.1
 
@@ -79,24 +78,24 @@ module _ {F K : Type 0} (keeps : K → Outline (SymbolicExpression F) → Type 0
   -- a bus with one lookup
   pub filled_one : (bus : Bus F K) → bus.closed.items ≡ [] → bus.refusal ≡ None → IsMember bus.last → keeps bus.kept (fields_of bus.last) → IsFilled keeps answers most (fields_of bus.last ∷ []) bus
   filled_one bus none free member has =
-      subst (λ (r : Option LookupError). MatchOption r (IsOpen keeps bus × AreColumns answers most (fields_of bus.last ∷ []) (columns_of bus)) (λ e. (e ≡ Memory) ⊎ IsStuck answers most (fields_of bus.last ∷ []) e)) (sym free) (
+      subst (λ (r : Option LookupError). MatchOption r (IsOpen keeps bus × AreGreedyColumns answers most (fields_of bus.last ∷ []) (columns_of bus)) (λ e. (e ≡ Memory) ⊎ IsStuck answers most (fields_of bus.last ∷ []) e)) (sym free) (
         record { closed = subst (λ (t : List (Lookup F)). All IsMember t) (sym none) (λ k d lt. absurd (omega (arith, lt))); member = member; kept = has },
-        subst (λ (t : List (Lookup F)). AreColumns answers most (fields_of bus.last ∷ []) (map fields_of t ++ fields_of bus.last ∷ [])) (sym none) (one_column answers most (fields_of bus.last)),
+        subst (λ (t : List (Lookup F)). AreGreedyColumns answers most (fields_of bus.last ∷ []) (map fields_of t ++ fields_of bus.last ∷ [])) (sym none) (one_column answers most (fields_of bus.last)),
       )
 
   -- what is known of a bus, by whether it is refused
-  pub free_bus : (members : List (Outline (SymbolicExpression F))) (bus : Bus F K) → IsFilled keeps answers most members bus → bus.refusal ≡ None → IsOpen keeps bus × AreColumns answers most members (columns_of bus)
-  free_bus members bus filled free = subst (λ (r : Option LookupError). MatchOption r (IsOpen keeps bus × AreColumns answers most members (columns_of bus)) (λ e. (e ≡ Memory) ⊎ IsStuck answers most members e)) free filled
+  pub free_bus : (members : List (Outline (SymbolicExpression F))) (bus : Bus F K) → IsFilled keeps answers most members bus → bus.refusal ≡ None → IsOpen keeps bus × AreGreedyColumns answers most members (columns_of bus)
+  free_bus members bus filled free = subst (λ (r : Option LookupError). MatchOption r (IsOpen keeps bus × AreGreedyColumns answers most members (columns_of bus)) (λ e. (e ≡ Memory) ⊎ IsStuck answers most members e)) free filled
 
   pub stuck_bus : (members : List (Outline (SymbolicExpression F))) (bus : Bus F K) (e : LookupError) → IsFilled keeps answers most members bus → bus.refusal ≡ Some e → (e ≡ Memory) ⊎ IsStuck answers most members e
-  stuck_bus members bus e filled stuck = subst (λ (r : Option LookupError). MatchOption r (IsOpen keeps bus × AreColumns answers most members (columns_of bus)) (λ e. (e ≡ Memory) ⊎ IsStuck answers most members e)) stuck filled
+  stuck_bus members bus e filled stuck = subst (λ (r : Option LookupError). MatchOption r (IsOpen keeps bus × AreGreedyColumns answers most members (columns_of bus)) (λ e. (e ≡ Memory) ⊎ IsStuck answers most members e)) stuck filled
 
   -- a bus that is refused stays so
   pub stuck_on : (members : List (Outline (SymbolicExpression F))) (bus : Bus F K) (next : Outline (SymbolicExpression F)) → IsFilled keeps answers most members bus → is_some bus.refusal ≡ true → IsFilled keeps answers most (members ++ next ∷ []) bus
   stuck_on members bus next filled test = by_refusal bus.refusal test filled
     where
-      by_refusal : (r : Option LookupError) → is_some r ≡ true → MatchOption r (IsOpen keeps bus × AreColumns answers most members (columns_of bus)) (λ e. (e ≡ Memory) ⊎ IsStuck answers most members e)
-          → MatchOption r (IsOpen keeps bus × AreColumns answers most (members ++ next ∷ []) (columns_of bus)) (λ e. (e ≡ Memory) ⊎ IsStuck answers most (members ++ next ∷ []) e)
+      by_refusal : (r : Option LookupError) → is_some r ≡ true → MatchOption r (IsOpen keeps bus × AreGreedyColumns answers most members (columns_of bus)) (λ e. (e ≡ Memory) ⊎ IsStuck answers most members e)
+          → MatchOption r (IsOpen keeps bus × AreGreedyColumns answers most (members ++ next ∷ []) (columns_of bus)) (λ e. (e ≡ Memory) ⊎ IsStuck answers most (members ++ next ∷ []) e)
       by_refusal None test h = absurd (true≢false (sym test))
       by_refusal (Some e) test (inl memory) = inl memory
       by_refusal (Some e) test (inr stuck) = inr (stuck_more answers most members next e stuck)
@@ -105,7 +104,7 @@ module _ {F K : Type 0} (keeps : K → Outline (SymbolicExpression F) → Type 0
     -- a bus with one more lookup
     pub pushed_on : (next : Outline (SymbolicExpression F)) (after : Bus F K) → IsOpen keeps after → after.refusal ≡ bus.refusal → IsStep answers most (map fields_of bus.closed.items) (fields_of bus.last) next (columns_of after) → IsFilled keeps answers most (members ++ next ∷ []) after
     pushed_on next after open_after same step =
-        subst (λ (r : Option LookupError). MatchOption r (IsOpen keeps after × AreColumns answers most (members ++ next ∷ []) (columns_of after)) (λ e. (e ≡ Memory) ⊎ IsStuck answers most (members ++ next ∷ []) e)) (sym (same ∙ free))
+        subst (λ (r : Option LookupError). MatchOption r (IsOpen keeps after × AreGreedyColumns answers most (members ++ next ∷ []) (columns_of after)) (λ e. (e ≡ Memory) ⊎ IsStuck answers most (members ++ next ∷ []) e)) (sym (same ∙ free))
         (open_after, stepped answers most members (map fields_of bus.closed.items) (columns_of after) (fields_of bus.last) next (free_bus members bus filled free).1 step)
 
     -- its open column, as the last part of a greedy cut
@@ -119,7 +118,7 @@ module _ {F K : Type 0} (keeps : K → Outline (SymbolicExpression F) → Type 0
     -- and what it is refused for is kept
     pub refused_on : (next : Outline (SymbolicExpression F)) (after : Bus F K) (e : LookupError) → after.refusal ≡ Some e → (e ≡ Memory) ⊎ IsTrialRefusal answers most (fields_of bus.last) next e → IsFilled keeps answers most (members ++ next ∷ []) after
     refused_on next after e is refused =
-        subst (λ (r : Option LookupError). MatchOption r (IsOpen keeps after × AreColumns answers most (members ++ next ∷ []) (columns_of after)) (λ e. (e ≡ Memory) ⊎ IsStuck answers most (members ++ next ∷ []) e)) (sym is) (stuck refused)
+        subst (λ (r : Option LookupError). MatchOption r (IsOpen keeps after × AreGreedyColumns answers most (members ++ next ∷ []) (columns_of after)) (λ e. (e ≡ Memory) ⊎ IsStuck answers most (members ++ next ∷ []) e)) (sym is) (stuck refused)
       where
         stuck : (e ≡ Memory) ⊎ IsTrialRefusal answers most (fields_of bus.last) next e → (e ≡ Memory) ⊎ IsStuck answers most (members ++ next ∷ []) e
         stuck (inl memory) = inl memory

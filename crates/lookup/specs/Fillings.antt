@@ -14,7 +14,7 @@ use Rattle.lookup.specs.Trials.{IsMember}
 use Rattle.lookup.specs.declared.packing.filling.Bus.{Bus}
 
 -- columns are those of a greedy cut of the lookups that are seen
-pub record AreColumns {E : Type 0} (answers : Outline E → Result ℕ LookupError → Type 0) (max_degree : ℕ) (seen columns : List (Outline E)) : Type 0 where
+pub record AreGreedyColumns {E : Type 0} (answers : Outline E → Result ℕ LookupError → Type 0) (max_degree : ℕ) (seen columns : List (Outline E)) : Type 0 where
   pub cut : List (Outline E × List (Outline E))
   pub filling : IsFilling answers max_degree cut seen
   pub columns_are : columns ≡ map joined cut
@@ -35,7 +35,7 @@ module _ {F K : Type 0} where
       -- A bus that has taken these lookups: its columns, or out of memory, or the refusal of its first trial
       -- that is refused.
       abbrev pub IsFilled : List (Outline (SymbolicExpression F)) → Bus F K → Type 0
-      IsFilled members bus = MatchOption bus.refusal (IsOpen bus × AreColumns answers max_degree members (columns_of bus)) (λ e. (e ≡ Memory) ⊎ IsStuck answers max_degree members e)
+      IsFilled members bus = MatchOption bus.refusal (IsOpen bus × AreGreedyColumns answers max_degree members (columns_of bus)) (λ e. (e ≡ Memory) ⊎ IsStuck answers max_degree members e)
 
       -- the buses of these lookups, each under its name
       abbrev pub AreFilledBuses : List (Outline (SymbolicExpression F)) → List (String Global × Bus F K) → Type 0

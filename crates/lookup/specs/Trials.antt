@@ -47,8 +47,8 @@ module _ {F : Type 0} where
     abbrev pub IsHigh : Outline (SymbolicExpression F) → Outline (SymbolicExpression F) → Type 0
     IsHigh a b = (n : ℕ) × answers (trial a b) (Ok n) × (max_degree < n)
 
-    -- A column and a lookup after their trial: they are joined, or both stay as they are. If the lookup is
-    -- left, it stays apart.
+    -- A column and a lookup after their trial: they are joined, or both stay as they are, and the lookup is
+    -- left over.
     abbrev pub IsTried : Lookup F → Lookup F → Lookup F → Option (Lookup F) → Type 0
     IsTried a b after None =
         IsMember after × IsLow (fields_of a) (fields_of b) × ((fields_of a).count_weight + (fields_of b).count_weight < weight_bound)

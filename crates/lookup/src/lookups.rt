@@ -83,8 +83,8 @@ impl<F: Field> Lookups<F> {
     ///
     /// Local lookups and those with flags come first, in their order, then the buses in the order of
     /// their first other lookups. Refuses `TupleWidths` at the first bus with two widths, then what
-    /// the first refused trial refuses: the closure's own refusal, or `CountWeightOverflow`. The set
-    /// is then dropped.
+    /// the first refused trial of the first bus with one refuses: the closure's own refusal, or
+    /// `CountWeightOverflow`. The set is then dropped.
     ///
     /// The packed set sends the same messages on every row, if its columns have the ids that their
     /// lookups had. So the keys stay, each with its net, and so does the weight of all lookups. It

@@ -14,7 +14,7 @@ use lookup_model::{Lookup, LookupError};
 use std::alloc::Global;
 
 /// Compares the widths of all tuples on each bus, those of groups too, in the order in which the
-/// buses are first seen. Where all lookups have one width, no bus is looked for.
+/// buses are first seen. Where all tuples have one width, local ones too, no bus is looked for.
 ///
 /// Refuses `TupleWidths` with the context `bus "NAME"` at the first bus with two widths: its first
 /// width, and the first other one.
@@ -37,7 +37,8 @@ pub(crate) fn assert_bus_widths<F: Field>(
     Ok(())
 }
 
-/// Whether all tuples have the width of the first one, whatever their buses.
+/// Whether all tuples have the width of the first lookup's first one, whatever their buses; false if
+/// there is no such tuple.
 fn have_one_width<F: Field>(lookups: &[Lookup<F>]) -> bool
     ensures { result ≡ true → HasOneWidth (flat_map widths_of (map fields_of lookups.now)) }
 {

@@ -1,8 +1,8 @@
 //! Groups of lookups by bus.
-ghost use Rattle.std.specs.Prelude.{◌≡◌, ◌++◌, [], ◌∷◌, IfOk, OnOk, map, option_map};
+ghost use Rattle.std.specs.Prelude.{◌≡◌, ◌++◌, [], ◌∷◌, IfOk, OnOk, map};
 ghost use Rattle.std.specs.Option.{option_map_or};
-ghost use Rattle.indexmap.specs.IndexMap.{get, insert_entry, values};
-ghost use Rattle.lookup_model.specs.Outline.{bus_of, fields_of};
+ghost use Rattle.indexmap.specs.IndexMap.{get, insert_entry};
+ghost use Rattle.lookup_model.specs.Outline.{fields_of};
 ghost use Rattle.lookup.specs.Buses.{bus_groups, group_of};
 
 use field::Field;
@@ -30,26 +30,6 @@ pub fn by_bus<'a, F: Field>(
         }
     }
     Ok(buses)
-}
-
-/// The values of a map, in their order.
-pub(crate) fn values_of<K: Eq + Hash + Drop, V: Drop>(
-    alloc: Global,
-    map: IndexMap<K, V>,
-) -> Result<Vec<V>, AllocError>
-    ensures { IfOk result (λ v. v.items ≡ values map) }
-{
-    map.into_values().collect(alloc)
-}
-
-/// The name of the bus of a lookup, if there is one.
-pub(crate) fn bus_name<F: Field>(lookup: &Lookup<F>) -> Option<&str>
-    ensures { option_map (λ name. name.now) result ≡ bus_of lookup.now.kind }
-{
-    match &lookup.kind {
-        Kind::Local => None,
-        Kind::Global(name) => Some(name.as_str()),
-    }
 }
 
 /// Appends to the group at a key. The group of a new key goes last.

@@ -13,7 +13,7 @@ use std::alloc::Global;
 use std::mem::replace;
 
 /// A bus while it is filled: its closed columns, and the last one, which is open, with what is kept of
-/// it. Once a lookup is refused, the refusal.
+/// it. Once a lookup is refused, only the refusal counts, and the columns mean nothing.
 #[derive(Drop)]
 pub(crate) struct Bus<F, K> {
     closed: Vec<Lookup<F>>,
@@ -29,8 +29,9 @@ pub(crate) fn open_bus<F: Field, T: TrialDegrees<F>>(
     degrees: &T,
 ) -> Bus<F, T::Kept>
     requires { IsMember first }
-    ensures { (max_degree : ℕ) → IsFilled (T.keeps degrees.now) (T.answers degrees.now) max_degree
-        (fields_of first ∷ []) result }
+    ensures filled { (max_degree : ℕ) → IsFilled (T.keeps degrees.now) (T.answers degrees.now)
+        max_degree (fields_of first ∷ []) result }
+    ensures free { result.refusal ≡ None }
 {
     let kept = degrees.keep(&first);
     Bus {
@@ -54,10 +55,11 @@ pub(crate) fn push_on<F: Field, T: TrialDegrees<F>>(
         × ((lookup : _) → IsTrialAmong (members ++ fields_of next ∷ []) lookup
         → T.may_ask degrees.now lookup) }
     requires next { IsMember next }
-    ensures { (members : List (Outline (SymbolicExpression F)))
+    ensures filled { (members : List (Outline (SymbolicExpression F)))
         → IsFilled (T.keeps degrees.now) (T.answers degrees.now) max_degree members bus.old
         → IsFilled (T.keeps degrees.now) (T.answers degrees.now) max_degree
         (members ++ fields_of next ∷ []) bus.new }
+    ensures stays { (e : LookupError) → bus.old.refusal ≡ Some e → bus.new.refusal ≡ Some e }
 {
     if bus.refusal.is_some() {
         return;

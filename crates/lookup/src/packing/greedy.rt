@@ -1,9 +1,10 @@
 //! Packing a list of lookups.
-ghost use Rattle.std.specs.Prelude.{◌≡◌, ◌++◌, ◌∷◌, [], All, IfOk, List, OnOk, ℕ, map};
+ghost use Rattle.std.specs.Prelude.{◌≡◌, ◌++◌, ◌∷◌, [], All, IfOk, List, OnOk, ℕ, map, option_map};
 ghost use Rattle.std.specs.Fn.{FnReturnsAt};
 ghost use Rattle.std.specs.List.{AllZip};
+ghost use Rattle.indexmap.specs.IndexMap.{values};
 ghost use Rattle.expressions.specs.declared.base_expression.SymbolicExpression.{SymbolicExpression};
-ghost use Rattle.lookup_model.specs.Outline.{Outline, fields_of};
+ghost use Rattle.lookup_model.specs.Outline.{Outline, bus_of, fields_of};
 ghost use Rattle.lookup_model.specs.Records.{AreRecords, HasEqualLengths};
 ghost use Rattle.lookup.specs.Buses.{bus_groups, on_bus};
 ghost use Rattle.lookup.specs.Fewest.{AnswersDegree};
@@ -13,13 +14,13 @@ ghost use Rattle.lookup.specs.Packing.{Packs, additive, is_additive, numbered, p
 ghost use Rattle.lookup.specs.Trials.{AnswersTrial, IsBusTrial, IsMember, IsTrialAmong};
 
 use crate::packing::bus_widths::assert_bus_widths;
-use crate::packing::buses::{bus_name, values_of};
 use crate::packing::degrees::{Asked, GadgetDegrees, TrialDegrees};
 use crate::packing::filling::{Bus, append_columns, open_bus, push_on};
 use field::Field;
 use indexmap::IndexMap;
 use lookup_model::{Kind, Lookup, LookupError};
 use std::alloc::{AllocError, Global};
+use std::hash::Hash;
 
 /// Fills the columns of each bus greedily, by the degree that the closure gives.
 ///
@@ -27,8 +28,8 @@ use std::alloc::{AllocError, Global};
 /// buses in the order in which they are first seen. On each bus a lookup joins the open column if
 /// the degree of the trial is at most `max_degree`, and opens a new column otherwise. The trial has
 /// the tuples of both, and the weight and the old column number of the open column. The closure is
-/// asked about trials alone, lookup by lookup, and of a bus about none behind one that is refused.
-/// Weights of joined lookups add, and the columns are numbered from 0.
+/// asked about trials alone, in the order of the lookups; once a trial of a bus is refused, it is
+/// asked no more about that bus. Weights of joined lookups add, and the columns are numbered from 0.
 ///
 /// On every row the packed lookups send the messages of those before, if a column has the id that
 /// its lookups had. So the keys stay, each with its net, and so does the weight of all lookups.
@@ -93,8 +94,7 @@ fn pack_by<F: Field, T: TrialDegrees<F>>(
     ensures kept { IfOk result (λ v. KeepsSent F.ring F.eq lookups.items v.items) }
 {
     assert_bus_widths(alloc, &lookups)?;
-    let (columns, buses) = fill_buses(alloc, lookups, max_degree, degrees)?;
-    let mut columns = columns;
+    let (mut columns, buses) = fill_buses(alloc, lookups, max_degree, degrees)?;
     for bus in buses {
         append_columns(&mut columns, bus)?;
     }
@@ -127,6 +127,16 @@ fn fill_buses<F: Field, T: TrialDegrees<F>>(
     }
     let buses = values_of(alloc, buses)?;
     Ok((columns, buses))
+}
+
+/// The values of a map, in their order.
+fn values_of<K: Eq + Hash + Drop, V: Drop>(
+    alloc: Global,
+    map: IndexMap<K, V>,
+) -> Result<Vec<V>, AllocError>
+    ensures { IfOk result (λ v. v.items ≡ values map) }
+{
+    map.into_values().collect(alloc)
 }
 
 /// Takes the next lookup of a bus. A new bus goes last, under a copy of its name. A local lookup is
@@ -163,6 +173,16 @@ fn push_on_bus<F: Field, T: TrialDegrees<F>>(
         }
     }
     Ok(())
+}
+
+/// The name of the bus of a lookup, if there is one.
+fn bus_name<F: Field>(lookup: &Lookup<F>) -> Option<&str>
+    ensures { option_map (λ name. name.now) result ≡ bus_of lookup.now.kind }
+{
+    match &lookup.kind {
+        Kind::Local => None,
+        Kind::Global(name) => Some(name.as_str()),
+    }
 }
 
 /// Whether a lookup is sent on a bus and has no flags.

@@ -210,6 +210,20 @@ fn columns_of_two_buses(rt: HostRuntime) {
     );
 }
 
+#[test]
+fn columns_of_buses_with_other_widths(rt: HostRuntime) {
+    let alloc = rt.alloc();
+    let (a, b) = (on("a"), wide("b", 2));
+    expect_columns(
+        &rt,
+        alloc,
+        "two widths",
+        &[a, b, a, b, b],
+        3,
+        &[("a", 2, 2), ("b", 2, 2), ("b", 1, 1)],
+    );
+}
+
 /// Weights add, where lookups are joined. A degree above the budget is found before a sum of weights
 /// that does not fit.
 #[test]
@@ -353,6 +367,48 @@ fn trials_alone_are_asked_about(rt: HostRuntime) {
         "3 that do not",
         asked(&rt, alloc, &[a, a, a, a], 4) == 3,
     );
+}
+
+/// The answer of a closure that refuses each trial, and how often it is asked.
+fn refused_once(rt: &impl Abort, alloc: Global, members: &[Member<'_>]) -> (bool, usize) {
+    let number: Cell<usize> = Cell::new(0);
+    let refused = set(rt, alloc, members)
+        .pack_same_bus_with_degree(alloc, 3, |_| {
+            number.set(number.get().saturating_add(1));
+            Err(LookupError::BadRecord { lookup: 9 })
+        })
+        .err();
+    let own = refused == Some(LookupError::BadRecord { lookup: 9 });
+    (own, number.get())
+}
+
+#[test]
+fn a_refused_bus_stays_refused(rt: HostRuntime) {
+    let alloc = rt.alloc();
+    let a = on("a");
+    let answer = refused_once(&rt, alloc, &[a, a, a, a]);
+    holds(&rt, "asked once", answer == (true, 1));
+}
+
+/// The buses of the trials in their order, as digits: 1 for `a`, 2 for any other.
+fn order_of_asking(rt: &impl Abort, alloc: Global, members: &[Member<'_>]) -> usize {
+    let digits: Cell<usize> = Cell::new(0);
+    set(rt, alloc, members)
+        .pack_same_bus_with_degree(alloc, 3, |lookup| {
+            let digit: usize = if is_on(lookup, "a") { 1 } else { 2 };
+            digits.set(digits.get().saturating_mul(10).saturating_add(digit));
+            Ok(0)
+        })
+        .expect(rt, "packed");
+    digits.get()
+}
+
+#[test]
+fn the_closure_is_asked_in_the_order_of_the_lookups(rt: HostRuntime) {
+    let alloc = rt.alloc();
+    let (a, b) = (on("a"), on("b"));
+    let order = order_of_asking(&rt, alloc, &[a, b, b, a, b]);
+    holds(&rt, "b, a, b", order == 212);
 }
 
 #[test]

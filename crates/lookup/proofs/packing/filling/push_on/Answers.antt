@@ -14,13 +14,19 @@ pub push_next-requires-clause-callable : goal.push_next-requires-clause-callable
 push_next-requires-clause-callable g c = λ lookup is.
     c.requires.members.2 lookup (tried_on (g.T.TrialDegrees.keeps c.args.degrees.now) (g.T.TrialDegrees.answers c.args.degrees.now) c.args.max_degree c.requires.members.0 c.args.bus.now c.requires.members.1 (none_of c.args.bus.now.refusal (sym c.is_some.ensures ∙ c.if-is_some.false)) (fields_of c.args.next) lookup is)
 
-pub returns-then-is_some : goal.returns-then-is_some
-returns-then-is_some g c = λ members filled. stuck_on (g.T.TrialDegrees.keeps c.args.degrees.now) (g.T.TrialDegrees.answers c.args.degrees.now) c.args.max_degree members c.args.bus.now (fields_of c.args.next) filled (sym c.is_some.ensures ∙ c.if-is_some.true)
+pub returns-then-is_some-clause-filled : goal.returns-then-is_some-clause-filled
+returns-then-is_some-clause-filled g c = λ members filled. stuck_on (g.T.TrialDegrees.keeps c.args.degrees.now) (g.T.TrialDegrees.answers c.args.degrees.now) c.args.max_degree members c.args.bus.now (fields_of c.args.next) filled (sym c.is_some.ensures ∙ c.if-is_some.true)
 
-pub returns-in-Ok : goal.returns-in-Ok
-returns-in-Ok g c = λ members filled.
+pub returns-in-Ok-clause-filled : goal.returns-in-Ok-clause-filled
+returns-in-Ok-clause-filled g c = λ members filled.
     pushed_on (g.T.TrialDegrees.keeps c.args.degrees.now) (g.T.TrialDegrees.answers c.args.degrees.now) c.args.max_degree members c.args.bus.now filled (none_of c.args.bus.now.refusal (sym c.is_some.ensures ∙ c.if-is_some.false)) (fields_of c.args.next) _ c.in-Ok.ensures.0 c.in-Ok.ensures.1 c.in-Ok.ensures.2
 
-pub returns-in-Err : goal.returns-in-Err
-returns-in-Err g c = λ members filled.
+pub returns-in-Err-clause-filled : goal.returns-in-Err-clause-filled
+returns-in-Err-clause-filled g c = λ members filled.
     refused_on (g.T.TrialDegrees.keeps c.args.degrees.now) (g.T.TrialDegrees.answers c.args.degrees.now) c.args.max_degree members c.args.bus.now filled (none_of c.args.bus.now.refusal (sym c.is_some.ensures ∙ c.if-is_some.false)) (fields_of c.args.next) (record c.push_next.new.bus { refusal = Some c.in-Err.refusal }) c.in-Err.refusal refl c.in-Err.ensures
+
+pub returns-in-Ok-clause-stays : goal.returns-in-Ok-clause-stays
+returns-in-Ok-clause-stays g c = λ e is. c.in-Ok.ensures.1 ∙ is
+
+pub returns-in-Err-clause-stays : goal.returns-in-Err-clause-stays
+returns-in-Err-clause-stays g c = λ e is. absurd (cc (sym (none_of c.args.bus.now.refusal (sym c.is_some.ensures ∙ c.if-is_some.false)) ∙ is))

@@ -29,10 +29,10 @@ returns-in-Some-get_index_of g c = λ seen filled.
     let at = sym c.get_index_of.ensures.index ∙ c.in-Some-get_index_of.is in
     let held = held_at (IsFilled (g.T.TrialDegrees.keeps c.args.degrees.now) (g.T.TrialDegrees.answers c.args.degrees.now) c.args.max_degree) seen c.in-Some.name.now c.args.buses.now.entries filled c.in-Some-get_index_of.index at c.index_mut.result.now c.index_mut.ensures.value in
     bus_grown (IsFilled (g.T.TrialDegrees.keeps c.args.degrees.now) (g.T.TrialDegrees.answers c.args.degrees.now) c.args.max_degree) seen c.in-Some.name.now c.args.buses.now.entries filled c.in-Some-get_index_of.index at c.index_mut.result.now c.index_mut.ensures.value
-    (fields_of c.args.next) _ c.push_on.new.bus on (c.push_on.ensures (on_bus c.in-Some.name.now seen) held) refl
+    (fields_of c.args.next) _ c.push_on.new.bus on (c.push_on.ensures.filled (on_bus c.in-Some.name.now seen) held) refl
 
 pub returns-in_ok-insert-in-None : goal.returns-in_ok-insert-in-None
 returns-in_ok-insert-in-None g c = λ seen filled.
     let on : bus_of c.args.next.kind ≡ Some c.in-Some.name.now = sym c.bus_name.ensures ∙ ap (option_map (λ name. name.now)) c.in-Some.is in
     bus_opened (IsFilled (g.T.TrialDegrees.keeps c.args.degrees.now) (g.T.TrialDegrees.answers c.args.degrees.now) c.args.max_degree) seen c.in-Some.name.now c.args.buses.now.entries filled (fields_of c.args.next) c.insert.new.self.entries c.in_ok-name-in-None.name c.open_bus-bus.result on
-    c.in_ok-name-in-None.ensures.ok (ap is_some (sym c.in-None.is) ∙ c.get_index_of.ensures.found) (c.open_bus-bus.ensures c.args.max_degree) c.in_ok-insert-in-None.ensures.entries
+    c.in_ok-name-in-None.ensures.ok (ap is_some (sym c.in-None.is) ∙ c.get_index_of.ensures.found) (c.open_bus-bus.ensures.filled c.args.max_degree) c.in_ok-insert-in-None.ensures.entries
