@@ -21,7 +21,11 @@ quartic_of ns = record {
 abbrev pub AreNumbersBelow : ℕ → List ℕ → Type 0
 AreNumbersBelow n numbers = (k : ℕ) → k < n → slice_index numbers k < 2013265921
 
--- number i is not, and all those before it are
+-- the first n numbers are at most this one
+abbrev pub AreNumbersUpTo : ℕ → ℕ → List ℕ → Type 0
+AreNumbersUpTo greatest n numbers = (k : ℕ) → k < n → slice_index numbers k ≤ greatest
+
+-- number i is not below the modulus, and all those before it are
 pub record IsFirstLarge (numbers : List ℕ) (i : ℕ) : Type 0 where
   pub within : i < length numbers
   pub large : 2013265921 ≤ slice_index numbers i

@@ -1,7 +1,7 @@
 //! Numbers as elements, and elements as numbers.
-ghost use Rattle.std.specs.Prelude.{◌≡◌, ◌⊎◌, ℕ, MatchOption, MatchResult, length, map};
+ghost use Rattle.std.specs.Prelude.{◌≡◌, ◌⊎◌, ℕ, IfOk, MatchOption, MatchResult, length, map};
 ghost use Rattle.field.specs.BabyBear.{baby_bear_of};
-ghost use Rattle.lookup_tables.specs.Numbers.{AreGroupsBelow, AreNumbersBelow, IsFirstLarge, IsFirstLargeGroup, IsGroup, numbers_of, quartic_of};
+ghost use Rattle.lookup_tables.specs.Numbers.{AreGroupsBelow, AreNumbersBelow, AreNumbersUpTo, IsFirstLarge, IsFirstLargeGroup, IsGroup, numbers_of, quartic_of};
 ghost use Rattle.lookup_tables.specs.declared.numbers.NumberFault.TheVariants.{Memory, Large};
 
 use field::{BabyBear, BabyBear4};
@@ -44,14 +44,49 @@ pub fn elements(alloc: Global, numbers: &[u32]) -> Result<Vec<BabyBear>, NumberF
         × AreNumbersBelow (length numbers.now) numbers.now)
         (λ e. (e ≡ Memory) ⊎ (i : ℕ) × (e ≡ Large i) × IsFirstLarge numbers.now i) }
 {
+    let made = residues(alloc, numbers)?;
+    if made.greatest < MODULUS {
+        return Ok(made.values);
+    }
+    match first_large(numbers) {
+        Some(index) => Err(NumberFault::Large(index)),
+        None => Ok(made.values),
+    }
+}
+
+/// The residues of numbers.
+#[derive(Drop)]
+struct Residues {
+    values: Vec<BabyBear>,
+    /// The greatest of the numbers, 0 if there are none.
+    greatest: u32,
+}
+
+/// The residues of these numbers. The loop tests none of them, so that it takes many at a time.
+fn residues(alloc: Global, numbers: &[u32]) -> Result<Residues, AllocError>
+    ensures { IfOk result (λ made. (made.values.items ≡ map baby_bear_of numbers.now)
+        × AreNumbersUpTo made.greatest (length numbers.now) numbers.now) }
+{
     let mut values = Vec::with_capacity(alloc, numbers.len())?;
+    let mut greatest: u32 = 0;
+    for n in numbers {
+        greatest = greatest.max(*n);
+        values.push_reserved(BabyBear::new(*n));
+    }
+    Ok(Residues { values, greatest })
+}
+
+/// The index of the first number that is not below the modulus, if there is one.
+fn first_large(numbers: &[u32]) -> Option<usize>
+    ensures { MatchOption result (AreNumbersBelow (length numbers.now) numbers.now)
+        (IsFirstLarge numbers.now) }
+{
     for (index, n) in numbers.iter().enumerate() {
         if *n >= MODULUS {
-            return Err(NumberFault::Large(index));
+            return Some(index);
         }
-        values.push(BabyBear::new(*n))?;
     }
-    Ok(values)
+    None
 }
 
 /// The elements of the extension that are these numbers, four each, lowest power first.
@@ -65,7 +100,7 @@ pub fn extensions(alloc: Global, groups: &[[u32; 4]]) -> Result<Vec<BabyBear4>, 
     let mut values = Vec::with_capacity(alloc, groups.len())?;
     for (index, group) in groups.iter().enumerate() {
         match extension(*group) {
-            Some(x) => values.push(x)?,
+            Some(x) => values.push_reserved(x),
             None => return Err(NumberFault::Large(index)),
         }
     }
