@@ -11,7 +11,7 @@ use std::alloc::{AllocError, AllocFailed, Global};
 pub(crate) const MODULUS: u32 = 2_013_265_921;
 
 /// Why numbers are no elements.
-#[derive(Drop)]
+#[derive(Debug, Drop)]
 pub enum NumberFault {
     /// Out of memory.
     Memory,
@@ -44,7 +44,7 @@ pub fn elements(alloc: Global, numbers: &[u32]) -> Result<Vec<BabyBear>, NumberF
         × AreNumbersBelow (length numbers.now) numbers.now)
         (λ e. (e ≡ Memory) ⊎ (i : ℕ) × (e ≡ Large i) × IsFirstLarge numbers.now i) }
 {
-    let made = residues(alloc, numbers)?;
+    let made = residues_of(alloc, numbers)?;
     if made.greatest < MODULUS {
         return Ok(made.values);
     }
@@ -63,7 +63,7 @@ struct Residues {
 }
 
 /// The residues of these numbers. The loop tests none of them, so that it takes many at a time.
-fn residues(alloc: Global, numbers: &[u32]) -> Result<Residues, AllocError>
+fn residues_of(alloc: Global, numbers: &[u32]) -> Result<Residues, AllocError>
     ensures { IfOk result (λ made. (made.values.items ≡ map baby_bear_of numbers.now)
         × AreNumbersUpTo made.greatest (length numbers.now) numbers.now) }
 {
