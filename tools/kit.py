@@ -1,7 +1,9 @@
-"""The Rattle kit's command as a module, and how many checks a machine holds side by side."""
+"""The Rattle kit's command as a module, how many checks a machine holds side by side, and a proof of one crate over
+libraries that were built before."""
 import functools
 import os
 import shutil
+import subprocess
 import sys
 from importlib import machinery, util
 
@@ -31,12 +33,19 @@ def lanes():
     return max(1, min(kit().processors(), kit().free() // MEMORY_OF_A_CHECK))
 
 
-def crate_of(top, name):
-    """A crate of a repository, as the kit's command sees it."""
+def has_library(crate):
+    """Whether a crate's library stands in its checkout. `rt ci` leaves one without a stamp; one with a stamp has to be
+    made from the sources that are here."""
+    has_stamp = os.path.isfile(f"{os.path.dirname(crate.rlib)}/stamp")
+    return os.path.isfile(f"{crate.rlib}/format") and (crate.is_built() or not has_stamp)
+
+
+def over_libraries(top, name, call, command):
+    """Proves a crate of a repository by a call of the kit's functions, over the libraries below it as they stand there.
+    Where one is missing or of other sources, the kit's command builds them first. Returns the status."""
     os.chdir(f"{top}/crates/{name}")
-    return kit().rtlib.Crate(os.getcwd(), top, {})
-
-
-def has_libraries(crate):
-    """Whether all libraries below a crate stand in its checkout, as `rt ci` leaves them."""
-    return all(os.path.isfile(f"{it.rlib}/format") for it in crate.below())
+    crate = kit().rtlib.Crate(os.getcwd(), top, {})
+    if not all(map(has_library, crate.below())):
+        return subprocess.run(["rt", command], check=False).returncode
+    os.makedirs("out", exist_ok=True)
+    return call(crate)

@@ -1,6 +1,8 @@
 pub mod ChunkColumnLaws
 pub mod ColumnLaws
+pub mod HeldRows
 pub mod LessenedLaws
+pub mod ReadLaws
 pub mod SelectedRows
 pub mod SlotLaws
 pub mod SpareLaws

@@ -1,6 +1,7 @@
 -- Lists whose items are related item by item.
 use Rattle.std.proofs.Common.{◌≡◌, ◌<◌, ◌+◌, ◌∷◌, ◌++◌, ℕ, zero, suc, List, [], length, get_or, take, sym, refl, subst, ap, ◌∙◌, arith}
-use Rattle.std.proofs.lemmas.List.{take_more}
+use Rattle.std.proofs.lemmas.List.{get_or_default, take_more}
+use Rattle.std.proofs.lemmas.Slice.Zip.{AllZip-long}
 use Rattle.std.specs.List.{AllZip}
 
 -- the item beside an item
@@ -18,6 +19,14 @@ module _ {A B : Type 0} (R : A → B → Type 0) where
   beside (a ∷ xs) (b ∷ ys) (suc i) x h lt is =
       let next = beside xs ys i x h.1 (omega (arith, lt)) is in
       record { item = next.item; there = next.there; within = omega (arith, next.within); holds = next.holds }
+
+  -- items at one index are related
+  pub at_index : (xs : List A) (ys : List B) (i : ℕ) (x : A) (y : B) → AllZip R xs ys → i < length ys → x ≡ get_or xs i x → y ≡ get_or ys i y → R x y
+  at_index xs ys i x y h lt x_is y_is =
+      let long = AllZip-long R xs ys h in
+      let b = beside xs ys i x h (omega (arith, long, lt)) x_is in
+      let same : b.item ≡ y = b.there ∙ get_or_default ys i b.item y lt ∙ sym y_is in
+      subst (R x) same b.holds
 
 -- the items up to one, and that one
 pub taken_more : {A : Type 0} (xs : List A) (i : ℕ) (x : A) → i < length xs → x ≡ get_or xs i x → take (i + 1) xs ≡ take i xs ++ x ∷ []

@@ -1,18 +1,18 @@
 -- The columns of lookups on the rows of a chunk.
-use Rattle.std.specs.Prelude.{◌≡◌, ◌≢◌, ◌+◌, ◌*◌, ℕ, Bool, List, None, Some, map, not, slice_get, slice_index_or}
+use Rattle.std.specs.Prelude.{◌≡◌, ◌≢◌, ℕ, Bool, List, None, Some, map, not, slice_get}
 use Rattle.std.specs.List.{AllZip, filter, zip}
 use Rattle.std.specs.declared.alloc.Global.{Global}
 use Rattle.std.specs.declared.vec.Vec.{Vec}
 use Rattle.field.specs.Ring.{Ring}
 use Rattle.expressions.specs.Window.{Window}
 use Rattle.expressions.specs.declared.base_expression.SymbolicExpression.{SymbolicExpression}
-use Rattle.lookup_columns.specs.Columns.{tuple_denominator_over}
+use Rattle.lookup_model.specs.Denominators.{column_denominator_over}
 use Rattle.lookup_model.specs.Message.{Key, Message}
 use Rattle.lookup_model.specs.Sent.{branches_at, values}
 use Rattle.lookup_model.specs.declared.types.Lookup.{Lookup}
 use Rattle.lookup_columns.specs.declared.branches.BranchColumns.{BranchColumns}
 
--- Row r is the one at index i. It stands among the selected rows, at the index that is kept at i.
+-- Row r, the one at index i, stands among the selected rows at the index that `indices` has at i.
 pub record IsSelected (indices selected : List ℕ) (i r : ℕ) : Type 0 where
   pub at : ℕ
   pub there : slice_get indices i ≡ Some at
@@ -26,8 +26,7 @@ module _ {F K : Type 0} where
 
   -- the denominator of a key whose id is a column, as `key_denominator` of an extension has it
   abbrev pub key_denominator_over : Ring K → (F → K) → List K → Key F → K
-  key_denominator_over S embed challenges key =
-      tuple_denominator_over S embed (slice_index_or challenges (2 * key.id) S.zero) (slice_index_or challenges (2 * key.id + 1) S.zero) key.tuple
+  key_denominator_over S embed challenges key = column_denominator_over S embed challenges key.id key.tuple
 
   -- At this index, a column holds this flag.
   abbrev pub HasFlag : ℕ → BranchColumns F K → F → Type 0
@@ -54,12 +53,7 @@ module _ {F K : Type 0} where
     pub additive : lookup.flags ≡ None → AllZip (IsHeld (key_denominator_over S embed challenges) index) columns (branches_at R w lookup.column lookup)
     pub exclusive : (flags : Vec (SymbolicExpression F) Global) → lookup.flags ≡ Some flags → HoldSelected R (key_denominator_over S embed challenges) index columns (values R w flags.items) (branches_at R w lookup.column lookup)
 
-  -- the same for each lookup
-  abbrev pub HoldLookups : Ring F → Ring K → (F → K) → List K → Window F → ℕ → List (Lookup F) → List (Vec (BranchColumns F K) Global) → Type 0
-  HoldLookups R S embed challenges w index =
-      AllZip (λ lookup columns. HoldLookup R S embed challenges w index lookup columns.items)
-
-  -- Index by index, the columns hold what a lookup sends on these rows.
+  -- At the index of each of these rows, the columns hold what a lookup sends on that row.
   abbrev pub AreColumns : Ring F → Ring K → (F → K) → List K → (ℕ → Window F) → List ℕ → Lookup F → List (BranchColumns F K) → Type 0
   AreColumns R S embed challenges window rows lookup columns =
       (index r : ℕ) → slice_get rows index ≡ Some r → HoldLookup R S embed challenges (window r) index lookup columns

@@ -1,17 +1,13 @@
 -- Columns: what expressions and tuples give on some rows of the traces of an AIR.
 use Rattle.std.specs.Prelude.{ℕ, List, map}
-use Rattle.field.specs.Polynomial.{combined}
-use Rattle.field.specs.Ring.{Ring, sub_in}
+use Rattle.field.specs.Ring.{Ring}
 use Rattle.expressions.specs.Meaning.{leaf_value, value_of}
 use Rattle.expressions.specs.Tree.{Tree}
 use Rattle.expressions.specs.Window.{Window}
 use Rattle.expressions.specs.declared.base_expression.BaseLeaf.{BaseLeaf}
 use Rattle.expressions.specs.declared.base_expression.SymbolicExpression.{SymbolicExpression}
+use Rattle.lookup_model.specs.Denominators.{tuple_denominator_over}
 use Rattle.lookup_model.specs.Sent.{values}
-
--- the denominator of a tuple of these values: `alpha - t`, where t is the tuple combined by beta
-abbrev pub tuple_denominator_over : {F K : Type 0} → Ring K → (F → K) → K → K → List F → K
-tuple_denominator_over S embed alpha beta tuple = sub_in S alpha (combined S (map embed tuple) beta)
 
 module _ {F : Type 0} (R : Ring F) where
   -- the values of a leaf on these rows

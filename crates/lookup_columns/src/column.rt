@@ -79,8 +79,7 @@ fn push_next_cells<F: Field>(
     to.extend(rows.iter().map(|r| next_cell(trace, num_rows, *r, index)))
 }
 
-/// Appends the cells of a column on the rows that are so far from these: 0 for the rows themselves, 1
-/// for the next ones.
+/// Appends the cells of a column on these rows if `offset` is 0, and on the rows after them if it is 1.
 fn push_cells_at<F: Field>(
     to: &mut Vec<F>,
     trace: &RowMajorMatrix<F>,
@@ -201,7 +200,7 @@ fn push_negatives<F: Field>(to: &mut Vec<F>, a: &[F]) -> Result<(), AllocError>
     to.extend(a.iter().map(|x| -*x))
 }
 
-/// Fills a slot with what was made of two lists, and puts both away.
+/// Fills a slot with the values made of two lists, and puts both lists away.
 fn push_made<F: Field>(
     slots: &mut Slots<F>,
     values: Vec<F>,

@@ -12,11 +12,11 @@ use std::alloc::{AllocError, Global};
 /// The expressions of a lookup as steps.
 #[derive(Drop)]
 pub struct LookupSteps<F> {
-    /// Of each flag, in an exclusive lookup.
+    /// The steps of each flag, in an exclusive lookup.
     pub(crate) flags: Vec<Vec<Step<F>>>,
-    /// Of each element of each tuple.
+    /// The steps of each element of each tuple.
     pub(crate) elements: Vec<Vec<Vec<Step<F>>>>,
-    /// Of the multiplicity of each tuple.
+    /// The steps of the multiplicity of each tuple.
     pub(crate) multiplicities: Vec<Vec<Step<F>>>,
 }
 

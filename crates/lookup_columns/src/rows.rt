@@ -24,8 +24,8 @@ pub fn rows_between(
     Ok(rows)
 }
 
-/// For each row whose flag is not zero its index among these rows, and then these rows. What stands at
-/// the index of another row has no meaning.
+/// Selects the rows whose flag is not zero. Returns, at the index of each of them, its index among the
+/// selected rows, and then the selected rows. What stands at the index of another row has no meaning.
 pub(crate) fn selected_rows<F: Field>(
     alloc: Global,
     spare: &mut SpareLists<usize>,

@@ -18,7 +18,7 @@ pub enum Step<F> {
     Leaf(BaseLeaf<F>),
     /// The sum of the last two slots, in place of both.
     Add,
-    /// The last slot but one less the last one, in place of both.
+    /// The last slot but one minus the last one, in place of both.
     Sub,
     /// The product of the last two slots, in place of both.
     Mul,

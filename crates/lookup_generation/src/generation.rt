@@ -1,18 +1,19 @@
 //! Generation of the auxiliary trace, in chunks of rows: a chunk's fractions are found as ratios, a
 //! column at a time, and divided by at most one inverse.
-ghost use Rattle.std.specs.Prelude.{◌≡◌, ◌+◌, ◌-◌, ◌*◌, ◌%◌, ℕ, ◌<◌, ◌≤◌, ◌⊎◌, ◌++◌, ◌∷◌, [], None, IfErr, IfOk, IfSome, MatchResult, length, take};
+ghost use Rattle.std.specs.Prelude.{◌≡◌, ◌+◌, ◌-◌, ◌*◌, ◌%◌, ℕ, ◌<◌, ◌≤◌, ◌⊎◌, ◌++◌, ◌∷◌, [], List, None, IfErr, IfOk, IfSome, MatchResult, length, take};
 ghost use Rattle.std.specs.List.{AllZip};
 ghost use Rattle.std.specs.Option.{option_map_or};
-ghost use Rattle.air.specs.Traces.{height_of, layout_of, traces_of, window_of};
+ghost use Rattle.air.specs.Traces.{height_of, layout_of, traces_of};
+ghost use Rattle.expressions.specs.Window.{Window};
 ghost use Rattle.lookup_model.specs.Denominators.{key_denominator};
 ghost use Rattle.lookup_model.specs.Fault.{trace_faults};
 ghost use Rattle.field.specs.Sums.{sum_in};
 ghost use Rattle.lookup_generation.specs.Fraction.{AreDefined, AreWhole};
 ghost use Rattle.lookup_generation.specs.Inverses.{ForExtensions};
-ghost use Rattle.lookup_columns.specs.ChunkColumns.{HoldLookup, HoldLookups};
+ghost use Rattle.lookup_columns.specs.HeldRows.{HoldAllOnRows, HoldOnRows};
 ghost use Rattle.lookup_columns.specs.LookupSteps.{AreLookupSteps};
 ghost use Rattle.lookup_generation.specs.Progress.{AnswersColumn, AnswersColumns, AreRatios, HasRows, HaveNoTuples, IsFirstOf, column_cells, sent_on, started_chunks};
-ghost use Rattle.lookup_model.specs.Records.{LookupsFit};
+ghost use Rattle.lookup_model.specs.Records.{AreRecords, LookupsFit};
 ghost use Rattle.lookup_model.specs.Generation.{AnswersGeneration};
 ghost use Rattle.lookup_model.specs.Trace.{sent_rows};
 
@@ -40,26 +41,23 @@ pub(crate) struct RowFault {
 /// Appends the fractions of a lookup on the rows from `first` up to `end`, row after row, as ratios.
 /// `columns` are those of the lookup, from row `first` on.
 ///
-/// Returns the lookup's first fault on these rows, if it has one; the fractions of the rows before it
-/// are then appended.
+/// Returns the lookup's first fault on these rows, if it has one. What is then appended has no meaning.
+/// Else no denominator of what is appended is zero, and without tuples each is one.
 fn push_column<F: Field, EF: ExtensionDomain<F>>(
     ratios: &mut Vec<Ratio<EF>>,
     lookup: &Lookup<F>,
     columns: &[BranchColumns<F, EF>],
-    traces: &Traces<'_, F>,
-    challenges: &[EF],
     first: usize,
     end: usize,
 ) -> Result<Option<RowFault>, AllocError>
     requires from { first ≤ end }
-    requires up_to { end ≤ height_of (traces_of traces.now) }
-    requires columns { (row : ℕ) → first ≤ row → row < end
-        → HoldLookup F.ring EF.ring EF.embed challenges.now (window_of (traces_of traces.now) row)
-        (row - first) lookup.now columns.now }
+    requires columns { (challenges : List EF) × (window : ℕ → Window F)
+        × HoldOnRows F.ring EF.ring EF.embed challenges window first end lookup.now columns.now }
     ensures answers { ForExtensions F.ring F.eq EF.ring EF.eq EF.embed (λ E.
-        IfOk result (λ found. AnswersColumn E (key_denominator E challenges.now)
-        (sent_on F.ring F.eq (traces_of traces.now) lookup.now) lookup.now.column first end
-        ratios.old.items ratios.new.items found)) }
+        IfOk result (λ found. (challenges : List EF) (window : ℕ → Window F)
+        → HoldOnRows F.ring EF.ring EF.embed challenges window first end lookup.now columns.now
+        → AnswersColumn E (key_denominator E challenges) (sent_on F.ring F.eq window lookup.now)
+        lookup.now.column first end ratios.old.items ratios.new.items found)) }
     ensures defined { IfOk result (λ found. found ≡ None → (n : ℕ)
         → AreDefined EF.ring n ratios.old.items
         → AreDefined EF.ring (n + (end - first)) ratios.new.items) }
@@ -69,7 +67,7 @@ fn push_column<F: Field, EF: ExtensionDomain<F>>(
         (λ fault. (first ≤ fault.row) × (fault.row < end))) }
 {
     for row in first..end {
-        match fraction(lookup, columns, row - first, traces, challenges, row) {
+        match fraction(lookup, columns, row - first, row) {
             Ok(ratio) => ratios.push(ratio)?,
             Err(error) => return Ok(Some(RowFault { row, error })),
         }
@@ -89,30 +87,28 @@ fn rows_before(fault: &Option<RowFault>, end: usize) -> usize
 }
 
 /// Fills `ratios`, which are empty so far, with the fractions of each lookup on the rows from `first` up
-/// to `end`, one column after the other.
+/// to `end`, one column after the other. `columns` are those of each lookup, from row `first` on.
 ///
 /// Returns the first fault in the order row, lookup, if there is one. Once a lookup has a fault, further
-/// ones are looked at only on the rows before it.
+/// ones are looked at only on the rows before it. Without a fault no denominator is zero, and each is one
+/// where no lookup has tuples.
 fn push_columns<F: Field, EF: ExtensionDomain<F>>(
     ratios: &mut Vec<Ratio<EF>>,
     lookups: &[Lookup<F>],
     columns: &[Vec<BranchColumns<F, EF>>],
-    traces: &Traces<'_, F>,
-    challenges: &[EF],
     first: usize,
     end: usize,
 ) -> Result<Option<RowFault>, AllocError>
-    requires fit { LookupsFit (layout_of (traces_of traces.now)) lookups.now }
+    requires records { AreRecords lookups.now }
     requires from { first ≤ end }
-    requires up_to { end ≤ height_of (traces_of traces.now) }
-    requires columns { (row : ℕ) → first ≤ row → row < end
-        → HoldLookups F.ring EF.ring EF.embed challenges.now (window_of (traces_of traces.now) row)
-        (row - first) lookups.now columns.now }
-    requires wide { length columns.now ≡ length lookups.now }
+    requires columns { (challenges : List EF) × (window : ℕ → Window F)
+        × HoldAllOnRows F.ring EF.ring EF.embed challenges window first end lookups.now columns.now }
     requires none_yet { ratios.old.items ≡ [] }
     ensures answers { ForExtensions F.ring F.eq EF.ring EF.eq EF.embed (λ E.
-        IfOk result (AnswersColumns E (key_denominator E challenges.now)
-        (traces_of traces.now) lookups.now first end ratios.new.items)) }
+        IfOk result (λ found. (challenges : List EF) (window : ℕ → Window F)
+        → HoldAllOnRows F.ring EF.ring EF.embed challenges window first end lookups.now columns.now
+        → AnswersColumns E (key_denominator E challenges) window lookups.now first end
+        ratios.new.items found)) }
     ensures defined { IfOk result (λ found. found ≡ None
         → AreDefined EF.ring (length lookups.now * (end - first)) ratios.new.items) }
     ensures bare { HaveNoTuples lookups.now
@@ -124,13 +120,14 @@ fn push_columns<F: Field, EF: ExtensionDomain<F>>(
     for lookup in lookups {
         let until = rows_before(&fault, end);
         let branches = &columns[lookup.column];
-        let found = push_column(ratios, lookup, branches, traces, challenges, first, until)?;
+        let found = push_column(ratios, lookup, branches, first, until)?;
         fault = found.or(fault);
     }
     Ok(fault)
 }
 
-/// The fractions of all lookups on the rows from `first` up to `end`, lookup after lookup, as ratios.
+/// The fractions of all lookups on the rows from `first` up to `end`, lookup after lookup, as ratios. No
+/// denominator is zero, and each is one where no lookup has tuples.
 ///
 /// Refuses the first fault in the order row, lookup.
 fn ratios_of<F: Field, EF: ExtensionDomain<F>>(
@@ -176,15 +173,7 @@ fn ratios_of<F: Field, EF: ExtensionDomain<F>>(
         .checked_mul(lookups.len())
         .ok_or(LookupError::Memory)?;
     let mut ratios = memory.ratios.take(alloc, size)?;
-    let fault = push_columns(
-        &mut ratios,
-        lookups,
-        &columns,
-        traces,
-        challenges,
-        first,
-        end,
-    )?;
+    let fault = push_columns(&mut ratios, lookups, &columns, first, end)?;
     match fault {
         Some(RowFault { row: _, error }) => Err(error),
         None => {
@@ -222,7 +211,8 @@ fn push_row<K: Domain>(
 /// Appends the rows from `first` up to `end` of the auxiliary trace to `cells`, by at most one inverse.
 /// Returns the accumulator of row `end`.
 ///
-/// Refuses the first fault in the order row, lookup. A fault is found before anything is inverted.
+/// Refuses the first fault in the order row, lookup. A fault is found before anything is inverted, and
+/// nothing is inverted where no lookup has tuples.
 fn push_chunk<F: Field, EF: ExtensionDomain<F>, I: Inverter<EF>>(
     alloc: Global,
     memory: &mut ChunkMemory<F, EF>,
@@ -290,7 +280,7 @@ pub fn chunk_end(first: usize, height: usize) -> usize
 
 /// The cells of the auxiliary trace, row after row, and the sum of all fractions.
 ///
-/// Refuses the first fault in the order row, lookup.
+/// Refuses the first fault in the order row, lookup. `inverter` is asked as [`generate_counted`] says.
 fn generate<F: Field, EF: ExtensionDomain<F>, I: Inverter<EF>>(
     alloc: Global,
     traces: &Traces<'_, F>,

@@ -24,6 +24,12 @@ module _ {A : Type 0} (P : A → Type 0) where
   all_here (x ∷ xs) zero d lt all = all.0
   all_here (x ∷ xs) (suc i) d lt all = all_here xs i d (omega (arith, lt)) all.1
 
+  -- what holds of the items at their indices holds of each
+  pub all_indexed : (xs : List A) → ((i : ℕ) (x : A) → i < length xs → x ≡ get_or xs i x → P x) → AllByRecursion P xs
+  all_indexed [] each = tt
+  all_indexed (x ∷ xs) each =
+      (each 0 x (omega arith) refl, all_indexed xs (λ i y lt is. each (suc i) y (omega (arith, lt)) is))
+
   -- what holds of each image holds of each item's image
   pub all_of_map : {B : Type 0} (f : B → A) (xs : List B) → AllByRecursion P (map f xs) → AllByRecursion (λ x. P (f x)) xs
   all_of_map f [] all = tt

@@ -4,8 +4,10 @@ pub mod KeyLaws
 pub mod LookupFaults
 pub mod Nets
 pub mod PlainResults
+pub mod PlainRows
 pub mod Regrouping
 pub mod Rows
+pub mod RunningSums
 pub mod SatisfiedFractions
 pub mod SatisfiedLookups
 pub mod SatisfiedRows

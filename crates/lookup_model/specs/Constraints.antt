@@ -1,11 +1,11 @@
 -- The constraints that a lookup argument emits for one AIR (LogUp, eprint 2022/1530). Each is the
 -- left side of an equation whose right side is zero.
-use Rattle.std.specs.Prelude.{ℕ, Bool, ◌+◌, ◌*◌, max, List, [], ◌∷◌, ◌++◌, Option, None, Some, map, slice_index_or}
+use Rattle.std.specs.Prelude.{ℕ, Bool, ◌+◌, max, List, [], ◌∷◌, ◌++◌, Option, None, Some, map, slice_index_or}
 use Rattle.std.specs.List.{zip}
 use Rattle.field.specs.Ring.{of_bool, sub_in}
 use Rattle.field.specs.Sums.{sum_in, product_in, taken_out}
 use Rattle.expressions.specs.Window.{ExtWindow}
-use Rattle.lookup_model.specs.Denominators.{tuple_denominator}
+use Rattle.lookup_model.specs.Denominators.{column_denominator}
 use Rattle.field.specs.Extension.{Extension}
 use Rattle.lookup_model.specs.LookupDegree.{lookup_degree}
 use Rattle.lookup_model.specs.Message.{Message}
@@ -76,14 +76,10 @@ module _ {F K : Type 0} (E : Extension F K) where
   abbrev pub terminal_at : ExtWindow F K → K
   terminal_at w = slice_index_or w.permutation_values 0 E.ring.zero
 
-  -- the denominator of a tuple of the lookup in a column, over the challenges of that column
-  abbrev pub column_tuple_denominator : ℕ → ExtWindow F K → List F → K
-  column_tuple_denominator column w = tuple_denominator E (slice_index_or w.challenges (2 * column) E.ring.zero) (slice_index_or w.challenges (2 * column + 1) E.ring.zero)
-
   -- The fraction of a lookup: U * f - V without flags, D * f - N with flags.
   abbrev pub fraction_constraint : Lookup F → Constraint F K
   fraction_constraint lookup = record {
-    meaning = λ w. fraction_left E (column_tuple_denominator lookup.column w) (flags_at E.base w.base lookup) (branches_at E.base w.base lookup.column lookup) (fraction_at lookup.column w);
+    meaning = λ w. fraction_left E (column_denominator E w.challenges lookup.column) (flags_at E.base w.base lookup) (branches_at E.base w.base lookup.column lookup) (fraction_at lookup.column w);
     degree = λ t. lookup_degree t lookup;
   }
 

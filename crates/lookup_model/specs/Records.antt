@@ -13,7 +13,7 @@ module _ {F : Type 0} where
     pub multiplicities : length lookup.multiplicities.items ≡ length lookup.elements.items
     pub flags : ForSome lookup.flags (λ flags. length flags.items ≡ length lookup.elements.items)
 
-  -- equal lengths, and this column
+  -- a lookup has equal lengths and this column
   abbrev pub IsRecordAt : ℕ → Lookup F → Type 0
   IsRecordAt column lookup = (lookup.column ≡ column) × HasEqualLengths lookup
 
@@ -21,11 +21,11 @@ module _ {F : Type 0} where
   abbrev pub AreRecordsBelow : ℕ → List (Lookup F) → Type 0
   AreRecordsBelow n lookups = (i : ℕ) (lookup : Lookup F) → i < n → slice_get lookups i ≡ Some lookup → IsRecordAt i lookup
 
-  -- all of them do
+  -- all lookups have the columns 0, 1, 2, … and equal lengths
   abbrev pub AreRecords : List (Lookup F) → Type 0
   AreRecords lookups = AreRecordsBelow (length lookups) lookups
 
-  -- lookup i does not, and all those before it do
+  -- lookup i is the first whose lengths are not equal or whose column is not i
   pub record IsFirstMalformed (lookups : List (Lookup F)) (i : ℕ) : Type 0 where
     pub lookup : Lookup F
     pub is_there : slice_get lookups i ≡ Some lookup

@@ -9,11 +9,11 @@ use Rattle.lookup_model.specs.declared.sum_degrees.SumDegrees.{SumDegrees}
 abbrev pub greater_degree : List BranchDegrees → ℕ
 greater_degree bs = max (additive_denominator_degree bs) (additive_numerator_degree bs)
 
--- the degree of the denominator, and the greater one
+-- the degree of the denominator, and the greater of its degree and the numerator's
 pub record AreSumDegrees (bs : List BranchDegrees) (d : SumDegrees) : Type 0 where
   pub denominator : d.denominator ≡ additive_denominator_degree bs
   pub greatest : d.greatest ≡ greater_degree bs
 
--- the refusal where the greater one does not fit
+-- the refusal where the greater degree does not fit 64 bits
 abbrev pub IsTooGreat : List BranchDegrees → LookupError → Type 0
 IsTooGreat bs e = (e ≡ DegreeOverflow) × (2 ^ 64 ≤ greater_degree bs)

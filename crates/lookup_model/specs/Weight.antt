@@ -1,6 +1,6 @@
 -- The range of weights.
 use Rattle.std.specs.Prelude.{◌^◌, ℕ}
 
--- what every weight is below
+-- every weight is below this
 abbrev pub weight_bound : ℕ
 weight_bound = 2 ^ 64

@@ -8,8 +8,8 @@
 /// alphas are accepting at it; then two unbalanced messages have the same point there.
 #[derive(Debug, Clone, Copy, PartialEq, Eq)]
 pub struct SoundnessCount {
-    /// The number of distinct messages, each an id with the values of a tuple; those of multiplicity
-    /// zero too.
+    /// The number of distinct messages, each an id with the values of a tuple, including those of
+    /// multiplicity zero.
     pub messages: u128,
     /// The number of those whose multiplicities do not sum to zero.
     pub unbalanced: u128,

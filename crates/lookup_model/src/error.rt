@@ -9,7 +9,7 @@ use thiserror::Error;
 /// A refusal of the lookup layer.
 #[derive(Debug, Drop, PartialEq, Eq, Error)]
 pub enum LookupError {
-    /// Two tuples on one bus have different widths, be they of one lookup or of two.
+    /// Two tuples on one bus have different widths, in one lookup or in two.
     #[error("bus {bus}: tuple widths {expected} and {actual} differ")]
     BusWidthMismatch {
         bus: String,

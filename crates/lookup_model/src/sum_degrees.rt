@@ -20,7 +20,7 @@ pub struct SumDegrees {
 }
 
 impl SumDegrees {
-    /// Those of no fraction.
+    /// The degrees of the empty sum.
     fn zero() -> Self
         ensures { AreSumDegrees [] result }
     {
@@ -30,7 +30,7 @@ impl SumDegrees {
         }
     }
 
-    /// Those of a multiplicity over the denominator of a tuple.
+    /// The degrees of one fraction, a multiplicity over the denominator of a tuple.
     fn of_fraction<F>(
         tuple: &[SymbolicExpression<F>],
         multiplicity: &SymbolicExpression<F>,
@@ -47,8 +47,8 @@ impl SumDegrees {
         })
     }
 
-    /// Those of the fractions of a lookup, its flags left out, if the transition selector has degree
-    /// `transition`. Each expression is walked once.
+    /// The degrees of the sum of a lookup's fractions, its flags left out, if the transition selector
+    /// has degree `transition`. Each expression is walked once.
     ///
     /// Refuses `DegreeOverflow`, exactly if one of them does not fit `usize`. Then the degree of the
     /// constraint does not fit, if the lookup has no flags.
@@ -67,7 +67,7 @@ impl SumDegrees {
         Ok(sum)
     }
 
-    /// Those of both sums together.
+    /// The degrees of both sums together.
     ///
     /// Refuses `DegreeOverflow`, exactly if one of them does not fit `usize`. Then the degree of the
     /// constraint of both does not fit.

@@ -1,9 +1,9 @@
 -- The set flags of a row, while its flags are processed.
-use Rattle.std.specs.Prelude.{◌≡◌, ◌<◌, ◌⊎◌, ℕ, Bool, true, false, List, [], ◌∷◌, Result, MatchResult, length}
+use Rattle.std.specs.Prelude.{◌≡◌, ◌<◌, ℕ, Bool, true, false, List, [], ◌∷◌, Result, MatchResult, length}
 use Rattle.field.specs.Ring.{Ring}
 use Rattle.lookup_model.specs.Fault.{are_boolean, set_indices}
 use Rattle.lookup_model.specs.declared.error.LookupError.{LookupError}
-use Rattle.lookup_model.specs.declared.error.LookupError.TheVariants.{FlagNotBoolean, Memory}
+use Rattle.lookup_model.specs.declared.error.LookupError.TheVariants.{FlagNotBoolean}
 use Rattle.lookup_rows.specs.declared.flags.SetFlags.{SetFlags}
 use Rattle.lookup_rows.specs.declared.flags.SetFlags.TheVariants.{Nothing, One, Several}
 
@@ -23,4 +23,4 @@ abbrev pub AnswersFlags : {F : Type 0} → Ring F → (F → F → Bool) → ℕ
 AnswersFlags R eq row column flags result =
     MatchResult result
     (AreSetFlags R eq flags)
-    (λ e. (e ≡ Memory) ⊎ ((e ≡ FlagNotBoolean row column) × (are_boolean R eq flags ≡ false)))
+    (λ e. (e ≡ FlagNotBoolean row column) × (are_boolean R eq flags ≡ false))

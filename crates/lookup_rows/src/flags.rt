@@ -61,6 +61,8 @@ pub fn with_flag<F: Field>(
 }
 
 /// The set flags on the builder's row.
+///
+/// Refuses a flag that is neither zero nor one.
 pub(crate) fn set_flags<F: Field, EF: Domain>(
     flags: &[SymbolicExpression<F>],
     builder: &LookupTraceBuilder<'_, F, EF>,

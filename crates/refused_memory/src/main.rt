@@ -1,4 +1,4 @@
-//! Hostile use, for `tools/refused-memory`:
+//! Hostile use, for `.ci/checks/refused-memory`:
 //!
 //! - `refused_memory GROUP` makes the calls of a group twice over the same inputs, and writes a line for
 //!   each answer and each input. The tool refuses it one request for memory after another.

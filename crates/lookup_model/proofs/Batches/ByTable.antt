@@ -13,7 +13,7 @@ use Rattle.lookup_model.specs.Message.{Key, Message}
 use Rattle.lookup_model.specs.Sent.{branch_at, chosen, flags_at, sent, sent_at}
 use Rattle.lookup_model.proofs.Lookups.SentRows.{column_is}
 use Rattle.lookup_model.specs.declared.types.Lookup.{Lookup}
-use Rattle.lookup_model.proofs.Lookups.SatisfiedRows.{all_indexed}
+use Rattle.lookup_model.proofs.Lists.{all_indexed}
 use Rattle.lookup_model.specs.Batches.Instances.{Instance, IsFitting}
 use Rattle.lookup_model.specs.Batches.Messages.{id_of, sent_rows_of}
 use Rattle.lookup_model.specs.Challenges.{ChallengeTable, column_challenges, table_key_denominator}

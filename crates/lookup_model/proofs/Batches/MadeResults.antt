@@ -1,36 +1,30 @@
 -- Solutions of the equations of a batch make a satisfied witness, whose terminals are their sums.
-use Rattle.std.proofs.Common.{◌≡◌, ℕ, zero, suc, ◌+◌, ◌*◌, ◌%◌, ◌<◌, ◌==◌, Bool, true, false, not, Option, None, Some, List, [], ◌∷◌, ◌++◌, length, map, take, get_or, slice_index_or, refl, sym, ap, subst, ◌∙◌, arith}
-use Rattle.std.proofs.Math.Nat.{mod-eq_of_lt}
-use Rattle.std.proofs.lemmas.Bool.{eqb-true, eqb-false, not-true}
+use Rattle.std.proofs.Common.{◌≡◌, ℕ, zero, suc, ◌+◌, ◌*◌, ◌<◌, Option, None, Some, List, [], ◌∷◌, ◌++◌, length, map, take, get_or, slice_index_or, refl, sym, ap, subst, ◌∙◌, arith}
 use Rattle.std.proofs.lemmas.Grind.{flat_map-append}
 use Rattle.std.proofs.lemmas.List.{append-nil, ext_get_or, get_or_default, length-append, length-map, take_all, take_more}
 use Rattle.std.proofs.lemmas.List.FromFn.{length-range_with_len}
 use Rattle.std.specs.List.{AllByRecursion, AllZip, flat_map, range_with_len}
-use Rattle.field.specs.laws.Distinct.{all_map}
-use Rattle.field.specs.Ring.{of_bool, sub_in}
-use Rattle.field.specs.laws.RingFacts.{mul_zero, zero_mul}
-use Rattle.field.specs.laws.RingSolver.{var, con, ◌:+◌, :neg, ring_law}
+use Rattle.field.specs.Ring.{sub_in}
 use Rattle.field.specs.Sums.{sum_in}
 use Rattle.matrix.specs.Matrix.{Matrix, height, row}
 use Rattle.expressions.specs.Window.{ExtWindow}
 use Rattle.lookup_model.proofs.Branches.{mapped_at}
-use Rattle.lookup_model.proofs.ConstraintLaws.{accumulator_constraints-some}
 use Rattle.lookup_model.proofs.SumLaws.{sum_in-append}
 use Rattle.lookup_model.specs.Challenges.{ChallengeTable, column_challenges}
-use Rattle.lookup_model.specs.Constraints.{Constraint, accumulator_at, accumulator_constraints, fraction_at, fraction_constraint, fractions_at, terminal_at}
+use Rattle.lookup_model.specs.Constraints.{accumulator_at, fraction_at, fraction_constraint, fractions_at}
 use Rattle.field.specs.Extension.{Extension, IsLawful}
 use Rattle.lookup_model.specs.Records.{AreRecords}
 use Rattle.lookup_model.specs.Terminals.{terminal_sum, terminal_value}
-use Rattle.lookup_model.specs.Witness.{HasShape, witness_window}
+use Rattle.lookup_model.specs.Witness.{witness_window}
 use Rattle.lookup_model.specs.declared.types.Lookup.{Lookup}
 use Rattle.lookup_model.specs.declared.types.LookupTerminal.{LookupTerminal}
-use Rattle.lookup_model.proofs.Lookups.PlainResults.{IsShaped-product, height_of}
-use Rattle.lookup_model.proofs.Lookups.SatisfiedRows.{all_indexed, none_satisfied, row_of_parts}
+use Rattle.lookup_model.proofs.Lookups.RunningSums.{running_satisfied}
+use Rattle.lookup_model.proofs.Lookups.SatisfiedRows.{none_satisfied, row_of_parts}
 use Rattle.lookup_model.proofs.Lookups.SentRows.{column_is}
 use Rattle.lookup_model.specs.Batches.Equations.{CanSumTo, Equation, Solves, air_equations, batch_equations, challenged_window, equation_at, row_equations}
 use Rattle.lookup_model.specs.Batches.Instances.{Instance, IsFitting}
 use Rattle.lookup_model.specs.Batches.Witnesses.{AirResult, AreSatisfied, IsSatisfiedAt}
-use Rattle.lookup_model.proofs.Lists.{all_both, item_at}
+use Rattle.lookup_model.proofs.Lists.{item_at}
 use Rattle.lookup_model.proofs.Batches.SolutionSums.{none_sums, sums_apart}
 use Rattle.lookup_model.proofs.Batches.Zipped.{nothing_flat, ranged_at, zipped_at, zipped_long, zipped_rows}
 
@@ -110,16 +104,14 @@ module _ {F K : Type 0} {E : Extension F K} (laws : IsLawful E) (table : Challen
         ∙ ap (λ fs. E.ring.add (sum_below r) (sum_in E.ring fs)) (append-nil (fractions_on r))
         ∙ (λ j. E.ring.add (sym (accumulator_is r lt) j) (sym (fractions_are r lt) j))
 
-    -- what is left when the parts of a sum are taken from it
-    taken_apart : (a b c : K) → c ≡ E.ring.add a b → sub_in E.ring (sub_in E.ring c a) b ≡ E.ring.zero
-    taken_apart a b c e =
-        ap (λ t. sub_in E.ring (sub_in E.ring t a) b) e
-        ∙ ring_law laws.ring (a ∷ b ∷ []) (((var 0 :+ var 1) :+ :neg (var 0)) :+ :neg (var 1)) (con 0) refl
+    -- the sum after the last row is that of all
+    sum_is : (r : ℕ) → r + 1 ≡ height i.traces.main → sum_in E.ring (flat_map (λ row. row) rows) ≡ sum_below (r + 1)
+    sum_is r last =
+        ap (λ rs. sum_in E.ring (flat_map (λ row. row) rs)) (sym (take_all (r + 1) rows (omega (arith, many, last))))
 
-    -- a constraint that is selected is zero where the selector is off, or its left side is zero
-    selected_zero : (b : Bool) (left : K) → (b ≡ true → left ≡ E.ring.zero) → E.ring.mul (of_bool E.ring b) left ≡ E.ring.zero
-    selected_zero true left on = ap (E.ring.mul E.ring.one) (on refl) ∙ mul_zero laws.ring E.ring.one
-    selected_zero false left on = zero_mul laws.ring left
+    -- there are as many cells as rows of this width have
+    long : length (flat_map made_row (range_with_len 0 (height i.traces.main))) ≡ height i.traces.main * (length i.lookups + 1)
+    long = length_flat made_row (length i.lookups + 1) 0 (height i.traces.main) (λ r lt. omega (arith, length-fractions r (omega (arith, lt))))
 
     -- each lookup's constraint
     fraction_zero : (r : ℕ) → r < height i.traces.main → (k : ℕ) (lookup : Lookup F) → k < length i.lookups → lookup ≡ get_or i.lookups k lookup → (fraction_constraint E lookup).meaning (window_of r) ≡ E.ring.zero
@@ -130,44 +122,10 @@ module _ {F K : Type 0} {E : Extension F K} (laws : IsLawful E) (table : Challen
         ap (λ f. sub_in E.ring (E.ring.mul (e lookup).denominator f) (e lookup).numerator) (fraction_is r lt k lookup below is)
         ∙ ap (λ t. sub_in E.ring t (e lookup).numerator) solves ∙ laws.ring.add_neg (e lookup).numerator
 
-    first_zero : (r : ℕ) → r < height i.traces.main → E.ring.mul (of_bool E.ring (r == 0)) (accumulator_at E (window_of r)) ≡ E.ring.zero
-    first_zero r lt = selected_zero (r == 0) (accumulator_at E (window_of r)) (λ e. accumulator_is r lt ∙ ap sum_below (eqb-true r 0 e))
-
-    transition_zero : (r : ℕ) → r < height i.traces.main → E.ring.mul (of_bool E.ring (not (r + 1 == height i.traces.main))) (sub_in E.ring (sub_in E.ring (slice_index_or (row auxiliary ((r + 1) % height i.traces.main)) 0 E.ring.zero) (accumulator_at E (window_of r))) (fractions_at E i.lookups (window_of r))) ≡ E.ring.zero
-    transition_zero r lt = selected_zero (not (r + 1 == height i.traces.main)) _ (λ e.
-        let inner : r + 1 < height i.traces.main = omega (arith, lt, eqb-false (r + 1) (height i.traces.main) (not-true (r + 1 == height i.traces.main) e)) in
-        taken_apart (accumulator_at E (window_of r)) (fractions_at E i.lookups (window_of r)) (slice_index_or (row auxiliary ((r + 1) % height i.traces.main)) 0 E.ring.zero)
-        (ap (λ n. slice_index_or (row auxiliary n) 0 E.ring.zero) (mod-eq_of_lt inner) ∙ accumulator_is (r + 1) inner ∙ after_row r lt))
-
-    last_zero : (r : ℕ) → r < height i.traces.main → E.ring.mul (of_bool E.ring (r + 1 == height i.traces.main)) (sub_in E.ring (sub_in E.ring (sum_in E.ring (flat_map (λ row. row) rows)) (accumulator_at E (window_of r))) (fractions_at E i.lookups (window_of r))) ≡ E.ring.zero
-    last_zero r lt = selected_zero (r + 1 == height i.traces.main) _ (λ e.
-        taken_apart (accumulator_at E (window_of r)) (fractions_at E i.lookups (window_of r)) (sum_in E.ring (flat_map (λ row. row) rows))
-        (ap (λ rs. sum_in E.ring (flat_map (λ row. row) rs)) (sym (take_all (r + 1) rows (omega (arith, many, eqb-true (r + 1) (height i.traces.main) e)))) ∙ after_row r lt))
-
     -- the result with lookups
     made_satisfied : IsSatisfiedAt E table i (auxiliary, terminal)
-    made_satisfied = record {
-      shape = shape i.lookups some refl;
-      equations = λ r lt.
-          all_both (IsZeroAt r) (map (fraction_constraint E) i.lookups) (accumulator_constraints E i.lookups (terminal_at E) (λ t. 0))
-          (all_map (fraction_constraint E) (λ l. (fraction_constraint E l).meaning (window_of r) ≡ E.ring.zero) (IsZeroAt r) (λ l zero_there. zero_there) i.lookups (all_indexed (λ l. (fraction_constraint E l).meaning (window_of r) ≡ E.ring.zero) i.lookups (fraction_zero r lt)))
-          (subst (AllByRecursion (IsZeroAt r)) (sym (accumulator_constraints-some E i.lookups (terminal_at E) (λ t. 0) some)) (first_zero r lt, (transition_zero r lt, (last_zero r lt, tt))));
-    }
-      where
-        IsZeroAt : ℕ → Constraint F K → Type 0
-        IsZeroAt r constraint = constraint.meaning (window_of r) ≡ E.ring.zero
-
-        long : length (flat_map made_row (range_with_len 0 (height i.traces.main))) ≡ height i.traces.main * (length i.lookups + 1)
-        long = length_flat made_row (length i.lookups + 1) 0 (height i.traces.main) (λ r lt. omega (arith, length-fractions r (omega (arith, lt))))
-
-        shape : (ls : List (Lookup F)) → 0 < length ls → length ls ≡ length i.lookups → HasShape ls (height i.traces.main) auxiliary terminal
-        shape [] nonempty same = absurd (omega (arith, nonempty))
-        shape (l ∷ ls) nonempty same = record {
-          presence = refl;
-          width = ap (λ n. n + 1) (sym same);
-          high = height_of (flat_map made_row (range_with_len 0 (height i.traces.main))) (height i.traces.main) (length i.lookups) long;
-          whole = IsShaped-product (flat_map made_row (range_with_len 0 (height i.traces.main))) (height i.traces.main) (length i.lookups) long;
-        }
+    made_satisfied =
+        running_satisfied laws (column_challenges table i.ids) i.traces i.lookups some (flat_map made_row (range_with_len 0 (height i.traces.main))) (sum_in E.ring (flat_map (λ row. row) rows)) sum_below long refl accumulator_is after_row sum_is fraction_zero
 
   -- each sum of the fractions of an AIR is the terminal of a result
   pub result_of_sum : (i : Instance F) → IsFitting i → (total : K) → CanSumTo E.ring (air_equations E table i) total → (result : AirResult K) × IsSatisfiedAt E table i result × (terminal_value E.ring result.1 ≡ total)

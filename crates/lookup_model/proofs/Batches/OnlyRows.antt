@@ -12,28 +12,27 @@ use Rattle.air.specs.Traces.{AirTraces}
 use Rattle.lookup_model.proofs.Branches.{length-branches_at, mapped_at}
 use Rattle.lookup_model.proofs.ConstraintLaws.{accumulator_constraints-some}
 use Rattle.lookup_model.specs.Constraints.{Constraint, accumulator_at, accumulator_constraints, first_constraint, transition_constraint, last_constraint, fraction_at, fraction_constraint, fractions_at, fraction_denominator, fraction_numerator, terminal_at}
-use Rattle.lookup_model.specs.Denominators.{key_denominator, tuple_denominator}
+use Rattle.lookup_model.specs.Denominators.{column_denominator, key_denominator}
 use Rattle.field.specs.Extension.{Extension, IsLawful}
 use Rattle.lookup_model.specs.Generated.{plain_matrix, plain_terminal_of}
 use Rattle.lookup_model.proofs.HornerRule.{map-map}
 use Rattle.lookup_model.specs.Message.{Key, Message}
 use Rattle.lookup_model.specs.Plain.{plain_accumulator, plain_cells, plain_fraction, plain_row, plain_terminal, trace_messages}
 use Rattle.lookup_model.specs.Records.{AreRecords}
-use Rattle.lookup_model.proofs.Lookups.Rows.{plain_accumulator-more}
 use Rattle.lookup_model.specs.Sent.{Sent, branches_at, flags_at, sent_at}
-use Rattle.lookup_model.proofs.Lookups.SentRows.{column_is, equal_lengths, length-sent_rows, sent_rows-at}
+use Rattle.lookup_model.proofs.Lookups.PlainRows.{accumulator_after, fractions_together}
+use Rattle.lookup_model.proofs.Lookups.SentRows.{column_is, equal_lengths, get_or-sent_rows, length-sent_rows}
 use Rattle.lookup_model.specs.Trace.{sent_row, sent_rows}
 use Rattle.lookup_model.specs.Witness.{IsSatisfied, values_of_terminal, witness_window}
 use Rattle.lookup_model.specs.declared.types.Lookup.{Lookup}
 use Rattle.lookup_model.specs.declared.types.LookupTerminal.{LookupTerminal}
 use Rattle.lookup_model.proofs.Lookups.PlainResults.{plain_matrix-some, plain_terminal_of-some}
 use Rattle.lookup_model.proofs.Lookups.SatisfiedLookups.{as_many_flags, lookup_satisfied}
-use Rattle.lookup_model.proofs.Lookups.SatisfiedRows.{all_indexed}
 use Rattle.lookup_model.proofs.Lookups.Selectors.{put_together, zero_selected}
 use Rattle.lookup_model.proofs.Lookups.Shapes.{shape-some}
 use Rattle.lookup_model.proofs.Lookups.Terminals.{plain_terminal-sum}
 use Rattle.lookup_model.specs.Batches.Messages.{HasLawfulFlags, NoneVanishes}
-use Rattle.lookup_model.proofs.Lists.{all_front, all_back, all_here, all_of_map, all_parts, item_at, joined_rows, same_map, same_parts}
+use Rattle.lookup_model.proofs.Lists.{all_front, all_back, all_here, all_of_map, all_parts, item_at, joined_rows, same_parts}
 use Rattle.lookup_model.proofs.Batches.SentFacts.{sent_ids}
 use Rattle.lookup_model.proofs.Batches.OnlyFractions.{denominator_nonzero, no_fault, one_fraction}
 
@@ -59,10 +58,6 @@ module _ {F K : Type 0} {E : Extension F K} (laws : IsLawful E) (challenges : Li
   high : length rows ≡ height traces.main
   high = length-sent_rows E.base E.base_eq traces lookups
 
-  sents_at : (r : ℕ) → r < height traces.main → get_or rows r [] ≡ sents_of r
-  sents_at r lt =
-      get_or_default rows r [] (sents_of r) (omega (arith, high, lt)) ∙ sym (sent_rows-at E.base E.base_eq traces lookups r lt)
-
   module _ (lawful : AllByRecursion (AllByRecursion (HasLawfulFlags E.base E.base_eq)) rows) (none : NoneVanishes E den (trace_messages rows)) (auxiliary : Matrix K) (terminal : Option (LookupTerminal K)) (satisfied : IsSatisfied E traces lookups challenges auxiliary terminal) where
     abbrev window_of : ℕ → ExtWindow F K
     window_of r = witness_window traces challenges auxiliary terminal r
@@ -74,7 +69,7 @@ module _ {F K : Type 0} {E : Extension F K} (laws : IsLawful E) (challenges : Li
     lawful_at : (r : ℕ) → r < height traces.main → (k : ℕ) (lookup : Lookup F) → k < length lookups → lookup ≡ get_or lookups k lookup → HasLawfulFlags E.base E.base_eq (sent_of r lookup)
     lawful_at r lt k lookup below is =
         let row_lawful : AllByRecursion (HasLawfulFlags E.base E.base_eq) (sents_of r) =
-        subst (AllByRecursion (HasLawfulFlags E.base E.base_eq)) (sents_at r lt) (all_here (AllByRecursion (HasLawfulFlags E.base E.base_eq)) rows r [] (omega (arith, high, lt)) lawful) in
+        subst (AllByRecursion (HasLawfulFlags E.base E.base_eq)) (get_or-sent_rows E.base E.base_eq traces lookups r lt) (all_here (AllByRecursion (HasLawfulFlags E.base E.base_eq)) rows r [] (omega (arith, high, lt)) lawful) in
         subst (HasLawfulFlags E.base E.base_eq) (sym (mapped_at (sent_of r) lookups k lookup below is)) (all_here (HasLawfulFlags E.base E.base_eq) (sents_of r) k (sent_of r lookup) (omega (arith, length-map lookups (sent_of r), below)) row_lawful)
 
     none_at : (r : ℕ) → r < height traces.main → (k : ℕ) (lookup : Lookup F) → k < length lookups → lookup ≡ get_or lookups k lookup → NoneVanishes E den (sent_of r lookup).messages
@@ -83,7 +78,7 @@ module _ {F K : Type 0} {E : Extension F K} (laws : IsLawful E) (challenges : Li
         let AllNonzero = λ (s : Sent F). AllByRecursion Nonzero s.messages in
         let row_none : AllByRecursion AllNonzero (sents_of r) =
         all_parts Nonzero (λ s. s.messages) (sents_of r)
-        (subst (λ (sents : List (Sent F)). AllByRecursion Nonzero (flat_map (λ s. s.messages) sents)) (sents_at r lt)
+        (subst (λ (sents : List (Sent F)). AllByRecursion Nonzero (flat_map (λ s. s.messages) sents)) (get_or-sent_rows E.base E.base_eq traces lookups r lt)
         (all_here (λ row. AllByRecursion Nonzero (flat_map (λ s. s.messages) row)) rows r [] (omega (arith, high, lt)) (all_parts Nonzero (λ row. flat_map (λ s. s.messages) row) rows none))) in
         subst AllNonzero (sym (mapped_at (sent_of r) lookups k lookup below is)) (all_here AllNonzero (sents_of r) k (sent_of r lookup) (omega (arith, length-map lookups (sent_of r), below)) row_none)
 
@@ -94,7 +89,7 @@ module _ {F K : Type 0} {E : Extension F K} (laws : IsLawful E) (challenges : Li
         let lengths = equal_lengths lookups k lookup records below is in
         let flags = flags_at E.base w lookup in
         let bs = branches_at E.base w lookup.column lookup in
-        let over_column : List F → K = tuple_denominator E (slice_index_or challenges (2 * lookup.column) E.ring.zero) (slice_index_or challenges (2 * lookup.column + 1) E.ring.zero) in
+        let over_column : List F → K = column_denominator E challenges lookup.column in
         let same : IfSome flags (λ fs. length fs ≡ length bs) =
         as_many_flags laws challenges lookup.column r w lookup.flags (length bs) (λ fs has. lengths.flags fs has ∙ sym (length-branches_at E.base w lookup.column lookup lengths)) in
         let here : IsZeroAt r (fraction_constraint E lookup) =
@@ -106,15 +101,12 @@ module _ {F K : Type 0} {E : Extension F K} (laws : IsLawful E) (challenges : Li
         here
         (lookup_satisfied laws challenges lookup.column r w lookup (pf (sent_of r lookup)) lengths refl (no_fault laws den r lookup.column (sent_of r lookup) (lawful_at r lt k lookup below is) (none_at r lt k lookup below is)))
       where
-        over : (m : Message F) → m.key.id ≡ lookup.column → den m.key ≢ E.ring.zero → tuple_denominator E (slice_index_or challenges (2 * lookup.column) E.ring.zero) (slice_index_or challenges (2 * lookup.column + 1) E.ring.zero) m.key.tuple ≢ E.ring.zero
+        over : (m : Message F) → m.key.id ≡ lookup.column → den m.key ≢ E.ring.zero → column_denominator E challenges lookup.column m.key.tuple ≢ E.ring.zero
         over m at ne e =
-            ne (ap (λ c. tuple_denominator E (slice_index_or challenges (2 * c) E.ring.zero) (slice_index_or challenges (2 * c + 1) E.ring.zero) m.key.tuple) at ∙ e)
+            ne (ap (λ c. column_denominator E challenges c m.key.tuple) at ∙ e)
 
     fractions_are : (r : ℕ) → r < height traces.main → fractions_at E lookups (window_of r) ≡ sum_in E.ring (map pf (sents_of r))
-    fractions_are r lt =
-        ap (sum_in E.ring)
-        (same_map (λ l. fraction_at E l.column (window_of r)) (λ l. pf (sent_of r l)) lookups (all_indexed (λ l. fraction_at E l.column (window_of r) ≡ pf (sent_of r l)) lookups (fraction_is r lt))
-        ∙ sym (map-map pf (sent_of r) lookups))
+    fractions_are r lt = fractions_together E den traces lookups r (window_of r) (fraction_is r lt)
 
     -- the accumulator's equations
     accumulator_zeros : (r : ℕ) → r < height traces.main → AllByRecursion (IsZeroAt r) (accumulator_constraints E lookups (terminal_at E) (λ t. 0))
@@ -137,7 +129,7 @@ module _ {F K : Type 0} {E : Extension F K} (laws : IsLawful E) (challenges : Li
         ∙ put_together laws.ring (accumulator_at E (window_of r)) (fractions_at E lookups (window_of r)) (slice_index_or (row auxiliary ((r + 1) % height traces.main)) 0 E.ring.zero)
         (zero_selected laws.ring (not (r + 1 == height traces.main)) _ on (three_zeros r below).1.0) in
         step ∙ (λ i. E.ring.add (accumulator_is r below i) (fractions_are r below i))
-        ∙ sym (plain_accumulator-more E den laws rows r (sents_of r) (omega (arith, high, below)) (sent_rows-at E.base E.base_eq traces lookups r below))
+        ∙ sym (accumulator_after E den traces lookups laws r below)
         ∙ ap (plain_accumulator E den rows) more
 
     -- the width, the height and the terminal
@@ -165,7 +157,7 @@ module _ {F K : Type 0} {E : Extension F K} (laws : IsLawful E) (challenges : Li
         ext_get_or E.ring.zero (row auxiliary r) (plain_accumulator E den rows r ∷ map pf (sents_of r))
         (length-row r lt ∙ omega (arith, length-map (sents_of r) pf, length-map lookups (sent_of r)))
         (λ i inside. at i (omega (arith, inside, length-row r lt)))
-        ∙ ap (λ s. plain_accumulator E den rows r ∷ map pf s) (sym (sents_at r lt))
+        ∙ ap (λ s. plain_accumulator E den rows r ∷ map pf s) (sym (get_or-sent_rows E.base E.base_eq traces lookups r lt))
       where
         at : (i : ℕ) → i < suc (length lookups) → get_or (row auxiliary r) i E.ring.zero ≡ get_or (plain_accumulator E den rows r ∷ map pf (sents_of r)) i E.ring.zero
         at zero inside = accumulator_is r lt
@@ -195,7 +187,7 @@ module _ {F K : Type 0} {E : Extension F K} (laws : IsLawful E) (challenges : Li
           ∙ put_together laws.ring (accumulator_at E (window_of r)) (fractions_at E lookups (window_of r)) (terminal_at E (window_of r))
           (zero_selected laws.ring (r + 1 == height traces.main) _ (eq-eqb (r + 1) (height traces.main) last) (three_zeros r lt).1.1.0)
           ∙ (λ i. E.ring.add (accumulator_is r lt i) (fractions_are r lt i))
-          ∙ sym (plain_accumulator-more E den laws rows r (sents_of r) (omega (arith, high, lt)) (sent_rows-at E.base E.base_eq traces lookups r lt))
+          ∙ sym (accumulator_after E den traces lookups laws r lt)
           ∙ ap (λ t. sum_in E.ring (flat_map (λ s. map pf s) t)) (take_all (r + 1) rows (omega (arith, high, last)))
           ∙ sym (plain_terminal-sum laws den rows)
 

@@ -18,13 +18,12 @@ use Rattle.lookup_model.specs.Sent.{Sent, branch_at, branches_at, flags_at, sent
 use Rattle.lookup_model.proofs.Lookups.SentRows.{column_is}
 use Rattle.lookup_model.specs.declared.types.Lookup.{Lookup}
 use Rattle.lookup_model.proofs.Lookups.Regrouping.{All-filter}
-use Rattle.lookup_model.proofs.Lookups.SatisfiedRows.{all_indexed}
 use Rattle.lookup_model.specs.Trace.{sent_row_under}
 use Rattle.lookup_model.specs.Batches.Instances.{Instance, IsFitting}
 use Rattle.lookup_model.specs.Batches.Messages.{batch_messages, id_of, sent_rows_of}
 use Rattle.lookup_model.specs.Collisions.{IsLawfulKey}
 use Rattle.lookup_model.specs.Batches.Ids.{AreLawfulIds, identified}
-use Rattle.lookup_model.proofs.Lists.{all_both, all_front, all_back}
+use Rattle.lookup_model.proofs.Lists.{all_both, all_front, all_back, all_indexed}
 use Rattle.lookup_model.proofs.Batches.SentFacts.{all_sent}
 
 module _ {F : Type 0} where

@@ -1,5 +1,5 @@
 -- Plain fractions satisfy the constraints of their lookups.
-use Rattle.std.proofs.Common.{◌≡◌, ◌≢◌, ℕ, ◌+◌, ◌*◌, Bool, true, false, cond, not, ◌||◌, None, List, [], ◌∷◌, map, slice_index_or, refl, sym, ap, ◌∙◌}
+use Rattle.std.proofs.Common.{◌≡◌, ◌≢◌, ℕ, Bool, true, false, cond, not, ◌||◌, None, List, [], ◌∷◌, map, refl, sym, ap, ◌∙◌}
 use Rattle.std.proofs.lemmas.Bool.{true≢false}
 use Rattle.std.specs.List.{AllByRecursion}
 use Rattle.std.specs.declared.alloc.Global.{Global}
@@ -11,7 +11,7 @@ use Rattle.field.specs.Sums.{product_in, sum_in, taken_out}
 use Rattle.expressions.specs.Window.{Window}
 use Rattle.expressions.specs.declared.base_expression.SymbolicExpression.{SymbolicExpression}
 use Rattle.lookup_model.specs.Constraints.{fraction_left}
-use Rattle.lookup_model.specs.Denominators.{key_denominator, tuple_denominator}
+use Rattle.lookup_model.specs.Denominators.{column_denominator, key_denominator}
 use Rattle.field.specs.Extension.{Extension, IsLawful}
 use Rattle.lookup_model.specs.Fault.{vanishes}
 use Rattle.lookup_model.specs.Plain.{quotient_of}
@@ -74,7 +74,7 @@ module _ {F K : Type 0} {E : Extension F K} (laws : IsLawful E) (denominator : K
 
 module _ {F K : Type 0} {E : Extension F K} (laws : IsLawful E) (challenges : List K) (column : ℕ) (w : Window F) where
   abbrev denominator_of_tuple : List F → K
-  denominator_of_tuple = tuple_denominator E (slice_index_or challenges (2 * column) E.ring.zero) (slice_index_or challenges (2 * column + 1) E.ring.zero)
+  denominator_of_tuple = column_denominator E challenges column
 
   abbrev of_key : Key F → K
   of_key = key_denominator E challenges

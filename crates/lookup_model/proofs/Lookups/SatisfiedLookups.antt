@@ -1,5 +1,5 @@
 -- Where a lookup has no fault on a row, its plain fraction satisfies its constraint.
-use Rattle.std.proofs.Common.{◌≡◌, ℕ, ◌+◌, ◌*◌, Option, None, Some, IfSome, List, [], ◌∷◌, length, map, slice_index_or, refl, sym, ap, ◌∙◌, arith}
+use Rattle.std.proofs.Common.{◌≡◌, ℕ, Option, None, Some, IfSome, List, [], ◌∷◌, length, map, refl, sym, ap, ◌∙◌, arith}
 use Rattle.std.proofs.lemmas.List.{length-map}
 use Rattle.std.specs.List.{zip}
 use Rattle.std.specs.Option.{ForSome, option_map}
@@ -11,7 +11,7 @@ use Rattle.expressions.specs.Window.{Window}
 use Rattle.expressions.specs.declared.base_expression.SymbolicExpression.{SymbolicExpression}
 use Rattle.lookup_model.proofs.Branches.{length-branches_at}
 use Rattle.lookup_model.specs.Constraints.{flagged_denominators, fraction_left}
-use Rattle.lookup_model.specs.Denominators.{key_denominator, tuple_denominator}
+use Rattle.lookup_model.specs.Denominators.{column_denominator, key_denominator}
 use Rattle.field.specs.Extension.{Extension, IsLawful}
 use Rattle.lookup_model.specs.Fault.{fault_of}
 use Rattle.lookup_model.specs.Message.{Key, Message}
@@ -26,7 +26,7 @@ use Rattle.lookup_model.proofs.Lookups.Selections.{chosen_few}
 
 module _ {F K : Type 0} {E : Extension F K} (laws : IsLawful E) (challenges : List K) (column row : ℕ) (w : Window F) where
   abbrev denominator_of_tuple : List F → K
-  denominator_of_tuple = tuple_denominator E (slice_index_or challenges (2 * column) E.ring.zero) (slice_index_or challenges (2 * column + 1) E.ring.zero)
+  denominator_of_tuple = column_denominator E challenges column
 
   abbrev of_key : Key F → K
   of_key = key_denominator E challenges

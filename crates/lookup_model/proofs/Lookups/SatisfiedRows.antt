@@ -1,17 +1,13 @@
 -- The plain result is a satisfied witness.
-use Rattle.std.proofs.Common.{◌≡◌, ℕ, zero, suc, ◌+◌, ◌*◌, ◌-◌, ◌%◌, ◌<◌, ◌≤◌, ◌==◌, not, Option, None, Some, List, [], ◌∷◌, ◌++◌, length, map, take, drop, get_or, slice_index_or, refl, sym, ap, subst, ◌∙◌, arith}
-use Rattle.std.proofs.Math.Nat.{mod-eq_of_lt}
+use Rattle.std.proofs.Common.{◌≡◌, ℕ, zero, suc, ◌+◌, ◌*◌, ◌-◌, ◌<◌, ◌≤◌, Option, None, Some, List, [], ◌∷◌, ◌++◌, length, map, take, drop, get_or, slice_index_or, refl, sym, ap, subst, ◌∙◌, arith}
 use Rattle.std.proofs.Math.Seq.{drop-append-add, take-append_seam}
-use Rattle.std.proofs.lemmas.Bool.{eqb-true, eqb-false, not-true}
 use Rattle.std.proofs.lemmas.List.{get_or_default, length-map, length-take, take_all}
-use Rattle.std.specs.List.{AllByRecursion, cons_option, flat_map, range_with_len, slice_range}
-use Rattle.field.specs.laws.Distinct.{all_map}
-use Rattle.field.specs.Ring.{of_bool, sub_in}
+use Rattle.std.specs.List.{cons_option, flat_map, range_with_len, slice_range}
 use Rattle.field.specs.Sums.{sum_in}
 use Rattle.matrix.specs.Matrix.{Matrix, height, row}
 use Rattle.expressions.specs.Window.{ExtWindow, Window, window_at}
 use Rattle.air.specs.Traces.{AirTraces}
-use Rattle.lookup_model.specs.Constraints.{Constraint, accumulator_at, accumulator_constraints, fraction_at, fraction_constraint, fractions_at, terminal_at}
+use Rattle.lookup_model.specs.Constraints.{accumulator_at, fraction_at, fraction_constraint, fractions_at}
 use Rattle.lookup_model.specs.Denominators.{key_denominator}
 use Rattle.field.specs.Extension.{Extension, IsLawful}
 use Rattle.lookup_model.specs.Fault.{fault_of, row_faults, trace_faults}
@@ -20,27 +16,20 @@ use Rattle.lookup_model.specs.Plain.{plain_accumulator, plain_cells, plain_fract
 use Rattle.lookup_model.specs.Records.{AreRecords}
 use Rattle.lookup_model.specs.Sent.{Sent, sent_at}
 use Rattle.lookup_model.specs.Trace.{sent_row, sent_rows}
-use Rattle.lookup_model.specs.Witness.{HasShape, IsSatisfied, witness_window}
+use Rattle.lookup_model.specs.Witness.{IsSatisfied, witness_window}
 use Rattle.lookup_model.specs.declared.types.Lookup.{Lookup}
 use Rattle.lookup_model.specs.declared.types.LookupTerminal.{LookupTerminal}
-use Rattle.lookup_model.proofs.ConstraintLaws.{accumulator_constraints-some}
 use Rattle.lookup_model.proofs.Branches.{mapped_at}
 use Rattle.lookup_model.proofs.HornerRule.{map-map}
-use Rattle.lookup_model.proofs.Lookups.PlainResults.{IsShaped-product, height_of, length-plain_rows}
-use Rattle.lookup_model.proofs.Lookups.Rows.{plain_accumulator-more, row_faults-append, split_at, trace_faults-append}
+use Rattle.lookup_model.proofs.Lookups.PlainResults.{length-plain_rows}
+use Rattle.lookup_model.proofs.Lookups.PlainRows.{accumulator_after, fractions_together}
+use Rattle.lookup_model.proofs.Lookups.Rows.{row_faults-append, split_at, trace_faults-append}
+use Rattle.lookup_model.proofs.Lookups.RunningSums.{running_satisfied}
 use Rattle.lookup_model.proofs.Lookups.SatisfiedLookups.{lookup_satisfied}
-use Rattle.lookup_model.proofs.Lookups.Selectors.{selected_zero, taken_apart}
-use Rattle.lookup_model.proofs.Lookups.SentRows.{column_is, equal_lengths, length-sent_rows, length-sent_rows-at, sent_rows-at}
+use Rattle.lookup_model.proofs.Lookups.SentRows.{column_is, equal_lengths, get_or-sent_rows, length-sent_rows, length-sent_rows-at, sent_rows-at}
 use Rattle.lookup_model.proofs.Lookups.Terminals.{plain_terminal-sum}
-use Rattle.lookup_model.proofs.Lists.{all_both}
 
 module _ {A : Type 0} where
-  -- what holds of the items at their indices holds of each
-  pub all_indexed : (P : A → Type 0) (xs : List A) → ((i : ℕ) (x : A) → i < length xs → x ≡ get_or xs i x → P x) → AllByRecursion P xs
-  all_indexed P [] each = tt
-  all_indexed P (x ∷ xs) each =
-      (each 0 x (omega arith) refl, all_indexed P xs (λ i y lt is. each (suc i) y (omega (arith, lt)) is))
-
   -- a list that is empty with what follows is empty, and so is what follows
   nothing_before : (xs ys : List A) → xs ++ ys ≡ [] → xs ≡ []
   nothing_before [] ys e = refl
@@ -76,11 +65,6 @@ module _ {A : Type 0} where
       let wide : (r + 1) * width - r * width ≡ width = omega arith in
       ap (λ n. take n (drop (r * width) (flat_map f (range_with_len 0 h)))) wide
       ∙ part_of f width 0 h r (λ i low high. each i (omega (arith, high))) lt ∙ ap f (omega arith)
-
--- two functions with the same value at each item give the same list
-map_same : {A B : Type 0} (f g : A → B) (xs : List A) → AllByRecursion (λ x. f x ≡ g x) xs → map f xs ≡ map g xs
-map_same f g [] each = refl
-map_same f g (x ∷ xs) each = λ i. each.0 i ∷ map_same f g xs each.1 i
 
 module _ {F K : Type 0} (E : Extension F K) (denominator : Key F → K) where
   -- no fault in a trace is none on a row
@@ -136,17 +120,13 @@ module _ {F K : Type 0} {E : Extension F K} (laws : IsLawful E) (challenges : Li
   high : length rows ≡ height traces.main
   high = length-sent_rows E.base E.base_eq traces lookups
 
-  sents_at : (r : ℕ) → r < height traces.main → get_or rows r [] ≡ sents_of r
-  sents_at r lt =
-      get_or_default rows r [] (sents_of r) (omega (arith, high, lt)) ∙ sym (sent_rows-at E.base E.base_eq traces lookups r lt)
-
   -- row r of the auxiliary trace
   row_is : (r : ℕ) → r < height traces.main → row auxiliary r ≡ plain_accumulator E den rows r ∷ map pf (sents_of r)
   row_is r lt =
       row_of_parts (plain_row E den rows) (length lookups + 1) (length rows) r
       (λ i below. omega (arith, length-map (get_or rows i []) pf, length-sent_rows-at E.base E.base_eq traces lookups i (omega (arith, below, high))))
       (omega (arith, high, lt))
-      ∙ ap (λ s. plain_accumulator E den rows r ∷ map pf s) (sents_at r lt)
+      ∙ ap (λ s. plain_accumulator E den rows r ∷ map pf s) (get_or-sent_rows E.base E.base_eq traces lookups r lt)
 
   -- the fraction of a lookup on it
   fraction_is : (r : ℕ) → r < height traces.main → (k : ℕ) (lookup : Lookup F) → k < length lookups → lookup ≡ get_or lookups k lookup → fraction_at E lookup.column (window_of r) ≡ pf (sent_of r lookup)
@@ -160,10 +140,7 @@ module _ {F K : Type 0} {E : Extension F K} (laws : IsLawful E) (challenges : Li
       ∙ sym (mapped_at g lookups k lookup below is)
 
   fractions_are : (r : ℕ) → r < height traces.main → fractions_at E lookups (window_of r) ≡ sum_in E.ring (map pf (sents_of r))
-  fractions_are r lt =
-      ap (sum_in E.ring)
-      (map_same (λ l. fraction_at E l.column (window_of r)) (λ l. pf (sent_of r l)) lookups (all_indexed (λ l. fraction_at E l.column (window_of r) ≡ pf (sent_of r l)) lookups (fraction_is r lt))
-      ∙ sym (map-map pf (sent_of r) lookups))
+  fractions_are r lt = fractions_together E den traces lookups r (window_of r) (fraction_is r lt)
 
   accumulator_is : (r : ℕ) → r < height traces.main → accumulator_at E (window_of r) ≡ plain_accumulator E den rows r
   accumulator_is r lt = ap (λ xs. slice_index_or xs 0 E.ring.zero) (row_is r lt)
@@ -171,8 +148,18 @@ module _ {F K : Type 0} {E : Extension F K} (laws : IsLawful E) (challenges : Li
   -- the accumulator after a row
   after_row : (r : ℕ) → r < height traces.main → plain_accumulator E den rows (r + 1) ≡ E.ring.add (accumulator_at E (window_of r)) (fractions_at E lookups (window_of r))
   after_row r lt =
-      plain_accumulator-more E den laws rows r (sents_of r) (omega (arith, high, lt)) (sent_rows-at E.base E.base_eq traces lookups r lt)
+      accumulator_after E den traces lookups laws r lt
       ∙ (λ i. E.ring.add (sym (accumulator_is r lt) i) (sym (fractions_are r lt) i))
+
+  -- the accumulator after the last row is the terminal
+  terminal_is : (r : ℕ) → r + 1 ≡ height traces.main → plain_terminal E den rows ≡ plain_accumulator E den rows (r + 1)
+  terminal_is r last =
+      plain_terminal-sum laws den rows
+      ∙ ap (λ t. sum_in E.ring (flat_map (λ s. map pf s) t)) (sym (take_all (r + 1) rows (omega (arith, high, last))))
+
+  -- there are as many cells as rows of this width have
+  long : length (plain_cells E den rows) ≡ height traces.main * (length lookups + 1)
+  long = length-plain_rows E den rows (length lookups) (λ k below. length-sent_rows-at E.base E.base_eq traces lookups k (omega (arith, below, high))) 0 (length rows) (omega arith) ∙ ap (λ n. n * (length lookups + 1)) high
 
   module _ (faultless : trace_faults E den rows ≡ []) where
     -- each lookup's constraint
@@ -184,47 +171,10 @@ module _ {F K : Type 0} {E : Extension F K} (laws : IsLawful E) (challenges : Li
         lookup_satisfied laws challenges lookup.column r (base_window r) lookup (fraction_at E lookup.column (window_of r)) (equal_lengths lookups k lookup records below is) (fraction_is r lt k lookup below is)
         (ap (λ c. fault_of E den r c (sent_of r lookup)) (column_is lookups k lookup records below is) ∙ none)
 
-    first_zero : (r : ℕ) → r < height traces.main → E.ring.mul (of_bool E.ring (r == 0)) (accumulator_at E (window_of r)) ≡ E.ring.zero
-    first_zero r lt =
-        selected_zero laws.ring (r == 0) (accumulator_at E (window_of r)) (λ e. accumulator_is r lt ∙ ap (plain_accumulator E den rows) (eqb-true r 0 e))
-
-    transition_zero : (r : ℕ) → r < height traces.main → E.ring.mul (of_bool E.ring (not (r + 1 == height traces.main))) (sub_in E.ring (sub_in E.ring (slice_index_or (row auxiliary ((r + 1) % height traces.main)) 0 E.ring.zero) (accumulator_at E (window_of r))) (fractions_at E lookups (window_of r))) ≡ E.ring.zero
-    transition_zero r lt = selected_zero laws.ring (not (r + 1 == height traces.main)) _ (λ e.
-        let inner : r + 1 < height traces.main = omega (arith, lt, eqb-false (r + 1) (height traces.main) (not-true (r + 1 == height traces.main) e)) in
-        taken_apart laws.ring (accumulator_at E (window_of r)) (fractions_at E lookups (window_of r)) (slice_index_or (row auxiliary ((r + 1) % height traces.main)) 0 E.ring.zero)
-        (ap (λ i. slice_index_or (row auxiliary i) 0 E.ring.zero) (mod-eq_of_lt inner) ∙ accumulator_is (r + 1) inner ∙ after_row r lt))
-
-    last_zero : (r : ℕ) → r < height traces.main → E.ring.mul (of_bool E.ring (r + 1 == height traces.main)) (sub_in E.ring (sub_in E.ring (plain_terminal E den rows) (accumulator_at E (window_of r))) (fractions_at E lookups (window_of r))) ≡ E.ring.zero
-    last_zero r lt = selected_zero laws.ring (r + 1 == height traces.main) _ (λ e.
-        taken_apart laws.ring (accumulator_at E (window_of r)) (fractions_at E lookups (window_of r)) (plain_terminal E den rows)
-        (plain_terminal-sum laws den rows
-        ∙ ap (λ t. sum_in E.ring (flat_map (λ s. map pf s) t)) (sym (take_all (r + 1) rows (omega (arith, high, eqb-true (r + 1) (height traces.main) e))))
-        ∙ after_row r lt))
-
     -- the plain result with lookups
     pub plain_satisfied : IsSatisfied E traces lookups challenges auxiliary terminal
-    plain_satisfied = record {
-      shape = shape lookups some refl;
-      equations = λ r lt.
-          all_both (IsZeroAt r) (map (fraction_constraint E) lookups) (accumulator_constraints E lookups (terminal_at E) (λ t. 0))
-          (all_map (fraction_constraint E) (λ l. (fraction_constraint E l).meaning (window_of r) ≡ E.ring.zero) (IsZeroAt r) (λ l zero_there. zero_there) lookups (all_indexed (λ l. (fraction_constraint E l).meaning (window_of r) ≡ E.ring.zero) lookups (fraction_zero r lt)))
-          (subst (AllByRecursion (IsZeroAt r)) (sym (accumulator_constraints-some E lookups (terminal_at E) (λ t. 0) some)) (first_zero r lt, (transition_zero r lt, (last_zero r lt, tt))));
-    }
-      where
-        IsZeroAt : ℕ → Constraint F K → Type 0
-        IsZeroAt r constraint = constraint.meaning (window_of r) ≡ E.ring.zero
-
-        long : length (plain_cells E den rows) ≡ height traces.main * (length lookups + 1)
-        long = length-plain_rows E den rows (length lookups) (λ k below. length-sent_rows-at E.base E.base_eq traces lookups k (omega (arith, below, high))) 0 (length rows) (omega arith) ∙ ap (λ n. n * (length lookups + 1)) high
-
-        shape : (ls : List (Lookup F)) → 0 < length ls → length ls ≡ length lookups → HasShape ls (height traces.main) auxiliary terminal
-        shape [] nonempty same = absurd (omega (arith, nonempty))
-        shape (l ∷ ls) nonempty same = record {
-          presence = refl;
-          width = ap (λ n. n + 1) (sym same);
-          high = height_of (plain_cells E den rows) (height traces.main) (length lookups) long;
-          whole = IsShaped-product (plain_cells E den rows) (height traces.main) (length lookups) long;
-        }
+    plain_satisfied =
+        running_satisfied laws challenges traces lookups some (plain_cells E den rows) (plain_terminal E den rows) (plain_accumulator E den rows) long refl accumulator_is after_row terminal_is fraction_zero
 
 -- without lookups no cell and no terminal are a satisfied witness
 pub none_satisfied : {F K : Type 0} (E : Extension F K) (traces : AirTraces F) (challenges : List K) (lookups : List (Lookup F)) (auxiliary : Matrix K) → lookups ≡ [] → auxiliary ≡ record { values = []; width = 0 } → IsSatisfied E traces lookups challenges auxiliary None

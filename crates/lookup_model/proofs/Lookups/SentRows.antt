@@ -26,6 +26,12 @@ sent_rows-at R eq traces lookups r lt =
     let f = λ (k : ℕ). sent_row R eq (window_of traces k) lookups in
     sym (get_or-map-range_with_len f 0 (height traces.main) r r (f r) lt (omega arith))
 
+-- and so it is the item at r
+pub get_or-sent_rows : {F : Type 0} (R : Ring F) (eq : F → F → Bool) (traces : AirTraces F) (lookups : List (Lookup F)) (r : ℕ) → r < height traces.main → get_or (sent_rows R eq traces lookups) r [] ≡ sent_row R eq (window_of traces r) lookups
+get_or-sent_rows R eq traces lookups r lt =
+    let f = λ (k : ℕ). sent_row R eq (window_of traces k) lookups in
+    get_or-map-range_with_len f 0 (height traces.main) r r [] lt (omega arith)
+
 -- the number of rows is the height of the trace
 pub length-sent_rows : {F : Type 0} (R : Ring F) (eq : F → F → Bool) (traces : AirTraces F) (lookups : List (Lookup F)) → length (sent_rows R eq traces lookups) ≡ height traces.main
 length-sent_rows R eq traces lookups =
@@ -34,5 +40,4 @@ length-sent_rows R eq traces lookups =
 -- the length of each row is the number of lookups
 pub length-sent_rows-at : {F : Type 0} (R : Ring F) (eq : F → F → Bool) (traces : AirTraces F) (lookups : List (Lookup F)) (r : ℕ) → r < height traces.main → length (get_or (sent_rows R eq traces lookups) r []) ≡ length lookups
 length-sent_rows-at R eq traces lookups r lt =
-    let f = λ (k : ℕ). sent_row R eq (window_of traces k) lookups in
-    ap length (get_or-map-range_with_len f 0 (height traces.main) r r [] lt (omega arith)) ∙ length-map lookups (λ l. sent_at R eq (window_of traces r) l.column l)
+    ap length (get_or-sent_rows R eq traces lookups r lt) ∙ length-map lookups (λ l. sent_at R eq (window_of traces r) l.column l)

@@ -27,7 +27,7 @@ module _ {F K : Type 0} (E : Extension F K) (table : ChallengeTable K) (instance
   abbrev pub GivesOnlyFaultless : Result (Witness K) BatchFault → Type 0
   GivesOnlyFaultless answer = IfOk answer (λ _. AreFaultless E table instances)
 
-  -- if the batch is regular, only memory can be lacking
+  -- if the batch is regular, generation fails only when memory runs out
   abbrev pub SucceedsIfRegular : Result (Witness K) BatchFault → Type 0
   SucceedsIfRegular answer = IfErr answer (λ fault. IsRegular E table instances → IsOutOfMemory fault)
 
@@ -35,11 +35,11 @@ module _ {F K : Type 0} (E : Extension F K) (table : ChallengeTable K) (instance
   abbrev pub GivesSatisfied : Result (Witness K) BatchFault → Type 0
   GivesSatisfied answer = IfOk answer (λ w. AreSatisfied E table instances (results_of w))
 
-  -- if the batch is regular, it is the only one
+  -- if the batch is regular, a witness that is given is the only satisfied one
   abbrev pub GivesOnlySatisfied : Result (Witness K) BatchFault → Type 0
   GivesOnlySatisfied answer = IfOk answer (λ w. IsRegular E table instances → IsOnlySatisfied E table instances (results_of w))
 
-  -- if the messages balance, it is accepted
+  -- if the messages balance, a witness that is given is accepted
   abbrev pub GivesAcceptedIfBalanced : Result (Witness K) BatchFault → Type 0
   GivesAcceptedIfBalanced answer =
       IfOk answer (λ w. IsBalanced E.base E.base_eq (batch_messages E.base E.base_eq instances) → IsAccepted E table instances (results_of w))

@@ -15,7 +15,7 @@ use Rattle.lookup_model.specs.declared.count.SoundnessCount.{SoundnessCount}
 use Rattle.lookup_model.specs.declared.fault.BatchFault.{BatchFault}
 
 module _ {F K : Type 0} (E : Extension F K) (instances : List (Instance F)) where
-  -- The message count n: how many distinct keys the messages have, those of multiplicity zero too.
+  -- The message count n: how many distinct keys the messages have, whatever their multiplicities.
   abbrev pub message_count : ℕ
   message_count = length (keys E.base_eq (batch_messages E.base E.base_eq instances))
 

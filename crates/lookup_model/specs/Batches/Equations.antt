@@ -6,7 +6,8 @@ use Rattle.field.specs.Sums.{sum_in}
 use Rattle.expressions.specs.Window.{ExtWindow}
 use Rattle.air.specs.Traces.{height_of, window_of}
 use Rattle.lookup_model.specs.Challenges.{ChallengeTable, column_challenges}
-use Rattle.lookup_model.specs.Constraints.{column_tuple_denominator, fraction_denominator, fraction_numerator}
+use Rattle.lookup_model.specs.Constraints.{fraction_denominator, fraction_numerator}
+use Rattle.lookup_model.specs.Denominators.{column_denominator}
 use Rattle.field.specs.Extension.{Extension}
 use Rattle.lookup_model.specs.Sent.{branches_at, flags_at}
 use Rattle.lookup_model.specs.declared.types.Lookup.{Lookup}
@@ -22,9 +23,9 @@ module _ {K : Type 0} (S : Ring K) where
   abbrev pub Solves : Equation K → K → Type 0
   Solves equation f = S.mul equation.denominator f ≡ equation.numerator
 
-  -- Solutions of the equations, one of each, can sum to this. Over a field that is so of no element if
-  -- an equation has no solution, of each one if all have and one is solved by everything, and else of
-  -- one element alone.
+  -- Solutions of the equations, one of each, can sum to this. Over a field they can sum to no element
+  -- if an equation has no solution, to every element if all have one and one is solved by everything,
+  -- and otherwise to one element alone.
   pub record CanSumTo (equations : List (Equation K)) (total : K) : Type 0 where
     pub fractions : List K
     pub solve : AllZip Solves equations fractions
@@ -34,8 +35,8 @@ module _ {F K : Type 0} (E : Extension F K) where
   -- The equation of a lookup's fraction at a window: U * f = V without flags, D * f = N with flags.
   abbrev pub equation_at : ExtWindow F K → Lookup F → Equation K
   equation_at w lookup = record {
-    numerator = fraction_numerator E (column_tuple_denominator E lookup.column w) (flags_at E.base w.base lookup) (branches_at E.base w.base lookup.column lookup);
-    denominator = fraction_denominator E (column_tuple_denominator E lookup.column w) (flags_at E.base w.base lookup) (branches_at E.base w.base lookup.column lookup);
+    numerator = fraction_numerator E (column_denominator E w.challenges lookup.column) (flags_at E.base w.base lookup) (branches_at E.base w.base lookup.column lookup);
+    denominator = fraction_denominator E (column_denominator E w.challenges lookup.column) (flags_at E.base w.base lookup) (branches_at E.base w.base lookup.column lookup);
   }
 
   -- those of all lookups of an AIR

@@ -12,6 +12,6 @@ module _ {F K : Type 0} (E : Extension F K) (table : ChallengeTable K) (instance
   abbrev pub HasAccepted : Type 0
   HasAccepted = (witness : List (AirResult K)) × IsAccepted E table instances witness
 
-  -- the answer is whether one is; or memory runs out
+  -- the answer is whether some witness is accepted; or memory runs out
   abbrev pub DecidesAccepted : Result Bool LookupError → Type 0
   DecidesAccepted answer = MatchResult answer (λ found. IsTrue found ↔ HasAccepted) (λ e. e ≡ Memory)

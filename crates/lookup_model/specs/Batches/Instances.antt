@@ -22,7 +22,7 @@ instance_of b = record {
   ids = b.ids.now;
 }
 
--- those of a batch
+-- the AIRs of a batch
 abbrev pub instances_of : {F : Type 0} → List (BatchInstance F) → List (Instance F)
 instances_of bs = map instance_of bs
 
@@ -34,7 +34,7 @@ pub record IsFitting {F : Type 0} (instance : Instance F) : Type 0 where
   pub nonempty : 0 < length instance.lookups → 0 < height_of instance.traces
   pub ids : length instance.ids ≡ length instance.lookups
 
--- each AIR of a batch is so
+-- each AIR of a batch is fitting
 abbrev pub InstancesFit : {F : Type 0} → List (BatchInstance F) → Type 0
 InstancesFit bs = All (λ b. IsFitting (instance_of b)) bs
 
@@ -46,6 +46,6 @@ HaveIds bs = All (λ b. length b.ids.now ≡ length b.lookups.now) bs
 abbrev pub HasPrefixes : {F K : Type 0} → Challenges K → BatchInstance F → Type 0
 HasPrefixes challenges b = All (λ id. id < length (boxed_slice_items challenges.bus_prefix)) b.ids.now
 
--- so it is of each AIR of a batch
+-- each id of each AIR of a batch has a prefix
 abbrev pub HavePrefixes : {F K : Type 0} → Challenges K → List (BatchInstance F) → Type 0
 HavePrefixes challenges bs = All (HasPrefixes challenges) bs

@@ -33,7 +33,7 @@ module _ {F : Type 0} (R : Ring F) (eq : F → F → Bool) where
   abbrev pub AreFlagsLawful : List (Instance F) → Type 0
   AreFlagsLawful instances = AllByRecursion (λ i. AllByRecursion (AllByRecursion HasLawfulFlags) (sent_rows_of i)) instances
 
--- the denominator of no message is zero, of those with multiplicity zero neither
+-- no message has denominator zero, whatever its multiplicity
 abbrev pub NoneVanishes : {F K : Type 0} → Extension F K → (Key F → K) → List (Message F) → Type 0
 NoneVanishes E denominator messages = AllByRecursion (λ m. denominator m.key ≢ E.ring.zero) messages
 

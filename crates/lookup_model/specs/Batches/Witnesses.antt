@@ -40,7 +40,7 @@ module _ {F K : Type 0} (E : Extension F K) (table : ChallengeTable K) where
     pub satisfied : AreSatisfied instances witness
     pub balanced : terminal_sum E.ring (map (λ r. r.1) witness) ≡ E.ring.zero
 
-  -- The only satisfied witness: each other one is equal to it, in every cell and terminal.
+  -- the only satisfied witness: every satisfied one is equal to it, in every cell and terminal
   abbrev pub IsOnlySatisfied : List (Instance F) → List (AirResult K) → Type 0
   IsOnlySatisfied instances witness = (other : List (AirResult K)) → AreSatisfied instances other → other ≡ witness
 

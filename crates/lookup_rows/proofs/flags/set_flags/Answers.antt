@@ -1,4 +1,4 @@
-use Rattle.std.proofs.Common.{◌<◌, ◌+◌, List, length, ◌∷◌, ◌++◌, [], take, drop, inr, sym, ap, ◌∙◌, subst, arith}
+use Rattle.std.proofs.Common.{◌<◌, ◌+◌, List, length, ◌∷◌, ◌++◌, [], take, drop, sym, ap, ◌∙◌, subst, arith}
 use Rattle.std.proofs.lemmas.List.{length-map, length-take, take_all}
 use Rattle.std.proofs.lemmas.Result.{err_from_is_err_and}
 use Rattle.lookup_model.proofs.Branches.{mapped_at, mapped_more}
@@ -28,10 +28,10 @@ returns-in_err-set g c =
     let split = split_at vals i (look flag) (omega (arith, length-map flags look)) (mapped_at look flags i flag lt c.index-flags-index.is) in
     let p = err_from_is_err_and c.from_residual.result c.from_residual.ensures.1 in
     let why = c.in_err-set.ensures.refused in
-    rw (p.1, p.2) (inr (
+    rw (p.1, p.2) (
       why.0 ∙ ap (λ r. FlagNotBoolean r c.args.column) c.row.ensures,
       ap (are_boolean R eq) split ∙ not_boolean R eq g.met.F.PrimeCharacteristicRing.eq_is (take i vals) (drop (i + 1) vals) (look flag) (λ e. why.1 (c.value_of-flag.ensures ∙ e)) (λ e. why.2 (c.value_of-flag.ensures ∙ e)),
-    ))
+    )
 
 pub loop-index-preserved : goal.loop-index-preserved
 loop-index-preserved g c =

@@ -2,6 +2,6 @@
 # Hostile use of the programs that the gate has built: requests for memory refused in turn, texts from outside, and
 # deep expressions.
 set -eu
-cd "$(dirname "${BASH_SOURCE[0]}")/.."
-tools/refused-memory --judge
-exec tools/refused-memory
+cd "$(dirname "${BASH_SOURCE[0]}")/../.."
+.ci/checks/refused-memory --judge
+exec .ci/checks/refused-memory

@@ -30,8 +30,8 @@ module _ {F K : Type 0} (R : Ring F) (denominator : Key F → K) (index : ℕ) (
       placed = message.holds f (flag.holds ∙ ap Some flag_read) set
 
       -- if it is not zero, an index is kept for the row
-      pub index_within : index < length c.indices.items
-      index_within = slice_get_within c.indices.items index placed.at placed.there
+      pub index_kept : index < length c.indices.items
+      index_kept = slice_get_within c.indices.items index placed.at placed.there
 
       -- where the column has the message
       pub held_there : (at : ℕ) → at ≡ get_or c.indices.items index at → IsHeld denominator at c message.item

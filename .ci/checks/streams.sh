@@ -2,7 +2,7 @@
 # Runs the built program over streams that are closed, full or no files, over many rows, and with
 # little memory.
 set -eu
-cd "$(dirname "${BASH_SOURCE[0]}")/.."
+cd "$(dirname "${BASH_SOURCE[0]}")/../.."
 program=$PWD/crates/lookup_run/out/lookup_run
 room=$(mktemp -d)
 trap 'rm -rf "$room"' EXIT

@@ -5,7 +5,7 @@ from importlib import machinery, util
 
 from .runs import HERE, swept
 
-TOP = os.path.dirname(os.path.dirname(HERE))
+TOP = os.path.dirname(os.path.dirname(os.path.dirname(HERE)))
 REFUSED = (2, b"", b"error: out of memory\n")
 
 

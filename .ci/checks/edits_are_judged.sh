@@ -2,7 +2,7 @@
 # tools/wrong-bodies tells what it has to, of a crate that is proved at once: an edit that the prover
 # refuses, one that changes nothing, one that can't be read, and whose wrong bodies the record has.
 set -eu
-top=$(cd "$(dirname "${BASH_SOURCE[0]}")/.." && pwd)
+top=$(cd "$(dirname "${BASH_SOURCE[0]}")/../.." && pwd)
 room=$(mktemp -d)
 trap 'rm -rf "$room"' EXIT
 mkdir -p "$room/crates" "$room/tools" "$room/wrong-bodies/matrix"

@@ -1,8 +1,8 @@
 #!/usr/bin/env bash
 # Each block of the README's example stands, apart from layout, in the test that runs it, and the one from
-# Rust in the program of docs/RUST.md, which tools/bindings.sh runs. The first run is the program's stored one.
+# Rust in the program of docs/RUST.md, which .ci/checks/bindings.sh runs. The first run is the program's stored one.
 set -eu
-cd "$(dirname "${BASH_SOURCE[0]}")/.."
+cd "$(dirname "${BASH_SOURCE[0]}")/../.."
 test=crates/batch_tests/src/tests/example.rt
 program=docs/RUST.md
 blocks=$(mktemp -d)
