@@ -106,8 +106,8 @@ impl Batch {
         Ok(witness)
     }
 
-    /// As [`prove`](Batch::prove), in the memory of a witness that is no longer needed. One that is
-    /// as large saves the system's work on new memory, which can take half as long as the proof.
+    /// As [`prove`](Batch::prove), in the memory of a witness that is no longer needed. If that is
+    /// as large, no new memory is asked for, which large traces have to wait for.
     ///
     /// Where it refuses, that witness is left without parts.
     pub fn prove_into(
