@@ -5,8 +5,9 @@
 //! once, and then the call alone, a number of times. What both make has to be the same.
 //!
 //! A line for each height has the nanoseconds for a row and lookup, the least of several runs:
-//! those of the crate, those of the library's own call, and those of the library's own call with
-//! all that is made before it, from the numbers on.
+//! those of the crate with a new witness each time, those of the crate in the memory of the
+//! witness before, those of the library's own call, and those of the library's own call with all
+//! that is made before it, from the numbers on. After each of the library's stand the ratios to it.
 #![allow(dead_code)]
 
 mod plain;
@@ -131,33 +132,52 @@ fn checksum_of(witness: &Witness) -> u32 {
     }))
 }
 
-/// The least nanoseconds for a row and lookup, in some runs: of the crate, of the library's own
-/// call, and of that with all that it takes from the numbers on. `own` does this many calls.
-fn least(units: usize, crates: &dyn Fn() -> u32, own: &dyn Fn(u32) -> u32) -> [f64; 3] {
+/// The nanoseconds of calls for a row and lookup.
+struct Times {
+    /// Through the crate, in each way to call it.
+    through: Vec<f64>,
+    /// The library's own call.
+    own: f64,
+    /// The same with all that it takes from the numbers on.
+    from_numbers: f64,
+}
+
+/// The least times in some runs. `own` does this many calls.
+fn least(units: usize, ways: &mut [&mut dyn FnMut()], own: &dyn Fn(u32) -> u32) -> Times {
     let rounds = ((1 << 20) / units).clamp(2, 64) as u32;
-    let seconds = |work: &dyn Fn() -> u32| {
+    let seconds = |work: &mut dyn FnMut()| {
         let start = Instant::now();
-        black_box(work());
+        work();
         start.elapsed().as_secs_f64()
     };
-    let repeated = || (0..rounds).fold(0, |_, _| black_box(crates()));
-    let from_numbers = || (0..rounds).fold(0, |_, _| black_box(own(1)));
-    let mut least = [f64::MAX; 4];
+    let repeated = |work: &mut dyn FnMut()| (0..rounds).for_each(|_| work());
+    let mut through = vec![f64::MAX; ways.len()];
+    let mut least = [f64::MAX; 3];
     for _ in 0..7 {
-        let works: [&dyn Fn() -> u32; 4] = [&repeated, &|| own(rounds), &|| own(0), &from_numbers];
+        for (least, way) in through.iter_mut().zip(ways.iter_mut()) {
+            *least = least.min(seconds(&mut || repeated(way)));
+        }
+        let call = |rounds| {
+            black_box(own(rounds));
+        };
+        let works: [&mut dyn FnMut(); 3] =
+            [&mut || call(rounds), &mut || call(0), &mut || repeated(&mut || call(1))];
         for (least, work) in least.iter_mut().zip(works) {
             *least = least.min(seconds(work));
         }
     }
-    let [through, all, before, from_numbers] = least.map(|time| time * 1e9 / units as f64);
-    [through, all - before, from_numbers].map(|time| time / f64::from(rounds))
+    let each = |time: f64| time * 1e9 / units as f64 / f64::from(rounds);
+    let [all, before, from_numbers] = least.map(each);
+    Times { through: through.into_iter().map(each).collect(), own: all - before, from_numbers }
 }
 
-/// Prints the time of the crate, and that of each other call with the ratio to it.
-fn print(name: &str, rows: usize, through: f64, others: &[f64]) {
-    print!("{name:10} {rows:8} {through:8.1}");
-    for other in others {
-        print!(" {other:12.1} {:6.2}", through / other);
+/// Prints the times of the crate, and those of the library's calls with the ratios to each.
+fn print(name: &str, rows: usize, through: &[f64], own: &[f64]) {
+    print!("{name:10} {rows:8}");
+    through.iter().for_each(|time| print!(" {time:8.1}"));
+    for own in own {
+        print!(" {own:12.1}");
+        through.iter().for_each(|time| print!(" {:6.2}", time / own));
     }
     println!();
 }
@@ -171,9 +191,12 @@ fn compare_generation(shape: u32, rows: usize) {
         lookup_generate(numbers.as_ptr(), numbers.len(), shape, rounds, skip)
     };
     assert_eq!(checksum_of(&generate()), own(1, 0), "shape {shape}, {rows} rows");
-    let generate = || generate().len() as u32;
-    let [through, others @ ..] = least(rows * air.len(), &generate, &|rounds| own(rounds, 1));
-    print(&format!("shape {shape}"), rows, through, &others);
+    let mut witness = generate();
+    let mut again =
+        || air.generate_into(&traces, &challenges, &mut witness).expect("there is no fault");
+    let ways: &mut [&mut dyn FnMut()] = &mut [&mut || drop(black_box(generate())), &mut again];
+    let times = least(rows * air.len(), ways, &|rounds| own(rounds, 1));
+    print(&format!("shape {shape}"), rows, &times.through, &[times.own, times.from_numbers]);
 }
 
 fn compare_proving(rows: usize) {
@@ -185,9 +208,13 @@ fn compare_proving(rows: usize) {
         batch_prove(asked.as_ptr(), asked.len(), provided.as_ptr(), provided.len(), rounds, skip)
     };
     assert_eq!(checksum_of(&prove()), own(1, 0), "{rows} rows");
-    let prove = || prove().len() as u32;
-    let [through, others @ ..] = least(rows * 2 * LOOKUPS, &prove, &|rounds| own(rounds, 1));
-    print("prove", rows, through, &others);
+    let (alpha, beta) = (ALPHA.into(), BETA.into());
+    let mut witness = prove();
+    let mut again =
+        || batch.prove_into(&traces, alpha, beta, &mut witness).expect("there is no fault");
+    let ways: &mut [&mut dyn FnMut()] = &mut [&mut || drop(black_box(prove())), &mut again];
+    let times = least(rows * 2 * LOOKUPS, ways, &|rounds| own(rounds, 1));
+    print("prove", rows, &times.through, &[times.own, times.from_numbers]);
 }
 
 fn compare_verifying(rows: usize) {
@@ -196,20 +223,21 @@ fn compare_verifying(rows: usize) {
     let [asked, provided] = &numbers;
     let (alpha, beta) = (ALPHA.into(), BETA.into());
     let witness = batch.prove(&traces, alpha, beta).expect("there is no fault");
-    let verify = || u32::from(batch.verify(&traces, alpha, beta, &witness).is_err());
+    let verify = || batch.verify(&traces, alpha, beta, &witness);
     let own = |rounds| unsafe {
         batch_verify(asked.as_ptr(), asked.len(), provided.as_ptr(), provided.len(), rounds)
     };
-    assert_eq!((verify(), own(1)), (0, 0), "{rows} rows");
+    assert_eq!((verify(), own(1)), (Ok(()), 0), "{rows} rows");
+    let ways: &mut [&mut dyn FnMut()] = &mut [&mut || drop(black_box(verify()))];
+    let times = least(rows * 2 * LOOKUPS, ways, &own);
     // from the numbers on the library makes the witness as well, which the crate is given
-    let [through, own, _] = least(rows * 2 * LOOKUPS, &verify, &own);
-    print("verify", rows, through, &[own]);
+    print("verify", rows, &times.through, &[times.own]);
 }
 
 fn main() {
     println!(
-        "{:10} {:>8} {:>8} {:>12} {:>6} {:>12} {:>6}",
-        "call", "rows", "crate", "the call", "ratio", "from numbers", "ratio"
+        "{:10} {:>8} {:>8} {:>8} {:>12} {:>13} {:>12} {:>13}",
+        "call", "rows", "crate", "again", "the call", "ratios", "from numbers", "ratios"
     );
     let heights = [1 << 10, 1 << 12, 1 << 14, 1 << 16, 1 << 18];
     for shape in 0..4 {

@@ -101,8 +101,24 @@ impl Batch {
         alpha: Element,
         beta: Element,
     ) -> Result<Witness, Error> {
+        let mut witness = Witness::default();
+        self.prove_into(traces, alpha, beta, &mut witness)?;
+        Ok(witness)
+    }
+
+    /// As [`prove`](Batch::prove), in the memory of a witness that is no longer needed. If that is
+    /// as large, no new memory is asked for, which large traces have to wait for.
+    ///
+    /// Where it refuses, that witness is left without parts.
+    pub fn prove_into(
+        &self,
+        traces: &[Traces<'_>],
+        alpha: Element,
+        beta: Element,
+        witness: &mut Witness,
+    ) -> Result<(), Error> {
         let shapes = self.shapes(traces);
-        Witness::filled(&shapes, |cells, terminals| {
+        witness.refill(&shapes, |cells, terminals| {
             ffi::prove(&self.planned(), traces, alpha, beta, cells, terminals)
         })
     }
@@ -122,12 +138,29 @@ impl Batch {
         alpha: Element,
         beta: Element,
     ) -> Result<Witness, Error> {
-        let (Some(ids), Some(air)) = (self.ids.get(air), self.airs.get(air)) else {
-            return Err(Error::no_such_air(air));
-        };
-        let challenges = [alpha, beta];
-        Witness::filled(&[air.shape(traces)], |cells, terminals| {
+        let mut witness = Witness::default();
+        self.generate_into(air, traces, alpha, beta, &mut witness)?;
+        Ok(witness)
+    }
+
+    /// As [`generate`](Batch::generate), in the memory of a witness that is no longer needed.
+    ///
+    /// Where it refuses, that witness is left without parts.
+    pub fn generate_into(
+        &self,
+        air: usize,
+        traces: &Traces<'_>,
+        alpha: Element,
+        beta: Element,
+        witness: &mut Witness,
+    ) -> Result<(), Error> {
+        let index = air;
+        let planned = self.airs.get(index).zip(self.ids.get(index));
+        let shapes: Vec<Shape> = planned.iter().map(|(air, _)| air.shape(traces)).collect();
+        witness.refill(&shapes, |cells, terminals| {
+            let (air, ids) = planned.ok_or_else(|| Error::no_such_air(index))?;
             let (tables, terminal) = (air.tables(), &mut terminals[0]);
+            let challenges = [alpha, beta];
             ffi::generate_by_ids(tables, traces, ids, &self.sizes, challenges, cells, terminal)
         })
     }

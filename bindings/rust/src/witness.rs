@@ -73,30 +73,45 @@ impl Witness {
         self.airs.iter().map(|share| share.of(&self.cells))
     }
 
-    /// Makes the witness of AIRs with these heights and numbers of lookups.
+    /// Makes the witness of AIRs with these heights and numbers of lookups, in the memory of this
+    /// one.
     ///
-    /// `fill` is given the cells of all AIRs and the terminals, to be written.
-    pub(crate) fn filled(
+    /// `fill` is given the cells of all AIRs and the terminals, to be written. Where that is
+    /// refused, the witness is left without parts.
+    pub(crate) fn refill(
+        &mut self,
         shapes: &[Shape],
         fill: impl FnOnce(&mut [Element], &mut [Terminal]) -> Result<(), Error>,
-    ) -> Result<Self, Error> {
-        let mut airs = Vec::with_capacity(shapes.len());
+    ) -> Result<(), Error> {
+        self.airs.clear();
+        let filled = self.share_out(shapes).and_then(|()| {
+            let mut terminals = vec![Terminal::default(); shapes.len()];
+            fill(&mut self.cells, &mut terminals)?;
+            for (share, terminal) in self.airs.iter_mut().zip(terminals) {
+                share.terminal = terminal.element();
+            }
+            Ok(())
+        });
+        if filled.is_err() {
+            self.airs.clear();
+            self.cells.clear();
+        }
+        filled
+    }
+
+    /// Has a part for each of these shapes, with cells of any value and no terminals.
+    fn share_out(&mut self, shapes: &[Shape]) -> Result<(), Error> {
         let mut end: usize = 0;
         for shape in shapes {
             let start = end;
             let after = shape.cells().and_then(|cells| start.checked_add(cells));
             end = after.ok_or_else(Error::memory)?;
-            airs.push(Share { cells: start..end, width: shape.width(), terminal: None });
+            self.airs.push(Share { cells: start..end, width: shape.width(), terminal: None });
         }
-        let mut cells = Vec::new();
-        cells.try_reserve_exact(end).map_err(|_| Error::memory())?;
-        cells.resize(end, Element::default());
-        let mut terminals = vec![Terminal::default(); shapes.len()];
-        fill(&mut cells, &mut terminals)?;
-        for (share, terminal) in airs.iter_mut().zip(terminals) {
-            share.terminal = terminal.element();
-        }
-        Ok(Witness { cells, airs })
+        let more = end.saturating_sub(self.cells.len());
+        self.cells.try_reserve_exact(more).map_err(|_| Error::memory())?;
+        self.cells.resize(end, Element::default());
+        Ok(())
     }
 }
 

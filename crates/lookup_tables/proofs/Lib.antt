@@ -1,3 +1,4 @@
+pub mod GroupLaws
 pub mod NodeLaws
 pub mod NumberLaws
 pub mod StackLaws

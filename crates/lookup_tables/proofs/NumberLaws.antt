@@ -1,10 +1,10 @@
 -- Numbers that are read one after another.
-use Rattle.std.proofs.Common.{◌≡◌, ◌⊎◌, ◌<◌, ◌≤◌, ◌+◌, ◌++◌, ◌∷◌, ◌∙◌, [], ℕ, List, Some, inl, inr, ap, arith, get_or, length, map, slice_index, subst, sym, take}
+use Rattle.std.proofs.Common.{◌≡◌, ◌⊎◌, ◌<◌, ◌≤◌, ◌+◌, ◌++◌, ◌∷◌, ◌∙◌, [], ℕ, List, Some, inl, inr, ap, arith, get_or, length, map, max, slice_index, subst, sym, take}
 use Rattle.std.proofs.lemmas.Bool.{cases_lt}
 use Rattle.std.proofs.lemmas.List.{map_push, take_more}
 use Rattle.std.proofs.lemmas.Option.{slice_get-get_or}
 use Rattle.std.specs.List.{slice_get}
-use Rattle.lookup_tables.specs.Numbers.{AreGroupsBelow, AreNumbersBelow, IsFirstLargeGroup, IsGroup}
+use Rattle.lookup_tables.specs.Numbers.{AreGroupsBelow, AreNumbersBelow, AreNumbersUpTo, IsFirstLargeGroup, IsGroup}
 
 -- the values of one item more
 pub values_next : {A B : Type 0} (f : A → B) (xs : List A) (i : ℕ) (d : A) (before after : List B) (v : B) → i < length xs → v ≡ f (get_or xs i d) → after ≡ before ++ v ∷ []
@@ -21,6 +21,16 @@ numbers_next numbers i here so_far k below = by_place (cases_lt k i)
     by_place (inr late) =
         let same : k ≡ i = omega (arith, late, below) in
         subst (λ (n : ℕ). slice_index numbers n < 2013265921) (sym same) here
+
+-- the greatest number so far, with one number more
+pub greatest_next : (numbers : List ℕ) (i g : ℕ) → AreNumbersUpTo g i numbers → AreNumbersUpTo (max g (slice_index numbers i)) (i + 1) numbers
+greatest_next numbers i g so_far k below = by_place (cases_lt k i)
+  where
+    by_place : (k < i) ⊎ (i ≤ k) → slice_index numbers k ≤ max g (slice_index numbers i)
+    by_place (inl earlier) = omega (arith, so_far k earlier)
+    by_place (inr late) =
+        let same : k ≡ i = omega (arith, late, below) in
+        subst (λ (n : ℕ). slice_index numbers n ≤ max g (slice_index numbers i)) (sym same) (omega arith)
 
 -- one group more
 pub groups_next : (groups : List (List ℕ)) (i : ℕ) (group : List ℕ) → slice_get groups i ≡ Some group → IsGroup group → AreGroupsBelow i groups → AreGroupsBelow (i + 1) groups

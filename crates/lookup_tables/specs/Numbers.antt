@@ -21,7 +21,11 @@ quartic_of ns = record {
 abbrev pub AreNumbersBelow : ℕ → List ℕ → Type 0
 AreNumbersBelow n numbers = (k : ℕ) → k < n → slice_index numbers k < 2013265921
 
--- number i is not, and all those before it are
+-- the first n numbers are at most this one
+abbrev pub AreNumbersUpTo : ℕ → ℕ → List ℕ → Type 0
+AreNumbersUpTo greatest n numbers = (k : ℕ) → k < n → slice_index numbers k ≤ greatest
+
+-- number i is not below the modulus, and all those before it are
 pub record IsFirstLarge (numbers : List ℕ) (i : ℕ) : Type 0 where
   pub within : i < length numbers
   pub large : 2013265921 ≤ slice_index numbers i
@@ -38,7 +42,14 @@ pub record IsGroup (ns : List ℕ) : Type 0 where
 abbrev pub AreGroupsBelow : ℕ → List (List ℕ) → Type 0
 AreGroupsBelow n groups = (k : ℕ) (group : List ℕ) → k < n → slice_get groups k ≡ Some group → IsGroup group
 
--- group i is not, and all those before it are
+-- four numbers are at most this one
+pub record IsGroupUpTo (greatest : ℕ) (ns : List ℕ) : Type 0 where
+  pub n0 : slice_index ns 0 ≤ greatest
+  pub n1 : slice_index ns 1 ≤ greatest
+  pub n2 : slice_index ns 2 ≤ greatest
+  pub n3 : slice_index ns 3 ≤ greatest
+
+-- group i is none below the modulus, and all those before it are
 pub record IsFirstLargeGroup (groups : List (List ℕ)) (i : ℕ) : Type 0 where
   pub group : List ℕ
   pub is_there : slice_get groups i ≡ Some group

@@ -26,7 +26,7 @@ pub struct Node {
 }
 
 /// Why nodes are those of no expressions.
-#[derive(Drop)]
+#[derive(Debug, Drop)]
 pub enum NodeFault {
     /// Out of memory.
     Memory,

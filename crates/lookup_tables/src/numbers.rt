@@ -1,7 +1,7 @@
 //! Numbers as elements, and elements as numbers.
-ghost use Rattle.std.specs.Prelude.{◌≡◌, ◌⊎◌, ℕ, MatchOption, MatchResult, length, map};
+ghost use Rattle.std.specs.Prelude.{◌≡◌, ◌⊎◌, ◌+◌, ◌<◌, ◌≤◌, ◌++◌, ℕ, All, IfOk, MatchOption, MatchResult, length, map, vec_capacity};
 ghost use Rattle.field.specs.BabyBear.{baby_bear_of};
-ghost use Rattle.lookup_tables.specs.Numbers.{AreGroupsBelow, AreNumbersBelow, IsFirstLarge, IsFirstLargeGroup, IsGroup, numbers_of, quartic_of};
+ghost use Rattle.lookup_tables.specs.Numbers.{AreGroupsBelow, AreNumbersBelow, AreNumbersUpTo, IsFirstLarge, IsFirstLargeGroup, IsGroup, IsGroupUpTo, numbers_of, quartic_of};
 ghost use Rattle.lookup_tables.specs.declared.numbers.NumberFault.TheVariants.{Memory, Large};
 
 use field::{BabyBear, BabyBear4};
@@ -10,8 +10,11 @@ use std::alloc::{AllocError, AllocFailed, Global};
 /// The modulus of `BabyBear`.
 pub(crate) const MODULUS: u32 = 2_013_265_921;
 
+/// How many groups of four numbers are read at a time.
+const CHUNK: usize = 64;
+
 /// Why numbers are no elements.
-#[derive(Drop)]
+#[derive(Debug, Drop)]
 pub enum NumberFault {
     /// Out of memory.
     Memory,
@@ -44,14 +47,49 @@ pub fn elements(alloc: Global, numbers: &[u32]) -> Result<Vec<BabyBear>, NumberF
         × AreNumbersBelow (length numbers.now) numbers.now)
         (λ e. (e ≡ Memory) ⊎ (i : ℕ) × (e ≡ Large i) × IsFirstLarge numbers.now i) }
 {
+    let made = residues_of(alloc, numbers)?;
+    if made.greatest < MODULUS {
+        return Ok(made.values);
+    }
+    match first_large(numbers) {
+        Some(index) => Err(NumberFault::Large(index)),
+        None => Ok(made.values),
+    }
+}
+
+/// The residues of numbers.
+#[derive(Drop)]
+struct Residues {
+    values: Vec<BabyBear>,
+    /// The greatest of the numbers, 0 if there are none.
+    greatest: u32,
+}
+
+/// The residues of these numbers. The loop tests none of them, so that it takes many at a time.
+fn residues_of(alloc: Global, numbers: &[u32]) -> Result<Residues, AllocError>
+    ensures { IfOk result (λ made. (made.values.items ≡ map baby_bear_of numbers.now)
+        × AreNumbersUpTo made.greatest (length numbers.now) numbers.now) }
+{
     let mut values = Vec::with_capacity(alloc, numbers.len())?;
+    let mut greatest: u32 = 0;
+    for n in numbers {
+        greatest = greatest.max(*n);
+        values.push_reserved(BabyBear::new(*n));
+    }
+    Ok(Residues { values, greatest })
+}
+
+/// The index of the first number that is not below the modulus, if there is one.
+fn first_large(numbers: &[u32]) -> Option<usize>
+    ensures { MatchOption result (AreNumbersBelow (length numbers.now) numbers.now)
+        (IsFirstLarge numbers.now) }
+{
     for (index, n) in numbers.iter().enumerate() {
         if *n >= MODULUS {
-            return Err(NumberFault::Large(index));
+            return Some(index);
         }
-        values.push(BabyBear::new(*n))?;
     }
-    Ok(values)
+    None
 }
 
 /// The elements of the extension that are these numbers, four each, lowest power first.
@@ -62,14 +100,85 @@ pub fn extensions(alloc: Global, groups: &[[u32; 4]]) -> Result<Vec<BabyBear4>, 
         (λ v. (v.items ≡ map quartic_of groups.now) × AreGroupsBelow (length groups.now) groups.now)
         (λ e. (e ≡ Memory) ⊎ (i : ℕ) × (e ≡ Large i) × IsFirstLargeGroup groups.now i) }
 {
+    let made = quartics_of(alloc, groups)?;
+    if made.greatest < MODULUS {
+        return Ok(made.values);
+    }
+    match first_large_group(groups) {
+        Some(index) => Err(NumberFault::Large(index)),
+        None => Ok(made.values),
+    }
+}
+
+/// Elements with residues as coefficients.
+#[derive(Drop)]
+struct Quartics {
+    values: Vec<BabyBear4>,
+    /// The greatest of the numbers, 0 if there are none.
+    greatest: u32,
+}
+
+/// The elements whose coefficients are the residues of these numbers, a chunk of them at a time.
+fn quartics_of(alloc: Global, groups: &[[u32; 4]]) -> Result<Quartics, AllocError>
+    ensures { IfOk result (λ made. (made.values.items ≡ map quartic_of groups.now)
+        × All (IsGroupUpTo made.greatest) groups.now) }
+{
     let mut values = Vec::with_capacity(alloc, groups.len())?;
+    let mut greatest: u32 = 0;
+    let mut first = 0;
+    while first < groups.len() {
+        let end = chunk_end(first, groups.len());
+        let most = push_quartics(alloc, &mut values, &groups[first..end])?;
+        greatest = greatest.max(most);
+        first = end;
+    }
+    Ok(Quartics { values, greatest })
+}
+
+/// Where the chunk ends that begins at `first`.
+fn chunk_end(first: usize, end: usize) -> usize
+    requires { first < end }
+    ensures further { first < result }
+    ensures within { result ≤ end }
+{
+    if end - first > CHUNK {
+        first + CHUNK
+    } else {
+        end
+    }
+}
+
+/// Appends the elements of a chunk, and answers the greatest of its numbers.
+fn push_quartics(
+    alloc: Global,
+    values: &mut Vec<BabyBear4>,
+    groups: &[[u32; 4]],
+) -> Result<u32, AllocError>
+    requires { length values.old.items + length groups.now ≤ vec_capacity values.old }
+    ensures pushed { IfOk result (λ _. values.new.items ≡ values.old.items ++ map quartic_of groups.now) }
+    ensures room { IfOk result (λ _. vec_capacity values.new ≡ vec_capacity values.old) }
+    ensures most { IfOk result (λ greatest. All (IsGroupUpTo greatest) groups.now) }
+{
+    let made = residues_of(alloc, groups.as_flattened())?;
+    let (fours, _) = made.values.as_chunks::<4>();
+    for four in fours {
+        values.push_reserved(BabyBear4::new(*four));
+    }
+    Ok(made.greatest)
+}
+
+/// The index of the first four of which one is not below the modulus, if there are such.
+fn first_large_group(groups: &[[u32; 4]]) -> Option<usize>
+    ensures { MatchOption result (AreGroupsBelow (length groups.now) groups.now)
+        (IsFirstLargeGroup groups.now) }
+{
     for (index, group) in groups.iter().enumerate() {
         match extension(*group) {
-            Some(x) => values.push(x)?,
-            None => return Err(NumberFault::Large(index)),
+            Some(_) => {}
+            None => return Some(index),
         }
     }
-    Ok(values)
+    None
 }
 
 /// The element of the extension with these coefficients, lowest power first, if they are all below the

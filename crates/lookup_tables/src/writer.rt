@@ -1,5 +1,5 @@
 //! Lookups written as tables.
-ghost use Rattle.std.specs.Prelude.{◌≡◌, ◌≤◌, ◌<◌, ◌^◌, ◌⊎◌, ◌++◌, All, IfOk, MatchResult, length, map};
+ghost use Rattle.std.specs.Prelude.{◌≡◌, ◌≤◌, ◌<◌, ◌^◌, ◌⊎◌, ◌++◌, ◌∷◌, [], All, IfOk, MatchResult, length, map};
 ghost use Rattle.std.specs.List.{range_with_len};
 ghost use Rattle.expressions.specs.Tree.{tree_of};
 ghost use Rattle.lookup_model.specs.Outline.{bus_of};
@@ -101,6 +101,28 @@ fn node_of(leaf: &BaseLeaf<BabyBear>) -> Result<Node, TableFault>
     }
 }
 
+/// Appends the node of a leaf. By itself, so that `push_nodes` takes less stack.
+#[inline(never)]
+fn push_leaf(nodes: &mut Vec<Node>, leaf: &BaseLeaf<BabyBear>) -> Result<(), TableFault>
+    ensures { MatchResult result
+        (λ _. (nodes.new.items ≡ nodes.old.items ++ leaf_node leaf.now ∷ [])
+        × IsNearLeaf leaf.now)
+        (λ e. (e ≡ Memory) ⊎ ((e ≡ TableFault.Row) × (¬ IsNearLeaf leaf.now))) }
+{
+    nodes.push(node_of(leaf)?)?;
+    Ok(())
+}
+
+/// Appends the node of an operation, likewise.
+#[inline(never)]
+fn push_operation(nodes: &mut Vec<Node>, kind: u32) -> Result<(), TableFault>
+    ensures { MatchResult result
+        (λ _. nodes.new.items ≡ nodes.old.items ++ node kind 0 0 ∷ []) (λ e. e ≡ Memory) }
+{
+    nodes.push(node(kind, 0, 0))?;
+    Ok(())
+}
+
 /// Appends the nodes of an expression that is at most so deep.
 fn push_nodes(
     nodes: &mut Vec<Node>,
@@ -116,32 +138,25 @@ fn push_nodes(
         return Err(TableFault::Deep);
     }
     match expression {
-        SymbolicExpression::Leaf(leaf) => {
-            nodes.push(node_of(leaf)?)?;
-            Ok(())
-        }
+        SymbolicExpression::Leaf(leaf) => push_leaf(nodes, leaf),
         SymbolicExpression::Add(left, right) => {
             push_nodes(nodes, left, depth - 1)?;
             push_nodes(nodes, right, depth - 1)?;
-            nodes.push(node(7, 0, 0))?;
-            Ok(())
+            push_operation(nodes, 7)
         }
         SymbolicExpression::Sub(left, right) => {
             push_nodes(nodes, left, depth - 1)?;
             push_nodes(nodes, right, depth - 1)?;
-            nodes.push(node(8, 0, 0))?;
-            Ok(())
+            push_operation(nodes, 8)
         }
         SymbolicExpression::Mul(left, right) => {
             push_nodes(nodes, left, depth - 1)?;
             push_nodes(nodes, right, depth - 1)?;
-            nodes.push(node(9, 0, 0))?;
-            Ok(())
+            push_operation(nodes, 9)
         }
         SymbolicExpression::Neg(inner) => {
             push_nodes(nodes, inner, depth - 1)?;
-            nodes.push(node(10, 0, 0))?;
-            Ok(())
+            push_operation(nodes, 10)
         }
     }
 }

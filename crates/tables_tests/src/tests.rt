@@ -24,6 +24,25 @@ fn span(start: usize, end: usize) -> Span {
     Span { start, end }
 }
 
+/// A record, of a local lookup where it has no bus.
+fn record(
+    weight: u64,
+    bus: Option<Span>,
+    tuples: Span,
+    multiplicities: Span,
+    flags: Option<Span>,
+) -> Record {
+    Record {
+        kind: if bus.is_some() { 1 } else { 0 },
+        exclusive: if flags.is_some() { 1 } else { 0 },
+        weight,
+        bus: bus.unwrap_or(span(0, 0)),
+        tuples,
+        multiplicities,
+        flags: flags.unwrap_or(span(0, 0)),
+    }
+}
+
 fn holds(rt: &impl Abort, what: &str, fact: bool) {
     assert!(rt; fact, "{what}");
 }
@@ -49,10 +68,7 @@ fn is_constant(expression: &SymbolicExpression<BabyBear>, n: u32) -> bool {
 #[test]
 fn reads_a_difference(rt: HostRuntime) {
     let nodes = [node(0, 1, 3), node(6, 7, 0), node(8, 0, 0), node(5, 0, 0)];
-    let Ok(list) = read_expressions(rt.alloc(), &nodes) else {
-        holds(&rt, "the nodes are read", false);
-        return;
-    };
+    let list = read_expressions(rt.alloc(), &nodes).expect(&rt, "nodes");
     let [difference, selector] = list.as_slice() else {
         holds(&rt, "two expressions", false);
         return;
@@ -63,20 +79,15 @@ fn reads_a_difference(rt: HostRuntime) {
     };
     holds(&rt, "the earlier operand", is_next_cell(left, 3));
     holds(&rt, "the later operand", is_constant(right, 7));
-    let is_transition = match selector {
-        SymbolicExpression::Leaf(BaseLeaf::IsTransition) => true,
-        _ => false,
-    };
+    let is_transition = matches!(selector, SymbolicExpression::Leaf(BaseLeaf::IsTransition));
     holds(&rt, "the selector", is_transition);
 }
 
 #[test]
 fn refuses_the_first_bad_node(rt: HostRuntime) {
     let nodes = [node(0, 0, 0), node(7, 0, 0), node(11, 0, 0)];
-    let is_second = match read_expressions(rt.alloc(), &nodes) {
-        Err(NodeFault::Bad(1)) => true,
-        _ => false,
-    };
+    let read = read_expressions(rt.alloc(), &nodes);
+    let is_second = matches!(&read, Err(NodeFault::Bad(1)));
     holds(&rt, "a sum of one", is_second);
 }
 
@@ -84,25 +95,15 @@ fn refuses_the_first_bad_node(rt: HostRuntime) {
 fn reads_a_record(rt: HostRuntime) {
     let nodes = [node(0, 1, 3), node(6, 7, 0)];
     let tuples = [span(0, 2), span(1, 2)];
-    let records = [Record {
-        kind: 1,
-        exclusive: 1,
-        weight: 5,
-        bus: span(1, 4),
-        tuples: span(0, 2),
-        multiplicities: span(0, 2),
-        flags: span(1, 2),
-    }];
+    let (bus, flags) = (Some(span(1, 4)), Some(span(1, 2)));
+    let records = [record(5, bus, span(0, 2), span(0, 2), flags)];
     let tables = Tables {
         nodes: &nodes,
         tuples: &tuples,
         names: b"a bus",
         records: &records,
     };
-    let Ok(lookups) = read_lookups(rt.alloc(), &tables) else {
-        holds(&rt, "the record is read", false);
-        return;
-    };
+    let lookups = read_lookups(rt.alloc(), &tables).expect(&rt, "a lookup");
     let [lookup] = lookups.as_slice() else {
         holds(&rt, "one lookup", false);
         return;
@@ -127,25 +128,15 @@ fn reads_a_record(rt: HostRuntime) {
 fn names_what_is_wrong(rt: HostRuntime) {
     let nodes = [node(0, 1, 3)];
     let tuples = [span(0, 1)];
-    let records = [Record {
-        kind: 1,
-        exclusive: 0,
-        weight: 5,
-        bus: span(0, 1),
-        tuples: span(0, 1),
-        multiplicities: span(0, 1),
-        flags: span(0, 0),
-    }];
+    let records = [record(5, Some(span(0, 1)), span(0, 1), span(0, 1), None)];
     let tables = Tables {
         nodes: &nodes,
         tuples: &tuples,
         names: &[0xff],
         records: &records,
     };
-    let is_name = match read_lookups(rt.alloc(), &tables) {
-        Err((0, TableFault::Name)) => true,
-        _ => false,
-    };
+    let read = read_lookups(rt.alloc(), &tables);
+    let is_name = matches!(&read, Err((0, TableFault::Name)));
     holds(&rt, "a name that is not UTF-8", is_name);
 }
 
@@ -158,10 +149,7 @@ fn reads_traces(rt: HostRuntime) {
         preprocessed_width: 1,
         public_values: &[9],
     };
-    let Ok(traces) = read_traces(rt.alloc(), &numbers) else {
-        holds(&rt, "the traces are read", false);
-        return;
-    };
+    let traces = read_traces(rt.alloc(), &numbers).expect(&rt, "traces");
     holds(&rt, "the rows", traces.main.height() == 2);
     holds(&rt, "the public values", traces.public_values.len() == 1);
     let heights = match &traces.preprocessed {
@@ -177,28 +165,22 @@ fn reads_traces(rt: HostRuntime) {
         preprocessed_width: 0,
         public_values: &[],
     };
-    let is_main = match read_traces(rt.alloc(), &ragged) {
-        Err(
-            TraceFault::Ragged {
-                part: TracePart::Main,
-            },
-        ) => true,
-        _ => false,
-    };
+    let read = read_traces(rt.alloc(), &ragged);
+    let is_main = matches!(
+        &read,
+        Err(TraceFault::Ragged {
+            part: TracePart::Main
+        })
+    );
     holds(&rt, "ragged rows", is_main);
 }
 
 #[test]
 fn reads_elements(rt: HostRuntime) {
-    let is_third = match elements(rt.alloc(), &[1, 2, 2_013_265_921]) {
-        Err(NumberFault::Large(2)) => true,
-        _ => false,
-    };
+    let read = elements(rt.alloc(), &[1, 2, 2_013_265_921]);
+    let is_third = matches!(&read, Err(NumberFault::Large(2)));
     holds(&rt, "the modulus", is_third);
-    let Ok(list) = extensions(rt.alloc(), &[[1, 2, 3, 4]]) else {
-        holds(&rt, "four numbers", false);
-        return;
-    };
+    let list = extensions(rt.alloc(), &[[1, 2, 3, 4]]).expect(&rt, "four numbers");
     let [x] = list.as_slice() else {
         holds(&rt, "one element", false);
         return;
@@ -249,25 +231,10 @@ fn writes_what_it_reads(rt: HostRuntime) {
         node(9, 0, 0),
     ];
     let tuples = [span(0, 4), span(4, 5)];
+    let (bus, flags) = (Some(span(2, 5)), Some(span(10, 13)));
     let records = [
-        Record {
-            kind: 0,
-            exclusive: 0,
-            weight: 1,
-            bus: span(0, 0),
-            tuples: span(1, 2),
-            multiplicities: span(5, 8),
-            flags: span(0, 0),
-        },
-        Record {
-            kind: 1,
-            exclusive: 1,
-            weight: 9,
-            bus: span(2, 5),
-            tuples: span(0, 2),
-            multiplicities: span(8, 10),
-            flags: span(10, 13),
-        },
+        record(1, None, span(1, 2), span(5, 8), None),
+        record(9, bus, span(0, 2), span(8, 10), flags),
     ];
     let tables = Tables {
         nodes: &nodes,
@@ -275,14 +242,8 @@ fn writes_what_it_reads(rt: HostRuntime) {
         names: b"a bus",
         records: &records,
     };
-    let Ok(lookups) = read_lookups(rt.alloc(), &tables) else {
-        holds(&rt, "the records are read", false);
-        return;
-    };
-    let Ok(made) = write_lookups(rt.alloc(), &lookups) else {
-        holds(&rt, "the lookups are written", false);
-        return;
-    };
+    let lookups = read_lookups(rt.alloc(), &tables).expect(&rt, "lookups");
+    let made = write_lookups(rt.alloc(), &lookups).expect(&rt, "tables");
     // lookup after lookup: its tuples, its multiplicities, its flags
     let expected = [
         node(2, 0, 5),
@@ -358,25 +319,18 @@ fn negated(rt: &impl Abort, alloc: Global, times: usize) -> SymbolicExpression<B
 fn refuses_what_nodes_do_not_say(rt: HostRuntime) {
     let alloc = rt.alloc();
     let deep = [counted(&rt, alloc, negated(&rt, alloc, 1024))];
-    let is_deep = match write_lookups(alloc, &deep) {
-        Err((0, TableFault::Deep)) => true,
-        _ => false,
-    };
+    let written = write_lookups(alloc, &deep);
+    let is_deep = matches!(&written, Err((0, TableFault::Deep)));
     holds(&rt, "1025 deep", is_deep);
     let entry = BaseEntry::Main {
         offset: 4_294_967_296,
     };
     let cell = SymbolicExpression::from(SymbolicVariable::new(entry, 0));
     let far = [counted(&rt, alloc, cell)];
-    let is_far = match write_lookups(alloc, &far) {
-        Err((0, TableFault::Row)) => true,
-        _ => false,
-    };
+    let written = write_lookups(alloc, &far);
+    let is_far = matches!(&written, Err((0, TableFault::Row)));
     holds(&rt, "a row past 32 bits", is_far);
     let deepest = [counted(&rt, alloc, negated(&rt, alloc, 1023))];
-    let is_written = match write_lookups(alloc, &deepest) {
-        Ok(made) => made.nodes.len() == 1024,
-        Err(_) => false,
-    };
-    holds(&rt, "1024 deep", is_written);
+    let made = write_lookups(alloc, &deepest).expect(&rt, "tables");
+    holds(&rt, "1024 deep", made.nodes.len() == 1024);
 }

@@ -184,6 +184,33 @@ fn airs_without_lookups_have_no_witness() {
 }
 
 #[test]
+fn a_witness_is_made_in_the_memory_of_another() {
+    let [alpha, beta] = challenges(5, 2);
+    let batches = [range_batch(2), range_batch(1), Batch::new([]).unwrap(), range_batch(2)];
+    let rows: [&[u32]; 4] = [&[3, 4, 1, 4, 3, 1], &[3, 3, 1], &[], &[4, 4, 1, 3, 3, 1]];
+    let (mut witness, mut generated) = (Witness::default(), Witness::default());
+    for (batch, rows) in batches.iter().zip(rows) {
+        let traces: Vec<Traces<'_>> = batch.airs().iter().map(|_| Traces::new(rows, 3)).collect();
+        let wanted = batch.prove(&traces, alpha, beta).unwrap();
+        batch.prove_into(&traces, alpha, beta, &mut witness).unwrap();
+        assert_eq!(witness, wanted);
+        for traces in &traces {
+            batch.generate_into(0, traces, alpha, beta, &mut generated).unwrap();
+            assert_eq!(generated, wanted);
+            // the prefix is 5 + 1 * 2
+            range().generate_into(traces, &[challenges(7, 2)], &mut generated).unwrap();
+            assert_eq!(generated, wanted);
+        }
+    }
+    // a refused call leaves no parts
+    let traces = [Traces::new(&[3, 4, 1], 3)];
+    assert!(batches[0].prove_into(&traces, alpha, beta, &mut witness).is_err());
+    assert_eq!(witness, Witness::default());
+    assert!(batches[0].generate_into(1, &traces[0], alpha, beta, &mut generated).is_err());
+    assert_eq!(generated, Witness::default());
+}
+
+#[test]
 fn ids_go_by_the_names_of_buses() {
     let local = || Lookup::local([]);
     let bus = |name| Lookup::on_bus(name, []);

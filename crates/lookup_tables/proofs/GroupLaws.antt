@@ -1,0 +1,103 @@
+-- Groups of four numbers that are read as one list.
+use Rattle.std.proofs.Common.{◌≡◌, ◌∙◌, ◌<◌, ◌≤◌, ◌+◌, ◌-◌, ◌++◌, ◌∷◌, [], ℕ, suc, All, List, ap, arith, get_or, length, map, max, refl, subst, sym, take}
+use Rattle.std.proofs.Math.Seq.{take-add}
+use Rattle.std.proofs.lemmas.List.{map-append}
+use Rattle.std.proofs.lemmas.List.Elements.{All-append, All-cons, All-get_or, All-head, All-nil, All-same, All-tail, All-weaker}
+use Rattle.std.proofs.lemmas.Option.{get_or_from_slice_get}
+use Rattle.std.specs.List.{flat_map, slice_range}
+use Rattle.std.specs.Simd.{first_chunks}
+use Rattle.field.specs.BabyBear.{baby_bear_of}
+use Rattle.field.specs.Quartic.{Quartic, coefficients_of}
+use Rattle.lookup_tables.specs.Nodes.{BabyBear}
+use Rattle.lookup_tables.specs.Numbers.{AreGroupsBelow, AreNumbersUpTo, IsGroupUpTo, quartic_of}
+
+-- each has four numbers
+abbrev pub AreFours : List (List ℕ) → Type 0
+AreFours groups = All (λ group. length group ≡ 4) groups
+
+-- the element with these coefficients
+abbrev pub quartic_with : List BabyBear → Quartic BabyBear
+quartic_with xs = record {
+  c0 = get_or xs 0 (baby_bear_of 0);
+  c1 = get_or xs 1 (baby_bear_of 0);
+  c2 = get_or xs 2 (baby_bear_of 0);
+  c3 = get_or xs 3 (baby_bear_of 0);
+}
+
+pub quartic_again : (x : Quartic BabyBear) (xs : List BabyBear) → coefficients_of x ≡ xs → x ≡ quartic_with xs
+quartic_again x xs is = ap quartic_with is
+
+-- the residues of all numbers, four each
+pub regrouped : (groups : List (List ℕ)) → AreFours groups → map quartic_with (first_chunks 4 (length groups) (map baby_bear_of (flat_map (λ g. g) groups))) ≡ map quartic_of groups
+regrouped [] fours = refl
+regrouped (g ∷ gs) fours = by_group g (All-head (λ group. length group ≡ 4) g gs fours) (regrouped gs (All-tail (λ group. length group ≡ 4) g gs fours))
+  where
+    by_group : (g : List ℕ) → length g ≡ 4 → map quartic_with (first_chunks 4 (length gs) (map baby_bear_of (flat_map (λ h. h) gs))) ≡ map quartic_of gs
+        → map quartic_with (first_chunks 4 (suc (length gs)) (map baby_bear_of (g ++ flat_map (λ h. h) gs))) ≡ quartic_of g ∷ map quartic_of gs
+    by_group (a ∷ b ∷ c ∷ d ∷ []) four rest = ap (λ qs. quartic_of (a ∷ b ∷ c ∷ d ∷ []) ∷ qs) rest
+    by_group [] four rest = absurd (omega (arith, four))
+    by_group (a ∷ []) four rest = absurd (omega (arith, four))
+    by_group (a ∷ b ∷ []) four rest = absurd (omega (arith, four))
+    by_group (a ∷ b ∷ c ∷ []) four rest = absurd (omega (arith, four))
+    by_group (a ∷ b ∷ c ∷ d ∷ e ∷ more) four rest = absurd (omega (arith, four))
+
+-- all numbers are at most this one, four each
+pub groups_up_to : (most : ℕ) (groups : List (List ℕ)) → AreFours groups → AreNumbersUpTo most (length (flat_map (λ g. g) groups)) (flat_map (λ g. g) groups) → All (IsGroupUpTo most) groups
+groups_up_to most [] fours flat = All-nil (IsGroupUpTo most)
+groups_up_to most (g ∷ gs) fours flat =
+    by_group g (All-head (λ group. length group ≡ 4) g gs fours) flat (groups_up_to most gs (All-tail (λ group. length group ≡ 4) g gs fours))
+  where
+    by_group : (g : List ℕ) → length g ≡ 4 → AreNumbersUpTo most (length (g ++ flat_map (λ h. h) gs)) (g ++ flat_map (λ h. h) gs)
+        → (AreNumbersUpTo most (length (flat_map (λ h. h) gs)) (flat_map (λ h. h) gs) → All (IsGroupUpTo most) gs) → All (IsGroupUpTo most) (g ∷ gs)
+    by_group (a ∷ b ∷ c ∷ d ∷ []) four all rest =
+        All-cons (IsGroupUpTo most) (a ∷ b ∷ c ∷ d ∷ []) gs
+        (record { n0 = all 0 (omega arith); n1 = all 1 (omega arith); n2 = all 2 (omega arith); n3 = all 3 (omega arith) })
+        (rest (λ k below. all (suc (suc (suc (suc k)))) (omega (arith, below))))
+    by_group [] four all rest = absurd (omega (arith, four))
+    by_group (a ∷ []) four all rest = absurd (omega (arith, four))
+    by_group (a ∷ b ∷ []) four all rest = absurd (omega (arith, four))
+    by_group (a ∷ b ∷ c ∷ []) four all rest = absurd (omega (arith, four))
+    by_group (a ∷ b ∷ c ∷ d ∷ e ∷ more) four all rest = absurd (omega (arith, four))
+
+-- the elements of a chunk are appended
+pub chunk_appended : (groups : List (List ℕ)) (flat : List ℕ) (values : List BabyBear) (fours : List (List BabyBear)) (n : ℕ) (before after : List (Quartic BabyBear)) → AreFours groups → flat ≡ flat_map (λ g. g) groups
+    → values ≡ map baby_bear_of flat → fours ≡ first_chunks 4 n values → n ≡ length groups → after ≡ before ++ map quartic_with fours → after ≡ before ++ map quartic_of groups
+chunk_appended groups flat values fours n before after four flat_is values_is fours_is n_is after_is =
+    let chunks : fours ≡ first_chunks 4 (length groups) (map baby_bear_of (flat_map (λ g. g) groups)) = fours_is ∙ (λ k. first_chunks 4 (n_is k) ((values_is ∙ ap (map baby_bear_of) flat_is) k)) in
+    after_is ∙ ap (λ xs. before ++ xs) (ap (map quartic_with) chunks ∙ regrouped groups four)
+
+-- one chunk more
+pub take_to : {A : Type 0} (xs : List A) (first end : ℕ) → first ≤ end → take end xs ≡ take first xs ++ slice_range xs first end
+take_to xs first end up =
+    let same : end ≡ first + (end - first) = omega (arith, up) in
+    (λ k. take (same k) xs) ∙ take-add first (end - first) xs
+
+pub chunk_next : (groups : List (List ℕ)) (first end : ℕ) (chunk : List (List ℕ)) (before after : List (Quartic BabyBear)) → first ≤ end → chunk ≡ slice_range groups first end → after ≡ before ++ map quartic_of chunk
+    → before ≡ map quartic_of (take first groups) → after ≡ map quartic_of (take end groups)
+chunk_next groups first end chunk before after up chunk_is pushed so_far =
+    pushed
+    ∙ ((λ k. so_far k ++ map quartic_of (chunk_is k))
+    ∙ (sym (map-append quartic_of (take first groups) (slice_range groups first end)) ∙ ap (map quartic_of) (sym (take_to groups first end up))))
+
+group_within : (low high : ℕ) → low ≤ high → (ns : List ℕ) → IsGroupUpTo low ns → IsGroupUpTo high ns
+group_within low high up ns within = record {
+  n0 = omega (arith, up, within.n0);
+  n1 = omega (arith, up, within.n1);
+  n2 = omega (arith, up, within.n2);
+  n3 = omega (arith, up, within.n3);
+}
+
+pub groups_within : (low high : ℕ) → low ≤ high → (groups : List (List ℕ)) → All (IsGroupUpTo low) groups → All (IsGroupUpTo high) groups
+groups_within low high up groups within = All-weaker (IsGroupUpTo low) (IsGroupUpTo high) (group_within low high up) groups within
+
+pub up_to_next : (groups : List (List ℕ)) (first end : ℕ) (chunk : List (List ℕ)) (so_far most : ℕ) → first ≤ end → chunk ≡ slice_range groups first end → All (IsGroupUpTo so_far) (take first groups) → All (IsGroupUpTo most) chunk
+    → All (IsGroupUpTo (max so_far most)) (take end groups)
+up_to_next groups first end chunk so_far most up chunk_is earlier here =
+    All-same (IsGroupUpTo (max so_far most)) (take end groups) (take first groups ++ chunk) (take_to groups first end up ∙ ap (λ xs. take first groups ++ xs) (sym chunk_is))
+    (All-append (IsGroupUpTo (max so_far most)) (take first groups) chunk (groups_within so_far (max so_far most) (omega arith) (take first groups) earlier) (groups_within most (max so_far most) (omega arith) chunk here))
+
+-- groups of numbers up to one below the modulus
+pub groups_below : (most : ℕ) (groups : List (List ℕ)) → most < 2013265921 → All (IsGroupUpTo most) groups → AreGroupsBelow (length groups) groups
+groups_below most groups small within k group below there =
+    let here : IsGroupUpTo most group = subst (IsGroupUpTo most) (get_or_from_slice_get groups k group group there) (All-get_or (IsGroupUpTo most) groups k group below within) in
+    record { n0 = omega (arith, small, here.n0); n1 = omega (arith, small, here.n1); n2 = omega (arith, small, here.n2); n3 = omega (arith, small, here.n3) }

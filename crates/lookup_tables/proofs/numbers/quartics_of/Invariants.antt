@@ -1,0 +1,14 @@
+use Rattle.std.proofs.Common.{◌≡◌, ◌≤◌, ◌-◌, All, length, map, take, vec_capacity}
+use Rattle.lookup_tables.specs.Numbers.{IsGroupUpTo, quartic_of}
+use Rattle.lookup_tables.proofs.numbers.quartics_of.Given as goal
+
+abbrev pub invariant-loop-first : goal.invariant-loop-first
+invariant-loop-first l = record {
+  within : l.first ≤ length l.groups;
+  values : l.values.items ≡ map quartic_of (take l.first l.groups);
+  has_room : length l.groups ≤ vec_capacity l.values;
+  greatest : All (IsGroupUpTo l.greatest) (take l.first l.groups);
+}
+
+abbrev pub decreases-loop-first : goal.decreases-loop-first
+decreases-loop-first l = length l.groups - l.first
