@@ -76,7 +76,10 @@ fn count(
         MatchResult result (IsCountedBy E parts traces.now alphas.now betas.now)
         (IsCountingRefusal E parts traces.now alphas.now betas.now) }
 {
-    Ok(plan.grid_count(alloc, traces, alphas, betas)?)
+    match plan.grid_count(alloc, traces, alphas, betas) {
+        Ok(count) => Ok(count),
+        Err(error) => Err(Fault::Batch(error)),
+    }
 }
 
 /// The count of a grid of challenges over what tables say.

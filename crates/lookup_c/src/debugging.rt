@@ -22,7 +22,10 @@ fn table_sets(alloc: Global, airs: &[Tables<'_>]) -> Result<Vec<Lookups<BabyBear
 {
     let mut sets = Vec::with_capacity(alloc, airs.len())?;
     for (index, air) in airs.iter().enumerate() {
-        sets.push(set_of(alloc, index, air)?)?;
+        match set_of(alloc, index, air) {
+            Ok(set) => sets.push(set)?,
+            Err(fault) => return Err(fault),
+        }
     }
     Ok(sets)
 }
@@ -75,7 +78,10 @@ fn debug_instances<'a>(
 {
     let mut instances = Vec::with_capacity(alloc, sets.len())?;
     for air in 0..sets.len() {
-        instances.push(debug_instance(air, &sets[air], &traces[air])?)?;
+        match debug_instance(air, &sets[air], &traces[air]) {
+            Ok(instance) => instances.push(instance)?,
+            Err(fault) => return Err(fault),
+        }
     }
     Ok(instances)
 }

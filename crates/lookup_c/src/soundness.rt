@@ -68,7 +68,10 @@ fn message_count(
         MatchResult result (IsMessageCount E parts traces.now)
         (IsMessageRefusal E parts traces.now) }
 {
-    Ok(plan.soundness_count::<BabyBear4>(alloc, traces)?)
+    match plan.soundness_count::<BabyBear4>(alloc, traces) {
+        Ok(count) => Ok(count),
+        Err(error) => Err(Fault::Batch(error)),
+    }
 }
 
 /// The counts of what tables say.

@@ -31,8 +31,10 @@ fn verify(
         MatchResult result (λ _. IsVerifiedBy E parts traces.now alpha beta witness.now)
         (IsVerifyingRefusal E parts traces.now alpha beta witness.now) }
 {
-    plan.verify(alloc, traces, alpha, beta, witness)?;
-    Ok(())
+    match plan.verify(alloc, traces, alpha, beta, witness) {
+        Ok(()) => Ok(()),
+        Err(error) => Err(Fault::Batch(error)),
+    }
 }
 
 /// Whether the plan that tables say accepts the witness that numbers say.
