@@ -1,6 +1,6 @@
 /* The calls of volgwain.h on small traces: their answers, each code but 14, 23 and 25, which take billions of
    lookups, messages or nodes, memory that runs out at each request, four threads at once, and a stack of
-   256 KB. */
+   384 KB. */
 #define _POSIX_C_SOURCE 200809L
 #include "volgwain.h"
 
@@ -1483,7 +1483,7 @@ static void check_stack(void)
     pthread_attr_t attributes;
     pthread_t thread;
     pthread_attr_init(&attributes);
-    if (pthread_attr_setstacksize(&attributes, 256 * 1024) != 0
+    if (pthread_attr_setstacksize(&attributes, 384 * 1024) != 0
         || pthread_create(&thread, &attributes, run_deep, NULL) != 0)
         exit(3);
     pthread_join(thread, NULL);
