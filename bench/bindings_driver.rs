@@ -196,6 +196,7 @@ fn compare_generation(shape: u32, rows: usize) {
         || air.generate_into(&traces, &challenges, &mut witness).expect("there is no fault");
     let ways: &mut [&mut dyn FnMut()] = &mut [&mut || drop(black_box(generate())), &mut again];
     let times = least(rows * air.len(), ways, &|rounds| own(rounds, 1));
+    assert_eq!(checksum_of(&witness), own(1, 0), "shape {shape}, {rows} rows, again");
     print(&format!("shape {shape}"), rows, &times.through, &[times.own, times.from_numbers]);
 }
 
@@ -214,6 +215,7 @@ fn compare_proving(rows: usize) {
         || batch.prove_into(&traces, alpha, beta, &mut witness).expect("there is no fault");
     let ways: &mut [&mut dyn FnMut()] = &mut [&mut || drop(black_box(prove())), &mut again];
     let times = least(rows * 2 * LOOKUPS, ways, &|rounds| own(rounds, 1));
+    assert_eq!(checksum_of(&witness), own(1, 0), "{rows} rows, again");
     print("prove", rows, &times.through, &[times.own, times.from_numbers]);
 }
 

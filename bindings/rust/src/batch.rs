@@ -106,8 +106,9 @@ impl Batch {
         Ok(witness)
     }
 
-    /// As [`prove`](Batch::prove), in the memory of a witness that is no longer needed. If that is
-    /// as large, no new memory is asked for, which large traces have to wait for.
+    /// As [`prove`](Batch::prove), in the memory of a witness that is no longer needed; an empty one,
+    /// `Witness::default()`, will do to start. If its cells suffice, none are allocated anew, which
+    /// takes long for large traces. It keeps its memory after a refusal, and for a smaller batch.
     ///
     /// Where it refuses, that witness is left without parts.
     pub fn prove_into(
@@ -154,12 +155,12 @@ impl Batch {
         beta: Element,
         witness: &mut Witness,
     ) -> Result<(), Error> {
-        let index = air;
-        let planned = self.airs.get(index).zip(self.ids.get(index));
+        let planned = self.airs.get(air).zip(self.ids.get(air));
         let shapes: Vec<Shape> = planned.iter().map(|(air, _)| air.shape(traces)).collect();
         witness.refill(&shapes, |cells, terminals| {
-            let (air, ids) = planned.ok_or_else(|| Error::no_such_air(index))?;
-            let (tables, terminal) = (air.tables(), &mut terminals[0]);
+            let (planned_air, ids) = planned.ok_or_else(|| Error::no_such_air(air))?;
+            // an AIR that is there has one shape, so one terminal
+            let (tables, terminal) = (planned_air.tables(), &mut terminals[0]);
             let challenges = [alpha, beta];
             ffi::generate_by_ids(tables, traces, ids, &self.sizes, challenges, cells, terminal)
         })

@@ -4,8 +4,8 @@ use crate::expr::Unwritable;
 use crate::ffi::Refusal;
 use std::fmt;
 
-/// A refused call: why, where, and a text that says both. It has changed nothing, but that a witness
-/// whose memory it was given is left without parts.
+/// A refused call: why, where, and a text that says both. It has changed nothing, except that a witness
+/// given for its memory is left without parts.
 #[derive(Clone, Debug, PartialEq, Eq, Hash)]
 pub struct Error {
     parts: Box<Parts>,

@@ -99,7 +99,7 @@ impl Witness {
         filled
     }
 
-    /// Has a part for each of these shapes, with cells of any value and no terminals.
+    /// Makes a part for each of these shapes, with cells of any value and no terminals.
     fn share_out(&mut self, shapes: &[Shape]) -> Result<(), Error> {
         let mut end: usize = 0;
         for shape in shapes {
@@ -107,6 +107,10 @@ impl Witness {
             let after = shape.cells().and_then(|cells| start.checked_add(cells));
             end = after.ok_or_else(Error::memory)?;
             self.airs.push(Share { cells: start..end, width: shape.width(), terminal: None });
+        }
+        if self.cells.capacity() < end {
+            // what they hold is of no use, so it is not copied
+            self.cells = Vec::new();
         }
         let more = end.saturating_sub(self.cells.len());
         self.cells.try_reserve_exact(more).map_err(|_| Error::memory())?;
