@@ -8,12 +8,12 @@ use matrix::RowMajorMatrix;
 use serde::{Deserialize, DeserializeOwned};
 use std::alloc::Global;
 
-/// A local lookup that reads cell 0 and provides cell 1, cell 2 times, both beside 1; the same without the 1 by two
-/// lookups on a bus; and a group on that bus with the flag of cell 2, whose count is 0.
+/// A local lookup that reads cell 0 and provides cell 1, cell 2 times; the same by two lookups on a bus; and a
+/// group on that bus with the flag of cell 2, whose count is 0.
 pub const LOOKUPS: &str =
-    r#"[{"kind":"Local","elements":[[{"Leaf":{"Variable":{"entry":{"Main":{"offset":0}},"index":0}}},{"Leaf":{"Constant":1}}],[{"Leaf":{"Variable":{"entry":{"Main":{"offset":0}},"index":1}}},{"Leaf":{"Constant":1}}]],"multiplicities":[{"Leaf":{"Constant":1}},{"Neg":{"Leaf":{"Variable":{"entry":{"Main":{"offset":0}},"index":2}}}}],"count_weight":1,"column":0,"flags":null},{"kind":{"Global":"keys"},"elements":[[{"Leaf":{"Variable":{"entry":{"Main":{"offset":0}},"index":0}}}]],"multiplicities":[{"Leaf":{"Constant":1}}],"count_weight":1,"column":1,"flags":null},{"kind":{"Global":"keys"},"elements":[[{"Leaf":{"Variable":{"entry":{"Main":{"offset":0}},"index":1}}}]],"multiplicities":[{"Neg":{"Leaf":{"Variable":{"entry":{"Main":{"offset":0}},"index":2}}}}],"count_weight":0,"column":2,"flags":null},{"kind":{"Global":"keys"},"elements":[[{"Leaf":{"Variable":{"entry":{"Main":{"offset":0}},"index":0}}}]],"multiplicities":[{"Leaf":{"Constant":0}}],"count_weight":1,"column":3,"flags":[{"Leaf":{"Variable":{"entry":{"Main":{"offset":0}},"index":2}}}]}]"#;
+    r#"[{"kind":"Local","elements":[[{"Leaf":{"Variable":{"entry":{"Main":{"offset":0}},"index":0}}}],[{"Leaf":{"Variable":{"entry":{"Main":{"offset":0}},"index":1}}}]],"multiplicities":[{"Leaf":{"Constant":1}},{"Neg":{"Leaf":{"Variable":{"entry":{"Main":{"offset":0}},"index":2}}}}],"count_weight":1,"column":0,"flags":null},{"kind":{"Global":"keys"},"elements":[[{"Leaf":{"Variable":{"entry":{"Main":{"offset":0}},"index":0}}}]],"multiplicities":[{"Leaf":{"Constant":1}}],"count_weight":1,"column":1,"flags":null},{"kind":{"Global":"keys"},"elements":[[{"Leaf":{"Variable":{"entry":{"Main":{"offset":0}},"index":1}}}]],"multiplicities":[{"Neg":{"Leaf":{"Variable":{"entry":{"Main":{"offset":0}},"index":2}}}}],"count_weight":0,"column":2,"flags":null},{"kind":{"Global":"keys"},"elements":[[{"Leaf":{"Variable":{"entry":{"Main":{"offset":0}},"index":0}}}]],"multiplicities":[{"Leaf":{"Constant":0}}],"count_weight":1,"column":3,"flags":[{"Leaf":{"Variable":{"entry":{"Main":{"offset":0}},"index":2}}}]}]"#;
 
-/// The local one alone, without the 1.
+/// The local one alone.
 pub const LOCAL: &str =
     r#"[{"kind":"Local","elements":[[{"Leaf":{"Variable":{"entry":{"Main":{"offset":0}},"index":0}}}],[{"Leaf":{"Variable":{"entry":{"Main":{"offset":0}},"index":1}}}]],"multiplicities":[{"Leaf":{"Constant":1}},{"Neg":{"Leaf":{"Variable":{"entry":{"Main":{"offset":0}},"index":2}}}}],"count_weight":1,"column":0,"flags":null}]"#;
 
