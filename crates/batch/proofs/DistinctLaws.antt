@@ -1,5 +1,5 @@
 -- Lists without repeats, one element further.
-use Rattle.std.proofs.Common.{◌≡◌, ◌≢◌, ◌↔◌, ◌⊎◌, ℕ, zero, suc, inl, inr, Bool, IsTrue, true, false, not, ◌||◌, if◌then◌else◌, List, [], ◌∷◌, ◌++◌, take, refl, sym, subst, ◌∙◌}
+use Rattle.std.proofs.Common.{◌≡◌, ◌≢◌, ◌↔◌, ℕ, zero, suc, Bool, IsTrue, true, false, not, ◌||◌, if◌then◌else◌, List, [], ◌∷◌, ◌++◌, take, refl, sym}
 use Rattle.std.specs.List.{AllByRecursion, list_any}
 use Rattle.field.specs.Distinct.{IsDistinct}
 use Rattle.indexmap.specs.IndexSet.{insert_key}

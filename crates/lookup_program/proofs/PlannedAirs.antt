@@ -1,13 +1,11 @@
 -- The plan of a machine's AIRs over the rows of its input: its ids, its batch, and why it is refused.
-use Rattle.std.proofs.Common.{◌≡◌, ◌≢◌, ◌⊎◌, ◌<◌, ◌≤◌, ◌+◌, ◌*◌, ◌++◌, ℕ, zero, suc, Bool, IsTrue, List, [], ◌∷◌, Option, Some, All, inl, inr, length, get_or, map, slice_get, refl, sym, ap, ap₂, subst, subst₂, arith, ◌∙◌}
+use Rattle.std.proofs.Common.{◌≡◌, ◌<◌, ◌≤◌, ◌+◌, ◌*◌, ◌++◌, ℕ, zero, suc, Bool, IsTrue, List, [], ◌∷◌, All, inl, inr, length, get_or, map, refl, sym, ap, ap₂, subst, subst₂, arith, ◌∙◌}
 use Rattle.std.proofs.lemmas.List.{length-map}
 use Rattle.std.proofs.lemmas.List.Elements.{All-cons, All-nil}
 use Rattle.std.proofs.lemmas.List.Sums.{sum_by-cons}
-use Rattle.std.specs.List.{AllZip, flat_map, sum_by, zip}
-use Rattle.std.specs.Option.{option_copied}
+use Rattle.std.specs.List.{AllZip, sum_by, zip}
 use Rattle.field.specs.Ring.{Ring}
 use Rattle.matrix.specs.Matrix.{Matrix, height}
-use Rattle.lookup_model.specs.Batches.Instances.{Instance}
 use Rattle.lookup_model.specs.Outline.{bus_of}
 use Rattle.lookup_model.specs.declared.error.LookupError.{LookupError}
 use Rattle.lookup_model.specs.declared.types.Lookup.{Lookup}
@@ -15,7 +13,7 @@ use Rattle.lookup.specs.Guards.{IsHeightRefusal, weighted_height, weighted_heigh
 use Rattle.lookup.specs.Lookups.{lookups_of}
 use Rattle.lookup.specs.Sends.{lookup_bus_and_weight}
 use Rattle.lookup.specs.declared.lookups.Lookups.{Lookups}
-use Rattle.batch.specs.Checks.{HasTooManyIds, IsPlanRefusal}
+use Rattle.batch.specs.Checks.{IsPlanRefusal}
 use Rattle.batch.specs.Order.{AreInOrder, same_bus}
 use Rattle.batch.specs.PlanFacts.{AreNumbered, assigned}
 use Rattle.batch.specs.Traces.{FitsAt, batch_over}

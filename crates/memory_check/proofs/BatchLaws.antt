@@ -15,16 +15,15 @@ use Rattle.lookup_model.specs.Batches.Instances.{Instance}
 use Rattle.lookup_model.specs.Batches.Messages.{batch_messages}
 use Rattle.lookup_model.specs.Batches.Refusals.{IsWitnessRefusal}
 use Rattle.lookup_model.specs.Batches.Witnesses.{AirResult, HasOneOfEach, IsAccepted, plain_witness, results_of}
-use Rattle.lookup_model.specs.declared.fault.BatchFault.{BatchFault}
 use Rattle.lookup_model.specs.declared.witness.Witness.{Witness}
 use Rattle.batch.proofs.PlanCalls.{unfit_traces, wrong_count}
 use Rattle.batch.proofs.TraceLaws.{alone_is}
 use Rattle.batch.specs.Lists.{lists_of}
 use Rattle.batch.specs.Plans.{PassIsCounted, Proves, RefusesOnlyUnaccepted, Verifies, plan_batch}
 use Rattle.batch.specs.Tables.{made_table}
-use Rattle.batch.specs.Traces.{AreTraces as ArePlanTraces, FitsAt, IsFirstUnfit, IsTraceRefusal, batch_alone, main_alone, shown_of}
+use Rattle.batch.specs.Traces.{AreTraces as ArePlanTraces, FitsAt, IsFirstUnfit, batch_alone, main_alone, shown_of}
 use Rattle.batch.specs.declared.error.BatchError.{BatchError}
-use Rattle.batch.specs.declared.error.BatchError.TheVariants.{LengthMismatch, Lookup as OfLookup, Memory}
+use Rattle.batch.specs.declared.error.BatchError.TheVariants.{LengthMismatch, Memory}
 use Rattle.batch.specs.declared.trace.BatchTrace.{BatchTrace}
 use Rattle.memory_check.specs.Memory.{AreMemoryTraces, IsAcceptedMemory, IsMemoryRefusal}
 

@@ -1,5 +1,5 @@
 //! Constraints of lookups after those of an AIR, as a symbolic builder records them.
-ghost use Rattle.std.specs.Prelude.{◌≡◌, ◌+◌, ◌*◌, ◌<◌, ◌≤◌, ◌↔◌, IfOk, IsTrue, OnOk, length};
+ghost use Rattle.std.specs.Prelude.{◌≡◌, ◌*◌, ◌<◌, ◌≤◌, IfOk, IsTrue, OnOk, length};
 ghost use Rattle.lookup_model.specs.Records.{LookupsFit};
 
 use super::{group, holds, list, range, single};

@@ -1,4 +1,4 @@
-use Rattle.std.proofs.Common.{rules, Option, subst, sym}
+use Rattle.std.proofs.Common.{rules, Option, subst}
 use Rattle.lookup_model.specs.Outline.{fields_of}
 use Rattle.lookup_model.specs.declared.sum_degrees.SumDegrees.{SumDegrees}
 use Rattle.lookup.specs.TrialDegrees.{KeepsDegrees}
