@@ -7,7 +7,7 @@ use Rattle.std.proofs.lemmas.Option.{get_or_from_slice_get}
 use Rattle.std.specs.List.{flat_map, slice_range}
 use Rattle.std.specs.Simd.{first_chunks}
 use Rattle.field.specs.BabyBear.{baby_bear_of}
-use Rattle.field.specs.Quartic.{Quartic, coefficients_of}
+use Rattle.field.specs.Quartic.{Quartic}
 use Rattle.lookup_tables.specs.Nodes.{BabyBear}
 use Rattle.lookup_tables.specs.Numbers.{AreGroupsBelow, AreNumbersUpTo, IsGroupUpTo, quartic_of}
 
@@ -23,9 +23,6 @@ quartic_with xs = record {
   c2 = get_or xs 2 (baby_bear_of 0);
   c3 = get_or xs 3 (baby_bear_of 0);
 }
-
-pub quartic_again : (x : Quartic BabyBear) (xs : List BabyBear) → coefficients_of x ≡ xs → x ≡ quartic_with xs
-quartic_again x xs is = ap quartic_with is
 
 -- the residues of all numbers, four each
 pub regrouped : (groups : List (List ℕ)) → AreFours groups → map quartic_with (first_chunks 4 (length groups) (map baby_bear_of (flat_map (λ g. g) groups))) ≡ map quartic_of groups

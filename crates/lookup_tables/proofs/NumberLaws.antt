@@ -1,16 +1,9 @@
 -- Numbers that are read one after another.
-use Rattle.std.proofs.Common.{◌≡◌, ◌⊎◌, ◌<◌, ◌≤◌, ◌+◌, ◌++◌, ◌∷◌, ◌∙◌, [], ℕ, List, Some, inl, inr, ap, arith, get_or, length, map, max, slice_index, subst, sym, take}
+use Rattle.std.proofs.Common.{◌≡◌, ◌⊎◌, ◌<◌, ◌≤◌, ◌+◌, ◌∙◌, ℕ, List, Some, inl, inr, arith, get_or, length, max, slice_index, subst, sym}
 use Rattle.std.proofs.lemmas.Bool.{cases_lt}
-use Rattle.std.proofs.lemmas.List.{map_push, take_more}
 use Rattle.std.proofs.lemmas.Option.{slice_get-get_or}
 use Rattle.std.specs.List.{slice_get}
 use Rattle.lookup_tables.specs.Numbers.{AreGroupsBelow, AreNumbersBelow, AreNumbersUpTo, IsFirstLargeGroup, IsGroup}
-
--- the values of one item more
-pub values_next : {A B : Type 0} (f : A → B) (xs : List A) (i : ℕ) (d : A) (before after : List B) (v : B) → i < length xs → v ≡ f (get_or xs i d) → after ≡ before ++ v ∷ []
-    → before ≡ map f (take i xs) → after ≡ map f (take (i + 1) xs)
-values_next f xs i d before after v there is pushed so_far =
-    pushed ∙ ((λ k. so_far k ++ is k ∷ []) ∙ (sym (map_push f (take i xs) (get_or xs i d)) ∙ ap (map f) (sym (take_more xs i d there))))
 
 -- one number more
 pub numbers_next : (numbers : List ℕ) (i : ℕ) → slice_index numbers i < 2013265921 → AreNumbersBelow i numbers → AreNumbersBelow (i + 1) numbers

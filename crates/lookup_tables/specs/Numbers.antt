@@ -23,7 +23,7 @@ AreNumbersBelow n numbers = (k : ℕ) → k < n → slice_index numbers k < 2013
 
 -- the first n numbers are at most this one
 abbrev pub AreNumbersUpTo : ℕ → ℕ → List ℕ → Type 0
-AreNumbersUpTo greatest n numbers = (k : ℕ) → k < n → slice_index numbers k ≤ greatest
+AreNumbersUpTo most n numbers = (k : ℕ) → k < n → slice_index numbers k ≤ most
 
 -- number i is not below the modulus, and all those before it are
 pub record IsFirstLarge (numbers : List ℕ) (i : ℕ) : Type 0 where
@@ -43,13 +43,13 @@ abbrev pub AreGroupsBelow : ℕ → List (List ℕ) → Type 0
 AreGroupsBelow n groups = (k : ℕ) (group : List ℕ) → k < n → slice_get groups k ≡ Some group → IsGroup group
 
 -- four numbers are at most this one
-pub record IsGroupUpTo (greatest : ℕ) (ns : List ℕ) : Type 0 where
-  pub n0 : slice_index ns 0 ≤ greatest
-  pub n1 : slice_index ns 1 ≤ greatest
-  pub n2 : slice_index ns 2 ≤ greatest
-  pub n3 : slice_index ns 3 ≤ greatest
+pub record IsGroupUpTo (most : ℕ) (ns : List ℕ) : Type 0 where
+  pub n0 : slice_index ns 0 ≤ most
+  pub n1 : slice_index ns 1 ≤ most
+  pub n2 : slice_index ns 2 ≤ most
+  pub n3 : slice_index ns 3 ≤ most
 
--- group i is none below the modulus, and all those before it are
+-- group i has a number that is not below the modulus, and the groups before it have none
 pub record IsFirstLargeGroup (groups : List (List ℕ)) (i : ℕ) : Type 0 where
   pub group : List ℕ
   pub is_there : slice_get groups i ≡ Some group

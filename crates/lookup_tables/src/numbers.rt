@@ -1,5 +1,5 @@
 //! Numbers as elements, and elements as numbers.
-ghost use Rattle.std.specs.Prelude.{◌≡◌, ◌⊎◌, ◌+◌, ◌<◌, ◌≤◌, ◌++◌, ℕ, All, IfOk, MatchOption, MatchResult, length, map, vec_capacity};
+ghost use Rattle.std.specs.Prelude.{◌≡◌, ◌⊎◌, ◌↔◌, ◌+◌, ◌<◌, ◌≤◌, ◌++◌, ℕ, All, IfOk, IsTrue, MatchOption, MatchResult, length, map, vec_capacity};
 ghost use Rattle.field.specs.BabyBear.{baby_bear_of};
 ghost use Rattle.lookup_tables.specs.Numbers.{AreGroupsBelow, AreNumbersBelow, AreNumbersUpTo, IsFirstLarge, IsFirstLargeGroup, IsGroup, IsGroupUpTo, numbers_of, quartic_of};
 ghost use Rattle.lookup_tables.specs.declared.numbers.NumberFault.TheVariants.{Memory, Large};
@@ -38,6 +38,13 @@ impl<T: Drop> From<AllocFailed<T>> for NumberFault {
     }
 }
 
+/// Whether this number is that of an element.
+fn is_below_modulus(number: u32) -> bool
+    ensures { IsTrue result ↔ number < 2013265921 }
+{
+    number < MODULUS
+}
+
 /// The elements that are these numbers.
 ///
 /// Refuses the first number that is not below the modulus. Also fails when out of memory.
@@ -48,7 +55,7 @@ pub fn elements(alloc: Global, numbers: &[u32]) -> Result<Vec<BabyBear>, NumberF
         (λ e. (e ≡ Memory) ⊎ (i : ℕ) × (e ≡ Large i) × IsFirstLarge numbers.now i) }
 {
     let made = residues_of(alloc, numbers)?;
-    if made.greatest < MODULUS {
+    if is_below_modulus(made.most) {
         return Ok(made.values);
     }
     match first_large(numbers) {
@@ -61,14 +68,14 @@ pub fn elements(alloc: Global, numbers: &[u32]) -> Result<Vec<BabyBear>, NumberF
 #[derive(Drop)]
 struct Residues {
     values: Vec<BabyBear>,
-    /// The greatest of the numbers, 0 if there are none.
-    greatest: u32,
+    /// None of the numbers is above this one.
+    most: u32,
 }
 
 /// The residues of these numbers. The loop tests none of them, so that it takes many at a time.
 fn residues_of(alloc: Global, numbers: &[u32]) -> Result<Residues, AllocError>
     ensures { IfOk result (λ made. (made.values.items ≡ map baby_bear_of numbers.now)
-        × AreNumbersUpTo made.greatest (length numbers.now) numbers.now) }
+        × AreNumbersUpTo made.most (length numbers.now) numbers.now) }
 {
     let mut values = Vec::with_capacity(alloc, numbers.len())?;
     let mut greatest: u32 = 0;
@@ -76,7 +83,10 @@ fn residues_of(alloc: Global, numbers: &[u32]) -> Result<Residues, AllocError>
         greatest = greatest.max(*n);
         values.push_reserved(BabyBear::new(*n));
     }
-    Ok(Residues { values, greatest })
+    Ok(Residues {
+        values,
+        most: greatest,
+    })
 }
 
 /// The index of the first number that is not below the modulus, if there is one.
@@ -101,7 +111,7 @@ pub fn extensions(alloc: Global, groups: &[[u32; 4]]) -> Result<Vec<BabyBear4>, 
         (λ e. (e ≡ Memory) ⊎ (i : ℕ) × (e ≡ Large i) × IsFirstLargeGroup groups.now i) }
 {
     let made = quartics_of(alloc, groups)?;
-    if made.greatest < MODULUS {
+    if is_below_modulus(made.most) {
         return Ok(made.values);
     }
     match first_large_group(groups) {
@@ -114,14 +124,14 @@ pub fn extensions(alloc: Global, groups: &[[u32; 4]]) -> Result<Vec<BabyBear4>, 
 #[derive(Drop)]
 struct Quartics {
     values: Vec<BabyBear4>,
-    /// The greatest of the numbers, 0 if there are none.
-    greatest: u32,
+    /// None of the numbers is above this one.
+    most: u32,
 }
 
 /// The elements whose coefficients are the residues of these numbers, a chunk of them at a time.
 fn quartics_of(alloc: Global, groups: &[[u32; 4]]) -> Result<Quartics, AllocError>
     ensures { IfOk result (λ made. (made.values.items ≡ map quartic_of groups.now)
-        × All (IsGroupUpTo made.greatest) groups.now) }
+        × All (IsGroupUpTo made.most) groups.now) }
 {
     let mut values = Vec::with_capacity(alloc, groups.len())?;
     let mut greatest: u32 = 0;
@@ -132,7 +142,10 @@ fn quartics_of(alloc: Global, groups: &[[u32; 4]]) -> Result<Quartics, AllocErro
         greatest = greatest.max(most);
         first = end;
     }
-    Ok(Quartics { values, greatest })
+    Ok(Quartics {
+        values,
+        most: greatest,
+    })
 }
 
 /// Where the chunk ends that begins at `first`.
@@ -148,7 +161,7 @@ fn chunk_end(first: usize, end: usize) -> usize
     }
 }
 
-/// Appends the elements of a chunk, and answers the greatest of its numbers.
+/// Appends the elements of a chunk, and answers a number that none of its numbers is above.
 fn push_quartics(
     alloc: Global,
     values: &mut Vec<BabyBear4>,
@@ -157,14 +170,14 @@ fn push_quartics(
     requires { length values.old.items + length groups.now ≤ vec_capacity values.old }
     ensures pushed { IfOk result (λ _. values.new.items ≡ values.old.items ++ map quartic_of groups.now) }
     ensures room { IfOk result (λ _. vec_capacity values.new ≡ vec_capacity values.old) }
-    ensures most { IfOk result (λ greatest. All (IsGroupUpTo greatest) groups.now) }
+    ensures most { IfOk result (λ most. All (IsGroupUpTo most) groups.now) }
 {
     let made = residues_of(alloc, groups.as_flattened())?;
     let (fours, _) = made.values.as_chunks::<4>();
     for four in fours {
         values.push_reserved(BabyBear4::new(*four));
     }
-    Ok(made.greatest)
+    Ok(made.most)
 }
 
 /// The index of the first four of which one is not below the modulus, if there are such.

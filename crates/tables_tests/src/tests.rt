@@ -195,6 +195,66 @@ fn reads_elements(rt: HostRuntime) {
     holds(&rt, "zero", extension([0, 0, 0, 0]) == Some(zero));
 }
 
+/// Fails unless the element at this index has these numbers.
+fn expect_element(rt: &impl Abort, list: &[BabyBear4], index: usize, numbers: [u32; 4]) {
+    let Some(x) = list.get(index) else {
+        holds(rt, "an element", false);
+        return;
+    };
+    holds(
+        rt,
+        "the numbers of an element",
+        element_numbers(*x) == numbers,
+    );
+}
+
+#[test]
+fn reads_groups(rt: HostRuntime) {
+    let groups = [[1, 2, 3, 4], [5, 6, 7, 8], [2_013_265_920, 0, 9, 10]];
+    let list = extensions(rt.alloc(), &groups).expect(&rt, "three groups");
+    let [x, y, z] = list.as_slice() else {
+        holds(&rt, "three elements", false);
+        return;
+    };
+    holds(&rt, "the first", element_numbers(*x) == [1, 2, 3, 4]);
+    holds(&rt, "the second", element_numbers(*y) == [5, 6, 7, 8]);
+    holds(
+        &rt,
+        "the third",
+        element_numbers(*z) == [2_013_265_920, 0, 9, 10],
+    );
+    // 1 + 5 + 2013265920 is 5 more than the modulus.
+    let sum = *x + *y + *z;
+    holds(&rt, "their sum", element_numbers(sum) == [5, 8, 19, 22]);
+    let large = [
+        [1, 2, 3, 4],
+        [5, 6, 7, 2_013_265_921],
+        [2_013_265_921, 0, 0, 0],
+    ];
+    let read = extensions(rt.alloc(), &large);
+    let is_second = matches!(&read, Err(NumberFault::Large(1)));
+    holds(&rt, "the modulus in a group", is_second);
+}
+
+#[test]
+fn reads_many_groups(rt: HostRuntime) {
+    let mut groups = [[1, 2, 3, 4]; 130];
+    groups[63] = [5, 6, 7, 8];
+    groups[64] = [9, 10, 11, 12];
+    groups[129] = [13, 14, 15, 2_013_265_920];
+    let list = extensions(rt.alloc(), &groups).expect(&rt, "many groups");
+    holds(&rt, "as many elements", list.len() == 130);
+    expect_element(&rt, &list, 0, [1, 2, 3, 4]);
+    expect_element(&rt, &list, 63, [5, 6, 7, 8]);
+    expect_element(&rt, &list, 64, [9, 10, 11, 12]);
+    expect_element(&rt, &list, 128, [1, 2, 3, 4]);
+    expect_element(&rt, &list, 129, [13, 14, 15, 2_013_265_920]);
+    groups[70] = [0, 2_013_265_921, 0, 0];
+    let read = extensions(rt.alloc(), &groups);
+    let is_there = matches!(&read, Err(NumberFault::Large(70)));
+    holds(&rt, "the modulus in a later chunk", is_there);
+}
+
 /// Whether two nodes are the same.
 fn is_node(a: &Node, b: &Node) -> bool {
     a.kind == b.kind && a.number == b.number && a.index == b.index

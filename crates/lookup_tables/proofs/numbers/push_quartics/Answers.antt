@@ -20,6 +20,6 @@ returns-clause-pushed c =
 pub returns-clause-most : goal.returns-clause-most
 returns-clause-most c =
     let groups = c.args.groups.now in
-    let most = c.in_ok-made.made.greatest in
+    let most = c.in_ok-made.made.most in
     groups_up_to most groups (All-from_get_or (λ group. length group ≡ 4) groups [] c.told-groups)
     (subst (λ (ns : List ℕ). AreNumbersUpTo most (length ns) ns) c.as_flattened.ensures.value c.in_ok-made.ensures.1)
