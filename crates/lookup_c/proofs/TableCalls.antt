@@ -1,10 +1,11 @@
 -- What calls over elements answer, as answers over tables of numbers.
-use Rattle.std.proofs.Common.{◌≡◌, ◌∙◌, ◌∷◌, ◌<◌, ◌≤◌, ◌^◌, [], ℕ, Bool, All, List, MatchResult, Result, ap, ap₂, get_or, inl, inr, length, map, refl, subst, subst₂, take}
+use Rattle.std.proofs.Common.{◌≡◌, ◌⊎◌, ◌∙◌, ◌∷◌, ◌<◌, ◌≤◌, ◌^◌, [], ℕ, Bool, All, List, MatchResult, Option, Result, ap, ap₂, get_or, inl, inr, length, map, refl, subst, subst₂, take}
 use Rattle.std.proofs.lemmas.List.Elements.{All-cons, All-nil}
 use Rattle.std.proofs.lemmas.Option.{slice_get-get_or}
 use Rattle.std.proofs.lemmas.Result.{MatchResult-weaker}
 use Rattle.field.specs.Ring.{Ring}
 use Rattle.field.specs.Quartic.{Quartic}
+use Rattle.matrix.specs.Matrix.{Matrix}
 use Rattle.air.specs.Traces.{AirTraces, air_traces}
 use Rattle.batch.specs.Tables.{made_table}
 use Rattle.batch.specs.Traces.{shown_of}
@@ -20,6 +21,7 @@ use Rattle.lookup_model.specs.LookupDegree.{lookup_degree}
 use Rattle.lookup_model.specs.declared.error.LookupError.{LookupError}
 use Rattle.lookup_model.specs.declared.error.LookupError.TheVariants.{DegreeOverflow}
 use Rattle.lookup_model.specs.declared.types.Lookup.{Lookup}
+use Rattle.lookup_model.specs.declared.types.LookupTerminal.{LookupTerminal}
 use Rattle.lookup_tables.specs.Nodes.{BabyBear}
 use Rattle.lookup_tables.specs.Numbers.{AreGroupsBelow, IsGroup, quartic_of}
 use Rattle.lookup_tables.specs.Tables.{SayLookups}
@@ -32,6 +34,7 @@ use Rattle.lookup_c.specs.Counting.{CountsTables, IsCountedBy, IsCountingRefusal
 use Rattle.lookup_c.specs.Soundness.{CountsMessagesOf, IsCountCallRefusal, IsMessageCount, IsMessageRefusal}
 use Rattle.lookup_c.specs.Degrees.{IsDegreeRefusal}
 use Rattle.lookup_c.specs.Debugging.{AreTableSets, ChecksTables, ChecksTraced, IsCheckRefusal, IsDebugCallRefusal, IsTableSetsRefusal, all_traced}
+use Rattle.lookup_c.specs.Generated.{AreNumbersOf, IsNotGiven, LacksRoom, ShowsGenerated}
 use Rattle.lookup_c.specs.Generation.{Generates, GeneratesOver, IsGenerationRefusal, IsLookupsRefusal}
 use Rattle.lookup_c.specs.Identified.{GeneratesByIds, IsByIdsRefusal, challenges_by_ids}
 use Rattle.lookup_c.specs.Inputs.{IsTracesRefusal, said_traces, shown_traces}
@@ -43,6 +46,7 @@ use Rattle.lookup_c.specs.declared.fault.Fault.{Fault}
 use Rattle.lookup_c.specs.declared.fault.Fault.TheVariants.{Lookup as OfLookup}
 use Rattle.lookup_c.specs.declared.witness.AirWitness.{AirWitness}
 use Rattle.lookup_c.specs.declared.generation.Generated.{Generated}
+use Rattle.lookup_c.specs.declared.outputs.Terminal.{Terminal}
 use Rattle.lookup_c.specs.declared.planning.Plan.{Plan}
 
 -- what is read is what the numbers say
@@ -80,6 +84,24 @@ generates_by_ids E tables traces ids sizes alpha beta answer lookups read challe
     MatchResult-weaker answer whole
     (λ g generates. record { lookups = lookups; say = say; traces_below = are.canonical; alpha_below = a_below; beta_below = b_below; as_many = as_many; generates = generates })
     (λ fault refusal. inr (inr (inr (inr (inr (lookups, say, inr refusal))))))
+
+-- the numbers of what was generated
+pub numbers_of_generated : (Makes : Matrix (Quartic BabyBear) → Option (LookupTerminal (Quartic BabyBear)) → Type 0) (Refuses : Fault → Type 0) (answer : Result Generated Fault) (cells : List (List ℕ)) (ending : Terminal)
+    → MatchResult answer (λ g. Makes g.auxiliary g.terminal) Refuses → ShowsGenerated answer cells ending → AreNumbersOf Makes cells ending
+numbers_of_generated Makes Refuses answer cells ending over shown = record {
+  auxiliary = shown.made.auxiliary;
+  terminal = shown.made.terminal;
+  generates = subst (λ (a : Result Generated Fault). MatchResult a (λ g. Makes g.auxiliary g.terminal) Refuses) shown.is over;
+  cells_are = shown.cells_are;
+  ending_is = shown.ending_is;
+}
+
+-- why it is not given
+pub not_given : (Makes : Matrix (Quartic BabyBear) → Option (LookupTerminal (Quartic BabyBear)) → Type 0) (Refuses : Fault → Type 0) (answer : Result Generated Fault) (room : ℕ) (fault : Fault)
+    → MatchResult answer (λ g. Makes g.auxiliary g.terminal) Refuses → IsNotGiven answer room fault → Refuses fault ⊎ LacksRoom Makes room fault
+not_given Makes Refuses answer room fault over (inl is) = inl (subst (λ (a : Result Generated Fault). MatchResult a (λ g. Makes g.auxiliary g.terminal) Refuses) is over)
+not_given Makes Refuses answer room fault over (inr (made, is, other)) =
+    inr (made.auxiliary, made.terminal, subst (λ (a : Result Generated Fault). MatchResult a (λ g. Makes g.auxiliary g.terminal) Refuses) is over, other)
 
 -- a refused AIR is the first one, if those before it are not
 pub first_refused_air : (airs : List Air) (i : ℕ) (d : Air) (sets : List (Lookups BabyBear)) (fault : Fault) → i < length airs → AreSets (take i airs) sets → IsSetRefusal i (get_or airs i d).tables fault → IsAirsRefusal airs fault

@@ -1,5 +1,5 @@
 -- What generation answers from tables of numbers.
-use Rattle.std.specs.Prelude.{◌≡◌, ◌≢◌, ◌⊎◌, ◌*◌, ◌-◌, ◌^◌, ◌<◌, ℕ, List, [], Option, Some, length, map, min, slice_get}
+use Rattle.std.specs.Prelude.{◌≡◌, ◌⊎◌, ◌*◌, ◌-◌, ◌^◌, ◌<◌, ℕ, List, [], Option, Some, length, map, min, slice_get}
 use Rattle.field.specs.Extension.{Extension}
 use Rattle.field.specs.Quartic.{Quartic}
 use Rattle.matrix.specs.Matrix.{Matrix}
@@ -19,11 +19,11 @@ use Rattle.lookup_tables.specs.Tables.{SayLookups}
 use Rattle.lookup_tables.specs.Traces.{AreCanonical}
 use Rattle.lookup_tables.specs.declared.tables.Tables.{Tables}
 use Rattle.lookup_tables.specs.declared.traces.Traces.{Traces}
+use Rattle.lookup_c.specs.Generated.{AreNumbersOf, LacksRoom}
 use Rattle.lookup_c.specs.Inputs.{IsListRefusal, IsTableRefusal, IsTracesRefusal, said_traces}
-use Rattle.lookup_c.specs.Outputs.{cells_of, terminal_numbers}
 use Rattle.lookup_c.specs.declared.fault.Fault.{Fault}
 use Rattle.lookup_c.specs.declared.fault.Fault.TheVariants.{Heights, Length, Lookup as OfLookup, Memory, Misfit}
-use Rattle.lookup_c.specs.declared.fault.Part.TheVariants.{Auxiliary, Challenges}
+use Rattle.lookup_c.specs.declared.fault.Part.TheVariants.{Challenges}
 use Rattle.lookup_c.specs.declared.outputs.Terminal.{Terminal}
 
 module _ (E : Extension BabyBear (Quartic BabyBear)) (traces : AirTraces BabyBear) (challenges : List (Quartic BabyBear)) (lookups : List (Lookup BabyBear)) where
@@ -81,16 +81,9 @@ module _ (E : Extension BabyBear (Quartic BabyBear)) (tables : Tables) (traces :
       × IsLookupsRefusal E (said_traces traces) (map quartic_of challenges) lookups fault)))
 
   -- the numbers of what is generated
-  pub record GeneratesNumbers (cells : List (List ℕ)) (ending : Terminal) : Type 0 where
-    pub auxiliary : Matrix (Quartic BabyBear)
-    pub terminal : Option (LookupTerminal (Quartic BabyBear))
-    pub generates : Generates auxiliary terminal
-    pub cells_are : cells ≡ cells_of auxiliary
-    pub ending_is : ending ≡ terminal_numbers terminal
+  abbrev pub GeneratesNumbers : List (List ℕ) → Terminal → Type 0
+  GeneratesNumbers cells ending = AreNumbersOf Generates cells ending
 
   -- The refusal of a call with room for so many cells: that of generation, or for the room.
   abbrev pub IsGenerateRefusal : ℕ → Fault → Type 0
-  IsGenerateRefusal room fault =
-      IsGenerationRefusal fault
-      ⊎ ((auxiliary : Matrix (Quartic BabyBear)) × (terminal : Option (LookupTerminal (Quartic BabyBear))) × Generates auxiliary terminal
-      × (length auxiliary.values ≢ room) × (fault ≡ Length Auxiliary (length auxiliary.values) room))
+  IsGenerateRefusal room fault = IsGenerationRefusal fault ⊎ LacksRoom Generates room fault

@@ -14,12 +14,12 @@ use Rattle.lookup_tables.specs.Tables.{SayLookups}
 use Rattle.lookup_tables.specs.Traces.{AreCanonical}
 use Rattle.lookup_tables.specs.declared.tables.Tables.{Tables}
 use Rattle.lookup_tables.specs.declared.traces.Traces.{Traces}
+use Rattle.lookup_c.specs.Generated.{AreNumbersOf, LacksRoom}
 use Rattle.lookup_c.specs.Generation.{GeneratesOver, IsLookupsRefusal}
 use Rattle.lookup_c.specs.Inputs.{IsChallengeRefusal, IsTableRefusal, IsTracesRefusal, said_traces}
-use Rattle.lookup_c.specs.Outputs.{cells_of, terminal_numbers}
 use Rattle.lookup_c.specs.declared.fault.Fault.{Fault}
 use Rattle.lookup_c.specs.declared.fault.Fault.TheVariants.{Id, Length, Memory, Width}
-use Rattle.lookup_c.specs.declared.fault.Part.TheVariants.{Alphas, Auxiliary, Betas, Ids}
+use Rattle.lookup_c.specs.declared.fault.Part.TheVariants.{Alphas, Betas, Ids}
 use Rattle.lookup_c.specs.declared.outputs.Terminal.{Terminal}
 use Rattle.lookup_c.specs.declared.planning.Plan.{Plan}
 
@@ -64,16 +64,9 @@ module _ (E : Extension BabyBear (Quartic BabyBear)) (tables : Tables) (traces :
       ⊎ IsLookupsRefusal E (said_traces traces) (challenges_by_ids E ids sizes alpha beta) lookups fault))))))
 
   -- the numbers of what is generated
-  pub record GeneratesByIdsNumbers (cells : List (List ℕ)) (ending : Terminal) : Type 0 where
-    pub auxiliary : Matrix (Quartic BabyBear)
-    pub terminal : Option (LookupTerminal (Quartic BabyBear))
-    pub generates : GeneratesByIds auxiliary terminal
-    pub cells_are : cells ≡ cells_of auxiliary
-    pub ending_is : ending ≡ terminal_numbers terminal
+  abbrev pub GeneratesByIdsNumbers : List (List ℕ) → Terminal → Type 0
+  GeneratesByIdsNumbers cells ending = AreNumbersOf GeneratesByIds cells ending
 
   -- The refusal of a call with room for so many cells: that of generation, or for the room.
   abbrev pub IsGenerateByIdsRefusal : ℕ → Fault → Type 0
-  IsGenerateByIdsRefusal room fault =
-      IsByIdsRefusal fault
-      ⊎ ((auxiliary : Matrix (Quartic BabyBear)) × (terminal : Option (LookupTerminal (Quartic BabyBear))) × GeneratesByIds auxiliary terminal
-      × (length auxiliary.values ≢ room) × (fault ≡ Length Auxiliary (length auxiliary.values) room))
+  IsGenerateByIdsRefusal room fault = IsByIdsRefusal fault ⊎ LacksRoom GeneratesByIds room fault

@@ -2,6 +2,7 @@ pub mod Batches
 pub mod Counting
 pub mod Debugging
 pub mod Degrees
+pub mod Generated
 pub mod Generation
 pub mod Identified
 pub mod Inputs

@@ -16,7 +16,7 @@ use Rattle.lookup_tables.specs.Written.{SaysWritten}
 use Rattle.lookup_tables.specs.declared.tables.Tables.{Tables}
 use Rattle.lookup_tables.specs.declared.writer.Written.{Written}
 use Rattle.lookup_c.specs.Batches.{IsSetRefusal}
-use Rattle.lookup_c.specs.Written.{IsTableRoomRefusal, IsUnsayableRefusal, sizes_of}
+use Rattle.lookup_c.specs.Written.{IsWritingRefusal}
 use Rattle.lookup_c.specs.declared.fault.Fault.{Fault}
 use Rattle.lookup_c.specs.declared.fault.Fault.TheVariants.{Lookup as OfLookup, Memory}
 use Rattle.lookup_c.specs.declared.written.TableSizes.{TableSizes}
@@ -50,6 +50,6 @@ module _ (R : Ring BabyBear) (eq : BabyBear → BabyBear → Bool) where
   abbrev pub IsPackCallRefusal : Tables → ℕ → TableSizes → Fault → Type 0
   IsPackCallRefusal tables max_degree room fault =
       IsSetRefusal 0 tables fault
-      ⊎ (((before : Lookups BabyBear) × SayLookups tables (lookups_of before) × IsPackRefusal max_degree (lookups_of before) fault)
-      ⊎ (((before : Lookups BabyBear) × (after : Lookups BabyBear) × SayLookups tables (lookups_of before) × IsPackedFrom max_degree (lookups_of before) (lookups_of after) × IsUnsayableRefusal (lookups_of after) fault)
-      ⊎ ((made : Written) × PacksTables tables max_degree made × IsTableRoomRefusal (sizes_of made) room fault)))
+      ⊎ ((before : Lookups BabyBear) × SayLookups tables (lookups_of before)
+      × (IsPackRefusal max_degree (lookups_of before) fault
+      ⊎ ((after : Lookups BabyBear) × IsPackedFrom max_degree (lookups_of before) (lookups_of after) × IsWritingRefusal (lookups_of after) room fault)))

@@ -11,7 +11,7 @@ use Rattle.lookup_tables.specs.Written.{SaysWritten}
 use Rattle.lookup_tables.specs.declared.writer.Written.{Written}
 use Rattle.serde_json.specs.Errors.{IsMemory}
 use Rattle.serde_json.specs.declared.error.Error.{Error}
-use Rattle.lookup_c.specs.Written.{IsTableRoomRefusal, IsUnsayableRefusal, sizes_of}
+use Rattle.lookup_c.specs.Written.{IsWritingRefusal}
 use Rattle.lookup_c.specs.declared.fault.Fault.{Fault}
 use Rattle.lookup_c.specs.declared.fault.Fault.TheVariants.{Lookup as OfLookup, Memory, Text}
 use Rattle.lookup_c.specs.declared.written.TableSizes.{TableSizes}
@@ -35,6 +35,4 @@ pub record ReadsTables (json : List ℕ) (made : Written) : Type 0 where
 -- the refusal of the text, of a lookup that no tables say, or for the room
 abbrev pub IsJsonCallRefusal : List ℕ → TableSizes → Fault → Type 0
 IsJsonCallRefusal json room fault =
-    IsJsonRefusal fault
-    ⊎ ((IsUtf8 json × (set : Lookups BabyBear) × IsUnsayableRefusal (lookups_of set) fault)
-    ⊎ ((made : Written) × ReadsTables json made × IsTableRoomRefusal (sizes_of made) room fault))
+    IsJsonRefusal fault ⊎ (IsUtf8 json × (set : Lookups BabyBear) × IsWritingRefusal (lookups_of set) room fault)

@@ -2,7 +2,7 @@
 use Rattle.std.specs.Prelude.{◌≡◌, ◌⊎◌, ◌++◌, ◌<◌, ◌≤◌, ℕ, List, drop, length}
 use Rattle.lookup_model.specs.declared.types.Lookup.{Lookup}
 use Rattle.lookup_tables.specs.Nodes.{BabyBear}
-use Rattle.lookup_tables.specs.Written.{IsUnsayableAt}
+use Rattle.lookup_tables.specs.Written.{IsUnsayableAt, SaysWritten}
 use Rattle.lookup_tables.specs.declared.nodes.Node.{Node}
 use Rattle.lookup_tables.specs.declared.tables.Record.{Record}
 use Rattle.lookup_tables.specs.declared.tables.Span.{Span}
@@ -55,6 +55,12 @@ IsTableRoomRefusal sizes room fault =
     ⊎ (((room.tuples < sizes.tuples) × (fault ≡ Length Tuples sizes.tuples room.tuples))
     ⊎ (((room.names < sizes.names) × (fault ≡ Length Names sizes.names room.names))
     ⊎ ((room.records < sizes.records) × (fault ≡ Length Records sizes.records room.records))))
+
+-- the refusal of lookups that are to be written: that no tables say one, or that there is no room for them
+abbrev pub IsWritingRefusal : List (Lookup BabyBear) → TableSizes → Fault → Type 0
+IsWritingRefusal lookups room fault =
+    IsUnsayableRefusal lookups fault
+    ⊎ ((made : Written) × SaysWritten made lookups × IsTableRoomRefusal (sizes_of made) room fault)
 
 -- items are written over those at the start of an array
 abbrev pub written_over : {A : Type 0} → List A → List A → List A

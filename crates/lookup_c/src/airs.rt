@@ -46,10 +46,7 @@ fn sets_of(alloc: Global, airs: &[Air<'_>]) -> Result<Vec<Lookups<BabyBear>>, Fa
 {
     let mut sets = Vec::with_capacity(alloc, airs.len())?;
     for (index, air) in airs.iter().enumerate() {
-        match set_of(alloc, index, &air.tables) {
-            Ok(set) => sets.push(set)?,
-            Err(fault) => return Err(fault),
-        }
+        sets.push(set_of(alloc, index, &air.tables)?)?;
     }
     Ok(sets)
 }
@@ -77,10 +74,7 @@ pub(crate) fn plan_of(alloc: Global, airs: &[Air<'_>]) -> Result<BatchPlan<BabyB
 {
     let sets = sets_of(alloc, airs)?;
     let heights = heights_of(alloc, airs)?;
-    match BatchPlan::new(alloc, sets, heights) {
-        Ok(plan) => Ok(plan),
-        Err(error) => Err(Fault::Batch(error)),
-    }
+    Ok(BatchPlan::new(alloc, sets, heights)?)
 }
 
 /// The traces that the tables of all AIRs say, in order.
@@ -90,10 +84,7 @@ pub(crate) fn all_traces(alloc: Global, traces: &[Traces<'_>]) -> Result<Vec<Rea
 {
     let mut all = Vec::with_capacity(alloc, traces.len())?;
     for (index, air) in traces.iter().enumerate() {
-        match traces_of(alloc, index, air) {
-            Ok(read) => all.push(read)?,
-            Err(fault) => return Err(fault),
-        }
+        all.push(traces_of(alloc, index, air)?)?;
     }
     Ok(all)
 }

@@ -76,10 +76,7 @@ fn count(
         MatchResult result (IsCountedBy E parts traces.now alphas.now betas.now)
         (IsCountingRefusal E parts traces.now alphas.now betas.now) }
 {
-    match plan.grid_count(alloc, traces, alphas, betas) {
-        Ok(count) => Ok(count),
-        Err(error) => Err(Fault::Batch(error)),
-    }
+    Ok(plan.grid_count(alloc, traces, alphas, betas)?)
 }
 
 /// The count of a grid of challenges over what tables say.

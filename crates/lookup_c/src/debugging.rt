@@ -22,10 +22,7 @@ fn table_sets(alloc: Global, airs: &[Tables<'_>]) -> Result<Vec<Lookups<BabyBear
 {
     let mut sets = Vec::with_capacity(alloc, airs.len())?;
     for (index, air) in airs.iter().enumerate() {
-        match set_of(alloc, index, air) {
-            Ok(set) => sets.push(set)?,
-            Err(fault) => return Err(fault),
-        }
+        sets.push(set_of(alloc, index, air)?)?;
     }
     Ok(sets)
 }
@@ -78,10 +75,7 @@ fn debug_instances<'a>(
 {
     let mut instances = Vec::with_capacity(alloc, sets.len())?;
     for air in 0..sets.len() {
-        match debug_instance(air, &sets[air], &traces[air]) {
-            Ok(instance) => instances.push(instance)?,
-            Err(fault) => return Err(fault),
-        }
+        instances.push(debug_instance(air, &sets[air], &traces[air])?)?;
     }
     Ok(instances)
 }

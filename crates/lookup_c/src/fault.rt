@@ -1,6 +1,6 @@
 //! Why a call is refused, before it is written for C.
 ghost use Rattle.std.specs.Prelude.{◌≡◌};
-ghost use Rattle.lookup_c.specs.declared.fault.Fault.TheVariants.{Memory};
+ghost use Rattle.lookup_c.specs.declared.fault.Fault.TheVariants.{Batch, Memory};
 
 use batch::BatchError;
 use lookup::LookupError;
@@ -133,6 +133,14 @@ pub enum Fault {
     /// A refusal of a call on a plan.
     #[error("{0}")]
     Batch(BatchError),
+}
+
+impl From<BatchError> for Fault {
+    ghost from_gives = { λ error e. e ≡ Batch error };
+
+    fn from(error: BatchError) -> Fault {
+        Fault::Batch(error)
+    }
 }
 
 impl From<AllocError> for Fault {

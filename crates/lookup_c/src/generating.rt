@@ -1,6 +1,7 @@
 //! The call that generates the auxiliary trace of one AIR.
-ghost use Rattle.std.specs.Prelude.{◌≡◌, ◌≢◌, MatchResult, length};
-ghost use Rattle.lookup_c.specs.Generation.{Generates, GeneratesNumbers, IsGenerateRefusal};
+ghost use Rattle.std.specs.Prelude.{◌≡◌, ◌≢◌, length};
+ghost use Rattle.lookup_c.specs.Generated.{IsNotGiven, ShowsGenerated};
+ghost use Rattle.lookup_c.specs.Generation.{GeneratesNumbers, IsGenerateRefusal};
 ghost use Rattle.lookup_c.specs.Refusals.{IsRefusal, placed};
 ghost use Rattle.lookup_c.specs.declared.fault.Fault.{Fault};
 
@@ -12,30 +13,42 @@ use field::{BabyBear, BabyBear4, Over};
 use lookup_tables::{Tables, Traces};
 use std::alloc::Global;
 
-/// What is generated, for room for so many cells.
-fn generated_for(
-    alloc: Global,
-    tables: &Tables<'_>,
-    traces: &Traces<'_>,
-    challenges: &[[u32; 4]],
-    room: usize,
-) -> Result<Generated, Fault>
-    ensures { let E = ⟦<BabyBear4 as Over<BabyBear>>⟧.fields in
-        MatchResult result
-        (λ g. Generates E tables.now traces.now challenges.now g.auxiliary g.terminal
-        × (length g.auxiliary.values ≡ room))
-        (IsGenerateRefusal E tables.now traces.now challenges.now room) }
+/// Writes what was generated for one AIR, or why it was not, and returns the code.
+///
+/// Refuses a caller that does not have room for exactly the cells.
+pub(crate) fn write_generated(
+    generated: Result<Generated, Fault>,
+    auxiliary: &mut [[u32; 4]],
+    terminal: &mut Terminal,
+    refusal: &mut Refusal,
+    text: &mut [u8],
+) -> u32
+    ensures code { result ≡ refusal.new.code }
+    ensures no_refusal { result ≡ 0 → refusal.new ≡ placed 0 0 0 0 0 0 0 }
+    ensures done { result ≡ 0 → ShowsGenerated generated auxiliary.new terminal.new }
+    ensures refused { result ≢ 0
+        → (fault : Fault) × IsRefusal fault refusal.new
+        × IsNotGiven generated (length auxiliary.old) fault }
+    ensures kept { result ≢ 0 → auxiliary.new ≡ auxiliary.old }
+    ensures terminal_kept { result ≢ 0 → terminal.new ≡ terminal.old }
 {
-    let made = generated_from(alloc, tables, traces, challenges)?;
-    let expected = made.auxiliary.values().len();
-    if expected != room {
-        return Err(Fault::Length {
-            part: Part::Auxiliary,
-            expected,
-            actual: room,
-        });
+    match generated {
+        Ok(made) => {
+            let values = made.auxiliary.values();
+            if values.len() != auxiliary.len() {
+                let fault = Fault::Length {
+                    part: Part::Auxiliary,
+                    expected: values.len(),
+                    actual: auxiliary.len(),
+                };
+                return refuse(&fault, refusal, text);
+            }
+            write_elements(auxiliary, 0, values);
+            *terminal = terminal_numbers(made.terminal);
+            accept(refusal)
+        }
+        Err(fault) => refuse(&fault, refusal, text),
     }
-    Ok(made)
 }
 
 /// Generates the auxiliary trace of one AIR, and its terminal.
@@ -69,12 +82,6 @@ pub extern "C" fn volgwain_generate(
     ensures kept { result ≢ 0 → auxiliary.new ≡ auxiliary.old }
     ensures terminal_kept { result ≢ 0 → terminal.new ≡ terminal.old }
 {
-    match generated_for(alloc, tables, traces, challenges, auxiliary.len()) {
-        Ok(made) => {
-            write_elements(auxiliary, 0, made.auxiliary.values());
-            *terminal = terminal_numbers(made.terminal);
-            accept(refusal)
-        }
-        Err(fault) => refuse(&fault, refusal, text),
-    }
+    let generated = generated_from(alloc, tables, traces, challenges);
+    write_generated(generated, auxiliary, terminal, refusal, text)
 }

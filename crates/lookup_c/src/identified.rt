@@ -7,11 +7,12 @@ ghost use Rattle.lookup_c.specs.Refusals.{IsRefusal, placed};
 ghost use Rattle.lookup_c.specs.declared.fault.Fault.{Fault};
 
 use crate::fault::{Fault, Part};
+use crate::generating::write_generated;
 use crate::generation::{Generated, generate};
 use crate::inputs::{challenge_of, lookups_of, traces_of};
-use crate::outputs::{Terminal, terminal_numbers, write_elements};
+use crate::outputs::Terminal;
 use crate::planning::Plan;
-use crate::refusal::{Refusal, accept, refuse};
+use crate::refusal::Refusal;
 use field::{BabyBear, BabyBear4, Over, PrimeCharacteristicRing};
 use lookup::Challenges;
 use lookup_tables::{Tables, Traces};
@@ -50,10 +51,7 @@ fn challenges_of_ids(
     if width == 0 {
         return Err(Fault::Width);
     }
-    match check_ids(ids, sizes.num_ids) {
-        Ok(()) => {}
-        Err(fault) => return Err(fault),
-    }
+    check_ids(ids, sizes.num_ids)?;
     let challenges = Challenges::new(alloc, alpha, beta, width, sizes.num_ids)?;
     Ok(challenges.for_columns(alloc, ids)?)
 }
@@ -93,36 +91,6 @@ fn generated_by_ids(
     generate(alloc, &traces, &lookups, &challenges)
 }
 
-/// What is generated, for room for so many cells.
-fn generated_by_ids_for(
-    alloc: Global,
-    tables: &Tables<'_>,
-    traces: &Traces<'_>,
-    ids: &[usize],
-    sizes: &Plan,
-    alpha: &[u32; 4],
-    beta: &[u32; 4],
-    room: usize,
-) -> Result<Generated, Fault>
-    ensures { let E = ⟦<BabyBear4 as Over<BabyBear>>⟧.fields in
-        MatchResult result
-        (λ g. GeneratesByIds E tables.now traces.now ids.now sizes.now alpha.now beta.now
-        g.auxiliary g.terminal × (length g.auxiliary.values ≡ room))
-        (IsGenerateByIdsRefusal E tables.now traces.now ids.now sizes.now alpha.now beta.now
-        room) }
-{
-    let made = generated_by_ids(alloc, tables, traces, ids, sizes, alpha, beta)?;
-    let expected = made.auxiliary.values().len();
-    if expected != room {
-        return Err(Fault::Length {
-            part: Part::Auxiliary,
-            expected,
-            actual: room,
-        });
-    }
-    Ok(made)
-}
-
 /// Generates the auxiliary trace of one AIR of a planned batch, and its terminal.
 ///
 /// The ids are those of the AIR's lookups, and the sizes those of the plan. The auxiliary trace is as
@@ -158,13 +126,6 @@ pub extern "C" fn volgwain_generate_by_ids(
     ensures kept { result ≢ 0 → auxiliary.new ≡ auxiliary.old }
     ensures terminal_kept { result ≢ 0 → terminal.new ≡ terminal.old }
 {
-    let room = auxiliary.len();
-    match generated_by_ids_for(alloc, tables, traces, ids, sizes, alpha, beta, room) {
-        Ok(made) => {
-            write_elements(auxiliary, 0, made.auxiliary.values());
-            *terminal = terminal_numbers(made.terminal);
-            accept(refusal)
-        }
-        Err(fault) => refuse(&fault, refusal, text),
-    }
+    let generated = generated_by_ids(alloc, tables, traces, ids, sizes, alpha, beta);
+    write_generated(generated, auxiliary, terminal, refusal, text)
 }

@@ -10,7 +10,7 @@ ghost use Rattle.lookup_c.specs.declared.fault.Fault.{Fault};
 use crate::airs::set_of;
 use crate::fault::Fault;
 use crate::refusal::{Refusal, accept, refuse};
-use crate::written::{TableSizes, check_table_room, tables_of, write_tables};
+use crate::written::{TableSizes, tables_for, write_tables};
 use field::{BabyBear, PrimeCharacteristicRing};
 use lookup::{LogUpGadget, LookupError, Lookups};
 use lookup_tables::{Node, Record, Span, Tables, Written};
@@ -49,11 +49,7 @@ fn packed_tables(
 {
     let set = set_of(alloc, 0, tables)?;
     let after = packed(alloc, set, max_degree)?;
-    let made = tables_of(alloc, &after)?;
-    match check_table_room(&made, room) {
-        Ok(()) => Ok(made),
-        Err(fault) => Err(fault),
-    }
+    tables_for(alloc, &after, room)
 }
 
 /// Packs the lookups of an AIR: those on one bus share columns, as many as the degree allows.

@@ -30,10 +30,7 @@ fn prove(
         MatchResult result (IsProvedBy E parts traces.now alpha beta)
         (IsProvingRefusal E parts traces.now alpha beta) }
 {
-    match plan.prove(alloc, traces, alpha, beta) {
-        Ok(witness) => Ok(witness),
-        Err(error) => Err(Fault::Batch(error)),
-    }
+    Ok(plan.prove(alloc, traces, alpha, beta)?)
 }
 
 /// The witness of the batch that tables say.
@@ -99,10 +96,8 @@ fn proved_for(
         (IsProveCallRefusal E airs.now traces.now alpha.now beta.now cells terminals) }
 {
     let witness = proved(alloc, airs, traces, alpha, beta)?;
-    match check_room(&witness, cells, terminals) {
-        Ok(()) => Ok(witness),
-        Err(fault) => Err(fault),
-    }
+    check_room(&witness, cells, terminals)?;
+    Ok(witness)
 }
 
 /// Makes the witness of a batch: the auxiliary traces and the terminals of its AIRs.

@@ -9,7 +9,7 @@ ghost use Rattle.lookup_c.specs.declared.fault.Fault.{Fault};
 
 use crate::fault::Fault;
 use crate::refusal::{Refusal, accept, refuse};
-use crate::written::{TableSizes, check_table_room, tables_of, write_tables};
+use crate::written::{TableSizes, tables_for, write_tables};
 use field::BabyBear;
 use lookup::{Lookup, Lookups};
 use lookup_tables::{Node, Record, Span, Written};
@@ -51,11 +51,7 @@ fn tables_from_json(alloc: Global, json: &[u8], room: TableSizes) -> Result<Writ
         (IsJsonCallRefusal json.now room) }
 {
     let set = set_from_json(alloc, json)?;
-    let made = tables_of(alloc, &set)?;
-    match check_table_room(&made, room) {
-        Ok(()) => Ok(made),
-        Err(fault) => Err(fault),
-    }
+    tables_for(alloc, &set, room)
 }
 
 /// Reads the lookups of an AIR from JSON into tables.

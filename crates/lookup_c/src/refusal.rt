@@ -118,6 +118,13 @@ fn presence(present: bool) -> usize
     if present { 1 } else { 0 }
 }
 
+/// The refusal of a terminal that is there and should not be, or is not there and should be.
+fn terminal_refusal(air: usize, expected: bool, got: bool) -> Refusal
+    ensures { result ≡ placed 17 0 air 0 0 (presence expected) (presence got) }
+{
+    placed(17, 0, air, 0, 0, presence(expected), presence(got))
+}
+
 fn lookup_refusal(at: usize, error: &LookupError) -> Refusal
     ensures { result ≡ lookup_refusal at error.now }
 {
@@ -130,32 +137,17 @@ fn lookup_refusal(at: usize, error: &LookupError) -> Refusal
         LookupError::FlagsNotExclusive { row, lookup } => placed(10, 0, at, *row, *lookup, 0, 0),
         LookupError::BadRecord { lookup } => placed(11, 0, at, 0, *lookup, 0, 0),
         LookupError::BusWidthMismatch {
-            bus: _,
             expected,
             actual,
+            ..
         } => placed(12, 0, 0, 0, 0, *expected, *actual),
-        LookupError::TupleWidths {
-            context: _,
-            width,
-            other,
-        } => placed(13, 0, 0, 0, 0, *width, *other),
-        LookupError::MultiplicityHeightBoundExceeded {
-            weighted_height_sum: _,
-            field_bits: _,
-        } => placed(15, 0, 0, 0, 0, 0, 0),
+        LookupError::TupleWidths { width, other, .. } => placed(13, 0, 0, 0, 0, *width, *other),
+        LookupError::MultiplicityHeightBoundExceeded { .. } => placed(15, 0, 0, 0, 0, 0, 0),
         LookupError::TerminalPresenceMismatch {
             air,
             expected_present,
             got_present,
-        } => placed(
-            17,
-            0,
-            *air,
-            0,
-            0,
-            presence(*expected_present),
-            presence(*got_present),
-        ),
+        } => terminal_refusal(*air, *expected_present, *got_present),
         LookupError::PermutationWidthMismatch { air, expected } => {
             placed(18, 0, *air, 0, 0, *expected, 0)
         }
@@ -166,7 +158,7 @@ fn lookup_refusal(at: usize, error: &LookupError) -> Refusal
         LookupError::CountWeightOverflow => placed(24, 0, at, 0, 0, 0, 0),
         LookupError::DegreeOverflow => placed(25, 0, at, 0, 0, 0, 0),
         LookupError::CommitmentMismatch
-        | LookupError::PermutationLengthMismatch { air: _ }
+        | LookupError::PermutationLengthMismatch { .. }
         | LookupError::Air(_) => placed(28, 0, at, 0, 0, 0, 0),
     }
 }

@@ -68,10 +68,7 @@ fn message_count(
         MatchResult result (IsMessageCount E parts traces.now)
         (IsMessageRefusal E parts traces.now) }
 {
-    match plan.soundness_count::<BabyBear4>(alloc, traces) {
-        Ok(count) => Ok(count),
-        Err(error) => Err(Fault::Batch(error)),
-    }
+    Ok(plan.soundness_count::<BabyBear4>(alloc, traces)?)
 }
 
 /// The counts of what tables say.

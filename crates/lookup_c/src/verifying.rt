@@ -31,10 +31,8 @@ fn verify(
         MatchResult result (λ _. IsVerifiedBy E parts traces.now alpha beta witness.now)
         (IsVerifyingRefusal E parts traces.now alpha beta witness.now) }
 {
-    match plan.verify(alloc, traces, alpha, beta, witness) {
-        Ok(()) => Ok(()),
-        Err(error) => Err(Fault::Batch(error)),
-    }
+    plan.verify(alloc, traces, alpha, beta, witness)?;
+    Ok(())
 }
 
 /// Whether the plan that tables say accepts the witness that numbers say.

@@ -81,14 +81,8 @@ pub(crate) fn read_witness(
     let mut aux = Vec::with_capacity(alloc, witness.len())?;
     let mut terminals = Vec::with_capacity(alloc, witness.len())?;
     for (index, air) in witness.iter().enumerate() {
-        match read_auxiliary(alloc, index, air) {
-            Ok(trace) => aux.push(trace)?,
-            Err(fault) => return Err(fault),
-        }
-        match read_terminal(index, air.terminal) {
-            Ok(terminal) => terminals.push(terminal)?,
-            Err(fault) => return Err(fault),
-        }
+        aux.push(read_auxiliary(alloc, index, air)?)?;
+        terminals.push(read_terminal(index, air.terminal)?)?;
     }
     Ok(Witness { aux, terminals })
 }

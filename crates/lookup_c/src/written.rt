@@ -2,7 +2,7 @@
 ghost use Rattle.std.specs.Prelude.{◌≡◌, ◌<◌, ◌≤◌, MatchResult, length};
 ghost use Rattle.lookup.specs.Lookups.{lookups_of};
 ghost use Rattle.lookup_tables.specs.Written.{SaysWritten};
-ghost use Rattle.lookup_c.specs.Written.{HasTableRoom, IsTableRoomRefusal, IsUnsayableRefusal, WritesTables, arrays, room_of, sizes_of, written_over};
+ghost use Rattle.lookup_c.specs.Written.{HasTableRoom, IsTableRoomRefusal, IsUnsayableRefusal, IsWritingRefusal, WritesTables, arrays, room_of, sizes_of, written_over};
 ghost use Rattle.lookup_c.specs.declared.fault.Fault.TheVariants.{Length};
 
 use crate::fault::{Fault, Part};
@@ -40,7 +40,7 @@ fn sizes_of(tables: &Written) -> TableSizes
 /// Tables of the lookups of a set.
 ///
 /// Refuses the first lookup that no tables say.
-pub(crate) fn tables_of(alloc: Global, set: &Lookups<BabyBear>) -> Result<Written, Fault>
+fn tables_of(alloc: Global, set: &Lookups<BabyBear>) -> Result<Written, Fault>
     ensures { MatchResult result (λ tables. SaysWritten tables (lookups_of set.now))
         (IsUnsayableRefusal (lookups_of set.now)) }
 {
@@ -73,7 +73,7 @@ fn check_items(part: Part, expected: usize, actual: usize) -> Result<(), Fault>
 /// Whether arrays of these sizes have room for tables.
 ///
 /// Refuses the first array that is too short: of nodes, tuples, names, and records.
-pub(crate) fn check_table_room(tables: &Written, room: TableSizes) -> Result<(), Fault>
+fn check_table_room(tables: &Written, room: TableSizes) -> Result<(), Fault>
     ensures { MatchResult result (λ _. HasTableRoom (sizes_of tables.now) room)
         (IsTableRoomRefusal (sizes_of tables.now) room) }
 {
@@ -82,6 +82,23 @@ pub(crate) fn check_table_room(tables: &Written, room: TableSizes) -> Result<(),
     check_items(Part::Tuples, sizes.tuples, room.tuples)?;
     check_items(Part::Names, sizes.names, room.names)?;
     check_items(Part::Records, sizes.records, room.records)
+}
+
+/// Tables of the lookups of a set, for which arrays of these sizes have room.
+///
+/// Refuses the first lookup that no tables say, and then the first array that is too short.
+pub(crate) fn tables_for(
+    alloc: Global,
+    set: &Lookups<BabyBear>,
+    room: TableSizes,
+) -> Result<Written, Fault>
+    ensures { MatchResult result
+        (λ w. SaysWritten w (lookups_of set.now) × HasTableRoom (sizes_of w) room)
+        (IsWritingRefusal (lookups_of set.now) room) }
+{
+    let made = tables_of(alloc, set)?;
+    check_table_room(&made, room)?;
+    Ok(made)
 }
 
 /// Writes items from the start of an array on.

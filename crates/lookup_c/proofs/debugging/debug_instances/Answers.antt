@@ -1,19 +1,21 @@
 use Rattle.std.proofs.Common.{◌∙◌, inr}
 use Rattle.std.proofs.lemmas.List.{take_all}
 use Rattle.std.proofs.lemmas.List.Elements.{All-push, All-same}
+use Rattle.std.proofs.lemmas.Result.{err_from_is_err_and}
 use Rattle.lookup_debug.specs.Contributions.{IsTracedFitting, traced_of}
 use Rattle.lookup_c.specs.Debugging.{all_traced}
 use Rattle.lookup_c.proofs.DebugLaws.{all_taken, traced_next, unfit_there}
 use Rattle.lookup_c.proofs.debugging.debug_instances.Goals as goal
 
-pub returns-in-Err : goal.returns-in-Err
-returns-in-Err c =
-    inr (unfit_there c.args.sets.now c.args.traces.now c.loop-air.air c.index-sets-air.result c.index-traces-air.result c.loop-air-test.true c.requires c.index-sets-air.is c.index-traces-air.is c.in-Err.fault c.loop-air.instances.items c.loop-air.invariant.traced c.loop-air.invariant.fit c.in-Err.ensures)
+pub returns-in_err-debug_instance : goal.returns-in_err-debug_instance
+returns-in_err-debug_instance c =
+    let p = err_from_is_err_and c.from_residual-in_err-debug_instance.result c.from_residual-in_err-debug_instance.ensures.1 in
+    rw (p.1, p.2) (inr (unfit_there c.args.sets.now c.args.traces.now c.loop-air.air c.index-sets-air.result c.index-traces-air.result c.loop-air-test.true c.requires c.index-sets-air.is c.index-traces-air.is _ c.loop-air.instances.items c.loop-air.invariant.traced c.loop-air.invariant.fit c.in_err-debug_instance.ensures))
 
 pub loop-air-preserved : goal.loop-air-preserved
 loop-air-preserved c = record {
-  traced = traced_next c.args.sets.now c.args.traces.now c.loop-air.air c.index-sets-air.result c.index-traces-air.result c.loop-air-test.true c.requires c.index-sets-air.is c.index-traces-air.is c.loop-air.instances.items _ c.in-Ok.instance c.in_ok-push-in-Ok.ensures.items c.in-Ok.ensures.0 c.loop-air.invariant.traced;
-  fit = All-same (λ i. IsTracedFitting (traced_of i)) _ _ c.in_ok-push-in-Ok.ensures.items (All-push (λ i. IsTracedFitting (traced_of i)) c.loop-air.instances.items c.in-Ok.instance c.loop-air.invariant.fit c.in-Ok.ensures.1);
+  traced = traced_next c.args.sets.now c.args.traces.now c.loop-air.air c.index-sets-air.result c.index-traces-air.result c.loop-air-test.true c.requires c.index-sets-air.is c.index-traces-air.is c.loop-air.instances.items _ c.in_ok-debug_instance.field-0 c.in_ok-push.ensures.items c.in_ok-debug_instance.ensures.0 c.loop-air.invariant.traced;
+  fit = All-same (λ i. IsTracedFitting (traced_of i)) _ _ c.in_ok-push.ensures.items (All-push (λ i. IsTracedFitting (traced_of i)) c.loop-air.instances.items c.in_ok-debug_instance.field-0 c.loop-air.invariant.fit c.in_ok-debug_instance.ensures.1);
 }
 
 pub returns : goal.returns

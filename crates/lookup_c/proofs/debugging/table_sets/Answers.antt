@@ -1,3 +1,4 @@
+use Rattle.std.proofs.lemmas.Result.{err_from_is_err_and}
 use Rattle.lookup.specs.Lookups.{lookups_of}
 use Rattle.lookup_tables.proofs.ZipLaws.{zipped_next}
 use Rattle.lookup_tables.specs.Tables.{SayLookups}
@@ -6,7 +7,9 @@ use Rattle.lookup_c.proofs.debugging.table_sets.Goals as goal
 
 pub loop-index-preserved : goal.loop-index-preserved
 loop-index-preserved c =
-    zipped_next (λ tables set. SayLookups tables (lookups_of set)) c.args.airs.now c.loop-index.index _ c.loop-index.sets.items _ c.in-Ok.set c.loop-index-test.true c.in_ok-push-in-Ok.ensures.items c.in-Ok.ensures c.loop-index.invariant
+    zipped_next (λ tables set. SayLookups tables (lookups_of set)) c.args.airs.now c.loop-index.index _ c.loop-index.sets.items _ c.in_ok-set_of.field-0 c.loop-index-test.true c.in_ok-push.ensures.items c.in_ok-set_of.ensures c.loop-index.invariant
 
-pub returns-in-Err : goal.returns-in-Err
-returns-in-Err c = first_refused_set c.args.airs.now c.loop-index.index _ c.loop-index.sets.items c.in-Err.fault c.loop-index-test.true c.loop-index.invariant c.in-Err.ensures
+pub returns-in_err-set_of : goal.returns-in_err-set_of
+returns-in_err-set_of c =
+    let p = err_from_is_err_and c.from_residual-in_err-set_of.result c.from_residual-in_err-set_of.ensures.1 in
+    rw (p.1, p.2) (first_refused_set c.args.airs.now c.loop-index.index _ c.loop-index.sets.items _ c.loop-index-test.true c.loop-index.invariant c.in_err-set_of.ensures)

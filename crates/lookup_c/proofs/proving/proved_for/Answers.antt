@@ -7,5 +7,7 @@ returns-in_err-witness c =
     let p = err_from_is_err_and c.from_residual.result c.from_residual.ensures.1 in
     rw (p.1, p.2) (inl c.in_err-witness.ensures)
 
-pub returns-in-Err : goal.returns-in-Err
-returns-in-Err c = inr (c.in_ok-witness.witness, c.in_ok-witness.ensures, c.in-Err.ensures)
+pub returns-in_err-check_room : goal.returns-in_err-check_room
+returns-in_err-check_room c =
+    let p = err_from_is_err_and c.from_residual-in_err-check_room.result c.from_residual-in_err-check_room.ensures.1 in
+    rw (p.1, p.2) (inr (c.in_ok-witness.witness, c.in_ok-witness.ensures, c.in_err-check_room.ensures))

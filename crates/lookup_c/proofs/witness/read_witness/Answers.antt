@@ -1,20 +1,24 @@
 use Rattle.std.proofs.lemmas.List.Elements.{All-more}
+use Rattle.std.proofs.lemmas.Result.{err_from_is_err_and}
 use Rattle.lookup_c.specs.Witnesses.{IsAirWitness, auxiliary_of, terminal_of}
 use Rattle.lookup_c.proofs.TableCalls.{refused_auxiliary, refused_terminal}
 use Rattle.lookup_c.proofs.WrittenLaws.{map_next}
 use Rattle.lookup_c.proofs.witness.read_witness.Goals as goal
 
-pub returns-in-Err : goal.returns-in-Err
-returns-in-Err c = refused_auxiliary c.args.witness.now c.loop-index.index _ c.in-Err.fault c.loop-index-test.true c.loop-index.invariant.each c.in-Err.ensures
+pub returns-in_err-read_auxiliary : goal.returns-in_err-read_auxiliary
+returns-in_err-read_auxiliary c =
+    let p = err_from_is_err_and c.from_residual-in_err-read_auxiliary.result c.from_residual-in_err-read_auxiliary.ensures.1 in
+    rw (p.1, p.2) (refused_auxiliary c.args.witness.now c.loop-index.index _ _ c.loop-index-test.true c.loop-index.invariant.each c.in_err-read_auxiliary.ensures)
 
-pub returns-in-Err-read_terminal : goal.returns-in-Err-read_terminal
-returns-in-Err-read_terminal c =
-    refused_terminal c.args.witness.now c.loop-index.index _ c.in-Err-read_terminal.fault c.loop-index-test.true c.loop-index.invariant.each c.in-Err-read_terminal.ensures
+pub returns-in_err-read_terminal : goal.returns-in_err-read_terminal
+returns-in_err-read_terminal c =
+    let p = err_from_is_err_and c.from_residual-in_err-read_terminal.result c.from_residual-in_err-read_terminal.ensures.1 in
+    rw (p.1, p.2) (refused_terminal c.args.witness.now c.loop-index.index _ _ c.loop-index-test.true c.loop-index.invariant.each c.in_err-read_terminal.ensures)
 
 pub loop-index-preserved : goal.loop-index-preserved
 loop-index-preserved c = record {
-  aux = map_next auxiliary_of c.args.witness.now c.loop-index.index _ c.loop-index.aux.items _ c.in-Ok.trace c.loop-index-test.true c.in_ok-push-in-Ok.ensures.items c.in-Ok.ensures.0 c.loop-index.invariant.aux;
-  terminals = map_next (λ air. terminal_of air.terminal) c.args.witness.now c.loop-index.index _ c.loop-index.terminals.items _ c.in-Ok-read_terminal.terminal c.loop-index-test.true c.in_ok-push-in-Ok-read_terminal.ensures.items c.in-Ok-read_terminal.ensures.0 c.loop-index.invariant.terminals;
+  aux = map_next auxiliary_of c.args.witness.now c.loop-index.index _ c.loop-index.aux.items _ c.in_ok-read_auxiliary.field-0 c.loop-index-test.true c.in_ok-push.ensures.items c.in_ok-read_auxiliary.ensures.0 c.loop-index.invariant.aux;
+  terminals = map_next (λ air. terminal_of air.terminal) c.args.witness.now c.loop-index.index _ c.loop-index.terminals.items _ c.in_ok-read_terminal.field-0 c.loop-index-test.true c.in_ok-push-2.ensures.items c.in_ok-read_terminal.ensures.0 c.loop-index.invariant.terminals;
   each = All-more IsAirWitness c.args.witness.now c.loop-index.index _ c.loop-index-test.true c.loop-index.invariant.each
-      (record { whole = c.in-Ok.ensures.1; cells = c.in-Ok.ensures.2; terminal = c.in-Ok-read_terminal.ensures.1 });
+      (record { whole = c.in_ok-read_auxiliary.ensures.1; cells = c.in_ok-read_auxiliary.ensures.2; terminal = c.in_ok-read_terminal.ensures.1 });
 }
