@@ -226,6 +226,7 @@ fn on_unbalanced<W: Write, F: Field + Debug>(
     Some(())
 }
 
+/// The calls of batches, over messages that balance and over messages that do not.
 pub fn batch<W: Write>(alloc: Global, out: &mut W) -> Option<()> {
     let (even, odd) = (trace(alloc, &BALANCED, 3)?, trace(alloc, &UNBALANCED, 3)?);
     let lookups: Vec<Lookup<F7>> = lookups_of(alloc, LOOKUPS)?;
@@ -356,6 +357,7 @@ fn mismatch<W: Write, F: Field>(
     Some(())
 }
 
+/// The calls of the debug check, and the texts of a mismatch.
 pub fn debug<W: Write>(alloc: Global, out: &mut W) -> Option<()> {
     let (even, odd) = (trace(alloc, &BALANCED, 3)?, trace(alloc, &UNBALANCED, 3)?);
     let local: Vec<Lookup<F7>> = lookups_of(alloc, LOCAL)?;

@@ -123,6 +123,7 @@ fn assert_several<W: Write, F: Field + Debug>(alloc: Global, out: &mut W) -> Opt
     Some(())
 }
 
+/// The calls that make, read and fill a builder.
 pub fn builders<W: Write, F: Field + Debug>(alloc: Global, out: &mut W) -> Option<()> {
     let builder = builder::<F>(alloc)?;
     for _ in 0..2 {

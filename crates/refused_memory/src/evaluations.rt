@@ -171,6 +171,7 @@ fn check_twice<W: Write>(alloc: Global, out: &mut W) -> Option<()> {
     Some(())
 }
 
+/// The row checker, and the evaluations of lookups, over the same lookups twice.
 pub fn evaluation<W: Write>(alloc: Global, out: &mut W) -> Option<()> {
     check_twice(alloc, out)?;
     let lookups: Vec<Lookup<F7>> = lookups_of(alloc, LOOKUPS)?;

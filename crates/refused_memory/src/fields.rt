@@ -90,6 +90,7 @@ fn elements<W: Write>(alloc: Global, out: &mut W) {
     nodes::<W, BabyBear4, BabyBear4>(alloc, out, &OF_BABY_BEAR4);
 }
 
+/// The calls of fields, twice.
 pub fn fields<W: Write>(alloc: Global, out: &mut W) {
     for _ in 0..2 {
         texts(alloc, out);

@@ -133,6 +133,7 @@ fn over_small<W: Write>(
     state(out, "input of", "generation", &lookups);
 }
 
+/// The calls of generation, over a trace that balances and over one with an unlawful flag.
 pub fn generation<W: Write>(alloc: Global, out: &mut W) -> Option<()> {
     let lookups: Vec<Lookup<F7>> = lookups_of(alloc, LOOKUPS)?;
     let small = trace(alloc, &BALANCED, 3)?;

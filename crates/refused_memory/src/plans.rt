@@ -108,6 +108,7 @@ fn on_all<W: Write>(alloc: Global, out: &mut W, plan: &BatchPlan<F7>) -> Option<
     Some(())
 }
 
+/// The calls of plans.
 pub fn batch_plans<W: Write>(alloc: Global, out: &mut W) -> Option<()> {
     make_plans(alloc, out);
     make_plans(alloc, out);
@@ -153,6 +154,7 @@ fn plan_of_memory(alloc: Global) -> Result<BatchPlan<BabyBear>, BatchError> {
     memory_plan::<BabyBear, BabyBear4>(alloc, 4, 2, 5)
 }
 
+/// The calls of the memory check.
 pub fn memory<W: Write>(alloc: Global, out: &mut W) -> Option<()> {
     let call = "memory_plan";
     let traces = memory_traces(alloc)?;

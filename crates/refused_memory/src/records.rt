@@ -117,6 +117,7 @@ fn on_recorder<W: Write, F: Field + Debug>(alloc: Global, out: &mut W, builder: 
     state(out, "input of", "records", builder);
 }
 
+/// The calls of counts, of recorders and of records.
 pub fn records<W: Write, F: Field + Debug>(alloc: Global, out: &mut W) -> Option<()> {
     let three = negative::<F>(alloc)?;
     counts(alloc, out, &three);
@@ -211,6 +212,7 @@ pub fn indexed<F: Field>(alloc: Global) -> Option<IndexedLookups> {
     IndexedLookups::from_air::<F, F, EachRecord>(alloc, &EachRecord).ok()
 }
 
+/// The calls of indexed declarations, over the same set twice.
 pub fn declarations<W: Write, F: Field>(alloc: Global, out: &mut W) -> Option<()> {
     let accepted = indexed::<F>(alloc)?;
     on_declarations::<W, F>(alloc, out, &accepted);

@@ -128,6 +128,7 @@ fn on_lookups<W: Write, F: Field + Debug>(alloc: Global, out: &mut W, lookups: &
     state(out, "input of", "lookups", &lookups);
 }
 
+/// The calls of lookups, over well-formed ones and over one whose tuples have two widths.
 pub fn lookups<W: Write>(alloc: Global, out: &mut W) -> Option<()> {
     let records: Vec<Lookup<F7>> = lookups_of(alloc, LOOKUPS)?;
     let wide: Vec<Lookup<F7>> = lookups_of(alloc, UNEVEN_LOCAL)?;
@@ -138,6 +139,7 @@ pub fn lookups<W: Write>(alloc: Global, out: &mut W) -> Option<()> {
     Some(())
 }
 
+/// The calls of sets of lookups, over the same two sets twice.
 pub fn sets<W: Write>(alloc: Global, out: &mut W) -> Option<()> {
     let even = [set(alloc, LOOKUPS)?, set(alloc, UNEVEN)?];
     for _ in 0..2 {

@@ -72,6 +72,7 @@ fn write_all<W: Write>(
     state(out, "input of", "json", set);
 }
 
+/// The calls that read and write texts, twice.
 pub fn json<W: Write>(alloc: Global, out: &mut W) -> Option<()> {
     let terminal = LookupTerminal(BabyBear4::new([1, 2013265920, 0, 4].map(BabyBear::new)));
     let declared = indexed::<F7>(alloc)?;

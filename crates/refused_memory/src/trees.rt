@@ -133,6 +133,7 @@ fn without_builder<W: Write, F: Field + Debug>(
     state(out, "input of", "expressions", &trees);
 }
 
+/// The calls of expressions, over the same ones twice.
 pub fn expressions<W: Write>(alloc: Global, out: &mut W) -> Option<()> {
     let trees: Vec<SymbolicExpression<F7>> = read(alloc, TREES)?;
     let trees = trees.as_slice();
