@@ -3,14 +3,15 @@
 //! An expression is the constant 3 under layers of one form: a negation, or a sum, difference or product whose other
 //! operand, on the left or on the right, is a constant that changes nothing.
 use crate::batches::{check_alone, fault_of, text_of};
-use crate::generations::generate_fitting;
-use crate::inputs::{BALANCED, builder, layout, trace};
+use crate::generations::{generate_fitting, outline};
+use crate::inputs::{BALANCED, elements, layout, trace};
 use crate::show::{show, show_or_no_input};
 use crate::texts::written;
 use crate::trees::resolve;
 use air::{Expression, SymbolicExpression, SymbolicExpressionExt};
 use field::{F7, Field};
 use lookup::{Kind, Lookup};
+use matrix::RowMajorMatrix;
 use serde::Serialize;
 use std::alloc::{AllocError, Global};
 use std::fmt::Debug;
@@ -125,17 +126,6 @@ fn take_ext_apart<F: Field>(tree: SymbolicExpressionExt<F, F>, form: &str, depth
     is_node && matches!(last, SymbolicExpressionExt::Leaf(_))
 }
 
-/// What an expression resolves to on a builder of its own.
-fn resolve_alone<F: Field>(
-    alloc: Global,
-    tree: &SymbolicExpression<F>,
-) -> Option<SymbolicExpression<F>> {
-    let builder = builder::<F>(alloc)?;
-    let answer = resolve(alloc, &builder, tree);
-    drop(builder);
-    answer.ok()
-}
-
 /// Makes a call on an expression.
 fn on_tree<W: Write, F: Field + Debug + Serialize>(
     alloc: Global,
@@ -150,7 +140,7 @@ fn on_tree<W: Write, F: Field + Debug + Serialize>(
         "resolve" => show(
             out,
             call,
-            take_apart(resolve_alone(alloc, tree)?, form, depth),
+            take_apart(resolve(alloc, tree, false)?.ok()?, form, depth),
         ),
         "degree_multiple" => show(out, call, tree.degree_multiple()),
         "fits" => show(out, call, tree.fits(&layout())),
@@ -207,30 +197,38 @@ fn lookup_of<F: Field>(alloc: Global, tree: SymbolicExpression<F>) -> Option<Loo
 }
 
 /// Makes a call on the lookup of an expression.
-fn on_lookup<W: Write>(
+fn on_lookup<W: Write, F: Field + Debug>(
     alloc: Global,
     out: &mut W,
     call: &str,
-    lookups: &[Lookup<F7>],
+    lookups: &[Lookup<F>],
 ) -> Option<()> {
     let main = trace(alloc, &BALANCED, 3)?;
-    let challenges = [F7::new(5), F7::new(2)];
     match call {
-        "generate_permutation" => {
-            let answer = generate_fitting(alloc, &main, lookups, challenges.as_slice());
-            show(
-                out,
-                call,
-                answer.map(|(aux, terminal)| (aux.height(), terminal)),
-            );
-        }
+        "generate_permutation" => generate_deep(alloc, out, &main, lookups),
         "check_lookups" => {
             let fault = fault_of(alloc, &main, lookups)?;
             show_or_no_input(out, call, text_of(alloc, &fault));
+            Some(())
         }
-        "check_witness" => show_or_no_input(out, call, check_alone(alloc, &main, lookups)),
-        _ => return None,
+        "check_witness" => {
+            show_or_no_input(out, call, check_alone(alloc, &main, lookups));
+            Some(())
+        }
+        _ => None,
     }
+}
+
+/// The height and the terminal that generation gives.
+fn generate_deep<W: Write, F: Field + Debug>(
+    alloc: Global,
+    out: &mut W,
+    main: &RowMajorMatrix<F>,
+    lookups: &[Lookup<F>],
+) -> Option<()> {
+    let challenges = elements::<F>(alloc, &[5, 2])?;
+    let answer = generate_fitting(alloc, main, lookups, challenges.as_slice());
+    show(out, "generate_permutation", outline(answer));
     Some(())
 }
 
@@ -242,14 +240,14 @@ fn take_tuple_apart<F: Field>(tuple: Vec<SymbolicExpression<F>>, form: &str, dep
 }
 
 /// Makes a call on the lookup of an expression, and takes it apart.
-fn deep_in_lookup<W: Write>(
+fn deep_in_lookup<W: Write, F: Field + Debug>(
     alloc: Global,
     out: &mut W,
     call: &str,
     form: &str,
     depth: usize,
 ) -> Option<()> {
-    let tree = chain::<F7, SymbolicExpression<F7>>(alloc, form, depth)?;
+    let tree = chain::<F, SymbolicExpression<F>>(alloc, form, depth)?;
     let lookups = [lookup_of(alloc, tree)?];
     let answer = on_lookup(alloc, out, call, lookups.as_slice());
     let [lookup] = lookups;
@@ -271,7 +269,7 @@ pub fn deep<W: Write>(
         return deep_over_ext::<W, F7>(alloc, out, call, form, depth);
     }
     if call.starts_with("generate") || call.starts_with("check") {
-        return deep_in_lookup(alloc, out, call, form, depth);
+        return deep_in_lookup::<W, F7>(alloc, out, call, form, depth);
     }
     deep_alone::<W, F7>(alloc, out, call, form, depth)
 }

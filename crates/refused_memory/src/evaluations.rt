@@ -1,7 +1,8 @@
 //! Calls of evaluation.
-ghost use Rattle.std.specs.Prelude.{◌≡◌, ◌↔◌, ◌+◌, ◌<◌, All, IsTrue, None};
+ghost use Rattle.std.specs.Prelude.{◌≡◌, ◌↔◌, ◌+◌, ◌*◌, ◌<◌, ◌≤◌, All, IsTrue, None, OnOk, length};
 ghost use Rattle.std.specs.Option.{option_copied};
 ghost use Rattle.air.specs.Row.{HeightFits, OptionHeightFits};
+ghost use Rattle.lookup_model.specs.Records.{LookupsFit};
 ghost use Rattle.matrix.specs.Matrix.{height};
 
 use crate::each_record::{EachRecord, OneAssertion};
@@ -28,16 +29,33 @@ fn have_cells<F>(lookups: &[Lookup<F>], width: usize) -> bool
         .all(|lookup| lookup.column < width.saturating_sub(1))
 }
 
+/// Refuses lookups for which a builder has no room.
+fn check_room<AB: PermutationAirBuilder>(
+    alloc: Global,
+    builder: &AB,
+    lookups: &[Lookup<AB::F>],
+) -> Result<(), AirError>
+    ensures fit { OnOk result (LookupsFit (AB.layout builder.now) lookups.now) }
+    ensures challenges { OnOk result
+        (2 * length lookups.now ≤ (AB.layout builder.now).num_permutation_challenges) }
+    ensures cells { OnOk result
+        (length lookups.now < (AB.layout builder.now).permutation_width) }
+    ensures terminal { OnOk result (0 < (AB.layout builder.now).num_permutation_values) }
+{
+    let layout = layout_of(alloc, builder)?;
+    if !has_room(lookups, &layout) {
+        return Err(AirError::DegreeOverflow);
+    }
+    Ok(())
+}
+
 /// Asserts the constraints of lookups, for which a builder has to have room.
 fn evaluate_all<AB: PermutationAirBuilder>(
     alloc: Global,
     builder: &mut AB,
     lookups: &[Lookup<AB::F>],
 ) -> Result<(), AirError> {
-    let layout = layout_of(alloc, &*builder)?;
-    if !has_room(lookups, &layout) {
-        return Err(AirError::DegreeOverflow);
-    }
+    check_room(alloc, &*builder, lookups)?;
     LogUpGadget::new().eval_all(alloc, builder, lookups)
 }
 
@@ -61,10 +79,7 @@ fn evaluate_fraction<AB: PermutationAirBuilder>(
     builder: &mut AB,
     lookups: &[Lookup<AB::F>],
 ) -> Result<(), AirError> {
-    let layout = layout_of(alloc, &*builder)?;
-    if !has_room(lookups, &layout) {
-        return Err(AirError::DegreeOverflow);
-    }
+    check_room(alloc, &*builder, lookups)?;
     match lookups {
         [lookup] if has_equal_lengths(lookup) && lookup.column == 0 => {
             LogUpGadget::new().eval_fraction(alloc, builder, lookup)
@@ -79,10 +94,7 @@ fn evaluate_air_and_lookups<AB: PermutationAirBuilder>(
     builder: &mut AB,
     lookups: &[Lookup<AB::F>],
 ) -> Result<(), AirError> {
-    let layout = layout_of(alloc, &*builder)?;
-    if !has_room(lookups, &layout) {
-        return Err(AirError::DegreeOverflow);
-    }
+    check_room(alloc, &*builder, lookups)?;
     LogUpGadget::new().eval_air_and_lookups(alloc, &OneAssertion, builder, lookups)
 }
 

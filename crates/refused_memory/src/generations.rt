@@ -1,7 +1,7 @@
 //! Calls of generation.
 ghost use Rattle.std.specs.Prelude.{◌≡◌, None};
 
-use crate::inputs::{BALANCED, LOCAL, LOOKUPS, UNLAWFUL, lookups_of, trace};
+use crate::inputs::{BALANCED, LOCAL, LOOKUPS, UNLAWFUL, elements, lookups_of, trace};
 use crate::show::{show, state};
 use air::AirLayout;
 use field::{
@@ -45,26 +45,44 @@ fn generate_counted<F: Field, EF: ExtensionField<F>>(
     LogUpGadget::new().generate_counted(alloc, main, None, &[], lookups, challenges, count)
 }
 
-/// Both calls over one trace.
-fn show_generated<W: Write, F: Field, EF: ExtensionField<F> + Debug>(
+/// The height and the terminal of what generation gives.
+pub fn outline<EF: Field>(
+    generated: Generated<EF>,
+) -> Result<(usize, Option<LookupTerminal<EF>>), LookupError> {
+    match generated {
+        Ok((aux, terminal)) => Ok((aux.height(), terminal)),
+        Err(error) => Err(error),
+    }
+}
+
+/// The call that counts its inverses, and its count.
+fn show_counted<W: Write, F: Field, EF: ExtensionField<F> + Debug>(
     alloc: Global,
     out: &mut W,
     main: &RowMajorMatrix<F>,
     lookups: &[Lookup<F>],
     challenges: &[EF],
 ) {
-    show(
-        out,
-        "generate_permutation",
-        generate_fitting(alloc, main, lookups, challenges),
-    );
     let (call, mut count) = ("generate_counted", InverseCount::new());
-    show(
-        out,
-        call,
-        generate_counted(alloc, main, lookups, challenges, &mut count),
-    );
+    let answer = generate_counted(alloc, main, lookups, challenges, &mut count);
+    show(out, call, answer);
     state(out, "count of", call, &count.get());
+}
+
+/// Both calls over one trace, at challenges of these numbers.
+fn show_generated<W: Write, F: Field, EF: ExtensionField<F> + Debug>(
+    alloc: Global,
+    out: &mut W,
+    main: &RowMajorMatrix<F>,
+    lookups: &[Lookup<F>],
+    numbers: &[u32],
+) -> Option<()> {
+    let challenges = elements::<EF>(alloc, numbers)?;
+    let challenges = challenges.as_slice();
+    let answer = generate_fitting(alloc, main, lookups, challenges);
+    show(out, "generate_permutation", answer);
+    show_counted(alloc, out, main, lookups, challenges);
+    Some(())
 }
 
 /// One row so many times.
@@ -95,15 +113,12 @@ fn on_table<W: Write, EF: Field + Debug>(
     show(out, "verify_terminal_sum", sum);
 }
 
-/// The same, twice, over the table of two numbers.
-fn on_own_table<W: Write, EF: Field + Debug>(
-    alloc: Global,
-    out: &mut W,
-    terminals: &[Option<LookupTerminal<EF>>],
-) -> Option<()> {
+/// The same, twice, over the table of two numbers, a terminal and none.
+fn on_own_table<W: Write, EF: Field + Debug>(alloc: Global, out: &mut W) -> Option<()> {
     let table = Challenges::new(alloc, EF::from_u32(5), EF::from_u32(2), 1, 2).ok()?;
+    let terminals = [Some(LookupTerminal(EF::from_u32(5))), None];
     for _ in 0..2 {
-        on_table(alloc, out, &table, terminals);
+        on_table(alloc, out, &table, terminals.as_slice());
         state(out, "input of", "challenges", &table.bus_prefix);
     }
     Some(())
@@ -111,26 +126,29 @@ fn on_own_table<W: Write, EF: Field + Debug>(
 
 /// Calls over a field, and over an extension of another.
 pub fn challenges<W: Write>(alloc: Global, out: &mut W) -> Option<()> {
-    let terminals = [Some(LookupTerminal(F7::new(5))), None];
-    on_own_table::<W, F7>(alloc, out, terminals.as_slice())?;
-    let terminals = [Some(LookupTerminal(BabyBear4::from_u32(5))), None];
-    on_own_table::<W, BabyBear4>(alloc, out, terminals.as_slice())
+    on_own_table::<W, F7>(alloc, out)?;
+    on_own_table::<W, BabyBear4>(alloc, out)
 }
 
+/// Challenges at which no denominator vanishes.
+const CHALLENGES: [u32; 8] = [5, 2, 5, 2, 5, 2, 5, 2];
+
+/// Challenges at which one does.
+const FAULTY: [u32; 8] = [3, 2, 5, 2, 5, 2, 5, 2];
+
 /// Generation over a trace, with a fault and without.
-fn over_small<W: Write>(
+fn over_small<W: Write, F: Field + Debug>(
     alloc: Global,
     out: &mut W,
-    lookups: &[Lookup<F7>],
-    main: &RowMajorMatrix<F7>,
-) {
-    let challenges = [5, 2, 5, 2, 5, 2, 5, 2].map(F7::new);
-    let faulty = [3, 2, 5, 2, 5, 2, 5, 2].map(F7::new);
-    show_generated(alloc, out, main, lookups, challenges.as_slice());
-    show_generated(alloc, out, main, lookups, faulty.as_slice());
-    show_generated(alloc, out, main, &[], challenges.as_slice());
+    lookups: &[Lookup<F>],
+    main: &RowMajorMatrix<F>,
+) -> Option<()> {
+    show_generated::<W, F, F>(alloc, out, main, lookups, &CHALLENGES)?;
+    show_generated::<W, F, F>(alloc, out, main, lookups, &FAULTY)?;
+    show_generated::<W, F, F>(alloc, out, main, &[], &CHALLENGES)?;
     state(out, "input of", "generation", main);
     state(out, "input of", "generation", &lookups);
+    Some(())
 }
 
 /// The calls of generation, over a trace that balances and over one with an unlawful flag.
@@ -138,40 +156,65 @@ pub fn generation<W: Write>(alloc: Global, out: &mut W) -> Option<()> {
     let lookups: Vec<Lookup<F7>> = lookups_of(alloc, LOOKUPS)?;
     let small = trace(alloc, &BALANCED, 3)?;
     let unlawful = trace(alloc, &UNLAWFUL, 3)?;
-    for _ in 0..2 {
-        over_small(alloc, out, lookups.as_slice(), &small);
-        over_small(alloc, out, lookups.as_slice(), &unlawful);
-    }
-    Some(())
+    over_both(alloc, out, lookups.as_slice(), &small, &unlawful)?;
+    over_both(alloc, out, lookups.as_slice(), &small, &unlawful)
+}
+
+/// Generation over two traces.
+fn over_both<W: Write, F: Field + Debug>(
+    alloc: Global,
+    out: &mut W,
+    lookups: &[Lookup<F>],
+    small: &RowMajorMatrix<F>,
+    unlawful: &RowMajorMatrix<F>,
+) -> Option<()> {
+    over_small(alloc, out, lookups, small)?;
+    over_small(alloc, out, lookups, unlawful)
 }
 
 /// Generation of two chunks of rows: the height and the terminal alone.
-pub fn chunks<W: Write>(alloc: Global, out: &mut W) -> Option<()> {
-    let lookups: Vec<Lookup<F7>> = lookups_of(alloc, LOCAL)?;
-    let (lookups, challenges) = (lookups.as_slice(), [5, 2].map(F7::new));
-    let high = repeated_row(alloc, 1025)?;
-    for _ in 0..2 {
-        let (call, mut count) = ("generate_counted", InverseCount::new());
-        let answer = generate_counted(alloc, &high, lookups, challenges.as_slice(), &mut count);
-        show(
-            out,
-            call,
-            answer.map(|(aux, terminal)| (aux.height(), terminal)),
-        );
-        state(out, "count of", call, &count.get());
-    }
+fn over_chunks<W: Write, F: Field + Debug>(
+    alloc: Global,
+    out: &mut W,
+    lookups: &[Lookup<F>],
+    main: &RowMajorMatrix<F>,
+) -> Option<()> {
+    let challenges = elements::<F>(alloc, &[5, 2])?;
+    let (call, mut count) = ("generate_counted", InverseCount::new());
+    let answer = generate_counted(alloc, main, lookups, challenges.as_slice(), &mut count);
+    show(out, call, outline(answer));
+    state(out, "count of", call, &count.get());
     Some(())
 }
 
+/// The call that counts its inverses, over two chunks of rows and twice.
+pub fn chunks<W: Write>(alloc: Global, out: &mut W) -> Option<()> {
+    let lookups: Vec<Lookup<F7>> = lookups_of(alloc, LOCAL)?;
+    let high = repeated_row(alloc, 1025)?;
+    over_chunks(alloc, out, lookups.as_slice(), &high)?;
+    over_chunks(alloc, out, lookups.as_slice(), &high)
+}
+
+/// Challenges of a number each.
+const DISTINCT: [u32; 8] = [5, 2, 6, 2, 7, 2, 8, 2];
+
 /// Generation over an extension.
+fn over_extension<W: Write, F: Field + Debug, EF: ExtensionField<F> + Debug>(
+    alloc: Global,
+    out: &mut W,
+    lookups: &[Lookup<F>],
+    main: &RowMajorMatrix<F>,
+) -> Option<()> {
+    show_generated::<W, F, EF>(alloc, out, main, lookups, &DISTINCT)?;
+    state(out, "input of", "generation", main);
+    state(out, "input of", "generation", &lookups);
+    Some(())
+}
+
+/// The same calls over an extension, twice.
 pub fn ext_generation<W: Write>(alloc: Global, out: &mut W) -> Option<()> {
     let lookups: Vec<Lookup<BabyBear>> = lookups_of(alloc, LOOKUPS)?;
-    let challenges = [5, 2, 6, 2, 7, 2, 8, 2].map(BabyBear4::from_u32);
     let main = trace(alloc, &BALANCED, 3)?;
-    for _ in 0..2 {
-        show_generated(alloc, out, &main, lookups.as_slice(), challenges.as_slice());
-        state(out, "input of", "generation", &main);
-        state(out, "input of", "generation", &lookups);
-    }
-    Some(())
+    over_extension::<W, BabyBear, BabyBear4>(alloc, out, lookups.as_slice(), &main)?;
+    over_extension::<W, BabyBear, BabyBear4>(alloc, out, lookups.as_slice(), &main)
 }

@@ -63,16 +63,22 @@ pub fn cell<F>(index: usize) -> SymbolicExpression<F> {
     )))
 }
 
+/// These numbers as elements.
+pub fn elements<F: PrimeCharacteristicRing>(alloc: Global, numbers: &[u32]) -> Option<Vec<F>> {
+    let mut values = Vec::new(alloc);
+    for number in numbers {
+        values.push(F::from_u32(*number)).ok()?;
+    }
+    Some(values)
+}
+
 /// A matrix of these numbers, row after row.
 pub fn trace<F: PrimeCharacteristicRing>(
     alloc: Global,
     numbers: &[u32],
     width: usize,
 ) -> Option<RowMajorMatrix<F>> {
-    let mut values = Vec::new(alloc);
-    for number in numbers {
-        values.push(F::from_u32(*number)).ok()?;
-    }
+    let values = elements(alloc, numbers)?;
     if width == 0 || values.len() % width != 0 {
         return None;
     }

@@ -1,13 +1,14 @@
 //! Calls of plans, and of the memory check.
-use crate::inputs::{BALANCED, LOOKUPS, UNBALANCED, UNEVEN, UNEVEN_LOCAL, trace};
+use crate::inputs::{BALANCED, LOOKUPS, UNBALANCED, UNEVEN, UNEVEN_LOCAL, elements, trace};
 use crate::sets::set;
 use crate::show::{show, show_or_no_input, state};
 use batch::{BatchError, BatchPlan, BatchTrace};
 use checker::Witness;
-use field::{BabyBear, BabyBear4, F7, PrimeCharacteristicRing};
+use field::{BabyBear, BabyBear4, F7, Field, PrimeCharacteristicRing};
 use matrix::RowMajorMatrix;
 use memory_check::{MemoryTraces, check_memory, memory_plan};
 use std::alloc::Global;
+use std::fmt::Debug;
 use std::io::Write;
 
 /// A plan of one AIR whose lookups have this text. None if an input can't be made.
@@ -41,34 +42,49 @@ fn alone<F>(main: &RowMajorMatrix<F>) -> BatchTrace<'_, F> {
 }
 
 /// The witness of a trace.
-fn witness(alloc: Global, plan: &BatchPlan<F7>, main: &RowMajorMatrix<F7>) -> Option<Witness<F7>> {
+fn prove<F: Field>(
+    alloc: Global,
+    plan: &BatchPlan<F>,
+    main: &RowMajorMatrix<F>,
+) -> Result<Witness<F>, BatchError> {
     let traces = [alone(main)];
-    plan.prove(alloc, traces.as_slice(), F7::new(5), F7::new(2))
-        .ok()
+    plan.prove(alloc, traces.as_slice(), F::from_u32(5), F::from_u32(2))
 }
 
-/// The calls of a prover and a verifier.
-fn on_plan<W: Write>(
+/// The answer to a witness of a trace.
+fn verify<F: Field>(
+    alloc: Global,
+    plan: &BatchPlan<F>,
+    main: &RowMajorMatrix<F>,
+    witness: &Witness<F>,
+) -> Result<(), BatchError> {
+    let traces = [alone(main)];
+    let (alpha, beta) = (F::from_u32(5), F::from_u32(2));
+    plan.verify(alloc, traces.as_slice(), alpha, beta, witness)
+}
+
+/// The call that counts over a grid of challenges.
+fn show_grid_count<W: Write, F: Field>(
     alloc: Global,
     out: &mut W,
-    plan: &BatchPlan<F7>,
-    main: &RowMajorMatrix<F7>,
-    witness: &Witness<F7>,
-) {
+    plan: &BatchPlan<F>,
+    main: &RowMajorMatrix<F>,
+) -> Option<()> {
     let traces = [alone(main)];
-    let traces = traces.as_slice();
-    let (alpha, beta) = (F7::new(5), F7::new(2));
-    let answer = plan.prove(alloc, traces, alpha, beta);
-    show(out, "BatchPlan::prove", answer);
-    let answer = plan.verify(alloc, traces, alpha, beta, witness);
-    show(out, "BatchPlan::verify", answer);
-    let (alphas, betas) = ([1, 5].map(F7::new), [2, 3].map(F7::new));
-    let answer = plan.grid_count(alloc, traces, alphas.as_slice(), betas.as_slice());
+    let alphas = elements::<F>(alloc, &[1, 5])?;
+    let betas = elements::<F>(alloc, &[2, 3])?;
+    let answer = plan.grid_count(
+        alloc,
+        traces.as_slice(),
+        alphas.as_slice(),
+        betas.as_slice(),
+    );
     show(out, "BatchPlan::grid_count", answer);
+    Some(())
 }
 
 /// What a plan says of itself, which takes no memory.
-fn parts<W: Write>(out: &mut W, plan: &BatchPlan<F7>) {
+fn parts<W: Write, F: Field>(out: &mut W, plan: &BatchPlan<F>) {
     show(out, "BatchPlan::ids", plan.ids().len());
     show(
         out,
@@ -78,27 +94,48 @@ fn parts<W: Write>(out: &mut W, plan: &BatchPlan<F7>) {
     show(out, "BatchPlan::num_ids", plan.num_ids());
 }
 
-/// All calls of a plan over a trace, twice.
-fn over<W: Write>(
+/// The calls of a prover and a verifier.
+fn on_plan<W: Write, F: Field + Debug>(
     alloc: Global,
     out: &mut W,
-    plan: &BatchPlan<F7>,
-    numbers: &[u32],
-    witness: &Witness<F7>,
+    plan: &BatchPlan<F>,
+    main: &RowMajorMatrix<F>,
+    witness: &Witness<F>,
 ) -> Option<()> {
-    let main = trace(alloc, numbers, 3)?;
-    for _ in 0..2 {
-        on_plan(alloc, out, plan, &main, witness);
-        state(out, "input of", "plans", &main);
-    }
+    show(out, "BatchPlan::prove", prove(alloc, plan, main));
+    show(out, "BatchPlan::verify", verify(alloc, plan, main, witness));
+    show_grid_count(alloc, out, plan, main)?;
+    state(out, "input of", "plans", main);
     Some(())
 }
 
-/// All calls of a plan.
-fn on_all<W: Write>(alloc: Global, out: &mut W, plan: &BatchPlan<F7>) -> Option<()> {
-    parts(out, plan);
+/// All calls of a plan over a trace, twice.
+fn over<W: Write, F: Field + Debug>(
+    alloc: Global,
+    out: &mut W,
+    plan: &BatchPlan<F>,
+    numbers: &[u32],
+    witness: &Witness<F>,
+) -> Option<()> {
+    let main = trace(alloc, numbers, 3)?;
+    on_plan(alloc, out, plan, &main, witness)?;
+    on_plan(alloc, out, plan, &main, witness)
+}
+
+/// The witness of the trace that balances.
+fn accepted_witness<F: Field>(alloc: Global, plan: &BatchPlan<F>) -> Option<Witness<F>> {
     let main = trace(alloc, &BALANCED, 3)?;
-    let accepted = witness(alloc, plan, &main)?;
+    prove(alloc, plan, &main).ok()
+}
+
+/// All calls of a plan.
+fn on_all<W: Write, F: Field + Debug>(
+    alloc: Global,
+    out: &mut W,
+    plan: &BatchPlan<F>,
+) -> Option<()> {
+    parts(out, plan);
+    let accepted = accepted_witness(alloc, plan)?;
     over(alloc, out, plan, &BALANCED, &accepted)?;
     over(alloc, out, plan, &UNBALANCED, &accepted)?;
     over(alloc, out, plan, &UNBALANCED[..3], &accepted)?;

@@ -3,14 +3,14 @@ use crate::builders::assert_ext_cell;
 use crate::each_record::EachRecord;
 use crate::inputs::{cell, layout};
 use crate::show::{show, show_or_no_input, state};
-use air::{AirBuilder, AirLayout, Expression, SymbolicExpression};
+use air::{AirBuilder, AirError, AirLayout, Expression, SymbolicExpression};
 use field::Field;
 use lookup::{
     Count, IndexedLookupError, IndexedLookups, IndexedRead, IndexedTable,
     InteractionSymbolicBuilder, TraceWindow,
 };
 use lookup_indexed::check_declarations;
-use std::alloc::Global;
+use std::alloc::{AllocError, Global};
 use std::fmt::Debug;
 use std::io::Write;
 
@@ -24,23 +24,19 @@ fn narrow() -> AirLayout {
     }
 }
 
+/// A recorder of the AIR over a layout.
+fn recorder_of_air<F: Field>(alloc: Global, layout: AirLayout) -> Result<Recorder<F>, AirError> {
+    Recorder::<F>::from_air(alloc, &EachRecord, layout)
+}
+
 /// Calls that make a recorder.
 fn make_recorders<W: Write, F: Field + Debug>(alloc: Global, out: &mut W) {
-    show(
-        out,
-        "InteractionSymbolicBuilder::new",
-        Recorder::<F>::new(alloc, layout()),
-    );
-    show(
-        out,
-        "InteractionSymbolicBuilder::from_air",
-        Recorder::<F>::from_air(alloc, &EachRecord, layout()),
-    );
-    show(
-        out,
-        "InteractionSymbolicBuilder::from_air, narrow",
-        Recorder::<F>::from_air(alloc, &EachRecord, narrow()),
-    );
+    let answer = Recorder::<F>::new(alloc, layout());
+    show(out, "InteractionSymbolicBuilder::new", answer);
+    let answer = recorder_of_air::<F>(alloc, layout());
+    show(out, "InteractionSymbolicBuilder::from_air", answer);
+    let answer = recorder_of_air::<F>(alloc, narrow());
+    show(out, "InteractionSymbolicBuilder::from_air, narrow", answer);
 }
 
 /// Calls that read a recorder.
@@ -86,6 +82,13 @@ fn negative<F: Field>(alloc: Global) -> Option<Count<SymbolicExpression<F>>> {
     Some(Count::bounded(cell(2).neg(alloc).ok()?, 3))
 }
 
+/// The negative of that count.
+fn negate_negative<F: Field>(
+    alloc: Global,
+) -> Option<Result<Count<SymbolicExpression<F>>, AllocError>> {
+    Some(negative::<F>(alloc)?.negate(alloc))
+}
+
 /// Calls of counts.
 fn counts<W: Write, F: Field + Debug>(
     alloc: Global,
@@ -93,13 +96,12 @@ fn counts<W: Write, F: Field + Debug>(
     of: &Count<SymbolicExpression<F>>,
 ) {
     show(out, "copy of a count", of.copy(alloc));
-    let negated = negative::<F>(alloc).map(|count| count.negate(alloc));
-    show_or_no_input(out, "negate", negated);
+    show_or_no_input(out, "negate", negate_negative::<F>(alloc));
 }
 
 /// A recorder of an AIR with one more assertion.
 fn filled_recorder<F: Field>(alloc: Global) -> Option<Recorder<F>> {
-    let mut builder = Recorder::<F>::from_air(alloc, &EachRecord, layout()).ok()?;
+    let mut builder = recorder_of_air::<F>(alloc, layout()).ok()?;
     let answer = assert_ext_cell(alloc, &mut builder);
     if answer.is_err() {
         drop(builder);
@@ -197,24 +199,20 @@ fn declare_all<W: Write>(alloc: Global, out: &mut W) {
 
 /// Calls of sets of declarations.
 fn on_declarations<W: Write, F: Field>(alloc: Global, out: &mut W, accepted: &IndexedLookups) {
-    show(
-        out,
-        "IndexedLookups::from_air",
-        IndexedLookups::from_air::<F, F, EachRecord>(alloc, &EachRecord),
-    );
+    show(out, "IndexedLookups::from_air", declared::<F>(alloc));
     show(out, "copy of indexed lookups", accepted.copy(alloc));
     declare_all(alloc, out);
     state(out, "input of", "declarations", accepted);
 }
 
 /// The declarations of the AIR.
-pub fn indexed<F: Field>(alloc: Global) -> Option<IndexedLookups> {
-    IndexedLookups::from_air::<F, F, EachRecord>(alloc, &EachRecord).ok()
+pub fn declared<F: Field>(alloc: Global) -> Result<IndexedLookups, IndexedLookupError> {
+    IndexedLookups::from_air::<F, F, EachRecord>(alloc, &EachRecord)
 }
 
 /// The calls of indexed declarations, over the same set twice.
 pub fn declarations<W: Write, F: Field>(alloc: Global, out: &mut W) -> Option<()> {
-    let accepted = indexed::<F>(alloc)?;
+    let accepted = declared::<F>(alloc).ok()?;
     on_declarations::<W, F>(alloc, out, &accepted);
     on_declarations::<W, F>(alloc, out, &accepted);
     Some(())

@@ -1,6 +1,6 @@
 //! Texts that are written and read, and texts from outside.
 use crate::inputs::{LOOKUPS, layout};
-use crate::records::indexed;
+use crate::records::declared;
 use crate::sets::set;
 use crate::show::{show, state};
 use field::{BabyBear, BabyBear4, F7};
@@ -75,7 +75,7 @@ fn write_all<W: Write>(
 /// The calls that read and write texts, twice.
 pub fn json<W: Write>(alloc: Global, out: &mut W) -> Option<()> {
     let terminal = LookupTerminal(BabyBear4::new([1, 2013265920, 0, 4].map(BabyBear::new)));
-    let declared = indexed::<F7>(alloc)?;
+    let declared = declared::<F7>(alloc).ok()?;
     let set = set(alloc, LOOKUPS)?;
     for _ in 0..2 {
         read_all(alloc, out);

@@ -63,60 +63,47 @@ fn degrees_of_ext<W: Write, F: Field>(out: &mut W) {
     show(out, "degree_multiple_with_transition, ext", degree);
 }
 
-/// Resolves an expression that fits the layout of a builder.
-pub fn resolve<AB: PermutationAirBuilder>(
+/// Resolves an expression that fits the layout of a builder, or does so over a window of its own.
+fn resolve_on<AB: PermutationAirBuilder>(
     alloc: Global,
     builder: &AB,
     tree: &SymbolicExpression<AB::F>,
+    over_main: bool,
 ) -> Result<AB::Expr, AirError> {
     let layout = layout_of(alloc, builder)?;
     if !tree.fits(&layout) {
         return Err(AirError::DegreeOverflow);
     }
-    tree.resolve(alloc, builder)
-}
-
-/// The same over a window of its own.
-fn resolve_over_main<AB: PermutationAirBuilder>(
-    alloc: Global,
-    builder: &AB,
-    tree: &SymbolicExpression<AB::F>,
-) -> Result<AB::Expr, AirError> {
-    let layout = layout_of(alloc, builder)?;
-    if !tree.fits(&layout) {
-        return Err(AirError::DegreeOverflow);
+    if !over_main {
+        return tree.resolve(alloc, builder);
     }
     let main = builder.main(alloc)?;
     Ok(resolve_over(alloc, tree, builder, &main)?)
 }
 
-/// Calls that resolve an expression.
-fn show_resolved<W: Write, AB: PermutationAirBuilder>(
+/// What an expression resolves to on a builder of its own, or over a window of that.
+pub fn resolve<F: Field>(
     alloc: Global,
-    out: &mut W,
-    builder: &AB,
-    tree: &SymbolicExpression<AB::F>,
-)
-where
-    AB::Expr: Debug,
-{
-    show(out, "resolve", resolve(alloc, builder, tree));
-    show(out, "resolve_over", resolve_over_main(alloc, builder, tree));
+    tree: &SymbolicExpression<F>,
+    over_main: bool,
+) -> Option<Result<SymbolicExpression<F>, AirError>> {
+    let builder = builder::<F>(alloc)?;
+    let answer = resolve_on(alloc, &builder, tree, over_main);
+    drop(builder);
+    Some(answer)
 }
 
-/// Calls on expressions and on a builder.
+/// Calls on expressions, and calls that resolve them.
 fn on_trees<W: Write, F: Field + Debug>(
     alloc: Global,
     out: &mut W,
     trees: &[SymbolicExpression<F>],
-) -> Option<()> {
-    let builder = builder::<F>(alloc)?;
+) {
     for tree in trees {
         on_tree(alloc, out, tree);
-        show_resolved(alloc, out, &builder, tree);
+        show_or_no_input(out, "resolve", resolve(alloc, tree, false));
+        show_or_no_input(out, "resolve_over", resolve(alloc, tree, true));
     }
-    drop(builder);
-    Some(())
 }
 
 /// Calls without a builder.
@@ -139,7 +126,7 @@ pub fn expressions<W: Write>(alloc: Global, out: &mut W) -> Option<()> {
     let trees = trees.as_slice();
     for _ in 0..2 {
         without_builder(alloc, out, trees);
-        on_trees(alloc, out, trees)?;
+        on_trees(alloc, out, trees);
     }
     Some(())
 }
