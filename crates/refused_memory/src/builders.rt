@@ -95,18 +95,6 @@ fn assert_five_times<W: Write, AB: ExtensionBuilder + Debug>(
     }
 }
 
-/// An assertion on a builder of its own.
-fn assert_on_builder<W: Write, F: Field + Debug>(
-    alloc: Global,
-    out: &mut W,
-    call: usize,
-) -> Option<()> {
-    let mut builder = builder::<F>(alloc)?;
-    assert_five_times(alloc, out, &mut builder, call, ASSERTIONS[call % 3]);
-    drop(builder);
-    Some(())
-}
-
 /// Asserts that three cells are zero.
 fn assert_cells<AB: AirBuilder>(alloc: Global, builder: &mut AB) -> Result<(), AirError> {
     let cells = current_cells(alloc, &*builder, 3, &[0, 1, 2])?;
@@ -114,27 +102,55 @@ fn assert_cells<AB: AirBuilder>(alloc: Global, builder: &mut AB) -> Result<(), A
 }
 
 /// Assertions that stay where a later one is refused.
-fn assert_several<W: Write, F: Field + Debug>(alloc: Global, out: &mut W) -> Option<()> {
+fn assert_several<W: Write, AB: AirBuilder + Debug>(alloc: Global, out: &mut W, builder: &mut AB) {
+    let name = "assert_zeros";
+    show(out, name, assert_cells(alloc, builder));
+    state(out, "left by", name, builder);
+}
+
+/// How often a builder is made: for each assertion, twice for several at once, and to be read.
+const BUILDERS: usize = 6;
+
+/// The calls on the builder of this number.
+fn on_builder<W: Write, AB: PermutationAirBuilder + Debug>(
+    alloc: Global,
+    out: &mut W,
+    builder: &mut AB,
+    number: usize,
+)
+where
+    AB::Expr: Debug,
+    AB::MainWindow: Debug,
+    AB::MP: Debug,
+{
+    match number {
+        0..3 => assert_five_times(alloc, out, builder, number, ASSERTIONS[number % 3]),
+        3..5 => assert_several(alloc, out, builder),
+        _ => {
+            read_builder(alloc, out, &*builder);
+            read_builder(alloc, out, &*builder);
+        }
+    }
+}
+
+/// The same on a builder of its own. Only here a given builder goes to code over any builder.
+fn with_builder<W: Write, F: Field + Debug>(
+    alloc: Global,
+    out: &mut W,
+    number: usize,
+) -> Option<()> {
     let mut builder = builder::<F>(alloc)?;
-    let call = "assert_zeros";
-    show(out, call, assert_cells(alloc, &mut builder));
-    state(out, "left by", call, &builder.base_constraints());
+    on_builder(alloc, out, &mut builder, number);
     drop(builder);
     Some(())
 }
 
 /// The calls that make, read and fill a builder.
 pub fn builders<W: Write, F: Field + Debug>(alloc: Global, out: &mut W) -> Option<()> {
-    let builder = builder::<F>(alloc)?;
-    for _ in 0..2 {
-        make_builder::<W, F>(alloc, out);
-        read_builder(alloc, out, &builder);
-    }
-    drop(builder);
-    assert_several::<W, F>(alloc, out)?;
-    assert_several::<W, F>(alloc, out)?;
-    for call in 0..3usize {
-        assert_on_builder::<W, F>(alloc, out, call)?;
+    make_builder::<W, F>(alloc, out);
+    make_builder::<W, F>(alloc, out);
+    for number in 0..BUILDERS {
+        with_builder::<W, F>(alloc, out, number)?;
     }
     Some(())
 }
