@@ -1,6 +1,6 @@
 /* The calls of volgwain.h on small traces: their answers, each code but 14, 23 and 25, which take billions of
    lookups, messages or nodes, memory that runs out at each request, four threads at once, and a stack of
-   384 KB. */
+   256 KB, or of 384 KB to read JSON. */
 #define _POSIX_C_SOURCE 200809L
 #include "volgwain.h"
 
@@ -1473,18 +1473,27 @@ static void *run_deep(void *unused)
                 && refusal.row == 2 * DEEPEST,
             "sums 1025 deep");
     }
-    check(read_deep(100, &refusal) == VOLGWAIN_OK, "JSON 100 deep");
-    check(read_deep(1000, &refusal) == VOLGWAIN_BAD_TEXT, "JSON 1000 deep");
     return NULL;
 }
 
-static void check_stack(void)
+/* The deepest text: five levels stand around the operands, and the reader of JSON bears 127. */
+static void *run_deep_json(void *unused)
+{
+    struct volgwain_refusal refusal;
+    (void)unused;
+    check(read_deep(122, &refusal) == VOLGWAIN_OK, "JSON of 122 operands");
+    check(read_deep(123, &refusal) == VOLGWAIN_BAD_TEXT, "JSON of 123 operands");
+    check(read_deep(1000, &refusal) == VOLGWAIN_BAD_TEXT, "JSON of 1000 operands");
+    return NULL;
+}
+
+static void check_stack(size_t kilobytes, void *(*run)(void *))
 {
     pthread_attr_t attributes;
     pthread_t thread;
     pthread_attr_init(&attributes);
-    if (pthread_attr_setstacksize(&attributes, 384 * 1024) != 0
-        || pthread_create(&thread, &attributes, run_deep, NULL) != 0)
+    if (pthread_attr_setstacksize(&attributes, kilobytes * 1024) != 0
+        || pthread_create(&thread, &attributes, run, NULL) != 0)
         exit(3);
     pthread_join(thread, NULL);
 }
@@ -1519,7 +1528,8 @@ int main(void)
     check_memory("debug_check", try_debug_check);
     check_memory("debug_check of a mismatch", try_mismatch);
     check_threads();
-    check_stack();
+    check_stack(256, run_deep);
+    check_stack(384, run_deep_json);
     if (failures == 0)
         printf("all calls answer as expected\n");
     return failures == 0 ? 0 : 1;

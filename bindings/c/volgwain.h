@@ -20,7 +20,7 @@
    - Texts. `text` gets what a refusal says, in UTF-8 and without a closing zero: its first bytes, as many
      as there is room for, so the cut may split a character. `refusal->text_length` is the length of the
      whole in bytes, and 0 where nothing was refused.
-   - Stack. A call needs at most 384 KB of it.
+   - Stack. A call needs at most 256 KB of it, and volgwain_read_json 384 KB.
    - Threads. Calls may run at once, as long as what one of them writes no other reads or writes.
      malloc and its kin have to allow that. No call from a signal handler. */
 #ifndef VOLGWAIN_H

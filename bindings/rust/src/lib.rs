@@ -41,8 +41,8 @@
 //! ```
 //!
 //! All types are plain data, so they are [`Send`] and [`Sync`], and any number of threads may work
-//! on the same AIRs and batches at once. A call needs at most 384 KB of stack. Where the library
-//! can get no memory, a call answers [`Code::OutOfMemory`].
+//! on the same AIRs and batches at once. A call needs at most 256 KB of stack, and one that
+//! reads JSON 384 KB. Where the library can get no memory, a call answers [`Code::OutOfMemory`].
 #![deny(missing_docs, unsafe_code, clippy::undocumented_unsafe_blocks)]
 
 mod air;
