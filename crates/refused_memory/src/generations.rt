@@ -113,12 +113,15 @@ fn on_table<W: Write, EF: Field + Debug>(
     show(out, "verify_terminal_sum", sum);
 }
 
-/// The same, twice, over the table of two numbers, a terminal and none.
-fn on_own_table<W: Write, EF: Field + Debug>(alloc: Global, out: &mut W) -> Option<()> {
+/// The same, twice, over the table of two numbers.
+fn on_own_table<W: Write, EF: Field + Debug>(
+    alloc: Global,
+    out: &mut W,
+    terminals: &[Option<LookupTerminal<EF>>],
+) -> Option<()> {
     let table = Challenges::new(alloc, EF::from_u32(5), EF::from_u32(2), 1, 2).ok()?;
-    let terminals = [Some(LookupTerminal(EF::from_u32(5))), None];
     for _ in 0..2 {
-        on_table(alloc, out, &table, terminals.as_slice());
+        on_table(alloc, out, &table, terminals);
         state(out, "input of", "challenges", &table.bus_prefix);
     }
     Some(())
@@ -126,8 +129,10 @@ fn on_own_table<W: Write, EF: Field + Debug>(alloc: Global, out: &mut W) -> Opti
 
 /// Calls over a field, and over an extension of another.
 pub fn challenges<W: Write>(alloc: Global, out: &mut W) -> Option<()> {
-    on_own_table::<W, F7>(alloc, out)?;
-    on_own_table::<W, BabyBear4>(alloc, out)
+    let terminals = [Some(LookupTerminal(F7::new(5))), None];
+    on_own_table::<W, F7>(alloc, out, terminals.as_slice())?;
+    let terminals = [Some(LookupTerminal(BabyBear4::from_u32(5))), None];
+    on_own_table::<W, BabyBear4>(alloc, out, terminals.as_slice())
 }
 
 /// Challenges at which no denominator vanishes.
