@@ -1,5 +1,6 @@
 #!/bin/sh
-# Builds both static libraries, the crate for Rust and the driver, and prints the ratios.
+# Builds both static libraries, the crate for Rust and the driver, and prints the ratios: where freed memory is
+# kept for the next call, and where glibc gives it back.
 set -eu
 cd "$(dirname "$0")/.."
 kit=$(dirname "$(rt doc)")
@@ -12,4 +13,5 @@ cargo build --quiet --release --offline --manifest-path bindings/rust/Cargo.toml
 rustc -O --edition 2024 bench/bindings_driver.rs -o "$work/driver" \
     --extern "volgwain=$work/release/libvolgwain.rlib" \
     -C link-arg=crates/bench/out/libbench.a -C link-arg="$VOLGWAIN_HEAP"
+MALLOC_MMAP_MAX_=0 MALLOC_TRIM_THRESHOLD_=68719476736 MALLOC_TOP_PAD_=268435456 "$work/driver"
 "$work/driver"
