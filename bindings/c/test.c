@@ -1433,8 +1433,8 @@ static uint32_t go_deep(struct volgwain_refusal *refusal)
     return volgwain_verify(&air, 1, &traces, 1, &challenges[0], &challenges[1], &witness, 1, refusal, text, 0);
 }
 
-/* a lookup whose multiplicity is a constant that is negated so often, from JSON */
-static uint32_t read_deep(size_t negations, struct volgwain_refusal *refusal)
+/* a lookup whose multiplicity is a constant within so many operations, from JSON */
+static uint32_t read_deep(const char *before, const char *after, size_t levels, struct volgwain_refusal *refusal)
 {
     struct volgwain_span tuples[1] = {{0, 0}};
     struct volgwain_record records[1];
@@ -1444,11 +1444,11 @@ static uint32_t read_deep(size_t negations, struct volgwain_refusal *refusal)
     size_t i;
     memset(records, 0, sizeof records);
     strcpy(deep.json, "[{\"kind\":\"Local\",\"elements\":[[]],\"multiplicities\":[");
-    for (i = 0; i < negations; i++)
-        strcat(deep.json, "{\"Neg\":");
+    for (i = 0; i < levels; i++)
+        strcat(deep.json, before);
     strcat(deep.json, "{\"Leaf\":{\"Constant\":1}}");
-    for (i = 0; i < negations; i++)
-        strcat(deep.json, "}");
+    for (i = 0; i < levels; i++)
+        strcat(deep.json, after);
     strcat(deep.json, "],\"count_weight\":0,\"column\":0}]");
     return volgwain_read_json(deep.json, strlen(deep.json), deep.packed_nodes, DEEPEST, tuples, 1, names, 1,
         records, 1, &sizes, refusal, text, 0);
@@ -1476,14 +1476,27 @@ static void *run_deep(void *unused)
     return NULL;
 }
 
-/* The deepest text: five levels stand around the operands, and the reader of JSON bears 127. */
+static uint32_t read_negations(size_t levels, struct volgwain_refusal *refusal)
+{
+    return read_deep("{\"Neg\":", "}", levels, refusal);
+}
+
+static uint32_t read_sums(size_t levels, struct volgwain_refusal *refusal)
+{
+    return read_deep("{\"Add\":[", ",{\"Leaf\":{\"Constant\":1}}]}", levels, refusal);
+}
+
+/* The deepest text: the reader of JSON bears 127 levels. Three stand around the expression and two in its
+   leaves; a negation is one, and a sum two. */
 static void *run_deep_json(void *unused)
 {
     struct volgwain_refusal refusal;
     (void)unused;
-    check(read_deep(122, &refusal) == VOLGWAIN_OK, "JSON of 122 operands");
-    check(read_deep(123, &refusal) == VOLGWAIN_BAD_TEXT, "JSON of 123 operands");
-    check(read_deep(1000, &refusal) == VOLGWAIN_BAD_TEXT, "JSON of 1000 operands");
+    check(read_negations(122, &refusal) == VOLGWAIN_OK, "JSON of 122 negations");
+    check(read_negations(123, &refusal) == VOLGWAIN_BAD_TEXT, "JSON of 123 negations");
+    check(read_negations(1000, &refusal) == VOLGWAIN_BAD_TEXT, "JSON of 1000 negations");
+    check(read_sums(61, &refusal) == VOLGWAIN_OK, "JSON of 61 sums");
+    check(read_sums(62, &refusal) == VOLGWAIN_BAD_TEXT, "JSON of 62 sums");
     return NULL;
 }
 

@@ -9,7 +9,7 @@ import subprocess
 
 from .runs import SECONDS
 
-# How deep an expression each call bears on a stack of STACK bytes: the README states it. An even depth, since
+# How deep an expression each call bears on a stack of STACK bytes: docs/PROMISES.md states it. An even depth, since
 # negations and differences on the right then leave the value as it is.
 DEPTH, STACK = 500, 1 << 20
 
@@ -82,7 +82,7 @@ def bears(program, call, form, depth):
 
 
 def depth_swept(_shim, program, call, _later):
-    """A call on expressions of each form, as deep as the README states, and of two layers."""
+    """A call on expressions of each form, as deep as docs/PROMISES.md states, and of two layers."""
     runs = [(form, depth) for form in FORMS for depth in (2, DEPTH)]
     failed = [(form, depth) for form, depth in runs if not bears(program, call, form, depth)]
     return len(runs), [f"{call} does not bear {form} {depth} deep" for form, depth in failed], {}
