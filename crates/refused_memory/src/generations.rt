@@ -142,15 +142,15 @@ const CHALLENGES: [u32; 8] = [5, 2, 5, 2, 5, 2, 5, 2];
 const FAULTY: [u32; 8] = [3, 2, 5, 2, 5, 2, 5, 2];
 
 /// Generation over a trace, with a fault and without.
-fn over_small<W: Write, F: Field + Debug>(
+fn over_small<W: Write>(
     alloc: Global,
     out: &mut W,
-    lookups: &[Lookup<F>],
-    main: &RowMajorMatrix<F>,
+    lookups: &[Lookup<F7>],
+    main: &RowMajorMatrix<F7>,
 ) -> Option<()> {
-    show_generated::<W, F, F>(alloc, out, main, lookups, &CHALLENGES)?;
-    show_generated::<W, F, F>(alloc, out, main, lookups, &FAULTY)?;
-    show_generated::<W, F, F>(alloc, out, main, &[], &CHALLENGES)?;
+    show_generated::<W, F7, F7>(alloc, out, main, lookups, &CHALLENGES)?;
+    show_generated::<W, F7, F7>(alloc, out, main, lookups, &FAULTY)?;
+    show_generated::<W, F7, F7>(alloc, out, main, &[], &CHALLENGES)?;
     state(out, "input of", "generation", main);
     state(out, "input of", "generation", &lookups);
     Some(())
@@ -166,12 +166,12 @@ pub fn generation<W: Write>(alloc: Global, out: &mut W) -> Option<()> {
 }
 
 /// Generation over two traces.
-fn over_both<W: Write, F: Field + Debug>(
+fn over_both<W: Write>(
     alloc: Global,
     out: &mut W,
-    lookups: &[Lookup<F>],
-    small: &RowMajorMatrix<F>,
-    unlawful: &RowMajorMatrix<F>,
+    lookups: &[Lookup<F7>],
+    small: &RowMajorMatrix<F7>,
+    unlawful: &RowMajorMatrix<F7>,
 ) -> Option<()> {
     over_small(alloc, out, lookups, small)?;
     over_small(alloc, out, lookups, unlawful)
