@@ -5,13 +5,15 @@ A line `CALL: ANSWER` is the same as with all memory, or is the call's refusal f
 
     input of    never changed
     before      what a builder or a list holds: all that was accepted so far, and no more; so is `after`
-    left by     what was asserted: after a refusal the first items of all of it
+    left by     what was asserted, as a list or within a builder: after a refusal the first items of all of it
     count of    after a refusal at most what it is else
     filled by   after a refusal an empty list
 """
 import os
+import re
 
 NEVER = "-"
+COUNT = re.compile(r"\bcount: (\d+)")
 NO_INPUT = "no input"
 STATES = ("before", "after", "left by", "count of", "filled by", "input of")
 
@@ -64,10 +66,38 @@ def items_of(value):
     return items + [item.strip()] if item.strip() else items
 
 
+def lists_of(value):
+    """A value as it is printed, with each of its lists left out, and these lists, each with its brackets."""
+    rest, lists, depth, quoted, escaped = "", [], 0, False, False
+    for letter in value:
+        if letter == "[" and not quoted:
+            lists += [""] * (depth == 0)
+            depth += 1
+        if depth:
+            lists[-1] += letter
+        else:
+            rest += letter
+        if quoted:
+            quoted, escaped = letter != '"' or escaped, letter == "\\" and not escaped
+        else:
+            quoted = letter == '"'
+            depth -= letter == "]" and depth > 0
+            rest += "[]" * (letter == "]" and depth == 0)
+    return rest, lists
+
+
 def begins(value, whole):
-    """Whether a list has the first items of another one, and no more."""
-    items, of_all = items_of(value), items_of(whole)
-    return items is not None and of_all is not None and items == of_all[: len(items)]
+    """Whether the lists of a value have the first items of those of another one, and no more: where one differs, each
+    that differs lacks as many, and a count of them does. Beside that it has to be the same."""
+    (rest, lists), (of_all, all_lists) = lists_of(value), lists_of(whole)
+    counts, all_counts = ([int(n) for n in COUNT.findall(it)] for it in (rest, of_all))
+    if COUNT.sub("", rest) != COUNT.sub("", of_all) or not lists:
+        return False
+    pairs = [(items_of(a), items_of(b)) for a, b in zip(lists, all_lists) if a != b]
+    if any(a is None or b is None or a != b[: len(a)] for a, b in pairs):
+        return False
+    lacking = {len(b) - len(a) for a, b in pairs} or {0}
+    return len(lacking | {b - a for a, b in zip(counts, all_counts)}) == 1
 
 
 class Judge:
@@ -129,6 +159,8 @@ AMPLE = [
     'left by c: [Add(1, "],"), 23]',
     "d: Ok(3)",
     "input of it: 7",
+    "e: Ok(())",
+    "left by e: B { width: 3, of: [4, [5]], at: L { base: [0, 1], ext: [] }, count: 2 }",
 ]
 JUDGED = [
     ({}, 0),
@@ -151,12 +183,19 @@ JUDGED = [
     ({10: "d: no input"}, 0),
     ({11: "input of it: 8"}, 1),
     ({10: "e: Ok(3)"}, 1),
+    ({12: "e: Err(Memory)", 13: "left by e: B { width: 3, of: [], at: L { base: [], ext: [] }, count: 0 }"}, 0),
+    ({12: "e: Err(Memory)", 13: "left by e: B { width: 3, of: [4], at: L { base: [0], ext: [] }, count: 1 }"}, 0),
+    ({12: "e: Err(Memory)", 13: "left by e: B { width: 3, of: [4], at: L { base: [], ext: [] }, count: 1 }"}, 1),
+    ({12: "e: Err(Memory)", 13: "left by e: B { width: 3, of: [4], at: L { base: [1], ext: [] }, count: 1 }"}, 1),
+    ({12: "e: Err(Memory)", 13: "left by e: B { width: 3, of: [4], at: L { base: [0], ext: [] }, count: 2 }"}, 1),
+    ({12: "e: Err(Memory)", 13: "left by e: B { width: 2, of: [4], at: L { base: [0], ext: [] }, count: 1 }"}, 1),
+    ({13: "left by e: B { width: 3, of: [4], at: L { base: [0], ext: [] }, count: 1 }"}, 1),
 ]
 
 
 def judge_itself():
     """Whether the judge finds as many faults in lines as there are."""
-    refusals = {"a": "Err(Memory)", "b": "Err(Memory)", "c": "Err(Memory)", "d": NEVER}
+    refusals = {"a": "Err(Memory)", "b": "Err(Memory)", "c": "Err(Memory)", "d": NEVER, "e": "Err(Memory)"}
     judge, wrong = Judge(AMPLE, refusals), []
     for changes, wanted in JUDGED:
         found = list(judge.faults([changes.get(place, line) for place, line in enumerate(AMPLE)], []))
