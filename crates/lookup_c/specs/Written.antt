@@ -48,13 +48,13 @@ pub record HasTableRoom (sizes room : TableSizes) : Type 0 where
   pub names : sizes.names ≤ room.names
   pub records : sizes.records ≤ room.records
 
--- the refusal of an array that is too short
+-- the refusal of the first array that is too short: of nodes, tuples, names and records, in this order
 abbrev pub IsTableRoomRefusal : TableSizes → TableSizes → Fault → Type 0
 IsTableRoomRefusal sizes room fault =
     ((room.nodes < sizes.nodes) × (fault ≡ Length Nodes sizes.nodes room.nodes))
-    ⊎ (((room.tuples < sizes.tuples) × (fault ≡ Length Tuples sizes.tuples room.tuples))
-    ⊎ (((room.names < sizes.names) × (fault ≡ Length Names sizes.names room.names))
-    ⊎ ((room.records < sizes.records) × (fault ≡ Length Records sizes.records room.records))))
+    ⊎ ((sizes.nodes ≤ room.nodes) × (((room.tuples < sizes.tuples) × (fault ≡ Length Tuples sizes.tuples room.tuples))
+    ⊎ ((sizes.tuples ≤ room.tuples) × (((room.names < sizes.names) × (fault ≡ Length Names sizes.names room.names))
+    ⊎ ((sizes.names ≤ room.names) × (room.records < sizes.records) × (fault ≡ Length Records sizes.records room.records))))))
 
 -- the refusal of lookups that are to be written: that no tables say one, or that there is no room for them
 abbrev pub IsWritingRefusal : List (Lookup BabyBear) → TableSizes → Fault → Type 0

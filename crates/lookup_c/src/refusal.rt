@@ -202,7 +202,7 @@ fn refusal_of(fault: &Fault) -> Refusal
         Fault::Misfit { air } => placed(6, 0, *air, 0, 0, 0, 0),
         Fault::Heights { air } => placed(7, 2, *air, 0, 0, 0, 0),
         Fault::Lookup { air, error } => lookup_refusal(*air, error),
-        Fault::Mismatch { text: _ } => placed(26, 0, 0, 0, 0, 0, 0),
+        Fault::Mismatch { .. } => placed(26, 0, 0, 0, 0, 0, 0),
         Fault::Batch(error) => batch_refusal(error),
     }
 }
