@@ -480,6 +480,8 @@ static void check_proving(void)
     make_bus(&it);
     it.terminals_length = 1;
     check_unproved(&it, "one terminal", VOLGWAIN_BAD_LENGTH, VOLGWAIN_PART_TERMINALS, 0, 0, 0, 2, 1);
+    it.auxiliary_length = 7;
+    check_unproved(&it, "cells before terminals", VOLGWAIN_BAD_LENGTH, VOLGWAIN_PART_AUXILIARY, 0, 0, 0, 8, 7);
 }
 
 /* AIR by AIR, with the prefix of the one id and beta, the same is generated */
@@ -972,6 +974,12 @@ static void check_packing(void)
     make_pack(&it);
     it.lengths[3] = 2;
     check_unpacked(&it, "room for two records", VOLGWAIN_BAD_LENGTH, VOLGWAIN_PART_RECORDS, 0, 3, 2);
+    it.lengths[2] = 0;
+    check_unpacked(&it, "names before records", VOLGWAIN_BAD_LENGTH, VOLGWAIN_PART_NAMES, 0, 2, 0);
+    it.lengths[1] = 0;
+    check_unpacked(&it, "tuples before names", VOLGWAIN_BAD_LENGTH, VOLGWAIN_PART_TUPLES, 0, 4, 0);
+    it.lengths[0] = 0;
+    check_unpacked(&it, "nodes before tuples", VOLGWAIN_BAD_LENGTH, VOLGWAIN_PART_NODES, 0, 9, 0);
     make_pack(&it);
     it.records[2].kind = 2;
     check_unpacked(&it, "no kind of bus", VOLGWAIN_BAD_TABLE, 4, 2, 0, 0);

@@ -5,15 +5,13 @@ A line `CALL: ANSWER` is the same as with all memory, or is the call's refusal f
 
     input of    never changed
     before      what a builder or a list holds: all that was accepted so far, and no more; so is `after`
-    left by     what was asserted, as a list or within a builder: after a refusal the first items of all of it
+    left by     lists of what was asserted: after a refusal their first items
     count of    after a refusal at most what it is else
     filled by   after a refusal an empty list
 """
 import os
-import re
 
 NEVER = "-"
-COUNT = re.compile(r"\bcount: (\d+)")
 NO_INPUT = "no input"
 STATES = ("before", "after", "left by", "count of", "filled by", "input of")
 
@@ -74,35 +72,10 @@ def items_of(value):
     return items + [item.strip()] if item.strip() else items
 
 
-def lists_of(value):
-    """A value as it is printed, with each of its lists left out, and these lists, each with its brackets."""
-    rest, lists, depth = "", [], 0
-    for letter, is_quoted in letters_of(value):
-        if letter == "[" and not is_quoted:
-            lists += [""] * (depth == 0)
-            depth += 1
-        if depth:
-            lists[-1] += letter
-        else:
-            rest += letter
-        if letter == "]" and not is_quoted and depth:
-            depth -= 1
-            rest += "[]" * (depth == 0)
-    return rest, lists
-
-
 def begins(value, whole):
-    """Whether the lists of a value have the first items of those of another one, and no more: where one differs, each
-    that differs lacks as many, and a count of them does. Beside that it has to be the same."""
-    (rest, lists), (of_all, all_lists) = lists_of(value), lists_of(whole)
-    counts, all_counts = ([int(n) for n in COUNT.findall(it)] for it in (rest, of_all))
-    if COUNT.sub("", rest) != COUNT.sub("", of_all) or not lists:
-        return False
-    pairs = [(items_of(a), items_of(b)) for a, b in zip(lists, all_lists) if a != b]
-    if any(a is None or b is None or a != b[: len(a)] for a, b in pairs):
-        return False
-    lacking = {len(b) - len(a) for a, b in pairs} or {0}
-    return len(lacking | {b - a for a, b in zip(counts, all_counts)}) == 1
+    """Whether a list has the first items of another one, and no more."""
+    items, of_all = items_of(value), items_of(whole)
+    return items is not None and of_all is not None and items == of_all[: len(items)]
 
 
 class Judge:
@@ -162,10 +135,9 @@ AMPLE = [
     "after b: [1, 2]",
     "c: Ok(())",
     'left by c: [Add(1, "],"), 23]',
+    "left by c: [0, 1]",
     "d: Ok(3)",
     "input of it: 7",
-    "e: Ok(())",
-    "left by e: B { width: 3, of: [4, [5]], at: L { base: [0, 1], ext: [] }, count: 2 }",
 ]
 JUDGED = [
     ({}, 0),
@@ -183,24 +155,20 @@ JUDGED = [
     ({8: "c: Err(Memory)", 9: "left by c: [Add(1)]"}, 1),
     ({8: "c: Err(Memory)", 9: "left by c: ["}, 1),
     ({8: "c: Err(Memory)", 9: "left by c: [23]"}, 1),
+    ({8: "c: Err(Memory)", 9: "left by c: []", 10: "left by c: []"}, 0),
+    ({8: "c: Err(Memory)", 10: "left by c: [1]"}, 1),
+    ({10: "left by c: [0]"}, 1),
     ({9: 'left by c: [Add(1, "],")]'}, 1),
-    ({10: "d: Err(Memory)"}, 1),
-    ({10: "d: no input"}, 0),
-    ({11: "input of it: 8"}, 1),
-    ({10: "e: Ok(3)"}, 1),
-    ({12: "e: Err(Memory)", 13: "left by e: B { width: 3, of: [], at: L { base: [], ext: [] }, count: 0 }"}, 0),
-    ({12: "e: Err(Memory)", 13: "left by e: B { width: 3, of: [4], at: L { base: [0], ext: [] }, count: 1 }"}, 0),
-    ({12: "e: Err(Memory)", 13: "left by e: B { width: 3, of: [4], at: L { base: [], ext: [] }, count: 1 }"}, 1),
-    ({12: "e: Err(Memory)", 13: "left by e: B { width: 3, of: [4], at: L { base: [1], ext: [] }, count: 1 }"}, 1),
-    ({12: "e: Err(Memory)", 13: "left by e: B { width: 3, of: [4], at: L { base: [0], ext: [] }, count: 2 }"}, 1),
-    ({12: "e: Err(Memory)", 13: "left by e: B { width: 2, of: [4], at: L { base: [0], ext: [] }, count: 1 }"}, 1),
-    ({13: "left by e: B { width: 3, of: [4], at: L { base: [0], ext: [] }, count: 1 }"}, 1),
+    ({11: "d: Err(Memory)"}, 1),
+    ({11: "d: no input"}, 0),
+    ({12: "input of it: 8"}, 1),
+    ({11: "e: Ok(3)"}, 1),
 ]
 
 
 def judge_itself():
     """Whether the judge finds as many faults in lines as there are."""
-    refusals = {"a": "Err(Memory)", "b": "Err(Memory)", "c": "Err(Memory)", "d": NEVER, "e": "Err(Memory)"}
+    refusals = {"a": "Err(Memory)", "b": "Err(Memory)", "c": "Err(Memory)", "d": NEVER}
     judge, wrong = Judge(AMPLE, refusals), []
     for changes, wanted in JUDGED:
         found = list(judge.faults([changes.get(place, line) for place, line in enumerate(AMPLE)], []))

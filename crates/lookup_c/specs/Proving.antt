@@ -44,12 +44,12 @@ pub record HasRoom (w : Witness (Quartic BabyBear)) (cells terminals : ℕ) : Ty
   pub cells_are : length (witness_cells w) ≡ cells
   pub terminals_are : length w.terminals.items ≡ terminals
 
--- there is not; or the cells cannot be counted
+-- there is not, and the cells are counted first; or they cannot be counted
 abbrev pub IsRoomRefusal : Witness (Quartic BabyBear) → ℕ → ℕ → Fault → Type 0
 IsRoomRefusal w cells terminals fault =
     (fault ≡ Memory)
     ⊎ (((length (witness_cells w) ≢ cells) × (fault ≡ Length Auxiliary (length (witness_cells w)) cells))
-    ⊎ ((length w.terminals.items ≢ terminals) × (fault ≡ Length Terminals (length w.terminals.items) terminals)))
+    ⊎ ((length (witness_cells w) ≡ cells) × (length w.terminals.items ≢ terminals) × (fault ≡ Length Terminals (length w.terminals.items) terminals)))
 
 module _ (E : Extension BabyBear (Quartic BabyBear)) (airs : List Air) (traces : List Traces) (alpha beta : List ℕ) where
   -- The witness of the plan of the AIRs over the traces, all as the tables say them.

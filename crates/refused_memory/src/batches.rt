@@ -6,19 +6,19 @@ ghost use Rattle.lookup_model.specs.Records.{LookupsFit};
 ghost use Rattle.matrix.specs.Matrix.{height};
 
 use crate::inputs::{BALANCED, LOCAL, LOOKUPS, ON_A_BUS, UNBALANCED, lookups_of, trace};
-use crate::show::{show, show_or_no_input, state};
+use crate::show::{Out, show, show_or_no_input, state};
 use air::AirLayout;
 use checker::{
     BatchFault, BatchInstance, SoundnessCount, Witness, check_witness, generate_batch,
     ids_are_kept, ids_are_lawful, instances_fit, some_witness, soundness_count,
 };
-use field::{F7, Field};
+use field::Field;
 use lookup::debug_util::{LookupDebugInstance, LookupFault, check_lookups};
 use lookup::{Challenges, Lookup, LookupError, fits};
 use matrix::RowMajorMatrix;
+use serde::DeserializeOwned;
 use std::alloc::{AllocError, Global};
 use std::fmt::Debug;
-use std::io::Write;
 
 /// An AIR of a batch without preprocessed trace or public values.
 fn instance<'a, F: Field>(
@@ -126,9 +126,9 @@ fn count_lawful<F: Field>(
 }
 
 /// Calls over a batch.
-fn on_batch<W: Write, F: Field + Debug>(
+fn on_batch<F: Field + Debug>(
     alloc: Global,
-    out: &mut W,
+    out: &mut Out,
     instances: &[BatchInstance<'_, F>],
     table: &Challenges<F>,
 ) {
@@ -171,9 +171,9 @@ pub fn check_alone<F: Field>(
 }
 
 /// The calls that make and that check the witness of a batch, at a table at which it is accepted or not.
-fn on_witness<W: Write, F: Field + Debug>(
+fn on_witness<F: Field + Debug>(
     alloc: Global,
-    out: &mut W,
+    out: &mut Out,
     instances: &[BatchInstance<'_, F>],
     table: &Challenges<F>,
 ) -> Option<()> {
@@ -193,9 +193,9 @@ fn table<F: Field>(alloc: Global, alpha: u32) -> Option<Challenges<F>> {
 }
 
 /// Calls over a batch of two AIRs whose messages balance.
-fn on_balanced<W: Write, F: Field + Debug>(
+fn on_balanced<F: Field + Debug>(
     alloc: Global,
-    out: &mut W,
+    out: &mut Out,
     lookups: &[Lookup<F>],
     even: &RowMajorMatrix<F>,
     odd: &RowMajorMatrix<F>,
@@ -209,9 +209,9 @@ fn on_balanced<W: Write, F: Field + Debug>(
 }
 
 /// Calls over a batch whose messages don't balance, at alpha 5, or at alpha 1, where a denominator vanishes.
-fn on_unbalanced<W: Write, F: Field + Debug>(
+fn on_unbalanced<F: Field + Debug>(
     alloc: Global,
-    out: &mut W,
+    out: &mut Out,
     lookups: &[Lookup<F>],
     odd: &RowMajorMatrix<F>,
     alpha: u32,
@@ -227,9 +227,9 @@ fn on_unbalanced<W: Write, F: Field + Debug>(
 }
 
 /// The calls of batches, over messages that balance and over messages that do not.
-pub fn batch<W: Write>(alloc: Global, out: &mut W) -> Option<()> {
+pub fn batch<F: Field + Debug + DeserializeOwned>(alloc: Global, out: &mut Out) -> Option<()> {
     let (even, odd) = (trace(alloc, &BALANCED, 3)?, trace(alloc, &UNBALANCED, 3)?);
-    let lookups: Vec<Lookup<F7>> = lookups_of(alloc, LOOKUPS)?;
+    let lookups: Vec<Lookup<F>> = lookups_of(alloc, LOOKUPS)?;
     let lookups = lookups.as_slice();
     on_balanced(alloc, out, lookups, &even, &odd)?;
     on_unbalanced(alloc, out, lookups, &odd, 5)?;
@@ -325,9 +325,9 @@ fn fault_of_two<F: Field>(
 }
 
 /// The debug check over the traces of AIRs.
-fn on_debug<W: Write, F: Field + Debug>(
+fn on_debug<F: Field + Debug>(
     alloc: Global,
-    out: &mut W,
+    out: &mut Out,
     local: &[Lookup<F>],
     on_a_bus: &[Lookup<F>],
     even: &RowMajorMatrix<F>,
@@ -342,9 +342,9 @@ fn on_debug<W: Write, F: Field + Debug>(
 }
 
 /// The text of a mismatch, twice.
-fn mismatch<W: Write, F: Field>(
+fn mismatch<F: Field>(
     alloc: Global,
-    out: &mut W,
+    out: &mut Out,
     main: &RowMajorMatrix<F>,
     lookups: &[Lookup<F>],
 ) -> Option<()> {
@@ -358,10 +358,10 @@ fn mismatch<W: Write, F: Field>(
 }
 
 /// The calls of the debug check, and the texts of a mismatch.
-pub fn debug<W: Write>(alloc: Global, out: &mut W) -> Option<()> {
+pub fn debug<F: Field + Debug + DeserializeOwned>(alloc: Global, out: &mut Out) -> Option<()> {
     let (even, odd) = (trace(alloc, &BALANCED, 3)?, trace(alloc, &UNBALANCED, 3)?);
-    let local: Vec<Lookup<F7>> = lookups_of(alloc, LOCAL)?;
-    let on_a_bus: Vec<Lookup<F7>> = lookups_of(alloc, ON_A_BUS)?;
+    let local: Vec<Lookup<F>> = lookups_of(alloc, LOCAL)?;
+    let on_a_bus: Vec<Lookup<F>> = lookups_of(alloc, ON_A_BUS)?;
     let (local, on_a_bus) = (local.as_slice(), on_a_bus.as_slice());
     on_debug(alloc, out, local, on_a_bus, &even, &odd);
     on_debug(alloc, out, local, on_a_bus, &even, &odd);

@@ -1,19 +1,34 @@
 //! Calls of AIR builders, and what they leave of a builder.
 use crate::each_record::{EachRecord, push};
-use crate::inputs::{builder, layout, recorder};
-use crate::show::{show, state};
+use crate::inputs::{Builder, Fresh, layout};
+use crate::show::{Out, show, state};
 use air::{
-    AirBuilder, AirError, ExtensionBuilder, PermutationAirBuilder, SymbolicAirBuilder,
-    current_cell, current_cells, next_cell,
+    AirBuilder, AirError, ExtensionBuilder, PermutationAirBuilder, current_cell, current_cells,
+    next_cell,
 };
 use field::Field;
 use lookup::{IndexedLookupBuilder, InteractionBuilder};
 use std::alloc::Global;
 use std::fmt::Debug;
-use std::io::Write;
+
+/// A builder that keeps its assertions.
+pub trait ShowAsserted {
+    /// Writes lists of those over the field and of where each stands among all, and the same over the extension.
+    fn show_asserted(&self, out: &mut Out, call: &str);
+}
+
+impl<F: Field + Debug> ShowAsserted for Builder<F> {
+    fn show_asserted(&self, out: &mut Out, call: &str) {
+        let places = self.constraint_layout();
+        state(out, "left by", call, &self.base_constraints());
+        state(out, "left by", call, &places.base_indices);
+        state(out, "left by", call, &self.extension_constraints());
+        state(out, "left by", call, &places.ext_indices);
+    }
+}
 
 /// Calls that read a builder.
-fn read_builder<W: Write, AB: PermutationAirBuilder>(alloc: Global, out: &mut W, builder: &AB)
+fn read_builder<AB: PermutationAirBuilder>(alloc: Global, out: &mut Out, builder: &AB)
 where
     AB::Expr: Debug,
     AB::MainWindow: Debug,
@@ -27,28 +42,12 @@ where
     show(out, "current_cells", cells);
 }
 
-/// The call that makes a builder, and the check of a layout.
-fn make_builder<W: Write, F: Field + Debug>(alloc: Global, out: &mut W) {
-    show(
-        out,
-        "SymbolicAirBuilder::new",
-        SymbolicAirBuilder::<F, F>::new(alloc, layout()),
-    );
-    let answer = layout().validate_against_air::<F, EachRecord>(&EachRecord);
+/// The call that makes a builder, which for the one that keeps assertions is `SymbolicAirBuilder::new`, and the
+/// check of a layout.
+fn make_builder<AB: AirBuilder + Fresh + Debug>(alloc: Global, out: &mut Out) {
+    show(out, "SymbolicAirBuilder::new", AB::fresh(alloc));
+    let answer = layout().validate_against_air::<AB::F, EachRecord>(&EachRecord);
     show(out, "validate_against_air", answer);
-}
-
-/// The assertions, by number.
-const ASSERTIONS: [&str; 3] = [
-    "assert_zero",
-    "assert_zero_ext",
-    "assert_zero on the first row",
-];
-
-/// Asserts a cell on the first row. One filter stands for all three, which differ by their condition alone.
-fn assert_on_first_row<AB: AirBuilder>(alloc: Global, builder: &mut AB) -> Result<(), AirError> {
-    let x = current_cell(alloc, &*builder, 3, 0)?;
-    builder.when_first_row().assert_zero(alloc, x)
 }
 
 /// Asserts a cell.
@@ -58,13 +57,23 @@ fn assert_cell<AB: AirBuilder>(alloc: Global, builder: &mut AB) -> Result<(), Ai
 }
 
 /// Asserts a cell over the extension.
-pub fn assert_ext_cell<AB: ExtensionBuilder>(
-    alloc: Global,
-    builder: &mut AB,
-) -> Result<(), AirError> {
+fn assert_ext_cell<AB: ExtensionBuilder>(alloc: Global, builder: &mut AB) -> Result<(), AirError> {
     let x = current_cell(alloc, &*builder, 3, 0)?;
     builder.assert_zero_ext(alloc, AB::lift(x))
 }
+
+/// Asserts a cell on the first row. One filter stands for all three, which differ by their condition alone.
+fn assert_on_first_row<AB: AirBuilder>(alloc: Global, builder: &mut AB) -> Result<(), AirError> {
+    let x = current_cell(alloc, &*builder, 3, 0)?;
+    builder.when_first_row().assert_zero(alloc, x)
+}
+
+/// The names of the assertions, by number.
+const ASSERTIONS: [&str; 3] = [
+    "assert_zero",
+    "assert_zero_ext",
+    "assert_zero on the first row",
+];
 
 /// Makes the assertion of this number.
 fn assert_by_number<AB: ExtensionBuilder>(
@@ -79,83 +88,74 @@ fn assert_by_number<AB: ExtensionBuilder>(
     }
 }
 
-/// An assertion, five times: the list of constraints grows at the first and at the fifth. Each with the builder
-/// before and after it.
-fn assert_five_times<W: Write, AB: ExtensionBuilder + Debug>(
+/// An assertion, five times: the list of constraints grows at the first and at the fifth. Each with the
+/// builder before and after it.
+fn assert_five_times<AB: ExtensionBuilder + Fresh + Debug>(
     alloc: Global,
-    out: &mut W,
-    builder: &mut AB,
+    out: &mut Out,
     call: usize,
     name: &str,
-) {
+) -> Option<()> {
+    let mut builder = AB::fresh(alloc).ok()?;
     for _ in 0..5 {
-        state(out, "before", name, builder);
-        show(out, name, assert_by_number(alloc, builder, call));
-        state(out, "after", name, builder);
+        state(out, "before", name, &builder);
+        show(out, name, assert_by_number(alloc, &mut builder, call));
+        state(out, "after", name, &builder);
     }
+    Some(())
 }
 
-/// Asserts that three cells are zero.
+/// Asserts that five cells are zero, two of them twice.
 fn assert_cells<AB: AirBuilder>(alloc: Global, builder: &mut AB) -> Result<(), AirError> {
-    let cells = current_cells(alloc, &*builder, 3, &[0, 1, 2])?;
+    let cells = current_cells(alloc, &*builder, 3, &[0, 1, 2, 0, 1])?;
     builder.assert_zeros(alloc, cells)
 }
 
 /// Assertions that stay where a later one is refused.
-fn assert_several<W: Write, AB: AirBuilder + Debug>(alloc: Global, out: &mut W, builder: &mut AB) {
-    let name = "assert_zeros";
-    show(out, name, assert_cells(alloc, builder));
-    state(out, "left by", name, builder);
+fn assert_several<AB: AirBuilder + Fresh + ShowAsserted>(
+    alloc: Global,
+    out: &mut Out,
+) -> Option<()> {
+    let mut builder = AB::fresh(alloc).ok()?;
+    show(out, "assert_zeros", assert_cells(alloc, &mut builder));
+    builder.show_asserted(out, "assert_zeros");
+    Some(())
 }
 
-/// How often a builder is made: for each assertion, twice for several at once, and to be read.
-const BUILDERS: usize = 6;
-
-/// The calls on the builder of this number.
-fn on_builder<W: Write, AB: PermutationAirBuilder + Debug>(
-    alloc: Global,
-    out: &mut W,
-    builder: &mut AB,
-    number: usize,
-)
+/// Calls that read a builder, twice.
+fn read_twice<AB: PermutationAirBuilder + Fresh>(alloc: Global, out: &mut Out) -> Option<()>
 where
     AB::Expr: Debug,
     AB::MainWindow: Debug,
     AB::MP: Debug,
 {
-    match number {
-        0..3 => assert_five_times(alloc, out, builder, number, ASSERTIONS[number % 3]),
-        3..5 => assert_several(alloc, out, builder),
-        _ => {
-            read_builder(alloc, out, &*builder);
-            read_builder(alloc, out, &*builder);
-        }
-    }
-}
-
-/// The same on a builder of its own. Only here a given builder goes to code over any builder.
-fn with_builder<W: Write, F: Field + Debug>(
-    alloc: Global,
-    out: &mut W,
-    number: usize,
-) -> Option<()> {
-    let mut builder = builder::<F>(alloc)?;
-    on_builder(alloc, out, &mut builder, number);
-    drop(builder);
+    let builder = AB::fresh(alloc).ok()?;
+    read_builder(alloc, out, &builder);
+    read_builder(alloc, out, &builder);
     Some(())
 }
 
 /// The calls that make, read and fill a builder.
-pub fn builders<W: Write, F: Field + Debug>(alloc: Global, out: &mut W) -> Option<()> {
-    make_builder::<W, F>(alloc, out);
-    make_builder::<W, F>(alloc, out);
-    for number in 0..BUILDERS {
-        with_builder::<W, F>(alloc, out, number)?;
+pub fn builders<AB: PermutationAirBuilder + Fresh + ShowAsserted + Debug>(
+    alloc: Global,
+    out: &mut Out,
+) -> Option<()>
+where
+    AB::Expr: Debug,
+    AB::MainWindow: Debug,
+    AB::MP: Debug,
+{
+    for _ in 0..2 {
+        make_builder::<AB>(alloc, out);
+        assert_several::<AB>(alloc, out)?;
     }
-    Some(())
+    for call in 0..3usize {
+        assert_five_times::<AB>(alloc, out, call, ASSERTIONS[call])?;
+    }
+    read_twice::<AB>(alloc, out)
 }
 
-/// The pushes and the calls of buses, by number.
+/// The names of the pushes and of the calls of buses, by number.
 const PUSHES: [&str; 10] = [
     "push_interaction",
     "push_local_interaction",
@@ -170,36 +170,28 @@ const PUSHES: [&str; 10] = [
 ];
 
 /// A push, five times, each with the builder before and after it.
-fn push_five_times<W: Write, AB: InteractionBuilder + IndexedLookupBuilder + Debug>(
+fn push_five_times<AB: InteractionBuilder + IndexedLookupBuilder + Fresh + Debug>(
     alloc: Global,
-    out: &mut W,
-    builder: &mut AB,
+    out: &mut Out,
     call: usize,
     name: &str,
-) {
-    for _ in 0..5 {
-        state(out, "before", name, builder);
-        show(out, name, push(alloc, builder, call));
-        state(out, "after", name, builder);
-    }
-}
-
-/// A push on a recorder of its own.
-fn push_on_recorder<W: Write, F: Field + Debug>(
-    alloc: Global,
-    out: &mut W,
-    call: usize,
 ) -> Option<()> {
-    let mut builder = recorder::<F>(alloc)?;
-    push_five_times(alloc, out, &mut builder, call, PUSHES[call % 10]);
-    drop(builder);
+    let mut builder = AB::fresh(alloc).ok()?;
+    for _ in 0..5 {
+        state(out, "before", name, &builder);
+        show(out, name, push(alloc, &mut builder, call));
+        state(out, "after", name, &builder);
+    }
     Some(())
 }
 
-/// All pushes and calls of buses.
-pub fn pushes<W: Write, F: Field + Debug>(alloc: Global, out: &mut W) -> Option<()> {
+/// All pushes and calls of buses, each on a builder of its own.
+pub fn pushes<AB: InteractionBuilder + IndexedLookupBuilder + Fresh + Debug>(
+    alloc: Global,
+    out: &mut Out,
+) -> Option<()> {
     for call in 0..10usize {
-        push_on_recorder::<W, F>(alloc, out, call)?;
+        push_five_times::<AB>(alloc, out, call, PUSHES[call])?;
     }
     Some(())
 }

@@ -1,15 +1,15 @@
 //! Deep expressions: one call on an expression of a given form and depth, by name.
 //!
-//! An expression is the constant 3 under layers of one form: a negation, or a sum, difference or product whose other
-//! operand, on the left or on the right, is a constant that changes nothing.
+//! An expression is the constant 3 under layers of one form: a negation, or a sum, difference or product
+//! whose other operand, on the left or on the right, is a constant that changes nothing.
 use crate::batches::{check_alone, fault_of, text_of};
 use crate::generations::{generate_fitting, outline};
 use crate::inputs::{BALANCED, elements, layout, trace};
-use crate::show::{show, show_or_no_input};
+use crate::show::{Out, show, show_or_no_input};
 use crate::texts::written;
 use crate::trees::resolve;
 use air::{Expression, SymbolicExpression, SymbolicExpressionExt};
-use field::{F7, Field};
+use field::Field;
 use lookup::{Kind, Lookup};
 use matrix::RowMajorMatrix;
 use serde::Serialize;
@@ -88,7 +88,8 @@ fn operand<F: Field>(tree: SymbolicExpression<F>, on_the_right: bool) -> Symboli
     }
 }
 
-/// Takes an expression apart from its root on, without recursion. Returns whether it has exactly so many layers.
+/// Takes an expression apart from its root on, without recursion. Returns whether it has exactly so many
+/// layers.
 fn take_apart<F: Field>(tree: SymbolicExpression<F>, form: &str, depth: usize) -> bool {
     let on_the_right = form.ends_with("right");
     let mut left = tree;
@@ -127,9 +128,9 @@ fn take_ext_apart<F: Field>(tree: SymbolicExpressionExt<F, F>, form: &str, depth
 }
 
 /// Makes a call on an expression.
-fn on_tree<W: Write, F: Field + Debug + Serialize>(
+fn on_tree<F: Field + Debug + Serialize>(
     alloc: Global,
-    out: &mut W,
+    out: &mut Out,
     call: &str,
     form: &str,
     tree: &SymbolicExpression<F>,
@@ -154,9 +155,9 @@ fn on_tree<W: Write, F: Field + Debug + Serialize>(
 }
 
 /// Makes a call on an expression over the extension.
-fn on_ext_tree<W: Write, F: Field + Debug>(
+fn on_ext_tree<F: Field + Debug>(
     alloc: Global,
-    out: &mut W,
+    out: &mut Out,
     call: &str,
     form: &str,
     tree: &SymbolicExpressionExt<F, F>,
@@ -197,9 +198,9 @@ fn lookup_of<F: Field>(alloc: Global, tree: SymbolicExpression<F>) -> Option<Loo
 }
 
 /// Makes a call on the lookup of an expression.
-fn on_lookup<W: Write, F: Field + Debug>(
+fn on_lookup<F: Field + Debug>(
     alloc: Global,
-    out: &mut W,
+    out: &mut Out,
     call: &str,
     lookups: &[Lookup<F>],
 ) -> Option<()> {
@@ -220,9 +221,9 @@ fn on_lookup<W: Write, F: Field + Debug>(
 }
 
 /// The height and the terminal that generation gives.
-fn generate_deep<W: Write, F: Field + Debug>(
+fn generate_deep<F: Field + Debug>(
     alloc: Global,
-    out: &mut W,
+    out: &mut Out,
     main: &RowMajorMatrix<F>,
     lookups: &[Lookup<F>],
 ) -> Option<()> {
@@ -240,9 +241,9 @@ fn take_tuple_apart<F: Field>(tuple: Vec<SymbolicExpression<F>>, form: &str, dep
 }
 
 /// Makes a call on the lookup of an expression, and takes it apart.
-fn deep_in_lookup<W: Write, F: Field + Debug>(
+fn deep_in_lookup<F: Field + Debug>(
     alloc: Global,
-    out: &mut W,
+    out: &mut Out,
     call: &str,
     form: &str,
     depth: usize,
@@ -258,26 +259,26 @@ fn deep_in_lookup<W: Write, F: Field + Debug>(
 }
 
 /// Makes the call of this name on an expression of this form and depth.
-pub fn deep<W: Write>(
+pub fn deep<F: Field + Debug + Serialize>(
     alloc: Global,
-    out: &mut W,
+    out: &mut Out,
     call: &str,
     form: &str,
     depth: usize,
 ) -> Option<()> {
     if call.ends_with("ext") {
-        return deep_over_ext::<W, F7>(alloc, out, call, form, depth);
+        return deep_over_ext::<F>(alloc, out, call, form, depth);
     }
     if call.starts_with("generate") || call.starts_with("check") {
-        return deep_in_lookup::<W, F7>(alloc, out, call, form, depth);
+        return deep_in_lookup::<F>(alloc, out, call, form, depth);
     }
-    deep_alone::<W, F7>(alloc, out, call, form, depth)
+    deep_alone::<F>(alloc, out, call, form, depth)
 }
 
 /// A call on an expression by itself.
-fn deep_alone<W: Write, F: Field + Debug + Serialize>(
+fn deep_alone<F: Field + Debug + Serialize>(
     alloc: Global,
-    out: &mut W,
+    out: &mut Out,
     call: &str,
     form: &str,
     depth: usize,
@@ -294,9 +295,9 @@ fn deep_alone<W: Write, F: Field + Debug + Serialize>(
 }
 
 /// The same over the extension.
-fn deep_over_ext<W: Write, F: Field + Debug>(
+fn deep_over_ext<F: Field + Debug>(
     alloc: Global,
-    out: &mut W,
+    out: &mut Out,
     call: &str,
     form: &str,
     depth: usize,

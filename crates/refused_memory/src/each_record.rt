@@ -1,7 +1,9 @@
-//! Calls that push to a builder, and two AIRs: one that makes a record of each kind, and one that asserts alone.
+//! Calls that push to a builder, and two AIRs: one makes a record of each kind, and one only asserts.
 ghost use Rattle.std.specs.Prelude.{◌≡◌, OnOk};
 
-use air::{Air, AirBuilder, AirError, BaseAir, Expression, current_cell, current_cells};
+use air::{
+    Air, AirBuilder, AirError, BaseAir, Expression, ExtensionBuilder, current_cell, current_cells,
+};
 use lookup::{
     Count, IndexedLookupBuilder, InteractionBuilder, LookupBus, PermutationCheckBus, TraceWindow,
 };
@@ -115,7 +117,20 @@ fn assert_difference<AB: AirBuilder>(alloc: Global, builder: &mut AB) -> Result<
     builder.assert_zero(alloc, first.sub(alloc, zero)?)
 }
 
-/// Three columns. It asserts that a cell less itself is zero, and pushes one record of each kind.
+/// Asserts the same over the extension.
+fn assert_ext_difference<AB: ExtensionBuilder>(
+    alloc: Global,
+    builder: &mut AB,
+) -> Result<(), AirError>
+    ensures { OnOk result (AB.layout builder.new ≡ AB.layout builder.old) }
+{
+    let zero = current_cell(alloc, &*builder, 3, 0)?;
+    let first = zero.copy(alloc)?;
+    builder.assert_zero_ext(alloc, AB::lift(first.sub(alloc, zero)?))
+}
+
+/// Three columns. It asserts that a cell less itself is zero, over the extension as well, and pushes one
+/// record of each kind.
 pub struct EachRecord;
 
 impl<F> BaseAir<F> for EachRecord {
@@ -138,11 +153,12 @@ impl<F> BaseAir<F> for EachRecord {
     }
 }
 
-impl<AB: InteractionBuilder + IndexedLookupBuilder> Air<AB> for EachRecord {
+impl<AB: InteractionBuilder + IndexedLookupBuilder + ExtensionBuilder> Air<AB> for EachRecord {
     ghost evaluates = { λ _ before answer after. OnOk answer (AB.layout after ≡ AB.layout before) };
 
     fn eval(&self, alloc: Global, builder: &mut AB) -> Result<(), AirError> {
         assert_difference(alloc, builder)?;
+        assert_ext_difference(alloc, builder)?;
         push_local(alloc, builder)?;
         push_group(alloc, builder)?;
         call_bus(alloc, builder, 6)?;

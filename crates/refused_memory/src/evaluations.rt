@@ -5,22 +5,20 @@ ghost use Rattle.air.specs.Row.{HeightFits, OptionHeightFits};
 ghost use Rattle.lookup_model.specs.Records.{LookupsFit};
 ghost use Rattle.matrix.specs.Matrix.{height};
 
+use crate::builders::ShowAsserted;
 use crate::each_record::{EachRecord, OneAssertion};
-use crate::inputs::{BALANCED, LOCAL, LOOKUPS, builder, lookups_of, trace};
+use crate::inputs::{BALANCED, Fresh, LOCAL, LOOKUPS, lookups_of, trace};
 use crate::layouts::{has_room, layout_of};
-use crate::show::{show, state};
+use crate::show::{Out, show, state};
 use air::{AirError, Expression, PermutationAirBuilder, RowInputs, check_rows};
-use field::{F7, Field, PrimeCharacteristicRing};
-use lookup::{
-    IndexedLookupBuilder, InteractionBuilder, InteractionSymbolicBuilder, LogUpGadget, Lookup,
-    LookupProtocol, has_equal_lengths,
-};
+use field::{F7, PrimeCharacteristicRing};
+use lookup::{LogUpGadget, Lookup, LookupProtocol, has_equal_lengths};
 use matrix::RowMajorMatrix;
+use serde::DeserializeOwned;
 use std::alloc::Global;
 use std::fmt::Debug;
-use std::io::Write;
 
-/// Whether each lookup has a cell beside the accumulator in so many.
+/// Whether a row of this many cells has one for each lookup besides the accumulator's.
 fn have_cells<F>(lookups: &[Lookup<F>], width: usize) -> bool
     ensures { IsTrue result ↔ All (λ lookup. lookup.column + 1 < width) lookups.now }
 {
@@ -113,19 +111,18 @@ fn evaluate_by_number<AB: PermutationAirBuilder>(
     }
 }
 
-/// Evaluation on a recorder, and what it leaves there.
-fn evaluate_on_builder<W: Write, F: Field + Debug>(
+/// The evaluation of this number on a builder of its own, and what it leaves there.
+fn evaluate_alone<AB: PermutationAirBuilder + Fresh + ShowAsserted>(
     alloc: Global,
-    out: &mut W,
-    lookups: &[Lookup<F>],
+    out: &mut Out,
+    lookups: &[Lookup<AB::F>],
     call: usize,
     name: &str,
 ) -> Option<()> {
-    let mut builder = builder::<F>(alloc)?;
+    let mut builder = AB::fresh(alloc).ok()?;
     let answer = evaluate_by_number(alloc, &mut builder, lookups, call);
     show(out, name, answer);
-    state(out, "left by", name, &builder.extension_constraints());
-    drop(builder);
+    builder.show_asserted(out, name);
     Some(())
 }
 
@@ -146,7 +143,7 @@ fn check_each_row<'a>(alloc: Global, inputs: &'a RowInputs<'a, F7, F7>) -> Resul
 }
 
 /// The row checker over a trace.
-fn show_checked<W: Write>(alloc: Global, out: &mut W, main: &RowMajorMatrix<F7>) {
+fn show_checked(alloc: Global, out: &mut Out, main: &RowMajorMatrix<F7>) {
     let inputs: RowInputs<'_, F7, F7> = RowInputs {
         main,
         preprocessed: no_preprocessed(main),
@@ -158,23 +155,26 @@ fn show_checked<W: Write>(alloc: Global, out: &mut W, main: &RowMajorMatrix<F7>)
     show(out, "check_rows", check_each_row(alloc, &inputs));
 }
 
-/// Evaluations of lookups, the second of one lookup alone.
-fn evaluate<W: Write, F: Field + Debug>(
+/// Evaluations of lookups, the last of one lookup alone.
+fn evaluate<AB: PermutationAirBuilder + Fresh + ShowAsserted>(
     alloc: Global,
-    out: &mut W,
-    lookups: &[Lookup<F>],
-    local: &[Lookup<F>],
-) -> Option<()> {
-    evaluate_on_builder(alloc, out, lookups, 0, "eval_all")?;
-    evaluate_on_builder(alloc, out, lookups, 1, "eval_accumulator")?;
-    evaluate_on_builder(alloc, out, lookups, 2, "eval_air_and_lookups")?;
-    evaluate_on_builder(alloc, out, local, 3, "eval_fraction")?;
-    state(out, "input of", "evaluation", &lookups);
+    out: &mut Out,
+    lookups: &[Lookup<AB::F>],
+    local: &[Lookup<AB::F>],
+) -> Option<()>
+where
+    AB::F: Debug,
+{
+    evaluate_alone::<AB>(alloc, out, lookups, 0, "eval_all")?;
+    evaluate_alone::<AB>(alloc, out, lookups, 1, "eval_accumulator")?;
+    evaluate_alone::<AB>(alloc, out, lookups, 2, "eval_air_and_lookups")?;
+    evaluate_alone::<AB>(alloc, out, local, 3, "eval_fraction")?;
+    state(out, "input of", "evaluation", &(lookups, local));
     Some(())
 }
 
 /// The row checker twice over a trace.
-fn check_twice<W: Write>(alloc: Global, out: &mut W) -> Option<()> {
+fn check_twice(alloc: Global, out: &mut Out) -> Option<()> {
     let main: RowMajorMatrix<F7> = trace(alloc, &BALANCED, 3)?;
     for _ in 0..2 {
         show_checked(alloc, out, &main);
@@ -184,11 +184,17 @@ fn check_twice<W: Write>(alloc: Global, out: &mut W) -> Option<()> {
 }
 
 /// The row checker, and the evaluations of lookups, over the same lookups twice.
-pub fn evaluation<W: Write>(alloc: Global, out: &mut W) -> Option<()> {
+pub fn evaluation<AB: PermutationAirBuilder + Fresh + ShowAsserted>(
+    alloc: Global,
+    out: &mut Out,
+) -> Option<()>
+where
+    AB::F: Debug + DeserializeOwned,
+{
     check_twice(alloc, out)?;
-    let lookups: Vec<Lookup<F7>> = lookups_of(alloc, LOOKUPS)?;
-    let local: Vec<Lookup<F7>> = lookups_of(alloc, LOCAL)?;
+    let lookups: Vec<Lookup<AB::F>> = lookups_of(alloc, LOOKUPS)?;
+    let local: Vec<Lookup<AB::F>> = lookups_of(alloc, LOCAL)?;
     let (lookups, local) = (lookups.as_slice(), local.as_slice());
-    evaluate(alloc, out, lookups, local)?;
-    evaluate(alloc, out, lookups, local)
+    evaluate::<AB>(alloc, out, lookups, local)?;
+    evaluate::<AB>(alloc, out, lookups, local)
 }

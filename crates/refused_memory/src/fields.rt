@@ -2,17 +2,16 @@
 ghost use Rattle.std.specs.Prelude.{◌≢◌, All};
 ghost use Rattle.field.specs.IntegersModulo7.{f7_ring};
 
-use crate::show::{show, state};
+use crate::show::{Out, show, state};
 use crate::trees::nodes;
 use field::{
     BabyBear, BabyBear4, F2, F7, Field, InverseCount, batch_multiplicative_inverse,
     batch_multiplicative_inverse_into, powers,
 };
 use std::alloc::Global;
-use std::io::Write;
 
 /// The texts of elements.
-fn texts<W: Write>(alloc: Global, out: &mut W) {
+fn texts(alloc: Global, out: &mut Out) {
     let quartic = BabyBear4::new([1, 22, 333, 4444].map(BabyBear::new));
     show(out, "text of F2", F2::new(1).text(alloc));
     show(out, "text of F7", F7::new(5).text(alloc));
@@ -28,7 +27,7 @@ fn units() -> [F7; 3]
 }
 
 /// Powers, and the inverses of a list.
-fn lists<W: Write>(alloc: Global, out: &mut W) {
+fn lists(alloc: Global, out: &mut Out) {
     show(out, "powers", powers(alloc, F7::new(3), 9));
     let values = units();
     let (values, call) = (values.as_slice(), "batch_multiplicative_inverse");
@@ -83,15 +82,15 @@ const OF_BABY_BEAR4: [&str; 5] = [
 ];
 
 /// The calls of elements as expressions, which take no memory.
-fn elements<W: Write>(alloc: Global, out: &mut W) {
-    nodes::<W, F2, F2>(alloc, out, &OF_F2);
-    nodes::<W, F7, F7>(alloc, out, &OF_F7);
-    nodes::<W, BabyBear, BabyBear>(alloc, out, &OF_BABY_BEAR);
-    nodes::<W, BabyBear4, BabyBear4>(alloc, out, &OF_BABY_BEAR4);
+fn elements(alloc: Global, out: &mut Out) {
+    nodes::<F2, F2>(alloc, out, &OF_F2);
+    nodes::<F7, F7>(alloc, out, &OF_F7);
+    nodes::<BabyBear, BabyBear>(alloc, out, &OF_BABY_BEAR);
+    nodes::<BabyBear4, BabyBear4>(alloc, out, &OF_BABY_BEAR4);
 }
 
 /// The calls of fields, twice.
-pub fn fields<W: Write>(alloc: Global, out: &mut W) {
+pub fn fields(alloc: Global, out: &mut Out) {
     for _ in 0..2 {
         texts(alloc, out);
         lists(alloc, out);

@@ -1,17 +1,13 @@
 //! Calls of generation.
-ghost use Rattle.std.specs.Prelude.{◌≡◌, None};
-
 use crate::inputs::{BALANCED, LOCAL, LOOKUPS, UNLAWFUL, elements, lookups_of, trace};
-use crate::show::{show, state};
+use crate::show::{Out, show, state};
 use air::AirLayout;
-use field::{
-    BabyBear, BabyBear4, ExtensionField, F7, Field, InverseCount, PrimeCharacteristicRing,
-};
+use field::{BabyBear4, ExtensionField, F7, Field, InverseCount, PrimeCharacteristicRing};
 use lookup::{Challenges, LogUpGadget, Lookup, LookupError, LookupProtocol, LookupTerminal, fits};
 use matrix::RowMajorMatrix;
+use serde::DeserializeOwned;
 use std::alloc::Global;
 use std::fmt::Debug;
-use std::io::Write;
 
 /// What generation gives: the auxiliary trace and the terminal.
 pub type Generated<EF> = Result<(RowMajorMatrix<EF>, Option<LookupTerminal<EF>>), LookupError>;
@@ -56,9 +52,9 @@ pub fn outline<EF: Field>(
 }
 
 /// The call that counts its inverses, and its count.
-fn show_counted<W: Write, F: Field, EF: ExtensionField<F> + Debug>(
+fn show_counted<F: Field, EF: ExtensionField<F> + Debug>(
     alloc: Global,
-    out: &mut W,
+    out: &mut Out,
     main: &RowMajorMatrix<F>,
     lookups: &[Lookup<F>],
     challenges: &[EF],
@@ -70,9 +66,9 @@ fn show_counted<W: Write, F: Field, EF: ExtensionField<F> + Debug>(
 }
 
 /// Both calls over one trace, at challenges of these numbers.
-fn show_generated<W: Write, F: Field, EF: ExtensionField<F> + Debug>(
+fn show_generated<F: Field, EF: ExtensionField<F> + Debug>(
     alloc: Global,
-    out: &mut W,
+    out: &mut Out,
     main: &RowMajorMatrix<F>,
     lookups: &[Lookup<F>],
     numbers: &[u32],
@@ -98,9 +94,9 @@ fn repeated_row<F: PrimeCharacteristicRing>(
 }
 
 /// Calls on a table of challenges, and on terminals.
-fn on_table<W: Write, EF: Field + Debug>(
+fn on_table<EF: Field + Debug>(
     alloc: Global,
-    out: &mut W,
+    out: &mut Out,
     table: &Challenges<EF>,
     terminals: &[Option<LookupTerminal<EF>>],
 ) {
@@ -114,9 +110,9 @@ fn on_table<W: Write, EF: Field + Debug>(
 }
 
 /// The same, twice, over the table of two numbers.
-fn on_own_table<W: Write, EF: Field + Debug>(
+fn on_own_table<EF: Field + Debug>(
     alloc: Global,
-    out: &mut W,
+    out: &mut Out,
     terminals: &[Option<LookupTerminal<EF>>],
 ) -> Option<()> {
     let table = Challenges::new(alloc, EF::from_u32(5), EF::from_u32(2), 1, 2).ok()?;
@@ -128,11 +124,11 @@ fn on_own_table<W: Write, EF: Field + Debug>(
 }
 
 /// Calls over a field, and over an extension of another.
-pub fn challenges<W: Write>(alloc: Global, out: &mut W) -> Option<()> {
+pub fn challenges(alloc: Global, out: &mut Out) -> Option<()> {
     let terminals = [Some(LookupTerminal(F7::new(5))), None];
-    on_own_table::<W, F7>(alloc, out, terminals.as_slice())?;
+    on_own_table::<F7>(alloc, out, terminals.as_slice())?;
     let terminals = [Some(LookupTerminal(BabyBear4::from_u32(5))), None];
-    on_own_table::<W, BabyBear4>(alloc, out, terminals.as_slice())
+    on_own_table::<BabyBear4>(alloc, out, terminals.as_slice())
 }
 
 /// Challenges at which no denominator vanishes.
@@ -142,45 +138,39 @@ const CHALLENGES: [u32; 8] = [5, 2, 5, 2, 5, 2, 5, 2];
 const FAULTY: [u32; 8] = [3, 2, 5, 2, 5, 2, 5, 2];
 
 /// Generation over a trace, with a fault and without.
-fn over_small<W: Write>(
+fn over_small<F: Field + Debug, EF: ExtensionField<F> + Debug>(
     alloc: Global,
-    out: &mut W,
-    lookups: &[Lookup<F7>],
-    main: &RowMajorMatrix<F7>,
+    out: &mut Out,
+    lookups: &[Lookup<F>],
+    main: &RowMajorMatrix<F>,
 ) -> Option<()> {
-    show_generated::<W, F7, F7>(alloc, out, main, lookups, &CHALLENGES)?;
-    show_generated::<W, F7, F7>(alloc, out, main, lookups, &FAULTY)?;
-    show_generated::<W, F7, F7>(alloc, out, main, &[], &CHALLENGES)?;
+    show_generated::<F, EF>(alloc, out, main, lookups, &CHALLENGES)?;
+    show_generated::<F, EF>(alloc, out, main, lookups, &FAULTY)?;
+    show_generated::<F, EF>(alloc, out, main, &lookups[..0], &CHALLENGES)?;
     state(out, "input of", "generation", main);
     state(out, "input of", "generation", &lookups);
     Some(())
 }
 
 /// The calls of generation, over a trace that balances and over one with an unlawful flag.
-pub fn generation<W: Write>(alloc: Global, out: &mut W) -> Option<()> {
-    let lookups: Vec<Lookup<F7>> = lookups_of(alloc, LOOKUPS)?;
+pub fn generation<F: Field + Debug + DeserializeOwned, EF: ExtensionField<F> + Debug>(
+    alloc: Global,
+    out: &mut Out,
+) -> Option<()> {
+    let lookups: Vec<Lookup<F>> = lookups_of(alloc, LOOKUPS)?;
     let small = trace(alloc, &BALANCED, 3)?;
     let unlawful = trace(alloc, &UNLAWFUL, 3)?;
-    over_both(alloc, out, lookups.as_slice(), &small, &unlawful)?;
-    over_both(alloc, out, lookups.as_slice(), &small, &unlawful)
-}
-
-/// Generation over two traces.
-fn over_both<W: Write>(
-    alloc: Global,
-    out: &mut W,
-    lookups: &[Lookup<F7>],
-    small: &RowMajorMatrix<F7>,
-    unlawful: &RowMajorMatrix<F7>,
-) -> Option<()> {
-    over_small(alloc, out, lookups, small)?;
-    over_small(alloc, out, lookups, unlawful)
+    for _ in 0..2 {
+        over_small::<F, EF>(alloc, out, lookups.as_slice(), &small)?;
+        over_small::<F, EF>(alloc, out, lookups.as_slice(), &unlawful)?;
+    }
+    Some(())
 }
 
 /// Generation of two chunks of rows: the height and the terminal alone.
-fn over_chunks<W: Write, F: Field + Debug>(
+fn over_chunks<F: Field + Debug>(
     alloc: Global,
-    out: &mut W,
+    out: &mut Out,
     lookups: &[Lookup<F>],
     main: &RowMajorMatrix<F>,
 ) -> Option<()> {
@@ -193,33 +183,36 @@ fn over_chunks<W: Write, F: Field + Debug>(
 }
 
 /// The call that counts its inverses, over two chunks of rows and twice.
-pub fn chunks<W: Write>(alloc: Global, out: &mut W) -> Option<()> {
-    let lookups: Vec<Lookup<F7>> = lookups_of(alloc, LOCAL)?;
+pub fn chunks<F: Field + Debug + DeserializeOwned>(alloc: Global, out: &mut Out) -> Option<()> {
+    let lookups: Vec<Lookup<F>> = lookups_of(alloc, LOCAL)?;
     let high = repeated_row(alloc, 1025)?;
     over_chunks(alloc, out, lookups.as_slice(), &high)?;
     over_chunks(alloc, out, lookups.as_slice(), &high)
 }
 
-/// Challenges of a number each.
+/// Challenges whose alphas differ.
 const DISTINCT: [u32; 8] = [5, 2, 6, 2, 7, 2, 8, 2];
 
 /// Generation over an extension.
-fn over_extension<W: Write, F: Field + Debug, EF: ExtensionField<F> + Debug>(
+fn over_extension<F: Field + Debug, EF: ExtensionField<F> + Debug>(
     alloc: Global,
-    out: &mut W,
+    out: &mut Out,
     lookups: &[Lookup<F>],
     main: &RowMajorMatrix<F>,
 ) -> Option<()> {
-    show_generated::<W, F, EF>(alloc, out, main, lookups, &DISTINCT)?;
+    show_generated::<F, EF>(alloc, out, main, lookups, &DISTINCT)?;
     state(out, "input of", "generation", main);
     state(out, "input of", "generation", &lookups);
     Some(())
 }
 
 /// The same calls over an extension, twice.
-pub fn ext_generation<W: Write>(alloc: Global, out: &mut W) -> Option<()> {
-    let lookups: Vec<Lookup<BabyBear>> = lookups_of(alloc, LOOKUPS)?;
+pub fn ext_generation<F: Field + Debug + DeserializeOwned, EF: ExtensionField<F> + Debug>(
+    alloc: Global,
+    out: &mut Out,
+) -> Option<()> {
+    let lookups: Vec<Lookup<F>> = lookups_of(alloc, LOOKUPS)?;
     let main = trace(alloc, &BALANCED, 3)?;
-    over_extension::<W, BabyBear, BabyBear4>(alloc, out, lookups.as_slice(), &main)?;
-    over_extension::<W, BabyBear, BabyBear4>(alloc, out, lookups.as_slice(), &main)
+    over_extension::<F, EF>(alloc, out, lookups.as_slice(), &main)?;
+    over_extension::<F, EF>(alloc, out, lookups.as_slice(), &main)
 }

@@ -1,6 +1,7 @@
 //! The inputs of the calls.
 use air::{
-    AirLayout, BaseEntry, BaseLeaf, SymbolicAirBuilder, SymbolicExpression, SymbolicVariable,
+    AirError, AirLayout, BaseEntry, BaseLeaf, SymbolicAirBuilder, SymbolicExpression,
+    SymbolicVariable,
 };
 use field::{Field, PrimeCharacteristicRing};
 use lookup::{InteractionSymbolicBuilder, Lookup};
@@ -8,8 +9,8 @@ use matrix::RowMajorMatrix;
 use serde::{Deserialize, DeserializeOwned};
 use std::alloc::Global;
 
-/// A local lookup that reads cell 0 and provides cell 1, cell 2 times; the same by two lookups on a bus; and a
-/// group on that bus with the flag of cell 2, whose count is 0.
+/// A local lookup that reads cell 0 and provides cell 1, cell 2 times; the same by two lookups on a bus; and
+/// a group on that bus with the flag of cell 2, whose count is 0.
 pub const LOOKUPS: &str =
     r#"[{"kind":"Local","elements":[[{"Leaf":{"Variable":{"entry":{"Main":{"offset":0}},"index":0}}}],[{"Leaf":{"Variable":{"entry":{"Main":{"offset":0}},"index":1}}}]],"multiplicities":[{"Leaf":{"Constant":1}},{"Neg":{"Leaf":{"Variable":{"entry":{"Main":{"offset":0}},"index":2}}}}],"count_weight":1,"column":0,"flags":null},{"kind":{"Global":"keys"},"elements":[[{"Leaf":{"Variable":{"entry":{"Main":{"offset":0}},"index":0}}}]],"multiplicities":[{"Leaf":{"Constant":1}}],"count_weight":1,"column":1,"flags":null},{"kind":{"Global":"keys"},"elements":[[{"Leaf":{"Variable":{"entry":{"Main":{"offset":0}},"index":1}}}]],"multiplicities":[{"Neg":{"Leaf":{"Variable":{"entry":{"Main":{"offset":0}},"index":2}}}}],"count_weight":0,"column":2,"flags":null},{"kind":{"Global":"keys"},"elements":[[{"Leaf":{"Variable":{"entry":{"Main":{"offset":0}},"index":0}}}]],"multiplicities":[{"Leaf":{"Constant":0}}],"count_weight":1,"column":3,"flags":[{"Leaf":{"Variable":{"entry":{"Main":{"offset":0}},"index":2}}}]}]"#;
 
@@ -24,6 +25,10 @@ pub const ON_A_BUS: &str =
 /// Two on a bus whose tuples have two widths.
 pub const UNEVEN: &str =
     r#"[{"kind":{"Global":"keys"},"elements":[[{"Leaf":{"Variable":{"entry":{"Main":{"offset":0}},"index":0}}}]],"multiplicities":[{"Leaf":{"Constant":1}}],"count_weight":1,"column":0,"flags":null},{"kind":{"Global":"keys"},"elements":[[{"Leaf":{"Variable":{"entry":{"Main":{"offset":0}},"index":0}}},{"Leaf":{"Variable":{"entry":{"Main":{"offset":0}},"index":1}}}]],"multiplicities":[{"Leaf":{"Constant":1}}],"count_weight":1,"column":1,"flags":null}]"#;
+
+/// Three lookups on two buses. All tuples on a bus have one width, the two buses have different ones.
+pub const ON_TWO_BUSES: &str =
+    r#"[{"kind":{"Global":"keys"},"elements":[[{"Leaf":{"Variable":{"entry":{"Main":{"offset":0}},"index":0}}}]],"multiplicities":[{"Leaf":{"Constant":1}}],"count_weight":1,"column":0,"flags":null},{"kind":{"Global":"pairs"},"elements":[[{"Leaf":{"Variable":{"entry":{"Main":{"offset":0}},"index":0}}},{"Leaf":{"Variable":{"entry":{"Main":{"offset":0}},"index":1}}}]],"multiplicities":[{"Leaf":{"Constant":1}}],"count_weight":1,"column":1,"flags":null},{"kind":{"Global":"keys"},"elements":[[{"Leaf":{"Variable":{"entry":{"Main":{"offset":0}},"index":1}}}]],"multiplicities":[{"Leaf":{"Constant":1}}],"count_weight":1,"column":2,"flags":null}]"#;
 
 /// A local lookup whose tuples have two widths.
 pub const UNEVEN_LOCAL: &str =
@@ -85,14 +90,27 @@ pub fn trace<F: PrimeCharacteristicRing>(
     Some(RowMajorMatrix::new(values, width))
 }
 
-/// A builder without constraints.
-pub fn builder<F: Field>(alloc: Global) -> Option<SymbolicAirBuilder<F, F>> {
-    SymbolicAirBuilder::new(alloc, layout()).ok()
+/// The builder that keeps assertions.
+pub type Builder<F> = SymbolicAirBuilder<F, F>;
+
+/// The builder that keeps records as well.
+pub type Recorder<F> = InteractionSymbolicBuilder<F, F>;
+
+/// A builder that can be made without any assertions or records.
+pub trait Fresh: Sized + Drop {
+    fn fresh(alloc: Global) -> Result<Self, AirError>;
 }
 
-/// A recorder without records.
-pub fn recorder<F: Field>(alloc: Global) -> Option<InteractionSymbolicBuilder<F, F>> {
-    InteractionSymbolicBuilder::new(alloc, layout()).ok()
+impl<F: Field> Fresh for Builder<F> {
+    fn fresh(alloc: Global) -> Result<Self, AirError> {
+        SymbolicAirBuilder::new(alloc, layout())
+    }
+}
+
+impl<F: Field> Fresh for Recorder<F> {
+    fn fresh(alloc: Global) -> Result<Self, AirError> {
+        InteractionSymbolicBuilder::new(alloc, layout())
+    }
 }
 
 /// The layout of [`EachRecord`](crate::each_record::EachRecord) with room for four lookups.

@@ -1,35 +1,35 @@
 //! Calls of plans, and of the memory check.
 use crate::inputs::{BALANCED, LOOKUPS, UNBALANCED, UNEVEN, UNEVEN_LOCAL, elements, trace};
 use crate::sets::set;
-use crate::show::{show, show_or_no_input, state};
+use crate::show::{Out, show, show_or_no_input, state};
 use batch::{BatchError, BatchPlan, BatchTrace};
-use checker::Witness;
-use field::{BabyBear, BabyBear4, F7, Field, PrimeCharacteristicRing};
+use checker::{SoundnessCount, Witness};
+use field::{BabyBear, BabyBear4, Field, PrimeCharacteristicRing};
 use matrix::RowMajorMatrix;
 use memory_check::{MemoryTraces, check_memory, memory_plan};
+use serde::DeserializeOwned;
 use std::alloc::Global;
 use std::fmt::Debug;
-use std::io::Write;
 
 /// A plan of one AIR whose lookups have this text. None if an input can't be made.
-fn plan_of(
+fn plan_of<F: Field + DeserializeOwned>(
     alloc: Global,
     text: &'static str,
     heights: &[usize],
-) -> Option<Result<BatchPlan<F7>, BatchError>> {
+) -> Option<Result<BatchPlan<F>, BatchError>> {
     let airs = Vec::from_array(alloc, [set(alloc, text)?]).ok()?;
     let heights = Vec::from_slice(alloc, heights).ok()?;
     Some(BatchPlan::new(alloc, airs, heights))
 }
 
 /// Plans that are accepted, and refused for their heights, their widths and their weights.
-fn make_plans<W: Write>(alloc: Global, out: &mut W) {
+fn make_plans<F: Field + Debug + DeserializeOwned>(alloc: Global, out: &mut Out) {
     let call = "BatchPlan::new";
-    show_or_no_input(out, call, plan_of(alloc, LOOKUPS, &[2]));
-    show_or_no_input(out, call, plan_of(alloc, LOOKUPS, &[2, 2]));
-    show_or_no_input(out, call, plan_of(alloc, UNEVEN, &[2]));
-    show_or_no_input(out, call, plan_of(alloc, UNEVEN_LOCAL, &[2]));
-    show_or_no_input(out, call, plan_of(alloc, LOOKUPS, &[3]));
+    show_or_no_input(out, call, plan_of::<F>(alloc, LOOKUPS, &[2]));
+    show_or_no_input(out, call, plan_of::<F>(alloc, LOOKUPS, &[2, 2]));
+    show_or_no_input(out, call, plan_of::<F>(alloc, UNEVEN, &[2]));
+    show_or_no_input(out, call, plan_of::<F>(alloc, UNEVEN_LOCAL, &[2]));
+    show_or_no_input(out, call, plan_of::<F>(alloc, LOOKUPS, &[3]));
 }
 
 /// A main trace alone.
@@ -63,10 +63,20 @@ fn verify<F: Field>(
     plan.verify(alloc, traces.as_slice(), alpha, beta, witness)
 }
 
-/// The call that counts over a grid of challenges.
-fn show_grid_count<W: Write, F: Field>(
+/// The counts of a plan over a trace.
+fn count<F: Field>(
     alloc: Global,
-    out: &mut W,
+    plan: &BatchPlan<F>,
+    main: &RowMajorMatrix<F>,
+) -> Result<SoundnessCount, BatchError> {
+    let traces = [alone(main)];
+    plan.soundness_count::<F>(alloc, traces.as_slice())
+}
+
+/// The call that counts over a grid of challenges.
+fn show_grid_count<F: Field>(
+    alloc: Global,
+    out: &mut Out,
     plan: &BatchPlan<F>,
     main: &RowMajorMatrix<F>,
 ) -> Option<()> {
@@ -84,7 +94,7 @@ fn show_grid_count<W: Write, F: Field>(
 }
 
 /// What a plan says of itself, which takes no memory.
-fn parts<W: Write, F: Field>(out: &mut W, plan: &BatchPlan<F>) {
+fn parts<F: Field>(out: &mut Out, plan: &BatchPlan<F>) {
     show(out, "BatchPlan::ids", plan.ids().len());
     show(
         out,
@@ -94,25 +104,26 @@ fn parts<W: Write, F: Field>(out: &mut W, plan: &BatchPlan<F>) {
     show(out, "BatchPlan::num_ids", plan.num_ids());
 }
 
-/// The calls of a prover and a verifier.
-fn on_plan<W: Write, F: Field + Debug>(
+/// The calls of a prover and of a verifier, and those that count.
+fn on_plan<F: Field + Debug>(
     alloc: Global,
-    out: &mut W,
+    out: &mut Out,
     plan: &BatchPlan<F>,
     main: &RowMajorMatrix<F>,
     witness: &Witness<F>,
 ) -> Option<()> {
     show(out, "BatchPlan::prove", prove(alloc, plan, main));
     show(out, "BatchPlan::verify", verify(alloc, plan, main, witness));
+    show(out, "BatchPlan::soundness_count", count(alloc, plan, main));
     show_grid_count(alloc, out, plan, main)?;
     state(out, "input of", "plans", main);
     Some(())
 }
 
 /// All calls of a plan over a trace, twice.
-fn over<W: Write, F: Field + Debug>(
+fn over<F: Field + Debug>(
     alloc: Global,
-    out: &mut W,
+    out: &mut Out,
     plan: &BatchPlan<F>,
     numbers: &[u32],
     witness: &Witness<F>,
@@ -129,11 +140,7 @@ fn accepted_witness<F: Field>(alloc: Global, plan: &BatchPlan<F>) -> Option<Witn
 }
 
 /// All calls of a plan.
-fn on_all<W: Write, F: Field + Debug>(
-    alloc: Global,
-    out: &mut W,
-    plan: &BatchPlan<F>,
-) -> Option<()> {
+fn on_all<F: Field + Debug>(alloc: Global, out: &mut Out, plan: &BatchPlan<F>) -> Option<()> {
     parts(out, plan);
     let accepted = accepted_witness(alloc, plan)?;
     over(alloc, out, plan, &BALANCED, &accepted)?;
@@ -146,10 +153,13 @@ fn on_all<W: Write, F: Field + Debug>(
 }
 
 /// The calls of plans.
-pub fn batch_plans<W: Write>(alloc: Global, out: &mut W) -> Option<()> {
-    make_plans(alloc, out);
-    make_plans(alloc, out);
-    let plan = plan_of(alloc, LOOKUPS, &[2])?.ok()?;
+pub fn batch_plans<F: Field + Debug + DeserializeOwned>(
+    alloc: Global,
+    out: &mut Out,
+) -> Option<()> {
+    make_plans::<F>(alloc, out);
+    make_plans::<F>(alloc, out);
+    let plan = plan_of::<F>(alloc, LOOKUPS, &[2])?.ok()?;
     on_all(alloc, out, &plan)
 }
 
@@ -172,9 +182,9 @@ fn memory_traces(alloc: Global) -> Option<MemoryTraces<BabyBear>> {
 }
 
 /// Calls of the memory check, at challenges at which it is accepted, and at others.
-fn on_memory<W: Write>(
+fn on_memory(
     alloc: Global,
-    out: &mut W,
+    out: &mut Out,
     plan: &BatchPlan<BabyBear>,
     traces: &MemoryTraces<BabyBear>,
 ) {
@@ -192,7 +202,7 @@ fn plan_of_memory(alloc: Global) -> Result<BatchPlan<BabyBear>, BatchError> {
 }
 
 /// The calls of the memory check.
-pub fn memory<W: Write>(alloc: Global, out: &mut W) -> Option<()> {
+pub fn memory(alloc: Global, out: &mut Out) -> Option<()> {
     let call = "memory_plan";
     let traces = memory_traces(alloc)?;
     let plan = plan_of_memory(alloc).ok()?;

@@ -1,20 +1,12 @@
 //! Calls of recorders, of records, of counts and of indexed declarations.
-use crate::builders::assert_ext_cell;
-use crate::each_record::EachRecord;
-use crate::inputs::{cell, layout};
-use crate::show::{show, show_or_no_input, state};
-use air::{AirBuilder, AirError, AirLayout, Expression, SymbolicExpression};
+use crate::inputs::{Recorder, cell, layout};
+use crate::show::{Out, show, show_or_no_input, state};
+use air::{Air, AirBuilder, AirLayout, Expression, SymbolicExpression};
 use field::Field;
-use lookup::{
-    Count, IndexedLookupError, IndexedLookups, IndexedRead, IndexedTable,
-    InteractionSymbolicBuilder, TraceWindow,
-};
+use lookup::{Count, IndexedLookupError, IndexedLookups, IndexedRead, IndexedTable, TraceWindow};
 use lookup_indexed::check_declarations;
 use std::alloc::{AllocError, Global};
 use std::fmt::Debug;
-use std::io::Write;
-
-type Recorder<F> = InteractionSymbolicBuilder<F, F>;
 
 /// A layout of too few columns for the AIR.
 fn narrow() -> AirLayout {
@@ -24,23 +16,18 @@ fn narrow() -> AirLayout {
     }
 }
 
-/// A recorder of the AIR over a layout.
-fn recorder_of_air<F: Field>(alloc: Global, layout: AirLayout) -> Result<Recorder<F>, AirError> {
-    Recorder::<F>::from_air(alloc, &EachRecord, layout)
-}
-
 /// Calls that make a recorder.
-fn make_recorders<W: Write, F: Field + Debug>(alloc: Global, out: &mut W) {
+fn make_recorders<F: Field + Debug, A: Air<Recorder<F>>>(alloc: Global, out: &mut Out, air: &A) {
     let answer = Recorder::<F>::new(alloc, layout());
     show(out, "InteractionSymbolicBuilder::new", answer);
-    let answer = recorder_of_air::<F>(alloc, layout());
+    let answer = Recorder::<F>::from_air(alloc, air, layout());
     show(out, "InteractionSymbolicBuilder::from_air", answer);
-    let answer = recorder_of_air::<F>(alloc, narrow());
+    let answer = Recorder::<F>::from_air(alloc, air, narrow());
     show(out, "InteractionSymbolicBuilder::from_air, narrow", answer);
 }
 
 /// Calls that read a recorder.
-fn read_recorder<W: Write, F: Field + Debug>(alloc: Global, out: &mut W, builder: &Recorder<F>) {
+fn read_recorder<F: Field + Debug>(alloc: Global, out: &mut Out, builder: &Recorder<F>) {
     show(out, "base_constraints", builder.base_constraints(alloc));
     show(
         out,
@@ -52,7 +39,7 @@ fn read_recorder<W: Write, F: Field + Debug>(alloc: Global, out: &mut W, builder
 }
 
 /// Copies of the records.
-fn copy_records<W: Write, F: Field + Debug>(alloc: Global, out: &mut W, builder: &Recorder<F>) {
+fn copy_records<F: Field + Debug>(alloc: Global, out: &mut Out, builder: &Recorder<F>) {
     for record in builder.global_interactions() {
         show(out, "copy of an interaction", record.copy(alloc));
     }
@@ -68,7 +55,7 @@ fn copy_records<W: Write, F: Field + Debug>(alloc: Global, out: &mut W, builder:
 }
 
 /// Copies of the declarations.
-fn copy_declarations<W: Write, F: Field>(alloc: Global, out: &mut W, builder: &Recorder<F>) {
+fn copy_declarations<F: Field>(alloc: Global, out: &mut Out, builder: &Recorder<F>) {
     for read in builder.indexed_reads() {
         show(out, "copy of a read", read.copy(alloc));
     }
@@ -90,43 +77,32 @@ fn negate_negative<F: Field>(
 }
 
 /// Calls of counts.
-fn counts<W: Write, F: Field + Debug>(
-    alloc: Global,
-    out: &mut W,
-    of: &Count<SymbolicExpression<F>>,
-) {
+fn counts<F: Field + Debug>(alloc: Global, out: &mut Out, of: &Count<SymbolicExpression<F>>) {
     show(out, "copy of a count", of.copy(alloc));
     show_or_no_input(out, "negate", negate_negative::<F>(alloc));
 }
 
-/// A recorder of an AIR with one more assertion.
-fn filled_recorder<F: Field>(alloc: Global) -> Option<Recorder<F>> {
-    let mut builder = recorder_of_air::<F>(alloc, layout()).ok()?;
-    let answer = assert_ext_cell(alloc, &mut builder);
-    if answer.is_err() {
-        drop(builder);
-        return None;
-    }
-    Some(builder)
-}
-
 /// Calls on a recorder.
-fn on_recorder<W: Write, F: Field + Debug>(alloc: Global, out: &mut W, builder: &Recorder<F>) {
-    make_recorders::<W, F>(alloc, out);
+fn on_recorder<F: Field + Debug>(alloc: Global, out: &mut Out, builder: &Recorder<F>) {
     read_recorder(alloc, out, builder);
     copy_records(alloc, out, builder);
     copy_declarations(alloc, out, builder);
     state(out, "input of", "records", builder);
 }
 
-/// The calls of counts, of recorders and of records.
-pub fn records<W: Write, F: Field + Debug>(alloc: Global, out: &mut W) -> Option<()> {
+/// The calls of counts, of recorders and of records, over the same ones twice.
+pub fn records<F: Field + Debug, A: Air<Recorder<F>>>(
+    alloc: Global,
+    out: &mut Out,
+    air: &A,
+) -> Option<()> {
     let three = negative::<F>(alloc)?;
-    counts(alloc, out, &three);
-    counts(alloc, out, &three);
-    let builder = filled_recorder::<F>(alloc)?;
-    on_recorder(alloc, out, &builder);
-    on_recorder(alloc, out, &builder);
+    let builder = Recorder::<F>::from_air(alloc, air, layout()).ok()?;
+    for _ in 0..2 {
+        counts(alloc, out, &three);
+        make_recorders::<F, A>(alloc, out, air);
+        on_recorder(alloc, out, &builder);
+    }
     drop(builder);
     Some(())
 }
@@ -174,13 +150,7 @@ fn build_set(
 }
 
 /// Both calls.
-fn declare<W: Write>(
-    alloc: Global,
-    out: &mut W,
-    position: usize,
-    payload: &[usize],
-    columns: &[usize],
-) {
+fn declare(alloc: Global, out: &mut Out, position: usize, payload: &[usize], columns: &[usize]) {
     let answer = check_lists(alloc, position, payload, columns);
     show_or_no_input(out, "check_declarations", answer);
     let answer = build_set(alloc, position, payload, columns);
@@ -188,7 +158,7 @@ fn declare<W: Write>(
 }
 
 /// A set that is accepted, and one with each fault.
-fn declare_all<W: Write>(alloc: Global, out: &mut W) {
+fn declare_all(alloc: Global, out: &mut Out) {
     declare(alloc, out, 0, &[1, 2], &[1]);
     declare(alloc, out, 9, &[1], &[1]);
     declare(alloc, out, 0, &[], &[1]);
@@ -198,22 +168,34 @@ fn declare_all<W: Write>(alloc: Global, out: &mut W) {
 }
 
 /// Calls of sets of declarations.
-fn on_declarations<W: Write, F: Field>(alloc: Global, out: &mut W, accepted: &IndexedLookups) {
-    show(out, "IndexedLookups::from_air", declared::<F>(alloc));
+fn on_declarations(alloc: Global, out: &mut Out, accepted: &IndexedLookups) {
     show(out, "copy of indexed lookups", accepted.copy(alloc));
     declare_all(alloc, out);
     state(out, "input of", "declarations", accepted);
 }
 
-/// The declarations of the AIR.
-pub fn declared<F: Field>(alloc: Global) -> Result<IndexedLookups, IndexedLookupError> {
-    IndexedLookups::from_air::<F, F, EachRecord>(alloc, &EachRecord)
+/// The declarations of an AIR.
+fn declared<F: Field, A: Air<Recorder<F>>>(
+    alloc: Global,
+    air: &A,
+) -> Result<IndexedLookups, IndexedLookupError> {
+    IndexedLookups::from_air::<F, F, A>(alloc, air)
 }
 
 /// The calls of indexed declarations, over the same set twice.
-pub fn declarations<W: Write, F: Field>(alloc: Global, out: &mut W) -> Option<()> {
-    let accepted = declared::<F>(alloc).ok()?;
-    on_declarations::<W, F>(alloc, out, &accepted);
-    on_declarations::<W, F>(alloc, out, &accepted);
+pub fn declarations<F: Field, A: Air<Recorder<F>>>(
+    alloc: Global,
+    out: &mut Out,
+    air: &A,
+) -> Option<()> {
+    let accepted = declared::<F, A>(alloc, air).ok()?;
+    for _ in 0..2 {
+        show(
+            out,
+            "IndexedLookups::from_air",
+            declared::<F, A>(alloc, air),
+        );
+        on_declarations(alloc, out, &accepted);
+    }
     Some(())
 }

@@ -1,14 +1,18 @@
 //! The lines that the tool reads.
 use std::fmt::Debug;
-use std::io::Write;
+use std::io::{BufWriter, Stdout, Write};
+
+/// Where the lines go. A given type: one more type parameter makes a function a quarter dearer to prove, and one
+/// that names a builder twice as dear.
+pub type Out = BufWriter<Stdout>;
 
 /// Writes the line of a call: its name and its answer.
-pub fn show<W: Write, T: Debug + Drop>(out: &mut W, call: &str, answer: T) {
+pub fn show<T: Debug + Drop>(out: &mut Out, call: &str, answer: T) {
     let _ = writeln!(out, "{call}: {answer:?}");
 }
 
 /// Writes the same line, or that an input of the call can't be made.
-pub fn show_or_no_input<W: Write, T: Debug + Drop>(out: &mut W, call: &str, answer: Option<T>) {
+pub fn show_or_no_input<T: Debug + Drop>(out: &mut Out, call: &str, answer: Option<T>) {
     match answer {
         Some(answer) => show(out, call, answer),
         None => {
@@ -18,6 +22,6 @@ pub fn show_or_no_input<W: Write, T: Debug + Drop>(out: &mut W, call: &str, answ
 }
 
 /// Writes a line of what a call leaves, or of what it is made on.
-pub fn state<W: Write, T: Debug>(out: &mut W, what: &str, call: &str, value: &T) {
+pub fn state<T: Debug>(out: &mut Out, what: &str, call: &str, value: &T) {
     let _ = writeln!(out, "{what} {call}: {value:?}");
 }

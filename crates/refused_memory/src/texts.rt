@@ -1,14 +1,14 @@
 //! Texts that are written and read, and texts from outside.
 use crate::inputs::{LOOKUPS, layout};
-use crate::records::declared;
 use crate::sets::set;
-use crate::show::{show, state};
-use field::{BabyBear, BabyBear4, F7};
+use crate::show::{Out, show, state};
+use field::{BabyBear, BabyBear4, F7, Field};
 use lookup::{IndexedDeclarations, IndexedLookups, Lookup, LookupTerminal, Lookups};
 use serde::{Deserialize, DeserializeOwned, Serialize};
 use serde_json::Value;
 use serde_json::error::Category;
 use std::alloc::Global;
+use std::fmt::Debug;
 use std::io::{BufRead, Write};
 
 /// A reader at a table of two columns.
@@ -47,10 +47,10 @@ fn read_owned<T: DeserializeOwned>(alloc: Global, text: &str) -> Result<T, Categ
 }
 
 /// Calls that read.
-fn read_all<W: Write>(alloc: Global, out: &mut W) {
-    let lookups: Result<Vec<Lookup<F7>>, Category> = read(alloc, LOOKUPS.as_bytes());
+fn read_all<F: Debug + DeserializeOwned>(alloc: Global, out: &mut Out) {
+    let lookups: Result<Vec<Lookup<F>>, Category> = read(alloc, LOOKUPS.as_bytes());
     show(out, "lookups read", lookups);
-    let lookups: Result<Vec<Lookup<F7>>, Category> = read_owned(alloc, LOOKUPS);
+    let lookups: Result<Vec<Lookup<F>>, Category> = read_owned(alloc, LOOKUPS);
     show(out, "lookups read from a value", lookups);
     let declarations: Result<IndexedDeclarations, Category> = read(alloc, DECLARATIONS.as_bytes());
     show(out, "declarations read", declarations);
@@ -59,10 +59,10 @@ fn read_all<W: Write>(alloc: Global, out: &mut W) {
 }
 
 /// Calls that write.
-fn write_all<W: Write>(
+fn write_all<F: Field + Debug + Serialize>(
     alloc: Global,
-    out: &mut W,
-    set: &Lookups<F7>,
+    out: &mut Out,
+    set: &Lookups<F>,
     declared: &IndexedLookups,
     terminal: &LookupTerminal<BabyBear4>,
 ) {
@@ -72,20 +72,29 @@ fn write_all<W: Write>(
     state(out, "input of", "json", set);
 }
 
+/// The set of the declarations above.
+fn declared(alloc: Global) -> Option<IndexedLookups> {
+    let declared: IndexedDeclarations = read(alloc, DECLARATIONS.as_bytes()).ok()?;
+    IndexedLookups::new(alloc, declared.reads, declared.tables, &layout()).ok()
+}
+
 /// The calls that read and write texts, twice.
-pub fn json<W: Write>(alloc: Global, out: &mut W) -> Option<()> {
+pub fn json<F: Field + Debug + Serialize + DeserializeOwned>(
+    alloc: Global,
+    out: &mut Out,
+) -> Option<()> {
     let terminal = LookupTerminal(BabyBear4::new([1, 2013265920, 0, 4].map(BabyBear::new)));
-    let declared = declared::<F7>(alloc).ok()?;
-    let set = set(alloc, LOOKUPS)?;
+    let declared = declared(alloc)?;
+    let set: Lookups<F> = set(alloc, LOOKUPS)?;
     for _ in 0..2 {
-        read_all(alloc, out);
+        read_all::<F>(alloc, out);
         write_all(alloc, out, &set, &declared, &terminal);
     }
     Some(())
 }
 
 /// Writes a text, or why there is none.
-fn answer<W: Write>(out: &mut W, text: Result<String, Category>) {
+fn answer(out: &mut Out, text: Result<String, Category>) {
     match text {
         Ok(text) => {
             let _ = writeln!(out, "read: {text}");
@@ -95,7 +104,7 @@ fn answer<W: Write>(out: &mut W, text: Result<String, Category>) {
 }
 
 /// Reads a list of lookups, and writes the set of them.
-fn answer_lookups<W: Write>(alloc: Global, out: &mut W, text: &[u8]) {
+fn answer_lookups(alloc: Global, out: &mut Out, text: &[u8]) {
     let records: Vec<Lookup<F7>> = match read(alloc, text) {
         Ok(records) => records,
         Err(category) => return show(out, "refused", category),
@@ -107,7 +116,7 @@ fn answer_lookups<W: Write>(alloc: Global, out: &mut W, text: &[u8]) {
 }
 
 /// Reads indexed declarations, and writes the set of them.
-fn answer_declarations<W: Write>(alloc: Global, out: &mut W, text: &[u8]) {
+fn answer_declarations(alloc: Global, out: &mut Out, text: &[u8]) {
     let declared: IndexedDeclarations = match read(alloc, text) {
         Ok(declared) => declared,
         Err(category) => return show(out, "refused", category),
@@ -139,10 +148,10 @@ impl TextKind {
 }
 
 /// Reads each line of the input as a text of this kind.
-pub fn lines<R: BufRead + Drop, W: Write>(
+pub fn lines<R: BufRead + Drop>(
     alloc: Global,
     input: R,
-    out: &mut W,
+    out: &mut Out,
     kind: TextKind,
 ) -> Option<()> {
     for line in input.split(alloc, b'\n') {

@@ -1,15 +1,15 @@
 //! Calls of expressions.
-use crate::inputs::{TREES, builder, layout, read};
+use crate::inputs::{Builder, Fresh, TREES, layout, read};
 use crate::layouts::layout_of;
-use crate::show::{show, show_or_no_input, state};
+use crate::show::{Out, show, show_or_no_input, state};
 use air::{
     AirError, Expression, ExtLeaf, PermutationAirBuilder, SymbolicExpression,
     SymbolicExpressionExt, copy_expressions, resolve_over,
 };
-use field::{F7, Field};
+use field::Field;
+use serde::DeserializeOwned;
 use std::alloc::{AllocError, Global};
 use std::fmt::Debug;
-use std::io::Write;
 
 /// A copy of the negative of 1.
 fn copy_negative<F: Field, E: Expression<F>>(alloc: Global) -> Option<Result<E, AllocError>> {
@@ -19,11 +19,7 @@ fn copy_negative<F: Field, E: Expression<F>>(alloc: Global) -> Option<Result<E, 
 }
 
 /// The building calls of a kind of expressions, by these names, and a copy.
-pub fn nodes<W: Write, F: Field, E: Expression<F> + Debug>(
-    alloc: Global,
-    out: &mut W,
-    names: &[&str; 5],
-) {
+pub fn nodes<F: Field, E: Expression<F> + Debug>(alloc: Global, out: &mut Out, names: &[&str; 5]) {
     let (one, other): (E, E) = (E::constant(F::ONE), E::constant(F::ONE));
     show(out, names[0], one.add(alloc, other));
     let (one, other): (E, E) = (E::constant(F::ONE), E::constant(F::ONE));
@@ -47,7 +43,7 @@ fn copy_leaf<F: Field>(alloc: Global) -> Option<Result<ExtLeaf<F, F>, AllocError
 }
 
 /// Calls on one expression.
-fn on_tree<W: Write, F: Field + Debug>(alloc: Global, out: &mut W, tree: &SymbolicExpression<F>) {
+fn on_tree<F: Field + Debug>(alloc: Global, out: &mut Out, tree: &SymbolicExpression<F>) {
     show(out, "copy of a tree", tree.copy(alloc));
     show(out, "degree_multiple", tree.degree_multiple());
     let degree = tree.degree_multiple_with_transition(2);
@@ -56,14 +52,15 @@ fn on_tree<W: Write, F: Field + Debug>(alloc: Global, out: &mut W, tree: &Symbol
 }
 
 /// Both degrees of an expression over the extension, which take no memory.
-fn degrees_of_ext<W: Write, F: Field>(out: &mut W) {
+fn degrees_of_ext<F: Field>(out: &mut Out) {
     let one: SymbolicExpressionExt<F, F> = Expression::constant(F::ONE);
     show(out, "degree_multiple, ext", one.degree_multiple());
     let degree = one.degree_multiple_with_transition(2);
     show(out, "degree_multiple_with_transition, ext", degree);
 }
 
-/// Resolves an expression that fits the layout of a builder, or does so over a window of its own.
+/// Resolves an expression that fits the layout of a builder: by `resolve`, or by `resolve_over` with the
+/// builder's main window.
 fn resolve_on<AB: PermutationAirBuilder>(
     alloc: Global,
     builder: &AB,
@@ -81,24 +78,20 @@ fn resolve_on<AB: PermutationAirBuilder>(
     Ok(resolve_over(alloc, tree, builder, &main)?)
 }
 
-/// What an expression resolves to on a builder of its own, or over a window of that.
+/// The same on a builder made for it.
 pub fn resolve<F: Field>(
     alloc: Global,
     tree: &SymbolicExpression<F>,
     over_main: bool,
 ) -> Option<Result<SymbolicExpression<F>, AirError>> {
-    let builder = builder::<F>(alloc)?;
+    let builder = Builder::<F>::fresh(alloc).ok()?;
     let answer = resolve_on(alloc, &builder, tree, over_main);
     drop(builder);
     Some(answer)
 }
 
 /// Calls on expressions, and calls that resolve them.
-fn on_trees<W: Write, F: Field + Debug>(
-    alloc: Global,
-    out: &mut W,
-    trees: &[SymbolicExpression<F>],
-) {
+fn on_trees<F: Field + Debug>(alloc: Global, out: &mut Out, trees: &[SymbolicExpression<F>]) {
     for tree in trees {
         on_tree(alloc, out, tree);
         show_or_no_input(out, "resolve", resolve(alloc, tree, false));
@@ -107,22 +100,25 @@ fn on_trees<W: Write, F: Field + Debug>(
 }
 
 /// Calls without a builder.
-fn without_builder<W: Write, F: Field + Debug>(
+fn without_builder<F: Field + Debug>(
     alloc: Global,
-    out: &mut W,
+    out: &mut Out,
     trees: &[SymbolicExpression<F>],
 ) {
-    nodes::<W, F, SymbolicExpression<F>>(alloc, out, &OF_TREES);
-    nodes::<W, F, SymbolicExpressionExt<F, F>>(alloc, out, &OF_EXT_TREES);
+    nodes::<F, SymbolicExpression<F>>(alloc, out, &OF_TREES);
+    nodes::<F, SymbolicExpressionExt<F, F>>(alloc, out, &OF_EXT_TREES);
     show_or_no_input(out, "copy of a leaf", copy_leaf::<F>(alloc));
-    degrees_of_ext::<W, F>(out);
+    degrees_of_ext::<F>(out);
     show(out, "copy_expressions", copy_expressions(alloc, trees));
     state(out, "input of", "expressions", &trees);
 }
 
 /// The calls of expressions, over the same ones twice.
-pub fn expressions<W: Write>(alloc: Global, out: &mut W) -> Option<()> {
-    let trees: Vec<SymbolicExpression<F7>> = read(alloc, TREES)?;
+pub fn expressions<F: Field + Debug + DeserializeOwned>(
+    alloc: Global,
+    out: &mut Out,
+) -> Option<()> {
+    let trees: Vec<SymbolicExpression<F>> = read(alloc, TREES)?;
     let trees = trees.as_slice();
     for _ in 0..2 {
         without_builder(alloc, out, trees);
