@@ -39,36 +39,14 @@ fn check_room<AB: PermutationAirBuilder>(
     ensures cells { OnOk result
         (length lookups.now < (AB.layout builder.now).permutation_width) }
     ensures terminal { OnOk result (0 < (AB.layout builder.now).num_permutation_values) }
+    ensures columns { OnOk result (All (λ lookup. lookup.column + 1
+        < (AB.layout builder.now).permutation_width) lookups.now) }
 {
     let layout = layout_of(alloc, builder)?;
-    if !has_room(lookups, &layout) {
+    if !has_room(lookups, &layout) || !have_cells(lookups, layout.permutation_width) {
         return Err(AirError::DegreeOverflow);
     }
     Ok(())
-}
-
-/// Asserts the constraints of lookups, for which a builder has to have room.
-fn evaluate_all<AB: PermutationAirBuilder>(
-    alloc: Global,
-    builder: &mut AB,
-    lookups: &[Lookup<AB::F>],
-) -> Result<(), AirError> {
-    check_room(alloc, &*builder, lookups)?;
-    LogUpGadget::new().eval_all(alloc, builder, lookups)
-}
-
-/// Asserts the constraints of the accumulator, with the terminal 0.
-fn evaluate_accumulator<AB: PermutationAirBuilder>(
-    alloc: Global,
-    builder: &mut AB,
-    lookups: &[Lookup<AB::F>],
-) -> Result<(), AirError> {
-    let layout = layout_of(alloc, &*builder)?;
-    if !have_cells(lookups, layout.permutation_width) {
-        return Err(AirError::DegreeOverflow);
-    }
-    let terminal = AB::ExprEF::constant(AB::EF::ZERO);
-    LogUpGadget::new().eval_accumulator(alloc, builder, lookups, terminal)
 }
 
 /// Asserts the constraint of the fraction of one lookup alone.
@@ -76,8 +54,12 @@ fn evaluate_fraction<AB: PermutationAirBuilder>(
     alloc: Global,
     builder: &mut AB,
     lookups: &[Lookup<AB::F>],
-) -> Result<(), AirError> {
-    check_room(alloc, &*builder, lookups)?;
+) -> Result<(), AirError>
+    requires fit { LookupsFit (AB.layout builder.old) lookups.now }
+    requires challenges { 2 * length lookups.now
+        ≤ (AB.layout builder.old).num_permutation_challenges }
+    requires cells { length lookups.now < (AB.layout builder.old).permutation_width }
+{
     match lookups {
         [lookup] if has_equal_lengths(lookup) && lookup.column == 0 => {
             LogUpGadget::new().eval_fraction(alloc, builder, lookup)
@@ -86,27 +68,23 @@ fn evaluate_fraction<AB: PermutationAirBuilder>(
     }
 }
 
-/// Evaluates an AIR, and then lookups, for which the builder has to have room.
-fn evaluate_air_and_lookups<AB: PermutationAirBuilder>(
-    alloc: Global,
-    builder: &mut AB,
-    lookups: &[Lookup<AB::F>],
-) -> Result<(), AirError> {
-    check_room(alloc, &*builder, lookups)?;
-    LogUpGadget::new().eval_air_and_lookups(alloc, &OneAssertion, builder, lookups)
-}
-
-/// Makes the evaluation of this number.
+/// Makes the evaluation of this number: of all lookups, of the accumulator with the terminal 0, of an AIR and all
+/// lookups, or of the fraction of one lookup alone.
 fn evaluate_by_number<AB: PermutationAirBuilder>(
     alloc: Global,
     builder: &mut AB,
     lookups: &[Lookup<AB::F>],
     call: usize,
 ) -> Result<(), AirError> {
+    check_room(alloc, &*builder, lookups)?;
+    let gadget = LogUpGadget::new();
     match call {
-        0 => evaluate_all(alloc, builder, lookups),
-        1 => evaluate_accumulator(alloc, builder, lookups),
-        2 => evaluate_air_and_lookups(alloc, builder, lookups),
+        0 => gadget.eval_all(alloc, builder, lookups),
+        1 => {
+            let terminal = AB::ExprEF::constant(AB::EF::ZERO);
+            gadget.eval_accumulator(alloc, builder, lookups, terminal)
+        }
+        2 => gadget.eval_air_and_lookups(alloc, &OneAssertion, builder, lookups),
         _ => evaluate_fraction(alloc, builder, lookups),
     }
 }

@@ -132,13 +132,13 @@ pub fn challenges(alloc: Global, out: &mut Out) -> Option<()> {
 }
 
 /// Challenges at which no denominator vanishes.
-const CHALLENGES: [u32; 8] = [5, 2, 5, 2, 5, 2, 5, 2];
+const CHALLENGES: [u32; 8] = [5, 2, 6, 2, 7, 2, 8, 2];
 
 /// Challenges at which one does.
-const FAULTY: [u32; 8] = [3, 2, 5, 2, 5, 2, 5, 2];
+const FAULTY: [u32; 8] = [3, 2, 6, 2, 7, 2, 8, 2];
 
 /// Generation over a trace, with a fault and without.
-fn over_small<F: Field + Debug, EF: ExtensionField<F> + Debug>(
+fn over_trace<F: Field + Debug, EF: ExtensionField<F> + Debug>(
     alloc: Global,
     out: &mut Out,
     lookups: &[Lookup<F>],
@@ -161,8 +161,8 @@ pub fn generation<F: Field + Debug + DeserializeOwned, EF: ExtensionField<F> + D
     let small = trace(alloc, &BALANCED, 3)?;
     let unlawful = trace(alloc, &UNLAWFUL, 3)?;
     for _ in 0..2 {
-        over_small::<F, EF>(alloc, out, lookups.as_slice(), &small)?;
-        over_small::<F, EF>(alloc, out, lookups.as_slice(), &unlawful)?;
+        over_trace::<F, EF>(alloc, out, lookups.as_slice(), &small)?;
+        over_trace::<F, EF>(alloc, out, lookups.as_slice(), &unlawful)?;
     }
     Some(())
 }
@@ -188,31 +188,4 @@ pub fn chunks<F: Field + Debug + DeserializeOwned>(alloc: Global, out: &mut Out)
     let high = repeated_row(alloc, 1025)?;
     over_chunks(alloc, out, lookups.as_slice(), &high)?;
     over_chunks(alloc, out, lookups.as_slice(), &high)
-}
-
-/// Challenges whose alphas differ.
-const DISTINCT: [u32; 8] = [5, 2, 6, 2, 7, 2, 8, 2];
-
-/// Generation over an extension.
-fn over_extension<F: Field + Debug, EF: ExtensionField<F> + Debug>(
-    alloc: Global,
-    out: &mut Out,
-    lookups: &[Lookup<F>],
-    main: &RowMajorMatrix<F>,
-) -> Option<()> {
-    show_generated::<F, EF>(alloc, out, main, lookups, &DISTINCT)?;
-    state(out, "input of", "generation", main);
-    state(out, "input of", "generation", &lookups);
-    Some(())
-}
-
-/// The same calls over an extension, twice.
-pub fn ext_generation<F: Field + Debug + DeserializeOwned, EF: ExtensionField<F> + Debug>(
-    alloc: Global,
-    out: &mut Out,
-) -> Option<()> {
-    let lookups: Vec<Lookup<F>> = lookups_of(alloc, LOOKUPS)?;
-    let main = trace(alloc, &BALANCED, 3)?;
-    over_extension::<F, EF>(alloc, out, lookups.as_slice(), &main)?;
-    over_extension::<F, EF>(alloc, out, lookups.as_slice(), &main)
 }

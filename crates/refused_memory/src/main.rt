@@ -48,7 +48,7 @@ fn group<F: Field + Debug + DeserializeOwned + Serialize>(
         "pushes" => over_recorder::<F>(alloc, out),
         "records" | "declarations" | "sets" => over_air::<F>(alloc, name, out),
         "generation" => generations::generation::<F, F>(alloc, out),
-        "extension" => generations::ext_generation::<BabyBear, BabyBear4>(alloc, out),
+        "extension" => generations::generation::<BabyBear, BabyBear4>(alloc, out),
         _ => group_over_field::<F>(alloc, name, out),
     }
 }
