@@ -16,7 +16,7 @@
      in the text.
    - Order. Each call lists its codes from the first test to the last; code 1 may come at any point. That a
      refusal is true of the arguments, and names the first record, number, AIR or row of its kind, is
-     proved. The order of the codes is only tested.
+     proved. The order of the codes is only tested, but for those that one call of the library tests for.
    - Texts. `text` gets what a refusal says, in UTF-8 and without a closing zero: its first bytes, as many
      as there is room for, so the cut may split a character. `refusal->text_length` is the length of the
      whole in bytes, and 0 where nothing was refused.
@@ -142,7 +142,7 @@ enum {
                                    where there are cells */
     VOLGWAIN_DOES_NOT_FIT = 6,  /* air: a lookup has lists of different lengths, or reads past the traces, or a
                                    row that is neither this one nor the next one */
-    VOLGWAIN_OTHER_HEIGHT = 7,  /* air: the preprocessed trace is not as high as the main one */
+    VOLGWAIN_OTHER_HEIGHT = 7,  /* part, air: the preprocessed trace is not as high as the main one */
     VOLGWAIN_VANISHING_DENOMINATOR = 8, /* air, row, lookup */
     VOLGWAIN_FLAG_NOT_BOOLEAN = 9,      /* air, row, lookup */
     VOLGWAIN_FLAGS_NOT_EXCLUSIVE = 10,  /* air, row, lookup */
