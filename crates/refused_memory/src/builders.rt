@@ -13,7 +13,8 @@ use std::fmt::Debug;
 
 /// A builder that keeps its assertions.
 pub trait ShowAsserted {
-    /// Writes lists of those over the field and of where each stands among all, and the same over the extension.
+    /// Writes lists of those over the field and of where each stands among all, and the same over the
+    /// extension.
     fn show_asserted(&self, out: &mut Out, call: &str);
 }
 
@@ -42,8 +43,8 @@ where
     show(out, "current_cells", cells);
 }
 
-/// The call that makes a builder, which for the one that keeps assertions is `SymbolicAirBuilder::new`, and the
-/// check of a layout.
+/// The call that makes a builder, which for the one that keeps assertions is `SymbolicAirBuilder::new`, and
+/// the check of a layout.
 fn make_builder<AB: AirBuilder + Fresh + Debug>(alloc: Global, out: &mut Out) {
     show(out, "SymbolicAirBuilder::new", AB::fresh(alloc));
     let answer = layout().validate_against_air::<AB::F, EachRecord>(&EachRecord);

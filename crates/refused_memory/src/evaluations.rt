@@ -1,5 +1,5 @@
 //! Calls of evaluation.
-ghost use Rattle.std.specs.Prelude.{◌≡◌, ◌↔◌, ◌+◌, ◌*◌, ◌<◌, ◌≤◌, All, IsTrue, None, OnOk, length};
+ghost use Rattle.std.specs.Prelude.{◌≡◌, ◌+◌, ◌*◌, ◌<◌, ◌≤◌, All, None, OnOk, length};
 ghost use Rattle.std.specs.Option.{option_copied};
 ghost use Rattle.air.specs.Row.{HeightFits, OptionHeightFits};
 ghost use Rattle.lookup_model.specs.Records.{LookupsFit};
@@ -18,15 +18,6 @@ use serde::DeserializeOwned;
 use std::alloc::Global;
 use std::fmt::Debug;
 
-/// Whether a row of this many cells has one for each lookup besides the accumulator's.
-fn have_cells<F>(lookups: &[Lookup<F>], width: usize) -> bool
-    ensures { IsTrue result ↔ All (λ lookup. lookup.column + 1 < width) lookups.now }
-{
-    lookups
-        .iter()
-        .all(|lookup| lookup.column < width.saturating_sub(1))
-}
-
 /// Refuses lookups for which a builder has no room.
 fn check_room<AB: PermutationAirBuilder>(
     alloc: Global,
@@ -43,7 +34,7 @@ fn check_room<AB: PermutationAirBuilder>(
         < (AB.layout builder.now).permutation_width) lookups.now) }
 {
     let layout = layout_of(alloc, builder)?;
-    if !has_room(lookups, &layout) || !have_cells(lookups, layout.permutation_width) {
+    if !has_room(lookups, &layout) {
         return Err(AirError::DegreeOverflow);
     }
     Ok(())
@@ -68,8 +59,8 @@ fn evaluate_fraction<AB: PermutationAirBuilder>(
     }
 }
 
-/// Makes the evaluation of this number: of all lookups, of the accumulator with the terminal 0, of an AIR and all
-/// lookups, or of the fraction of one lookup alone.
+/// Makes the evaluation of this number: of all lookups, of the accumulator with the terminal 0, of an AIR and
+/// all lookups, or of the fraction of one lookup alone.
 fn evaluate_by_number<AB: PermutationAirBuilder>(
     alloc: Global,
     builder: &mut AB,

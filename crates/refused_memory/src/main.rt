@@ -53,8 +53,8 @@ fn group<F: Field + Debug + DeserializeOwned + Serialize>(
     }
 }
 
-/// The calls of a group with the builder that keeps assertions. A function of its own, like the next two: it is
-/// dear to prove that a given builder goes to code over any builder.
+/// The calls of a group with the builder that keeps assertions. A function of its own, like the next two: it
+/// is dear to prove that a given builder goes to code over any builder.
 fn over_builder<F: Field + Debug + DeserializeOwned>(
     alloc: Global,
     name: &str,

@@ -2,8 +2,8 @@
 use std::fmt::Debug;
 use std::io::{BufWriter, Stdout, Write};
 
-/// Where the lines go. A given type: one more type parameter makes a function a quarter dearer to prove, and one
-/// that names a builder twice as dear.
+/// Where the lines go. A given type: one more type parameter makes a function a quarter dearer to prove, and
+/// one that names a builder twice as dear.
 pub type Out = BufWriter<Stdout>;
 
 /// Writes the line of a call: its name and its answer.
