@@ -45,29 +45,21 @@ def apart(line, good):
     return f"{line.partition(': ')[0]}: {'..' * (start > 0)}{line[start : at + 100]}, and not {good[start : at + 100]}"
 
 
-def letters_of(text):
-    """Each letter of a text as it is printed, and whether it stands between quotes."""
-    quoted = escaped = False
-    for letter in text:
-        yield letter, quoted
-        if quoted:
-            quoted, escaped = letter != '"' or escaped, letter == "\\" and not escaped
-        else:
-            quoted = letter == '"'
-
-
 def items_of(value):
     """The items of a list as it is printed, or None where it is no list."""
     if value[:1] != "[" or value[-1:] != "]":
         return None
-    items, item, depth = [], "", 0
-    for letter, is_quoted in letters_of(value[1:-1]):
-        if letter == "," and depth == 0 and not is_quoted:
+    items, item, depth, quoted, escaped = [], "", 0, False, False
+    for letter in value[1:-1]:
+        if letter == "," and depth == 0 and not quoted:
             items.append(item.strip())
             item = ""
             continue
         item += letter
-        if not is_quoted:
+        if quoted:
+            quoted, escaped = letter != '"' or escaped, letter == "\\" and not escaped
+        else:
+            quoted = letter == '"'
             depth += (letter in "[({") - (letter in "])}")
     return items + [item.strip()] if item.strip() else items
 
