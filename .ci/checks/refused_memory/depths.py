@@ -1,4 +1,4 @@
-"""Deep expressions: what each recursive call says of one, on a small stack.
+"""Deep expressions: what the recursive calls say of one, on a small stack.
 
 An expression is the constant 3 under layers of one form: a negation, or a sum, difference or product whose other
 operand, on the left or on the right, is a constant that changes nothing.
@@ -15,25 +15,38 @@ DEPTH, STACK = 500, 1 << 20
 
 FORMS = ["neg", *(f"{kind}-{side}" for kind in ("add", "sub", "mul") for side in ("left", "right"))]
 
-# What each call answers. The local lookup of the expression sends 3 on each of two rows, with nothing that provides
-# it. Its auxiliary trace has two rows, and at the alpha 5 the fractions 1/(5 - 3) = 4, whose sum is 1 modulo 7. Of the
-# batch the prefix is 5 + 2 = 0, and the sum of 1/(0 - 3) = 2 twice is not zero.
+# What the recursive calls write, by the kind of what they are made on; each drops what it made, and the expression is
+# dropped in the end. The local lookup of the expression sends 3 on each of two rows, with nothing that provides it. At
+# the alpha 5 the fractions of its rows are 1/(5 - 3) = 4: the accumulator is 0 and then 4, and the terminal is 1 modulo
+# 7. Of the batch the prefix is 5 + 2 = 0, and the sum of 1/(0 - 3) = 2 twice is not zero.
+GENERATED = (
+    "Ok((RowMajorMatrix {{ values: [F7 {{ value: 0 }}, F7 {{ value: 4 }}, F7 {{ value: 4 }}, F7 {{ value: 4 }}], "
+    "width: 2 }}, Some(LookupTerminal(F7 {{ value: 1 }}))))"
+)
 ANSWERS = {
-    "drop": "{depth}",
-    "copy": "true",
-    "resolve": "true",
-    "degree_multiple": "Ok(0)",
-    "fits": "true",
-    "fmt": "{printed}",
-    "serialize": "Ok({written})",
-    "generate_permutation": "Ok((2, Some(LookupTerminal(F7 {{ value: 1 }}))))",
-    "check_lookups": 'Ok("Lookup mismatch (instance 0 local lookup 0): tuple [3] has net multiplicity 2 at '
-    'instance 0 lookup 0 row 0; instance 0 lookup 0 row 1")',
-    "check_witness": "Err(TerminalSumNonZero)",
-    "drop, ext": "{depth}",
-    "copy, ext": "true",
-    "degree_multiple, ext": "Ok(0)",
-    "fmt, ext": "{printed}",
+    "expression": {
+        "fmt": "{printed}",
+        "serialize": "Ok({written})",
+        "copy": "Ok({printed})",
+        "degree_multiple": "Ok(0)",
+        "degree_multiple_with_transition": "Ok(0)",
+        "fits": "true",
+        "resolve": "Ok({printed})",
+        "resolve_over": "Ok({printed})",
+    },
+    "lookup": {
+        "generate_permutation": GENERATED,
+        "generate_counted": GENERATED,
+        "check_lookups": 'Ok("Lookup mismatch (instance 0 local lookup 0): tuple [3] has net multiplicity 2 at '
+        'instance 0 lookup 0 row 0; instance 0 lookup 0 row 1")',
+        "check_witness": "Err(TerminalSumNonZero)",
+    },
+    "expression over the extension": {
+        "fmt, ext": "{printed}",
+        "copy, ext": "Ok({printed})",
+        "degree_multiple, ext": "Ok(0)",
+        "degree_multiple_with_transition, ext": "Ok(0)",
+    },
 }
 
 
@@ -66,40 +79,41 @@ def written(form, depth):
     return layered(form, depth, leaf(3), beside, f'{{"{node_of(form)}":{opened}', ",", f"{closed}}}")
 
 
-def wanted(call, form, depth):
-    """The line that a call writes."""
-    texts = {"depth": depth, "printed": printed(form, depth), "written": json.dumps(written(form, depth))}
-    return f"{call}: {ANSWERS[call].format(**texts)}\n"
+def wanted(kind, form, depth):
+    """The lines that the recursive calls write."""
+    texts = {"printed": printed(form, depth), "written": json.dumps(written(form, depth))}
+    return [f"{call}: {answer.format(**texts)}" for call, answer in ANSWERS[kind].items()]
 
 
-def bears(program, call, form, depth):
-    """Whether a call on an expression of this form and depth answers what it has to, on a small stack."""
-    words = [program, "deep", call, form, str(depth)]
+def bears(program, kind, form, depth):
+    """Whether the calls on an expression of this form and depth answer what they have to, on a small stack."""
+    words = [program, "deep", kind, form, str(depth)]
     limit = lambda: resource.setrlimit(resource.RLIMIT_STACK, (STACK, STACK))  # noqa: E731
     how = {"stdin": subprocess.DEVNULL, "stderr": subprocess.DEVNULL, "stdout": subprocess.PIPE, "timeout": SECONDS}
     ran = subprocess.run(words, preexec_fn=limit, check=False, **how)
-    return ran.returncode == 0 and ran.stdout.decode() == wanted(call, form, depth)
+    lines = [it for it in ran.stdout.decode().splitlines() if it.partition(": ")[0] in ANSWERS[kind]]
+    return ran.returncode == 0 and lines == wanted(kind, form, depth)
 
 
-def depth_swept(_shim, program, call, _later):
-    """A call on expressions of each form, as deep as docs/PROMISES.md states, and of two layers."""
+def depth_swept(_shim, program, kind, _later):
+    """The calls on expressions of each form, as deep as docs/PROMISES.md states, and of two layers."""
     runs = [(form, depth) for form in FORMS for depth in (2, DEPTH)]
-    failed = [(form, depth) for form, depth in runs if not bears(program, call, form, depth)]
-    return len(runs), [f"{call} does not bear {form} {depth} deep" for form, depth in failed], {}
+    failed = [(form, depth) for form, depth in runs if not bears(program, kind, form, depth)]
+    return len(runs), [f"{kind}: {form} {depth} deep is not borne" for form, depth in failed], {}
 
 
-def greatest_depth(program, call, form):
-    """The greatest even depth that a call bears."""
+def greatest_depth(program, kind, form):
+    """The greatest even depth that all calls bear."""
     low, high = 0, 1 << 19
     while low + 1 < high:
         middle = (low + high) // 2
-        low, high = (middle, high) if bears(program, call, form, 2 * middle) else (low, middle)
+        low, high = (middle, high) if bears(program, kind, form, 2 * middle) else (low, middle)
     return 2 * low
 
 
 def print_depths(program):
-    """Prints the greatest depth of each call, of all forms and of each."""
-    for call in ANSWERS:
-        depths = {form: greatest_depth(program, call, form) for form in FORMS}
+    """Prints the greatest depth of each kind, of all forms and of each."""
+    for kind in ANSWERS:
+        depths = {form: greatest_depth(program, kind, form) for form in FORMS}
         of_each = ", ".join(f"{form} {depth}" for form, depth in depths.items())
-        print(f"{call}: {min(depths.values())} ({of_each})", flush=True)
+        print(f"{kind}: {min(depths.values())} ({of_each})", flush=True)

@@ -4,43 +4,20 @@ ghost use Rattle.std.specs.Option.{option_copied};
 ghost use Rattle.air.specs.Row.{HeightFits, OptionHeightFits};
 ghost use Rattle.lookup_model.specs.Records.{LookupsFit};
 ghost use Rattle.matrix.specs.Matrix.{height};
+ghost use Rattle.refused_memory.specs.Layout.{swept_layout};
 
-use crate::builders::ShowAsserted;
-use crate::each_record::{EachRecord, OneAssertion};
-use crate::inputs::{BALANCED, Fresh, LOCAL, LOOKUPS, lookups_of, trace};
-use crate::layouts::{has_room, layout_of};
+use crate::airs::Zeros;
+use crate::inputs::{LOOKUPS, lookups_of, trace};
+use crate::layouts::has_room;
+use crate::over::over_builder;
 use crate::show::{Out, show, state};
 use air::{AirError, Expression, PermutationAirBuilder, RowInputs, check_rows};
 use field::{F7, PrimeCharacteristicRing};
 use lookup::{LogUpGadget, Lookup, LookupProtocol, has_equal_lengths};
 use matrix::RowMajorMatrix;
-use serde::DeserializeOwned;
 use std::alloc::Global;
-use std::fmt::Debug;
 
-/// Refuses lookups for which a builder has no room.
-fn check_room<AB: PermutationAirBuilder>(
-    alloc: Global,
-    builder: &AB,
-    lookups: &[Lookup<AB::F>],
-) -> Result<(), AirError>
-    ensures fit { OnOk result (LookupsFit (AB.layout builder.now) lookups.now) }
-    ensures challenges { OnOk result
-        (2 * length lookups.now ≤ (AB.layout builder.now).num_permutation_challenges) }
-    ensures cells { OnOk result
-        (length lookups.now < (AB.layout builder.now).permutation_width) }
-    ensures terminal { OnOk result (0 < (AB.layout builder.now).num_permutation_values) }
-    ensures columns { OnOk result (All (λ lookup. lookup.column + 1
-        < (AB.layout builder.now).permutation_width) lookups.now) }
-{
-    let layout = layout_of(alloc, builder)?;
-    if !has_room(lookups, &layout) {
-        return Err(AirError::DegreeOverflow);
-    }
-    Ok(())
-}
-
-/// Asserts the constraint of the fraction of one lookup alone.
+/// Asserts the constraint of the fraction of the first lookup.
 fn evaluate_fraction<AB: PermutationAirBuilder>(
     alloc: Global,
     builder: &mut AB,
@@ -52,47 +29,36 @@ fn evaluate_fraction<AB: PermutationAirBuilder>(
     requires cells { length lookups.now < (AB.layout builder.old).permutation_width }
 {
     match lookups {
-        [lookup] if has_equal_lengths(lookup) && lookup.column == 0 => {
+        [lookup, ..] if has_equal_lengths(lookup) && lookup.column == 0 => {
             LogUpGadget::new().eval_fraction(alloc, builder, lookup)
         }
         _ => Err(AirError::DegreeOverflow),
     }
 }
 
-/// Makes the evaluation of this number: of all lookups, of the accumulator with the terminal 0, of an AIR and
-/// all lookups, or of the fraction of one lookup alone.
-fn evaluate_by_number<AB: PermutationAirBuilder>(
+/// Makes the evaluation of this name: of all lookups, of the accumulator with the terminal 0, of an AIR and all
+/// lookups, or of the fraction of the first lookup.
+pub fn evaluate<AB: PermutationAirBuilder>(
     alloc: Global,
     builder: &mut AB,
     lookups: &[Lookup<AB::F>],
-    call: usize,
-) -> Result<(), AirError> {
-    check_room(alloc, &*builder, lookups)?;
+    name: &str,
+) -> Result<(), AirError>
+    requires { AB.layout builder.old ≡ swept_layout }
+{
+    if !has_room(lookups) {
+        return Err(AirError::DegreeOverflow);
+    }
     let gadget = LogUpGadget::new();
-    match call {
-        0 => gadget.eval_all(alloc, builder, lookups),
-        1 => {
+    match name {
+        "eval_all" => gadget.eval_all(alloc, builder, lookups),
+        "eval_accumulator" => {
             let terminal = AB::ExprEF::constant(AB::EF::ZERO);
             gadget.eval_accumulator(alloc, builder, lookups, terminal)
         }
-        2 => gadget.eval_air_and_lookups(alloc, &OneAssertion, builder, lookups),
+        "eval_air_and_lookups" => gadget.eval_air_and_lookups(alloc, &Zeros, builder, lookups),
         _ => evaluate_fraction(alloc, builder, lookups),
     }
-}
-
-/// The evaluation of this number on a builder of its own, and what it leaves there.
-fn evaluate_alone<AB: PermutationAirBuilder + Fresh + ShowAsserted>(
-    alloc: Global,
-    out: &mut Out,
-    lookups: &[Lookup<AB::F>],
-    call: usize,
-    name: &str,
-) -> Option<()> {
-    let mut builder = AB::fresh(alloc).ok()?;
-    let answer = evaluate_by_number(alloc, &mut builder, lookups, call);
-    show(out, name, answer);
-    builder.show_asserted(out, name);
-    Some(())
 }
 
 /// No preprocessed trace beside this one.
@@ -108,7 +74,7 @@ fn check_each_row<'a>(alloc: Global, inputs: &'a RowInputs<'a, F7, F7>) -> Resul
         (option_copied inputs.now.preprocessed) }
     requires permutation { HeightFits (height inputs.now.main.now) inputs.now.permutation.now }
 {
-    check_rows(alloc, &EachRecord, inputs)
+    check_rows(alloc, &Zeros, inputs)
 }
 
 /// The row checker over a trace.
@@ -122,48 +88,35 @@ fn show_checked(alloc: Global, out: &mut Out, main: &RowMajorMatrix<F7>) {
         permutation_values: &[],
     };
     show(out, "check_rows", check_each_row(alloc, &inputs));
+    state(out, "input of", "check_rows", main);
 }
 
-/// Evaluations of lookups, the last of one lookup alone.
-fn evaluate<AB: PermutationAirBuilder + Fresh + ShowAsserted>(
-    alloc: Global,
-    out: &mut Out,
-    lookups: &[Lookup<AB::F>],
-    local: &[Lookup<AB::F>],
-) -> Option<()>
-where
-    AB::F: Debug,
-{
-    evaluate_alone::<AB>(alloc, out, lookups, 0, "eval_all")?;
-    evaluate_alone::<AB>(alloc, out, lookups, 1, "eval_accumulator")?;
-    evaluate_alone::<AB>(alloc, out, lookups, 2, "eval_air_and_lookups")?;
-    evaluate_alone::<AB>(alloc, out, local, 3, "eval_fraction")?;
-    state(out, "input of", "evaluation", &(lookups, local));
+/// The row checker twice over a trace of zeros.
+pub fn rows(alloc: Global, out: &mut Out) -> Option<()> {
+    let main: RowMajorMatrix<F7> = trace(alloc, &[0; 6], 3)?;
+    show_checked(alloc, out, &main);
+    show_checked(alloc, out, &main);
     Some(())
 }
 
-/// The row checker twice over a trace.
-fn check_twice(alloc: Global, out: &mut Out) -> Option<()> {
-    let main: RowMajorMatrix<F7> = trace(alloc, &BALANCED, 3)?;
-    for _ in 0..2 {
-        show_checked(alloc, out, &main);
-        state(out, "input of", "check_rows", &main);
-    }
-    Some(())
+/// The evaluation of this name, twice.
+fn evaluate_twice(alloc: Global, out: &mut Out, lookups: &[Lookup<F7>], name: &str) -> Option<()> {
+    over_builder::<F7>(alloc, name, out, &[], lookups)?;
+    over_builder::<F7>(alloc, name, out, &[], lookups)
 }
 
-/// The row checker, and the evaluations of lookups, over the same lookups twice.
-pub fn evaluation<AB: PermutationAirBuilder + Fresh + ShowAsserted>(
-    alloc: Global,
-    out: &mut Out,
-) -> Option<()>
-where
-    AB::F: Debug + DeserializeOwned,
-{
-    check_twice(alloc, out)?;
-    let lookups: Vec<Lookup<AB::F>> = lookups_of(alloc, LOOKUPS)?;
-    let local: Vec<Lookup<AB::F>> = lookups_of(alloc, LOCAL)?;
-    let (lookups, local) = (lookups.as_slice(), local.as_slice());
-    evaluate::<AB>(alloc, out, lookups, local)?;
-    evaluate::<AB>(alloc, out, lookups, local)
+/// All evaluations of lookups.
+fn evaluate_all(alloc: Global, out: &mut Out, lookups: &[Lookup<F7>]) -> Option<()> {
+    evaluate_twice(alloc, out, lookups, "eval_all")?;
+    evaluate_twice(alloc, out, lookups, "eval_accumulator")?;
+    evaluate_twice(alloc, out, lookups, "eval_air_and_lookups")?;
+    evaluate_twice(alloc, out, lookups, "eval_fraction")
+}
+
+/// The evaluations of the lookups of a text.
+pub fn evaluation(alloc: Global, out: &mut Out) -> Option<()> {
+    let lookups = lookups_of(alloc, LOOKUPS)?;
+    evaluate_all(alloc, out, lookups.as_slice())?;
+    state(out, "input of", "evaluation", &lookups);
+    Some(())
 }

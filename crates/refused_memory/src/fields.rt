@@ -83,17 +83,19 @@ const OF_BABY_BEAR4: [&str; 5] = [
 
 /// The calls of elements as expressions, which take no memory.
 fn elements(alloc: Global, out: &mut Out) {
-    nodes::<F2, F2>(alloc, out, &OF_F2);
-    nodes::<F7, F7>(alloc, out, &OF_F7);
-    nodes::<BabyBear, BabyBear>(alloc, out, &OF_BABY_BEAR);
-    nodes::<BabyBear4, BabyBear4>(alloc, out, &OF_BABY_BEAR4);
+    nodes::<F2, F2>(alloc, out, &OF_F2, &F2::new(1));
+    nodes::<F7, F7>(alloc, out, &OF_F7, &F7::new(5));
+    nodes::<BabyBear, BabyBear>(alloc, out, &OF_BABY_BEAR, &BabyBear::new(123));
+    let quartic = BabyBear4::new([1, 22, 333, 4444].map(BabyBear::new));
+    nodes::<BabyBear4, BabyBear4>(alloc, out, &OF_BABY_BEAR4, &quartic);
 }
 
 /// The calls of fields, twice.
-pub fn fields(alloc: Global, out: &mut Out) {
+pub fn fields(alloc: Global, out: &mut Out) -> Option<()> {
     for _ in 0..2 {
         texts(alloc, out);
         lists(alloc, out);
         elements(alloc, out);
     }
+    Some(())
 }

@@ -1,13 +1,15 @@
 //! The inputs of the calls.
+ghost use Rattle.std.specs.Prelude.{◌≡◌};
+ghost use Rattle.refused_memory.specs.Layout.{swept_layout};
+
 use air::{
-    AirError, AirLayout, BaseEntry, BaseLeaf, SymbolicAirBuilder, SymbolicExpression,
-    SymbolicVariable,
+    AirLayout, BaseEntry, BaseLeaf, SymbolicAirBuilder, SymbolicExpression, SymbolicVariable,
 };
-use field::{Field, PrimeCharacteristicRing};
+use field::{F7, Field, PrimeCharacteristicRing};
 use lookup::{InteractionSymbolicBuilder, Lookup};
 use matrix::RowMajorMatrix;
-use serde::{Deserialize, DeserializeOwned};
-use std::alloc::Global;
+use serde::Deserialize;
+use std::alloc::{AllocError, Global};
 
 /// A local lookup that reads cell 0 and provides cell 1, cell 2 times; the same by two lookups on a bus; and
 /// a group on that bus with the flag of cell 2, whose count is 0.
@@ -47,11 +49,11 @@ pub const UNBALANCED: [u32; 6] = [3, 4, 1, 4, 6, 1];
 /// A row whose flag is 2.
 pub const UNLAWFUL: [u32; 3] = [3, 4, 2];
 
+/// A row whose key is the alpha 5.
+pub const VANISHING: [u32; 3] = [5, 4, 1];
+
 /// The lookups of a text.
-pub fn lookups_of<F: DeserializeOwned>(
-    alloc: Global,
-    text: &'static str,
-) -> Option<Vec<Lookup<F>>> {
+pub fn lookups_of(alloc: Global, text: &'static str) -> Option<Vec<Lookup<F7>>> {
     read(alloc, text)
 }
 
@@ -66,6 +68,13 @@ pub fn cell<F>(index: usize) -> SymbolicExpression<F> {
         BaseEntry::Main { offset: 0 },
         index,
     )))
+}
+
+/// A list of one value.
+pub fn alone<T: Drop>(alloc: Global, value: T) -> Result<Vec<T>, AllocError> {
+    let mut values = Vec::new(alloc);
+    values.push(value)?;
+    Ok(values)
 }
 
 /// These numbers as elements.
@@ -96,25 +105,10 @@ pub type Builder<F> = SymbolicAirBuilder<F, F>;
 /// The builder that keeps records as well.
 pub type Recorder<F> = InteractionSymbolicBuilder<F, F>;
 
-/// A builder that can be made without any assertions or records.
-pub trait Fresh: Sized + Drop {
-    fn fresh(alloc: Global) -> Result<Self, AirError>;
-}
-
-impl<F: Field> Fresh for Builder<F> {
-    fn fresh(alloc: Global) -> Result<Self, AirError> {
-        SymbolicAirBuilder::new(alloc, layout())
-    }
-}
-
-impl<F: Field> Fresh for Recorder<F> {
-    fn fresh(alloc: Global) -> Result<Self, AirError> {
-        InteractionSymbolicBuilder::new(alloc, layout())
-    }
-}
-
-/// The layout of [`EachRecord`](crate::each_record::EachRecord) with room for four lookups.
-pub fn layout() -> AirLayout {
+/// The layout of the AIRs with room for four lookups.
+pub fn layout() -> AirLayout
+    ensures { result ≡ swept_layout }
+{
     AirLayout {
         preprocessed_width: 0,
         main_width: 3,

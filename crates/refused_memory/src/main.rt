@@ -4,18 +4,20 @@
 //!   each answer and each input. The tool refuses it one request for memory after another.
 //! - `refused_memory lines lookups` reads each line of its input as lookups, and writes them again, or why
 //!   they are refused; `lines declarations` does so with indexed declarations.
-//! - `refused_memory deep CALL FORM DEPTH` makes one call on an expression of this form and depth.
+//! - `refused_memory deep KIND FORM DEPTH` makes the calls on an expression of this form and depth, or on a
+//!   lookup of it.
 #![tactic(auto)]
 
+mod airs;
 mod batches;
 mod builders;
 mod depths;
-mod each_record;
 mod evaluations;
 mod fields;
 mod generations;
 mod inputs;
 mod layouts;
+mod over;
 mod plans;
 mod records;
 mod sets;
@@ -23,140 +25,58 @@ mod show;
 mod texts;
 mod trees;
 
-use air::{Air, PermutationAirBuilder};
-use builders::ShowAsserted;
-use each_record::EachRecord;
-use field::{BabyBear, BabyBear4, F7, Field};
-use inputs::{Builder, Fresh, Recorder};
-use serde::{DeserializeOwned, Serialize};
+use field::{BabyBear, BabyBear4, F7};
 use show::Out;
 use std::alloc::Global;
 use std::env;
-use std::fmt::Debug;
-use std::io::{BufReader, BufWriter, Read, Write};
+use std::io::{BufReader, BufWriter, Write};
 use std::process::ExitCode;
-use texts::TextKind;
 
 /// Makes the calls of a group. None where one of its inputs can't be made.
-fn group<F: Field + Debug + DeserializeOwned + Serialize>(
-    alloc: Global,
-    name: &str,
-    out: &mut Out,
-) -> Option<()> {
+fn group(alloc: Global, name: &str, out: &mut Out) -> Option<()> {
     match name {
-        "builders" | "evaluation" => over_builder::<F>(alloc, name, out),
-        "pushes" => over_recorder::<F>(alloc, out),
-        "records" | "declarations" | "sets" => over_air::<F>(alloc, name, out),
-        "generation" => generations::generation::<F, F>(alloc, out),
-        "extension" => generations::generation::<BabyBear, BabyBear4>(alloc, out),
-        _ => group_over_field::<F>(alloc, name, out),
-    }
-}
-
-/// The calls of a group with the builder that keeps assertions. A function of its own, like the next two: it
-/// is dear to prove that a given builder goes to code over any builder.
-fn over_builder<F: Field + Debug + DeserializeOwned>(
-    alloc: Global,
-    name: &str,
-    out: &mut Out,
-) -> Option<()> {
-    group_over_builder::<Builder<F>>(alloc, name, out)
-}
-
-/// All pushes, with the builder that keeps records.
-fn over_recorder<F: Field + Debug>(alloc: Global, out: &mut Out) -> Option<()> {
-    builders::pushes::<Recorder<F>>(alloc, out)
-}
-
-/// The calls of a group with the AIR that makes a record of each kind.
-fn over_air<F: Field + Debug + DeserializeOwned>(
-    alloc: Global,
-    name: &str,
-    out: &mut Out,
-) -> Option<()> {
-    group_over_air::<F, EachRecord>(alloc, name, out, &EachRecord)
-}
-
-/// The calls of a group over a builder.
-fn group_over_builder<AB: PermutationAirBuilder + Fresh + ShowAsserted + Debug>(
-    alloc: Global,
-    name: &str,
-    out: &mut Out,
-) -> Option<()>
-where
-    AB::F: Debug + DeserializeOwned,
-    AB::Expr: Debug,
-    AB::MainWindow: Debug,
-    AB::MP: Debug,
-{
-    match name {
-        "builders" => builders::builders::<AB>(alloc, out),
-        _ => evaluations::evaluation::<AB>(alloc, out),
-    }
-}
-
-/// The calls of a group over an AIR.
-fn group_over_air<F: Field + Debug + DeserializeOwned, A: Air<Recorder<F>>>(
-    alloc: Global,
-    name: &str,
-    out: &mut Out,
-    air: &A,
-) -> Option<()> {
-    match name {
-        "records" => records::records::<F, A>(alloc, out, air),
-        "declarations" => records::declarations::<F, A>(alloc, out, air),
-        _ => sets::sets::<F, A>(alloc, out, air),
-    }
-}
-
-/// The calls of a group over a field alone.
-fn group_over_field<F: Field + Debug + DeserializeOwned + Serialize>(
-    alloc: Global,
-    name: &str,
-    out: &mut Out,
-) -> Option<()> {
-    match name {
-        "expressions" => trees::expressions::<F>(alloc, out),
-        "lookups" => sets::lookups::<F>(alloc, out),
-        "json" => texts::json::<F>(alloc, out),
-        "chunks" => generations::chunks::<F>(alloc, out),
-        "batch" => batches::batch::<F>(alloc, out),
-        "debug" => batches::debug::<F>(alloc, out),
-        _ => group_of_rest::<F>(alloc, name, out),
+        "builders" => builders::builders(alloc, out),
+        "pushes" => builders::pushes::<F7>(alloc, out),
+        "records" => records::records::<F7>(alloc, out),
+        "declarations" => records::declarations::<F7>(alloc, out),
+        "sets" => sets::sets(alloc, out),
+        "expressions" => trees::expressions(alloc, out),
+        "evaluation" => evaluations::evaluation(alloc, out),
+        "rows" => evaluations::rows(alloc, out),
+        _ => group_of_rest(alloc, name, out),
     }
 }
 
 /// The calls of the groups that are left. A function of its own, since each further arm of a `match` costs
 /// more to prove.
-fn group_of_rest<F: Field + Debug + DeserializeOwned>(
-    alloc: Global,
-    name: &str,
-    out: &mut Out,
-) -> Option<()> {
+fn group_of_rest(alloc: Global, name: &str, out: &mut Out) -> Option<()> {
     match name {
-        "fields" => {
-            fields::fields(alloc, out);
-            Some(())
-        }
+        "fields" => fields::fields(alloc, out),
+        "lookups" => sets::lookups(alloc, out),
+        "json" => texts::json(alloc, out),
         "challenges" => generations::challenges(alloc, out),
-        "plans" => plans::batch_plans::<F>(alloc, out),
+        "generation" => generations::generation::<F7, F7>(alloc, out),
+        "extension" => generations::generation::<BabyBear, BabyBear4>(alloc, out),
+        "chunks" => generations::chunks(alloc, out),
+        "batch" => batches::batch(alloc, out),
+        "debug" => batches::debug(alloc, out),
+        "plans" => plans::batch_plans(alloc, out),
         "memory" => plans::memory(alloc, out),
         _ => None,
     }
 }
 
 /// What the words ask for. None where an input can't be made, or memory runs out.
-fn answer<R: Read + Drop>(alloc: Global, words: &[String], input: R, out: &mut Out) -> Option<()> {
+fn answer(alloc: Global, words: &[String], rt: &HostRuntime, out: &mut Out) -> Option<()> {
     match words {
-        [name] => group::<F7>(alloc, name.as_str(), out),
+        [name] => group(alloc, name.as_str(), out),
         [word, kind] if word.as_str() == "lines" => {
-            let kind = TextKind::of_word(kind.as_str())?;
-            let input = BufReader::new(alloc, input).ok()?;
-            texts::lines(alloc, input, out, kind)
+            let input = BufReader::new(alloc, rt.stdin()).ok()?;
+            texts::lines(alloc, input, out, kind.as_str())
         }
-        [word, call, form, depth] if word.as_str() == "deep" => {
+        [word, kind, form, depth] if word.as_str() == "deep" => {
             let depth = depth.as_str().parse::<usize>().ok()?;
-            depths::deep::<F7>(alloc, out, call.as_str(), form.as_str(), depth)
+            depths::deep(alloc, out, kind.as_str(), form.as_str(), depth)
         }
         _ => None,
     }
@@ -174,7 +94,7 @@ fn main(rt: HostRuntime) -> ExitCode {
     let Ok(words) = words.skip(1).collect::<Vec<String>>(alloc) else {
         return ExitCode::from(3);
     };
-    let made = answer(alloc, words.as_slice(), rt.stdin(), &mut out);
+    let made = answer(alloc, words.as_slice(), &rt, &mut out);
     if out.flush().is_ok() && made.is_some() {
         ExitCode::SUCCESS
     } else {

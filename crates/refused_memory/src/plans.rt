@@ -1,39 +1,37 @@
 //! Calls of plans, and of the memory check.
-use crate::inputs::{BALANCED, LOOKUPS, UNBALANCED, UNEVEN, UNEVEN_LOCAL, elements, trace};
+use crate::inputs::{BALANCED, LOOKUPS, UNBALANCED, UNEVEN, UNEVEN_LOCAL, trace};
 use crate::sets::set;
 use crate::show::{Out, show, show_or_no_input, state};
 use batch::{BatchError, BatchPlan, BatchTrace};
-use checker::{SoundnessCount, Witness};
-use field::{BabyBear, BabyBear4, Field, PrimeCharacteristicRing};
+use checker::Witness;
+use field::{BabyBear, BabyBear4, F7, PrimeCharacteristicRing};
 use matrix::RowMajorMatrix;
 use memory_check::{MemoryTraces, check_memory, memory_plan};
-use serde::DeserializeOwned;
 use std::alloc::Global;
-use std::fmt::Debug;
 
 /// A plan of one AIR whose lookups have this text. None if an input can't be made.
-fn plan_of<F: Field + DeserializeOwned>(
+fn plan_of(
     alloc: Global,
     text: &'static str,
     heights: &[usize],
-) -> Option<Result<BatchPlan<F>, BatchError>> {
+) -> Option<Result<BatchPlan<F7>, BatchError>> {
     let airs = Vec::from_array(alloc, [set(alloc, text)?]).ok()?;
     let heights = Vec::from_slice(alloc, heights).ok()?;
     Some(BatchPlan::new(alloc, airs, heights))
 }
 
 /// Plans that are accepted, and refused for their heights, their widths and their weights.
-fn make_plans<F: Field + Debug + DeserializeOwned>(alloc: Global, out: &mut Out) {
+fn make_plans(alloc: Global, out: &mut Out) {
     let call = "BatchPlan::new";
-    show_or_no_input(out, call, plan_of::<F>(alloc, LOOKUPS, &[2]));
-    show_or_no_input(out, call, plan_of::<F>(alloc, LOOKUPS, &[2, 2]));
-    show_or_no_input(out, call, plan_of::<F>(alloc, UNEVEN, &[2]));
-    show_or_no_input(out, call, plan_of::<F>(alloc, UNEVEN_LOCAL, &[2]));
-    show_or_no_input(out, call, plan_of::<F>(alloc, LOOKUPS, &[3]));
+    show_or_no_input(out, call, plan_of(alloc, LOOKUPS, &[2]));
+    show_or_no_input(out, call, plan_of(alloc, LOOKUPS, &[2, 2]));
+    show_or_no_input(out, call, plan_of(alloc, UNEVEN, &[2]));
+    show_or_no_input(out, call, plan_of(alloc, UNEVEN_LOCAL, &[2]));
+    show_or_no_input(out, call, plan_of(alloc, LOOKUPS, &[3]));
 }
 
 /// A main trace alone.
-fn alone<F>(main: &RowMajorMatrix<F>) -> BatchTrace<'_, F> {
+fn alone(main: &RowMajorMatrix<F7>) -> BatchTrace<'_, F7> {
     BatchTrace {
         main,
         preprocessed: None,
@@ -41,60 +39,23 @@ fn alone<F>(main: &RowMajorMatrix<F>) -> BatchTrace<'_, F> {
     }
 }
 
-/// The witness of a trace.
-fn prove<F: Field>(
-    alloc: Global,
-    plan: &BatchPlan<F>,
-    main: &RowMajorMatrix<F>,
-) -> Result<Witness<F>, BatchError> {
-    let traces = [alone(main)];
-    plan.prove(alloc, traces.as_slice(), F::from_u32(5), F::from_u32(2))
+/// The witness of the trace that balances.
+fn accepted_witness(alloc: Global, plan: &BatchPlan<F7>) -> Option<Witness<F7>> {
+    let main = trace(alloc, &BALANCED, 3)?;
+    let traces = [alone(&main)];
+    plan.prove(alloc, traces.as_slice(), F7::new(5), F7::new(2))
+        .ok()
 }
 
-/// The answer to a witness of a trace.
-fn verify<F: Field>(
-    alloc: Global,
-    plan: &BatchPlan<F>,
-    main: &RowMajorMatrix<F>,
-    witness: &Witness<F>,
-) -> Result<(), BatchError> {
-    let traces = [alone(main)];
-    let (alpha, beta) = (F::from_u32(5), F::from_u32(2));
-    plan.verify(alloc, traces.as_slice(), alpha, beta, witness)
-}
-
-/// The counts of a plan over a trace.
-fn count<F: Field>(
-    alloc: Global,
-    plan: &BatchPlan<F>,
-    main: &RowMajorMatrix<F>,
-) -> Result<SoundnessCount, BatchError> {
-    let traces = [alone(main)];
-    plan.soundness_count::<F>(alloc, traces.as_slice())
-}
-
-/// The call that counts over a grid of challenges.
-fn show_grid_count<F: Field>(
+/// What a plan says of itself, which takes no memory, and the calls of a prover and of a verifier, and those
+/// that count.
+fn on_plan(
     alloc: Global,
     out: &mut Out,
-    plan: &BatchPlan<F>,
-    main: &RowMajorMatrix<F>,
-) -> Option<()> {
-    let traces = [alone(main)];
-    let alphas = elements::<F>(alloc, &[1, 5])?;
-    let betas = elements::<F>(alloc, &[2, 3])?;
-    let answer = plan.grid_count(
-        alloc,
-        traces.as_slice(),
-        alphas.as_slice(),
-        betas.as_slice(),
-    );
-    show(out, "BatchPlan::grid_count", answer);
-    Some(())
-}
-
-/// What a plan says of itself, which takes no memory.
-fn parts<F: Field>(out: &mut Out, plan: &BatchPlan<F>) {
+    plan: &BatchPlan<F7>,
+    traces: &[BatchTrace<'_, F7>],
+    witness: &Witness<F7>,
+) {
     show(out, "BatchPlan::ids", plan.ids().len());
     show(
         out,
@@ -102,64 +63,53 @@ fn parts<F: Field>(out: &mut Out, plan: &BatchPlan<F>) {
         plan.max_message_width(),
     );
     show(out, "BatchPlan::num_ids", plan.num_ids());
-}
-
-/// The calls of a prover and of a verifier, and those that count.
-fn on_plan<F: Field + Debug>(
-    alloc: Global,
-    out: &mut Out,
-    plan: &BatchPlan<F>,
-    main: &RowMajorMatrix<F>,
-    witness: &Witness<F>,
-) -> Option<()> {
-    show(out, "BatchPlan::prove", prove(alloc, plan, main));
-    show(out, "BatchPlan::verify", verify(alloc, plan, main, witness));
-    show(out, "BatchPlan::soundness_count", count(alloc, plan, main));
-    show_grid_count(alloc, out, plan, main)?;
-    state(out, "input of", "plans", main);
-    Some(())
+    let (alpha, beta) = (F7::new(5), F7::new(2));
+    show(
+        out,
+        "BatchPlan::prove",
+        plan.prove(alloc, traces, alpha, beta),
+    );
+    let answer = plan.verify(alloc, traces, alpha, beta, witness);
+    show(out, "BatchPlan::verify", answer);
+    let counts = plan.soundness_count::<F7>(alloc, traces);
+    show(out, "BatchPlan::soundness_count", counts);
+    let (alphas, betas) = ([F7::new(1), alpha], [beta, F7::new(3)]);
+    let answer = plan.grid_count(alloc, traces, alphas.as_slice(), betas.as_slice());
+    show(out, "BatchPlan::grid_count", answer);
 }
 
 /// All calls of a plan over a trace, twice.
-fn over<F: Field + Debug>(
+fn over(
     alloc: Global,
     out: &mut Out,
-    plan: &BatchPlan<F>,
+    plan: &BatchPlan<F7>,
     numbers: &[u32],
-    witness: &Witness<F>,
+    witness: &Witness<F7>,
 ) -> Option<()> {
     let main = trace(alloc, numbers, 3)?;
-    on_plan(alloc, out, plan, &main, witness)?;
-    on_plan(alloc, out, plan, &main, witness)
-}
-
-/// The witness of the trace that balances.
-fn accepted_witness<F: Field>(alloc: Global, plan: &BatchPlan<F>) -> Option<Witness<F>> {
-    let main = trace(alloc, &BALANCED, 3)?;
-    prove(alloc, plan, &main).ok()
+    let traces = [alone(&main)];
+    on_plan(alloc, out, plan, traces.as_slice(), witness);
+    on_plan(alloc, out, plan, traces.as_slice(), witness);
+    state(out, "input of", "plans", &main);
+    Some(())
 }
 
 /// All calls of a plan.
-fn on_all<F: Field + Debug>(alloc: Global, out: &mut Out, plan: &BatchPlan<F>) -> Option<()> {
-    parts(out, plan);
+fn on_all(alloc: Global, out: &mut Out, plan: &BatchPlan<F7>) -> Option<()> {
     let accepted = accepted_witness(alloc, plan)?;
     over(alloc, out, plan, &BALANCED, &accepted)?;
     over(alloc, out, plan, &UNBALANCED, &accepted)?;
     over(alloc, out, plan, &UNBALANCED[..3], &accepted)?;
     state(out, "input of", "plans", &accepted);
     state(out, "input of", "plans", plan);
-    parts(out, plan);
     Some(())
 }
 
 /// The calls of plans.
-pub fn batch_plans<F: Field + Debug + DeserializeOwned>(
-    alloc: Global,
-    out: &mut Out,
-) -> Option<()> {
-    make_plans::<F>(alloc, out);
-    make_plans::<F>(alloc, out);
-    let plan = plan_of::<F>(alloc, LOOKUPS, &[2])?.ok()?;
+pub fn batch_plans(alloc: Global, out: &mut Out) -> Option<()> {
+    make_plans(alloc, out);
+    make_plans(alloc, out);
+    let plan = plan_of(alloc, LOOKUPS, &[2])?.ok()?;
     on_all(alloc, out, &plan)
 }
 

@@ -1,11 +1,12 @@
 //! Calls of recorders, of records, of counts and of indexed declarations.
-use crate::inputs::{Recorder, cell, layout};
-use crate::show::{Out, show, show_or_no_input, state};
-use air::{Air, AirBuilder, AirLayout, Expression, SymbolicExpression};
+use crate::airs::EachRecord;
+use crate::inputs::{Recorder, cell, layout, read};
+use crate::show::{Out, show, state};
+use air::{AirBuilder, AirLayout, Expression};
 use field::Field;
-use lookup::{Count, IndexedLookupError, IndexedLookups, IndexedRead, IndexedTable, TraceWindow};
+use lookup::{Count, IndexedDeclarations, IndexedLookups};
 use lookup_indexed::check_declarations;
-use std::alloc::{AllocError, Global};
+use std::alloc::Global;
 use std::fmt::Debug;
 
 /// A layout of too few columns for the AIR.
@@ -17,12 +18,12 @@ fn narrow() -> AirLayout {
 }
 
 /// Calls that make a recorder.
-fn make_recorders<F: Field + Debug, A: Air<Recorder<F>>>(alloc: Global, out: &mut Out, air: &A) {
+fn make_recorders<F: Field + Debug>(alloc: Global, out: &mut Out) {
     let answer = Recorder::<F>::new(alloc, layout());
     show(out, "InteractionSymbolicBuilder::new", answer);
-    let answer = Recorder::<F>::from_air(alloc, air, layout());
+    let answer = Recorder::<F>::from_air(alloc, &EachRecord, layout());
     show(out, "InteractionSymbolicBuilder::from_air", answer);
-    let answer = Recorder::<F>::from_air(alloc, air, narrow());
+    let answer = Recorder::<F>::from_air(alloc, &EachRecord, narrow());
     show(out, "InteractionSymbolicBuilder::from_air, narrow", answer);
 }
 
@@ -40,15 +41,15 @@ fn read_recorder<F: Field + Debug>(alloc: Global, out: &mut Out, builder: &Recor
 
 /// Copies of the records.
 fn copy_records<F: Field + Debug>(alloc: Global, out: &mut Out, builder: &Recorder<F>) {
-    for record in builder.global_interactions() {
+    if let [record, ..] = builder.global_interactions() {
         show(out, "copy of an interaction", record.copy(alloc));
     }
-    for record in builder.local_interactions() {
+    if let [record, ..] = builder.local_interactions() {
         show(out, "copy of a local interaction", record.copy(alloc));
     }
-    for record in builder.exclusive_interactions() {
+    if let [record, ..] = builder.exclusive_interactions() {
         show(out, "copy of a group", record.copy(alloc));
-        for branch in &record.branches {
+        if let [branch, ..] = record.branches.as_slice() {
             show(out, "copy of a branch", branch.copy(alloc));
         }
     }
@@ -56,30 +57,20 @@ fn copy_records<F: Field + Debug>(alloc: Global, out: &mut Out, builder: &Record
 
 /// Copies of the declarations.
 fn copy_declarations<F: Field>(alloc: Global, out: &mut Out, builder: &Recorder<F>) {
-    for read in builder.indexed_reads() {
+    if let [read, ..] = builder.indexed_reads() {
         show(out, "copy of a read", read.copy(alloc));
     }
-    for table in builder.indexed_tables() {
+    if let [table, ..] = builder.indexed_tables() {
         show(out, "copy of a table", table.copy(alloc));
     }
 }
 
-/// A count of weight 3, the negative of a cell.
-fn negative<F: Field>(alloc: Global) -> Option<Count<SymbolicExpression<F>>> {
-    Some(Count::bounded(cell(2).neg(alloc).ok()?, 3))
-}
-
-/// The negative of that count.
-fn negate_negative<F: Field>(
-    alloc: Global,
-) -> Option<Result<Count<SymbolicExpression<F>>, AllocError>> {
-    Some(negative::<F>(alloc)?.negate(alloc))
-}
-
-/// Calls of counts.
-fn counts<F: Field + Debug>(alloc: Global, out: &mut Out, of: &Count<SymbolicExpression<F>>) {
-    show(out, "copy of a count", of.copy(alloc));
-    show_or_no_input(out, "negate", negate_negative::<F>(alloc));
+/// Calls of a count of weight 3, the negative of a cell.
+fn on_count<F: Field + Debug>(alloc: Global, out: &mut Out) -> Option<()> {
+    let count = Count::bounded(cell::<F>(2).neg(alloc).ok()?, 3);
+    show(out, "copy of a count", count.copy(alloc));
+    show(out, "negate", count.negate(alloc));
+    Some(())
 }
 
 /// Calls on a recorder.
@@ -90,112 +81,73 @@ fn on_recorder<F: Field + Debug>(alloc: Global, out: &mut Out, builder: &Recorde
     state(out, "input of", "records", builder);
 }
 
-/// The calls of counts, of recorders and of records, over the same ones twice.
-pub fn records<F: Field + Debug, A: Air<Recorder<F>>>(
-    alloc: Global,
-    out: &mut Out,
-    air: &A,
-) -> Option<()> {
-    let three = negative::<F>(alloc)?;
-    let builder = Recorder::<F>::from_air(alloc, air, layout()).ok()?;
-    for _ in 0..2 {
-        counts(alloc, out, &three);
-        make_recorders::<F, A>(alloc, out, air);
-        on_recorder(alloc, out, &builder);
-    }
+/// The calls of counts, of recorders and of records, over the same recorder twice.
+pub fn records<F: Field + Debug>(alloc: Global, out: &mut Out) -> Option<()> {
+    on_count::<F>(alloc, out)?;
+    make_recorders::<F>(alloc, out);
+    let builder = Recorder::<F>::from_air(alloc, &EachRecord, layout()).ok()?;
+    on_recorder(alloc, out, &builder);
+    on_recorder(alloc, out, &builder);
     drop(builder);
+    on_count::<F>(alloc, out)?;
+    make_recorders::<F>(alloc, out);
     Some(())
 }
 
-/// A reader of columns.
-fn reader(alloc: Global, position: usize, payload: &[usize]) -> Option<Vec<IndexedRead>> {
-    let read = IndexedRead {
-        table: String::from_str(alloc, "table").ok()?,
-        position,
-        payload: Vec::from_slice(alloc, payload).ok()?,
-    };
-    Vec::from_array(alloc, [read]).ok()
+/// The calls that check the declarations of a text, and make a set of them.
+fn declare(alloc: Global, out: &mut Out, text: &'static str) -> Option<()> {
+    let declared: IndexedDeclarations = read(alloc, text)?;
+    let (reads, tables) = (declared.reads.as_slice(), declared.tables.as_slice());
+    let answer = check_declarations(alloc, reads, tables, &layout());
+    show(out, "check_declarations", answer);
+    let answer = IndexedLookups::new(alloc, declared.reads, declared.tables, &layout());
+    show(out, "IndexedLookups::new", answer);
+    Some(())
 }
 
-/// A table of columns.
-fn table(alloc: Global, columns: &[usize]) -> Option<Vec<IndexedTable>> {
-    let table = IndexedTable {
-        name: String::from_str(alloc, "table").ok()?,
-        window: TraceWindow::Main,
-        columns: Vec::from_slice(alloc, columns).ok()?,
-    };
-    Vec::from_array(alloc, [table]).ok()
-}
+/// Declarations that are accepted.
+const DECLARED: &str =
+    r#"{"reads":[{"table":"table","position":0,"payload":[1,2]}],"tables":[{"name":"table","window":"Main","columns":[1]}]}"#;
 
-/// The check of a reader and a table. None if they can't be made.
-fn check_lists(
-    alloc: Global,
-    position: usize,
-    payload: &[usize],
-    columns: &[usize],
-) -> Option<Result<(), IndexedLookupError>> {
-    let (reads, tables) = (reader(alloc, position, payload)?, table(alloc, columns)?);
-    Some(check_declarations(alloc, reads.as_slice(), tables.as_slice(), &layout()))
-}
+/// A reader at a column that is not there.
+const FAR_POSITION: &str =
+    r#"{"reads":[{"table":"table","position":9,"payload":[1]}],"tables":[{"name":"table","window":"Main","columns":[1]}]}"#;
 
-/// The set of a reader and a table. None if they can't be made.
-fn build_set(
-    alloc: Global,
-    position: usize,
-    payload: &[usize],
-    columns: &[usize],
-) -> Option<Result<IndexedLookups, IndexedLookupError>> {
-    let (reads, tables) = (reader(alloc, position, payload)?, table(alloc, columns)?);
-    Some(IndexedLookups::new(alloc, reads, tables, &layout()))
-}
+/// A reader of no columns.
+const NO_PAYLOAD: &str =
+    r#"{"reads":[{"table":"table","position":0,"payload":[]}],"tables":[{"name":"table","window":"Main","columns":[1]}]}"#;
 
-/// Both calls.
-fn declare(alloc: Global, out: &mut Out, position: usize, payload: &[usize], columns: &[usize]) {
-    let answer = check_lists(alloc, position, payload, columns);
-    show_or_no_input(out, "check_declarations", answer);
-    let answer = build_set(alloc, position, payload, columns);
-    show_or_no_input(out, "IndexedLookups::new", answer);
-}
+/// A reader of one column twice.
+const REPEATED_PAYLOAD: &str =
+    r#"{"reads":[{"table":"table","position":0,"payload":[1,1]}],"tables":[{"name":"table","window":"Main","columns":[1]}]}"#;
+
+/// A table of no columns.
+const NO_COLUMNS: &str =
+    r#"{"reads":[{"table":"table","position":0,"payload":[1]}],"tables":[{"name":"table","window":"Main","columns":[]}]}"#;
+
+/// A table of a column that is not there.
+const FAR_COLUMN: &str =
+    r#"{"reads":[{"table":"table","position":0,"payload":[1]}],"tables":[{"name":"table","window":"Main","columns":[9]}]}"#;
 
 /// A set that is accepted, and one with each fault.
-fn declare_all(alloc: Global, out: &mut Out) {
-    declare(alloc, out, 0, &[1, 2], &[1]);
-    declare(alloc, out, 9, &[1], &[1]);
-    declare(alloc, out, 0, &[], &[1]);
-    declare(alloc, out, 0, &[1, 1], &[1]);
-    declare(alloc, out, 0, &[1], &[]);
-    declare(alloc, out, 0, &[1], &[9]);
+fn declare_all(alloc: Global, out: &mut Out) -> Option<()> {
+    declare(alloc, out, DECLARED)?;
+    declare(alloc, out, FAR_POSITION)?;
+    declare(alloc, out, NO_PAYLOAD)?;
+    declare(alloc, out, REPEATED_PAYLOAD)?;
+    declare(alloc, out, NO_COLUMNS)?;
+    declare(alloc, out, FAR_COLUMN)
 }
 
-/// Calls of sets of declarations.
-fn on_declarations(alloc: Global, out: &mut Out, accepted: &IndexedLookups) {
-    show(out, "copy of indexed lookups", accepted.copy(alloc));
-    declare_all(alloc, out);
-    state(out, "input of", "declarations", accepted);
-}
-
-/// The declarations of an AIR.
-fn declared<F: Field, A: Air<Recorder<F>>>(
-    alloc: Global,
-    air: &A,
-) -> Result<IndexedLookups, IndexedLookupError> {
-    IndexedLookups::from_air::<F, F, A>(alloc, air)
-}
-
-/// The calls of indexed declarations, over the same set twice.
-pub fn declarations<F: Field, A: Air<Recorder<F>>>(
-    alloc: Global,
-    out: &mut Out,
-    air: &A,
-) -> Option<()> {
-    let accepted = declared::<F, A>(alloc, air).ok()?;
+/// The calls that make a set of declarations, of lists and of an AIR, and those on one, twice.
+pub fn declarations<F: Field>(alloc: Global, out: &mut Out) -> Option<()> {
+    declare_all(alloc, out)?;
+    let accepted = IndexedLookups::from_air::<F, F, EachRecord>(alloc, &EachRecord).ok()?;
     for _ in 0..2 {
-        show(
-            out,
-            "IndexedLookups::from_air",
-            declared::<F, A>(alloc, air),
-        );
-        on_declarations(alloc, out, &accepted);
+        let answer = IndexedLookups::from_air::<F, F, EachRecord>(alloc, &EachRecord);
+        show(out, "IndexedLookups::from_air", answer);
+        show(out, "copy of indexed lookups", accepted.copy(alloc));
+        state(out, "input of", "declarations", &accepted);
     }
-    Some(())
+    declare_all(alloc, out)
 }

@@ -11,13 +11,16 @@ pub fn show<T: Debug + Drop>(out: &mut Out, call: &str, answer: T) {
     let _ = writeln!(out, "{call}: {answer:?}");
 }
 
-/// Writes the same line, or that an input of the call can't be made.
+/// Writes that an input of a call can't be made.
+pub fn no_input(out: &mut Out, call: &str) {
+    let _ = writeln!(out, "{call}: no input");
+}
+
+/// Writes the line of a call, or that an input of it can't be made.
 pub fn show_or_no_input<T: Debug + Drop>(out: &mut Out, call: &str, answer: Option<T>) {
     match answer {
         Some(answer) => show(out, call, answer),
-        None => {
-            let _ = writeln!(out, "{call}: no input");
-        }
+        None => no_input(out, call),
     }
 }
 

@@ -2,13 +2,12 @@
 use crate::inputs::{LOOKUPS, layout};
 use crate::sets::set;
 use crate::show::{Out, show, state};
-use field::{BabyBear, BabyBear4, F7, Field};
+use field::{BabyBear, BabyBear4, F7};
 use lookup::{IndexedDeclarations, IndexedLookups, Lookup, LookupTerminal, Lookups};
 use serde::{Deserialize, DeserializeOwned, Serialize};
 use serde_json::Value;
 use serde_json::error::Category;
 use std::alloc::Global;
-use std::fmt::Debug;
 use std::io::{BufRead, Write};
 
 /// A reader at a table of two columns.
@@ -47,10 +46,10 @@ fn read_owned<T: DeserializeOwned>(alloc: Global, text: &str) -> Result<T, Categ
 }
 
 /// Calls that read.
-fn read_all<F: Debug + DeserializeOwned>(alloc: Global, out: &mut Out) {
-    let lookups: Result<Vec<Lookup<F>>, Category> = read(alloc, LOOKUPS.as_bytes());
+fn read_all(alloc: Global, out: &mut Out) {
+    let lookups: Result<Vec<Lookup<F7>>, Category> = read(alloc, LOOKUPS.as_bytes());
     show(out, "lookups read", lookups);
-    let lookups: Result<Vec<Lookup<F>>, Category> = read_owned(alloc, LOOKUPS);
+    let lookups: Result<Vec<Lookup<F7>>, Category> = read_owned(alloc, LOOKUPS);
     show(out, "lookups read from a value", lookups);
     let declarations: Result<IndexedDeclarations, Category> = read(alloc, DECLARATIONS.as_bytes());
     show(out, "declarations read", declarations);
@@ -59,16 +58,11 @@ fn read_all<F: Debug + DeserializeOwned>(alloc: Global, out: &mut Out) {
 }
 
 /// Calls that write.
-fn write_all<F: Field + Debug + Serialize>(
-    alloc: Global,
-    out: &mut Out,
-    set: &Lookups<F>,
-    declared: &IndexedLookups,
-    terminal: &LookupTerminal<BabyBear4>,
-) {
+fn write_all(alloc: Global, out: &mut Out, set: &Lookups<F7>, declared: &IndexedLookups) {
     show(out, "lookups written", written(alloc, set));
     show(out, "declarations written", written(alloc, declared));
-    show(out, "a terminal written", written(alloc, terminal));
+    let terminal = LookupTerminal(BabyBear4::new([1, 2013265920, 0, 4].map(BabyBear::new)));
+    show(out, "a terminal written", written(alloc, &terminal));
     state(out, "input of", "json", set);
 }
 
@@ -79,16 +73,12 @@ fn declared(alloc: Global) -> Option<IndexedLookups> {
 }
 
 /// The calls that read and write texts, twice.
-pub fn json<F: Field + Debug + Serialize + DeserializeOwned>(
-    alloc: Global,
-    out: &mut Out,
-) -> Option<()> {
-    let terminal = LookupTerminal(BabyBear4::new([1, 2013265920, 0, 4].map(BabyBear::new)));
+pub fn json(alloc: Global, out: &mut Out) -> Option<()> {
     let declared = declared(alloc)?;
-    let set: Lookups<F> = set(alloc, LOOKUPS)?;
+    let set = set(alloc, LOOKUPS)?;
     for _ in 0..2 {
-        read_all::<F>(alloc, out);
-        write_all(alloc, out, &set, &declared, &terminal);
+        read_all(alloc, out);
+        write_all(alloc, out, &set, &declared);
     }
     Some(())
 }
@@ -127,38 +117,14 @@ fn answer_declarations(alloc: Global, out: &mut Out, text: &[u8]) {
     }
 }
 
-/// What a text is read as.
-#[derive(Clone, Copy)]
-pub enum TextKind {
-    /// A list of lookups.
-    Lookups,
-    /// Indexed declarations.
-    Declarations,
-}
-
-impl TextKind {
-    /// The kind of this name.
-    pub fn of_word(word: &str) -> Option<TextKind> {
-        match word {
-            "lookups" => Some(TextKind::Lookups),
-            "declarations" => Some(TextKind::Declarations),
-            _ => None,
-        }
-    }
-}
-
 /// Reads each line of the input as a text of this kind.
-pub fn lines<R: BufRead + Drop>(
-    alloc: Global,
-    input: R,
-    out: &mut Out,
-    kind: TextKind,
-) -> Option<()> {
+pub fn lines<R: BufRead + Drop>(alloc: Global, input: R, out: &mut Out, kind: &str) -> Option<()> {
     for line in input.split(alloc, b'\n') {
         let text = line.ok()?;
         match kind {
-            TextKind::Lookups => answer_lookups(alloc, out, text.as_slice()),
-            TextKind::Declarations => answer_declarations(alloc, out, text.as_slice()),
+            "lookups" => answer_lookups(alloc, out, text.as_slice()),
+            "declarations" => answer_declarations(alloc, out, text.as_slice()),
+            _ => return None,
         }
     }
     Some(())
