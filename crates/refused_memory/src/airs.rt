@@ -32,13 +32,16 @@ pub const CALLS: [&str; 13] = [
     "assert_zero on the first row",
 ];
 
+/// So many of the first calls assert over the field and over the extension, and push a record of each kind.
+const OF_EACH_RECORD: usize = 7;
+
 /// Makes the call of this number.
 pub fn call<F: Field>(
     alloc: Global,
     builder: &mut Recorder<F>,
     number: usize,
 ) -> Result<(), AirError> {
-    if number < 7 {
+    if number < OF_EACH_RECORD {
         push(alloc, builder, number)
     } else {
         call_over_builder::<Recorder<F>>(alloc, builder, number)
@@ -52,7 +55,7 @@ fn key<F: Field>(alloc: Global) -> Result<Vec<SymbolicExpression<F>>, AllocError
     Ok(key)
 }
 
-/// Asserts, or makes a record of a kind, by one of the first seven numbers.
+/// Asserts, or pushes a record of a kind, by a number below [`OF_EACH_RECORD`].
 fn push<F: Field>(alloc: Global, builder: &mut Recorder<F>, number: usize) -> Result<(), AirError>
     ensures { OnOk result ((recorded_air builder.new).constraints.layout
         ≡ (recorded_air builder.old).constraints.layout) }
@@ -117,8 +120,7 @@ fn call_over_builder<AB: InteractionBuilder>(
     }
 }
 
-/// Three columns. Makes the first seven calls: it asserts over the field and over the extension, and pushes a
-/// record of each kind.
+/// Three columns. Makes the first [`OF_EACH_RECORD`] calls.
 pub struct EachRecord;
 
 impl<F> BaseAir<F> for EachRecord {
@@ -150,7 +152,7 @@ impl<F: Field> Air<InteractionSymbolicBuilder<F, F>> for EachRecord {
         alloc: Global,
         builder: &mut InteractionSymbolicBuilder<F, F>,
     ) -> Result<(), AirError> {
-        for number in 0..7usize {
+        for number in 0..OF_EACH_RECORD {
             push(alloc, builder, number)?;
         }
         Ok(())

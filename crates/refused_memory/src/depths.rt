@@ -101,6 +101,7 @@ pub fn deep(alloc: Global, out: &mut Out, kind: &str, form: &str, depth: usize) 
     let tree: SymbolicExpression<F7> = chain(alloc, form, depth)?;
     match kind {
         "expression" => on_tree(alloc, out, tree),
-        _ => on_lookup(alloc, out, tree),
+        "lookup" => on_lookup(alloc, out, tree),
+        _ => None,
     }
 }
