@@ -37,7 +37,7 @@ ANSWERS = {
     "lookup": {
         "generate_permutation": GENERATED,
         "generate_counted": GENERATED,
-        "check_lookups": 'Ok("Lookup mismatch (instance 0 local lookup 0): tuple [3] has net multiplicity 2 at '
+        "LookupFault::text": 'Ok("Lookup mismatch (instance 0 local lookup 0): tuple [3] has net multiplicity 2 at '
         'instance 0 lookup 0 row 0; instance 0 lookup 0 row 1")',
         "check_witness": "Err(TerminalSumNonZero)",
     },
@@ -92,7 +92,8 @@ def bears(program, kind, form, depth):
     how = {"stdin": subprocess.DEVNULL, "stderr": subprocess.DEVNULL, "stdout": subprocess.PIPE, "timeout": SECONDS}
     ran = subprocess.run(words, preexec_fn=limit, check=False, **how)
     lines = [it for it in ran.stdout.decode().splitlines() if it.partition(": ")[0] in ANSWERS[kind]]
-    return ran.returncode == 0 and lines == wanted(kind, form, depth)
+    # a call that is made twice writes the same line again
+    return ran.returncode == 0 and list(dict.fromkeys(lines)) == wanted(kind, form, depth)
 
 
 def depth_swept(_shim, program, kind, _later):

@@ -1,7 +1,7 @@
 """The groups of calls of the program `refused_memory`, with each request for memory refused in turn."""
 import collections
 
-from .judge import NO_INPUT, Judge, listed, parted
+from .judge import STATES, Judge, listed, parted
 from .runs import HERE, swept, unfreed
 
 LIST = f"{HERE}/calls.txt"
@@ -28,9 +28,9 @@ def faults_of_ample(ran, refusals):
     """What is wrong with a run with all memory."""
     if ran.status or ran.errors or ran.live:
         yield f"status {ran.status}, {ran.live} blocks are not freed: {ran.errors!r}"
-    answers = [parted(line)[1:] for line in ran.output.decode().splitlines() if not parted(line)[0]]
+    answers = [it for it in map(parted, ran.output.decode().splitlines()) if it[0] not in STATES]
     for call, answer in answers:
-        if answer in (refusals.get(call), NO_INPUT):
+        if answer == refusals.get(call):
             yield f"with all memory: {call}: {answer}"
     for name in sorted({call for call, _ in answers} ^ set(refusals)):
         yield f"{name}: not in both the list and the group"

@@ -1,28 +1,24 @@
 """The judge of the lines that a group of calls writes where memory is refused, and a test of the judge.
 
-A line `CALL: ANSWER` is the same as with all memory, or is the call's refusal for memory, by `calls.txt`. A line
-`WHAT CALL: VALUE` says what a call leaves:
+A line `CALL: ANSWER` is the same as with all memory, or is the call's refusal for memory, by `calls.txt`. Another
+line has one of these names, and says what a call is made on, or what the last call left:
 
-    input of    never changed
-    before      what a builder or a list holds: all that was accepted so far, and no more; so is `after`
-    left by     lists of what was asserted: after a refusal their first items
-    count of    after a refusal at most what it is else
-    filled by   after a refusal an empty list
+    input       never changed
+    before      what a builder holds: all that was accepted so far, and no more; so is `after`
+    left        what a builder holds: after a refusal the first items of each of its lists
+    count       after a refusal at most what it is else
+    filled      after a refusal an empty list
 """
 import os
 
 NEVER = "-"
-NO_INPUT = "no input"
-STATES = ("before", "after", "left by", "count of", "filled by", "input of")
+STATES = ("input", "before", "after", "left", "count", "filled")
 
 
 def parted(line):
-    """What a line says, of which call, and the answer or the value. What it says is empty for an answer."""
+    """The name of a line, and the answer or the value."""
     name, _, value = line.partition(": ")
-    for state in STATES:
-        if name.startswith(f"{state} "):
-            return state, name[len(state) + 1 :], value
-    return "", name, value
+    return name, value
 
 
 def listed(file):
@@ -45,29 +41,33 @@ def apart(line, good):
     return f"{line.partition(': ')[0]}: {'..' * (start > 0)}{line[start : at + 100]}, and not {good[start : at + 100]}"
 
 
-def items_of(value):
-    """The items of a list as it is printed, or None where it is no list."""
-    if value[:1] != "[" or value[-1:] != "]":
-        return None
-    items, item, depth, quoted, escaped = [], "", 0, False, False
-    for letter in value[1:-1]:
-        if letter == "," and depth == 0 and not quoted:
-            items.append(item.strip())
-            item = ""
-            continue
-        item += letter
-        if quoted:
-            quoted, escaped = letter != '"' or escaped, letter == "\\" and not escaped
-        else:
-            quoted = letter == '"'
-            depth += (letter in "[({") - (letter in "])}")
-    return items + [item.strip()] if item.strip() else items
+def parts_of(value):
+    """What stands before the first bracket of a printed value, the bracket, and the items in it and its pair."""
+    head, items, item, depth, quoted, escaped = "", [], "", 0, False, False
+    for place, letter in enumerate(value):
+        if depth == 0 and letter in "[({":
+            head, depth = value[: place + 1], 1
+        elif depth == 1 and not quoted and letter in "],)}":
+            items += [item.strip()] if item.strip() else []
+            item, depth = "", int(letter == ",")
+        elif depth:
+            item += letter
+            if quoted:
+                quoted, escaped = letter != '"' or escaped, letter == "\\" and not escaped
+            else:
+                quoted = letter == '"'
+                depth += (letter in "[({") - (letter in "])}")
+    return head, items
 
 
 def begins(value, whole):
-    """Whether a list has the first items of another one, and no more."""
-    items, of_all = items_of(value), items_of(whole)
-    return items is not None and of_all is not None and items == of_all[: len(items)]
+    """Whether a printed value differs from another one only by lists that have its first items, and no more."""
+    (head, items), (_, of_whole) = parts_of(value), parts_of(whole)
+    if not head or not whole.startswith(head) or value[-1] != whole[-1]:
+        return value == whole
+    if head[-1] == "[":
+        return items == of_whole[: len(items)]
+    return len(items) == len(of_whole) and all(map(begins, items, of_whole))
 
 
 class Judge:
@@ -77,83 +77,86 @@ class Judge:
         self.ample, self.refusals = ample, refusals
         # at each line that shows a builder, what it holds after none of its calls, after one, and so on
         self.held, self.firsts, states = {}, set(), []
-        for place, (state, _, value) in enumerate(map(parted, ample)):
-            if state == "before" and states[-1:] != [value]:
+        for place, (name, value) in enumerate(map(parted, ample)):
+            if name == "before" and states[-1:] != [value]:
                 states = [value]
                 self.firsts.add(place)
-            elif state == "after":
+            elif name == "after":
                 states.append(value)
-            if state in ("before", "after"):
+            if name in ("before", "after"):
                 self.held[place] = states
 
     def faults(self, lines, seen):
         """What is wrong with the lines. Adds to `seen` each call that is refused."""
         refused, accepted = False, 0
         for place, (line, good) in enumerate(zip(lines, self.ample)):
-            state, call, value = parted(line)
-            same, wanted = line == good, parted(good)
-            if (state, call) != wanted[:2]:
+            (name, value), (wanted, whole), same = parted(line), parted(good), line == good
+            if name != wanted:
                 yield apart(line, good)
                 return
-            if state == "":
+            if name not in STATES:
                 refused = not same
                 accepted += same
                 if refused:
-                    seen.append(NO_INPUT if value == NO_INPUT else call)
-                well = same or value == NO_INPUT or value == self.refusals.get(call) != NEVER
-            elif state in ("before", "after"):
+                    seen.append(name)
+                well = same or value == self.refusals.get(name) != NEVER
+            elif name in ("before", "after"):
                 accepted = 0 if place in self.firsts else accepted
-                well = value == self.held[place][accepted]
-            elif state == "left by":
-                well = same or refused and begins(value, wanted[2])
-            elif state == "count of":
-                well = same or refused and int(value) <= int(wanted[2])
+                good = f"{name}: {self.held[place][accepted]}"
+                well = line == good
+            elif name == "left":
+                well = same or refused and begins(value, whole)
+            elif name == "count":
+                well = same or refused and int(value) <= int(whole)
             else:
-                well = same or state == "filled by" and refused and value == "[]"
+                well = same or name == "filled" and refused and value == "[]"
             if not well:
-                is_held = state in ("before", "after")
-                yield apart(line, f"{state} {call}: {self.held[place][accepted]}" if is_held else good)
+                yield apart(line, good)
 
 
 # Lines of a group with all memory. Then what a run writes otherwise, by place, and how many faults that has.
 AMPLE = [
     "a: Ok(1)",
-    "count of a: 2",
-    "before b: []",
+    "count: 2",
+    "before: []",
     "b: Ok(())",
-    "after b: [1]",
-    "before b: [1]",
+    "after: [1]",
+    "before: [1]",
     "b: Ok(())",
-    "after b: [1, 2]",
+    "after: [1, 2]",
     "c: Ok(())",
-    'left by c: [Add(1, "],"), 23]',
-    "left by c: [0, 1]",
+    'left: [Add(1, "],"), 23]',
+    "left: B { inner: A { base: [2, 3], at: (0, 1) }, more: [[]] }",
     "d: Ok(3)",
-    "input of it: 7",
+    "input: 7",
 ]
 JUDGED = [
     ({}, 0),
-    ({0: "a: Err(Memory)", 1: "count of a: 1"}, 0),
-    ({0: "a: Err(Memory)", 1: "count of a: 3"}, 1),
+    ({0: "a: Err(Memory)", 1: "count: 1"}, 0),
+    ({0: "a: Err(Memory)", 1: "count: 3"}, 1),
     ({0: "a: Err(AllocError)"}, 1),
-    ({1: "count of a: 1"}, 1),
-    ({3: "b: Err(Memory)", 4: "after b: []", 5: "before b: []", 7: "after b: [1]"}, 0),
-    ({6: "b: Err(Memory)", 7: "after b: [1]"}, 0),
+    ({1: "count: 1"}, 1),
+    ({3: "b: Err(Memory)", 4: "after: []", 5: "before: []", 7: "after: [1]"}, 0),
+    ({6: "b: Err(Memory)", 7: "after: [1]"}, 0),
     ({3: "b: Err(Memory)"}, 3),
     ({6: "b: Err(Memory)"}, 1),
-    ({8: "c: Err(Memory)", 9: "left by c: []"}, 0),
-    ({8: "c: Err(Memory)", 9: 'left by c: [Add(1, "],")]'}, 0),
-    ({8: "c: Err(Memory)", 9: 'left by c: [Add(1, "],"), 2]'}, 1),
-    ({8: "c: Err(Memory)", 9: "left by c: [Add(1)]"}, 1),
-    ({8: "c: Err(Memory)", 9: "left by c: ["}, 1),
-    ({8: "c: Err(Memory)", 9: "left by c: [23]"}, 1),
-    ({8: "c: Err(Memory)", 9: "left by c: []", 10: "left by c: []"}, 0),
-    ({8: "c: Err(Memory)", 10: "left by c: [1]"}, 1),
-    ({10: "left by c: [0]"}, 1),
-    ({9: 'left by c: [Add(1, "],")]'}, 1),
+    ({8: "c: Err(Memory)", 9: "left: []"}, 0),
+    ({8: "c: Err(Memory)", 9: 'left: [Add(1, "],")]'}, 0),
+    ({8: "c: Err(Memory)", 9: 'left: [Add(1, "],"), 2]'}, 1),
+    ({8: "c: Err(Memory)", 9: "left: [Add(1)]"}, 1),
+    ({8: "c: Err(Memory)", 9: "left: ["}, 1),
+    ({8: "c: Err(Memory)", 9: "left: [23]"}, 1),
+    ({8: "c: Err(Memory)", 10: "left: B { inner: A { base: [2], at: (0, 1) }, more: [] }"}, 0),
+    ({8: "c: Err(Memory)", 10: "left: B { inner: A { base: [3], at: (0, 1) }, more: [] }"}, 1),
+    ({8: "c: Err(Memory)", 10: "left: B { inner: A { base: [2], at: (0) }, more: [] }"}, 1),
+    ({8: "c: Err(Memory)", 10: "left: B { inner: A { base: [2, 3], at: (0, 2) }, more: [] }"}, 1),
+    ({8: "c: Err(Memory)", 10: "left: B { inner: C { base: [2], at: (0, 1) }, more: [] }"}, 1),
+    ({8: "c: Err(Memory)", 10: "left: B { inner: A { base: [2], at: (0, 1) } }"}, 1),
+    ({10: "left: B { inner: A { base: [2], at: (0, 1) }, more: [] }"}, 1),
+    ({9: 'left: [Add(1, "],")]'}, 1),
     ({11: "d: Err(Memory)"}, 1),
-    ({11: "d: no input"}, 0),
-    ({12: "input of it: 8"}, 1),
+    ({11: "d: no input"}, 1),
+    ({12: "input: 8"}, 1),
     ({11: "e: Ok(3)"}, 1),
 ]
 

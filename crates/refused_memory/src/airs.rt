@@ -14,9 +14,8 @@ use lookup::{
 };
 use std::alloc::{AllocError, Global};
 
-/// The names of the calls on a recorder, by number: assertions, pushes, the calls of buses, and a filtered
-/// assertion, which stands for all three filters, as these differ by their condition alone.
-pub const CALLS: [&str; 13] = [
+/// The names of the pushes, by number: two assertions, and a record of each kind.
+pub const PUSHES: [&str; 7] = [
     "assert_zero",
     "assert_zero_ext",
     "push_local_interaction",
@@ -24,6 +23,11 @@ pub const CALLS: [&str; 13] = [
     "push_interaction",
     "push_indexed_read",
     "push_indexed_table",
+];
+
+/// The names of the calls of buses, and of a filtered assertion, which stands for all three filters, as these
+/// differ by their condition alone.
+pub const BUS_CALLS: [&str; 6] = [
     "table_entry",
     "lookup_key",
     "send",
@@ -32,22 +36,6 @@ pub const CALLS: [&str; 13] = [
     "assert_zero on the first row",
 ];
 
-/// So many of the first calls assert over the field and over the extension, and push a record of each kind.
-const OF_EACH_RECORD: usize = 7;
-
-/// Makes the call of this number.
-pub fn call<F: Field>(
-    alloc: Global,
-    builder: &mut Recorder<F>,
-    number: usize,
-) -> Result<(), AirError> {
-    if number < OF_EACH_RECORD {
-        push(alloc, builder, number)
-    } else {
-        call_over_builder::<Recorder<F>>(alloc, builder, number)
-    }
-}
-
 /// Two cells.
 fn key<F: Field>(alloc: Global) -> Result<Vec<SymbolicExpression<F>>, AllocError> {
     let mut key = alone(alloc, cell(0))?;
@@ -55,8 +43,12 @@ fn key<F: Field>(alloc: Global) -> Result<Vec<SymbolicExpression<F>>, AllocError
     Ok(key)
 }
 
-/// Asserts, or pushes a record of a kind, by a number below [`OF_EACH_RECORD`].
-fn push<F: Field>(alloc: Global, builder: &mut Recorder<F>, number: usize) -> Result<(), AirError>
+/// Makes the push of this number.
+pub fn push<F: Field>(
+    alloc: Global,
+    builder: &mut Recorder<F>,
+    number: usize,
+) -> Result<(), AirError>
     ensures { OnOk result ((recorded_air builder.new).constraints.layout
         ≡ (recorded_air builder.old).constraints.layout) }
 {
@@ -98,21 +90,21 @@ fn push_group<F: Field>(alloc: Global, builder: &mut Recorder<F>) -> Result<(), 
     builder.push_exclusive_interaction(alloc, "other", branches)
 }
 
-/// Makes the call of a bus, or asserts on the first row, by one of the other numbers.
-fn call_over_builder<AB: InteractionBuilder>(
+/// Makes the call of a bus of this name, or asserts on the first row.
+pub fn call_bus<AB: InteractionBuilder>(
     alloc: Global,
     builder: &mut AB,
-    number: usize,
+    name: &str,
 ) -> Result<(), AirError> {
     let key = current_cells(alloc, &*builder, 3, &[0, 1])?;
     let cell = current_cell(alloc, &*builder, 3, 2)?;
     let (keys, sent) = (LookupBus::new("keys"), PermutationCheckBus::new("sent"));
-    match number {
-        7 => keys.table_entry(alloc, builder, key, cell),
-        8 => keys.lookup_key(alloc, builder, key, Count::bounded(cell, 2)),
-        9 => sent.send(alloc, builder, key, Count::bounded(cell, 2)),
-        10 => sent.receive(alloc, builder, key, Count::bounded(cell, 2)),
-        11 => {
+    match name {
+        "table_entry" => keys.table_entry(alloc, builder, key, cell),
+        "lookup_key" => keys.lookup_key(alloc, builder, key, Count::bounded(cell, 2)),
+        "send" => sent.send(alloc, builder, key, Count::bounded(cell, 2)),
+        "receive" => sent.receive(alloc, builder, key, Count::bounded(cell, 2)),
+        "lookup_key_exclusive" => {
             let branches = alone(alloc, (cell, key))?;
             keys.lookup_key_exclusive(alloc, builder, branches)
         }
@@ -120,7 +112,7 @@ fn call_over_builder<AB: InteractionBuilder>(
     }
 }
 
-/// Three columns. Makes the first [`OF_EACH_RECORD`] calls.
+/// Three columns. Makes all [`PUSHES`].
 pub struct EachRecord;
 
 impl<F> BaseAir<F> for EachRecord {
@@ -152,7 +144,7 @@ impl<F: Field> Air<InteractionSymbolicBuilder<F, F>> for EachRecord {
         alloc: Global,
         builder: &mut InteractionSymbolicBuilder<F, F>,
     ) -> Result<(), AirError> {
-        for number in 0..OF_EACH_RECORD {
+        for number in 0..7usize {
             push(alloc, builder, number)?;
         }
         Ok(())

@@ -1,40 +1,19 @@
 //! Calls of evaluation.
-ghost use Rattle.std.specs.Prelude.{◌≡◌, ◌+◌, ◌*◌, ◌<◌, ◌≤◌, All, None, OnOk, length};
+ghost use Rattle.std.specs.Prelude.{◌≡◌, None};
 ghost use Rattle.std.specs.Option.{option_copied};
 ghost use Rattle.air.specs.Row.{HeightFits, OptionHeightFits};
-ghost use Rattle.lookup_model.specs.Records.{LookupsFit};
 ghost use Rattle.matrix.specs.Matrix.{height};
 ghost use Rattle.refused_memory.specs.Layout.{swept_layout};
 
 use crate::airs::Zeros;
-use crate::inputs::{LOOKUPS, lookups_of, trace};
-use crate::layouts::has_room;
-use crate::over::over_builder;
-use crate::show::{Out, show, state};
+use crate::inputs::{LOOKUPS, layout, lookups_of, trace};
+use crate::over::over_recorder;
+use crate::show::{Out, show};
 use air::{AirError, Expression, PermutationAirBuilder, RowInputs, check_rows};
 use field::{F7, PrimeCharacteristicRing};
-use lookup::{LogUpGadget, Lookup, LookupProtocol, has_equal_lengths};
+use lookup::{LogUpGadget, Lookup, LookupProtocol, fits};
 use matrix::RowMajorMatrix;
 use std::alloc::Global;
-
-/// Asserts the constraint of the fraction of the first lookup.
-fn evaluate_fraction<AB: PermutationAirBuilder>(
-    alloc: Global,
-    builder: &mut AB,
-    lookups: &[Lookup<AB::F>],
-) -> Result<(), AirError>
-    requires fit { LookupsFit (AB.layout builder.old) lookups.now }
-    requires challenges { 2 * length lookups.now
-        ≤ (AB.layout builder.old).num_permutation_challenges }
-    requires cells { length lookups.now < (AB.layout builder.old).permutation_width }
-{
-    match lookups {
-        [lookup, ..] if has_equal_lengths(lookup) && lookup.column == 0 => {
-            LogUpGadget::new().eval_fraction(alloc, builder, lookup)
-        }
-        _ => Err(AirError::DegreeOverflow),
-    }
-}
 
 /// Makes the evaluation of this name: of all lookups, of the accumulator with the terminal 0, of an AIR and all
 /// lookups, or of the fraction of the first lookup.
@@ -46,7 +25,7 @@ pub fn evaluate<AB: PermutationAirBuilder>(
 ) -> Result<(), AirError>
     requires { AB.layout builder.old ≡ swept_layout }
 {
-    if !has_room(lookups) {
+    if !fits(lookups, &layout()) || lookups.len() > 4 {
         return Err(AirError::DegreeOverflow);
     }
     let gadget = LogUpGadget::new();
@@ -57,7 +36,10 @@ pub fn evaluate<AB: PermutationAirBuilder>(
             gadget.eval_accumulator(alloc, builder, lookups, terminal)
         }
         "eval_air_and_lookups" => gadget.eval_air_and_lookups(alloc, &Zeros, builder, lookups),
-        _ => evaluate_fraction(alloc, builder, lookups),
+        _ => match lookups {
+            [lookup, ..] => gadget.eval_fraction(alloc, builder, lookup),
+            _ => Err(AirError::DegreeOverflow),
+        },
     }
 }
 
@@ -88,35 +70,37 @@ fn show_checked(alloc: Global, out: &mut Out, main: &RowMajorMatrix<F7>) {
         permutation_values: &[],
     };
     show(out, "check_rows", check_each_row(alloc, &inputs));
-    state(out, "input of", "check_rows", main);
+    show(out, "input", main);
 }
 
 /// The row checker twice over a trace of zeros.
-pub fn rows(alloc: Global, out: &mut Out) -> Option<()> {
-    let main: RowMajorMatrix<F7> = trace(alloc, &[0; 6], 3)?;
-    show_checked(alloc, out, &main);
-    show_checked(alloc, out, &main);
-    Some(())
+fn rows(alloc: Global, out: &mut Out) {
+    if let Some(main) = trace(alloc, out, &[0; 6], 3) {
+        show_checked(alloc, out, &main);
+        show_checked(alloc, out, &main);
+    }
 }
 
-/// The evaluation of this name, twice.
-fn evaluate_twice(alloc: Global, out: &mut Out, lookups: &[Lookup<F7>], name: &str) -> Option<()> {
-    over_builder::<F7>(alloc, name, out, &[], lookups)?;
-    over_builder::<F7>(alloc, name, out, &[], lookups)
-}
+const EVALUATIONS: [&str; 4] = [
+    "eval_all",
+    "eval_accumulator",
+    "eval_air_and_lookups",
+    "eval_fraction",
+];
 
 /// All evaluations of lookups.
-fn evaluate_all(alloc: Global, out: &mut Out, lookups: &[Lookup<F7>]) -> Option<()> {
-    evaluate_twice(alloc, out, lookups, "eval_all")?;
-    evaluate_twice(alloc, out, lookups, "eval_accumulator")?;
-    evaluate_twice(alloc, out, lookups, "eval_air_and_lookups")?;
-    evaluate_twice(alloc, out, lookups, "eval_fraction")
+fn evaluate_all(alloc: Global, out: &mut Out, lookups: &[Lookup<F7>]) {
+    for number in 0..4usize {
+        over_recorder::<F7, F7>(alloc, EVALUATIONS[number], out, &[], lookups);
+    }
 }
 
-/// The evaluations of the lookups of a text.
-pub fn evaluation(alloc: Global, out: &mut Out) -> Option<()> {
-    let lookups = lookups_of(alloc, LOOKUPS)?;
-    evaluate_all(alloc, out, lookups.as_slice())?;
-    state(out, "input of", "evaluation", &lookups);
-    Some(())
+/// The evaluations of the lookups of a text, twice, and the row checker.
+pub fn evaluation(alloc: Global, out: &mut Out) {
+    if let Some(lookups) = lookups_of(alloc, out, LOOKUPS) {
+        evaluate_all(alloc, out, lookups.as_slice());
+        evaluate_all(alloc, out, lookups.as_slice());
+        show(out, "input", &lookups);
+    }
+    rows(alloc, out);
 }

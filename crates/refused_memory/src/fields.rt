@@ -2,7 +2,7 @@
 ghost use Rattle.std.specs.Prelude.{◌≢◌, All};
 ghost use Rattle.field.specs.IntegersModulo7.{f7_ring};
 
-use crate::show::{Out, show, state};
+use crate::show::{Out, show};
 use crate::trees::nodes;
 use field::{
     BabyBear, BabyBear4, F2, F7, Field, InverseCount, batch_multiplicative_inverse,
@@ -30,23 +30,15 @@ fn units() -> [F7; 3]
 fn lists(alloc: Global, out: &mut Out) {
     show(out, "powers", powers(alloc, F7::new(3), 9));
     let values = units();
-    let (values, call) = (values.as_slice(), "batch_multiplicative_inverse");
-    let mut count = InverseCount::new();
-    show(
-        out,
-        call,
-        batch_multiplicative_inverse(alloc, values, &mut count),
-    );
-    state(out, "count of", call, &count.get());
-    let call = "batch_multiplicative_inverse_into";
+    let (values, mut count) = (values.as_slice(), InverseCount::new());
+    let answer = batch_multiplicative_inverse(alloc, values, &mut count);
+    show(out, "batch_multiplicative_inverse", answer);
+    show(out, "count", count.get());
     let (mut inverses, mut count) = (Vec::new(alloc), InverseCount::new());
-    show(
-        out,
-        call,
-        batch_multiplicative_inverse_into(values, &mut inverses, &mut count),
-    );
-    state(out, "filled by", call, &inverses);
-    state(out, "count of", call, &count.get());
+    let answer = batch_multiplicative_inverse_into(values, &mut inverses, &mut count);
+    show(out, "batch_multiplicative_inverse_into", answer);
+    show(out, "filled", &inverses);
+    show(out, "count", count.get());
 }
 
 const OF_F2: [&str; 5] = [
@@ -91,11 +83,10 @@ fn elements(alloc: Global, out: &mut Out) {
 }
 
 /// The calls of fields, twice.
-pub fn fields(alloc: Global, out: &mut Out) -> Option<()> {
+pub fn fields(alloc: Global, out: &mut Out) {
     for _ in 0..2 {
         texts(alloc, out);
         lists(alloc, out);
         elements(alloc, out);
     }
-    Some(())
 }

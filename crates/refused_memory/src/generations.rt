@@ -2,7 +2,7 @@
 use crate::inputs::{
     BALANCED, LOCAL, LOOKUPS, UNLAWFUL, VANISHING, elements, lookups_of, read, trace,
 };
-use crate::show::{Out, show, state};
+use crate::show::{Out, input, show};
 use air::AirLayout;
 use field::{BabyBear4, ExtensionField, F7, Field, InverseCount, PrimeCharacteristicRing};
 use lookup::{Challenges, LogUpGadget, Lookup, LookupError, LookupProtocol, LookupTerminal, fits};
@@ -43,12 +43,12 @@ pub fn show_generated<F: Field, EF: ExtensionField<F> + Debug>(
     lookups: &[Lookup<F>],
     challenges: &[EF],
 ) {
-    let (call, mut count) = ("generate_counted", InverseCount::new());
+    let mut count = InverseCount::new();
     let answer = generate(alloc, main, lookups, challenges, None);
     show(out, "generate_permutation", answer);
     let answer = generate(alloc, main, lookups, challenges, Some(&mut count));
-    show(out, call, answer);
-    state(out, "count of", call, &count.get());
+    show(out, "generate_counted", answer);
+    show(out, "count", count.get());
 }
 
 /// An alpha and a beta for each lookup. The first alpha less the key of [`VANISHING`] is zero.
@@ -61,14 +61,14 @@ fn over_trace<F: Field + Debug, EF: ExtensionField<F> + Debug>(
     lookups: &[Lookup<F>],
     numbers: &[u32],
     challenges: &[EF],
-) -> Option<()> {
-    let main = trace(alloc, numbers, 3)?;
-    for _ in 0..2 {
-        show_generated(alloc, out, &main, lookups, challenges);
-        show_generated(alloc, out, &main, &lookups[..0], challenges);
-        state(out, "input of", "generation", &main);
+) {
+    if let Some(main) = trace(alloc, out, numbers, 3) {
+        for _ in 0..2 {
+            show_generated(alloc, out, &main, lookups, challenges);
+            show_generated(alloc, out, &main, &lookups[..0], challenges);
+            show(out, "input", &main);
+        }
     }
-    Some(())
 }
 
 /// Generation over traces: one that balances, one with an unlawful flag, and one with a denominator of zero.
@@ -77,94 +77,62 @@ fn over_traces<F: Field + Debug, EF: ExtensionField<F> + Debug>(
     out: &mut Out,
     lookups: &[Lookup<F>],
     challenges: &[EF],
-) -> Option<()> {
-    over_trace::<F, EF>(alloc, out, lookups, &BALANCED, challenges)?;
-    over_trace::<F, EF>(alloc, out, lookups, &UNLAWFUL, challenges)?;
-    over_trace::<F, EF>(alloc, out, lookups, &VANISHING, challenges)
+) {
+    over_trace::<F, EF>(alloc, out, lookups, &BALANCED, challenges);
+    over_trace::<F, EF>(alloc, out, lookups, &UNLAWFUL, challenges);
+    over_trace::<F, EF>(alloc, out, lookups, &VANISHING, challenges);
 }
 
 /// The calls of generation.
 pub fn generation<F: Field + Debug + DeserializeOwned, EF: ExtensionField<F> + Debug>(
     alloc: Global,
     out: &mut Out,
-) -> Option<()> {
-    let lookups: Vec<Lookup<F>> = read(alloc, LOOKUPS)?;
-    let challenges = elements::<EF>(alloc, &CHALLENGES)?;
-    over_traces::<F, EF>(alloc, out, lookups.as_slice(), challenges.as_slice())?;
-    state(out, "input of", "generation", &lookups);
-    Some(())
+) {
+    let lookups: Option<Vec<Lookup<F>>> = read(alloc, out, LOOKUPS);
+    if let Some(lookups) = lookups {
+        if let Some(challenges) = input(out, elements::<EF>(alloc, &CHALLENGES)) {
+            over_traces::<F, EF>(alloc, out, lookups.as_slice(), challenges.as_slice());
+            show(out, "input", &lookups);
+        }
+    }
 }
 
-/// Calls on a table of challenges, and on terminals.
-fn on_table<EF: Field + Debug>(
-    alloc: Global,
-    out: &mut Out,
-    table: &Challenges<EF>,
-    terminals: &[Option<LookupTerminal<EF>>],
-) {
+/// Calls on a table of challenges.
+fn on_table<EF: Field + Debug>(alloc: Global, out: &mut Out, table: &Challenges<EF>) {
     let answer = Challenges::new(alloc, EF::from_u32(5), EF::from_u32(2), 1, 2);
     show(out, "Challenges::new", answer.map(|table| table.bus_prefix));
     if table.bus_prefix.len() > 1 {
         show(out, "for_columns", table.for_columns(alloc, &[1, 0]));
     }
-    let sum = LogUpGadget::new().verify_terminal_sum(terminals);
-    show(out, "verify_terminal_sum", sum);
-    state(out, "input of", "challenges", &table.bus_prefix);
+    show(out, "input", &table.bus_prefix);
 }
 
 /// The same, twice, over the table of two numbers.
-fn on_own_table<EF: Field + Debug>(
-    alloc: Global,
-    out: &mut Out,
-    terminals: &[Option<LookupTerminal<EF>>],
-) -> Option<()> {
-    let table = Challenges::new(alloc, EF::from_u32(5), EF::from_u32(2), 1, 2).ok()?;
-    on_table(alloc, out, &table, terminals);
-    on_table(alloc, out, &table, terminals);
-    Some(())
+fn on_own_table<EF: Field + Debug>(alloc: Global, out: &mut Out) {
+    let made = Challenges::new(alloc, EF::from_u32(5), EF::from_u32(2), 1, 2);
+    if let Some(table) = input(out, made) {
+        for _ in 0..2 {
+            on_table(alloc, out, &table);
+        }
+    }
 }
 
 /// Calls over a field, and over an extension of another.
-pub fn challenges(alloc: Global, out: &mut Out) -> Option<()> {
-    let terminals = [Some(LookupTerminal(F7::new(5))), None];
-    on_own_table::<F7>(alloc, out, terminals.as_slice())?;
-    let terminals = [Some(LookupTerminal(BabyBear4::from_u32(5))), None];
-    on_own_table::<BabyBear4>(alloc, out, terminals.as_slice())
+pub fn challenges(alloc: Global, out: &mut Out) {
+    on_own_table::<F7>(alloc, out);
+    on_own_table::<BabyBear4>(alloc, out);
 }
 
-/// One row so many times.
-fn repeated_row(alloc: Global, rows: usize) -> Option<RowMajorMatrix<F7>> {
-    let mut numbers = Vec::new(alloc);
-    for _ in 0..rows {
-        numbers.extend_from_slice(&[3u32, 4, 1]).ok()?;
+/// Generation over two chunks of rows, of a lookup that sends and takes back the same.
+pub fn chunks(alloc: Global, out: &mut Out) {
+    if let Some(lookups) = lookups_of(alloc, out, LOCAL) {
+        let challenges = [F7::new(5), F7::new(2)];
+        over_trace::<F7, F7>(
+            alloc,
+            out,
+            lookups.as_slice(),
+            &[1; 3075],
+            challenges.as_slice(),
+        );
     }
-    trace(alloc, numbers.as_slice(), 3)
-}
-
-/// Generation of two chunks of rows: the height and the terminal alone.
-fn over_chunks(alloc: Global, out: &mut Out, lookups: &[Lookup<F7>], main: &RowMajorMatrix<F7>) {
-    let challenges = [F7::new(5), F7::new(2)];
-    let (call, mut count) = ("generate_counted", InverseCount::new());
-    let answer = generate(
-        alloc,
-        main,
-        lookups,
-        challenges.as_slice(),
-        Some(&mut count),
-    );
-    show(
-        out,
-        call,
-        answer.map(|(aux, terminal)| (aux.height(), terminal)),
-    );
-    state(out, "count of", call, &count.get());
-}
-
-/// The call that counts its inverses, over two chunks of rows and twice.
-pub fn chunks(alloc: Global, out: &mut Out) -> Option<()> {
-    let lookups = lookups_of(alloc, LOCAL)?;
-    let high = repeated_row(alloc, 1025)?;
-    over_chunks(alloc, out, lookups.as_slice(), &high);
-    over_chunks(alloc, out, lookups.as_slice(), &high);
-    Some(())
 }

@@ -2,9 +2,8 @@
 ghost use Rattle.std.specs.Prelude.{◌≡◌};
 ghost use Rattle.refused_memory.specs.Layout.{swept_layout};
 
-use air::{
-    AirLayout, BaseEntry, BaseLeaf, SymbolicAirBuilder, SymbolicExpression, SymbolicVariable,
-};
+use crate::show::{Out, input};
+use air::{AirLayout, BaseEntry, BaseLeaf, SymbolicExpression, SymbolicVariable};
 use field::{F7, Field, PrimeCharacteristicRing};
 use lookup::{InteractionSymbolicBuilder, Lookup};
 use matrix::RowMajorMatrix;
@@ -53,13 +52,13 @@ pub const UNLAWFUL: [u32; 3] = [3, 4, 2];
 pub const VANISHING: [u32; 3] = [5, 4, 1];
 
 /// The lookups of a text.
-pub fn lookups_of(alloc: Global, text: &'static str) -> Option<Vec<Lookup<F7>>> {
-    read(alloc, text)
+pub fn lookups_of(alloc: Global, out: &mut Out, text: &'static str) -> Option<Vec<Lookup<F7>>> {
+    read(alloc, out, text)
 }
 
 /// The value of a text.
-pub fn read<'a, T: Deserialize<'a>>(alloc: Global, text: &'a str) -> Option<T> {
-    serde_json::from_str(alloc, text).ok()
+pub fn read<'a, T: Deserialize<'a>>(alloc: Global, out: &mut Out, text: &'a str) -> Option<T> {
+    input(out, serde_json::from_str(alloc, text))
 }
 
 /// A cell of the current row of the main trace.
@@ -78,31 +77,33 @@ pub fn alone<T: Drop>(alloc: Global, value: T) -> Result<Vec<T>, AllocError> {
 }
 
 /// These numbers as elements.
-pub fn elements<F: PrimeCharacteristicRing>(alloc: Global, numbers: &[u32]) -> Option<Vec<F>> {
+pub fn elements<F: PrimeCharacteristicRing>(
+    alloc: Global,
+    numbers: &[u32],
+) -> Result<Vec<F>, AllocError> {
     let mut values = Vec::new(alloc);
     for number in numbers {
-        values.push(F::from_u32(*number)).ok()?;
+        values.push(F::from_u32(*number))?;
     }
-    Some(values)
+    Ok(values)
 }
 
 /// A matrix of these numbers, row after row.
 pub fn trace<F: PrimeCharacteristicRing>(
     alloc: Global,
+    out: &mut Out,
     numbers: &[u32],
     width: usize,
 ) -> Option<RowMajorMatrix<F>> {
-    let values = elements(alloc, numbers)?;
+    let values = input(out, elements(alloc, numbers))?;
     if width == 0 || values.len() % width != 0 {
+        out.close();
         return None;
     }
     Some(RowMajorMatrix::new(values, width))
 }
 
-/// The builder that keeps assertions.
-pub type Builder<F> = SymbolicAirBuilder<F, F>;
-
-/// The builder that keeps records as well.
+/// The builder that keeps assertions and records.
 pub type Recorder<F> = InteractionSymbolicBuilder<F, F>;
 
 /// The layout of the AIRs with room for four lookups.

@@ -16,7 +16,6 @@ mod evaluations;
 mod fields;
 mod generations;
 mod inputs;
-mod layouts;
 mod over;
 mod plans;
 mod records;
@@ -29,11 +28,11 @@ use field::{BabyBear, BabyBear4, F7};
 use show::Out;
 use std::alloc::Global;
 use std::env;
-use std::io::{BufReader, BufWriter, Write};
+use std::io::BufWriter;
 use std::process::ExitCode;
 
-/// Makes the calls of a group. None where one of its inputs can't be made.
-fn group(alloc: Global, name: &str, out: &mut Out) -> Option<()> {
+/// Makes the calls of a group.
+fn group(alloc: Global, name: &str, out: &mut Out) {
     match name {
         "builders" => builders::builders(alloc, out),
         "pushes" => builders::pushes::<F7>(alloc, out),
@@ -42,60 +41,57 @@ fn group(alloc: Global, name: &str, out: &mut Out) -> Option<()> {
         "sets" => sets::sets(alloc, out),
         "expressions" => trees::expressions(alloc, out),
         "evaluation" => evaluations::evaluation(alloc, out),
-        "rows" => evaluations::rows(alloc, out),
+        "fields" => fields::fields(alloc, out),
         _ => group_of_rest(alloc, name, out),
     }
 }
 
 /// The calls of the groups that are left. A function of its own, since each further arm of a `match` costs
 /// more to prove.
-fn group_of_rest(alloc: Global, name: &str, out: &mut Out) -> Option<()> {
+fn group_of_rest(alloc: Global, name: &str, out: &mut Out) {
     match name {
-        "fields" => fields::fields(alloc, out),
-        "lookups" => sets::lookups(alloc, out),
         "json" => texts::json(alloc, out),
         "challenges" => generations::challenges(alloc, out),
         "generation" => generations::generation::<F7, F7>(alloc, out),
         "extension" => generations::generation::<BabyBear, BabyBear4>(alloc, out),
         "chunks" => generations::chunks(alloc, out),
         "batch" => batches::batch(alloc, out),
-        "debug" => batches::debug(alloc, out),
         "plans" => plans::batch_plans(alloc, out),
         "memory" => plans::memory(alloc, out),
-        _ => None,
+        _ => out.close(),
     }
 }
 
-/// What the words ask for. None where an input can't be made, or memory runs out.
-fn answer(alloc: Global, words: &[String], rt: &HostRuntime, out: &mut Out) -> Option<()> {
+/// What the words ask for.
+fn answer(alloc: Global, words: &[String], rt: &HostRuntime, out: &mut Out) {
     match words {
         [name] => group(alloc, name.as_str(), out),
-        [word, kind] if word.as_str() == "lines" => {
-            let input = BufReader::new(alloc, rt.stdin()).ok()?;
-            texts::lines(alloc, input, out, kind.as_str())
+        [_lines, kind] => texts::lines(alloc, rt, out, kind.as_str()),
+        [_deep, kind, form, depth] => {
+            depths::deep(alloc, out, kind.as_str(), form.as_str(), depth.as_str());
         }
-        [word, kind, form, depth] if word.as_str() == "deep" => {
-            let depth = depth.as_str().parse::<usize>().ok()?;
-            depths::deep(alloc, out, kind.as_str(), form.as_str(), depth)
-        }
-        _ => None,
+        _ => out.close(),
     }
+}
+
+/// The words after the name of the program. None where memory runs out.
+fn words(alloc: Global, rt: &HostRuntime) -> Option<Vec<String>> {
+    let words = env::args(rt).ok()?;
+    words.skip(1).collect::<Vec<String>>(alloc).ok()
 }
 
 /// The status is 3 where an input of the calls can't be made.
 fn main(rt: HostRuntime) -> ExitCode {
     let alloc = rt.alloc();
-    let Ok(mut out) = BufWriter::new(alloc, rt.stdout()) else {
+    let Ok(lines) = BufWriter::new(alloc, rt.stdout()) else {
         return ExitCode::from(3);
     };
-    let Ok(words) = env::args(&rt) else {
-        return ExitCode::from(3);
-    };
-    let Ok(words) = words.skip(1).collect::<Vec<String>>(alloc) else {
-        return ExitCode::from(3);
-    };
-    let made = answer(alloc, words.as_slice(), &rt, &mut out);
-    if out.flush().is_ok() && made.is_some() {
+    let mut out = Out::new(lines);
+    match words(alloc, &rt) {
+        Some(words) => answer(alloc, words.as_slice(), &rt, &mut out),
+        None => out.close(),
+    }
+    if out.has_all() {
         ExitCode::SUCCESS
     } else {
         ExitCode::from(3)

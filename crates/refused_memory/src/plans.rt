@@ -1,7 +1,7 @@
 //! Calls of plans, and of the memory check.
-use crate::inputs::{BALANCED, LOOKUPS, UNBALANCED, UNEVEN, UNEVEN_LOCAL, trace};
+use crate::inputs::{self, BALANCED, LOOKUPS, UNBALANCED, UNEVEN, UNEVEN_LOCAL, trace};
 use crate::sets::set;
-use crate::show::{Out, show, show_or_no_input, state};
+use crate::show::{Out, input, show};
 use batch::{BatchError, BatchPlan, BatchTrace};
 use checker::Witness;
 use field::{BabyBear, BabyBear4, F7, PrimeCharacteristicRing};
@@ -9,25 +9,33 @@ use matrix::RowMajorMatrix;
 use memory_check::{MemoryTraces, check_memory, memory_plan};
 use std::alloc::Global;
 
-/// A plan of one AIR whose lookups have this text. None if an input can't be made.
+/// A plan of one AIR whose lookups have this text.
 fn plan_of(
     alloc: Global,
+    out: &mut Out,
     text: &'static str,
     heights: &[usize],
 ) -> Option<Result<BatchPlan<F7>, BatchError>> {
-    let airs = Vec::from_array(alloc, [set(alloc, text)?]).ok()?;
-    let heights = Vec::from_slice(alloc, heights).ok()?;
+    let heights = input(out, Vec::from_slice(alloc, heights))?;
+    let set = set(alloc, out, text)?;
+    let airs = input(out, inputs::alone(alloc, set))?;
     Some(BatchPlan::new(alloc, airs, heights))
+}
+
+/// The call that makes such a plan.
+fn make_plan(alloc: Global, out: &mut Out, text: &'static str, heights: &[usize]) {
+    if let Some(answer) = plan_of(alloc, out, text, heights) {
+        show(out, "BatchPlan::new", answer);
+    }
 }
 
 /// Plans that are accepted, and refused for their heights, their widths and their weights.
 fn make_plans(alloc: Global, out: &mut Out) {
-    let call = "BatchPlan::new";
-    show_or_no_input(out, call, plan_of(alloc, LOOKUPS, &[2]));
-    show_or_no_input(out, call, plan_of(alloc, LOOKUPS, &[2, 2]));
-    show_or_no_input(out, call, plan_of(alloc, UNEVEN, &[2]));
-    show_or_no_input(out, call, plan_of(alloc, UNEVEN_LOCAL, &[2]));
-    show_or_no_input(out, call, plan_of(alloc, LOOKUPS, &[3]));
+    make_plan(alloc, out, LOOKUPS, &[2]);
+    make_plan(alloc, out, LOOKUPS, &[2, 2]);
+    make_plan(alloc, out, UNEVEN, &[2]);
+    make_plan(alloc, out, UNEVEN_LOCAL, &[2]);
+    make_plan(alloc, out, LOOKUPS, &[3]);
 }
 
 /// A main trace alone.
@@ -40,11 +48,11 @@ fn alone(main: &RowMajorMatrix<F7>) -> BatchTrace<'_, F7> {
 }
 
 /// The witness of the trace that balances.
-fn accepted_witness(alloc: Global, plan: &BatchPlan<F7>) -> Option<Witness<F7>> {
-    let main = trace(alloc, &BALANCED, 3)?;
+fn accepted_witness(alloc: Global, out: &mut Out, plan: &BatchPlan<F7>) -> Option<Witness<F7>> {
+    let main = trace(alloc, out, &BALANCED, 3)?;
     let traces = [alone(&main)];
-    plan.prove(alloc, traces.as_slice(), F7::new(5), F7::new(2))
-        .ok()
+    let made = plan.prove(alloc, traces.as_slice(), F7::new(5), F7::new(2));
+    input(out, made)
 }
 
 /// What a plan says of itself, which takes no memory, and the calls of a prover and of a verifier, and those
@@ -85,32 +93,35 @@ fn over(
     plan: &BatchPlan<F7>,
     numbers: &[u32],
     witness: &Witness<F7>,
-) -> Option<()> {
-    let main = trace(alloc, numbers, 3)?;
-    let traces = [alone(&main)];
-    on_plan(alloc, out, plan, traces.as_slice(), witness);
-    on_plan(alloc, out, plan, traces.as_slice(), witness);
-    state(out, "input of", "plans", &main);
-    Some(())
+) {
+    if let Some(main) = trace(alloc, out, numbers, 3) {
+        let traces = [alone(&main)];
+        on_plan(alloc, out, plan, traces.as_slice(), witness);
+        on_plan(alloc, out, plan, traces.as_slice(), witness);
+        show(out, "input", &main);
+    }
 }
 
 /// All calls of a plan.
-fn on_all(alloc: Global, out: &mut Out, plan: &BatchPlan<F7>) -> Option<()> {
-    let accepted = accepted_witness(alloc, plan)?;
-    over(alloc, out, plan, &BALANCED, &accepted)?;
-    over(alloc, out, plan, &UNBALANCED, &accepted)?;
-    over(alloc, out, plan, &UNBALANCED[..3], &accepted)?;
-    state(out, "input of", "plans", &accepted);
-    state(out, "input of", "plans", plan);
-    Some(())
+fn on_all(alloc: Global, out: &mut Out, plan: &BatchPlan<F7>) {
+    if let Some(accepted) = accepted_witness(alloc, out, plan) {
+        over(alloc, out, plan, &BALANCED, &accepted);
+        over(alloc, out, plan, &UNBALANCED, &accepted);
+        over(alloc, out, plan, &UNBALANCED[..3], &accepted);
+        show(out, "input", &accepted);
+        show(out, "input", plan);
+    }
 }
 
 /// The calls of plans.
-pub fn batch_plans(alloc: Global, out: &mut Out) -> Option<()> {
+pub fn batch_plans(alloc: Global, out: &mut Out) {
     make_plans(alloc, out);
     make_plans(alloc, out);
-    let plan = plan_of(alloc, LOOKUPS, &[2])?.ok()?;
-    on_all(alloc, out, &plan)
+    if let Some(made) = plan_of(alloc, out, LOOKUPS, &[2]) {
+        if let Some(plan) = input(out, made) {
+            on_all(alloc, out, &plan);
+        }
+    }
 }
 
 /// Address 1 is written at time 1 and read at 3, address 2 is read at 2 and written at 7.
@@ -123,11 +134,14 @@ const BOUNDARY: [u32; 8] = [1, 5, 6, 3, 2, 9, 8, 7];
 const GAPS: [u32; 10] = [0, 1, 1, 2, 2, 0, 3, 0, 4, 1];
 
 /// The traces of a memory.
-fn memory_traces(alloc: Global) -> Option<MemoryTraces<BabyBear>> {
+fn memory_traces(alloc: Global, out: &mut Out) -> Option<MemoryTraces<BabyBear>> {
+    let accesses = trace(alloc, out, &ACCESSES, 5)?;
+    let boundary = trace(alloc, out, &BOUNDARY, 4)?;
+    let gaps = trace(alloc, out, &GAPS, 2)?;
     Some(MemoryTraces {
-        accesses: trace(alloc, &ACCESSES, 5)?,
-        boundary: trace(alloc, &BOUNDARY, 4)?,
-        gaps: trace(alloc, &GAPS, 2)?,
+        accesses,
+        boundary,
+        gaps,
     })
 }
 
@@ -143,7 +157,7 @@ fn on_memory(
     show(out, "check_memory", answer);
     let answer = check_memory(alloc, plan, traces, BabyBear4::ZERO, BabyBear4::ZERO);
     show(out, "check_memory", answer);
-    state(out, "input of", "memory", traces);
+    show(out, "input", traces);
 }
 
 /// The plan of a memory.
@@ -151,14 +165,19 @@ fn plan_of_memory(alloc: Global) -> Result<BatchPlan<BabyBear>, BatchError> {
     memory_plan::<BabyBear, BabyBear4>(alloc, 4, 2, 5)
 }
 
-/// The calls of the memory check.
-pub fn memory(alloc: Global, out: &mut Out) -> Option<()> {
-    let call = "memory_plan";
-    let traces = memory_traces(alloc)?;
-    let plan = plan_of_memory(alloc).ok()?;
-    for _ in 0..2 {
-        show(out, call, plan_of_memory(alloc));
-        on_memory(alloc, out, &plan, &traces);
+/// The calls of the memory check over a plan, twice.
+fn over_memory(alloc: Global, out: &mut Out, plan: &BatchPlan<BabyBear>) {
+    if let Some(traces) = memory_traces(alloc, out) {
+        on_memory(alloc, out, plan, &traces);
+        on_memory(alloc, out, plan, &traces);
     }
-    Some(())
+}
+
+/// The calls of the memory check.
+pub fn memory(alloc: Global, out: &mut Out) {
+    show(out, "memory_plan", plan_of_memory(alloc));
+    show(out, "memory_plan", plan_of_memory(alloc));
+    if let Some(plan) = input(out, plan_of_memory(alloc)) {
+        over_memory(alloc, out, &plan);
+    }
 }

@@ -1,30 +1,30 @@
 //! Calls of recorders, of records, of counts and of indexed declarations.
 use crate::airs::EachRecord;
 use crate::inputs::{Recorder, cell, layout, read};
-use crate::show::{Out, show, state};
-use air::{AirBuilder, AirLayout, Expression};
+use crate::show::{Out, input, show};
+use air::{AirBuilder, AirLayout, Expression, PermutationAirBuilder, SymbolicAirBuilder};
 use field::Field;
 use lookup::{Count, IndexedDeclarations, IndexedLookups};
 use lookup_indexed::check_declarations;
 use std::alloc::Global;
 use std::fmt::Debug;
 
-/// A layout of too few columns for the AIR.
-fn narrow() -> AirLayout {
-    AirLayout {
-        main_width: 2,
-        ..layout()
-    }
-}
-
-/// Calls that make a recorder.
+/// Calls that make a builder or a recorder, also with too few columns for the AIR, and the check of a layout.
 fn make_recorders<F: Field + Debug>(alloc: Global, out: &mut Out) {
+    let answer = SymbolicAirBuilder::<F, F>::new(alloc, layout());
+    show(out, "SymbolicAirBuilder::new", answer);
     let answer = Recorder::<F>::new(alloc, layout());
     show(out, "InteractionSymbolicBuilder::new", answer);
-    let answer = Recorder::<F>::from_air(alloc, &EachRecord, layout());
-    show(out, "InteractionSymbolicBuilder::from_air", answer);
-    let answer = Recorder::<F>::from_air(alloc, &EachRecord, narrow());
-    show(out, "InteractionSymbolicBuilder::from_air, narrow", answer);
+    for main_width in 2..4usize {
+        let layout = AirLayout {
+            main_width,
+            ..layout()
+        };
+        let answer = layout.validate_against_air::<F, EachRecord>(&EachRecord);
+        show(out, "validate_against_air", answer);
+        let answer = Recorder::<F>::from_air(alloc, &EachRecord, layout);
+        show(out, "InteractionSymbolicBuilder::from_air", answer);
+    }
 }
 
 /// Calls that read a recorder.
@@ -36,7 +36,8 @@ fn read_recorder<F: Field + Debug>(alloc: Global, out: &mut Out, builder: &Recor
         builder.extension_constraints(alloc),
     );
     show(out, "constraint_layout", builder.constraint_layout(alloc));
-    show(out, "main of a recorder", builder.main(alloc));
+    show(out, "main", builder.main(alloc));
+    show(out, "permutation", builder.permutation(alloc));
 }
 
 /// Copies of the records.
@@ -66,43 +67,40 @@ fn copy_declarations<F: Field>(alloc: Global, out: &mut Out, builder: &Recorder<
 }
 
 /// Calls of a count of weight 3, the negative of a cell.
-fn on_count<F: Field + Debug>(alloc: Global, out: &mut Out) -> Option<()> {
-    let count = Count::bounded(cell::<F>(2).neg(alloc).ok()?, 3);
-    show(out, "copy of a count", count.copy(alloc));
-    show(out, "negate", count.negate(alloc));
-    Some(())
-}
-
-/// Calls on a recorder.
-fn on_recorder<F: Field + Debug>(alloc: Global, out: &mut Out, builder: &Recorder<F>) {
-    read_recorder(alloc, out, builder);
-    copy_records(alloc, out, builder);
-    copy_declarations(alloc, out, builder);
-    state(out, "input of", "records", builder);
+fn on_count<F: Field + Debug>(alloc: Global, out: &mut Out) {
+    if let Some(negative) = input(out, cell::<F>(2).neg(alloc)) {
+        let count = Count::bounded(negative, 3);
+        show(out, "copy of a count", count.copy(alloc));
+        show(out, "negate", count.negate(alloc));
+    }
 }
 
 /// The calls of counts, of recorders and of records, over the same recorder twice.
-pub fn records<F: Field + Debug>(alloc: Global, out: &mut Out) -> Option<()> {
-    on_count::<F>(alloc, out)?;
-    make_recorders::<F>(alloc, out);
-    let builder = Recorder::<F>::from_air(alloc, &EachRecord, layout()).ok()?;
-    on_recorder(alloc, out, &builder);
-    on_recorder(alloc, out, &builder);
-    drop(builder);
-    on_count::<F>(alloc, out)?;
-    make_recorders::<F>(alloc, out);
-    Some(())
+pub fn records<F: Field + Debug>(alloc: Global, out: &mut Out) {
+    let made = Recorder::<F>::from_air(alloc, &EachRecord, layout());
+    if let Some(builder) = input(out, made) {
+        for _ in 0..2 {
+            on_count::<F>(alloc, out);
+            make_recorders::<F>(alloc, out);
+            read_recorder(alloc, out, &builder);
+            copy_records(alloc, out, &builder);
+            copy_declarations(alloc, out, &builder);
+            show(out, "input", &builder);
+        }
+        drop(builder);
+    }
 }
 
 /// The calls that check the declarations of a text, and make a set of them.
-fn declare(alloc: Global, out: &mut Out, text: &'static str) -> Option<()> {
-    let declared: IndexedDeclarations = read(alloc, text)?;
-    let (reads, tables) = (declared.reads.as_slice(), declared.tables.as_slice());
-    let answer = check_declarations(alloc, reads, tables, &layout());
-    show(out, "check_declarations", answer);
-    let answer = IndexedLookups::new(alloc, declared.reads, declared.tables, &layout());
-    show(out, "IndexedLookups::new", answer);
-    Some(())
+fn declare(alloc: Global, out: &mut Out, text: &'static str) {
+    let declared: Option<IndexedDeclarations> = read(alloc, out, text);
+    if let Some(declared) = declared {
+        let (reads, tables) = (declared.reads.as_slice(), declared.tables.as_slice());
+        let answer = check_declarations(alloc, reads, tables, &layout());
+        show(out, "check_declarations", answer);
+        let answer = IndexedLookups::new(alloc, declared.reads, declared.tables, &layout());
+        show(out, "IndexedLookups::new", answer);
+    }
 }
 
 /// Declarations that are accepted.
@@ -129,25 +127,23 @@ const NO_COLUMNS: &str =
 const FAR_COLUMN: &str =
     r#"{"reads":[{"table":"table","position":0,"payload":[1]}],"tables":[{"name":"table","window":"Main","columns":[9]}]}"#;
 
-/// A set that is accepted, and one with each fault.
-fn declare_all(alloc: Global, out: &mut Out) -> Option<()> {
-    declare(alloc, out, DECLARED)?;
-    declare(alloc, out, FAR_POSITION)?;
-    declare(alloc, out, NO_PAYLOAD)?;
-    declare(alloc, out, REPEATED_PAYLOAD)?;
-    declare(alloc, out, NO_COLUMNS)?;
-    declare(alloc, out, FAR_COLUMN)
-}
+/// Declarations that are accepted, and some with each fault.
+const DECLARATIONS: [&str; 6] = [
+    DECLARED,
+    FAR_POSITION,
+    NO_PAYLOAD,
+    REPEATED_PAYLOAD,
+    NO_COLUMNS,
+    FAR_COLUMN,
+];
 
-/// The calls that make a set of declarations, of lists and of an AIR, and those on one, twice.
-pub fn declarations<F: Field>(alloc: Global, out: &mut Out) -> Option<()> {
-    declare_all(alloc, out)?;
-    let accepted = IndexedLookups::from_air::<F, F, EachRecord>(alloc, &EachRecord).ok()?;
+/// The calls that make a set of declarations, of lists and of an AIR, twice.
+pub fn declarations<F: Field>(alloc: Global, out: &mut Out) {
     for _ in 0..2 {
+        for text in &DECLARATIONS {
+            declare(alloc, out, text);
+        }
         let answer = IndexedLookups::from_air::<F, F, EachRecord>(alloc, &EachRecord);
         show(out, "IndexedLookups::from_air", answer);
-        show(out, "copy of indexed lookups", accepted.copy(alloc));
-        state(out, "input of", "declarations", &accepted);
     }
-    declare_all(alloc, out)
 }

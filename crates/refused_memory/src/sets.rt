@@ -1,7 +1,7 @@
 //! Calls on lookups and on sets of them.
 use crate::airs::EachRecord;
-use crate::inputs::{LOOKUPS, ON_TWO_BUSES, UNEVEN, UNEVEN_LOCAL, layout, lookups_of};
-use crate::show::{Out, show, show_or_no_input, state};
+use crate::inputs::{LOOKUPS, ON_TWO_BUSES, UNEVEN, UNEVEN_LOCAL, alone, layout, lookups_of};
+use crate::show::{Out, input, show};
 use field::F7;
 use lookup::{
     LogUpGadget, Lookup, LookupError, LookupProtocol, Lookups, assert_uniform_tuple_width,
@@ -13,20 +13,23 @@ use std::alloc::Global;
 const MISPLACED: &str =
     r#"[{"kind":"Local","elements":[],"multiplicities":[],"count_weight":1,"column":1,"flags":null}]"#;
 
-/// The answer of the call that makes the set of a text.
-fn set_of_records(alloc: Global, text: &'static str) -> Option<Result<Lookups<F7>, LookupError>> {
-    Some(Lookups::from_records(alloc, lookups_of(alloc, text)?))
+/// The set of a text.
+pub fn set(alloc: Global, out: &mut Out, text: &'static str) -> Option<Lookups<F7>> {
+    let lookups = lookups_of(alloc, out, text)?;
+    input(out, Lookups::from_records(alloc, lookups))
 }
 
-/// The set of a text.
-pub fn set(alloc: Global, text: &'static str) -> Option<Lookups<F7>> {
-    set_of_records(alloc, text)?.ok()
+/// The call that makes the set of a text.
+fn make_set(alloc: Global, out: &mut Out, text: &'static str) {
+    if let Some(lookups) = lookups_of(alloc, out, text) {
+        show(out, "from_records", Lookups::from_records(alloc, lookups));
+    }
 }
 
 /// The calls that make a set of a text and of an AIR.
 fn make_sets(alloc: Global, out: &mut Out) {
-    show_or_no_input(out, "from_records", set_of_records(alloc, LOOKUPS));
-    show_or_no_input(out, "from_records", set_of_records(alloc, MISPLACED));
+    make_set(alloc, out, LOOKUPS);
+    make_set(alloc, out, MISPLACED);
     let answer = Lookups::<F7>::from_air::<F7, EachRecord>(alloc, &EachRecord);
     show(out, "Lookups::from_air", answer);
 }
@@ -45,28 +48,27 @@ fn on_lookup(alloc: Global, out: &mut Out, lookup: &Lookup<F7>) {
     }
 }
 
-/// The names of the packing calls, by number.
-const PACKINGS: [&str; 3] = [
-    "pack_same_bus",
-    "pack_same_bus_with_degree",
-    "pack_same_bus_with_degree",
-];
+/// Packs a copy of a set: by the gadget's degree.
+fn pack(alloc: Global, out: &mut Out, set: &Lookups<F7>) {
+    if let Some(copy) = input(out, set.copy(alloc)) {
+        let answer = copy.pack_same_bus(alloc, &LogUpGadget::new(), 16);
+        show(out, "pack_same_bus", answer);
+    }
+}
 
-/// What packing makes of a copy: by the gadget's degree, by a closure for the degree, or by one that always
-/// refuses.
-fn pack_by(
-    alloc: Global,
-    set: &Lookups<F7>,
-    number: usize,
-) -> Option<Result<Lookups<F7>, LookupError>> {
-    let copy = set.copy(alloc).ok()?;
-    Some(match number {
-        0 => copy.pack_same_bus(alloc, &LogUpGadget::new(), 16),
-        1 => copy.pack_same_bus_with_degree(alloc, 3, |lookup| Ok(lookup.elements.len())),
-        _ => copy.pack_same_bus_with_degree(alloc, 3, |_| {
+/// Packs copies of a set by closures for the degree. One of them always refuses.
+fn pack_by_closures(alloc: Global, out: &mut Out, set: &Lookups<F7>) {
+    let call = "pack_same_bus_with_degree";
+    if let Some(copy) = input(out, set.copy(alloc)) {
+        let answer = copy.pack_same_bus_with_degree(alloc, 3, |lookup| Ok(lookup.elements.len()));
+        show(out, call, answer);
+    }
+    if let Some(copy) = input(out, set.copy(alloc)) {
+        let answer = copy.pack_same_bus_with_degree(alloc, 3, |_| {
             Err(LookupError::BadRecord { lookup: 9 })
-        }),
-    })
+        });
+        show(out, call, answer);
+    }
 }
 
 /// Calls on a set. Packing consumes it, so it takes a copy.
@@ -74,8 +76,10 @@ fn on_set(alloc: Global, out: &mut Out, set: &Lookups<F7>) {
     show(out, "copy of a set", set.copy(alloc));
     show(out, "total_count_weight", set.total_count_weight());
     show(out, "Lookups::fits", set.fits(&layout()));
-    for number in 0..3usize {
-        show_or_no_input(out, PACKINGS[number], pack_by(alloc, set, number));
+    pack(alloc, out, set);
+    pack_by_closures(alloc, out, set);
+    for lookup in set.as_slice() {
+        on_lookup(alloc, out, lookup);
     }
 }
 
@@ -89,44 +93,36 @@ fn on_sets(alloc: Global, out: &mut Out, sets: &[Lookups<F7>]) {
     for set in sets {
         on_set(alloc, out, set);
     }
-    state(out, "input of", "sets", &sets);
+    show(out, "input", &sets);
 }
 
-/// Calls on lookups, each by itself.
-fn on_lookups(alloc: Global, out: &mut Out, lookups: &[Lookup<F7>]) {
-    for lookup in lookups {
-        on_lookup(alloc, out, lookup);
-    }
-    state(out, "input of", "lookups", &lookups);
-}
-
-/// The calls of lookups, twice over those of a text.
-fn lookups_in(alloc: Global, out: &mut Out, text: &'static str) -> Option<()> {
-    let lookups = lookups_of(alloc, text)?;
-    on_lookups(alloc, out, lookups.as_slice());
-    on_lookups(alloc, out, lookups.as_slice());
-    Some(())
-}
-
-/// The calls of lookups, over well-formed ones and over one whose tuples have two widths.
-pub fn lookups(alloc: Global, out: &mut Out) -> Option<()> {
-    lookups_in(alloc, out, LOOKUPS)?;
-    lookups_in(alloc, out, UNEVEN_LOCAL)
+/// The sets of two texts.
+fn two_sets(
+    alloc: Global,
+    out: &mut Out,
+    first: &'static str,
+    second: &'static str,
+) -> Option<Vec<Lookups<F7>>> {
+    let first = set(alloc, out, first)?;
+    let mut sets = input(out, alone(alloc, first))?;
+    let second = set(alloc, out, second)?;
+    input(out, sets.push(second))?;
+    Some(sets)
 }
 
 /// The calls of sets, twice over those of two texts.
-fn sets_in(alloc: Global, out: &mut Out, first: &'static str, second: &'static str) -> Option<()> {
-    let sets = [set(alloc, first)?, set(alloc, second)?];
-    on_sets(alloc, out, sets.as_slice());
-    on_sets(alloc, out, sets.as_slice());
-    Some(())
+fn sets_in(alloc: Global, out: &mut Out, first: &'static str, second: &'static str) {
+    if let Some(sets) = two_sets(alloc, out, first, second) {
+        on_sets(alloc, out, sets.as_slice());
+        on_sets(alloc, out, sets.as_slice());
+    }
 }
 
 /// The calls that make sets of lookups, one of them of an AIR, and those on sets: on two with a bus of two
-/// widths, and on two whose buses each have one.
-pub fn sets(alloc: Global, out: &mut Out) -> Option<()> {
+/// widths, on two whose buses each have one, and on one whose local tuples have two.
+pub fn sets(alloc: Global, out: &mut Out) {
     make_sets(alloc, out);
     make_sets(alloc, out);
-    sets_in(alloc, out, LOOKUPS, UNEVEN)?;
-    sets_in(alloc, out, ON_TWO_BUSES, LOOKUPS)
+    sets_in(alloc, out, LOOKUPS, UNEVEN);
+    sets_in(alloc, out, ON_TWO_BUSES, UNEVEN_LOCAL);
 }

@@ -1,14 +1,14 @@
 //! Texts that are written and read, and texts from outside.
 use crate::inputs::{LOOKUPS, layout};
 use crate::sets::set;
-use crate::show::{Out, show, state};
+use crate::show::{Out, input, show};
 use field::{BabyBear, BabyBear4, F7};
 use lookup::{IndexedDeclarations, IndexedLookups, Lookup, LookupTerminal, Lookups};
 use serde::{Deserialize, DeserializeOwned, Serialize};
 use serde_json::Value;
 use serde_json::error::Category;
 use std::alloc::Global;
-use std::io::{BufRead, Write};
+use std::io::{BufRead, BufReader};
 
 /// A reader at a table of two columns.
 const DECLARATIONS: &str =
@@ -61,34 +61,35 @@ fn read_all(alloc: Global, out: &mut Out) {
 fn write_all(alloc: Global, out: &mut Out, set: &Lookups<F7>, declared: &IndexedLookups) {
     show(out, "lookups written", written(alloc, set));
     show(out, "declarations written", written(alloc, declared));
+    show(out, "copy of declarations", declared.copy(alloc));
     let terminal = LookupTerminal(BabyBear4::new([1, 2013265920, 0, 4].map(BabyBear::new)));
     show(out, "a terminal written", written(alloc, &terminal));
-    state(out, "input of", "json", set);
+    show(out, "input", set);
 }
 
 /// The set of the declarations above.
-fn declared(alloc: Global) -> Option<IndexedLookups> {
-    let declared: IndexedDeclarations = read(alloc, DECLARATIONS.as_bytes()).ok()?;
-    IndexedLookups::new(alloc, declared.reads, declared.tables, &layout()).ok()
+fn declared(alloc: Global, out: &mut Out) -> Option<IndexedLookups> {
+    let declared: IndexedDeclarations = input(out, read(alloc, DECLARATIONS.as_bytes()))?;
+    let set = IndexedLookups::new(alloc, declared.reads, declared.tables, &layout());
+    input(out, set)
 }
 
 /// The calls that read and write texts, twice.
-pub fn json(alloc: Global, out: &mut Out) -> Option<()> {
-    let declared = declared(alloc)?;
-    let set = set(alloc, LOOKUPS)?;
-    for _ in 0..2 {
-        read_all(alloc, out);
-        write_all(alloc, out, &set, &declared);
+pub fn json(alloc: Global, out: &mut Out) {
+    if let Some(declared) = declared(alloc, out) {
+        if let Some(set) = set(alloc, out, LOOKUPS) {
+            read_all(alloc, out);
+            write_all(alloc, out, &set, &declared);
+            read_all(alloc, out);
+            write_all(alloc, out, &set, &declared);
+        }
     }
-    Some(())
 }
 
 /// Writes a text, or why there is none.
 fn answer(out: &mut Out, text: Result<String, Category>) {
     match text {
-        Ok(text) => {
-            let _ = writeln!(out, "read: {text}");
-        }
+        Ok(text) => out.write(text),
         Err(category) => show(out, "refused", category),
     }
 }
@@ -117,15 +118,24 @@ fn answer_declarations(alloc: Global, out: &mut Out, text: &[u8]) {
     }
 }
 
+/// Reads a text of this kind.
+fn answer_line(alloc: Global, out: &mut Out, kind: &str, text: &[u8]) {
+    match kind {
+        "lookups" => answer_lookups(alloc, out, text),
+        "declarations" => answer_declarations(alloc, out, text),
+        _ => out.close(),
+    }
+}
+
 /// Reads each line of the input as a text of this kind.
-pub fn lines<R: BufRead + Drop>(alloc: Global, input: R, out: &mut Out, kind: &str) -> Option<()> {
-    for line in input.split(alloc, b'\n') {
-        let text = line.ok()?;
-        match kind {
-            "lookups" => answer_lookups(alloc, out, text.as_slice()),
-            "declarations" => answer_declarations(alloc, out, text.as_slice()),
-            _ => return None,
+pub fn lines(alloc: Global, rt: &HostRuntime, out: &mut Out, kind: &str) {
+    let Ok(reader) = BufReader::new(alloc, rt.stdin()) else {
+        return out.close();
+    };
+    for line in reader.split(alloc, b'\n') {
+        match line {
+            Ok(text) => answer_line(alloc, out, kind, text.as_slice()),
+            Err(_) => out.close(),
         }
     }
-    Some(())
 }

@@ -3,13 +3,13 @@ ghost use Rattle.std.specs.Prelude.{◌≡◌};
 ghost use Rattle.refused_memory.specs.Layout.{swept_layout};
 
 use crate::inputs::{TREES, layout, read};
-use crate::over::over_builder;
-use crate::show::{Out, show, state};
+use crate::over::over_recorder;
+use crate::show::{Out, input, show};
 use air::{
     AirBuilder, Expression, ExtLeaf, SymbolicExpression, SymbolicExpressionExt, copy_expressions,
     resolve_over,
 };
-use field::{F7, Field};
+use field::{ExtensionField, F7, Field};
 use std::alloc::{AllocError, Global};
 use std::fmt::Debug;
 
@@ -43,6 +43,7 @@ const OF_EXT_TREES: [&str; 5] = ["add, ext", "sub, ext", "mul, ext", "neg, ext",
 
 /// Calls on one expression.
 pub fn on_tree(alloc: Global, out: &mut Out, tree: &SymbolicExpression<F7>) {
+    show(out, "fmt", tree);
     nodes::<F7, SymbolicExpression<F7>>(alloc, out, &OF_TREES, tree);
     show(out, "degree_multiple", tree.degree_multiple());
     let degree = tree.degree_multiple_with_transition(2);
@@ -51,8 +52,13 @@ pub fn on_tree(alloc: Global, out: &mut Out, tree: &SymbolicExpression<F7>) {
 }
 
 /// Calls on an expression over the extension.
-pub fn on_ext_tree(alloc: Global, out: &mut Out, tree: &SymbolicExpressionExt<F7, F7>) {
-    nodes::<F7, SymbolicExpressionExt<F7, F7>>(alloc, out, &OF_EXT_TREES, tree);
+pub fn on_ext_tree<F: Field + Debug, EF: ExtensionField<F> + Debug>(
+    alloc: Global,
+    out: &mut Out,
+    tree: &SymbolicExpressionExt<F, EF>,
+) {
+    show(out, "fmt, ext", tree);
+    nodes::<EF, SymbolicExpressionExt<F, EF>>(alloc, out, &OF_EXT_TREES, tree);
     show(out, "degree_multiple, ext", tree.degree_multiple());
     let degree = tree.degree_multiple_with_transition(2);
     show(out, "degree_multiple_with_transition, ext", degree);
@@ -62,11 +68,12 @@ pub fn on_ext_tree(alloc: Global, out: &mut Out, tree: &SymbolicExpressionExt<F7
 }
 
 /// Calls on the negative of 1 as an expression over the extension.
-fn on_lifted(alloc: Global, out: &mut Out) -> Option<()> {
+fn on_lifted(alloc: Global, out: &mut Out) {
     let one: SymbolicExpression<F7> = SymbolicExpression::constant(F7::new(1));
-    let negative = ExtLeaf::Base(one.neg(alloc).ok()?);
-    on_ext_tree(alloc, out, &SymbolicExpressionExt::Leaf(negative));
-    Some(())
+    if let Some(negative) = input(out, one.neg(alloc)) {
+        let tree = SymbolicExpressionExt::Leaf(ExtLeaf::Base(negative));
+        on_ext_tree::<F7, F7>(alloc, out, &tree);
+    }
 }
 
 /// Calls that resolve expressions which fit: on a builder, and with its main window.
@@ -75,42 +82,39 @@ pub fn resolve_all<AB: AirBuilder>(
     out: &mut Out,
     trees: &[SymbolicExpression<AB::F>],
     builder: &AB,
-) -> Option<()>
+)
 where
     AB::Expr: Debug,
     requires { AB.layout builder.now ≡ swept_layout }
 {
     let Ok(main) = builder.main(alloc) else {
-        return None;
+        return out.close();
     };
     for tree in trees {
         if tree.fits(&layout()) {
             show(out, "resolve", tree.resolve(alloc, builder));
-            show(
-                out,
-                "resolve_over",
-                resolve_over(alloc, tree, builder, &main),
-            );
+            let answer = resolve_over(alloc, tree, builder, &main);
+            show(out, "resolve_over", answer);
         }
     }
-    Some(())
 }
 
 /// Calls on expressions.
-fn on_trees(alloc: Global, out: &mut Out, trees: &[SymbolicExpression<F7>]) -> Option<()> {
+fn on_trees(alloc: Global, out: &mut Out, trees: &[SymbolicExpression<F7>]) {
     for tree in trees {
         on_tree(alloc, out, tree);
     }
     show(out, "copy_expressions", copy_expressions(alloc, trees));
-    on_lifted(alloc, out)?;
-    over_builder::<F7>(alloc, "resolve", out, trees, &[])?;
-    state(out, "input of", "expressions", &trees);
-    Some(())
+    on_lifted(alloc, out);
+    over_recorder::<F7, F7>(alloc, "resolve", out, trees, &[]);
+    show(out, "input", &trees);
 }
 
 /// The calls of expressions, over the same ones twice.
-pub fn expressions(alloc: Global, out: &mut Out) -> Option<()> {
-    let trees: Vec<SymbolicExpression<F7>> = read(alloc, TREES)?;
-    on_trees(alloc, out, trees.as_slice())?;
-    on_trees(alloc, out, trees.as_slice())
+pub fn expressions(alloc: Global, out: &mut Out) {
+    let trees: Option<Vec<SymbolicExpression<F7>>> = read(alloc, out, TREES);
+    if let Some(trees) = trees {
+        on_trees(alloc, out, trees.as_slice());
+        on_trees(alloc, out, trees.as_slice());
+    }
 }
