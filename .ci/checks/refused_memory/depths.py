@@ -25,8 +25,8 @@ GENERATED = (
 )
 ANSWERS = {
     "expression": {
-        "fmt": "{printed}",
         "serialize": "Ok({written})",
+        "fmt": "{printed}",
         "copy": "Ok({printed})",
         "degree_multiple": "Ok(0)",
         "degree_multiple_with_transition": "Ok(0)",

@@ -10,6 +10,7 @@ line has one of these names, and says what a call is made on, or what the last c
     filled      after a refusal an empty list
 """
 import os
+import re
 
 NEVER = "-"
 STATES = ("input", "before", "after", "left", "count", "filled")
@@ -41,33 +42,35 @@ def apart(line, good):
     return f"{line.partition(': ')[0]}: {'..' * (start > 0)}{line[start : at + 100]}, and not {good[start : at + 100]}"
 
 
-def parts_of(value):
-    """What stands before the first bracket of a printed value, the bracket, and the items in it and its pair."""
-    head, items, item, depth, quoted, escaped = "", [], "", 0, False, False
-    for place, letter in enumerate(value):
-        if depth == 0 and letter in "[({":
-            head, depth = value[: place + 1], 1
-        elif depth == 1 and not quoted and letter in "],)}":
-            items += [item.strip()] if item.strip() else []
-            item, depth = "", int(letter == ",")
+# What of a printed value tells where its lists begin and end, and a number of assertions.
+TOKEN = re.compile(r'"(?:[^"\\]|\\.)*"|[][(){},]')
+COUNT = re.compile(r"\bcount: (\d+)")
+
+
+def lists_of(value):
+    """A printed value without what is in its lists, and the items of each list. Lists in an item are part of it."""
+    rest, lists, depth, start = "", [], 0, 0
+    for token in TOKEN.finditer(value):
+        letter, place = token[0], token.start()
+        if depth == 0 and letter == "[":
+            rest += value[start : place + 1]
+            lists.append([])
+            depth, start = 1, place + 1
         elif depth:
-            item += letter
-            if quoted:
-                quoted, escaped = letter != '"' or escaped, letter == "\\" and not escaped
-            else:
-                quoted = letter == '"'
-                depth += (letter in "[({") - (letter in "])}")
-    return head, items
+            if depth == 1 and letter in ",]":
+                item = value[start:place].strip()
+                lists[-1] += [item] if item else []
+                start = place + (letter == ",")
+            depth += (letter in "[({") - (letter in "])}")
+    return rest + value[start:], lists
 
 
 def begins(value, whole):
-    """Whether a printed value differs from another one only by lists that have its first items, and no more."""
-    (head, items), (_, of_whole) = parts_of(value), parts_of(whole)
-    if not head or not whole.startswith(head) or value[-1] != whole[-1]:
-        return value == whole
-    if head[-1] == "[":
-        return items == of_whole[: len(items)]
-    return len(items) == len(of_whole) and all(map(begins, items, of_whole))
+    """Whether a printed value is another one with fewer items at the end of its lists, and a lower count of them."""
+    (rest, lists), (rest_of_whole, lists_of_whole) = lists_of(value), lists_of(whole)
+    counts = zip(map(int, COUNT.findall(rest)), map(int, COUNT.findall(rest_of_whole)))
+    same = COUNT.sub("", rest) == COUNT.sub("", rest_of_whole) and all(count <= most for count, most in counts)
+    return same and all(items == all_of[: len(items)] for items, all_of in zip(lists, lists_of_whole))
 
 
 class Judge:
@@ -126,7 +129,7 @@ AMPLE = [
     "after: [1, 2]",
     "c: Ok(())",
     'left: [Add(1, "],"), 23]',
-    "left: B { inner: A { base: [2, 3], at: (0, 1) }, more: [[]] }",
+    "left: B { inner: A { base: [2, 3], at: (0, 1), count: 2 }, more: [[]] }",
     "d: Ok(3)",
     "input: 7",
 ]
@@ -146,13 +149,15 @@ JUDGED = [
     ({8: "c: Err(Memory)", 9: "left: [Add(1)]"}, 1),
     ({8: "c: Err(Memory)", 9: "left: ["}, 1),
     ({8: "c: Err(Memory)", 9: "left: [23]"}, 1),
-    ({8: "c: Err(Memory)", 10: "left: B { inner: A { base: [2], at: (0, 1) }, more: [] }"}, 0),
-    ({8: "c: Err(Memory)", 10: "left: B { inner: A { base: [3], at: (0, 1) }, more: [] }"}, 1),
-    ({8: "c: Err(Memory)", 10: "left: B { inner: A { base: [2], at: (0) }, more: [] }"}, 1),
-    ({8: "c: Err(Memory)", 10: "left: B { inner: A { base: [2, 3], at: (0, 2) }, more: [] }"}, 1),
-    ({8: "c: Err(Memory)", 10: "left: B { inner: C { base: [2], at: (0, 1) }, more: [] }"}, 1),
-    ({8: "c: Err(Memory)", 10: "left: B { inner: A { base: [2], at: (0, 1) } }"}, 1),
-    ({10: "left: B { inner: A { base: [2], at: (0, 1) }, more: [] }"}, 1),
+    ({8: "c: Err(Memory)", 10: "left: B { inner: A { base: [2], at: (0, 1), count: 2 }, more: [] }"}, 0),
+    ({8: "c: Err(Memory)", 10: "left: B { inner: A { base: [2], at: (0, 1), count: 1 }, more: [] }"}, 0),
+    ({8: "c: Err(Memory)", 10: "left: B { inner: A { base: [2], at: (0, 1), count: 3 }, more: [] }"}, 1),
+    ({8: "c: Err(Memory)", 10: "left: B { inner: A { base: [3], at: (0, 1), count: 2 }, more: [] }"}, 1),
+    ({8: "c: Err(Memory)", 10: "left: B { inner: A { base: [2], at: (0), count: 2 }, more: [] }"}, 1),
+    ({8: "c: Err(Memory)", 10: "left: B { inner: A { base: [2, 3], at: (0, 2), count: 2 }, more: [] }"}, 1),
+    ({8: "c: Err(Memory)", 10: "left: B { inner: C { base: [2], at: (0, 1), count: 2 }, more: [] }"}, 1),
+    ({8: "c: Err(Memory)", 10: "left: B { inner: A { base: [2], at: (0, 1), count: 2 } }"}, 1),
+    ({10: "left: B { inner: A { base: [2], at: (0, 1), count: 2 }, more: [] }"}, 1),
     ({9: 'left: [Add(1, "],")]'}, 1),
     ({11: "d: Err(Memory)"}, 1),
     ({11: "d: no input"}, 1),
