@@ -1,19 +1,40 @@
 //! Calls of evaluation.
-ghost use Rattle.std.specs.Prelude.{◌≡◌, None};
+ghost use Rattle.std.specs.Prelude.{◌≡◌, ◌*◌, ◌<◌, ◌≤◌, None, length};
 ghost use Rattle.std.specs.Option.{option_copied};
 ghost use Rattle.air.specs.Row.{HeightFits, OptionHeightFits};
+ghost use Rattle.lookup_model.specs.Records.{LookupsFit};
 ghost use Rattle.matrix.specs.Matrix.{height};
 ghost use Rattle.refused_memory.specs.Layout.{swept_layout};
 
 use crate::airs::Zeros;
-use crate::inputs::{LOOKUPS, layout, lookups_of, trace};
+use crate::inputs::{LOOKUPS, lookups_of, trace};
+use crate::layouts::has_room;
 use crate::over::over_recorder;
 use crate::show::{Out, show};
 use air::{AirError, Expression, PermutationAirBuilder, RowInputs, check_rows};
 use field::{F7, PrimeCharacteristicRing};
-use lookup::{LogUpGadget, Lookup, LookupProtocol, fits};
+use lookup::{LogUpGadget, Lookup, LookupProtocol, has_equal_lengths};
 use matrix::RowMajorMatrix;
 use std::alloc::Global;
+
+/// Asserts the constraint of the fraction of the first lookup.
+fn evaluate_fraction<AB: PermutationAirBuilder>(
+    alloc: Global,
+    builder: &mut AB,
+    lookups: &[Lookup<AB::F>],
+) -> Result<(), AirError>
+    requires fit { LookupsFit (AB.layout builder.old) lookups.now }
+    requires challenges { 2 * length lookups.now
+        ≤ (AB.layout builder.old).num_permutation_challenges }
+    requires cells { length lookups.now < (AB.layout builder.old).permutation_width }
+{
+    match lookups {
+        [lookup, ..] if has_equal_lengths(lookup) && lookup.column == 0 => {
+            LogUpGadget::new().eval_fraction(alloc, builder, lookup)
+        }
+        _ => Err(AirError::DegreeOverflow),
+    }
+}
 
 /// Makes the evaluation of this name: of all lookups, of the accumulator with the terminal 0, of an AIR and all
 /// lookups, or of the fraction of the first lookup.
@@ -25,7 +46,7 @@ pub fn evaluate<AB: PermutationAirBuilder>(
 ) -> Result<(), AirError>
     requires { AB.layout builder.old ≡ swept_layout }
 {
-    if !fits(lookups, &layout()) || lookups.len() > 4 {
+    if !has_room(lookups) {
         return Err(AirError::DegreeOverflow);
     }
     let gadget = LogUpGadget::new();
@@ -36,10 +57,7 @@ pub fn evaluate<AB: PermutationAirBuilder>(
             gadget.eval_accumulator(alloc, builder, lookups, terminal)
         }
         "eval_air_and_lookups" => gadget.eval_air_and_lookups(alloc, &Zeros, builder, lookups),
-        _ => match lookups {
-            [lookup, ..] => gadget.eval_fraction(alloc, builder, lookup),
-            _ => Err(AirError::DegreeOverflow),
-        },
+        _ => evaluate_fraction(alloc, builder, lookups),
     }
 }
 

@@ -16,6 +16,7 @@ mod evaluations;
 mod fields;
 mod generations;
 mod inputs;
+mod layouts;
 mod over;
 mod plans;
 mod records;
