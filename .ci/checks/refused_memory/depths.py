@@ -48,6 +48,8 @@ ANSWERS = {
         "degree_multiple_with_transition, ext": "Ok(0)",
     },
 }
+# The calls that are made twice on what they are made on.
+TWICE = ("check_witness",)
 
 
 def node_of(form):
@@ -82,7 +84,8 @@ def written(form, depth):
 def wanted(kind, form, depth):
     """The lines that the recursive calls write."""
     texts = {"printed": printed(form, depth), "written": json.dumps(written(form, depth))}
-    return [f"{call}: {answer.format(**texts)}" for call, answer in ANSWERS[kind].items()]
+    lines = {call: f"{call}: {answer.format(**texts)}" for call, answer in ANSWERS[kind].items()}
+    return [line for call, line in lines.items() for _ in range(2 if call in TWICE else 1)]
 
 
 def bears(program, kind, form, depth):
@@ -92,8 +95,7 @@ def bears(program, kind, form, depth):
     how = {"stdin": subprocess.DEVNULL, "stderr": subprocess.DEVNULL, "stdout": subprocess.PIPE, "timeout": SECONDS}
     ran = subprocess.run(words, preexec_fn=limit, check=False, **how)
     lines = [it for it in ran.stdout.decode().splitlines() if it.partition(": ")[0] in ANSWERS[kind]]
-    # a call that is made twice writes the same line again
-    return ran.returncode == 0 and list(dict.fromkeys(lines)) == wanted(kind, form, depth)
+    return ran.returncode == 0 and lines == wanted(kind, form, depth)
 
 
 def depth_swept(_shim, program, kind, _later):

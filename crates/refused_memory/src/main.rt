@@ -67,8 +67,8 @@ fn group_of_rest(alloc: Global, name: &str, out: &mut Out) {
 fn answer(alloc: Global, words: &[String], rt: &HostRuntime, out: &mut Out) {
     match words {
         [name] => group(alloc, name.as_str(), out),
-        [_lines, kind] => texts::lines(alloc, rt, out, kind.as_str()),
-        [_deep, kind, form, depth] => {
+        [word, kind] if word.as_str() == "lines" => texts::lines(alloc, rt, out, kind.as_str()),
+        [word, kind, form, depth] if word.as_str() == "deep" => {
             depths::deep(alloc, out, kind.as_str(), form.as_str(), depth.as_str());
         }
         _ => out.close(),

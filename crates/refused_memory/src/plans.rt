@@ -1,5 +1,5 @@
 //! Calls of plans, and of the memory check.
-use crate::inputs::{self, BALANCED, LOOKUPS, UNBALANCED, UNEVEN, UNEVEN_LOCAL, trace};
+use crate::inputs::{BALANCED, LOOKUPS, UNBALANCED, UNEVEN, UNEVEN_LOCAL, alone, trace};
 use crate::sets::set;
 use crate::show::{Out, input, show};
 use batch::{BatchError, BatchPlan, BatchTrace};
@@ -18,7 +18,7 @@ fn plan_of(
 ) -> Option<Result<BatchPlan<F7>, BatchError>> {
     let heights = input(out, Vec::from_slice(alloc, heights))?;
     let set = set(alloc, out, text)?;
-    let airs = input(out, inputs::alone(alloc, set))?;
+    let airs = input(out, alone(alloc, set))?;
     Some(BatchPlan::new(alloc, airs, heights))
 }
 
@@ -39,7 +39,7 @@ fn make_plans(alloc: Global, out: &mut Out) {
 }
 
 /// A main trace alone.
-fn alone(main: &RowMajorMatrix<F7>) -> BatchTrace<'_, F7> {
+fn main_alone(main: &RowMajorMatrix<F7>) -> BatchTrace<'_, F7> {
     BatchTrace {
         main,
         preprocessed: None,
@@ -50,7 +50,7 @@ fn alone(main: &RowMajorMatrix<F7>) -> BatchTrace<'_, F7> {
 /// The witness of the trace that balances.
 fn accepted_witness(alloc: Global, out: &mut Out, plan: &BatchPlan<F7>) -> Option<Witness<F7>> {
     let main = trace(alloc, out, &BALANCED, 3)?;
-    let traces = [alone(&main)];
+    let traces = [main_alone(&main)];
     let made = plan.prove(alloc, traces.as_slice(), F7::new(5), F7::new(2));
     input(out, made)
 }
@@ -95,7 +95,7 @@ fn over(
     witness: &Witness<F7>,
 ) {
     if let Some(main) = trace(alloc, out, numbers, 3) {
-        let traces = [alone(&main)];
+        let traces = [main_alone(&main)];
         on_plan(alloc, out, plan, traces.as_slice(), witness);
         on_plan(alloc, out, plan, traces.as_slice(), witness);
         show(out, "input", &main);

@@ -9,21 +9,26 @@ use lookup_indexed::check_declarations;
 use std::alloc::Global;
 use std::fmt::Debug;
 
+const FROM_AIR: [&str; 2] = [
+    "InteractionSymbolicBuilder::from_air",
+    "InteractionSymbolicBuilder::from_air, narrow",
+];
+
 /// Calls that make a builder or a recorder, also with too few columns for the AIR, and the check of a layout.
 fn make_recorders<F: Field + Debug>(alloc: Global, out: &mut Out) {
     let answer = SymbolicAirBuilder::<F, F>::new(alloc, layout());
     show(out, "SymbolicAirBuilder::new", answer);
     let answer = Recorder::<F>::new(alloc, layout());
     show(out, "InteractionSymbolicBuilder::new", answer);
-    for main_width in 2..4usize {
+    for number in 0..2usize {
         let layout = AirLayout {
-            main_width,
+            main_width: 3 - number,
             ..layout()
         };
         let answer = layout.validate_against_air::<F, EachRecord>(&EachRecord);
         show(out, "validate_against_air", answer);
         let answer = Recorder::<F>::from_air(alloc, &EachRecord, layout);
-        show(out, "InteractionSymbolicBuilder::from_air", answer);
+        show(out, FROM_AIR[number], answer);
     }
 }
 

@@ -13,6 +13,7 @@ pub struct Out {
 }
 
 impl Out {
+    /// Takes lines, and writes them here.
     pub fn new(lines: BufWriter<Stdout>) -> Out {
         Out {
             lines,
