@@ -90,7 +90,7 @@ def wanted(kind, form, depth):
 
 def bears(program, kind, form, depth):
     """Whether the calls on an expression of this form and depth answer what they have to, on a small stack."""
-    words = [program, "deep", kind, form, str(depth)]
+    words = [program, kind, form, str(depth)]
     limit = lambda: resource.setrlimit(resource.RLIMIT_STACK, (STACK, STACK))  # noqa: E731
     how = {"stdin": subprocess.DEVNULL, "stderr": subprocess.DEVNULL, "stdout": subprocess.PIPE, "timeout": SECONDS}
     ran = subprocess.run(words, preexec_fn=limit, check=False, **how)

@@ -25,17 +25,6 @@ pub const PUSHES: [&str; 7] = [
     "push_indexed_table",
 ];
 
-/// The names of the calls of buses, and of a filtered assertion, which stands for all three filters, as these
-/// differ by their condition alone.
-pub const BUS_CALLS: [&str; 6] = [
-    "table_entry",
-    "lookup_key",
-    "send",
-    "receive",
-    "lookup_key_exclusive",
-    "assert_zero on the first row",
-];
-
 /// Two cells.
 fn key<F: Field>(alloc: Global) -> Result<Vec<SymbolicExpression<F>>, AllocError> {
     let mut key = alone(alloc, cell(0))?;
@@ -86,29 +75,56 @@ fn push_group<F: Field>(alloc: Global, builder: &mut Recorder<F>) -> Result<(), 
     ensures { OnOk result ((recorded_air builder.new).constraints.layout
         ≡ (recorded_air builder.old).constraints.layout) }
 {
-    let branches = alone(alloc, (cell(2), Count::from(1), key(alloc)?))?;
+    let key = key(alloc)?;
+    let branches = alone(alloc, (cell(2), Count::from(1), key))?;
     builder.push_exclusive_interaction(alloc, "other", branches)
 }
 
-/// Makes the call of a bus of this name, or asserts on the first row.
+/// A call of a bus; or a filtered assertion, which stands for all three filters, as these differ by their condition
+/// alone.
+#[derive(Clone, Copy)]
+pub enum BusCall {
+    TableEntry,
+    LookupKey,
+    Send,
+    Receive,
+    LookupKeyExclusive,
+    AssertOnFirstRow,
+}
+
+impl BusCall {
+    /// The name in the lines.
+    pub fn name(self) -> &'static str {
+        match self {
+            BusCall::TableEntry => "table_entry",
+            BusCall::LookupKey => "lookup_key",
+            BusCall::Send => "send",
+            BusCall::Receive => "receive",
+            BusCall::LookupKeyExclusive => "lookup_key_exclusive",
+            BusCall::AssertOnFirstRow => "assert_zero on the first row",
+        }
+    }
+}
+
+/// Makes this call on cells.
 pub fn call_bus<AB: InteractionBuilder>(
     alloc: Global,
     builder: &mut AB,
-    name: &str,
+    call: BusCall,
 ) -> Result<(), AirError> {
     let key = current_cells(alloc, &*builder, 3, &[0, 1])?;
     let cell = current_cell(alloc, &*builder, 3, 2)?;
     let (keys, sent) = (LookupBus::new("keys"), PermutationCheckBus::new("sent"));
-    match name {
-        "table_entry" => keys.table_entry(alloc, builder, key, cell),
-        "lookup_key" => keys.lookup_key(alloc, builder, key, Count::bounded(cell, 2)),
-        "send" => sent.send(alloc, builder, key, Count::bounded(cell, 2)),
-        "receive" => sent.receive(alloc, builder, key, Count::bounded(cell, 2)),
-        "lookup_key_exclusive" => {
+    match call {
+        BusCall::TableEntry => keys.table_entry(alloc, builder, key, cell),
+        BusCall::LookupKey => keys.lookup_key(alloc, builder, key, Count::bounded(cell, 2)),
+        BusCall::Send => sent.send(alloc, builder, key, Count::bounded(cell, 2)),
+        BusCall::Receive => sent.receive(alloc, builder, key, Count::bounded(cell, 2)),
+        BusCall::LookupKeyExclusive => {
             let branches = alone(alloc, (cell, key))?;
             keys.lookup_key_exclusive(alloc, builder, branches)
         }
-        _ => builder.when_first_row().assert_zero(alloc, cell),
+        BusCall::AssertOnFirstRow => builder.when_first_row().assert_zero(alloc, cell),
     }
 }
 

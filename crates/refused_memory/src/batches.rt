@@ -1,15 +1,15 @@
 //! Calls over batches.
 ghost use Rattle.std.specs.Prelude.{◌↔◌, ◌<◌, All, IsTrue};
-ghost use Rattle.lookup_model.specs.Batches.Instances.{InstancesFit};
+ghost use Rattle.lookup_model.specs.Batches.Instances.{HavePrefixes, InstancesFit};
 
-use crate::inputs::{BALANCED, LOOKUPS, ON_A_BUS, UNBALANCED, lookups_of, trace};
+use crate::inputs::{BALANCED, LOOKUPS, ON_A_BUS, UNBALANCED, lookups_of, table, trace};
 use crate::show::{Out, input, show};
 use air::AirLayout;
 use checker::{
     BatchInstance, Witness, check_witness, generate_batch, ids_are_kept, ids_are_lawful,
     instances_fit, some_witness, soundness_count,
 };
-use field::{F7, PrimeCharacteristicRing};
+use field::F7;
 use lookup::debug_util::{LookupDebugInstance, LookupFault, check_lookups};
 use lookup::{Challenges, LogUpGadget, Lookup, LookupProtocol, fits};
 use matrix::RowMajorMatrix;
@@ -44,13 +44,12 @@ fn have_prefixes(instances: &[BatchInstance<'_, F7>], count: usize) -> bool
         .all(|instance| are_below(instance.ids, count))
 }
 
-/// Whether a batch fits, at a table with so many prefixes.
-fn are_fitting(instances: &[BatchInstance<'_, F7>], prefixes: usize) -> bool
+/// Whether a batch fits, and the table has a prefix for each of its ids.
+fn are_fitting(instances: &[BatchInstance<'_, F7>], table: &Challenges<F7>) -> bool
     ensures fit { IsTrue result → InstancesFit instances.now }
-    ensures ids { IsTrue result
-        → All (λ b. All (λ id. id < prefixes) b.ids.now) instances.now }
+    ensures ids { IsTrue result → HavePrefixes table.now instances.now }
 {
-    instances_fit(instances) && have_prefixes(instances, prefixes)
+    instances_fit(instances) && have_prefixes(instances, table.bus_prefix.len())
 }
 
 /// Calls over a batch without a table.
@@ -81,7 +80,7 @@ fn on_table(
     instances: &[BatchInstance<'_, F7>],
     table: &Challenges<F7>,
 ) {
-    if are_fitting(instances, table.bus_prefix.len()) {
+    if are_fitting(instances, table) {
         let witness = generate_batch(alloc, instances, table);
         show(out, "generate_batch", witness);
         let accepted = some_witness(alloc, instances, table);
@@ -96,12 +95,12 @@ fn check(
     instances: &[BatchInstance<'_, F7>],
     table: &Challenges<F7>,
     witness: &Witness<F7>,
-) {
+)
+    requires fit { InstancesFit instances.now }
+    requires ids { HavePrefixes table.now instances.now }
+{
     let (aux, terminals) = (witness.aux.as_slice(), witness.terminals.as_slice());
-    if are_fitting(instances, table.bus_prefix.len())
-        && aux.len() == instances.len()
-        && terminals.len() == instances.len()
-    {
+    if aux.len() == instances.len() && terminals.len() == instances.len() {
         let answer = check_witness(alloc, instances, table, aux, terminals);
         show(out, "check_witness", answer);
     }
@@ -117,20 +116,13 @@ fn on_witness(
     instances: &[BatchInstance<'_, F7>],
     table: &Challenges<F7>,
 ) {
-    if are_fitting(instances, table.bus_prefix.len()) {
+    if are_fitting(instances, table) {
         if let Some(witness) = input(out, generate_batch(alloc, instances, table)) {
-            check(alloc, out, instances, table, &witness);
-            check(alloc, out, instances, table, &witness);
+            for _ in 0..2 {
+                check(alloc, out, instances, table, &witness);
+            }
         }
     }
-}
-
-/// The table of an alpha and the beta 2, for tuples of one element and two ids.
-fn table(alloc: Global, out: &mut Out, alpha: u32) -> Option<Challenges<F7>> {
-    input(
-        out,
-        Challenges::new(alloc, F7::new(alpha), F7::new(2), 1, 2),
-    )
 }
 
 /// Calls over a batch at the alpha 1, where a denominator vanishes.

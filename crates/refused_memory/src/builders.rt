@@ -1,7 +1,7 @@
 //! Calls of AIR builders, and what they leave of a builder.
-use crate::airs::{BUS_CALLS, PUSHES, Zeros, call_bus, push};
+use crate::airs::{BusCall, PUSHES, Zeros, call_bus, push};
 use crate::inputs::{Recorder, layout};
-use crate::over::over_recorder;
+use crate::over::{Call, over_recorder};
 use crate::show::{Out, input, show};
 use air::{Air, AirBuilder, current_cell, current_cells, next_cell};
 use field::{F7, Field};
@@ -35,16 +35,17 @@ fn push_five_times<F: Field + Debug>(alloc: Global, out: &mut Out, number: usize
     }
 }
 
-/// The call of this name, five times as well.
+/// This call, five times as well.
 pub fn call_five_times<AB: InteractionBuilder + Debug>(
     alloc: Global,
     out: &mut Out,
     builder: &mut AB,
-    name: &str,
+    call: BusCall,
 ) {
+    let name = call.name();
     for _ in 0..5 {
         show(out, "before", &*builder);
-        show(out, name, call_bus(alloc, builder, name));
+        show(out, name, call_bus(alloc, builder, call));
         show(out, "after", &*builder);
     }
 }
@@ -56,11 +57,21 @@ pub fn pushes<F: Field + Debug>(alloc: Global, out: &mut Out) {
     }
 }
 
-/// All calls over a builder, each on one of its own: those that read cells and assert, and those of buses.
+/// The calls over a builder. Those on cells stand here twice; one of a bus is made five times.
+const CALLS: [Call; 8] = [
+    Call::Cells,
+    Call::Cells,
+    Call::Bus(BusCall::TableEntry),
+    Call::Bus(BusCall::LookupKey),
+    Call::Bus(BusCall::Send),
+    Call::Bus(BusCall::Receive),
+    Call::Bus(BusCall::LookupKeyExclusive),
+    Call::Bus(BusCall::AssertOnFirstRow),
+];
+
+/// All calls over a builder, each on one of its own.
 pub fn builders(alloc: Global, out: &mut Out) {
-    over_recorder::<F7, F7>(alloc, "assert_zeros", out, &[], &[]);
-    over_recorder::<F7, F7>(alloc, "assert_zeros", out, &[], &[]);
-    for number in 0..6usize {
-        over_recorder::<F7, F7>(alloc, BUS_CALLS[number], out, &[], &[]);
+    for call in &CALLS {
+        over_recorder::<F7, F7>(alloc, *call, out, &[], &[]);
     }
 }

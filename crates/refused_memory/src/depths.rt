@@ -5,7 +5,7 @@
 use crate::batches::{check_alone, show_mismatch};
 use crate::generations::show_generated;
 use crate::inputs::{BALANCED, alone, trace};
-use crate::over::over_recorder;
+use crate::over::{Call, over_recorder};
 use crate::show::{Out, input, show};
 use crate::texts::written;
 use crate::trees;
@@ -40,11 +40,11 @@ fn chain<E: Expression<F7>>(alloc: Global, form: &str, depth: usize) -> Result<E
 
 /// The list of one local lookup of this expression, once on each row.
 fn lookup_of(alloc: Global, tree: SymbolicExpression<F7>) -> Result<Vec<Lookup<F7>>, AllocError> {
-    let tuple = alone(alloc, tree)?;
+    let elements = alone(alloc, alone(alloc, tree)?)?;
     let once = SymbolicExpression::constant(F7::new(1));
     let lookup = Lookup {
         kind: Kind::Local,
-        elements: alone(alloc, tuple)?,
+        elements,
         multiplicities: alone(alloc, once)?,
         count_weight: 1,
         column: 0,
@@ -58,7 +58,7 @@ fn on_tree(alloc: Global, out: &mut Out, tree: SymbolicExpression<F7>) {
     show(out, "serialize", written(alloc, &tree));
     trees::on_tree(alloc, out, &tree);
     if let Some(trees) = input(out, alone(alloc, tree)) {
-        over_recorder::<F7, F7>(alloc, "resolve", out, trees.as_slice(), &[]);
+        over_recorder::<F7, F7>(alloc, Call::Resolve, out, trees.as_slice(), &[]);
     }
 }
 

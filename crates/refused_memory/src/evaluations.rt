@@ -1,15 +1,14 @@
 //! Calls of evaluation.
-ghost use Rattle.std.specs.Prelude.{◌≡◌, ◌*◌, ◌<◌, ◌≤◌, None, length};
+ghost use Rattle.std.specs.Prelude.{◌≡◌, None};
 ghost use Rattle.std.specs.Option.{option_copied};
 ghost use Rattle.air.specs.Row.{HeightFits, OptionHeightFits};
-ghost use Rattle.lookup_model.specs.Records.{LookupsFit};
 ghost use Rattle.matrix.specs.Matrix.{height};
 ghost use Rattle.refused_memory.specs.Layout.{swept_layout};
 
 use crate::airs::Zeros;
 use crate::inputs::{LOOKUPS, lookups_of, trace};
 use crate::layouts::has_room;
-use crate::over::over_recorder;
+use crate::over::{Call, over_recorder};
 use crate::show::{Out, show};
 use air::{AirError, Expression, PermutationAirBuilder, RowInputs, check_rows};
 use field::{F7, PrimeCharacteristicRing};
@@ -17,32 +16,34 @@ use lookup::{LogUpGadget, Lookup, LookupProtocol, has_equal_lengths};
 use matrix::RowMajorMatrix;
 use std::alloc::Global;
 
-/// Asserts the constraint of the fraction of the first lookup.
-fn evaluate_fraction<AB: PermutationAirBuilder>(
-    alloc: Global,
-    builder: &mut AB,
-    lookups: &[Lookup<AB::F>],
-) -> Result<(), AirError>
-    requires fit { LookupsFit (AB.layout builder.old) lookups.now }
-    requires challenges { 2 * length lookups.now
-        ≤ (AB.layout builder.old).num_permutation_challenges }
-    requires cells { length lookups.now < (AB.layout builder.old).permutation_width }
-{
-    match lookups {
-        [lookup, ..] if has_equal_lengths(lookup) && lookup.column == 0 => {
-            LogUpGadget::new().eval_fraction(alloc, builder, lookup)
+/// An evaluation: of all lookups, of the accumulator with the terminal 0, of an AIR and all lookups, or of the
+/// fraction of the first lookup.
+#[derive(Clone, Copy)]
+pub enum Evaluation {
+    All,
+    Accumulator,
+    AirAndLookups,
+    Fraction,
+}
+
+impl Evaluation {
+    /// The name in the lines.
+    pub fn name(self) -> &'static str {
+        match self {
+            Evaluation::All => "eval_all",
+            Evaluation::Accumulator => "eval_accumulator",
+            Evaluation::AirAndLookups => "eval_air_and_lookups",
+            Evaluation::Fraction => "eval_fraction",
         }
-        _ => Err(AirError::DegreeOverflow),
     }
 }
 
-/// Makes the evaluation of this name: of all lookups, of the accumulator with the terminal 0, of an AIR and all
-/// lookups, or of the fraction of the first lookup.
+/// Makes this evaluation.
 pub fn evaluate<AB: PermutationAirBuilder>(
     alloc: Global,
     builder: &mut AB,
     lookups: &[Lookup<AB::F>],
-    name: &str,
+    evaluation: Evaluation,
 ) -> Result<(), AirError>
     requires { AB.layout builder.old ≡ swept_layout }
 {
@@ -50,14 +51,21 @@ pub fn evaluate<AB: PermutationAirBuilder>(
         return Err(AirError::DegreeOverflow);
     }
     let gadget = LogUpGadget::new();
-    match name {
-        "eval_all" => gadget.eval_all(alloc, builder, lookups),
-        "eval_accumulator" => {
+    match evaluation {
+        Evaluation::All => gadget.eval_all(alloc, builder, lookups),
+        Evaluation::Accumulator => {
             let terminal = AB::ExprEF::constant(AB::EF::ZERO);
             gadget.eval_accumulator(alloc, builder, lookups, terminal)
         }
-        "eval_air_and_lookups" => gadget.eval_air_and_lookups(alloc, &Zeros, builder, lookups),
-        _ => evaluate_fraction(alloc, builder, lookups),
+        Evaluation::AirAndLookups => {
+            gadget.eval_air_and_lookups(alloc, &Zeros, builder, lookups)
+        }
+        Evaluation::Fraction => match lookups {
+            [lookup, ..] if has_equal_lengths(lookup) && lookup.column == 0 => {
+                gadget.eval_fraction(alloc, builder, lookup)
+            }
+            _ => Err(AirError::DegreeOverflow),
+        },
     }
 }
 
@@ -99,25 +107,22 @@ fn rows(alloc: Global, out: &mut Out) {
     }
 }
 
-const EVALUATIONS: [&str; 4] = [
-    "eval_all",
-    "eval_accumulator",
-    "eval_air_and_lookups",
-    "eval_fraction",
+const EVALUATIONS: [Evaluation; 4] = [
+    Evaluation::All,
+    Evaluation::Accumulator,
+    Evaluation::AirAndLookups,
+    Evaluation::Fraction,
 ];
 
-/// All evaluations of lookups.
-fn evaluate_all(alloc: Global, out: &mut Out, lookups: &[Lookup<F7>]) {
-    for number in 0..4usize {
-        over_recorder::<F7, F7>(alloc, EVALUATIONS[number], out, &[], lookups);
-    }
-}
-
 /// The evaluations of the lookups of a text, twice, and the row checker.
-pub fn evaluation(alloc: Global, out: &mut Out) {
+pub fn evaluations(alloc: Global, out: &mut Out) {
     if let Some(lookups) = lookups_of(alloc, out, LOOKUPS) {
-        evaluate_all(alloc, out, lookups.as_slice());
-        evaluate_all(alloc, out, lookups.as_slice());
+        for _ in 0..2 {
+            for evaluation in &EVALUATIONS {
+                let call = Call::Evaluation(*evaluation);
+                over_recorder::<F7, F7>(alloc, call, out, &[], lookups.as_slice());
+            }
+        }
         show(out, "input", &lookups);
     }
     rows(alloc, out);

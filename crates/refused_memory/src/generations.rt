@@ -1,10 +1,10 @@
 //! Calls of generation.
 use crate::inputs::{
-    BALANCED, LOCAL, LOOKUPS, UNLAWFUL, VANISHING, elements, lookups_of, read, trace,
+    BALANCED, LOCAL, LOOKUPS, UNLAWFUL, VANISHING, elements, lookups_of, read, table, trace,
 };
 use crate::show::{Out, input, show};
 use air::AirLayout;
-use field::{BabyBear4, ExtensionField, F7, Field, InverseCount, PrimeCharacteristicRing};
+use field::{ExtensionField, F7, Field, InverseCount};
 use lookup::{Challenges, LogUpGadget, Lookup, LookupError, LookupProtocol, LookupTerminal, fits};
 use matrix::RowMajorMatrix;
 use serde::DeserializeOwned;
@@ -71,16 +71,19 @@ fn over_trace<F: Field + Debug, EF: ExtensionField<F> + Debug>(
     }
 }
 
-/// Generation over traces: one that balances, one with an unlawful flag, and one with a denominator of zero.
+/// A trace that balances, one with an unlawful flag, and one with a denominator of zero.
+const TRACES: [&[u32]; 3] = [&BALANCED, &UNLAWFUL, &VANISHING];
+
+/// Generation over these traces.
 fn over_traces<F: Field + Debug, EF: ExtensionField<F> + Debug>(
     alloc: Global,
     out: &mut Out,
     lookups: &[Lookup<F>],
     challenges: &[EF],
 ) {
-    over_trace::<F, EF>(alloc, out, lookups, &BALANCED, challenges);
-    over_trace::<F, EF>(alloc, out, lookups, &UNLAWFUL, challenges);
-    over_trace::<F, EF>(alloc, out, lookups, &VANISHING, challenges);
+    for numbers in &TRACES {
+        over_trace::<F, EF>(alloc, out, lookups, numbers, challenges);
+    }
 }
 
 /// The calls of generation.
@@ -98,8 +101,8 @@ pub fn generation<F: Field + Debug + DeserializeOwned, EF: ExtensionField<F> + D
 }
 
 /// Calls on a table of challenges.
-fn on_table<EF: Field + Debug>(alloc: Global, out: &mut Out, table: &Challenges<EF>) {
-    let answer = Challenges::new(alloc, EF::from_u32(5), EF::from_u32(2), 1, 2);
+fn on_table(alloc: Global, out: &mut Out, table: &Challenges<F7>) {
+    let answer = Challenges::new(alloc, F7::new(5), F7::new(2), 1, 2);
     show(out, "Challenges::new", answer.map(|table| table.bus_prefix));
     if table.bus_prefix.len() > 1 {
         show(out, "for_columns", table.for_columns(alloc, &[1, 0]));
@@ -107,20 +110,12 @@ fn on_table<EF: Field + Debug>(alloc: Global, out: &mut Out, table: &Challenges<
     show(out, "input", &table.bus_prefix);
 }
 
-/// The same, twice, over the table of two numbers.
-fn on_own_table<EF: Field + Debug>(alloc: Global, out: &mut Out) {
-    let made = Challenges::new(alloc, EF::from_u32(5), EF::from_u32(2), 1, 2);
-    if let Some(table) = input(out, made) {
-        for _ in 0..2 {
-            on_table(alloc, out, &table);
-        }
-    }
-}
-
-/// Calls over a field, and over an extension of another.
+/// The calls of challenges, twice over the same table. Over an extension `check_memory` makes them.
 pub fn challenges(alloc: Global, out: &mut Out) {
-    on_own_table::<F7>(alloc, out);
-    on_own_table::<BabyBear4>(alloc, out);
+    if let Some(table) = table(alloc, out, 5) {
+        on_table(alloc, out, &table);
+        on_table(alloc, out, &table);
+    }
 }
 
 /// Generation over two chunks of rows, of a lookup that sends and takes back the same.

@@ -5,7 +5,7 @@ ghost use Rattle.refused_memory.specs.Layout.{swept_layout};
 use crate::show::{Out, input};
 use air::{AirLayout, BaseEntry, BaseLeaf, SymbolicExpression, SymbolicVariable};
 use field::{F7, Field, PrimeCharacteristicRing};
-use lookup::{InteractionSymbolicBuilder, Lookup};
+use lookup::{Challenges, InteractionSymbolicBuilder, Lookup};
 use matrix::RowMajorMatrix;
 use serde::Deserialize;
 use std::alloc::{AllocError, Global};
@@ -101,6 +101,14 @@ pub fn trace<F: PrimeCharacteristicRing>(
         return None;
     }
     Some(RowMajorMatrix::new(values, width))
+}
+
+/// The table of an alpha and the beta 2, for tuples of one element and two ids.
+pub fn table(alloc: Global, out: &mut Out, alpha: u32) -> Option<Challenges<F7>> {
+    input(
+        out,
+        Challenges::new(alloc, F7::new(alpha), F7::new(2), 1, 2),
+    )
 }
 
 /// The builder that keeps assertions and records.

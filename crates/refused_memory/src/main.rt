@@ -4,7 +4,7 @@
 //!   each answer and each input. The tool refuses it one request for memory after another.
 //! - `refused_memory lines lookups` reads each line of its input as lookups, and writes them again, or why
 //!   they are refused; `lines declarations` does so with indexed declarations.
-//! - `refused_memory deep KIND FORM DEPTH` makes the calls on an expression of this form and depth, or on a
+//! - `refused_memory KIND FORM DEPTH` makes the calls on an expression of this form and depth, or on a
 //!   lookup of it.
 #![tactic(auto)]
 
@@ -41,7 +41,7 @@ fn group(alloc: Global, name: &str, out: &mut Out) {
         "declarations" => records::declarations::<F7>(alloc, out),
         "sets" => sets::sets(alloc, out),
         "expressions" => trees::expressions(alloc, out),
-        "evaluation" => evaluations::evaluation(alloc, out),
+        "evaluation" => evaluations::evaluations(alloc, out),
         "fields" => fields::fields(alloc, out),
         _ => group_of_rest(alloc, name, out),
     }
@@ -68,7 +68,7 @@ fn answer(alloc: Global, words: &[String], rt: &HostRuntime, out: &mut Out) {
     match words {
         [name] => group(alloc, name.as_str(), out),
         [word, kind] if word.as_str() == "lines" => texts::lines(alloc, rt, out, kind.as_str()),
-        [word, kind, form, depth] if word.as_str() == "deep" => {
+        [kind, form, depth] => {
             depths::deep(alloc, out, kind.as_str(), form.as_str(), depth.as_str());
         }
         _ => out.close(),

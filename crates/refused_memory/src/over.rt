@@ -2,8 +2,9 @@
 ghost use Rattle.std.specs.Prelude.{◌≡◌};
 ghost use Rattle.refused_memory.specs.Layout.{swept_layout};
 
+use crate::airs::BusCall;
 use crate::builders::{call_five_times, on_cells};
-use crate::evaluations::evaluate;
+use crate::evaluations::{Evaluation, evaluate};
 use crate::inputs::layout;
 use crate::show::{Out, show};
 use crate::trees::resolve_all;
@@ -13,11 +14,22 @@ use lookup::{InteractionBuilder, InteractionSymbolicBuilder, Lookup};
 use std::alloc::Global;
 use std::fmt::Debug;
 
+/// What is called over a builder.
+#[derive(Clone, Copy)]
+pub enum Call {
+    /// Those that resolve expressions.
+    Resolve,
+    /// Those that read cells and assert.
+    Cells,
+    Evaluation(Evaluation),
+    Bus(BusCall),
+}
+
 /// Makes calls with a recorder of their own. One place for all of them: it is dear to prove that a given builder
 /// goes to code over any.
 pub fn over_recorder<F: Field + Debug, EF: ExtensionField<F> + Debug>(
     alloc: Global,
-    name: &str,
+    call: Call,
     out: &mut Out,
     trees: &[SymbolicExpression<F>],
     lookups: &[Lookup<F>],
@@ -25,15 +37,14 @@ pub fn over_recorder<F: Field + Debug, EF: ExtensionField<F> + Debug>(
     let Ok(mut builder) = InteractionSymbolicBuilder::<F, EF>::new(alloc, layout()) else {
         return out.close();
     };
-    over_any::<InteractionSymbolicBuilder<F, EF>>(alloc, name, out, &mut builder, trees, lookups);
+    over_any::<InteractionSymbolicBuilder<F, EF>>(alloc, call, out, &mut builder, trees, lookups);
     drop(builder);
 }
 
-/// Calls over a builder: those that resolve expressions, those that read cells and assert, or the evaluation or
-/// the call of a bus of this name.
+/// Makes calls over a builder.
 fn over_any<AB: PermutationAirBuilder + InteractionBuilder + Debug>(
     alloc: Global,
-    name: &str,
+    call: Call,
     out: &mut Out,
     builder: &mut AB,
     trees: &[SymbolicExpression<AB::F>],
@@ -43,13 +54,14 @@ where
     AB::Expr: Debug,
     requires { AB.layout builder.old ≡ swept_layout }
 {
-    match name {
-        "resolve" => resolve_all(alloc, out, trees, &*builder),
-        "assert_zeros" => on_cells(alloc, out, builder),
-        _ if name.starts_with("eval") => {
-            show(out, name, evaluate(alloc, builder, lookups, name));
+    match call {
+        Call::Resolve => resolve_all(alloc, out, trees, &*builder),
+        Call::Cells => on_cells(alloc, out, builder),
+        Call::Evaluation(evaluation) => {
+            let answer = evaluate(alloc, builder, lookups, evaluation);
+            show(out, evaluation.name(), answer);
             show(out, "left", &*builder);
         }
-        _ => call_five_times(alloc, out, builder, name),
+        Call::Bus(call) => call_five_times(alloc, out, builder, call),
     }
 }

@@ -16,9 +16,9 @@ fn plan_of(
     text: &'static str,
     heights: &[usize],
 ) -> Option<Result<BatchPlan<F7>, BatchError>> {
-    let heights = input(out, Vec::from_slice(alloc, heights))?;
     let set = set(alloc, out, text)?;
     let airs = input(out, alone(alloc, set))?;
+    let heights = input(out, Vec::from_slice(alloc, heights))?;
     Some(BatchPlan::new(alloc, airs, heights))
 }
 
@@ -29,13 +29,21 @@ fn make_plan(alloc: Global, out: &mut Out, text: &'static str, heights: &[usize]
     }
 }
 
-/// Plans that are accepted, and refused for their heights, their widths and their weights.
+/// Lookups and heights of a plan that is accepted, and of plans that are refused for their heights, their widths and
+/// their weights.
+const PLANS: [(&str, &[usize]); 5] = [
+    (LOOKUPS, &[2]),
+    (LOOKUPS, &[2, 2]),
+    (UNEVEN, &[2]),
+    (UNEVEN_LOCAL, &[2]),
+    (LOOKUPS, &[3]),
+];
+
+/// The calls that make these plans.
 fn make_plans(alloc: Global, out: &mut Out) {
-    make_plan(alloc, out, LOOKUPS, &[2]);
-    make_plan(alloc, out, LOOKUPS, &[2, 2]);
-    make_plan(alloc, out, UNEVEN, &[2]);
-    make_plan(alloc, out, UNEVEN_LOCAL, &[2]);
-    make_plan(alloc, out, LOOKUPS, &[3]);
+    for (text, heights) in &PLANS {
+        make_plan(alloc, out, text, heights);
+    }
 }
 
 /// A main trace alone.

@@ -45,7 +45,7 @@ fn read_recorder<F: Field + Debug>(alloc: Global, out: &mut Out, builder: &Recor
     show(out, "permutation", builder.permutation(alloc));
 }
 
-/// Copies of the records.
+/// Copies of the records and of the declarations.
 fn copy_records<F: Field + Debug>(alloc: Global, out: &mut Out, builder: &Recorder<F>) {
     if let [record, ..] = builder.global_interactions() {
         show(out, "copy of an interaction", record.copy(alloc));
@@ -59,10 +59,6 @@ fn copy_records<F: Field + Debug>(alloc: Global, out: &mut Out, builder: &Record
             show(out, "copy of a branch", branch.copy(alloc));
         }
     }
-}
-
-/// Copies of the declarations.
-fn copy_declarations<F: Field>(alloc: Global, out: &mut Out, builder: &Recorder<F>) {
     if let [read, ..] = builder.indexed_reads() {
         show(out, "copy of a read", read.copy(alloc));
     }
@@ -89,7 +85,6 @@ pub fn records<F: Field + Debug>(alloc: Global, out: &mut Out) {
             make_recorders::<F>(alloc, out);
             read_recorder(alloc, out, &builder);
             copy_records(alloc, out, &builder);
-            copy_declarations(alloc, out, &builder);
             show(out, "input", &builder);
         }
         drop(builder);

@@ -1,6 +1,6 @@
 //! Calls on lookups and on sets of them.
 use crate::airs::EachRecord;
-use crate::inputs::{LOOKUPS, ON_TWO_BUSES, UNEVEN, UNEVEN_LOCAL, alone, layout, lookups_of};
+use crate::inputs::{LOOKUPS, ON_TWO_BUSES, UNEVEN, UNEVEN_LOCAL, layout, lookups_of};
 use crate::show::{Out, input, show};
 use field::F7;
 use lookup::{
@@ -96,23 +96,19 @@ fn on_sets(alloc: Global, out: &mut Out, sets: &[Lookups<F7>]) {
     show(out, "input", &sets);
 }
 
-/// The sets of two texts.
-fn two_sets(
-    alloc: Global,
-    out: &mut Out,
-    first: &'static str,
-    second: &'static str,
-) -> Option<Vec<Lookups<F7>>> {
-    let first = set(alloc, out, first)?;
-    let mut sets = input(out, alone(alloc, first))?;
-    let second = set(alloc, out, second)?;
-    input(out, sets.push(second))?;
+/// The sets of these texts.
+fn sets_of(alloc: Global, out: &mut Out, texts: &[&'static str]) -> Option<Vec<Lookups<F7>>> {
+    let mut sets = Vec::new(alloc);
+    for text in texts {
+        let set = set(alloc, out, text)?;
+        input(out, sets.push(set))?;
+    }
     Some(sets)
 }
 
-/// The calls of sets, twice over those of two texts.
-fn sets_in(alloc: Global, out: &mut Out, first: &'static str, second: &'static str) {
-    if let Some(sets) = two_sets(alloc, out, first, second) {
+/// The calls of sets, twice over those of these texts.
+fn sets_in(alloc: Global, out: &mut Out, texts: &[&'static str]) {
+    if let Some(sets) = sets_of(alloc, out, texts) {
         on_sets(alloc, out, sets.as_slice());
         on_sets(alloc, out, sets.as_slice());
     }
@@ -123,6 +119,6 @@ fn sets_in(alloc: Global, out: &mut Out, first: &'static str, second: &'static s
 pub fn sets(alloc: Global, out: &mut Out) {
     make_sets(alloc, out);
     make_sets(alloc, out);
-    sets_in(alloc, out, LOOKUPS, UNEVEN);
-    sets_in(alloc, out, ON_TWO_BUSES, UNEVEN_LOCAL);
+    sets_in(alloc, out, &[LOOKUPS, UNEVEN]);
+    sets_in(alloc, out, &[ON_TWO_BUSES, UNEVEN_LOCAL]);
 }

@@ -3,7 +3,7 @@ ghost use Rattle.std.specs.Prelude.{◌≡◌};
 ghost use Rattle.refused_memory.specs.Layout.{swept_layout};
 
 use crate::inputs::{TREES, layout, read};
-use crate::over::over_recorder;
+use crate::over::{Call, over_recorder};
 use crate::show::{Out, input, show};
 use air::{
     AirBuilder, Expression, ExtLeaf, SymbolicExpression, SymbolicExpressionExt, copy_expressions,
@@ -90,8 +90,9 @@ where
     let Ok(main) = builder.main(alloc) else {
         return out.close();
     };
+    let layout = layout();
     for tree in trees {
-        if tree.fits(&layout()) {
+        if tree.fits(&layout) {
             show(out, "resolve", tree.resolve(alloc, builder));
             let answer = resolve_over(alloc, tree, builder, &main);
             show(out, "resolve_over", answer);
@@ -106,7 +107,7 @@ fn on_trees(alloc: Global, out: &mut Out, trees: &[SymbolicExpression<F7>]) {
     }
     show(out, "copy_expressions", copy_expressions(alloc, trees));
     on_lifted(alloc, out);
-    over_recorder::<F7, F7>(alloc, "resolve", out, trees, &[]);
+    over_recorder::<F7, F7>(alloc, Call::Resolve, out, trees, &[]);
     show(out, "input", &trees);
 }
 
