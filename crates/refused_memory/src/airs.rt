@@ -1,4 +1,4 @@
-//! Pushes to a recorder by number, and two AIRs: one makes such pushes, one only asserts.
+//! Pushes to a recorder and calls of buses, and two AIRs: one makes such pushes, one only asserts.
 ghost use Rattle.std.specs.Prelude.{◌≡◌, OnOk};
 ghost use Rattle.lookup_record.specs.RecordedAir.{recorded_air};
 
@@ -14,15 +14,42 @@ use lookup::{
 };
 use std::alloc::{AllocError, Global};
 
-/// The names of the pushes, by number: two assertions, and a record of each kind.
-pub const PUSHES: [&str; 7] = [
-    "assert_zero",
-    "assert_zero_ext",
-    "push_local_interaction",
-    "push_exclusive_interaction",
-    "push_interaction",
-    "push_indexed_read",
-    "push_indexed_table",
+/// A push to a recorder: an assertion, or a record of some kind.
+#[derive(Clone, Copy)]
+pub enum Push {
+    Zero,
+    ZeroExt,
+    Local,
+    Exclusive,
+    Interaction,
+    IndexedRead,
+    IndexedTable,
+}
+
+impl Push {
+    /// The name in the lines.
+    pub fn name(self) -> &'static str {
+        match self {
+            Push::Zero => "assert_zero",
+            Push::ZeroExt => "assert_zero_ext",
+            Push::Local => "push_local_interaction",
+            Push::Exclusive => "push_exclusive_interaction",
+            Push::Interaction => "push_interaction",
+            Push::IndexedRead => "push_indexed_read",
+            Push::IndexedTable => "push_indexed_table",
+        }
+    }
+}
+
+/// Two assertions, and a record of each kind.
+pub const PUSHES: [Push; 7] = [
+    Push::Zero,
+    Push::ZeroExt,
+    Push::Local,
+    Push::Exclusive,
+    Push::Interaction,
+    Push::IndexedRead,
+    Push::IndexedTable,
 ];
 
 /// Two cells.
@@ -32,29 +59,31 @@ fn key<F: Field>(alloc: Global) -> Result<Vec<SymbolicExpression<F>>, AllocError
     Ok(key)
 }
 
-/// Makes the push of this number.
-pub fn push<F: Field>(
+/// Makes this push.
+pub fn make_push<F: Field>(
     alloc: Global,
     builder: &mut Recorder<F>,
-    number: usize,
+    push: Push,
 ) -> Result<(), AirError>
     ensures { OnOk result ((recorded_air builder.new).constraints.layout
         ≡ (recorded_air builder.old).constraints.layout) }
 {
-    match number {
-        0 => builder.assert_zero(alloc, cell(0)),
-        1 => {
+    match push {
+        Push::Zero => builder.assert_zero(alloc, cell(0)),
+        Push::ZeroExt => {
             let cell = SymbolicExpressionExt::Leaf(ExtLeaf::Base(cell(0)));
             builder.assert_zero_ext(alloc, cell)
         }
-        2 => push_local(alloc, builder),
-        3 => push_group(alloc, builder),
-        4 => builder.push_interaction(alloc, "other", key(alloc)?, Count::from(1)),
-        5 => {
+        Push::Local => push_local(alloc, builder),
+        Push::Exclusive => push_group(alloc, builder),
+        Push::Interaction => {
+            builder.push_interaction(alloc, "other", key(alloc)?, Count::from(1))
+        }
+        Push::IndexedRead => {
             let payload = Vec::from_slice(alloc, &[1usize, 2])?;
             builder.push_indexed_read(alloc, "table", 0, payload)
         }
-        _ => {
+        Push::IndexedTable => {
             let columns = Vec::from_slice(alloc, &[1usize, 2])?;
             builder.push_indexed_table(alloc, "table", TraceWindow::Main, columns)
         }
@@ -160,8 +189,8 @@ impl<F: Field> Air<InteractionSymbolicBuilder<F, F>> for EachRecord {
         alloc: Global,
         builder: &mut InteractionSymbolicBuilder<F, F>,
     ) -> Result<(), AirError> {
-        for number in 0..7usize {
-            push(alloc, builder, number)?;
+        for push in &PUSHES {
+            make_push(alloc, builder, *push)?;
         }
         Ok(())
     }

@@ -1,5 +1,5 @@
 //! Calls of AIR builders, and what they leave of a builder.
-use crate::airs::{BusCall, PUSHES, Zeros, call_bus, push};
+use crate::airs::{BusCall, PUSHES, Push, Zeros, call_bus, make_push};
 use crate::inputs::{Recorder, layout};
 use crate::over::{Call, over_recorder};
 use crate::show::{Out, input, show};
@@ -22,13 +22,13 @@ where
     show(out, "left", &*builder);
 }
 
-/// The push of this number, five times, each with the recorder before and after it: a list grows at its first
+/// This push, five times, each with the recorder before and after it: a list grows at its first
 /// and at its fifth item.
-fn push_five_times<F: Field + Debug>(alloc: Global, out: &mut Out, number: usize, name: &str) {
+fn push_five_times<F: Field + Debug>(alloc: Global, out: &mut Out, push: Push) {
     if let Some(mut builder) = input(out, Recorder::<F>::new(alloc, layout())) {
         for _ in 0..5 {
             show(out, "before", &builder);
-            show(out, name, push(alloc, &mut builder, number));
+            show(out, push.name(), make_push(alloc, &mut builder, push));
             show(out, "after", &builder);
         }
         drop(builder);
@@ -52,8 +52,8 @@ pub fn call_five_times<AB: InteractionBuilder + Debug>(
 
 /// All pushes, each to a recorder of its own.
 pub fn pushes<F: Field + Debug>(alloc: Global, out: &mut Out) {
-    for number in 0..7usize {
-        push_five_times::<F>(alloc, out, number, PUSHES[number]);
+    for push in &PUSHES {
+        push_five_times::<F>(alloc, out, *push);
     }
 }
 
