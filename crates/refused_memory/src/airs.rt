@@ -17,10 +17,10 @@ use std::alloc::{AllocError, Global};
 /// A push to a recorder: an assertion, or a record of some kind.
 #[derive(Clone, Copy)]
 pub enum Push {
-    Zero,
-    ZeroExt,
-    Local,
-    Exclusive,
+    AssertZero,
+    AssertZeroExt,
+    LocalInteraction,
+    ExclusiveInteraction,
     Interaction,
     IndexedRead,
     IndexedTable,
@@ -30,10 +30,10 @@ impl Push {
     /// The name in the lines.
     pub fn name(self) -> &'static str {
         match self {
-            Push::Zero => "assert_zero",
-            Push::ZeroExt => "assert_zero_ext",
-            Push::Local => "push_local_interaction",
-            Push::Exclusive => "push_exclusive_interaction",
+            Push::AssertZero => "assert_zero",
+            Push::AssertZeroExt => "assert_zero_ext",
+            Push::LocalInteraction => "push_local_interaction",
+            Push::ExclusiveInteraction => "push_exclusive_interaction",
             Push::Interaction => "push_interaction",
             Push::IndexedRead => "push_indexed_read",
             Push::IndexedTable => "push_indexed_table",
@@ -43,10 +43,10 @@ impl Push {
 
 /// Two assertions, and a record of each kind.
 pub const PUSHES: [Push; 7] = [
-    Push::Zero,
-    Push::ZeroExt,
-    Push::Local,
-    Push::Exclusive,
+    Push::AssertZero,
+    Push::AssertZeroExt,
+    Push::LocalInteraction,
+    Push::ExclusiveInteraction,
     Push::Interaction,
     Push::IndexedRead,
     Push::IndexedTable,
@@ -69,13 +69,13 @@ pub fn make_push<F: Field>(
         ≡ (recorded_air builder.old).constraints.layout) }
 {
     match push {
-        Push::Zero => builder.assert_zero(alloc, cell(0)),
-        Push::ZeroExt => {
+        Push::AssertZero => builder.assert_zero(alloc, cell(0)),
+        Push::AssertZeroExt => {
             let cell = SymbolicExpressionExt::Leaf(ExtLeaf::Base(cell(0)));
             builder.assert_zero_ext(alloc, cell)
         }
-        Push::Local => push_local(alloc, builder),
-        Push::Exclusive => push_group(alloc, builder),
+        Push::LocalInteraction => push_local(alloc, builder),
+        Push::ExclusiveInteraction => push_group(alloc, builder),
         Push::Interaction => {
             builder.push_interaction(alloc, "other", key(alloc)?, Count::from(1))
         }
@@ -109,8 +109,8 @@ fn push_group<F: Field>(alloc: Global, builder: &mut Recorder<F>) -> Result<(), 
     builder.push_exclusive_interaction(alloc, "other", branches)
 }
 
-/// A call of a bus; or a filtered assertion, which stands for all three filters, as these differ by their condition
-/// alone.
+/// A call of a bus, or an assertion on the first row. The other two filters differ from it in their condition alone,
+/// so they are not called.
 #[derive(Clone, Copy)]
 pub enum BusCall {
     TableEntry,

@@ -22,20 +22,21 @@ where
     show(out, "left", &*builder);
 }
 
-/// This push, five times, each with the recorder before and after it: a list grows at its first
-/// and at its fifth item.
+/// Makes this push five times, and shows the recorder before and after each: a list grows at its first and at its
+/// fifth item.
 fn push_five_times<F: Field + Debug>(alloc: Global, out: &mut Out, push: Push) {
     if let Some(mut builder) = input(out, Recorder::<F>::new(alloc, layout())) {
+        let name = push.name();
         for _ in 0..5 {
             show(out, "before", &builder);
-            show(out, push.name(), make_push(alloc, &mut builder, push));
+            show(out, name, make_push(alloc, &mut builder, push));
             show(out, "after", &builder);
         }
         drop(builder);
     }
 }
 
-/// This call, five times as well.
+/// Makes this call five times, as [`push_five_times`] does.
 pub fn call_five_times<AB: InteractionBuilder + Debug>(
     alloc: Global,
     out: &mut Out,
@@ -57,7 +58,8 @@ pub fn pushes<F: Field + Debug>(alloc: Global, out: &mut Out) {
     }
 }
 
-/// The calls over a builder. Those on cells stand here twice; one of a bus is made five times.
+/// The calls over a builder. Those on cells stand here twice, since each call is made twice; one of a bus is made five
+/// times anyway.
 const CALLS: [Call; 8] = [
     Call::Cells,
     Call::Cells,

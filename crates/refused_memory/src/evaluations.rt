@@ -107,6 +107,7 @@ fn rows(alloc: Global, out: &mut Out) {
     }
 }
 
+/// All of them.
 const EVALUATIONS: [Evaluation; 4] = [
     Evaluation::All,
     Evaluation::Accumulator,

@@ -4,7 +4,7 @@ ghost use Rattle.refused_memory.specs.Layout.{swept_layout};
 
 use crate::show::{Out, input};
 use air::{AirLayout, BaseEntry, BaseLeaf, SymbolicExpression, SymbolicVariable};
-use field::{F7, Field, PrimeCharacteristicRing};
+use field::{F7, PrimeCharacteristicRing};
 use lookup::{Challenges, InteractionSymbolicBuilder, Lookup};
 use matrix::RowMajorMatrix;
 use serde::Deserialize;

@@ -1,5 +1,5 @@
 //! Whether a builder has room for lookups.
-ghost use Rattle.std.specs.Prelude.{◌≡◌, ◌↔◌, ◌+◌, ◌*◌, ◌<◌, ◌≤◌, All, IsTrue, length};
+ghost use Rattle.std.specs.Prelude.{◌↔◌, ◌+◌, ◌*◌, ◌<◌, ◌≤◌, All, IsTrue, length};
 ghost use Rattle.lookup_model.specs.Records.{LookupsFit};
 ghost use Rattle.refused_memory.specs.Layout.{swept_layout};
 

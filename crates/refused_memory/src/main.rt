@@ -41,7 +41,7 @@ fn group(alloc: Global, name: &str, out: &mut Out) {
         "declarations" => records::declarations::<F7>(alloc, out),
         "sets" => sets::sets(alloc, out),
         "expressions" => trees::expressions(alloc, out),
-        "evaluation" => evaluations::evaluations(alloc, out),
+        "evaluations" => evaluations::evaluations(alloc, out),
         "fields" => fields::fields(alloc, out),
         _ => group_of_rest(alloc, name, out),
     }

@@ -14,14 +14,16 @@ use lookup::{InteractionBuilder, InteractionSymbolicBuilder, Lookup};
 use std::alloc::Global;
 use std::fmt::Debug;
 
-/// What is called over a builder.
+/// Calls over a builder.
 #[derive(Clone, Copy)]
 pub enum Call {
-    /// Those that resolve expressions.
+    /// All that resolve expressions.
     Resolve,
-    /// Those that read cells and assert.
+    /// All that read cells, and the one that asserts some.
     Cells,
+    /// One evaluation of lookups.
     Evaluation(Evaluation),
+    /// One call of a bus, made five times.
     Bus(BusCall),
 }
 
@@ -62,6 +64,6 @@ where
             show(out, evaluation.name(), answer);
             show(out, "left", &*builder);
         }
-        Call::Bus(call) => call_five_times(alloc, out, builder, call),
+        Call::Bus(bus_call) => call_five_times(alloc, out, builder, bus_call),
     }
 }
