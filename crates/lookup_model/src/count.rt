@@ -1,4 +1,5 @@
 //! The counts of a batch.
+ghost use Rattle.std.specs.Prelude.{◌≡◌, ℕ, ◌-◌, ◌*◌, ◌/◌};
 
 /// How many messages a batch has, how many of them do not balance, and upper bounds on the challenges
 /// at which an unbalanced batch can still be accepted.
@@ -18,4 +19,25 @@ pub struct SoundnessCount {
     /// `n + k - 1`, or none if `k` is zero: at a beta where no two unbalanced messages have the same
     /// point, at most this many alphas are accepting.
     pub accepting_alphas: Option<u128>,
+}
+
+impl SoundnessCount {
+    /// `W * (k - 1)`, or 0 if `k` is zero: at most this many betas are bad.
+    ///
+    /// It is never above `bad_betas`, and fits 128 bits wherever `W` and `k` fit 64. If no two of the
+    /// unbalanced messages have the same point at a beta, that beta is not bad; but one of them that has
+    /// its point alone is enough, and at most `W * (k - 1)` betas give it the point of another.
+    pub fn linear_bad_betas(&self) -> u128
+        ensures { (W : ℕ) → let k = self.now.unbalanced in
+            self.now.bad_betas ≡ W * k * (k - 1) / 2 → result ≡ W * (k - 1) }
+    {
+        let k = self.unbalanced;
+        if k < 2 {
+            0
+        } else if k % 2 == 0 {
+            self.bad_betas / (k / 2)
+        } else {
+            self.bad_betas / k * 2
+        }
+    }
 }
