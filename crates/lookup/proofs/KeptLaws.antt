@@ -53,7 +53,7 @@ module _ {A : Type 0} (p : A → Bool) where
   filter_again xs = filter_all (filter p xs) (filter_passes p xs)
 
 -- what is seen of the items that pass a test of what is seen
-filter_seen : {A B : Type 0} (see : A → B) (p : B → Bool) (xs : List A) → map see (filter (λ x. p (see x)) xs) ≡ filter p (map see xs)
+pub filter_seen : {A B : Type 0} (see : A → B) (p : B → Bool) (xs : List A) → map see (filter (λ x. p (see x)) xs) ≡ filter p (map see xs)
 filter_seen see p [] = refl
 filter_seen see p (x ∷ xs) = by_test (p (see x)) (filter_seen see p xs)
   where
@@ -63,10 +63,10 @@ filter_seen see p (x ∷ xs) = by_test (p (see x)) (filter_seen see p xs)
 
 module _ {E : Type 0} where
   -- a lookup without the number of its column
-  abbrev unnumbered : Outline E → Outline E
+  abbrev pub unnumbered : Outline E → Outline E
   unnumbered o = record o { column = 0 }
 
-  unnumbered_all : (n : ℕ) (os : List (Outline E)) → map unnumbered (numbered_from n os) ≡ map unnumbered os
+  pub unnumbered_all : (n : ℕ) (os : List (Outline E)) → map unnumbered (numbered_from n os) ≡ map unnumbered os
   unnumbered_all n [] = refl
   unnumbered_all n (o ∷ os) = ap (λ t. unnumbered o ∷ t) (unnumbered_all (n + 1) os)
 
@@ -114,7 +114,7 @@ module _ {E : Type 0} where
       additive_after : map unnumbered (additive after) ≡ map unnumbered columns
       additive_after = tested is_additive (λ o. refl) ∙ ap (map unnumbered) (λ i. none_additive before i ++ filter_all is_additive columns all_additive i)
 
-      passing_after : map unnumbered (passing after) ≡ map unnumbered (passing before)
+      pub passing_after : map unnumbered (passing after) ≡ map unnumbered (passing before)
       passing_after =
           tested (λ o. not (is_additive o)) (λ o. refl)
           ∙ ap (map unnumbered) ((λ i. filter_again (λ o. not (is_additive o)) before i ++ others_none is_additive columns all_additive i) ∙ append-nil (passing before))

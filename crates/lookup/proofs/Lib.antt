@@ -11,8 +11,10 @@ pub mod HeightSums
 pub mod Heights
 mod JoinedDegrees
 pub mod JoinedMessages
+mod KeptFlags
 pub mod KeptLaws
 mod KeptTerminals
+mod KeptWidths
 mod ListLaws
 pub mod NamedWidthLaws
 pub mod OneLookup

@@ -1,11 +1,13 @@
--- What packing keeps: the weight of all lookups and every message, and so the keys and their nets.
-use Rattle.std.specs.Prelude.{◌≡◌, ℕ, Bool, List, None, Some, map, not}
+-- What packing keeps: the weight of all lookups, the widths of tuples, lawful flags, and every message, and
+-- so the keys and their nets.
+use Rattle.std.specs.Prelude.{◌≡◌, ℕ, Bool, List, Option, None, Some, length, map, not}
 use Rattle.std.specs.List.{AllByRecursion, filter, flat_map, sum_by}
 use Rattle.std.specs.List.Sorted.{IsPermutation}
 use Rattle.field.specs.Ring.{Ring}
 use Rattle.expressions.specs.Window.{Window}
 use Rattle.air.specs.Traces.{AirTraces}
 use Rattle.field.specs.Extension.{Extension}
+use Rattle.lookup_model.specs.Batches.Messages.{HasLawfulFlags}
 use Rattle.lookup_model.specs.Message.{Key, Message}
 use Rattle.lookup_model.specs.Net.{keys, net, unbalanced_keys}
 use Rattle.lookup_model.specs.Outline.{bus_of, fields_of}
@@ -18,6 +20,22 @@ module _ {F : Type 0} where
   -- the weight of all lookups is that of before
   abbrev pub KeepsTotalWeight : List (Lookup F) → List (Lookup F) → Type 0
   KeepsTotalWeight before after = sum_by (λ l. l.count_weight) after ≡ sum_by (λ l. l.count_weight) before
+
+  -- the widths of the tuples of all lookups
+  abbrev pub widths_of : List (Lookup F) → List ℕ
+  widths_of lookups = flat_map (λ l. map (λ tuple. length tuple.items) l.elements.items) lookups
+
+  -- the tuples have the widths of before, each as often, in some order
+  abbrev pub KeepsWidths : List (Lookup F) → List (Lookup F) → Type 0
+  KeepsWidths before after = IsPermutation (widths_of before) (widths_of after)
+
+  -- the buses of the lookups that may not be joined, in their order; none of a local one
+  abbrev pub other_buses : List (Lookup F) → List (Option (List ℕ))
+  other_buses lookups = map (λ l. bus_of l.kind) (filter (λ l. not (is_additive (fields_of l))) lookups)
+
+  -- these are on the buses of before
+  abbrev pub KeepsOtherBuses : List (Lookup F) → List (Lookup F) → Type 0
+  KeepsOtherBuses before after = other_buses after ≡ other_buses before
 
   -- a lookup that may be joined has the id of its bus
   abbrev pub HasIdOfBus : (List ℕ → ℕ) → (Lookup F → ℕ) → Lookup F → Type 0
@@ -47,6 +65,13 @@ module _ {F : Type 0} where
         (id_before id_after : Lookup F → ℕ) → HaveSameIds id_before before id_after after
         → (w : Window F) → IsPermutation (row_messages id_before w before) (row_messages id_after w after)
 
+    -- At each window the flags of the lookups after are lawful if those of the lookups before are.
+    abbrev pub KeepsLawfulFlags : List (Lookup F) → List (Lookup F) → Type 0
+    KeepsLawfulFlags before after =
+        (id_before id_after : Lookup F → ℕ) (w : Window F)
+        → AllByRecursion (HasLawfulFlags R eq) (sent_row_under R eq id_before w before)
+        → AllByRecursion (HasLawfulFlags R eq) (sent_row_under R eq id_after w after)
+
     -- Under the same ids the net of each key over the traces of an AIR is that of before.
     abbrev pub KeepsNets : List (Lookup F) → List (Lookup F) → Type 0
     KeepsNets before after =
@@ -73,6 +98,9 @@ module _ {F : Type 0} where
     -- What packing keeps of all that lookups send.
     pub record KeepsSent (before after : List (Lookup F)) : Type 0 where
       pub weight : KeepsTotalWeight before after
+      pub widths : KeepsWidths before after
+      pub other_buses_are : KeepsOtherBuses before after
+      pub flags : KeepsLawfulFlags before after
       pub messages : KeepsMessages before after
       pub nets : KeepsNets before after
       pub keys : KeepsKeys before after

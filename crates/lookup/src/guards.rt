@@ -1,5 +1,6 @@
 //! Guards on the lookups of all AIRs.
-ghost use Rattle.std.specs.Prelude.{◌≡◌, ◌<◌, ◌-◌, ◌^◌, IfOk, MatchResult, length, map, min};
+ghost use Rattle.std.specs.Prelude.{◌≡◌, ◌<◌, ◌-◌, ◌^◌, ℕ, IfOk, List, MatchResult, length, map, min};
+ghost use Rattle.lookup_model.specs.declared.types.Lookup.{Lookup};
 ghost use Rattle.lookup.specs.Guards.{IsBitLength, IsHeightRefusal, weighted_height_sum};
 ghost use Rattle.lookup.specs.Lookups.{lookups_of};
 ghost use Rattle.lookup.specs.Weights.{HeightLaws};
@@ -37,6 +38,13 @@ pub fn check_multiplicity_height_bound<F: Field>(
         field_bits: bit_length(F::CHARACTERISTIC),
     })
 }
+
+/// The height law: a theorem, as the contract of a function that does nothing; see
+/// [`check_multiplicity_height_bound`], which tests its bound.
+pub fn height_law<F: Field>()
+    ensures { (airs : List (List (Lookup F))) (heights : List ℕ)
+        → weighted_height_sum airs heights < F.CHARACTERISTIC → HeightLaws F.ring F.eq airs heights }
+{}
 
 /// The sum of total weight times height, or `u128::MAX` if it is greater.
 fn saturated_height_sum<F: Field>(airs: &[Lookups<F>], heights: &[usize]) -> u128

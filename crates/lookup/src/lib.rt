@@ -20,7 +20,7 @@ pub mod symbolic;
 pub mod traits;
 
 pub use bus_widths::check_bus_widths;
-pub use guards::check_multiplicity_height_bound;
+pub use guards::{check_multiplicity_height_bound, height_law};
 pub use logup::LogUpGadget;
 pub use lookup_model::{
     Challenges, Kind, Lookup, LookupError, LookupTerminal, few_collisions, fits, has_equal_lengths,

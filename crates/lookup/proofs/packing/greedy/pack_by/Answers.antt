@@ -14,7 +14,9 @@ use Rattle.lookup.specs.BusWidths.{HaveBusWidths}
 use Rattle.lookup.specs.Fillings.{IsFilled}
 use Rattle.lookup.specs.Packing.{IsFilling, IsStuck, additive, joined, passing}
 use Rattle.lookup.specs.Trials.{IsMember}
+use Rattle.lookup.proofs.KeptFlags.{kept_flags, kept_other_buses}
 use Rattle.lookup.proofs.KeptLaws.{kept_messages, kept_nets, kept_weight}
+use Rattle.lookup.proofs.KeptWidths.{kept_widths}
 use Rattle.lookup.proofs.ListLaws.{columns_behind, zip_next, zip_none}
 use Rattle.lookup.proofs.PackLaws.{AreColumnsAdded, all_packed, fill_refusal, groups_of}
 use Rattle.lookup.proofs.SameKeys.{kept_keys}
@@ -109,9 +111,14 @@ returns-clause-kept g c =
     let after = c.in_columns.result.items in
     let packs = (returns-clause-packs g c).1 in
     let eq = g.F.PartialEq.eq in
-    let messages = kept_messages (g.T.TrialDegrees.answers c.args.degrees.now) c.args.max_degree before after packs g.F.PrimeCharacteristicRing.ring eq c.requires.lengths in
+    let answers = g.T.TrialDegrees.answers c.args.degrees.now in
+    let most = c.args.max_degree in
+    let messages = kept_messages answers most before after packs g.F.PrimeCharacteristicRing.ring eq c.requires.lengths in
     record {
-      weight = kept_weight (g.T.TrialDegrees.answers c.args.degrees.now) c.args.max_degree before after packs;
+      weight = kept_weight answers most before after packs;
+      widths = kept_widths answers most before after packs;
+      other_buses_are = kept_other_buses answers most before after packs;
+      flags = kept_flags answers most before after packs g.F.PrimeCharacteristicRing.ring eq;
       messages = messages;
       nets = kept_nets g.F.PrimeCharacteristicRing.lawful eq before after messages;
       keys = kept_keys g.F.PrimeCharacteristicRing.lawful eq g.met.F.PrimeCharacteristicRing.eq_is before after messages;

@@ -1,0 +1,90 @@
+-- A packing keeps lawful flags and the buses of the lookups that pass through: lookups with flags are among
+-- these, and joined ones have none.
+use Rattle.std.proofs.Common.{◌≡◌, ℕ, Bool, true, false, cond, not, ◌&&◌, IfSome, List, [], ◌∷◌, Option, None, Some, Result, map, refl, sym, ap, subst, ◌∙◌}
+use Rattle.std.specs.List.{AllByRecursion, filter}
+use Rattle.std.specs.Option.{is_some, option_map}
+use Rattle.std.specs.declared.alloc.Global.{Global}
+use Rattle.std.specs.declared.vec.Vec.{Vec}
+use Rattle.std.proofs.lemmas.Simd.{map-map}
+use Rattle.field.specs.Ring.{Ring}
+use Rattle.field.specs.laws.Distinct.{all_map}
+use Rattle.expressions.specs.Window.{Window}
+use Rattle.expressions.specs.declared.base_expression.SymbolicExpression.{SymbolicExpression}
+use Rattle.lookup_model.specs.Batches.Messages.{HasLawfulFlags}
+use Rattle.lookup_model.specs.Fault.{IsLawfulSelection}
+use Rattle.lookup_model.specs.Message.{Message}
+use Rattle.lookup_model.specs.Outline.{Outline, fields_of}
+use Rattle.lookup_model.specs.Sent.{branches_at, sent, values}
+use Rattle.lookup_model.specs.Trace.{sent_row_under}
+use Rattle.lookup_model.specs.declared.error.LookupError.{LookupError}
+use Rattle.lookup_model.specs.declared.types.Lookup.{Lookup}
+use Rattle.lookup_model.proofs.Lists.{all_of_map}
+use Rattle.lookup_model.proofs.Lookups.Regrouping.{All-filter}
+use Rattle.lookup.specs.Kept.{KeepsLawfulFlags, KeepsOtherBuses, other_buses}
+use Rattle.lookup.specs.Packing.{IsPacking, is_additive, passing}
+use Rattle.lookup.proofs.KeptLaws.{filter_seen, passing_after, unnumbered}
+
+module _ {F : Type 0} (R : Ring F) (eq : F → F → Bool) (w : Window F) where
+  -- flags, of which there may be none, are lawful at the window
+  abbrev AreLawful : Option (List (SymbolicExpression F)) → Type 0
+  AreLawful flags = IfSome (option_map (values R w) flags) (IsLawfulSelection R eq)
+
+  abbrev HasLawful : Outline (SymbolicExpression F) → Type 0
+  HasLawful o = AreLawful o.flags
+
+  abbrev items : Vec (SymbolicExpression F) Global → List (SymbolicExpression F)
+  items flags = flags.items
+
+  seen : (flags : Option (Vec (SymbolicExpression F) Global)) (branches : List (Message F))
+      → HasLawfulFlags R eq (sent R eq (option_map (λ fs. values R w fs.items) flags) branches) → AreLawful (option_map items flags)
+  seen None branches lawful = tt
+  seen (Some fs) branches lawful = lawful
+
+  unseen : (flags : Option (Vec (SymbolicExpression F) Global)) (branches : List (Message F))
+      → AreLawful (option_map items flags) → HasLawfulFlags R eq (sent R eq (option_map (λ fs. values R w fs.items) flags) branches)
+  unseen None branches lawful = tt
+  unseen (Some fs) branches lawful = lawful
+
+  lawful_fields : (id : Lookup F → ℕ) (ls : List (Lookup F)) → AllByRecursion (HasLawfulFlags R eq) (sent_row_under R eq id w ls) → AllByRecursion HasLawful (map fields_of ls)
+  lawful_fields id [] all = tt
+  lawful_fields id (l ∷ ls) all = (seen l.flags (branches_at R w (id l) l) all.0, lawful_fields id ls all.1)
+
+  lawful_sent : (id : Lookup F → ℕ) (ls : List (Lookup F)) → AllByRecursion HasLawful (map fields_of ls) → AllByRecursion (HasLawfulFlags R eq) (sent_row_under R eq id w ls)
+  lawful_sent id [] all = tt
+  lawful_sent id (l ∷ ls) all = (unseen l.flags (branches_at R w (id l) l) all.0, lawful_sent id ls all.1)
+
+  without_flags : (b : Bool) (flags : Option (List (SymbolicExpression F))) → (b && not (is_some flags)) ≡ true → AreLawful flags
+  without_flags b None joins = tt
+  without_flags true (Some fs) joins = absurd (cc joins)
+  without_flags false (Some fs) joins = absurd (cc joins)
+
+  -- those that may be joined have no flags
+  of_passing : (os : List (Outline (SymbolicExpression F))) → AllByRecursion HasLawful (passing os) → AllByRecursion HasLawful os
+  of_passing [] all = tt
+  of_passing (o ∷ os) all = by_test (is_additive o) refl (λ rest. of_passing os rest) all
+    where
+      by_test : (b : Bool) → is_additive o ≡ b → (AllByRecursion HasLawful (passing os) → AllByRecursion HasLawful os) → AllByRecursion HasLawful (cond (not b) (o ∷ passing os) (passing os)) → AllByRecursion HasLawful (o ∷ os)
+      by_test true joins later rest = (without_flags (is_some o.bus) o.flags joins, later rest)
+      by_test false passes later rest = (rest.0, later rest.1)
+
+module _ {F : Type 0} (answers : Outline (SymbolicExpression F) → Result ℕ LookupError → Type 0) (most : ℕ) (before after : List (Lookup F)) (packing : IsPacking answers most (map fields_of before) (map fields_of after)) where
+  -- lawful flags stay lawful
+  pub kept_flags : (R : Ring F) (eq : F → F → Bool) → KeepsLawfulFlags R eq before after
+  kept_flags R eq id_before id_after w lawful =
+      let Lawful = HasLawful R eq w in
+      let os = map fields_of before in
+      let those_before : AllByRecursion Lawful (passing os) = All-filter Lawful (λ o. not (is_additive o)) os (lawful_fields R eq w id_before before lawful) in
+      let those_after : AllByRecursion Lawful (map unnumbered (passing (map fields_of after))) =
+      subst (λ (t : List (Outline (SymbolicExpression F))). AllByRecursion Lawful t) (sym (passing_after answers most os (map fields_of after) packing))
+      (all_map unnumbered Lawful Lawful (λ o h. h) (passing os) those_before) in
+      lawful_sent R eq w id_after after (of_passing R eq w (map fields_of after) (all_of_map Lawful unnumbered (passing (map fields_of after)) those_after))
+
+  -- the others stay on their buses
+  pub kept_other_buses : KeepsOtherBuses before after
+  kept_other_buses = buses after ∙ ap (λ os. map (λ o. o.bus) os) (passing_after answers most (map fields_of before) (map fields_of after) packing) ∙ sym (buses before)
+    where
+      buses : (ls : List (Lookup F)) → other_buses ls ≡ map (λ o. o.bus) (map unnumbered (passing (map fields_of ls)))
+      buses ls =
+          sym (map-map (λ (o : Outline (SymbolicExpression F)). o.bus) fields_of (filter (λ l. not (is_additive (fields_of l))) ls))
+          ∙ ap (λ os. map (λ (o : Outline (SymbolicExpression F)). o.bus) os) (filter_seen fields_of (λ o. not (is_additive o)) ls)
+          ∙ sym (map-map (λ (o : Outline (SymbolicExpression F)). o.bus) unnumbered (passing (map fields_of ls)))
