@@ -1,0 +1,156 @@
+-- A batch whose ids are renamed, different ones to different ones, has as many messages as before, and as many
+-- of them do not balance.
+use Rattle.std.proofs.Common.{◌≡◌, ◌<◌, ◌++◌, ℕ, zero, suc, Bool, true, false, cond, not, Decides, List, [], ◌∷◌, Option, None, Some, length, map, slice_index_or, refl, sym, ap, ◌∙◌, arith}
+use Rattle.std.proofs.lemmas.List.{length-map, map-append}
+use Rattle.std.proofs.lemmas.Option.{slice_get-get_or}
+use Rattle.std.proofs.lemmas.Simd.{map-map}
+use Rattle.std.specs.List.{AllByRecursion, filter, flat_map, range_with_len, zip}
+use Rattle.field.specs.Ring.{Ring}
+use Rattle.field.specs.Sums.{sum_in}
+use Rattle.field.specs.Extension.{Extension, IsLawful}
+use Rattle.expressions.specs.Window.{Window}
+use Rattle.air.specs.Traces.{AirTraces, height_of, window_of}
+use Rattle.lookup_model.specs.Message.{Key, Message, same_key}
+use Rattle.lookup_model.specs.Net.{first_seen, keys, net, unbalanced_keys}
+use Rattle.lookup_model.specs.Plain.{trace_messages}
+use Rattle.lookup_model.specs.Sent.{branch_at, branches_at, chosen, flags_at, sent, sent_at}
+use Rattle.lookup_model.specs.Trace.{sent_row_under}
+use Rattle.lookup_model.specs.declared.types.Lookup.{Lookup}
+use Rattle.lookup_model.specs.Batches.Instances.{Instance, IsFitting}
+use Rattle.lookup_model.specs.Batches.Messages.{batch_messages, id_of, sent_rows_of}
+use Rattle.lookup_model.proofs.Lists.{all_indexed}
+use Rattle.lookup_model.proofs.Lookups.KeyLaws.{same_key-Decides}
+use Rattle.checker.specs.Packed.{KeepsCounts}
+use Rattle.checker.specs.Renamed.{IsInjective, renamed}
+
+-- tests that pass together are one
+alike : (p q : Bool) → (p ≡ true → q ≡ true) → (q ≡ true → p ≡ true) → q ≡ p
+alike true q there back = there refl
+alike false true there back = sym (back refl)
+alike false false there back = refl
+
+-- what passes a test of images, and the images of what passes
+filter_images : {A B : Type 0} (f : A → B) (p : A → Bool) (q : B → Bool) → ((x : A) → q (f x) ≡ p x) → (xs : List A) → filter q (map f xs) ≡ map f (filter p xs)
+filter_images f p q same [] = refl
+filter_images f p q same (x ∷ xs) = ap (λ b. cond b (f x ∷ filter q (map f xs)) (filter q (map f xs))) (same x) ∙ by_test (p x) (filter_images f p q same xs)
+  where
+    by_test : (b : Bool) → filter q (map f xs) ≡ map f (filter p xs) → cond b (f x ∷ filter q (map f xs)) (filter q (map f xs)) ≡ map f (cond b (x ∷ filter p xs) (filter p xs))
+    by_test true rest = ap (λ t. f x ∷ t) rest
+    by_test false rest = rest
+
+-- the images that are seen first
+first_seen_images : {A B : Type 0} (f : A → B) (same : A → A → Bool) (same_image : B → B → Bool) → ((x y : A) → same_image (f x) (f y) ≡ same x y) → (xs : List A) → first_seen same_image (map f xs) ≡ map f (first_seen same xs)
+first_seen_images f same same_image agree [] = refl
+first_seen_images f same same_image agree (x ∷ xs) =
+    ap (λ t. f x ∷ filter (λ y. not (same_image (f x) y)) t) (first_seen_images f same same_image agree xs)
+    ∙ ap (λ t. f x ∷ t) (filter_images f (λ y. not (same x y)) (λ y. not (same_image (f x) y)) (λ y. ap not (agree x y)) (first_seen same xs))
+
+-- the id at an index is renamed
+index_renamed : (rename : ℕ → ℕ) (ids : List ℕ) (c : ℕ) → c < length ids → slice_index_or (map rename ids) c 0 ≡ rename (slice_index_or ids c 0)
+index_renamed rename [] c lt = absurd (omega (arith, lt))
+index_renamed rename (id ∷ ids) zero lt = refl
+index_renamed rename (id ∷ ids) (suc c) lt = index_renamed rename ids c (omega (arith, lt))
+
+module _ {F : Type 0} (rename : ℕ → ℕ) where
+  abbrev renamed_key : Key F → Key F
+  renamed_key k = record { id = rename k.id; tuple = k.tuple }
+
+  abbrev renamed_message : Message F → Message F
+  renamed_message m = record { key = renamed_key m.key; multiplicity = m.multiplicity }
+
+  module _ (R : Ring F) (eq : F → F → Bool) where
+    chosen_renamed : (flags : List F) (branches : List (Message F)) → chosen R eq flags (map renamed_message branches) ≡ map renamed_message (chosen R eq flags branches)
+    chosen_renamed [] branches = refl
+    chosen_renamed (f ∷ fs) [] = refl
+    chosen_renamed (f ∷ fs) (b ∷ bs) = by_test (eq f R.one) (chosen_renamed fs bs)
+      where
+        by_test : (set : Bool) → chosen R eq fs (map renamed_message bs) ≡ map renamed_message (chosen R eq fs bs)
+            → map (λ c. c.1) (cond set ((f, renamed_message b) ∷ filter (λ c. eq c.0 R.one) (zip fs (map renamed_message bs))) (filter (λ c. eq c.0 R.one) (zip fs (map renamed_message bs))))
+            ≡ map renamed_message (map (λ c. c.1) (cond set ((f, b) ∷ filter (λ c. eq c.0 R.one) (zip fs bs)) (filter (λ c. eq c.0 R.one) (zip fs bs))))
+        by_test true rest = ap (λ t. renamed_message b ∷ t) rest
+        by_test false rest = rest
+
+    sent_renamed : (flags : Option (List F)) (branches : List (Message F)) → (sent R eq flags (map renamed_message branches)).messages ≡ map renamed_message (sent R eq flags branches).messages
+    sent_renamed None branches = refl
+    sent_renamed (Some flags) branches = chosen_renamed flags branches
+
+    -- what a lookup sends at a window under a renamed id
+    lookup_renamed : (w : Window F) (id : ℕ) (l : Lookup F) → (sent_at R eq w (rename id) l).messages ≡ map renamed_message (sent_at R eq w id l).messages
+    lookup_renamed w id l =
+        ap (λ bs. (sent R eq (flags_at R w l) bs).messages) (sym (map-map renamed_message (λ b. branch_at R w id b.0.items b.1) (zip l.elements.items l.multiplicities.items)))
+        ∙ sent_renamed (flags_at R w l) (branches_at R w id l)
+
+    module _ (ids : List ℕ) where
+      -- what the lookups of an AIR send at a window
+      row_renamed : (w : Window F) (ls : List (Lookup F)) → AllByRecursion (λ l. l.column < length ids) ls
+          → flat_map (λ s. s.messages) (sent_row_under R eq (id_of (map rename ids)) w ls) ≡ map renamed_message (flat_map (λ s. s.messages) (sent_row_under R eq (id_of ids) w ls))
+      row_renamed w [] within = refl
+      row_renamed w (l ∷ ls) within =
+          let first : (sent_at R eq w (id_of (map rename ids) l) l).messages ≡ map renamed_message (sent_at R eq w (id_of ids l) l).messages =
+          ap (λ n. (sent_at R eq w n l).messages) (index_renamed rename ids l.column within.0) ∙ lookup_renamed w (id_of ids l) l in
+          (λ i. first i ++ row_renamed w ls within.1 i)
+          ∙ sym (map-append renamed_message (sent_at R eq w (id_of ids l) l).messages (flat_map (λ s. s.messages) (sent_row_under R eq (id_of ids) w ls)))
+
+      -- on all rows
+      rows_renamed : (traces : AirTraces F) (ls : List (Lookup F)) → AllByRecursion (λ l. l.column < length ids) ls → (rows : List ℕ)
+          → trace_messages (map (λ r. sent_row_under R eq (id_of (map rename ids)) (window_of traces r) ls) rows)
+          ≡ map renamed_message (trace_messages (map (λ r. sent_row_under R eq (id_of ids) (window_of traces r) ls) rows))
+      rows_renamed traces ls within [] = refl
+      rows_renamed traces ls within (r ∷ rs) =
+          (λ i. row_renamed (window_of traces r) ls within i ++ rows_renamed traces ls within rs i)
+          ∙ sym (map-append renamed_message (flat_map (λ s. s.messages) (sent_row_under R eq (id_of ids) (window_of traces r) ls)) (trace_messages (map (λ q. sent_row_under R eq (id_of ids) (window_of traces q) ls) rs)))
+
+    -- the columns of an AIR that fits have ids
+    have_ids : (instance : Instance F) → IsFitting instance → AllByRecursion (λ l. l.column < length instance.ids) instance.lookups
+    have_ids instance fitting =
+        all_indexed (λ l. l.column < length instance.ids) instance.lookups
+        (λ i l lt is. omega (arith, (fitting.fit.records i l lt (slice_get-get_or instance.lookups i l lt ∙ ap Some (sym is))).0, lt, fitting.ids))
+
+    -- the messages of a batch
+    batch_renamed : (instances : List (Instance F)) → AllByRecursion IsFitting instances → batch_messages R eq (map (renamed rename) instances) ≡ map renamed_message (batch_messages R eq instances)
+    batch_renamed [] fitting = refl
+    batch_renamed (i ∷ is) fitting =
+        let rows = range_with_len 0 (height_of i.traces) in
+        (λ j. rows_renamed i.ids i.traces i.lookups (have_ids i fitting.0) rows j ++ batch_renamed is fitting.1 j)
+        ∙ sym (map-append renamed_message (trace_messages (sent_rows_of R eq i)) (batch_messages R eq is))
+
+module _ {F : Type 0} (R : Ring F) (eq : F → F → Bool) (decides : (a b : F) → Decides (eq a b) (a ≡ b)) (rename : ℕ → ℕ) (apart : IsInjective rename) where
+  key_back : (a b : Key F) → renamed_key rename a ≡ renamed_key rename b → a ≡ b
+  key_back a b e =
+      let id : a.id ≡ b.id = apart a.id b.id (ap (λ (k : Key F). k.id) e) in
+      λ i. record { id = id i; tuple = (e i).tuple }
+
+  same_keys : (a b : Key F) → same_key eq (renamed_key rename a) (renamed_key rename b) ≡ same_key eq a b
+  same_keys a b =
+      let before = same_key-Decides eq decides a b in
+      let after = same_key-Decides eq decides (renamed_key rename a) (renamed_key rename b) in
+      alike (same_key eq a b) (same_key eq (renamed_key rename a) (renamed_key rename b)) (λ e. after.1 (ap (renamed_key rename) (before.0 e))) (λ e. before.1 (key_back a b (after.0 e)))
+
+  keys_renamed : (ms : List (Message F)) → keys eq (map (renamed_message rename) ms) ≡ map (renamed_key rename) (keys eq ms)
+  keys_renamed ms =
+      ap (first_seen (same_key eq)) (map-map (λ (m : Message F). m.key) (renamed_message rename) ms ∙ sym (map-map (renamed_key rename) (λ (m : Message F). m.key) ms))
+      ∙ first_seen_images (renamed_key rename) (same_key eq) (same_key eq) same_keys (map (λ m. m.key) ms)
+
+  net_renamed : (ms : List (Message F)) (key : Key F) → net R eq (map (renamed_message rename) ms) (renamed_key rename key) ≡ net R eq ms key
+  net_renamed ms key =
+      ap (λ t. sum_in R (map (λ m. m.multiplicity) t)) (filter_images (renamed_message rename) (λ m. same_key eq key m.key) (λ m. same_key eq (renamed_key rename key) m.key) (λ m. same_keys key m.key) ms)
+      ∙ ap (sum_in R) (map-map (λ (m : Message F). m.multiplicity) (renamed_message rename) (filter (λ m. same_key eq key m.key) ms))
+
+  unbalanced_renamed : (ms : List (Message F)) → unbalanced_keys R eq (map (renamed_message rename) ms) ≡ map (renamed_key rename) (unbalanced_keys R eq ms)
+  unbalanced_renamed ms =
+      ap (filter (λ key. not (eq (net R eq (map (renamed_message rename) ms) key) R.zero))) (keys_renamed ms)
+      ∙ filter_images (renamed_key rename) (λ key. not (eq (net R eq ms key) R.zero)) (λ key. not (eq (net R eq (map (renamed_message rename) ms) key) R.zero))
+      (λ key. ap (λ n. not (eq n R.zero)) (net_renamed ms key)) (keys eq ms)
+
+-- the counts stay
+pub renamed_counts : {F K : Type 0} {E : Extension F K} (laws : IsLawful E) (rename : ℕ → ℕ) → IsInjective rename → (instances : List (Instance F)) → AllByRecursion IsFitting instances → KeepsCounts E instances (map (renamed rename) instances)
+renamed_counts {F} {K} {E} laws rename apart instances fitting =
+    let messages = batch_messages E.base E.base_eq instances in
+    let same = batch_renamed rename E.base E.base_eq instances fitting in
+    record {
+      messages = ap (λ (ms : List (Message F)). length (keys E.base_eq ms)) same ∙ ap length (keys_renamed E.base E.base_eq laws.base_eq rename apart messages) ∙ length-map (keys E.base_eq messages) (renamed_key rename);
+      unbalanced =
+          ap (λ (ms : List (Message F)). length (unbalanced_keys E.base E.base_eq ms)) same
+          ∙ ap length (unbalanced_renamed E.base E.base_eq laws.base_eq rename apart messages)
+          ∙ length-map (unbalanced_keys E.base E.base_eq messages) (renamed_key rename);
+    }
