@@ -2,15 +2,14 @@
 use Rattle.std.proofs.Common.{◌≡◌, ◌≤◌, ◌<◌, ◌⊎◌, ◌+◌, ◌-◌, ◌*◌, ◌/◌, ◌^◌, ℕ, inl, inr, List, Option, None, Some, Ok, Err, MatchOption, length, refl, sym, ap, subst, ◌∙◌, arith}
 use Rattle.std.proofs.lemmas.Bool.{cases_lt}
 use Rattle.field.specs.Extension.{Extension}
-use Rattle.lookup_model.specs.Batches.Counts.{AreCounts, FewBadBetas, IsCountOverflow, bad_beta_bound, message_count, unbalanced_count}
+use Rattle.lookup_model.specs.Batches.Counts.{AreCounts, IsCountOverflow, bad_beta_bound, message_count, unbalanced_count}
 use Rattle.lookup_model.specs.Batches.Faults.{IsOutOfMemory}
 use Rattle.lookup_model.specs.Batches.FlagFaults.{IsFirstFlagFault}
-use Rattle.lookup_model.specs.Batches.Grid.{AcceptsPair, IsNumberOf, grid, joint_bound}
+use Rattle.lookup_model.specs.Batches.Grid.{AcceptsPair, FewAcceptedPairs, IsNumberOf, grid, joint_bound}
 use Rattle.lookup_model.specs.Batches.Instances.{Instance}
 use Rattle.lookup_model.specs.Batches.Messages.{AreFlagsLawful}
 use Rattle.lookup_model.specs.declared.count.SoundnessCount.{SoundnessCount}
 use Rattle.lookup_model.specs.declared.fault.BatchFault.{BatchFault}
-use Rattle.lookup_model.proofs.Counting.JointCount.{few_accepted_pairs}
 use Rattle.batch.proofs.PlanLaws.{fault_of_none}
 use Rattle.batch.specs.Grids.{HaveNoRepeat, IsBoundOf, IsGridOverflow, IsGridRefusal}
 use Rattle.batch.specs.Refusals.{of_fault, refusal_at}
@@ -64,8 +63,8 @@ module _ {F K : Type 0} (E : Extension F K) (instances : List (Instance F)) (W :
       inr (inr (inr (distinct, lawful, record { some = some_unbalanced overflow.large; large = inl overflow.large }, λ i. refusal_at (overflow.air i) (overflow.error i))))
 
   -- the number of accepted pairs stays within the bound
-  pub stays_within : FewBadBetas E instances W → HaveNoRepeat alphas betas → (accepted : ℕ) → IsNumberOf (AcceptsPair E instances W) (grid alphas betas) accepted
+  pub stays_within : FewAcceptedPairs E instances W → HaveNoRepeat alphas betas → (accepted : ℕ) → IsNumberOf (AcceptsPair E instances W) (grid alphas betas) accepted
       → (bound : Option ℕ) → IsJointBound bound → MatchOption bound (Unit {0}) (λ b. accepted ≤ b)
   stays_within few distinct accepted number None none = tt
   stays_within few distinct accepted number (Some b) (some, b_is) =
-      subst (λ (n : ℕ). accepted ≤ n) (sym b_is) (few_accepted_pairs E instances W few some alphas betas distinct.0 distinct.1 accepted number)
+      subst (λ (n : ℕ). accepted ≤ n) (sym b_is) (few some alphas betas distinct.0 distinct.1 accepted number)

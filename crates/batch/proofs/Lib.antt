@@ -3,6 +3,7 @@ pub mod CountLaws
 pub mod DistinctLaws
 pub mod GivenLaws
 pub mod GridLaws
+pub mod HeightCounts
 pub mod LawfulPlans
 pub mod OneWidths
 pub mod PlanCalls

@@ -10,7 +10,7 @@ use Rattle.expressions.specs.declared.base_expression.SymbolicExpression.{Symbol
 use Rattle.lookup_model.specs.Batches.Ids.{HaveOneWidth}
 use Rattle.lookup_model.specs.Outline.{Outline, bus_of, fields_of}
 use Rattle.lookup_model.specs.declared.types.Lookup.{Lookup}
-use Rattle.lookup_rows.proofs.NetEntries.{any-first_seen}
+use Rattle.lookup_model.proofs.Lookups.Regrouping.{Holds, first_seen_holds}
 use Rattle.lookup_model.proofs.Names.{same_name-Decides}
 use Rattle.lookup.specs.BusWidths.{widths_of}
 use Rattle.lookup.specs.Buses.{bus_names, on_bus}
@@ -35,6 +35,15 @@ all_named Q (n ∷ ns) name all there = by_test (same_name n name) refl there (a
     by_test : (b : Bool) → same_name n name ≡ b → (b || list_any (λ m. same_name m name) ns) ≡ true → (list_any (λ m. same_name m name) ns ≡ true → Q name) → Q name
     by_test true e t rest = subst Q ((same_name-Decides n name).0 e) all.0
     by_test false e t rest = rest t
+
+-- a name that is among some is among those that have each of these
+held_from : (ys xs : List (List ℕ)) (name : List ℕ) → AllByRecursion (Holds same_name ys) xs → Holds same_name xs name → Holds same_name ys name
+held_from ys [] name all there = absurd (cc there)
+held_from ys (x ∷ xs) name all there = by_test (same_name x name) refl (λ later. held_from ys xs name all.1 later) there
+  where
+    by_test : (b : Bool) → same_name x name ≡ b → (Holds same_name xs name → Holds same_name ys name) → (b || list_any (λ y. same_name y name) xs) ≡ true → Holds same_name ys name
+    by_test true e later here = subst (Holds same_name ys) ((same_name-Decides x name).0 e) all.0
+    by_test false e later rest = later rest
 
 module _ {F : Type 0} where
   -- the lookups of an AIR, as outlines
@@ -79,7 +88,8 @@ module _ {F : Type 0} where
   of_bus P lookups all k d name lt on =
       widths_there name P lookups k d lt on (all_named (λ n. AllByRecursion P (map (λ w. (n, w)) (flat_map widths_of (on_bus n (outlines lookups))))) (bus_names (outlines lookups)) name
       (each_group (bus_names (outlines lookups)) all)
-      (any-first_seen same_name same_name-Decides (filter_map (λ (o : Outline (SymbolicExpression F)). o.bus) (outlines lookups)) name ∙ name_there name lookups k d lt on))
+      (held_from (bus_names (outlines lookups)) (filter_map (λ (o : Outline (SymbolicExpression F)). o.bus) (outlines lookups)) name
+      (first_seen_holds same_name same_name-Decides (filter_map (λ (o : Outline (SymbolicExpression F)). o.bus) (outlines lookups))) (name_there name lookups k d lt on)))
     where
       each_group : (names : List (List ℕ)) → AllByRecursion P (flat_map (λ g. map (λ w. (g.0, w)) (flat_map widths_of g.1)) (map {B = List ℕ × List (Outline (SymbolicExpression F))} (λ n. (n, on_bus n (outlines lookups))) names))
           → AllByRecursion (λ n. AllByRecursion P (map (λ w. (n, w)) (flat_map widths_of (on_bus n (outlines lookups))))) names

@@ -6,6 +6,7 @@ use Rattle.lookup_model.specs.Batches.Counts.{bad_beta_bound, unbalanced_count}
 use Rattle.lookup_model.specs.Batches.FlagFaults.{IsFirstFlagFault}
 use Rattle.lookup_model.specs.Batches.Grid.{AcceptsPair, IsNumberOf, grid, joint_bound}
 use Rattle.lookup_model.specs.Batches.Instances.{Instance}
+use Rattle.lookup_model.specs.Batches.Linear.{linear_joint_bound}
 use Rattle.lookup_model.specs.Batches.Messages.{AreFlagsLawful}
 use Rattle.lookup_model.specs.declared.fault.BatchFault.{BatchFault}
 use Rattle.batch.specs.Refusals.{of_fault}
@@ -53,6 +54,11 @@ module _ {F K : Type 0} (E : Extension F K) (instances : List (Instance F)) (W :
   CountsPlanGrid heights traces answer = MatchResult answer
       (λ count. AreTraces heights traces instances × HaveNoRepeat alphas betas × AreFlagsLawful E.base E.base_eq instances × IsGridCount count)
       (λ e. (e ≡ Memory) ⊎ (IsTraceRefusal heights traces instances e ⊎ (AreTraces heights traces instances × IsGridRefusal e)))
+
+  -- if some message does not balance, the linear joint bound holds as well
+  abbrev pub StaysWithinLinearBound : Result GridCount BatchError → Type 0
+  StaysWithinLinearBound answer =
+      IfOk answer (λ count. 0 < unbalanced_count E instances → count.accepted ≤ linear_joint_bound E instances W (length alphas) (length betas))
 
 -- at most as many pairs are accepted as the bound says, where there is one
 abbrev pub StaysWithinBound : Result GridCount BatchError → Type 0

@@ -4,6 +4,7 @@ use Rattle.field.specs.Extension.{Extension}
 use Rattle.lookup_model.specs.Batches.Counts.{AreCounts, IsCountedSound, bad_beta_bound}
 use Rattle.lookup_model.specs.Batches.FlagFaults.{IsFirstFlagFault}
 use Rattle.lookup_model.specs.Batches.Instances.{Instance}
+use Rattle.lookup_model.specs.Batches.Linear.{IsLinearlySound}
 use Rattle.lookup_model.specs.Batches.Messages.{AreFlagsLawful}
 use Rattle.lookup_model.specs.declared.count.SoundnessCount.{SoundnessCount}
 use Rattle.lookup_model.specs.declared.fault.BatchFault.{BatchFault}
@@ -31,3 +32,7 @@ module _ {F K : Type 0} (E : Extension F K) (instances : List (Instance F)) (W :
   -- the counts bound the challenges at which the batch is accepted
   abbrev pub CountsSoundly : Result SoundnessCount BatchError → Type 0
   CountsSoundly answer = IfOk answer (λ _. IsCountedSound E instances W)
+
+  -- so they do with the linear bound of bad betas
+  abbrev pub CountsLinearly : Result SoundnessCount BatchError → Type 0
+  CountsLinearly answer = IfOk answer (λ _. IsLinearlySound E instances W)

@@ -1,5 +1,5 @@
 //! Plans of batches.
-ghost use Rattle.std.specs.Prelude.{◌≡◌, ◌⊎◌, ℕ, List, MatchResult, length};
+ghost use Rattle.std.specs.Prelude.{◌≡◌, ◌⊎◌, ℕ, All, List, MatchResult, length, map};
 ghost use Rattle.batch.specs.PlanFacts.{IsPlan};
 ghost use Rattle.batch.specs.Lists.{lists_of};
 ghost use Rattle.batch.specs.WitnessCounts.{IsCountRefusal};
@@ -7,14 +7,16 @@ ghost use Rattle.batch.specs.WitnessCounts.{IsCountRefusal};
 use crate::batch::fitted_batch;
 use crate::error::BatchError;
 use crate::grid::{GridCount, counted_grid};
+use crate::heights::{HeightSoundness, soundness_by_heights};
 use crate::ids::{PlanIds, plan_ids};
 use crate::trace::BatchTrace;
 use crate::widths::{check_local_widths, widest_tuple};
 use checker::{
-    BatchInstance, SoundnessCount, Witness, check_witness, generate_batch, soundness_count,
+    BatchInstance, SoundnessCount, Witness, accepted_is_accepting, check_witness,
+    counted_soundness, generate_batch, linear_soundness, soundness_count,
 };
 use field::{ExtensionField, Field, Over};
-use lookup::{Challenges, Lookups, check_bus_widths, check_multiplicity_height_bound};
+use lookup::{Challenges, Lookups, check_bus_widths, check_multiplicity_height_bound, height_law};
 use std::alloc::{AllocError, Global};
 
 /// The lookups of the AIRs of a batch with their ids, and the heights of the traces.
@@ -37,12 +39,18 @@ pub struct BatchPlan<F: Field> {
 
 impl<F: Field> BatchPlan<F> {
     ghost use Rattle.batch.specs.Checks.{HaveEvenWidths, IsPlanRefusal};
-    ghost use Rattle.batch.specs.Grids.{CountsPlanGrid, StaysWithinBound};
+    ghost use Rattle.batch.specs.Grids.{CountsPlanGrid, StaysWithinBound, StaysWithinLinearBound};
+    ghost use Rattle.batch.specs.Heights.{BoundsByHeights, CountsHeights, most_planned};
     ghost use Rattle.batch.specs.PlanBatches.{IsPlanBatch};
     ghost use Rattle.batch.specs.Plans.{PassIsCounted, VerifiesOnlyPlain, Proves, ProvesBalanced, ProvesOnly, ProvesRegular, ProvesSatisfied, RefusesOnlyUnaccepted, Verifies, plan_batch};
-    ghost use Rattle.batch.specs.SoundnessCounts.{CountsPlan, CountsSoundly};
+    ghost use Rattle.batch.specs.SoundnessCounts.{CountsLinearly, CountsPlan, CountsSoundly};
     ghost use Rattle.batch.specs.Tables.{made_table};
-    ghost use Rattle.batch.specs.Traces.{IsTraceRefusal};
+    ghost use Rattle.batch.specs.Traces.{AreTraces, IsTraceRefusal};
+    ghost use Rattle.batch.specs.declared.trace.BatchTrace.{BatchTrace};
+    ghost use Rattle.lookup.specs.Lookups.{lookups_of};
+    ghost use Rattle.lookup.specs.Weights.{HeightLaws};
+    ghost use Rattle.lookup_model.specs.Batches.Ids.{AreLawfulIds};
+    ghost use Rattle.lookup_model.specs.Batches.Instances.{IsFitting};
 
     /// The plan of these AIRs, whose traces have these heights.
     ///
@@ -194,6 +202,9 @@ impl<F: Field> BatchPlan<F> {
             witness.aux.as_slice(),
             witness.terminals.as_slice(),
         )?;
+        accepted_is_accepting::<F, EF>();
+        counted_soundness::<F, EF>();
+        linear_soundness::<F, EF>();
         Ok(())
     }
 
@@ -204,6 +215,9 @@ impl<F: Field> BatchPlan<F> {
     /// Refuses traces as `prove` does, then `Air` with the first fault of flags, then `CountOverflow` if
     /// `W * k * (k - 1) / 2` does not fit `u128`, where `k` messages do not balance and `W` is
     /// `max_message_width`. Also fails when out of memory.
+    ///
+    /// `linear` says that at most `W * (k - 1)` betas are bad, which
+    /// [`linear_bad_betas`](SoundnessCount::linear_bad_betas) tells.
     pub fn soundness_count<EF: ExtensionField<F>>(
         &self,
         alloc: Global,
@@ -215,10 +229,55 @@ impl<F: Field> BatchPlan<F> {
         ensures sound { CountsSoundly ⟦<EF as Over<F>>⟧.fields
             (plan_batch self.now.airs.items self.now.ids.items traces.now)
             self.now.max_message_width result }
+        ensures linear { CountsLinearly ⟦<EF as Over<F>>⟧.fields
+            (plan_batch self.now.airs.items self.now.ids.items traces.now)
+            self.now.max_message_width result }
     {
         let batch = self.batch_over(alloc, traces)?;
         let counts = soundness_count::<F, EF>(alloc, batch.as_slice(), self.max_message_width)?;
         Ok(counts)
+    }
+
+    /// The most messages of a batch over traces of these heights, and at how few challenges of `EF` it can
+    /// be accepted although it does not balance; see [`HeightSoundness`].
+    ///
+    /// `sound` says so of all traces that fit the plan, if their flags are lawful.
+    ///
+    /// Refuses `CountOverflow` if one of the numbers does not fit `u128`. Allocates nothing.
+    pub fn soundness_of_heights<EF: ExtensionField<F>>(&self) -> Result<HeightSoundness, BatchError>
+        ensures answer { CountsHeights (most_planned self.now.airs.items self.now.heights.items)
+            self.now.max_message_width result }
+        ensures sound { (traces : List (BatchTrace F))
+            → AreTraces self.now.heights.items traces
+            (plan_batch self.now.airs.items self.now.ids.items traces)
+            → BoundsByHeights ⟦<EF as Over<F>>⟧.fields
+            (plan_batch self.now.airs.items self.now.ids.items traces) self.now.max_message_width
+            (most_planned self.now.airs.items self.now.heights.items) }
+    {
+        linear_soundness::<F, EF>();
+        let (airs, heights) = (self.airs.as_slice(), self.heights.as_slice());
+        soundness_by_heights(airs, heights, self.max_message_width)
+    }
+
+    /// What holds of every plan: a theorem, as the contract of a function that does nothing.
+    ///
+    /// Of its batch over traces that fit, `fit` and `ids` say what the calls of `checker` require: the AIRs
+    /// fit, and their ids are lawful for challenges of `num_ids` prefixes and tuples of at most
+    /// `max_message_width` elements. `heights` is the height law of its AIRs; see [`height_law`].
+    pub fn laws(&self)
+        ensures fit { (traces : List (BatchTrace F))
+            → AreTraces self.now.heights.items traces
+            (plan_batch self.now.airs.items self.now.ids.items traces)
+            → All IsFitting (plan_batch self.now.airs.items self.now.ids.items traces) }
+        ensures ids { (traces : List (BatchTrace F))
+            → AreTraces self.now.heights.items traces
+            (plan_batch self.now.airs.items self.now.ids.items traces)
+            → AreLawfulIds self.now.max_message_width self.now.num_ids F.CHARACTERISTIC
+            (plan_batch self.now.airs.items self.now.ids.items traces) }
+        ensures heights { HeightLaws F.ring F.eq (map lookups_of self.now.airs.items)
+            self.now.heights.items }
+    {
+        height_law::<F>();
     }
 
     /// At how many pairs of these alphas and betas the batch over these traces is accepted, whoever makes
@@ -239,6 +298,9 @@ impl<F: Field> BatchPlan<F> {
             (plan_batch self.now.airs.items self.now.ids.items traces.now)
             self.now.max_message_width alphas.now betas.now self.now.heights.items traces.now result }
         ensures within { StaysWithinBound result }
+        ensures linear { StaysWithinLinearBound ⟦<EF as Over<F>>⟧.fields
+            (plan_batch self.now.airs.items self.now.ids.items traces.now)
+            self.now.max_message_width alphas.now betas.now result }
     {
         let batch = self.batch_over(alloc, traces)?;
         let (width, num_ids) = (self.max_message_width, self.num_ids);

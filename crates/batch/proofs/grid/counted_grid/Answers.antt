@@ -1,7 +1,8 @@
-use Rattle.std.proofs.Common.{◌<◌, ◌^◌, ℕ, inl, inr, subst}
+use Rattle.std.proofs.Common.{◌<◌, ◌^◌, ℕ, All, inl, inr, subst}
+use Rattle.std.proofs.lemmas.List.Elements.{All-map}
 use Rattle.std.proofs.lemmas.Result.{err_from_is_err_and}
 use Rattle.field.specs.laws.Extension.{of_laws}
-use Rattle.lookup_model.specs.Batches.Instances.{instances_of}
+use Rattle.lookup_model.specs.Batches.Instances.{IsFitting, instance_of, instances_of}
 use Rattle.batch.proofs.GridLaws.{bound_holds, bound_overflows, counts_refused, stays_within}
 use Rattle.batch.specs.Grids.{HaveNoRepeat}
 use Rattle.batch.specs.Refusals.{of_lookup}
@@ -66,4 +67,12 @@ returns-clause-within g c =
     let instances = instances_of c.args.batch.now in
     let W = c.args.max_message_width in
     let bound = bound_holds E instances W c.args.alphas.now c.args.betas.now c.in_ok-counts.counts c.in_ok-bound.bound c.in_ok-counts.ensures.answer.1 c.in_ok-bound.ensures.answer in
-    stays_within E instances W c.args.alphas.now c.args.betas.now c.in_ok-counts.ensures.sound.bad_betas (c.in_ok-check_distinct.ensures, c.in_ok-check_distinct-2.ensures) c.in_ok-accepted.accepted c.in_ok-accepted.ensures c.in_ok-bound.bound bound
+    let fitting : All IsFitting instances = All-map IsFitting instance_of c.args.batch.now c.requires.fit in
+    let few = c.joint_soundness.ensures.counts W c.args.num_ids instances fitting c.requires.lawful c.in_ok-counts.ensures.answer.0 in
+    stays_within E instances W c.args.alphas.now c.args.betas.now few (c.in_ok-check_distinct.ensures, c.in_ok-check_distinct-2.ensures) c.in_ok-accepted.accepted c.in_ok-accepted.ensures c.in_ok-bound.bound bound
+
+pub returns-clause-linear : goal.returns-clause-linear
+returns-clause-linear g c =
+    let instances = instances_of c.args.batch.now in
+    let fitting : All IsFitting instances = All-map IsFitting instance_of c.args.batch.now c.requires.fit in
+    λ some. c.linear_soundness.ensures.counts c.args.max_message_width c.args.num_ids instances fitting c.requires.lawful c.in_ok-counts.ensures.answer.0 some c.args.alphas.now c.args.betas.now c.in_ok-check_distinct.ensures c.in_ok-check_distinct-2.ensures c.in_ok-accepted.accepted c.in_ok-accepted.ensures
