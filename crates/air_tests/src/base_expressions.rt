@@ -45,12 +45,44 @@ fn mixed_tree(alloc: Global) -> Result<Base, AllocError> {
     mixed::<F7, Base>(alloc, &main_cell(0), &main_cell(1))
 }
 
-/// Whether this is the difference of a product and a negation.
+/// Whether this is this cell of the main trace.
+fn is_cell(tree: &Base, index: usize) -> bool {
+    match tree {
+        Base::Leaf(BaseLeaf::Variable(variable)) => {
+            variable.entry == BaseEntry::Main { offset: 0 } && variable.index == index
+        }
+        _ => false,
+    }
+}
+
+/// Whether this is the sum of cells 0 and 1.
+fn is_sum(tree: &Base) -> bool {
+    match tree {
+        Base::Add(first, second) => is_cell(first, 0) && is_cell(second, 1),
+        _ => false,
+    }
+}
+
+/// Whether this is that sum times cell 0.
+fn is_product(tree: &Base) -> bool {
+    match tree {
+        Base::Mul(sum, cell) => is_sum(sum) && is_cell(cell, 0),
+        _ => false,
+    }
+}
+
+/// Whether this is cell 1 negated.
+fn is_negation(tree: &Base) -> bool {
+    match tree {
+        Base::Neg(cell) => is_cell(cell, 1),
+        _ => false,
+    }
+}
+
+/// Whether this is the difference of that product and that negation.
 fn is_mixed(tree: &Base) -> bool {
     match tree {
-        Base::Sub(product, negation) => {
-            matches!(&**product, Base::Mul(_, _)) && matches!(&**negation, Base::Neg(_))
-        }
+        Base::Sub(product, negation) => is_product(product) && is_negation(negation),
         _ => false,
     }
 }
@@ -66,8 +98,11 @@ fn building_calls_make_their_nodes(rt: HostRuntime) {
 #[test]
 fn constants_are_leaves(rt: HostRuntime) {
     let constant = Base::constant(F7::new(2));
-    let is_leaf = matches!(constant, Base::Leaf(BaseLeaf::Constant(_)));
-    holds(&rt, "2", is_leaf);
+    let is_two = match constant {
+        Base::Leaf(BaseLeaf::Constant(value)) => value == F7::new(2),
+        _ => false,
+    };
+    holds(&rt, "2", is_two);
 }
 
 /// The degree of a leaf, where the transition selector has this degree.

@@ -45,9 +45,54 @@ fn mixed_tree(alloc: Global) -> Result<Extension, AllocError> {
     mixed::<F7, Extension>(alloc, &cell, &variable(ExtEntry::Challenge))
 }
 
-/// Whether this is a difference of degree 2.
+/// Whether this is the variable of an entry at index 0.
+fn is_variable(tree: &Extension, entry: ExtEntry) -> bool {
+    match tree {
+        Extension::Leaf(ExtLeaf::Variable(variable)) => {
+            variable.entry == entry && variable.index == 0
+        }
+        _ => false,
+    }
+}
+
+/// Whether this is that cell of the next row.
+fn is_cell(tree: &Extension) -> bool {
+    is_variable(tree, ExtEntry::Permutation { offset: 1 })
+}
+
+/// Whether this is the sum of that cell and the challenge.
+fn is_sum(tree: &Extension) -> bool {
+    match tree {
+        Extension::Add(cell, challenge) => {
+            is_cell(cell) && is_variable(challenge, ExtEntry::Challenge)
+        }
+        _ => false,
+    }
+}
+
+/// Whether this is that sum times the cell.
+fn is_product(tree: &Extension) -> bool {
+    match tree {
+        Extension::Mul(sum, cell) => is_sum(sum) && is_cell(cell),
+        _ => false,
+    }
+}
+
+/// Whether this is the challenge negated.
+fn is_negation(tree: &Extension) -> bool {
+    match tree {
+        Extension::Neg(challenge) => is_variable(challenge, ExtEntry::Challenge),
+        _ => false,
+    }
+}
+
+/// Whether this is the difference of that product and that negation, of degree 2.
 fn is_mixed(tree: &Extension) -> bool {
-    tree.degree_multiple() == Ok(2) && matches!(tree, Extension::Sub(_, _))
+    let is_right = match tree {
+        Extension::Sub(product, negation) => is_product(product) && is_negation(negation),
+        _ => false,
+    };
+    is_right && tree.degree_multiple() == Ok(2)
 }
 
 #[test]

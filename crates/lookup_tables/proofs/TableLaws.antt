@@ -8,11 +8,14 @@ use Rattle.lookup_tables.specs.declared.tables.Tables.{Tables}
 use Rattle.std.proofs.lemmas.Str.{IsUtf8-string_bytes}
 use Rattle.std.specs.List.{AllZip, range_with_len}
 use Rattle.std.specs.Str.{IsUtf8}
+use Rattle.std.specs.declared.alloc.Global.{Global as TheGlobal}
+use Rattle.std.specs.declared.vec.Vec.{Vec}
+use Rattle.expressions.specs.declared.base_expression.SymbolicExpression.{SymbolicExpression}
 use Rattle.expressions.specs.Tree.{tree_of}
 use Rattle.lookup_model.specs.Outline.{bus_of}
 use Rattle.lookup_model.specs.declared.types.Kind.TheVariants.{Local, Global}
 use Rattle.lookup_tables.specs.Nodes.{BabyBear, IsFirstBadNode}
-use Rattle.lookup_tables.specs.Tables.{AreFlags, AreLookups, IsBus, IsFirstBadRecord, IsInside, IsLookup, IsRecordFault, IsWritten, NothingIs, items_at}
+use Rattle.lookup_tables.specs.Tables.{AreFlags, AreLookups, AreTuples, IsBus, IsFirstBadRecord, IsFirstBadTuple, IsInside, IsLookup, IsRecordFault, IsSpanFault, IsWritten, NothingIs, items_at}
 use Rattle.lookup_tables.specs.declared.nodes.Node.{Node}
 use Rattle.lookup_tables.specs.declared.tables.Record.{Record}
 use Rattle.lookup_tables.specs.declared.tables.Span.{Span}
@@ -59,6 +62,18 @@ no_flags nodes r e f (Some flags) is = f is.0
 pub no_flags_at : (nodes : List Node) (r : Record) → r.exclusive ≡ 1 → NothingIs (IsWritten nodes r.flags) → NothingIs (AreFlags nodes r)
 no_flags_at nodes r one none None is = absurd (omega (arith, one, is))
 no_flags_at nodes r one none (Some flags) is = none flags is.1
+
+-- A range that no tuple stands in is the first one, if tuples stand in those before it.
+pub first_bad_tuple : (nodes : List Node) (spans : List Span) (i : ℕ) (d : Span) (tuples : List (Vec (SymbolicExpression BabyBear) TheGlobal)) (e : TableFault) → i < length spans → AreTuples nodes (take i spans) tuples
+    → NothingIs (IsWritten nodes (get_or spans i d)) → IsSpanFault nodes (get_or spans i d) e → IsFirstBadTuple nodes spans i e
+first_bad_tuple nodes spans i d tuples e there before none fault = record {
+  span = get_or spans i d;
+  is_there = slice_get-get_or spans i d there;
+  tuples = tuples;
+  before = before;
+  bad = none;
+  fault = fault;
+}
 
 -- A record that is no lookup is the first one, if those before it are.
 pub first_bad_record : (tables : Tables) (i : ℕ) (d : Record) (lookups : List (Lookup BabyBear)) (e : TableFault) → i < length tables.records.now → AllZip (IsLookup tables) (take i tables.records.now) lookups

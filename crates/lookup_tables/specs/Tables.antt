@@ -21,6 +21,10 @@ use Rattle.lookup_tables.specs.declared.tables.Tables.{Tables}
 abbrev pub NothingIs : {A : Type 0} → (A → Type 0) → Type 0
 NothingIs {A} P = (x : A) → ¬ P x
 
+-- something is so
+abbrev pub SomethingIs : {A : Type 0} → (A → Type 0) → Type 0
+SomethingIs {A} P = (x : A) × P x
+
 -- a range of a list
 pub record IsInside {A : Type 0} (items : List A) (span : Span) : Type 0 where
   pub ordered : span.start ≤ span.end
@@ -69,37 +73,61 @@ pub record SayLookups (tables : Tables) (lookups : List (Lookup BabyBear)) : Typ
   pub are : AreLookups tables lookups
   pub only : (others : List (Lookup BabyBear)) → AreLookups tables others → map outline_of others ≡ map outline_of lookups
 
--- why no expressions stand in a range of nodes
+-- Why no expressions stand in a range of nodes: it is none, or a range that is too long, or has a bad
+-- node.
 abbrev pub IsSpanFault : List Node → Span → TableFault → Type 0
 IsSpanFault nodes span Range = ¬ IsInside nodes span
 IsSpanFault nodes span Long = IsInside nodes span × (1048576 < span.end - span.start)
-IsSpanFault nodes span (BadNode n) = (i : ℕ) × (n ≡ span.start + i) × IsFirstBadNode (items_at nodes span) i
+IsSpanFault nodes span (BadNode n) =
+    IsInside nodes span × (span.end - span.start ≤ 1048576) × ((i : ℕ) × (n ≡ span.start + i) × IsFirstBadNode (items_at nodes span) i)
 IsSpanFault nodes span _ = ⊥
 
--- why tuples do not stand in these ranges of nodes
-abbrev pub IsTuplesFault : List Node → List Span → TableFault → Type 0
-IsTuplesFault nodes spans e = (i : ℕ) × (span : Span) × (slice_get spans i ≡ Some span) × IsSpanFault nodes span e
+-- Tuple i does not stand in its range, and why, and all those before it do.
+pub record IsFirstBadTuple (nodes : List Node) (spans : List Span) (i : ℕ) (e : TableFault) : Type 0 where
+  pub span : Span
+  pub is_there : slice_get spans i ≡ Some span
+  pub tuples : List (Vec (SymbolicExpression BabyBear) Global)
+  pub before : AreTuples nodes (take i spans) tuples
+  pub bad : NothingIs (IsWritten nodes span)
+  pub fault : IsSpanFault nodes span e
 
 -- why a record has no bus
 abbrev pub IsBusFault : List ℕ → Record → TableFault → Type 0
 IsBusFault names r BadKind = (r.kind ≢ 0) × (r.kind ≢ 1)
 IsBusFault names r Range = (r.kind ≡ 1) × (¬ IsInside names r.bus)
-IsBusFault names r Name = (r.kind ≡ 1) × (¬ IsUtf8 (items_at names r.bus))
+IsBusFault names r Name = (r.kind ≡ 1) × IsInside names r.bus × (¬ IsUtf8 (items_at names r.bus))
 IsBusFault names r _ = ⊥
+
+-- Why a record has no tuples: its range is none of the tuples' ranges, or one of these has no tuple.
+abbrev pub IsTuplesFault : List Node → List Span → Span → TableFault → Type 0
+IsTuplesFault nodes spans span e =
+    ((e ≡ Range) × (¬ IsInside spans span))
+    ⊎ (IsInside spans span × ((i : ℕ) × IsFirstBadTuple nodes (items_at spans span) i e))
 
 -- why a record has no flags
 abbrev pub IsFlagsFault : List Node → Record → TableFault → Type 0
 IsFlagsFault nodes r e =
     ((e ≡ BadKind) × (r.exclusive ≢ 0) × (r.exclusive ≢ 1)) ⊎ ((r.exclusive ≡ 1) × IsSpanFault nodes r.flags e)
 
--- why a record is no lookup: for its bus, its tuples, its multiplicities, or its flags
+-- a record has a bus, tuples, multiplicities
+abbrev pub HasBus : Tables → Record → Type 0
+HasBus tables r = SomethingIs (λ kind. IsBus tables.names.now r (bus_of kind))
+
+abbrev pub HasTuples : Tables → Record → Type 0
+HasTuples tables r =
+    IsInside tables.tuples.now r.tuples × SomethingIs (AreTuples tables.nodes.now (items_at tables.tuples.now r.tuples))
+
+abbrev pub HasMultiplicities : Tables → Record → Type 0
+HasMultiplicities tables r = SomethingIs (IsWritten tables.nodes.now r.multiplicities)
+
+-- Why a record is no lookup: the fault of the first that it lacks, of a bus, tuples, multiplicities and
+-- flags.
 abbrev pub IsRecordFault : Tables → Record → TableFault → Type 0
 IsRecordFault tables r e =
     IsBusFault tables.names.now r e
-    ⊎ (((e ≡ Range) × (¬ IsInside tables.tuples.now r.tuples))
-    ⊎ (IsTuplesFault tables.nodes.now (items_at tables.tuples.now r.tuples) e
-    ⊎ (IsSpanFault tables.nodes.now r.multiplicities e
-    ⊎ IsFlagsFault tables.nodes.now r e)))
+    ⊎ ((HasBus tables r × IsTuplesFault tables.nodes.now tables.tuples.now r.tuples e)
+    ⊎ ((HasBus tables r × HasTuples tables r × IsSpanFault tables.nodes.now r.multiplicities e)
+    ⊎ (HasBus tables r × HasTuples tables r × HasMultiplicities tables r × IsFlagsFault tables.nodes.now r e)))
 
 -- Record i is no lookup, and why, and all those before it are.
 pub record IsFirstBadRecord (tables : Tables) (i : ℕ) (e : TableFault) : Type 0 where

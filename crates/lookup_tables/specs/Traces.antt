@@ -59,14 +59,19 @@ pub record AreTracesOf (tables : Traces) (traces : ReadTraces) : Type 0 where
 abbrev pub IsLargeFault : TracePart → List ℕ → TraceFault → Type 0
 IsLargeFault part numbers e = (i : ℕ) × (e ≡ Large part i) × IsFirstLarge numbers i
 
--- The refusal of a trace: no whole rows, or numbers that are no elements; or memory runs out.
+-- The refusal of a trace: no whole rows, or whole rows with numbers that are no elements; or memory runs
+-- out.
 abbrev pub IsPartFault : TracePart → List ℕ → ℕ → TraceFault → Type 0
 IsPartFault part numbers width e =
-    (e ≡ Memory) ⊎ (((e ≡ Ragged part) × (makes_rows (length numbers) width ≡ false)) ⊎ IsLargeFault part numbers e)
+    (e ≡ Memory)
+    ⊎ (((e ≡ Ragged part) × (makes_rows (length numbers) width ≡ false))
+    ⊎ ((makes_rows (length numbers) width ≡ true) × IsLargeFault part numbers e))
 
--- The refusal of one of the parts; or memory runs out.
+-- The refusal of the first part that has a fault, of the main trace, the preprocessed trace and the
+-- public values: the parts before it have none. Or memory runs out.
 abbrev pub IsTraceFault : Traces → TraceFault → Type 0
 IsTraceFault t e =
     IsPartFault Main t.main.now t.main_width e
-    ⊎ (IsPartFault Preprocessed t.preprocessed.now t.preprocessed_width e
-    ⊎ ((e ≡ Memory) ⊎ IsLargeFault PublicValues t.public_values.now e))
+    ⊎ ((AreRows t.main.now t.main_width × IsPartFault Preprocessed t.preprocessed.now t.preprocessed_width e)
+    ⊎ (AreRows t.main.now t.main_width × AreRows t.preprocessed.now t.preprocessed_width
+    × ((e ≡ Memory) ⊎ IsLargeFault PublicValues t.public_values.now e)))

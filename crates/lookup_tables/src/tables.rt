@@ -1,8 +1,8 @@
 //! Lookups as records that name ranges of tables.
-ghost use Rattle.std.specs.Prelude.{◌≡◌, ◌⊎◌, MatchResult};
+ghost use Rattle.std.specs.Prelude.{◌≡◌, ◌⊎◌, ℕ, MatchResult};
 ghost use Rattle.std.specs.Option.{option_map};
 ghost use Rattle.lookup_model.specs.Outline.{bus_of};
-ghost use Rattle.lookup_tables.specs.Tables.{AreFlags, AreLookups, AreTuples, IsBus, IsBusFault, IsFirstBadRecord, IsFlagsFault, IsLookup, IsRecordFault, IsSpanFault, IsTuplesFault, IsWritten, NothingIs, SayLookups};
+ghost use Rattle.lookup_tables.specs.Tables.{AreFlags, AreLookups, AreTuples, IsBus, IsBusFault, IsFirstBadRecord, IsFirstBadTuple, IsFlagsFault, IsLookup, IsRecordFault, IsSpanFault, IsWritten, NothingIs, SayLookups};
 ghost use Rattle.lookup_tables.specs.declared.tables.TableFault.TheVariants.{Memory};
 
 use crate::nodes::{Node, NodeFault};
@@ -135,6 +135,8 @@ fn expressions_at(
 }
 
 /// The tuples of these spans.
+///
+/// Refuses the first span that no tuple stands in.
 fn tuples_at(
     alloc: Global,
     nodes: &[Node],
@@ -142,7 +144,8 @@ fn tuples_at(
 ) -> Result<Vec<Vec<SymbolicExpression<BabyBear>>>, TableFault>
     ensures { MatchResult result (λ v. AreTuples nodes.now spans.now v.items)
         (λ e. (e ≡ Memory)
-        ⊎ (NothingIs (AreTuples nodes.now spans.now) × IsTuplesFault nodes.now spans.now e)) }
+        ⊎ (NothingIs (AreTuples nodes.now spans.now)
+        × (i : ℕ) × IsFirstBadTuple nodes.now spans.now i e)) }
 {
     let mut tuples = Vec::new(alloc);
     for span in spans {
@@ -194,6 +197,9 @@ fn flags_at(
 }
 
 /// The lookup of a record, in this column.
+///
+/// Refuses a record without a bus, then one without tuples, then one without multiplicities, then one
+/// without flags.
 fn lookup_at(
     alloc: Global,
     tables: &Tables<'_>,
@@ -249,7 +255,8 @@ fn lookups_at(
 /// The lookups that tables say. There are no others: their expressions are equal node by node. Each is in
 /// the column of its record's index.
 ///
-/// Refuses the first record that is no lookup, with its index. Also fails when out of memory.
+/// Refuses the first record that is no lookup, with its index and the fault of the first part that it
+/// lacks, of its bus, its tuples, its multiplicities and its flags. Also fails when out of memory.
 pub fn read_lookups(
     alloc: Global,
     tables: &Tables<'_>,

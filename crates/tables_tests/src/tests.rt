@@ -9,6 +9,7 @@ use lookup_tables::{
     element_numbers, elements, extension, extensions, makes_rows, read_expressions, read_lookups,
     read_traces, write_lookups,
 };
+use matrix::RowMajorMatrix;
 use std::alloc::Global;
 use std::process::Abort;
 
@@ -65,6 +66,22 @@ fn is_constant(expression: &SymbolicExpression<BabyBear>, n: u32) -> bool {
     }
 }
 
+/// Whether expressions are cell 3 of the next row, and the constant 7.
+fn is_cell_and_seven(expressions: &[SymbolicExpression<BabyBear>]) -> bool {
+    match expressions {
+        [cell, seven] => is_next_cell(cell, 3) && is_constant(seven, 7),
+        _ => false,
+    }
+}
+
+/// Whether expressions are the constant 7 alone.
+fn is_seven(expressions: &[SymbolicExpression<BabyBear>]) -> bool {
+    match expressions {
+        [seven] => is_constant(seven, 7),
+        _ => false,
+    }
+}
+
 #[test]
 fn reads_a_difference(rt: HostRuntime) {
     let nodes = [node(0, 1, 3), node(6, 7, 0), node(8, 0, 0), node(5, 0, 0)];
@@ -113,31 +130,82 @@ fn reads_a_record(rt: HostRuntime) {
         Kind::Local => false,
     };
     holds(&rt, "the bus", is_named);
-    holds(&rt, "the tuples", lookup.elements.len() == 2);
-    holds(&rt, "the counts", lookup.multiplicities.len() == 2);
+    let [pair, single] = lookup.elements.as_slice() else {
+        holds(&rt, "two tuples", false);
+        return;
+    };
+    holds(&rt, "a tuple of two", is_cell_and_seven(pair));
+    holds(&rt, "a tuple of one", is_seven(single));
+    let counts = is_cell_and_seven(&lookup.multiplicities);
+    holds(&rt, "the counts", counts);
     holds(&rt, "the weight", lookup.count_weight == 5);
     holds(&rt, "the column", lookup.column == 0);
     let flags = match &lookup.flags {
-        Some(flags) => flags.len(),
-        None => 9,
+        Some(flags) => is_seven(flags),
+        None => false,
     };
-    holds(&rt, "the flags", flags == 1);
+    holds(&rt, "the flags", flags);
 }
 
-#[test]
-fn names_what_is_wrong(rt: HostRuntime) {
-    let nodes = [node(0, 1, 3)];
-    let tuples = [span(0, 1)];
-    let records = [record(5, Some(span(0, 1)), span(0, 1), span(0, 1), None)];
+/// Why a record on this bus, with these tuples, multiplicities and flags, is refused. Node 0 is an
+/// expression, and node 1 is a sum of one, which is none.
+fn fault_of(
+    alloc: Global,
+    names: &[u8],
+    tuples: &[Span],
+    multiplicities: Span,
+    flags: Span,
+) -> Option<TableFault> {
+    let nodes = [node(0, 1, 3), node(7, 0, 0)];
+    let bus = Some(span(0, names.len()));
+    let all = span(0, tuples.len());
+    let records = [record(5, bus, all, multiplicities, Some(flags))];
     let tables = Tables {
         nodes: &nodes,
-        tuples: &tuples,
-        names: &[0xff],
+        tuples,
+        names,
         records: &records,
     };
-    let read = read_lookups(rt.alloc(), &tables);
-    let is_name = matches!(&read, Err((0, TableFault::Name)));
-    holds(&rt, "a name that is not UTF-8", is_name);
+    match read_lookups(alloc, &tables) {
+        Err((0, fault)) => Some(fault),
+        _ => None,
+    }
+}
+
+/// Of a bus, tuples, multiplicities and flags the first that is missing is told, and of tuples the first.
+#[test]
+fn the_first_fault_of_a_record(rt: HostRuntime) {
+    let alloc = rt.alloc();
+    let (good, bad, past) = (span(0, 1), span(0, 2), span(0, 3));
+    let fault = fault_of(alloc, &[0xff], &[bad], past, past);
+    holds(&rt, "a name", matches!(&fault, Some(TableFault::Name)));
+    let fault = fault_of(alloc, b"a", &[good, bad, past], past, past);
+    let is_second = matches!(&fault, Some(TableFault::Node(1)));
+    holds(&rt, "a bad node of a tuple", is_second);
+    let fault = fault_of(alloc, b"a", &[past, bad], bad, bad);
+    let is_first = matches!(&fault, Some(TableFault::Range));
+    holds(&rt, "the range of a tuple", is_first);
+    let fault = fault_of(alloc, b"a", &[good], past, bad);
+    let is_range = matches!(&fault, Some(TableFault::Range));
+    holds(&rt, "the range of multiplicities", is_range);
+    let fault = fault_of(alloc, b"a", &[good], good, bad);
+    let is_node = matches!(&fault, Some(TableFault::Node(1)));
+    holds(&rt, "a bad node of flags", is_node);
+}
+
+/// Whether a trace has these numbers, row after row, and this width.
+fn is_trace(trace: &RowMajorMatrix<BabyBear>, numbers: &[u32], width: usize) -> bool {
+    are_numbers(trace.values(), numbers) && trace.width() == width
+}
+
+/// Whether elements are these numbers.
+fn are_numbers(values: &[BabyBear], numbers: &[u32]) -> bool {
+    for (value, number) in values.iter().zip(numbers) {
+        if value.as_canonical_u32() != *number {
+            return false;
+        }
+    }
+    values.len() == numbers.len()
 }
 
 #[test]
@@ -147,32 +215,79 @@ fn reads_traces(rt: HostRuntime) {
         main_width: 3,
         preprocessed: &[7, 8],
         preprocessed_width: 1,
-        public_values: &[9],
+        public_values: &[9, 2_013_265_920],
     };
     let traces = read_traces(rt.alloc(), &numbers).expect(&rt, "traces");
-    holds(&rt, "the rows", traces.main.height() == 2);
-    holds(&rt, "the public values", traces.public_values.len() == 1);
-    let heights = match &traces.preprocessed {
-        Some(trace) => trace.height(),
-        None => 0,
+    let main = is_trace(&traces.main, numbers.main, 3);
+    holds(&rt, "the main trace", main);
+    let values = are_numbers(&traces.public_values, numbers.public_values);
+    holds(&rt, "the public values", values);
+    let preprocessed = match &traces.preprocessed {
+        Some(trace) => is_trace(trace, numbers.preprocessed, 1),
+        None => false,
     };
-    holds(&rt, "the preprocessed rows", heights == 2);
+    holds(&rt, "the preprocessed trace", preprocessed);
     holds(&rt, "five make no rows of three", !makes_rows(5, 3));
-    let ragged = Traces {
-        main: &[1, 2, 3],
+}
+
+/// Why traces of width 2 of these numbers, and these public values, are refused.
+fn trace_fault(
+    alloc: Global,
+    main: &[u32],
+    preprocessed: &[u32],
+    public_values: &[u32],
+) -> Option<TraceFault> {
+    let traces = Traces {
+        main,
         main_width: 2,
-        preprocessed: &[],
-        preprocessed_width: 0,
-        public_values: &[],
+        preprocessed,
+        preprocessed_width: 2,
+        public_values,
     };
-    let read = read_traces(rt.alloc(), &ragged);
-    let is_main = matches!(
-        &read,
-        Err(TraceFault::Ragged {
-            part: TracePart::Main
-        })
-    );
-    holds(&rt, "ragged rows", is_main);
+    read_traces(alloc, &traces).err()
+}
+
+/// Whether a fault is of this part: a number at this index, or else ragged rows.
+fn is_fault(fault: &Option<TraceFault>, of: TracePart, at: Option<usize>) -> bool {
+    match (fault, at) {
+        (Some(TraceFault::Ragged { part }), None) => part_number(*part) == part_number(of),
+        (Some(TraceFault::Large { part, index }), Some(i)) => {
+            part_number(*part) == part_number(of) && *index == i
+        }
+        _ => false,
+    }
+}
+
+fn part_number(part: TracePart) -> u8 {
+    match part {
+        TracePart::Main => 0,
+        TracePart::Preprocessed => 1,
+        TracePart::PublicValues => 2,
+    }
+}
+
+/// Of the main trace, the preprocessed trace and the public values the first that has a fault is told, and
+/// of a trace ragged rows before the first number that is the modulus or above it.
+#[test]
+fn the_first_fault_of_traces(rt: HostRuntime) {
+    let alloc = rt.alloc();
+    let most: u32 = 2_013_265_921;
+    let (well, ragged, large) = ([1, 2], [1, most, 3], [1, most, 3, most]);
+    let fault = trace_fault(alloc, &ragged, &ragged, &large);
+    let is_so = is_fault(&fault, TracePart::Main, None);
+    holds(&rt, "ragged main rows", is_so);
+    let fault = trace_fault(alloc, &large, &ragged, &large);
+    let is_so = is_fault(&fault, TracePart::Main, Some(1));
+    holds(&rt, "a main number", is_so);
+    let fault = trace_fault(alloc, &well, &ragged, &large);
+    let is_so = is_fault(&fault, TracePart::Preprocessed, None);
+    holds(&rt, "ragged preprocessed rows", is_so);
+    let fault = trace_fault(alloc, &well, &large, &large);
+    let is_so = is_fault(&fault, TracePart::Preprocessed, Some(1));
+    holds(&rt, "a preprocessed number", is_so);
+    let fault = trace_fault(alloc, &well, &well, &large);
+    let is_so = is_fault(&fault, TracePart::PublicValues, Some(1));
+    holds(&rt, "a public value", is_so);
 }
 
 #[test]

@@ -1,10 +1,12 @@
 //! Counts of the messages of plans.
-use super::proving::{group_plan, range_plan};
+use super::proving::{group_plan, range_plan, witness};
 use super::{alone, holds, trace};
-use batch::BatchError;
-use checker::SoundnessCount;
-use field::F7;
+use batch::{BatchError, BatchPlan, BatchTrace};
+use checker::{SoundnessCount, Witness};
+use field::{F7, PrimeCharacteristicRing};
 use lookup::LookupError;
+use std::alloc::Global;
+use std::process::Abort;
 
 /// Of the keys 3, 4 and 1 two do not balance, and of 3 and 4 in the second trace none.
 #[test]
@@ -29,6 +31,51 @@ fn counts_of_the_range_machine(rt: HostRuntime) {
         accepting_alphas: None,
     };
     holds(&rt, "none of two", counts == Ok(none_of_two));
+}
+
+/// 1 where the plan accepts this witness, if there is one, and 0 elsewhere. Where it does, it has to count
+/// the pair.
+fn accepted(
+    rt: &impl Abort,
+    alloc: Global,
+    plan: &BatchPlan<F7>,
+    traces: &[BatchTrace<'_, F7>],
+    (alpha, beta): (F7, F7),
+    given: Option<Witness<F7>>,
+) -> u32 {
+    let Some(given) = given else {
+        return 0;
+    };
+    if plan.verify(alloc, traces, alpha, beta, &given).is_err() {
+        return 0;
+    }
+    let counts = plan.grid_count(alloc, traces, &[alpha], &[beta]);
+    holds(rt, "one pair", counts.expect(rt, "no flags").accepted == 1);
+    1
+}
+
+/// The keys 3 and 4 are read once, and 1 is provided no time, all at the prefix alpha + beta. What is
+/// generated adds 1 / (0 - 3) + 1 / (0 - 4) = 2 + 5 = 0 at the prefix 0, and is accepted there alone. At the
+/// prefix 1 the denominator of 1 vanishes, and the fractions are free: there the witness of zeros is
+/// accepted, and elsewhere it is not. So each beta has two alphas, within the bound of four.
+#[test]
+fn what_is_accepted_is_counted(rt: HostRuntime) {
+    let alloc = rt.alloc();
+    let plan = range_plan::<F7>(&rt, alloc, 2);
+    let main = trace(&rt, alloc, &[3, 1, 0, 4, 1, 0], 3);
+    let traces = [alone(&main)];
+    let traces = traces.as_slice();
+    for beta in 0..7u32 {
+        let (mut made, mut zeros) = (0u32, 0u32);
+        for alpha in 0..7u32 {
+            let pair = (F7::from_u32(alpha), F7::from_u32(beta));
+            let own = plan.prove(alloc, traces, pair.0, pair.1).ok();
+            made = made.saturating_add(accepted(&rt, alloc, &plan, traces, pair, own));
+            let zero = Some(witness(&rt, alloc, &[&[0, 0, 0, 0]], &[Some(0)]));
+            zeros = zeros.saturating_add(accepted(&rt, alloc, &plan, traces, pair, zero));
+        }
+        holds(&rt, "one alpha each", made == 1 && zeros == 1);
+    }
 }
 
 /// The traces come before the flags.

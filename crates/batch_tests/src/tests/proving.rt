@@ -115,7 +115,7 @@ fn rows_that_balance(rt: HostRuntime) {
 }
 
 /// A witness of these matrices of width 2 and these terminals.
-fn witness(
+pub(super) fn witness(
     rt: &impl Abort,
     alloc: Global,
     matrices: &[&[u32]],

@@ -110,13 +110,15 @@ fn expect_unfit(
 }
 
 /// Traces that are not as many as AIRs, and the first that does not fit: of an AIR without lookups, and of
-/// the one with a lookup. A plan of no rows takes no traces.
+/// the one with a lookup, where the height alone is too small or too large. A plan of no rows takes no
+/// traces.
 #[test]
 fn the_first_trace_that_does_not_fit(rt: HostRuntime) {
     let alloc = rt.alloc();
     let one: &[usize] = &[1];
     let made = plan::<F7>(&rt, alloc, &[&[], &[(None, one)]], 1, &[1, 2]).expect(&rt, "a plan");
     let (low, high) = (trace(&rt, alloc, &[1], 1), trace(&rt, alloc, &[1, 2], 1));
+    let higher = trace(&rt, alloc, &[1, 2, 3], 1);
     let few = BatchError::LengthMismatch {
         expected: 2,
         actual: 1,
@@ -126,6 +128,8 @@ fn the_first_trace_that_does_not_fit(rt: HostRuntime) {
     expect_unfit(&rt, alloc, &made, &[alone(&high), alone(&low)], first);
     let second = BatchError::TraceMismatch { air: 1 };
     expect_unfit(&rt, alloc, &made, &[alone(&low), alone(&low)], second);
+    let second = BatchError::TraceMismatch { air: 1 };
+    expect_unfit(&rt, alloc, &made, &[alone(&low), alone(&higher)], second);
 }
 
 #[test]

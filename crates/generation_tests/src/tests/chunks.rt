@@ -1,6 +1,6 @@
 //! Generation in chunks of 1024 rows: what stands where chunks meet, and how many inverses are counted.
 use super::comparison::ranges;
-use super::{Made, are_numbers, holds, local, range, trace};
+use super::{Made, are_numbers, are_zero, holds, local, range, trace};
 use air::AirLayout;
 use field::{
     BabyBear, BabyBear4, ExtensionDomain, F7, Field, InverseCount, Inverter,
@@ -133,7 +133,6 @@ fn expect_end(
 ///   and the sum of all rows is 1025 * 2 = 2050 = 6.
 /// - A lookup in column 1 is at the prefix 1, and adds 1 / (1 - 3) = 1 / 5 = 3. With the 2 of column 0
 ///   the accumulator of row 1024 is 1024 * 5 = 5120 = 3, and the sum of all rows is 1025 * 5 = 5125 = 1.
-/// - Without tuples nothing is added, and nothing inverted.
 #[test]
 fn a_chunk_goes_on_where_the_one_before_ends(rt: HostRuntime) {
     let alloc = rt.alloc();
@@ -141,8 +140,22 @@ fn a_chunk_goes_on_where_the_one_before_ends(rt: HostRuntime) {
     expect_end(&rt, alloc, one.as_slice(), &[4, 2], 6, 2);
     let two = [range(&rt, alloc, 0), range(&rt, alloc, 1)];
     expect_end(&rt, alloc, two.as_slice(), &[3, 2, 3], 1, 2);
-    let none = [local(Vec::new(alloc), Vec::new(alloc), 0)];
-    expect_end(&rt, alloc, none.as_slice(), &[0, 0], 0, 0);
+}
+
+/// Over 1025 rows each cell of a lookup without tuples is zero.
+#[test]
+fn no_tuples_in_two_chunks(rt: HostRuntime) {
+    let alloc = rt.alloc();
+    let lookups = [local(Vec::new(alloc), Vec::new(alloc), 0)];
+    let main = copies(&rt, alloc, 1025, [3, 4, 0], 0, [3, 4, 0]);
+    let challenges = [F7::new(0), F7::new(2)];
+    let (made, count) = with_count(&rt, alloc, &main, lookups.as_slice(), &challenges);
+    let made = made.expect(&rt, "no fault");
+    let cells = made.auxiliary.values();
+    holds(&rt, "two cells a row", cells.len() == 2050);
+    holds(&rt, "the cells", are_zero(cells));
+    let is_right = made.terminal == Some(F7::new(0)) && count == 0;
+    holds(&rt, "the terminal and the count", is_right);
 }
 
 /// At the prefix 3 the read tuple 4 has the denominator 3 - 4 = 6, and the read tuple 3 has 0. The tuple 3

@@ -95,6 +95,9 @@ fn degrees_of_lookups(rt: HostRuntime) {
     expect(&rt, "1, 2, 3", three, 0, Some(7));
     let none = of_degrees(&rt, alloc, &[]);
     expect(&rt, "no tuples", none, 0, Some(1));
+    // the product of eight denominators of degree 1, by the fraction; a group of eight has degree 3
+    let eight = of_degrees(&rt, alloc, &[1; 8]);
+    expect(&rt, "eight tuples", eight, 0, Some(9));
     for (branches, degree) in [(0, 1), (1, 3), (8, 3)] {
         let branches = group(&rt, alloc, branches, 0);
         expect(&rt, "branches", branches, 0, Some(degree));

@@ -111,6 +111,7 @@ fn terminals_that_cancel(rt: HostRuntime) {
     let two = [terminal(5), terminal(3)];
     holds(&rt, "5 and 3", !cancel(&rt, two.as_slice()));
     holds(&rt, "none", cancel(&rt, &[]));
+    holds(&rt, "absent ones", cancel(&rt, &[None, None, None]));
     let zero = LookupTerminal::<F7>::default();
     holds(&rt, "the default", zero.0 == F7::ZERO);
 }

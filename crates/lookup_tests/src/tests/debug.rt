@@ -135,6 +135,38 @@ fn is_ten(fault: &LookupFault<BabyBear>) -> bool {
     }
 }
 
+/// An exclusive lookup on the bus `b`: cell 1 under the flag of cell 0, and cell 3 under that of cell 2.
+fn of_two_keys(rt: &impl Abort, alloc: Global) -> Lookup<F7> {
+    let keys = [alone(rt, alloc, cell(1)), alone(rt, alloc, cell(3))];
+    let mut lookup = local(list(rt, alloc, keys), list(rt, alloc, [one(), one()]), 0);
+    lookup.kind = Kind::Global(text(rt, alloc, "b"));
+    lookup.flags = Some(list(rt, alloc, [cell(0), cell(2)]));
+    lookup
+}
+
+/// That of a key 1 that nothing provides.
+const MISSING_ONE: &str =
+    "Lookup mismatch (global lookup 'b'): tuple [1] has net multiplicity 1 at instance 0 lookup 0 row 1";
+
+/// The rows query the key 5 by the first flag and the key 1 by the second, which another AIR provides, or 5
+/// alone. The keys 2 and 3 have no flag.
+#[test]
+fn a_group_and_its_provider(rt: HostRuntime) {
+    let alloc = rt.alloc();
+    let queries: RowMajorMatrix<F7> = trace(&rt, alloc, &[1, 5, 0, 2, 0, 3, 1, 1], 4);
+    let keys = [of_two_keys(&rt, alloc)];
+    // the count is -1, which is 6
+    let entries = [on_bus(&rt, alloc, "b", 1, 0)];
+    let both: RowMajorMatrix<F7> = trace(&rt, alloc, &[5, 6, 1, 6], 2);
+    let provided = instance(&both, entries.as_slice());
+    let all = [instance(&queries, keys.as_slice()), provided];
+    expect(&rt, alloc, all.as_slice(), "");
+    let one: RowMajorMatrix<F7> = trace(&rt, alloc, &[5, 6, 1, 0], 2);
+    let provided = instance(&one, entries.as_slice());
+    let all = [instance(&queries, keys.as_slice()), provided];
+    expect(&rt, alloc, all.as_slice(), MISSING_ONE);
+}
+
 /// The text 10 is before 9.
 #[test]
 fn the_fields_of_a_mismatch(rt: HostRuntime) {

@@ -6,8 +6,8 @@ ghost use Rattle.lookup_record.specs.Within.{KeyWithin};
 
 use super::{holds, is_on, one, text};
 use air::{
-    Air, AirBuilder, AirError, AirLayout, BaseAir, Expression, SymbolicExpression, current_cell,
-    current_cells,
+    Air, AirBuilder, AirError, AirLayout, BaseAir, BaseEntry, BaseLeaf, Expression,
+    SymbolicExpression, current_cell, current_cells,
 };
 use field::{BabyBear, BabyBear4, ExtensionField, F7, Field, PrimeCharacteristicRing};
 use lookup::{
@@ -240,6 +240,58 @@ fn are_lookups<F>(lookups: &[Lookup<F>], expected: &[(&str, u64, usize, bool)]) 
     lookups.len() == expected.len()
 }
 
+/// Whether an expression is the variable of an entry in this column.
+fn is_cell<F: Field>(expression: &SymbolicExpression<F>, entry: BaseEntry, column: usize) -> bool {
+    match expression {
+        SymbolicExpression::Leaf(BaseLeaf::Variable(variable)) => {
+            variable.entry == entry && variable.index == column
+        }
+        _ => false,
+    }
+}
+
+/// Whether expressions are these two cells of the main trace.
+fn is_pair_of_cells<F: Field>(
+    expressions: &[SymbolicExpression<F>],
+    first: usize,
+    second: usize,
+) -> bool {
+    let main = BaseEntry::Main { offset: 0 };
+    match expressions {
+        [a, b] => is_cell(a, main, first) && is_cell(b, main, second),
+        _ => false,
+    }
+}
+
+/// Whether a tuple is such a variable alone.
+fn is_single<F: Field>(tuple: &[SymbolicExpression<F>], entry: BaseEntry, column: usize) -> bool {
+    match tuple {
+        [a] => is_cell(a, entry, column),
+        _ => false,
+    }
+}
+
+/// Whether tuples are two, of one of these cells of the main trace each.
+fn are_cells<F: Field>(tuples: &[Vec<SymbolicExpression<F>>], first: usize, second: usize) -> bool {
+    let main = BaseEntry::Main { offset: 0 };
+    match tuples {
+        [a, b] => is_single(a, main, first) && is_single(b, main, second),
+        _ => false,
+    }
+}
+
+/// Whether counts are 1, and cell 2 negated.
+fn are_range_counts(counts: &[SymbolicExpression<BabyBear>]) -> bool {
+    let main = BaseEntry::Main { offset: 0 };
+    match counts {
+        [
+            SymbolicExpression::Leaf(BaseLeaf::Constant(once)),
+            SymbolicExpression::Neg(taken),
+        ] => { *once == BabyBear::new(1) && is_cell(taken, main, 2) }
+        _ => false,
+    }
+}
+
 /// Fails unless an AIR that does these steps has such lookups, of this weight in all.
 fn expect_lookups(
     rt: &impl Abort,
@@ -276,6 +328,9 @@ fn lookups_of_pushes(rt: HostRuntime) {
         ],
         8,
     );
+    let no_weights = &[Step::Local(&[(1, 0)]), Step::Exclusive("b", &[0, 0])];
+    let weightless = &[("", 0, 1, false), ("b", 0, 2, true)];
+    expect_lookups(&rt, alloc, no_weights, weightless, 0);
     let no_branches = &[Step::Exclusive("b", &[])];
     expect_lookups(&rt, alloc, no_branches, &[("b", 0, 0, true)], 0);
     // a sum of 33 bits
@@ -289,6 +344,27 @@ fn lookups_of_pushes(rt: HostRuntime) {
     let lookups = lookups.expect(&rt, "range lookups");
     let are_three = are_lookups(lookups.as_slice(), &[("", 1, 2, false); 3]);
     holds(&rt, "three range lookups", are_three);
+    for lookup in lookups.as_slice() {
+        let are_cells = are_cells(&lookup.elements, 0, 1);
+        holds(&rt, "the tuples", are_cells);
+        holds(&rt, "the counts", are_range_counts(&lookup.multiplicities));
+    }
+}
+
+/// Cell 1 is sent under the flag of cell 0, and cell 3 under that of cell 2.
+#[test]
+fn the_cells_of_a_group(rt: HostRuntime) {
+    let lookups = extract::<F7, F7>(rt.alloc(), &[Step::Keys("rc")]).expect(&rt, "lookups");
+    let [group] = lookups.as_slice() else {
+        holds(&rt, "one lookup", false);
+        return;
+    };
+    holds(&rt, "the keys", are_cells(&group.elements, 1, 3));
+    let are_flags = match &group.flags {
+        Some(flags) => is_pair_of_cells(flags, 0, 2),
+        None => false,
+    };
+    holds(&rt, "the flags", are_flags);
 }
 
 /// Fails unless an AIR that does these steps is refused for this.
@@ -380,6 +456,15 @@ fn a_preprocessed_cell_is_extracted(rt: HostRuntime) {
     let lookups = extract_fixed::<F7, F7>(rt.alloc()).expect(&rt, "a lookup");
     let is_one = are_lookups(lookups.as_slice(), &[("", 1, 1, false)]);
     holds(&rt, "one lookup", is_one);
+    let fixed = BaseEntry::Preprocessed { offset: 0 };
+    let is_there = match lookups.as_slice() {
+        [lookup] => match lookup.elements.as_slice() {
+            [tuple] => is_single(tuple, fixed, 0),
+            _ => false,
+        },
+        _ => false,
+    };
+    holds(&rt, "the cell", is_there);
     let mut layout = AirLayout::default();
     holds(&rt, "no column", !lookups.fits(&layout));
     layout.preprocessed_width = 1;

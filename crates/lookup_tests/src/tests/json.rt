@@ -225,6 +225,21 @@ fn what_is_no_lookup_is_refused(rt: HostRuntime) {
     expect_changes(&rt, rt.alloc(), GOOD_CHANGES.as_slice(), true);
 }
 
+/// The third lookup keeps its weight 0.
+#[test]
+fn a_weight_of_33_bits_is_read(rt: HostRuntime) {
+    let alloc = rt.alloc();
+    let (old, new) = (r#""count_weight":1"#, r#""count_weight":4294967296"#);
+    let text = LOOKUPS.replace(alloc, old, new).expect(&rt, "memory");
+    let set = read_set(&rt, alloc, text.as_str());
+    holds(&rt, "both weights", set.total_count_weight() == 8589934592);
+    let [first, ..] = set.as_slice() else {
+        holds(&rt, "a lookup", false);
+        return;
+    };
+    holds(&rt, "the first", first.count_weight == 4294967296);
+}
+
 /// Whether the text of every node is read with a part of it changed into another.
 fn is_read_changed(rt: &impl Abort, alloc: Global, old: &str, new: &str) -> bool {
     let text = EXPRESSIONS.replace(alloc, old, new).expect(rt, "memory");

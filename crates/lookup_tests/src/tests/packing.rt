@@ -127,6 +127,23 @@ fn are_columns(columns: &[Lookup<F7>], expected: &[(&str, usize, u64)]) -> bool 
     columns.len() == expected.len()
 }
 
+/// Whether columns are numbered from 0, and none has a constraint above the budget.
+fn are_within(columns: &[Lookup<F7>], budget: usize) -> bool {
+    for (index, column) in columns.iter().enumerate() {
+        if !has_equal_lengths(column) {
+            return false;
+        }
+        let is_low = match LogUpGadget::new().constraint_degree(column) {
+            Ok(degree) => degree <= budget,
+            Err(_) => false,
+        };
+        if !is_low || column.column != index {
+            return false;
+        }
+    }
+    true
+}
+
 #[test]
 fn equal_lookups(rt: HostRuntime) {
     let alloc = rt.alloc();
@@ -141,6 +158,8 @@ fn equal_lookups(rt: HostRuntime) {
             let expected = number.div_ceil(budget - 1);
             let are_few = columns.as_slice().len() == expected && tuples == number;
             holds(&rt, "the columns", are_few);
+            let within = are_within(columns.as_slice(), budget);
+            holds(&rt, "the budget", within);
         }
     }
 }
@@ -224,6 +243,19 @@ fn columns_of_buses_with_other_widths(rt: HostRuntime) {
     );
 }
 
+/// Within the degree 5 four lookups of one cell are one column.
+#[test]
+fn the_total_weight_stays(rt: HostRuntime) {
+    let alloc = rt.alloc();
+    let a = on("a");
+    let members = [a, weighing("a", 0), a, a];
+    let total = set(&rt, alloc, members.as_slice()).total_count_weight();
+    holds(&rt, "before", total == 3);
+    let packed = pack(&rt, alloc, members.as_slice(), 5).expect(&rt, "packed");
+    let is_one = are_columns(packed.as_slice(), &[("a", 4, 3)]);
+    holds(&rt, "after", is_one && packed.total_count_weight() == 3);
+}
+
 /// Weights add, where lookups are joined. A degree above the budget is found before a sum of weights
 /// that does not fit.
 #[test]
@@ -279,10 +311,28 @@ fn refused_packings(rt: HostRuntime) {
     let (a, b, all) = (on("a"), on("b"), weighing("a", 18446744073709551615));
     let on_a = two_widths(&rt, alloc, "bus \"a\"", 1, 2);
     expect_refusal(&rt, alloc, &[a, group("a", 2)], on_a);
+    let on_a = two_widths(&rt, alloc, "bus \"a\"", 1, 2);
+    expect_refusal(&rt, alloc, &[a, wide("a", 2)], on_a);
     let on_b = two_widths(&rt, alloc, "bus \"b\"", 1, 3);
     let members = [group("b", 1), a, b, wide("a", 2), wide("b", 3)];
     expect_refusal(&rt, alloc, members.as_slice(), on_b);
     expect_refusal(&rt, alloc, &[all, a], LookupError::CountWeightOverflow);
+}
+
+/// A group of a branch of one cell and a branch of two, alone on its bus.
+#[test]
+fn a_group_of_two_widths(rt: HostRuntime) {
+    let alloc = rt.alloc();
+    let mut lookup = lookup_of(&rt, alloc, &group("a", 1), 0);
+    let pair = list(&rt, alloc, [cell(0), cell(1)]);
+    lookup.elements.push(pair).expect(&rt, "memory");
+    lookup.multiplicities.push(one()).expect(&rt, "memory");
+    lookup.flags = Some(list(&rt, alloc, [cell(2), cell(3)]));
+    let records = list(&rt, alloc, [lookup]);
+    let lookups = Lookups::from_records(alloc, records).expect(&rt, "records");
+    let refused = lookups.pack_same_bus(alloc, &LogUpGadget::new(), 16).err();
+    let on_a = two_widths(&rt, alloc, "bus \"a\"", 1, 2);
+    holds(&rt, "two widths", refused == Some(on_a));
 }
 
 /// What is packed of these within the degree 3, with a closure that refuses each trial.
@@ -429,12 +479,11 @@ fn an_overflow_before_a_later_refusal(rt: HostRuntime) {
     holds(&rt, "the overflow", refused == expected);
 }
 
+/// Both calls can be made at given fields. They do nothing: what they are for is their contracts.
 #[test]
-fn the_laws_are_there(rt: HostRuntime) {
+fn laws_are_called_over_f7() {
     messages_keep_terminals::<F7, F7>();
     few_collisions::<F7>();
-    let none: Vec<Lookup<F7>> = Vec::new(rt.alloc());
-    holds(&rt, "no lookup", none.is_empty());
 }
 
 /// The fewest columns of a consecutive split in which each part has one lookup, or 1 and the sum of

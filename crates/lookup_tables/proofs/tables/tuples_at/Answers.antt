@@ -1,7 +1,6 @@
 use Rattle.std.proofs.Common.{inl, inr}
-use Rattle.std.proofs.lemmas.Option.{slice_get-get_or}
 use Rattle.std.proofs.lemmas.Result.{err_from_is_err_and}
-use Rattle.lookup_tables.proofs.TableLaws.{none_zipped}
+use Rattle.lookup_tables.proofs.TableLaws.{first_bad_tuple, none_zipped}
 use Rattle.lookup_tables.proofs.ZipLaws.{zipped_next}
 use Rattle.lookup_tables.specs.Tables.{IsWritten}
 use Rattle.lookup_tables.proofs.tables.tuples_at.Goals as goal
@@ -17,6 +16,7 @@ returns-in_err-expressions_at c =
       | inl memory ↦ inl memory
       | inr (none, fault) ↦ inr (
         none_zipped (λ span tuple. IsWritten c.args.nodes.now span tuple.items) c.args.spans.now c.loop-span.span-index _ c.loop-span-test.true (λ tuple w. none tuple.items w),
-        (c.loop-span.span-index, _, slice_get-get_or c.args.spans.now c.loop-span.span-index _ c.loop-span-test.true, fault),
+        c.loop-span.span-index,
+        first_bad_tuple c.args.nodes.now c.args.spans.now c.loop-span.span-index _ c.loop-span.tuples.items _ c.loop-span-test.true c.loop-span.invariant none fault,
       )
     ])
