@@ -57,8 +57,3 @@ def runs_of(report, output, errors):
         status = os.waitstatus_to_exitcode(status)
         yield Ran(status, *numbers, output[ends[0] : output_end], errors[ends[1] : errors_end])
         ends = (output_end, errors_end)
-
-
-def unfreed(ran):
-    """What a run did not free."""
-    return [f"{ran.live} blocks are not freed"] if ran.live else []
