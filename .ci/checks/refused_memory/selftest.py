@@ -1,6 +1,6 @@
 """A test of the judge: runs written by hand, each with the number of faults that it has.
 
-The texts of faults are not tested, since a fault counts whatever is said of it.
+What is printed of a fault, and of the runs and seconds of a sweep, is not tested: a fault counts whatever is said of it.
 """
 import collections
 import contextlib
@@ -248,6 +248,7 @@ READ = {
         ("[1]", '["1"]', REFUSED),
         ('"position":0', '"position":2', AS_IT_STANDS),
         ('"position":0', '"position":3', "malformed: ColumnOutOfRange"),
+        ('"position":0', '"position":4', "malformed: ColumnOutOfRange"),
         ('0,"payload":[1]', '3,"payload":[]', "malformed: ColumnOutOfRange"),
         ("[1,2]", "[]", "malformed: EmptyTable"),
         ("[1,2]", "[1,3]", "malformed: ColumnOutOfRange"),
