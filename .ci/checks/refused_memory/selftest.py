@@ -68,6 +68,7 @@ LINES = [
     ({9: "c: Err(Memory)", 10: 'left: [Add(1, "],"), 23, 4]'}, 1),
     ({9: "c: Err(Memory)", 11: "left: B { inner: A { base: [2], at: (0, 1), count: 2 }, more: [] }"}, 0),
     ({9: "c: Err(Memory)", 11: "left: B { inner: A { base: [2], at: (0, 1), count: 1 }, more: [] }"}, 0),
+    ({9: "c: Err(Memory)", 11: "left: B { inner: A { base: [2], at: (0, 1), count: 2 }, more: [[]] }"}, 0),
     ({9: "c: Err(Memory)", 11: "left: B { inner: A { base: [2], at: (0, 1), count: 3 }, more: [] }"}, 1),
     ({9: "c: Err(Memory)", 11: "left: B { inner: A { base: [3], at: (0, 1), count: 2 }, more: [] }"}, 1),
     ({9: "c: Err(Memory)", 11: "left: B { inner: A { base: [2], at: (0), count: 2 }, more: [] }"}, 1),
@@ -91,6 +92,7 @@ LINES = [
     ({13: "input: 8"}, 1),
     ({14: "e: Err(Memory)", 13: "input: 8"}, 2),
     ({12: "d: Err(Memory)", 13: "input: 8"}, 2),
+    ({12: "d: Err(Memory)", 13: "input: 6"}, 2),
     # another line than the wanted one ends the comparison
     ({12: "f: Ok(3)"}, 1),
     ({12: "a: Err(Memory)"}, 1),
