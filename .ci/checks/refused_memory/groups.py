@@ -66,7 +66,8 @@ def faults_of_group(refusals, ample, runs, later, seen):
 
 
 def group_swept(shim, program, group, later):
-    """The runs of a group: how many there were, what is wrong, and how often each call of it was refused."""
+    """The runs of a group: how many there were, what is wrong, and how often each call of it was refused. The self
+    test does not come here; without one of the three the sweep itself breaks off."""
     refusals, seen = GROUPS[group], {group: collections.Counter()}
     ample, *runs = swept(shim, program, [group], later=later)
     faults = list(faults_of_group(refusals, ample, runs, later, seen[group]))
