@@ -1,6 +1,7 @@
 #!/usr/bin/env bash
 # tools/wrong-bodies tells what it has to, of a crate that is proved at once: an edit that the prover
-# refuses, one that changes nothing, one that can't be read, and whose wrong bodies the record has.
+# refuses, one that changes nothing, one that only takes away what a proof names, one that can't be read,
+# and whose wrong bodies the record has.
 set -eu
 top=$(cd "$(dirname "${BASH_SOURCE[0]}")/../.." && pwd)
 room=$(mktemp -d)
@@ -40,9 +41,14 @@ tools/wrong-bodies --tried >"$said" || fail "all edits can be made: $(cat "$said
 grep -q '^wrong bodies: those of 1 of 1 crates were tried on just these sources$' "$said" || fail "$(cat "$said")"
 
 printf '%s&self.values[r * self.width..(1 + r) * self.width]\n' "$rows" >wrong-bodies/matrix/same.edit
+# the proof of `values` names its call of `as_slice`; the name of what is called instead is too long for a line of
+# the prover's message
+long=values_$(printf 'row_after_row_%.0s' {1..12})
+printf '%s\n' "file: src/dense.rt" "old: pub fn values(" "new: fn $long(&self) -> &[T] { &self.values[..] } pub fn values(" \
+  "old: self.values.as_slice()" "new: self.$long()" >wrong-bodies/matrix/takes_a_name.edit
 printf '%s&self.values[r * self.width..\n' "$rows" >wrong-bodies/matrix/unreadable.edit
 printf 'file: src/dense.rt\nold: no such text\nnew: none\n' >wrong-bodies/matrix/misplaced.edit
-commit "four edits"
+commit "five edits"
 if tools/wrong-bodies --tried >"$said"; then fail "an edit that can't be made"; fi
 grep -q '^wrong bodies: those of 0 of 1 crates were tried on just these sources$' "$said" || fail "$(cat "$said")"
 grep -q '^not tried on these sources: matrix$' "$said" || fail "$(cat "$said")"
@@ -50,8 +56,9 @@ grep -q '^wrong-bodies/matrix/misplaced.edit: ' "$said" || fail "$(cat "$said")"
 before=$(cat wrong-bodies/TRIED)
 if tools/wrong-bodies matrix >"$said"; then fail "a wrong body that proves passes"; fi
 grep -q '^matrix/same: NOT REFUSED: ' "$said" || fail "$(cat "$said")"
+grep -q '^matrix/takes_a_name: NOT REFUSED: only a proof that names what the edit took away$' "$said" || fail "$(cat "$said")"
 grep -q '^matrix/unreadable: UNREADABLE: ' "$said" || fail "$(cat "$said")"
 grep -q '^matrix/misplaced: UNREADABLE: ' "$said" || fail "$(cat "$said")"
-grep -q '^1 refused, 1 not refused, 2 unreadable' "$said" || fail "$(cat "$said")"
+grep -q '^1 refused, 2 not refused, 2 unreadable' "$said" || fail "$(cat "$said")"
 [ "$(cat wrong-bodies/TRIED)" = "$before" ] || fail "a run with a failure is recorded"
-echo "edits_are_judged: tells refused, proved, unreadable and not tried"
+echo "edits_are_judged: tells refused, proved, refused by a name alone, unreadable and not tried"

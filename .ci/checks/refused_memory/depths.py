@@ -18,7 +18,9 @@ FORMS = ["neg", *(f"{kind}-{side}" for kind in ("add", "sub", "mul") for side in
 # What the recursive calls write, by the kind of what they are made on; each drops what it made, and the expression is
 # dropped in the end. The local lookup of the expression sends 3 on each of two rows, with nothing that provides it. At
 # the alpha 5 the fractions of its rows are 1/(5 - 3) = 4: the accumulator is 0 and then 4, and the terminal is 1 modulo
-# 7. Of the batch the prefix is 5 + 2 = 0, and the sum of 1/(0 - 3) = 2 twice is not zero.
+# 7. Of the batch the prefix is 5 + 2 = 0, and the sum of 1/(0 - 3) = 2 twice is not zero: no witness is accepted. It has
+# n = 1 message, and k = 1 is unbalanced; k * (k - 1) is 0, and n + k - 1 is 1. The degree of a constant is 0, and
+# that of a lookup of constants, as of two that are packed into one, is 1: that of the product with the fraction.
 GENERATED = (
     "Ok((RowMajorMatrix {{ values: [F7 {{ value: 0 }}, F7 {{ value: 4 }}, F7 {{ value: 4 }}, F7 {{ value: 4 }}], "
     "width: 2 }}, Some(LookupTerminal(F7 {{ value: 1 }}))))"
@@ -35,12 +37,18 @@ ANSWERS = {
         "resolve_over": "Ok({printed})",
     },
     "lookup": {
+        "constraint_degree": "Ok(1)",
+        "constraint_degree_with_transition": "Ok(1)",
         "generate_permutation": GENERATED,
         "generate_counted": GENERATED,
         "LookupFault::text": 'Ok("Lookup mismatch (instance 0 local lookup 0): tuple [3] has net multiplicity 2 at '
         'instance 0 lookup 0 row 0; instance 0 lookup 0 row 1")',
+        "soundness_count": "Ok(SoundnessCount {{ messages: 1, unbalanced: 1, bad_betas: 0, accepting_alphas: Some(1) }})",
+        "some_witness": "Ok(false)",
         "check_witness": "Err(TerminalSumNonZero)",
     },
+    # of the expression and of 1, on a bus: they are packed into one
+    "two lookups": {"pack_same_bus": "Ok(1)"},
     "expression over the extension": {
         "fmt, ext": "{printed}",
         "copy, ext": "Ok({printed})",

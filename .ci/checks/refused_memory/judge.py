@@ -1,4 +1,4 @@
-"""The judge of the lines that a group of calls writes where memory is refused, and a test of the judge.
+"""The judge of the lines that a group of calls writes where memory is refused.
 
 A line `CALL: ANSWER` is the same as with all memory, or is the call's refusal for memory, by `calls.txt`. Another
 line has one of these names, and says what a call is made on, or what the last call left:
@@ -7,7 +7,7 @@ line has one of these names, and says what a call is made on, or what the last c
     before      what a builder holds: all that was accepted so far, and no more; so is `after`
     left        what a builder holds: after a refusal the first items of each of its lists
     count       after a refusal at most what it is else
-    filled      after a refusal an empty list
+    filled      after a refusal the empty list
 """
 import os
 import re
@@ -22,16 +22,15 @@ def parted(line):
     return name, value
 
 
-def listed(file):
-    """The calls of each group, each with its refusal for memory, or NEVER."""
+def listed(lines):
+    """The calls of each group of a list, each with its refusal for memory, or NEVER."""
     groups, calls = {}, None
-    with open(file, encoding="utf-8") as lines:
-        for line in map(str.rstrip, lines):
-            if line.startswith("["):
-                calls = groups[line[1:-1]] = {}
-            elif line and not line.startswith("#"):
-                call, _, refusal = line.partition(": ")
-                calls[call] = refusal
+    for line in map(str.rstrip, lines):
+        if line.startswith("["):
+            calls = groups[line[1:-1]] = {}
+        elif line and not line.startswith("#"):
+            call, refusal = parted(line)
+            calls[call] = refusal
     return groups
 
 
@@ -48,7 +47,8 @@ COUNT = re.compile(r"\bcount: (\d+)")
 
 
 def lists_of(value):
-    """A printed value without what is in its lists, and the items of each list. Lists in an item are part of it."""
+    """A printed value without what is in its lists, and the items of each list. Lists in an item are part of it.
+    Two values are parted alike, so it does not matter to which part a bracket or the space after a comma goes."""
     rest, lists, depth, start = "", [], 0, 0
     for token in TOKEN.finditer(value):
         letter, place = token[0], token.start()
@@ -78,7 +78,8 @@ class Judge:
 
     def __init__(self, ample, refusals):
         self.ample, self.refusals = ample, refusals
-        # at each line that shows a builder, what it holds after none of its calls, after one, and so on
+        # at each line that shows a builder, what it holds after none of its calls, after one, and so on; the list is
+        # as good at any other line, where it is not read
         self.held, self.firsts, states = {}, set(), []
         for place, (name, value) in enumerate(map(parted, ample)):
             if name == "before" and states[-1:] != [value]:
@@ -86,11 +87,11 @@ class Judge:
                 self.firsts.add(place)
             elif name == "after":
                 states.append(value)
-            if name in ("before", "after"):
-                self.held[place] = states
+            self.held[place] = states
 
     def faults(self, lines, seen):
         """What is wrong with the lines. Adds to `seen` each call that is refused."""
+        # `accepted` is counted anew from the first line that shows a builder
         refused, accepted = False, 0
         for place, (line, good) in enumerate(zip(lines, self.ample)):
             (name, value), (wanted, whole), same = parted(line), parted(good), line == good
@@ -107,72 +108,13 @@ class Judge:
                 accepted = 0 if place in self.firsts else accepted
                 good = f"{name}: {self.held[place][accepted]}"
                 well = line == good
-            elif name == "left":
-                well = same or refused and begins(value, whole)
-            elif name == "count":
-                well = same or refused and int(value) <= int(whole)
+            elif name == "filled" and refused:
+                well = value == "[]"
+            elif name == "left" and refused:
+                well = begins(value, whole)
+            elif name == "count" and refused:
+                well = int(value) <= int(whole)
             else:
-                well = same or name == "filled" and refused and value == "[]"
+                well = same
             if not well:
                 yield apart(line, good)
-
-
-# Lines of a group with all memory. Then what a run writes otherwise, by place, and how many faults that has.
-AMPLE = [
-    "a: Ok(1)",
-    "count: 2",
-    "before: []",
-    "b: Ok(())",
-    "after: [1]",
-    "before: [1]",
-    "b: Ok(())",
-    "after: [1, 2]",
-    "c: Ok(())",
-    'left: [Add(1, "],"), 23]',
-    "left: B { inner: A { base: [2, 3], at: (0, 1), count: 2 }, more: [[]] }",
-    "d: Ok(3)",
-    "input: 7",
-]
-JUDGED = [
-    ({}, 0),
-    ({0: "a: Err(Memory)", 1: "count: 1"}, 0),
-    ({0: "a: Err(Memory)", 1: "count: 3"}, 1),
-    ({0: "a: Err(AllocError)"}, 1),
-    ({1: "count: 1"}, 1),
-    ({3: "b: Err(Memory)", 4: "after: []", 5: "before: []", 7: "after: [1]"}, 0),
-    ({6: "b: Err(Memory)", 7: "after: [1]"}, 0),
-    ({3: "b: Err(Memory)"}, 3),
-    ({6: "b: Err(Memory)"}, 1),
-    ({8: "c: Err(Memory)", 9: "left: []"}, 0),
-    ({8: "c: Err(Memory)", 9: 'left: [Add(1, "],")]'}, 0),
-    ({8: "c: Err(Memory)", 9: 'left: [Add(1, "],"), 2]'}, 1),
-    ({8: "c: Err(Memory)", 9: "left: [Add(1)]"}, 1),
-    ({8: "c: Err(Memory)", 9: "left: ["}, 1),
-    ({8: "c: Err(Memory)", 9: "left: [23]"}, 1),
-    ({8: "c: Err(Memory)", 10: "left: B { inner: A { base: [2], at: (0, 1), count: 2 }, more: [] }"}, 0),
-    ({8: "c: Err(Memory)", 10: "left: B { inner: A { base: [2], at: (0, 1), count: 1 }, more: [] }"}, 0),
-    ({8: "c: Err(Memory)", 10: "left: B { inner: A { base: [2], at: (0, 1), count: 3 }, more: [] }"}, 1),
-    ({8: "c: Err(Memory)", 10: "left: B { inner: A { base: [3], at: (0, 1), count: 2 }, more: [] }"}, 1),
-    ({8: "c: Err(Memory)", 10: "left: B { inner: A { base: [2], at: (0), count: 2 }, more: [] }"}, 1),
-    ({8: "c: Err(Memory)", 10: "left: B { inner: A { base: [2, 3], at: (0, 2), count: 2 }, more: [] }"}, 1),
-    ({8: "c: Err(Memory)", 10: "left: B { inner: C { base: [2], at: (0, 1), count: 2 }, more: [] }"}, 1),
-    ({8: "c: Err(Memory)", 10: "left: B { inner: A { base: [2], at: (0, 1), count: 2 } }"}, 1),
-    ({10: "left: B { inner: A { base: [2], at: (0, 1), count: 2 }, more: [] }"}, 1),
-    ({9: 'left: [Add(1, "],")]'}, 1),
-    ({11: "d: Err(Memory)"}, 1),
-    ({11: "d: no input"}, 1),
-    ({12: "input: 8"}, 1),
-    ({11: "e: Ok(3)"}, 1),
-]
-
-
-def judge_itself():
-    """Whether the judge finds as many faults in lines as there are."""
-    refusals = {"a": "Err(Memory)", "b": "Err(Memory)", "c": "Err(Memory)", "d": NEVER}
-    judge, wrong = Judge(AMPLE, refusals), []
-    for changes, wanted in JUDGED:
-        found = list(judge.faults([changes.get(place, line) for place, line in enumerate(AMPLE)], []))
-        wrong += [] if len(found) == wanted else [f"{changes}: {found}, and not {wanted} faults"]
-    print(*wrong, sep="\n", end="\n" if wrong else "")
-    print(f"the judge: {len(JUDGED) - len(wrong)} of {len(JUDGED)} runs judged as they have to be")
-    return 1 if wrong else 0

@@ -157,6 +157,14 @@ def column_faults(empty, named, width, before):
 KINDS = {"lookups": lookups, "declarations": declarations}
 
 
+def is_written(text, value):
+    """Whether a text of JSON says this value. By texts, since a number equals one that is not whole, or true."""
+    try:
+        return json.dumps(json.loads(text), sort_keys=True) == json.dumps(value, sort_keys=True)
+    except ValueError:
+        return False
+
+
 def text_fault(kind, text, line):
     """What is wrong with the answer to a text."""
     try:
@@ -168,5 +176,5 @@ def text_fault(kind, text, line):
         if malformed:
             well = said == "malformed" and value.startswith(malformed)
         else:
-            well = said == "read" and json.loads(value) == read
+            well = said == "read" and is_written(value, read)
     return None if well else f"{kind}: {text[:200]!r}: {line[:200]}"

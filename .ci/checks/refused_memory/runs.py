@@ -7,6 +7,7 @@ import tempfile
 from kit import kit
 
 HERE = os.path.dirname(os.path.realpath(__file__))
+# Any time that no run comes near.
 SECONDS = 120
 
 # A run of a program: its status, how many requests for memory it made, how many of them were refused, the blocks that
@@ -27,7 +28,8 @@ def made_shim(folder):
 
 
 def swept(shim, program, words, given=b"", later=False, last=None):
-    """The runs of a program: with all memory, and then with each request refused in turn, up to the number `last`."""
+    """The runs of a program: with all memory, and then with each request refused in turn, up to the number `last`.
+    Where that is 0 nothing is refused, whatever `later` is."""
     with (
         tempfile.TemporaryFile() as report,
         tempfile.TemporaryFile() as output,
@@ -40,6 +42,7 @@ def swept(shim, program, words, given=b"", later=False, last=None):
         env.update({} if last is None else {"REFUSE_LAST": str(last)})
         streams = {"stdin": entered, "stdout": output, "stderr": errors, "pass_fds": [report.fileno()]}
         ran = subprocess.run([program, *words], check=False, env=env, timeout=SECONDS, **streams)
+        # to say why: there is no report then, so no run either
         if ran.returncode:
             raise RuntimeError(f"{program} {words}: the shim ended with status {ran.returncode}")
         files = []
@@ -57,8 +60,3 @@ def runs_of(report, output, errors):
         status = os.waitstatus_to_exitcode(status)
         yield Ran(status, *numbers, output[ends[0] : output_end], errors[ends[1] : errors_end])
         ends = (output_end, errors_end)
-
-
-def unfreed(ran):
-    """What a run did not free."""
-    return [f"{ran.live} blocks are not freed"] if ran.live else []

@@ -2,10 +2,10 @@
 ghost use Rattle.std.specs.Prelude.{◌≡◌, OnOk};
 ghost use Rattle.lookup_record.specs.RecordedAir.{recorded_air};
 
-use crate::inputs::{Recorder, alone, cell};
+use crate::inputs::{Recorder, alone, cell, ext_cell};
 use air::{
-    Air, AirBuilder, AirError, BaseAir, ExtLeaf, ExtensionBuilder, SymbolicExpression,
-    SymbolicExpressionExt, current_cell, current_cells,
+    Air, AirBuilder, AirError, BaseAir, ExtensionBuilder, SymbolicExpression, current_cell,
+    current_cells,
 };
 use field::Field;
 use lookup::{
@@ -70,10 +70,7 @@ pub fn make_push<F: Field>(
 {
     match push {
         Push::AssertZero => builder.assert_zero(alloc, cell(0)),
-        Push::AssertZeroExt => {
-            let cell = SymbolicExpressionExt::Leaf(ExtLeaf::Base(cell(0)));
-            builder.assert_zero_ext(alloc, cell)
-        }
+        Push::AssertZeroExt => builder.assert_zero_ext(alloc, ext_cell()),
         Push::LocalInteraction => push_local(alloc, builder),
         Push::ExclusiveInteraction => push_group(alloc, builder),
         Push::Interaction => {
@@ -109,7 +106,7 @@ fn push_group<F: Field>(alloc: Global, builder: &mut Recorder<F>) -> Result<(), 
     builder.push_exclusive_interaction(alloc, "other", branches)
 }
 
-/// A call of a bus, or an assertion on the first row. The other two filters differ from it in their condition alone,
+/// A call of a bus, or of the filter of the first row. The other two filters differ from it in their condition alone,
 /// so they are not called.
 #[derive(Clone, Copy)]
 pub enum BusCall {
@@ -119,6 +116,8 @@ pub enum BusCall {
     Receive,
     LookupKeyExclusive,
     AssertOnFirstRow,
+    AssertExtOnFirstRow,
+    MainOnFirstRow,
 }
 
 impl BusCall {
@@ -131,12 +130,14 @@ impl BusCall {
             BusCall::Receive => "receive",
             BusCall::LookupKeyExclusive => "lookup_key_exclusive",
             BusCall::AssertOnFirstRow => "assert_zero on the first row",
+            BusCall::AssertExtOnFirstRow => "assert_zero_ext on the first row",
+            BusCall::MainOnFirstRow => "main on the first row",
         }
     }
 }
 
 /// Makes this call on cells.
-pub fn call_bus<AB: InteractionBuilder>(
+pub fn call_bus<AB: InteractionBuilder + ExtensionBuilder>(
     alloc: Global,
     builder: &mut AB,
     call: BusCall,
@@ -154,6 +155,14 @@ pub fn call_bus<AB: InteractionBuilder>(
             keys.lookup_key_exclusive(alloc, builder, branches)
         }
         BusCall::AssertOnFirstRow => builder.when_first_row().assert_zero(alloc, cell),
+        BusCall::AssertExtOnFirstRow => {
+            let cell = AB::lift(cell);
+            builder.when_first_row().assert_zero_ext(alloc, cell)
+        }
+        BusCall::MainOnFirstRow => {
+            builder.when_first_row().main(alloc)?;
+            Ok(())
+        }
     }
 }
 

@@ -179,7 +179,7 @@ pub fn batch(alloc: Global, out: &mut Out) {
     }
 }
 
-/// The check of the witness of one AIR with one lookup.
+/// All calls over the batch of one AIR with one lookup.
 pub fn check_alone(
     alloc: Global,
     out: &mut Out,
@@ -187,7 +187,9 @@ pub fn check_alone(
     main: &RowMajorMatrix<F7>,
 ) {
     let instances = [instance(lookups, main, &[0])];
+    on_ids(alloc, out, instances.as_slice());
     if let Some(table) = table(alloc, out, 5) {
+        on_table(alloc, out, instances.as_slice(), &table);
         on_witness(alloc, out, instances.as_slice(), &table);
     }
 }

@@ -1,9 +1,12 @@
 //! Calls of AIR builders, and what they leave of a builder.
 use crate::airs::{BusCall, PUSHES, Push, Zeros, call_bus, make_push};
-use crate::inputs::{Recorder, layout};
+use crate::inputs::{Recorder, cell, ext_cell, layout};
 use crate::over::{Call, over_recorder};
 use crate::show::{Out, input, show};
-use air::{Air, AirBuilder, current_cell, current_cells, next_cell};
+use air::{
+    Air, AirBuilder, ExtensionBuilder, PermutationAirBuilder, SymbolicAirBuilder, current_cell,
+    current_cells, next_cell,
+};
 use field::{F7, Field};
 use lookup::InteractionBuilder;
 use std::alloc::Global;
@@ -36,8 +39,33 @@ fn push_five_times<F: Field + Debug>(alloc: Global, out: &mut Out, push: Push) {
     }
 }
 
+/// The windows of a builder that records assertions alone, and five assertions over the field or over the extension, as
+/// [`push_five_times`] makes its pushes.
+fn assert_five_times<F: Field + Debug>(alloc: Global, out: &mut Out, is_ext: bool) {
+    if let Some(mut builder) = input(out, SymbolicAirBuilder::<F, F>::new(alloc, layout())) {
+        show(out, "main of SymbolicAirBuilder", builder.main(alloc));
+        show(
+            out,
+            "permutation of SymbolicAirBuilder",
+            builder.permutation(alloc),
+        );
+        for _ in 0..5 {
+            show(out, "before", &builder);
+            if is_ext {
+                let answer = builder.assert_zero_ext(alloc, ext_cell());
+                show(out, "assert_zero_ext of SymbolicAirBuilder", answer);
+            } else {
+                let answer = builder.assert_zero(alloc, cell(0));
+                show(out, "assert_zero of SymbolicAirBuilder", answer);
+            }
+            show(out, "after", &builder);
+        }
+        drop(builder);
+    }
+}
+
 /// Makes this call five times, as [`push_five_times`] does.
-pub fn call_five_times<AB: InteractionBuilder + Debug>(
+pub fn call_five_times<AB: InteractionBuilder + ExtensionBuilder + Debug>(
     alloc: Global,
     out: &mut Out,
     builder: &mut AB,
@@ -51,16 +79,18 @@ pub fn call_five_times<AB: InteractionBuilder + Debug>(
     }
 }
 
-/// All pushes, each to a recorder of its own.
+/// All pushes and assertions, each on a builder of its own.
 pub fn pushes<F: Field + Debug>(alloc: Global, out: &mut Out) {
     for push in &PUSHES {
         push_five_times::<F>(alloc, out, *push);
     }
+    assert_five_times::<F>(alloc, out, false);
+    assert_five_times::<F>(alloc, out, true);
 }
 
 /// The calls over a builder. Those on cells stand here twice, since each call is made twice; one of a bus is made five
 /// times anyway.
-const CALLS: [Call; 8] = [
+const CALLS: [Call; 10] = [
     Call::Cells,
     Call::Cells,
     Call::Bus(BusCall::TableEntry),
@@ -69,6 +99,8 @@ const CALLS: [Call; 8] = [
     Call::Bus(BusCall::Receive),
     Call::Bus(BusCall::LookupKeyExclusive),
     Call::Bus(BusCall::AssertOnFirstRow),
+    Call::Bus(BusCall::AssertExtOnFirstRow),
+    Call::Bus(BusCall::MainOnFirstRow),
 ];
 
 /// All calls over a builder, each on one of its own.

@@ -1,4 +1,4 @@
-//! Deep expressions: the calls on an expression of a given form and depth, or on a lookup of it.
+//! Deep expressions: the calls on an expression of a given form and depth, or on lookups of it.
 //!
 //! An expression is the constant 3 under layers of one form: a negation, or a sum, difference or product
 //! whose other operand, on the left or on the right, is a constant that changes nothing.
@@ -6,6 +6,7 @@ use crate::batches::{check_alone, show_mismatch};
 use crate::generations::show_generated;
 use crate::inputs::{BALANCED, alone, trace};
 use crate::over::{Call, over_recorder};
+use crate::sets::{pack_lookups, show_degrees};
 use crate::show::{Out, input, show};
 use crate::texts::written;
 use crate::trees;
@@ -38,19 +39,41 @@ fn chain<E: Expression<F7>>(alloc: Global, form: &str, depth: usize) -> Result<E
     Ok(tree)
 }
 
-/// The list of one local lookup of this expression, once on each row.
-fn lookup_of(alloc: Global, tree: SymbolicExpression<F7>) -> Result<Vec<Lookup<F7>>, AllocError> {
+/// A lookup of this expression, once on each row.
+fn lookup_of(
+    alloc: Global,
+    kind: Kind,
+    column: usize,
+    tree: SymbolicExpression<F7>,
+) -> Result<Lookup<F7>, AllocError> {
     let elements = alone(alloc, alone(alloc, tree)?)?;
     let once = SymbolicExpression::constant(F7::new(1));
-    let lookup = Lookup {
-        kind: Kind::Local,
+    Ok(Lookup {
+        kind,
         elements,
         multiplicities: alone(alloc, once)?,
         count_weight: 1,
-        column: 0,
+        column,
         flags: None,
-    };
-    alone(alloc, lookup)
+    })
+}
+
+/// One local lookup of this expression.
+fn one_of(alloc: Global, tree: SymbolicExpression<F7>) -> Result<Vec<Lookup<F7>>, AllocError> {
+    alone(alloc, lookup_of(alloc, Kind::Local, 0, tree)?)
+}
+
+/// Two lookups on a bus: of this expression, and of 1.
+fn two_of(alloc: Global, tree: SymbolicExpression<F7>) -> Result<Vec<Lookup<F7>>, AllocError> {
+    let (kind, other) = (bus(alloc)?, bus(alloc)?);
+    let mut lookups = alone(alloc, lookup_of(alloc, kind, 0, tree)?)?;
+    let one = SymbolicExpression::constant(F7::new(1));
+    lookups.push(lookup_of(alloc, other, 1, one)?)?;
+    Ok(lookups)
+}
+
+fn bus(alloc: Global) -> Result<Kind, AllocError> {
+    Ok(Kind::Global(String::from_str(alloc, "keys")?))
 }
 
 /// Calls on an expression.
@@ -62,8 +85,11 @@ fn on_tree(alloc: Global, out: &mut Out, tree: SymbolicExpression<F7>) {
     }
 }
 
-/// Calls on lookups over a trace.
+/// Calls on lookups, also over a trace.
 fn on_lookups(alloc: Global, out: &mut Out, lookups: &[Lookup<F7>]) {
+    for lookup in lookups {
+        show_degrees(out, lookup);
+    }
     if let Some(main) = trace(alloc, out, &BALANCED, 3) {
         let challenges = [F7::new(5), F7::new(2)];
         show_generated(alloc, out, &main, lookups, challenges.as_slice());
@@ -80,13 +106,18 @@ fn on_ext_tree(alloc: Global, out: &mut Out, form: &str, depth: usize) {
     }
 }
 
-/// Calls on an expression over the field, or on the lookup of one.
+/// Calls on an expression over the field, or on lookups of one.
 fn on_base(alloc: Global, out: &mut Out, kind: &str, tree: SymbolicExpression<F7>) {
     match kind {
         "expression" => on_tree(alloc, out, tree),
         "lookup" => {
-            if let Some(lookups) = input(out, lookup_of(alloc, tree)) {
+            if let Some(lookups) = input(out, one_of(alloc, tree)) {
                 on_lookups(alloc, out, lookups.as_slice());
+            }
+        }
+        "two lookups" => {
+            if let Some(lookups) = input(out, two_of(alloc, tree)) {
+                pack_lookups(alloc, out, lookups);
             }
         }
         _ => out.close(),

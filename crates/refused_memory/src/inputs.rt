@@ -3,7 +3,10 @@ ghost use Rattle.std.specs.Prelude.{◌≡◌};
 ghost use Rattle.refused_memory.specs.Layout.{swept_layout};
 
 use crate::show::{Out, input};
-use air::{AirLayout, BaseEntry, BaseLeaf, SymbolicExpression, SymbolicVariable};
+use air::{
+    AirLayout, BaseEntry, BaseLeaf, ExtLeaf, SymbolicExpression, SymbolicExpressionExt,
+    SymbolicVariable,
+};
 use field::{F7, PrimeCharacteristicRing};
 use lookup::{Challenges, InteractionSymbolicBuilder, Lookup};
 use matrix::RowMajorMatrix;
@@ -67,6 +70,11 @@ pub fn cell<F>(index: usize) -> SymbolicExpression<F> {
         BaseEntry::Main { offset: 0 },
         index,
     )))
+}
+
+/// The first cell, as an expression over the extension.
+pub fn ext_cell<F>() -> SymbolicExpressionExt<F, F> {
+    SymbolicExpressionExt::Leaf(ExtLeaf::Base(cell(0)))
 }
 
 /// A list of one value.

@@ -34,17 +34,30 @@ fn make_sets(alloc: Global, out: &mut Out) {
     show(out, "Lookups::from_air", answer);
 }
 
+/// The degrees of a lookup.
+pub fn show_degrees(out: &mut Out, lookup: &Lookup<F7>) {
+    if has_equal_lengths(lookup) {
+        let gadget = LogUpGadget::new();
+        show(out, "constraint_degree", gadget.constraint_degree(lookup));
+        let degree = gadget.constraint_degree_with_transition(lookup, 2);
+        show(out, "constraint_degree_with_transition", degree);
+    }
+}
+
 /// Calls on a lookup.
 fn on_lookup(alloc: Global, out: &mut Out, lookup: &Lookup<F7>) {
     show(out, "copy of a lookup", lookup.copy(alloc));
     show(out, "copy of a kind", lookup.kind.copy(alloc));
     let answer = assert_uniform_tuple_width(alloc, lookup.elements.as_slice(), "context");
     show(out, "assert_uniform_tuple_width", answer);
-    if has_equal_lengths(lookup) {
-        let gadget = LogUpGadget::new();
-        show(out, "constraint_degree", gadget.constraint_degree(lookup));
-        let degree = gadget.constraint_degree_with_transition(lookup, 2);
-        show(out, "constraint_degree_with_transition", degree);
+    show_degrees(out, lookup);
+}
+
+/// Packs lookups by the gadget's degree, and shows how many there are then.
+pub fn pack_lookups(alloc: Global, out: &mut Out, lookups: Vec<Lookup<F7>>) {
+    if let Some(set) = input(out, Lookups::from_records(alloc, lookups)) {
+        let answer = set.pack_same_bus(alloc, &LogUpGadget::new(), 16);
+        show(out, "pack_same_bus", answer.map(|set| set.as_slice().len()));
     }
 }
 
