@@ -10,6 +10,7 @@ use Rattle.air.specs.Traces.{AirTraces, air_traces}
 use Rattle.batch.specs.Tables.{made_table}
 use Rattle.batch.specs.Traces.{shown_of}
 use Rattle.batch.specs.declared.grid.GridCount.{GridCount}
+use Rattle.batch.specs.declared.heights.HeightSoundness.{HeightSoundness}
 use Rattle.batch.specs.declared.trace.BatchTrace.{BatchTrace}
 use Rattle.lookup_debug.specs.Contributions.{Traced}
 use Rattle.lookup_model.specs.declared.count.SoundnessCount.{SoundnessCount}
@@ -36,6 +37,7 @@ use Rattle.lookup_c.specs.Degrees.{IsDegreeRefusal}
 use Rattle.lookup_c.specs.Debugging.{AreTableSets, ChecksTables, ChecksTraced, IsCheckRefusal, IsDebugCallRefusal, IsTableSetsRefusal, all_traced}
 use Rattle.lookup_c.specs.Generated.{AreNumbersOf, IsNotGiven, LacksRoom, ShowsGenerated}
 use Rattle.lookup_c.specs.Generation.{Generates, GeneratesOver, IsGenerationRefusal, IsLookupsRefusal}
+use Rattle.lookup_c.specs.Heights.{CountsByHeightsOf, IsHeightCallRefusal, IsHeightCount, IsHeightRefusal}
 use Rattle.lookup_c.specs.Identified.{GeneratesByIds, IsByIdsRefusal, challenges_by_ids}
 use Rattle.lookup_c.specs.Inputs.{IsTracesRefusal, said_traces, shown_traces}
 use Rattle.lookup_c.specs.Proving.{IsProveRefusal, IsProvedBy, IsProvingRefusal, ProvesTables}
@@ -196,6 +198,14 @@ module _ (E : Extension BabyBear (Quartic BabyBear)) (airs : List Air) (traces :
       MatchResult-weaker answer over
       (λ count counts. record { plan = plan; plan_is = plan_is; traces_below = traces_below; given = given; shown = shown; counts = counts })
       (λ fault refusal. inr (inr (inr (record { plan = plan; plan_is = plan_is; given = given; shown = shown; refusal = refusal }))))
+
+-- and one by heights
+pub heights_tables : (E : Extension BabyBear (Quartic BabyBear)) (airs : List Air) (plan : Planned) → IsPlanOf airs plan → (answer : Result HeightSoundness Fault) → MatchResult answer (IsHeightCount E plan) (IsHeightRefusal plan)
+    → MatchResult answer (CountsByHeightsOf E airs) (IsHeightCallRefusal airs)
+heights_tables E airs plan plan_is answer over =
+    MatchResult-weaker answer over
+    (λ count counts. record { plan = plan; plan_is = plan_is; counts = counts })
+    (λ fault refusal. inr (plan, plan_is, refusal))
 
 -- a debug check
 pub checks_tables : (R : Ring BabyBear) (eq : BabyBear → BabyBear → Bool) (text : BabyBear → List ℕ) (airs : List Tables) (traces : List Traces) (sets : List (Lookups BabyBear)) (all : List ReadTraces) (ts : List (Traced BabyBear))

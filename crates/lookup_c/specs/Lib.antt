@@ -4,6 +4,7 @@ pub mod Debugging
 pub mod Degrees
 pub mod Generated
 pub mod Generation
+pub mod Heights
 pub mod Identified
 pub mod Inputs
 pub mod Outputs

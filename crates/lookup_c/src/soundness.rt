@@ -2,7 +2,7 @@
 ghost use Rattle.std.specs.Prelude.{◌≡◌, ◌≢◌, MatchResult};
 ghost use Rattle.lookup_c.specs.Batches.{planned};
 ghost use Rattle.lookup_c.specs.Refusals.{IsRefusal, placed};
-ghost use Rattle.lookup_c.specs.Soundness.{CountsMessages, CountsMessagesOf, IsCountCallRefusal, IsMessageCount, IsMessageRefusal, ShowsCounts};
+ghost use Rattle.lookup_c.specs.Soundness.{CountsMessages, CountsMessagesOf, IsCountCallRefusal, IsLinearBound, IsMessageCount, IsMessageRefusal, ShowsCounts};
 ghost use Rattle.lookup_c.specs.declared.fault.Fault.{Fault};
 
 use crate::airs::{Air, all_traces, plan_of, plan_traces};
@@ -29,6 +29,15 @@ pub struct Counts {
     pub bounded: u32,
     /// The bound of accepting alphas at every other beta, 0 if there is none.
     pub accepting_alphas: Wide,
+    /// The bound of bad betas that is linear in the messages that do not balance.
+    pub linear_bad_betas: Wide,
+}
+
+/// The linear bound of bad betas.
+fn linear_bound(count: &SoundnessCount) -> Wide
+    ensures { IsLinearBound count.now result }
+{
+    halves(count.linear_bad_betas())
 }
 
 /// Counts as C sees them.
@@ -38,6 +47,7 @@ fn shown_counts(count: &SoundnessCount) -> Counts
     let messages = halves(count.messages);
     let unbalanced = halves(count.unbalanced);
     let bad_betas = halves(count.bad_betas);
+    let linear_bad_betas = linear_bound(count);
     match count.accepting_alphas {
         Some(most) => Counts {
             messages,
@@ -45,6 +55,7 @@ fn shown_counts(count: &SoundnessCount) -> Counts
             bad_betas,
             bounded: 1,
             accepting_alphas: halves(most),
+            linear_bad_betas,
         },
         None => Counts {
             messages,
@@ -52,6 +63,7 @@ fn shown_counts(count: &SoundnessCount) -> Counts
             bad_betas,
             bounded: 0,
             accepting_alphas: halves(0),
+            linear_bad_betas,
         },
     }
 }
