@@ -47,7 +47,8 @@ static void check_sizes(void)
     SIZE(air_witness, 48);
     SIZE(plan_sizes, 16);
     SIZE(wide, 16);
-    SIZE(counts, 72);
+    SIZE(counts, 88);
+    SIZE(height_counts, 56);
     SIZE(grid, 40);
 }
 
@@ -721,12 +722,13 @@ static uint32_t count_messages(struct bus *it, struct volgwain_counts *counts)
 }
 
 static int are_counts(const struct volgwain_counts *it, uint64_t messages, uint64_t unbalanced,
-    uint64_t bad_betas, uint32_t bounded, uint64_t accepting_alphas)
+    uint64_t bad_betas, uint32_t bounded, uint64_t accepting_alphas, uint64_t linear_bad_betas)
 {
     return it->messages.low == messages && it->messages.high == 0 && it->unbalanced.low == unbalanced
         && it->unbalanced.high == 0 && it->bad_betas.low == bad_betas && it->bad_betas.high == 0
         && it->bounded == bounded && it->accepting_alphas.low == accepting_alphas
-        && it->accepting_alphas.high == 0;
+        && it->accepting_alphas.high == 0 && it->linear_bad_betas.low == linear_bad_betas
+        && it->linear_bad_betas.high == 0;
 }
 
 static void check_message_counts(void)
@@ -736,11 +738,18 @@ static void check_message_counts(void)
     memset(&counts, 9, sizeof counts);
     make_bus(&it);
     /* the messages 3 and 4, which both balance */
-    check(count_messages(&it, &counts) == VOLGWAIN_OK && are_counts(&counts, 2, 0, 0, 0, 0),
+    check(count_messages(&it, &counts) == VOLGWAIN_OK && are_counts(&counts, 2, 0, 0, 0, 0, 0),
         "the messages of a batch that balances");
+    it.keys[0] = 5;
+    it.keys[1] = 6;
+    /* 3, 4, 5 and 6, of which 3 is provided twice too often, and 5 and 6 never: three pairs, and two others
+       beside each; 4 + 3 - 1 alphas */
+    check(count_messages(&it, &counts) == VOLGWAIN_OK && are_counts(&counts, 4, 3, 3, 1, 6, 2),
+        "three messages that do not balance");
+    it.keys[0] = 3;
     it.keys[1] = 5;
     /* 3, 4 and 5, of which 3 is provided once too often and 5 never */
-    check(count_messages(&it, &counts) == VOLGWAIN_OK && are_counts(&counts, 3, 2, 1, 1, 4),
+    check(count_messages(&it, &counts) == VOLGWAIN_OK && are_counts(&counts, 3, 2, 1, 1, 4, 1),
         "the messages of a batch that does not balance");
     it.provides[0].exclusive = 1;
     it.provides[0].flags.start = 2;
@@ -760,7 +769,98 @@ static void check_message_counts(void)
         "a key past the modulus");
     it.asks[0].kind = 2;
     check(count_messages(&it, &counts) == VOLGWAIN_BAD_TABLE && it.refusal.part == 4, "no kind of bus");
-    check(are_counts(&counts, 3, 2, 1, 1, 4), "refused counts are kept");
+    check(are_counts(&counts, 3, 2, 1, 1, 4, 1), "refused counts are kept");
+}
+
+static uint32_t count_heights(struct bus *it, struct volgwain_height_counts *counts)
+{
+    return volgwain_soundness_of_heights(it->airs, 2, counts, &it->refusal, it->text, sizeof it->text);
+}
+
+static int are_height_counts(const struct volgwain_height_counts *it, uint64_t most_messages,
+    uint64_t bad_betas, uint32_t bounded, uint64_t accepting_alphas)
+{
+    return it->most_messages.low == most_messages && it->most_messages.high == 0
+        && it->bad_betas.low == bad_betas && it->bad_betas.high == 0 && it->bounded == bounded
+        && it->accepting_alphas.low == accepting_alphas && it->accepting_alphas.high == 0;
+}
+
+static void check_height_counts(void)
+{
+    struct bus it;
+    struct volgwain_height_counts counts;
+    struct volgwain_span two[2] = {{0, 1}, {4, 5}};
+    memset(&counts, 9, sizeof counts);
+    make_bus(&it);
+    /* M = 2 * 1 + 2 * 1, M - 1 and 2 * M - 1 */
+    check(count_heights(&it, &counts) == VOLGWAIN_OK && are_height_counts(&counts, 4, 3, 1, 7),
+        "a tuple on each row");
+    it.airs[0].tables.tuples = two;
+    it.airs[0].tables.tuples_length = 2;
+    it.asks[0].tuples.end = 2;
+    it.asks[0].multiplicities.end = 3;
+    it.airs[0].height = 3;
+    it.airs[1].height = 1;
+    /* M = 3 * 2 + 1 * 1 */
+    check(count_heights(&it, &counts) == VOLGWAIN_OK && are_height_counts(&counts, 7, 6, 1, 13),
+        "two tuples on each row, and an AIR of one row");
+    it.asks[0].exclusive = 1;
+    it.asks[0].flags = it.asks[0].multiplicities;
+    /* M = 3 * 1 + 1 * 1 */
+    check(count_heights(&it, &counts) == VOLGWAIN_OK && are_height_counts(&counts, 4, 3, 1, 7),
+        "of two tuples with flags one on each row");
+    two[0].end = 2;
+    two[1].start = 1;
+    two[1].end = 3;
+    it.tuples[0].end = 2;
+    /* 2 * (M - 1) */
+    check(count_heights(&it, &counts) == VOLGWAIN_OK && are_height_counts(&counts, 4, 6, 1, 7),
+        "tuples of two elements");
+    if (sizeof(size_t) == 8) {
+        /* M = 3 + 2^64 - 1, so 2^64 + 2; 2 * M - 2 and 2 * M - 1 */
+        it.airs[1].height = SIZE_MAX;
+        check(count_heights(&it, &counts) == VOLGWAIN_OK && counts.most_messages.low == 2
+                && counts.most_messages.high == 1 && counts.bad_betas.low == 2
+                && counts.bad_betas.high == 2 && counts.bounded == 1 && counts.accepting_alphas.low == 3
+                && counts.accepting_alphas.high == 2,
+            "the greatest height");
+    }
+    it.airs[0].height = 0;
+    it.airs[1].height = 0;
+    check(count_heights(&it, &counts) == VOLGWAIN_OK && are_height_counts(&counts, 0, 0, 0, 0),
+        "no rows, no messages");
+}
+
+static void check_refused_heights(void)
+{
+    struct bus it;
+    struct volgwain_height_counts counts;
+    struct volgwain_span two[2] = {{0, 1}, {0, 2}};
+    make_bus(&it);
+    count_heights(&it, &counts);
+    it.airs[0].height = VOLGWAIN_MODULUS;
+    check(count_heights(&it, &counts) == VOLGWAIN_HEIGHT_BOUND, "a height of the modulus");
+    it.airs[0].tables.tuples = two;
+    it.airs[0].tables.tuples_length = 2;
+    it.asks[0].kind = 0;
+    it.asks[0].tuples.end = 2;
+    it.asks[0].multiplicities.end = 3;
+    check(count_heights(&it, &counts) == VOLGWAIN_TUPLE_WIDTHS && it.refusal.expected == 1
+            && it.refusal.actual == 2,
+        "two widths in a local lookup");
+    it.asks[0].kind = 1;
+    check(count_heights(&it, &counts) == VOLGWAIN_BUS_WIDTHS && it.refusal.expected == 1
+            && it.refusal.actual == 2,
+        "two widths on a bus");
+    it.provides[0].multiplicities.end = it.provides[0].multiplicities.start;
+    check(count_heights(&it, &counts) == VOLGWAIN_MALFORMED_LOOKUP && it.refusal.air == 1
+            && it.refusal.lookup == 0,
+        "no multiplicity");
+    it.asks[0].exclusive = 2;
+    check(count_heights(&it, &counts) == VOLGWAIN_BAD_TABLE && it.refusal.part == 4
+            && it.refusal.air == 0,
+        "flags or none");
+    check(are_height_counts(&counts, 4, 3, 1, 7), "refused counts of heights are kept");
 }
 
 /* ---- packing: a local lookup, and the keys of three columns on one bus ---- */
@@ -1226,6 +1326,18 @@ static uint32_t try_soundness_count(void)
     return code;
 }
 
+static uint32_t try_soundness_of_heights(void)
+{
+    struct bus it;
+    struct volgwain_height_counts counts;
+    uint32_t code;
+    memset(&counts, 0, sizeof counts);
+    make_bus(&it);
+    code = count_heights(&it, &counts);
+    check(counts.most_messages.low == (code == VOLGWAIN_OK ? 4 : 0), "counts by heights without memory");
+    return code;
+}
+
 static uint32_t try_pack(void)
 {
     struct pack it;
@@ -1382,11 +1494,13 @@ static uint32_t go_deep(struct volgwain_refusal *refusal)
     struct volgwain_span packed_tuples[2] = {{0, 0}, {0, 0}};
     struct volgwain_record packed_records[2];
     struct volgwain_counts counts;
+    struct volgwain_height_counts height_counts;
     struct volgwain_grid grid;
     size_t id[1] = {0}, degree[1] = {0};
     char text[1] = "";
     uint32_t code;
     memset(&counts, 0, sizeof counts);
+    memset(&height_counts, 0, sizeof height_counts);
     memset(&grid, 0, sizeof grid);
     memset(packed_records, 0, sizeof packed_records);
     memset(packed_name, 0, sizeof packed_name);
@@ -1419,6 +1533,9 @@ static uint32_t go_deep(struct volgwain_refusal *refusal)
     if (code != VOLGWAIN_OK)
         return code;
     code = volgwain_soundness_count(&air, 1, &traces, 1, &counts, refusal, text, 0);
+    if (code != VOLGWAIN_OK)
+        return code;
+    code = volgwain_soundness_of_heights(&air, 1, &height_counts, refusal, text, 0);
     if (code != VOLGWAIN_OK)
         return code;
     code = volgwain_grid_count(
@@ -1536,6 +1653,8 @@ int main(void)
     check_planning();
     check_counting();
     check_message_counts();
+    check_height_counts();
+    check_refused_heights();
     check_packing();
     check_json();
     check_debugging();
@@ -1548,6 +1667,7 @@ int main(void)
     check_memory("generate_by_ids", try_generate_by_ids);
     check_memory("grid_count", try_count);
     check_memory("soundness_count", try_soundness_count);
+    check_memory("soundness_of_heights", try_soundness_of_heights);
     check_memory("pack", try_pack);
     check_memory("read_json", try_read_json);
     check_memory("debug_check", try_debug_check);

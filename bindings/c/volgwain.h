@@ -381,23 +381,46 @@ struct volgwain_wide {
 /* The counts of a batch. messages: how many distinct messages n there are, each an id with the values of a
    tuple, those of multiplicity zero too. unbalanced: how many k of them do not balance. bad_betas:
    W * k * (k - 1) / 2, where W is the width of the plan. bounded is 0 if all messages balance, and otherwise
-   1; then accepting_alphas is n + k - 1. */
+   1; then accepting_alphas is n + k - 1. linear_bad_betas: W * (k - 1), or 0 if all messages balance; it is
+   never above bad_betas. */
 struct volgwain_counts {
     struct volgwain_wide messages;
     struct volgwain_wide unbalanced;
     struct volgwain_wide bad_betas;
     uint32_t bounded;
     struct volgwain_wide accepting_alphas;
+    struct volgwain_wide linear_bad_betas;
 };
 
-/* Counts the messages of a batch. If k is above zero, then at all betas but bad_betas at the most, some
-   witness is accepted at no more than accepting_alphas alphas, whoever makes it.
+/* Counts the messages of a batch. If k is above zero, then at all betas but linear_bad_betas at the most, some
+   witness is accepted at no more than accepting_alphas alphas, whoever makes it. bad_betas bounds the betas at
+   which two unbalanced messages have the same point; it is so at every other beta.
 
    Refuses, in this order: what volgwain_prove does up to 5 and 3 of traces, 4 of the number of traces, 16,
    9 or 10 of flags in the order AIR, row, lookup, and 23. Or 1. */
 uint32_t volgwain_soundness_count(const struct volgwain_air *airs, size_t airs_length,
     const struct volgwain_traces *traces, size_t traces_length,
     struct volgwain_counts *counts,
+    struct volgwain_refusal *refusal, char *text, size_t text_size);
+
+/* The counts of a batch by its heights. most_messages: the most messages M that there can be, the height times
+   the messages of a row, over all AIRs. A row has one message for each lookup with flags, and each tuple of
+   every other lookup. bad_betas: W * (M - 1), or 0 if M is 0, where W is the width of the plan. bounded is 0 if
+   M is 0, so that every batch balances, and otherwise 1; then accepting_alphas is 2 * M - 1. */
+struct volgwain_height_counts {
+    struct volgwain_wide most_messages;
+    struct volgwain_wide bad_betas;
+    uint32_t bounded;
+    struct volgwain_wide accepting_alphas;
+};
+
+/* Bounds the challenges of a batch before its traces are seen. Over any traces that have the heights and fit,
+   with lawful flags and some message that does not balance: at all betas but bad_betas at the most, some
+   witness is accepted at no more than accepting_alphas alphas, whoever makes it.
+
+   Refuses, in this order: 2 and 11 of an AIR, 12, 13, 14, 15 and 23. Or 1. */
+uint32_t volgwain_soundness_of_heights(const struct volgwain_air *airs, size_t airs_length,
+    struct volgwain_height_counts *counts,
     struct volgwain_refusal *refusal, char *text, size_t text_size);
 
 /* accepted: the exact number of pairs at which some witness is accepted, whoever makes it. bounded is 0 if
