@@ -32,17 +32,35 @@ pub struct GridCount {
     pub bound: Option<u128>,
 }
 
-/// How sound a batch is: all but `bad_betas` betas at most have no more than `accepting_alphas`
-/// alphas at which any witness is accepted.
+/// How sound a batch is: all but `linear_bad_betas` betas at most have no more than
+/// `accepting_alphas` alphas at which any witness is accepted.
 #[derive(Clone, Copy, Debug, PartialEq, Eq, Hash)]
 pub struct SoundnessCount {
     /// The number `n` of distinct messages.
     pub messages: u128,
     /// The number `k` of those that do not balance.
     pub unbalanced: u128,
-    /// `W * k * (k - 1) / 2`, where `W` is the greatest width of all tuples.
+    /// `W * k * (k - 1) / 2`, where `W` is the greatest width of all tuples, at least 1. At most
+    /// this many betas give two unbalanced messages the same point.
     pub bad_betas: u128,
     /// `n + k - 1`, or `None` if all messages balance.
+    pub accepting_alphas: Option<u128>,
+    /// `W * (k - 1)`, or 0 if all messages balance. Never above `bad_betas`.
+    pub linear_bad_betas: u128,
+}
+
+/// How sound a batch is by the heights of its traces, whatever these hold: with lawful flags and
+/// messages that do not balance, all but `bad_betas` betas at most have no more than
+/// `accepting_alphas` alphas at which any witness is accepted.
+#[derive(Clone, Copy, Debug, PartialEq, Eq, Hash)]
+pub struct HeightSoundness {
+    /// The most messages `M` that there can be: the height times the messages of a row, over all
+    /// AIRs. A row has one message for each lookup with flags, and each that another lookup sends.
+    pub most_messages: u128,
+    /// `W * (M - 1)`, or 0 if `M` is zero, where `W` is the greatest width of all tuples, at
+    /// least 1.
+    pub bad_betas: u128,
+    /// `2 * M - 1`, or `None` if `M` is zero, where every batch balances.
     pub accepting_alphas: Option<u128>,
 }
 
@@ -196,6 +214,16 @@ impl Batch {
     /// flags that are set.
     pub fn soundness_count(&self, traces: &[Traces<'_>]) -> Result<SoundnessCount, Error> {
         ffi::soundness_count(&self.planned(), traces)
+    }
+
+    /// Counts the most messages that there can be over traces of the batch, and bounds the
+    /// challenges at which any witness is accepted. The traces themselves are not needed.
+    ///
+    /// Refuses a number that does not fit `u128` ([`Code::CountOverflow`]).
+    ///
+    /// [`Code::CountOverflow`]: crate::Code::CountOverflow
+    pub fn soundness_of_heights(&self) -> Result<HeightSoundness, Error> {
+        ffi::soundness_of_heights(&self.planned())
     }
 
     /// Counts at how many pairs of an alpha and a beta some witness is accepted, whoever makes it.

@@ -58,7 +58,7 @@ mod traces;
 mod witness;
 
 pub use air::{Air, debug_check};
-pub use batch::{Batch, GridCount, SoundnessCount};
+pub use batch::{Batch, GridCount, HeightSoundness, SoundnessCount};
 pub use element::{Element, MODULUS};
 pub use error::{Code, Error, Part};
 pub use expr::{Expr, MOST_DEPTH, MOST_NODES};

@@ -1,8 +1,10 @@
 //! A safe function for each call of the library. The one unsafe block of each meets what the header
 //! asks for, as the module above says.
 
-use super::declared::{self, Counts, Grid, PlanSizes, Refusal, TableSizes, Terminal, Wide};
-use crate::batch::{GridCount, SoundnessCount};
+use super::declared::{
+    self, Counts, Grid, HeightCounts, PlanSizes, Refusal, TableSizes, Terminal, Wide,
+};
+use crate::batch::{GridCount, HeightSoundness, SoundnessCount};
 use crate::element::Element;
 use crate::error::Error;
 use crate::tables::{Room, Tables};
@@ -269,6 +271,32 @@ pub(crate) fn soundness_count(
     Ok(SoundnessCount {
         messages: number(counts.messages),
         unbalanced: number(counts.unbalanced),
+        bad_betas: number(counts.bad_betas),
+        accepting_alphas: (counts.bounded != 0).then(|| number(counts.accepting_alphas)),
+        linear_bad_betas: number(counts.linear_bad_betas),
+    })
+}
+
+/// Counts the most messages, and bounds the challenges that accept, by heights alone.
+pub(crate) fn soundness_of_heights(airs: &[Planned<'_>]) -> Result<HeightSoundness, Error> {
+    let airs = raw_airs(airs);
+    let mut counts = HeightCounts::default();
+    answer(|refusal, text, size| {
+        // SAFETY: the tables to which `airs` points are borrowed for the whole call, and `counts`
+        // as mutable; the length is that of the slice.
+        unsafe {
+            declared::volgwain_soundness_of_heights(
+                airs.as_ptr(),
+                airs.len(),
+                &mut counts,
+                refusal,
+                text,
+                size,
+            )
+        }
+    })?;
+    Ok(HeightSoundness {
+        most_messages: number(counts.most_messages),
         bad_betas: number(counts.bad_betas),
         accepting_alphas: (counts.bounded != 0).then(|| number(counts.accepting_alphas)),
     })

@@ -169,6 +169,17 @@ pub(super) struct Counts {
     pub(super) bad_betas: Wide,
     pub(super) bounded: u32,
     pub(super) accepting_alphas: Wide,
+    pub(super) linear_bad_betas: Wide,
+}
+
+/// The counts of a batch by its heights.
+#[derive(Clone, Copy, Default)]
+#[repr(C)]
+pub(super) struct HeightCounts {
+    pub(super) most_messages: Wide,
+    pub(super) bad_betas: Wide,
+    pub(super) bounded: u32,
+    pub(super) accepting_alphas: Wide,
 }
 
 /// The count of a grid.
@@ -300,6 +311,15 @@ unsafe extern "C" {
         traces: *const Traces,
         traces_length: usize,
         counts: *mut Counts,
+        refusal: *mut Refusal,
+        text: *mut c_char,
+        text_size: usize,
+    ) -> u32;
+
+    pub(super) fn volgwain_soundness_of_heights(
+        airs: *const Air,
+        airs_length: usize,
+        counts: *mut HeightCounts,
         refusal: *mut Refusal,
         text: *mut c_char,
         text_size: usize,

@@ -17,7 +17,7 @@ mod declared;
 
 pub(crate) use calls::{
     Planned, debug_check, degrees, generate, generate_by_ids, grid_count, pack, plan, prove,
-    read_json, soundness_count, verify,
+    read_json, soundness_count, soundness_of_heights, verify,
 };
 pub(crate) use declared::{Node, PlanSizes, Record, Refusal, Span, Terminal, kind};
 
@@ -47,7 +47,8 @@ mod tests {
         assert_eq!(layout::<AirWitness>(), (48, 8));
         assert_eq!(layout::<PlanSizes>(), (16, 8));
         assert_eq!(layout::<Wide>(), (16, 8));
-        assert_eq!(layout::<Counts>(), (72, 8));
+        assert_eq!(layout::<Counts>(), (88, 8));
+        assert_eq!(layout::<HeightCounts>(), (56, 8));
         assert_eq!(layout::<Grid>(), (40, 8));
     }
 }
