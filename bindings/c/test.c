@@ -836,6 +836,7 @@ static void check_refused_heights(void)
     struct bus it;
     struct volgwain_height_counts counts;
     struct volgwain_span two[2] = {{0, 1}, {0, 2}};
+    memset(&counts, 9, sizeof counts);
     make_bus(&it);
     count_heights(&it, &counts);
     it.airs[0].height = VOLGWAIN_MODULUS;
