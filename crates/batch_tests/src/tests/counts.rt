@@ -1,7 +1,7 @@
 //! Counts of the messages of plans.
 use super::proving::{group_plan, range_plan, witness};
 use super::{alone, holds, trace};
-use batch::{BatchError, BatchPlan, BatchTrace};
+use batch::{BatchError, BatchPlan, BatchTrace, HeightSoundness};
 use checker::{SoundnessCount, Witness};
 use field::{F7, PrimeCharacteristicRing};
 use lookup::LookupError;
@@ -31,6 +31,41 @@ fn counts_of_the_range_machine(rt: HostRuntime) {
         accepting_alphas: None,
     };
     holds(&rt, "none of two", counts == Ok(none_of_two));
+}
+
+/// The numbers of a plan by its heights.
+fn by_heights(rt: &impl Abort, plan: &BatchPlan<F7>) -> HeightSoundness {
+    plan.laws();
+    plan.soundness_of_heights::<F7>()
+        .expect(rt, "small numbers")
+}
+
+/// Two rows that each read a key and provide one have four messages: W = 1, so 1 * (4 - 1) betas and
+/// 2 * 4 - 1 alphas. Two AIRs of one row with a group of two branches have one each.
+#[test]
+fn bounds_by_heights(rt: HostRuntime) {
+    let alloc = rt.alloc();
+    let range = by_heights(&rt, &range_plan::<F7>(&rt, alloc, 2));
+    let of_range = HeightSoundness {
+        most_messages: 4,
+        bad_betas: 3,
+        accepting_alphas: Some(7),
+    };
+    holds(&rt, "two rows of two tuples", range == of_range);
+    let groups = by_heights(&rt, &group_plan(&rt, alloc, 2));
+    let of_groups = HeightSoundness {
+        most_messages: 2,
+        bad_betas: 1,
+        accepting_alphas: Some(3),
+    };
+    holds(&rt, "two groups", groups == of_groups);
+    let none = by_heights(&rt, &group_plan(&rt, alloc, 0));
+    let of_none = HeightSoundness {
+        most_messages: 0,
+        bad_betas: 0,
+        accepting_alphas: None,
+    };
+    holds(&rt, "no AIR", none == of_none);
 }
 
 /// 1 where the plan accepts this witness, if there is one, and 0 elsewhere. Where it does, it has to count

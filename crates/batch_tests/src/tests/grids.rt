@@ -165,3 +165,83 @@ fn a_grid_over_the_quartic_extension(rt: HostRuntime) {
     );
     expect_count(&rt, "two of eight", counts, 2, Some(4));
 }
+
+/// The plan of one row of three local lookups: lookup `i` sends cell `i`, with the count of cell `3 + i`.
+fn of_three(rt: &impl Abort, alloc: Global) -> BatchPlan<F7> {
+    let mut records = Vec::new(alloc);
+    for column in 0..3usize {
+        let tuple = Vec::from_array(alloc, [cell(column)]).expect(rt, "memory");
+        let lookup = Lookup {
+            kind: Kind::Local,
+            elements: Vec::from_array(alloc, [tuple]).expect(rt, "memory"),
+            multiplicities: Vec::from_array(alloc, [cell(3 + column)]).expect(rt, "memory"),
+            count_weight: 1,
+            column,
+            flags: None,
+        };
+        records.push(lookup).expect(rt, "memory");
+    }
+    let set = Lookups::from_records(alloc, records).expect(rt, "well formed");
+    let airs = Vec::from_array(alloc, [set]).expect(rt, "memory");
+    let heights = Vec::from_array(alloc, [1]).expect(rt, "memory");
+    BatchPlan::new(alloc, airs, heights).expect(rt, "a plan")
+}
+
+/// At how many betas more alphas are accepting than `n + k - 1`, and how many the linear bound allows.
+fn bad_betas(rt: &impl Abort, alloc: Global, plan: &BatchPlan<F7>, row: &[u32]) -> (u128, u128) {
+    let main = trace(rt, alloc, row, 6);
+    let traces = [alone(&main)];
+    let traces = traces.as_slice();
+    let counts = plan
+        .soundness_count::<F7>(alloc, traces)
+        .expect(rt, "no flags");
+    let Some(most) = counts.accepting_alphas else {
+        return (0, counts.linear_bad_betas());
+    };
+    let all = [0, 1, 2, 3, 4, 5, 6].map(F7::new);
+    let mut bad = 0u128;
+    for beta in 0..7u32 {
+        let grid = plan.grid_count(alloc, traces, all.as_slice(), &[F7::new(beta)]);
+        if grid.expect(rt, "no flags").accepted > most {
+            bad = bad.saturating_add(1);
+        }
+    }
+    (bad, counts.linear_bad_betas())
+}
+
+/// Three lookups with all elements and counts of `F7`, up to what changes no number of alphas: a shift of all
+/// elements, so the first is 0, and a factor of all counts, so the first two are 1 and some count, 0 and 1, or
+/// both 0. None has more bad betas than `W * (k - 1)`, where `W` is 1.
+#[test]
+fn no_three_keys_pass_the_linear_bound(rt: HostRuntime) {
+    let alloc = rt.alloc();
+    let plan = of_three(&rt, alloc);
+    let starts: [(u32, u32); 9] = [
+        (1, 0),
+        (1, 1),
+        (1, 2),
+        (1, 3),
+        (1, 4),
+        (1, 5),
+        (1, 6),
+        (0, 1),
+        (0, 0),
+    ];
+    for (first, second) in starts {
+        for number in 0..343u32 {
+            let row = [0, number % 7, number / 7 % 7, first, second, number / 49];
+            let (bad, most) = bad_betas(&rt, alloc, &plan, row.as_slice());
+            holds(&rt, "within the linear bound", bad <= most);
+        }
+    }
+}
+
+/// The points of the first two lookups are `0 - beta` and `1 - 2 * beta`: the same at beta 1 alone. There
+/// counts of 1 and -1 cancel, so all seven alphas are accepting, where at most 3 + 2 - 1 are counted.
+#[test]
+fn two_keys_meet_the_linear_bound(rt: HostRuntime) {
+    let alloc = rt.alloc();
+    let plan = of_three(&rt, alloc);
+    let met = bad_betas(&rt, alloc, &plan, &[0, 1, 0, 1, 6, 0]);
+    holds(&rt, "one of one", met == (1, 1));
+}

@@ -2,8 +2,8 @@
 use super::{generate, group, have_ids, holds, instance, list, lookup, range, table, trace};
 use checker::{
     BatchFault, BatchInstance, SoundnessCount, accepted_is_accepting, counted_soundness,
-    ids_are_kept, ids_are_lawful, instances_fit, joint_soundness, packing_keeps_batch,
-    soundness_count, soundness_of_counts,
+    ids_are_kept, ids_are_lawful, instances_fit, joint_soundness, linear_soundness,
+    packing_keeps_batch, soundness_count, soundness_of_counts,
 };
 use field::{BabyBear, BabyBear4, ExtensionField, F2, F7, Field, PrimeCharacteristicRing};
 use lookup::{LogUpGadget, Lookup, LookupError, Lookups};
@@ -87,9 +87,34 @@ fn laws_of_the_headline_are_there(rt: HostRuntime) {
     let alloc = rt.alloc();
     joint_soundness::<F7, F7>();
     counted_soundness::<F7, F7>();
+    linear_soundness::<F7, F7>();
     accepted_is_accepting::<F7, F7>();
     let none = counts::<F7, F7>(&rt, alloc, &[], 1);
     holds(&rt, "no AIR", none.ok() == Some(count(0, 0, 0, None)));
+}
+
+/// Whether the linear bound of k unbalanced messages of this width is this number.
+fn is_linear(rt: &impl Abort, unbalanced: usize, width: usize, expected: u128) -> bool {
+    let counts = soundness_of_counts(unbalanced, unbalanced, width).expect(rt, "it fits");
+    counts.linear_bad_betas() == expected
+}
+
+/// `W * (k - 1)`. The last is that of 2^18 rows of eight lookups of width 4: 4 * (2^21 - 1).
+#[test]
+fn linear_bounds(rt: HostRuntime) {
+    let cases: [(usize, usize, u128); 7] = [
+        (0, 4, 0),
+        (1, 4, 0),
+        (2, 4, 4),
+        (3, 5, 10),
+        (4, 3, 9),
+        (2, 18446744073709551615, 18446744073709551615),
+        (2097152, 4, 8388604),
+    ];
+    for (unbalanced, width, expected) in cases {
+        let same = is_linear(&rt, unbalanced, width, expected);
+        holds(&rt, "W times k less one", same);
+    }
 }
 
 fn is_of_air_zero(fault: Option<BatchFault>, error: LookupError) -> bool {

@@ -3,6 +3,7 @@ use super::{cell, holds, list, local, single, text};
 use field::{BabyBear, F7, Field};
 use lookup::{
     Kind, Lookup, LookupError, Lookups, check_bus_widths, check_multiplicity_height_bound,
+    height_law,
 };
 use std::alloc::Global;
 use std::process::Abort;
@@ -114,6 +115,7 @@ fn refusal<F: Field>(
         airs.push(lookups).expect(rt, "memory");
     }
     assert!(rt; airs.len() == heights.len());
+    height_law::<F>();
     check_multiplicity_height_bound(airs.as_slice(), heights).err()
 }
 
