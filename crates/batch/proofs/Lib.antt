@@ -6,8 +6,12 @@ pub mod GridLaws
 pub mod HeightCounts
 pub mod LawfulPlans
 pub mod OneWidths
+pub mod PackedCounts
+pub mod PackedPlans
+pub mod PairedLookups
 pub mod PlanCalls
 pub mod PlanLaws
+pub mod Renaming
 pub mod ItemLaws
 pub mod TableLaws
 pub mod TraceLaws

@@ -13,7 +13,7 @@ use crate::trace::BatchTrace;
 use crate::widths::{check_local_widths, widest_tuple};
 use checker::{
     BatchInstance, SoundnessCount, Witness, accepted_is_accepting, check_witness,
-    counted_soundness, generate_batch, linear_soundness, soundness_count,
+    counted_soundness, generate_batch, linear_soundness, packing_keeps_batch, soundness_count,
 };
 use field::{ExtensionField, Field, Over};
 use lookup::{Challenges, Lookups, check_bus_widths, check_multiplicity_height_bound, height_law};
@@ -39,6 +39,7 @@ pub struct BatchPlan<F: Field> {
 
 impl<F: Field> BatchPlan<F> {
     ghost use Rattle.batch.specs.Checks.{HaveEvenWidths, IsPlanRefusal};
+    ghost use Rattle.batch.specs.Packing.{ArePackedAirs};
     ghost use Rattle.batch.specs.Grids.{CountsPlanGrid, StaysWithinBound, StaysWithinLinearBound};
     ghost use Rattle.batch.specs.Heights.{BoundsByHeights, CountsHeights, most_planned};
     ghost use Rattle.batch.specs.PlanBatches.{IsPlanBatch};
@@ -49,6 +50,7 @@ impl<F: Field> BatchPlan<F> {
     ghost use Rattle.batch.specs.declared.trace.BatchTrace.{BatchTrace};
     ghost use Rattle.lookup.specs.Lookups.{lookups_of};
     ghost use Rattle.lookup.specs.Weights.{HeightLaws};
+    ghost use Rattle.checker.specs.Packed.{KeepsCounts};
     ghost use Rattle.lookup_model.specs.Batches.Ids.{AreLawfulIds};
     ghost use Rattle.lookup_model.specs.Batches.Instances.{IsFitting};
 
@@ -278,6 +280,26 @@ impl<F: Field> BatchPlan<F> {
             self.now.heights.items }
     {
         height_law::<F>();
+    }
+
+    /// A plan of packed AIRs counts what this plan of the AIRs before counts: a theorem, as the contract of a
+    /// function that does nothing.
+    ///
+    /// Let the lookups of each AIR be packed, so that they keep what `pack_same_bus` keeps. Both plans give
+    /// ids in the order of their lookups, which packing changes. Still, over traces that fit this plan both
+    /// batches have as many distinct messages, and as many of them do not balance. Their tuples are as wide,
+    /// so `soundness_count` gives the same numbers.
+    pub fn packing_keeps_counts<EF: ExtensionField<F>>(&self, packed: &BatchPlan<F>)
+        ensures counts { ArePackedAirs F.ring F.eq self.now.airs.items packed.now.airs.items
+            → (traces : List (BatchTrace F)) → AreTraces self.now.heights.items traces
+            (plan_batch self.now.airs.items self.now.ids.items traces)
+            → KeepsCounts ⟦<EF as Over<F>>⟧.fields
+            (plan_batch self.now.airs.items self.now.ids.items traces)
+            (plan_batch packed.now.airs.items packed.now.ids.items traces) }
+        ensures width { ArePackedAirs F.ring F.eq self.now.airs.items packed.now.airs.items
+            → packed.now.max_message_width ≡ self.now.max_message_width }
+    {
+        packing_keeps_batch::<F, EF>();
     }
 
     /// At how many pairs of these alphas and betas the batch over these traces is accepted, whoever makes

@@ -1,10 +1,10 @@
 //! Counts of the messages of plans.
 use super::proving::{group_plan, range_plan, witness};
-use super::{alone, holds, trace};
+use super::{alone, holds, shaped, trace};
 use batch::{BatchError, BatchPlan, BatchTrace, HeightSoundness};
 use checker::{SoundnessCount, Witness};
 use field::{F7, PrimeCharacteristicRing};
-use lookup::LookupError;
+use lookup::{Kind, LogUpGadget, LookupError, Lookups};
 use std::alloc::Global;
 use std::process::Abort;
 
@@ -31,6 +31,52 @@ fn counts_of_the_range_machine(rt: HostRuntime) {
         accepting_alphas: None,
     };
     holds(&rt, "none of two", counts == Ok(none_of_two));
+}
+
+/// Cell 0 on a bus, and in a local lookup.
+fn on_a_bus_and_local(rt: &impl Abort, alloc: Global) -> Lookups<F7> {
+    let on_bus = shaped(rt, alloc, (Some("a"), &[1]), 1, 0);
+    let local = shaped(rt, alloc, (None, &[1]), 1, 1);
+    let records = Vec::from_array(alloc, [on_bus, local]).expect(rt, "memory");
+    Lookups::from_records(alloc, records).expect(rt, "well formed")
+}
+
+/// The plan of two rows of one AIR.
+fn of_two_rows(rt: &impl Abort, alloc: Global, set: Lookups<F7>) -> BatchPlan<F7> {
+    let airs = Vec::from_array(alloc, [set]).expect(rt, "memory");
+    let heights = Vec::from_array(alloc, [2]).expect(rt, "memory");
+    BatchPlan::new(alloc, airs, heights).expect(rt, "a plan")
+}
+
+/// Packing puts the local lookup first, so it takes id 0, which was that of the bus. The rows send 3 and 4
+/// under each id, once: four messages, none of which balances.
+#[test]
+fn packing_keeps_the_counts_of_a_plan(rt: HostRuntime) {
+    let alloc = rt.alloc();
+    let plan = of_two_rows(&rt, alloc, on_a_bus_and_local(&rt, alloc));
+    let packed = on_a_bus_and_local(&rt, alloc)
+        .pack_same_bus(alloc, &LogUpGadget::new(), 3)
+        .expect(&rt, "packed");
+    let moved = match packed.as_slice().first() {
+        Some(first) => first.kind == Kind::Local,
+        None => false,
+    };
+    holds(&rt, "the local lookup comes first", moved);
+    let packed = of_two_rows(&rt, alloc, packed);
+    plan.packing_keeps_counts::<F7>(&packed);
+    let main = trace(&rt, alloc, &[3, 4], 1);
+    let traces = [alone(&main)];
+    let traces = traces.as_slice();
+    let four = SoundnessCount {
+        messages: 4,
+        unbalanced: 4,
+        bad_betas: 6,
+        accepting_alphas: Some(7),
+    };
+    let before = plan.soundness_count::<F7>(alloc, traces);
+    holds(&rt, "before", before == Ok(four));
+    let after = packed.soundness_count::<F7>(alloc, traces);
+    holds(&rt, "after", after == Ok(four));
 }
 
 /// The numbers of a plan by its heights.

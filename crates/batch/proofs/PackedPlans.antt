@@ -1,0 +1,233 @@
+-- A plan of packed AIRs has the ids of the plan of the AIRs before, under a renaming; and its tuples are as wide.
+use Rattle.std.proofs.Common.{◌≡◌, ◌<◌, ◌≤◌, ◌++◌, ℕ, Bool, true, false, cond, not, inr, Some, List, [], ◌∷◌, length, map, get_or, slice_index_or, refl, sym, ap, subst, ◌∙◌, arith}
+use Rattle.std.proofs.lemmas.List.{get_or_default, length-map, map-append}
+use Rattle.std.proofs.lemmas.List.Elements.{All-from_recursion, filter-append, recursion_from_All}
+use Rattle.std.proofs.lemmas.List.Sorted.{All-permutation, IsPermutation-append, IsPermutation-refl, IsPermutation-sym}
+use Rattle.std.proofs.lemmas.Option.{slice_get-get_or}
+use Rattle.std.proofs.lemmas.Slice.Zip.{get_or-zip, length-zip}
+use Rattle.std.specs.List.{AllByRecursion, AllZip, filter, zip}
+use Rattle.std.specs.List.Sorted.{IsPermutation}
+use Rattle.field.specs.Ring.{Ring}
+use Rattle.lookup_model.specs.Batches.Messages.{id_of}
+use Rattle.lookup_model.specs.LookupDegree.{greatest}
+use Rattle.lookup_model.specs.Outline.{bus_of, fields_of}
+use Rattle.lookup_model.specs.Records.{AreRecords}
+use Rattle.lookup_model.specs.declared.types.Lookup.{Lookup}
+use Rattle.lookup_model.proofs.Lists.{all_back, all_front, all_indexed}
+use Rattle.lookup.specs.Kept.{HasIdOfBus, HaveSameIds, KeepsSent, other_buses, other_ids}
+use Rattle.lookup.specs.Lookups.{lookups_of}
+use Rattle.lookup.specs.Packing.{is_additive}
+use Rattle.lookup.specs.declared.lookups.Lookups.{Lookups}
+use Rattle.checker.specs.Packed.{ArePacked}
+use Rattle.checker.specs.Renamed.{renamed}
+use Rattle.batch.specs.Order.{bus_at}
+use Rattle.batch.specs.PlanFacts.{all_tuple_widths, assigned}
+use Rattle.batch.specs.Traces.{batch_over}
+use Rattle.batch.specs.declared.trace.BatchTrace.{BatchTrace}
+use Rattle.batch.proofs.PairedLookups.{Entry}
+
+-- a list in two parts, each as long as in another
+split_first : {A : Type 0} (a c b d : List A) → length a ≡ length b → a ++ c ≡ b ++ d → a ≡ b
+split_first [] c [] d long same = refl
+split_first [] c (y ∷ ys) d long same = absurd (omega (arith, long))
+split_first (x ∷ xs) c [] d long same = absurd (omega (arith, long))
+split_first (x ∷ xs) c (y ∷ ys) d long same =
+    let here : x ≡ y = cc same in
+    let later : xs ++ c ≡ ys ++ d = cc same in
+    λ i. here i ∷ split_first xs c ys d (omega (arith, long)) later i
+
+split_later : {A : Type 0} (a c b d : List A) → length a ≡ length b → a ++ c ≡ b ++ d → c ≡ d
+split_later [] c [] d long same = same
+split_later [] c (y ∷ ys) d long same = absurd (omega (arith, long))
+split_later (x ∷ xs) c [] d long same = absurd (omega (arith, long))
+split_later (x ∷ xs) c (y ∷ ys) d long same =
+    let later : xs ++ c ≡ ys ++ d = cc same in
+    split_later xs c ys d (omega (arith, long)) later
+
+module _ {F : Type 0} where
+  abbrev pub passes : Entry F → Bool
+  passes a = not (is_additive (fields_of a.1))
+
+  -- the buses of what passes through, with ids
+  buses_of : (ids : List ℕ) (ls : List (Lookup F)) → length ids ≡ length ls → map bus_at (filter passes (zip ids ls)) ≡ other_buses ls
+  buses_of [] [] same = refl
+  buses_of [] (l ∷ ls) same = absurd (omega (arith, same))
+  buses_of (i ∷ is) [] same = absurd (omega (arith, same))
+  buses_of (i ∷ is) (l ∷ ls) same = by_test (not (is_additive (fields_of l))) (buses_of is ls (omega (arith, same)))
+    where
+      by_test : (b : Bool) → map bus_at (filter passes (zip is ls)) ≡ other_buses ls
+          → map bus_at (cond b ((i, l) ∷ filter passes (zip is ls)) (filter passes (zip is ls))) ≡ map (λ (k : Lookup F). bus_of k.kind) (cond b (l ∷ filter (λ k. not (is_additive (fields_of k))) ls) (filter (λ k. not (is_additive (fields_of k))) ls))
+      by_test true rest = ap (λ t. bus_of l.kind ∷ t) rest
+      by_test false rest = rest
+
+  -- the ids of what passes through, where each lookup has that of its column
+  ids_of : (id : Lookup F → ℕ) (ids : List ℕ) (ls : List (Lookup F)) → length ids ≡ length ls → AllByRecursion (λ a. id a.1 ≡ a.0) (zip ids ls) → other_ids id ls ≡ map (λ (a : Entry F). a.0) (filter passes (zip ids ls))
+  ids_of id [] [] same all = refl
+  ids_of id [] (l ∷ ls) same all = absurd (omega (arith, same))
+  ids_of id (i ∷ is) [] same all = absurd (omega (arith, same))
+  ids_of id (i ∷ is) (l ∷ ls) same all = by_test (not (is_additive (fields_of l))) (ids_of id is ls (omega (arith, same)) all.1)
+    where
+      by_test : (b : Bool) → other_ids id ls ≡ map (λ (a : Entry F). a.0) (filter passes (zip is ls))
+          → map id (cond b (l ∷ filter (λ k. not (is_additive (fields_of k))) ls) (filter (λ k. not (is_additive (fields_of k))) ls)) ≡ map (λ (a : Entry F). a.0) (cond b ((i, l) ∷ filter passes (zip is ls)) (filter passes (zip is ls)))
+      by_test true rest = λ j. all.0 j ∷ rest j
+      by_test false rest = rest
+
+  -- a lookup at its place has the id at its column
+  column_ids : (ids : List ℕ) (ls : List (Lookup F)) → length ids ≡ length ls → AreRecords ls → AllByRecursion (λ a. id_of ids a.1 ≡ a.0) (zip ids ls)
+  column_ids ids ls same records = all_indexed (λ a. id_of ids a.1 ≡ a.0) (zip ids ls) each
+    where
+      each : (k : ℕ) (a : Entry F) → k < length (zip ids ls) → a ≡ get_or (zip ids ls) k a → id_of ids a.1 ≡ a.0
+      each k a lt is =
+          let k_ids : k < length ids = omega (arith, lt, length-zip ids ls, same) in
+          let k_ls : k < length ls = omega (arith, lt, length-zip ids ls, same) in
+          let parts : a ≡ (get_or ids k a.0, get_or ls k a.1) = is ∙ get_or-zip ids ls k a k_ids k_ls in
+          let there : a.1 ≡ get_or ls k a.1 = ap (λ (b : Entry F). b.1) parts in
+          let column : a.1.column ≡ k = (records k a.1 k_ls (slice_get-get_or ls k a.1 k_ls ∙ ap Some (sym there))).0 in
+          ap (λ c. slice_index_or ids c 0) column ∙ get_or_default ids k 0 a.0 k_ids ∙ sym (ap (λ (b : Entry F). b.0) parts)
+
+  -- what holds of each lookup with its id holds of it with the id at its column
+  by_columns : (P : ℕ → Lookup F → Type 0) (ids : List ℕ) (ls : List (Lookup F)) → length ids ≡ length ls → (id : Lookup F → ℕ) → AllByRecursion (λ a. id a.1 ≡ a.0) (zip ids ls) → AllByRecursion (λ a. P a.0 a.1) (zip ids ls) → AllByRecursion (λ l. P (id l) l) ls
+  by_columns P [] [] same id columns all = tt
+  by_columns P [] (l ∷ ls) same id columns all = absurd (omega (arith, same))
+  by_columns P (i ∷ is) [] same id columns all = absurd (omega (arith, same))
+  by_columns P (i ∷ is) (l ∷ ls) same id columns all = (subst (λ n. P n l) (sym columns.0) all.0, by_columns P is ls (omega (arith, same)) id columns.1 all.1)
+
+  module _ (rename : ℕ → ℕ) where
+    -- renamed ids are those at the columns
+    renamed_columns : (id : Lookup F → ℕ) (ids : List ℕ) (ls : List (Lookup F)) → AllByRecursion (λ a. id a.1 ≡ a.0) (zip (map rename ids) ls) → (P : ℕ → Lookup F → Type 0) → AllByRecursion (λ a. P (rename a.0) a.1) (zip ids ls) → AllByRecursion (λ a. P a.0 a.1) (zip (map rename ids) ls)
+    renamed_columns id [] ls columns P all = tt
+    renamed_columns id (i ∷ is) [] columns P all = tt
+    renamed_columns id (i ∷ is) (l ∷ ls) columns P all = (all.0, renamed_columns id is ls columns.1 P all.1)
+
+    renamed_passing : (ids : List ℕ) (ls : List (Lookup F)) → map (λ (a : Entry F). a.0) (filter passes (zip (map rename ids) ls)) ≡ map (λ (a : Entry F). rename a.0) (filter passes (zip ids ls))
+    renamed_passing [] ls = refl
+    renamed_passing (i ∷ is) [] = refl
+    renamed_passing (i ∷ is) (l ∷ ls) = by_test (not (is_additive (fields_of l))) (renamed_passing is ls)
+      where
+        by_test : (b : Bool) → map (λ (a : Entry F). a.0) (filter passes (zip (map rename is) ls)) ≡ map (λ (a : Entry F). rename a.0) (filter passes (zip is ls))
+            → map (λ (a : Entry F). a.0) (cond b ((rename i, l) ∷ filter passes (zip (map rename is) ls)) (filter passes (zip (map rename is) ls))) ≡ map (λ (a : Entry F). rename a.0) (cond b ((i, l) ∷ filter passes (zip is ls)) (filter passes (zip is ls)))
+        by_test true rest = ap (λ t. rename i ∷ t) rest
+        by_test false rest = rest
+
+    module _ (bus_id : List ℕ → ℕ) where
+      -- the id of a lookup is that of its bus, renamed before and as it is after
+      abbrev pub IsBefore : Entry F → Type 0
+      IsBefore a = (name : List ℕ) → bus_at a ≡ Some name → rename a.0 ≡ bus_id name
+
+      abbrev pub IsAfter : Entry F → Type 0
+      IsAfter b = (name : List ℕ) → bus_at b ≡ Some name → b.0 ≡ bus_id name
+
+      -- the ids of one AIR
+      same_ids : (ids more : List ℕ) (b a : Lookups F) → length ids ≡ length (lookups_of b) → length more ≡ length (lookups_of a)
+          → AllByRecursion IsBefore (zip ids (lookups_of b)) → AllByRecursion IsAfter (zip more (lookups_of a))
+          → map (λ c. rename c.0) (filter passes (zip ids (lookups_of b))) ≡ map (λ c. c.0) (filter passes (zip more (lookups_of a)))
+          → HaveSameIds (id_of (map rename ids)) (lookups_of b) (id_of more) (lookups_of a)
+      same_ids ids more b a long long_after before after passing =
+          let many : length (map rename ids) ≡ length (lookups_of b) = length-map ids rename ∙ long in
+          let columns = column_ids (map rename ids) (lookups_of b) many b.records in
+          let columns_after = column_ids more (lookups_of a) long_after a.records in
+          let Named = λ (n : ℕ) (l : Lookup F). (name : List ℕ) → bus_of l.kind ≡ Some name → n ≡ bus_id name in
+          record {
+            bus_id = bus_id;
+            by_bus_before =
+                without_flags (id_of (map rename ids)) (lookups_of b)
+                (by_columns Named (map rename ids) (lookups_of b) many (id_of (map rename ids)) columns (renamed_columns (id_of (map rename ids)) ids (lookups_of b) columns Named before));
+            by_bus_after =
+                without_flags (id_of more) (lookups_of a) (by_columns Named more (lookups_of a) long_after (id_of more) columns_after after);
+            others =
+                ids_of (id_of (map rename ids)) (map rename ids) (lookups_of b) many columns
+                ∙ renamed_passing ids (lookups_of b)
+                ∙ passing
+                ∙ sym (ids_of (id_of more) more (lookups_of a) long_after columns_after);
+          }
+        where
+          without_flags : (id : Lookup F → ℕ) (ls : List (Lookup F)) → AllByRecursion (λ l. (name : List ℕ) → bus_of l.kind ≡ Some name → id l ≡ bus_id name) ls → AllByRecursion (HasIdOfBus bus_id id) ls
+          without_flags id [] all = tt
+          without_flags id (l ∷ ls) all = (λ name on none. all.0 name on, without_flags id ls all.1)
+
+      module _ (R : Ring F) (eq : F → F → Bool) where
+        -- the batch of a plan before, renamed, is packed into that of the plan after
+        pub plans_packed : (ids : List (List ℕ)) (airs : List (Lookups F)) (more : List (List ℕ)) (later : List (Lookups F)) (traces : List (BatchTrace F))
+            → map length ids ≡ map (λ air. length (lookups_of air)) airs → map length more ≡ map (λ air. length (lookups_of air)) later
+            → AllZip (λ b a. KeepsSent R eq (lookups_of b) (lookups_of a)) airs later
+            → AllByRecursion IsBefore (assigned ids airs) → AllByRecursion IsAfter (assigned more later)
+            → map (λ c. rename c.0) (filter passes (assigned ids airs)) ≡ map (λ c. c.0) (filter passes (assigned more later))
+            → ArePacked R eq (map (renamed rename) (batch_over ids airs traces)) (batch_over more later traces)
+        plans_packed [] airs [] later traces many many_after keep before after passing = tt
+        plans_packed [] [] (j ∷ js) (a ∷ as_after) traces many many_after keep before after passing = absurd keep
+        plans_packed [] [] (j ∷ js) [] traces many many_after keep before after passing = absurd (cc many_after)
+        plans_packed [] (b ∷ bs) (j ∷ js) later traces many many_after keep before after passing = absurd (cc many)
+        plans_packed (i ∷ is) [] more later traces many many_after keep before after passing = absurd (cc many)
+        plans_packed (i ∷ is) (b ∷ bs) [] [] traces many many_after keep before after passing = absurd keep
+        plans_packed (i ∷ is) (b ∷ bs) [] (a ∷ as_after) traces many many_after keep before after passing = absurd (cc many_after)
+        plans_packed (i ∷ is) (b ∷ bs) (j ∷ js) [] traces many many_after keep before after passing = absurd keep
+        plans_packed (i ∷ is) (b ∷ bs) (j ∷ js) (a ∷ as_after) [] many many_after keep before after passing = tt
+        plans_packed (i ∷ is) (b ∷ bs) (j ∷ js) (a ∷ as_after) (t ∷ ts) many many_after keep before after passing =
+            let long : length i ≡ length (lookups_of b) = cc many in
+            let rest_long : map length is ≡ map (λ air. length (lookups_of air)) bs = cc many in
+            let long_after : length j ≡ length (lookups_of a) = cc many_after in
+            let rest_long_after : map length js ≡ map (λ air. length (lookups_of air)) as_after = cc many_after in
+            let first = filter passes (zip i (lookups_of b)) in
+            let first_after = filter passes (zip j (lookups_of a)) in
+            let parts : map (λ c. rename c.0) first ++ map (λ c. rename c.0) (filter passes (assigned is bs)) ≡ map (λ c. c.0) first_after ++ map (λ c. c.0) (filter passes (assigned js as_after)) =
+            sym (map-append (λ (c : Entry F). rename c.0) first (filter passes (assigned is bs))) ∙ ap (map (λ (c : Entry F). rename c.0)) (sym (filter-append passes (zip i (lookups_of b)) (assigned is bs)))
+            ∙ passing
+            ∙ ap (map (λ (c : Entry F). c.0)) (filter-append passes (zip j (lookups_of a)) (assigned js as_after)) ∙ map-append (λ (c : Entry F). c.0) first_after (filter passes (assigned js as_after)) in
+            let buses : map bus_at first ≡ map bus_at first_after = buses_of i (lookups_of b) long ∙ sym keep.0.other_buses_are ∙ sym (buses_of j (lookups_of a) long_after) in
+            let as_many : length (map (λ (c : Entry F). rename c.0) first) ≡ length (map (λ (c : Entry F). c.0) first_after) =
+            length-map first (λ c. rename c.0) ∙ sym (length-map first bus_at) ∙ ap length buses ∙ length-map first_after bus_at ∙ sym (length-map first_after (λ c. c.0)) in (
+              inr (record {
+                traces = refl;
+                messages = keep.0.messages;
+                flags = keep.0.flags;
+                ids = same_ids i j b a long long_after (all_front IsBefore (zip i (lookups_of b)) (assigned is bs) before) (all_front IsAfter (zip j (lookups_of a)) (assigned js as_after) after) (split_first _ _ _ _ as_many parts);
+              }),
+              plans_packed is bs js as_after ts rest_long rest_long_after keep.1 (all_back IsBefore (zip i (lookups_of b)) (assigned is bs) before) (all_back IsAfter (zip j (lookups_of a)) (assigned js as_after) after) (split_later _ _ _ _ as_many parts),
+            )
+
+  module _ (R : Ring F) (eq : F → F → Bool) where
+    -- the buses of all that passes through
+    pub all_buses : (ids : List (List ℕ)) (airs : List (Lookups F)) (more : List (List ℕ)) (later : List (Lookups F))
+        → map length ids ≡ map (λ air. length (lookups_of air)) airs → map length more ≡ map (λ air. length (lookups_of air)) later
+        → AllZip (λ b a. KeepsSent R eq (lookups_of b) (lookups_of a)) airs later → map bus_at (filter passes (assigned ids airs)) ≡ map bus_at (filter passes (assigned more later))
+    all_buses [] airs [] later many many_after keep = refl
+    all_buses [] [] (j ∷ js) [] many many_after keep = absurd (cc many_after)
+    all_buses [] [] (j ∷ js) (a ∷ as_after) many many_after keep = absurd keep
+    all_buses [] (b ∷ bs) (j ∷ js) later many many_after keep = absurd (cc many)
+    all_buses (i ∷ is) [] more later many many_after keep = absurd (cc many)
+    all_buses (i ∷ is) (b ∷ bs) [] [] many many_after keep = absurd keep
+    all_buses (i ∷ is) (b ∷ bs) [] (a ∷ as_after) many many_after keep = absurd (cc many_after)
+    all_buses (i ∷ is) (b ∷ bs) (j ∷ js) [] many many_after keep = absurd keep
+    all_buses (i ∷ is) (b ∷ bs) (j ∷ js) (a ∷ as_after) many many_after keep =
+        let long : length i ≡ length (lookups_of b) = cc many in
+        let rest_long : map length is ≡ map (λ air. length (lookups_of air)) bs = cc many in
+        let long_after : length j ≡ length (lookups_of a) = cc many_after in
+        let rest_long_after : map length js ≡ map (λ air. length (lookups_of air)) as_after = cc many_after in
+        ap (map bus_at) (filter-append passes (zip i (lookups_of b)) (assigned is bs)) ∙ map-append bus_at (filter passes (zip i (lookups_of b))) (filter passes (assigned is bs))
+        ∙ (λ k. (buses_of i (lookups_of b) long ∙ sym keep.0.other_buses_are ∙ sym (buses_of j (lookups_of a) long_after)) k ++ all_buses is bs js as_after rest_long rest_long_after keep.1 k)
+        ∙ sym (ap (map bus_at) (filter-append passes (zip j (lookups_of a)) (assigned js as_after)) ∙ map-append bus_at (filter passes (zip j (lookups_of a))) (filter passes (assigned js as_after)))
+
+    -- the widths of all tuples
+    widths_permuted : (airs later : List (Lookups F)) → AllZip (λ b a. KeepsSent R eq (lookups_of b) (lookups_of a)) airs later → IsPermutation (all_tuple_widths airs) (all_tuple_widths later)
+    widths_permuted [] [] keep = IsPermutation-refl []
+    widths_permuted [] (a ∷ later) keep = absurd keep
+    widths_permuted (b ∷ bs) [] keep = absurd keep
+    widths_permuted (b ∷ bs) (a ∷ later) keep = IsPermutation-append _ _ _ _ keep.0.widths (widths_permuted bs later keep.1)
+
+    pub greatest_stays : (airs later : List (Lookups F)) → AllZip (λ b a. KeepsSent R eq (lookups_of b) (lookups_of a)) airs later → greatest (all_tuple_widths later) ≡ greatest (all_tuple_widths airs)
+    greatest_stays airs later keep =
+        let same = widths_permuted airs later keep in
+        omega (arith, within (all_tuple_widths airs) (all_tuple_widths later) same, within (all_tuple_widths later) (all_tuple_widths airs) (IsPermutation-sym _ _ same))
+      where
+        below : (n : ℕ) (ns : List ℕ) → greatest ns ≤ n → AllByRecursion (λ m. m ≤ n) ns
+        below n [] le = tt
+        below n (m ∷ ms) le = (omega (arith, le), below n ms (omega (arith, le)))
+
+        least : (n : ℕ) (ns : List ℕ) → AllByRecursion (λ m. m ≤ n) ns → greatest ns ≤ n
+        least n [] all = omega arith
+        least n (m ∷ ms) all = omega (arith, all.0, least n ms all.1)
+
+        within : (ms ns : List ℕ) → IsPermutation ms ns → greatest ns ≤ greatest ms
+        within ms ns same =
+            let Below = λ (n : ℕ). n ≤ greatest ms in
+            least (greatest ms) ns (recursion_from_All Below ns (All-permutation Below ms ns same (All-from_recursion Below ms (below (greatest ms) ms (omega arith)))))
