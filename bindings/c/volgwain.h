@@ -394,7 +394,7 @@ struct volgwain_counts {
 
 /* Counts the messages of a batch. If k is above zero, then at all betas but linear_bad_betas at the most, some
    witness is accepted at no more than accepting_alphas alphas, whoever makes it. bad_betas bounds the betas at
-   which two unbalanced messages have the same point; it is so at every other beta.
+   which two unbalanced messages have the same point; at every other beta the bound of alphas holds.
 
    Refuses, in this order: what volgwain_prove does up to 5 and 3 of traces, 4 of the number of traces, 16,
    9 or 10 of flags in the order AIR, row, lookup, and 23. Or 1. */

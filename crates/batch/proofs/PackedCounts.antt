@@ -12,7 +12,7 @@ use Rattle.batch.specs.PlanFacts.{AreNumbered, assigned}
 use Rattle.batch.specs.Traces.{batch_over}
 use Rattle.batch.specs.declared.trace.BatchTrace.{BatchTrace}
 use Rattle.batch.proofs.GivenLaws.{below_next}
-use Rattle.batch.proofs.PackedPlans.{IsAfter, IsBefore, all_buses, passes, plans_packed}
+use Rattle.batch.proofs.PackedPlans.{IsAfter, IsBefore, all_buses, all_keep, passes, plans_packed}
 use Rattle.batch.proofs.PairedLookups.{Entry, after_has_id, all_pairs, all_passing_renamed, before_has_id, bus_id, each_among, numbers, numbers_agree, numbers_below, rename}
 use Rattle.batch.proofs.Renaming.{renames_apart}
 
@@ -25,7 +25,7 @@ module _ {F : Type 0} (R : Ring F) (eq : F → F → Bool) (ids : List (List ℕ
   ys = assigned more later
 
   pub same : map bus_at (filter passes xs) ≡ map bus_at (filter passes ys)
-  same = all_buses R eq ids airs more later numbered.as_many numbered_after.as_many packed
+  same = all_buses R eq ids airs more later numbered.as_many numbered_after.as_many (all_keep R eq airs later packed)
 
   abbrev pub renaming : ℕ → ℕ
   renaming = rename xs ys numbered.in_order.buses numbered_after.in_order.buses same n
@@ -40,7 +40,7 @@ module _ {F : Type 0} (R : Ring F) (eq : F → F → Bool) (ids : List (List ℕ
   pub plan_packed : (traces : List (BatchTrace F)) → ArePacked R eq (map (renamed renaming) (batch_over ids airs traces)) (batch_over more later traces)
   plan_packed traces =
       let bus = bus_id xs ys numbered.in_order.buses numbered_after.in_order.buses same n in
-      plans_packed renaming bus R eq ids airs more later traces numbered.as_many numbered_after.as_many packed
+      plans_packed renaming bus R eq ids airs more later traces numbered.as_many numbered_after.as_many (all_keep R eq airs later packed)
       (each_among (IsBefore renaming bus) xs (λ a there. before_has_id xs ys numbered.in_order.buses numbered_after.in_order.buses same n a there))
       (each_among (IsAfter renaming bus) ys (λ b there. after_has_id xs ys numbered.in_order.buses numbered_after.in_order.buses same n b there))
       (all_passing_renamed xs ys numbered.in_order.buses numbered_after.in_order.buses same n)

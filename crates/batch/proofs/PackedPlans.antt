@@ -1,5 +1,5 @@
 -- A plan of packed AIRs has the ids of the plan of the AIRs before, under a renaming; and its tuples are as wide.
-use Rattle.std.proofs.Common.{◌≡◌, ◌<◌, ◌≤◌, ◌++◌, ℕ, Bool, true, false, cond, not, inr, Some, List, [], ◌∷◌, length, map, get_or, slice_index_or, refl, sym, ap, subst, ◌∙◌, arith}
+use Rattle.std.proofs.Common.{◌≡◌, ◌⊎◌, ◌<◌, ◌≤◌, ◌++◌, ℕ, Bool, true, false, cond, not, inr, Some, List, [], ◌∷◌, length, map, get_or, slice_index_or, refl, sym, ap, subst, ◌∙◌, arith, None, Option, inl}
 use Rattle.std.proofs.lemmas.List.{get_or_default, length-map, map-append}
 use Rattle.std.proofs.lemmas.List.Elements.{All-from_recursion, filter-append, recursion_from_All}
 use Rattle.std.proofs.lemmas.List.Sorted.{All-permutation, IsPermutation-append, IsPermutation-refl, IsPermutation-sym}
@@ -8,13 +8,21 @@ use Rattle.std.proofs.lemmas.Slice.Zip.{get_or-zip, length-zip}
 use Rattle.std.specs.List.{AllByRecursion, AllZip, filter, zip}
 use Rattle.std.specs.List.Sorted.{IsPermutation}
 use Rattle.field.specs.Ring.{Ring}
-use Rattle.lookup_model.specs.Batches.Messages.{id_of}
+use Rattle.expressions.specs.Window.{Window}
+use Rattle.std.specs.Option.{is_some}
+use Rattle.lookup_model.specs.Message.{Message}
+use Rattle.lookup_model.specs.Sent.{branches_at, flags_at, sent, sent_at}
+use Rattle.lookup_model.specs.Trace.{sent_row_under}
+use Rattle.lookup.proofs.JoinedMessages.{on_some_bus}
+use Rattle.lookup.proofs.StepLaws.{no_flags_of}
+use Rattle.batch.specs.Packing.{ArePackedAirs}
+use Rattle.lookup_model.specs.Batches.Messages.{HasLawfulFlags, id_of}
 use Rattle.lookup_model.specs.LookupDegree.{greatest}
 use Rattle.lookup_model.specs.Outline.{bus_of, fields_of}
 use Rattle.lookup_model.specs.Records.{AreRecords}
 use Rattle.lookup_model.specs.declared.types.Lookup.{Lookup}
 use Rattle.lookup_model.proofs.Lists.{all_back, all_front, all_indexed}
-use Rattle.lookup.specs.Kept.{HasIdOfBus, HaveSameIds, KeepsSent, other_buses, other_ids}
+use Rattle.lookup.specs.Kept.{HasIdOfBus, HaveSameIds, KeepsLawfulFlags, KeepsMessages, KeepsOtherBuses, KeepsSent, KeepsWidths, other_buses, other_ids, row_messages, widths_of}
 use Rattle.lookup.specs.Lookups.{lookups_of}
 use Rattle.lookup.specs.Packing.{is_additive}
 use Rattle.lookup.specs.declared.lookups.Lookups.{Lookups}
@@ -43,6 +51,60 @@ split_later (x ∷ xs) c [] d long same = absurd (omega (arith, long))
 split_later (x ∷ xs) c (y ∷ ys) d long same =
     let later : xs ++ c ≡ ys ++ d = cc same in
     split_later xs c ys d (omega (arith, long)) later
+
+module _ {F : Type 0} (R : Ring F) (eq : F → F → Bool) where
+  -- what a plan needs of lookups that are packed or as they were
+  pub record Keeps (before after : List (Lookup F)) : Type 0 where
+    pub messages : KeepsMessages R eq before after
+    pub flags : KeepsLawfulFlags R eq before after
+    pub other_buses_are : KeepsOtherBuses before after
+    pub widths : KeepsWidths before after
+
+  -- under the same ids lookups send the same
+  rows_same : (id other : Lookup F → ℕ) (bus_id : List ℕ → ℕ) (w : Window F) (ls : List (Lookup F)) → AllByRecursion (HasIdOfBus bus_id id) ls → AllByRecursion (HasIdOfBus bus_id other) ls
+      → other_ids id ls ≡ other_ids other ls → row_messages R eq id w ls ≡ row_messages R eq other w ls
+  rows_same id other bus_id w [] one two same = refl
+  rows_same id other bus_id w (l ∷ ls) one two same = by_test (is_additive (fields_of l)) refl same (λ rest. rows_same id other bus_id w ls one.1 two.1 rest)
+    where
+      by_test : (b : Bool) → is_additive (fields_of l) ≡ b
+          → map id (cond (not b) (l ∷ filter (λ k. not (is_additive (fields_of k))) ls) (filter (λ k. not (is_additive (fields_of k))) ls))
+          ≡ map other (cond (not b) (l ∷ filter (λ k. not (is_additive (fields_of k))) ls) (filter (λ k. not (is_additive (fields_of k))) ls))
+          → (other_ids id ls ≡ other_ids other ls → row_messages R eq id w ls ≡ row_messages R eq other w ls) → row_messages R eq id w (l ∷ ls) ≡ row_messages R eq other w (l ∷ ls)
+      by_test true joins rest later =
+          let (name, on, none) = on_some_bus (fields_of l) joins in
+          let flags : l.flags ≡ None = no_flags_of (λ fs. fs.items) (is_some (bus_of l.kind)) l.flags joins in
+          let id_is : id l ≡ other l = one.0 name on flags ∙ sym (two.0 name on flags) in
+          λ i. (sent_at R eq w (id_is i) l).messages ++ later rest i
+      by_test false passing rest later =
+          let id_is : id l ≡ other l = cc rest in
+          let ids : other_ids id ls ≡ other_ids other ls = cc rest in
+          λ i. (sent_at R eq w (id_is i) l).messages ++ later ids i
+
+  same_flags : (flags : Option (List F)) (some other : List (Message F)) → HasLawfulFlags R eq (sent R eq flags some) → HasLawfulFlags R eq (sent R eq flags other)
+  same_flags None some other lawful = tt
+  same_flags (Some fs) some other lawful = lawful
+
+  flags_same : (id other : Lookup F → ℕ) (w : Window F) (ls : List (Lookup F)) → AllByRecursion (HasLawfulFlags R eq) (sent_row_under R eq id w ls) → AllByRecursion (HasLawfulFlags R eq) (sent_row_under R eq other w ls)
+  flags_same id other w [] lawful = tt
+  flags_same id other w (l ∷ ls) lawful = (same_flags (flags_at R w l) (branches_at R w (id l) l) (branches_at R w (other l) l) lawful.0, flags_same id other w ls lawful.1)
+
+  kept_itself : (ls : List (Lookup F)) → Keeps ls ls
+  kept_itself ls = record {
+    messages = λ id other same w. subst (λ (ms : List (Message F)). IsPermutation (row_messages R eq id w ls) ms) (rows_same id other same.bus_id w ls same.by_bus_before same.by_bus_after same.others) (IsPermutation-refl (row_messages R eq id w ls));
+    flags = λ id other w lawful. flags_same id other w ls lawful;
+    other_buses_are = refl;
+    widths = IsPermutation-refl (widths_of ls);
+  }
+
+  pub all_keep : (airs later : List (Lookups F)) → ArePackedAirs R eq airs later → AllZip (λ b a. Keeps (lookups_of b) (lookups_of a)) airs later
+  all_keep [] [] packed = tt
+  all_keep [] (a ∷ later) packed = absurd packed
+  all_keep (b ∷ bs) [] packed = absurd packed
+  all_keep (b ∷ bs) (a ∷ later) packed = (by_case packed.0, all_keep bs later packed.1)
+    where
+      by_case : (lookups_of a ≡ lookups_of b) ⊎ KeepsSent R eq (lookups_of b) (lookups_of a) → Keeps (lookups_of b) (lookups_of a)
+      by_case (inl same) = subst (λ (ls : List (Lookup F)). Keeps (lookups_of b) ls) (sym same) (kept_itself (lookups_of b))
+      by_case (inr sent_alike) = record { messages = sent_alike.messages; flags = sent_alike.flags; other_buses_are = sent_alike.other_buses_are; widths = sent_alike.widths }
 
 module _ {F : Type 0} where
   abbrev pub passes : Entry F → Bool
@@ -149,7 +211,7 @@ module _ {F : Type 0} where
         -- the batch of a plan before, renamed, is packed into that of the plan after
         pub plans_packed : (ids : List (List ℕ)) (airs : List (Lookups F)) (more : List (List ℕ)) (later : List (Lookups F)) (traces : List (BatchTrace F))
             → map length ids ≡ map (λ air. length (lookups_of air)) airs → map length more ≡ map (λ air. length (lookups_of air)) later
-            → AllZip (λ b a. KeepsSent R eq (lookups_of b) (lookups_of a)) airs later
+            → AllZip (λ b a. Keeps R eq (lookups_of b) (lookups_of a)) airs later
             → AllByRecursion IsBefore (assigned ids airs) → AllByRecursion IsAfter (assigned more later)
             → map (λ c. rename c.0) (filter passes (assigned ids airs)) ≡ map (λ c. c.0) (filter passes (assigned more later))
             → ArePacked R eq (map (renamed rename) (batch_over ids airs traces)) (batch_over more later traces)
@@ -189,7 +251,7 @@ module _ {F : Type 0} where
     -- the buses of all that passes through
     pub all_buses : (ids : List (List ℕ)) (airs : List (Lookups F)) (more : List (List ℕ)) (later : List (Lookups F))
         → map length ids ≡ map (λ air. length (lookups_of air)) airs → map length more ≡ map (λ air. length (lookups_of air)) later
-        → AllZip (λ b a. KeepsSent R eq (lookups_of b) (lookups_of a)) airs later → map bus_at (filter passes (assigned ids airs)) ≡ map bus_at (filter passes (assigned more later))
+        → AllZip (λ b a. Keeps R eq (lookups_of b) (lookups_of a)) airs later → map bus_at (filter passes (assigned ids airs)) ≡ map bus_at (filter passes (assigned more later))
     all_buses [] airs [] later many many_after keep = refl
     all_buses [] [] (j ∷ js) [] many many_after keep = absurd (cc many_after)
     all_buses [] [] (j ∷ js) (a ∷ as_after) many many_after keep = absurd keep
@@ -208,13 +270,13 @@ module _ {F : Type 0} where
         ∙ sym (ap (map bus_at) (filter-append passes (zip j (lookups_of a)) (assigned js as_after)) ∙ map-append bus_at (filter passes (zip j (lookups_of a))) (filter passes (assigned js as_after)))
 
     -- the widths of all tuples
-    widths_permuted : (airs later : List (Lookups F)) → AllZip (λ b a. KeepsSent R eq (lookups_of b) (lookups_of a)) airs later → IsPermutation (all_tuple_widths airs) (all_tuple_widths later)
+    widths_permuted : (airs later : List (Lookups F)) → AllZip (λ b a. Keeps R eq (lookups_of b) (lookups_of a)) airs later → IsPermutation (all_tuple_widths airs) (all_tuple_widths later)
     widths_permuted [] [] keep = IsPermutation-refl []
     widths_permuted [] (a ∷ later) keep = absurd keep
     widths_permuted (b ∷ bs) [] keep = absurd keep
     widths_permuted (b ∷ bs) (a ∷ later) keep = IsPermutation-append _ _ _ _ keep.0.widths (widths_permuted bs later keep.1)
 
-    pub greatest_stays : (airs later : List (Lookups F)) → AllZip (λ b a. KeepsSent R eq (lookups_of b) (lookups_of a)) airs later → greatest (all_tuple_widths later) ≡ greatest (all_tuple_widths airs)
+    pub greatest_stays : (airs later : List (Lookups F)) → AllZip (λ b a. Keeps R eq (lookups_of b) (lookups_of a)) airs later → greatest (all_tuple_widths later) ≡ greatest (all_tuple_widths airs)
     greatest_stays airs later keep =
         let same = widths_permuted airs later keep in
         omega (arith, within (all_tuple_widths airs) (all_tuple_widths later) same, within (all_tuple_widths later) (all_tuple_widths airs) (IsPermutation-sym _ _ same))

@@ -285,10 +285,10 @@ impl<F: Field> BatchPlan<F> {
     /// A plan of packed AIRs counts what this plan of the AIRs before counts: a theorem, as the contract of a
     /// function that does nothing.
     ///
-    /// Let the lookups of each AIR be packed, so that they keep what `pack_same_bus` keeps. Both plans give
-    /// ids in the order of their lookups, which packing changes. Still, over traces that fit this plan both
-    /// batches have as many distinct messages, and as many of them do not balance. Their tuples are as wide,
-    /// so `soundness_count` gives the same numbers.
+    /// Let the lookups of each AIR be packed, so that they keep what `pack_same_bus` keeps, or be as they
+    /// were. Both plans give ids in the order of their lookups, which packing changes. Still, over traces
+    /// that fit this plan both batches have as many distinct messages, and as many of them do not balance.
+    /// Their tuples are as wide, so where `soundness_count` answers over both plans, the numbers are the same.
     pub fn packing_keeps_counts<EF: ExtensionField<F>>(&self, packed: &BatchPlan<F>)
         ensures counts { ArePackedAirs F.ring F.eq self.now.airs.items packed.now.airs.items
             → (traces : List (BatchTrace F)) → AreTraces self.now.heights.items traces

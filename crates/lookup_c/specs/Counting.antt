@@ -2,7 +2,7 @@
 use Rattle.std.specs.Prelude.{◌≡◌, ◌⊎◌, ◌+◌, ◌*◌, ℕ, List, Ok, Err, MatchOption, length, map}
 use Rattle.field.specs.Quartic.{Quartic}
 use Rattle.field.specs.Extension.{Extension}
-use Rattle.batch.specs.Grids.{CountsPlanGrid, StaysWithinBound}
+use Rattle.batch.specs.Grids.{CountsPlanGrid, StaysWithinBound, StaysWithinLinearBound}
 use Rattle.batch.specs.Plans.{plan_batch}
 use Rattle.batch.specs.declared.error.BatchError.{BatchError}
 use Rattle.batch.specs.declared.grid.GridCount.{GridCount}
@@ -34,6 +34,7 @@ module _ (E : Extension BabyBear (Quartic BabyBear)) (plan : Planned) (traces : 
   pub record IsCountedBy (count : GridCount) : Type 0 where
     pub answer : CountsPlanGrid E (plan_batch plan.sets plan.ids traces) plan.width alphas betas plan.heights traces (Ok count)
     pub within : StaysWithinBound (Ok count)
+    pub linear : StaysWithinLinearBound E (plan_batch plan.sets plan.ids traces) plan.width alphas betas (Ok count)
 
   -- a plan refuses to count, and why
   pub record IsCountingRefusal (fault : Fault) : Type 0 where

@@ -22,11 +22,11 @@ pub struct SoundnessCount {
 }
 
 impl SoundnessCount {
-    /// `W * (k - 1)`, or 0 if `k` is zero: at most this many betas are bad.
+    /// `W * (k - 1)`, or 0 if `k` is zero, of counts whose `bad_betas` is `W * k * (k - 1) / 2`, as those of a
+    /// batch: at most this many betas are bad.
     ///
-    /// It is never above `bad_betas`, and fits 128 bits wherever `W` and `k` fit 64. If no two of the
-    /// unbalanced messages have the same point at a beta, that beta is not bad; but one of them that has
-    /// its point alone is enough, and at most `W * (k - 1)` betas give it the point of another.
+    /// It is never above `bad_betas`. A beta is bad only if each unbalanced message shares its point there
+    /// with another one; for any one of them that is so at `W * (k - 1)` betas at most.
     pub fn linear_bad_betas(&self) -> u128
         ensures { (W : ℕ) → let k = self.now.unbalanced in
             self.now.bad_betas ≡ W * k * (k - 1) / 2 → result ≡ W * (k - 1) }

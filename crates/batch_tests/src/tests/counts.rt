@@ -87,7 +87,8 @@ fn by_heights(rt: &impl Abort, plan: &BatchPlan<F7>) -> HeightSoundness {
 }
 
 /// Two rows that each read a key and provide one have four messages: W = 1, so 1 * (4 - 1) betas and
-/// 2 * 4 - 1 alphas. Two AIRs of one row with a group of two branches have one each.
+/// 2 * 4 - 1 alphas. Two AIRs of one row with a group of two branches have one each. Three rows of a pair, and
+/// one of two tuples, have 3 + 2, where W = 2.
 #[test]
 fn bounds_by_heights(rt: HostRuntime) {
     let alloc = rt.alloc();
@@ -105,6 +106,21 @@ fn bounds_by_heights(rt: HostRuntime) {
         accepting_alphas: Some(3),
     };
     holds(&rt, "two groups", groups == of_groups);
+    let wide = shaped(&rt, alloc, (Some("a"), &[2]), 1, 0);
+    let narrow = shaped(&rt, alloc, (None, &[1, 1]), 1, 0);
+    let wide = Vec::from_array(alloc, [wide]).expect(&rt, "memory");
+    let narrow = Vec::from_array(alloc, [narrow]).expect(&rt, "memory");
+    let wide = Lookups::from_records(alloc, wide).expect(&rt, "well formed");
+    let narrow = Lookups::from_records(alloc, narrow).expect(&rt, "well formed");
+    let airs = Vec::from_array(alloc, [wide, narrow]).expect(&rt, "memory");
+    let heights = Vec::from_array(alloc, [3, 1]).expect(&rt, "memory");
+    let both = BatchPlan::new(alloc, airs, heights).expect(&rt, "a plan");
+    let of_both = HeightSoundness {
+        most_messages: 5,
+        bad_betas: 8,
+        accepting_alphas: Some(9),
+    };
+    holds(&rt, "three wide rows and two tuples", by_heights(&rt, &both) == of_both);
     let none = by_heights(&rt, &group_plan(&rt, alloc, 0));
     let of_none = HeightSoundness {
         most_messages: 0,

@@ -1,6 +1,6 @@
 //! Counts of the accepted pairs of grids.
 use super::proving::{group_plan, range_plan};
-use super::{alone, cell, holds, trace};
+use super::{alone, cell, holds, kind, trace};
 use air::{Expression, SymbolicExpression};
 use batch::{BatchError, BatchPlan, GridCount};
 use field::{BabyBear, BabyBear4, F7, PrimeCharacteristicRing};
@@ -166,13 +166,15 @@ fn a_grid_over_the_quartic_extension(rt: HostRuntime) {
     expect_count(&rt, "two of eight", counts, 2, Some(4));
 }
 
-/// The plan of one row of three local lookups: lookup `i` sends cell `i`, with the count of cell `3 + i`.
-fn of_three(rt: &impl Abort, alloc: Global) -> BatchPlan<F7> {
+/// The plan of one row of three lookups: lookup `i` sends cell `i`, with the count of cell `3 + i`. The first
+/// two are local, or both are on one bus; the third is local.
+fn of_three(rt: &impl Abort, alloc: Global, on_one_bus: bool) -> BatchPlan<F7> {
     let mut records = Vec::new(alloc);
     for column in 0..3usize {
         let tuple = Vec::from_array(alloc, [cell(column)]).expect(rt, "memory");
+        let bus = if on_one_bus && column < 2 { Some("a") } else { None };
         let lookup = Lookup {
-            kind: Kind::Local,
+            kind: kind(rt, alloc, bus),
             elements: Vec::from_array(alloc, [tuple]).expect(rt, "memory"),
             multiplicities: Vec::from_array(alloc, [cell(3 + column)]).expect(rt, "memory"),
             count_weight: 1,
@@ -209,13 +211,14 @@ fn bad_betas(rt: &impl Abort, alloc: Global, plan: &BatchPlan<F7>, row: &[u32]) 
     (bad, counts.linear_bad_betas())
 }
 
-/// Three lookups with all elements and counts of `F7`, up to what changes no number of alphas: a shift of all
-/// elements, so the first is 0, and a factor of all counts, so the first two are 1 and some count, 0 and 1, or
-/// both 0. None has more bad betas than `W * (k - 1)`, where `W` is 1.
+/// Three lookups of one element, under the ids 0, 1 and 2 or 0, 0 and 1, with all elements and counts of `F7`.
+/// A shift of all elements shifts all points, and so the accepting alphas; a factor of all counts is one of
+/// all fractions. So the first element is 0, and the first two counts are 1 and some count, 0 and 1, or both
+/// 0. None has more bad betas than `W * (k - 1)`, where `W` is 1.
 #[test]
 fn no_three_keys_pass_the_linear_bound(rt: HostRuntime) {
     let alloc = rt.alloc();
-    let plan = of_three(&rt, alloc);
+    let plans = [of_three(&rt, alloc, false), of_three(&rt, alloc, true)];
     let starts: [(u32, u32); 9] = [
         (1, 0),
         (1, 1),
@@ -230,18 +233,21 @@ fn no_three_keys_pass_the_linear_bound(rt: HostRuntime) {
     for (first, second) in starts {
         for number in 0..343u32 {
             let row = [0, number % 7, number / 7 % 7, first, second, number / 49];
-            let (bad, most) = bad_betas(&rt, alloc, &plan, row.as_slice());
-            holds(&rt, "within the linear bound", bad <= most);
+            for plan in &plans {
+                let (bad, most) = bad_betas(&rt, alloc, plan, row.as_slice());
+                holds(&rt, "within the linear bound", bad <= most);
+            }
         }
     }
 }
 
 /// The points of the first two lookups are `0 - beta` and `1 - 2 * beta`: the same at beta 1 alone. There
-/// counts of 1 and -1 cancel, so all seven alphas are accepting, where at most 3 + 2 - 1 are counted.
+/// counts of 1 and -1 cancel, so all alphas but the point 6 are accepting: six, where at most 3 + 2 - 1 are
+/// counted.
 #[test]
 fn two_keys_meet_the_linear_bound(rt: HostRuntime) {
     let alloc = rt.alloc();
-    let plan = of_three(&rt, alloc);
+    let plan = of_three(&rt, alloc, false);
     let met = bad_betas(&rt, alloc, &plan, &[0, 1, 0, 1, 6, 0]);
     holds(&rt, "one of one", met == (1, 1));
 }

@@ -1,5 +1,5 @@
 use Rattle.std.proofs.Common.{max, sym, ap, ◌∙◌}
-use Rattle.batch.proofs.PackedPlans.{greatest_stays}
+use Rattle.batch.proofs.PackedPlans.{all_keep, greatest_stays}
 use Rattle.batch.proofs.PackedCounts.{plan_packed, renaming, renaming_apart}
 use Rattle.batch.proofs.PlanCalls.{batch_fits}
 use Rattle.batch.specs.Lists.{lists_of}
@@ -23,4 +23,6 @@ pub returns-clause-width : goal.returns-clause-width
 returns-clause-width g c = λ packed.
     let before = c.args.self.now in
     let after = c.args.packed.now in
-    after.facts.width ∙ ap (λ n. max n 1) (greatest_stays g.F.PrimeCharacteristicRing.ring g.F.PartialEq.eq before.airs.items after.airs.items packed) ∙ sym before.facts.width
+    let R = g.F.PrimeCharacteristicRing.ring in
+    let eq = g.F.PartialEq.eq in
+    after.facts.width ∙ ap (λ n. max n 1) (greatest_stays R eq before.airs.items after.airs.items (all_keep R eq before.airs.items after.airs.items packed)) ∙ sym before.facts.width
