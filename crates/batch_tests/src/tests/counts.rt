@@ -120,7 +120,11 @@ fn bounds_by_heights(rt: HostRuntime) {
         bad_betas: 8,
         accepting_alphas: Some(9),
     };
-    holds(&rt, "three wide rows and two tuples", by_heights(&rt, &both) == of_both);
+    holds(
+        &rt,
+        "three wide rows and two tuples",
+        by_heights(&rt, &both) == of_both,
+    );
     let none = by_heights(&rt, &group_plan(&rt, alloc, 0));
     let of_none = HeightSoundness {
         most_messages: 0,

@@ -172,7 +172,11 @@ fn of_three(rt: &impl Abort, alloc: Global, on_one_bus: bool) -> BatchPlan<F7> {
     let mut records = Vec::new(alloc);
     for column in 0..3usize {
         let tuple = Vec::from_array(alloc, [cell(column)]).expect(rt, "memory");
-        let bus = if on_one_bus && column < 2 { Some("a") } else { None };
+        let bus = if on_one_bus && column < 2 {
+            Some("a")
+        } else {
+            None
+        };
         let lookup = Lookup {
             kind: kind(rt, alloc, bus),
             elements: Vec::from_array(alloc, [tuple]).expect(rt, "memory"),
