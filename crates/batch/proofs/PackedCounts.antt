@@ -12,8 +12,8 @@ use Rattle.batch.specs.PlanFacts.{AreNumbered, assigned}
 use Rattle.batch.specs.Traces.{batch_over}
 use Rattle.batch.specs.declared.trace.BatchTrace.{BatchTrace}
 use Rattle.batch.proofs.GivenLaws.{below_next}
-use Rattle.batch.proofs.PackedPlans.{IsAfter, IsBefore, all_buses, all_keep, passes, plans_packed}
-use Rattle.batch.proofs.PairedLookups.{Entry, after_has_id, all_pairs, all_passing_renamed, before_has_id, bus_id, each_among, numbers, numbers_agree, numbers_below, rename}
+use Rattle.batch.proofs.PackedPlans.{IsAfter, IsBefore, all_buses, all_keep, plans_packed}
+use Rattle.batch.proofs.PairedLookups.{Entry, after_has_id, all_pairs, all_passing_renamed, before_has_id, bus_id, each_among, numbers, numbers_agree, numbers_below, passes, rename}
 use Rattle.batch.proofs.Renaming.{renames_apart}
 
 module _ {F : Type 0} (R : Ring F) (eq : F → F → Bool) (ids : List (List ℕ)) (airs : List (Lookups F)) (m : ℕ) (more : List (List ℕ)) (later : List (Lookups F)) (n : ℕ)

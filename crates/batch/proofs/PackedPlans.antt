@@ -32,7 +32,7 @@ use Rattle.batch.specs.Order.{bus_at}
 use Rattle.batch.specs.PlanFacts.{all_tuple_widths, assigned}
 use Rattle.batch.specs.Traces.{batch_over}
 use Rattle.batch.specs.declared.trace.BatchTrace.{BatchTrace}
-use Rattle.batch.proofs.PairedLookups.{Entry}
+use Rattle.batch.proofs.PairedLookups.{Entry, passes}
 
 -- a list in two parts, each as long as in another
 split_first : {A : Type 0} (a c b d : List A) → length a ≡ length b → a ++ c ≡ b ++ d → a ≡ b
@@ -107,9 +107,6 @@ module _ {F : Type 0} (R : Ring F) (eq : F → F → Bool) where
       by_case (inr sent_alike) = record { messages = sent_alike.messages; flags = sent_alike.flags; other_buses_are = sent_alike.other_buses_are; widths = sent_alike.widths }
 
 module _ {F : Type 0} where
-  abbrev pub passes : Entry F → Bool
-  passes a = not (is_additive (fields_of a.1))
-
   -- the buses of what passes through, with ids
   buses_of : (ids : List ℕ) (ls : List (Lookup F)) → length ids ≡ length ls → map bus_at (filter passes (zip ids ls)) ≡ other_buses ls
   buses_of [] [] same = refl

@@ -9,6 +9,7 @@ use Rattle.field.specs.Distinct.{IsAmong}
 use Rattle.lookup_model.specs.Names.{is_named}
 use Rattle.lookup_model.specs.Outline.{fields_of}
 use Rattle.lookup_model.specs.declared.types.Lookup.{Lookup}
+use Rattle.lookup_model.proofs.Counting.DistinctLists.{all_among}
 use Rattle.lookup_model.proofs.Lists.{all_indexed}
 use Rattle.lookup_model.proofs.Names.{same_name-Decides}
 use Rattle.lookup.specs.Packing.{is_additive}
@@ -32,12 +33,6 @@ module _ {A : Type 0} where
   among_either x (z ∷ zs) ys (inl e) = inl (inl e)
   among_either x (z ∷ zs) ys (inr rest) = elim (among_either x zs ys rest) [ inl front ↦ inl (inr front) | inr back ↦ inr back ]
 
-  -- what holds of all items holds of each
-  pub among_holds : (P : A → Type 0) (xs : List A) (x : A) → AllByRecursion P xs → IsAmong x xs → P x
-  among_holds P [] x all there = absurd there
-  among_holds P (z ∷ zs) x all (inl e) = subst P (sym e) all.0
-  among_holds P (z ∷ zs) x all (inr rest) = among_holds P zs x all.1 rest
-
   pub each_among : (P : A → Type 0) (xs : List A) → ((x : A) → IsAmong x xs → P x) → AllByRecursion P xs
   each_among P [] each = tt
   each_among P (x ∷ xs) each = (each x (inl refl), each_among P xs (λ y there. each y (inr there)))
@@ -54,8 +49,8 @@ module _ {A : Type 0} where
   -- of a relation that holds of each item and each later one: two items are one, or it holds one way
   by_place : (R : A → A → Type 0) (z : A) (zs : List A) (x y : A) → AllByRecursion (R z) zs → (IsAmong x zs → IsAmong y zs → (x ≡ y) ⊎ (R x y ⊎ R y x)) → (x ≡ z) ⊎ IsAmong x zs → (y ≡ z) ⊎ IsAmong y zs → (x ≡ y) ⊎ (R x y ⊎ R y x)
   by_place R z zs x y firsts later (inl e) (inl f) = inl (e ∙ sym f)
-  by_place R z zs x y firsts later (inl e) (inr f) = inr (inl (subst (λ w. R w y) (sym e) (among_holds (R z) zs y firsts f)))
-  by_place R z zs x y firsts later (inr e) (inl f) = inr (inr (subst (λ w. R w x) (sym f) (among_holds (R z) zs x firsts e)))
+  by_place R z zs x y firsts later (inl e) (inr f) = inr (inl (subst (λ w. R w y) (sym e) (all_among (R z) zs y f firsts)))
+  by_place R z zs x y firsts later (inr e) (inl f) = inr (inr (subst (λ w. R w x) (sym f) (all_among (R z) zs x e firsts)))
   by_place R z zs x y firsts later (inr e) (inr f) = later e f
 
   pub members : (R : A → A → Type 0) (xs : List A) → AllPairs R xs → (x y : A) → IsAmong x xs → IsAmong y xs → (x ≡ y) ⊎ (R x y ⊎ R y x)
@@ -85,6 +80,10 @@ is_on name None named = absurd (cc named)
 is_on name (Some other) named = ap Some (sym ((same_name-Decides name other).0 named))
 
 module _ {F : Type 0} where
+  -- whether a lookup passes through packing
+  abbrev pub passes : Entry F → Bool
+  passes a = not (is_additive (fields_of a.1))
+
   -- ids are the same exactly if a bus is shared
   abbrev pub IsByBus : Entry F → Entry F → Type 0
   IsByBus a b = (a.0 ≡ b.0) ↔ IsTrue (same_bus (bus_at a) (bus_at b))
@@ -134,9 +133,6 @@ module _ {F : Type 0} where
       by_test false other (inr rest) later = later rest
 
   module _ (xs ys : List (Entry F)) (buses : AllPairs IsByBus xs) (buses_after : AllPairs IsByBus ys) where
-    abbrev passes : Entry F → Bool
-    passes a = not (is_additive (fields_of a.1))
-
     -- what a pair of a lookup before and one after has to be
     pub record IsPaired (p : Entry F × Entry F) : Type 0 where
       pub before : IsAmong p.0 xs
@@ -272,7 +268,7 @@ module _ {F : Type 0} where
       pub numbers_below : (most : ℕ) → AllByRecursion (λ a. a.0 < most) ys → (p : ℕ × ℕ) → IsAmong p (map numbers all_pairs) → p.1 < most
       numbers_below most below p there =
           let (q, q_there, is) = among_image numbers all_pairs p there in
-          subst (λ (n : ℕ). n < most) (ap (λ (r : ℕ × ℕ). r.1) (sym is)) (among_holds (λ a. a.0 < most) ys q.1 below (paired q q_there).after)
+          subst (λ (n : ℕ). n < most) (ap (λ (r : ℕ × ℕ). r.1) (sym is)) (all_among (λ a. a.0 < most) ys q.1 (paired q q_there).after below)
 
       module _ (most : ℕ) where
         abbrev pub rename : ℕ → ℕ
