@@ -7,7 +7,6 @@ pub mod MadeResults
 pub mod OnlyFractions
 pub mod OnlyRows
 pub mod OnlyWitness
-pub mod RefusedWitness
 pub mod Rekeyed
 pub mod SentFacts
 pub mod SolutionSums

@@ -4,7 +4,7 @@ use Rattle.std.specs.List.{AllZip, slice_get}
 use Rattle.lookup_model.specs.Challenges.{ChallengeTable}
 use Rattle.field.specs.Extension.{Extension}
 use Rattle.lookup_model.specs.declared.error.LookupError.{LookupError}
-use Rattle.lookup_model.specs.Batches.Answers.{ChecksWitness, RefusesUnaccepted}
+use Rattle.checker.specs.Answers.{ChecksWitness, RefusesUnaccepted}
 use Rattle.lookup_model.specs.Batches.Instances.{Instance}
 use Rattle.lookup_model.specs.Batches.Refusals.{HasShapeAt, IsAirRefusal, IsShapeRefusal, IsWitnessRefusal}
 use Rattle.lookup_model.specs.Batches.Witnesses.{AirResult, IsAccepted, IsSatisfiedAt}
