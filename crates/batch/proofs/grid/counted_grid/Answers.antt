@@ -1,8 +1,10 @@
 use Rattle.std.proofs.Common.{◌<◌, ◌^◌, ℕ, All, inl, inr, subst}
-use Rattle.std.proofs.lemmas.List.Elements.{All-map}
+use Rattle.std.proofs.lemmas.List.Elements.{All-map, recursion_from_All}
 use Rattle.std.proofs.lemmas.Result.{err_from_is_err_and}
 use Rattle.field.specs.laws.Extension.{of_laws}
 use Rattle.lookup_model.specs.Batches.Instances.{IsFitting, instance_of, instances_of}
+use Rattle.lookup_model.specs.Batches.Ids.{identified}
+use Rattle.batch.proofs.TraceLaws.{have_below}
 use Rattle.batch.proofs.GridLaws.{bound_holds, bound_overflows, counts_refused, stays_within}
 use Rattle.batch.specs.Grids.{HaveNoRepeat}
 use Rattle.batch.specs.Refusals.{of_lookup}
@@ -26,6 +28,11 @@ returns-in_err-check_distinct-2-clause-answer g c =
 
 pub soundness_count-requires-clause-ids : goal.soundness_count-requires-clause-ids
 soundness_count-requires-clause-ids g c = (c.args.num_ids, c.requires.lawful)
+
+pub accepted_pairs-requires-clause-ids : goal.accepted_pairs-requires-clause-ids
+accepted_pairs-requires-clause-ids g c =
+    let bs = c.args.batch.now in
+    have_below c.args.num_ids bs c.requires.fit (recursion_from_All (λ a. a.0 < c.args.num_ids) (identified (instances_of bs)) c.requires.lawful.below)
 
 pub returns-in_err-counts-clause-answer : goal.returns-in_err-counts-clause-answer
 returns-in_err-counts-clause-answer g c =
