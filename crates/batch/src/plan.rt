@@ -4,11 +4,11 @@ ghost use Rattle.batch.specs.PlanFacts.{IsPlan};
 ghost use Rattle.batch.specs.Plans.{plan_with};
 ghost use Rattle.batch.specs.WitnessCounts.{IsCountRefusal};
 
-use crate::batch::fitted_batch;
 use crate::error::BatchError;
 use crate::grid::{GridCount, counted_grid};
 use crate::heights::{HeightSoundness, soundness_by_heights};
 use crate::ids::{PlanIds, plan_ids};
+use crate::instances::fitted_batch;
 use crate::trace::BatchTrace;
 use crate::widths::{check_local_widths, widest_tuple};
 use checker::{
