@@ -120,9 +120,9 @@ impl<F: Field> BatchPlan<F> {
     /// vanishes, the call succeeds unless memory runs out, and there are no others that do. If all
     /// messages balance, the terminals sum to zero.
     ///
-    /// Refuses `LengthMismatch` if the traces are not as many as the AIRs, then `TraceMismatch` at the
-    /// first AIR whose traces do not have the height of the plan or do not fit its lookups, then
-    /// `Air` with the first fault of generation. Also fails when out of memory.
+    /// Refuses `LengthMismatch` unless there is a trace for each AIR, then `TraceMismatch` at the first
+    /// AIR whose traces do not have the height of the plan or do not fit its lookups, then `Air` with
+    /// the first fault of generation. Also fails when out of memory.
     pub fn prove<EF: ExtensionField<F>>(
         &self,
         alloc: Global,
@@ -151,9 +151,9 @@ impl<F: Field> BatchPlan<F> {
     /// If it is, alpha is one of those that [`soundness_count`](BatchPlan::soundness_count) counts. If
     /// all flags are lawful and no denominator vanishes, only the witness of `prove` can be.
     ///
-    /// Refuses traces as `prove` does, then `LengthMismatch` if the auxiliary traces or the terminals
-    /// are not as many as the AIRs, then `Lookup` with the first refusal of the witness. Also fails
-    /// when out of memory.
+    /// Refuses traces as `prove` does, then `LengthMismatch` unless there is an auxiliary trace and a
+    /// terminal for each AIR, then `Lookup` with the first refusal of the witness. Also fails when out
+    /// of memory.
     pub fn verify<EF: ExtensionField<F>>(
         &self,
         alloc: Global,
@@ -196,7 +196,7 @@ impl<F: Field> BatchPlan<F> {
     /// `max_message_width`. Also fails when out of memory.
     ///
     /// `linear` says that at most `W * (k - 1)` betas are bad, which
-    /// [`linear_bad_betas`](SoundnessCount::linear_bad_betas) tells.
+    /// [`linear_bad_betas`](SoundnessCount::linear_bad_betas) returns.
     pub fn soundness_count<EF: ExtensionField<F>>(
         &self,
         alloc: Global,
@@ -284,7 +284,7 @@ impl<F: Field> BatchPlan<F> {
 
     /// The batch of the AIRs over these traces, under their ids.
     ///
-    /// Refuses traces that are not as many as the AIRs, then the first that do not fit.
+    /// Refuses traces unless there is one for each AIR, then the first that do not fit.
     fn batch_over<'a>(
         &'a self,
         alloc: Global,

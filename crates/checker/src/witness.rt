@@ -26,8 +26,8 @@ use std::alloc::{AllocError, Global};
 ///
 /// - `TerminalPresenceMismatch`: there is no terminal although there are lookups, or the other way
 ///   round;
-/// - `PermutationWidthMismatch`: the auxiliary trace does not have one column more than there are
-///   lookups, or none without lookups;
+/// - `PermutationWidthMismatch`: the width of the auxiliary trace is not the number of lookups plus one,
+///   or not zero without lookups;
 /// - `PermutationHeightMismatch`: with lookups, it does not have the height of the main trace;
 /// - `ConstraintFailed`: a constraint is not zero on a row, of which the first is named;
 /// - `TerminalSumNonZero`: the terminals do not sum to zero.
