@@ -17,7 +17,7 @@ use Rattle.lookup_model.proofs.Lists.{all_back, all_front}
 use Rattle.batch.proofs.ItemLaws.{HoldsBelow, holds_next}
 use Rattle.batch.specs.Lists.{lists_of}
 use Rattle.batch.specs.Pairs.{HaveIdsBelow}
-use Rattle.batch.specs.Traces.{FitsAt, IsFirstUnfit, batch_over, instance_alone, instance_over, main_alone, shown_of}
+use Rattle.batch.specs.Traces.{FitsAt, IsFirstUnfit, batch_over, instance_of_main, instance_over, traces_of_main, view_of}
 use Rattle.batch.specs.declared.error.BatchError.TheVariants.{TraceMismatch}
 use Rattle.batch.specs.declared.trace.BatchTrace.{BatchTrace}
 
@@ -96,13 +96,13 @@ module _ {F : Type 0} where
     }
 
 -- over main traces alone, the batch of a plan is that of these
-pub alone_is : {F : Type 0} (airs : List (List ℕ × Lookups F)) (traces : List (BatchTrace F)) (mains : List (Matrix F)) → map shown_of traces ≡ map main_alone mains
-    → map (λ t. instance_over t.0 t.1) (zip airs traces) ≡ map (λ t. instance_alone t.0 t.1) (zip airs mains)
+pub alone_is : {F : Type 0} (airs : List (List ℕ × Lookups F)) (traces : List (BatchTrace F)) (mains : List (Matrix F)) → map view_of traces ≡ map traces_of_main mains
+    → map (λ t. instance_over t.0 t.1) (zip airs traces) ≡ map (λ t. instance_of_main t.0 t.1) (zip airs mains)
 alone_is [] traces mains same = refl
 alone_is (a ∷ airs) [] [] same = refl
 alone_is (a ∷ airs) [] (m ∷ ms) same = absurd (cc same)
 alone_is (a ∷ airs) (t ∷ ts) [] same = absurd (cc same)
 alone_is (a ∷ airs) (t ∷ ts) (m ∷ ms) same =
-    let head : shown_of t ≡ main_alone m = ap (λ all. get_or all 0 (shown_of t)) same in
-    let rest : map shown_of ts ≡ map main_alone ms = cc same in
+    let head : view_of t ≡ traces_of_main m = ap (λ all. get_or all 0 (view_of t)) same in
+    let rest : map view_of ts ≡ map traces_of_main ms = cc same in
     ap₂ (λ x xs. x ∷ xs) (λ i. record { lookups = lookups_of a.1; traces = head i; ids = a.0 }) (alone_is airs ts ms rest)

@@ -5,10 +5,10 @@ ghost use Rattle.batch.specs.Plans.{plan_with};
 ghost use Rattle.batch.specs.WitnessCounts.{IsCountRefusal};
 
 use crate::error::BatchError;
-use crate::grid::{GridCount, counted_grid};
+use crate::grid::{GridCount, count_grid};
 use crate::heights::{HeightSoundness, soundness_by_heights};
 use crate::ids::{PlanIds, plan_ids};
-use crate::instances::fitted_batch;
+use crate::instances::make_batch;
 use crate::trace::BatchTrace;
 use crate::widths::{check_local_widths, widest_tuple};
 use checker::{
@@ -279,7 +279,7 @@ impl<F: Field> BatchPlan<F> {
     {
         let batch = self.batch_over(alloc, traces)?;
         let (width, num_ids) = (self.max_message_width, self.num_ids);
-        counted_grid(alloc, batch.as_slice(), width, num_ids, alphas, betas)
+        count_grid(alloc, batch.as_slice(), width, num_ids, alphas, betas)
     }
 
     /// The batch of the AIRs over these traces, under their ids.
@@ -292,7 +292,7 @@ impl<F: Field> BatchPlan<F> {
     ) -> Result<Vec<BatchInstance<'a, F>>, BatchError>
         ensures { MakesPlanBatch F.CHARACTERISTIC (plan_of self.now) traces.now result }
     {
-        fitted_batch(
+        make_batch(
             alloc,
             self.airs.as_slice(),
             self.ids.as_slice(),

@@ -30,7 +30,7 @@ use Rattle.batch.specs.declared.trace.BatchTrace.{BatchTrace}
 use Rattle.lookup_program.specs.Machines.{airs_of, input_columns}
 use Rattle.lookup_program.specs.Program.{AreFaultlessAirs, IsFirstAirFault, IsHeavyInput, height_sum, machine_witness, run_table}
 use Rattle.lookup_program.specs.Refusal.{of_batch}
-use Rattle.batch.specs.Traces.{main_alone, shown_of}
+use Rattle.batch.specs.Traces.{traces_of_main, view_of}
 use Rattle.lookup_program.specs.Traces.{IsTraceOf}
 use Rattle.lookup_program.specs.declared.error.RunError.TheVariants.{Memory}
 use Rattle.lookup_program.specs.declared.machine.Machine.{Machine}
@@ -47,10 +47,10 @@ is_heavy R eq input machine traces all p prime airs hs airs_are heights_are e re
     (heavy.0, heavy.1, ap of_batch heavy.2)
 
 -- the traces that a plan is given are those of the AIRs
-pub shown_is : {F : Type 0} (traces : List (AirTrace F)) (own mains : List (Matrix F)) → own ≡ mains → (made : List (BatchTrace F)) → map shown_of made ≡ map main_alone own
-    → (shown : List (BatchTrace F)) → shown ≡ made → mains ≡ map (λ t. t.main) traces → map shown_of shown ≡ map (λ t. main_alone t.main) traces
+pub shown_is : {F : Type 0} (traces : List (AirTrace F)) (own mains : List (Matrix F)) → own ≡ mains → (made : List (BatchTrace F)) → map view_of made ≡ map traces_of_main own
+    → (shown : List (BatchTrace F)) → shown ≡ made → mains ≡ map (λ t. t.main) traces → map view_of shown ≡ map (λ t. traces_of_main t.main) traces
 shown_is traces own mains same made are shown shown_same mains_are =
-    ap (map shown_of) shown_same ∙ are ∙ ap (map main_alone) (same ∙ mains_are) ∙ map-map main_alone (λ t. t.main) traces
+    ap (map view_of) shown_same ∙ are ∙ ap (map traces_of_main) (same ∙ mains_are) ∙ map-map traces_of_main (λ t. t.main) traces
 
 module _ {F K : Type 0} (E : Extension F K) (machine : Machine) (alpha beta : K) (input : Matrix F) (traces : List (AirTrace F)) (all : AllZip (IsTraceOf E.base E.base_eq input) (airs_of machine) traces)
     (p : ℕ) (plan : Plan F) (facts : IsPlan p plan) (airs_are : plan.airs ≡ sets traces) (heights_are : plan.heights ≡ heights traces) where
@@ -72,7 +72,7 @@ module _ {F K : Type 0} (E : Extension F K) (machine : Machine) (alpha beta : K)
       ap₂ (λ ls ns. weighted_height_sum (map lookups_of ls) ns) airs_are heights_are ∙ height_sum_is E.base E.base_eq input machine traces all in
       omega (arith, facts.light, sum)
 
-  module _ (shown : List (BatchTrace F)) (shown_are : map shown_of shown ≡ map (λ t. main_alone t.main) traces) where
+  module _ (shown : List (BatchTrace F)) (shown_are : map view_of shown ≡ map (λ t. traces_of_main t.main) traces) where
     -- its batch is that of the machine
     batch_same : plan_batch plan shown ≡ map instance traces
     batch_same = (λ i. batch_over (zeros.0 i) (airs_are i) shown) ∙ batch_is traces shown shown_are
@@ -80,7 +80,7 @@ module _ {F K : Type 0} (E : Extension F K) (machine : Machine) (alpha beta : K)
     -- the traces fit
     traces_fit : input.width ≡ input_columns machine → 0 < height input → FitPlan plan shown
     traces_fit wide some = record {
-      as_many = sym (length-map shown shown_of) ∙ ap length shown_are ∙ length-map traces (λ t. main_alone t.main) ∙ sym (ap length heights_are ∙ length-map traces (λ t. height t.main));
+      as_many = sym (length-map shown view_of) ∙ ap length shown_are ∙ length-map traces (λ t. traces_of_main t.main) ∙ sym (ap length heights_are ∙ length-map traces (λ t. height t.main));
       fit = subst₂ (λ (batch : List (Instance F)) (ns : List ℕ). All FitsAt (zip batch ns)) (sym batch_same) (sym heights_are) (machine_fits E.base E.base_eq input machine traces all wide some);
     }
 

@@ -18,13 +18,13 @@ use Rattle.batch.proofs.TraceLaws.{alone_is}
 use Rattle.batch.specs.Plans.{FitPlan, Plan, plan_batch}
 use Rattle.batch.specs.Runs.{PassIsCounted, Proves, RefusesOnlyUnaccepted, Run, Verifies, run_of}
 use Rattle.batch.specs.Tables.{made_table}
-use Rattle.batch.specs.Traces.{FitsAt, IsFirstUnfit, batch_alone, main_alone, shown_of}
+use Rattle.batch.specs.Traces.{FitsAt, IsFirstUnfit, batch_of_mains, traces_of_main, view_of}
 use Rattle.batch.specs.declared.error.BatchError.{BatchError}
 use Rattle.batch.specs.declared.error.BatchError.TheVariants.{LengthMismatch, Memory}
 use Rattle.batch.specs.declared.trace.BatchTrace.{BatchTrace}
 use Rattle.memory_check.specs.Memory.{AreMemoryTraces, IsAcceptedMemory, IsMemoryRefusal}
 
-module _ {F K : Type 0} (E : Extension F K) (plan : Plan F) (mains : List (Matrix F)) (alpha beta : K) (traces : List (BatchTrace F)) (shown : map shown_of traces ≡ map main_alone mains) where
+module _ {F K : Type 0} (E : Extension F K) (plan : Plan F) (mains : List (Matrix F)) (alpha beta : K) (traces : List (BatchTrace F)) (shown : map view_of traces ≡ map traces_of_main mains) where
   abbrev run : Run F K
   run = run_of E plan traces alpha beta
 
@@ -32,7 +32,7 @@ module _ {F K : Type 0} (E : Extension F K) (plan : Plan F) (mains : List (Matri
   own = plan_batch plan traces
 
   abbrev batch : List (Instance F)
-  batch = batch_alone plan.ids plan.airs mains
+  batch = batch_of_mains plan.ids plan.airs mains
 
   abbrev table : ChallengeTable K
   table = made_table E.ring alpha beta plan.width plan.num_ids
@@ -42,7 +42,7 @@ module _ {F K : Type 0} (E : Extension F K) (plan : Plan F) (mains : List (Matri
   same = alone_is (zip plan.ids plan.airs) traces mains shown
 
   as_many : length traces ≡ length mains
-  as_many = sym (length-map traces shown_of) ∙ ap length shown ∙ length-map mains main_alone
+  as_many = sym (length-map traces view_of) ∙ ap length shown ∙ length-map mains traces_of_main
 
   traces_are : FitPlan plan traces → AreMemoryTraces E plan mains alpha beta
   traces_are are = record {

@@ -24,7 +24,7 @@ use Rattle.batch.specs.Checks.{IsPlanRefusal}
 use Rattle.batch.specs.Plans.{Plan}
 use Rattle.batch.specs.Refusals.{of_fault}
 use Rattle.batch.specs.Tables.{made_table}
-use Rattle.batch.specs.Traces.{FitsAt, IsFirstUnfit, batch_alone}
+use Rattle.batch.specs.Traces.{FitsAt, IsFirstUnfit, batch_of_mains}
 use Rattle.batch.specs.declared.error.BatchError.{BatchError}
 use Rattle.batch.specs.declared.error.BatchError.TheVariants.{LengthMismatch, Lookup as OfLookup, Memory}
 use Rattle.memory_check.specs.declared.memory.MemoryTraces.{MemoryTraces}
@@ -56,7 +56,7 @@ module _ (F : Type 0) where
 module _ {F K : Type 0} (E : Extension F K) (plan : Plan F) (mains : List (Matrix F)) (alpha beta : K) where
   -- the batch, and the table of its challenges
   abbrev batch : List (Instance F)
-  batch = batch_alone plan.ids plan.airs mains
+  batch = batch_of_mains plan.ids plan.airs mains
 
   abbrev table : ChallengeTable K
   table = made_table E.ring alpha beta plan.width plan.num_ids

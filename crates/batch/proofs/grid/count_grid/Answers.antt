@@ -8,7 +8,7 @@ use Rattle.batch.proofs.TraceLaws.{have_below}
 use Rattle.batch.proofs.GridLaws.{bound_holds, bound_overflows, counts_refused, stays_within}
 use Rattle.batch.specs.Grids.{HaveNoRepeat}
 use Rattle.batch.specs.Refusals.{of_lookup}
-use Rattle.batch.proofs.grid.counted_grid.Goals as goal
+use Rattle.batch.proofs.grid.count_grid.Goals as goal
 
 pub returns-in_err-check_distinct-clause-answer : goal.returns-in_err-check_distinct-clause-answer
 returns-in_err-check_distinct-clause-answer g c =
@@ -29,8 +29,8 @@ returns-in_err-check_distinct-2-clause-answer g c =
 pub soundness_count-requires-clause-ids : goal.soundness_count-requires-clause-ids
 soundness_count-requires-clause-ids g c = (c.args.num_ids, c.requires.lawful)
 
-pub accepted_pairs-requires-clause-ids : goal.accepted_pairs-requires-clause-ids
-accepted_pairs-requires-clause-ids g c =
+pub count_accepted_pairs-requires-clause-ids : goal.count_accepted_pairs-requires-clause-ids
+count_accepted_pairs-requires-clause-ids g c =
     let bs = c.args.batch.now in
     have_below c.args.num_ids bs c.requires.fit (recursion_from_All (λ a. a.0 < c.args.num_ids) (identified (instances_of bs)) c.requires.lawful.below)
 

@@ -2,7 +2,7 @@ use Rattle.std.proofs.Common.{◌*◌, ◌^◌, ◌≤◌, take}
 use Rattle.field.specs.laws.Extension.{of_laws}
 use Rattle.lookup_model.specs.Batches.Instances.{instances_of}
 use Rattle.lookup_model.specs.Batches.Grid.{AcceptsPair, IsNumberOf, grid}
-use Rattle.batch.proofs.pairs.accepted_pairs.Given as goal
+use Rattle.batch.proofs.pairs.count_accepted_pairs.Given as goal
 
 abbrev pub invariant-loop-index : goal.invariant-loop-index
 invariant-loop-index g l =

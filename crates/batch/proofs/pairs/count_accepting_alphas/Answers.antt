@@ -5,8 +5,8 @@ use Rattle.lookup_model.specs.Batches.Counts.{IsAccepting}
 use Rattle.lookup_model.specs.Batches.Instances.{instances_of}
 use Rattle.lookup_model.specs.Batches.Grid.{IsNumberOf}
 use Rattle.lookup_model.proofs.Counting.Numbers.{number_having, number_lacking, number_within}
-use Rattle.batch.proofs.pairs.accepting_alphas.Goals.{then-branch, else-branch}
-use Rattle.batch.proofs.pairs.accepting_alphas.Goals as goal
+use Rattle.batch.proofs.pairs.count_accepting_alphas.Goals.{then-branch, else-branch}
+use Rattle.batch.proofs.pairs.count_accepting_alphas.Goals as goal
 
 pub overflow_add-accepting : goal.overflow_add-accepting
 overflow_add-accepting g c =

@@ -5,7 +5,7 @@ use Rattle.field.specs.laws.Extension.{of_laws}
 use Rattle.lookup_model.specs.Batches.Instances.{instances_of}
 use Rattle.lookup_model.specs.Batches.Grid.{AcceptsPair, IsNumberOf, grid}
 use Rattle.lookup_model.proofs.Counting.Numbers.{mapped_number, number_of_both}
-use Rattle.batch.proofs.pairs.accepted_pairs.Goals as goal
+use Rattle.batch.proofs.pairs.count_accepted_pairs.Goals as goal
 
 pub overflow_add-accepted : goal.overflow_add-accepted
 overflow_add-accepted g c = omega (arith, c.loop-index.invariant.0, c.loop-index-test.true)
