@@ -73,12 +73,11 @@ module _ {F : Type 0} where
       omega (arith, length-map (zip (zip ids airs) traces) (λ t. instance_over t.0 t.1), length-zip (zip ids airs) traces, length-zip ids airs, ids_are, traces_are)
 
   -- an AIR of a batch with its height
-  pub trace_there : (bs : List (BatchInstance F)) (heights : List ℕ) (i : ℕ) (b : BatchInstance F) (h : ℕ) → length heights ≡ length bs → i < length bs → b ≡ get_or bs i b → h ≡ get_or heights i h
-      → slice_get (zip (instances_of bs) heights) i ≡ Some (instance_of b, h)
-  trace_there [] heights i b h same lt b_is h_is = absurd (omega (arith, lt))
-  trace_there (c ∷ bs) [] i b h same lt b_is h_is = absurd (omega (arith, same))
-  trace_there (c ∷ bs) (k ∷ hs) zero b h same lt b_is h_is = λ j. Some (instance_of (sym b_is j), sym h_is j)
-  trace_there (c ∷ bs) (k ∷ hs) (suc i) b h same lt b_is h_is = trace_there bs hs i b h (omega (arith, same)) (omega (arith, lt)) b_is h_is
+  pub trace_there : (bs : List (BatchInstance F)) (heights : List ℕ) (i : ℕ) (b : BatchInstance F) → length heights ≡ length bs → i < length bs → b ≡ get_or bs i b → slice_get (zip (instances_of bs) heights) i ≡ Some (instance_of b, get_or heights i 0)
+  trace_there [] heights i b same lt is = absurd (omega (arith, lt))
+  trace_there (c ∷ bs) [] i b same lt is = absurd (omega (arith, same))
+  trace_there (c ∷ bs) (h ∷ hs) zero b same lt is = λ j. Some (instance_of (sym is j), h)
+  trace_there (c ∷ bs) (h ∷ hs) (suc i) b same lt is = trace_there bs hs i b (omega (arith, same)) (omega (arith, lt)) is
 
   module _ (batch : List (Instance F)) (heights : List ℕ) (i : ℕ) (one : Instance F × ℕ) (there : slice_get (zip batch heights) i ≡ Some one) (fits : Bool) (told : IsTrue fits ↔ FitsAt one) (so_far : HoldsBelow FitsAt (zip batch heights) i) where
     -- one AIR more that fits
