@@ -87,10 +87,10 @@ module _ {F K : Type 0} (E : Extension F K) (machine : Machine) (alpha beta : K)
     -- what it proves is the machine's witness
     pub proved : (w : Witness K) → FitPlan plan shown × IsPlainWitness E (made_table E.ring alpha beta plan.width plan.num_ids) (plan_batch plan shown) w
         → (results_of w ≡ machine_witness E machine alpha beta input) × (length w.aux.items ≡ length w.terminals.items) × AreFaultlessAirs E machine alpha beta input × (height_sum machine input < p)
-    proved w (fit, plain, complete, faultless) = (
-      plain ∙ (λ i. plain_witness E (made_is i) (batch_same i)) ∙ witness_is E alpha beta input machine traces all,
-      complete.0 ∙ sym complete.1,
-      faultless_is E alpha beta input machine traces all (subst₂ (λ (t : ChallengeTable K) (is : List (Instance F)). AreInstancesFaultless E t is) made_is batch_same faultless),
+    proved w (fit, made) = (
+      made.0 ∙ (λ i. plain_witness E (made_is i) (batch_same i)) ∙ witness_is E alpha beta input machine traces all,
+      made.1.0 ∙ sym made.1.1,
+      faultless_is E alpha beta input machine traces all (subst₂ (λ (t : ChallengeTable K) (is : List (Instance F)). AreInstancesFaultless E t is) made_is batch_same made.2),
       light,
     )
 

@@ -22,7 +22,7 @@ returns-clause-accepted g c =
     let shown : map view_of c.as_slice-traces.result.now ≡ map traces_of_main (mains_of c.args.traces.now) = ap (map view_of) c.as_slice-traces.ensures ∙ (λ i. c.alone.ensures i ∷ c.alone-2.ensures i ∷ c.alone-3.ensures i ∷ []) in
     let made = c.in_ok-witness.ensures in
     memory_accepted E (plan_of c.args.plan.now) (mains_of c.args.traces.now) c.args.alpha c.args.beta c.as_slice-traces.result.now shown
-    c.in_ok-witness.witness made.answer.0 made.answer.1 made.answer.2 made.answer.3 made.balanced c.verify.result c.verify.ensures.answer c.verify.ensures.counted
+    c.in_ok-witness.witness made.answer.0 made.answer.1.0 made.answer.1.1 made.answer.1.2 made.balanced c.verify.result c.verify.ensures.answer c.verify.ensures.counted
 
 pub returns-clause-refused : goal.returns-clause-refused
 returns-clause-refused g c =
@@ -30,4 +30,4 @@ returns-clause-refused g c =
     let shown : map view_of c.as_slice-traces.result.now ≡ map traces_of_main (mains_of c.args.traces.now) = ap (map view_of) c.as_slice-traces.ensures ∙ (λ i. c.alone.ensures i ∷ c.alone-2.ensures i ∷ c.alone-3.ensures i ∷ []) in
     let made = c.in_ok-witness.ensures in
     memory_refused E (plan_of c.args.plan.now) (mains_of c.args.traces.now) c.args.alpha c.args.beta c.as_slice-traces.result.now shown
-    c.in_ok-witness.witness made.answer.0 made.answer.1 made.answer.2 made.answer.3 made.balanced c.verify.result c.verify.ensures.answer c.verify.ensures.refusal
+    c.in_ok-witness.witness made.answer.0 made.answer.1.0 made.answer.1.1 made.answer.1.2 made.balanced c.verify.result c.verify.ensures.answer c.verify.ensures.refusal
