@@ -166,19 +166,20 @@ fn a_grid_over_the_quartic_extension(rt: HostRuntime) {
     expect_count(&rt, "two of eight", counts, 2, Some(4));
 }
 
-/// A lookup that sends a cell with the count three cells on, under a flag if one is named.
+/// A lookup that sends a cell with the count of another one, under a flag if one is named.
 fn sender(
     rt: &impl Abort,
     alloc: Global,
     bus: Option<&str>,
     sent: usize,
+    count: usize,
     flag: Option<usize>,
 ) -> Lookup<F7> {
     let tuple = Vec::from_array(alloc, [cell(sent)]).expect(rt, "memory");
     Lookup {
         kind: kind(rt, alloc, bus),
         elements: Vec::from_array(alloc, [tuple]).expect(rt, "memory"),
-        multiplicities: Vec::from_array(alloc, [cell(3 + sent)]).expect(rt, "memory"),
+        multiplicities: Vec::from_array(alloc, [cell(count)]).expect(rt, "memory"),
         count_weight: 1,
         column: 0,
         flags: flag.map(|flag| Vec::from_array(alloc, [cell(flag)]).expect(rt, "memory")),
@@ -193,16 +194,16 @@ fn of_three(rt: &impl Abort, alloc: Global, on_one_bus: bool, with_gap: bool) ->
     let mut records = Vec::new(alloc);
     for sent in 0..2usize {
         records
-            .push(sender(rt, alloc, bus, sent, None))
+            .push(sender(rt, alloc, bus, sent, 3 + sent, None))
             .expect(rt, "memory");
     }
     if with_gap {
         records
-            .push(sender(rt, alloc, None, 0, Some(6)))
+            .push(sender(rt, alloc, None, 0, 3, Some(6)))
             .expect(rt, "memory");
     }
     records
-        .push(sender(rt, alloc, None, 2, None))
+        .push(sender(rt, alloc, None, 2, 5, None))
         .expect(rt, "memory");
     for column in 0..records.len() {
         records[column].column = column;
