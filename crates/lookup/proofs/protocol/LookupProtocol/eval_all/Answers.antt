@@ -49,7 +49,7 @@ eval_terminal-requires-clause-cells g c =
     let filled = eqb-false (length lookups) 0 (sym c.is_empty.ensures ∙ c.if-is_empty.false) in
     let some : 0 < length lookups = omega (arith, filled) in
     let kept = layout_kept accepts is g.AB.AirBuilder.layout g.met.AB.ExtensionBuilder.keeps_ext_layout c.args.builder.now (map (fraction_constraint E) lookups) c.eval_fractions.new.builder c.in_ok-eval_fractions.ensures in
-    λ k d lt. omega (arith, ap (λ layout. layout.permutation_width) kept, (c.requires.fit.records k (get_or lookups k d) lt (slice_get-get_or lookups k d lt)).0, c.requires.cells some, lt)
+    λ k d lt. omega (arith, ap (λ layout. layout.permutation_width) kept, (c.requires.fit.records k (get_or lookups k d) lt (slice_get-get_or lookups k d lt)).0, c.requires.room.cells some, lt)
 
 pub eval_terminal-requires-clause-terminal : goal.eval_terminal-requires-clause-terminal
 eval_terminal-requires-clause-terminal g c =
@@ -63,7 +63,7 @@ eval_terminal-requires-clause-terminal g c =
     let filled = eqb-false (length lookups) 0 (sym c.is_empty.ensures ∙ c.if-is_empty.false) in
     let some : 0 < length lookups = omega (arith, filled) in
     let kept = layout_kept accepts is g.AB.AirBuilder.layout g.met.AB.ExtensionBuilder.keeps_ext_layout c.args.builder.now (map (fraction_constraint E) lookups) c.eval_fractions.new.builder c.in_ok-eval_fractions.ensures in
-    omega (arith, ap (λ layout. layout.num_permutation_values) kept, c.requires.terminal some)
+    omega (arith, ap (λ layout. layout.num_permutation_values) kept, c.requires.room.terminal some)
 
 pub returns : goal.returns
 returns g c =
