@@ -59,7 +59,8 @@ fn selected_quotient<K: Field, E: Expression<K>>(
     alloc: Global,
     selection: Selection<E>,
 ) -> Result<Quotient<E>, AllocError>
-    ensures { IfOk result (IsQuotient (Means E.value E.degree)
+    ensures numerator { IfOk result (λ r. r.numerator ≡ selection.numerator) }
+    ensures means { IfOk result (IsQuotient (Means E.value E.degree)
         (selected_quotient K.ring (selection_meaning (meaning_of E.value E.degree) selection))) }
 {
     let unselected = E::constant(K::ONE).sub(alloc, selection.flags)?;
