@@ -1,15 +1,21 @@
 -- The AIRs of a debug check, one after another.
-use Rattle.std.proofs.Common.{◌≡◌, ◌∙◌, ◌∷◌, ◌++◌, ◌+◌, ◌<◌, ◌≤◌, [], ℕ, zero, suc, All, List, ap, ap₂, arith, get_or, length, map, refl, subst, sym, take}
+use Rattle.std.proofs.Common.{◌≡◌, ◌∙◌, ◌∷◌, ◌++◌, ◌+◌, ◌<◌, ◌≤◌, [], ℕ, zero, suc, All, List, MatchResult, Result, ap, ap₂, arith, get_or, inr, length, map, refl, subst, sym, take}
 use Rattle.std.proofs.lemmas.List.{map_push, take_more}
 use Rattle.std.proofs.lemmas.List.Elements.{All-map}
-use Rattle.std.proofs.lemmas.Option.{slice_get-get_or}
+use Rattle.std.proofs.lemmas.Result.{MatchResult-weaker}
+use Rattle.field.specs.Extension.{Extension}
+use Rattle.field.specs.Quartic.{Quartic}
 use Rattle.lookup.specs.declared.lookups.Lookups.{Lookups}
 use Rattle.lookup_debug.specs.Contributions.{AreFitting, IsTracedFitting, Traced, traced_of}
 use Rattle.lookup_debug.specs.declared.instance.LookupDebugInstance.{LookupDebugInstance}
 use Rattle.lookup_tables.specs.Nodes.{BabyBear}
+use Rattle.lookup_tables.specs.declared.tables.Tables.{Tables}
 use Rattle.lookup_tables.specs.declared.traces.ReadTraces.{ReadTraces}
-use Rattle.lookup_c.specs.Debugging.{IsMisfitAt, IsUnfitAmong, all_traced, traced_tables}
+use Rattle.lookup_tables.specs.declared.traces.Traces.{Traces}
+use Rattle.lookup_c.specs.BatchTables.{AreBatchTraces}
+use Rattle.lookup_c.specs.DebugCheck.{AreTableSets, ChecksTables, ChecksTraced, IsCallRefusal, IsMisfitAt, IsMismatchRefusal, IsUnfitAmong, all_traced, traced_tables}
 use Rattle.lookup_c.specs.declared.fault.Fault.{Fault}
+use Rattle.lookup_c.proofs.FirstFaults.{first_fault}
 
 long : (sets : List (Lookups BabyBear)) (traces : List ReadTraces) → length sets ≡ length traces → length (all_traced sets traces) ≡ length sets
 long [] traces same = refl
@@ -44,10 +50,18 @@ module _ (sets : List (Lookups BabyBear)) (traces : List ReadTraces) (i : ℕ) (
   -- an AIR whose lookups do not fit its traces
   pub unfit_there : (fault : Fault) (instances : List (LookupDebugInstance BabyBear)) → map traced_of instances ≡ take i (all_traced sets traces) → AreFitting instances
       → IsMisfitAt i (traced_tables s t) fault → IsUnfitAmong (all_traced sets traces) fault
-  unfit_there fault instances are fit misfit = record {
-    index = i;
-    traced = get_or (all_traced sets traces) i (traced_tables s t);
-    is_there = slice_get-get_or (all_traced sets traces) i (traced_tables s t) among;
-    before = subst (λ (ts : List (Traced BabyBear)). All IsTracedFitting ts) are (All-map IsTracedFitting traced_of instances fit);
-    misfit = subst (λ (x : Traced BabyBear). IsMisfitAt i x fault) (sym this) misfit;
-  }
+  unfit_there fault instances are fit misfit =
+      first_fault IsTracedFitting (λ index traced. IsMisfitAt index traced fault) (all_traced sets traces) i (traced_tables s t) among
+      (subst (λ (ts : List (Traced BabyBear)). All IsTracedFitting ts) are (All-map IsTracedFitting traced_of instances fit))
+      (subst (λ (x : Traced BabyBear). IsMisfitAt i x fault) (sym this) misfit)
+
+-- a debug check over what tables say
+pub checks_tables : (E : Extension BabyBear (Quartic BabyBear)) (airs : List Tables) (traces : List Traces) (sets : List (Lookups BabyBear)) (all : List ReadTraces) (ts : List (Traced BabyBear))
+    (answer : Result (Unit {0}) Fault) → AreTableSets airs sets → AreBatchTraces traces all → length traces ≡ length airs → ts ≡ all_traced sets all
+    → MatchResult answer (λ _. ChecksTraced E ts) (IsMismatchRefusal E ts)
+    → MatchResult answer (λ _. ChecksTables E airs traces) (IsCallRefusal E airs traces)
+checks_tables E airs traces sets all ts answer sets_are all_are as_many ts_are over =
+    let whole = subst (λ (us : List (Traced BabyBear)). MatchResult answer (λ _. ChecksTraced E us) (IsMismatchRefusal E us)) ts_are over in
+    MatchResult-weaker answer whole
+    (λ _ balance. record { sets = sets; sets_are = sets_are; all = all; all_are = all_are; as_many = as_many; balance = balance })
+    (λ fault refusal. inr (inr (inr (inr (record { sets = sets; sets_are = sets_are; all = all; all_are = all_are; refusal = inr refusal })))))

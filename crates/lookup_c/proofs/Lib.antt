@@ -1,4 +1,8 @@
+pub mod AnswerLaws
+pub mod BatchLaws
 pub mod DebugLaws
-pub mod TableCalls
+pub mod FirstFaults
+pub mod GenerateLaws
+pub mod RefusalLaws
 pub mod TableWriting
 pub mod WrittenLaws

@@ -1,8 +1,12 @@
 -- Items that are written one after another, and lists of them part by part.
-use Rattle.std.proofs.Common.{◌≡◌, ◌<◌, ◌≤◌, ◌+◌, ◌++◌, ◌∷◌, ◌∙◌, [], ℕ, List, ap, append_assoc, arith, drop, get_or, length, length-append, map, set, sym, take}
+use Rattle.std.proofs.Common.{◌≡◌, ◌<◌, ◌≤◌, ◌+◌, ◌++◌, ◌∷◌, ◌∙◌, [], ℕ, List, ap, append_assoc, arith, drop, get_or, length, length-append, map, refl, set, sym, take}
 use Rattle.std.proofs.lemmas.List.{append-nil, map_more, map_push, take-append-drop, take_all, take_more, take_more_set, drop_more, length-take-le, set_at}
 use Rattle.std.proofs.lemmas.List.Concat.{flat_map-append}
-use Rattle.std.specs.List.{flat_map}
+use Rattle.std.specs.List.{concat, flat_map}
+use Rattle.std.specs.declared.alloc.Global.{Global}
+use Rattle.std.specs.declared.vec.Vec.{Vec}
+use Rattle.batch.specs.Lists.{lists_of}
+use Rattle.lookup_c.specs.Plan.{items_of}
 
 -- one more item is written, from a place on
 pub written_next : {A B : Type 0} (f : A → B) (start cells after : List B) (at i : ℕ) (values : List A) (d : A) (v : B) → i < length values → at + i < length cells
@@ -82,3 +86,8 @@ over_all values start after i below all written =
 -- one more item is appended, of the next item of a list
 pub map_next : {A B : Type 0} (f : A → B) (xs : List A) (i : ℕ) (d : A) (before after : List B) (y : B) → i < length xs → after ≡ before ++ y ∷ [] → y ≡ f (get_or xs i d) → before ≡ map f (take i xs) → after ≡ map f (take (i + 1) xs)
 map_next f xs i d before after y there pushed is so_far = pushed ∙ ((λ k. so_far k ++ is k ∷ []) ∙ sym (map_more f xs i d there))
+
+-- the ids of a plan, list after list
+pub all_ids_are : (ids : List (Vec ℕ Global)) → concat (lists_of ids) ≡ flat_map items_of ids
+all_ids_are [] = refl
+all_ids_are (list ∷ rest) = ap (λ more. list.items ++ more) (all_ids_are rest)

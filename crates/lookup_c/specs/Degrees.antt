@@ -6,10 +6,10 @@ use Rattle.lookup_model.specs.declared.types.Lookup.{Lookup}
 use Rattle.lookup_tables.specs.Nodes.{BabyBear}
 use Rattle.lookup_tables.specs.Tables.{SayLookups}
 use Rattle.lookup_tables.specs.declared.tables.Tables.{Tables}
-use Rattle.lookup_c.specs.Batches.{IsSetRefusal}
+use Rattle.lookup_c.specs.BatchTables.{IsSetRefusal}
 use Rattle.lookup_c.specs.declared.fault.Fault.{Fault}
 use Rattle.lookup_c.specs.declared.fault.Fault.TheVariants.{Length, Lookup as OfLookup, Memory}
-use Rattle.lookup_c.specs.declared.fault.Part.TheVariants.{Degrees}
+use Rattle.lookup_c.specs.declared.codes.Part.TheVariants.{Degrees}
 
 -- a degree that does not fit 64 bits; or memory runs out
 abbrev pub IsDegreeRefusal : List (Lookup BabyBear) → Fault → Type 0
@@ -24,8 +24,8 @@ pub record GivesDegrees (tables : Tables) (degrees : List ℕ) : Type 0 where
   pub degrees_are : degrees ≡ map (lookup_degree 0) lookups
 
 -- The refusal of the lookups, of a degree, or for the room.
-abbrev pub IsDegreesRefusal : Tables → ℕ → Fault → Type 0
-IsDegreesRefusal tables room fault =
+abbrev pub IsCallRefusal : Tables → ℕ → Fault → Type 0
+IsCallRefusal tables room fault =
     IsSetRefusal 0 tables fault
     ⊎ ((lookups : List (Lookup BabyBear)) × SayLookups tables lookups
     × (IsDegreeRefusal lookups fault ⊎ ((length lookups ≢ room) × (fault ≡ Length Degrees (length lookups) room))))

@@ -1,5 +1,6 @@
 -- What C sees of a refusal.
-use Rattle.std.specs.Prelude.{◌≡◌, ℕ, Bool, true, false}
+use Rattle.std.specs.Prelude.{◌≡◌, ℕ}
+use Rattle.std.specs.Int.{from_bool}
 use Rattle.batch.specs.declared.error.BatchError.{BatchError}
 use Rattle.batch.specs.declared.error.BatchError.TheVariants as batch_error
 use Rattle.lookup_model.specs.declared.error.LookupError.{LookupError}
@@ -8,121 +9,140 @@ use Rattle.lookup_tables.specs.declared.tables.TableFault.{TableFault}
 use Rattle.lookup_tables.specs.declared.tables.TableFault.TheVariants as table_fault
 use Rattle.lookup_tables.specs.declared.traces.TraceFault.{TraceFault}
 use Rattle.lookup_tables.specs.declared.traces.TraceFault.TheVariants as trace_fault
-use Rattle.lookup_tables.specs.declared.traces.TracePart.{TracePart}
-use Rattle.lookup_tables.specs.declared.traces.TracePart.TheVariants.{Main, Preprocessed, PublicValues}
+use Rattle.lookup_c.specs.Codes.{code_number, part_number, part_of, record_fault_number}
+use Rattle.lookup_c.specs.declared.codes.Code.{Code}
+use Rattle.lookup_c.specs.declared.codes.Code.TheVariants as code
+use Rattle.lookup_c.specs.declared.codes.Part.TheVariants as part
+use Rattle.lookup_c.specs.declared.codes.RecordFault.{RecordFault}
+use Rattle.lookup_c.specs.declared.codes.RecordFault.TheVariants as record_fault
 use Rattle.lookup_c.specs.declared.fault.Fault.{Fault}
 use Rattle.lookup_c.specs.declared.fault.Fault.TheVariants.{Memory, Table, Traces, Large, Id, Width, Text, Length, Ragged, Misfit, Heights, Lookup, Mismatch, Batch}
-use Rattle.lookup_c.specs.declared.fault.Part.{Part}
-use Rattle.lookup_c.specs.declared.fault.Part.TheVariants.{Challenges, Alphas, Betas, Auxiliary, Terminals, Batch as OfBatch, Degrees, Ids, Sizes, Nodes, Tuples, Names, Records}
 use Rattle.lookup_c.specs.declared.refusal.Refusal.{Refusal}
 
--- a refusal with this code and these places, and no text
-abbrev pub placed : ℕ → ℕ → ℕ → ℕ → ℕ → ℕ → ℕ → Refusal
-placed code part air row lookup expected actual = record {
-  code = code;
-  part = part;
-  air = air;
-  row = row;
-  lookup = lookup;
-  expected = expected;
-  actual = actual;
-  text_length = 0;
-}
+-- a refusal with its code by name
+pub record CodedRefusal : Type 0 where
+  pub code : Code
+  pub part : ℕ
+  pub air : ℕ
+  pub row : ℕ
+  pub lookup : ℕ
+  pub expected : ℕ
+  pub actual : ℕ
 
--- the numbers of the parts of a call
-abbrev pub trace_part_number : TracePart → ℕ
-trace_part_number Main = 1
-trace_part_number Preprocessed = 2
-trace_part_number PublicValues = 3
+-- the numbers of a refusal, without a text
+abbrev pub numbers_of : CodedRefusal → Refusal
+numbers_of r = record { code = code_number r.code; part = r.part; air = r.air; row = r.row; lookup = r.lookup; expected = r.expected; actual = r.actual; text_length = 0 }
 
-abbrev pub part_number : Part → ℕ
-part_number Challenges = 4
-part_number Alphas = 5
-part_number Betas = 6
-part_number Auxiliary = 7
-part_number Terminals = 8
-part_number OfBatch = 9
-part_number Degrees = 10
-part_number Ids = 11
-part_number Sizes = 12
-part_number Nodes = 13
-part_number Tuples = 14
-part_number Names = 15
-part_number Records = 16
+-- the refusal with this code and no fields
+abbrev pub of_code : Code → CodedRefusal
+of_code c = record { code = c; part = 0; air = 0; row = 0; lookup = 0; expected = 0; actual = 0 }
 
--- the refusal of a record of an AIR, by what is wrong with it
-abbrev pub table_refusal : ℕ → ℕ → TableFault → Refusal
-table_refusal air r table_fault.Memory = placed 1 0 0 0 0 0 0
-table_refusal air r (table_fault.Node n) = placed 2 1 air n r 0 0
-table_refusal air r table_fault.Range = placed 2 2 air 0 r 0 0
-table_refusal air r table_fault.Long = placed 2 3 air 0 r 0 0
-table_refusal air r table_fault.Kind = placed 2 4 air 0 r 0 0
-table_refusal air r table_fault.Name = placed 2 5 air 0 r 0 0
-table_refusal air r table_fault.Deep = placed 2 6 air 0 r 0 0
-table_refusal air r table_fault.Row = placed 2 7 air 0 r 0 0
-table_refusal air r table_fault.Many = placed 2 8 air 0 r 0 0
+-- what a refusal holds that is not refused
+abbrev pub no_refusal : Refusal
+no_refusal = numbers_of (of_code code.Ok)
+
+-- A refusal with each code has these fields alone; all others are 0.
+abbrev pub fields_of : Code → CodedRefusal → CodedRefusal
+fields_of code.BadTable r = record (of_code code.BadTable) { part = r.part; air = r.air; row = r.row; lookup = r.lookup }
+fields_of code.BadNumber r = record (of_code code.BadNumber) { part = r.part; air = r.air; row = r.row }
+fields_of code.BadLength r = record (of_code code.BadLength) { part = r.part; expected = r.expected; actual = r.actual }
+fields_of code.NoWholeRows r = record (of_code code.NoWholeRows) { part = r.part; air = r.air }
+fields_of code.DoesNotFit r = record (of_code code.DoesNotFit) { air = r.air }
+fields_of code.OtherHeight r = record (of_code code.OtherHeight) { part = r.part; air = r.air }
+fields_of code.VanishingDenominator r = record (of_code code.VanishingDenominator) { air = r.air; row = r.row; lookup = r.lookup }
+fields_of code.FlagNotBoolean r = record (of_code code.FlagNotBoolean) { air = r.air; row = r.row; lookup = r.lookup }
+fields_of code.FlagsNotExclusive r = record (of_code code.FlagsNotExclusive) { air = r.air; row = r.row; lookup = r.lookup }
+fields_of code.MalformedLookup r = record (of_code code.MalformedLookup) { air = r.air; lookup = r.lookup }
+fields_of code.BusWidths r = record (of_code code.BusWidths) { expected = r.expected; actual = r.actual }
+fields_of code.TupleWidths r = record (of_code code.TupleWidths) { expected = r.expected; actual = r.actual }
+fields_of code.TooManyIds r = record (of_code code.TooManyIds) { actual = r.actual }
+fields_of code.TraceMismatch r = record (of_code code.TraceMismatch) { air = r.air }
+fields_of code.TerminalPresence r = record (of_code code.TerminalPresence) { air = r.air; expected = r.expected; actual = r.actual }
+fields_of code.AuxiliaryWidth r = record (of_code code.AuxiliaryWidth) { air = r.air; expected = r.expected }
+fields_of code.AuxiliaryHeight r = record (of_code code.AuxiliaryHeight) { air = r.air }
+fields_of code.ConstraintFailed r = record (of_code code.ConstraintFailed) { air = r.air; row = r.row }
+fields_of code.WeightOverflow r = record (of_code code.WeightOverflow) { air = r.air }
+fields_of code.DegreeOverflow r = record (of_code code.DegreeOverflow) { air = r.air }
+fields_of code.Unmet r = record (of_code code.Unmet) { air = r.air }
+fields_of c r = of_code c
+
+-- the refusal of a record of an AIR, for what is wrong with it and not where
+abbrev pub bad_table : ℕ → ℕ → RecordFault → CodedRefusal
+bad_table a l fault = record (of_code code.BadTable) { part = record_fault_number fault; air = a; lookup = l }
+
+-- the refusal of a record of an AIR
+abbrev pub table_refusal : ℕ → ℕ → TableFault → CodedRefusal
+table_refusal a l table_fault.Memory = of_code code.OutOfMemory
+table_refusal a l (table_fault.Node n) = record (bad_table a l record_fault.Node) { row = n }
+table_refusal a l table_fault.Range = bad_table a l record_fault.Range
+table_refusal a l table_fault.Long = bad_table a l record_fault.LongList
+table_refusal a l table_fault.Kind = bad_table a l record_fault.Kind
+table_refusal a l table_fault.Name = bad_table a l record_fault.Name
+table_refusal a l table_fault.Deep = bad_table a l record_fault.DeepExpression
+table_refusal a l table_fault.Row = bad_table a l record_fault.LargeRow
+table_refusal a l table_fault.Many = bad_table a l record_fault.LongWrittenList
 
 -- the refusal of the traces of an AIR
-abbrev pub trace_refusal : ℕ → TraceFault → Refusal
-trace_refusal air trace_fault.Memory = placed 1 0 0 0 0 0 0
-trace_refusal air (trace_fault.Large part i) = placed 3 (trace_part_number part) air i 0 0 0
-trace_refusal air (trace_fault.Ragged part) = placed 5 (trace_part_number part) air 0 0 0 0
-
--- 1 where something is present
-abbrev pub presence : Bool → ℕ
-presence true = 1
-presence false = 0
+abbrev pub trace_refusal : ℕ → TraceFault → CodedRefusal
+trace_refusal a trace_fault.Memory = of_code code.OutOfMemory
+trace_refusal a (trace_fault.Large p i) = record (of_code code.BadNumber) { part = part_number (part_of p); air = a; row = i }
+trace_refusal a (trace_fault.Ragged p) = record (of_code code.NoWholeRows) { part = part_number (part_of p); air = a }
 
 -- the refusal of the lookup layer, at this AIR unless it names one
-abbrev pub lookup_refusal : ℕ → LookupError → Refusal
-lookup_refusal at lookup_error.Memory = placed 1 0 0 0 0 0 0
-lookup_refusal at (lookup_error.VanishingDenominator row l) = placed 8 0 at row l 0 0
-lookup_refusal at (lookup_error.FlagNotBoolean row l) = placed 9 0 at row l 0 0
-lookup_refusal at (lookup_error.FlagsNotExclusive row l) = placed 10 0 at row l 0 0
-lookup_refusal at (lookup_error.BadRecord l) = placed 11 0 at 0 l 0 0
-lookup_refusal at (lookup_error.BusWidthMismatch bus expected actual) = placed 12 0 0 0 0 expected actual
-lookup_refusal at (lookup_error.TupleWidths context width other) = placed 13 0 0 0 0 width other
-lookup_refusal at (lookup_error.MultiplicityHeightBoundExceeded sum bits) = placed 15 0 0 0 0 0 0
-lookup_refusal at (lookup_error.TerminalPresenceMismatch air expected got) = placed 17 0 air 0 0 (presence expected) (presence got)
-lookup_refusal at (lookup_error.PermutationWidthMismatch air expected) = placed 18 0 air 0 0 expected 0
-lookup_refusal at (lookup_error.PermutationHeightMismatch air) = placed 19 0 air 0 0 0 0
-lookup_refusal at (lookup_error.ConstraintFailed air row) = placed 20 0 air row 0 0 0
-lookup_refusal at lookup_error.TerminalSumNonZero = placed 21 0 0 0 0 0 0
-lookup_refusal at lookup_error.CountOverflow = placed 23 0 0 0 0 0 0
-lookup_refusal at lookup_error.CountWeightOverflow = placed 24 0 at 0 0 0 0
-lookup_refusal at lookup_error.DegreeOverflow = placed 25 0 at 0 0 0 0
-lookup_refusal at lookup_error.CommitmentMismatch = placed 28 0 at 0 0 0 0
-lookup_refusal at (lookup_error.PermutationLengthMismatch air) = placed 28 0 at 0 0 0 0
-lookup_refusal at (lookup_error.Air error) = placed 28 0 at 0 0 0 0
+abbrev pub lookup_refusal : ℕ → LookupError → CodedRefusal
+lookup_refusal at lookup_error.Memory = of_code code.OutOfMemory
+lookup_refusal at (lookup_error.VanishingDenominator r l) = record (of_code code.VanishingDenominator) { air = at; row = r; lookup = l }
+lookup_refusal at (lookup_error.FlagNotBoolean r l) = record (of_code code.FlagNotBoolean) { air = at; row = r; lookup = l }
+lookup_refusal at (lookup_error.FlagsNotExclusive r l) = record (of_code code.FlagsNotExclusive) { air = at; row = r; lookup = l }
+lookup_refusal at (lookup_error.BadRecord l) = record (of_code code.MalformedLookup) { air = at; lookup = l }
+lookup_refusal at (lookup_error.BusWidthMismatch bus e a) = record (of_code code.BusWidths) { expected = e; actual = a }
+lookup_refusal at (lookup_error.TupleWidths context e a) = record (of_code code.TupleWidths) { expected = e; actual = a }
+lookup_refusal at (lookup_error.MultiplicityHeightBoundExceeded sum bits) = of_code code.HeightBound
+lookup_refusal at (lookup_error.TerminalPresenceMismatch air e a) = record (of_code code.TerminalPresence) { air = air; expected = from_bool e; actual = from_bool a }
+lookup_refusal at (lookup_error.PermutationWidthMismatch air e) = record (of_code code.AuxiliaryWidth) { air = air; expected = e }
+lookup_refusal at (lookup_error.PermutationHeightMismatch air) = record (of_code code.AuxiliaryHeight) { air = air }
+lookup_refusal at (lookup_error.ConstraintFailed air r) = record (of_code code.ConstraintFailed) { air = air; row = r }
+lookup_refusal at lookup_error.TerminalSumNonZero = of_code code.TerminalSum
+lookup_refusal at lookup_error.CountOverflow = of_code code.CountOverflow
+lookup_refusal at lookup_error.CountWeightOverflow = record (of_code code.WeightOverflow) { air = at }
+lookup_refusal at lookup_error.DegreeOverflow = record (of_code code.DegreeOverflow) { air = at }
+lookup_refusal at lookup_error.CommitmentMismatch = record (of_code code.Unmet) { air = at }
+lookup_refusal at (lookup_error.PermutationLengthMismatch air) = record (of_code code.Unmet) { air = at }
+lookup_refusal at (lookup_error.Air error) = record (of_code code.Unmet) { air = at }
 
 -- the refusal of a call on a plan
-abbrev pub batch_refusal : BatchError → Refusal
-batch_refusal batch_error.Memory = placed 1 0 0 0 0 0 0
+abbrev pub batch_refusal : BatchError → CodedRefusal
+batch_refusal batch_error.Memory = of_code code.OutOfMemory
 batch_refusal (batch_error.Lookup error) = lookup_refusal 0 error
-batch_refusal (batch_error.LengthMismatch expected actual) = placed 4 9 0 0 0 expected actual
-batch_refusal (batch_error.TooManyIds ids) = placed 14 0 0 0 0 0 ids
-batch_refusal (batch_error.TraceMismatch air) = placed 16 0 air 0 0 0 0
-batch_refusal batch_error.RepeatedChallenge = placed 22 0 0 0 0 0 0
+batch_refusal (batch_error.LengthMismatch e a) = record (of_code code.BadLength) { part = part_number part.Batch; expected = e; actual = a }
+batch_refusal (batch_error.TooManyIds ids) = record (of_code code.TooManyIds) { actual = ids }
+batch_refusal (batch_error.TraceMismatch air) = record (of_code code.TraceMismatch) { air = air }
+batch_refusal batch_error.RepeatedChallenge = of_code code.RepeatedChallenge
 batch_refusal (batch_error.Air air error) = lookup_refusal air error
-batch_refusal batch_error.CountOverflow = placed 23 0 0 0 0 0 0
+batch_refusal batch_error.CountOverflow = of_code code.CountOverflow
 
--- the refusal of a call, without the length of its text
-abbrev pub refusal_of : Fault → Refusal
-refusal_of Memory = placed 1 0 0 0 0 0 0
-refusal_of (Table air r fault) = table_refusal air r fault
+-- the refusal of a call
+abbrev pub refusal_of : Fault → CodedRefusal
+refusal_of Memory = of_code code.OutOfMemory
+refusal_of (Table air l fault) = table_refusal air l fault
 refusal_of (Traces air fault) = trace_refusal air fault
-refusal_of (Large part air i) = placed 3 (part_number part) air i 0 0 0
-refusal_of (Id i) = placed 3 11 0 i 0 0 0
-refusal_of Width = placed 3 12 0 0 0 0 0
-refusal_of (Text e) = placed 27 0 0 0 0 0 0
-refusal_of (Length part expected actual) = placed 4 (part_number part) 0 0 0 expected actual
-refusal_of (Ragged air) = placed 5 7 air 0 0 0 0
-refusal_of (Misfit air) = placed 6 0 air 0 0 0 0
-refusal_of (Heights air) = placed 7 2 air 0 0 0 0
+refusal_of (Large p air i) = record (of_code code.BadNumber) { part = part_number p; air = air; row = i }
+refusal_of (Id i) = record (of_code code.BadNumber) { part = part_number part.Ids; row = i }
+refusal_of Width = record (of_code code.BadNumber) { part = part_number part.Sizes }
+refusal_of (Text e) = of_code code.BadText
+refusal_of (Length p e a) = record (of_code code.BadLength) { part = part_number p; expected = e; actual = a }
+refusal_of (Ragged air) = record (of_code code.NoWholeRows) { part = part_number part.Auxiliary; air = air }
+refusal_of (Misfit air) = record (of_code code.DoesNotFit) { air = air }
+refusal_of (Heights air) = record (of_code code.OtherHeight) { part = part_number part.Preprocessed; air = air }
 refusal_of (Lookup air error) = lookup_refusal air error
-refusal_of (Mismatch line) = placed 26 0 0 0 0 0 0
+refusal_of (Mismatch line) = of_code code.Mismatch
 refusal_of (Batch error) = batch_refusal error
 
--- C sees this refusal, with the length of some text
-abbrev pub IsRefusal : Fault → Refusal → Type 0
-IsRefusal fault refusal = refusal ≡ record (refusal_of fault) { text_length = refusal.text_length }
+-- a field that the code of a refusal lacks is 0
+abbrev pub HasItsFields : CodedRefusal → Type 0
+HasItsFields r = r ≡ fields_of r.code r
+
+-- C sees this refusal of a fault, with the length of some text
+pub record IsRefusal (fault : Fault) (refusal : Refusal) : Type 0 where
+  pub is : refusal ≡ record (numbers_of (refusal_of fault)) { text_length = refusal.text_length }
+  pub fields : HasItsFields (refusal_of fault)

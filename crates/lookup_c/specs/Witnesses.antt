@@ -1,5 +1,6 @@
 -- Witnesses that numbers say.
-use Rattle.std.specs.Prelude.{◌≡◌, ◌≢◌, ◌⊎◌, ◌==◌, if◌then◌else◌, ℕ, All, false, true, List, Option, None, Some, length, map, slice_get, take}
+use Rattle.std.specs.Prelude.{◌≡◌, ◌≢◌, ◌⊎◌, ◌==◌, if◌then◌else◌, ℕ, All, false, true, List, Option, None, Some, length, map}
+use Rattle.expressions.specs.Faults.{HasFirstFault}
 use Rattle.field.specs.Quartic.{Quartic}
 use Rattle.matrix.specs.Matrix.{Matrix}
 use Rattle.lookup_model.specs.declared.witness.Witness.{Witness}
@@ -10,7 +11,7 @@ use Rattle.lookup_tables.specs.Traces.{makes_rows}
 use Rattle.lookup_c.specs.Inputs.{IsListRefusal}
 use Rattle.lookup_c.specs.declared.fault.Fault.{Fault}
 use Rattle.lookup_c.specs.declared.fault.Fault.TheVariants.{Large, Memory, Ragged}
-use Rattle.lookup_c.specs.declared.fault.Part.TheVariants.{Auxiliary, Terminals}
+use Rattle.lookup_c.specs.declared.codes.Part.TheVariants.{Auxiliary, Terminals}
 use Rattle.lookup_c.specs.declared.outputs.Terminal.{Terminal}
 use Rattle.lookup_c.specs.declared.witness.AirWitness.{AirWitness}
 
@@ -47,14 +48,8 @@ IsAuxiliaryRefusal i air fault =
 abbrev pub IsTerminalRefusal : ℕ → Terminal → Fault → Type 0
 IsTerminalRefusal i t fault = (fault ≡ Large Terminals i 0) × (t.present ≢ 0) × (¬ IsGroup t.value)
 
--- the refusal of what a witness has for the first AIR that is refused
-pub record IsRefusedAt (numbers : List AirWitness) (fault : Fault) : Type 0 where
-  pub index : ℕ
-  pub air : AirWitness
-  pub is_there : slice_get numbers index ≡ Some air
-  pub before : All IsAirWitness (take index numbers)
-  pub refusal : IsAuxiliaryRefusal index air fault ⊎ IsTerminalRefusal index air.terminal fault
-
--- the same; or memory runs out
+-- the refusal of what a witness has for the first AIR that is refused; or memory runs out
 abbrev pub IsWitnessRefusal : List AirWitness → Fault → Type 0
-IsWitnessRefusal numbers fault = (fault ≡ Memory) ⊎ IsRefusedAt numbers fault
+IsWitnessRefusal numbers fault =
+    (fault ≡ Memory)
+    ⊎ HasFirstFault IsAirWitness (λ index air. IsAuxiliaryRefusal index air fault ⊎ IsTerminalRefusal index air.terminal fault) numbers

@@ -2,12 +2,12 @@
 ghost use Rattle.std.specs.Prelude.{◌≡◌, ◌≢◌, MatchResult, length, map};
 ghost use Rattle.lookup.specs.Lookups.{lookups_of};
 ghost use Rattle.lookup_model.specs.LookupDegree.{lookup_degree};
-ghost use Rattle.lookup_c.specs.Degrees.{GivesDegrees, IsDegreeRefusal, IsDegreesRefusal};
-ghost use Rattle.lookup_c.specs.Refusals.{IsRefusal, placed};
-ghost use Rattle.lookup_c.specs.declared.fault.Fault.{Fault};
+ghost use Rattle.lookup_c.specs.Degrees.{GivesDegrees, IsDegreeRefusal, IsCallRefusal};
+ghost use Rattle.lookup_c.specs.Answers.{Answers};
 
-use crate::airs::set_of;
-use crate::fault::{Fault, Part};
+use crate::batch_tables::set_of;
+use crate::codes::Part;
+use crate::fault::Fault;
 use crate::refusal::{Refusal, accept, refuse};
 use field::BabyBear;
 use lookup::Lookups;
@@ -34,9 +34,9 @@ fn degrees_of(alloc: Global, set: &Lookups<BabyBear>) -> Result<Vec<usize>, Faul
 }
 
 /// The degrees of the lookups that tables say, for room for so many.
-fn degrees_for(alloc: Global, tables: &Tables<'_>, room: usize) -> Result<Vec<usize>, Fault>
+fn degrees_into_room(alloc: Global, tables: &Tables<'_>, room: usize) -> Result<Vec<usize>, Fault>
     ensures { MatchResult result (λ v. GivesDegrees tables.now v.items × (length v.items ≡ room))
-        (IsDegreesRefusal tables.now room) }
+        (IsCallRefusal tables.now room) }
 {
     let set = set_of(alloc, 0, tables)?;
     let degrees = degrees_of(alloc, &set)?;
@@ -61,15 +61,11 @@ pub extern "C" fn volgwain_degrees(
     refusal: &mut Refusal,
     text: &mut [u8],
 ) -> u32
-    ensures code { result ≡ refusal.new.code }
-    ensures no_refusal { result ≡ 0 → refusal.new ≡ placed 0 0 0 0 0 0 0 }
-    ensures done { result ≡ 0 → GivesDegrees tables.now degrees.new }
-    ensures refused { result ≢ 0
-        → (fault : Fault) × IsRefusal fault refusal.new
-        × IsDegreesRefusal tables.now (length degrees.old) fault }
+    ensures answers { Answers result refusal.new (GivesDegrees tables.now degrees.new)
+        (IsCallRefusal tables.now (length degrees.old)) }
     ensures kept { result ≢ 0 → degrees.new ≡ degrees.old }
 {
-    match degrees_for(alloc, tables, degrees.len()) {
+    match degrees_into_room(alloc, tables, degrees.len()) {
         Ok(made) => {
             degrees.copy_from_slice(&made);
             accept(refusal)

@@ -2,63 +2,12 @@
 ghost use Rattle.std.specs.Prelude.{◌≡◌};
 ghost use Rattle.lookup_c.specs.declared.fault.Fault.TheVariants.{Batch, Memory};
 
+use crate::codes::Part;
 use batch::BatchError;
 use lookup::LookupError;
 use lookup_tables::{TableFault, TraceFault};
 use std::alloc::{AllocError, AllocFailed};
-use std::fmt;
 use thiserror::Error;
-
-/// A list that a call gets beside tables and traces.
-#[derive(Clone, Copy, Debug)]
-pub enum Part {
-    /// An alpha and a beta for each lookup.
-    Challenges,
-    /// Alpha, or the alphas of a grid.
-    Alphas,
-    /// Beta, or the betas of a grid.
-    Betas,
-    /// The cells of auxiliary traces.
-    Auxiliary,
-    /// The terminals.
-    Terminals,
-    /// What there is for each AIR.
-    Batch,
-    /// The degrees.
-    Degrees,
-    /// The ids.
-    Ids,
-    /// The sizes of a plan.
-    Sizes,
-    /// The nodes that a call writes.
-    Nodes,
-    /// The ranges of tuples that a call writes.
-    Tuples,
-    /// The names that a call writes.
-    Names,
-    /// The records that a call writes.
-    Records,
-}
-
-impl fmt::Display for Part {
-    fn fmt<W: fmt::Write>(&self, f: &mut fmt::Formatter<W>) -> fmt::Result {
-        match self {
-            Part::Challenges => write!(f, "challenges"),
-            Part::Alphas => write!(f, "alphas"),
-            Part::Betas => write!(f, "betas"),
-            Part::Auxiliary => write!(f, "auxiliary trace"),
-            Part::Terminals => write!(f, "terminals"),
-            Part::Batch => write!(f, "entries for the AIRs"),
-            Part::Degrees => write!(f, "degrees"),
-            Part::Ids => write!(f, "ids"),
-            Part::Sizes => write!(f, "sizes of the plan"),
-            Part::Nodes => write!(f, "nodes"),
-            Part::Tuples => write!(f, "tuples"),
-            Part::Names => write!(f, "names"),
-            Part::Records => write!(f, "records"),
-        }
-    }
-}
 
 /// A refusal of a call.
 #[derive(Debug, Drop, Error)]

@@ -1,11 +1,11 @@
 //! What calls read: lookups, traces and challenges, with the refusals of each.
-ghost use Rattle.std.specs.Prelude.{◌≡◌, MatchResult, length, map};
-ghost use Rattle.lookup_tables.specs.Numbers.{AreGroupsBelow, IsGroup, quartic_of};
+ghost use Rattle.std.specs.Prelude.{MatchResult};
 ghost use Rattle.lookup_tables.specs.Tables.{SayLookups};
 ghost use Rattle.lookup_tables.specs.Traces.{AreTracesOf};
-ghost use Rattle.lookup_c.specs.Inputs.{IsChallengeRefusal, IsListRefusal, IsTableRefusal, IsTracesRefusal};
+ghost use Rattle.lookup_c.specs.Inputs.{AreElements, IsChallenge, IsChallengeRefusal, IsListRefusal, IsTableRefusal, IsTracesRefusal};
 
-use crate::fault::{Fault, Part};
+use crate::codes::Part;
+use crate::fault::Fault;
 use field::{BabyBear, BabyBear4};
 use lookup::Lookup;
 use lookup_tables::{
@@ -48,8 +48,7 @@ pub(crate) fn list_of(
     air: usize,
     groups: &[[u32; 4]],
 ) -> Result<Vec<BabyBear4>, Fault>
-    ensures { MatchResult result
-        (λ v. (v.items ≡ map quartic_of groups.now) × AreGroupsBelow (length groups.now) groups.now)
+    ensures { MatchResult result (λ v. AreElements groups.now v.items)
         (IsListRefusal part air groups.now) }
 {
     match extensions(alloc, groups) {
@@ -61,7 +60,7 @@ pub(crate) fn list_of(
 
 /// The challenge that four numbers say.
 pub(crate) fn challenge_of(part: Part, numbers: [u32; 4]) -> Result<BabyBear4, Fault>
-    ensures { MatchResult result (λ x. (x ≡ quartic_of numbers) × IsGroup numbers)
+    ensures { MatchResult result (IsChallenge numbers)
         (IsChallengeRefusal part numbers) }
 {
     match extension(numbers) {

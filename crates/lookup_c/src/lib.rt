@@ -2,46 +2,46 @@
 //!
 //! Each call gets all that it reads as tables of numbers, the lookups and traces of `lookup_tables`, and
 //! writes into arrays of its caller. It answers a code: 0, or that of a refusal, with its places and its
-//! text. A refused call leaves the other arrays as they were. No memory and no handle is handed over.
+//! text. Each call is in the file of its name. A refused call leaves the other arrays as they were. No memory and no handle is handed over.
 //! `bindings/c/volgwain.h` declares the calls for C, and docs/C.md says how they are used.
 #![tactic(auto)]
 
-mod airs;
-mod counting;
-mod debugging;
+mod batch_tables;
+mod codes;
+mod debug_check;
 mod degrees;
 mod fault;
-mod generating;
-mod generation;
-mod heights;
-mod identified;
+mod generate;
+mod generate_by_ids;
+mod grid_count;
 mod inputs;
 mod outputs;
-mod packing;
-mod planning;
-mod proving;
-mod reading;
+mod pack;
+mod plan;
+mod prove;
+mod read_json;
 mod refusal;
-mod soundness;
+mod soundness_count;
+mod soundness_of_heights;
 mod text;
-mod verifying;
+mod verify;
 mod witness;
-mod written;
+mod written_tables;
 
-pub use airs::Air;
-pub use counting::{Grid, Wide, volgwain_grid_count};
-pub use debugging::volgwain_debug_check;
+pub use batch_tables::Air;
+pub use debug_check::volgwain_debug_check;
 pub use degrees::volgwain_degrees;
-pub use generating::volgwain_generate;
-pub use heights::{HeightCounts, volgwain_soundness_of_heights};
-pub use identified::volgwain_generate_by_ids;
-pub use outputs::Terminal;
-pub use packing::volgwain_pack;
-pub use planning::{Plan, volgwain_plan};
-pub use proving::volgwain_prove;
-pub use reading::volgwain_read_json;
+pub use generate::volgwain_generate;
+pub use generate_by_ids::volgwain_generate_by_ids;
+pub use grid_count::{Grid, volgwain_grid_count};
+pub use outputs::{Terminal, Wide};
+pub use pack::volgwain_pack;
+pub use plan::{PlanSizes, volgwain_plan};
+pub use prove::volgwain_prove;
+pub use read_json::volgwain_read_json;
 pub use refusal::Refusal;
-pub use soundness::{Counts, volgwain_soundness_count};
-pub use verifying::volgwain_verify;
+pub use soundness_count::{Counts, volgwain_soundness_count};
+pub use soundness_of_heights::{HeightCounts, volgwain_soundness_of_heights};
+pub use verify::volgwain_verify;
 pub use witness::AirWitness;
-pub use written::TableSizes;
+pub use written_tables::TableSizes;

@@ -1,8 +1,8 @@
-//! What calls write: cells and terminals, as numbers.
+//! What calls write, as numbers: cells, terminals and counts.
 ghost use Rattle.std.specs.Prelude.{◌≡◌, ◌+◌, ◌≤◌, ◌++◌, IfSome, length, map, take};
 ghost use Rattle.std.specs.List.{flat_map};
 ghost use Rattle.lookup_tables.specs.Numbers.{numbers_of};
-ghost use Rattle.lookup_c.specs.Outputs.{cells_of, terminal_numbers};
+ghost use Rattle.lookup_c.specs.Outputs.{IsOptionalNumber, cells_of, number_of, terminal_numbers};
 
 use field::BabyBear4;
 use lookup::LookupTerminal;
@@ -17,6 +17,34 @@ pub struct Terminal {
     pub present: u32,
     /// Its four numbers, lowest power first; 0 if there is none.
     pub value: [u32; 4],
+}
+
+/// A number of 128 bits: `high * 2^64 + low`.
+#[repr(C)]
+#[derive(Clone, Copy, Drop)]
+pub struct Wide {
+    pub low: u64,
+    pub high: u64,
+}
+
+/// The halves of a number.
+pub(crate) fn halves(n: u128) -> Wide
+    ensures { number_of result ≡ n }
+{
+    Wide {
+        low: (n % 18_446_744_073_709_551_616) as u64,
+        high: (n / 18_446_744_073_709_551_616) as u64,
+    }
+}
+
+/// Whether there is a number, 1 or 0, and its halves, which are 0 if there is none.
+pub(crate) fn optional_halves(n: Option<u128>) -> (u32, Wide)
+    ensures { IsOptionalNumber n result.0 result.1 }
+{
+    match n {
+        Some(n) => (1, halves(n)),
+        None => (0, halves(0)),
+    }
 }
 
 /// The numbers of a terminal.

@@ -1,8 +1,10 @@
 //! Refusals as C sees them.
 ghost use Rattle.std.specs.Prelude.{◌≡◌, ◌≢◌};
-ghost use Rattle.lookup_c.specs.Refusals.{IsRefusal, batch_refusal, lookup_refusal, part_number, placed, presence, refusal_of, table_refusal, trace_part_number, trace_refusal};
+ghost use Rattle.lookup_c.specs.Codes.{part_of};
+ghost use Rattle.lookup_c.specs.Refusals.{IsRefusal, bad_table, batch_refusal, lookup_refusal, no_refusal, numbers_of, of_code, refusal_of, table_refusal, trace_refusal};
 
-use crate::fault::{Fault, Part};
+use crate::codes::{Code, Part, RecordFault};
+use crate::fault::Fault;
 use crate::text::write_text;
 use batch::BatchError;
 use lookup::LookupError;
@@ -30,179 +32,246 @@ pub struct Refusal {
     pub text_length: usize,
 }
 
-/// A refusal with these places.
-fn placed(
-    code: u32,
-    part: u32,
-    air: usize,
-    row: usize,
-    lookup: usize,
-    expected: usize,
-    actual: usize,
-) -> Refusal
-    ensures { result ≡ placed code part air row lookup expected actual }
+impl Refusal {
+    /// The refusal with this code and no fields.
+    fn of(code: Code) -> Refusal
+        ensures { result ≡ numbers_of (of_code code) }
+    {
+        Refusal {
+            code: code as u32,
+            part: 0,
+            air: 0,
+            row: 0,
+            lookup: 0,
+            expected: 0,
+            actual: 0,
+            text_length: 0,
+        }
+    }
+}
+
+/// The refusal of a record, for what is wrong with it.
+fn bad_table(air: usize, lookup: usize, fault: RecordFault) -> Refusal
+    ensures { result ≡ numbers_of (bad_table air lookup fault) }
 {
     Refusal {
-        code,
-        part,
+        part: fault as u32,
         air,
-        row,
         lookup,
-        expected,
-        actual,
-        text_length: 0,
-    }
-}
-
-fn part_number(part: Part) -> u32
-    ensures { result ≡ part_number part }
-{
-    match part {
-        Part::Challenges => 4,
-        Part::Alphas => 5,
-        Part::Betas => 6,
-        Part::Auxiliary => 7,
-        Part::Terminals => 8,
-        Part::Batch => 9,
-        Part::Degrees => 10,
-        Part::Ids => 11,
-        Part::Sizes => 12,
-        Part::Nodes => 13,
-        Part::Tuples => 14,
-        Part::Names => 15,
-        Part::Records => 16,
-    }
-}
-
-fn trace_part_number(part: TracePart) -> u32
-    ensures { result ≡ trace_part_number part }
-{
-    match part {
-        TracePart::Main => 1,
-        TracePart::Preprocessed => 2,
-        TracePart::PublicValues => 3,
+        ..Refusal::of(Code::BadTable)
     }
 }
 
 fn table_refusal(air: usize, lookup: usize, fault: &TableFault) -> Refusal
-    ensures { result ≡ table_refusal air lookup fault.now }
+    ensures { result ≡ numbers_of (table_refusal air lookup fault.now) }
 {
     match fault {
-        TableFault::Memory => placed(1, 0, 0, 0, 0, 0, 0),
-        TableFault::Node(node) => placed(2, 1, air, *node, lookup, 0, 0),
-        TableFault::Range => placed(2, 2, air, 0, lookup, 0, 0),
-        TableFault::Long => placed(2, 3, air, 0, lookup, 0, 0),
-        TableFault::Kind => placed(2, 4, air, 0, lookup, 0, 0),
-        TableFault::Name => placed(2, 5, air, 0, lookup, 0, 0),
-        TableFault::Deep => placed(2, 6, air, 0, lookup, 0, 0),
-        TableFault::Row => placed(2, 7, air, 0, lookup, 0, 0),
-        TableFault::Many => placed(2, 8, air, 0, lookup, 0, 0),
+        TableFault::Memory => Refusal::of(Code::OutOfMemory),
+        TableFault::Node(node) => Refusal {
+            row: *node,
+            ..bad_table(air, lookup, RecordFault::Node)
+        },
+        TableFault::Range => bad_table(air, lookup, RecordFault::Range),
+        TableFault::Long => bad_table(air, lookup, RecordFault::LongList),
+        TableFault::Kind => bad_table(air, lookup, RecordFault::Kind),
+        TableFault::Name => bad_table(air, lookup, RecordFault::Name),
+        TableFault::Deep => bad_table(air, lookup, RecordFault::DeepExpression),
+        TableFault::Row => bad_table(air, lookup, RecordFault::LargeRow),
+        TableFault::Many => bad_table(air, lookup, RecordFault::LongWrittenList),
+    }
+}
+
+fn part_of(part: TracePart) -> Part
+    ensures { result ≡ part_of part }
+{
+    match part {
+        TracePart::Main => Part::Main,
+        TracePart::Preprocessed => Part::Preprocessed,
+        TracePart::PublicValues => Part::PublicValues,
     }
 }
 
 fn trace_refusal(air: usize, fault: &TraceFault) -> Refusal
-    ensures { result ≡ trace_refusal air fault.now }
+    ensures { result ≡ numbers_of (trace_refusal air fault.now) }
 {
     match fault {
-        TraceFault::Memory => placed(1, 0, 0, 0, 0, 0, 0),
-        TraceFault::Large { part, index } => {
-            placed(3, trace_part_number(*part), air, *index, 0, 0, 0)
-        }
-        TraceFault::Ragged { part } => placed(5, trace_part_number(*part), air, 0, 0, 0, 0),
+        TraceFault::Memory => Refusal::of(Code::OutOfMemory),
+        TraceFault::Large { part, index } => Refusal {
+            part: part_of(*part) as u32,
+            air,
+            row: *index,
+            ..Refusal::of(Code::BadNumber)
+        },
+        TraceFault::Ragged { part } => Refusal {
+            part: part_of(*part) as u32,
+            air,
+            ..Refusal::of(Code::NoWholeRows)
+        },
     }
 }
 
-fn presence(present: bool) -> usize
-    ensures { result ≡ presence present }
-{
-    if present { 1 } else { 0 }
-}
-
-/// The refusal of a terminal that is there and should not be, or is not there and should be.
-fn terminal_refusal(air: usize, expected: bool, got: bool) -> Refusal
-    ensures { result ≡ placed 17 0 air 0 0 (presence expected) (presence got) }
-{
-    placed(17, 0, air, 0, 0, presence(expected), presence(got))
-}
-
 fn lookup_refusal(at: usize, error: &LookupError) -> Refusal
-    ensures { result ≡ lookup_refusal at error.now }
+    ensures { result ≡ numbers_of (lookup_refusal at error.now) }
 {
     match error {
-        LookupError::Memory => placed(1, 0, 0, 0, 0, 0, 0),
-        LookupError::VanishingDenominator { row, lookup } => {
-            placed(8, 0, at, *row, *lookup, 0, 0)
-        }
-        LookupError::FlagNotBoolean { row, lookup } => placed(9, 0, at, *row, *lookup, 0, 0),
-        LookupError::FlagsNotExclusive { row, lookup } => placed(10, 0, at, *row, *lookup, 0, 0),
-        LookupError::BadRecord { lookup } => placed(11, 0, at, 0, *lookup, 0, 0),
+        LookupError::Memory => Refusal::of(Code::OutOfMemory),
+        LookupError::VanishingDenominator { row, lookup } => Refusal {
+            air: at,
+            row: *row,
+            lookup: *lookup,
+            ..Refusal::of(Code::VanishingDenominator)
+        },
+        LookupError::FlagNotBoolean { row, lookup } => Refusal {
+            air: at,
+            row: *row,
+            lookup: *lookup,
+            ..Refusal::of(Code::FlagNotBoolean)
+        },
+        LookupError::FlagsNotExclusive { row, lookup } => Refusal {
+            air: at,
+            row: *row,
+            lookup: *lookup,
+            ..Refusal::of(Code::FlagsNotExclusive)
+        },
+        LookupError::BadRecord { lookup } => Refusal {
+            air: at,
+            lookup: *lookup,
+            ..Refusal::of(Code::MalformedLookup)
+        },
         LookupError::BusWidthMismatch {
             expected,
             actual,
             ..
-        } => placed(12, 0, 0, 0, 0, *expected, *actual),
-        LookupError::TupleWidths { width, other, .. } => placed(13, 0, 0, 0, 0, *width, *other),
-        LookupError::MultiplicityHeightBoundExceeded { .. } => placed(15, 0, 0, 0, 0, 0, 0),
+        } => Refusal {
+            expected: *expected,
+            actual: *actual,
+            ..Refusal::of(Code::BusWidths)
+        },
+        LookupError::TupleWidths { width, other, .. } => Refusal {
+            expected: *width,
+            actual: *other,
+            ..Refusal::of(Code::TupleWidths)
+        },
+        LookupError::MultiplicityHeightBoundExceeded { .. } => Refusal::of(Code::HeightBound),
         LookupError::TerminalPresenceMismatch {
             air,
             expected_present,
             got_present,
-        } => terminal_refusal(*air, *expected_present, *got_present),
-        LookupError::PermutationWidthMismatch { air, expected } => {
-            placed(18, 0, *air, 0, 0, *expected, 0)
-        }
-        LookupError::PermutationHeightMismatch { air } => placed(19, 0, *air, 0, 0, 0, 0),
-        LookupError::ConstraintFailed { air, row } => placed(20, 0, *air, *row, 0, 0, 0),
-        LookupError::TerminalSumNonZero => placed(21, 0, 0, 0, 0, 0, 0),
-        LookupError::CountOverflow => placed(23, 0, 0, 0, 0, 0, 0),
-        LookupError::CountWeightOverflow => placed(24, 0, at, 0, 0, 0, 0),
-        LookupError::DegreeOverflow => placed(25, 0, at, 0, 0, 0, 0),
+        } => Refusal {
+            air: *air,
+            expected: usize::from(*expected_present),
+            actual: usize::from(*got_present),
+            ..Refusal::of(Code::TerminalPresence)
+        },
+        LookupError::PermutationWidthMismatch { air, expected } => Refusal {
+            air: *air,
+            expected: *expected,
+            ..Refusal::of(Code::AuxiliaryWidth)
+        },
+        LookupError::PermutationHeightMismatch { air } => Refusal {
+            air: *air,
+            ..Refusal::of(Code::AuxiliaryHeight)
+        },
+        LookupError::ConstraintFailed { air, row } => Refusal {
+            air: *air,
+            row: *row,
+            ..Refusal::of(Code::ConstraintFailed)
+        },
+        LookupError::TerminalSumNonZero => Refusal::of(Code::TerminalSum),
+        LookupError::CountOverflow => Refusal::of(Code::CountOverflow),
+        LookupError::CountWeightOverflow => Refusal {
+            air: at,
+            ..Refusal::of(Code::WeightOverflow)
+        },
+        LookupError::DegreeOverflow => Refusal {
+            air: at,
+            ..Refusal::of(Code::DegreeOverflow)
+        },
         LookupError::CommitmentMismatch
         | LookupError::PermutationLengthMismatch { .. }
-        | LookupError::Air(_) => placed(28, 0, at, 0, 0, 0, 0),
+        | LookupError::Air(_) => Refusal {
+            air: at,
+            ..Refusal::of(Code::Unmet)
+        },
     }
 }
 
 fn batch_refusal(error: &BatchError) -> Refusal
-    ensures { result ≡ batch_refusal error.now }
+    ensures { result ≡ numbers_of (batch_refusal error.now) }
 {
     match error {
-        BatchError::Memory => placed(1, 0, 0, 0, 0, 0, 0),
+        BatchError::Memory => Refusal::of(Code::OutOfMemory),
         BatchError::Lookup(error) => lookup_refusal(0, error),
-        BatchError::LengthMismatch { expected, actual } => {
-            placed(4, 9, 0, 0, 0, *expected, *actual)
-        }
-        BatchError::TooManyIds { ids } => placed(14, 0, 0, 0, 0, 0, *ids),
-        BatchError::TraceMismatch { air } => placed(16, 0, *air, 0, 0, 0, 0),
-        BatchError::RepeatedChallenge => placed(22, 0, 0, 0, 0, 0, 0),
+        BatchError::LengthMismatch { expected, actual } => Refusal {
+            part: Part::Batch as u32,
+            expected: *expected,
+            actual: *actual,
+            ..Refusal::of(Code::BadLength)
+        },
+        BatchError::TooManyIds { ids } => Refusal {
+            actual: *ids,
+            ..Refusal::of(Code::TooManyIds)
+        },
+        BatchError::TraceMismatch { air } => Refusal {
+            air: *air,
+            ..Refusal::of(Code::TraceMismatch)
+        },
+        BatchError::RepeatedChallenge => Refusal::of(Code::RepeatedChallenge),
         BatchError::Air { air, error } => lookup_refusal(*air, error),
-        BatchError::CountOverflow => placed(23, 0, 0, 0, 0, 0, 0),
+        BatchError::CountOverflow => Refusal::of(Code::CountOverflow),
     }
 }
 
 /// A refusal as C sees it, without the length of its text.
 fn refusal_of(fault: &Fault) -> Refusal
-    ensures is { result ≡ refusal_of fault.now }
-    ensures refused { result.code ≢ 0 }
+    ensures { result ≡ numbers_of (refusal_of fault.now) }
 {
     match fault {
-        Fault::Memory => placed(1, 0, 0, 0, 0, 0, 0),
+        Fault::Memory => Refusal::of(Code::OutOfMemory),
         Fault::Table { air, lookup, fault } => table_refusal(*air, *lookup, fault),
         Fault::Traces { air, fault } => trace_refusal(*air, fault),
-        Fault::Large { part, air, index } => placed(3, part_number(*part), *air, *index, 0, 0, 0),
-        Fault::Id { index } => placed(3, 11, 0, *index, 0, 0, 0),
-        Fault::Width => placed(3, 12, 0, 0, 0, 0, 0),
-        Fault::Text(_) => placed(27, 0, 0, 0, 0, 0, 0),
+        Fault::Large { part, air, index } => Refusal {
+            part: *part as u32,
+            air: *air,
+            row: *index,
+            ..Refusal::of(Code::BadNumber)
+        },
+        Fault::Id { index } => Refusal {
+            part: Part::Ids as u32,
+            row: *index,
+            ..Refusal::of(Code::BadNumber)
+        },
+        Fault::Width => Refusal {
+            part: Part::Sizes as u32,
+            ..Refusal::of(Code::BadNumber)
+        },
+        Fault::Text(_) => Refusal::of(Code::BadText),
         Fault::Length {
             part,
             expected,
             actual,
-        } => placed(4, part_number(*part), 0, 0, 0, *expected, *actual),
-        Fault::Ragged { air } => placed(5, 7, *air, 0, 0, 0, 0),
-        Fault::Misfit { air } => placed(6, 0, *air, 0, 0, 0, 0),
-        Fault::Heights { air } => placed(7, 2, *air, 0, 0, 0, 0),
+        } => Refusal {
+            part: *part as u32,
+            expected: *expected,
+            actual: *actual,
+            ..Refusal::of(Code::BadLength)
+        },
+        Fault::Ragged { air } => Refusal {
+            part: Part::Auxiliary as u32,
+            air: *air,
+            ..Refusal::of(Code::NoWholeRows)
+        },
+        Fault::Misfit { air } => Refusal {
+            air: *air,
+            ..Refusal::of(Code::DoesNotFit)
+        },
+        Fault::Heights { air } => Refusal {
+            part: Part::Preprocessed as u32,
+            air: *air,
+            ..Refusal::of(Code::OtherHeight)
+        },
         Fault::Lookup { air, error } => lookup_refusal(*air, error),
-        Fault::Mismatch { .. } => placed(26, 0, 0, 0, 0, 0, 0),
+        Fault::Mismatch { .. } => Refusal::of(Code::Mismatch),
         Fault::Batch(error) => batch_refusal(error),
     }
 }
@@ -226,8 +295,8 @@ pub(crate) fn refuse(fault: &Fault, refusal: &mut Refusal, text: &mut [u8]) -> u
 pub(crate) fn accept(refusal: &mut Refusal) -> u32
     ensures code { result ≡ refusal.new.code }
     ensures accepted { result ≡ 0 }
-    ensures is { refusal.new ≡ placed 0 0 0 0 0 0 0 }
+    ensures is { refusal.new ≡ no_refusal }
 {
-    *refusal = placed(0, 0, 0, 0, 0, 0, 0);
+    *refusal = Refusal::of(Code::Ok);
     0
 }

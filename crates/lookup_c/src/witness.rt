@@ -4,7 +4,8 @@ ghost use Rattle.lookup_tables.specs.Numbers.{AreGroupsBelow};
 ghost use Rattle.lookup_tables.specs.Traces.{makes_rows};
 ghost use Rattle.lookup_c.specs.Witnesses.{AreWitness, IsAuxiliaryRefusal, IsTerminal, IsTerminalRefusal, IsWitnessRefusal, auxiliary_of, terminal_of};
 
-use crate::fault::{Fault, Part};
+use crate::codes::Part;
+use crate::fault::Fault;
 use crate::inputs::list_of;
 use crate::outputs::Terminal;
 use checker::Witness;

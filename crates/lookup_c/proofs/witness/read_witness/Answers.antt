@@ -1,19 +1,16 @@
+use Rattle.std.proofs.Common.{inl, inr}
 use Rattle.std.proofs.lemmas.List.Elements.{All-more}
-use Rattle.std.proofs.lemmas.Result.{err_from_is_err_and}
 use Rattle.lookup_c.specs.Witnesses.{IsAirWitness, auxiliary_of, terminal_of}
-use Rattle.lookup_c.proofs.TableCalls.{refused_auxiliary, refused_terminal}
+use Rattle.lookup_c.proofs.FirstFaults.{first_fault}
 use Rattle.lookup_c.proofs.WrittenLaws.{map_next}
+use Rattle.lookup_c.proofs.AnswerLaws.{refused_is}
 use Rattle.lookup_c.proofs.witness.read_witness.Goals as goal
 
 pub returns-in_err-read_auxiliary : goal.returns-in_err-read_auxiliary
-returns-in_err-read_auxiliary c =
-    let p = err_from_is_err_and c.from_residual-in_err-read_auxiliary.result c.from_residual-in_err-read_auxiliary.ensures.1 in
-    rw (p.1, p.2) (refused_auxiliary c.args.witness.now c.loop-index.index _ _ c.loop-index-test.true c.loop-index.invariant.each c.in_err-read_auxiliary.ensures)
+returns-in_err-read_auxiliary c = rw (refused_is c.from_residual-in_err-read_auxiliary.result c.from_residual-in_err-read_auxiliary.ensures.1) (inr (first_fault _ _ c.args.witness.now c.loop-index.index _ c.loop-index-test.true c.loop-index.invariant.each (inl c.in_err-read_auxiliary.ensures)))
 
 pub returns-in_err-read_terminal : goal.returns-in_err-read_terminal
-returns-in_err-read_terminal c =
-    let p = err_from_is_err_and c.from_residual-in_err-read_terminal.result c.from_residual-in_err-read_terminal.ensures.1 in
-    rw (p.1, p.2) (refused_terminal c.args.witness.now c.loop-index.index _ _ c.loop-index-test.true c.loop-index.invariant.each c.in_err-read_terminal.ensures)
+returns-in_err-read_terminal c = rw (refused_is c.from_residual-in_err-read_terminal.result c.from_residual-in_err-read_terminal.ensures.1) (inr (first_fault _ _ c.args.witness.now c.loop-index.index _ c.loop-index-test.true c.loop-index.invariant.each (inr c.in_err-read_terminal.ensures)))
 
 pub loop-index-preserved : goal.loop-index-preserved
 loop-index-preserved c = record {

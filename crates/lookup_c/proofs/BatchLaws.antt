@@ -1,0 +1,34 @@
+-- The batch that tables say, as calls read it.
+use Rattle.std.proofs.Common.{◌≡◌, ◌∙◌, ◌∷◌, [], List, ap, ap₂, map, refl}
+use Rattle.air.specs.Traces.{air_traces}
+use Rattle.batch.specs.Plans.{Plan}
+use Rattle.batch.specs.Traces.{view_of}
+use Rattle.batch.specs.declared.trace.BatchTrace.{BatchTrace}
+use Rattle.lookup_tables.specs.Nodes.{BabyBear}
+use Rattle.lookup_tables.specs.Traces.{AreTracesOf}
+use Rattle.lookup_tables.specs.declared.traces.ReadTraces.{ReadTraces}
+use Rattle.lookup_tables.specs.declared.traces.Traces.{Traces}
+use Rattle.lookup_c.specs.BatchTables.{AreBatchTraces, IsBatch, IsPlanOf}
+use Rattle.lookup_c.specs.Inputs.{said_traces, view_of_read}
+use Rattle.lookup_c.specs.declared.batch_tables.Air.{Air}
+use Rattle.lookup_c.proofs.FirstFaults.{each_paired}
+
+-- what is read is what the numbers say
+pub said : (numbers : Traces) (traces : ReadTraces) → AreTracesOf numbers traces → view_of_read traces ≡ said_traces numbers
+said numbers traces are i = air_traces (are.main i) (are.preprocessed i) (are.public_values i)
+
+said_all : (traces : List Traces) (all : List ReadTraces) → AreBatchTraces traces all → map view_of_read all ≡ map said_traces traces
+said_all [] [] are = refl
+said_all [] (a ∷ rest) are = absurd are
+said_all (t ∷ ts) [] are = absurd are
+said_all (t ∷ ts) (a ∷ rest) are =
+    ap₂ (λ s ss. s ∷ ss) (said t a are.0) (said_all ts rest are.1)
+
+-- a plan and traces that are read are the batch
+pub batch_read : {airs : List Air} {plan : Plan BabyBear} {all read : List ReadTraces} {given made : List (BatchTrace BabyBear)} (traces : List Traces)
+    → IsPlanOf airs plan → AreBatchTraces traces all → read ≡ all → given ≡ made → map view_of made ≡ map view_of_read read → IsBatch airs traces plan given
+batch_read {all = all} traces plan_is are read_is given_is views = record {
+  plan_is = plan_is;
+  below = λ k t there. (each_paired AreTracesOf traces all are k t there).1.canonical;
+  views = ap (map view_of) given_is ∙ (views ∙ (ap (map view_of_read) read_is ∙ said_all traces all are));
+}

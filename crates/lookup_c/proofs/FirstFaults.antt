@@ -1,0 +1,26 @@
+-- The first item of a list with a fault, as a loop finds it.
+use Rattle.std.proofs.Common.{◌≡◌, ◌∙◌, ◌∷◌, ◌<◌, [], ℕ, All, List, arith, get_or, length, subst, take}
+use Rattle.std.proofs.lemmas.List.{get_or-take, length-take}
+use Rattle.std.proofs.lemmas.List.Elements.{All-cons, All-nil}
+use Rattle.std.proofs.lemmas.Option.{get_or_from_slice_get, slice_get-get_or, slice_get_within}
+use Rattle.std.specs.List.{AllZip}
+use Rattle.expressions.specs.Faults.{HasFirstFault}
+
+-- an item has a fault, and those before it have none
+pub first_fault : {X : Type 0} (IsGood : X → Type 0) (IsFault : ℕ → X → Type 0) (xs : List X) (i : ℕ) (d : X) → i < length xs → All IsGood (take i xs) → IsFault i (get_or xs i d) → HasFirstFault IsGood IsFault xs
+first_fault IsGood IsFault xs i d there good fault = record {
+  index = i;
+  item = get_or xs i d;
+  is_there = slice_get-get_or xs i d there;
+  before = λ k other lt is.
+      let within : k < length (take i xs) = omega (arith, length-take i xs, slice_get_within xs k other is) in
+      subst IsGood (get_or-take i xs k other lt ∙ get_or_from_slice_get xs k other other is) (good k other within);
+  fault = fault;
+}
+
+-- each item of a list goes with one of the other
+pub each_paired : {A B : Type 0} (R : A → B → Type 0) (xs : List A) (ys : List B) → AllZip R xs ys → All (λ x. (y : B) × R x y) xs
+each_paired {B = B} R [] [] are = All-nil (λ x. (y : B) × R x y)
+each_paired R [] (y ∷ ys) are = absurd are
+each_paired R (x ∷ xs) [] are = absurd are
+each_paired {B = B} R (x ∷ xs) (y ∷ ys) are = All-cons (λ z. (w : B) × R z w) x xs (y, are.0) (each_paired R xs ys are.1)

@@ -1,6 +1,0 @@
-use Rattle.std.proofs.Common.{take}
-use Rattle.lookup_c.specs.Batches.{AreBatchTraces}
-use Rattle.lookup_c.proofs.airs.all_traces.Given as goal
-
-abbrev pub invariant-loop-index : goal.invariant-loop-index
-invariant-loop-index l = AreBatchTraces (take l.index l.traces) l.all.items

@@ -1,6 +1,0 @@
-use Rattle.std.proofs.Common.{take}
-use Rattle.lookup_c.specs.Batches.{AreSets}
-use Rattle.lookup_c.proofs.airs.sets_of.Given as goal
-
-abbrev pub invariant-loop-index : goal.invariant-loop-index
-invariant-loop-index l = AreSets (take l.index l.airs) l.sets.items

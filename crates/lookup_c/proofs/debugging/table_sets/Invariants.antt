@@ -1,6 +1,0 @@
-use Rattle.std.proofs.Common.{take}
-use Rattle.lookup_c.specs.Debugging.{AreTableSets}
-use Rattle.lookup_c.proofs.debugging.table_sets.Given as goal
-
-abbrev pub invariant-loop-index : goal.invariant-loop-index
-invariant-loop-index l = AreTableSets (take l.index l.airs) l.sets.items

@@ -1,0 +1,16 @@
+use Rattle.std.proofs.Common.{◌∙◌, List, inl, inr, subst, sym}
+use Rattle.lookup_model.specs.declared.types.Lookup.{Lookup}
+use Rattle.lookup_tables.specs.Nodes.{BabyBear}
+use Rattle.lookup_tables.specs.Tables.{SayLookups}
+use Rattle.lookup_c.proofs.GenerateLaws.{generates_tables}
+use Rattle.lookup_c.proofs.AnswerLaws.{refused_is}
+use Rattle.lookup_c.proofs.generate.generate_tables.Goals as goal
+
+pub returns-in_err-traces : goal.returns-in_err-traces
+returns-in_err-traces c = rw (refused_is c.from_residual-in_err-traces.result c.from_residual-in_err-traces.ensures.1) (inr (inl c.in_err-traces.ensures))
+
+pub returns : goal.returns
+returns c =
+    generates_tables _ c.args.tables.now c.args.traces.now c.generate_lookups.result c.deref.result.now c.in_ok-traces.traces c.deref-2.result.now
+    (subst (λ (ls : List (Lookup BabyBear)). SayLookups c.args.tables.now ls) (sym c.deref.ensures.value) c.in_ok-lookups.ensures) c.in_ok-traces.ensures
+    c.args.challenges.now (c.deref-2.ensures.value ∙ c.in_ok-challenges.ensures.0, c.in_ok-challenges.ensures.1) c.generate_lookups.ensures

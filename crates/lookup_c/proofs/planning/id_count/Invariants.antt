@@ -1,7 +1,0 @@
-use Rattle.std.proofs.Common.{◌≡◌, length, take}
-use Rattle.std.specs.List.{flat_map}
-use Rattle.lookup_c.specs.Planning.{items_of}
-use Rattle.lookup_c.proofs.planning.id_count.Given as goal
-
-abbrev pub invariant-loop-list : goal.invariant-loop-list
-invariant-loop-list l = l.count ≡ length (flat_map items_of (take l.list-index l.ids))

@@ -1,0 +1,73 @@
+-- What generation under the ids of a plan answers from tables of numbers.
+use Rattle.std.specs.Prelude.{◌≡◌, ◌≢◌, ◌⊎◌, ◌<◌, ◌≤◌, ℕ, List, Option, length}
+use Rattle.field.specs.Extension.{Extension}
+use Rattle.field.specs.Quartic.{Quartic}
+use Rattle.matrix.specs.Matrix.{Matrix}
+use Rattle.expressions.specs.Faults.{HasFirstFault}
+use Rattle.lookup_model.specs.Challenges.{column_challenges}
+use Rattle.lookup_model.specs.declared.types.Lookup.{Lookup}
+use Rattle.lookup_model.specs.declared.types.LookupTerminal.{LookupTerminal}
+use Rattle.batch.specs.Tables.{made_table}
+use Rattle.lookup_tables.specs.Nodes.{BabyBear}
+use Rattle.lookup_tables.specs.Tables.{SayLookups}
+use Rattle.lookup_tables.specs.Traces.{AreCanonical}
+use Rattle.lookup_tables.specs.declared.tables.Tables.{Tables}
+use Rattle.lookup_tables.specs.declared.traces.Traces.{Traces}
+use Rattle.lookup_c.specs.Generate.{AreNumbersOf, GeneratesOver, IsLookupsRefusal, LacksRoom}
+use Rattle.lookup_c.specs.Inputs.{IsChallenge, IsChallengeRefusal, IsTableRefusal, IsTracesRefusal, said_traces}
+use Rattle.lookup_c.specs.declared.fault.Fault.{Fault}
+use Rattle.lookup_c.specs.declared.fault.Fault.TheVariants.{Id, Length, Memory, Width}
+use Rattle.lookup_c.specs.declared.codes.Part.TheVariants.{Alphas, Betas, Ids}
+use Rattle.lookup_c.specs.declared.outputs.Terminal.{Terminal}
+use Rattle.lookup_c.specs.declared.plan.PlanSizes.{PlanSizes}
+
+-- the refusal of the first id that is not below the number of ids
+abbrev pub IsFirstLargeId : List ℕ → ℕ → Fault → Type 0
+IsFirstLargeId ids num_ids fault = HasFirstFault (λ id. id < num_ids) (λ index id. (num_ids ≤ id) × (fault ≡ Id index)) ids
+
+-- the refusal of a width of zero, or of an id; or memory runs out
+abbrev pub IsIdsRefusal : List ℕ → PlanSizes → Fault → Type 0
+IsIdsRefusal ids sizes fault =
+    (fault ≡ Memory)
+    ⊎ (((fault ≡ Width) × (sizes.max_message_width ≡ 0)) ⊎ IsFirstLargeId ids sizes.num_ids fault)
+
+module _ (E : Extension BabyBear (Quartic BabyBear)) (tables : Tables) (traces : Traces) (ids : List ℕ) (sizes : PlanSizes) (alpha beta : List ℕ) where
+  -- the challenges that lookups with these ids have under a plan of these sizes
+  pub record AreChallengesOfIds (challenges : List (Quartic BabyBear)) : Type 0 where
+    pub a : Quartic BabyBear
+    pub b : Quartic BabyBear
+    pub alpha_is : IsChallenge alpha a
+    pub beta_is : IsChallenge beta b
+    pub are : challenges ≡ column_challenges (made_table E.ring a b sizes.max_message_width sizes.num_ids) ids
+
+  -- Generation over the one list of lookups that the tables say, over the traces of these numbers, and
+  -- over the challenges that the ids have; all numbers are below the modulus.
+  pub record GeneratesTables (auxiliary : Matrix (Quartic BabyBear)) (terminal : Option (LookupTerminal (Quartic BabyBear))) : Type 0 where
+    pub lookups : List (Lookup BabyBear)
+    pub say : SayLookups tables lookups
+    pub traces_below : AreCanonical traces
+    pub as_many : length ids ≡ length lookups
+    pub challenges : List (Quartic BabyBear)
+    pub challenges_are : AreChallengesOfIds challenges
+    pub generates : GeneratesOver E (said_traces traces) challenges lookups auxiliary terminal
+
+  -- The refusal of the tables, of the traces, of a challenge, of the number of ids, of the sizes or an id, or
+  -- of generation.
+  abbrev pub IsRefusal : Fault → Type 0
+  IsRefusal fault =
+      IsTableRefusal 0 tables fault
+      ⊎ (IsTracesRefusal 0 traces fault
+      ⊎ (IsChallengeRefusal Alphas alpha fault
+      ⊎ (IsChallengeRefusal Betas beta fault
+      ⊎ (IsIdsRefusal ids sizes fault
+      ⊎ ((lookups : List (Lookup BabyBear)) × SayLookups tables lookups
+      × (((length ids ≢ length lookups) × (fault ≡ Length Ids (length lookups) (length ids)))
+      ⊎ ((challenges : List (Quartic BabyBear)) × AreChallengesOfIds challenges × IsLookupsRefusal E (said_traces traces) challenges lookups fault)))))))
+
+  -- the numbers of what is generated
+  abbrev pub GeneratesNumbers : List (List ℕ) → Terminal → Type 0
+  GeneratesNumbers cells ending = AreNumbersOf GeneratesTables cells ending
+
+  -- the refusal of a call with room for so many cells
+  abbrev pub IsCallRefusal : ℕ → Fault → Type 0
+  IsCallRefusal room fault = IsRefusal fault ⊎ LacksRoom GeneratesTables room fault

@@ -1,0 +1,108 @@
+//! The AIRs of a batch, and the plan that they make.
+ghost use Rattle.std.specs.Prelude.{◌≡◌, IfOk, MatchResult, map};
+ghost use Rattle.batch.specs.Runs.{plan_of};
+ghost use Rattle.batch.specs.Traces.{view_of};
+ghost use Rattle.lookup.specs.Lookups.{lookups_of};
+ghost use Rattle.lookup_tables.specs.Tables.{SayLookups};
+ghost use Rattle.lookup_c.specs.BatchTables.{AreBatchTraces, AreSets, IsAirsRefusal, IsBatchTracesRefusal, IsPlanOf, IsPlanOfRefusal, IsSetRefusal};
+ghost use Rattle.lookup_c.specs.Inputs.{view_of_read};
+
+use crate::fault::Fault;
+use crate::inputs::{lookups_of, traces_of};
+use batch::{BatchPlan, BatchTrace};
+use field::BabyBear;
+use lookup::Lookups;
+use lookup_tables::{ReadTraces, Tables, Traces};
+use std::alloc::{AllocError, Global};
+
+/// An AIR of a batch, as it is known before its traces are.
+#[repr(C)]
+#[derive(Drop)]
+pub struct Air<'a> {
+    /// The lookups.
+    pub tables: Tables<'a>,
+    /// The height of the traces.
+    pub height: usize,
+}
+
+/// The set of lookups that the tables of an AIR say.
+pub(crate) fn set_of(
+    alloc: Global,
+    air: usize,
+    tables: &Tables<'_>,
+) -> Result<Lookups<BabyBear>, Fault>
+    ensures { MatchResult result (λ set. SayLookups tables.now (lookups_of set))
+        (IsSetRefusal air tables.now) }
+{
+    let lookups = lookups_of(alloc, air, tables)?;
+    match Lookups::from_records(alloc, lookups) {
+        Ok(set) => Ok(set),
+        Err(error) => Err(Fault::Lookup { air, error }),
+    }
+}
+
+/// The sets of all AIRs, in order.
+fn sets_of(alloc: Global, airs: &[Air<'_>]) -> Result<Vec<Lookups<BabyBear>>, Fault>
+    ensures { MatchResult result (λ v. AreSets airs.now v.items) (IsAirsRefusal airs.now) }
+{
+    let mut sets = Vec::with_capacity(alloc, airs.len())?;
+    for (index, air) in airs.iter().enumerate() {
+        sets.push(set_of(alloc, index, &air.tables)?)?;
+    }
+    Ok(sets)
+}
+
+/// The heights of all AIRs, in order.
+fn heights_of(alloc: Global, airs: &[Air<'_>]) -> Result<Vec<usize>, AllocError>
+    ensures { IfOk result (λ v. v.items ≡ map (λ air. air.height) airs.now) }
+{
+    let mut heights = Vec::with_capacity(alloc, airs.len())?;
+    for air in airs {
+        heights.push(air.height)?;
+    }
+    Ok(heights)
+}
+
+/// The plan of these AIRs.
+///
+/// Refuses the first AIR whose tables are refused, or whose lookups have lists of different lengths, and
+/// then what a plan refuses.
+pub(crate) fn plan_of(alloc: Global, airs: &[Air<'_>]) -> Result<BatchPlan<BabyBear>, Fault>
+    ensures { MatchResult result
+        (λ plan. IsPlanOf airs.now (plan_of plan))
+        (IsPlanOfRefusal airs.now) }
+{
+    let sets = sets_of(alloc, airs)?;
+    let heights = heights_of(alloc, airs)?;
+    Ok(BatchPlan::new(alloc, sets, heights)?)
+}
+
+/// The traces that the tables of all AIRs say, in order.
+pub(crate) fn all_traces(alloc: Global, traces: &[Traces<'_>]) -> Result<Vec<ReadTraces>, Fault>
+    ensures { MatchResult result (λ v. AreBatchTraces traces.now v.items)
+        (IsBatchTracesRefusal traces.now) }
+{
+    let mut all = Vec::with_capacity(alloc, traces.len())?;
+    for (index, air) in traces.iter().enumerate() {
+        all.push(traces_of(alloc, index, air)?)?;
+    }
+    Ok(all)
+}
+
+/// What a plan is given of traces.
+pub(crate) fn plan_traces<'a>(
+    alloc: Global,
+    traces: &'a [ReadTraces],
+) -> Result<Vec<BatchTrace<'a, BabyBear>>, AllocError>
+    ensures { IfOk result (λ v. map view_of v.items ≡ map view_of_read traces.now) }
+{
+    let mut all = Vec::with_capacity(alloc, traces.len())?;
+    for air in traces {
+        all.push(BatchTrace {
+            main: &air.main,
+            preprocessed: air.preprocessed.as_ref(),
+            public_values: air.public_values.as_slice(),
+        })?;
+    }
+    Ok(all)
+}

@@ -1,0 +1,92 @@
+//! The call that counts at how many pairs of challenges a batch is accepted.
+ghost use Rattle.std.specs.Prelude.{◌≡◌, ◌≢◌, MatchResult};
+ghost use Rattle.lookup_c.specs.GridCount.{CountsNumbers, CountsTables, IsGridOf, IsRefusal};
+ghost use Rattle.lookup_c.specs.Answers.{Answers};
+
+use crate::batch_tables::{Air, all_traces, plan_of, plan_traces};
+use crate::codes::Part;
+use crate::fault::Fault;
+use crate::inputs::list_of;
+use crate::outputs::{Wide, halves, optional_halves};
+use crate::refusal::{Refusal, accept, refuse};
+use batch::GridCount;
+use field::{BabyBear, BabyBear4, Over};
+use lookup_tables::Traces;
+use std::alloc::Global;
+
+/// At how many pairs of a grid of challenges a batch is accepted.
+#[repr(C)]
+#[derive(Clone, Copy, Drop)]
+pub struct Grid {
+    /// The exact number of pairs at which some witness is accepted.
+    pub accepted: Wide,
+    /// 1 if there is a bound, and 0 if all messages balance.
+    pub bounded: u32,
+    /// The bound on that number, 0 if there is none.
+    pub bound: Wide,
+}
+
+/// A count of a grid as C sees it.
+fn grid_of(count: &GridCount) -> Grid
+    ensures { IsGridOf count.now result }
+{
+    let (bounded, bound) = optional_halves(count.bound);
+    Grid {
+        accepted: halves(count.accepted),
+        bounded,
+        bound,
+    }
+}
+
+/// The count of a grid of challenges over what tables say.
+///
+/// Refuses the first of these with a fault: the plan of the AIRs, the traces, the alphas, the betas, and
+/// the count.
+fn count_grid(
+    alloc: Global,
+    airs: &[Air<'_>],
+    traces: &[Traces<'_>],
+    alphas: &[[u32; 4]],
+    betas: &[[u32; 4]],
+) -> Result<GridCount, Fault>
+    ensures { let E = ⟦<BabyBear4 as Over<BabyBear>>⟧.fields in
+        MatchResult result (CountsTables E airs.now traces.now alphas.now betas.now)
+        (IsRefusal E airs.now traces.now alphas.now betas.now) }
+{
+    let plan = plan_of(alloc, airs)?;
+    let all = all_traces(alloc, traces)?;
+    let alphas = list_of(alloc, Part::Alphas, 0, alphas)?;
+    let betas = list_of(alloc, Part::Betas, 0, betas)?;
+    let given = plan_traces(alloc, &all)?;
+    Ok(plan.grid_count(alloc, &given, &alphas, &betas)?)
+}
+
+/// Counts at how many pairs of some alphas and betas a batch is accepted, whoever makes the witness, with
+/// a bound on that number.
+///
+/// Answers 0, or the code of a refusal. A refused call leaves the count as it was.
+#[unsafe(no_mangle)]
+pub extern "C" fn volgwain_grid_count(
+    alloc: Global,
+    airs: &[Air<'_>],
+    traces: &[Traces<'_>],
+    alphas: &[[u32; 4]],
+    betas: &[[u32; 4]],
+    grid: &mut Grid,
+    refusal: &mut Refusal,
+    text: &mut [u8],
+) -> u32
+    ensures answers { let E = ⟦<BabyBear4 as Over<BabyBear>>⟧.fields in
+        Answers result refusal.new
+        (CountsNumbers E airs.now traces.now alphas.now betas.now grid.new)
+        (IsRefusal E airs.now traces.now alphas.now betas.now) }
+    ensures kept { result ≢ 0 → grid.new ≡ grid.old }
+{
+    match count_grid(alloc, airs, traces, alphas, betas) {
+        Ok(count) => {
+            *grid = grid_of(&count);
+            accept(refusal)
+        }
+        Err(fault) => refuse(&fault, refusal, text),
+    }
+}

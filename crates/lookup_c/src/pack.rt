@@ -1,0 +1,90 @@
+//! The call that packs the lookups of an AIR.
+ghost use Rattle.std.specs.Prelude.{◌≡◌, ◌≢◌, MatchResult};
+ghost use Rattle.lookup.specs.Lookups.{lookups_of};
+ghost use Rattle.lookup_c.specs.Pack.{IsCallRefusal, IsPackError, IsPackedFrom, PacksInto, PacksTables};
+ghost use Rattle.lookup_c.specs.Answers.{Answers};
+ghost use Rattle.lookup_c.specs.WrittenTables.{HasTableRoom, arrays, room_of, sizes_of};
+
+use crate::batch_tables::set_of;
+use crate::fault::Fault;
+use crate::refusal::{Refusal, accept, refuse};
+use crate::written_tables::{TableSizes, tables_for, write_tables};
+use field::{BabyBear, BabyBear4, Over};
+use lookup::{LogUpGadget, LookupError, Lookups};
+use lookup_tables::{Node, Record, Span, Tables, Written};
+use std::alloc::Global;
+
+/// The packed lookups of a set.
+fn pack_set(
+    alloc: Global,
+    set: Lookups<BabyBear>,
+    max_degree: usize,
+) -> Result<Lookups<BabyBear>, Fault>
+    ensures { let E = ⟦<BabyBear4 as Over<BabyBear>>⟧.fields in
+        MatchResult result (λ after. IsPackedFrom E max_degree (lookups_of set) (lookups_of after))
+        (IsPackError max_degree (lookups_of set)) }
+{
+    match set.pack_same_bus(alloc, &LogUpGadget::new(), max_degree) {
+        Ok(after) => Ok(after),
+        Err(LookupError::Memory) => Err(Fault::Memory),
+        Err(error) => Err(Fault::Lookup { air: 0, error }),
+    }
+}
+
+/// Tables of the packed lookups that tables say.
+fn pack_tables(
+    alloc: Global,
+    tables: &Tables<'_>,
+    max_degree: usize,
+    room: TableSizes,
+) -> Result<Written, Fault>
+    ensures { let E = ⟦<BabyBear4 as Over<BabyBear>>⟧.fields in
+        MatchResult result
+        (λ w. PacksTables E tables.now max_degree w × HasTableRoom (sizes_of w) room)
+        (IsCallRefusal E tables.now max_degree room) }
+{
+    let set = set_of(alloc, 0, tables)?;
+    let after = pack_set(alloc, set, max_degree)?;
+    tables_for(alloc, &after, room)
+}
+
+/// Packs the lookups of an AIR: those on one bus share columns, as many as the degree allows.
+///
+/// Each array is at least as long as what is written, from its start on; the sizes say how much that is.
+///
+/// Answers 0, or the code of a refusal. A refused call leaves the arrays and the sizes as they were.
+#[unsafe(no_mangle)]
+pub extern "C" fn volgwain_pack(
+    alloc: Global,
+    tables: &Tables<'_>,
+    max_degree: usize,
+    nodes: &mut [Node],
+    tuples: &mut [Span],
+    names: &mut [u8],
+    records: &mut [Record],
+    sizes: &mut TableSizes,
+    refusal: &mut Refusal,
+    text: &mut [u8],
+) -> u32
+    ensures answers { let E = ⟦<BabyBear4 as Over<BabyBear>>⟧.fields in
+        let old = arrays nodes.old tuples.old names.old records.old in
+        let new = arrays nodes.new tuples.new names.new records.new in
+        Answers result refusal.new (PacksInto E tables.now max_degree old new sizes.new)
+        (IsCallRefusal E tables.now max_degree (room_of old)) }
+    ensures kept { result ≢ 0 → (nodes.new ≡ nodes.old) × (tuples.new ≡ tuples.old)
+        × (names.new ≡ names.old) × (records.new ≡ records.old) × (sizes.new ≡ sizes.old) }
+{
+    let room = TableSizes {
+        nodes: nodes.len(),
+        tuples: tuples.len(),
+        names: names.len(),
+        records: records.len(),
+    };
+    match pack_tables(alloc, tables, max_degree, room) {
+        Ok(made) => {
+            *sizes = write_tables(&made, nodes, tuples, names, records);
+            accept(refusal)
+        }
+        Err(fault) => refuse(&fault, refusal, text),
+    }
+}

@@ -1,0 +1,114 @@
+//! The call that gives the plan of a batch.
+ghost use Rattle.std.specs.Prelude.{◌≡◌, ◌≢◌, ◌+◌, ◌≤◌, ◌++◌, IfSome, MatchResult, length, take};
+ghost use Rattle.std.specs.List.{flat_map};
+ghost use Rattle.batch.specs.Runs.{plan_of};
+ghost use Rattle.lookup_c.specs.BatchTables.{IsPlanOf};
+ghost use Rattle.lookup_c.specs.Plan.{IsCallRefusal, PlansNumbers, items_of};
+ghost use Rattle.lookup_c.specs.Answers.{Answers};
+
+use crate::batch_tables::{Air, plan_of};
+use crate::codes::Part;
+use crate::fault::Fault;
+use crate::refusal::{Refusal, accept, refuse};
+use batch::BatchPlan;
+use field::BabyBear;
+use std::alloc::Global;
+
+/// The sizes of a plan.
+#[repr(C)]
+#[derive(Clone, Copy, Drop)]
+pub struct PlanSizes {
+    /// The greatest width of all tuples, at least 1.
+    pub max_message_width: usize,
+    /// The number of ids.
+    pub num_ids: usize,
+}
+
+/// How many ids there are, if they can be counted.
+fn id_count(ids: &[Vec<usize>]) -> Option<usize>
+    ensures { IfSome result (λ n. n ≡ length (flat_map items_of ids.now)) }
+{
+    let mut count: usize = 0;
+    for list in ids {
+        count = count.checked_add(list.len())?;
+    }
+    Some(count)
+}
+
+/// Writes numbers from `at` on.
+fn write_numbers(numbers: &mut [usize], at: usize, values: &[usize])
+    requires { at + length values.now ≤ length numbers.old }
+    ensures { take (at + length values.now) numbers.new ≡ take at numbers.old ++ values.now }
+{
+    for index in 0..values.len() {
+        numbers[at + index] = values[index];
+    }
+}
+
+/// Writes the ids of all AIRs, one after the other.
+fn write_ids(numbers: &mut [usize], ids: &[Vec<usize>])
+    requires { length (flat_map items_of ids.now) ≡ length numbers.old }
+    ensures { numbers.new ≡ flat_map items_of ids.now }
+{
+    let mut at = 0;
+    for list in ids {
+        write_numbers(numbers, at, list.as_slice());
+        at += list.len();
+    }
+}
+
+/// The plan of the AIRs, for room for so many ids.
+fn plan_into_room(
+    alloc: Global,
+    airs: &[Air<'_>],
+    room: usize,
+) -> Result<BatchPlan<BabyBear>, Fault>
+    ensures { MatchResult result
+        (λ plan. IsPlanOf airs.now (plan_of plan)
+        × (length (flat_map items_of plan.ids.items) ≡ room))
+        (IsCallRefusal airs.now room) }
+{
+    let plan = plan_of(alloc, airs)?;
+    let Some(expected) = id_count(plan.ids()) else {
+        return Err(Fault::Memory);
+    };
+    if expected != room {
+        return Err(Fault::Length {
+            part: Part::Ids,
+            expected,
+            actual: room,
+        });
+    }
+    Ok(plan)
+}
+
+/// Gives the plan of a batch: an id for each lookup, AIR by AIR, and its sizes.
+///
+/// Lookups on one bus share an id, and each local lookup has its own.
+///
+/// Answers 0, or the code of a refusal. A refused call leaves the ids and the sizes as they were.
+#[unsafe(no_mangle)]
+pub extern "C" fn volgwain_plan(
+    alloc: Global,
+    airs: &[Air<'_>],
+    ids: &mut [usize],
+    plan: &mut PlanSizes,
+    refusal: &mut Refusal,
+    text: &mut [u8],
+) -> u32
+    ensures answers { Answers result refusal.new (PlansNumbers airs.now ids.new plan.new)
+        (IsCallRefusal airs.now (length ids.old)) }
+    ensures kept { result ≢ 0 → (ids.new ≡ ids.old) × (plan.new ≡ plan.old) }
+{
+    match plan_into_room(alloc, airs, ids.len()) {
+        Ok(made) => {
+            write_ids(ids, made.ids());
+            *plan = PlanSizes {
+                max_message_width: made.max_message_width(),
+                num_ids: made.num_ids(),
+            };
+            accept(refusal)
+        }
+        Err(fault) => refuse(&fault, refusal, text),
+    }
+}

@@ -1,0 +1,92 @@
+//! The call that reads lookups from JSON.
+ghost use Rattle.std.specs.Prelude.{◌≡◌, ◌≢◌, MatchResult};
+ghost use Rattle.std.specs.Str.{IsUtf8};
+ghost use Rattle.lookup_c.specs.ReadJson.{IsCallRefusal, IsJsonRefusal, IsTextRefusal, ReadsInto, ReadsTables};
+ghost use Rattle.lookup_c.specs.Answers.{Answers};
+ghost use Rattle.lookup_c.specs.WrittenTables.{HasTableRoom, arrays, room_of, sizes_of};
+
+use crate::fault::Fault;
+use crate::refusal::{Refusal, accept, refuse};
+use crate::written_tables::{TableSizes, tables_for, write_tables};
+use field::BabyBear;
+use lookup::{Lookup, Lookups};
+use lookup_tables::{Node, Record, Span, Written};
+use serde_json::error::Category;
+use std::alloc::Global;
+
+/// Why a text was not read.
+fn text_fault(error: serde_json::Error) -> Fault
+    ensures { IsTextRefusal error result }
+{
+    if error.classify() == Category::Memory {
+        Fault::Memory
+    } else {
+        Fault::Text(error)
+    }
+}
+
+/// The set of lookups that a text says.
+///
+/// Refuses a text that is no JSON or not that of lookups, and then the first lookup whose lists have
+/// different lengths or whose column is not its index.
+fn set_from_json(alloc: Global, json: &[u8]) -> Result<Lookups<BabyBear>, Fault>
+    ensures { MatchResult result (λ _. IsUtf8 json.now) IsJsonRefusal }
+{
+    let records: Vec<Lookup<BabyBear>> = match serde_json::from_slice(alloc, json) {
+        Ok(records) => records,
+        Err(error) => return Err(text_fault(error)),
+    };
+    match Lookups::from_records(alloc, records) {
+        Ok(set) => Ok(set),
+        Err(error) => Err(Fault::Lookup { air: 0, error }),
+    }
+}
+
+/// Tables of the lookups that a text says.
+fn tables_from_json(alloc: Global, json: &[u8], room: TableSizes) -> Result<Written, Fault>
+    ensures { MatchResult result
+        (λ w. ReadsTables json.now w × HasTableRoom (sizes_of w) room)
+        (IsCallRefusal json.now room) }
+{
+    let set = set_from_json(alloc, json)?;
+    tables_for(alloc, &set, room)
+}
+
+/// Reads the lookups of an AIR from JSON into tables.
+///
+/// Each array is at least as long as what is written, from its start on; the sizes say how much that is.
+///
+/// Answers 0, or the code of a refusal. A refused call leaves the arrays and the sizes as they were.
+#[unsafe(no_mangle)]
+pub extern "C" fn volgwain_read_json(
+    alloc: Global,
+    json: &[u8],
+    nodes: &mut [Node],
+    tuples: &mut [Span],
+    names: &mut [u8],
+    records: &mut [Record],
+    sizes: &mut TableSizes,
+    refusal: &mut Refusal,
+    text: &mut [u8],
+) -> u32
+    ensures answers { let old = arrays nodes.old tuples.old names.old records.old in
+        let new = arrays nodes.new tuples.new names.new records.new in
+        Answers result refusal.new (ReadsInto json.now old new sizes.new)
+        (IsCallRefusal json.now (room_of old)) }
+    ensures kept { result ≢ 0 → (nodes.new ≡ nodes.old) × (tuples.new ≡ tuples.old)
+        × (names.new ≡ names.old) × (records.new ≡ records.old) × (sizes.new ≡ sizes.old) }
+{
+    let room = TableSizes {
+        nodes: nodes.len(),
+        tuples: tuples.len(),
+        names: names.len(),
+        records: records.len(),
+    };
+    match tables_from_json(alloc, json, room) {
+        Ok(made) => {
+            *sizes = write_tables(&made, nodes, tuples, names, records);
+            accept(refusal)
+        }
+        Err(fault) => refuse(&fault, refusal, text),
+    }
+}

@@ -1,0 +1,98 @@
+//! The call that counts the messages of a batch.
+ghost use Rattle.std.specs.Prelude.{◌≡◌, ◌≢◌, MatchResult};
+ghost use Rattle.lookup_c.specs.Answers.{Answers};
+ghost use Rattle.lookup_c.specs.SoundnessCount.{AreCountsOf, CountsNumbers, CountsTables, IsLinearBound, IsRefusal};
+
+use crate::batch_tables::{Air, all_traces, plan_of, plan_traces};
+use crate::fault::Fault;
+use crate::outputs::{Wide, halves, optional_halves};
+use crate::refusal::{Refusal, accept, refuse};
+use checker::SoundnessCount;
+use field::{BabyBear, BabyBear4, Over};
+use lookup_tables::Traces;
+use std::alloc::Global;
+
+/// The counts of a batch.
+#[repr(C)]
+#[derive(Clone, Copy, Drop)]
+pub struct Counts {
+    /// How many distinct messages there are.
+    pub messages: Wide,
+    /// How many of them do not balance.
+    pub unbalanced: Wide,
+    /// The bound of bad betas.
+    pub bad_betas: Wide,
+    /// 1 if some messages do not balance, and 0 if all do.
+    pub bounded: u32,
+    /// The bound of accepting alphas at every other beta, 0 if there is none.
+    pub accepting_alphas: Wide,
+    /// The bound of bad betas that is linear in the messages that do not balance.
+    pub linear_bad_betas: Wide,
+}
+
+/// The linear bound of bad betas.
+fn linear_bound(count: &SoundnessCount) -> Wide
+    ensures { IsLinearBound count.now result }
+{
+    halves(count.linear_bad_betas())
+}
+
+/// Counts as C sees them.
+fn counts_of(count: &SoundnessCount) -> Counts
+    ensures { AreCountsOf count.now result }
+{
+    let (bounded, accepting_alphas) = optional_halves(count.accepting_alphas);
+    Counts {
+        messages: halves(count.messages),
+        unbalanced: halves(count.unbalanced),
+        bad_betas: halves(count.bad_betas),
+        bounded,
+        accepting_alphas,
+        linear_bad_betas: linear_bound(count),
+    }
+}
+
+/// The counts of what tables say.
+///
+/// Refuses the first of these with a fault: the plan of the AIRs, the traces, and the count.
+fn count_messages(
+    alloc: Global,
+    airs: &[Air<'_>],
+    traces: &[Traces<'_>],
+) -> Result<SoundnessCount, Fault>
+    ensures { let E = ⟦<BabyBear4 as Over<BabyBear>>⟧.fields in
+        MatchResult result (CountsTables E airs.now traces.now)
+        (IsRefusal E airs.now traces.now) }
+{
+    let plan = plan_of(alloc, airs)?;
+    let all = all_traces(alloc, traces)?;
+    let given = plan_traces(alloc, &all)?;
+    Ok(plan.soundness_count::<BabyBear4>(alloc, &given)?)
+}
+
+/// Counts the messages of a batch, and bounds the challenges at which it can be accepted if they do not
+/// balance.
+///
+/// Answers 0, or the code of a refusal. A refused call leaves the counts as they were.
+#[unsafe(no_mangle)]
+pub extern "C" fn volgwain_soundness_count(
+    alloc: Global,
+    airs: &[Air<'_>],
+    traces: &[Traces<'_>],
+    counts: &mut Counts,
+    refusal: &mut Refusal,
+    text: &mut [u8],
+) -> u32
+    ensures answers { let E = ⟦<BabyBear4 as Over<BabyBear>>⟧.fields in
+        Answers result refusal.new (CountsNumbers E airs.now traces.now counts.new)
+        (IsRefusal E airs.now traces.now) }
+    ensures kept { result ≢ 0 → counts.new ≡ counts.old }
+{
+    match count_messages(alloc, airs, traces) {
+        Ok(count) => {
+            *counts = counts_of(&count);
+            accept(refusal)
+        }
+        Err(fault) => refuse(&fault, refusal, text),
+    }
+}

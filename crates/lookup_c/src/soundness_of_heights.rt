@@ -1,0 +1,76 @@
+//! The call that bounds the challenges of a batch by the heights of its traces alone.
+ghost use Rattle.std.specs.Prelude.{◌≡◌, ◌≢◌, MatchResult};
+ghost use Rattle.lookup_c.specs.SoundnessOfHeights.{AreCountsOf, CountsNumbers, CountsTables, IsRefusal};
+ghost use Rattle.lookup_c.specs.Answers.{Answers};
+
+use crate::batch_tables::{Air, plan_of};
+use crate::fault::Fault;
+use crate::outputs::{Wide, halves, optional_halves};
+use crate::refusal::{Refusal, accept, refuse};
+use batch::HeightSoundness;
+use field::{BabyBear, BabyBear4, Over};
+use std::alloc::Global;
+
+/// The counts of a batch by its heights.
+#[repr(C)]
+#[derive(Clone, Copy, Drop)]
+pub struct HeightCounts {
+    /// The most messages that there can be.
+    pub most_messages: Wide,
+    /// The bound of betas that are bad by heights.
+    pub bad_betas: Wide,
+    /// 1 if there can be messages, and 0 if not.
+    pub bounded: u32,
+    /// The bound of accepting alphas at every other beta, 0 if there is none.
+    pub accepting_alphas: Wide,
+}
+
+/// Counts by heights as C sees them.
+fn counts_of(count: &HeightSoundness) -> HeightCounts
+    ensures { AreCountsOf count.now result }
+{
+    let (bounded, accepting_alphas) = optional_halves(count.accepting_alphas);
+    HeightCounts {
+        most_messages: halves(count.most_messages),
+        bad_betas: halves(count.bad_betas),
+        bounded,
+        accepting_alphas,
+    }
+}
+
+/// The counts by heights of what tables say.
+///
+/// Refuses the plan of the AIRs, or else the count.
+fn count_by_heights(alloc: Global, airs: &[Air<'_>]) -> Result<HeightSoundness, Fault>
+    ensures { let E = ⟦<BabyBear4 as Over<BabyBear>>⟧.fields in
+        MatchResult result (CountsTables E airs.now) (IsRefusal E airs.now) }
+{
+    let plan = plan_of(alloc, airs)?;
+    Ok(plan.soundness_of_heights::<BabyBear4>()?)
+}
+
+/// Counts the most messages that a batch over traces of these heights can have, and bounds the challenges
+/// at which it can be accepted although it does not balance.
+///
+/// Answers 0, or the code of a refusal. A refused call leaves the counts as they were.
+#[unsafe(no_mangle)]
+pub extern "C" fn volgwain_soundness_of_heights(
+    alloc: Global,
+    airs: &[Air<'_>],
+    counts: &mut HeightCounts,
+    refusal: &mut Refusal,
+    text: &mut [u8],
+) -> u32
+    ensures answers { let E = ⟦<BabyBear4 as Over<BabyBear>>⟧.fields in
+        Answers result refusal.new (CountsNumbers E airs.now counts.new)
+        (IsRefusal E airs.now) }
+    ensures kept { result ≢ 0 → counts.new ≡ counts.old }
+{
+    match count_by_heights(alloc, airs) {
+        Ok(count) => {
+            *counts = counts_of(&count);
+            accept(refusal)
+        }
+        Err(fault) => refuse(&fault, refusal, text),
+    }
+}

@@ -1,0 +1,67 @@
+//! The call of a verifier on the plan of a batch.
+ghost use Rattle.std.specs.Prelude.{◌≡◌, ◌≢◌, MatchResult};
+ghost use Rattle.lookup_c.specs.Answers.{Answers};
+ghost use Rattle.lookup_c.specs.Verify.{IsRefusal, VerifiesTables};
+
+use crate::batch_tables::{Air, all_traces, plan_of, plan_traces};
+use crate::codes::Part;
+use crate::fault::Fault;
+use crate::inputs::challenge_of;
+use crate::refusal::{Refusal, accept, refuse};
+use crate::witness::{AirWitness, read_witness};
+use field::{BabyBear, BabyBear4, Over};
+use lookup_tables::Traces;
+use std::alloc::Global;
+
+/// Whether the plan that tables say accepts the witness that numbers say.
+///
+/// Refuses the first of these with a fault: the plan of the AIRs, the traces, alpha, beta, the witness,
+/// and its verification.
+fn verify_tables(
+    alloc: Global,
+    airs: &[Air<'_>],
+    traces: &[Traces<'_>],
+    alpha: &[u32; 4],
+    beta: &[u32; 4],
+    witness: &[AirWitness<'_>],
+) -> Result<(), Fault>
+    ensures { let E = ⟦<BabyBear4 as Over<BabyBear>>⟧.fields in
+        MatchResult result
+        (λ _. VerifiesTables E airs.now traces.now alpha.now beta.now witness.now)
+        (IsRefusal E airs.now traces.now alpha.now beta.now witness.now) }
+{
+    let plan = plan_of(alloc, airs)?;
+    let all = all_traces(alloc, traces)?;
+    let alpha = challenge_of(Part::Alphas, *alpha)?;
+    let beta = challenge_of(Part::Betas, *beta)?;
+    let witness = read_witness(alloc, witness)?;
+    let given = plan_traces(alloc, &all)?;
+    Ok(plan.verify(alloc, &given, alpha, beta, &witness)?)
+}
+
+/// Whether a witness of a batch, whoever made it, is accepted.
+///
+/// The plan is that of the AIRs' lookups and heights.
+///
+/// Answers 0 if the witness is accepted, and otherwise the code of the first refusal.
+#[unsafe(no_mangle)]
+pub extern "C" fn volgwain_verify(
+    alloc: Global,
+    airs: &[Air<'_>],
+    traces: &[Traces<'_>],
+    alpha: &[u32; 4],
+    beta: &[u32; 4],
+    witness: &[AirWitness<'_>],
+    refusal: &mut Refusal,
+    text: &mut [u8],
+) -> u32
+    ensures answers { let E = ⟦<BabyBear4 as Over<BabyBear>>⟧.fields in
+        Answers result refusal.new
+        (VerifiesTables E airs.now traces.now alpha.now beta.now witness.now)
+        (IsRefusal E airs.now traces.now alpha.now beta.now witness.now) }
+{
+    match verify_tables(alloc, airs, traces, alpha, beta, witness) {
+        Ok(()) => accept(refusal),
+        Err(fault) => refuse(&fault, refusal, text),
+    }
+}
