@@ -22,13 +22,36 @@ use std::alloc::Global;
 /// The trace builder, named for its role here: what the evaluation of a row sees.
 pub type RowEvalContext<'a, F, EF> = LookupTraceBuilder<'a, F, EF>;
 
-/// The lookup argument by logarithmic derivatives: the messages of all AIRs cancel if the sum of
-/// `multiplicity / (alpha - tuple)` over them is zero.
+/// The lookup argument by logarithmic derivatives (eprint 2022/1530).
+///
+/// A message is a tuple with a signed multiplicity `m`; queries and entries are in one list, with
+/// opposite signs. Let `t` be its tuple, combined by `beta` to one element. LogUp tests whether
+///
+/// ```text
+/// sum of m / (alpha - t) = 0
+/// ```
+///
+/// over all messages. This is the logarithmic derivative of `product of (alpha - t)^m = 1`, and
+/// needs no powers.
+///
+/// The auxiliary trace of an AIR has `acc` in column 0, and in column `c + 1` the fraction `f_c` of
+/// lookup `c`: on each row its part of the sum, as one quotient `V_c / U_c`. For a trace of `h` rows
+/// the constraints are
+///
+/// ```text
+/// U_c * f_c - V_c = 0                      on every row, for each lookup c
+/// acc[0] = 0
+/// acc[r + 1] = acc[r] + sum of f_c[r]      for r + 1 < h
+/// terminal = acc[h - 1] + sum of f_c[h - 1]
+/// ```
+///
+/// [`eval_fraction`](LookupProtocol::eval_fraction) says what `U_c` and `V_c` are, with and without
+/// flags. The terminals of all AIRs have to sum to zero.
 #[derive(Clone, Debug, Default, Drop)]
 pub struct LogUpGadget;
 
 impl LogUpGadget {
-    /// The gadget, which has no parts.
+    /// Creates the gadget (a unit type).
     pub fn new() -> Self {
         LogUpGadget
     }
