@@ -35,7 +35,8 @@ pub trait BaseAir<F> {
 pub trait Air<AB: AirBuilder>: BaseAir<AB::F> {
     ghost evaluates: { Self → AB → Result (Unit {0}) AirError → AB → Type 0 };
 
-    /// Asserts the constraints on the builder, and returns the first refusal.
+    /// Asserts the constraints on the builder. Fails with the first refusal; `evaluates` says what
+    /// the builder is then.
     fn eval(&self, alloc: Global, builder: &mut AB) -> Result<(), AirError>
         ensures { evaluates self.now builder.old result builder.new };
 

@@ -35,7 +35,7 @@ pub type RowEvalContext<'a, F, EF> = LookupTraceBuilder<'a, F, EF>;
 /// needs no powers.
 ///
 /// The auxiliary trace of an AIR has `acc` in column 0, and in column `c + 1` the fraction `f_c` of
-/// lookup `c`: on each row its part of the sum, as one quotient `V_c / U_c`. For a trace of `h` rows
+/// lookup `c`: on each row its part of the sum, one quotient `V_c / U_c`. For a trace of `h` rows
 /// the constraints are
 ///
 /// ```text
