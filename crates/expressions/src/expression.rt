@@ -6,9 +6,10 @@ ghost use Rattle.expressions.specs.declared.layout.AirLayout.{AirLayout};
 use field::Field;
 use std::alloc::{AllocError, Global};
 
-/// What whole numbers can be written as: elements of a field, and expressions.
+/// A type that whole numbers convert to: field elements and expressions.
 ///
-/// It is apart from [`Expression`], whose field is a parameter: here no field has to be named.
+/// It is separate from [`Expression`], which takes its field as a parameter: here no field is
+/// named.
 pub trait WholeNumbers: Sized {
     ghost is_whole: { ℤ → Self → Type 0 };
 

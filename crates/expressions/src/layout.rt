@@ -6,7 +6,8 @@ use crate::air::BaseAir;
 use crate::error::{AirError, LayoutPart};
 use matrix::RowMajorMatrix;
 
-/// The widths and numbers of everything that an AIR's constraints can read.
+/// The widths of the traces that an AIR's constraints can read, and how many other values they can
+/// read.
 #[derive(Clone, Copy, Debug, Default, PartialEq, Eq)]
 pub struct AirLayout {
     /// The number of columns of the preprocessed trace.

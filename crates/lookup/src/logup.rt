@@ -80,14 +80,15 @@ impl LogUpGadget {
     /// it has width 0, and there is no terminal.
     ///
     /// Rows are made in chunks of 1024, and all fractions of a chunk are divided by one inverse.
-    /// `inverter` counts at most one call for each chunk that is started, also if the trace is
-    /// refused: at most `height / 1024`, rounded up. It counts at least one call less where a fault is
-    /// refused, and none where no lookup has tuples. The challenges may lie in a domain that has no
-    /// inverse of its own: whatever function inverts its elements, the answer is the one of that
-    /// inverse.
+    /// `inverter` counts at most one call for each chunk that is started, even if the trace is
+    /// refused: at most `height / 1024`, rounded up. It counts at least one call less if a fault is
+    /// refused, and none if no lookup has tuples. The challenges may be of a domain without an
+    /// inverse of its own: for each function that inverts its elements, the answer is that of
+    /// generation by this function.
     ///
-    /// Refuses the first fault in the order row, lookup, and returns nothing of the trace; on one row of
-    /// one lookup, in the order of `generate_permutation`. Out of memory is refused under its own name.
+    /// Refuses the first fault in the order row, lookup, and returns nothing of the trace; on one
+    /// row of one lookup, in the order of `generate_permutation`. Also fails when out of memory,
+    /// with `Memory`.
     pub fn generate_counted<'a, F: Field, EF: ExtensionDomain<F>, I: Inverter<EF>>(
         &self,
         alloc: Global,

@@ -100,7 +100,7 @@ fn trace_for<F: Field>(
     Ok(RowMajorMatrix::new(values, air.columns()))
 }
 
-/// Some AIRs in parts: the lookups, the traces, and how high these are.
+/// AIRs in parts: their lookups, their traces, and the heights of these.
 #[derive(Debug, Drop)]
 pub struct AirParts<F> {
     pub lookups: Vec<Lookups<F>>,

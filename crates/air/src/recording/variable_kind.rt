@@ -6,9 +6,9 @@ use expressions::{BaseEntry, ExtEntry, SymbolicVariable, SymbolicVariableExt};
 use matrix::RowMajorMatrix;
 use std::alloc::{AllocError, Global};
 
-/// A kind of variables, each of which is known by its entry and its index.
+/// A kind of variable, named by an entry and an index.
 pub trait VariableKind: Copy {
-    /// Where they are read.
+    /// Where variables of this kind are read.
     type Entry: Copy;
 
     ghost entry_of: { Self → Self.Entry };
