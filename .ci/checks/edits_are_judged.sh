@@ -40,7 +40,15 @@ grep -q "^matrix [0-9a-f]* $(git rev-parse --short=12 HEAD)$" wrong-bodies/TRIED
 tools/wrong-bodies --tried >"$said" || fail "all edits can be made: $(cat "$said")"
 grep -q '^wrong bodies: those of 1 of 1 crates were tried on just these sources$' "$said" || fail "$(cat "$said")"
 
+# what was refused is kept, by the text of the edit
+grep -q 'dense::RowMajorMatrix::row_slice, `returns-clause-row`' crates/matrix/out/refused-edits || fail "nothing is kept"
 printf '%s&self.values[r * self.width..(1 + r) * self.width]\n' "$rows" >wrong-bodies/matrix/same.edit
+mv wrong-bodies/matrix/first_row.edit "$room/first_row"
+mv wrong-bodies/matrix/same.edit wrong-bodies/matrix/first_row.edit
+if tools/wrong-bodies matrix >"$said"; then fail "another text of the same name is taken as refused"; fi
+grep -q '^matrix/first_row: NOT REFUSED: ' "$said" || fail "$(cat "$said")"
+mv wrong-bodies/matrix/first_row.edit wrong-bodies/matrix/same.edit
+mv "$room/first_row" wrong-bodies/matrix/first_row.edit
 # the proof of `values` names its call of `as_slice`; the name of what is called instead is too long for a line of
 # the prover's message
 long=values_$(printf 'row_after_row_%.0s' {1..12})

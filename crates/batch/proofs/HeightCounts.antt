@@ -1,20 +1,16 @@
 -- The most messages of a plan, AIR by AIR, and of its batch over traces that fit.
 use Rattle.std.proofs.Common.{◌≡◌, ◌<◌, ◌≤◌, ◌+◌, ◌*◌, ◌∷◌, ℕ, suc, List, [], All, get_or, length, take, refl, sym, ap, ◌∙◌, arith}
-use Rattle.std.proofs.lemmas.List.{length-map}
 use Rattle.std.proofs.lemmas.List.Sums.{sum_by-cons, sum_by-take-le, sum_by_more}
 use Rattle.std.proofs.lemmas.Slice.Zip.{get_or-zip, length-zip}
 use Rattle.std.specs.List.{sum_by, zip}
-use Rattle.std.specs.declared.alloc.Global.{Global}
-use Rattle.std.specs.declared.vec.Vec.{Vec}
 use Rattle.air.specs.Traces.{height_of}
 use Rattle.lookup_model.specs.Batches.Linear.{most_messages, most_of, most_of_row}
 use Rattle.lookup.specs.Lookups.{lookups_of}
 use Rattle.lookup.specs.declared.lookups.Lookups.{Lookups}
 use Rattle.batch.specs.Heights.{most_planned}
-use Rattle.batch.specs.Lists.{lists_of}
 use Rattle.batch.specs.PlanFacts.{IsPlan}
-use Rattle.batch.specs.Plans.{plan_batch}
-use Rattle.batch.specs.Traces.{AreTraces, FitsAt, batch_over, instance_over}
+use Rattle.batch.specs.Plans.{FitPlan, Plan, plan_batch}
+use Rattle.batch.specs.Traces.{FitsAt, batch_over, instance_over}
 use Rattle.batch.specs.declared.trace.BatchTrace.{BatchTrace}
 use Rattle.batch.proofs.PlanCalls.{ids_for_airs}
 
@@ -57,7 +53,6 @@ module _ {F : Type 0} where
       ∙ (λ j. here j * most_of_row (lookups_of air) + rest j)
       ∙ sym (sum_by-cons most_of_air (air, h) (zip airs hs))
 
-  pub most_of_batch : (p : ℕ) (airs : List (Lookups F)) (heights : List ℕ) (ids : List (Vec ℕ Global)) (W m : ℕ) → IsPlan p airs heights (lists_of ids) W m → (traces : List (BatchTrace F)) → AreTraces heights traces (plan_batch airs ids traces)
-      → most_messages (plan_batch airs ids traces) ≡ most_planned airs heights
-  most_of_batch p airs heights ids W m facts traces fit =
-      batch_most (lists_of ids) airs traces heights (length-map ids (λ list. list.items) ∙ ids_for_airs p airs heights ids W m facts) (omega (arith, fit.as_many, facts.heights_are)) facts.heights_are fit.fit
+  pub most_of_batch : (p : ℕ) (plan : Plan F) → IsPlan p plan → (traces : List (BatchTrace F)) → FitPlan plan traces → most_messages (plan_batch plan traces) ≡ most_planned plan.airs plan.heights
+  most_of_batch p plan facts traces fit =
+      batch_most plan.ids plan.airs traces plan.heights (ids_for_airs p plan facts) (omega (arith, fit.as_many, facts.heights_are)) facts.heights_are fit.fit

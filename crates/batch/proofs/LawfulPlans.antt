@@ -15,6 +15,7 @@ use Rattle.lookup.specs.Lookups.{lookups_of}
 use Rattle.lookup.specs.declared.lookups.Lookups.{Lookups}
 use Rattle.batch.specs.Order.{same_bus}
 use Rattle.batch.specs.PlanFacts.{IsPlan, assigned, lookup_widths, all_tuple_widths}
+use Rattle.batch.specs.Plans.{Plan}
 use Rattle.batch.specs.Traces.{batch_over}
 use Rattle.batch.specs.declared.trace.BatchTrace.{BatchTrace}
 use Rattle.batch.proofs.GivenLaws.{below_next}
@@ -58,18 +59,20 @@ identified_is (i ∷ is) (air ∷ airs) (t ∷ ts) same as_many =
     ap (λ rest. zip i (lookups_of air) ++ rest) (identified_is is airs ts (omega (arith, same)) (omega (arith, as_many)))
 
 -- A plan's ids are lawful in every batch with its lookups and ids.
-pub lawful_plan : {F : Type 0} (p : ℕ) (airs : List (Lookups F)) (heights : List ℕ) (ids : List (List ℕ)) (W m : ℕ) → IsPlan p airs heights ids W m → (batch : List (Instance F)) → identified batch ≡ assigned ids airs → AreLawfulIds W m p batch
-lawful_plan {F} p airs heights ids W m plan batch same = record {
-  buses = subst (AllPairs (λ a b. (a.0 ≡ b.0) ↔ ShareBus a.1 b.1)) (sym same)
-      (λ i j d before within.
-      let each = plan.numbered.in_order.buses i j d before within in
-      let test = share_test (get_or (assigned ids airs) i d).1 (get_or (assigned ids airs) j d).1 in
-      (λ e. test.0 (each.0 e), λ s. each.1 (test.1 s)));
-  below = subst (All (λ a. a.0 < m)) (sym same) (λ k d lt. omega (arith, below_next (assigned ids airs) k d lt, plan.numbered.in_order.count));
-  few = plan.few;
-  widths = subst (λ (xs : List (ℕ × Lookup F)). All (λ a. All (λ b. a.0 ≡ b.0 → HaveOneWidth a.1 b.1) xs) xs) (sym same) plan.widths;
-  narrow = subst (All (λ a. All (λ tuple. length tuple.items ≤ W) a.1.elements.items)) (sym same)
-      (All-from_recursion (λ (a : ℕ × Lookup F). All (λ tuple. length tuple.items ≤ W) a.1.elements.items) (assigned ids airs)
-      (all_assigned (λ l. All (λ tuple. length tuple.items ≤ W) l.elements.items) ids airs plan.numbered.as_many (airs_narrow W airs (omega (arith, plan.width)))));
-  positive = omega (arith, plan.width);
-}
+pub lawful_plan : {F : Type 0} (p : ℕ) (plan : Plan F) → IsPlan p plan → (batch : List (Instance F)) → identified batch ≡ assigned plan.ids plan.airs → AreLawfulIds plan.width plan.num_ids p batch
+lawful_plan {F} p plan facts batch same =
+    let all = assigned plan.ids plan.airs in
+    record {
+      buses = subst (AllPairs (λ a b. (a.0 ≡ b.0) ↔ ShareBus a.1 b.1)) (sym same)
+          (λ i j d before within.
+          let each = facts.numbered.in_order.buses i j d before within in
+          let test = share_test (get_or all i d).1 (get_or all j d).1 in
+          (λ e. test.0 (each.0 e), λ s. each.1 (test.1 s)));
+      below = subst (All (λ a. a.0 < plan.num_ids)) (sym same) (λ k d lt. omega (arith, below_next all k d lt, facts.numbered.in_order.count));
+      few = facts.few;
+      widths = subst (λ (xs : List (ℕ × Lookup F)). All (λ a. All (λ b. a.0 ≡ b.0 → HaveOneWidth a.1 b.1) xs) xs) (sym same) facts.widths;
+      narrow = subst (All (λ a. All (λ tuple. length tuple.items ≤ plan.width) a.1.elements.items)) (sym same)
+          (All-from_recursion (λ (a : ℕ × Lookup F). All (λ tuple. length tuple.items ≤ plan.width) a.1.elements.items) all
+          (all_assigned (λ l. All (λ tuple. length tuple.items ≤ plan.width) l.elements.items) plan.ids plan.airs facts.numbered.as_many (airs_narrow plan.width plan.airs (omega (arith, facts.width)))));
+      positive = omega (arith, facts.width);
+    }

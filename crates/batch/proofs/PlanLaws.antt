@@ -22,16 +22,18 @@ use Rattle.batch.proofs.LawfulPlans.{greatest_append}
 use Rattle.batch.proofs.OneWidths.{one_widths}
 use Rattle.batch.specs.Checks.{AreLocallyEven, IsFirstLocalMismatch, bus_widths_of}
 use Rattle.batch.specs.PlanFacts.{AreNumbered, IsPlan, message_width}
+use Rattle.batch.specs.Plans.{Plan}
 use Rattle.batch.specs.Refusals.{of_fault, of_lookup, refusal_at}
 use Rattle.batch.specs.declared.error.BatchError.TheVariants.{Lookup as OfLookup, Memory}
 
 -- where every check passes, it is a plan
-pub plan_is : {F : Type 0} (p : ℕ) (airs : List (Lookups F)) (heights : List ℕ) (ids : List (List ℕ)) (W m : ℕ) → length heights ≡ length airs → AgreeOnWidths (bus_widths_of airs) → AreLocallyEven airs → AreNumbered ids airs m → m ≤ p → weighted_height_sum (map lookups_of airs) heights < p → W ≡ message_width airs → IsPlan p airs heights ids W m
-plan_is p airs heights ids W m heights_are agree even numbered few light width = record {
+pub plan_is : {F : Type 0} (p : ℕ) (plan : Plan F) → length plan.heights ≡ length plan.airs → AgreeOnWidths (bus_widths_of plan.airs) → AreLocallyEven plan.airs → AreNumbered plan.ids plan.airs plan.num_ids
+    → plan.num_ids ≤ p → weighted_height_sum (map lookups_of plan.airs) plan.heights < p → plan.width ≡ message_width plan.airs → IsPlan p plan
+plan_is p plan heights_are agree even numbered few light width = record {
   heights_are = heights_are;
   numbered = numbered;
   few = few;
-  widths = one_widths ids airs m numbered agree even;
+  widths = one_widths plan.ids plan.airs plan.num_ids numbered agree even;
   width = width;
   light = light;
 }

@@ -1,14 +1,14 @@
 -- The batch of a plan over its traces.
-use Rattle.std.proofs.Common.{◌≡◌, ◌↔◌, ◌<◌, ◌+◌, ◌-◌, ◌++◌, ◌∷◌, ℕ, zero, suc, Bool, true, false, true≢false, IsTrue, List, [], Some, All, drop, get_or, length, map, take, refl, sym, ap, ap₂, subst, ◌∙◌, arith}
+use Rattle.std.proofs.Common.{◌≡◌, ◌↔◌, ◌<◌, ◌+◌, ◌++◌, ◌∷◌, ℕ, zero, suc, Bool, true, false, true≢false, IsTrue, List, [], Some, All, get_or, length, map, take, refl, sym, ap, ap₂, ◌∙◌, arith}
 use Rattle.std.proofs.lemmas.List.{get_or-map, length-map, map_push, take_more}
 use Rattle.std.proofs.lemmas.List.Elements.{All-cons, All-nil}
 use Rattle.std.proofs.lemmas.Slice.Zip.{get_or-zip, length-zip}
-use Rattle.std.specs.List.{AllByRecursion, slice_get, slice_range, zip}
+use Rattle.std.specs.List.{AllByRecursion, slice_get, zip}
 use Rattle.std.specs.declared.alloc.Global.{Global}
 use Rattle.std.specs.declared.vec.Vec.{Vec}
 use Rattle.matrix.specs.Matrix.{Matrix}
 use Rattle.lookup_model.specs.Batches.Ids.{identified}
-use Rattle.lookup_model.specs.Batches.Instances.{InstancesFit, IsFitting, instance_of, instances_of}
+use Rattle.lookup_model.specs.Batches.Instances.{Instance, InstancesFit, IsFitting, instance_of, instances_of}
 use Rattle.lookup_model.specs.declared.instance.BatchInstance.{BatchInstance}
 use Rattle.lookup_model.specs.declared.types.Lookup.{Lookup}
 use Rattle.lookup.specs.Lookups.{lookups_of}
@@ -17,34 +17,17 @@ use Rattle.lookup_model.proofs.Lists.{all_back, all_front}
 use Rattle.batch.proofs.ItemLaws.{HoldsBelow, holds_next}
 use Rattle.batch.specs.Lists.{lists_of}
 use Rattle.batch.specs.Pairs.{HaveIdsBelow}
-use Rattle.batch.specs.Plans.{plan_batch}
-use Rattle.batch.specs.Traces.{FitsAt, IsFirstUnfit, instance_alone, instance_over, main_alone, shown_of}
+use Rattle.batch.specs.Traces.{FitsAt, IsFirstUnfit, batch_over, instance_of_main, instance_over, traces_of_main, view_of}
 use Rattle.batch.specs.declared.error.BatchError.TheVariants.{TraceMismatch}
 use Rattle.batch.specs.declared.trace.BatchTrace.{BatchTrace}
 
--- a part of one item
-pub one_part : {A : Type 0} (xs : List A) (i : ℕ) (d : A) → i < length xs → slice_range xs i (i + 1) ≡ get_or xs i d ∷ []
-one_part [] i d lt = absurd (omega (arith, lt))
-one_part (x ∷ xs) zero d lt = refl
-one_part (x ∷ xs) (suc i) d lt =
-    let less : suc i + 1 - suc i ≡ i + 1 - i = omega arith in
-    ap (λ n. take n (drop i xs)) less ∙ one_part xs i d (omega (arith, lt))
-
--- what holds of its items holds of that item
-pub all_of_one : {A : Type 0} (P : A → Type 0) (xs : List A) (i : ℕ) (x : A) → i < length xs → x ≡ get_or xs i x → All P (slice_range xs i (i + 1)) ↔ P x
-all_of_one P xs i x lt is =
-    let part : slice_range xs i (i + 1) ≡ x ∷ [] = one_part xs i x lt ∙ ap (λ y. y ∷ []) (sym is) in (
-      (λ all. subst (All P) part all 0 x (omega arith)),
-      (λ here. subst (All P) (sym part) (All-cons P x [] here (All-nil P))),
-    )
-
 module _ {F : Type 0} where
   -- AIRs that fit their heights fit
-  pub fits_from : (bs : List (BatchInstance F)) (heights : List ℕ) → length heights ≡ length bs → All FitsAt (zip (instances_of bs) heights) → InstancesFit bs
-  fits_from [] heights same all = All-nil (λ b. IsFitting (instance_of b))
-  fits_from (b ∷ bs) [] same all = absurd (omega (arith, same))
-  fits_from (b ∷ bs) (h ∷ hs) same all =
-      All-cons (λ c. IsFitting (instance_of c)) b bs (all 0 (instance_of b, h) (omega arith)).1 (fits_from bs hs (omega (arith, same)) (λ k d lt. all (suc k) d (omega (arith, lt))))
+  pub fits_from : (instances : List (Instance F)) (heights : List ℕ) → length instances ≡ length heights → All FitsAt (zip instances heights) → All IsFitting instances
+  fits_from [] heights same all = All-nil IsFitting
+  fits_from (i ∷ is) [] same all = absurd (omega (arith, same))
+  fits_from (i ∷ is) (h ∷ hs) same all =
+      All-cons IsFitting i is (all 0 (i, h) (omega arith)).1 (fits_from is hs (omega (arith, same)) (λ k d lt. all (suc k) d (omega (arith, lt))))
 
   ids_below : (m : ℕ) (ids : List ℕ) (lookups : List (Lookup F)) → length ids ≡ length lookups → AllByRecursion (λ a. a.0 < m) (zip ids lookups) → All (λ id. id < m) ids
   ids_below m [] lookups same all = All-nil (λ id. id < m)
@@ -84,45 +67,41 @@ module _ {F : Type 0} where
         ∙ sym (map_push (λ (t : (List ℕ × Lookups F) × BatchTrace F). instance_over t.0 t.1) (take i parts) ((list.items, air), trace))
         ∙ ap (map (λ (t : (List ℕ × Lookups F) × BatchTrace F). instance_over t.0 t.1)) (ap (λ t. take i parts ++ t ∷ []) (sym pair) ∙ sym (take_more parts i ((list.items, air), trace) (omega (arith, length_parts, lt))))
 
-    pub length_batch : (bs : List (BatchInstance F)) → instances_of bs ≡ plan_batch airs ids traces → length bs ≡ length airs
-    length_batch bs are = sym (length-map bs instance_of) ∙ ap length are ∙ length-map parts (λ t. instance_over t.0 t.1) ∙ length_parts
+  -- there is an instance for each AIR
+  pub length_batch : (airs : List (Lookups F)) (ids : List (List ℕ)) (traces : List (BatchTrace F)) → length ids ≡ length airs → length traces ≡ length airs → length (batch_over ids airs traces) ≡ length airs
+  length_batch airs ids traces ids_are traces_are =
+      omega (arith, length-map (zip (zip ids airs) traces) (λ t. instance_over t.0 t.1), length-zip (zip ids airs) traces, length-zip ids airs, ids_are, traces_are)
 
   -- an AIR of a batch with its height
-  pub trace_there : (bs : List (BatchInstance F)) (heights : List ℕ) (i : ℕ) → length heights ≡ length bs → i < length bs → (b : BatchInstance F) × (b ≡ get_or bs i b) × (slice_get (zip (instances_of bs) heights) i ≡ Some (instance_of b, get_or heights i 0))
-  trace_there [] heights i same lt = absurd (omega (arith, lt))
-  trace_there (b ∷ bs) [] i same lt = absurd (omega (arith, same))
-  trace_there (b ∷ bs) (h ∷ hs) zero same lt = (b, refl, refl)
-  trace_there (b ∷ bs) (h ∷ hs) (suc i) same lt = trace_there bs hs i (omega (arith, same)) (omega (arith, lt))
+  pub trace_there : (bs : List (BatchInstance F)) (heights : List ℕ) (i : ℕ) (b : BatchInstance F) → length heights ≡ length bs → i < length bs → b ≡ get_or bs i b → slice_get (zip (instances_of bs) heights) i ≡ Some (instance_of b, get_or heights i 0)
+  trace_there [] heights i b same lt is = absurd (omega (arith, lt))
+  trace_there (c ∷ bs) [] i b same lt is = absurd (omega (arith, same))
+  trace_there (c ∷ bs) (h ∷ hs) zero b same lt is = λ j. Some (instance_of (sym is j), h)
+  trace_there (c ∷ bs) (h ∷ hs) (suc i) b same lt is = trace_there bs hs i b (omega (arith, same)) (omega (arith, lt)) is
 
-  module _ (bs : List (BatchInstance F)) (heights : List ℕ) (i : ℕ) (same : length heights ≡ length bs) (lt : i < length bs) (fits : Bool)
-      (told : IsTrue fits ↔ All (λ b. FitsAt (instance_of b, get_or heights i 0)) (slice_range bs i (i + 1)))
-      (so_far : HoldsBelow FitsAt (zip (instances_of bs) heights) i) where
+  module _ (batch : List (Instance F)) (heights : List ℕ) (i : ℕ) (one : Instance F × ℕ) (there : slice_get (zip batch heights) i ≡ Some one) (fits : Bool) (told : IsTrue fits ↔ FitsAt one) (so_far : HoldsBelow FitsAt (zip batch heights) i) where
     -- one AIR more that fits
-    pub fits_next : fits ≡ true → HoldsBelow FitsAt (zip (instances_of bs) heights) (i + 1)
-    fits_next yes_fits =
-        let (b, is, there) = trace_there bs heights i same lt in
-        holds_next FitsAt (zip (instances_of bs) heights) i (instance_of b, get_or heights i 0) there ((all_of_one (λ c. FitsAt (instance_of c, get_or heights i 0)) bs i b lt is).0 (told.0 yes_fits)) so_far
+    pub fits_next : fits ≡ true → HoldsBelow FitsAt (zip batch heights) (i + 1)
+    fits_next yes_fits = holds_next FitsAt (zip batch heights) i one there (told.0 yes_fits) so_far
 
     -- one that does not
-    pub first_unfit : fits ≡ false → IsFirstUnfit heights (instances_of bs) (TraceMismatch i)
-    first_unfit unfit =
-        let (b, is, there) = trace_there bs heights i same lt in
-        record {
-          index = i;
-          item = (instance_of b, get_or heights i 0);
-          is_there = there;
-          before = so_far;
-          fault = (λ here. absurd (true≢false (sym (told.1 ((all_of_one (λ c. FitsAt (instance_of c, get_or heights i 0)) bs i b lt is).1 here)) ∙ unfit)), refl);
-        }
+    pub first_unfit : fits ≡ false → IsFirstUnfit heights batch (TraceMismatch i)
+    first_unfit unfit = record {
+      index = i;
+      item = one;
+      is_there = there;
+      before = so_far;
+      fault = (λ here. absurd (true≢false (sym (told.1 here) ∙ unfit)), refl);
+    }
 
 -- over main traces alone, the batch of a plan is that of these
-pub alone_is : {F : Type 0} (airs : List (List ℕ × Lookups F)) (traces : List (BatchTrace F)) (mains : List (Matrix F)) → map shown_of traces ≡ map main_alone mains
-    → map (λ t. instance_over t.0 t.1) (zip airs traces) ≡ map (λ t. instance_alone t.0 t.1) (zip airs mains)
+pub alone_is : {F : Type 0} (airs : List (List ℕ × Lookups F)) (traces : List (BatchTrace F)) (mains : List (Matrix F)) → map view_of traces ≡ map traces_of_main mains
+    → map (λ t. instance_over t.0 t.1) (zip airs traces) ≡ map (λ t. instance_of_main t.0 t.1) (zip airs mains)
 alone_is [] traces mains same = refl
 alone_is (a ∷ airs) [] [] same = refl
 alone_is (a ∷ airs) [] (m ∷ ms) same = absurd (cc same)
 alone_is (a ∷ airs) (t ∷ ts) [] same = absurd (cc same)
 alone_is (a ∷ airs) (t ∷ ts) (m ∷ ms) same =
-    let head : shown_of t ≡ main_alone m = ap (λ all. get_or all 0 (shown_of t)) same in
-    let rest : map shown_of ts ≡ map main_alone ms = cc same in
+    let head : view_of t ≡ traces_of_main m = ap (λ all. get_or all 0 (view_of t)) same in
+    let rest : map view_of ts ≡ map traces_of_main ms = cc same in
     ap₂ (λ x xs. x ∷ xs) (λ i. record { lookups = lookups_of a.1; traces = head i; ids = a.0 }) (alone_is airs ts ms rest)

@@ -9,8 +9,8 @@ use Rattle.lookup_model.specs.Batches.Instances.{Instance}
 use Rattle.lookup_model.specs.Batches.Linear.{linear_joint_bound}
 use Rattle.lookup_model.specs.Batches.Messages.{AreFlagsLawful}
 use Rattle.lookup_model.specs.declared.fault.BatchFault.{BatchFault}
+use Rattle.batch.specs.Plans.{FitPlan, IsMisfit, Plan, plan_batch}
 use Rattle.batch.specs.Refusals.{of_fault}
-use Rattle.batch.specs.Traces.{AreTraces, IsTraceRefusal}
 use Rattle.batch.specs.declared.error.BatchError.{BatchError}
 use Rattle.batch.specs.declared.error.BatchError.TheVariants.{CountOverflow, Memory, RepeatedChallenge}
 use Rattle.batch.specs.declared.grid.GridCount.{GridCount}
@@ -49,16 +49,23 @@ module _ {F K : Type 0} (E : Extension F K) (instances : List (Instance F)) (W :
       (λ count. HaveNoRepeat alphas betas × AreFlagsLawful E.base E.base_eq instances × IsGridCount count)
       (λ e. (e ≡ Memory) ⊎ IsGridRefusal e)
 
-  -- The same over the traces of a plan: they fit; or they are refused before anything else.
-  abbrev pub CountsPlanGrid : List ℕ → List (BatchTrace F) → Result GridCount BatchError → Type 0
-  CountsPlanGrid heights traces answer = MatchResult answer
-      (λ count. AreTraces heights traces instances × HaveNoRepeat alphas betas × AreFlagsLawful E.base E.base_eq instances × IsGridCount count)
-      (λ e. (e ≡ Memory) ⊎ (IsTraceRefusal heights traces instances e ⊎ (AreTraces heights traces instances × IsGridRefusal e)))
-
   -- if some message does not balance, the linear joint bound holds as well
   abbrev pub StaysWithinLinearBound : Result GridCount BatchError → Type 0
   StaysWithinLinearBound answer =
       IfOk answer (λ count. 0 < unbalanced_count E instances → count.accepted ≤ linear_joint_bound E instances W (length alphas) (length betas))
+
+module _ {F K : Type 0} (E : Extension F K) (plan : Plan F) (traces : List (BatchTrace F)) (alphas betas : List K) where
+  -- The count over the traces of a plan: they fit; or they are refused before anything else.
+  abbrev pub CountsPlanGrid : Result GridCount BatchError → Type 0
+  CountsPlanGrid answer =
+      let batch = plan_batch plan traces in
+      MatchResult answer
+      (λ count. FitPlan plan traces × HaveNoRepeat alphas betas × AreFlagsLawful E.base E.base_eq batch × IsGridCount E batch plan.width alphas betas count)
+      (λ e. (e ≡ Memory) ⊎ (IsMisfit plan traces e ⊎ (FitPlan plan traces × IsGridRefusal E batch plan.width alphas betas e)))
+
+  -- if some message does not balance, the linear joint bound holds as well
+  abbrev pub PlanStaysWithinLinearBound : Result GridCount BatchError → Type 0
+  PlanStaysWithinLinearBound answer = StaysWithinLinearBound E (plan_batch plan traces) plan.width alphas betas answer
 
 -- at most as many pairs are accepted as the bound says, where there is one
 abbrev pub StaysWithinBound : Result GridCount BatchError → Type 0

@@ -8,9 +8,11 @@ use Rattle.lookup_model.specs.Batches.Linear.{FewBadBetasByHeights, most_message
 use Rattle.lookup_model.specs.Batches.Messages.{AreFlagsLawful}
 use Rattle.lookup.specs.Lookups.{lookups_of}
 use Rattle.lookup.specs.declared.lookups.Lookups.{Lookups}
+use Rattle.batch.specs.Plans.{FitPlan, Plan, plan_batch}
 use Rattle.batch.specs.declared.error.BatchError.{BatchError}
 use Rattle.batch.specs.declared.error.BatchError.TheVariants.{CountOverflow}
 use Rattle.batch.specs.declared.heights.HeightSoundness.{HeightSoundness}
+use Rattle.batch.specs.declared.trace.BatchTrace.{BatchTrace}
 
 -- The most messages of AIRs of these heights: on each row one for each lookup with flags, and each tuple of
 -- every other one.
@@ -35,3 +37,8 @@ pub record BoundsByHeights {F K : Type 0} (E : Extension F K) (batch : List (Ins
   pub most : most_messages batch ≡ M
   pub messages : AreFlagsLawful E.base E.base_eq batch → message_count E batch ≤ M
   pub few : AreFlagsLawful E.base E.base_eq batch → FewBadBetasByHeights E batch W
+
+-- The numbers of a plan's heights bound its batch over all traces that fit.
+abbrev pub BoundsAllTraces : {F K : Type 0} → Extension F K → Plan F → Type 0
+BoundsAllTraces {F} E plan =
+    (traces : List (BatchTrace F)) → FitPlan plan traces → BoundsByHeights E (plan_batch plan traces) plan.width (most_planned plan.airs plan.heights)

@@ -8,8 +8,8 @@ use Rattle.lookup_model.specs.Batches.Linear.{IsLinearlySound}
 use Rattle.lookup_model.specs.Batches.Messages.{AreFlagsLawful}
 use Rattle.lookup_model.specs.declared.count.SoundnessCount.{SoundnessCount}
 use Rattle.lookup_model.specs.declared.fault.BatchFault.{BatchFault}
+use Rattle.batch.specs.Plans.{FitPlan, IsMisfit, Plan, plan_batch}
 use Rattle.batch.specs.Refusals.{of_fault}
-use Rattle.batch.specs.Traces.{AreTraces, IsTraceRefusal}
 use Rattle.batch.specs.declared.error.BatchError.{BatchError}
 use Rattle.batch.specs.declared.error.BatchError.TheVariants.{CountOverflow, Memory}
 use Rattle.batch.specs.declared.trace.BatchTrace.{BatchTrace}
@@ -22,17 +22,20 @@ module _ {F K : Type 0} (E : Extension F K) (instances : List (Instance F)) (W :
       ((fault : BatchFault) × IsFirstFlagFault E.base E.base_eq instances fault × (e ≡ of_fault fault))
       ⊎ (AreFlagsLawful E.base E.base_eq instances × (2 ^ 128 ≤ bad_beta_bound E instances W) × (e ≡ CountOverflow))
 
+module _ {F K : Type 0} (E : Extension F K) (plan : Plan F) (traces : List (BatchTrace F)) where
   -- The counts, over traces that fit and lawful flags; or the refusal of the traces, or else that of the
   -- count. Or memory runs out.
-  abbrev pub CountsPlan : List ℕ → List (BatchTrace F) → Result SoundnessCount BatchError → Type 0
-  CountsPlan heights traces answer = MatchResult answer
-      (λ count. AreTraces heights traces instances × AreFlagsLawful E.base E.base_eq instances × AreCounts E instances W count)
-      (λ e. (e ≡ Memory) ⊎ (IsTraceRefusal heights traces instances e ⊎ (AreTraces heights traces instances × IsCountingRefusal e)))
+  abbrev pub CountsPlan : Result SoundnessCount BatchError → Type 0
+  CountsPlan answer =
+      let batch = plan_batch plan traces in
+      MatchResult answer
+      (λ count. FitPlan plan traces × AreFlagsLawful E.base E.base_eq batch × AreCounts E batch plan.width count)
+      (λ e. (e ≡ Memory) ⊎ (IsMisfit plan traces e ⊎ (FitPlan plan traces × IsCountingRefusal E batch plan.width e)))
 
   -- the counts bound the challenges at which the batch is accepted
   abbrev pub CountsSoundly : Result SoundnessCount BatchError → Type 0
-  CountsSoundly answer = IfOk answer (λ _. IsCountedSound E instances W)
+  CountsSoundly answer = IfOk answer (λ _. IsCountedSound E (plan_batch plan traces) plan.width)
 
   -- so they do with the linear bound of bad betas
   abbrev pub CountsLinearly : Result SoundnessCount BatchError → Type 0
-  CountsLinearly answer = IfOk answer (λ _. IsLinearlySound E instances W)
+  CountsLinearly answer = IfOk answer (λ _. IsLinearlySound E (plan_batch plan traces) plan.width)

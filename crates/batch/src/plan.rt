@@ -1,14 +1,14 @@
 //! Plans of batches.
-ghost use Rattle.std.specs.Prelude.{◌≡◌, ◌⊎◌, ℕ, All, List, MatchResult, length, map};
+ghost use Rattle.std.specs.Prelude.{◌≡◌, ◌⊎◌, MatchResult, length, map};
 ghost use Rattle.batch.specs.PlanFacts.{IsPlan};
-ghost use Rattle.batch.specs.Lists.{lists_of};
+ghost use Rattle.batch.specs.Plans.{plan_with};
 ghost use Rattle.batch.specs.WitnessCounts.{IsCountRefusal};
 
-use crate::batch::fitted_batch;
 use crate::error::BatchError;
-use crate::grid::{GridCount, counted_grid};
+use crate::grid::{GridCount, count_grid};
 use crate::heights::{HeightSoundness, soundness_by_heights};
 use crate::ids::{PlanIds, plan_ids};
+use crate::instances::make_batch;
 use crate::trace::BatchTrace;
 use crate::widths::{check_local_widths, widest_tuple};
 use checker::{
@@ -34,25 +34,19 @@ pub struct BatchPlan<F: Field> {
     ids: Vec<Vec<usize>>,
     max_message_width: usize,
     num_ids: usize,
-    pub ghost facts: { IsPlan F.CHARACTERISTIC airs.items heights.items (lists_of ids.items) max_message_width num_ids },
+    pub ghost facts: { IsPlan F.CHARACTERISTIC (plan_with airs.items heights.items ids.items max_message_width num_ids) },
 }
 
 impl<F: Field> BatchPlan<F> {
-    ghost use Rattle.batch.specs.Checks.{HaveEvenWidths, IsPlanRefusal};
-    ghost use Rattle.batch.specs.Packing.{ArePackedAirs};
-    ghost use Rattle.batch.specs.Grids.{CountsPlanGrid, StaysWithinBound, StaysWithinLinearBound};
-    ghost use Rattle.batch.specs.Heights.{BoundsByHeights, CountsHeights, most_planned};
-    ghost use Rattle.batch.specs.PlanBatches.{IsPlanBatch};
-    ghost use Rattle.batch.specs.Plans.{PassIsCounted, VerifiesOnlyPlain, Proves, ProvesBalanced, ProvesOnly, ProvesRegular, ProvesSatisfied, RefusesOnlyUnaccepted, Verifies, plan_batch};
+    ghost use Rattle.batch.specs.Checks.{IsPlanFor, IsPlanRefusal};
+    ghost use Rattle.batch.specs.Packing.{ArePackedAirs, KeepsPlanCounts};
+    ghost use Rattle.batch.specs.Grids.{CountsPlanGrid, PlanStaysWithinLinearBound, StaysWithinBound};
+    ghost use Rattle.batch.specs.Heights.{BoundsAllTraces, CountsHeights, most_planned};
+    ghost use Rattle.batch.specs.PlanBatches.{HasLawfulIds, InstancesFitPlan, MakesPlanBatch};
+    ghost use Rattle.batch.specs.Runs.{PassIsCounted, Proves, ProvesBalanced, ProvesRegular, ProvesSatisfied, RefusesOnlyUnaccepted, Verifies, VerifiesOnlyPlain, plan_of, run_of};
     ghost use Rattle.batch.specs.SoundnessCounts.{CountsLinearly, CountsPlan, CountsSoundly};
-    ghost use Rattle.batch.specs.Tables.{made_table};
-    ghost use Rattle.batch.specs.Traces.{AreTraces, IsTraceRefusal};
-    ghost use Rattle.batch.specs.declared.trace.BatchTrace.{BatchTrace};
     ghost use Rattle.lookup.specs.Lookups.{lookups_of};
     ghost use Rattle.lookup.specs.Weights.{HeightLaws};
-    ghost use Rattle.checker.specs.Packed.{KeepsCounts};
-    ghost use Rattle.lookup_model.specs.Batches.Ids.{AreLawfulIds};
-    ghost use Rattle.lookup_model.specs.Batches.Instances.{IsFitting};
 
     /// The plan of these AIRs, whose traces have these heights.
     ///
@@ -71,9 +65,7 @@ impl<F: Field> BatchPlan<F> {
         airs: Vec<Lookups<F>>,
         heights: Vec<usize>,
     ) -> Result<Self, BatchError>
-        ensures { MatchResult result
-            (λ plan. (plan.airs.items ≡ airs.items) × (plan.heights.items ≡ heights.items)
-            × HaveEvenWidths airs.items)
+        ensures { MatchResult result (λ plan. IsPlanFor airs.items heights.items (plan_of plan))
             (λ e. (e ≡ BatchError.Memory)
             ⊎ IsPlanRefusal F.CHARACTERISTIC airs.items heights.items e) }
     {
@@ -128,9 +120,9 @@ impl<F: Field> BatchPlan<F> {
     /// vanishes, the call succeeds unless memory runs out, and there are no others that do. If all
     /// messages balance, the terminals sum to zero.
     ///
-    /// Refuses `LengthMismatch` if the traces are not as many as the AIRs, then `TraceMismatch` at the
-    /// first AIR whose traces do not have the height of the plan or do not fit its lookups, then
-    /// `Air` with the first fault of generation. Also fails when out of memory.
+    /// Refuses `LengthMismatch` unless there is a trace for each AIR, then `TraceMismatch` at the first
+    /// AIR whose traces do not have the height of the plan or do not fit its lookups, then `Air` with
+    /// the first fault of generation. Also fails when out of memory.
     pub fn prove<EF: ExtensionField<F>>(
         &self,
         alloc: Global,
@@ -138,23 +130,14 @@ impl<F: Field> BatchPlan<F> {
         alpha: EF,
         beta: EF,
     ) -> Result<Witness<EF>, BatchError>
-        ensures answer { Proves ⟦<EF as Over<F>>⟧.fields
-            (made_table EF.ring alpha beta self.now.max_message_width self.now.num_ids)
-            self.now.heights.items traces.now
-            (plan_batch self.now.airs.items self.now.ids.items traces.now) result }
-        ensures succeeds { ProvesRegular ⟦<EF as Over<F>>⟧.fields
-            (made_table EF.ring alpha beta self.now.max_message_width self.now.num_ids)
-            self.now.heights.items traces.now
-            (plan_batch self.now.airs.items self.now.ids.items traces.now) result }
-        ensures satisfied { ProvesSatisfied ⟦<EF as Over<F>>⟧.fields
-            (made_table EF.ring alpha beta self.now.max_message_width self.now.num_ids)
-            (plan_batch self.now.airs.items self.now.ids.items traces.now) result }
-        ensures only { ProvesOnly ⟦<EF as Over<F>>⟧.fields
-            (made_table EF.ring alpha beta self.now.max_message_width self.now.num_ids)
-            (plan_batch self.now.airs.items self.now.ids.items traces.now) result }
-        ensures balanced { ProvesBalanced ⟦<EF as Over<F>>⟧.fields
-            (made_table EF.ring alpha beta self.now.max_message_width self.now.num_ids)
-            (plan_batch self.now.airs.items self.now.ids.items traces.now) result }
+        ensures answer { Proves
+            (run_of ⟦<EF as Over<F>>⟧.fields (plan_of self.now) traces.now alpha beta) result }
+        ensures succeeds { ProvesRegular
+            (run_of ⟦<EF as Over<F>>⟧.fields (plan_of self.now) traces.now alpha beta) result }
+        ensures satisfied { ProvesSatisfied
+            (run_of ⟦<EF as Over<F>>⟧.fields (plan_of self.now) traces.now alpha beta) result }
+        ensures balanced { ProvesBalanced
+            (run_of ⟦<EF as Over<F>>⟧.fields (plan_of self.now) traces.now alpha beta) result }
     {
         let batch = self.batch_over(alloc, traces)?;
         let challenges = Challenges::new(alloc, alpha, beta, self.max_message_width, self.num_ids)?;
@@ -168,9 +151,9 @@ impl<F: Field> BatchPlan<F> {
     /// If it is, alpha is one of those that [`soundness_count`](BatchPlan::soundness_count) counts. If
     /// all flags are lawful and no denominator vanishes, only the witness of `prove` can be.
     ///
-    /// Refuses traces as `prove` does, then `LengthMismatch` if the auxiliary traces or the terminals
-    /// are not as many as the AIRs, then `Lookup` with the first refusal of the witness. Also fails
-    /// when out of memory.
+    /// Refuses traces as `prove` does, then `LengthMismatch` unless there is an auxiliary trace and a
+    /// terminal for each AIR, then `Lookup` with the first refusal of the witness. Also fails when out
+    /// of memory.
     pub fn verify<EF: ExtensionField<F>>(
         &self,
         alloc: Global,
@@ -179,20 +162,14 @@ impl<F: Field> BatchPlan<F> {
         beta: EF,
         witness: &Witness<EF>,
     ) -> Result<(), BatchError>
-        ensures answer { Verifies ⟦<EF as Over<F>>⟧.fields
-            (made_table EF.ring alpha beta self.now.max_message_width self.now.num_ids)
-            self.now.heights.items traces.now
-            (plan_batch self.now.airs.items self.now.ids.items traces.now) witness.now result }
-        ensures refusal { RefusesOnlyUnaccepted ⟦<EF as Over<F>>⟧.fields
-            (made_table EF.ring alpha beta self.now.max_message_width self.now.num_ids)
-            self.now.heights.items traces.now
-            (plan_batch self.now.airs.items self.now.ids.items traces.now) witness.now result }
-        ensures only { VerifiesOnlyPlain ⟦<EF as Over<F>>⟧.fields
-            (made_table EF.ring alpha beta self.now.max_message_width self.now.num_ids)
-            (plan_batch self.now.airs.items self.now.ids.items traces.now) witness.now result }
-        ensures counted { PassIsCounted ⟦<EF as Over<F>>⟧.fields
-            (plan_batch self.now.airs.items self.now.ids.items traces.now) alpha beta
-            self.now.max_message_width result }
+        ensures answer { Verifies
+            (run_of ⟦<EF as Over<F>>⟧.fields (plan_of self.now) traces.now alpha beta) witness.now result }
+        ensures refusal { RefusesOnlyUnaccepted
+            (run_of ⟦<EF as Over<F>>⟧.fields (plan_of self.now) traces.now alpha beta) witness.now result }
+        ensures only { VerifiesOnlyPlain
+            (run_of ⟦<EF as Over<F>>⟧.fields (plan_of self.now) traces.now alpha beta) witness.now result }
+        ensures counted { PassIsCounted
+            (run_of ⟦<EF as Over<F>>⟧.fields (plan_of self.now) traces.now alpha beta) result }
     {
         let batch = self.batch_over(alloc, traces)?;
         check_counts(self.airs.len(), witness)?;
@@ -219,21 +196,15 @@ impl<F: Field> BatchPlan<F> {
     /// `max_message_width`. Also fails when out of memory.
     ///
     /// `linear` says that at most `W * (k - 1)` betas are bad, which
-    /// [`linear_bad_betas`](SoundnessCount::linear_bad_betas) tells.
+    /// [`linear_bad_betas`](SoundnessCount::linear_bad_betas) returns.
     pub fn soundness_count<EF: ExtensionField<F>>(
         &self,
         alloc: Global,
         traces: &[BatchTrace<'_, F>],
     ) -> Result<SoundnessCount, BatchError>
-        ensures answer { CountsPlan ⟦<EF as Over<F>>⟧.fields
-            (plan_batch self.now.airs.items self.now.ids.items traces.now)
-            self.now.max_message_width self.now.heights.items traces.now result }
-        ensures sound { CountsSoundly ⟦<EF as Over<F>>⟧.fields
-            (plan_batch self.now.airs.items self.now.ids.items traces.now)
-            self.now.max_message_width result }
-        ensures linear { CountsLinearly ⟦<EF as Over<F>>⟧.fields
-            (plan_batch self.now.airs.items self.now.ids.items traces.now)
-            self.now.max_message_width result }
+        ensures answer { CountsPlan ⟦<EF as Over<F>>⟧.fields (plan_of self.now) traces.now result }
+        ensures sound { CountsSoundly ⟦<EF as Over<F>>⟧.fields (plan_of self.now) traces.now result }
+        ensures linear { CountsLinearly ⟦<EF as Over<F>>⟧.fields (plan_of self.now) traces.now result }
     {
         let batch = self.batch_over(alloc, traces)?;
         let counts = soundness_count::<F, EF>(alloc, batch.as_slice(), self.max_message_width)?;
@@ -249,12 +220,7 @@ impl<F: Field> BatchPlan<F> {
     pub fn soundness_of_heights<EF: ExtensionField<F>>(&self) -> Result<HeightSoundness, BatchError>
         ensures answer { CountsHeights (most_planned self.now.airs.items self.now.heights.items)
             self.now.max_message_width result }
-        ensures sound { (traces : List (BatchTrace F))
-            → AreTraces self.now.heights.items traces
-            (plan_batch self.now.airs.items self.now.ids.items traces)
-            → BoundsByHeights ⟦<EF as Over<F>>⟧.fields
-            (plan_batch self.now.airs.items self.now.ids.items traces) self.now.max_message_width
-            (most_planned self.now.airs.items self.now.heights.items) }
+        ensures sound { BoundsAllTraces ⟦<EF as Over<F>>⟧.fields (plan_of self.now) }
     {
         linear_soundness::<F, EF>();
         let (airs, heights) = (self.airs.as_slice(), self.heights.as_slice());
@@ -267,15 +233,8 @@ impl<F: Field> BatchPlan<F> {
     /// fit, and their ids are lawful for challenges of `num_ids` prefixes and tuples of at most
     /// `max_message_width` elements. `heights` is the height law of its AIRs; see [`height_law`].
     pub fn laws(&self)
-        ensures fit { (traces : List (BatchTrace F))
-            → AreTraces self.now.heights.items traces
-            (plan_batch self.now.airs.items self.now.ids.items traces)
-            → All IsFitting (plan_batch self.now.airs.items self.now.ids.items traces) }
-        ensures ids { (traces : List (BatchTrace F))
-            → AreTraces self.now.heights.items traces
-            (plan_batch self.now.airs.items self.now.ids.items traces)
-            → AreLawfulIds self.now.max_message_width self.now.num_ids F.CHARACTERISTIC
-            (plan_batch self.now.airs.items self.now.ids.items traces) }
+        ensures fit { InstancesFitPlan (plan_of self.now) }
+        ensures ids { HasLawfulIds (plan_of self.now) F.CHARACTERISTIC }
         ensures heights { HeightLaws F.ring F.eq (map lookups_of self.now.airs.items)
             self.now.heights.items }
     {
@@ -291,11 +250,7 @@ impl<F: Field> BatchPlan<F> {
     /// Their tuples are as wide, so where `soundness_count` answers over both plans, the numbers are the same.
     pub fn packing_keeps_counts<EF: ExtensionField<F>>(&self, packed: &BatchPlan<F>)
         ensures counts { ArePackedAirs F.ring F.eq self.now.airs.items packed.now.airs.items
-            → (traces : List (BatchTrace F)) → AreTraces self.now.heights.items traces
-            (plan_batch self.now.airs.items self.now.ids.items traces)
-            → KeepsCounts ⟦<EF as Over<F>>⟧.fields
-            (plan_batch self.now.airs.items self.now.ids.items traces)
-            (plan_batch packed.now.airs.items packed.now.ids.items traces) }
+            → KeepsPlanCounts ⟦<EF as Over<F>>⟧.fields (plan_of self.now) (plan_of packed.now) }
         ensures width { ArePackedAirs F.ring F.eq self.now.airs.items packed.now.airs.items
             → packed.now.max_message_width ≡ self.now.max_message_width }
     {
@@ -316,35 +271,28 @@ impl<F: Field> BatchPlan<F> {
         alphas: &[EF],
         betas: &[EF],
     ) -> Result<GridCount, BatchError>
-        ensures answer { CountsPlanGrid ⟦<EF as Over<F>>⟧.fields
-            (plan_batch self.now.airs.items self.now.ids.items traces.now)
-            self.now.max_message_width alphas.now betas.now self.now.heights.items traces.now result }
+        ensures answer { CountsPlanGrid
+            ⟦<EF as Over<F>>⟧.fields (plan_of self.now) traces.now alphas.now betas.now result }
         ensures within { StaysWithinBound result }
-        ensures linear { StaysWithinLinearBound ⟦<EF as Over<F>>⟧.fields
-            (plan_batch self.now.airs.items self.now.ids.items traces.now)
-            self.now.max_message_width alphas.now betas.now result }
+        ensures linear { PlanStaysWithinLinearBound
+            ⟦<EF as Over<F>>⟧.fields (plan_of self.now) traces.now alphas.now betas.now result }
     {
         let batch = self.batch_over(alloc, traces)?;
         let (width, num_ids) = (self.max_message_width, self.num_ids);
-        counted_grid(alloc, batch.as_slice(), width, num_ids, alphas, betas)
+        count_grid(alloc, batch.as_slice(), width, num_ids, alphas, betas)
     }
 
     /// The batch of the AIRs over these traces, under their ids.
     ///
-    /// Refuses traces that are not as many as the AIRs, then the first that do not fit.
+    /// Refuses traces unless there is one for each AIR, then the first that do not fit.
     fn batch_over<'a>(
         &'a self,
         alloc: Global,
         traces: &'a [BatchTrace<'a, F>],
     ) -> Result<Vec<BatchInstance<'a, F>>, BatchError>
-        ensures { MatchResult result
-            (λ batch. IsPlanBatch F.CHARACTERISTIC self.now.heights.items
-            self.now.max_message_width self.now.num_ids traces.now
-            (plan_batch self.now.airs.items self.now.ids.items traces.now) batch.items)
-            (λ e. (e ≡ BatchError.Memory) ⊎ IsTraceRefusal self.now.heights.items traces.now
-            (plan_batch self.now.airs.items self.now.ids.items traces.now) e) }
+        ensures { MakesPlanBatch F.CHARACTERISTIC (plan_of self.now) traces.now result }
     {
-        fitted_batch(
+        make_batch(
             alloc,
             self.airs.as_slice(),
             self.ids.as_slice(),

@@ -1,10 +1,12 @@
 -- Constraints of lookups on the rows of given inputs.
-use Rattle.std.specs.Prelude.{◌≡◌, ◌<◌, ◌≤◌, ◌*◌, ℕ, List, Option, Result, MatchOption, MatchResult, length, ⊤}
+use Rattle.std.specs.Prelude.{◌≡◌, ◌⊎◌, ◌<◌, ◌≤◌, ◌*◌, ℕ, List, Option, Result, MatchOption, MatchResult, length, ⊤}
 use Rattle.std.specs.List.{AllByRecursion}
 use Rattle.std.specs.Option.{ForSome, option_copied}
 use Rattle.std.specs.declared.alloc.AllocError.{AllocError}
 use Rattle.matrix.specs.Matrix.{height}
 use Rattle.expressions.specs.Faults.{FailsFirstAt}
+use Rattle.expressions.specs.declared.error.AirError.{AirError}
+use Rattle.expressions.specs.declared.error.AirError.TheVariants.{Assertion, Memory as OutOfMemory}
 use Rattle.air.specs.Row.{input_layout, input_window}
 use Rattle.air.specs.declared.debug.inputs.RowInputs.{RowInputs}
 use Rattle.lookup_model.specs.Constraints.{Constraint, accumulator_constraints, fraction_constraint, lookup_constraints, terminal_at}
@@ -48,6 +50,12 @@ module _ {F K : Type 0} (E : Extension F K) (inputs : RowInputs F K) where
     -- every constraint of the lookups is zero on a row
     abbrev pub HoldsOn : ℕ → Type 0
     HoldsOn r = AllByRecursion (IsZeroOn r) (lookup_constraints E lookups)
+
+    -- whether every constraint is zero on a row, or memory runs out
+    abbrev pub ChecksRow : ℕ → Result (Unit {0}) AirError → Type 0
+    ChecksRow r answer = MatchResult answer
+        (λ _. HoldsOn r)
+        (λ e. (e ≡ OutOfMemory) ⊎ ((e ≡ Assertion r) × (¬ HoldsOn r)))
 
     -- row r is the first on which one is not
     abbrev pub IsFirstFailingOn : ℕ → Type 0

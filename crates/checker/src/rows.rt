@@ -1,10 +1,7 @@
 //! The constraints of lookups on the rows of given traces.
-ghost use Rattle.std.specs.Prelude.{◌≡◌, ◌*◌, ◌<◌, ◌≤◌, ◌⊎◌, MatchResult, length};
-ghost use Rattle.std.specs.Option.{ForSome, option_copied};
-ghost use Rattle.air.specs.Row.{HeightFits, input_layout};
-ghost use Rattle.lookup_model.specs.Records.{LookupsFit};
+ghost use Rattle.std.specs.Prelude.{◌<◌, length};
 ghost use Rattle.matrix.specs.Matrix.{height};
-ghost use Rattle.checker.specs.Rows.{AreChecked, FindsFailing, HoldsOn};
+ghost use Rattle.checker.specs.Rows.{AreChecked, ChecksRow, FindsFailing};
 
 use crate::chunks::first_failing_in_chunks;
 use air::{AirError, DebugConstraintBuilder, RowInputs};
@@ -26,14 +23,7 @@ pub(crate) fn first_failing_row<'a, F: Field, EF: ExtensionField<F>>(
     inputs: &'a RowInputs<'a, F, EF>,
     lookups: &[Lookup<F>],
 ) -> Result<Option<usize>, AllocError>
-    requires preprocessed { ForSome (option_copied inputs.now.preprocessed)
-        (λ m. height m ≡ height inputs.now.main.now) }
-    requires permutation { HeightFits (height inputs.now.main.now) inputs.now.permutation.now }
-    requires fit { LookupsFit (input_layout inputs.now) lookups.now }
-    requires challenges { 2 * length lookups.now ≤ length inputs.now.challenges.now }
-    requires cells { 0 < length lookups.now
-        → length lookups.now < inputs.now.permutation.now.width }
-    requires terminal { 0 < length lookups.now → 0 < length inputs.now.permutation_values.now }
+    requires { 0 < length lookups.now → AreChecked inputs.now lookups.now }
     ensures { FindsFailing ⟦<EF as Over<F>>⟧.fields inputs.now lookups.now result }
 {
     if lookups.is_empty() {
@@ -73,10 +63,7 @@ fn check_row<'a, F: Field, EF: ExtensionField<F>>(
 ) -> Result<(), AirError>
     requires row { row < height inputs.now.main.now }
     requires checked { AreChecked inputs.now lookups.now }
-    ensures { MatchResult result
-        (λ _. HoldsOn ⟦<EF as Over<F>>⟧.fields inputs.now lookups.now row)
-        (λ e. (e ≡ AirError.Memory) ⊎ ((e ≡ AirError.Assertion row)
-        × (¬ HoldsOn ⟦<EF as Over<F>>⟧.fields inputs.now lookups.now row))) }
+    ensures { ChecksRow ⟦<EF as Over<F>>⟧.fields inputs.now lookups.now row result }
 {
     let mut builder = DebugConstraintBuilder::new(inputs, row);
     LogUpGadget::new().eval_all(alloc, &mut builder, lookups)

@@ -3,8 +3,8 @@ ghost use Rattle.std.specs.Prelude.{◌≡◌, IfOk, length};
 ghost use Rattle.std.specs.List.{zip};
 ghost use Rattle.lookup_model.specs.Challenges.{table_of};
 ghost use Rattle.lookup_model.specs.Witness.{values_of_terminal};
-ghost use Rattle.checker.specs.Answers.{ChecksWitness, PassesOnlyPlain, RefusesUnaccepted};
-ghost use Rattle.lookup_model.specs.Batches.Instances.{HasPrefixes, HavePrefixes, InstancesFit, IsFitting, instance_of, instances_of};
+ghost use Rattle.checker.specs.Answers.{AreReady, ChecksWitness, PassesOnlyPlain, RefusesUnaccepted};
+ghost use Rattle.lookup_model.specs.Batches.Instances.{HasPrefixes, IsFitting, instance_of, instances_of};
 ghost use Rattle.lookup_model.specs.Batches.Refusals.{HasShapeAt};
 ghost use Rattle.checker.specs.Checks.{ChecksResult, ChecksRows, ChecksShape};
 
@@ -26,8 +26,8 @@ use std::alloc::{AllocError, Global};
 ///
 /// - `TerminalPresenceMismatch`: there is no terminal although there are lookups, or the other way
 ///   round;
-/// - `PermutationWidthMismatch`: the auxiliary trace does not have one column more than there are
-///   lookups, or none without lookups;
+/// - `PermutationWidthMismatch`: the width of the auxiliary trace is not the number of lookups plus one,
+///   or not zero without lookups;
 /// - `PermutationHeightMismatch`: with lookups, it does not have the height of the main trace;
 /// - `ConstraintFailed`: a constraint is not zero on a row, of which the first is named;
 /// - `TerminalSumNonZero`: the terminals do not sum to zero.
@@ -40,10 +40,9 @@ pub fn check_witness<F: Field, EF: ExtensionField<F>>(
     aux: &[RowMajorMatrix<EF>],
     terminals: &[Option<LookupTerminal<EF>>],
 ) -> Result<(), LookupError>
-    requires fit { InstancesFit instances.now }
-    requires ids { HavePrefixes challenges.now instances.now }
-    requires traces { length aux.now ≡ length instances.now }
-    requires terminals { length terminals.now ≡ length instances.now }
+    requires ready { AreReady challenges.now instances.now }
+    requires parts { (length aux.now ≡ length instances.now)
+        × (length terminals.now ≡ length instances.now) }
     ensures answer { ChecksWitness ⟦<EF as Over<F>>⟧.fields (table_of challenges.now)
         (instances_of instances.now) (zip aux.now terminals.now) result }
     ensures refusal { RefusesUnaccepted ⟦<EF as Over<F>>⟧.fields (table_of challenges.now)

@@ -9,6 +9,7 @@ pub mod Kept
 pub mod Lookups
 pub mod NamedWidths
 pub mod Packing
+pub mod Rooms
 pub mod Sends
 pub mod TrialDegrees
 pub mod Trials

@@ -7,6 +7,7 @@ ghost use Rattle.lookup_evaluation.specs.Asserted.{EvaluatesOn};
 ghost use Rattle.lookup_model.specs.Constraints.{accumulator_constraints, fraction_constraint, lookup_constraints};
 ghost use Rattle.lookup_model.specs.LookupDegree.{IsDegree, lookup_degree};
 ghost use Rattle.lookup_model.specs.Records.{HasEqualLengths, IsWithin, LookupsFit};
+ghost use Rattle.lookup.specs.Rooms.{HasRoomForLookups};
 ghost use Rattle.lookup.specs.WholeAir.{EvaluatesBoth};
 ghost use Rattle.lookup_model.specs.Terminals.{terminal_sum};
 ghost use Rattle.lookup_model.specs.Generation.{AnswersGeneration};
@@ -89,12 +90,7 @@ pub trait LookupProtocol: Sized {
         lookups: &[Lookup<AB::F>],
     ) -> Result<(), AirError>
         requires fit { LookupsFit (AB.layout builder.old) lookups.now }
-        requires challenges { 2 * length lookups.now
-            ≤ (AB.layout builder.old).num_permutation_challenges }
-        requires cells { 0 < length lookups.now
-            → length lookups.now < (AB.layout builder.old).permutation_width }
-        requires terminal { 0 < length lookups.now
-            → 0 < (AB.layout builder.old).num_permutation_values }
+        requires room { HasRoomForLookups (AB.layout builder.old) (length lookups.now) }
         ensures { let E = ⟦<AB::EF as Over<AB::F>>⟧.fields in
             EvaluatesOn ⟦<AB as BuilderView>⟧ builder.old (lookup_constraints E lookups.now)
             result builder.new }
@@ -119,12 +115,7 @@ pub trait LookupProtocol: Sized {
         lookups: &[Lookup<AB::F>],
     ) -> Result<(), AirError>
         requires fit { LookupsFit (AB.layout builder.old) lookups.now }
-        requires challenges { 2 * length lookups.now
-            ≤ (AB.layout builder.old).num_permutation_challenges }
-        requires cells { 0 < length lookups.now
-            → length lookups.now < (AB.layout builder.old).permutation_width }
-        requires terminal { 0 < length lookups.now
-            → 0 < (AB.layout builder.old).num_permutation_values }
+        requires room { HasRoomForLookups (AB.layout builder.old) (length lookups.now) }
         ensures { let E = ⟦<AB::EF as Over<AB::F>>⟧.fields in
             EvaluatesBoth A.evaluates
             (λ between answer after. EvaluatesOn ⟦<AB as BuilderView>⟧ between

@@ -22,7 +22,7 @@ use Rattle.batch.specs.declared.error.BatchError.TheVariants.{Lookup as OfLookup
 use Rattle.batch.specs.declared.trace.BatchTrace.{BatchTrace}
 use Rattle.lookup_program.specs.Machines.{air_bus_and_weight, air_trace, airs_of, input_columns, first_column_of, width_of}
 use Rattle.lookup_program.specs.Program.{height_sum}
-use Rattle.batch.specs.Traces.{main_alone, shown_of}
+use Rattle.batch.specs.Traces.{traces_of_main, view_of}
 use Rattle.lookup_program.specs.Traces.{IsTraceOf}
 use Rattle.lookup_program.specs.declared.airs.MachineAir.{MachineAir}
 use Rattle.lookup_program.specs.declared.airs.MachineAir.TheVariants.{Entries, Group, Keys, RangeCheck}
@@ -60,13 +60,13 @@ module _ {F : Type 0} where
       (omega (arith, low), omega (arith, low, same), omega (arith, low, same, order.count))
 
   -- the batch of AIRs, all of whose lookups have id 0
-  pub batch_is : (traces : List (AirTrace F)) (shown : List (BatchTrace F)) → map shown_of shown ≡ map (λ t. main_alone t.main) traces → batch_over (map (λ t. ids) traces) (sets traces) shown ≡ map instance traces
+  pub batch_is : (traces : List (AirTrace F)) (shown : List (BatchTrace F)) → map view_of shown ≡ map (λ t. traces_of_main t.main) traces → batch_over (map (λ t. ids) traces) (sets traces) shown ≡ map instance traces
   batch_is [] [] same = refl
   batch_is [] (b ∷ bs) same = absurd (cc same)
   batch_is (t ∷ ts) [] same = absurd (cc same)
   batch_is (t ∷ ts) (b ∷ bs) same =
-      let head : shown_of b ≡ main_alone t.main = ap (λ all. get_or all 0 (shown_of b)) same in
-      let rest : map shown_of bs ≡ map (λ u. main_alone u.main) ts = cc same in
+      let head : view_of b ≡ traces_of_main t.main = ap (λ all. get_or all 0 (view_of b)) same in
+      let rest : map view_of bs ≡ map (λ u. traces_of_main u.main) ts = cc same in
       ap₂ (λ x xs. x ∷ xs) (λ i. record { lookups = lookups_of t.lookups; traces = head i; ids = ids }) (batch_is ts bs rest)
 
 module _ {F : Type 0} (R : Ring F) (eq : F → F → Bool) (input : Matrix F) where

@@ -7,7 +7,7 @@ use Rattle.air.specs.Traces.{air_traces}
 use Rattle.lookup_model.specs.Batches.Instances.{Instance}
 use Rattle.lookup.specs.Lookups.{lookups_of}
 use Rattle.lookup_debug.specs.Contributions.{Traced}
-use Rattle.batch.specs.Traces.{main_alone}
+use Rattle.batch.specs.Traces.{traces_of_main}
 use Rattle.lookup_program.specs.Machines.{AreLookupsOf, air_trace, airs_of}
 use Rattle.lookup_program.specs.declared.airs.MachineAir.{MachineAir}
 use Rattle.lookup_program.specs.declared.machine.Machine.{Machine}
@@ -29,7 +29,7 @@ traced_instance public_values ids trace = record {
 -- an AIR as the debug check is given it
 abbrev pub traced_over : {F : Type 0} → AirTrace F → Traced F
 traced_over trace =
-    record { traces = main_alone trace.main; lookups = lookups_of trace.lookups }
+    record { traces = traces_of_main trace.main; lookups = lookups_of trace.lookups }
 
 -- these are the AIRs of a machine over some input
 abbrev pub AreTracesOf : {F : Type 0} → Ring F → (F → F → Bool) → List (AirTrace F) → Type 0

@@ -4,7 +4,7 @@ ghost use Rattle.std.specs.List.{AllZip};
 ghost use Rattle.lookup.specs.Lookups.{lookups_of};
 ghost use Rattle.lookup_debug.specs.Contributions.{traced_of};
 ghost use Rattle.lookup_program.specs.Machines.{AreLookupsOf, air_trace, airs_of, input_columns, first_column_of, width_of};
-ghost use Rattle.batch.specs.Traces.{main_alone, shown_of};
+ghost use Rattle.batch.specs.Traces.{traces_of_main, view_of};
 ghost use Rattle.lookup_program.specs.Traces.{IsTraceOf, traced_over};
 ghost use Rattle.matrix.specs.Matrix.{height};
 
@@ -138,7 +138,7 @@ pub fn plan_traces<'a, F: Field>(
     alloc: Global,
     mains: &'a [RowMajorMatrix<F>],
 ) -> Result<Vec<BatchTrace<'a, F>>, AllocError>
-    ensures { IfOk result (λ traces. map shown_of traces.items ≡ map main_alone mains.now) }
+    ensures { IfOk result (λ traces. map view_of traces.items ≡ map traces_of_main mains.now) }
 {
     let mut traces = Vec::new(alloc);
     for main in mains {

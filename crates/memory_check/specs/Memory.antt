@@ -1,8 +1,6 @@
 -- A memory check: its lookups, its batch, and what it answers.
 use Rattle.std.specs.Prelude.{◌≡◌, ◌≢◌, ◌⊎◌, ℕ, All, List, [], ◌∷◌, length}
 use Rattle.std.specs.List.{AllZip, zip}
-use Rattle.std.specs.declared.alloc.Global.{Global}
-use Rattle.std.specs.declared.vec.Vec.{Vec}
 use Rattle.matrix.specs.Matrix.{Matrix}
 use Rattle.expressions.specs.Layout.{layout_of_widths}
 use Rattle.expressions.specs.declared.base_expression.SymbolicExpression.{SymbolicExpression}
@@ -23,10 +21,10 @@ use Rattle.lookup_model.specs.Batches.Refusals.{IsWitnessRefusal}
 use Rattle.lookup_model.specs.Batches.Witnesses.{IsAccepted, plain_witness}
 use Rattle.lookup_model.specs.declared.fault.BatchFault.{BatchFault}
 use Rattle.batch.specs.Checks.{IsPlanRefusal}
-use Rattle.batch.specs.Lists.{lists_of}
+use Rattle.batch.specs.Plans.{Plan}
 use Rattle.batch.specs.Refusals.{of_fault}
 use Rattle.batch.specs.Tables.{made_table}
-use Rattle.batch.specs.Traces.{FitsAt, IsFirstUnfit, batch_alone}
+use Rattle.batch.specs.Traces.{FitsAt, IsFirstUnfit, batch_of_mains}
 use Rattle.batch.specs.declared.error.BatchError.{BatchError}
 use Rattle.batch.specs.declared.error.BatchError.TheVariants.{LengthMismatch, Lookup as OfLookup, Memory}
 use Rattle.memory_check.specs.declared.memory.MemoryTraces.{MemoryTraces}
@@ -54,19 +52,19 @@ module _ (F : Type 0) where
   IsMemoryPlanRefusal p heights e =
       IsLookupsRefusal e ⊎ ((airs : List (Lookups F)) × SetsFit airs × IsPlanRefusal p airs heights e)
 
--- a plan by its parts, and the traces that are checked over it
-module _ {F K : Type 0} (E : Extension F K) (alpha beta : K) (airs : List (Lookups F)) (heights : List ℕ) (ids : List (Vec ℕ Global)) (W m : ℕ) (mains : List (Matrix F)) where
+-- a plan and the main traces that are checked over it, at a pair of challenges
+module _ {F K : Type 0} (E : Extension F K) (plan : Plan F) (mains : List (Matrix F)) (alpha beta : K) where
   -- the batch, and the table of its challenges
   abbrev batch : List (Instance F)
-  batch = batch_alone (lists_of ids) airs mains
+  batch = batch_of_mains plan.ids plan.airs mains
 
   abbrev table : ChallengeTable K
-  table = made_table E.ring alpha beta W m
+  table = made_table E.ring alpha beta plan.width plan.num_ids
 
   -- there are traces for each AIR, of the heights of the plan, and they fit
   pub record AreMemoryTraces : Type 0 where
-    pub as_many : length mains ≡ length heights
-    pub fit : All FitsAt (zip batch heights)
+    pub as_many : length mains ≡ length plan.heights
+    pub fit : All FitsAt (zip batch plan.heights)
 
   -- The traces fit, no AIR has a fault, and the plain witness is accepted. So alpha is accepting at
   -- beta, which counted soundness says of few if the batch does not balance.
@@ -74,13 +72,13 @@ module _ {F K : Type 0} (E : Extension F K) (alpha beta : K) (airs : List (Looku
     pub traces_are : AreMemoryTraces
     pub faultless : AreFaultless E table batch
     pub accepted : IsAccepted E table batch (plain_witness E table batch)
-    pub accepting : IsAccepting E batch W beta alpha
+    pub accepting : IsAccepting E batch plan.width beta alpha
 
   -- the traces do not fit: for their number, else the first of them
   abbrev IsUnfit : BatchError → Type 0
   IsUnfit e =
-      ((length mains ≢ length heights) × (e ≡ LengthMismatch (length heights) (length mains)))
-      ⊎ ((length mains ≡ length heights) × IsFirstUnfit heights batch e)
+      ((length mains ≢ length plan.heights) × (e ≡ LengthMismatch (length plan.heights) (length mains)))
+      ⊎ ((length mains ≡ length plan.heights) × IsFirstUnfit plan.heights batch e)
 
   -- the first fault of generation
   abbrev IsFault : BatchError → Type 0

@@ -1,6 +1,7 @@
 //! The memory check: from its AIRs to a plan, and from traces to an accepted witness.
 ghost use Rattle.std.specs.Prelude.{◌≡◌, [], ◌∷◌, IfErr, IfOk, OnOk};
-ghost use Rattle.batch.specs.Traces.{main_alone, shown_of};
+ghost use Rattle.batch.specs.Runs.{plan_of};
+ghost use Rattle.batch.specs.Traces.{traces_of_main, view_of};
 ghost use Rattle.memory_check.specs.Memory.{SetsFit, IsAcceptedMemory, IsLookupsRefusal, IsMemoryPlanRefusal, IsMemoryRefusal, mains_of};
 
 use crate::airs::{AccessesAir, BoundaryAir, GapsAir};
@@ -72,12 +73,10 @@ pub fn check_memory<F: Field, EF: ExtensionField<F>>(
     alpha: EF,
     beta: EF,
 ) -> Result<(), BatchError>
-    ensures accepted { let E = ⟦<EF as Over<F>>⟧.fields in
-        OnOk result (IsAcceptedMemory E alpha beta plan.now.airs.items plan.now.heights.items
-        plan.now.ids.items plan.now.max_message_width plan.now.num_ids (mains_of traces.now)) }
-    ensures refused { let E = ⟦<EF as Over<F>>⟧.fields in
-        IfErr result (IsMemoryRefusal E alpha beta plan.now.airs.items plan.now.heights.items
-        plan.now.ids.items plan.now.max_message_width plan.now.num_ids (mains_of traces.now)) }
+    ensures accepted { OnOk result (IsAcceptedMemory
+        ⟦<EF as Over<F>>⟧.fields (plan_of plan.now) (mains_of traces.now) alpha beta) }
+    ensures refused { IfErr result (IsMemoryRefusal
+        ⟦<EF as Over<F>>⟧.fields (plan_of plan.now) (mains_of traces.now) alpha beta) }
 {
     let traces = [
         alone(&traces.accesses),
@@ -91,7 +90,7 @@ pub fn check_memory<F: Field, EF: ExtensionField<F>>(
 
 /// A main trace without preprocessed trace and public values.
 fn alone<F>(main: &RowMajorMatrix<F>) -> BatchTrace<'_, F>
-    ensures { shown_of result ≡ main_alone main.now }
+    ensures { view_of result ≡ traces_of_main main.now }
 {
     BatchTrace {
         main,

@@ -1,6 +1,6 @@
 //! Calls over batches.
 ghost use Rattle.std.specs.Prelude.{◌↔◌, ◌<◌, All, IsTrue};
-ghost use Rattle.lookup_model.specs.Batches.Instances.{HavePrefixes, InstancesFit};
+ghost use Rattle.checker.specs.Answers.{AreReady};
 
 use crate::inputs::{BALANCED, LOOKUPS, ON_A_BUS, UNBALANCED, lookups_of, table, trace};
 use crate::show::{Out, input, show};
@@ -45,9 +45,8 @@ fn have_prefixes(instances: &[BatchInstance<'_, F7>], count: usize) -> bool
 }
 
 /// Whether a batch fits, and the table has a prefix for each of its ids.
-fn are_fitting(instances: &[BatchInstance<'_, F7>], table: &Challenges<F7>) -> bool
-    ensures fit { IsTrue result → InstancesFit instances.now }
-    ensures ids { IsTrue result → HavePrefixes table.now instances.now }
+fn are_ready(instances: &[BatchInstance<'_, F7>], table: &Challenges<F7>) -> bool
+    ensures { IsTrue result → AreReady table.now instances.now }
 {
     instances_fit(instances) && have_prefixes(instances, table.bus_prefix.len())
 }
@@ -80,7 +79,7 @@ fn on_table(
     instances: &[BatchInstance<'_, F7>],
     table: &Challenges<F7>,
 ) {
-    if are_fitting(instances, table) {
+    if are_ready(instances, table) {
         let witness = generate_batch(alloc, instances, table);
         show(out, "generate_batch", witness);
         let accepted = some_witness(alloc, instances, table);
@@ -96,8 +95,7 @@ fn check(
     table: &Challenges<F7>,
     witness: &Witness<F7>,
 )
-    requires fit { InstancesFit instances.now }
-    requires ids { HavePrefixes table.now instances.now }
+    requires { AreReady table.now instances.now }
 {
     let (aux, terminals) = (witness.aux.as_slice(), witness.terminals.as_slice());
     if aux.len() == instances.len() && terminals.len() == instances.len() {
@@ -116,7 +114,7 @@ fn on_witness(
     instances: &[BatchInstance<'_, F7>],
     table: &Challenges<F7>,
 ) {
-    if are_fitting(instances, table) {
+    if are_ready(instances, table) {
         if let Some(witness) = input(out, generate_batch(alloc, instances, table)) {
             for _ in 0..2 {
                 check(alloc, out, instances, table, &witness);

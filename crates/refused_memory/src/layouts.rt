@@ -1,5 +1,6 @@
 //! Whether a builder has room for lookups.
-ghost use Rattle.std.specs.Prelude.{◌↔◌, ◌+◌, ◌*◌, ◌<◌, ◌≤◌, All, IsTrue, length};
+ghost use Rattle.std.specs.Prelude.{◌↔◌, ◌+◌, ◌<◌, All, IsTrue, length};
+ghost use Rattle.lookup.specs.Rooms.{HasRoomForLookups};
 ghost use Rattle.lookup_model.specs.Records.{LookupsFit};
 ghost use Rattle.refused_memory.specs.Layout.{swept_layout};
 
@@ -18,8 +19,7 @@ fn have_cells<F>(lookups: &[Lookup<F>], width: usize) -> bool
 /// Whether a builder that is made for [`layout`] has room for lookups.
 pub fn has_room<F>(lookups: &[Lookup<F>]) -> bool
     ensures fit { IsTrue result → LookupsFit swept_layout lookups.now }
-    ensures challenges { IsTrue result
-        → 2 * length lookups.now ≤ swept_layout.num_permutation_challenges }
+    ensures room { IsTrue result → HasRoomForLookups swept_layout (length lookups.now) }
     ensures cells { IsTrue result → length lookups.now < swept_layout.permutation_width }
     ensures terminal { IsTrue result → 0 < swept_layout.num_permutation_values }
     ensures columns { IsTrue result

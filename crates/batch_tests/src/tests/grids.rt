@@ -166,26 +166,47 @@ fn a_grid_over_the_quartic_extension(rt: HostRuntime) {
     expect_count(&rt, "two of eight", counts, 2, Some(4));
 }
 
+/// A lookup that sends a cell with the count of another one, under a flag if one is named.
+fn sender(
+    rt: &impl Abort,
+    alloc: Global,
+    bus: Option<&str>,
+    sent: usize,
+    count: usize,
+    flag: Option<usize>,
+) -> Lookup<F7> {
+    let tuple = Vec::from_array(alloc, [cell(sent)]).expect(rt, "memory");
+    Lookup {
+        kind: kind(rt, alloc, bus),
+        elements: Vec::from_array(alloc, [tuple]).expect(rt, "memory"),
+        multiplicities: Vec::from_array(alloc, [cell(count)]).expect(rt, "memory"),
+        count_weight: 1,
+        column: 0,
+        flags: flag.map(|flag| Vec::from_array(alloc, [cell(flag)]).expect(rt, "memory")),
+    }
+}
+
 /// The plan of one row of three lookups: lookup `i` sends cell `i`, with the count of cell `3 + i`. The first
-/// two are local, or both are on one bus; the third is local.
-fn of_three(rt: &impl Abort, alloc: Global, on_one_bus: bool) -> BatchPlan<F7> {
+/// two are local, or both are on one bus; the third is local. With a gap, a lookup under the flag of cell 6
+/// stands before the third, and takes the id between.
+fn of_three(rt: &impl Abort, alloc: Global, on_one_bus: bool, with_gap: bool) -> BatchPlan<F7> {
+    let bus = if on_one_bus { Some("a") } else { None };
     let mut records = Vec::new(alloc);
-    for column in 0..3usize {
-        let tuple = Vec::from_array(alloc, [cell(column)]).expect(rt, "memory");
-        let bus = if on_one_bus && column < 2 {
-            Some("a")
-        } else {
-            None
-        };
-        let lookup = Lookup {
-            kind: kind(rt, alloc, bus),
-            elements: Vec::from_array(alloc, [tuple]).expect(rt, "memory"),
-            multiplicities: Vec::from_array(alloc, [cell(3 + column)]).expect(rt, "memory"),
-            count_weight: 1,
-            column,
-            flags: None,
-        };
-        records.push(lookup).expect(rt, "memory");
+    for sent in 0..2usize {
+        records
+            .push(sender(rt, alloc, bus, sent, 3 + sent, None))
+            .expect(rt, "memory");
+    }
+    if with_gap {
+        records
+            .push(sender(rt, alloc, None, 0, 3, Some(6)))
+            .expect(rt, "memory");
+    }
+    records
+        .push(sender(rt, alloc, None, 2, 5, None))
+        .expect(rt, "memory");
+    for column in 0..records.len() {
+        records[column].column = column;
     }
     let set = Lookups::from_records(alloc, records).expect(rt, "well formed");
     let airs = Vec::from_array(alloc, [set]).expect(rt, "memory");
@@ -195,7 +216,7 @@ fn of_three(rt: &impl Abort, alloc: Global, on_one_bus: bool) -> BatchPlan<F7> {
 
 /// At how many betas more alphas are accepting than `n + k - 1`, and how many the linear bound allows.
 fn bad_betas(rt: &impl Abort, alloc: Global, plan: &BatchPlan<F7>, row: &[u32]) -> (u128, u128) {
-    let main = trace(rt, alloc, row, 6);
+    let main = trace(rt, alloc, row, 7);
     let traces = [alone(&main)];
     let traces = traces.as_slice();
     let counts = plan
@@ -215,14 +236,13 @@ fn bad_betas(rt: &impl Abort, alloc: Global, plan: &BatchPlan<F7>, row: &[u32]) 
     (bad, counts.linear_bad_betas())
 }
 
-/// Three lookups of one element, under the ids 0, 1 and 2 or 0, 0 and 1, with all elements and counts of `F7`.
+/// Fails unless no batch of the plan has more bad betas than `W * (k - 1)`, where `W` is 1, with all elements
+/// and counts of `F7`.
+///
 /// A shift of all elements shifts all points, and so the accepting alphas; a factor of all counts is one of
 /// all fractions. So the first element is 0, and the first two counts are 1 and some count, 0 and 1, or both
-/// 0. None has more bad betas than `W * (k - 1)`, where `W` is 1.
-#[test]
-fn no_three_keys_pass_the_linear_bound(rt: HostRuntime) {
-    let alloc = rt.alloc();
-    let plans = [of_three(&rt, alloc, false), of_three(&rt, alloc, true)];
+/// 0.
+fn stays_within_the_linear_bound(rt: &impl Abort, plan: &BatchPlan<F7>, alloc: Global) {
     let starts: [(u32, u32); 9] = [
         (1, 0),
         (1, 1),
@@ -236,13 +256,34 @@ fn no_three_keys_pass_the_linear_bound(rt: HostRuntime) {
     ];
     for (first, second) in starts {
         for number in 0..343u32 {
-            let row = [0, number % 7, number / 7 % 7, first, second, number / 49];
-            for plan in &plans {
-                let (bad, most) = bad_betas(&rt, alloc, plan, row.as_slice());
-                holds(&rt, "within the linear bound", bad <= most);
-            }
+            let (one, other) = (number % 7, number / 7 % 7);
+            let row = [0, one, other, first, second, number / 49, 0];
+            let (bad, most) = bad_betas(rt, alloc, plan, row.as_slice());
+            holds(rt, "within the linear bound", bad <= most);
         }
     }
+}
+
+/// Three lookups of one element, under the ids 0, 1 and 2. A shift of all ids shifts all points at a beta, and
+/// a factor of all ids is one of beta. So three different ids are as these, or as 0, 1 and 3.
+#[test]
+fn three_ids_in_a_row_stay_within_the_linear_bound(rt: HostRuntime) {
+    let alloc = rt.alloc();
+    stays_within_the_linear_bound(&rt, &of_three(&rt, alloc, false, false), alloc);
+}
+
+/// The same under the ids 0, 1 and 3.
+#[test]
+fn three_ids_with_a_gap_stay_within_the_linear_bound(rt: HostRuntime) {
+    let alloc = rt.alloc();
+    stays_within_the_linear_bound(&rt, &of_three(&rt, alloc, false, true), alloc);
+}
+
+/// The same under the ids 0, 0 and 1, for two lookups on a bus and a local one.
+#[test]
+fn two_ids_stay_within_the_linear_bound(rt: HostRuntime) {
+    let alloc = rt.alloc();
+    stays_within_the_linear_bound(&rt, &of_three(&rt, alloc, true, false), alloc);
 }
 
 /// The points of the first two lookups are `0 - beta` and `1 - 2 * beta`: the same at beta 1 alone. There
@@ -251,7 +292,7 @@ fn no_three_keys_pass_the_linear_bound(rt: HostRuntime) {
 #[test]
 fn two_keys_meet_the_linear_bound(rt: HostRuntime) {
     let alloc = rt.alloc();
-    let plan = of_three(&rt, alloc, false);
-    let met = bad_betas(&rt, alloc, &plan, &[0, 1, 0, 1, 6, 0]);
+    let plan = of_three(&rt, alloc, false, false);
+    let met = bad_betas(&rt, alloc, &plan, &[0, 1, 0, 1, 6, 0, 0]);
     holds(&rt, "one of one", met == (1, 1));
 }

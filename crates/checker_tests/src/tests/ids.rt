@@ -1,6 +1,6 @@
 //! Which ids are lawful.
 use super::{cell, have_ids, holds, instance, list, lookup, trace};
-use checker::{BatchInstance, ids_are_lawful};
+use checker::{BatchInstance, ids_are_lawful, instance_fits, instances_fit};
 use field::F7;
 use lookup::Lookup;
 use std::alloc::Global;
@@ -27,6 +27,26 @@ fn no_lookups(rt: HostRuntime) {
     let alloc = rt.alloc();
     let lawful = ids_are_lawful::<F7>(alloc, &[], 1, 0).expect(&rt, "memory");
     holds(&rt, "no instance", lawful);
+}
+
+/// An AIR of one lookup over one row: with an id it fits, and without one, or without the row, it does not.
+#[test]
+fn an_id_and_a_row_make_an_instance_fit(rt: HostRuntime) {
+    let alloc = rt.alloc();
+    let lookups = list(&rt, alloc, [lookup(&rt, alloc, Some("a"), [(0, None)])]);
+    let row = trace::<F7>(&rt, alloc, &[3], 1);
+    let no_row = trace::<F7>(&rt, alloc, &[], 1);
+    let whole = instance(lookups.as_slice(), &row, &[0]);
+    let without_id = instance(lookups.as_slice(), &row, &[]);
+    let without_row = instance(lookups.as_slice(), &no_row, &[0]);
+    holds(&rt, "an id and a row", instance_fits(&whole));
+    holds(&rt, "no id", !instance_fits(&without_id));
+    holds(&rt, "no row", !instance_fits(&without_row));
+    holds(
+        &rt,
+        "one of three",
+        !instances_fit(&[whole, without_id, without_row]),
+    );
 }
 
 #[test]

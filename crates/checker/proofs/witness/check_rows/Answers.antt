@@ -3,18 +3,25 @@ use Rattle.air.specs.Traces.{layout_of}
 use Rattle.lookup_model.specs.Challenges.{table_of}
 use Rattle.field.specs.laws.Extension.{of_laws}
 use Rattle.lookup_model.specs.Batches.Instances.{instance_of}
+use Rattle.matrix.specs.Matrix.{height}
+use Rattle.checker.proofs.CheckedInputs.{shaped}
 use Rattle.checker.proofs.CheckLaws.{fails_from, found_none, found_some, holds_from}
 use Rattle.lookup_model.proofs.Layouts.{LookupsFit-with_auxiliary}
 use Rattle.checker.proofs.witness.check_rows.Goals as goal
 
-pub first_failing_row-requires-clause-fit : goal.first_failing_row-requires-clause-fit
-first_failing_row-requires-clause-fit g c =
+pub first_failing_row-requires : goal.first_failing_row-requires
+first_failing_row-requires g c = λ some.
     let i = c.args.instance.now in
-    LookupsFit-with_auxiliary (layout_of (instance_of i).traces) c.args.aux.now.width (length c.as_slice.result.now) (length c.as_slice-2.result.now) i.lookups.now c.requires.fit.fit
-
-pub first_failing_row-requires-clause-challenges : goal.first_failing_row-requires-clause-challenges
-first_failing_row-requires-clause-challenges g c =
-    omega (arith, ap length c.as_slice.ensures.value, c.in_ok-columns.ensures.len, c.requires.fit.ids)
+    let shape = shaped i.lookups.now (height i.main.now) c.args.aux.now c.args.terminal.now c.requires.shape some in
+    record {
+      preprocessed = c.requires.fit.heights;
+      permutation = shape.0;
+      fit = LookupsFit-with_auxiliary (layout_of (instance_of i).traces) c.args.aux.now.width (length c.as_slice.result.now) (length c.as_slice-2.result.now) i.lookups.now c.requires.fit.fit;
+      challenges = omega (arith, ap length c.as_slice.ensures.value, c.in_ok-columns.ensures.len, c.requires.fit.ids);
+      some = some;
+      cells = shape.1;
+      terminal = omega (arith, ap length (c.as_slice-2.ensures.value ∙ c.in_ok-values.ensures), shape.2);
+    }
 
 pub returns-in-Some : goal.returns-in-Some
 returns-in-Some g c =

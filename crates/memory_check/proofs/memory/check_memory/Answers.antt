@@ -1,7 +1,8 @@
 use Rattle.std.proofs.Common.{◌≡◌, List, [], ◌∷◌, Err, map, refl, ap, ◌∙◌}
 use Rattle.std.proofs.lemmas.Result.{err_from_is_err_and}
 use Rattle.field.specs.laws.Extension.{of_laws}
-use Rattle.batch.specs.Traces.{main_alone, shown_of}
+use Rattle.batch.specs.Runs.{plan_of}
+use Rattle.batch.specs.Traces.{traces_of_main, view_of}
 use Rattle.memory_check.specs.Memory.{mains_of}
 use Rattle.memory_check.proofs.BatchLaws.{memory_accepted, memory_refused, prove_refused}
 use Rattle.memory_check.proofs.memory.check_memory.Goals as goal
@@ -9,27 +10,24 @@ use Rattle.memory_check.proofs.memory.check_memory.Goals as goal
 pub returns-in_err-witness-clause-refused : goal.returns-in_err-witness-clause-refused
 returns-in_err-witness-clause-refused g c =
     let E = of_laws g.met.EF.ExtensionField.lawful_fields in
-    let plan = c.args.plan.now in
-    let shown : map shown_of c.as_slice-traces.result.now ≡ map main_alone (mains_of c.args.traces.now) = ap (map shown_of) c.as_slice-traces.ensures ∙ (λ i. c.alone.ensures i ∷ c.alone-2.ensures i ∷ c.alone-3.ensures i ∷ []) in
+    let shown : map view_of c.as_slice-traces.result.now ≡ map traces_of_main (mains_of c.args.traces.now) = ap (map view_of) c.as_slice-traces.ensures ∙ (λ i. c.alone.ensures i ∷ c.alone-2.ensures i ∷ c.alone-3.ensures i ∷ []) in
     let e = c.in_err-witness.field-0.0 in
     let p = err_from_is_err_and c.from_residual.result c.from_residual.ensures.1 in
-    rw (p.1, p.2) (prove_refused E c.args.alpha c.args.beta plan.airs.items plan.heights.items plan.ids.items plan.max_message_width plan.num_ids (mains_of c.args.traces.now) c.as_slice-traces.result.now shown
+    rw (p.1, p.2) (prove_refused E (plan_of c.args.plan.now) (mains_of c.args.traces.now) c.args.alpha c.args.beta c.as_slice-traces.result.now shown
     e (Err e) refl c.in_err-witness.ensures.answer)
 
 pub returns-clause-accepted : goal.returns-clause-accepted
 returns-clause-accepted g c =
     let E = of_laws g.met.EF.ExtensionField.lawful_fields in
-    let plan = c.args.plan.now in
-    let shown : map shown_of c.as_slice-traces.result.now ≡ map main_alone (mains_of c.args.traces.now) = ap (map shown_of) c.as_slice-traces.ensures ∙ (λ i. c.alone.ensures i ∷ c.alone-2.ensures i ∷ c.alone-3.ensures i ∷ []) in
+    let shown : map view_of c.as_slice-traces.result.now ≡ map traces_of_main (mains_of c.args.traces.now) = ap (map view_of) c.as_slice-traces.ensures ∙ (λ i. c.alone.ensures i ∷ c.alone-2.ensures i ∷ c.alone-3.ensures i ∷ []) in
     let made = c.in_ok-witness.ensures in
-    memory_accepted E c.args.alpha c.args.beta plan.airs.items plan.heights.items plan.ids.items plan.max_message_width plan.num_ids (mains_of c.args.traces.now) c.as_slice-traces.result.now shown
-    c.in_ok-witness.witness made.answer.0 made.answer.1 made.answer.2 made.answer.3 made.balanced c.verify.result c.verify.ensures.answer c.verify.ensures.counted
+    memory_accepted E (plan_of c.args.plan.now) (mains_of c.args.traces.now) c.args.alpha c.args.beta c.as_slice-traces.result.now shown
+    c.in_ok-witness.witness made.answer.0 made.answer.1.0 made.answer.1.1 made.answer.1.2 made.balanced c.verify.result c.verify.ensures.answer c.verify.ensures.counted
 
 pub returns-clause-refused : goal.returns-clause-refused
 returns-clause-refused g c =
     let E = of_laws g.met.EF.ExtensionField.lawful_fields in
-    let plan = c.args.plan.now in
-    let shown : map shown_of c.as_slice-traces.result.now ≡ map main_alone (mains_of c.args.traces.now) = ap (map shown_of) c.as_slice-traces.ensures ∙ (λ i. c.alone.ensures i ∷ c.alone-2.ensures i ∷ c.alone-3.ensures i ∷ []) in
+    let shown : map view_of c.as_slice-traces.result.now ≡ map traces_of_main (mains_of c.args.traces.now) = ap (map view_of) c.as_slice-traces.ensures ∙ (λ i. c.alone.ensures i ∷ c.alone-2.ensures i ∷ c.alone-3.ensures i ∷ []) in
     let made = c.in_ok-witness.ensures in
-    memory_refused E c.args.alpha c.args.beta plan.airs.items plan.heights.items plan.ids.items plan.max_message_width plan.num_ids (mains_of c.args.traces.now) c.as_slice-traces.result.now shown
-    c.in_ok-witness.witness made.answer.0 made.answer.1 made.answer.2 made.answer.3 made.balanced c.verify.result c.verify.ensures.answer c.verify.ensures.refusal
+    memory_refused E (plan_of c.args.plan.now) (mains_of c.args.traces.now) c.args.alpha c.args.beta c.as_slice-traces.result.now shown
+    c.in_ok-witness.witness made.answer.0 made.answer.1.0 made.answer.1.1 made.answer.1.2 made.balanced c.verify.result c.verify.ensures.answer c.verify.ensures.refusal

@@ -1,15 +1,12 @@
 use Rattle.batch.proofs.PlanCalls.{batch_fits, batch_lawful}
+use Rattle.batch.specs.Runs.{plan_of}
 use Rattle.batch.proofs.plan.BatchPlan.laws.Goals as goal
 
 pub returns-clause-fit : goal.returns-clause-fit
-returns-clause-fit g c = λ traces fit.
-    let self = c.args.self.now in
-    batch_fits g.F.PrimeCharacteristicRing.CHARACTERISTIC self.airs.items self.heights.items self.ids.items self.max_message_width self.num_ids self.facts traces fit
+returns-clause-fit g c = batch_fits g.F.PrimeCharacteristicRing.CHARACTERISTIC (plan_of c.args.self.now) c.args.self.now.facts
 
 pub returns-clause-ids : goal.returns-clause-ids
-returns-clause-ids g c = λ traces fit.
-    let self = c.args.self.now in
-    batch_lawful g.F.PrimeCharacteristicRing.CHARACTERISTIC self.airs.items self.heights.items self.ids.items self.max_message_width self.num_ids self.facts traces fit
+returns-clause-ids g c = batch_lawful g.F.PrimeCharacteristicRing.CHARACTERISTIC (plan_of c.args.self.now) c.args.self.now.facts
 
 pub returns-clause-heights : goal.returns-clause-heights
 returns-clause-heights g c =

@@ -2,22 +2,22 @@ use Rattle.std.proofs.Common.{max, sym, ap, ◌∙◌}
 use Rattle.batch.proofs.PackedPlans.{all_keep, greatest_stays}
 use Rattle.batch.proofs.PackedCounts.{plan_packed, renaming, renaming_apart}
 use Rattle.batch.proofs.PlanCalls.{batch_fits}
-use Rattle.batch.specs.Lists.{lists_of}
+use Rattle.batch.specs.Runs.{plan_of}
 use Rattle.batch.proofs.plan.BatchPlan.packing_keeps_counts.Goals as goal
 
 pub returns-clause-counts : goal.returns-clause-counts
 returns-clause-counts g c = λ packed traces fit.
-    let before = c.args.self.now in
-    let after = c.args.packed.now in
+    let before = plan_of c.args.self.now in
+    let after = plan_of c.args.packed.now in
     let R = g.F.PrimeCharacteristicRing.ring in
     let eq = g.F.PartialEq.eq in
-    let p = g.F.PrimeCharacteristicRing.CHARACTERISTIC in
-    let fitting = batch_fits p before.airs.items before.heights.items before.ids.items before.max_message_width before.num_ids before.facts traces fit in
+    let numbered = c.args.self.now.facts.numbered in
+    let renumbered = c.args.packed.now.facts.numbered in
     c.packing_keeps_batch.ensures.renumbered
-    (renaming R eq (lists_of before.ids.items) before.airs.items before.num_ids (lists_of after.ids.items) after.airs.items after.num_ids before.facts.numbered after.facts.numbered packed)
-    (renaming_apart R eq (lists_of before.ids.items) before.airs.items before.num_ids (lists_of after.ids.items) after.airs.items after.num_ids before.facts.numbered after.facts.numbered packed)
-    _ _ fitting
-    (plan_packed R eq (lists_of before.ids.items) before.airs.items before.num_ids (lists_of after.ids.items) after.airs.items after.num_ids before.facts.numbered after.facts.numbered packed traces)
+    (renaming R eq before.ids before.airs before.num_ids after.ids after.airs after.num_ids numbered renumbered packed)
+    (renaming_apart R eq before.ids before.airs before.num_ids after.ids after.airs after.num_ids numbered renumbered packed)
+    _ _ (batch_fits g.F.PrimeCharacteristicRing.CHARACTERISTIC before c.args.self.now.facts traces fit)
+    (plan_packed R eq before.ids before.airs before.num_ids after.ids after.airs after.num_ids numbered renumbered packed traces)
 
 pub returns-clause-width : goal.returns-clause-width
 returns-clause-width g c = λ packed.

@@ -1,7 +1,8 @@
-use Rattle.std.proofs.Common.{◌≡◌, ◌≤◌, ◌<◌, ◌*◌, inl, inr, refl, length, subst, sym}
+use Rattle.std.proofs.Common.{◌≡◌, inl, inr, length, refl, subst, sym}
 use Rattle.std.proofs.lemmas.Result.{err_from_is_err_and}
 use Rattle.expressions.specs.declared.layout.AirLayout.{AirLayout}
 use Rattle.lookup_model.specs.Records.{LookupsFit}
+use Rattle.lookup.specs.Rooms.{HasRoomForLookups}
 use Rattle.lookup.proofs.protocol.LookupProtocol.eval_air_and_lookups.Goals as goal
 
 pub eval_all-requires-clause-fit : goal.eval_all-requires-clause-fit
@@ -9,20 +10,10 @@ eval_all-requires-clause-fit g c =
     let kept : g.AB.AirBuilder.layout c.eval.new.builder ≡ g.AB.AirBuilder.layout c.args.builder.now = g.met.A.Air.keeps_layout _ _ _ c.in_ok-eval.ensures in
     subst (λ (l : AirLayout). LookupsFit l c.args.lookups.now) (sym kept) c.requires.fit
 
-pub eval_all-requires-clause-challenges : goal.eval_all-requires-clause-challenges
-eval_all-requires-clause-challenges g c =
+pub eval_all-requires-clause-room : goal.eval_all-requires-clause-room
+eval_all-requires-clause-room g c =
     let kept : g.AB.AirBuilder.layout c.eval.new.builder ≡ g.AB.AirBuilder.layout c.args.builder.now = g.met.A.Air.keeps_layout _ _ _ c.in_ok-eval.ensures in
-    subst (λ (l : AirLayout). 2 * length c.args.lookups.now ≤ l.num_permutation_challenges) (sym kept) c.requires.challenges
-
-pub eval_all-requires-clause-cells : goal.eval_all-requires-clause-cells
-eval_all-requires-clause-cells g c =
-    let kept : g.AB.AirBuilder.layout c.eval.new.builder ≡ g.AB.AirBuilder.layout c.args.builder.now = g.met.A.Air.keeps_layout _ _ _ c.in_ok-eval.ensures in
-    subst (λ (l : AirLayout). 0 < length c.args.lookups.now → length c.args.lookups.now < l.permutation_width) (sym kept) c.requires.cells
-
-pub eval_all-requires-clause-terminal : goal.eval_all-requires-clause-terminal
-eval_all-requires-clause-terminal g c =
-    let kept : g.AB.AirBuilder.layout c.eval.new.builder ≡ g.AB.AirBuilder.layout c.args.builder.now = g.met.A.Air.keeps_layout _ _ _ c.in_ok-eval.ensures in
-    subst (λ (l : AirLayout). 0 < length c.args.lookups.now → 0 < l.num_permutation_values) (sym kept) c.requires.terminal
+    subst (λ (l : AirLayout). HasRoomForLookups l (length c.args.lookups.now)) (sym kept) c.requires.room
 
 pub returns : goal.returns
 returns g c = inr (c.eval.new.builder, c.in_ok-eval.ensures, c.eval_all.ensures)
