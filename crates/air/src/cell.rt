@@ -20,8 +20,8 @@ fn narrow(width: usize, actual: usize) -> AirError
 
 /// The expression of a cell of the current row of the main trace, for an AIR of `width` columns.
 ///
-/// Refuses what the builder refuses if it can't provide its window, and `LayoutMismatch` of the main
-/// width, with `width` and that of its rows, if they have no such column.
+/// Fails with the builder's own refusal if it can't provide its window, or with `LayoutMismatch` of
+/// the main width, which names `width` and that of the rows, if these have no such column.
 pub fn current_cell<AB: AirBuilder>(
     alloc: Global,
     builder: &AB,
@@ -46,7 +46,7 @@ pub fn current_cell<AB: AirBuilder>(
 
 /// The expression of a cell of the next row of the main trace, for an AIR of `width` columns.
 ///
-/// Refuses as [`current_cell`] does.
+/// Fails as [`current_cell`] does.
 pub fn next_cell<AB: AirBuilder>(
     alloc: Global,
     builder: &AB,
@@ -72,7 +72,7 @@ pub fn next_cell<AB: AirBuilder>(
 /// The expressions of cells of the current row of the main trace, for an AIR of `width` columns, in
 /// the order of `columns`: a tuple to look up.
 ///
-/// Refuses as [`current_cell`] does, and when out of memory.
+/// Fails as [`current_cell`] does, or when out of memory.
 pub fn current_cells<AB: AirBuilder>(
     alloc: Global,
     builder: &AB,

@@ -1,5 +1,5 @@
-//! The builders that record constraints or check them on given rows, the cells of a row for who
-//! writes an AIR, and the traces of an AIR as one value. Re-exports all of `expressions`.
+//! Builders that record constraints or check them on given rows, the cells of a row for authors of
+//! AIRs, and the traces of an AIR as one value. Re-exports all of `expressions`.
 #![tactic(auto)]
 
 mod cell;

@@ -6,7 +6,7 @@ use crate::builder::AirBuilder;
 use crate::error::AirError;
 use std::alloc::Global;
 
-/// The widths and numbers of an AIR.
+/// The widths of an AIR's traces, and how many public values it has.
 pub trait BaseAir<F> {
     ghost width: { Self → ℕ };
 
@@ -30,12 +30,13 @@ pub trait BaseAir<F> {
 /// An AIR that can assert its constraints on the builder `AB`.
 ///
 /// An implementation defines `evaluates`, which relates the builder before, the answer and the
-/// builder after. This says what "what the evaluation left" and "its refusal" mean. By the law
-/// `keeps_layout` an accepted evaluation leaves a builder of the same layout.
+/// builder after. Contracts speak of an evaluation by this relation. By the law `keeps_layout` an
+/// accepted evaluation leaves a builder of the same layout.
 pub trait Air<AB: AirBuilder>: BaseAir<AB::F> {
     ghost evaluates: { Self → AB → Result (Unit {0}) AirError → AB → Type 0 };
 
-    /// Asserts the constraints on the builder, and returns the first refusal.
+    /// Asserts the constraints on the builder. Fails with the first refusal; `evaluates` says what
+    /// the builder is then.
     fn eval(&self, alloc: Global, builder: &mut AB) -> Result<(), AirError>
         ensures { evaluates self.now builder.old result builder.new };
 

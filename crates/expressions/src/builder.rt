@@ -59,7 +59,7 @@ pub trait AirBuilder: Sized {
 
     ghost pushed_within: { Self → Type 0 };
 
-    /// The current row and the next one of the main trace. Refused as `window_refuses` says.
+    /// The current row and the next one of the main trace. Fails as `window_refuses` says.
     fn main(&self, alloc: Global) -> Result<Self::MainWindow, AirError>
         ensures readable { IfOk result (λ m. Self.MainWindow.readable m) }
         ensures current { IfOk result (λ m. MeansRow (stands_for self.now) variable
@@ -117,13 +117,13 @@ pub trait AirBuilder: Sized {
         ensures degree { (t : ℕ) → Self.Expr.degree result t ≤ t }
         ensures within { Self.Expr.within (layout self.now) result };
 
-    /// Asserts that `x` is zero. Refused as `refuses` says, which also says what is left then.
+    /// Asserts that `x` is zero. Fails as `refuses` says, which also says what the builder is then.
     fn assert_zero(&mut self, alloc: Global, x: Self::Expr) -> Result<(), AirError>
         ensures { MatchResult result (λ _. accepts self.old x self.new)
             (λ e. refuses self.old x e self.new) };
 
-    /// Asserts that each of `xs` is zero, in order, and returns the first refusal. The assertions before
-    /// it stay.
+    /// Asserts that each of `xs` is zero, in order. Fails with the first refusal; the assertions
+    /// before it stay.
     final fn assert_zeros(&mut self, alloc: Global, xs: Vec<Self::Expr>) -> Result<(), AirError>
         ensures { MatchResult result (λ _. AcceptsAll accepts self.old xs.items self.new)
             (λ e. RefusesOne accepts refuses self.old xs.items e self.new) }

@@ -6,9 +6,10 @@ ghost use Rattle.expressions.specs.declared.layout.AirLayout.{AirLayout};
 use field::Field;
 use std::alloc::{AllocError, Global};
 
-/// What whole numbers can be written as: elements of a field, and expressions.
+/// A type that whole numbers convert to: field elements and expressions.
 ///
-/// It is apart from [`Expression`], whose field is a parameter: here no field has to be named.
+/// It is separate from [`Expression`], which takes its field as a parameter: here no field is
+/// named.
 pub trait WholeNumbers: Sized {
     ghost is_whole: { ℤ → Self → Type 0 };
 
@@ -53,7 +54,7 @@ pub trait Expression<F: Field>: Drop + WholeNumbers {
         ensures degree { (t : ℕ) → degree result t ≡ 0 }
         ensures within { (l : AirLayout) → within l result };
 
-    /// The sum `self + other`.
+    /// The sum `self + other`. Fails only when out of memory.
     fn add(self, alloc: Global, other: Self) -> Result<Self, AllocError>
         ensures means { IfOk result (λ r. (w : Self.Seen)
             → value r w ≡ F.ring.add (value self w) (value other w)) }
@@ -62,7 +63,7 @@ pub trait Expression<F: Field>: Drop + WholeNumbers {
         ensures within { IfOk result (λ r. (l : AirLayout) → within l self → within l other
             → within l r) };
 
-    /// The difference `self - other`.
+    /// The difference `self - other`. Fails only when out of memory.
     fn sub(self, alloc: Global, other: Self) -> Result<Self, AllocError>
         ensures means { IfOk result (λ r. (w : Self.Seen)
             → value r w ≡ sub_in F.ring (value self w) (value other w)) }
@@ -71,7 +72,7 @@ pub trait Expression<F: Field>: Drop + WholeNumbers {
         ensures within { IfOk result (λ r. (l : AirLayout) → within l self → within l other
             → within l r) };
 
-    /// The product `self * other`.
+    /// The product `self * other`. Fails only when out of memory.
     fn mul(self, alloc: Global, other: Self) -> Result<Self, AllocError>
         ensures means { IfOk result (λ r. (w : Self.Seen)
             → value r w ≡ F.ring.mul (value self w) (value other w)) }
@@ -80,13 +81,13 @@ pub trait Expression<F: Field>: Drop + WholeNumbers {
         ensures within { IfOk result (λ r. (l : AirLayout) → within l self → within l other
             → within l r) };
 
-    /// The negation `-self`.
+    /// The negation `-self`. Fails only when out of memory.
     fn neg(self, alloc: Global) -> Result<Self, AllocError>
         ensures means { IfOk result (λ r. (w : Self.Seen) → value r w ≡ F.ring.neg (value self w)) }
         ensures degree { IfOk result (λ r. (t : ℕ) → degree r t ≡ degree self t) }
         ensures within { IfOk result (λ r. (l : AirLayout) → within l self → within l r) };
 
-    /// A deep copy.
+    /// A deep copy. Fails only when out of memory.
     fn copy(&self, alloc: Global) -> Result<Self, AllocError>
         ensures means { IfOk result (λ r. (w : Self.Seen) → value r w ≡ value self.now w) }
         ensures degree { IfOk result (λ r. (t : ℕ) → degree r t ≡ degree self.now t) }

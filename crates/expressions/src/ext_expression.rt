@@ -22,7 +22,7 @@ pub enum ExtLeaf<F, EF> {
 impl<F: Field, EF: ExtensionField<F>> ExtLeaf<F, EF> {
     ghost use Rattle.expressions.specs.ExtTree.{ext_leaf_tree};
 
-    /// A deep copy.
+    /// A deep copy. Fails only when out of memory.
     pub fn copy(&self, alloc: Global) -> Result<Self, AllocError>
         ensures { IfOk result (λ r. ext_leaf_tree r ≡ ext_leaf_tree self.now) }
     {

@@ -42,7 +42,8 @@ pub trait ExtensionBuilder: AirBuilder {
             ≡ Self.EF.embed (Self.Expr.value x (Self.seen w.base)) }
         ensures degree { (t : ℕ) → Self.ExprEF.degree result t ≡ Self.Expr.degree x t };
 
-    /// Asserts that `x` is zero. Refused as `refuses_ext` says, which also says what is left then.
+    /// Asserts that `x` is zero. Fails as `refuses_ext` says, which also says what the builder is
+    /// then.
     fn assert_zero_ext(&mut self, alloc: Global, x: Self::ExprEF) -> Result<(), AirError>
         ensures { MatchResult result (λ _. accepts_ext self.old x self.new)
             (λ e. refuses_ext self.old x e self.new) };
@@ -89,7 +90,7 @@ pub trait PermutationAirBuilder: ExtensionBuilder {
 
     ghost permutation_value: { Self.PermutationVar → ExtWindow Self.F Self.EF → Self.EF };
 
-    /// The current row and the next one of the permutation trace. Refused as `window_refuses` says.
+    /// The current row and the next one of the permutation trace. Fails as `window_refuses` says.
     fn permutation(&self, alloc: Global) -> Result<Self::MP, AirError>
         ensures readable { IfOk result (λ m. Self.MP.readable m) }
         ensures current { IfOk result (λ m. MeansRow

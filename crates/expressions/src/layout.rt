@@ -6,7 +6,8 @@ use crate::air::BaseAir;
 use crate::error::{AirError, LayoutPart};
 use matrix::RowMajorMatrix;
 
-/// The widths and numbers of everything that an AIR's constraints can read.
+/// The widths of the traces that an AIR's constraints can read, and how many other values they can
+/// read.
 #[derive(Clone, Copy, Debug, Default, PartialEq, Eq)]
 pub struct AirLayout {
     /// The number of columns of the preprocessed trace.
@@ -41,8 +42,11 @@ impl AirLayout {
         }
     }
 
-    /// Whether the layout has the AIR's main width, preprocessed width and number of public values.
-    /// Returns the first of them that differs, with the AIR's number as the expected one.
+    /// Checks that the layout has the AIR's main width, preprocessed width and number of public
+    /// values.
+    ///
+    /// Fails with `LayoutMismatch` at the first of them that differs, with the AIR's number as the
+    /// expected one. Allocates nothing.
     pub fn validate_against_air<F, A: BaseAir<F>>(&self, air: &A) -> Result<(), AirError>
         ensures { MatchResult result
             (λ _. first_mismatch (A.width air.now) (A.preprocessed_width air.now)

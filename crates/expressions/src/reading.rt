@@ -1,8 +1,8 @@
 //! Reading base expressions from a format, as JSON.
 //!
 //! A variant with data is a map with one member, named for it. A variant without data is its name.
-//! A variable is a map of its members. Missing and duplicate members are refused, as are names that
-//! stand for no variant; members with other names are ignored.
+//! A variable is a map of its members. Missing and duplicate members and unknown variants are
+//! refused; unknown members are ignored.
 ghost use Rattle.std.specs.Prelude.{◌≡◌, ◌≤◌, IfOk};
 ghost use Rattle.expressions.specs.Depth.{depth_of};
 ghost use Rattle.expressions.specs.Tree.{tree_of};

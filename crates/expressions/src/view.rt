@@ -5,11 +5,11 @@ ghost use Rattle.expressions.specs.declared.error.AirError.{AirError};
 
 use crate::extension::ExtensionBuilder;
 
-/// A builder over an extension, in one word for contracts: `⟦<AB as BuilderView>⟧` are the windows
-/// that it stands for, what it accepts and refuses, and what its expressions mean at a window, with
+/// What contracts see of a builder over an extension: `⟦<AB as BuilderView>⟧` has the windows that
+/// it stands for, what it accepts and refuses, and what its expressions mean at a window, with
 /// their degrees.
 ///
-/// Every such builder is one, so bounds say `AB: ExtensionBuilder`.
+/// Every such builder implements it, so bounds say `AB: ExtensionBuilder`.
 pub trait BuilderView {
     /// The field of the traces.
     type F;

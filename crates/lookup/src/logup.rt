@@ -22,13 +22,36 @@ use std::alloc::Global;
 /// The trace builder, named for its role here: what the evaluation of a row sees.
 pub type RowEvalContext<'a, F, EF> = LookupTraceBuilder<'a, F, EF>;
 
-/// The lookup argument by logarithmic derivatives: the messages of all AIRs cancel if the sum of
-/// `multiplicity / (alpha - tuple)` over them is zero.
+/// The lookup argument by logarithmic derivatives (eprint 2022/1530).
+///
+/// A message is a tuple with a signed multiplicity `m`; queries and entries are in one list, with
+/// opposite signs. Let `t` be its tuple, combined by `beta` to one element. LogUp tests whether
+///
+/// ```text
+/// sum of m / (alpha - t) = 0
+/// ```
+///
+/// over all messages. This is the logarithmic derivative of `product of (alpha - t)^m = 1`, and
+/// needs no powers.
+///
+/// The auxiliary trace of an AIR has `acc` in column 0, and in column `c + 1` the fraction `f_c` of
+/// lookup `c`: on each row its part of the sum, one quotient `V_c / U_c`. For a trace of `h` rows
+/// the constraints are
+///
+/// ```text
+/// U_c * f_c - V_c = 0                      on every row, for each lookup c
+/// acc[0] = 0
+/// acc[r + 1] = acc[r] + sum of f_c[r]      for r + 1 < h
+/// terminal = acc[h - 1] + sum of f_c[h - 1]
+/// ```
+///
+/// [`eval_fraction`](LookupProtocol::eval_fraction) says what `U_c` and `V_c` are, with and without
+/// flags. The terminals of all AIRs have to sum to zero.
 #[derive(Clone, Debug, Default, Drop)]
 pub struct LogUpGadget;
 
 impl LogUpGadget {
-    /// The gadget, which has no parts.
+    /// Creates the gadget (a unit type).
     pub fn new() -> Self {
         LogUpGadget
     }
@@ -57,14 +80,15 @@ impl LogUpGadget {
     /// it has width 0, and there is no terminal.
     ///
     /// Rows are made in chunks of 1024, and all fractions of a chunk are divided by one inverse.
-    /// `inverter` counts at most one call for each chunk that is started, also if the trace is
-    /// refused: at most `height / 1024`, rounded up. It counts at least one call less where a fault is
-    /// refused, and none where no lookup has tuples. The challenges may lie in a domain that has no
-    /// inverse of its own: whatever function inverts its elements, the answer is the one of that
-    /// inverse.
+    /// `inverter` counts at most one call for each chunk that is started, even if the trace is
+    /// refused: at most `height / 1024`, rounded up. It counts at least one call less if a fault is
+    /// refused, and none if no lookup has tuples. The challenges may be of a domain without an
+    /// inverse of its own: for each function that inverts its elements, the answer is that of
+    /// generation by this function.
     ///
-    /// Refuses the first fault in the order row, lookup, and returns nothing of the trace; on one row of
-    /// one lookup, in the order of `generate_permutation`. Out of memory is refused under its own name.
+    /// Refuses the first fault in the order row, lookup, and returns nothing of the trace; on one
+    /// row of one lookup, in the order of `generate_permutation`. Also fails when out of memory,
+    /// with `Memory`.
     pub fn generate_counted<'a, F: Field, EF: ExtensionDomain<F>, I: Inverter<EF>>(
         &self,
         alloc: Global,

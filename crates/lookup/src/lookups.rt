@@ -38,12 +38,13 @@ impl<F: Field> Lookups<F> {
     /// on buses, then groups, each in the order of their pushes, in the columns 0, 1, 2, …
     ///
     /// The weight of a local lookup is the sum over its tuples. That of a group is the greatest
-    /// weight of its branches, 0 without branches. Refused are:
+    /// weight of its branches, 0 without branches.
     ///
-    /// - what the AIR refuses;
-    /// - then, at the first local lookup with a fault, `CountWeightOverflow` if its weights do not
-    ///   fit, or `TupleWidths` if its tuples have two widths;
-    /// - out of memory, under its own name.
+    /// Fails with the first of these, or with `Memory` when out of memory:
+    ///
+    /// - the AIR's own refusal;
+    /// - at the first local lookup with a fault, `CountWeightOverflow` if its weights do not fit,
+    ///   or `TupleWidths` if its tuples have two widths.
     pub fn from_air<EF: ExtensionField<F>, A: Air<InteractionSymbolicBuilder<F, EF>>>(
         alloc: Global,
         air: &A,
@@ -81,14 +82,13 @@ impl<F: Field> Lookups<F> {
     /// Fills the columns of each bus greedily, by the degree that the closure gives; see
     /// [`pack_lookups`](crate::packing::pack_lookups).
     ///
-    /// Local lookups and those with flags come first, in their order, then the buses in the order of
-    /// their first other lookups. Refuses `TupleWidths` at the first bus with two widths, then what
-    /// the first refused trial of the first bus with one refuses: the closure's own refusal, or
-    /// `CountWeightOverflow`. The set is then dropped.
+    /// Local lookups and those with flags come first, in their order, then the buses in the order
+    /// of their first other lookups. Refuses `TupleWidths` at the first bus with two widths; then,
+    /// at the first refused trial, bus by bus, the closure's own refusal or `CountWeightOverflow`.
+    /// The set is then dropped.
     ///
-    /// The packed set sends the same messages on every row, if its columns have the ids that their
-    /// lookups had. So the keys stay, each with its net, and so does the weight of all lookups. It
-    /// fits the layouts that the set fits.
+    /// The packed set sends the same messages on every row, if each column has the id of its
+    /// lookups. So keys, nets and the total weight stay. It fits the layouts that the set fits.
     pub fn pack_same_bus_with_degree<D: Fn(&Lookup<F>) -> Result<usize, LookupError>>(
         self,
         alloc: Global,
@@ -107,12 +107,13 @@ impl<F: Field> Lookups<F> {
         Ok(Lookups { lookups })
     }
 
-    /// Likewise by the degree of the gadget at transition degree 0. No consecutive split of the
-    /// additive lookups of a bus within `max_degree` has fewer columns.
+    /// As [`pack_same_bus_with_degree`](Lookups::pack_same_bus_with_degree), by the degree of the
+    /// gadget at transition degree 0. No consecutive split of the additive lookups of a bus within
+    /// `max_degree` has fewer columns.
     ///
-    /// It takes time linear in the size of the lookups. The gadget is not asked: its contract says what
-    /// it answers, so the degrees of an open column are kept. A lookup alone is not refused for its
-    /// degree.
+    /// It takes time linear in the size of the lookups. The gadget is not called: its contract
+    /// fixes its answers, so the degrees of an open column are kept. The degree of a lookup alone
+    /// is not refused.
     pub fn pack_same_bus<LG: LookupProtocol>(
         self,
         alloc: Global,

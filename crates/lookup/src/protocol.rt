@@ -153,7 +153,7 @@ pub trait LookupProtocol: Sized {
     ///   whole numbers; then a vanishing denominator of the set flag's tuple, whatever its
     ///   multiplicity.
     ///
-    /// Out of memory is refused under its own name, and also returns nothing of the trace.
+    /// Also fails when out of memory, with `Memory`, and then too returns nothing of the trace.
     fn generate_permutation<'a, F: Field, EF: ExtensionField<F>>(
         &self,
         alloc: Global,

@@ -24,8 +24,8 @@ use std::alloc::{AllocError, Global};
 pub struct BranchColumns<F, EF> {
     /// The flag of each row, in an exclusive lookup.
     pub flags: Vec<F>,
-    /// For each row whose flag is not zero, its index among these rows. What stands at the other rows
-    /// has no meaning. Only in an exclusive lookup.
+    /// For each row whose flag is not zero, its index among these rows. The entries of other rows
+    /// have no meaning. Only in an exclusive lookup.
     pub indices: Vec<usize>,
     /// The multiplicities, of each row or of each row whose flag is not zero.
     pub multiplicities: Vec<F>,

@@ -260,8 +260,8 @@ fn work_out<F: Field>(
 /// The values of the expression of these steps on rows of the traces of an AIR, in the order of
 /// `rows`. The next row of the last one is the first one.
 ///
-/// Each step is worked out once, as a list over all rows. The list that is returned can be put away in
-/// `slots` after use. Fails only when out of memory.
+/// Each step is computed once, as a list over all rows. The list that is returned can be put away
+/// in `slots` after use. Fails only when out of memory.
 pub fn column_of<F: Field>(
     alloc: Global,
     slots: &mut Slots<F>,

@@ -1,9 +1,9 @@
 //! Values of expressions, denominators of tuples and the columns of lookups over many rows of the traces
 //! of an AIR, a column at a time, in lists whose memory is used again.
 //!
-//! `steps_of_lookups` flattens the expressions of lookups once. `columns_of_lookup` works out the flags,
-//! the multiplicities and the denominators of a lookup on some rows, as `rows_between` lists them.
-//! `ColumnMemory` keeps these lists for the next rows.
+//! `steps_of_lookups` flattens the expressions of lookups once. `columns_of_lookup` computes the
+//! flags, the multiplicities and the denominators of a lookup on some rows, as `rows_between` lists
+//! them. `ColumnMemory` keeps these lists for the next rows.
 #![tactic(auto)]
 
 mod branches;

@@ -11,7 +11,7 @@ use air::{BaseLeaf, SymbolicExpression};
 use field::Field;
 use std::alloc::{AllocError, Global};
 
-/// One step of working out an expression, over slots that are filled and emptied from the end.
+/// One step of evaluating an expression, over a stack of slots.
 #[derive(Clone, Copy)]
 pub enum Step<F> {
     /// A leaf, in one more slot.

@@ -27,9 +27,9 @@ use std::alloc::{AllocError, Global};
 /// preprocessed trace is as high as the main trace. Contributions of zero are skipped. A branch of an
 /// exclusive lookup contributes flag times count, whatever the flag is.
 ///
-/// Refuses the mismatch of the first group that has one, with its label, net and locations. It is
-/// about the tuple of nonzero net that is least by the texts of its elements, and among equal texts
-/// about the first one that contributes. Out of memory is refused under its own name.
+/// Refuses the mismatch of the first group that has one, with its label, net and locations. It
+/// names the tuple with nonzero net that is least by the texts of its elements, and among equal
+/// texts the first that contributes. Also fails when out of memory, with `Memory`.
 pub fn check_lookups<F: Field>(
     alloc: Global,
     instances: &[LookupDebugInstance<'_, F>],

@@ -26,7 +26,7 @@ pub(crate) trait RowVisitor<F: Field> {
 
     ghost does: { Self → Self → List (Contribution F) → Type 0 };
 
-    /// Visits a lookup on the builder's row.
+    /// Visits a lookup on the builder's row. Fails only when out of memory.
     fn visit(
         &mut self,
         alloc: Global,

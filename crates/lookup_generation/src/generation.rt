@@ -337,8 +337,8 @@ fn generate<F: Field, EF: ExtensionDomain<F>, I: Inverter<EF>>(
 
 /// The auxiliary trace of one AIR and its terminal, by at most one inverse for each chunk of 1024 rows.
 ///
-/// It answers as [`generate_permutation`] does. `inverter` is asked at most once for each chunk of rows
-/// that is started, at least once less where a fault is refused, and never where no lookup has tuples.
+/// It answers as [`generate_permutation`] does. `inverter` is called at most once for each chunk
+/// that is started, at least once less if a fault is refused, and never if no lookup has tuples.
 pub fn generate_counted<F: Field, EF: ExtensionDomain<F>, I: Inverter<EF>>(
     alloc: Global,
     traces: &Traces<'_, F>,
@@ -375,9 +375,9 @@ pub fn generate_counted<F: Field, EF: ExtensionDomain<F>, I: Inverter<EF>>(
 /// each lookup, in the order of their columns. The running sum is that of LogUp
 /// (<https://eprint.iacr.org/2022/1530>).
 ///
-/// Refuses the first fault in the order row, lookup, and returns nothing of the trace. In a group, a
-/// flag that is neither zero nor one comes first, then more than one set flag, and then a denominator
-/// that vanishes. Out of memory is refused under its own name.
+/// Refuses the first fault in the order row, lookup, and returns nothing of the trace. In a group,
+/// a flag that is neither zero nor one comes first, then more than one set flag, and then a
+/// denominator that vanishes. Also fails when out of memory, with `Memory`.
 pub fn generate_permutation<F: Field, EF: ExtensionField<F>>(
     alloc: Global,
     traces: &Traces<'_, F>,

@@ -9,19 +9,19 @@ use crate::indexed::{IndexedRead, IndexedTable, TraceWindow};
 use expressions::AirLayout;
 use std::alloc::Global;
 
-/// Whether the readers and tables of an AIR are without fault.
+/// Checks the readers and tables of an AIR, and refuses the first fault.
 ///
-/// All readers are looked at first, each in this order, with the main width of the layout:
+/// Readers come first, each against the main width of the layout, in this order:
 ///
 /// - `ColumnOutOfRange` if its position is not below the width;
 /// - `EmptyPayload`;
-/// - `ColumnOutOfRange` or `RepeatedColumn` at the first column of the payload with a fault, its
-///   range first. A payload may name the position's column.
+/// - `ColumnOutOfRange` or `RepeatedColumn` at the first bad column of the payload; the range is
+///   checked first. A payload may name the position's column.
 ///
-/// Then the tables, each with the width of its own window: `EmptyTable`, and then its columns as
-/// above. The first fault is refused. Out of memory is refused under its own name.
+/// Then the tables, each against the width of its own window: `EmptyTable`, and then its columns as
+/// above. Also fails when out of memory, with `Memory`.
 ///
-/// Takes time and memory in proportion to the number of columns.
+/// Takes time and memory linear in the number of columns.
 pub fn check_declarations(
     alloc: Global,
     reads: &[IndexedRead],

@@ -8,8 +8,8 @@ use std::collections::HashSet;
 
 /// Whether each column is below the width, and none is named twice.
 ///
-/// Refuses `ColumnOutOfRange` or `RepeatedColumn` at the first column with a fault, its range
-/// first. Out of memory is refused under its own name.
+/// Refuses `ColumnOutOfRange` or `RepeatedColumn` at the first bad column; the range is checked
+/// first. Also fails when out of memory, with `Memory`.
 pub(crate) fn check_columns(
     alloc: Global,
     table: &str,

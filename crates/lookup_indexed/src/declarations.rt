@@ -5,7 +5,7 @@ use serde::Deserialize;
 
 /// The indexed declarations of an AIR, not checked yet.
 ///
-/// They are read from JSON as this, and then checked by `IndexedLookups::new`.
+/// JSON is read into this type, and `IndexedLookups::new` checks it.
 #[derive(Debug, Drop, PartialEq, Eq, Deserialize)]
 pub struct IndexedDeclarations {
     /// The readers, in the order in which they are declared.

@@ -108,7 +108,7 @@ impl<T: Drop> From<AllocFailed<T>> for IndexedLookupError {
     }
 }
 
-/// Out of memory keeps its name; any other refusal is passed on.
+/// `Memory` stays `Memory`; any other refusal becomes `Air`.
 impl From<AirError> for IndexedLookupError {
     ghost use Rattle.lookup_indexed.specs.Refusal.{declaration_refusal};
 

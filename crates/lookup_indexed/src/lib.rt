@@ -1,8 +1,8 @@
 //! Indexed declarations and their checks: the tables that AIRs declare, the readers that name the
 //! entry they read, what makes one of them faulty, and which fault comes first.
 //!
-//! Declarations are written to a format and read from one, as JSON. A reader or a table names columns
-//! of a trace. `check_declarations` looks at them against the widths of an AIR's layout.
+//! Declarations are written to and read from a format such as JSON. A reader or a table names
+//! columns of a trace. `check_declarations` checks them against the widths of an AIR's layout.
 #![tactic(auto)]
 
 mod check;

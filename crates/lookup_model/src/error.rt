@@ -120,7 +120,7 @@ impl<T: Drop> From<AllocFailed<T>> for LookupError {
     }
 }
 
-/// Out of memory and an overflow of degrees keep their names; any other refusal is passed on.
+/// `Memory` and `DegreeOverflow` keep their names; any other refusal becomes `Air`.
 impl From<AirError> for LookupError {
     ghost use Rattle.lookup_model.specs.Refusal.{from_air};
 

@@ -14,7 +14,7 @@ pub struct BatchFault {
 }
 
 impl BatchFault {
-    /// The refusal of one AIR. Out of memory belongs to none.
+    /// The refusal of one AIR; out of memory belongs to no AIR.
     pub fn of_air(air: usize, error: LookupError) -> Self
         ensures { IsFaultOf air error result }
     {

@@ -11,8 +11,8 @@ use expressions::SymbolicExpression;
 
 /// The degrees of a sum of fractions over the product of all their denominators.
 ///
-/// Those of two sums together follow from those of each. So no tuple is looked at twice, however
-/// many lookups share a column.
+/// The degrees of two sums together follow from those of each. So each tuple is walked once,
+/// however many lookups share a column.
 #[derive(Clone, Copy)]
 pub struct SumDegrees {
     denominator: usize,

@@ -18,6 +18,15 @@ pub enum Kind {
 ///
 /// Without `flags` (additive) a row sends every tuple with its multiplicity. With `flags`
 /// (exclusive), one for each tuple, a row sends the tuple whose flag is set, with its multiplicity.
+///
+/// # Soundness
+///
+/// The AIR has to constrain two things, which a lookup only carries:
+///
+/// - on every row each flag is 0 or 1, and at most one of them is 1;
+/// - on every row the queries stay within `count_weight` in absolute value.
+///
+/// Generation refuses other flags, but no constraint of a lookup tests them.
 #[derive(Debug, Drop, Serialize)]
 pub struct Lookup<F> {
     /// Local, or global on a named bus.

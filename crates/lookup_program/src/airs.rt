@@ -70,7 +70,7 @@ impl<F> BaseAir<F> for MachineAir {
     }
 }
 
-/// Pushes the one lookup. Refused is a row without the columns, by the layout that it has.
+/// Pushes the one lookup. Fails with `LayoutMismatch` on a row that lacks the columns.
 impl<AB: InteractionBuilder> Air<AB> for MachineAir {
     ghost evaluates = { λ air before answer after.
         EvaluatesOnePush AB.pushes AB.refuses_push AB.window_refuses AB.layout

@@ -42,8 +42,8 @@ pub fn run<R: Read, W: Write, E: Write>(
     }
 }
 
-/// Writes `error: TEXT` of a refusal and a line end to `errors` or, if memory runs out, that of want of
-/// memory. The status is 2, whether or not it could be written.
+/// Writes `error: TEXT` and a line end to `errors`, or `error: out of memory` if memory runs out on
+/// the way. The status is 2, whether or not this could be written.
 pub fn refuse<E: Write>(alloc: Global, error: RunError, errors: &mut E) -> ExitCode
     ensures { exit_status result ≡ 2 }
 {

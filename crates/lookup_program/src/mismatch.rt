@@ -13,8 +13,8 @@ use field::Field;
 use lookup::debug_util::{LookupFault, check_lookups};
 use std::alloc::{AllocError, Global};
 
-/// The line of the first tuple that does not balance over these AIRs of a machine, none if all do. This
-/// is said where each flag is zero or one, as it is where generation succeeds.
+/// The line of the first tuple that does not balance over these AIRs of a machine, none if all do.
+/// The contract says so if each flag is zero or one, as it is where generation succeeds.
 ///
 /// Fails only when out of memory.
 pub fn mismatch_line<F: Field>(

@@ -100,7 +100,7 @@ fn trace_for<F: Field>(
     Ok(RowMajorMatrix::new(values, air.columns()))
 }
 
-/// Some AIRs in parts: the lookups, the traces, and how high these are.
+/// AIRs in parts: their lookups, their traces, and the heights of these.
 #[derive(Debug, Drop)]
 pub struct AirParts<F> {
     pub lookups: Vec<Lookups<F>>,
@@ -108,7 +108,7 @@ pub struct AirParts<F> {
     pub heights: Vec<usize>,
 }
 
-/// The parts of these AIRs, in order.
+/// The parts of these AIRs, in order. Fails only when out of memory; the AIRs are then dropped.
 pub fn air_parts<F: Field>(
     alloc: Global,
     traces: Vec<AirTrace<F>>,
@@ -132,7 +132,8 @@ pub fn air_parts<F: Field>(
     })
 }
 
-/// What a plan is given of these main traces, which stand alone.
+/// These main traces as a plan takes them, without preprocessed traces and public values. Fails
+/// only when out of memory.
 pub fn plan_traces<'a, F: Field>(
     alloc: Global,
     mains: &'a [RowMajorMatrix<F>],
@@ -150,7 +151,7 @@ pub fn plan_traces<'a, F: Field>(
     Ok(traces)
 }
 
-/// What the debug check is given of these AIRs.
+/// These AIRs as the debug check takes them. Fails only when out of memory.
 pub fn debug_instances<'a, F: Field>(
     alloc: Global,
     traces: &'a [AirTrace<F>],

@@ -29,7 +29,8 @@ pub trait InteractionBuilder: AirBuilder {
 
     ghost exclusive_count: { Self → ℕ };
 
-    /// Pushes the message `fields` on the bus of this name, sent `count` times on each row.
+    /// Pushes the message `fields` on the bus of this name, sent `count` times on each row. Fails
+    /// as `refuses_push` says, which also says what the builder is then.
     fn push_interaction(
         &mut self,
         alloc: Global,
@@ -43,6 +44,7 @@ pub trait InteractionBuilder: AirBuilder {
             self.new) };
 
     /// Pushes one lookup inside the AIR, which consists of all these tuples, each with its count.
+    /// Fails as `refuses_push` says, which also says what the builder is then.
     fn push_local_interaction(
         &mut self,
         alloc: Global,
@@ -55,7 +57,8 @@ pub trait InteractionBuilder: AirBuilder {
     /// Pushes a group on the bus of this name. Each branch is a flag, a count and a message; a row
     /// sends the branch whose flag is set, or none.
     ///
-    /// The AIR must enforce that each flag is 0 or 1 and that at most one is set on each row.
+    /// The AIR must enforce that each flag is 0 or 1 and that at most one is set on each row. Fails
+    /// as `refuses_push` says, which also says what the builder is then.
     fn push_exclusive_interaction(
         &mut self,
         alloc: Global,
@@ -106,7 +109,8 @@ pub trait IndexedLookupBuilder: AirBuilder {
 
     /// Declares that the AIR reads from the table of this name. The column `position` of its main
     /// trace holds the index of the entry that a row reads. The columns `payload` hold what is
-    /// read, in the order of the table's columns.
+    /// read, in the order of the table's columns. Fails as `refuses_declaration` says, which also
+    /// says what the builder is then.
     fn push_indexed_read(
         &mut self,
         alloc: Global,
@@ -121,7 +125,8 @@ pub trait IndexedLookupBuilder: AirBuilder {
             (read (record { table = table.now; position = position; payload = payload.items })) e
             self.new) };
 
-    /// Declares that the AIR provides a table of this name, with these columns of this trace.
+    /// Declares that the AIR provides a table of this name, with these columns of this trace. Fails
+    /// as `refuses_declaration` says, which also says what the builder is then.
     fn push_indexed_table(
         &mut self,
         alloc: Global,

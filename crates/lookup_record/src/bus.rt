@@ -43,7 +43,7 @@ impl<'a> LookupBus<'a> {
 
     /// Queries `key` in the table, `count` times on each row.
     ///
-    /// Returns what the builder returns.
+    /// Fails as the builder does.
     pub fn lookup_key<AB: InteractionBuilder>(
         &self,
         alloc: Global,
@@ -63,10 +63,10 @@ impl<'a> LookupBus<'a> {
         builder.push_interaction(alloc, self.name, key, count)
     }
 
-    /// Provides `key` as an entry of the table, used `num_lookups` times on each row. The message
-    /// counts down that often, with weight 0.
+    /// Provides `key` as an entry of the table, used `num_lookups` times on each row. Its count is
+    /// `-num_lookups`, with weight 0.
     ///
-    /// Returns what the builder returns, or fails out of memory with nothing pushed.
+    /// Fails as the builder does, or when out of memory with nothing pushed.
     pub fn table_entry<AB: InteractionBuilder>(
         &self,
         alloc: Global,
@@ -90,8 +90,8 @@ impl<'a> LookupBus<'a> {
     /// Queries one of several keys: each row queries, once, the key whose flag is set, or none.
     /// Each branch is a flag with its key.
     ///
-    /// The AIR must enforce that each flag is 0 or 1 and that at most one is set on each row.
-    /// Returns what the builder returns, or fails out of memory with nothing pushed.
+    /// The AIR must enforce that each flag is 0 or 1 and that at most one is set on each row. Fails
+    /// as the builder does, or when out of memory with nothing pushed.
     pub fn lookup_key_exclusive<AB: InteractionBuilder>(
         &self,
         alloc: Global,
@@ -143,7 +143,7 @@ impl<'a> PermutationCheckBus<'a> {
 
     /// Sends the message `fields`, `count` times on each row.
     ///
-    /// Returns what the builder returns.
+    /// Fails as the builder does.
     pub fn send<AB: InteractionBuilder>(
         &self,
         alloc: Global,
@@ -163,10 +163,10 @@ impl<'a> PermutationCheckBus<'a> {
         builder.push_interaction(alloc, self.name, fields, count)
     }
 
-    /// Receives the message `fields`, `count` times on each row. The message counts down that
-    /// often, with the count's own weight.
+    /// Receives the message `fields`, `count` times on each row. It is pushed with the negated
+    /// count, of the same weight.
     ///
-    /// Returns what the builder returns, or fails out of memory with nothing pushed.
+    /// Fails as the builder does, or when out of memory with nothing pushed.
     pub fn receive<AB: InteractionBuilder>(
         &self,
         alloc: Global,

@@ -30,7 +30,7 @@ impl<E> Model for Count<E> {
 }
 
 impl<E> Count<E> {
-    /// This count, which is at most `weight` in absolute value on each row.
+    /// The count `expression`, which is at most `weight` in absolute value on each row.
     pub fn bounded(expression: E, weight: u64) -> Self
         ensures { result ≡ record { expression = expression; weight = weight } }
     {

@@ -28,18 +28,19 @@ pub struct IndexedLookups {
 impl IndexedLookups {
     ghost use Rattle.lookup_record.specs.IndexedLookups.{Declares, reads_of, tables_of};
 
-    /// These readers and tables, unchanged, checked against the widths of a layout.
+    /// These readers and tables, unchanged. They are checked against the widths of a layout, and
+    /// the first fault is refused.
     ///
-    /// All readers are looked at first, each in this order, with the main width:
+    /// Readers come first, each against the main width, in this order:
     ///
     /// - `ColumnOutOfRange` if its position is not below the width;
     /// - `EmptyPayload`;
-    /// - `ColumnOutOfRange` or `RepeatedColumn` at the first column of the payload with a fault,
-    ///   its range first. A payload may name the position's column.
+    /// - `ColumnOutOfRange` or `RepeatedColumn` at the first bad column of the payload; the range
+    ///   is checked first. A payload may name the position's column.
     ///
-    /// Then the tables, each with the width of its own window: `EmptyTable`, and then its columns
-    /// as above. The first fault is refused, and the lists are dropped. Out of memory is refused
-    /// under its own name.
+    /// Then the tables, each against the width of its own window: `EmptyTable`, and then its
+    /// columns as above. Also fails when out of memory, with `Memory`. After a refusal the lists
+    /// are dropped.
     pub fn new(
         alloc: Global,
         reads: Vec<IndexedRead>,
@@ -60,8 +61,8 @@ impl IndexedLookups {
 
     /// What an AIR declares in a new builder with its own layout, in the order of its declarations.
     ///
-    /// Refused are what the AIR refuses, and then the first fault; see [`IndexedLookups::new`]. Out
-    /// of memory is refused under its own name.
+    /// Fails with the AIR's own refusal, and then as [`IndexedLookups::new`] does. Also fails when
+    /// out of memory, with `Memory`.
     pub fn from_air<F: Field, EF: ExtensionField<F>, A: Air<InteractionSymbolicBuilder<F, EF>>>(
         alloc: Global,
         air: &A,

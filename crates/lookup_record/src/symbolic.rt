@@ -180,7 +180,7 @@ impl<F: Field, EF: ExtensionField<F>> InteractionSymbolicBuilder<F, EF> {
         Ok(copies)
     }
 
-    /// A copy of the constraints' positions in the one order of all assertions.
+    /// A copy of the constraints' positions among all assertions.
     ///
     /// Fails only when out of memory.
     pub fn constraint_layout(&self, alloc: Global) -> Result<ConstraintLayout, AllocError>

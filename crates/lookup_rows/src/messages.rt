@@ -221,8 +221,8 @@ fn push_rows<'a, F: Field>(
 /// for each lookup, in the order of their columns.
 ///
 /// Refuses the first fault of flags, in the order row, lookup: a flag that is neither zero nor one,
-/// then more than one set flag. Also fails when out of memory. After a refusal `messages` are as they
-/// were.
+/// then more than one set flag. Also fails when out of memory. After a refusal `messages` is
+/// unchanged.
 pub fn push_messages<F: Field>(
     alloc: Global,
     messages: &mut Vec<SentMessage<F>>,

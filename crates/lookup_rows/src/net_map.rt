@@ -43,8 +43,8 @@ pub fn nets<'a, F: Field>(
 
 /// Adds to the value at a key, which is zero where the key is new. A new key goes last.
 ///
-/// Fails only when out of memory, and only for a new key. Then the key comes back, and the map is as it
-/// was.
+/// Fails only when out of memory, and only for a new key. The key is then returned, and the map is
+/// unchanged.
 #[inline(always)]
 pub fn add_at<K: Eq + Hash + Drop, F: Field>(
     nets: &mut IndexMap<K, F>,

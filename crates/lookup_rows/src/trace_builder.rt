@@ -149,7 +149,7 @@ impl<'a, F: Field, EF> LookupTraceBuilder<'a, F, EF> {
 
     /// The value of an expression on the builder's row. Its variables are within the builder's layout.
     ///
-    /// It is what `resolve` gives on this builder, without anything that can fail on the way.
+    /// The value is that of `resolve` on this builder, but this call can't fail.
     pub fn value_of(&self, expression: &SymbolicExpression<F>) -> F
         requires { Fits (builder_layout self.now) (tree_of expression.now) }
         ensures { result ≡ value F.ring (builder_window self.now) expression.now }

@@ -1,10 +1,11 @@
 //! Lookups and traces as tables of plain data: numbers, and structs of numbers and slices.
 //!
-//! A caller that has no Rattle types writes its expressions as nodes in postfix order, and its lookups
-//! as records that name ranges of them. `read_lookups` reads the lookups that tables say, `write_lookups`
-//! writes tables that say given lookups, and `read_traces` reads the traces that numbers say. `elements`,
-//! `extensions` and `element_numbers` lead from numbers to elements and back. `specs/` says which lookups
-//! a table says by the nodes of an expression, and not by the reader: there is one list of lookups at most.
+//! A caller that has no Rattle types writes its expressions as nodes in postfix order, and its
+//! lookups as records that name ranges of them. `read_lookups` reads the lookups that tables
+//! encode, `write_lookups` writes tables for given lookups, and `read_traces` reads traces.
+//! `elements`, `extensions` and `element_numbers` convert numbers to elements and back. `specs/`
+//! defines which lookups a table encodes by the nodes of expressions, and not by the reader: there
+//! is at most one list of lookups.
 #![tactic(auto)]
 
 mod nodes;

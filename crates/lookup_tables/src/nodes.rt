@@ -25,12 +25,12 @@ pub struct Node {
     pub index: usize,
 }
 
-/// Why nodes are those of no expressions.
+/// Why nodes are not a list of expressions.
 #[derive(Debug, Drop)]
 pub enum NodeFault {
     /// Out of memory.
     Memory,
-    /// No expressions begin with the nodes up to this one.
+    /// No list of expressions begins with the nodes up to this one.
     Bad(usize),
 }
 

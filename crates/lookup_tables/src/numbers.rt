@@ -13,7 +13,7 @@ pub(crate) const MODULUS: u32 = 2_013_265_921;
 /// How many groups of four numbers are read at a time.
 const CHUNK: usize = 64;
 
-/// Why numbers are no elements.
+/// Why numbers are not elements.
 #[derive(Debug, Drop)]
 pub enum NumberFault {
     /// Out of memory.
@@ -45,7 +45,7 @@ fn is_below_modulus(number: u32) -> bool
     number < MODULUS
 }
 
-/// The elements that are these numbers.
+/// These numbers as elements.
 ///
 /// Refuses the first number that is not below the modulus. Also fails when out of memory.
 pub fn elements(alloc: Global, numbers: &[u32]) -> Result<Vec<BabyBear>, NumberFault>
@@ -102,9 +102,10 @@ fn first_large(numbers: &[u32]) -> Option<usize>
     None
 }
 
-/// The elements of the extension that are these numbers, four each, lowest power first.
+/// These numbers as elements of the extension, four each, lowest power first.
 ///
-/// Refuses the first four of which one is not below the modulus. Also fails when out of memory.
+/// Refuses the first group with a number that is not below the modulus. Also fails when out of
+/// memory.
 pub fn extensions(alloc: Global, groups: &[[u32; 4]]) -> Result<Vec<BabyBear4>, NumberFault>
     ensures { MatchResult result
         (λ v. (v.items ≡ map quartic_of groups.now) × AreGroupsBelow (length groups.now) groups.now)

@@ -79,11 +79,11 @@ fn push_operation(alloc: Global, stack: &mut Vec<Part>, node: &Node) -> Result<(
     Ok(())
 }
 
-/// The expressions that nodes are those of, in order. There are no others.
+/// The expressions whose nodes these are, in order. There is only one such list.
 ///
-/// Refuses the first node with which no expressions go on: one of no kind or with numbers that its kind
-/// does not have, an operation without operands, or one that would be deeper than 1024. Also fails when
-/// out of memory.
+/// Refuses the first node that continues no list of expressions: one of an unknown kind or with
+/// numbers that its kind does not have, an operation without operands, or one deeper than 1024.
+/// Also fails when out of memory.
 pub fn read_expressions(
     alloc: Global,
     nodes: &[Node],

@@ -61,13 +61,14 @@ pub struct Tables<'a> {
     pub records: &'a [Record],
 }
 
-/// Why a record is no lookup, or a lookup cannot be written.
+/// Why a record is not a lookup, or a lookup cannot be written.
 #[derive(Debug, Drop, Error)]
 pub enum TableFault {
     /// Out of memory.
     #[error("out of memory")]
     Memory,
-    /// No expressions begin with the nodes of a range up to the one at this index of the table.
+    /// No list of expressions begins with the nodes of a range up to the one at this index of the
+    /// table.
     #[error("node {0} ends no expression")]
     Node(usize),
     /// A range ends past its table, or before it starts.
@@ -252,11 +253,11 @@ fn lookups_at(
     Ok(lookups)
 }
 
-/// The lookups that tables say. There are no others: their expressions are equal node by node. Each is in
-/// the column of its record's index.
+/// The lookups that tables encode. There is only one such list, node by node. Each lookup is in the
+/// column of its record's index.
 ///
-/// Refuses the first record that is no lookup, with its index and the fault of the first part that it
-/// lacks, of its bus, its tuples, its multiplicities and its flags. Also fails when out of memory.
+/// Refuses the first record that is not a lookup, with its index and the fault of its first bad
+/// part: bus, tuples, multiplicities, flags. Also fails when out of memory.
 pub fn read_lookups(
     alloc: Global,
     tables: &Tables<'_>,

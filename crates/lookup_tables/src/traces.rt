@@ -56,7 +56,7 @@ impl fmt::Display for TracePart {
     }
 }
 
-/// Why numbers are no traces.
+/// Why numbers are not traces.
 #[derive(Debug, Drop, Error)]
 pub enum TraceFault {
     /// Out of memory.
@@ -65,7 +65,8 @@ pub enum TraceFault {
     /// The number at this index of a part is not below the modulus.
     #[error("{part}: number {index} is not below the modulus")]
     Large { part: TracePart, index: usize },
-    /// A part makes no whole rows: its width does not divide its length, or is 0 where it has numbers.
+    /// A part does not make whole rows: its width does not divide its length, or is 0 where it has
+    /// numbers.
     #[error("{part}: the numbers make no whole rows")]
     Ragged { part: TracePart },
 }
@@ -104,7 +105,7 @@ fn part_elements(
     }
 }
 
-/// Whether so many numbers make whole rows of this width.
+/// Whether `count` numbers make whole rows of this width.
 pub fn makes_rows(count: usize, width: usize) -> bool
     ensures { result ≡ makes_rows count width }
 {
@@ -150,11 +151,11 @@ fn preprocessed_trace(
     Ok(Some(trace))
 }
 
-/// The traces that numbers say.
+/// The traces that these numbers encode.
 ///
-/// Refuses, of the main trace, the preprocessed trace and then the public values, the first part with a
-/// fault: a trace that makes no whole rows, and then the first number that is not below the modulus. Also
-/// fails when out of memory.
+/// Refuses the first part with a fault, of the main trace, the preprocessed trace and the public
+/// values: a trace that does not make whole rows, or else its first number that is not below the
+/// modulus. Also fails when out of memory.
 pub fn read_traces(alloc: Global, traces: &Traces<'_>) -> Result<ReadTraces, TraceFault>
     ensures { MatchResult result (AreTracesOf traces.now) (IsTraceFault traces.now) }
 {

@@ -288,11 +288,11 @@ fn write_lookup(
     })
 }
 
-/// Tables that say these lookups, whose columns are 0, 1, 2, …: `read_lookups` reads the same ones again.
+/// Tables that encode these lookups, whose columns are 0, 1, 2, …: `read_lookups` reads them back.
 ///
-/// Refuses the first lookup that no tables say, with its index: with an expression that is more than 1024
-/// deep, a cell of a row whose number does not fit 32 bits, or a list of more than 1,048,576 nodes. Also
-/// fails when out of memory.
+/// Refuses the first lookup that can't be encoded, with its index: one with an expression more than
+/// 1024 deep, a cell of a row whose number does not fit 32 bits, or a list of more than 1,048,576
+/// nodes. Also fails when out of memory.
 pub fn write_lookups(
     alloc: Global,
     lookups: &[Lookup<BabyBear>],

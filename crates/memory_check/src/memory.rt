@@ -26,8 +26,8 @@ pub struct MemoryTraces<F> {
 /// of the gaps. Its lookups are those that the AIRs push, which fit traces of 5, 4 and 2 columns.
 ///
 /// Refuses heights at which a count could wrap; see [`BatchPlan::new`]. Also fails when out of
-/// memory. A refusal of a local lookup, and of another check of the plan, no clause rules out: that
-/// none comes is left to tests, and so is what the lookups are.
+/// memory. No clause rules out that a local lookup or another check of the plan is refused; tests
+/// show that none is, and what the lookups are.
 pub fn memory_plan<F: Field, EF: ExtensionField<F>>(
     alloc: Global,
     accesses: usize,
@@ -60,12 +60,12 @@ fn memory_lookups<F: Field, EF: ExtensionField<F>>(
 /// Whether the messages of a memory cancel at a pair of challenges: makes the witness of the traces,
 /// as a prover does, and checks it, as a verifier does.
 ///
-/// Refuses what [`BatchPlan::prove`] refuses: `LengthMismatch` for a plan of another number of AIRs,
-/// traces that do not have the plan's heights or do not fit, then `Air` with the first denominator
-/// that vanishes; at most other challenges none does. Then it refuses what [`BatchPlan::verify`]
-/// refuses, and the messages do not balance. Also fails when out of memory. If messages balance and no
-/// denominator vanishes, they are accepted. If they do not, few challenges accept them:
-/// [`BatchPlan::soundness_count`] says how few.
+/// Refuses what [`BatchPlan::prove`] refuses: `LengthMismatch` for a plan of another number of
+/// AIRs, traces that do not have the plan's heights or do not fit, then `Air` with the first
+/// denominator that vanishes; at most other challenges none does. Then it refuses what
+/// [`BatchPlan::verify`] refuses; in that case the messages do not balance. Also fails when out of
+/// memory. If messages balance and no denominator vanishes, they are accepted. If they do not, few
+/// challenges accept them: [`BatchPlan::soundness_count`] says how few.
 pub fn check_memory<F: Field, EF: ExtensionField<F>>(
     alloc: Global,
     plan: &BatchPlan<F>,

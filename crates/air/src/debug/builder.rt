@@ -104,7 +104,7 @@ fn window_of_option<T>(
     }
 }
 
-/// Whether an assertion on a row holds: `x` is zero, or `AirError::Assertion` names the row.
+/// Checks that `x` is zero. Fails with `AirError::Assertion` at `row` exactly if it is not.
 pub fn judge<K: Domain>(x: K, row: usize) -> Result<(), AirError>
     ensures { MatchResult result (λ _. x ≡ K.ring.zero)
         (λ e. (x ≢ K.ring.zero) × (e ≡ AirError.Assertion row)) }

@@ -10,7 +10,9 @@ use expressions::{Air, AirError};
 use field::{ExtensionField, Field};
 use std::alloc::Global;
 
-/// Evaluates the AIR on every row, in order, and returns the first refusal.
+/// Evaluates the AIR on every row, in order.
+///
+/// Fails with the AIR's refusal on the first row that has one; later rows are not evaluated.
 pub fn check_rows<'a, F: Field, EF: ExtensionField<F>, A: Air<DebugConstraintBuilder<'a, F, EF>>>(
     alloc: Global,
     air: &A,

@@ -12,7 +12,7 @@ use field::{ExtensionField, Field};
 use matrix::RowMajorMatrix;
 use std::alloc::{AllocError, Global};
 
-/// The positions of recorded constraints in the one order of all assertions.
+/// The positions of the recorded constraints among all assertions.
 #[derive(Debug, Drop)]
 pub struct ConstraintLayout {
     /// The positions of the constraints over the field.
@@ -69,7 +69,7 @@ impl<F: Field, EF: ExtensionField<F>> SymbolicAirBuilder<F, EF> {
         self.extension_constraints.as_slice()
     }
 
-    /// The positions of the constraints in the one order of all assertions.
+    /// The positions of the constraints among all assertions.
     pub fn constraint_layout(&self) -> &ConstraintLayout
         ensures base { result.now.base_indices.items ≡ (recorded self.now).base_indices }
         ensures extension { result.now.ext_indices.items ≡ (recorded self.now).ext_indices }

@@ -6,9 +6,9 @@ use expressions::{BaseEntry, ExtEntry, SymbolicVariable, SymbolicVariableExt};
 use matrix::RowMajorMatrix;
 use std::alloc::{AllocError, Global};
 
-/// A kind of variables, each of which is known by its entry and its index.
+/// A kind of variable, named by an entry and an index.
 pub trait VariableKind: Copy {
-    /// Where they are read.
+    /// Where variables of this kind are read.
     type Entry: Copy;
 
     ghost entry_of: { Self → Self.Entry };
@@ -45,7 +45,7 @@ impl<F: Copy, EF: Copy> VariableKind for SymbolicVariableExt<F, EF> {
     }
 }
 
-/// The first `count` variables of an entry.
+/// The first `count` variables of an entry. Fails only when out of memory.
 #[tactic(auto, using(crate::proofs::VariableRows::variables_more))]
 pub fn variables<V: VariableKind>(
     alloc: Global,
@@ -61,7 +61,8 @@ pub fn variables<V: VariableKind>(
     Ok(all)
 }
 
-/// The first `width` variables of one entry, above those of another.
+/// A matrix of two rows: the first `width` variables of `current` above those of `next`. Fails only
+/// when out of memory.
 #[tactic(auto, using(matrix::proofs::Shapes::shaped_by_two))]
 pub fn variable_rows<V: VariableKind>(
     alloc: Global,

@@ -35,7 +35,7 @@ impl<F, EF> Model for LayoutVariables<F, EF> {
 }
 
 impl<F: Copy, EF: Copy> LayoutVariables<F, EF> {
-    /// The variables of a layout.
+    /// The variables of a layout. Fails only when out of memory.
     pub fn new(alloc: Global, layout: AirLayout) -> Result<Self, AllocError>
         ensures { IfOk result (λ s. s ≡ layout) }
     {

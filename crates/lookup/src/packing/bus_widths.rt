@@ -72,7 +72,7 @@ fn bus_at<'a, 'b, F: Field>(
     }
 }
 
-/// Likewise of the lookups of one bus.
+/// As `assert_bus_widths`, for the lookups of one bus.
 fn assert_bus_width<F: Field>(
     alloc: Global,
     name: &str,

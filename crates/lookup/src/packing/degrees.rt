@@ -46,7 +46,7 @@ pub(crate) trait TrialDegrees<F: Field> {
         ensures { result ≡ true → (o : Outline (SymbolicExpression F)) → keeps self.now kept o
             → (n : ℕ) × answers self.now o (Ok n) × (max_degree < n) };
 
-    /// The degree of a trial.
+    /// The degree of a trial, or what it is refused for.
     fn degree(&self, lookup: &Lookup<F>, kept: Self::Kept) -> Result<usize, LookupError>
         requires asked { may_ask self.now lookup.now }
         requires member { IsMember lookup.now }

@@ -70,7 +70,7 @@ pub(crate) fn push_on<F: Field, T: TrialDegrees<F>>(
     }
 }
 
-/// Likewise of a bus that is not refused so far.
+/// As `push_on`, for a bus that is not refused so far.
 ///
 /// Refuses what the trial is refused for.
 fn push_next<F: Field, T: TrialDegrees<F>>(

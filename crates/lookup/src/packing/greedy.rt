@@ -31,8 +31,8 @@ use std::hash::Hash;
 /// asked about trials alone, in the order of the lookups; once a trial of a bus is refused, it is
 /// asked no more about that bus. Weights of joined lookups add, and the columns are numbered from 0.
 ///
-/// On every row the packed lookups send the messages of those before, if a column has the id that
-/// its lookups had. So the keys stay, each with its net, and so does the weight of all lookups.
+/// On every row the packed lookups send the same messages as before, if each column has the id of
+/// its lookups. So keys, nets and the total weight stay.
 ///
 /// Refuses, in this order:
 ///
@@ -41,7 +41,7 @@ use std::hash::Hash;
 /// - at the first trial, bus by bus, that is refused: the closure's own refusal, or
 ///   `CountWeightOverflow` if the trial is within the degree and the weights have no sum that fits.
 ///
-/// Out of memory is refused under its own name. After a refusal the lookups are dropped.
+/// Also fails when out of memory, with `Memory`. After a refusal the lookups are dropped.
 pub fn pack_lookups<F: Field, D: Fn(&Lookup<F>) -> Result<usize, LookupError>>(
     alloc: Global,
     lookups: Vec<Lookup<F>>,
@@ -59,8 +59,8 @@ pub fn pack_lookups<F: Field, D: Fn(&Lookup<F>) -> Result<usize, LookupError>>(
     pack_by(alloc, lookups, max_degree, &Asked { degree: &degree })
 }
 
-/// Likewise by the degree of the constraint that the gadget asserts for a lookup, where the
-/// transition selector has degree 0: in time linear in the size of the lookups.
+/// As [`pack_lookups`], by the degree of the constraint that the gadget asserts for a lookup, where
+/// the transition selector has degree 0. Takes time linear in the size of the lookups.
 ///
 /// What a trial refuses is `DegreeOverflow`, if its degree does not fit `usize`, or
 /// `CountWeightOverflow`.
