@@ -22,12 +22,11 @@ use Rattle.batch.specs.declared.error.BatchError.TheVariants.{Lookup as OfLookup
 use Rattle.batch.specs.declared.plan.BatchPlan.{BatchPlan}
 use Rattle.batch.specs.declared.trace.BatchTrace.{BatchTrace}
 
--- the plan that a value of the program holds
+-- the plan that a value of the program holds, whatever the ghost members of the bounds on F
 abbrev pub plan_of : {F : Type 0} {a b c d e f g h : _} → BatchPlan F a b c d e f g h → Plan F
 plan_of plan = plan_with plan.airs.items plan.heights.items plan.ids.items plan.max_message_width plan.num_ids
 
--- A plan over traces at a pair of challenges, in these fields. The batch is that of its AIRs over the
--- traces, and the table is made of the challenges.
+-- A plan over traces at a pair of challenges, in these fields, with a batch and a table. `run_of` makes it.
 pub record Run (F K : Type 0) : Type 0 where
   pub fields : Extension F K
   pub plan : Plan F
@@ -37,7 +36,8 @@ pub record Run (F K : Type 0) : Type 0 where
   pub batch : List (Instance F)
   pub table : ChallengeTable K
 
--- the run of a plan over traces at alpha and beta
+-- The run of a plan over traces at alpha and beta: its batch is that of the AIRs over the traces, and its
+-- table is made of the challenges.
 abbrev pub run_of : {F K : Type 0} → Extension F K → Plan F → List (BatchTrace F) → K → K → Run F K
 run_of E plan traces alpha beta = record {
   fields = E;

@@ -1,4 +1,4 @@
--- Theorems on all batches with lawful ids and flags.
+-- Theorems on batches.
 use Rattle.std.specs.Prelude.{◌≡◌, ◌↔◌, ℕ, Bool, List, All, map}
 use Rattle.std.specs.Box.{boxed_slice_items}
 use Rattle.std.specs.List.{range_with_len}
@@ -25,7 +25,8 @@ abbrev pub AreMadeOf : {K : Type 0} → Ring K → ℕ → ℕ → K → K → C
 AreMadeOf S W m alpha beta challenges =
     (challenges.beta ≡ beta) × (boxed_slice_items challenges.bus_prefix ≡ map (prefix_of_bus S alpha beta W) (range_with_len 0 m))
 
--- Over made challenges some witness is accepted exactly if alpha is accepting at beta.
+-- Over made challenges with a prefix for each id some witness is accepted exactly if alpha is accepting at
+-- beta.
 abbrev pub AcceptedIsAccepting : {F K : Type 0} → Extension F K → Type 0
 AcceptedIsAccepting {F} {K} E =
     (W m : ℕ) (alpha beta : K) (challenges : Challenges K) (instances : List (BatchInstance F)) → AreMadeOf E.ring W m alpha beta challenges → HavePrefixes challenges instances

@@ -48,7 +48,7 @@ IsMisfitAt air t fault =
     ((fault ≡ Misfit air) × (¬ LookupsFit (layout_of t.traces) t.lookups))
     ⊎ ((fault ≡ Heights air) × (¬ HaveOneHeight t.traces))
 
--- so it is of the first of the AIRs that do not fit
+-- the misfit of the first AIR that does not fit
 abbrev pub IsUnfitAmong : List (Traced BabyBear) → Fault → Type 0
 IsUnfitAmong ts fault = HasFirstFault IsTracedFitting (λ index traced. IsMisfitAt index traced fault) ts
 

@@ -37,7 +37,7 @@ numbers_of r = record { code = code_number r.code; part = r.part; air = r.air; r
 abbrev pub of_code : Code → CodedRefusal
 of_code c = record { code = c; part = 0; air = 0; row = 0; lookup = 0; expected = 0; actual = 0 }
 
--- what a refusal holds that is not refused
+-- what is written where nothing is refused
 abbrev pub no_refusal : Refusal
 no_refusal = numbers_of (of_code code.Ok)
 

@@ -1,4 +1,5 @@
-//! The numbers of `bindings/c/volgwain.h`, under its names.
+//! The numbers of `bindings/c/volgwain.h`: codes and parts under its names, and what can be wrong with a record
+//! by the numbers in its comment.
 
 use std::fmt;
 

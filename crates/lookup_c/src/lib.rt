@@ -1,9 +1,10 @@
 //! The calls of the lookup layer as C functions, over `BabyBear` and its quartic extension.
 //!
 //! Each call gets all that it reads as tables of numbers, the lookups and traces of `lookup_tables`, and
-//! writes into arrays of its caller. It answers a code: 0, or that of a refusal, with its places and its
-//! text. Each call is in the file of its name. A refused call leaves the other arrays as they were. No memory and no handle is handed over.
-//! `bindings/c/volgwain.h` declares the calls for C, and docs/C.md says how they are used.
+//! writes into arrays of its caller. It answers a code: 0, or that of a refusal, with its fields and its
+//! text. Each call is in the file of its name. A refused call leaves the other arrays as they were. No
+//! memory and no handle crosses the boundary. `bindings/c/volgwain.h` declares the calls for C, and
+//! docs/C.md says how they are used.
 #![tactic(auto)]
 
 mod batch_tables;

@@ -43,7 +43,7 @@ module _ {S K : Type 0} (R : Ring K) where
   abbrev pub selected_quotient : Selection (Meaning S K) → Quotient (Meaning S K)
   selected_quotient s = record { numerator = s.numerator; denominator = plus R s.denominator (minus R (constant R.one) s.flags) }
 
--- the sums over the branches of a lookup, as many as there are flags
+-- the sums over the branches of a lookup, as many as there are flags; the degree of the flags is a bound
 abbrev pub branch_sums : {F K : Type 0} → Extension F K → Lookup F → List (SymbolicExpression F) → Selection (Meaning (ExtWindow F K) K)
 branch_sums E lookup flags = record {
   numerator = record {

@@ -24,7 +24,7 @@ pub(crate) struct LookupRow<'a, AB: PermutationAirBuilder> {
     pub(crate) beta: &'a AB::ExprEF,
 }
 
-/// The expression over the builder's variables, lifted_meaning to the extension.
+/// The expression over the builder's variables, lifted to the extension.
 pub(crate) fn lift_expression<AB: PermutationAirBuilder>(
     alloc: Global,
     row: &LookupRow<'_, AB>,

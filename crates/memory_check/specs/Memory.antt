@@ -54,10 +54,11 @@ module _ (F : Type 0) where
 
 -- a plan and the main traces that are checked over it, at a pair of challenges
 module _ {F K : Type 0} (E : Extension F K) (plan : Plan F) (mains : List (Matrix F)) (alpha beta : K) where
-  -- the batch, and the table of its challenges
+  -- its batch
   abbrev batch : List (Instance F)
   batch = batch_of_mains plan.ids plan.airs mains
 
+  -- the table of its challenges
   abbrev table : ChallengeTable K
   table = made_table E.ring alpha beta plan.width plan.num_ids
 
