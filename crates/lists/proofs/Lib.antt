@@ -1,0 +1,5 @@
+pub mod Each
+pub mod Images
+pub mod Items
+pub mod Parts
+pub mod Zips
