@@ -1,14 +1,9 @@
 -- Lists without repeats, one element further.
 use Rattle.std.proofs.Common.{◌≡◌, ◌≢◌, ◌↔◌, ℕ, zero, suc, Bool, IsTrue, true, false, not, ◌||◌, if◌then◌else◌, List, [], ◌∷◌, ◌++◌, take, refl, sym}
 use Rattle.std.specs.List.{AllByRecursion, list_any}
+use Rattle.lists.proofs.Each.{all_take}
 use Rattle.field.specs.Distinct.{IsDistinct}
 use Rattle.indexmap.specs.IndexSet.{insert_key}
-
--- what holds of all elements holds of the first n
-all_take : {A : Type 0} (P : A → Type 0) (n : ℕ) (xs : List A) → AllByRecursion P xs → AllByRecursion P (take n xs)
-all_take P zero xs all = tt
-all_take P (suc n) [] all = tt
-all_take P (suc n) (x ∷ xs) all = (all.0, all_take P n xs all.1)
 
 -- the first n elements
 pub distinct_take : {A : Type 0} (n : ℕ) (xs : List A) → IsDistinct xs → IsDistinct (take n xs)

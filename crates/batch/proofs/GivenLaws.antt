@@ -7,6 +7,7 @@ use Rattle.std.proofs.lemmas.List.Quantifiers.{all_pairs_push}
 use Rattle.std.specs.Borrow.{Bor}
 use Rattle.std.specs.List.{HoldsAt, zip}
 use Rattle.std.specs.Map.{lookup}
+use Rattle.lists.proofs.Zips.{zip_push}
 use Rattle.lookup_model.specs.LookupDegree.{greatest}
 use Rattle.lookup_model.specs.declared.types.Lookup.{Lookup}
 use Rattle.lookup_model.specs.Names.{same_name}
@@ -15,13 +16,6 @@ use Rattle.lookup.proofs.NamedWidthLaws.{at_inserted, greatest_push}
 use Rattle.batch.specs.Numbering.{AreGivenInOrder, IsBusId, IsKnown}
 use Rattle.batch.specs.Order.{AreInOrder, bus_at, next_id, same_bus}
 use Rattle.batch.specs.declared.ids.GivenIds.{GivenIds}
-
--- pairs with one more
-pub zip_push : {A B : Type 0} (xs : List A) (ys : List B) (x : A) (y : B) → length xs ≡ length ys → zip (xs ++ x ∷ []) (ys ++ y ∷ []) ≡ zip xs ys ++ (x, y) ∷ []
-zip_push [] [] x y same = refl
-zip_push [] (b ∷ ys) x y same = absurd (omega (arith, same))
-zip_push (a ∷ xs) [] x y same = absurd (omega (arith, same))
-zip_push (a ∷ xs) (b ∷ ys) x y same = ap (λ t. (a, b) ∷ t) (zip_push xs ys x y (omega (arith, same)))
 
 is_false : (b : Bool) → ¬ IsTrue b → b ≡ false
 is_false true untrue = absurd (untrue refl)

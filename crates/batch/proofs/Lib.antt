@@ -12,6 +12,5 @@ pub mod PairedLookups
 pub mod PlanCalls
 pub mod PlanLaws
 pub mod Renaming
-pub mod ItemLaws
 pub mod TableLaws
 pub mod TraceLaws

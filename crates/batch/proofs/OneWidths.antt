@@ -6,6 +6,7 @@ use Rattle.std.proofs.lemmas.List.Elements.{All-cons, All-nil}
 use Rattle.std.specs.List.{AllByRecursion, cons_option, filter_map, flat_map, list_any, zip}
 use Rattle.std.specs.declared.alloc.Global.{Global}
 use Rattle.std.specs.declared.vec.Vec.{Vec}
+use Rattle.lists.proofs.Each.{all_front, all_back, all_here}
 use Rattle.expressions.specs.declared.base_expression.SymbolicExpression.{SymbolicExpression}
 use Rattle.lookup_model.specs.Batches.Ids.{HaveOneWidth}
 use Rattle.lookup_model.specs.Outline.{Outline, bus_of, fields_of}
@@ -18,7 +19,6 @@ use Rattle.lookup_model.specs.Names.{is_named, same_name}
 use Rattle.lookup.specs.Lookups.{lookups_of}
 use Rattle.lookup.specs.NamedWidths.{AgreeOnWidths, first_width, named_widths}
 use Rattle.lookup.specs.declared.lookups.Lookups.{Lookups}
-use Rattle.lookup_model.proofs.Lists.{all_back, all_front, all_here}
 use Rattle.batch.specs.Checks.{AreLocallyEven, IsLocallyEven, bus_widths_of}
 use Rattle.batch.specs.Order.{bus_at, same_bus}
 use Rattle.batch.specs.PlanFacts.{AreNumbered, assigned}

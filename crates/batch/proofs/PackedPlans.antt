@@ -10,6 +10,8 @@ use Rattle.std.specs.List.Sorted.{IsPermutation}
 use Rattle.field.specs.Ring.{Ring}
 use Rattle.expressions.specs.Window.{Window}
 use Rattle.std.specs.Option.{is_some}
+use Rattle.lists.proofs.Items.{same_front, same_back}
+use Rattle.lists.proofs.Each.{all_front, all_back, all_indexed}
 use Rattle.lookup_model.specs.Message.{Message}
 use Rattle.lookup_model.specs.Sent.{branches_at, flags_at, sent, sent_at}
 use Rattle.lookup_model.specs.Trace.{sent_row_under}
@@ -21,7 +23,6 @@ use Rattle.lookup_model.specs.LookupDegree.{greatest}
 use Rattle.lookup_model.specs.Outline.{bus_of, fields_of}
 use Rattle.lookup_model.specs.Records.{AreRecords}
 use Rattle.lookup_model.specs.declared.types.Lookup.{Lookup}
-use Rattle.lookup_model.proofs.Lists.{all_back, all_front, all_indexed}
 use Rattle.lookup.specs.Kept.{HasIdOfBus, HaveSameIds, KeepsLawfulFlags, KeepsMessages, KeepsOtherBuses, KeepsSent, KeepsWidths, other_buses, other_ids, row_messages, widths_of}
 use Rattle.lookup.specs.Lookups.{lookups_of}
 use Rattle.lookup.specs.Packing.{is_additive}
@@ -33,24 +34,6 @@ use Rattle.batch.specs.PlanFacts.{all_tuple_widths, assigned}
 use Rattle.batch.specs.Traces.{batch_over}
 use Rattle.batch.specs.declared.trace.BatchTrace.{BatchTrace}
 use Rattle.batch.proofs.PairedLookups.{Entry, passes}
-
--- a list in two parts, each as long as in another
-split_first : {A : Type 0} (a c b d : List A) → length a ≡ length b → a ++ c ≡ b ++ d → a ≡ b
-split_first [] c [] d long same = refl
-split_first [] c (y ∷ ys) d long same = absurd (omega (arith, long))
-split_first (x ∷ xs) c [] d long same = absurd (omega (arith, long))
-split_first (x ∷ xs) c (y ∷ ys) d long same =
-    let here : x ≡ y = cc same in
-    let later : xs ++ c ≡ ys ++ d = cc same in
-    λ i. here i ∷ split_first xs c ys d (omega (arith, long)) later i
-
-split_later : {A : Type 0} (a c b d : List A) → length a ≡ length b → a ++ c ≡ b ++ d → c ≡ d
-split_later [] c [] d long same = same
-split_later [] c (y ∷ ys) d long same = absurd (omega (arith, long))
-split_later (x ∷ xs) c [] d long same = absurd (omega (arith, long))
-split_later (x ∷ xs) c (y ∷ ys) d long same =
-    let later : xs ++ c ≡ ys ++ d = cc same in
-    split_later xs c ys d (omega (arith, long)) later
 
 module _ {F : Type 0} (R : Ring F) (eq : F → F → Bool) where
   -- what a plan needs of lookups that are packed or as they were
@@ -239,9 +222,9 @@ module _ {F : Type 0} where
                 traces = refl;
                 messages = keep.0.messages;
                 flags = keep.0.flags;
-                ids = same_ids i j b a long long_after (all_front IsBefore (zip i (lookups_of b)) (assigned is bs) before) (all_front IsAfter (zip j (lookups_of a)) (assigned js as_after) after) (split_first _ _ _ _ as_many parts);
+                ids = same_ids i j b a long long_after (all_front IsBefore (zip i (lookups_of b)) (assigned is bs) before) (all_front IsAfter (zip j (lookups_of a)) (assigned js as_after) after) (same_front _ _ _ _ as_many parts);
               }),
-              plans_packed is bs js as_after ts rest_long rest_long_after keep.1 (all_back IsBefore (zip i (lookups_of b)) (assigned is bs) before) (all_back IsAfter (zip j (lookups_of a)) (assigned js as_after) after) (split_later _ _ _ _ as_many parts),
+              plans_packed is bs js as_after ts rest_long rest_long_after keep.1 (all_back IsBefore (zip i (lookups_of b)) (assigned is bs) before) (all_back IsAfter (zip j (lookups_of a)) (assigned js as_after) after) (same_back _ _ _ _ as_many parts),
             )
 
   module _ (R : Ring F) (eq : F → F → Bool) where

@@ -5,12 +5,12 @@ use Rattle.std.proofs.lemmas.List.{get_or-map, length-map}
 use Rattle.std.proofs.lemmas.List.Kept.{AllPairs-filter}
 use Rattle.std.proofs.lemmas.Slice.Zip.{get_or-zip, length-zip}
 use Rattle.std.specs.List.{AllByRecursion, AllPairs, filter, flat_map, zip}
+use Rattle.lists.proofs.Each.{all_indexed}
 use Rattle.field.specs.Distinct.{IsAmong}
 use Rattle.lookup_model.specs.Names.{is_named}
 use Rattle.lookup_model.specs.Outline.{fields_of}
 use Rattle.lookup_model.specs.declared.types.Lookup.{Lookup}
 use Rattle.lookup_model.proofs.Counting.DistinctLists.{all_among}
-use Rattle.lookup_model.proofs.Lists.{all_indexed}
 use Rattle.lookup_model.proofs.Names.{same_name-Decides}
 use Rattle.lookup.specs.Packing.{is_additive}
 use Rattle.batch.specs.Order.{bus_at, same_bus}

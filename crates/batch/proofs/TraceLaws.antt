@@ -6,6 +6,8 @@ use Rattle.std.proofs.lemmas.Slice.Zip.{get_or-zip, length-zip}
 use Rattle.std.specs.List.{AllByRecursion, slice_get, zip}
 use Rattle.std.specs.declared.alloc.Global.{Global}
 use Rattle.std.specs.declared.vec.Vec.{Vec}
+use Rattle.lists.proofs.Items.{HoldsBelow, holds_next}
+use Rattle.lists.proofs.Each.{all_front, all_back}
 use Rattle.matrix.specs.Matrix.{Matrix}
 use Rattle.lookup_model.specs.Batches.Ids.{identified}
 use Rattle.lookup_model.specs.Batches.Instances.{Instance, InstancesFit, IsFitting, instance_of, instances_of}
@@ -13,8 +15,6 @@ use Rattle.lookup_model.specs.declared.instance.BatchInstance.{BatchInstance}
 use Rattle.lookup_model.specs.declared.types.Lookup.{Lookup}
 use Rattle.lookup.specs.Lookups.{lookups_of}
 use Rattle.lookup.specs.declared.lookups.Lookups.{Lookups}
-use Rattle.lookup_model.proofs.Lists.{all_back, all_front}
-use Rattle.batch.proofs.ItemLaws.{HoldsBelow, holds_next}
 use Rattle.batch.specs.Lists.{lists_of}
 use Rattle.batch.specs.Pairs.{HaveIdsBelow}
 use Rattle.batch.specs.Traces.{FitsAt, IsFirstUnfit, batch_over, instance_of_main, instance_over, traces_of_main, view_of}

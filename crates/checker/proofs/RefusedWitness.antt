@@ -1,6 +1,7 @@
 -- A refused witness is not accepted.
 use Rattle.std.proofs.Common.{◌≡◌, ℕ, zero, suc, inl, inr, Some, List, [], ◌∷◌, Result, Ok, Err, subst₂}
 use Rattle.std.specs.List.{AllZip, slice_get}
+use Rattle.lists.proofs.Zips.{AllZip-there}
 use Rattle.lookup_model.specs.Challenges.{ChallengeTable}
 use Rattle.field.specs.Extension.{Extension}
 use Rattle.lookup_model.specs.declared.error.LookupError.{LookupError}
@@ -8,16 +9,6 @@ use Rattle.checker.specs.Answers.{ChecksWitness, RefusesUnaccepted}
 use Rattle.lookup_model.specs.Batches.Instances.{Instance}
 use Rattle.lookup_model.specs.Batches.Refusals.{HasShapeAt, IsAirRefusal, IsShapeRefusal, IsWitnessRefusal}
 use Rattle.lookup_model.specs.Batches.Witnesses.{AirResult, IsAccepted, IsSatisfiedAt}
-
--- what holds of two lists holds at each index
-at_index : {A B : Type 0} (P : A → B → Type 0) (xs : List A) (ys : List B) (i : ℕ) (x : A) (y : B) → AllZip P xs ys → slice_get xs i ≡ Some x → slice_get ys i ≡ Some y → P x y
-at_index P [] ys i x y all x_there y_there = cc x_there
-at_index P (a ∷ xs) [] i x y all x_there y_there = absurd all
-at_index P (a ∷ xs) (b ∷ ys) zero x y all x_there y_there =
-    let x_is : a ≡ x = cc x_there in
-    let y_is : b ≡ y = cc y_there in
-    subst₂ P x_is y_is all.0
-at_index P (a ∷ xs) (b ∷ ys) (suc i) x y all x_there y_there = at_index P xs ys i x y all.1 x_there y_there
 
 module _ {F K : Type 0} where
   -- a result whose shape is refused does not have the shape
@@ -35,7 +26,7 @@ module _ {F K : Type 0} (E : Extension F K) (table : ChallengeTable K) where
   -- so the witness is not accepted
   witness_refused : (instances : List (Instance F)) (witness : List (AirResult K)) (e : LookupError) → IsWitnessRefusal E table instances witness e → IsAccepted E table instances witness → ⊥
   witness_refused instances witness e (inl first) accepted =
-      air_refused first.air first.instance first.result e first.refusal (at_index (IsSatisfiedAt E table) instances witness first.air first.instance first.result accepted.satisfied first.is_there first.result_is_there)
+      air_refused first.air first.instance first.result e first.refusal (AllZip-there (IsSatisfiedAt E table) instances witness first.air first.instance first.result accepted.satisfied first.is_there first.result_is_there)
   witness_refused instances witness e (inr sum) accepted = sum.unbalanced accepted.balanced
 
   pub refuses_from : (instances : List (Instance F)) (witness : List (AirResult K)) (answer : Result (Unit {0}) LookupError) → ChecksWitness E table instances witness answer → RefusesUnaccepted E table instances witness answer

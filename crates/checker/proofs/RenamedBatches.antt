@@ -5,6 +5,8 @@ use Rattle.std.proofs.lemmas.List.{length-map, map-append}
 use Rattle.std.proofs.lemmas.Option.{slice_get-get_or}
 use Rattle.std.proofs.lemmas.Simd.{map-map}
 use Rattle.std.specs.List.{AllByRecursion, filter, flat_map, range_with_len, zip}
+use Rattle.lists.proofs.Images.{filter_images}
+use Rattle.lists.proofs.Each.{all_indexed}
 use Rattle.field.specs.Ring.{Ring}
 use Rattle.field.specs.Sums.{sum_in}
 use Rattle.field.specs.Extension.{Extension, IsLawful}
@@ -18,7 +20,6 @@ use Rattle.lookup_model.specs.Trace.{sent_row_under}
 use Rattle.lookup_model.specs.declared.types.Lookup.{Lookup}
 use Rattle.lookup_model.specs.Batches.Instances.{Instance, IsFitting}
 use Rattle.lookup_model.specs.Batches.Messages.{batch_messages, id_of, sent_rows_of}
-use Rattle.lookup_model.proofs.Lists.{all_indexed}
 use Rattle.lookup_model.proofs.Lookups.KeyLaws.{same_key-Decides}
 use Rattle.checker.specs.Packed.{KeepsCounts}
 use Rattle.checker.specs.Renamed.{IsInjective, renamed}
@@ -28,15 +29,6 @@ alike : (p q : Bool) → (p ≡ true → q ≡ true) → (q ≡ true → p ≡ t
 alike true q there back = there refl
 alike false true there back = sym (back refl)
 alike false false there back = refl
-
--- what passes a test of images, and the images of what passes
-filter_images : {A B : Type 0} (f : A → B) (p : A → Bool) (q : B → Bool) → ((x : A) → q (f x) ≡ p x) → (xs : List A) → filter q (map f xs) ≡ map f (filter p xs)
-filter_images f p q same [] = refl
-filter_images f p q same (x ∷ xs) = ap (λ b. cond b (f x ∷ filter q (map f xs)) (filter q (map f xs))) (same x) ∙ by_test (p x) (filter_images f p q same xs)
-  where
-    by_test : (b : Bool) → filter q (map f xs) ≡ map f (filter p xs) → cond b (f x ∷ filter q (map f xs)) (filter q (map f xs)) ≡ map f (cond b (x ∷ filter p xs) (filter p xs))
-    by_test true rest = ap (λ t. f x ∷ t) rest
-    by_test false rest = rest
 
 -- the images that are seen first
 first_seen_images : {A B : Type 0} (f : A → B) (same : A → A → Bool) (same_image : B → B → Bool) → ((x y : A) → same_image (f x) (f y) ≡ same x y) → (xs : List A) → first_seen same_image (map f xs) ≡ map f (first_seen same xs)

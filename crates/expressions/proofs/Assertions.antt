@@ -1,6 +1,7 @@
 -- Chains of assertions, one expression at a time.
 use Rattle.std.proofs.Common.{◌≡◌, List, [], ◌∷◌, ◌++◌, inl, inr, refl, subst, sym, ap, ◌∙◌, append_assoc}
 use Rattle.std.specs.Prelude.{Result, Ok, Err, MatchResult, OnOk}
+use Rattle.lists.proofs.Items.{split_here}
 use Rattle.expressions.specs.Builder.{AcceptsAll, RefusesOne}
 use Rattle.expressions.specs.declared.error.AirError.{AirError}
 
@@ -29,11 +30,3 @@ refuses_after {B} {X} accepts refuses all xs ys x b c d e chain last whole =
     split : (xs : List X) (b : B) → AcceptsAll accepts b xs c → RefusesOne accepts refuses b (xs ++ x ∷ ys) e d
     split [] b same = let P : B → Type 0 = λ s. refuses s x e d in inl (subst P same last)
     split (y ∷ more) b chain = inr (chain.0, chain.1, split more chain.0 chain.2)
-
--- of a list that is handed out from the front: what came before, the next item, and what is left
-pub split_here : {X : Type 0} (all done left later : List X) (x : X) → all ≡ done ++ left → left ≡ x ∷ later → all ≡ done ++ x ∷ later
-split_here all done left later x whole next = whole ∙ ap (λ l. done ++ l) next
-
--- the next item joins what came before
-pub split_more : {X : Type 0} (all done left later : List X) (x : X) → all ≡ done ++ left → left ≡ x ∷ later → all ≡ (done ++ x ∷ []) ++ later
-split_more all done left later x whole next = rw append_assoc (split_here all done left later x whole next)

@@ -16,9 +16,8 @@ use Rattle.generation_tests.specs.PlainProgram.{IsSumOfQuotients, as_message, as
 use Rattle.generation_tests.specs.declared.plain.PlainMessage.{PlainMessage}
 use Rattle.lookup_rows.proofs.FirstSeen.{first_seen-push}
 use Rattle.std.proofs.lemmas.List.Elements.{filter-append}
-use Rattle.lookup_model.proofs.HornerRule.{map-map}
-use Rattle.lookup_model.proofs.Branches.{mapped_at}
-use Rattle.lookup_model.proofs.RecordLaws.{All-at}
+use Rattle.lists.proofs.Images.{map-map, mapped_at}
+use Rattle.lists.proofs.Each.{All-at}
 use Rattle.lookup_model.proofs.Lookups.Regrouping.{Holds, first_seen_holds}
 use Rattle.lookup_model.proofs.Lookups.KeyLaws.{same_key-Decides}
 use Rattle.lookup_model.proofs.SumLaws.{sum_in-append, sum_in-push}

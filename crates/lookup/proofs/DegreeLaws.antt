@@ -4,6 +4,7 @@ use Rattle.std.proofs.lemmas.List.{map-append}
 use Rattle.std.specs.List.{zip}
 use Rattle.std.specs.Option.{option_map}
 use Rattle.std.specs.Result.{result_ok}
+use Rattle.lists.proofs.Zips.{zip-append, zip_mapped}
 use Rattle.expressions.specs.declared.base_expression.SymbolicExpression.{SymbolicExpression}
 use Rattle.lookup_model.proofs.SumDegreeLaws.{degree_of_back, degree_of_front}
 use Rattle.lookup_model.specs.LookupDegree.{BranchDegrees, IsDegree, branch_degrees, constraint_degree_of, expression_degree, lookup_branch_degrees, outline_branch_degrees, outline_degree}
@@ -18,7 +19,6 @@ use Rattle.lookup.specs.Packing.{trial}
 use Rattle.lookup.specs.TrialDegrees.{IsPlain, KeepsDegrees}
 use Rattle.lookup.specs.Trials.{IsMember}
 use Rattle.lookup.proofs.StepLaws.{plain_of}
-use Rattle.lookup.proofs.ZippedLists.{zip-append, zip_mapped}
 
 -- degrees that are answered, of branches by another name
 known_of : (bs cs : List BranchDegrees) → bs ≡ cs → (r : Result SumDegrees LookupError) → MatchResult r (AreSumDegrees bs) (IsTooGreat bs) → MatchOption (result_ok r) (2 ^ 64 ≤ constraint_degree_of None cs) (AreSumDegrees cs)

@@ -4,7 +4,7 @@ use Rattle.std.proofs.lemmas.List.{append-nil, append_assoc, length-append, leng
 use Rattle.std.proofs.lemmas.List.Elements.{All-cons}
 use Rattle.std.proofs.lemmas.List.FromFn.{length-enumerate_from}
 use Rattle.std.specs.List.{enumerate_from}
-use Rattle.lookup_model.proofs.HornerRule.{map-map}
+use Rattle.lists.proofs.Images.{map-map}
 use Rattle.lookup_model.specs.declared.error.LookupError.{LookupError}
 use Rattle.lookup_record.specs.Interaction.{Tuple, GlobalInteraction, ExclusiveInteraction}
 use Rattle.lookup_model.specs.Outline.{Outline}
@@ -72,11 +72,6 @@ module _ {L E : Type 0} (seen : L → Outline E) where
       ∙ length-append (in_columns local_at 0 locals) (in_columns global_at (length locals) globals)
       ∙ (λ i. length-in_columns local_at 0 locals i + length-in_columns global_at (length locals) globals i) in
       third ∙ (λ i. both i ++ in_columns exclusive_at (length_two i) exclusives)
-
--- where nothing is left, what is there is the whole
-pub whole_list : {A B : Type 0} (f : A → B) (xs ys : List B) (rest : List A) → rest ≡ [] → xs ++ map f rest ≡ ys → xs ≡ ys
-whole_list f xs ys rest none e =
-    sym (append-nil xs) ∙ ap (λ r. xs ++ map f r) (sym none) ∙ e
 
 -- likewise of lookups
 pub all_seen : {L M E : Type 0} (seen : L → Outline E) (lookup_at : ℕ → M → Outline E) (lookups : List L) (rest : List M) (list : List (Outline E)) → rest ≡ [] → map seen lookups ++ in_columns lookup_at (length lookups) rest ≡ list → map seen lookups ≡ list

@@ -4,8 +4,10 @@ use Rattle.std.proofs.lemmas.List.{append-nil, length-map, map-append}
 use Rattle.std.proofs.lemmas.List.Elements.{filter-append}
 use Rattle.std.specs.List.{AllByRecursion, filter, filter_map, flat_map, zip}
 use Rattle.std.specs.Option.{option_map}
+use Rattle.lists.proofs.Zips.{zip-append}
+use Rattle.lists.proofs.Each.{all_front, all_back, all_both, all_kept, filter_passes}
 use Rattle.expressions.specs.declared.base_expression.SymbolicExpression.{SymbolicExpression}
-use Rattle.lookup_model.proofs.Lookups.Regrouping.{All-filter, IsSeparate, filter_passes, first_seen_separate}
+use Rattle.lookup_model.proofs.Lookups.Regrouping.{IsSeparate, first_seen_separate}
 use Rattle.lookup_model.specs.LookupDegree.{branch_degrees, constraint_degree_of, expression_degree, outline_branch_degrees, outline_degree}
 use Rattle.lookup_model.specs.Outline.{Outline}
 use Rattle.lookup.specs.Buses.{bus_names, on_bus}
@@ -18,8 +20,6 @@ use Rattle.lookup.proofs.FewestParts.{AreFull, fewest_parts}
 use Rattle.lookup.proofs.FillLaws.{joined_more, with_next}
 use Rattle.lookup_model.proofs.Names.{same_name-Decides}
 use Rattle.lookup.proofs.JoinedDegrees.{degree_hereditary}
-use Rattle.lookup.proofs.ZippedLists.{zip-append}
-use Rattle.lookup_model.proofs.Lists.{all_back, all_both, all_front}
 
 module _ {F : Type 0} where
   -- the branches of several lookups in one
@@ -110,7 +110,7 @@ module _ {E : Type 0} where
 
   pub members_on : (name : List ℕ) (os : List (Outline E)) → AllByRecursion (IsOn name) (on_bus name (additive os))
   members_on name os =
-      both (on_bus name (additive os)) (All-filter (λ o. is_additive o ≡ true) (λ o. is_named name o.bus) (additive os) (filter_passes is_additive os)) (filter_passes (λ o. is_named name o.bus) (additive os))
+      both (on_bus name (additive os)) (all_kept (λ o. is_additive o ≡ true) (λ o. is_named name o.bus) (additive os) (filter_passes is_additive os)) (filter_passes (λ o. is_named name o.bus) (additive os))
     where
       both : (xs : List (Outline E)) → AllByRecursion (λ o. is_additive o ≡ true) xs → AllByRecursion (λ o. is_named name o.bus ≡ true) xs → AllByRecursion (IsOn name) xs
       both [] p q = tt

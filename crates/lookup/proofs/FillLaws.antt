@@ -4,6 +4,8 @@ use Rattle.std.proofs.lemmas.Grind.{flat_map-append}
 use Rattle.std.proofs.lemmas.List.{append-nil, append_assoc, map-append}
 use Rattle.std.proofs.lemmas.List.Sums.{sum_by-append, sum_by-cons}
 use Rattle.std.specs.List.{AllByRecursion, flat_map, sum_by}
+use Rattle.lists.proofs.Images.{map_split}
+use Rattle.lists.proofs.Each.{all_front, all_back, all_both}
 use Rattle.lookup_model.specs.Outline.{Outline}
 use Rattle.lookup_model.specs.Weight.{weight_bound}
 use Rattle.lookup_model.specs.declared.error.LookupError.{LookupError}
@@ -11,8 +13,7 @@ use Rattle.lookup_model.specs.declared.error.LookupError.TheVariants.{CountWeigh
 use Rattle.lookup.specs.Cuts.{AreClosed, IsGrown, part_items}
 use Rattle.lookup.specs.Fillings.{AreGreedyColumns}
 use Rattle.lookup.specs.Packing.{IsAbove, IsFilling, IsStuck, Joins, joined, trial}
-use Rattle.lookup.proofs.ListLaws.{map_split, snoc_split}
-use Rattle.lookup_model.proofs.Lists.{all_back, all_both, all_front}
+use Rattle.lookup.proofs.ListLaws.{snoc_split}
 
 module _ {A : Type 0} where
   -- a part with one more member

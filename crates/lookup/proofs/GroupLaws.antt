@@ -8,6 +8,7 @@ use Rattle.std.specs.Option.{option_map_or}
 use Rattle.std.specs.declared.alloc.Global.{Global}
 use Rattle.std.specs.Borrow.{Bor}
 use Rattle.std.specs.declared.vec.Vec.{Vec}
+use Rattle.lists.proofs.Images.{images_more}
 use Rattle.expressions.specs.declared.base_expression.SymbolicExpression.{SymbolicExpression}
 use Rattle.indexmap.specs.IndexMap.{insert_entry}
 use Rattle.lookup_model.proofs.Lookups.Regrouping.{first_seen_separate}
@@ -15,7 +16,7 @@ use Rattle.lookup_model.proofs.Names.{same_name-Decides}
 use Rattle.lookup_model.specs.Net.{first_seen}
 use Rattle.lookup_model.specs.Outline.{Outline, bus_of, fields_of}
 use Rattle.lookup_rows.proofs.FirstSeen.{first_seen-push}
-use Rattle.lookup_rows.proofs.NetEntries.{any-first_seen, insert-valued, lookup-valued, mapped-more, turned}
+use Rattle.lookup_rows.proofs.NetEntries.{any-first_seen, insert-valued, lookup-valued, turned}
 use Rattle.lookup_model.specs.declared.types.Lookup.{Lookup}
 use Rattle.lookup.specs.Buses.{bus_groups, bus_names, group_of, on_bus}
 use Rattle.lookup_model.specs.Names.{is_named, same_name}
@@ -165,10 +166,10 @@ module _ {F : Type 0} where
       ap (map group_of) after_is
       ∙ one_more (λ (b : Bor (List ℕ)). b.now) (λ (v : Vec (Bor (Lookup F)) Global). map see v.items) (map fields_of (take i ls)) (fields_of l) es k group so_far on
       (seen_items see (lookup (λ j. same_name k.now j.now) es) r group items ∙ ap (λ x. option_map_or (λ v. map see v.items) (lookup (λ j. same_name k.now j.now) es) [] ++ fields_of x ∷ []) item)
-      ∙ ap bus_groups (sym (mapped-more fields_of ls i l lt is))
+      ∙ ap bus_groups (sym (images_more fields_of ls i l lt is))
 
   -- a lookup on no bus changes no group
   pub borrowed_skip : (ls : List (Lookup F)) (i : ℕ) (l : Lookup F) (es : List (Bor (List ℕ) × Vec (Bor (Lookup F)) Global)) → i < length ls → l ≡ get_or ls i l
       → map group_of es ≡ bus_groups (map fields_of (take i ls)) → bus_of l.kind ≡ None → map group_of es ≡ bus_groups (map fields_of (take (i + 1) ls))
   borrowed_skip ls i l es lt is so_far off =
-      so_far ∙ sym (groups-skip (map fields_of (take i ls)) (fields_of l) off) ∙ ap bus_groups (sym (mapped-more fields_of ls i l lt is))
+      so_far ∙ sym (groups-skip (map fields_of (take i ls)) (fields_of l) off) ∙ ap bus_groups (sym (images_more fields_of ls i l lt is))

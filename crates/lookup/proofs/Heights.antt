@@ -6,6 +6,7 @@ use Rattle.std.proofs.lemmas.List.FromFn.{length-map-range_with_len}
 use Rattle.std.proofs.lemmas.List.Sums.{sum_by-append, sum_by-cons}
 use Rattle.std.proofs.lemmas.Nat.Gcd.{le_of_dvd}
 use Rattle.std.specs.List.{AllByRecursion, AllZip, filter, flat_map, range_with_len, sum_by, zip}
+use Rattle.lists.proofs.Zips.{AllZip-append}
 use Rattle.field.specs.Characteristic.{HasCharacteristic}
 use Rattle.field.specs.Distinct.{IsAmong}
 use Rattle.field.specs.Ring.{Ring, IsCommutativeRing, of_int, of_nat}
@@ -113,12 +114,6 @@ module _ {F : Type 0} {R : Ring F} (laws : IsCommutativeRing R) (eq : F → F �
     | inr absent ↦ absurd (ne (small_zero laws p char (query_sum eq key (zip ms ps)) (omega (arith, query_sum-small ms ps, light)) (sym (net_is ms ps each absent) ∙ balanced key)))
   ]
 
-AllZip-both : {A B : Type 0} (P : A → B → Type 0) (xs : List A) (ys : List B) (us : List A) (vs : List B) → AllZip P xs ys → AllZip P us vs → AllZip P (xs ++ us) (ys ++ vs)
-AllZip-both P [] [] us vs first second = second
-AllZip-both P [] (y ∷ ys) us vs first second = absurd first
-AllZip-both P (x ∷ xs) [] us vs first second = absurd first
-AllZip-both P (x ∷ xs) (y ∷ ys) us vs first second = (first.0, AllZip-both P xs ys us vs first.1 second)
-
 module _ {F : Type 0} (R : Ring F) where
   -- roles of some messages, no greater than a bound
   pub record AreBounded (ms : List (Message F)) (ps : List Role) (bound : ℕ) : Type 0 where
@@ -127,7 +122,7 @@ module _ {F : Type 0} (R : Ring F) where
 
   bounded_both : (ms ns : List (Message F)) (ps qs : List Role) (a b c : ℕ) → AreBounded ms ps a → AreBounded ns qs b → a + b ≤ c → AreBounded (ms ++ ns) (ps ++ qs) c
   bounded_both ms ns ps qs a b c first second le = record {
-    divided = AllZip-both (HasRole R) ms ps ns qs first.divided second.divided;
+    divided = AllZip-append (HasRole R) ms ps ns qs first.divided second.divided;
     within = omega (arith, sum_by-append size_of ps qs, first.within, second.within, le);
   }
 

@@ -5,6 +5,8 @@ use Rattle.std.proofs.lemmas.Grind.{flat_map-append}
 use Rattle.std.proofs.lemmas.List.{map-append}
 use Rattle.std.specs.List.{AllByRecursion, flat_map, zip}
 use Rattle.std.specs.Option.{is_some, option_map, option_map_or}
+use Rattle.lists.proofs.Zips.{zip-append, zip_mapped}
+use Rattle.lists.proofs.Each.{all_front, all_back}
 use Rattle.field.specs.Ring.{Ring}
 use Rattle.expressions.specs.Window.{Window}
 use Rattle.expressions.specs.declared.base_expression.SymbolicExpression.{SymbolicExpression}
@@ -20,8 +22,6 @@ use Rattle.lookup.specs.Packing.{AreFilled, additive, is_additive, joined}
 use Rattle.lookup.proofs.FewestColumns.{IsOn, members_on}
 use Rattle.lookup.specs.TrialDegrees.{IsPlain}
 use Rattle.lookup_model.proofs.Names.{same_name-Decides}
-use Rattle.lookup.proofs.ZippedLists.{zip-append, zip_mapped}
-use Rattle.lookup_model.proofs.Lists.{all_back, all_front}
 
 -- a map of a mapped option
 pub option_mapped : {A B C : Type 0} (f : A → B) (g : B → C) (o : Option A) → option_map (λ x. g (f x)) o ≡ option_map g (option_map f o)

@@ -6,6 +6,7 @@ use Rattle.std.specs.Option.{is_some, option_map}
 use Rattle.std.specs.declared.alloc.Global.{Global}
 use Rattle.std.specs.declared.vec.Vec.{Vec}
 use Rattle.std.proofs.lemmas.Simd.{map-map}
+use Rattle.lists.proofs.Each.{all_of_map, all_kept}
 use Rattle.field.specs.Ring.{Ring}
 use Rattle.field.specs.laws.Distinct.{all_map}
 use Rattle.expressions.specs.Window.{Window}
@@ -18,8 +19,6 @@ use Rattle.lookup_model.specs.Sent.{branches_at, sent, values}
 use Rattle.lookup_model.specs.Trace.{sent_row_under}
 use Rattle.lookup_model.specs.declared.error.LookupError.{LookupError}
 use Rattle.lookup_model.specs.declared.types.Lookup.{Lookup}
-use Rattle.lookup_model.proofs.Lists.{all_of_map}
-use Rattle.lookup_model.proofs.Lookups.Regrouping.{All-filter}
 use Rattle.lookup.specs.Kept.{KeepsLawfulFlags, KeepsOtherBuses, other_buses}
 use Rattle.lookup.specs.Packing.{IsPacking, is_additive, passing}
 use Rattle.lookup.proofs.KeptLaws.{filter_seen, passing_after, unnumbered}
@@ -73,7 +72,7 @@ module _ {F : Type 0} (answers : Outline (SymbolicExpression F) → Result ℕ L
   kept_flags R eq id_before id_after w lawful =
       let Lawful = HasLawful R eq w in
       let os = map fields_of before in
-      let those_before : AllByRecursion Lawful (passing os) = All-filter Lawful (λ o. not (is_additive o)) os (lawful_fields R eq w id_before before lawful) in
+      let those_before : AllByRecursion Lawful (passing os) = all_kept Lawful (λ o. not (is_additive o)) os (lawful_fields R eq w id_before before lawful) in
       let those_after : AllByRecursion Lawful (map unnumbered (passing (map fields_of after))) =
       subst (λ (t : List (Outline (SymbolicExpression F))). AllByRecursion Lawful t) (sym (passing_after answers most os (map fields_of after) packing))
       (all_map unnumbered Lawful Lawful (λ o h. h) (passing os) those_before) in

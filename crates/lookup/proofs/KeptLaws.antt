@@ -8,12 +8,15 @@ use Rattle.std.proofs.lemmas.List.Sums.{sum_by-append, sum_by-cons}
 use Rattle.std.specs.List.{AllByRecursion, filter, filter_map, flat_map, range_with_len, sum_by, zip}
 use Rattle.std.specs.List.Sorted.{IsPermutation}
 use Rattle.std.specs.Option.{is_some, option_map_or}
+use Rattle.lists.proofs.Parts.{singles}
+use Rattle.lists.proofs.Images.{filter_all, filter_again, sum_by-mapped}
+use Rattle.lists.proofs.Each.{all_back, all_both, filter_passes}
 use Rattle.field.specs.Ring.{IsCommutativeRing, Ring}
 use Rattle.matrix.specs.Matrix.{height}
 use Rattle.expressions.specs.Window.{Window}
 use Rattle.air.specs.Traces.{AirTraces, window_of}
 use Rattle.expressions.specs.declared.base_expression.SymbolicExpression.{SymbolicExpression}
-use Rattle.lookup_model.proofs.Lookups.Regrouping.{filter_passes, first_seen_separate}
+use Rattle.lookup_model.proofs.Lookups.Regrouping.{first_seen_separate}
 use Rattle.lookup_model.specs.Message.{Key, Message, same_key}
 use Rattle.lookup_model.specs.Net.{net}
 use Rattle.lookup_model.specs.Outline.{Outline, bus_of, fields_of}
@@ -33,24 +36,11 @@ use Rattle.lookup.proofs.JoinedMessages.{columns_messages, messages_of, own_mess
 use Rattle.lookup.proofs.Rearranged.{among_names, grouped, parted}
 use Rattle.lookup.proofs.RearrangedSums.{sum_in-passing, sum_in-permutation}
 use Rattle.lookup.proofs.StepLaws.{no_flags_of, plain_on}
-use Rattle.lookup_model.proofs.Lists.{all_back, all_both}
 
 module _ {A : Type 0} (p : A → Bool) where
-  -- all items pass, or none does
-  filter_all : (xs : List A) → AllByRecursion (λ x. p x ≡ true) xs → filter p xs ≡ xs
-  filter_all [] all = refl
-  filter_all (x ∷ xs) all = ap (λ b. cond b (x ∷ filter p xs) (filter p xs)) all.0 ∙ ap (λ t. x ∷ t) (filter_all xs all.1)
-
-  filter_none : (xs : List A) → AllByRecursion (λ x. p x ≡ false) xs → filter p xs ≡ []
-  filter_none [] all = refl
-  filter_none (x ∷ xs) all = ap (λ b. cond b (x ∷ filter p xs) (filter p xs)) all.0 ∙ filter_none xs all.1
-
   others_none : (xs : List A) → AllByRecursion (λ x. p x ≡ true) xs → filter (λ x. not (p x)) xs ≡ []
   others_none [] all = refl
   others_none (x ∷ xs) all = ap (λ b. cond (not b) (x ∷ filter (λ y. not (p y)) xs) (filter (λ y. not (p y)) xs)) all.0 ∙ others_none xs all.1
-
-  filter_again : (xs : List A) → filter p (filter p xs) ≡ filter p xs
-  filter_again xs = filter_all (filter p xs) (filter_passes p xs)
 
 -- what is seen of the items that pass a test of what is seen
 pub filter_seen : {A B : Type 0} (see : A → B) (p : B → Bool) (xs : List A) → map see (filter (λ x. p (see x)) xs) ≡ filter p (map see xs)
@@ -118,15 +108,6 @@ module _ {E : Type 0} where
       passing_after =
           tested (λ o. not (is_additive o)) (λ o. refl)
           ∙ ap (map unnumbered) ((λ i. filter_again (λ o. not (is_additive o)) before i ++ others_none is_additive columns all_additive i) ∙ append-nil (passing before))
-
--- weights
-sum_by-mapped : {A B : Type 0} (f : B → ℕ) (g : A → B) (xs : List A) → sum_by f (map g xs) ≡ sum_by (λ x. f (g x)) xs
-sum_by-mapped f g [] = refl
-sum_by-mapped f g (x ∷ xs) = sum_by-cons f (g x) (map g xs) ∙ ap (λ n. f (g x) + n) (sum_by-mapped f g xs) ∙ sym (sum_by-cons (λ y. f (g y)) x xs)
-
-singles : {A : Type 0} (xs : List A) → flat_map (λ x. x ∷ []) xs ≡ xs
-singles [] = refl
-singles (x ∷ xs) = ap (λ t. x ∷ t) (singles xs)
 
 module _ {E : Type 0} where
   abbrev weight : List (Outline E) → ℕ

@@ -7,8 +7,9 @@ use Rattle.std.proofs.lemmas.Grind.{flat_map-append}
 use Rattle.std.proofs.lemmas.List.Sorted.{IsPermutation-append_comm, IsPermutation-append_left, IsPermutation-trans}
 use Rattle.std.specs.List.{filter_map, flat_map}
 use Rattle.std.specs.List.Sorted.{IsPermutation}
+use Rattle.lists.proofs.Each.{filter_passes}
 use Rattle.expressions.specs.declared.base_expression.SymbolicExpression.{SymbolicExpression}
-use Rattle.lookup_model.proofs.Lookups.Regrouping.{filter_passes, first_seen_separate}
+use Rattle.lookup_model.proofs.Lookups.Regrouping.{first_seen_separate}
 use Rattle.lookup_model.specs.Outline.{Outline, fields_of}
 use Rattle.lookup_model.specs.Names.{same_name}
 use Rattle.lookup_model.specs.declared.error.LookupError.{LookupError}

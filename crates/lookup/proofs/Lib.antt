@@ -31,4 +31,3 @@ pub mod TerminalSums
 mod TrialLaws
 mod WidthLaws
 pub mod Within
-pub mod ZippedLists

@@ -4,26 +4,6 @@ use Rattle.std.proofs.lemmas.Grind.{flat_map-append}
 use Rattle.std.proofs.lemmas.List.{append-nil, append_assoc, map-append}
 use Rattle.std.specs.List.{AllZip, filter, flat_map}
 
-module _ {A B : Type 0} where
-  -- a mapped list that is in two parts is that of a list in two parts
-  pub map_split : (f : A → B) (xs : List A) (front : List B) (b : B) (back : List B) → map f xs ≡ front ++ b ∷ back
-      → (us : List A) × (a : A) × (vs : List A) × (xs ≡ us ++ a ∷ vs) × (map f us ≡ front) × (f a ≡ b) × (map f vs ≡ back)
-  map_split f [] [] b back e = absurd (cc e)
-  map_split f [] (c ∷ cs) b back e = absurd (cc e)
-  map_split f (x ∷ xs) [] b back e = ([], x, xs, refl, refl, cc e, cc e)
-  map_split f (x ∷ xs) (c ∷ cs) b back e =
-      let tail : map f xs ≡ cs ++ b ∷ back = cc e in
-      let head : f x ≡ c = cc e in
-      let (us, a, vs, xs_are, front_is, a_is, back_is) = map_split f xs cs b back tail in
-      (x ∷ us, a, vs, ap (λ t. x ∷ t) xs_are, (λ i. head i ∷ front_is i), a_is, back_is)
-
-  -- items that a list of mapped ones is zipped with
-  pub AllZip-map : {C : Type 0} (R : B → C → Type 0) (f : A → B) (xs : List A) (cs : List C) → AllZip R (map f xs) cs → AllZip (λ x c. R (f x) c) xs cs
-  AllZip-map R f [] [] h = tt
-  AllZip-map R f [] (c ∷ cs) h = absurd h
-  AllZip-map R f (x ∷ xs) [] h = absurd h
-  AllZip-map R f (x ∷ xs) (c ∷ cs) h = (h.0, AllZip-map R f xs cs h.1)
-
 module _ {A : Type 0} where
   -- an item of a list with one more at the end is that one, or stands before it
   pub snoc_split : (xs front back : List A) (x y : A) → xs ++ x ∷ [] ≡ front ++ y ∷ back → ((xs ≡ front) × (x ≡ y)) ⊎ ((rest : List A) × (xs ≡ front ++ y ∷ rest))
@@ -52,10 +32,6 @@ module _ {A B : Type 0} (f : A → B) where
   pub seen_more : (seen all : List B) (left later : List A) (x : A) → left ≡ x ∷ later → seen ++ map f left ≡ all → (seen ++ f x ∷ []) ++ map f later ≡ all
   seen_more seen all left later x next e = append_assoc seen (f x ∷ []) (map f later) ∙ ap (λ t. seen ++ map f t) (sym next) ∙ e
 
-  -- nothing is left
-  pub all_seen : (seen all : List B) (left : List A) → left ≡ [] → seen ++ map f left ≡ all → seen ≡ all
-  all_seen seen all left none e = sym (append-nil seen) ∙ ap (λ t. seen ++ map f t) (sym none) ∙ e
-
   module _ (p : B → Bool) where
     -- one more item is kept, or left out
     pub kept_more : (done all : List B) (left later : List A) (x : A) → left ≡ x ∷ later → p (f x) ≡ true → done ++ filter p (map f left) ≡ all → (done ++ f x ∷ []) ++ filter p (map f later) ≡ all
@@ -81,15 +57,3 @@ columns_behind see make before columns made after cuts cut is so_far here =
     ap (map see) is ∙ map-append see columns made ∙ (λ i. so_far i ++ here i)
     ∙ append_assoc before (flat_map (λ c. map make c) cuts) (map make cut)
     ∙ ap (λ t. before ++ t) (ap (λ t. flat_map (λ c. map make c) cuts ++ t) (sym (append-nil (map make cut))) ∙ sym (flat_map-append (λ c. map make c) cuts (cut ∷ [])))
-
-module _ {A B : Type 0} (R : A → B → Type 0) where
-  -- the first pair of two lists that are zipped
-  pub zip_next : (xs : List A) (y : B) (ys : List B) → AllZip R xs (y ∷ ys) → (x : A) × (later : List A) × (xs ≡ x ∷ later) × R x y × AllZip R later ys
-  zip_next [] y ys h = absurd h
-  zip_next (x ∷ xs) y ys h = (x, xs, refl, h.0, h.1)
-
-  -- there is none
-  pub zip_none : (xs : List A) (ys : List B) → ys ≡ [] → AllZip R xs ys → xs ≡ []
-  zip_none [] ys none h = refl
-  zip_none (x ∷ xs) [] none h = absurd h
-  zip_none (x ∷ xs) (y ∷ ys) none h = absurd (cc none)

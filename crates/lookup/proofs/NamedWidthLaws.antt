@@ -8,6 +8,7 @@ use Rattle.std.specs.List.{AllByRecursion, flat_map}
 use Rattle.std.specs.Option.{option_map}
 use Rattle.std.specs.Ordering.{ord_max}
 use Rattle.std.specs.Map.{lookup}
+use Rattle.lists.proofs.Parts.{parts_next}
 use Rattle.indexmap.specs.IndexMap.{insert_entry}
 use Rattle.lookup_model.specs.LookupDegree.{greatest}
 use Rattle.lookup_model.specs.declared.error.LookupError.{LookupError}
@@ -184,18 +185,6 @@ module _ (widths : List NamedWidth) (i : ℕ) (d : NamedWidth) (lt : i < length 
     widest_mismatch e agree other refusal = mismatch_here (seen_widths widths) i named.name.now named.width v e there agree value_is other refusal
 
 module _ {X Y : Type 0} where
-  -- images of one more item
-  pub images_more : (f : X → Y) (xs : List X) (i : ℕ) (x : X) (old before after : List Y) → i < length xs → x ≡ get_or xs i x → before ≡ old ++ map f (take i xs) → after ≡ before ++ f x ∷ [] → after ≡ old ++ map f (take (i + 1) xs)
-  images_more f xs i x old before after lt is so_far added =
-      added ∙ ap (λ t. t ++ f x ∷ []) so_far ∙ append_assoc old (map f (take i xs)) (f x ∷ [])
-      ∙ ap (λ t. old ++ t) (sym (ap (map f) (take_more xs i x lt ∙ ap (λ y. take i xs ++ y ∷ []) (sym is)) ∙ map-append f (take i xs) (x ∷ [])))
-
-  -- parts of one more item
-  pub parts_next : (f : X → List Y) (done more : List X) (x : X) (old before after : List Y) → more ≡ done ++ x ∷ [] → before ≡ old ++ flat_map f done → after ≡ before ++ f x → after ≡ old ++ flat_map f more
-  parts_next f done more x old before after next so_far added =
-      added ∙ ap (λ t. t ++ f x) so_far ∙ append_assoc old (flat_map f done) (f x)
-      ∙ ap (λ t. old ++ t) (sym (ap (flat_map f) next ∙ flat_map-append f done (x ∷ []) ∙ ap (λ t. flat_map f done ++ t) (append-nil (f x))))
-
   pub parts_more : (f : X → List Y) (xs : List X) (i : ℕ) (x : X) (old before after : List Y) → i < length xs → x ≡ get_or xs i x → before ≡ old ++ flat_map f (take i xs) → after ≡ before ++ f x → after ≡ old ++ flat_map f (take (i + 1) xs)
   parts_more f xs i x old before after lt is =
       parts_next f (take i xs) (take (i + 1) xs) x old before after (take_more xs i x lt ∙ ap (λ y. take i xs ++ y ∷ []) (sym is))

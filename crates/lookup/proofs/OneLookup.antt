@@ -3,6 +3,7 @@ use Rattle.std.proofs.Common.{◌≡◌, ◌+◌, ◌≤◌, inl, inr, ℕ, zero
 use Rattle.std.proofs.lemmas.List.{append-nil, length-append}
 use Rattle.std.proofs.lemmas.Grind.{flat_map-append}
 use Rattle.std.specs.List.{AllByRecursion, cons_option, filter, flat_map}
+use Rattle.lists.proofs.Each.{all_there}
 use Rattle.lookup_model.specs.Net.{first_seen}
 use Rattle.lookup_model.specs.Outline.{Outline}
 use Rattle.lookup_model.specs.declared.error.LookupError.{LookupError}
@@ -19,12 +20,6 @@ use Rattle.lookup.proofs.JoinedMessages.{on_some_bus}
 none_behind : {A : Type 0} (xs : List A) (y : A) (ys : List A) → xs ++ y ∷ ys ≡ [] → ⊥
 none_behind [] y ys e = cc e
 none_behind (x ∷ xs) y ys e = cc e
-
--- the item at an index has what all items have
-at_index_of : {A : Type 0} (P : A → Type 0) (xs : List A) (i : ℕ) (x : A) → AllByRecursion P xs → slice_get xs i ≡ Some x → P x
-at_index_of P [] i x all e = absurd (cc e)
-at_index_of P (y ∷ ys) zero x all e = let is : y ≡ x = cc e in subst P is all.0
-at_index_of P (y ∷ ys) (suc i) x all e = at_index_of P ys i x all.1 e
 
 module _ {E : Type 0} (o : Outline E) where
   -- a cut of one lookup makes that lookup
@@ -87,8 +82,8 @@ module _ {E : Type 0} (o : Outline E) where
   one_width width even e refusal =
       let all = on_this refusal.item in
       let differ = refusal.fault.differ in
-      let first = at_index_of (λ n. n ≡ width) (flat_map widths_of (on_bus refusal.item (o ∷ []))) 0 refusal.fault.width all differ.first in
-      let second = at_index_of (λ n. n ≡ width) (flat_map widths_of (on_bus refusal.item (o ∷ []))) differ.index refusal.fault.other all differ.found in
+      let first = all_there (λ n. n ≡ width) (flat_map widths_of (on_bus refusal.item (o ∷ []))) 0 refusal.fault.width all differ.first in
+      let second = all_there (λ n. n ≡ width) (flat_map widths_of (on_bus refusal.item (o ∷ []))) differ.index refusal.fault.other all differ.found in
       differ.differs (second ∙ sym first)
     where
       on_this : (name : List ℕ) → AllByRecursion (λ n. n ≡ width) (flat_map widths_of (on_bus name (o ∷ [])))

@@ -5,15 +5,15 @@ use Rattle.std.specs.Borrow.{Bor}
 use Rattle.std.specs.List.{AllZip, flat_map}
 use Rattle.std.specs.declared.alloc.Global.{Global}
 use Rattle.std.specs.declared.vec.Vec.{Vec}
+use Rattle.lists.proofs.Zips.{AllZip-map_left}
+use Rattle.lists.proofs.Images.{map-map, map_split}
 use Rattle.expressions.specs.Faults.{SplitsAtFault}
 use Rattle.expressions.specs.declared.base_expression.SymbolicExpression.{SymbolicExpression}
-use Rattle.lookup_model.proofs.HornerRule.{map-map}
 use Rattle.lookup_model.specs.Outline.{Outline, fields_of}
 use Rattle.lookup_model.specs.declared.error.LookupError.{LookupError}
 use Rattle.lookup_model.specs.declared.types.Lookup.{Lookup}
 use Rattle.lookup.specs.Buses.{bus_groups, bus_names, group_of, on_bus}
 use Rattle.lookup.specs.Packing.{IsFillRefusal, IsFilling, IsPacking, IsStuck, additive, joined, numbered, passing}
-use Rattle.lookup.proofs.ListLaws.{AllZip-map, map_split}
 
 -- an item at its index
 pub at_index : {A : Type 0} (xs : List A) (i : ℕ) (x : A) → slice_get xs i ≡ Some x → (later : List A) × (xs ≡ take i xs ++ x ∷ later) × (take (i + 1) xs ≡ take i xs ++ x ∷ [])
@@ -67,7 +67,7 @@ module _ {E : Type 0} (answers : Outline E → Result ℕ LookupError → Type 0
         item = name;
         after = later;
         split = names;
-        good = (stuck.good.0, AllZip-map (λ bus cut. IsFilling answers most cut bus) (λ n. on_bus n (additive before)) earlier stuck.good.0 (subst (λ (t : List (List (Outline E))). AllZip (λ bus cut. IsFilling answers most cut bus) t stuck.good.0) (sym earlier_is) stuck.good.1));
+        good = (stuck.good.0, AllZip-map_left (λ bus cut. IsFilling answers most cut bus) (λ n. on_bus n (additive before)) earlier stuck.good.0 (subst (λ (t : List (List (Outline E))). AllZip (λ bus cut. IsFilling answers most cut bus) t stuck.good.0) (sym earlier_is) stuck.good.1));
         fault = subst (λ (t : List (Outline E)). IsStuck answers most t e) (sym name_is) stuck.fault;
       }
 
@@ -75,6 +75,6 @@ module _ {E : Type 0} (answers : Outline E → Result ℕ LookupError → Type 0
   pub all_packed : (buses : List (List (Outline E))) (front columns after : List (Outline E)) → buses ≡ map (λ name. on_bus name (additive before)) (bus_names (additive before)) → front ≡ passing before → AreColumnsAdded answers most buses front columns → after ≡ numbered columns → IsPacking answers most before after
   all_packed buses front columns after are front_is added after_is = record {
     cuts = added.0;
-    filled = AllZip-map (λ bus cut. IsFilling answers most cut bus) (λ n. on_bus n (additive before)) (bus_names (additive before)) added.0 (subst (λ (t : List (List (Outline E))). AllZip (λ bus cut. IsFilling answers most cut bus) t added.0) are added.1);
+    filled = AllZip-map_left (λ bus cut. IsFilling answers most cut bus) (λ n. on_bus n (additive before)) (bus_names (additive before)) added.0 (subst (λ (t : List (List (Outline E))). AllZip (λ bus cut. IsFilling answers most cut bus) t added.0) are added.1);
     columns = after_is ∙ ap numbered (added.2 ∙ ap (λ t. t ++ flat_map (λ cut. map joined cut) added.0) front_is);
   }

@@ -2,10 +2,9 @@
 use Rattle.std.proofs.Common.{◌+◌, ℕ, not, List, [], ◌∷◌, ◌++◌, Result, map, All, sym, subst}
 use Rattle.std.proofs.lemmas.List.Elements.{All-append, All-from_recursion, All-map, All-nil, All-weaker, recursion_from_All}
 use Rattle.std.specs.List.{AllByRecursion, flat_map}
+use Rattle.lists.proofs.Each.{all_kept, All-of_map}
 use Rattle.expressions.specs.declared.base_expression.SymbolicExpression.{SymbolicExpression}
 use Rattle.expressions.specs.declared.layout.AirLayout.{AirLayout}
-use Rattle.lookup_record.proofs.Elements.{all_of_map}
-use Rattle.lookup_model.proofs.Lookups.Regrouping.{All-filter}
 use Rattle.lookup_model.specs.Outline.{Outline, fields_of}
 use Rattle.lookup_model.specs.Records.{AreRecords, IsWithin, LookupsFit}
 use Rattle.lookup_model.specs.declared.error.LookupError.{LookupError}
@@ -59,7 +58,7 @@ module _ {F : Type 0} (layout : AirLayout) where
     columns_inside os all [] (c ∷ cs) filled = absurd filled
     columns_inside os all (n ∷ ns) [] filled = absurd filled
     columns_inside os all (n ∷ ns) (c ∷ cs) filled =
-        let members = subst (λ (t : List (Outline (SymbolicExpression F))). AllByRecursion Inside t) (sym filled.0.0) (All-filter Inside (λ o. is_named n o.bus) os all) in
+        let members = subst (λ (t : List (Outline (SymbolicExpression F))). AllByRecursion Inside t) (sym filled.0.0) (all_kept Inside (λ o. is_named n o.bus) os all) in
         both_inside (map joined c) (flat_map (λ cut. map joined cut) cs) (cut_inside c members) (columns_inside os all ns cs filled.1)
 
     packed_inside : (before after : List (Outline (SymbolicExpression F))) → IsPacking answers most before after → AllByRecursion Inside before → AllByRecursion Inside after
@@ -67,8 +66,8 @@ module _ {F : Type 0} (layout : AirLayout) where
         let columns = flat_map (λ cut. map joined cut) packing.cuts in
         subst (λ (t : List (Outline (SymbolicExpression F))). AllByRecursion Inside t) (sym packing.columns)
         (numbered_inside 0 (passing before ++ columns)
-        (both_inside (passing before) columns (All-filter Inside (λ o. not (is_additive o)) before all)
-        (columns_inside (additive before) (All-filter Inside is_additive before all) (bus_names (additive before)) packing.cuts packing.filled)))
+        (both_inside (passing before) columns (all_kept Inside (λ o. not (is_additive o)) before all)
+        (columns_inside (additive before) (all_kept Inside is_additive before all) (bus_names (additive before)) packing.cuts packing.filled)))
 
     -- a packing of lookups that fit fits
     pub packed_fit : (before after : List (Lookup F)) → IsPacking answers most (map fields_of before) (map fields_of after) → AreRecords after → LookupsFit layout before → LookupsFit layout after
@@ -77,5 +76,5 @@ module _ {F : Type 0} (layout : AirLayout) where
       within =
           let outlines = All-map Inside fields_of before (All-weaker (IsWithin layout) (λ l. Inside (fields_of l)) (inside_of layout) before fit.within) in
           let packed = packed_inside (map fields_of before) (map fields_of after) packing (recursion_from_All Inside (map fields_of before) outlines) in
-          All-weaker (λ l. Inside (fields_of l)) (IsWithin layout) (lookup_inside layout) after (all_of_map Inside fields_of after (All-from_recursion Inside (map fields_of after) packed));
+          All-weaker (λ l. Inside (fields_of l)) (IsWithin layout) (lookup_inside layout) after (All-of_map Inside fields_of after (All-from_recursion Inside (map fields_of after) packed));
     }

@@ -7,8 +7,8 @@ use Rattle.std.specs.List.{AllByRecursion, flat_map}
 use Rattle.std.specs.declared.alloc.Global.{Global}
 use Rattle.std.specs.declared.vec.Vec.{Vec}
 use Rattle.std.specs.Option.{is_some, option_map}
+use Rattle.lists.proofs.Each.{all_kept}
 use Rattle.expressions.specs.declared.base_expression.SymbolicExpression.{SymbolicExpression}
-use Rattle.lookup_model.proofs.Lookups.Regrouping.{All-filter}
 use Rattle.lookup_model.specs.Outline.{Outline, bus_of, fields_of}
 use Rattle.lookup_model.specs.Records.{HasEqualLengths}
 use Rattle.lookup_model.specs.declared.error.LookupError.{LookupError}
@@ -161,7 +161,7 @@ plain_of l member = record {
 
 -- of well formed lookups those that may be joined are plain, on each bus
 pub plain_on : {F : Type 0} (ls : List (Lookup F)) (name : List ℕ) → All HasEqualLengths ls → AllByRecursion IsPlain (on_bus name (additive (map fields_of ls)))
-plain_on {F} ls name lengths = All-filter IsPlain (λ o. is_named name o.bus) (additive (map fields_of ls)) (plain ls (recursion_from_All HasEqualLengths ls lengths))
+plain_on {F} ls name lengths = all_kept IsPlain (λ o. is_named name o.bus) (additive (map fields_of ls)) (plain ls (recursion_from_All HasEqualLengths ls lengths))
   where
     plain : (xs : List (Lookup F)) → AllByRecursion HasEqualLengths xs → AllByRecursion IsPlain (additive (map fields_of xs))
     plain [] h = tt

@@ -5,7 +5,9 @@ use Rattle.std.proofs.lemmas.Bool.Decides.{Decides-eqb}
 use Rattle.std.proofs.lemmas.List.{append-nil, append_assoc}
 use Rattle.std.proofs.lemmas.Option.{slice_get-get_or, slice_get-map}
 use Rattle.std.specs.List.{AllByRecursion, filter, flat_map}
-use Rattle.lookup_model.proofs.Lists.{all_back, all_both, all_front}
+use Rattle.std.proofs.lemmas.List.Folds.{flat_map-map}
+use Rattle.lists.proofs.Images.{find-append, find-first}
+use Rattle.lists.proofs.Each.{all_front, all_back, all_both}
 use Rattle.lookup_model.specs.Names.{is_named}
 use Rattle.lookup_model.specs.Outline.{Outline}
 use Rattle.lookup.specs.Buses.{bus_names}
@@ -15,24 +17,6 @@ use Rattle.lookup.specs.TupleWidths.{HasOtherWidth}
 -- the test of a width that is not this one
 abbrev pub is_other : ℕ → ℕ → Bool
 is_other width w = not (nat_eq w width)
-
-module _ {A : Type 0} (p : A → Bool) where
-  -- what is found in two lists
-  pub find-append : (xs ys : List A) → find p xs ≡ None → find p (xs ++ ys) ≡ find p ys
-  find-append [] ys e = refl
-  find-append (x ∷ xs) ys e = by_test (p x) e (find-append xs ys)
-    where
-      by_test : (b : Bool) → cond b (Some x) (find p xs) ≡ None → (find p xs ≡ None → find p (xs ++ ys) ≡ find p ys) → cond b (Some x) (find p (xs ++ ys)) ≡ find p ys
-      by_test true h rest = absurd (cc h)
-      by_test false h rest = rest h
-
-  pub find-first : (xs ys : List A) (y : A) → find p xs ≡ Some y → find p (xs ++ ys) ≡ Some y
-  find-first [] ys y e = absurd (cc e)
-  find-first (x ∷ xs) ys y e = by_test (p x) e (find-first xs ys y)
-    where
-      by_test : (b : Bool) → cond b (Some x) (find p xs) ≡ Some y → (find p xs ≡ Some y → find p (xs ++ ys) ≡ Some y) → cond b (Some x) (find p (xs ++ ys)) ≡ Some y
-      by_test true h rest = h
-      by_test false h rest = rest h
 
 not_other : (width w : ℕ) → is_other width w ≡ false → w ≡ width
 not_other width w e = by_test (nat_eq w width) refl
@@ -140,10 +124,6 @@ cut_at g (y ∷ ys) (suc i) x lt is =
       ap (λ t. g y ++ t) whole ∙ sym (append_assoc (g y) (flat_map g (take i ys)) (g x ++ rest)),
       ap (λ n. flat_map g (take n (y ∷ ys))) more ∙ ap (λ t. g y ++ t) next ∙ sym (append_assoc (g y) (flat_map g (take i ys)) (g x)),
     )
-
-flat_map-map : {A B C : Type 0} (g : B → List C) (f : A → B) (xs : List A) → flat_map g (map f xs) ≡ flat_map (λ x. g (f x)) xs
-flat_map-map g f [] = refl
-flat_map-map g f (x ∷ xs) = ap (λ t. g (f x) ++ t) (flat_map-map g f xs)
 
 module _ {A B C : Type 0} (g : B → List C) (f : A → B) (xs : List A) (i : ℕ) (x : A) (lt : i < length xs) (is : x ≡ get_or xs i x) where
   -- nothing is found in the images below an index, and something in that of the item there

@@ -1,6 +1,7 @@
 -- Lookups that are extracted from interactions within a layout.
 use Rattle.std.proofs.Common.{◌≡◌, ℕ, ◌+◌, List, [], ◌∷◌, ◌++◌, map, length, Option, None, Some, IfSome, option_map, All, subst, sym}
 use Rattle.std.proofs.lemmas.List.Elements.{All-append, All-cons, All-head, All-map, All-nil, All-tail, All-weaker}
+use Rattle.lists.proofs.Each.{All-of_map}
 use Rattle.expressions.specs.Layout.{Fits}
 use Rattle.expressions.specs.Tree.{tree_of}
 use Rattle.expressions.specs.declared.base_expression.SymbolicExpression.{SymbolicExpression}
@@ -8,7 +9,6 @@ use Rattle.expressions.specs.declared.layout.AirLayout.{AirLayout}
 use Rattle.lookup_model.specs.Outline.{Outline, fields_of}
 use Rattle.lookup_model.specs.Records.{AllFit, AreRecords, IsWithin, LookupsFit}
 use Rattle.lookup_model.specs.declared.types.Lookup.{Lookup}
-use Rattle.lookup_record.proofs.Elements.{all_of_map}
 use Rattle.lookup_record.specs.Interaction.{Tuple, GlobalInteraction, ExclusiveInteraction}
 use Rattle.lookup_record.specs.Within.{BranchWithin, GlobalWithin, TupleWithin}
 use Rattle.lookup.specs.Extraction.{exclusive_at, extraction, global_at, in_columns, local_at}
@@ -73,7 +73,7 @@ module _ {F : Type 0} (layout : AirLayout) where
   pub lookup_inside : (lookup : Lookup F) → IsOutlineInside (fields_of lookup) → IsWithin layout lookup
   unfolding AllFit IsWithin
   lookup_inside lookup o = (
-    all_of_map (λ tuple. All IsInside tuple) (λ tuple. tuple.items) lookup.elements.items o.elements,
+    All-of_map (λ tuple. All IsInside tuple) (λ tuple. tuple.items) lookup.elements.items o.elements,
     o.multiplicities,
     of_option (λ flags. All IsInside flags) (λ flags. flags.items) lookup.flags o.flags,
   )
@@ -91,7 +91,7 @@ module _ {F : Type 0} (layout : AirLayout) where
   extracted_fit lookups locals globals exclusives records same l g e = record {
     records = records;
     within = All-weaker (λ lookup. IsOutlineInside (fields_of lookup)) (IsWithin layout) lookup_inside lookups
-        (all_of_map IsOutlineInside fields_of lookups (subst (All IsOutlineInside) (sym same) outlines));
+        (All-of_map IsOutlineInside fields_of lookups (subst (All IsOutlineInside) (sym same) outlines));
   }
     where
       outlines : All IsOutlineInside (extraction locals globals exclusives)

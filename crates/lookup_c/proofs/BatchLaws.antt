@@ -1,5 +1,6 @@
 -- The batch that tables say, as calls read it.
 use Rattle.std.proofs.Common.{◌≡◌, ◌∙◌, ◌∷◌, [], List, ap, ap₂, map, refl}
+use Rattle.lists.proofs.Zips.{AllZip-paired}
 use Rattle.air.specs.Traces.{air_traces}
 use Rattle.batch.specs.Plans.{Plan}
 use Rattle.batch.specs.Traces.{view_of}
@@ -11,7 +12,6 @@ use Rattle.lookup_tables.specs.declared.traces.Traces.{Traces}
 use Rattle.lookup_c.specs.BatchTables.{AreBatchTraces, IsBatch, IsPlanOf}
 use Rattle.lookup_c.specs.Inputs.{said_traces, view_of_read}
 use Rattle.lookup_c.specs.declared.batch_tables.Air.{Air}
-use Rattle.lookup_c.proofs.FirstFaults.{each_paired}
 
 -- what is read is what the numbers say
 pub said : (numbers : Traces) (traces : ReadTraces) → AreTracesOf numbers traces → view_of_read traces ≡ said_traces numbers
@@ -29,6 +29,6 @@ pub batch_read : {airs : List Air} {plan : Plan BabyBear} {all read : List ReadT
     → IsPlanOf airs plan → AreBatchTraces traces all → read ≡ all → given ≡ made → map view_of made ≡ map view_of_read read → IsBatch airs traces plan given
 batch_read {all = all} traces plan_is are read_is given_is views = record {
   plan_is = plan_is;
-  below = λ k t there. (each_paired AreTracesOf traces all are k t there).1.canonical;
+  below = λ k t there. (AllZip-paired AreTracesOf traces all are k t there).1.canonical;
   views = ap (map view_of) given_is ∙ (views ∙ (ap (map view_of_read) read_is ∙ said_all traces all are));
 }

@@ -17,10 +17,3 @@ first_fault IsGood IsFault xs i d there good fault = record {
       subst IsGood (get_or-take i xs k other lt ∙ get_or_from_slice_get xs k other other is) (good k other within);
   fault = fault;
 }
-
--- each item of a list goes with one of the other
-pub each_paired : {A B : Type 0} (R : A → B → Type 0) (xs : List A) (ys : List B) → AllZip R xs ys → All (λ x. (y : B) × R x y) xs
-each_paired {B = B} R [] [] are = All-nil (λ x. (y : B) × R x y)
-each_paired R [] (y ∷ ys) are = absurd are
-each_paired R (x ∷ xs) [] are = absurd are
-each_paired {B = B} R (x ∷ xs) (y ∷ ys) are = All-cons (λ z. (w : B) × R z w) x xs (y, are.0) (each_paired R xs ys are.1)

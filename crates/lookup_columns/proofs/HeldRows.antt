@@ -5,10 +5,11 @@ use Rattle.std.proofs.lemmas.Slice.Zip.{AllZip-long}
 use Rattle.std.specs.List.{AllZip, range_with_len, zip}
 use Rattle.std.specs.declared.alloc.Global.{Global}
 use Rattle.std.specs.declared.vec.Vec.{Vec}
+use Rattle.lists.proofs.Items.{range_at}
+use Rattle.lists.proofs.Zips.{AllZip-both_at}
 use Rattle.expressions.specs.Window.{Window}
 use Rattle.field.specs.Ring.{Ring}
-use Rattle.lookup_columns.proofs.ChunkColumnLaws.{range_at, zip_weaker}
-use Rattle.lookup_columns.proofs.ZipLaws.{at_index}
+use Rattle.lookup_columns.proofs.ChunkColumnLaws.{zip_weaker}
 use Rattle.lookup_columns.specs.ChunkColumns.{AreColumns, AreLookupColumns, HoldLookup}
 use Rattle.lookup_columns.specs.declared.branches.BranchColumns.{BranchColumns}
 use Rattle.lookup_columns.specs.HeldRows.{HoldAllOnRows, HoldOnRows}
@@ -58,5 +59,5 @@ module _ {F K : Type 0} (R : Ring F) (S : Ring K) (embed : F → K) (challenges 
           → (until : ℕ) → until ≤ end → HoldOnRows R S embed challenges window first until lookup read
       one_holds_until records i lookup lt is v v_is read read_is until within = λ row low high.
           let at = column_is lookups i lookup records lt is in
-          let here : one_holds lookup v = at_index one_holds lookups columns i lookup v all (omega (arith, as_many, lt)) is (v_is ∙ ap (λ n. get_or columns n v) at) in
+          let here : one_holds lookup v = AllZip-both_at one_holds lookups columns i lookup v all (omega (arith, as_many, lt)) is (v_is ∙ ap (λ n. get_or columns n v) at) in
           subst (HoldLookup R S embed challenges (window row) (row - first) lookup) (sym read_is) (here row low (omega (arith, high, within)))

@@ -4,6 +4,8 @@ use Rattle.std.proofs.lemmas.List.Elements.{All-append, All-cons, All-head, All-
 use Rattle.std.specs.List.{AllZip}
 use Rattle.std.specs.declared.alloc.Global.{Global}
 use Rattle.std.specs.declared.vec.Vec.{Vec}
+use Rattle.lists.proofs.Zips.{zip_of_maps}
+use Rattle.lists.proofs.Images.{map-map}
 use Rattle.field.specs.Ring.{Ring, sub_in}
 use Rattle.expressions.specs.Layout.{Fits}
 use Rattle.expressions.specs.Meaning.{value_of}
@@ -16,8 +18,6 @@ use Rattle.lookup_columns.specs.Slots.{after}
 use Rattle.lookup_columns.specs.Steps.{AreStepsOf, StepFits, StepsFit, steps_in_order}
 use Rattle.lookup_columns.specs.declared.step.Step.{Step}
 use Rattle.lookup_columns.specs.declared.step.Step.TheVariants.{Leaf, Add, Sub, Mul, Neg}
-use Rattle.lookup_columns.proofs.ColumnLaws.{map_of_columns}
-use Rattle.lookup_model.proofs.HornerRule.{map-map}
 use Rattle.lookup_model.specs.Records.{AllFit}
 
 module _ {F : Type 0} where
@@ -75,9 +75,9 @@ module _ {F : Type 0} where
     pub worked_out_tree : (t : Tree F) (z : List (List F)) → worked_out (steps_in_order t) z ≡ column R window rows t ∷ z
     unfolding worked_out
     worked_out_tree (leaf l) z = refl
-    worked_out_tree (add a b) z = both Add a b _ (λ y. ap (λ c. c ∷ y) (map_of_columns R.add (λ r. value_of R (window r) a) (λ r. value_of R (window r) b) rows)) (worked_out_tree a) (worked_out_tree b) z
-    worked_out_tree (sub a b) z = both Sub a b _ (λ y. ap (λ c. c ∷ y) (map_of_columns (sub_in R) (λ r. value_of R (window r) a) (λ r. value_of R (window r) b) rows)) (worked_out_tree a) (worked_out_tree b) z
-    worked_out_tree (mul a b) z = both Mul a b _ (λ y. ap (λ c. c ∷ y) (map_of_columns R.mul (λ r. value_of R (window r) a) (λ r. value_of R (window r) b) rows)) (worked_out_tree a) (worked_out_tree b) z
+    worked_out_tree (add a b) z = both Add a b _ (λ y. ap (λ c. c ∷ y) (zip_of_maps R.add (λ r. value_of R (window r) a) (λ r. value_of R (window r) b) rows)) (worked_out_tree a) (worked_out_tree b) z
+    worked_out_tree (sub a b) z = both Sub a b _ (λ y. ap (λ c. c ∷ y) (zip_of_maps (sub_in R) (λ r. value_of R (window r) a) (λ r. value_of R (window r) b) rows)) (worked_out_tree a) (worked_out_tree b) z
+    worked_out_tree (mul a b) z = both Mul a b _ (λ y. ap (λ c. c ∷ y) (zip_of_maps R.mul (λ r. value_of R (window r) a) (λ r. value_of R (window r) b) rows)) (worked_out_tree a) (worked_out_tree b) z
     worked_out_tree (neg a) z =
         worked_out-append (steps_in_order a) (Neg ∷ []) z ∙ ap (λ y. after R window rows Neg y) (worked_out_tree a z)
         ∙ ap (λ c. c ∷ z) (map-map R.neg (λ r. value_of R (window r) a) rows)

@@ -19,15 +19,3 @@ module _ {A B : Type 0} (R : A → B → Type 0) where
   beside (a ∷ xs) (b ∷ ys) (suc i) x h lt is =
       let next = beside xs ys i x h.1 (omega (arith, lt)) is in
       record { item = next.item; there = next.there; within = omega (arith, next.within); holds = next.holds }
-
-  -- items at one index are related
-  pub at_index : (xs : List A) (ys : List B) (i : ℕ) (x : A) (y : B) → AllZip R xs ys → i < length ys → x ≡ get_or xs i x → y ≡ get_or ys i y → R x y
-  at_index xs ys i x y h lt x_is y_is =
-      let long = AllZip-long R xs ys h in
-      let b = beside xs ys i x h (omega (arith, long, lt)) x_is in
-      let same : b.item ≡ y = b.there ∙ get_or_default ys i b.item y lt ∙ sym y_is in
-      subst (R x) same b.holds
-
--- the items up to one, and that one
-pub taken_more : {A : Type 0} (xs : List A) (i : ℕ) (x : A) → i < length xs → x ≡ get_or xs i x → take (i + 1) xs ≡ take i xs ++ x ∷ []
-taken_more xs i x lt is = take_more xs i x lt ∙ ap (λ t. take i xs ++ t ∷ []) (sym is)

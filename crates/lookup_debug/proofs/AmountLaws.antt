@@ -9,11 +9,14 @@ use Rattle.std.specs.List.{flat_map, range_with_len}
 use Rattle.std.specs.Option.{ForSome, option_map}
 use Rattle.std.specs.declared.alloc.Global.{Global}
 use Rattle.std.specs.declared.vec.Vec.{Vec}
+use Rattle.lists.proofs.Parts.{flat_more}
+use Rattle.lists.proofs.Images.{mapped_at}
+use Rattle.lists.proofs.Zips.{length-zipped, zipped_at, zipped_more}
 use Rattle.air.specs.Traces.{window_of}
 use Rattle.expressions.specs.Window.{Window}
 use Rattle.expressions.specs.declared.base_expression.SymbolicExpression.{SymbolicExpression}
 use Rattle.field.specs.Ring.{Ring}
-use Rattle.lookup_model.proofs.Branches.{length-branches_at, length-zipped, mapped_at, zipped_at, zipped_more}
+use Rattle.lookup_model.proofs.Branches.{length-branches_at}
 use Rattle.lookup_model.specs.Message.{Message}
 use Rattle.lookup_model.specs.Records.{HasEqualLengths}
 use Rattle.lookup_model.specs.Sent.{branch_at, branches_at, flags_at, value, values}
@@ -151,14 +154,6 @@ module _ {F : Type 0} (R : Ring F) (eq : F → F → Bool) (location : SentLocat
             | inr past ↦ absurd (omega (arith, lt, past.0))
           ]
 
--- one more number of a range
-rows_more : {A : Type 0} (f : ℕ → List A) (n : ℕ)
-    → flat_map f (range_with_len 0 (n + 1)) ≡ flat_map f (range_with_len 0 n) ++ f n
-rows_more f n = ap (flat_map f) (range_more 0 n n (omega arith)) ∙ flat_map-append f (range_with_len 0 n) (n ∷ []) ∙ ap (λ t. flat_map f (range_with_len 0 n) ++ t) (append-nil (f n))
-  where
-    range_more : (a n j : ℕ) → a + n ≡ j → range_with_len a (n + 1) ≡ range_with_len a n ++ j ∷ []
-    range_more a n j is = sym (map-id (range_with_len a (n + 1))) ∙ map-range_with_len_more (λ k. k) a n j is ∙ ap (λ t. t ++ j ∷ []) (map-id (range_with_len a n))
-
 -- One more row, which is that of this window.
 pub row_step : {F A : Type 0} {Ready : A → Type 0} {Does : A → A → List (Contribution F) → Type 0} (walk : IsWalk Ready Does) (R : Ring F) (eq : F → F → Bool) (instance index : ℕ) (t : Traced F) (lookup : Lookup F) (row : ℕ)
     (before now after : A) (w : Window F)
@@ -169,5 +164,5 @@ pub row_step : {F A : Type 0} {Ready : A → Type 0} {Does : A → A → List (C
 row_step {Does = Does} walk R eq instance index t lookup row before now after w w_is so_far this =
     let f = contributions_on R eq instance index t lookup in
     let here = contributions_at R eq (record { instance = instance; lookup = index; row = row }) w lookup in
-    subst (Does before after) (ap (λ v. flat_map f (range_with_len 0 row) ++ contributions_at R eq (record { instance = instance; lookup = index; row = row }) v lookup) w_is ∙ sym (rows_more f row))
+    subst (Does before after) (ap (λ v. flat_map f (range_with_len 0 row) ++ contributions_at R eq (record { instance = instance; lookup = index; row = row }) v lookup) w_is ∙ sym (flat_more f row))
     (walk.joins before now after (flat_map f (range_with_len 0 row)) here so_far this)

@@ -5,35 +5,15 @@ use Rattle.std.proofs.lemmas.List.{append-nil, length-map, take_all}
 use Rattle.std.proofs.lemmas.List.Elements.{filter-append, filter_map-append}
 use Rattle.std.proofs.lemmas.List.FromFn.{get_or-enumerate_from, length-enumerate_from}
 use Rattle.std.specs.List.{cons_option, enumerate_from, filter, filter_map, flat_map}
+use Rattle.lists.proofs.Images.{mapped_more}
+use Rattle.lists.proofs.Items.{take_item, numbered_read, numbered_within, numbered_more}
 use Rattle.field.specs.Ring.{Ring}
-use Rattle.lookup_model.proofs.Lookups.Rows.{take_item}
-use Rattle.lookup_model.proofs.Branches.{mapped_more}
 use Rattle.lookup_model.specs.Outline.{bus_of}
 use Rattle.lookup_model.specs.declared.types.Lookup.{Lookup}
 use Rattle.lookup_debug.specs.Contributions.{Contribution, Traced, contributions_of}
 use Rattle.lookup_debug.specs.Groups.{LookupAt, is_on, lookup_contributions, lookups_in}
 use Rattle.lookup_model.specs.Names.{is_named}
 use Rattle.lookup_debug.specs.Walks.{IsWalk}
-
--- an item with its number
-module _ {A : Type 0} (xs : List A) (i : ℕ) (x : A) (lt : i < length xs) (is : x ≡ get_or xs i x) where
-  numbered_at : (i, x) ≡ get_or (enumerate_from 0 xs) i (i, x)
-  numbered_at = (λ k. (i, is k)) ∙ sym (get_or-enumerate_from 0 xs i (i, x) lt ∙ (λ k. (zero_plus k, get_or xs i x)))
-    where
-      zero_plus : 0 + i ≡ i
-      zero_plus = omega arith
-
-  numbered_within : i < length (enumerate_from 0 xs)
-  numbered_within = omega (arith, lt, length-enumerate_from 0 xs)
-
-  -- one more of them
-  numbered_more : take (i + 1) (enumerate_from 0 xs) ≡ take i (enumerate_from 0 xs) ++ (i, x) ∷ []
-  numbered_more = take_item (enumerate_from 0 xs) i (i, x) numbered_within numbered_at
-
--- at the end all of them
-pub numbered_all : {A : Type 0} (xs : List A) (n : ℕ) → length xs ≤ n
-    → take n (enumerate_from 0 xs) ≡ enumerate_from 0 xs
-numbered_all xs n le = take_all n (enumerate_from 0 xs) (omega (arith, le, length-enumerate_from 0 xs))
 
 -- what the items that pass give, of two lists one after the other
 chosen-append : {X A : Type 0} (p : X → Bool) (f : X → List A) (xs ys : List X)
@@ -52,7 +32,7 @@ module _ {F : Type 0} where
       → l ≡ get_or t.lookups j l
       → take (j + 1) (lookups_in (n, t)) ≡ take j (lookups_in (n, t)) ++ record { instance = n; index = j; traced = t; lookup = l } ∷ []
   lookups_in-more n t j l lt is =
-      mapped_more (λ (p : ℕ × Lookup F). record { instance = n; index = p.0; traced = t; lookup = p.1 }) (enumerate_from 0 t.lookups) j (j, l) (numbered_within t.lookups j l lt is) (numbered_at t.lookups j l lt is)
+      mapped_more (λ (p : ℕ × Lookup F). record { instance = n; index = p.0; traced = t; lookup = p.1 }) (enumerate_from 0 t.lookups) j (j, l) (numbered_within t.lookups j l lt is) (numbered_read t.lookups j l lt is)
 
   pub length-lookups_in : (n : ℕ) (t : Traced F) → length (lookups_in (n, t)) ≡ length t.lookups
   length-lookups_in n t =

@@ -5,25 +5,17 @@ use Rattle.std.proofs.lemmas.Slice.Eq.{slice_eq-Decides}
 use Rattle.std.specs.Borrow.{Bor}
 use Rattle.std.specs.List.{list_any}
 use Rattle.std.specs.Cmp.Lexicographic.{pointwise}
+use Rattle.lists.proofs.Items.{some_is}
+use Rattle.lists.proofs.Images.{map_at, from_map}
 use Rattle.field.specs.Ring.{Ring, IsCommutativeRing}
 use Rattle.lookup_model.specs.Net.{first_seen}
 use Rattle.lookup_debug.specs.Contributions.{Contribution}
 use Rattle.lookup_debug.specs.Mismatch.{Precedes, IsFirst, net_amount, text_cmp}
 use Rattle.lookup_debug.specs.Nets.{IsFirstIndex, tuple_entries}
 use Rattle.lookup_debug.proofs.AmountNets.{tuple_nets}
-use Rattle.lookup_debug.proofs.LeastSteps.{some_is, three_ways}
+use Rattle.lookup_debug.proofs.LeastSteps.{three_ways}
 use Rattle.lookup_rows.proofs.NetEntries.{any-first_seen, net-none}
 use Rattle.lookup_debug.proofs.SeenOrder.{seen_before}
-
--- what a mapped list has at an index
-at_map : {X Y : Type 0} (f : X → Y) (xs : List X) (i : ℕ) (x : X) → slice_get xs i ≡ Some x → slice_get (map f xs) i ≡ Some (f x)
-at_map f xs i x e = slice_get-map f xs i ∙ ap (option_map f) e
-
--- where an item of a mapped list comes from
-from_map : {X Y : Type 0} (f : X → Y) (xs : List X) (i : ℕ) (y : Y) → slice_get (map f xs) i ≡ Some y → (x : X) × (slice_get xs i ≡ Some x) × (f x ≡ y)
-from_map f [] i y e = absurd (true≢false (sym (ap is_some e)))
-from_map f (x ∷ xs) zero y e = (x, refl, some_is (f x) y e)
-from_map f (x ∷ xs) (suc i) y e = from_map f xs i y e
 
 -- the index of an item that is among some
 any_at : {A : Type 0} (same : A → A → Bool) (decides : (a b : A) → Decides (same a b) (a ≡ b)) (b : A) (ks : List A) → list_any (λ y. same y b) ks ≡ true → (j : ℕ) × (slice_get ks j ≡ Some b)
@@ -65,7 +57,7 @@ module _ {F : Type 0} {R : Ring F} (laws : IsCommutativeRing R) (eq : F → F �
       let ks = seen cs in
       let net = net_amount R eq cs in
       let tuple = least.entry.0.now in
-      let here = from_map (λ k. (k, net k)) ks i (tuple, least.entry.1) (sym (ap (λ t. slice_get t i) is) ∙ at_map (λ (e : Bor (List F) × F). (e.0.now, e.1)) es i least.entry least.there) in
+      let here = from_map (λ k. (k, net k)) ks i (tuple, least.entry.1) (sym (ap (λ t. slice_get t i) is) ∙ map_at (λ (e : Bor (List F) × F). (e.0.now, e.1)) es i least.entry least.there) in
       let own : here.0 ≡ tuple = ap (λ (p : List F × F). p.0) here.2 in
       let at_own : slice_get ks i ≡ Some tuple = here.1 ∙ ap Some own in
       let value : net tuple ≡ least.entry.1 = ap net (sym own) ∙ ap (λ (p : List F × F). p.1) here.2 in (
@@ -88,11 +80,11 @@ module _ {F : Type 0} {R : Ring F} (laws : IsCommutativeRing R) (eq : F → F �
       by_index own other ne apart j there (inr (inl same)) =
           absurd (apart (some_is other least.entry.0.now (sym there ∙ ap (slice_get (seen cs)) same ∙ own)))
       by_index own other ne apart j there (inl sooner) =
-          let found = from_map (λ (e : Bor (List F) × F). (e.0.now, e.1)) es j (other, net_amount R eq cs other) (ap (λ t. slice_get t j) is ∙ at_map (λ k. (k, net_amount R eq cs k)) (seen cs) j other there) in
+          let found = from_map (λ (e : Bor (List F) × F). (e.0.now, e.1)) es j (other, net_amount R eq cs other) (ap (λ t. slice_get t j) is ∙ map_at (λ k. (k, net_amount R eq cs k)) (seen cs) j other there) in
           let passing = nonzero_is found.0.1 (λ z. ne (sym (ap (λ (p : List F × F). p.1) found.2) ∙ z)) in
           inl (ap (text_cmp text least.entry.0.now) (sym (ap (λ (p : List F × F). p.0) found.2)) ∙ least.before j found.0 sooner found.1 passing)
       by_index own other ne apart j there (inr (inr later)) =
-          let found = from_map (λ (e : Bor (List F) × F). (e.0.now, e.1)) es j (other, net_amount R eq cs other) (ap (λ t. slice_get t j) is ∙ at_map (λ k. (k, net_amount R eq cs k)) (seen cs) j other there) in
+          let found = from_map (λ (e : Bor (List F) × F). (e.0.now, e.1)) es j (other, net_amount R eq cs other) (ap (λ t. slice_get t j) is ∙ map_at (λ k. (k, net_amount R eq cs k)) (seen cs) j other there) in
           let passing = nonzero_is found.0.1 (λ z. ne (sym (ap (λ (p : List F × F). p.1) found.2) ∙ z)) in
           by_order other (seen_before (pointwise eq) decides (tuples cs) i j least.entry.0.now other later own there) (text_cmp text least.entry.0.now other) refl
           (λ greater. least.after j found.0 later (slice_get_within es j found.0 found.1) found.1 passing (ap (text_cmp text least.entry.0.now) (ap (λ (p : List F × F). p.0) found.2) ∙ greater))
@@ -121,6 +113,6 @@ module _ {F : Type 0} {R : Ring F} (laws : IsCommutativeRing R) (eq : F → F �
       by_seen true e =
           let ks = seen cs in
           let index = any_at (pointwise eq) decides tuple ks (any-first_seen (pointwise eq) decides (tuples cs) tuple ∙ e) in
-          let found = from_map (λ (e : Bor (List F) × F). (e.0.now, e.1)) es index.0 (tuple, net_amount R eq cs tuple) (ap (λ t. slice_get t index.0) is ∙ at_map (λ k. (k, net_amount R eq cs k)) ks index.0 tuple index.1) in
+          let found = from_map (λ (e : Bor (List F) × F). (e.0.now, e.1)) es index.0 (tuple, net_amount R eq cs tuple) (ap (λ t. slice_get t index.0) is ∙ map_at (λ k. (k, net_amount R eq cs k)) ks index.0 tuple index.1) in
           sym (ap (λ (p : List F × F). p.1) found.2) ∙ zero_is found.0.1 (none index.0 found.0 (slice_get_within es index.0 found.0 found.1) found.1)
       by_seen false e = net-none (pointwise eq) decides laws (λ (c : Contribution F). c.tuple) (λ c. c.amount) cs tuple e

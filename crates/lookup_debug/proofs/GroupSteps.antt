@@ -5,14 +5,13 @@ use Rattle.std.proofs.lemmas.List.{append_assoc, append-nil, take-append-drop}
 use Rattle.std.proofs.lemmas.Option.{get_or_from_slice_get, slice_get_within}
 use Rattle.std.specs.Bool.{⊤}
 use Rattle.std.specs.List.{flat_map}
+use Rattle.lists.proofs.Items.{take_item, some_is}
 use Rattle.field.specs.Ring.{Ring}
-use Rattle.lookup_model.proofs.Lookups.Rows.{take_item}
 use Rattle.lookup_debug.specs.Checks.{AnswersGroups}
 use Rattle.lookup_debug.specs.Contributions.{Contribution}
 use Rattle.lookup_debug.specs.Groups.{Group}
 use Rattle.lookup_debug.specs.Mismatch.{Balances, EachBalances, IsFirstMismatch, IsMismatchOf}
 use Rattle.lookup_debug.specs.declared.fault.LookupFault.{LookupFault}
-use Rattle.lookup_debug.proofs.LeastSteps.{some_is}
 
 -- the parts of the items up to one, and with it
 flat_map-more : {X Y : Type 0} (f : X → List Y) (xs : List X) (i : ℕ) (x : X) → slice_get xs i ≡ Some x → flat_map f (take (i + 1) xs) ≡ flat_map f (take i xs) ++ f x

@@ -5,18 +5,11 @@ use Rattle.std.specs.Cmp.{IsTotalOrder, on_total, nat_cmp_is}
 use Rattle.std.specs.Ordering.{nat_cmp, ordering_index, ordering_reverse}
 use Rattle.std.specs.Bool.{◌==◌}
 use Rattle.std.specs.Cmp.Lexicographic.{lists_total, nat_list_cmp_total}
+use Rattle.lists.proofs.Items.{some_is}
 use Rattle.field.specs.Ring.{Ring}
 use Rattle.lookup_debug.specs.Mismatch.{text_cmp}
 use Rattle.lookup_debug.specs.Least.{IsLeast, NonePasses}
 use Rattle.lookup_debug.specs.Nets.{IsFirstIndex}
-
--- an item is determined by its option
-pub some_is : {A : Type 0} (a b : A) → Some a ≡ Some b → a ≡ b
-some_is a b e = ap (λ o. pick o a) e
-  where
-    pick : {A : Type 0} → Option A → A → A
-    pick None d = d
-    pick (Some x) d = x
 
 -- a number below the next one
 less_or_last : (j n : ℕ) → j < n + 1 → (j < n) ⊎ (j ≡ n)

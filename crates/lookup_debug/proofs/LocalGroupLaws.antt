@@ -6,6 +6,7 @@ use Rattle.std.proofs.lemmas.List.Concat.{flat_map_single}
 use Rattle.std.proofs.lemmas.List.FromFn.{length-enumerate_from}
 use Rattle.std.proofs.lemmas.Option.{slice_get-map, slice_get_read}
 use Rattle.std.specs.List.{enumerate_from, filter, flat_map}
+use Rattle.lists.proofs.Items.{some_is}
 use Rattle.field.specs.Ring.{Ring}
 use Rattle.lookup_model.specs.Outline.{bus_of}
 use Rattle.lookup_model.specs.declared.types.Lookup.{Lookup}
@@ -16,7 +17,6 @@ use Rattle.lookup_debug.specs.Mismatch.{Balances, EachBalances, IsFirstMismatch,
 use Rattle.lookup_debug.specs.declared.fault.LookupFault.{LookupFault}
 use Rattle.lookup_debug.specs.declared.instance.LookupDebugInstance.{LookupDebugInstance}
 use Rattle.lookup_debug.proofs.GroupSteps.{balance-cons, balance-more, mismatch-at, mismatch-here, none_balance}
-use Rattle.lookup_debug.proofs.LeastSteps.{some_is}
 
 -- an item with its number
 numbered_from : {A : Type 0} (n : ℕ) (xs : List A) (i : ℕ) (x : A) → slice_get xs i ≡ Some x → slice_get (enumerate_from n xs) i ≡ Some (n + i, x)

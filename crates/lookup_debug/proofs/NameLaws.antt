@@ -4,8 +4,8 @@ use Rattle.std.proofs.lemmas.List.{append-nil, map-append}
 use Rattle.std.proofs.lemmas.List.Elements.{filter_map-append}
 use Rattle.std.specs.Borrow.{Bor}
 use Rattle.std.specs.List.{cons_option, filter_map, list_any}
+use Rattle.lists.proofs.Items.{take_item}
 use Rattle.indexmap.specs.IndexSet.{insert_key}
-use Rattle.lookup_model.proofs.Lookups.Rows.{take_item}
 use Rattle.lookup_model.proofs.Names.{same_name-Decides}
 use Rattle.lookup_model.specs.Names.{same_name}
 use Rattle.lookup_model.specs.Net.{first_seen}

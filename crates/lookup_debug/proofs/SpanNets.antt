@@ -4,9 +4,10 @@ use Rattle.std.proofs.lemmas.Slice.Eq.{slice_eq-Decides}
 use Rattle.std.specs.Borrow.{Bor}
 use Rattle.std.specs.Cmp.Lexicographic.{pointwise}
 use Rattle.std.specs.Map.{lookup}
+use Rattle.lists.proofs.Images.{images_more}
 use Rattle.indexmap.specs.IndexMap.{insert_entry}
 use Rattle.field.specs.Ring.{Ring, IsCommutativeRing}
-use Rattle.lookup_rows.proofs.NetEntries.{mapped-more, one_more}
+use Rattle.lookup_rows.proofs.NetEntries.{one_more}
 use Rattle.lookup_debug.specs.Arena.{span_amount}
 use Rattle.lookup_debug.specs.Nets.{amount_nets, tuple_entries}
 use Rattle.lookup_debug.specs.declared.arena.TupleSpan.{TupleSpan}
@@ -23,4 +24,4 @@ module _ {F : Type 0} {R : Ring F} (laws : IsCommutativeRing R) (eq : F → F �
       ap tuple_entries inserted
       ∙ one_more (pointwise eq) (λ a b. slice_eq-Decides eq_is a b (pointwise eq a b) refl) (λ (k : Bor (List F)). k.now) laws (λ (a : List F × F). a.0) (λ a. a.1)
       done (span_amount elements span) before key _ _ so_far key_is refl refl
-      ∙ ap (amount_nets R eq) (sym (mapped-more (span_amount elements) spans i span lt is))
+      ∙ ap (amount_nets R eq) (sym (images_more (span_amount elements) spans i span lt is))

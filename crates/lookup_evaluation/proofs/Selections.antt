@@ -4,6 +4,8 @@ use Rattle.std.proofs.lemmas.List.{length-map, map_push, take_more}
 use Rattle.std.specs.List.{zip}
 use Rattle.std.specs.declared.alloc.Global.{Global}
 use Rattle.std.specs.declared.vec.Vec.{Vec}
+use Rattle.lists.proofs.Images.{mapped_at}
+use Rattle.lists.proofs.Zips.{zipped_at, zipped_more}
 use Rattle.field.specs.Extension.{Extension}
 use Rattle.field.specs.Ring.{Ring, IsCommutativeRing}
 use Rattle.field.specs.Sums.{sum_in}
@@ -19,7 +21,7 @@ use Rattle.lookup_model.specs.Message.{Message}
 use Rattle.lookup_model.specs.Records.{HasEqualLengths}
 use Rattle.lookup_model.specs.Sent.{branch_at, branches_at, value}
 use Rattle.lookup_model.specs.declared.types.Lookup.{Lookup}
-use Rattle.lookup_model.proofs.Branches.{length-branches_at, length-degrees, mapped_at, zipped_at, zipped_more}
+use Rattle.lookup_model.proofs.Branches.{length-branches_at, length-degrees}
 use Rattle.lookup_model.proofs.DegreeBounds.{greatest_of_front, greatest_of_last}
 use Rattle.lookup_model.proofs.SumLaws.{sum_in-push}
 

@@ -13,4 +13,3 @@ pub mod SolutionSums
 pub mod Succeeds
 pub mod TableResults
 pub mod Totals
-pub mod Zipped

@@ -1,10 +1,8 @@
 -- The branches of a lookup, one after another.
-use Rattle.std.proofs.Common.{◌≡◌, ℕ, ◌+◌, ◌<◌, List, [], ◌∷◌, ◌++◌, length, map, take, get_or, ap, sym, ◌∙◌, arith}
-use Rattle.std.proofs.lemmas.List.{get_or-map, length-map, take_more}
-use Rattle.std.proofs.lemmas.Slice.Zip.{get_or-zip, length-zip}
-use Rattle.std.specs.List.{zip}
+use Rattle.std.proofs.Common.{◌≡◌, ℕ, ◌+◌, ◌<◌, [], ◌∷◌, ◌++◌, length, take, get_or}
 use Rattle.std.specs.declared.alloc.Global.{Global}
 use Rattle.std.specs.declared.vec.Vec.{Vec}
+use Rattle.lists.proofs.Zips.{length-zipped, zipped_more}
 use Rattle.field.specs.Ring.{Ring}
 use Rattle.expressions.specs.Window.{Window}
 use Rattle.expressions.specs.declared.base_expression.SymbolicExpression.{SymbolicExpression}
@@ -12,31 +10,6 @@ use Rattle.lookup_model.specs.LookupDegree.{branch_degrees, lookup_branch_degree
 use Rattle.lookup_model.specs.Records.{HasEqualLengths}
 use Rattle.lookup_model.specs.Sent.{branch_at, branches_at}
 use Rattle.lookup_model.specs.declared.types.Lookup.{Lookup}
-
-module _ {A B C : Type 0} (f : A × B → C) (xs : List A) (ys : List B) (same : length ys ≡ length xs) where
-  -- mapping f over the pairs of two lists of the same length keeps that length
-  pub length-zipped : length (map f (zip xs ys)) ≡ length xs
-  length-zipped = length-map (zip xs ys) f ∙ length-zip xs ys ∙ omega (arith, same)
-
-  -- the value of f for the pair at an index
-  pub zipped_at : (i : ℕ) (x : A) (y : B) → i < length xs → x ≡ get_or xs i x → y ≡ get_or ys i y → f (x, y) ≡ get_or (map f (zip xs ys)) i (f (x, y))
-  zipped_at i x y lt x_is y_is =
-      sym (get_or-map f (zip xs ys) i (x, y) (f (x, y)) (omega (arith, length-zip xs ys, same)) ∙ ap f (get_or-zip xs ys i (x, y) lt (omega (arith, same)) ∙ (λ k. (sym x_is k, sym y_is k))))
-
-  -- one more pair
-  pub zipped_more : (i : ℕ) (x : A) (y : B) → i < length xs → x ≡ get_or xs i x → y ≡ get_or ys i y → take (i + 1) (map f (zip xs ys)) ≡ take i (map f (zip xs ys)) ++ f (x, y) ∷ []
-  zipped_more i x y lt x_is y_is =
-      take_more (map f (zip xs ys)) i (f (x, y)) (omega (arith, length-zipped)) ∙ ap (λ t. take i (map f (zip xs ys)) ++ t ∷ []) (sym (zipped_at i x y lt x_is y_is))
-
-module _ {A B : Type 0} (f : A → B) (xs : List A) where
-  -- the value of f for the item at an index
-  pub mapped_at : (i : ℕ) (x : A) → i < length xs → x ≡ get_or xs i x → f x ≡ get_or (map f xs) i (f x)
-  mapped_at i x lt x_is = sym (get_or-map f xs i x (f x) lt ∙ ap f (sym x_is))
-
-  -- one more item
-  pub mapped_more : (i : ℕ) (x : A) → i < length xs → x ≡ get_or xs i x → take (i + 1) (map f xs) ≡ take i (map f xs) ++ f x ∷ []
-  mapped_more i x lt x_is =
-      take_more (map f xs) i (f x) (omega (arith, length-map xs f)) ∙ ap (λ t. take i (map f xs) ++ t ∷ []) (sym (mapped_at i x lt x_is))
 
 module _ {F : Type 0} (lookup : Lookup F) (lengths : HasEqualLengths lookup) where
   -- the degrees of one more branch

@@ -15,8 +15,3 @@ combined_more S f es i e beta sum next lt is so_far next_is =
     ∙ ap (λ t. S.add (f e) (S.mul beta t)) so_far
     ∙ sym (combined-push S (map f (take i es)) (f e) beta)
     ∙ ap (λ tuple. combined S tuple beta) (sym (map_push f (take i es) e) ∙ ap (map f) (ap (λ t. take i es ++ t ∷ []) is ∙ sym (take_more es i e lt)))
-
--- a map of a map
-pub map-map : {A B C : Type 0} (g : B → C) (f : A → B) (xs : List A) → map g (map f xs) ≡ map (λ x. g (f x)) xs
-map-map g f [] = λ _. []
-map-map g f (x ∷ xs) = ap (λ t. g (f x) ∷ t) (map-map g f xs)

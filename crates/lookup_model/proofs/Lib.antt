@@ -9,7 +9,6 @@ pub mod DegreeBounds
 pub mod Degrees
 pub mod HornerRule
 pub mod Layouts
-pub mod Lists
 pub mod Lookups
 pub mod Names
 pub mod Prefixes

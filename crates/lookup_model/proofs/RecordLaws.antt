@@ -1,7 +1,8 @@
 -- Well formed records and fitting expressions, one after another.
-use Rattle.std.proofs.Common.{◌≡◌, ◌⊎◌, ℕ, ◌+◌, ◌<◌, ◌≤◌, List, length, get_or, All, Some, inl, inr, arith, subst, sym, ◌∙◌}
+use Rattle.std.proofs.Common.{◌≡◌, ◌⊎◌, ℕ, ◌+◌, ◌<◌, ◌≤◌, List, length, get_or, Some, inl, inr, arith, subst, sym, ◌∙◌}
 use Rattle.std.proofs.lemmas.Bool.{cases_lt}
 use Rattle.std.specs.List.{slice_get}
+use Rattle.lists.proofs.Each.{All-at}
 use Rattle.expressions.specs.declared.layout.AirLayout.{AirLayout}
 use Rattle.expressions.specs.declared.base_expression.SymbolicExpression.{SymbolicExpression}
 use Rattle.expressions.specs.Layout.{Fits}
@@ -20,11 +21,6 @@ AreRecordsBelow-more {F} lookups i lookup below is_there is k other k_below k_is
         let same : slice_get lookups i ≡ Some other = subst (λ (n : ℕ). slice_get lookups n ≡ Some other) e k_is in
         let other_is : lookup ≡ other = cc (sym is_there ∙ same) in
         subst (λ (n : ℕ). IsRecordAt n other) (sym e) (subst (λ (l : Lookup F). IsRecordAt i l) other_is is)
-
-module _ {A : Type 0} where
-  -- what holds for every item holds for the one at an index
-  pub All-at : (P : A → Type 0) (xs : List A) (i : ℕ) (x : A) → All P xs → i < length xs → x ≡ get_or xs i x → P x
-  All-at P xs i x all lt is = subst P (sym is) (all i x lt)
 
 -- an expression of a list that fits
 pub Fits-at : {F : Type 0} (layout : AirLayout) (es : List (SymbolicExpression F)) (i : ℕ) (e : SymbolicExpression F) → AllFit layout es → i < length es → e ≡ get_or es i e → Fits layout (tree_of e)

@@ -4,6 +4,7 @@ use Rattle.std.proofs.lemmas.List.Elements.{All-cons, All-nil}
 use Rattle.std.proofs.lemmas.Option.{get_or_from_slice_get}
 use Rattle.std.specs.declared.alloc.Global.{Global}
 use Rattle.std.specs.declared.vec.Vec.{Vec}
+use Rattle.lists.proofs.Images.{one_item, two_items}
 use Rattle.field.specs.Ring.{Ring}
 use Rattle.air.specs.Cell.{IsCell}
 use Rattle.expressions.specs.declared.error.AirError.{AirError}
@@ -31,25 +32,6 @@ module _ {B M : Type 0} (pushes : B → M → B → Type 0) (refuses : B → M �
 pub on_ok_weaker : (answer : Result (Unit {0}) AirError) (P Q : Type 0) → OnOk answer P → (P → Q) → OnOk answer Q
 on_ok_weaker (Ok u) P Q is so = so is
 on_ok_weaker (Err e) P Q is so = tt
-
--- a list whose image is one item has one item
-pub one_item : {A B : Type 0} (f : A → B) (xs : List A) (y : B) → map f xs ≡ y ∷ [] → (x : A) × (xs ≡ x ∷ []) × (f x ≡ y)
-one_item f [] y e = absurd (cc e)
-one_item f (x ∷ []) y e =
-    let same : f x ≡ y = cc e in
-    (x, refl, same)
-one_item f (x ∷ z ∷ xs) y e =
-    let rest : f z ∷ map f xs ≡ [] = cc e in
-    absurd (cc rest)
-
--- a list whose image is two items has two items
-pub two_items : {A B : Type 0} (f : A → B) (xs : List A) (y z : B) → map f xs ≡ y ∷ z ∷ [] → (a : A) × (b : A) × (xs ≡ a ∷ b ∷ []) × (f a ≡ y) × (f b ≡ z)
-two_items f [] y z e = absurd (cc e)
-two_items f (a ∷ xs) y z e =
-    let first : f a ≡ y = cc e in
-    let rest : map f xs ≡ z ∷ [] = cc e in
-    let last = one_item f xs z rest in
-    (a, last.0, ap (λ t. a ∷ t) last.1, first, last.2)
 
 -- tuples of one value
 one_value : {E : Type 0} (tuple : List E) (x : E) → tuple ≡ x ∷ [] → length tuple ≡ 1

@@ -8,6 +8,8 @@ use Rattle.std.proofs.lemmas.Nat.{div-mul-add, le-div}
 use Rattle.std.proofs.lemmas.Option.{slice_get-map}
 use Rattle.std.specs.List.{AllZip, flat_map, range_with_len, slice_range}
 use Rattle.std.specs.Option.{option_map}
+use Rattle.lists.proofs.Parts.{length_rows}
+use Rattle.lists.proofs.Images.{one_item}
 use Rattle.field.specs.Ring.{Ring}
 use Rattle.matrix.specs.Matrix.{IsShaped, Matrix, height, row}
 use Rattle.expressions.specs.Layout.{layout_of_widths}
@@ -37,7 +39,6 @@ use Rattle.lookup_program.specs.declared.airs.MachineAir.TheVariants.{Entries, G
 use Rattle.lookup_program.specs.declared.machine.Machine.{Machine}
 use Rattle.lookup_program.specs.declared.machine.Machine.TheVariants.{Bus, Exclusive, Range}
 use Rattle.lookup_program.specs.declared.traces.AirTrace.{AirTrace}
-use Rattle.lookup_program.proofs.AirLaws.{one_item}
 
 -- a part of a list
 length_part : {T : Type 0} (values : List T) (first width : ℕ) → first + width ≤ length values → length (slice_range values first (first + width)) ≡ width
@@ -54,14 +55,6 @@ length_row values (suc k) r lt =
     let next : (r + 1) * suc k ≡ r * suc k + suc k = omega arith in
     ap (λ b. length (slice_range values (r * suc k) b)) next
     ∙ length_part values (r * suc k) (suc k) (omega (arith, rows, next, div-mul-le_self (length values) (suc k)))
-
--- parts of one length, one after another
-pub length_parts : {T : Type 0} (part : ℕ → List T) (width a n : ℕ) → ((r : ℕ) → r < a + n → length (part r) ≡ width) → length (flat_map part (range_with_len a n)) ≡ n * width
-length_parts part width a zero each = omega arith
-length_parts part width a (suc n) each =
-    let first : length (part a) ≡ width = each a (omega arith) in
-    let rest : length (flat_map part (range_with_len (a + 1) n)) ≡ n * width = length_parts part width (a + 1) n (λ r lt. each r (omega (arith, lt))) in
-    length-append (part a) (flat_map part (range_with_len (a + 1) n)) ∙ omega (arith, first, rest)
 
 -- some whole rows are a matrix
 pub shaped : {T : Type 0} (values : List T) (width n : ℕ) → 0 < width → length values ≡ n * width → IsShaped (record { values = values; width = width })
@@ -118,7 +111,7 @@ length_cells air input r holds lt =
 trace_rows : {F : Type 0} (air : MachineAir) (input : Matrix F) → first_column_of air + width_of air ≤ input.width → 0 < height input → 0 < height (air_trace air input)
 trace_rows air input holds some =
     some_rows (air_trace air input).values (width_of air) (height input) (wide air) some
-    (length_parts (λ r. air_cells air (row input r)) (width_of air) 0 (height input) (λ r lt. length_cells air input r holds (omega (arith, lt))))
+    (length_rows (λ r. air_cells air (row input r)) (width_of air) 0 (height input) (λ r lt. length_cells air input r holds (omega (arith, lt))))
 
 -- the batch's instance of an AIR: public values and ids are the same for all
 abbrev pub instance : {F : Type 0} → AirTrace F → Instance F

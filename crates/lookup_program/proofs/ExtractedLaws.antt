@@ -2,6 +2,8 @@
 use Rattle.std.proofs.Common.{◌≡◌, ◌<◌, Bool, [], ◌∷◌, length, map, All, Result, Ok, Err, IfOk, OnOk, MatchResult, inl, inr, subst, sym, ap, arith, ◌∙◌}
 use Rattle.std.proofs.lemmas.List.Elements.{All-cons, All-nil}
 use Rattle.std.specs.List.{enumerate_from, sum_by}
+use Rattle.lists.proofs.Each.{All-of_map}
+use Rattle.lists.proofs.Images.{one_item}
 use Rattle.field.specs.Ring.{Ring}
 use Rattle.expressions.specs.Layout.{layout_of_widths}
 use Rattle.expressions.specs.Window.{Window}
@@ -16,7 +18,6 @@ use Rattle.lookup_model.specs.Refusal.{from_air}
 use Rattle.lookup_model.specs.Sent.{value}
 use Rattle.lookup_model.specs.declared.error.LookupError.{LookupError}
 use Rattle.lookup_model.specs.declared.error.LookupError.TheVariants.{Memory}
-use Rattle.lookup_record.proofs.Elements.{all_of_map}
 use Rattle.lookup_record.specs.Interaction.{Interaction, exclusive, global, local}
 use Rattle.lookup_model.specs.Weight.{weight_bound}
 use Rattle.lookup_record.specs.RecordedAir.{EvaluatesNew, RecordedAir, no_air_recorded, recorded_air, with_interaction}
@@ -32,7 +33,6 @@ use Rattle.air.specs.Cell.{IsCellsRefusal}
 use Rattle.lookup_program.specs.Pushes.{EvaluatesOnePush}
 use Rattle.lookup_program.specs.declared.airs.MachineAir.{MachineAir}
 use Rattle.lookup_program.specs.declared.airs.MachineAir.TheVariants.{Entries, Group, Keys, RangeCheck}
-use Rattle.lookup_program.proofs.AirLaws.{one_item}
 
 -- the weight of an AIR's lookup is small
 light : (air : MachineAir) → (air_bus_and_weight air).1 < weight_bound
@@ -115,7 +115,7 @@ module _ (F EF : Type 0) (R : Ring F) (eq : F → F → Bool) (air : MachineAir)
     widths =
         let tuples = one_item (λ l. (fields_of l).elements) (lookups_of set) (interaction_tuples left.interaction) (extracted_tuples (lookups_of set) r.locals r.globals r.exclusives is ∙ ap (map interaction_tuples) order) in
         let each : All (λ tuple. length tuple.items ≡ 1) tuples.0.elements.items =
-        all_of_map (λ tuple. length tuple ≡ 1) (λ tuple. tuple.items) tuples.0.elements.items (subst (All (λ tuple. length tuple ≡ 1)) (sym tuples.2) left.meant.widths) in
+        All-of_map (λ tuple. length tuple ≡ 1) (λ tuple. tuple.items) tuples.0.elements.items (subst (All (λ tuple. length tuple ≡ 1)) (sym tuples.2) left.meant.widths) in
         rw tuples.1 (All-cons (λ l. All (λ tuple. length tuple.items ≡ 1) l.elements.items) tuples.0 [] each (All-nil (λ l. All (λ tuple. length tuple.items ≡ 1) l.elements.items)));
     sends = λ w widths.
         let here : stands_for left.before w = subst (λ (l : AirLayout). HasWidths l w) (sym (ap (λ r. r.constraints.layout) left.empty)) widths in
@@ -140,7 +140,7 @@ module _ (F EF : Type 0) (R : Ring F) (eq : F → F → Bool) (air : MachineAir)
       let faultless : IsFaultless tuples = record {
         weight = omega (arith, weight, light air);
         width = 1;
-        widths = all_of_map (λ fields. length fields ≡ 1) (λ t. t.fields) tuples sends.widths;
+        widths = All-of_map (λ fields. length fields ≡ 1) (λ t. t.fields) tuples sends.widths;
       } in
       rw (ap (λ r. r.locals) is) (All-cons IsFaultless tuples [] faultless (All-nil IsFaultless))
 

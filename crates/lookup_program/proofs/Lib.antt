@@ -10,6 +10,5 @@ pub mod PlannedAirs
 pub mod PlannedBatches
 pub mod PlannedWidths
 pub mod ReportLaws
-pub mod TraceLaws
 pub mod VerdictLaws
 pub mod WordLaws

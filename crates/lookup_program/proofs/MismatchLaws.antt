@@ -4,6 +4,8 @@ use Rattle.std.proofs.lemmas.List.{append-nil}
 use Rattle.std.proofs.lemmas.List.Elements.{All-cons, All-map, All-nil}
 use Rattle.std.specs.List.{AllByRecursion, AllZip, enumerate_from, filter, filter_map, flat_map, range_with_len}
 use Rattle.std.specs.Cmp.Lexicographic.{pointwise}
+use Rattle.lists.proofs.Each.{All-of_map}
+use Rattle.lists.proofs.Parts.{same_parts}
 use Rattle.field.specs.Ring.{Ring, IsCommutativeRing}
 use Rattle.matrix.specs.Matrix.{Matrix, height, row}
 use Rattle.air.specs.Traces.{HaveOneHeight, layout_of}
@@ -19,7 +21,6 @@ use Rattle.lookup_model.specs.Sent.{Sent, sent_at}
 use Rattle.lookup_model.specs.declared.types.Lookup.{Lookup}
 use Rattle.lookup_model.specs.Batches.Messages.{HasLawfulFlags}
 use Rattle.lookup_model.proofs.Counting.LawfulFlags.{lawful_rows}
-use Rattle.lookup_record.proofs.Elements.{all_of_map}
 use Rattle.lookup.specs.Lookups.{lookups_of}
 use Rattle.lookup.specs.Sends.{lookup_bus_and_weight}
 use Rattle.lookup_debug.specs.Contributions.{Contribution, Traced, contributions_of, contributions_on, traced_of}
@@ -40,11 +41,6 @@ use Rattle.lookup_program.specs.declared.machine.Machine.{Machine}
 use Rattle.lookup_program.specs.declared.machine.Machine.TheVariants.{Bus, Exclusive, Range}
 use Rattle.lookup_program.specs.declared.traces.AirTrace.{AirTrace}
 use Rattle.lookup_program.proofs.BatchLaws.{one_lookup, row_widths}
-
--- the same parts over a range
-same_parts : {X : Type 0} (f g : ℕ → List X) (a n : ℕ) → ((r : ℕ) → r < a + n → f r ≡ g r) → flat_map f (range_with_len a n) ≡ flat_map g (range_with_len a n)
-same_parts f g a zero same = refl
-same_parts f g a (suc n) same = ap₂ (λ x xs. x ++ xs) (same a (omega arith)) (same_parts f g (a + 1) n (λ r lt. same r (omega (arith, lt))))
 
 -- what holds of the one item of each row
 at_row : {S : Type 0} (P : S → Type 0) (f : ℕ → S) (a n : ℕ) → AllByRecursion (AllByRecursion P) (map (λ r. f r ∷ []) (range_with_len a n)) → (k : ℕ) → k < n → P (f (a + k))
@@ -208,8 +204,8 @@ module _ {F : Type 0} (R : Ring F) (eq : F → F → Bool) (input : Matrix F) wh
 
   -- as the program holds them
   pub debug_fits : (airs : List MachineAir) (traces : List (AirTrace F)) (instances : List (LookupDebugInstance F)) → AllZip (IsTraceOf R eq input) airs traces → map traced_of instances ≡ map traced_over traces → All (λ i. Fits (traced_of i)) instances
-  debug_fits airs traces instances all are = all_of_map Fits traced_of instances (subst (All Fits) (sym are) (all_fit airs traces all))
+  debug_fits airs traces instances all are = All-of_map Fits traced_of instances (subst (All Fits) (sym are) (all_fit airs traces all))
 
   pub debug_heights : (traces : List (AirTrace F)) (instances : List (LookupDebugInstance F)) → map traced_of instances ≡ map traced_over traces → All (λ i. HasOneHeight (traced_of i)) instances
   debug_heights traces instances are =
-      all_of_map HasOneHeight traced_of instances (subst (All HasOneHeight) (sym are) (All-map HasOneHeight traced_over traces (λ n d lt. λ trace none. absurd (cc none))))
+      All-of_map HasOneHeight traced_of instances (subst (All HasOneHeight) (sym are) (All-map HasOneHeight traced_over traces (λ n d lt. λ trace none. absurd (cc none))))

@@ -3,10 +3,12 @@ use Rattle.std.proofs.Common.{◌≡◌, ℕ, Bool, List, [], ◌∷◌, Result,
 use Rattle.std.proofs.lemmas.List.Elements.{All-cons, All-head, All-map, All-nil, recursion_from_All}
 use Rattle.std.specs.List.{AllByRecursion, zip}
 use Rattle.std.specs.Option.{option_map}
+use Rattle.lists.proofs.Each.{All-of_map}
+use Rattle.lists.proofs.Images.{one_item}
+use Rattle.lists.proofs.Zips.{zip_mapped}
 use Rattle.field.specs.Ring.{Ring}
 use Rattle.expressions.specs.Window.{Window}
 use Rattle.expressions.specs.declared.base_expression.SymbolicExpression.{SymbolicExpression}
-use Rattle.lookup_record.proofs.Elements.{all_of_map}
 use Rattle.lookup_model.specs.Outline.{Outline, fields_of}
 use Rattle.lookup_model.specs.Sent.{Sent, branch_at, sent, sent_at, values}
 use Rattle.lookup_model.specs.declared.error.LookupError.{LookupError}
@@ -17,13 +19,11 @@ use Rattle.lookup.specs.BusWidths.{widths_of}
 use Rattle.lookup.specs.Fewest.{AnswersDegree}
 use Rattle.lookup.specs.Packing.{Packs}
 use Rattle.lookup.proofs.JoinedMessages.{option_mapped}
-use Rattle.lookup.proofs.ZippedLists.{zip_mapped}
 use Rattle.lookup.specs.Lookups.{StillFit, lookups_of}
 use Rattle.lookup.specs.Sends.{lookup_bus_and_weight}
 use Rattle.lookup.specs.declared.lookups.Lookups.{Lookups}
 use Rattle.lookup_program.specs.Machines.{AreLookupsOf, air_bus_and_weight}
 use Rattle.lookup_program.specs.declared.airs.MachineAir.{MachineAir}
-use Rattle.lookup_program.proofs.AirLaws.{one_item}
 
 module _ {F : Type 0} (R : Ring F) (eq : F → F → Bool) where
   -- what a lookup with these fields sends
@@ -57,7 +57,7 @@ module _ {F : Type 0} (R : Ring F) (eq : F → F → Bool) where
         record {
           one = ap (map lookup_bus_and_weight) only ∙ (λ i. ((fields i).bus, (fields i).count_weight) ∷ []) ∙ sym (ap (map lookup_bus_and_weight) is) ∙ are.one;
           fit = fits _ are.fit;
-          widths = subst (λ (t : List (Lookup F)). All IsNarrow t) (sym only) (All-cons IsNarrow k [] (all_of_map (λ tuple. length tuple ≡ 1) (λ tuple. tuple.items) k.elements.items tuples) (All-nil IsNarrow));
+          widths = subst (λ (t : List (Lookup F)). All IsNarrow t) (sym only) (All-cons IsNarrow k [] (All-of_map (λ tuple. length tuple ≡ 1) (λ tuple. tuple.items) k.elements.items tuples) (All-nil IsNarrow));
           sends = λ w widths.
               ap (map (λ m. sent_at R eq w 0 m)) only
               ∙ ap (λ s. s ∷ []) (seen_sent w k ∙ ap (sent_by w) fields ∙ sym (seen_sent w l))

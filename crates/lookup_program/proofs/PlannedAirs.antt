@@ -4,6 +4,8 @@ use Rattle.std.proofs.lemmas.List.{length-map}
 use Rattle.std.proofs.lemmas.List.Elements.{All-cons, All-nil}
 use Rattle.std.proofs.lemmas.List.Sums.{sum_by-cons}
 use Rattle.std.specs.List.{AllZip, sum_by, zip}
+use Rattle.lists.proofs.Items.{one_of}
+use Rattle.lists.proofs.Images.{one_item, two_items}
 use Rattle.field.specs.Ring.{Ring}
 use Rattle.matrix.specs.Matrix.{Matrix, height}
 use Rattle.lookup_model.specs.Outline.{bus_of}
@@ -29,15 +31,8 @@ use Rattle.lookup_program.specs.declared.airs.MachineAir.TheVariants.{Entries, G
 use Rattle.lookup_program.specs.declared.machine.Machine.{Machine}
 use Rattle.lookup_program.specs.declared.machine.Machine.TheVariants.{Bus, Exclusive, Range}
 use Rattle.lookup_program.specs.declared.traces.AirTrace.{AirTrace}
-use Rattle.lookup_program.proofs.AirLaws.{one_item, two_items}
 use Rattle.lookup_program.proofs.BatchLaws.{airs_within, fitting, ids, instance}
 use Rattle.lookup_program.proofs.PlannedWidths.{AreOnes, no_bus_mismatch, no_local_mismatch}
-
--- a list of one item
-one_of : {A : Type 0} (xs : List A) → length xs ≡ 1 → (x : A) × (xs ≡ x ∷ [])
-one_of [] one = absurd (omega (arith, one))
-one_of (x ∷ []) one = (x, refl)
-one_of (x ∷ y ∷ xs) one = absurd (omega (arith, one))
 
 module _ {F : Type 0} where
   -- the lookups and the heights of some AIRs

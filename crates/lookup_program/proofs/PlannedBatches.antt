@@ -2,6 +2,7 @@
 use Rattle.std.proofs.Common.{◌≡◌, ◌⊎◌, ◌<◌, ℕ, Bool, inl, inr, List, All, length, map, sym, ap, ap₂, subst, subst₂, arith, ◌∙◌}
 use Rattle.std.proofs.lemmas.List.{length-map}
 use Rattle.std.specs.List.{AllZip, zip}
+use Rattle.lists.proofs.Images.{map-map}
 use Rattle.field.specs.Characteristic.{IsPrime}
 use Rattle.field.specs.Ring.{Ring}
 use Rattle.matrix.specs.Matrix.{Matrix, height}
@@ -10,7 +11,6 @@ use Rattle.lookup_model.specs.Batches.Instances.{Instance}
 use Rattle.lookup_model.specs.Batches.Witnesses.{plain_witness, results_of}
 use Rattle.lookup_model.specs.declared.fault.BatchFault.{BatchFault}
 use Rattle.lookup_model.specs.declared.witness.Witness.{Witness}
-use Rattle.lookup_model.proofs.HornerRule.{map-map}
 use Rattle.lookup_model.specs.Challenges.{ChallengeTable}
 use Rattle.field.specs.Extension.{Extension}
 use Rattle.lookup.specs.Guards.{weighted_height_sum}

@@ -2,6 +2,7 @@
 use Rattle.std.proofs.Common.{◌≡◌, ◌≤◌, ◌++◌, ℕ, Bool, true, false, cond, List, [], ◌∷◌, Some, All, length, map, refl, sym, ap, subst, arith, ◌∙◌}
 use Rattle.std.proofs.lemmas.List.Elements.{All-append, All-filter, All-head, All-map, All-nil, All-tail, recursion_from_All}
 use Rattle.std.specs.List.{AllByRecursion, flat_map}
+use Rattle.lists.proofs.Each.{all_front, all_back, All-there, All-parts}
 use Rattle.lookup_model.specs.LookupDegree.{greatest}
 use Rattle.lookup_model.specs.Outline.{Outline, fields_of}
 use Rattle.lookup_model.specs.declared.error.LookupError.{LookupError}
@@ -11,16 +12,8 @@ use Rattle.lookup_model.specs.Names.{is_named, same_name}
 use Rattle.lookup.specs.Lookups.{lookups_of}
 use Rattle.lookup.specs.NamedWidths.{IsFirstWidthMismatch, first_width, named_widths}
 use Rattle.lookup.specs.declared.lookups.Lookups.{Lookups}
-use Rattle.lookup_model.proofs.Lists.{all_back, all_front}
-use Rattle.batch.proofs.ItemLaws.{there_holds}
 use Rattle.batch.specs.Checks.{IsFirstLocalMismatch, bus_widths_of}
 use Rattle.batch.specs.PlanFacts.{lookup_widths, message_width, all_tuple_widths}
-
--- what holds of each item of each part holds of each item of all parts
-all_flat : {A B : Type 0} (P : B → Type 0) (f : A → List B) (xs : List A) → All (λ x. All P (f x)) xs → All P (flat_map f xs)
-all_flat P f [] all = All-nil P
-all_flat P f (x ∷ xs) all =
-    All-append P (f x) (flat_map f xs) (All-head (λ y. All P (f y)) x xs all) (all_flat P f xs (All-tail (λ y. All P (f y)) x xs all))
 
 -- a width with its name is 1
 abbrev IsOne : List ℕ × ℕ → Type 0
@@ -46,13 +39,13 @@ module _ {E : Type 0} where
   -- their widths are 1, under each name
   named_ones : (os : List (Outline E)) → All HasOnes os → All IsOne (named_widths os)
   named_ones os all =
-      all_flat IsOne (λ g. map (λ w. (g.0, w)) (flat_map widths_of g.1)) (bus_groups os)
+      All-parts IsOne (λ g. map (λ w. (g.0, w)) (flat_map widths_of g.1)) (bus_groups os)
       (All-map (λ g. All IsOne (map (λ w. (g.0, w)) (flat_map widths_of g.1))) (λ name. (name, on_bus name os)) (bus_names os) (λ n d lt. under_name _))
     where
       under_name : (name : List ℕ) → All IsOne (map (λ w. (name, w)) (flat_map widths_of (on_bus name os)))
       under_name name =
           All-map IsOne (λ w. (name, w)) (flat_map widths_of (on_bus name os))
-          (all_flat (λ w. w ≡ 1) widths_of (on_bus name os)
+          (All-parts (λ w. w ≡ 1) widths_of (on_bus name os)
           (λ n d lt. All-map (λ w. w ≡ 1) length _ (All-filter (λ o. is_named name o.bus) HasOnes os all n d lt)))
 
 module _ {F : Type 0} where
@@ -63,7 +56,7 @@ module _ {F : Type 0} where
   module _ (airs : List (Lookups F)) (ones : All AreOnes airs) (e : LookupError) where
     widths_are_ones : All IsOne (bus_widths_of airs)
     widths_are_ones =
-        all_flat IsOne named_widths (map (λ air. map fields_of (lookups_of air)) airs)
+        All-parts IsOne named_widths (map (λ air. map fields_of (lookups_of air)) airs)
         (All-map (λ os. All IsOne (named_widths os)) (λ air. map fields_of (lookups_of air)) airs
         (λ n d lt. named_ones (map fields_of _) (All-map HasOnes fields_of _ (λ m l le. All-map (λ tuple. length tuple ≡ 1) (λ tuple. tuple.items) _ (ones n d lt m l le)))))
 
@@ -80,11 +73,11 @@ module _ {F : Type 0} where
     pub no_local_mismatch : ¬ IsFirstLocalMismatch airs e
     no_local_mismatch first =
         let inner = first.fault in
-        let tuples = there_holds (λ l. All (λ tuple. length tuple.items ≡ 1) l.elements.items) (lookups_of first.item) inner.index inner.item (there_holds AreOnes airs first.index first.item ones first.is_there) inner.is_there in
+        let tuples = All-there (λ l. All (λ tuple. length tuple.items ≡ 1) l.elements.items) (lookups_of first.item) inner.index inner.item (All-there AreOnes airs first.index first.item ones first.is_there) inner.is_there in
         let widths : All (λ w. w ≡ 1) (lookup_widths inner.item) = All-map (λ w. w ≡ 1) (λ tuple. length tuple.items) inner.item.elements.items tuples in
         let differ = inner.fault.uneven.differ in
-        let width : inner.fault.uneven.width ≡ 1 = there_holds (λ w. w ≡ 1) (lookup_widths inner.item) 0 inner.fault.uneven.width widths differ.first in
-        let other : inner.fault.uneven.other ≡ 1 = there_holds (λ w. w ≡ 1) (lookup_widths inner.item) differ.index inner.fault.uneven.other widths differ.found in
+        let width : inner.fault.uneven.width ≡ 1 = All-there (λ w. w ≡ 1) (lookup_widths inner.item) 0 inner.fault.uneven.width widths differ.first in
+        let other : inner.fault.uneven.other ≡ 1 = All-there (λ w. w ≡ 1) (lookup_widths inner.item) differ.index inner.fault.uneven.other widths differ.found in
         differ.differs (other ∙ sym width)
 
 -- the greatest of some ones is at most 1
@@ -96,6 +89,6 @@ ones_below (w ∷ ws) all = omega (arith, all.0, ones_below ws all.1)
 pub width_is_one : {F : Type 0} (airs : List (Lookups F)) → All AreOnes airs → message_width airs ≡ 1
 width_is_one airs ones =
     let all : All (λ w. w ≡ 1) (all_tuple_widths airs) =
-    all_flat (λ w. w ≡ 1) (λ air. flat_map lookup_widths (lookups_of air)) airs
-    (λ n d lt. all_flat (λ w. w ≡ 1) lookup_widths _ (λ m l le. All-map (λ w. w ≡ 1) (λ tuple. length tuple.items) _ (ones n d lt m l le))) in
+    All-parts (λ w. w ≡ 1) (λ air. flat_map lookup_widths (lookups_of air)) airs
+    (λ n d lt. All-parts (λ w. w ≡ 1) lookup_widths _ (λ m l le. All-map (λ w. w ≡ 1) (λ tuple. length tuple.items) _ (ones n d lt m l le))) in
     omega (arith, ones_below (all_tuple_widths airs) (recursion_from_All (λ w. w ≡ 1) (all_tuple_widths airs) all))

@@ -3,16 +3,17 @@ use Rattle.std.proofs.Common.{◌≡◌, ◌++◌, ◌+◌, ◌<◌, ℕ, zero, 
 use Rattle.std.proofs.lemmas.Grind.{flat_map-append}
 use Rattle.std.specs.List.{enumerate_from, flat_map, range_with_len, zip}
 use Rattle.std.proofs.lemmas.List.{append-nil, length-take-le, take_more}
+use Rattle.lists.proofs.Zips.{zip_at}
+use Rattle.lists.proofs.Parts.{flat_more}
 use Rattle.matrix.specs.Matrix.{Matrix}
 use Rattle.lookup_model.specs.declared.types.LookupTerminal.{LookupTerminal}
 use Rattle.lookup_program.specs.Report.{air_lines, witness_lines}
-use Rattle.lookup_program.proofs.TraceLaws.{more_parts}
 
 -- a text to which the line of the next row is appended has one row's line more
 pub appended_line : (line : ℕ → List ℕ) (n : ℕ) (old before air after : List ℕ) → before ≡ old ++ (codes "air " ++ (air ++ (codes "\n" ++ flat_map line (range_with_len 0 n)))) → after ≡ before ++ line n
     → after ≡ old ++ (codes "air " ++ (air ++ (codes "\n" ++ flat_map line (range_with_len 0 (n + 1)))))
 appended_line line n old before air after is appended =
-    rw (more_parts line n) (appended ∙ ap (λ t. t ++ line n) is
+    rw (flat_more line n) (appended ∙ ap (λ t. t ++ line n) is
     ∙ (append_assoc old _ (line n)
     ∙ ap (λ t. old ++ t) (append_assoc (codes "air ") _ (line n) ∙ ap (λ t. codes "air " ++ t) (append_assoc air _ (line n) ∙ ap (λ t. air ++ t) (append_assoc (codes "\n") _ (line n))))))
 
@@ -20,13 +21,6 @@ appended_line line n old before air after is appended =
 enumerate_push : {X : Type 0} (n : ℕ) (xs : List X) (x : X) → enumerate_from n (xs ++ x ∷ []) ≡ enumerate_from n xs ++ (n + length xs, x) ∷ []
 enumerate_push n [] x = ap (λ k. (k, x) ∷ []) (omega arith)
 enumerate_push n (y ∷ ys) x = ap (λ t. (n, y) ∷ t) (enumerate_push (n + 1) ys x ∙ ap (λ k. enumerate_from (n + 1) ys ++ (k, x) ∷ []) (omega arith))
-
--- pairs of the items at an index
-zip_at : {A B : Type 0} (xs : List A) (ys : List B) (i : ℕ) (x : A) (y : B) → length xs ≡ length ys → i < length xs → x ≡ get_or xs i x → y ≡ get_or ys i y → (x, y) ≡ get_or (zip xs ys) i (x, y)
-zip_at [] ys i x y same lt first second = absurd (omega (arith, lt))
-zip_at (a ∷ xs) [] i x y same lt first second = absurd (omega (arith, same))
-zip_at (a ∷ xs) (b ∷ ys) zero x y same lt first second = λ k. (first k, second k)
-zip_at (a ∷ xs) (b ∷ ys) (suc i) x y same lt first second = zip_at xs ys i x y (omega (arith, same)) (omega (arith, lt)) first second
 
 -- as many pairs as items
 pub length_zip : {A B : Type 0} (xs : List A) (ys : List B) → length xs ≡ length ys → length (zip xs ys) ≡ length xs

@@ -2,6 +2,7 @@
 use Rattle.std.proofs.Common.{◌≡◌, ◌≢◌, ◌↔◌, ◌++◌, ◌<◌, ℕ, Bool, IsTrue, List, [], Option, Result, Ok, Err, MatchResult, is_ok, length, map, string_bytes, refl, subst, sym, ap, ap₂, ◌∙◌}
 use Rattle.std.specs.declared.alloc.Global.{Global}
 use Rattle.std.specs.declared.string.String.{String}
+use Rattle.lists.proofs.Zips.{seconds}
 use Rattle.matrix.specs.Matrix.{Matrix}
 use Rattle.lookup_model.specs.Batches.Witnesses.{results_of}
 use Rattle.lookup_model.specs.declared.witness.Witness.{Witness}
@@ -16,7 +17,6 @@ use Rattle.lookup_program.specs.Mismatches.{IsMismatchLine}
 use Rattle.lookup_program.specs.Program.{AreFaultlessAirs, IsReport, height_sum, machine_witness}
 use Rattle.lookup_program.specs.Report.{verdict_line, witness_lines}
 use Rattle.lookup_program.specs.declared.machine.Machine.{Machine}
-use Rattle.checker.proofs.WitnessLaws.{seconds}
 
 -- what is appended to nothing
 pub after_nothing : {X : Type 0} (all before more : List X) → all ≡ before ++ more → before ≡ [] → all ≡ more

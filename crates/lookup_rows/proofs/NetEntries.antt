@@ -4,13 +4,13 @@ use Rattle.std.proofs.lemmas.List.{append-nil, map-append, map_more}
 use Rattle.std.proofs.lemmas.List.Elements.{filter-append}
 use Rattle.std.specs.List.{filter, list_any, AllByRecursion}
 use Rattle.std.specs.Map.{lookup}
+use Rattle.lists.proofs.Items.{take_item}
 use Rattle.indexmap.specs.IndexMap.{insert_entry}
 use Rattle.field.specs.Ring.{Ring, IsCommutativeRing}
 use Rattle.field.specs.Sums.{sum_in}
 use Rattle.lookup_model.specs.Net.{first_seen}
 use Rattle.lookup_model.proofs.SumLaws.{sum_in-push}
 use Rattle.lookup_model.proofs.Lookups.Regrouping.{IsSeparate, first_seen_separate}
-use Rattle.lookup_model.proofs.Lookups.Rows.{take_item}
 use Rattle.lookup_rows.proofs.FirstSeen.{first_seen-push}
 
 module _ {A : Type 0} (same : A → A → Bool) (decides : (a b : A) → Decides (same a b) (a ≡ b)) where
@@ -164,10 +164,6 @@ module _ {A K V : Type 0} (same : A → A → Bool) (view : K → A) where
           → viewed (cond p ((e.0, v) ∷ es) (e ∷ insert_entry (λ i j. same (view i) (view j)) es k v)) ≡ cond p ((view e.0, v) ∷ viewed es) ((view e.0, e.1) ∷ insert_entry same (viewed es) (view k) v)
       by_test true rest = refl
       by_test false rest = ap (λ t. (view e.0, e.1) ∷ t) rest
-
--- the first items and one more
-pub mapped-more : {X Y : Type 0} (f : X → Y) (xs : List X) (i : ℕ) (x : X) → i < length xs → x ≡ get_or xs i x → map f (take (i + 1) xs) ≡ map f (take i xs) ++ f x ∷ []
-mapped-more f xs i x lt is = map_more f xs i x lt ∙ ap (λ t. map f (take i xs) ++ f t ∷ []) (sym is)
 
 -- The step of a map of nets: x is added to the value at its key, or to zero where the key is new.
 module _ {A K F X : Type 0} (same : A → A → Bool) (decides : (a b : A) → Decides (same a b) (a ≡ b)) (view : K → A) {R : Ring F} (laws : IsCommutativeRing R) (key : X → A) (amount : X → F) where

@@ -4,6 +4,7 @@ use Rattle.std.proofs.Math.Seq.{take-append_seam}
 use Rattle.std.proofs.lemmas.List.{append-nil, append_assoc, flat_map_more, length-take}
 use Rattle.std.proofs.lemmas.List.FromFn.{get_or-map-range_with_len, length-map-range_with_len}
 use Rattle.std.specs.List.{flat_map, slice_get}
+use Rattle.lists.proofs.Items.{take_item, split_at}
 use Rattle.field.specs.Ring.{Ring}
 use Rattle.matrix.specs.Matrix.{height}
 use Rattle.air.specs.Traces.{AirTraces, window_of}
@@ -15,7 +16,7 @@ use Rattle.lookup_model.specs.Trace.{sent_row_under, sent_rows_under}
 use Rattle.lookup_model.specs.declared.error.LookupError.{LookupError}
 use Rattle.lookup_model.specs.declared.types.Lookup.{Lookup}
 use Rattle.lookup_model.proofs.Lookups.LookupFaults.{flags_faultless}
-use Rattle.lookup_model.proofs.Lookups.Rows.{row_faults-none, split_at, take_item, trace_faults-first, trace_faults-none}
+use Rattle.lookup_model.proofs.Lookups.Rows.{row_faults-none, trace_faults-first, trace_faults-none}
 use Rattle.lookup_model.proofs.Lookups.Selections.{chosen_none, chosen_one}
 use Rattle.lookup_rows.specs.SentMessages.{HasSentRow, HasSentRows, StayInFront, messages_of}
 use Rattle.lookup_rows.specs.declared.messages.SentMessage.{SentMessage}

@@ -5,6 +5,8 @@ use Rattle.std.proofs.Math.Nat.{mod-eq_of_lt}
 use Rattle.std.proofs.lemmas.Bool.{eq-eqb, ne_eqb}
 use Rattle.std.proofs.lemmas.List.{append-nil}
 use Rattle.std.specs.List.{AllByRecursion, AllZip, flat_map, range_with_len}
+use Rattle.lists.proofs.Zips.{AllZip-of_one}
+use Rattle.lists.proofs.Each.{all_front, all_back, all_of_map}
 use Rattle.field.specs.laws.Distinct.{all_weaker}
 use Rattle.field.specs.Ring.{of_bool, sub_in}
 use Rattle.field.specs.laws.RingFacts.{one_mul, same_from_difference, zero_add}
@@ -25,9 +27,10 @@ use Rattle.lookup_model.proofs.Lookups.Shapes.{shape-none, shape-some}
 use Rattle.lookup_model.specs.Batches.Equations.{CanSumTo, Equation, Solves, air_equations, batch_equations, challenged_window, equation_at, row_equations}
 use Rattle.lookup_model.specs.Batches.Instances.{Instance, IsFitting}
 use Rattle.lookup_model.specs.Batches.Witnesses.{AirResult, AreSatisfied, IsSatisfiedAt}
-use Rattle.lookup_model.proofs.Lists.{all_back, all_front, all_of_map}
 use Rattle.lookup_model.proofs.Batches.SolutionSums.{sum_of_none, sums_together}
-use Rattle.lookup_model.proofs.Batches.Zipped.{nothing_flat, zipped_flat, zipped_images}
+use Rattle.lists.proofs.Each.{all_range, each_of}
+use Rattle.lists.proofs.Parts.{nothing_flat}
+use Rattle.lists.proofs.Zips.{AllZip-flat_of_one}
 
 module _ {F K : Type 0} {E : Extension F K} (laws : IsLawful E) (table : ChallengeTable K) where
   module _ (i : Instance F) (some : 0 < length i.lookups) (nonempty : 0 < height i.traces.main) (auxiliary : Matrix K) (terminal : Option (LookupTerminal K)) (satisfied : IsSatisfiedAt E table i (auxiliary, terminal)) where
@@ -43,7 +46,7 @@ module _ {F K : Type 0} {E : Extension F K} (laws : IsLawful E) (table : Challen
     -- the fractions of a row solve its equations
     solved_on : (r : ℕ) → r < height i.traces.main → AllZip (Solves E.ring) (row_equations E (challenged_window E table i r) i.lookups) (fractions_on r)
     solved_on r lt =
-        zipped_images (Solves E.ring) (equation_at E (challenged_window E table i r)) (λ lookup. fraction_at E lookup.column (window_of r)) i.lookups
+        AllZip-of_one (Solves E.ring) (equation_at E (challenged_window E table i r)) (λ lookup. fraction_at E lookup.column (window_of r)) i.lookups
         (all_weaker (λ lookup. IsZeroAt r (fraction_constraint E lookup)) (λ lookup. Solves E.ring (equation_at E (challenged_window E table i r) lookup) (fraction_at E lookup.column (window_of r)))
         (λ lookup is_zero. same_from_difference laws.ring _ _ is_zero) i.lookups
         (all_of_map (IsZeroAt r) (fraction_constraint E) i.lookups (all_front (IsZeroAt r) (map (fraction_constraint E) i.lookups) (accumulator_constraints E i.lookups (terminal_at E) (λ t. 0)) (satisfied.equations r lt))))
@@ -102,7 +105,7 @@ module _ {F K : Type 0} {E : Extension F K} (laws : IsLawful E) (table : Challen
         let present = (shape-some i.lookups (height i.traces.main) auxiliary terminal some satisfied.shape).2 in
         record {
           fractions = flat_map fractions_on (range_with_len 0 (height i.traces.main));
-          solve = zipped_flat (Solves E.ring) (λ r. row_equations E (challenged_window E table i r) i.lookups) fractions_on 0 (height i.traces.main) (λ r lt. solved_on r (omega (arith, lt)));
+          solve = AllZip-flat_of_one (Solves E.ring) (λ r. row_equations E (challenged_window E table i r) i.lookups) fractions_on (range_with_len 0 (height i.traces.main)) (all_range _ 0 (height i.traces.main) (λ r lt. solved_on r (omega (arith, lt))));
           sum = all_summed (height i.traces.main) refl ∙ terminal_is present.0 present.1;
         }
 
@@ -114,7 +117,7 @@ module _ {F K : Type 0} {E : Extension F K} (laws : IsLawful E) (table : Challen
       by_lookups [] is =
           let none = shape-none i.lookups (height i.traces.main) auxiliary terminal is satisfied.shape in
           let empty : air_equations E table i ≡ [] =
-          nothing_flat (λ r. row_equations E (challenged_window E table i r) i.lookups) (λ r. ap (row_equations E (challenged_window E table i r)) is) (range_with_len 0 (height i.traces.main)) in
+          nothing_flat (λ r. row_equations E (challenged_window E table i r) i.lookups) (range_with_len 0 (height i.traces.main)) (each_of _ (λ r. ap (row_equations E (challenged_window E table i r)) is) (range_with_len 0 (height i.traces.main))) in
           subst (λ (es : List (Equation K)). CanSumTo E.ring es (terminal_value E.ring terminal)) (sym empty)
           (subst (CanSumTo E.ring []) (ap (terminal_value E.ring) (sym none.1)) (sum_of_none laws.ring))
       by_lookups (l ∷ ls) is =

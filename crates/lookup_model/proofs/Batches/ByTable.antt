@@ -1,8 +1,10 @@
 -- The lookups of an AIR over the challenges of its columns, and under the ids of a table.
 use Rattle.std.proofs.Common.{◌≡◌, ℕ, zero, suc, ◌+◌, ◌*◌, ◌<◌, Bool, true, false, cond, Option, None, Some, List, [], ◌∷◌, length, map, get_or, refl, ap, ◌∙◌, arith}
-use Rattle.std.specs.List.{AllByRecursion, AllZip, filter, range_with_len, zip}
+use Rattle.std.specs.List.{AllZip, filter, range_with_len, zip}
 use Rattle.std.specs.declared.alloc.Global.{Global}
 use Rattle.std.specs.declared.vec.Vec.{Vec}
+use Rattle.lists.proofs.Zips.{AllZip-of_one}
+use Rattle.lists.proofs.Each.{all_indexed, each_of}
 use Rattle.matrix.specs.Matrix.{height}
 use Rattle.expressions.specs.Window.{Window}
 use Rattle.air.specs.Traces.{window_of}
@@ -13,7 +15,6 @@ use Rattle.lookup_model.specs.Message.{Key, Message}
 use Rattle.lookup_model.specs.Sent.{branch_at, chosen, flags_at, sent, sent_at}
 use Rattle.lookup_model.proofs.Lookups.SentRows.{column_is}
 use Rattle.lookup_model.specs.declared.types.Lookup.{Lookup}
-use Rattle.lookup_model.proofs.Lists.{all_indexed}
 use Rattle.lookup_model.specs.Batches.Instances.{Instance, IsFitting}
 use Rattle.lookup_model.specs.Batches.Messages.{id_of, sent_rows_of}
 use Rattle.lookup_model.specs.Challenges.{ChallengeTable, column_challenges, table_key_denominator}
@@ -35,14 +36,6 @@ module _ {K : Type 0} (table : ChallengeTable K) (d : K) where
   beta_at (id ∷ ids) (suc c) lt =
       let two : 2 * suc c + 1 ≡ suc (suc (2 * c + 1)) = omega arith in
       ap (λ i. get_or (column_challenges table (id ∷ ids)) i d) two ∙ beta_at ids c (omega (arith, lt))
-
-AllZip-images : {A B C : Type 0} (P : B → C → Type 0) (f : A → B) (g : A → C) (xs : List A) → AllByRecursion (λ x. P (f x) (g x)) xs → AllZip P (map f xs) (map g xs)
-AllZip-images P f g [] all = tt
-AllZip-images P f g (x ∷ xs) all = (all.0, AllZip-images P f g xs all.1)
-
-all_items : {A : Type 0} (P : A → Type 0) → ((x : A) → P x) → (xs : List A) → AllByRecursion P xs
-all_items P each [] = tt
-all_items P each (x ∷ xs) = (each x, all_items P each xs)
 
 module _ {F K : Type 0} {E : Extension F K} (laws : IsLawful E) (table : ChallengeTable K) (instance : Instance F) (fitting : IsFitting instance) where
   abbrev challenges : List K
@@ -88,7 +81,7 @@ module _ {F K : Type 0} {E : Extension F K} (laws : IsLawful E) (table : Challen
 
   alike_row : (w : Window F) → AllZip (IsAlike laws column_den den) (sent_row E.base E.base_eq w instance.lookups) (sent_row_under E.base E.base_eq (id_of instance.ids) w instance.lookups)
   alike_row w =
-      AllZip-images (IsAlike laws column_den den) (λ lookup. sent_at E.base E.base_eq w lookup.column lookup) (λ lookup. sent_at E.base E.base_eq w (id_of instance.ids lookup) lookup) instance.lookups
+      AllZip-of_one (IsAlike laws column_den den) (λ lookup. sent_at E.base E.base_eq w lookup.column lookup) (λ lookup. sent_at E.base E.base_eq w (id_of instance.ids lookup) lookup) instance.lookups
       (all_indexed (λ lookup. IsAlike laws column_den den (sent_at E.base E.base_eq w lookup.column lookup) (sent_at E.base E.base_eq w (id_of instance.ids lookup) lookup)) instance.lookups each)
     where
       each : (k : ℕ) (lookup : Lookup F) → k < length instance.lookups → lookup ≡ get_or instance.lookups k lookup → IsAlike laws column_den den (sent_at E.base E.base_eq w lookup.column lookup) (sent_at E.base E.base_eq w (id_of instance.ids lookup) lookup)
@@ -102,5 +95,5 @@ module _ {F K : Type 0} {E : Extension F K} (laws : IsLawful E) (table : Challen
   pub alike_rows : AreRowsAlike laws column_den den (sent_rows E.base E.base_eq instance.traces instance.lookups) (sent_rows_of E.base E.base_eq instance)
   alike_rows =
       let window = λ (r : ℕ). window_of instance.traces r in
-      AllZip-images (AllZip (IsAlike laws column_den den)) (λ r. sent_row E.base E.base_eq (window r) instance.lookups) (λ r. sent_row_under E.base E.base_eq (id_of instance.ids) (window r) instance.lookups) (range_with_len 0 (height instance.traces.main))
-      (all_items (λ r. AllZip (IsAlike laws column_den den) (sent_row E.base E.base_eq (window r) instance.lookups) (sent_row_under E.base E.base_eq (id_of instance.ids) (window r) instance.lookups)) (λ r. alike_row (window r)) (range_with_len 0 (height instance.traces.main)))
+      AllZip-of_one (AllZip (IsAlike laws column_den den)) (λ r. sent_row E.base E.base_eq (window r) instance.lookups) (λ r. sent_row_under E.base E.base_eq (id_of instance.ids) (window r) instance.lookups) (range_with_len 0 (height instance.traces.main))
+      (each_of (λ r. AllZip (IsAlike laws column_den den) (sent_row E.base E.base_eq (window r) instance.lookups) (sent_row_under E.base E.base_eq (id_of instance.ids) (window r) instance.lookups)) (λ r. alike_row (window r)) (range_with_len 0 (height instance.traces.main)))

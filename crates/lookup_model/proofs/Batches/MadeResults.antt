@@ -1,14 +1,19 @@
 -- Solutions of the equations of a batch make a satisfied witness, whose terminals are their sums.
-use Rattle.std.proofs.Common.{◌≡◌, ℕ, zero, suc, ◌+◌, ◌*◌, ◌<◌, Option, None, Some, List, [], ◌∷◌, ◌++◌, length, map, take, get_or, slice_index_or, refl, sym, ap, subst, ◌∙◌, arith}
+use Rattle.std.proofs.Common.{◌≡◌, ℕ, suc, ◌+◌, ◌*◌, ◌<◌, Option, None, Some, List, [], ◌∷◌, ◌++◌, length, map, take, get_or, slice_index_or, refl, sym, ap, subst, ◌∙◌, arith}
 use Rattle.std.proofs.lemmas.Grind.{flat_map-append}
-use Rattle.std.proofs.lemmas.List.{append-nil, ext_get_or, get_or_default, length-append, length-map, take_all, take_more}
+use Rattle.std.proofs.lemmas.List.{append-nil, ext_get_or, get_or_default, length-map, take_all, take_more}
 use Rattle.std.proofs.lemmas.List.FromFn.{length-range_with_len}
 use Rattle.std.specs.List.{AllByRecursion, AllZip, flat_map, range_with_len}
+use Rattle.std.proofs.lemmas.Slice.Zip.{AllZip-long}
+use Rattle.lists.proofs.Images.{mapped_at}
+use Rattle.lists.proofs.Parts.{nothing_flat, row_of_parts, length_rows}
+use Rattle.lists.proofs.Each.{each_of}
+use Rattle.lists.proofs.Zips.{AllZip-ranged, AllZip-at, AllZip-rows}
+use Rattle.lists.proofs.Items.{item_at}
 use Rattle.field.specs.Ring.{sub_in}
 use Rattle.field.specs.Sums.{sum_in}
 use Rattle.matrix.specs.Matrix.{Matrix, height, row}
 use Rattle.expressions.specs.Window.{ExtWindow}
-use Rattle.lookup_model.proofs.Branches.{mapped_at}
 use Rattle.lookup_model.proofs.SumLaws.{sum_in-append}
 use Rattle.lookup_model.specs.Challenges.{ChallengeTable, column_challenges}
 use Rattle.lookup_model.specs.Constraints.{accumulator_at, fraction_at, fraction_constraint, fractions_at}
@@ -19,21 +24,12 @@ use Rattle.lookup_model.specs.Witness.{witness_window}
 use Rattle.lookup_model.specs.declared.types.Lookup.{Lookup}
 use Rattle.lookup_model.specs.declared.types.LookupTerminal.{LookupTerminal}
 use Rattle.lookup_model.proofs.Lookups.RunningSums.{running_satisfied}
-use Rattle.lookup_model.proofs.Lookups.SatisfiedRows.{none_satisfied, row_of_parts}
+use Rattle.lookup_model.proofs.Lookups.SatisfiedRows.{none_satisfied}
 use Rattle.lookup_model.proofs.Lookups.SentRows.{column_is}
 use Rattle.lookup_model.specs.Batches.Equations.{CanSumTo, Equation, Solves, air_equations, batch_equations, challenged_window, equation_at, row_equations}
 use Rattle.lookup_model.specs.Batches.Instances.{Instance, IsFitting}
 use Rattle.lookup_model.specs.Batches.Witnesses.{AirResult, AreSatisfied, IsSatisfiedAt}
-use Rattle.lookup_model.proofs.Lists.{item_at}
 use Rattle.lookup_model.proofs.Batches.SolutionSums.{none_sums, sums_apart}
-use Rattle.lookup_model.proofs.Batches.Zipped.{nothing_flat, ranged_at, zipped_at, zipped_long, zipped_rows}
-
--- rows of one length, put together
-length_flat : {A : Type 0} (f : ℕ → List A) (width a m : ℕ) → ((r : ℕ) → r < a + m → length (f r) ≡ width) → length (flat_map f (range_with_len a m)) ≡ m * width
-length_flat f width a zero each = omega arith
-length_flat f width a (suc m) each =
-    length-append (f a) (flat_map f (range_with_len (a + 1) m))
-    ∙ omega (arith, each a (omega arith), length_flat f width (a + 1) m (λ r lt. each r (omega (arith, lt))))
 
 module _ {F K : Type 0} {E : Extension F K} (laws : IsLawful E) (table : ChallengeTable K) where
   module _ (i : Instance F) (records : AreRecords i.lookups) (some : 0 < length i.lookups) (rows : List (List K)) (each : AllZip (λ (r : ℕ) (row : List K). AllZip (Solves E.ring) (row_equations E (challenged_window E table i r) i.lookups) row) (range_with_len 0 (height i.traces.main)) rows) where
@@ -57,17 +53,17 @@ module _ {F K : Type 0} {E : Extension F K} (laws : IsLawful E) (table : Challen
     window_of r = witness_window i.traces (column_challenges table i.ids) auxiliary terminal r
 
     many : length rows ≡ height i.traces.main
-    many = zipped_long (λ (r : ℕ) (row : List K). AllZip (Solves E.ring) (row_equations E (challenged_window E table i r) i.lookups) row) (range_with_len 0 (height i.traces.main)) rows each ∙ length-range_with_len 0 (height i.traces.main)
+    many = AllZip-long (λ (r : ℕ) (row : List K). AllZip (Solves E.ring) (row_equations E (challenged_window E table i r) i.lookups) row) (range_with_len 0 (height i.traces.main)) rows each ∙ length-range_with_len 0 (height i.traces.main)
 
     solved_on : (r : ℕ) → r < height i.traces.main → AllZip (Solves E.ring) (row_equations E (challenged_window E table i r) i.lookups) (fractions_on r)
     solved_on r lt =
         let same : 0 + r ≡ r = omega arith in
         subst (λ (n : ℕ). AllZip (Solves E.ring) (row_equations E (challenged_window E table i n) i.lookups) (fractions_on r)) same
-        (ranged_at (λ (n : ℕ) (row : List K). AllZip (Solves E.ring) (row_equations E (challenged_window E table i n) i.lookups) row) 0 (height i.traces.main) r rows lt each)
+        (AllZip-ranged (λ (n : ℕ) (row : List K). AllZip (Solves E.ring) (row_equations E (challenged_window E table i n) i.lookups) row) 0 (height i.traces.main) r rows [] lt each)
 
     length-fractions : (r : ℕ) → r < height i.traces.main → length (fractions_on r) ≡ length i.lookups
     length-fractions r lt =
-        zipped_long (Solves E.ring) (row_equations E (challenged_window E table i r) i.lookups) (fractions_on r) (solved_on r lt) ∙ length-map i.lookups (equation_at E (challenged_window E table i r))
+        AllZip-long (Solves E.ring) (row_equations E (challenged_window E table i r) i.lookups) (fractions_on r) (solved_on r lt) ∙ length-map i.lookups (equation_at E (challenged_window E table i r))
 
     -- row r of the auxiliary trace
     row_is : (r : ℕ) → r < height i.traces.main → row auxiliary r ≡ made_row r
@@ -111,14 +107,14 @@ module _ {F K : Type 0} {E : Extension F K} (laws : IsLawful E) (table : Challen
 
     -- there are as many cells as rows of this width have
     long : length (flat_map made_row (range_with_len 0 (height i.traces.main))) ≡ height i.traces.main * (length i.lookups + 1)
-    long = length_flat made_row (length i.lookups + 1) 0 (height i.traces.main) (λ r lt. omega (arith, length-fractions r (omega (arith, lt))))
+    long = length_rows made_row (length i.lookups + 1) 0 (height i.traces.main) (λ r lt. omega (arith, length-fractions r (omega (arith, lt))))
 
     -- each lookup's constraint
     fraction_zero : (r : ℕ) → r < height i.traces.main → (k : ℕ) (lookup : Lookup F) → k < length i.lookups → lookup ≡ get_or i.lookups k lookup → (fraction_constraint E lookup).meaning (window_of r) ≡ E.ring.zero
     fraction_zero r lt k lookup below is =
         let e = equation_at E (challenged_window E table i r) in
         let solves : Solves E.ring (e lookup) (get_or (fractions_on r) k E.ring.zero) =
-        zipped_at (Solves E.ring) (map e i.lookups) (fractions_on r) k (e lookup) E.ring.zero (omega (arith, length-map i.lookups e, below)) (mapped_at e i.lookups k lookup below is) (solved_on r lt) in
+        AllZip-at (Solves E.ring) (map e i.lookups) (fractions_on r) k (e lookup) E.ring.zero (omega (arith, length-map i.lookups e, below)) (mapped_at e i.lookups k lookup below is) (solved_on r lt) in
         ap (λ f. sub_in E.ring (E.ring.mul (e lookup).denominator f) (e lookup).numerator) (fraction_is r lt k lookup below is)
         ∙ ap (λ t. sub_in E.ring t (e lookup).numerator) solves ∙ laws.ring.add_neg (e lookup).numerator
 
@@ -134,13 +130,13 @@ module _ {F K : Type 0} {E : Extension F K} (laws : IsLawful E) (table : Challen
       by_lookups : (ls : List (Lookup F)) → i.lookups ≡ ls → (result : AirResult K) × IsSatisfiedAt E table i result × (terminal_value E.ring result.1 ≡ total)
       by_lookups [] is =
           let empty : air_equations E table i ≡ [] =
-          nothing_flat (λ r. row_equations E (challenged_window E table i r) i.lookups) (λ r. ap (row_equations E (challenged_window E table i r)) is) (range_with_len 0 (height i.traces.main)) in (
+          nothing_flat (λ r. row_equations E (challenged_window E table i r) i.lookups) (range_with_len 0 (height i.traces.main)) (each_of _ (λ r. ap (row_equations E (challenged_window E table i r)) is) (range_with_len 0 (height i.traces.main))) in (
             (record { values = []; width = 0 }, None),
             none_satisfied E i.traces (column_challenges table i.ids) i.lookups (record { values = []; width = 0 }) is refl,
             none_sums laws.ring total (subst (λ (es : List (Equation K)). CanSumTo E.ring es total) empty sums),
           )
       by_lookups (l ∷ ls) is =
-          let (rows, each, joined) = zipped_rows (Solves E.ring) (λ r. row_equations E (challenged_window E table i r) i.lookups) 0 (height i.traces.main) sums.fractions sums.solve in (
+          let (rows, each, joined) = AllZip-rows (Solves E.ring) (λ r. row_equations E (challenged_window E table i r) i.lookups) 0 (height i.traces.main) sums.fractions sums.solve in (
             (auxiliary i fitting.fit.records (omega (arith, ap length is)) rows each, terminal i fitting.fit.records (omega (arith, ap length is)) rows each),
             made_satisfied i fitting.fit.records (omega (arith, ap length is)) rows each,
             ap (sum_in E.ring) joined ∙ sums.sum,

@@ -1,6 +1,7 @@
 -- Where no denominator vanishes one fraction alone satisfies the constraint of a lookup.
 use Rattle.std.proofs.Common.{◌≡◌, ◌≢◌, ℕ, ◌≤◌, Bool, true, false, ◌||◌, Option, None, Some, IfSome, List, [], ◌∷◌, length, map, refl, sym, ◌∙◌, arith}
 use Rattle.std.specs.List.{AllByRecursion}
+use Rattle.lists.proofs.Each.{all_kept}
 use Rattle.field.specs.Ring.{sub_in}
 use Rattle.field.specs.laws.RingFacts.{domain_cancel, product_nonzero, same_from_difference}
 use Rattle.field.specs.laws.RingSolver.{var, con, ◌:+◌, ◌:-◌, ring_law}
@@ -12,7 +13,6 @@ use Rattle.lookup_model.specs.Message.{Key, Message}
 use Rattle.lookup_model.specs.Plain.{counted}
 use Rattle.lookup_model.specs.Sent.{Sent, chosen, sent}
 use Rattle.lookup_model.proofs.Lookups.LookupFaults.{additive_faultless, exclusive_faultless}
-use Rattle.lookup_model.proofs.Lookups.Regrouping.{All-filter}
 use Rattle.lookup_model.proofs.Lookups.SatisfiedSelections.{flags_sum, selected_sum}
 use Rattle.lookup_model.proofs.Lookups.Selections.{chosen_few}
 use Rattle.lookup_model.specs.Batches.Messages.{HasLawfulFlags, NoneVanishes}
@@ -67,5 +67,5 @@ module _ {F K : Type 0} {E : Extension F K} (laws : IsLawful E) where
       where
         by_flags : (flags : Option (List F)) (ms : List (Message F)) → HasLawfulFlags E.base E.base_eq (record { flags = flags; messages = ms }) → NoneVanishes E denominator ms → fault_of E denominator row column (record { flags = flags; messages = ms }) ≡ None
         by_flags None ms lawful each =
-            additive_faultless E denominator row column ms (none_vanish (counted E.base E.base_eq ms) (All-filter (λ m. denominator m.key ≢ E.ring.zero) _ ms each))
+            additive_faultless E denominator row column ms (none_vanish (counted E.base E.base_eq ms) (all_kept (λ m. denominator m.key ≢ E.ring.zero) _ ms each))
         by_flags (Some fs) ms lawful each = exclusive_faultless E denominator row column fs ms lawful.0 lawful.1 (none_vanish ms each)

@@ -4,18 +4,21 @@ use Rattle.std.proofs.Math.Nat.{mod-eq_of_lt}
 use Rattle.std.proofs.lemmas.Bool.{eq-eqb, ne_eqb}
 use Rattle.std.proofs.lemmas.List.{ext_get_or, get_or_default, length-drop, length-map, length-take, take_all}
 use Rattle.std.specs.List.{AllByRecursion, flat_map, range_with_len}
+use Rattle.lists.proofs.Images.{map-map, mapped_at}
+use Rattle.lists.proofs.Items.{item_at}
+use Rattle.lists.proofs.Parts.{joined_rows, same_parts}
+use Rattle.lists.proofs.Each.{all_front, all_back, all_here, all_of_map, all_parts}
 use Rattle.field.specs.laws.Distinct.{all_both}
 use Rattle.field.specs.Sums.{sum_in}
 use Rattle.matrix.specs.Matrix.{Matrix, height, row}
 use Rattle.expressions.specs.Window.{ExtWindow, Window, window_at}
 use Rattle.air.specs.Traces.{AirTraces}
-use Rattle.lookup_model.proofs.Branches.{length-branches_at, mapped_at}
+use Rattle.lookup_model.proofs.Branches.{length-branches_at}
 use Rattle.lookup_model.proofs.ConstraintLaws.{accumulator_constraints-some}
 use Rattle.lookup_model.specs.Constraints.{Constraint, accumulator_at, accumulator_constraints, first_constraint, transition_constraint, last_constraint, fraction_at, fraction_constraint, fractions_at, fraction_denominator, fraction_numerator, terminal_at}
 use Rattle.lookup_model.specs.Denominators.{column_denominator, key_denominator}
 use Rattle.field.specs.Extension.{Extension, IsLawful}
 use Rattle.lookup_model.specs.Generated.{plain_matrix, plain_terminal_of}
-use Rattle.lookup_model.proofs.HornerRule.{map-map}
 use Rattle.lookup_model.specs.Message.{Key, Message}
 use Rattle.lookup_model.specs.Plain.{plain_accumulator, plain_cells, plain_fraction, plain_row, plain_terminal, trace_messages}
 use Rattle.lookup_model.specs.Records.{AreRecords}
@@ -32,7 +35,6 @@ use Rattle.lookup_model.proofs.Lookups.Selectors.{put_together, zero_selected}
 use Rattle.lookup_model.proofs.Lookups.Shapes.{shape-some}
 use Rattle.lookup_model.proofs.Lookups.Terminals.{plain_terminal-sum}
 use Rattle.lookup_model.specs.Batches.Messages.{HasLawfulFlags, NoneVanishes}
-use Rattle.lookup_model.proofs.Lists.{all_front, all_back, all_here, all_of_map, all_parts, item_at, joined_rows, same_parts}
 use Rattle.lookup_model.proofs.Batches.SentFacts.{sent_ids}
 use Rattle.lookup_model.proofs.Batches.OnlyFractions.{denominator_nonzero, no_fault, one_fraction}
 

@@ -1,6 +1,7 @@
 -- Where no denominator vanishes the plain result of a batch is its only satisfied witness.
 use Rattle.std.proofs.Common.{◌≡◌, ◌≢◌, ◌<◌, Option, List, [], ◌∷◌, length, refl, sym, ap, ◌∙◌, arith}
 use Rattle.std.specs.List.{AllByRecursion}
+use Rattle.lists.proofs.Each.{all_front, all_back}
 use Rattle.matrix.specs.Matrix.{Matrix, height}
 use Rattle.field.specs.Extension.{Extension, IsLawful}
 use Rattle.lookup_model.specs.Generated.{plain_matrix, plain_terminal_of}
@@ -16,7 +17,6 @@ use Rattle.lookup_model.specs.Batches.Witnesses.{AirResult, AreSatisfied, IsSati
 use Rattle.lookup_model.specs.Challenges.{ChallengeTable, column_challenges, table_key_denominator}
 use Rattle.lookup_model.proofs.Lookups.Shapes.{shape-none}
 use Rattle.lookup_model.proofs.Batches.ByTable.{alike_rows, column_den, den}
-use Rattle.lookup_model.proofs.Lists.{all_front, all_back}
 use Rattle.lookup_model.proofs.Batches.OnlyRows.{only_plain}
 use Rattle.lookup_model.proofs.Batches.Rekeyed.{lawful_alike, none_alike, same_matrix, same_terminal_of}
 

@@ -1,11 +1,13 @@
 -- Messages under other keys with the same multiplicities and the same denominators have the same
 -- plain result and the same faults.
-use Rattle.std.proofs.Common.{◌≡◌, ℕ, zero, suc, ◌+◌, Bool, true, false, cond, not, ◌||◌, IfSome, Option, None, Some, List, [], ◌∷◌, ◌++◌, length, map, take, get_or, refl, sym, ap, subst, ◌∙◌}
+use Rattle.std.proofs.Common.{◌≡◌, ℕ, suc, ◌+◌, Bool, true, false, cond, not, ◌||◌, IfSome, Option, None, Some, List, [], ◌∷◌, ◌++◌, length, map, take, get_or, refl, sym, ap, subst, ◌∙◌}
 use Rattle.std.proofs.lemmas.List.{take-map}
 use Rattle.std.proofs.lemmas.List.Folds.{flat_map-map}
 use Rattle.std.specs.Prelude.{if◌then◌else◌}
 use Rattle.std.specs.Option.{option_or}
 use Rattle.std.specs.List.{AllByRecursion, AllZip, cons_option, enumerate_from, filter_map, flat_map, range_with_len}
+use Rattle.lists.proofs.Images.{get_or-image}
+use Rattle.lists.proofs.Zips.{AllZip-append}
 use Rattle.field.specs.Sums.{sum_in}
 use Rattle.field.specs.Extension.{Extension, IsLawful}
 use Rattle.lookup_model.specs.Fault.{IsLawfulSelection, dividing, fault_of, flag_fault_of, row_faults, trace_faults, vanishes}
@@ -17,19 +19,6 @@ use Rattle.lookup_model.specs.declared.error.LookupError.TheVariants.{VanishingD
 use Rattle.lookup_model.specs.declared.types.Lookup.{Lookup}
 use Rattle.lookup_model.proofs.Lookups.Terminals.{plain_fraction-all, plain_terminal-sum}
 use Rattle.lookup_model.specs.Batches.Messages.{HasLawfulFlags, NoneVanishes}
-
-AllZip-append : {A B : Type 0} (P : A → B → Type 0) (xs : List A) (ys : List B) (us : List A) (vs : List B) → AllZip P xs ys → AllZip P us vs → AllZip P (xs ++ us) (ys ++ vs)
-AllZip-append P [] [] us vs first second = second
-AllZip-append P [] (y ∷ ys) us vs first second = absurd first
-AllZip-append P (x ∷ xs) [] us vs first second = absurd first
-AllZip-append P (x ∷ xs) (y ∷ ys) us vs first second = (first.0, AllZip-append P xs ys us vs first.1 second)
-
-module _ {A B : Type 0} where
-  -- an item of the image, with the image of the default past the end
-  get_or-image : (f : A → B) (xs : List A) (i : ℕ) (d : A) → get_or (map f xs) i (f d) ≡ f (get_or xs i d)
-  get_or-image f [] i d = refl
-  get_or-image f (x ∷ xs) zero d = refl
-  get_or-image f (x ∷ xs) (suc i) d = get_or-image f xs i d
 
 module _ {F K : Type 0} {E : Extension F K} (laws : IsLawful E) (den den' : Key F → K) where
   -- the same multiplicity over the same denominator

@@ -1,25 +1,26 @@
 -- What solutions of equations can sum to, equation by equation.
 use Rattle.std.proofs.Common.{◌≡◌, List, [], ◌∷◌, ◌++◌, refl, sym, ap, ◌∙◌}
 use Rattle.std.specs.List.{AllZip}
+use Rattle.lists.proofs.Zips.{AllZip-parts}
 use Rattle.field.specs.Ring.{Ring, IsCommutativeRing}
 use Rattle.field.specs.Sums.{sum_in}
 use Rattle.lookup_model.proofs.SumLaws.{sum_in-append}
 use Rattle.lookup_model.specs.Batches.Equations.{CanSumTo, Equation, Solves}
-use Rattle.lookup_model.proofs.Batches.Zipped.{zipped_both, zipped_parts}
+use Rattle.lists.proofs.Zips.{AllZip-append}
 
 module _ {K : Type 0} {S : Ring K} (laws : IsCommutativeRing S) where
   -- equations of two lists together sum to a sum of the one and a sum of the other
   pub sums_together : (xs ys : List (Equation K)) (a b : K) → CanSumTo S xs a → CanSumTo S ys b → CanSumTo S (xs ++ ys) (S.add a b)
   sums_together xs ys a b first second = record {
     fractions = first.fractions ++ second.fractions;
-    solve = zipped_both (Solves S) xs ys first.fractions second.fractions first.solve second.solve;
+    solve = AllZip-append (Solves S) xs first.fractions ys second.fractions first.solve second.solve;
     sum = sum_in-append laws first.fractions second.fractions ∙ (λ i. S.add (first.sum i) (second.sum i));
   }
 
   -- and only to those
   pub sums_apart : (xs ys : List (Equation K)) (total : K) → CanSumTo S (xs ++ ys) total → (a : K) × (b : K) × CanSumTo S xs a × CanSumTo S ys b × (S.add a b ≡ total)
   sums_apart xs ys total both =
-      let (us, vs, are, first, second) = zipped_parts (Solves S) xs ys both.fractions both.solve in (
+      let (us, vs, are, first, second) = AllZip-parts (Solves S) xs ys both.fractions both.solve in (
         sum_in S us,
         sum_in S vs,
         record { fractions = us; solve = first; sum = refl },

@@ -1,6 +1,7 @@
 -- Where flags are lawful and no denominator vanishes there is no fault.
 use Rattle.std.proofs.Common.{◌≡◌, ◌≢◌, ℕ, zero, suc, ◌+◌, None, Some, List, [], ◌∷◌, ◌++◌, refl, sym, ap, ◌∙◌}
 use Rattle.std.specs.List.{AllByRecursion, cons_option, enumerate_from, filter_map, flat_map, slice_get}
+use Rattle.lists.proofs.Each.{all_front, all_back}
 use Rattle.field.specs.Extension.{Extension, IsLawful}
 use Rattle.lookup_model.specs.Fault.{fault_of, row_faults, trace_faults}
 use Rattle.lookup_model.specs.Message.{Key, Message}
@@ -11,7 +12,6 @@ use Rattle.lookup_model.specs.Batches.Faults.{instance_faults}
 use Rattle.lookup_model.specs.Batches.Instances.{Instance}
 use Rattle.lookup_model.specs.Batches.Messages.{AreFlagsLawful, HasLawfulFlags, NoneVanishes, batch_messages, sent_rows_of}
 use Rattle.lookup_model.specs.Challenges.{ChallengeTable, table_key_denominator}
-use Rattle.lookup_model.proofs.Lists.{all_front, all_back}
 use Rattle.lookup_model.proofs.Batches.OnlyFractions.{no_fault}
 
 module _ {F K : Type 0} {E : Extension F K} (laws : IsLawful E) (denominator : Key F → K) where

@@ -1,6 +1,7 @@
 -- Where flags have no fault they are lawful.
-use Rattle.std.proofs.Common.{◌≡◌, ℕ, Bool, ◌+◌, zero, suc, Option, None, Some, List, [], ◌∷◌, ◌++◌, refl}
-use Rattle.std.specs.List.{AllByRecursion, cons_option, enumerate_from, filter_map, flat_map, slice_get}
+use Rattle.std.proofs.Common.{◌≡◌, ℕ, Bool, ◌+◌, zero, suc, Option, None, Some, List, [], ◌∷◌, refl}
+use Rattle.std.specs.List.{AllByRecursion, enumerate_from, filter_map, flat_map, slice_get}
+use Rattle.lists.proofs.Items.{both_empty, none_before}
 use Rattle.field.specs.Ring.{Ring}
 use Rattle.field.specs.Extension.{Extension}
 use Rattle.lookup_model.specs.Fault.{fault_of, faults_of_row, trace_faults}
@@ -12,17 +13,6 @@ use Rattle.lookup_model.proofs.Lookups.LookupFaults.{flags_none, no_flag_fault}
 use Rattle.lookup_model.specs.Batches.FlagFaults.{instance_flag_faults}
 use Rattle.lookup_model.specs.Batches.Instances.{Instance}
 use Rattle.lookup_model.specs.Batches.Messages.{AreFlagsLawful, HasLawfulFlags, sent_rows_of}
-
-module _ {A : Type 0} where
-  -- two lists that are empty together are empty
-  both_empty : (xs ys : List A) → xs ++ ys ≡ [] → (xs ≡ []) × (ys ≡ [])
-  both_empty [] ys e = (refl, e)
-  both_empty (x ∷ xs) ys e = absurd (cc e)
-
-  -- nothing in front of an empty list
-  none_before : (o : Option A) (xs : List A) → cons_option o xs ≡ [] → (o ≡ None) × (xs ≡ [])
-  none_before None xs e = (refl, e)
-  none_before (Some x) xs e = absurd (cc e)
 
 -- Whatever the fault of a lookup is, if one without a fault has lawful flags, so has each of a row and
 -- of a trace without faults.

@@ -6,6 +6,7 @@ use Rattle.std.proofs.lemmas.List.Elements.{recursion_from_All}
 use Rattle.std.specs.List.{AllByRecursion, flat_map, range_with_len, zip}
 use Rattle.std.specs.declared.alloc.Global.{Global}
 use Rattle.std.specs.declared.vec.Vec.{Vec}
+use Rattle.lists.proofs.Each.{all_front, all_back, all_both, all_indexed, all_kept, all_joined, all_images, each_of}
 use Rattle.field.specs.Ring.{Ring}
 use Rattle.matrix.specs.Matrix.{height}
 use Rattle.expressions.specs.Window.{Window}
@@ -17,13 +18,11 @@ use Rattle.lookup_model.specs.Plain.{trace_messages}
 use Rattle.lookup_model.specs.Sent.{Sent, branch_at, branches_at, flags_at, sent_at, value}
 use Rattle.lookup_model.proofs.Lookups.SentRows.{column_is}
 use Rattle.lookup_model.specs.declared.types.Lookup.{Lookup}
-use Rattle.lookup_model.proofs.Lookups.Regrouping.{All-filter}
 use Rattle.lookup_model.specs.Trace.{sent_row_under}
 use Rattle.lookup_model.specs.Batches.Instances.{Instance, IsFitting}
 use Rattle.lookup_model.specs.Batches.Messages.{batch_messages, id_of, sent_rows_of}
 use Rattle.lookup_model.specs.Collisions.{IsLawfulKey}
 use Rattle.lookup_model.specs.Batches.Ids.{AreLawfulIds, identified}
-use Rattle.lookup_model.proofs.Lists.{all_both, all_front, all_back, all_indexed}
 use Rattle.lookup_model.proofs.Batches.SentFacts.{all_sent}
 
 module _ {F : Type 0} where
@@ -63,19 +62,7 @@ module _ {A : Type 0} (same : A → A → Bool) (P : A → Type 0) where
   -- what holds of each item holds of those first seen
   pub all_first_seen : (xs : List A) → AllByRecursion P xs → AllByRecursion P (first_seen same xs)
   all_first_seen [] all = tt
-  all_first_seen (x ∷ xs) all = (all.0, All-filter P (λ y. not (same x y)) (first_seen same xs) (all_first_seen xs all.1))
-
-all_joined : {A B : Type 0} (P : B → Type 0) (f : A → List B) (xs : List A) → AllByRecursion (λ x. AllByRecursion P (f x)) xs → AllByRecursion P (flat_map f xs)
-all_joined P f [] all = tt
-all_joined P f (x ∷ xs) all = all_both P (f x) (flat_map f xs) all.0 (all_joined P f xs all.1)
-
-all_images : {A B : Type 0} (P : B → Type 0) (f : A → B) (xs : List A) → AllByRecursion (λ x. P (f x)) xs → AllByRecursion P (map f xs)
-all_images P f [] all = tt
-all_images P f (x ∷ xs) all = (all.0, all_images P f xs all.1)
-
-each_of : {A : Type 0} (P : A → Type 0) → ((x : A) → P x) → (xs : List A) → AllByRecursion P xs
-each_of P each [] = tt
-each_of P each (x ∷ xs) = (each x, each_of P each xs)
+  all_first_seen (x ∷ xs) all = (all.0, all_kept P (λ y. not (same x y)) (first_seen same xs) (all_first_seen xs all.1))
 
 module _ {F : Type 0} (R : Ring F) (eq : F → F → Bool) (W m : ℕ) (width : ℕ → ℕ) where
   abbrev IsLawfulMessage : Message F → Type 0

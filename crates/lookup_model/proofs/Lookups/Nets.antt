@@ -3,10 +3,12 @@
 use Rattle.std.proofs.Common.{◌≡◌, Bool, true, false, cond, ◌||◌, List, [], ◌∷◌, map, refl, sym, ap, ◌∙◌, Decides}
 use Rattle.std.proofs.lemmas.Bool.{false≢true, true≢false}
 use Rattle.std.specs.List.{filter, list_any, AllByRecursion}
+use Rattle.lists.proofs.Images.{map_same}
+use Rattle.lists.proofs.Each.{all_weaker}
 use Rattle.field.specs.Ring.{Ring, IsCommutativeRing}
 use Rattle.field.specs.laws.RingFacts.{zero_add}
 use Rattle.field.specs.Sums.{sum_in}
-use Rattle.lookup_model.proofs.Lookups.Regrouping.{IsSeparate, Holds, All-map}
+use Rattle.lookup_model.proofs.Lookups.Regrouping.{IsSeparate, Holds}
 use Rattle.lookup_model.proofs.SumLaws.{sum_in-zeros, sum_in-map-add}
 
 -- the sum of the multiplicities of the items that have a key
@@ -30,17 +32,13 @@ module _ {X K : Type 0} {S : Ring K} (laws : IsCommutativeRing S) (same : X → 
       by_test : (b : Bool) → same k x ≡ b → (Holds same ks x → sum_in S (map at_key ks) ≡ c x) → S.add (cond b (c k) S.zero) (sum_in S (map at_key ks)) ≡ c x
       by_test true e rest =
           let is : k ≡ x = (decides k x).0 e in
-          let others : AllByRecursion (λ (y : X). at_key y ≡ S.zero) ks = All-map (λ (y : X). same k y ≡ false) (λ (y : X). at_key y ≡ S.zero) (λ y f. at_other y (same y x) (differs y (same y x) refl f)) ks apart.0 in
+          let others : AllByRecursion (λ (y : X). at_key y ≡ S.zero) ks = all_weaker (λ (y : X). same k y ≡ false) (λ (y : X). at_key y ≡ S.zero) (λ y f. at_other y (same y x) (differs y (same y x) refl f)) ks apart.0 in
           ap (S.add (c k)) (sum_in-zeros laws at_key ks others) ∙ laws.add_zero (c k) ∙ ap c is
         where
           differs : (y : X) (b : Bool) → same y x ≡ b → same k y ≡ false → b ≡ false
           differs y true g f = absurd (true≢false (sym ((decides k y).1 ((decides k x).0 e ∙ sym ((decides y x).0 g))) ∙ f))
           differs y false g f = refl
       by_test false e rest = zero_add laws (sum_in S (map at_key ks)) ∙ rest (sym (ap (λ t. t || list_any (λ y. same y x) ks) e) ∙ h)
-
-map_same : {X K : Type 0} (f g : X → K) → ((x : X) → f x ≡ g x) → (xs : List X) → map f xs ≡ map g xs
-map_same f g e [] = refl
-map_same f g e (x ∷ xs) = λ i. e x i ∷ map_same f g e xs i
 
 module _ {M X F K : Type 0} (R : Ring F) {S : Ring K} (laws : IsCommutativeRing S) (same : X → X → Bool) (decides : (a b : X) → Decides (same a b) (a ≡ b)) (key : M → X) (count : M → F) (term : X → F → K) (adds : (x : X) (a b : F) → term x (R.add a b) ≡ S.add (term x a) (term x b)) (none : (x : X) → term x R.zero ≡ S.zero) where
   -- one more message adds its part at its key

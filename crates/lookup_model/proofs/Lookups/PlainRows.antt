@@ -1,5 +1,7 @@
 -- The plain result row by row: the fractions of a row together, and the accumulator after it.
 use Rattle.std.proofs.Common.{◌≡◌, ℕ, ◌+◌, ◌<◌, List, length, map, get_or, sym, ap, ◌∙◌, arith}
+use Rattle.lists.proofs.Images.{same_map, map-map}
+use Rattle.lists.proofs.Each.{all_indexed}
 use Rattle.field.specs.Extension.{Extension, IsLawful}
 use Rattle.field.specs.Sums.{sum_in}
 use Rattle.matrix.specs.Matrix.{height}
@@ -11,8 +13,6 @@ use Rattle.lookup_model.specs.Plain.{plain_accumulator, plain_fraction}
 use Rattle.lookup_model.specs.Sent.{Sent, sent_at}
 use Rattle.lookup_model.specs.Trace.{sent_row, sent_rows}
 use Rattle.lookup_model.specs.declared.types.Lookup.{Lookup}
-use Rattle.lookup_model.proofs.HornerRule.{map-map}
-use Rattle.lookup_model.proofs.Lists.{all_indexed, same_map}
 use Rattle.lookup_model.proofs.Lookups.Rows.{plain_accumulator-more}
 use Rattle.lookup_model.proofs.Lookups.SentRows.{length-sent_rows, sent_rows-at}
 

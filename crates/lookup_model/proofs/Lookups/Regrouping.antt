@@ -2,6 +2,7 @@
 use Rattle.std.proofs.Common.{◌≡◌, Bool, true, false, cond, not, ◌||◌, List, [], ◌∷◌, refl, sym, ap, ◌∙◌, Decides}
 use Rattle.std.proofs.lemmas.Bool.{false≢true, true≢false}
 use Rattle.std.specs.List.{filter, list_any, AllByRecursion}
+use Rattle.lists.proofs.Each.{all_kept, filter_passes, all_weaker}
 use Rattle.lookup_model.specs.Net.{first_seen}
 
 -- no item passes the test with one after it
@@ -12,30 +13,6 @@ IsSeparate same (x ∷ xs) = AllByRecursion (λ y. same x y ≡ false) xs × IsS
 -- an item of the list is the same as x
 abbrev pub Holds : {A : Type 0} → (A → A → Bool) → List A → A → Type 0
 Holds same xs x = list_any (λ y. same y x) xs ≡ true
-
-module _ {A : Type 0} where
-  -- what holds of every item holds of those that are kept
-  pub All-filter : (P : A → Type 0) (p : A → Bool) (xs : List A) → AllByRecursion P xs → AllByRecursion P (filter p xs)
-  All-filter P p [] h = tt
-  All-filter P p (x ∷ xs) h = by_test (p x) (All-filter P p xs h.1)
-    where
-      by_test : (b : Bool) → AllByRecursion P (filter p xs) → AllByRecursion P (cond b (x ∷ filter p xs) (filter p xs))
-      by_test true rest = (h.0, rest)
-      by_test false rest = rest
-
-  -- the items that are kept pass the test
-  pub filter_passes : (p : A → Bool) (xs : List A) → AllByRecursion (λ x. p x ≡ true) (filter p xs)
-  filter_passes p [] = tt
-  filter_passes p (x ∷ xs) = by_test (p x) refl (filter_passes p xs)
-    where
-      by_test : (b : Bool) → p x ≡ b → AllByRecursion (λ y. p y ≡ true) (filter p xs) → AllByRecursion (λ y. p y ≡ true) (cond b (x ∷ filter p xs) (filter p xs))
-      by_test true e rest = (e, rest)
-      by_test false e rest = rest
-
-  -- a fact of each item, carried to another that it gives
-  pub All-map : (P Q : A → Type 0) → ((x : A) → P x → Q x) → (xs : List A) → AllByRecursion P xs → AllByRecursion Q xs
-  All-map P Q f [] h = tt
-  All-map P Q f (x ∷ xs) h = (f x h.0, All-map P Q f xs h.1)
 
 not_true : (b : Bool) → not b ≡ true → b ≡ false
 not_true true e = absurd (false≢true e)
@@ -48,7 +25,7 @@ module _ {A : Type 0} (same : A → A → Bool) where
   IsSeparate-filter p (x ∷ xs) h = by_test (p x) (IsSeparate-filter p xs h.1)
     where
       by_test : (b : Bool) → IsSeparate same (filter p xs) → IsSeparate same (cond b (x ∷ filter p xs) (filter p xs))
-      by_test true rest = (All-filter (λ y. same x y ≡ false) p xs h.0, rest)
+      by_test true rest = (all_kept (λ y. same x y ≡ false) p xs h.0, rest)
       by_test false rest = rest
 
   -- the items that are first seen are separate
@@ -56,7 +33,7 @@ module _ {A : Type 0} (same : A → A → Bool) where
   first_seen_separate [] = tt
   first_seen_separate (x ∷ xs) =
       let p = λ (y : A). not (same x y) in
-      (All-map (λ y. p y ≡ true) (λ y. same x y ≡ false) (λ y e. not_true (same x y) e) (filter p (first_seen same xs)) (filter_passes p (first_seen same xs)), IsSeparate-filter p (first_seen same xs) (first_seen_separate xs))
+      (all_weaker (λ y. p y ≡ true) (λ y. same x y ≡ false) (λ y e. not_true (same x y) e) (filter p (first_seen same xs)) (filter_passes p (first_seen same xs)), IsSeparate-filter p (first_seen same xs) (first_seen_separate xs))
 
 module _ {A : Type 0} (same : A → A → Bool) (decides : (a b : A) → Decides (same a b) (a ≡ b)) where
   -- a test of an item and itself passes
@@ -90,7 +67,7 @@ module _ {A : Type 0} (same : A → A → Bool) (decides : (a b : A) → Decides
   first_seen_holds [] = tt
   first_seen_holds (x ∷ xs) =
       let kept = filter (λ (y : A). not (same x y)) (first_seen same xs) in
-      (or_left (same x x) (list_any (λ w. same w x) kept) (same_self x), All-map (Holds same (first_seen same xs)) (Holds same (first_seen same (x ∷ xs))) (λ z h. by_test z (same x z) refl h) xs (first_seen_holds xs))
+      (or_left (same x x) (list_any (λ w. same w x) kept) (same_self x), all_weaker (Holds same (first_seen same xs)) (Holds same (first_seen same (x ∷ xs))) (λ z h. by_test z (same x z) refl h) xs (first_seen_holds xs))
     where
       by_test : (z : A) (b : Bool) → same x z ≡ b → Holds same (first_seen same xs) z → Holds same (first_seen same (x ∷ xs)) z
       by_test z true e h = or_left (same x z) (list_any (λ w. same w z) (filter (λ y. not (same x y)) (first_seen same xs))) e

@@ -1,9 +1,10 @@
 -- The auxiliary trace, row by row and lookup by lookup.
-use Rattle.std.proofs.Common.{◌≡◌, ℕ, ◌+◌, ◌<◌, Option, None, Some, List, [], ◌∷◌, ◌++◌, length, map, take, drop, get_or, sym, ap, ◌∙◌, arith}
-use Rattle.std.proofs.lemmas.List.{append-nil, take_more, take-append-drop}
+use Rattle.std.proofs.Common.{◌≡◌, ℕ, ◌+◌, ◌<◌, Option, None, Some, List, [], ◌∷◌, ◌++◌, length, map, take, get_or, sym, ap, ◌∙◌, arith}
+use Rattle.std.proofs.lemmas.List.{append-nil, take_more}
 use Rattle.std.proofs.lemmas.List.Elements.{filter_map-append}
 use Rattle.std.proofs.lemmas.Grind.{flat_map-append}
 use Rattle.std.specs.List.{enumerate_from, filter_map, cons_option, flat_map, slice_get}
+use Rattle.lists.proofs.Items.{enumerate_from-append, first_stays}
 use Rattle.field.specs.Sums.{sum_in}
 use Rattle.field.specs.Extension.{Extension, IsLawful}
 use Rattle.lookup_model.specs.Fault.{faults_of_row, faults_of_trace}
@@ -12,26 +13,6 @@ use Rattle.lookup_model.specs.Plain.{plain_fraction, plain_accumulator}
 use Rattle.lookup_model.specs.Sent.{Sent}
 use Rattle.lookup_model.specs.declared.error.LookupError.{LookupError}
 use Rattle.lookup_model.proofs.SumLaws.{sum_in-append}
-
-module _ {A : Type 0} where
-  -- the numbered items of two lists, one after the other
-  pub enumerate_from-append : (n : ℕ) (xs ys : List A) → enumerate_from n (xs ++ ys) ≡ enumerate_from n xs ++ enumerate_from (n + length xs) ys
-  enumerate_from-append n [] ys = ap (λ k. enumerate_from k ys) (omega arith)
-  enumerate_from-append n (x ∷ xs) ys =
-      ap (λ t. (n, x) ∷ t) (enumerate_from-append (n + 1) xs ys ∙ ap (λ k. enumerate_from (n + 1) xs ++ enumerate_from k ys) (omega arith))
-
-  -- appending does not change the first item
-  slice_get-first : (xs ys : List A) (x : A) → slice_get xs 0 ≡ Some x → slice_get (xs ++ ys) 0 ≡ Some x
-  slice_get-first [] ys x e = absurd (cc e)
-  slice_get-first (y ∷ xs) ys x e = e
-
-  -- a list up to an index and the item there
-  pub take_item : (xs : List A) (i : ℕ) (x : A) → i < length xs → x ≡ get_or xs i x → take (i + 1) xs ≡ take i xs ++ x ∷ []
-  take_item xs i x lt is = take_more xs i x lt ∙ ap (λ t. take i xs ++ t ∷ []) (sym is)
-
-  -- a list before an index, the item there, and the rest
-  pub split_at : (xs : List A) (i : ℕ) (x : A) → i < length xs → x ≡ get_or xs i x → xs ≡ (take i xs ++ x ∷ []) ++ drop (i + 1) xs
-  split_at xs i x lt is = sym (take-append-drop (i + 1) xs) ∙ ap (λ t. t ++ drop (i + 1) xs) (take_item xs i x lt is)
 
 module _ {F : Type 0} (lookup_fault : ℕ → ℕ → Sent F → Option LookupError) where
   -- the faults of a longer row
@@ -75,7 +56,7 @@ module _ {F : Type 0} (lookup_fault : ℕ → ℕ → Sent F → Option LookupEr
       let here : faults_of_trace lookup_fault (xs ++ x ∷ []) ≡ faults_of_row lookup_fault row x ++ [] =
       trace_faults-append xs (x ∷ []) ∙ (λ i. so_far i ++ (faults_of_row lookup_fault (at i) x ++ [])) in
       ap (λ t. slice_get t 0) (trace_faults-append (xs ++ x ∷ []) rest ∙ ap (λ t. t ++ flat_map f (enumerate_from (length (xs ++ x ∷ [])) rest)) here)
-      ∙ slice_get-first (faults_of_row lookup_fault row x ++ []) (flat_map f (enumerate_from (length (xs ++ x ∷ [])) rest)) e (slice_get-first (faults_of_row lookup_fault row x) [] e fault)
+      ∙ first_stays (faults_of_row lookup_fault row x ++ []) (flat_map f (enumerate_from (length (xs ++ x ∷ [])) rest)) e (first_stays (faults_of_row lookup_fault row x) [] e fault)
 
 module _ {F K : Type 0} (E : Extension F K) (denominator : Key F → K) where
   -- the accumulator of the next row

@@ -4,6 +4,7 @@ use Rattle.std.proofs.Common.{◌≡◌, ℕ, ◌+◌, ◌*◌, ◌%◌, ◌<◌
 use Rattle.std.proofs.Math.Nat.{mod-eq_of_lt}
 use Rattle.std.proofs.lemmas.Bool.{eqb-true, eqb-false, not-true}
 use Rattle.std.specs.List.{AllByRecursion}
+use Rattle.lists.proofs.Each.{all_both, all_indexed}
 use Rattle.field.specs.laws.Distinct.{all_map}
 use Rattle.field.specs.Extension.{Extension, IsLawful}
 use Rattle.field.specs.Ring.{of_bool, sub_in}
@@ -15,7 +16,6 @@ use Rattle.lookup_model.specs.Witness.{HasShape, IsSatisfied, witness_window}
 use Rattle.lookup_model.specs.declared.types.Lookup.{Lookup}
 use Rattle.lookup_model.specs.declared.types.LookupTerminal.{LookupTerminal}
 use Rattle.lookup_model.proofs.ConstraintLaws.{accumulator_constraints-some}
-use Rattle.lookup_model.proofs.Lists.{all_both, all_indexed}
 use Rattle.lookup_model.proofs.Lookups.PlainResults.{IsShaped-product, height_of}
 use Rattle.lookup_model.proofs.Lookups.Selectors.{selected_zero, taken_apart}
 

@@ -4,6 +4,7 @@ use Rattle.std.proofs.lemmas.Bool.{true≢false}
 use Rattle.std.specs.List.{AllByRecursion}
 use Rattle.std.specs.declared.alloc.Global.{Global}
 use Rattle.std.specs.declared.vec.Vec.{Vec}
+use Rattle.lists.proofs.Images.{map-map}
 use Rattle.field.specs.Ring.{Ring, IsCommutativeRing, sub_in}
 use Rattle.field.specs.laws.RingFacts.{mul_zero}
 use Rattle.field.specs.laws.RingSolver.{var, con, ◌:*◌, ◌:+◌, ring_given}
@@ -18,7 +19,6 @@ use Rattle.lookup_model.specs.Plain.{quotient_of}
 use Rattle.lookup_model.specs.Message.{Key, Message}
 use Rattle.lookup_model.specs.Plain.{counted, plain_fraction, quotient}
 use Rattle.lookup_model.specs.Sent.{branch_at}
-use Rattle.lookup_model.proofs.HornerRule.{map-map}
 use Rattle.lookup_model.proofs.TakenOut.{item_of, product_of, sum_in-same, sum_in-scaled, sum_of}
 use Rattle.lookup_model.proofs.Lookups.Terminals.{plain_fraction-all, quotient-zero}
 

@@ -1,8 +1,10 @@
 -- The plain result is a satisfied witness.
-use Rattle.std.proofs.Common.{◌≡◌, ℕ, zero, suc, ◌+◌, ◌*◌, ◌-◌, ◌<◌, ◌≤◌, Option, None, Some, List, [], ◌∷◌, ◌++◌, length, map, take, drop, get_or, slice_index_or, refl, sym, ap, subst, ◌∙◌, arith}
-use Rattle.std.proofs.Math.Seq.{drop-append-add, take-append_seam}
+use Rattle.std.proofs.Common.{◌≡◌, ℕ, suc, ◌+◌, ◌*◌, ◌<◌, Option, None, Some, List, [], ◌∷◌, ◌++◌, length, map, take, drop, get_or, slice_index_or, refl, sym, ap, subst, ◌∙◌, arith}
 use Rattle.std.proofs.lemmas.List.{get_or_default, length-map, length-take, take_all}
-use Rattle.std.specs.List.{cons_option, flat_map, range_with_len, slice_range}
+use Rattle.std.specs.List.{cons_option, flat_map}
+use Rattle.lists.proofs.Images.{map-map, mapped_at}
+use Rattle.lists.proofs.Parts.{row_of_parts}
+use Rattle.lists.proofs.Items.{both_empty, none_before, split_at}
 use Rattle.field.specs.Sums.{sum_in}
 use Rattle.matrix.specs.Matrix.{Matrix, height, row}
 use Rattle.expressions.specs.Window.{ExtWindow, Window, window_at}
@@ -19,52 +21,13 @@ use Rattle.lookup_model.specs.Trace.{sent_row, sent_rows}
 use Rattle.lookup_model.specs.Witness.{IsSatisfied, witness_window}
 use Rattle.lookup_model.specs.declared.types.Lookup.{Lookup}
 use Rattle.lookup_model.specs.declared.types.LookupTerminal.{LookupTerminal}
-use Rattle.lookup_model.proofs.Branches.{mapped_at}
-use Rattle.lookup_model.proofs.HornerRule.{map-map}
 use Rattle.lookup_model.proofs.Lookups.PlainResults.{length-plain_rows}
 use Rattle.lookup_model.proofs.Lookups.PlainRows.{accumulator_after, fractions_together}
-use Rattle.lookup_model.proofs.Lookups.Rows.{row_faults-append, split_at, trace_faults-append}
+use Rattle.lookup_model.proofs.Lookups.Rows.{row_faults-append, trace_faults-append}
 use Rattle.lookup_model.proofs.Lookups.RunningSums.{running_satisfied}
 use Rattle.lookup_model.proofs.Lookups.SatisfiedLookups.{lookup_satisfied}
 use Rattle.lookup_model.proofs.Lookups.SentRows.{column_is, equal_lengths, get_or-sent_rows, length-sent_rows, length-sent_rows-at, sent_rows-at}
 use Rattle.lookup_model.proofs.Lookups.Terminals.{plain_terminal-sum}
-
-module _ {A : Type 0} where
-  -- a list that is empty with what follows is empty, and so is what follows
-  nothing_before : (xs ys : List A) → xs ++ ys ≡ [] → xs ≡ []
-  nothing_before [] ys e = refl
-  nothing_before (x ∷ xs) ys e = absurd (cc e)
-
-  nothing_after : (xs ys : List A) → xs ++ ys ≡ [] → ys ≡ []
-  nothing_after [] ys e = e
-  nothing_after (x ∷ xs) ys e = absurd (cc e)
-
-  no_option : (o : Option A) (xs : List A) → cons_option o xs ≡ [] → o ≡ None
-  no_option None xs e = refl
-  no_option (Some x) xs e = absurd (cc e)
-
-  -- part k of parts of one length, put one after the other
-  part_of : (f : ℕ → List A) (width a m k : ℕ) → ((i : ℕ) → a ≤ i → i < a + m → length (f i) ≡ width) → k < m → take width (drop (k * width) (flat_map f (range_with_len a m))) ≡ f (a + k)
-  part_of f width a zero k each lt = absurd (omega (arith, lt))
-  part_of f width a (suc m) zero each lt =
-      let rest = flat_map f (range_with_len (a + 1) m) in
-      let none : 0 * width ≡ 0 = omega arith in
-      ap (λ n. take width (drop n (f a ++ rest))) none
-      ∙ ap (λ n. take n (f a ++ rest)) (sym (each a (omega arith) (omega arith))) ∙ take-append_seam (f a) rest ∙ ap f (omega arith)
-  part_of f width a (suc m) (suc k) each lt =
-      let rest = flat_map f (range_with_len (a + 1) m) in
-      let further : suc k * width ≡ length (f a) + k * width = omega (arith, each a (omega arith) (omega arith)) in
-      ap (λ n. take width (drop n (f a ++ rest))) further
-      ∙ ap (take width) (drop-append-add (f a) rest (k * width))
-      ∙ part_of f width (a + 1) m k (λ i low high. each i (omega (arith, low)) (omega (arith, high))) (omega (arith, lt))
-      ∙ ap f (omega arith)
-
-  -- row r of rows of one length
-  pub row_of_parts : (f : ℕ → List A) (width h r : ℕ) → ((i : ℕ) → i < h → length (f i) ≡ width) → r < h → slice_range (flat_map f (range_with_len 0 h)) (r * width) ((r + 1) * width) ≡ f r
-  row_of_parts f width h r each lt =
-      let wide : (r + 1) * width - r * width ≡ width = omega arith in
-      ap (λ n. take n (drop (r * width) (flat_map f (range_with_len 0 h)))) wide
-      ∙ part_of f width 0 h r (λ i low high. each i (omega (arith, high))) lt ∙ ap f (omega arith)
 
 module _ {F K : Type 0} (E : Extension F K) (denominator : Key F → K) where
   -- no fault in a trace is none on a row
@@ -74,9 +37,9 @@ module _ {F K : Type 0} (E : Extension F K) (denominator : Key F → K) where
       let back = drop (r + 1) rows in
       let at : length front ≡ r = omega (arith, length-take r rows, lt) in
       let upto : trace_faults E denominator (front ++ x ∷ []) ≡ [] =
-      nothing_before (trace_faults E denominator (front ++ x ∷ [])) _ (sym (trace_faults-append (fault_of E denominator) (front ++ x ∷ []) back) ∙ ap (trace_faults E denominator) (sym (split_at rows r x lt is)) ∙ none) in
-      let last : row_faults E denominator (length front) x ++ [] ≡ [] = nothing_after (trace_faults E denominator front) _ (sym (trace_faults-append (fault_of E denominator) front (x ∷ [])) ∙ upto) in
-      ap (λ n. row_faults E denominator n x) (sym at) ∙ nothing_before (row_faults E denominator (length front) x) [] last
+      (both_empty (trace_faults E denominator (front ++ x ∷ [])) _ (sym (trace_faults-append (fault_of E denominator) (front ++ x ∷ []) back) ∙ ap (trace_faults E denominator) (sym (split_at rows r x lt is)) ∙ none)).0 in
+      let last : row_faults E denominator (length front) x ++ [] ≡ [] = (both_empty (trace_faults E denominator front) _ (sym (trace_faults-append (fault_of E denominator) front (x ∷ [])) ∙ upto)).1 in
+      ap (λ n. row_faults E denominator n x) (sym at) ∙ (both_empty (row_faults E denominator (length front) x) [] last).0
 
   -- and none of a lookup
   no_lookup_fault : (r : ℕ) (sents : List (Sent F)) (k : ℕ) (s : Sent F) → k < length sents → s ≡ get_or sents k s → row_faults E denominator r sents ≡ [] → fault_of E denominator r k s ≡ None
@@ -85,9 +48,9 @@ module _ {F K : Type 0} (E : Extension F K) (denominator : Key F → K) where
       let back = drop (k + 1) sents in
       let at : length front ≡ k = omega (arith, length-take k sents, lt) in
       let upto : row_faults E denominator r (front ++ s ∷ []) ≡ [] =
-      nothing_before (row_faults E denominator r (front ++ s ∷ [])) _ (sym (row_faults-append (fault_of E denominator) r (front ++ s ∷ []) back) ∙ ap (row_faults E denominator r) (sym (split_at sents k s lt is)) ∙ none) in
-      let last : cons_option (fault_of E denominator r (length front) s) [] ≡ [] = nothing_after (row_faults E denominator r front) _ (sym (row_faults-append (fault_of E denominator) r front (s ∷ [])) ∙ upto) in
-      ap (λ n. fault_of E denominator r n s) (sym at) ∙ no_option (fault_of E denominator r (length front) s) [] last
+      (both_empty (row_faults E denominator r (front ++ s ∷ [])) _ (sym (row_faults-append (fault_of E denominator) r (front ++ s ∷ []) back) ∙ ap (row_faults E denominator r) (sym (split_at sents k s lt is)) ∙ none)).0 in
+      let last : cons_option (fault_of E denominator r (length front) s) [] ≡ [] = (both_empty (row_faults E denominator r front) _ (sym (row_faults-append (fault_of E denominator) r front (s ∷ [])) ∙ upto)).1 in
+      ap (λ n. fault_of E denominator r n s) (sym at) ∙ (none_before (fault_of E denominator r (length front) s) [] last).0
 
 module _ {F K : Type 0} {E : Extension F K} (laws : IsLawful E) (challenges : List K) (traces : AirTraces F) (lookups : List (Lookup F)) (records : AreRecords lookups) (some : 0 < length lookups) where
   abbrev den : Key F → K

@@ -5,10 +5,10 @@ use Rattle.std.proofs.lemmas.List.{map-append}
 use Rattle.std.proofs.lemmas.List.Elements.{filter-append}
 use Rattle.std.proofs.lemmas.List.Folds.{list_all-append}
 use Rattle.std.specs.List.{enumerate_from, filter, list_all, zip}
+use Rattle.lists.proofs.Items.{enumerate_from-append}
 use Rattle.field.specs.Ring.{IsDomain, Ring}
 use Rattle.lookup_model.specs.Fault.{are_boolean, set_indices}
 use Rattle.lookup_model.specs.Sent.{chosen}
-use Rattle.lookup_model.proofs.Lookups.Rows.{enumerate_from-append}
 
 module _ {F : Type 0} (is_set : F → Bool) where
   -- the indices of the flags that pass a test, where the first flag has index n

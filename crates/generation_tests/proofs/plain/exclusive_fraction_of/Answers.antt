@@ -2,10 +2,10 @@ use Rattle.std.proofs.Common.{◌≡◌, ◌≢◌, ◌+◌, ◌*◌, ◌<◌, [
 use Rattle.std.proofs.lemmas.Bool.{eqb-true, eqb-false}
 use Rattle.std.proofs.lemmas.List.{length-map, nil_from_length}
 use Rattle.std.proofs.lemmas.Result.{MatchResult-weaker}
-use Rattle.lookup_model.proofs.Branches.{mapped_at}
+use Rattle.lists.proofs.Images.{mapped_at}
+use Rattle.lists.proofs.Each.{All-at}
 use Rattle.lookup_model.specs.Denominators.{key_denominator}
 use Rattle.field.specs.laws.Extension.{of_laws}
-use Rattle.lookup_model.proofs.RecordLaws.{All-at}
 use Rattle.generation_tests.specs.PlainProgram.{as_message, as_messages}
 use Rattle.generation_tests.proofs.PlainProgramLaws.{one_item}
 use Rattle.lookup_generation.proofs.SelectedFractions.{none_selected, one_selected, one_vanishing}

@@ -1,12 +1,12 @@
 use Rattle.std.proofs.Common.{List, take, drop, ◌+◌, [], ◌∷◌, ap, sym, ◌∙◌, subst, arith}
 use Rattle.std.proofs.lemmas.List.{length-map, take_all}
-use Rattle.lookup_model.proofs.Branches.{mapped_at}
+use Rattle.lists.proofs.Images.{mapped_at}
+use Rattle.lists.proofs.Items.{split_at}
 use Rattle.lookup_model.specs.Denominators.{key_denominator}
 use Rattle.field.specs.laws.Extension.{of_laws}
 use Rattle.lookup_model.specs.Fault.{vanishes}
 use Rattle.lookup_model.specs.Message.{Message}
 use Rattle.lookup_model.specs.Plain.{counted}
-use Rattle.lookup_model.proofs.Lookups.Rows.{split_at}
 use Rattle.generation_tests.specs.PlainProgram.{IsSumOfQuotients, as_message, as_messages}
 use Rattle.generation_tests.proofs.PlainProgramLaws.{fraction_of_both, messages-more, vanishes_among}
 use Rattle.generation_tests.proofs.plain.fraction_of.Goals as goal

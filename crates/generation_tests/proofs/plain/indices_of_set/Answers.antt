@@ -1,6 +1,6 @@
 use Rattle.std.proofs.Common.{◌≡◌, length, take, ◌++◌, ◌∷◌, [], true, false, ap, sym, ◌∙◌, arith}
 use Rattle.std.proofs.lemmas.List.{append-nil, length-take, take_all}
-use Rattle.lookup_model.proofs.Lookups.Rows.{take_item}
+use Rattle.lists.proofs.Items.{take_item}
 use Rattle.lookup_model.specs.Fault.{set_indices}
 use Rattle.lookup_model.proofs.Lookups.Selections.{indices-more}
 use Rattle.generation_tests.proofs.plain.indices_of_set.Goals.{then-eq+in_ok-push, else-eq}

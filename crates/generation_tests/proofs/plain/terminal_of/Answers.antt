@@ -1,6 +1,6 @@
 use Rattle.std.proofs.Common.{List, map, take, [], ◌∷◌, ap, sym, ◌∙◌, subst, arith}
 use Rattle.std.proofs.lemmas.List.{length-map, map-append, take_all}
-use Rattle.lookup_model.proofs.Branches.{mapped_at}
+use Rattle.lists.proofs.Images.{mapped_at}
 use Rattle.lookup_model.specs.Denominators.{key_denominator}
 use Rattle.field.specs.laws.Extension.{of_laws}
 use Rattle.lookup_model.specs.Fault.{vanishes}

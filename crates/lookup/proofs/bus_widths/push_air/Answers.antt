@@ -2,8 +2,8 @@ use Rattle.std.proofs.Common.{◌≡◌, ◌++◌, ap, arith, ◌+◌, length, m
 use Rattle.std.proofs.lemmas.List.{length-map}
 use Rattle.std.proofs.lemmas.Option.{slice_get-map}
 use Rattle.std.specs.Option.{option_map}
-use Rattle.lookup.proofs.NamedWidthLaws.{parts_next}
 use Rattle.std.specs.List.{flat_map}
+use Rattle.lists.proofs.Parts.{parts_next}
 use Rattle.lookup_model.specs.Outline.{fields_of}
 use Rattle.lookup.specs.Buses.{bus_groups, group_of}
 use Rattle.lookup.specs.BusWidths.{widths_of}

@@ -1,6 +1,6 @@
 use Rattle.std.proofs.Common.{◌++◌, ap, arith, length, map, sym, take_all, ◌∙◌}
 use Rattle.std.specs.List.{flat_map}
-use Rattle.lookup_model.proofs.HornerRule.{map-map}
+use Rattle.lists.proofs.Images.{map-map}
 use Rattle.lookup_model.specs.Outline.{fields_of}
 use Rattle.lookup.specs.BusWidths.{widths_of}
 use Rattle.lookup.specs.NamedWidths.{seen_widths}

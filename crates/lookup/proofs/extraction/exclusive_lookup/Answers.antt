@@ -3,9 +3,10 @@ use Rattle.std.proofs.lemmas.List.{map_push, nil_from_length}
 use Rattle.std.specs.declared.alloc.Global.{Global}
 use Rattle.std.specs.declared.vec.Vec.{Vec}
 use Rattle.std.specs.Vec.Iter.{into_iter_items}
+use Rattle.lists.proofs.Images.{all_passed}
 use Rattle.lookup_model.specs.LookupDegree.{greatest}
 use Rattle.lookup_record.specs.Records.{branch_of, exclusive_of}
-use Rattle.lookup.proofs.ExtractionLaws.{passed, same_lengths, whole_list}
+use Rattle.lookup.proofs.ExtractionLaws.{passed, same_lengths}
 use Rattle.lookup.proofs.extraction.exclusive_lookup.Goals as goal
 
 pub returns : goal.returns
@@ -14,9 +15,9 @@ returns g c =
     let none = ap (map branch_of) (nil_from_length (into_iter_items c.loop-branch.branch-iterator) (omega (arith, c.in-None.ensures.steps.0, c.loop-branch.branch-iterator.rest.ok.0))) in
     let group = exclusive_of c.args.interaction in
     let invariant = c.loop-branch.invariant in
-    let elements = whole_list (λ b. b.fields) _ _ left none invariant.0 in
-    let multiplicities = whole_list (λ b. b.count) _ _ left none invariant.1 in
-    let flags = whole_list (λ b. b.flag) _ _ left none invariant.2 in
+    let elements = all_passed (λ b. b.fields) _ _ left none invariant.0 in
+    let multiplicities = all_passed (λ b. b.count) _ _ left none invariant.1 in
+    let flags = all_passed (λ b. b.flag) _ _ left none invariant.2 in
     let weight : c.loop-branch.count_weight ≡ greatest (map (λ b. b.weight) group.branches) =
     omega (arith, invariant.3, ap (λ bs. greatest (map (λ b. b.weight) bs)) none) in (
       λ i. record {

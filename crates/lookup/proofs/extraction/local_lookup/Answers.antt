@@ -4,11 +4,12 @@ use Rattle.std.proofs.lemmas.List.{map_push, nil_from_length}
 use Rattle.std.proofs.lemmas.Result.{err_from_is_err_and}
 use Rattle.std.specs.List.{sum_by}
 use Rattle.std.specs.Vec.Iter.{into_iter_items}
+use Rattle.lists.proofs.Images.{all_passed}
 use Rattle.lookup_record.specs.Pushed.{tuple_of}
 use Rattle.lookup_record.specs.Records.{local_of}
 use Rattle.lookup_model.specs.Weight.{weight_bound}
 use Rattle.lookup.specs.TupleWidths.{HasOtherWidth}
-use Rattle.lookup.proofs.ExtractionLaws.{passed, same_lengths, same_widths, whole_list, widths_of_tuples}
+use Rattle.lookup.proofs.ExtractionLaws.{passed, same_lengths, same_widths, widths_of_tuples}
 use Rattle.lookup.proofs.extraction.local_lookup.Goals as goal
 
 pub loop-fields-init : goal.loop-fields-init
@@ -21,7 +22,7 @@ returns-in_err-assert_uniform_tuple_width g c =
     let none = ap (map tuple_of) (nil_from_length (into_iter_items c.loop-fields.fields-iterator) (omega (arith, c.in-None.ensures.steps.0, c.loop-fields.fields-iterator.rest.ok.0))) in
     let tuples = local_of c.args.interaction in
     let invariant = c.loop-fields.invariant in
-    let elements = whole_list (λ t. t.fields) _ _ left none invariant.0 in
+    let elements = all_passed (λ t. t.fields) _ _ left none invariant.0 in
     let weight : sum_by (λ t. t.weight) tuples < weight_bound =
     omega (arith, invariant.2, invariant.3, ap (λ ts. sum_by (λ t. t.weight) ts) none) in
     let p = err_from_is_err_and c.from_residual-in_err-assert_uniform_tuple_width.result c.from_residual-in_err-assert_uniform_tuple_width.ensures.1 in
@@ -44,8 +45,8 @@ returns g c =
     let none = ap (map tuple_of) (nil_from_length (into_iter_items c.loop-fields.fields-iterator) (omega (arith, c.in-None.ensures.steps.0, c.loop-fields.fields-iterator.rest.ok.0))) in
     let tuples = local_of c.args.interaction in
     let invariant = c.loop-fields.invariant in
-    let elements = whole_list (λ t. t.fields) _ _ left none invariant.0 in
-    let multiplicities = whole_list (λ t. t.count) _ _ left none invariant.1 in
+    let elements = all_passed (λ t. t.fields) _ _ left none invariant.0 in
+    let multiplicities = all_passed (λ t. t.count) _ _ left none invariant.1 in
     let weight : c.loop-fields.count_weight ≡ sum_by (λ t. t.weight) tuples =
     omega (arith, invariant.3, ap (λ ts. sum_by (λ t. t.weight) ts) none) in
     let width = c.in_ok-assert_uniform_tuple_width.field-0 in (

@@ -3,8 +3,8 @@ use Rattle.std.proofs.lemmas.List.{get_or_default, take_all}
 use Rattle.std.proofs.lemmas.Option.{slice_get-get_or}
 use Rattle.std.proofs.lemmas.Slice.Zip.{all_zipped_more}
 use Rattle.std.specs.List.{AllZip}
+use Rattle.lists.proofs.Items.{take_item}
 use Rattle.lookup_columns.specs.ChunkColumns.{IsHeld, key_denominator_over}
-use Rattle.lookup_columns.proofs.ZipLaws.{taken_more}
 use Rattle.lookup_model.proofs.Branches.{length-branches_at}
 use Rattle.lookup_model.specs.Message.{Message}
 use Rattle.lookup_model.specs.Sent.{branches_at}
@@ -22,7 +22,7 @@ loop-branch-preserved g c = λ index r there.
     let d : Message _ = record { key = record { id = 0; tuple = [] }; multiplicity = R.zero } in
     let m = get_or ms i d in
     let lt : i < length ms = omega (arith, length-branches_at R w lookup.column lookup c.requires.lengths) in
-    subst₂ (AllZip held) (sym c.in_ok-push.ensures.items) (sym (taken_more ms i m lt (get_or_default ms i d m lt)))
+    subst₂ (AllZip held) (sym c.in_ok-push.ensures.items) (sym (take_item ms i m lt (get_or_default ms i d m lt)))
     (all_zipped_more held c.loop-branch.branches.items (take i ms) c.in_ok-columns.columns m (c.loop-branch.invariant index r there)
     (c.in_ok-columns.ensures.held index r m there (slice_get-get_or ms i d lt)))
 

@@ -13,8 +13,8 @@ use Rattle.lookup_columns.specs.LookupSteps.{AreTupleSteps}
 use Rattle.lookup_columns.proofs.ChunkColumnLaws.{mapped_there}
 use Rattle.lookup_columns.proofs.StepLaws.{all_steps_fit}
 use Rattle.std.proofs.lemmas.Option.{get_or_from_slice_get}
-use Rattle.lookup_model.proofs.Branches.{zipped_at}
-use Rattle.lookup_model.proofs.RecordLaws.{All-at}
+use Rattle.lists.proofs.Zips.{zipped_at}
+use Rattle.lists.proofs.Each.{All-at}
 use Rattle.lookup_model.specs.Message.{Message}
 use Rattle.lookup_model.specs.Records.{AllFit, IsWithin}
 use Rattle.lookup_model.specs.Sent.{branch_at, branches_at, value, values}

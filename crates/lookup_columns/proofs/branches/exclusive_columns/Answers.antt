@@ -5,12 +5,14 @@ use Rattle.std.specs.List.{AllZip, slice_get}
 use Rattle.lookup_columns.specs.ChunkColumns.{HasFlag, IsHeldIfSet, key_denominator_over}
 use Rattle.lookup_columns.proofs.ChunkColumnLaws.{mapped_there}
 use Rattle.std.proofs.lemmas.Slice.Zip.{all_zipped_more, AllZip-long}
-use Rattle.lookup_columns.proofs.ZipLaws.{beside, taken_more}
+use Rattle.lists.proofs.Items.{take_item}
+use Rattle.lists.proofs.Images.{mapped_more}
+use Rattle.lists.proofs.Each.{All-at}
+use Rattle.lookup_columns.proofs.ZipLaws.{beside}
 use Rattle.lookup_columns.specs.Steps.{AreStepsOf, StepFits, StepsFit}
 use Rattle.lookup_columns.proofs.StepLaws.{all_steps_fit}
 use Rattle.expressions.specs.Tree.{tree_of}
-use Rattle.lookup_model.proofs.Branches.{length-branches_at, mapped_more}
-use Rattle.lookup_model.proofs.RecordLaws.{All-at}
+use Rattle.lookup_model.proofs.Branches.{length-branches_at}
 use Rattle.lookup_model.specs.Message.{Message}
 use Rattle.lookup_model.specs.Sent.{branches_at, value, values}
 use Rattle.matrix.specs.Matrix.{height}
@@ -78,7 +80,7 @@ loop-branch-preserved g c = λ index r there.
           subst₂ (AllZip (HasFlag index)) (sym c.in_ok-push.ensures.items) (sym (mapped_more (value R w) flags i e (omega (arith, c.requires.flag_number)) flag_beside.there))
           (all_zipped_more (HasFlag index) c.loop-branch.branches.items (take i (values R w flags)) new (value R w e) so_far.flags_are flag);
       held =
-          subst₂ (AllZip (IsHeldIfSet R D index)) (sym c.in_ok-push.ensures.items) (sym (taken_more ms i m lt (get_or_default ms i d m lt)))
+          subst₂ (AllZip (IsHeldIfSet R D index)) (sym c.in_ok-push.ensures.items) (sym (take_item ms i m lt (get_or_default ms i d m lt)))
           (all_zipped_more (IsHeldIfSet R D index) c.loop-branch.branches.items (take i ms) new m so_far.held held);
     }
 

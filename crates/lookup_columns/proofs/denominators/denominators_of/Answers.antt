@@ -8,10 +8,10 @@ use Rattle.lookup_columns.specs.Columns.{tuple_denominators}
 use Rattle.air.specs.Traces.{layout_of, traces_of, window_of}
 use Rattle.lookup_columns.proofs.LessenedLaws.{column_front, column_of_none, no_power, power_more}
 use Rattle.std.proofs.lemmas.Slice.Zip.{AllZip-long}
+use Rattle.lists.proofs.Each.{All-at}
 use Rattle.lookup_columns.proofs.ZipLaws.{beside}
 use Rattle.lookup_columns.specs.Steps.{AreStepsOf, StepFits}
 use Rattle.expressions.specs.Tree.{tree_of}
-use Rattle.lookup_model.proofs.RecordLaws.{All-at}
 use Rattle.lookup_columns.proofs.denominators.denominators_of.Goals as goal
 
 pub loop-left-init : goal.loop-left-init

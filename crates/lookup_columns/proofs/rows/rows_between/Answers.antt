@@ -1,6 +1,6 @@
 use Rattle.std.proofs.Common.{◌≡◌, ◌+◌, ◌-◌, ◌∷◌, ◌++◌, [], ap, sym, ◌∙◌, arith}
 use Rattle.std.specs.List.{range_with_len}
-use Rattle.lookup_columns.proofs.ChunkColumnLaws.{range-more}
+use Rattle.lists.proofs.Items.{range_more}
 use Rattle.lookup_columns.proofs.rows.rows_between.Goals as goal
 
 pub loop-row-init : goal.loop-row-init
@@ -14,7 +14,7 @@ loop-row-preserved c =
     let here : c.loop-row.row ≡ c.args.first + n = omega (arith, c.loop-row.auto.row) in
     let one_more : n + 1 ≡ c.loop-row.row + 1 - c.args.first = omega (arith, c.loop-row.auto.row) in
     c.in_ok-push.ensures.items ∙ (λ k. c.loop-row.invariant k ++ here k ∷ [])
-    ∙ sym (range-more c.args.first n)
+    ∙ sym (range_more c.args.first n)
     ∙ ap (range_with_len c.args.first) one_more
 
 pub returns : goal.returns

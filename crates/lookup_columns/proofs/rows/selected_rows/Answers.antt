@@ -2,8 +2,8 @@ use Rattle.std.proofs.Common.{◌≡◌, ◌<◌, ◌+◌, ◌∷◌, ◌++◌, 
 use Rattle.std.proofs.lemmas.Bool.{false_from_ne_true, true≢false}
 use Rattle.std.proofs.lemmas.List.{append-nil, get_or_default, length-take, length_push}
 use Rattle.std.proofs.lemmas.List.Elements.{All-push}
+use Rattle.lists.proofs.Items.{take_item}
 use Rattle.lookup_columns.specs.ChunkColumns.{AreSelected, selected_rows}
-use Rattle.lookup_columns.proofs.ZipLaws.{taken_more}
 use Rattle.lookup_columns.proofs.SelectedRows.{selected_more, selected_skipped, selected_push}
 use Rattle.lookup_columns.proofs.rows.selected_rows.Goals.{then-not-is_zero+in_ok-push-2, else-not-is_zero}
 use Rattle.lookup_columns.proofs.rows.selected_rows.Goals as goal
@@ -23,8 +23,8 @@ loop-i-preserved g c =
     let n = c.len.result in
     let so_far = c.loop-i.invariant in
     let lt : i < length rows = omega (arith, c.loop-i-test.true) in
-    let flag_more = taken_more flags i f (omega (arith, lt, c.requires)) c.index-flags-i.is in
-    let row_more = taken_more rows i r lt (get_or_default rows i 0 r lt) in
+    let flag_more = take_item flags i f (omega (arith, lt, c.requires)) c.index-flags-i.is in
+    let row_more = take_item rows i r lt (get_or_default rows i 0 r lt) in
     let indices_are = c.in_ok-push.ensures.items in
     let flags_long : length (take i flags) ≡ length (take i rows) = omega (arith, length-take i flags, length-take i rows, c.requires, lt) in
     let indices_long : length indices ≡ length (take i rows) = omega (arith, so_far.0, length-take i rows, lt) in

@@ -3,12 +3,13 @@ use Rattle.std.proofs.lemmas.List.{length-map}
 use Rattle.std.proofs.lemmas.Result.{IfOk-weaker}
 use Rattle.std.specs.Cmp.Lexicographic.{pointwise}
 use Rattle.std.specs.List.{filter_map, flat_map}
-use Rattle.lookup_model.proofs.Branches.{mapped_at}
+use Rattle.lists.proofs.Items.{numbered_all}
+use Rattle.lists.proofs.Images.{mapped_at}
 use Rattle.lookup_model.specs.Net.{first_seen}
 use Rattle.lookup_model.specs.Outline.{bus_of}
 use Rattle.lookup_debug.specs.Contributions.{Traced, traced_of}
 use Rattle.lookup_debug.specs.Groups.{LookupAt, lookups_in}
-use Rattle.lookup_debug.proofs.BusLaws.{names_more, numbered_all}
+use Rattle.lookup_debug.proofs.BusLaws.{names_more}
 use Rattle.lookup_debug.proofs.groups.bus_names.Goals as goal
 
 pub loop-instance-preserved : goal.loop-instance-preserved

@@ -2,8 +2,8 @@ use Rattle.std.proofs.cmp.SliceLoops.{all_seen, begun}
 use Rattle.std.proofs.Common.{◌≡◌, ◌<◌, ◌&&◌, ◌+◌, true, false, ap, arith, drop, length, refl, sym, ◌∙◌}
 use Rattle.std.proofs.lemmas.List.{length-map}
 use Rattle.std.specs.Cmp.Lexicographic.{pointwise, unequal}
+use Rattle.lists.proofs.Images.{mapped_at}
 use Rattle.lookup_rows.specs.TraceBuilder.{builder_layout, builder_window}
-use Rattle.lookup_model.proofs.Branches.{mapped_at}
 use Rattle.lookup_model.proofs.RecordLaws.{Fits-at}
 use Rattle.lookup_model.specs.Sent.{value, values}
 use Rattle.lookup_debug.proofs.tuple_locations.has_values.Goals as goal

@@ -1,12 +1,13 @@
 use Rattle.std.proofs.Common.{◌<◌, List, arith, length, map, subst, ℕ}
 use Rattle.std.proofs.lemmas.List.{length-map}
 use Rattle.std.specs.List.{filter, flat_map}
-use Rattle.lookup_model.proofs.Branches.{mapped_at}
-use Rattle.lookup_model.proofs.RecordLaws.{All-at}
+use Rattle.lists.proofs.Items.{numbered_all}
+use Rattle.lists.proofs.Images.{mapped_at}
+use Rattle.lists.proofs.Each.{All-at}
 use Rattle.lookup_debug.specs.Contributions.{IsTracedFitting, Traced, traced_of}
 use Rattle.lookup_debug.specs.Groups.{is_on, lookup_contributions, lookups_in}
 use Rattle.lookup_debug.specs.declared.instance.LookupDebugInstance.{LookupDebugInstance}
-use Rattle.lookup_debug.proofs.BusLaws.{numbered_all, step_instance}
+use Rattle.lookup_debug.proofs.BusLaws.{step_instance}
 use Rattle.lookup_debug.proofs.walk.walk_bus.Goals as goal
 
 pub walk_bus_of-requires-clause-ready : goal.walk_bus_of-requires-clause-ready

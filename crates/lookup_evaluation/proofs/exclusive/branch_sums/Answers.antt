@@ -1,11 +1,12 @@
 use Rattle.std.proofs.Common.{List, sym, arith, subst}
 use Rattle.std.proofs.lemmas.List.{take_all}
+use Rattle.lists.proofs.Each.{All-at}
 use Rattle.field.specs.laws.Extension.{of_laws}
 use Rattle.expressions.specs.declared.base_expression.SymbolicExpression.{SymbolicExpression}
 use Rattle.lookup_evaluation.proofs.Selections.{branch_sums_more}
 use Rattle.lookup_evaluation.proofs.exclusive.branch_sums.Goals as goal
 use Rattle.lookup_model.specs.Records.{AllFit, IsWithin}
-use Rattle.lookup_model.proofs.RecordLaws.{All-at, Fits-at}
+use Rattle.lookup_model.proofs.RecordLaws.{Fits-at}
 
 pub offset_bounds-flags-branch : goal.offset_bounds-flags-branch
 offset_bounds-flags-branch g c = omega arith

@@ -1,11 +1,12 @@
 use Rattle.std.proofs.Common.{◌≤◌, ◌+◌, ℕ, map, take, ap, sym, ◌∙◌, arith}
 use Rattle.std.proofs.lemmas.List.{take_all}
+use Rattle.lists.proofs.Images.{map-map}
 use Rattle.field.specs.Polynomial.{combined}
 use Rattle.field.specs.laws.Extension.{of_laws}
 use Rattle.lookup_model.specs.LookupDegree.{expression_degree, greatest}
 use Rattle.lookup_model.specs.Sent.{value}
 use Rattle.lookup_model.proofs.DegreeBounds.{greatest_more}
-use Rattle.lookup_model.proofs.HornerRule.{combined_more, map-map}
+use Rattle.lookup_model.proofs.HornerRule.{combined_more}
 use Rattle.lookup_model.proofs.RecordLaws.{Fits-at}
 use Rattle.lookup_evaluation.proofs.row.combined_tuple.Goals as goal
 

@@ -1,10 +1,10 @@
 use Rattle.std.proofs.Common.{◌<◌, ◌+◌, List, length, ◌∷◌, ◌++◌, [], take, drop, sym, ap, ◌∙◌, subst, arith}
 use Rattle.std.proofs.lemmas.List.{length-map, length-take, take_all}
 use Rattle.std.proofs.lemmas.Result.{err_from_is_err_and}
-use Rattle.lookup_model.proofs.Branches.{mapped_at, mapped_more}
+use Rattle.lists.proofs.Images.{mapped_at, mapped_more}
+use Rattle.lists.proofs.Items.{split_at}
 use Rattle.lookup_model.specs.Fault.{are_boolean}
 use Rattle.lookup_model.proofs.RecordLaws.{Fits-at}
-use Rattle.lookup_model.proofs.Lookups.Rows.{split_at}
 use Rattle.lookup_model.specs.Sent.{value, values}
 use Rattle.lookup_rows.specs.Selection.{AreSetFlags}
 use Rattle.lookup_rows.specs.TraceBuilder.{builder_layout, builder_window}

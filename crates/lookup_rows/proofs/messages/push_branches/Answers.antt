@@ -1,8 +1,9 @@
 use Rattle.std.proofs.Common.{◌∷◌, ◌++◌, [], List, append_assoc, refl, take, ap, sym, subst, ◌∙◌, arith}
 use Rattle.std.proofs.lemmas.List.{append-nil, take_all}
+use Rattle.lists.proofs.Each.{All-at}
 use Rattle.expressions.specs.declared.base_expression.SymbolicExpression.{SymbolicExpression}
 use Rattle.lookup_model.proofs.Branches.{branches_more, length-branches_at}
-use Rattle.lookup_model.proofs.RecordLaws.{All-at, Fits-at}
+use Rattle.lookup_model.proofs.RecordLaws.{Fits-at}
 use Rattle.lookup_model.specs.Records.{AllFit, IsWithin}
 use Rattle.lookup_model.specs.Sent.{branch_at, branches_at}
 use Rattle.lookup_rows.specs.SentMessages.{messages_of}

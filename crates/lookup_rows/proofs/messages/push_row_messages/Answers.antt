@@ -2,17 +2,18 @@ use Rattle.std.proofs.Common.{◌≡◌, ◌<◌, ◌+◌, inl, inr, refl, lengt
 use Rattle.std.proofs.lemmas.List.{length-map, length-take}
 use Rattle.std.proofs.lemmas.Result.{err_from_is_err_and}
 use Rattle.std.specs.List.{slice_get}
-use Rattle.lookup_model.proofs.Branches.{mapped_at, mapped_more}
+use Rattle.lists.proofs.Images.{mapped_at, mapped_more}
+use Rattle.lists.proofs.Each.{All-at}
+use Rattle.lists.proofs.Items.{split_at}
 use Rattle.lookup_model.specs.FlagFault.{row_flag_faults, sent_flag_fault}
 use Rattle.lookup_model.specs.Sent.{Sent, sent_at}
 use Rattle.lookup_model.specs.Trace.{sent_row_under}
 use Rattle.lookup_model.specs.declared.types.Lookup.{Lookup}
-use Rattle.lookup_model.proofs.Lookups.Rows.{row_faults-first, split_at}
+use Rattle.lookup_model.proofs.Lookups.Rows.{row_faults-first}
 use Rattle.lookup_model.proofs.Lookups.SentRows.{column_is, equal_lengths}
 use Rattle.lookup_rows.specs.SentMessages.{HasSentRow}
 use Rattle.lookup_rows.specs.TraceBuilder.{builder_layout, builder_window}
 use Rattle.lookup_rows.proofs.SentMessageLaws.{further_back, in_front, no_sent, sent_more}
-use Rattle.lookup_model.proofs.RecordLaws.{All-at}
 use Rattle.lookup_model.specs.Records.{IsWithin}
 use Rattle.lookup_rows.proofs.messages.push_row_messages.Goals as goal
 

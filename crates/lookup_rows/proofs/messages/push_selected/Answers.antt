@@ -1,9 +1,11 @@
 use Rattle.std.proofs.Common.{◌≡◌, ◌<◌, ◌∷◌, ◌++◌, List, [], length, inl, refl, get_or, sym, ap, ◌∙◌, subst, arith}
 use Rattle.std.proofs.lemmas.List.{append-nil, length-map}
 use Rattle.std.proofs.lemmas.Result.{MatchResult-weaker}
+use Rattle.lists.proofs.Zips.{zipped_at}
+use Rattle.lists.proofs.Each.{All-at}
 use Rattle.expressions.specs.declared.base_expression.SymbolicExpression.{SymbolicExpression}
-use Rattle.lookup_model.proofs.Branches.{length-branches_at, zipped_at}
-use Rattle.lookup_model.proofs.RecordLaws.{All-at, Fits-at}
+use Rattle.lookup_model.proofs.Branches.{length-branches_at}
+use Rattle.lookup_model.proofs.RecordLaws.{Fits-at}
 use Rattle.lookup_model.specs.Records.{AllFit, IsWithin}
 use Rattle.lookup_model.specs.Sent.{branch_at, branches_at, value, values}
 use Rattle.lookup_model.proofs.Lookups.Selections.{index_within}

@@ -1,10 +1,11 @@
 use Rattle.std.proofs.Common.{refl, take, ap, sym, ◌∙◌, arith}
 use Rattle.std.proofs.lemmas.List.{take_all}
+use Rattle.lists.proofs.Images.{images_more}
 use Rattle.lookup_model.specs.Message.{same_key}
 use Rattle.lookup_model.proofs.Lookups.KeyLaws.{same_key-Decides}
 use Rattle.lookup_rows.specs.SentMessages.{message_of, messages_of}
 use Rattle.lookup_rows.specs.Entries.{key_entries, key_of, nets_of}
-use Rattle.lookup_rows.proofs.NetEntries.{mapped-more, one_more}
+use Rattle.lookup_rows.proofs.NetEntries.{one_more}
 use Rattle.lookup_rows.proofs.net_map.nets.Goals as goal
 
 pub loop-message-preserved : goal.loop-message-preserved
@@ -17,7 +18,7 @@ loop-message-preserved g c =
     ap key_entries c.in_ok-add_at.ensures.adds
     ∙ one_more (same_key eq) (same_key-Decides eq g.met.F.PrimeCharacteristicRing.eq_is) key_of g.F.PrimeCharacteristicRing.lawful (λ n. n.key) (λ n. n.multiplicity) (messages_of (take i ms)) (message_of m) c.loop-message.nets.entries _ _ _ c.loop-message.invariant
     (λ j. record { id = m.id; tuple = c.as_slice.ensures.value j }) refl refl
-    ∙ ap (nets_of R eq) (sym (mapped-more message_of ms i m c.loop-message-test.true c.message-item.is))
+    ∙ ap (nets_of R eq) (sym (images_more message_of ms i m c.loop-message-test.true c.message-item.is))
 
 pub returns : goal.returns
 returns g c =

@@ -1,5 +1,6 @@
 use Rattle.std.proofs.lemmas.Result.{err_from_is_err_and}
-use Rattle.expressions.proofs.Assertions.{accepts_more, refuses_after, split_more, split_here}
+use Rattle.lists.proofs.Items.{split_here, split_more}
+use Rattle.expressions.proofs.Assertions.{accepts_more, refuses_after}
 use Rattle.expressions.proofs.builder.AirBuilder.assert_zeros.Goals as goal
 
 pub loop-x-preserved : goal.loop-x-preserved

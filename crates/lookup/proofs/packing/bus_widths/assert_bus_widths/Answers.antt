@@ -2,6 +2,7 @@ use Rattle.std.proofs.Common.{◌≡◌, ◌∷◌, [], ℕ, List, length, map, 
 use Rattle.std.proofs.lemmas.List.{length-map, take_all}
 use Rattle.std.proofs.lemmas.Result.{err_from_is_err_and}
 use Rattle.std.specs.List.{AllByRecursion, flat_map}
+use Rattle.lists.proofs.Each.{all_both}
 use Rattle.expressions.specs.declared.base_expression.SymbolicExpression.{SymbolicExpression}
 use Rattle.lookup_model.specs.Outline.{Outline, fields_of}
 use Rattle.lookup.specs.Buses.{bus_names, group_of, on_bus}
@@ -9,7 +10,6 @@ use Rattle.lookup.specs.BusWidths.{HasOneWidth, bus_widths, widths_of}
 use Rattle.lookup.specs.TupleWidths.{HasOtherWidth}
 use Rattle.lookup.proofs.PackLaws.{at_index, bus_here}
 use Rattle.lookup.proofs.WidthLaws.{all_buses}
-use Rattle.lookup_model.proofs.Lists.{all_both}
 use Rattle.lookup.proofs.packing.bus_widths.assert_bus_widths.Goals as goal
 
 pub returns-in_err-assert_bus_width : goal.returns-in_err-assert_bus_width

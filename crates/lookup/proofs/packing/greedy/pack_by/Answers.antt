@@ -5,6 +5,7 @@ use Rattle.std.proofs.lemmas.Result.{err_from_is_err_and}
 use Rattle.std.proofs.lemmas.Slice.Zip.{all_zipped_more}
 use Rattle.std.specs.List.{AllZip}
 use Rattle.std.specs.Vec.Iter.{into_iter_items}
+use Rattle.lists.proofs.Zips.{AllZip-next, AllZip-none}
 use Rattle.expressions.specs.declared.base_expression.SymbolicExpression.{SymbolicExpression}
 use Rattle.lookup_model.specs.Outline.{Outline, fields_of}
 use Rattle.lookup_model.specs.Records.{HasEqualLengths}
@@ -17,7 +18,7 @@ use Rattle.lookup.specs.Trials.{IsMember}
 use Rattle.lookup.proofs.KeptFlags.{kept_flags, kept_other_buses}
 use Rattle.lookup.proofs.KeptLaws.{kept_messages, kept_nets, kept_weight}
 use Rattle.lookup.proofs.KeptWidths.{kept_widths}
-use Rattle.lookup.proofs.ListLaws.{columns_behind, zip_next, zip_none}
+use Rattle.lookup.proofs.ListLaws.{columns_behind}
 use Rattle.lookup.proofs.PackLaws.{AreColumnsAdded, all_packed, fill_refusal, groups_of}
 use Rattle.lookup.proofs.SameKeys.{kept_keys}
 use Rattle.lookup.proofs.StepLaws.{free_bus, stuck_bus}
@@ -46,7 +47,7 @@ loop-bus-preserved g c =
     let inv = c.loop-bus.invariant in
     let bus = c.in-Some.bus in
     let answers = g.T.TrialDegrees.answers c.args.degrees.now in
-    let (members, later, later_is, filled, left) = zip_next (IsFilled (g.T.TrialDegrees.keeps c.args.degrees.now) (g.T.TrialDegrees.answers c.args.degrees.now) c.args.max_degree) inv.later bus _ (subst (λ t. AllZip (IsFilled (g.T.TrialDegrees.keeps c.args.degrees.now) (g.T.TrialDegrees.answers c.args.degrees.now) c.args.max_degree) inv.later t) c.in-Some.ensures.steps.0 inv.left) in
+    let (members, later, later_is, filled, left) = AllZip-next (IsFilled (g.T.TrialDegrees.keeps c.args.degrees.now) (g.T.TrialDegrees.answers c.args.degrees.now) c.args.max_degree) inv.later bus _ (subst (λ t. AllZip (IsFilled (g.T.TrialDegrees.keeps c.args.degrees.now) (g.T.TrialDegrees.answers c.args.degrees.now) c.args.max_degree) inv.later t) c.in-Some.ensures.steps.0 inv.left) in
     let appended = c.in_ok-append_columns.ensures in
     let columns_are = appended.1 ∙ append_assoc c.loop-bus.columns.items bus.closed.items (bus.last ∷ []) in
     let (is_open, columns) = free_bus (g.T.TrialDegrees.keeps c.args.degrees.now) (g.T.TrialDegrees.answers c.args.degrees.now) c.args.max_degree members bus filled appended.0 in
@@ -69,7 +70,7 @@ returns-in_err-append_columns-clause-packs g c =
     let before = map fields_of c.args.lookups.items in
     let bus = c.in-Some.bus in
     let e = c.in_err-append_columns.field-0.0 in
-    let (members, later, later_is, filled, left) = zip_next (IsFilled (g.T.TrialDegrees.keeps c.args.degrees.now) (g.T.TrialDegrees.answers c.args.degrees.now) c.args.max_degree) inv.later bus _ (subst (λ t. AllZip (IsFilled (g.T.TrialDegrees.keeps c.args.degrees.now) (g.T.TrialDegrees.answers c.args.degrees.now) c.args.max_degree) inv.later t) c.in-Some.ensures.steps.0 inv.left) in
+    let (members, later, later_is, filled, left) = AllZip-next (IsFilled (g.T.TrialDegrees.keeps c.args.degrees.now) (g.T.TrialDegrees.answers c.args.degrees.now) c.args.max_degree) inv.later bus _ (subst (λ t. AllZip (IsFilled (g.T.TrialDegrees.keeps c.args.degrees.now) (g.T.TrialDegrees.answers c.args.degrees.now) c.args.max_degree) inv.later t) c.in-Some.ensures.steps.0 inv.left) in
     let p = err_from_is_err_and c.from_residual-in_err-append_columns.result c.from_residual-in_err-append_columns.ensures.1 in
     let widths = subst (λ (t : List (Lookup g.row.F.Denot)). HaveBusWidths (map fields_of t)) c.deref.ensures.value c.in_ok-assert_bus_widths.ensures in
     let first = λ (stuck : IsStuck (g.T.TrialDegrees.answers c.args.degrees.now) c.args.max_degree members e). fill_refusal (g.T.TrialDegrees.answers c.args.degrees.now) c.args.max_degree before (map (λ g. g.1) (bus_groups (additive before))) e (groups_of (additive before)) (record {
@@ -96,7 +97,7 @@ returns-clause-packs g c =
     let inv = c.loop-bus.invariant in
     let before = map fields_of c.args.lookups.items in
     let none = nil_from_length (into_iter_items c.loop-bus.bus-iterator) (omega (arith, c.in-None.ensures.steps.0, c.loop-bus.bus-iterator.rest.ok.0)) in
-    let no_later = zip_none (IsFilled (g.T.TrialDegrees.keeps c.args.degrees.now) (g.T.TrialDegrees.answers c.args.degrees.now) c.args.max_degree) inv.later _ none inv.left in
+    let no_later = AllZip-none (IsFilled (g.T.TrialDegrees.keeps c.args.degrees.now) (g.T.TrialDegrees.answers c.args.degrees.now) c.args.max_degree) inv.later _ none inv.left in
     let whole = sym (append-nil inv.earlier) ∙ ap (λ t. inv.earlier ++ t) (sym no_later) ∙ inv.split in
     let answers = g.T.TrialDegrees.answers c.args.degrees.now in (
       subst (λ (t : List (Lookup g.row.F.Denot)). HaveBusWidths (map fields_of t)) c.deref.ensures.value c.in_ok-assert_bus_widths.ensures,
