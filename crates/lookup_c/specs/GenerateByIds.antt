@@ -9,12 +9,12 @@ use Rattle.lookup_model.specs.declared.types.Lookup.{Lookup}
 use Rattle.lookup_model.specs.declared.types.LookupTerminal.{LookupTerminal}
 use Rattle.batch.specs.Tables.{made_table}
 use Rattle.lookup_tables.specs.Nodes.{BabyBear}
-use Rattle.lookup_tables.specs.Tables.{SayLookups}
+use Rattle.lookup_tables.specs.Tables.{EncodeLookups}
 use Rattle.lookup_tables.specs.Traces.{AreCanonical}
 use Rattle.lookup_tables.specs.declared.tables.Tables.{Tables}
 use Rattle.lookup_tables.specs.declared.traces.Traces.{Traces}
 use Rattle.lookup_c.specs.Generate.{AreNumbersOf, GeneratesOver, IsLookupsRefusal, LacksRoom}
-use Rattle.lookup_c.specs.Inputs.{IsChallenge, IsChallengeRefusal, IsTableRefusal, IsTracesRefusal, said_traces}
+use Rattle.lookup_c.specs.Inputs.{IsChallenge, IsChallengeRefusal, IsTableRefusal, IsTracesRefusal, decoded_traces}
 use Rattle.lookup_c.specs.declared.fault.Fault.{Fault}
 use Rattle.lookup_c.specs.declared.fault.Fault.TheVariants.{Id, Length, Memory, Width}
 use Rattle.lookup_c.specs.declared.codes.Part.TheVariants.{Alphas, Betas, Ids}
@@ -40,16 +40,16 @@ module _ (E : Extension BabyBear (Quartic BabyBear)) (tables : Tables) (traces :
     pub beta_is : IsChallenge beta b
     pub are : challenges ≡ column_challenges (made_table E.ring a b sizes.max_message_width sizes.num_ids) ids
 
-  -- Generation over the one list of lookups that the tables say, over the traces of these numbers, and
+  -- Generation over the one list of lookups that the tables encode, over the traces of these numbers, and
   -- over the challenges that the ids have; all numbers are below the modulus.
   pub record GeneratesTables (auxiliary : Matrix (Quartic BabyBear)) (terminal : Option (LookupTerminal (Quartic BabyBear))) : Type 0 where
     pub lookups : List (Lookup BabyBear)
-    pub say : SayLookups tables lookups
+    pub encoded : EncodeLookups tables lookups
     pub traces_below : AreCanonical traces
     pub as_many : length ids ≡ length lookups
     pub challenges : List (Quartic BabyBear)
     pub challenges_are : AreChallengesOfIds challenges
-    pub generates : GeneratesOver E (said_traces traces) challenges lookups auxiliary terminal
+    pub generates : GeneratesOver E (decoded_traces traces) challenges lookups auxiliary terminal
 
   -- The refusal of the tables, of the traces, of a challenge, of the number of ids, of the sizes or an id, or
   -- of generation.
@@ -60,9 +60,9 @@ module _ (E : Extension BabyBear (Quartic BabyBear)) (tables : Tables) (traces :
       ⊎ (IsChallengeRefusal Alphas alpha fault
       ⊎ (IsChallengeRefusal Betas beta fault
       ⊎ (IsIdsRefusal ids sizes fault
-      ⊎ ((lookups : List (Lookup BabyBear)) × SayLookups tables lookups
+      ⊎ ((lookups : List (Lookup BabyBear)) × EncodeLookups tables lookups
       × (((length ids ≢ length lookups) × (fault ≡ Length Ids (length lookups) (length ids)))
-      ⊎ ((challenges : List (Quartic BabyBear)) × AreChallengesOfIds challenges × IsLookupsRefusal E (said_traces traces) challenges lookups fault)))))))
+      ⊎ ((challenges : List (Quartic BabyBear)) × AreChallengesOfIds challenges × IsLookupsRefusal E (decoded_traces traces) challenges lookups fault)))))))
 
   -- the numbers of what is generated
   abbrev pub GeneratesNumbers : List (List ℕ) → Terminal → Type 0

@@ -40,7 +40,7 @@ IsRoomRefusal w cells terminals fault =
     ⊎ ((length (witness_cells w) ≡ cells) × (length w.terminals.items ≢ terminals) × (fault ≡ Length Terminals (length w.terminals.items) terminals)))
 
 module _ (E : Extension BabyBear (Quartic BabyBear)) (airs : List Air) (traces : List Traces) (alpha beta : List ℕ) where
-  -- The witness of the plan of the AIRs over the traces, all as the tables say them.
+  -- The witness of the plan of the AIRs over the traces, all as the tables encode them.
   abbrev pub ProvesTables : Witness (Quartic BabyBear) → Type 0
   ProvesTables witness = OfRun E airs traces alpha beta (λ run. PlanProves run (Ok witness))
 

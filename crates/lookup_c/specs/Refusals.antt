@@ -75,12 +75,12 @@ abbrev pub table_refusal : ℕ → ℕ → TableFault → CodedRefusal
 table_refusal a l table_fault.Memory = of_code code.OutOfMemory
 table_refusal a l (table_fault.Node n) = record (bad_table a l record_fault.Node) { row = n }
 table_refusal a l table_fault.Range = bad_table a l record_fault.Range
-table_refusal a l table_fault.Long = bad_table a l record_fault.LongList
-table_refusal a l table_fault.Kind = bad_table a l record_fault.Kind
-table_refusal a l table_fault.Name = bad_table a l record_fault.Name
-table_refusal a l table_fault.Deep = bad_table a l record_fault.DeepExpression
-table_refusal a l table_fault.Row = bad_table a l record_fault.LargeRow
-table_refusal a l table_fault.Many = bad_table a l record_fault.LongWrittenList
+table_refusal a l table_fault.TooManyNodesRead = bad_table a l record_fault.LongList
+table_refusal a l table_fault.BadKind = bad_table a l record_fault.Kind
+table_refusal a l table_fault.NameNotUtf8 = bad_table a l record_fault.Name
+table_refusal a l table_fault.TooDeep = bad_table a l record_fault.DeepExpression
+table_refusal a l table_fault.RowTooLarge = bad_table a l record_fault.LargeRow
+table_refusal a l table_fault.TooManyNodesWritten = bad_table a l record_fault.LongWrittenList
 
 -- the refusal of the traces of an AIR
 abbrev pub trace_refusal : ℕ → TraceFault → CodedRefusal

@@ -15,7 +15,7 @@ use lookup::{Lookups, fits};
 use lookup_tables::{ReadTraces, Tables, Traces};
 use std::alloc::Global;
 
-/// The sets of lookups that tables say, AIR by AIR.
+/// The sets of lookups that tables encode, AIR by AIR.
 fn table_sets(alloc: Global, airs: &[Tables<'_>]) -> Result<Vec<Lookups<BabyBear>>, Fault>
     ensures { MatchResult result (λ v. AreTableSets airs.now v.items)
         (IsTableSetsRefusal airs.now) }
@@ -102,7 +102,7 @@ fn check_instances(
     }
 }
 
-/// Checks what tables say.
+/// Checks what tables encode.
 fn check_tables(alloc: Global, airs: &[Tables<'_>], traces: &[Traces<'_>]) -> Result<(), Fault>
     ensures { let E = ⟦<BabyBear4 as Over<BabyBear>>⟧.fields in
         MatchResult result (λ _. ChecksTables E airs.now traces.now)

@@ -71,7 +71,7 @@ pub(crate) fn generate_lookups(
     }
 }
 
-/// Generates over what tables say.
+/// Generates over what tables encode.
 ///
 /// Refuses the first of these with a fault: the tables, the traces, the challenges, whether the lookups
 /// fit the traces, the heights of the traces, the number of challenges, and the generation.

@@ -55,7 +55,7 @@ fn challenges_of_ids(
     Ok(challenges.for_columns(alloc, ids)?)
 }
 
-/// Generates over what tables say, under ids.
+/// Generates over what tables encode, under ids.
 ///
 /// Refuses the first of these with a fault: the tables, the traces, alpha, beta, the number of ids, the
 /// sizes of the plan, an id, whether the lookups fit the traces, the heights of the traces, and the

@@ -38,7 +38,7 @@ fn grid_of(count: &GridCount) -> Grid
     }
 }
 
-/// The count of a grid of challenges over what tables say.
+/// The count of a grid of challenges over what tables encode.
 ///
 /// Refuses the first of these with a fault: the plan of the AIRs, the traces, the alphas, the betas, and
 /// the count.

@@ -31,7 +31,7 @@ fn pack_set(
     }
 }
 
-/// Tables of the packed lookups that tables say.
+/// Tables of the packed lookups that tables encode.
 fn pack_tables(
     alloc: Global,
     tables: &Tables<'_>,

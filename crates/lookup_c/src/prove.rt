@@ -14,7 +14,7 @@ use field::{BabyBear, BabyBear4, Over};
 use lookup_tables::Traces;
 use std::alloc::Global;
 
-/// The witness of the batch that tables say.
+/// The witness of the batch that tables encode.
 ///
 /// Refuses the first of these with a fault: the plan of the AIRs, the traces, alpha, beta, and the proof.
 fn prove_tables(
@@ -61,7 +61,7 @@ fn check_room(witness: &Witness<BabyBear4>, cells: usize, terminals: usize) -> R
     Ok(())
 }
 
-/// The witness of the batch that tables say, for room for so many cells and terminals.
+/// The witness of the batch that tables encode, for room for so many cells and terminals.
 fn prove_into_room(
     alloc: Global,
     airs: &[Air<'_>],

@@ -72,12 +72,12 @@ fn table_refusal(air: usize, lookup: usize, fault: &TableFault) -> Refusal
             ..bad_table(air, lookup, RecordFault::Node)
         },
         TableFault::Range => bad_table(air, lookup, RecordFault::Range),
-        TableFault::Long => bad_table(air, lookup, RecordFault::LongList),
-        TableFault::Kind => bad_table(air, lookup, RecordFault::Kind),
-        TableFault::Name => bad_table(air, lookup, RecordFault::Name),
-        TableFault::Deep => bad_table(air, lookup, RecordFault::DeepExpression),
-        TableFault::Row => bad_table(air, lookup, RecordFault::LargeRow),
-        TableFault::Many => bad_table(air, lookup, RecordFault::LongWrittenList),
+        TableFault::TooManyNodesRead => bad_table(air, lookup, RecordFault::LongList),
+        TableFault::BadKind => bad_table(air, lookup, RecordFault::Kind),
+        TableFault::NameNotUtf8 => bad_table(air, lookup, RecordFault::Name),
+        TableFault::TooDeep => bad_table(air, lookup, RecordFault::DeepExpression),
+        TableFault::RowTooLarge => bad_table(air, lookup, RecordFault::LargeRow),
+        TableFault::TooManyNodesWritten => bad_table(air, lookup, RecordFault::LongWrittenList),
     }
 }
 

@@ -13,7 +13,7 @@ use field::{BabyBear, BabyBear4, Over};
 use lookup_tables::Traces;
 use std::alloc::Global;
 
-/// Whether the plan that tables say accepts the witness that numbers say.
+/// Whether the plan that tables encode accepts the witness that numbers encode.
 ///
 /// Refuses the first of these with a fault: the plan of the AIRs, the traces, alpha, beta, the witness,
 /// and its verification.

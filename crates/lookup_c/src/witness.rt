@@ -69,7 +69,7 @@ fn read_terminal(air: usize, terminal: Terminal) -> Result<Option<LookupTerminal
     }
 }
 
-/// The witness that numbers say.
+/// The witness that numbers encode.
 ///
 /// Refuses the first AIR whose auxiliary trace, or then whose terminal, is refused. Also fails when out of
 /// memory.
