@@ -4,16 +4,18 @@ use Rattle.std.specs.List.{AllZip, zip}
 use Rattle.std.specs.String.{string_bytes}
 use Rattle.std.specs.declared.alloc.Global.{Global}
 use Rattle.std.specs.declared.string.String.{String}
+use Rattle.std.specs.declared.vec.Vec.{Vec}
 use Rattle.expressions.specs.Faults.{HasFirstFault}
 use Rattle.field.specs.Extension.{Extension}
 use Rattle.field.specs.Quartic.{Quartic}
 use Rattle.air.specs.Traces.{HaveOneHeight, layout_of}
 use Rattle.lookup.specs.Lookups.{lookups_of}
 use Rattle.lookup.specs.declared.lookups.Lookups.{Lookups}
-use Rattle.lookup_debug.specs.Contributions.{IsTracedFitting, Traced}
+use Rattle.lookup_debug.specs.Contributions.{AreFitting, IsTracedFitting, Traced, traced_of}
 use Rattle.lookup_debug.specs.FaultText.{fault_text}
 use Rattle.lookup_debug.specs.Mismatch.{AllBalance, IsMismatch}
 use Rattle.lookup_debug.specs.declared.fault.LookupFault.{LookupFault}
+use Rattle.lookup_debug.specs.declared.instance.LookupDebugInstance.{LookupDebugInstance}
 use Rattle.lookup_model.specs.Records.{LookupsFit}
 use Rattle.lookup_tables.specs.Nodes.{BabyBear}
 use Rattle.lookup_tables.specs.Tables.{EncodeLookups}
@@ -41,6 +43,10 @@ traced_tables set traces = record { traces = view_of_read traces; lookups = look
 -- those of all AIRs
 abbrev pub all_traced : List (Lookups BabyBear) → List ReadTraces → List (Traced BabyBear)
 all_traced sets traces = map (λ t. traced_tables t.0 t.1) (zip sets traces)
+
+-- what a debug check over them is given
+abbrev pub AreDebugInstances : List (Lookups BabyBear) → List ReadTraces → Vec (LookupDebugInstance BabyBear) Global → Type 0
+AreDebugInstances sets traces v = (map traced_of v.items ≡ all_traced sets traces) × AreFitting v.items
 
 -- the lookups of an AIR do not fit its traces, or the preprocessed trace has another height
 abbrev pub IsMisfitAt : ℕ → Traced BabyBear → Fault → Type 0

@@ -36,6 +36,10 @@ module _ (E : Extension BabyBear (Quartic BabyBear)) (traces : AirTraces BabyBea
     pub faultless : trace_faults E (key_denominator E challenges) (sent_rows E.base E.base_eq traces lookups) ≡ []
     pub satisfied : IsSatisfied E traces lookups challenges auxiliary terminal
 
+  -- and what is generated, in one value
+  abbrev pub GeneratesLookups : Generated → Type 0
+  GeneratesLookups g = GeneratesOver g.auxiliary g.terminal
+
   -- the lookups do not fit the traces
   abbrev pub IsMisfit : Fault → Type 0
   IsMisfit fault = (fault ≡ Misfit 0) × (¬ LookupsFit (layout_of traces) lookups)

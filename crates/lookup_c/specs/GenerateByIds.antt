@@ -1,7 +1,10 @@
 -- What generation under the ids of a plan answers from tables of numbers.
 use Rattle.std.specs.Prelude.{◌≡◌, ◌≢◌, ◌⊎◌, ◌<◌, ◌≤◌, ℕ, List, Option, length}
+use Rattle.std.specs.declared.alloc.Global.{Global}
+use Rattle.std.specs.declared.vec.Vec.{Vec}
 use Rattle.field.specs.Extension.{Extension}
 use Rattle.field.specs.Quartic.{Quartic}
+use Rattle.field.specs.Ring.{Ring}
 use Rattle.matrix.specs.Matrix.{Matrix}
 use Rattle.expressions.specs.Faults.{HasFirstFault}
 use Rattle.lookup_model.specs.Challenges.{column_challenges}
@@ -13,13 +16,20 @@ use Rattle.lookup_tables.specs.Tables.{EncodeLookups}
 use Rattle.lookup_tables.specs.Traces.{AreCanonical}
 use Rattle.lookup_tables.specs.declared.tables.Tables.{Tables}
 use Rattle.lookup_tables.specs.declared.traces.Traces.{Traces}
+use Rattle.lookup_c.specs.Answers.{Answers}
 use Rattle.lookup_c.specs.Generate.{AreNumbersOf, GeneratesOver, IsLookupsRefusal, LacksRoom}
 use Rattle.lookup_c.specs.Inputs.{IsChallenge, IsChallengeRefusal, IsTableRefusal, IsTracesRefusal, decoded_traces}
 use Rattle.lookup_c.specs.declared.fault.Fault.{Fault}
 use Rattle.lookup_c.specs.declared.fault.Fault.TheVariants.{Id, Length, Memory, Width}
 use Rattle.lookup_c.specs.declared.codes.Part.TheVariants.{Alphas, Betas, Ids}
+use Rattle.lookup_c.specs.declared.generate.Generated.{Generated}
 use Rattle.lookup_c.specs.declared.outputs.Terminal.{Terminal}
 use Rattle.lookup_c.specs.declared.plan.PlanSizes.{PlanSizes}
+use Rattle.lookup_c.specs.declared.refusal.Refusal.{Refusal}
+
+-- the challenges that columns with these ids have under a plan of these sizes
+abbrev pub AreIdChallenges : Ring (Quartic BabyBear) → List ℕ → PlanSizes → Quartic BabyBear → Quartic BabyBear → Vec (Quartic BabyBear) Global → Type 0
+AreIdChallenges R ids sizes alpha beta v = v.items ≡ column_challenges (made_table R alpha beta sizes.max_message_width sizes.num_ids) ids
 
 -- the refusal of the first id that is not below the number of ids
 abbrev pub IsFirstLargeId : List ℕ → ℕ → Fault → Type 0
@@ -71,3 +81,11 @@ module _ (E : Extension BabyBear (Quartic BabyBear)) (tables : Tables) (traces :
   -- the refusal of a call with room for so many cells
   abbrev pub IsCallRefusal : ℕ → Fault → Type 0
   IsCallRefusal room fault = IsRefusal fault ⊎ LacksRoom GeneratesTables room fault
+
+  -- and what is generated, in one value
+  abbrev pub Generates : Generated → Type 0
+  Generates g = GeneratesTables g.auxiliary g.terminal
+
+  -- what such a call answers
+  abbrev pub AnswersByIds : ℕ → List (List ℕ) → Terminal → ℕ → Refusal → Type 0
+  AnswersByIds room cells ending code refusal = Answers code refusal (GeneratesNumbers cells ending) (IsCallRefusal room)

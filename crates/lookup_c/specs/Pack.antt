@@ -16,10 +16,12 @@ use Rattle.lookup_tables.specs.Tables.{EncodeLookups}
 use Rattle.lookup_tables.specs.Written.{EncodesWritten}
 use Rattle.lookup_tables.specs.declared.tables.Tables.{Tables}
 use Rattle.lookup_tables.specs.declared.writer.Written.{Written}
+use Rattle.lookup_c.specs.Answers.{Answers}
 use Rattle.lookup_c.specs.BatchTables.{IsSetRefusal}
-use Rattle.lookup_c.specs.WrittenTables.{Arrays, IsWritingRefusal, WritesTables}
+use Rattle.lookup_c.specs.WrittenTables.{Arrays, IsWritingRefusal, WritesTables, room_of}
 use Rattle.lookup_c.specs.declared.fault.Fault.{Fault}
 use Rattle.lookup_c.specs.declared.fault.Fault.TheVariants.{Lookup as OfLookup, Memory}
+use Rattle.lookup_c.specs.declared.refusal.Refusal.{Refusal}
 use Rattle.lookup_c.specs.declared.written_tables.TableSizes.{TableSizes}
 
 -- why packing is refused: for the widths of a bus, or for a lookup that is tried; or memory runs out
@@ -58,3 +60,8 @@ module _ (E : Extension BabyBear (Quartic BabyBear)) where
       ⊎ ((before : Lookups BabyBear) × EncodeLookups tables (lookups_of before)
       × (IsPackError max_degree (lookups_of before) fault
       ⊎ ((after : Lookups BabyBear) × IsPackedFrom max_degree (lookups_of before) (lookups_of after) × IsWritingRefusal (lookups_of after) room fault)))
+
+  -- what a call answers that writes them over arrays
+  abbrev pub AnswersPack : Tables → ℕ → Arrays → Arrays → TableSizes → ℕ → Refusal → Type 0
+  AnswersPack tables max_degree before after sizes code refusal =
+      Answers code refusal (PacksInto tables max_degree before after sizes) (IsCallRefusal tables max_degree (room_of before))

@@ -11,9 +11,11 @@ use Rattle.lookup_tables.specs.Written.{EncodesWritten}
 use Rattle.lookup_tables.specs.declared.writer.Written.{Written}
 use Rattle.serde_json.specs.Errors.{IsMemory}
 use Rattle.serde_json.specs.declared.error.Error.{Error}
-use Rattle.lookup_c.specs.WrittenTables.{Arrays, IsWritingRefusal, WritesTables}
+use Rattle.lookup_c.specs.Answers.{Answers}
+use Rattle.lookup_c.specs.WrittenTables.{Arrays, IsWritingRefusal, WritesTables, room_of}
 use Rattle.lookup_c.specs.declared.fault.Fault.{Fault}
 use Rattle.lookup_c.specs.declared.fault.Fault.TheVariants.{Lookup as OfLookup, Memory, Text}
+use Rattle.lookup_c.specs.declared.refusal.Refusal.{Refusal}
 use Rattle.lookup_c.specs.declared.written_tables.TableSizes.{TableSizes}
 
 -- what an error of reading is refused as: that memory ran out, or the text
@@ -40,3 +42,7 @@ ReadsInto json before after sizes = (made : Written) × ReadsTables json made ×
 abbrev pub IsCallRefusal : List ℕ → TableSizes → Fault → Type 0
 IsCallRefusal json room fault =
     IsJsonRefusal fault ⊎ (IsUtf8 json × (set : Lookups BabyBear) × IsWritingRefusal (lookups_of set) room fault)
+
+-- what a call answers that writes them over arrays
+abbrev pub AnswersReadJson : List ℕ → Arrays → Arrays → TableSizes → ℕ → Refusal → Type 0
+AnswersReadJson json before after sizes code refusal = Answers code refusal (ReadsInto json before after sizes) (IsCallRefusal json (room_of before))

@@ -30,8 +30,8 @@ pub record CodedRefusal : Type 0 where
   pub actual : ℕ
 
 -- the numbers of a refusal, without a text
-abbrev pub numbers_of : CodedRefusal → Refusal
-numbers_of r = record { code = code_number r.code; part = r.part; air = r.air; row = r.row; lookup = r.lookup; expected = r.expected; actual = r.actual; text_length = 0 }
+abbrev pub refusal_numbers : CodedRefusal → Refusal
+refusal_numbers r = record { code = code_number r.code; part = r.part; air = r.air; row = r.row; lookup = r.lookup; expected = r.expected; actual = r.actual; text_length = 0 }
 
 -- the refusal with this code and no fields
 abbrev pub of_code : Code → CodedRefusal
@@ -39,7 +39,7 @@ of_code c = record { code = c; part = 0; air = 0; row = 0; lookup = 0; expected 
 
 -- what is written where nothing is refused
 abbrev pub no_refusal : Refusal
-no_refusal = numbers_of (of_code code.Ok)
+no_refusal = refusal_numbers (of_code code.Ok)
 
 -- A refusal with each code has these fields alone; all others are 0.
 abbrev pub fields_of : Code → CodedRefusal → CodedRefusal
@@ -143,6 +143,6 @@ abbrev pub HasItsFields : CodedRefusal → Type 0
 HasItsFields r = r ≡ fields_of r.code r
 
 -- C sees this refusal of a fault, with the length of some text
-pub record IsRefusal (fault : Fault) (refusal : Refusal) : Type 0 where
-  pub is : refusal ≡ record (numbers_of (refusal_of fault)) { text_length = refusal.text_length }
+pub record IsRefusalOf (fault : Fault) (refusal : Refusal) : Type 0 where
+  pub is : refusal ≡ record (refusal_numbers (refusal_of fault)) { text_length = refusal.text_length }
   pub fields : HasItsFields (refusal_of fault)

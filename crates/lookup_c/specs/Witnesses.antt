@@ -39,6 +39,11 @@ pub record AreWitness (numbers : List AirWitness) (witness : Witness (Quartic Ba
   pub terminals : witness.terminals.items ≡ map (λ air. terminal_of air.terminal) numbers
   pub each : All IsAirWitness numbers
 
+-- the auxiliary trace of cells that make whole rows, and are all below the modulus
+abbrev pub IsAuxiliary : AirWitness → Matrix (Quartic BabyBear) → Type 0
+IsAuxiliary air m =
+    (m ≡ auxiliary_of air) × (makes_rows (length air.auxiliary.now) air.width ≡ true) × AreGroupsBelow (length air.auxiliary.now) air.auxiliary.now
+
 -- the refusal of cells: no whole rows, or numbers that are no elements; or memory runs out
 abbrev pub IsAuxiliaryRefusal : ℕ → AirWitness → Fault → Type 0
 IsAuxiliaryRefusal i air fault =

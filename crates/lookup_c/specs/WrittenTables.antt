@@ -33,8 +33,8 @@ abbrev pub sizes_of : Written → TableSizes
 sizes_of w = room_of (arrays w.nodes.items w.tuples.items w.names.items w.records.items)
 
 -- the refusal of the first lookup that no tables encode; or memory runs out
-abbrev pub IsUnsayableRefusal : List (Lookup BabyBear) → Fault → Type 0
-IsUnsayableRefusal lookups fault =
+abbrev pub IsUnencodableRefusal : List (Lookup BabyBear) → Fault → Type 0
+IsUnencodableRefusal lookups fault =
     (fault ≡ Memory) ⊎ ((i : ℕ) × (reason : TableFault) × (fault ≡ Table 0 i reason) × IsUnencodableAt lookups i reason)
 
 -- arrays of the second sizes have room for tables of the first ones
@@ -55,7 +55,7 @@ IsTableRoomRefusal sizes room fault =
 -- the refusal of lookups that are to be written: that no tables encode one, or that there is no room for them
 abbrev pub IsWritingRefusal : List (Lookup BabyBear) → TableSizes → Fault → Type 0
 IsWritingRefusal lookups room fault =
-    IsUnsayableRefusal lookups fault
+    IsUnencodableRefusal lookups fault
     ⊎ ((made : Written) × EncodesWritten made lookups × IsTableRoomRefusal (sizes_of made) room fault)
 
 -- items are written over those at the start of an array

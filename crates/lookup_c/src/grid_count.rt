@@ -76,8 +76,7 @@ pub extern "C" fn volgwain_grid_count(
     refusal: &mut Refusal,
     text: &mut [u8],
 ) -> u32
-    ensures answers { let E = ⟦<BabyBear4 as Over<BabyBear>>⟧.fields in
-        Answers result refusal.new
+    ensures answers { let E = ⟦<BabyBear4 as Over<BabyBear>>⟧.fields in Answers result refusal.new
         (CountsNumbers E airs.now traces.now alphas.now betas.now grid.new)
         (IsRefusal E airs.now traces.now alphas.now betas.now) }
     ensures kept { result ≢ 0 → grid.new ≡ grid.old }

@@ -25,8 +25,7 @@ fn verify_tables(
     beta: &[u32; 4],
     witness: &[AirWitness<'_>],
 ) -> Result<(), Fault>
-    ensures { let E = ⟦<BabyBear4 as Over<BabyBear>>⟧.fields in
-        MatchResult result
+    ensures { let E = ⟦<BabyBear4 as Over<BabyBear>>⟧.fields in MatchResult result
         (λ _. VerifiesTables E airs.now traces.now alpha.now beta.now witness.now)
         (IsRefusal E airs.now traces.now alpha.now beta.now witness.now) }
 {
@@ -55,8 +54,7 @@ pub extern "C" fn volgwain_verify(
     refusal: &mut Refusal,
     text: &mut [u8],
 ) -> u32
-    ensures answers { let E = ⟦<BabyBear4 as Over<BabyBear>>⟧.fields in
-        Answers result refusal.new
+    ensures answers { let E = ⟦<BabyBear4 as Over<BabyBear>>⟧.fields in Answers result refusal.new
         (VerifiesTables E airs.now traces.now alpha.now beta.now witness.now)
         (IsRefusal E airs.now traces.now alpha.now beta.now witness.now) }
 {

@@ -2,7 +2,7 @@
 ghost use Rattle.std.specs.Prelude.{◌≡◌, ◌<◌, ◌≤◌, MatchResult, length};
 ghost use Rattle.lookup.specs.Lookups.{lookups_of};
 ghost use Rattle.lookup_tables.specs.Written.{EncodesWritten};
-ghost use Rattle.lookup_c.specs.WrittenTables.{HasTableRoom, IsTableRoomRefusal, IsUnsayableRefusal, IsWritingRefusal, WritesTables, arrays, room_of, sizes_of, written_over};
+ghost use Rattle.lookup_c.specs.WrittenTables.{HasTableRoom, IsTableRoomRefusal, IsUnencodableRefusal, IsWritingRefusal, WritesTables, arrays, room_of, sizes_of, written_over};
 ghost use Rattle.lookup_c.specs.declared.fault.Fault.TheVariants.{Length};
 
 use crate::codes::Part;
@@ -43,7 +43,7 @@ fn sizes_of(tables: &Written) -> TableSizes
 /// Refuses the first lookup that no tables encode.
 fn tables_of(alloc: Global, set: &Lookups<BabyBear>) -> Result<Written, Fault>
     ensures { MatchResult result (λ tables. EncodesWritten tables (lookups_of set.now))
-        (IsUnsayableRefusal (lookups_of set.now)) }
+        (IsUnencodableRefusal (lookups_of set.now)) }
 {
     match write_lookups(alloc, set.as_slice()) {
         Ok(tables) => Ok(tables),
