@@ -1,9 +1,9 @@
 -- The lookups of an AIR over the challenges of its columns, and under the ids of a table.
-use Rattle.std.proofs.Common.{◌≡◌, ℕ, zero, suc, ◌+◌, ◌*◌, ◌<◌, Bool, true, false, cond, Option, None, Some, List, [], ◌∷◌, length, map, get_or, refl, ap, ◌∙◌, arith}
+use Rattle.std.proofs.Common.{◌≡◌, ℕ, zero, suc, ◌+◌, ◌*◌, ◌<◌, Option, None, Some, List, [], ◌∷◌, length, map, get_or, refl, ap, ◌∙◌, arith}
 use Rattle.std.specs.List.{AllZip, filter, range_with_len, zip}
 use Rattle.std.specs.declared.alloc.Global.{Global}
 use Rattle.std.specs.declared.vec.Vec.{Vec}
-use Rattle.lists.proofs.Zips.{AllZip-of_one}
+use Rattle.lists.proofs.Zips.{AllZip-filter, AllZip-images, AllZip-of_one, AllZip-weaker, AllZip-zip}
 use Rattle.lists.proofs.Each.{all_indexed, each_of}
 use Rattle.matrix.specs.Matrix.{height}
 use Rattle.expressions.specs.Window.{Window}
@@ -19,7 +19,7 @@ use Rattle.lookup_model.specs.Batches.Instances.{Instance, IsFitting}
 use Rattle.lookup_model.specs.Batches.Messages.{id_of, sent_rows_of}
 use Rattle.lookup_model.specs.Challenges.{ChallengeTable, column_challenges, table_key_denominator}
 use Rattle.lookup_model.specs.Trace.{sent_row, sent_row_under, sent_rows}
-use Rattle.lookup_model.proofs.Batches.Rekeyed.{AreRekeyed, AreRowsAlike, IsAlike}
+use Rattle.lookup_model.proofs.Batches.Rekeyed.{AreRekeyed, AreRowsSameUpToKeys, IsRekeyed, SameUpToKeys}
 
 module _ {K : Type 0} (table : ChallengeTable K) (d : K) where
   -- the challenges of a column are the prefix of its id, and beta
@@ -58,33 +58,28 @@ module _ {F K : Type 0} {E : Extension F K} (laws : IsLawful E) (table : Challen
     by_id b = branch_at E.base w id b.0.items b.1
 
     rekeyed_all : (zs : Branches) → AreRekeyed laws column_den den (map by_column zs) (map by_id zs)
-    rekeyed_all [] = tt
-    rekeyed_all (z ∷ zs) = ((refl, same (by_id z).key.tuple), rekeyed_all zs)
+    rekeyed_all zs = AllZip-of_one (IsRekeyed laws column_den den) by_column by_id zs (each_of _ (λ z. (refl, same (by_id z).key.tuple)) zs)
 
     rekeyed_chosen : (fs : List F) (zs : Branches) → AreRekeyed laws column_den den (chosen E.base E.base_eq fs (map by_column zs)) (chosen E.base E.base_eq fs (map by_id zs))
-    rekeyed_chosen [] zs = tt
-    rekeyed_chosen (f ∷ fs) [] = tt
-    rekeyed_chosen (f ∷ fs) (z ∷ zs) = by_test (E.base_eq f E.base.one) (rekeyed_chosen fs zs)
-      where
-        kept : List (F × Message F) → List (F × Message F)
-        kept = filter (λ (q : F × Message F). E.base_eq q.0 E.base.one)
+    rekeyed_chosen fs zs =
+        let Flagged = λ (p q : F × Message F). (p.0 ≡ q.0) × IsRekeyed laws column_den den p.1 q.1 in
+        let is_set = λ (q : F × Message F). E.base_eq q.0 E.base.one in
+        let ps = zip fs (map by_column zs) in
+        let qs = zip fs (map by_id zs) in
+        AllZip-images (IsRekeyed laws column_den den) (λ q. q.1) (λ q. q.1) (filter is_set ps) (filter is_set qs)
+        (AllZip-weaker Flagged (λ p q. IsRekeyed laws column_den den p.1 q.1) (λ p q e. e.1) (filter is_set ps) (filter is_set qs)
+        (AllZip-filter Flagged is_set is_set (λ p q e. ap (λ f. E.base_eq f E.base.one) e.0) ps qs (AllZip-zip (IsRekeyed laws column_den den) fs (map by_column zs) (map by_id zs) (rekeyed_all zs))))
 
-        by_test : (t : Bool) → AreRekeyed laws column_den den (chosen E.base E.base_eq fs (map by_column zs)) (chosen E.base E.base_eq fs (map by_id zs))
-            → AreRekeyed laws column_den den (map (λ (q : F × Message F). q.1) (cond t ((f, by_column z) ∷ filter (λ q. E.base_eq q.0 E.base.one) (zip fs (map by_column zs))) (filter (λ q. E.base_eq q.0 E.base.one) (zip fs (map by_column zs)))))
-            (map (λ (q : F × Message F). q.1) (cond t ((f, by_id z) ∷ filter (λ q. E.base_eq q.0 E.base.one) (zip fs (map by_id zs))) (filter (λ q. E.base_eq q.0 E.base.one) (zip fs (map by_id zs)))))
-        by_test true rest = ((refl, same (by_id z).key.tuple), rest)
-        by_test false rest = rest
-
-    alike_sent : (flags : Option (List F)) (zs : Branches) → IsAlike laws column_den den (sent E.base E.base_eq flags (map by_column zs)) (sent E.base E.base_eq flags (map by_id zs))
+    alike_sent : (flags : Option (List F)) (zs : Branches) → SameUpToKeys laws column_den den (sent E.base E.base_eq flags (map by_column zs)) (sent E.base E.base_eq flags (map by_id zs))
     alike_sent None zs = (refl, rekeyed_all zs)
     alike_sent (Some fs) zs = (refl, rekeyed_chosen fs zs)
 
-  alike_row : (w : Window F) → AllZip (IsAlike laws column_den den) (sent_row E.base E.base_eq w instance.lookups) (sent_row_under E.base E.base_eq (id_of instance.ids) w instance.lookups)
+  alike_row : (w : Window F) → AllZip (SameUpToKeys laws column_den den) (sent_row E.base E.base_eq w instance.lookups) (sent_row_under E.base E.base_eq (id_of instance.ids) w instance.lookups)
   alike_row w =
-      AllZip-of_one (IsAlike laws column_den den) (λ lookup. sent_at E.base E.base_eq w lookup.column lookup) (λ lookup. sent_at E.base E.base_eq w (id_of instance.ids lookup) lookup) instance.lookups
-      (all_indexed (λ lookup. IsAlike laws column_den den (sent_at E.base E.base_eq w lookup.column lookup) (sent_at E.base E.base_eq w (id_of instance.ids lookup) lookup)) instance.lookups each)
+      AllZip-of_one (SameUpToKeys laws column_den den) (λ lookup. sent_at E.base E.base_eq w lookup.column lookup) (λ lookup. sent_at E.base E.base_eq w (id_of instance.ids lookup) lookup) instance.lookups
+      (all_indexed (λ lookup. SameUpToKeys laws column_den den (sent_at E.base E.base_eq w lookup.column lookup) (sent_at E.base E.base_eq w (id_of instance.ids lookup) lookup)) instance.lookups each)
     where
-      each : (k : ℕ) (lookup : Lookup F) → k < length instance.lookups → lookup ≡ get_or instance.lookups k lookup → IsAlike laws column_den den (sent_at E.base E.base_eq w lookup.column lookup) (sent_at E.base E.base_eq w (id_of instance.ids lookup) lookup)
+      each : (k : ℕ) (lookup : Lookup F) → k < length instance.lookups → lookup ≡ get_or instance.lookups k lookup → SameUpToKeys laws column_den den (sent_at E.base E.base_eq w lookup.column lookup) (sent_at E.base E.base_eq w (id_of instance.ids lookup) lookup)
       each k lookup below is =
           let within : lookup.column < length instance.ids = omega (arith, column_is instance.lookups k lookup fitting.fit.records below is, below, fitting.ids) in
           alike_sent w lookup.column (id_of instance.ids lookup)
@@ -92,8 +87,8 @@ module _ {F K : Type 0} {E : Extension F K} (laws : IsLawful E) (table : Challen
           (flags_at E.base w lookup) (zip lookup.elements.items lookup.multiplicities.items)
 
   -- the rows by columns are the rows by ids
-  pub alike_rows : AreRowsAlike laws column_den den (sent_rows E.base E.base_eq instance.traces instance.lookups) (sent_rows_of E.base E.base_eq instance)
+  pub alike_rows : AreRowsSameUpToKeys laws column_den den (sent_rows E.base E.base_eq instance.traces instance.lookups) (sent_rows_of E.base E.base_eq instance)
   alike_rows =
       let window = λ (r : ℕ). window_of instance.traces r in
-      AllZip-of_one (AllZip (IsAlike laws column_den den)) (λ r. sent_row E.base E.base_eq (window r) instance.lookups) (λ r. sent_row_under E.base E.base_eq (id_of instance.ids) (window r) instance.lookups) (range_with_len 0 (height instance.traces.main))
-      (each_of (λ r. AllZip (IsAlike laws column_den den) (sent_row E.base E.base_eq (window r) instance.lookups) (sent_row_under E.base E.base_eq (id_of instance.ids) (window r) instance.lookups)) (λ r. alike_row (window r)) (range_with_len 0 (height instance.traces.main)))
+      AllZip-of_one (AllZip (SameUpToKeys laws column_den den)) (λ r. sent_row E.base E.base_eq (window r) instance.lookups) (λ r. sent_row_under E.base E.base_eq (id_of instance.ids) (window r) instance.lookups) (range_with_len 0 (height instance.traces.main))
+      (each_of (λ r. AllZip (SameUpToKeys laws column_den den) (sent_row E.base E.base_eq (window r) instance.lookups) (sent_row_under E.base E.base_eq (id_of instance.ids) (window r) instance.lookups)) (λ r. alike_row (window r)) (range_with_len 0 (height instance.traces.main)))

@@ -18,7 +18,7 @@ use Rattle.lookup_model.specs.Challenges.{ChallengeTable, column_challenges, tab
 use Rattle.lookup_model.proofs.Lookups.Shapes.{shape-none}
 use Rattle.lookup_model.proofs.Batches.ByTable.{alike_rows, column_den, den}
 use Rattle.lookup_model.proofs.Batches.OnlyRows.{only_plain}
-use Rattle.lookup_model.proofs.Batches.Rekeyed.{lawful_alike, none_alike, same_matrix, same_terminal_of}
+use Rattle.lookup_model.proofs.Batches.Rekeyed.{lawful_up_to_keys, none_up_to_keys, same_matrix, same_terminal_of}
 
 module _ {F K : Type 0} {E : Extension F K} (laws : IsLawful E) (table : ChallengeTable K) where
   -- the only witness of one AIR
@@ -43,7 +43,7 @@ module _ {F K : Type 0} {E : Extension F K} (laws : IsLawful E) (table : Challen
           let cold = column_den laws table instance fitting in
           let d = den laws table instance fitting in
           let both = only_plain laws (column_challenges table instance.ids) instance.traces instance.lookups fitting.fit.records some
-          (lawful_alike laws cold d _ _ alike lawful) (none_alike laws cold d _ _ alike none) auxiliary terminal satisfied (fitting.nonempty some) in
+          (lawful_up_to_keys laws cold d _ _ alike lawful) (none_up_to_keys laws cold d _ _ alike none) auxiliary terminal satisfied (fitting.nonempty some) in
           λ i. ((both.0 ∙ same_matrix laws cold d instance.lookups _ _ alike) i, (both.1 ∙ same_terminal_of laws cold d instance.lookups _ _ alike) i)
 
   -- and of all of them
