@@ -4,7 +4,6 @@ pub mod KeyLaws
 pub mod LookupFaults
 pub mod Nets
 pub mod PlainResults
-pub mod PlainRows
 pub mod Regrouping
 pub mod Rows
 pub mod RunningSums
@@ -12,6 +11,7 @@ pub mod SatisfiedFractions
 pub mod SatisfiedLookups
 pub mod SatisfiedRows
 pub mod SatisfiedSelections
+pub mod SatisfiedWitnesses
 pub mod Selections
 pub mod Selectors
 pub mod SentRows

@@ -1,21 +1,18 @@
 -- Where no denominator vanishes the plain result is the only satisfied witness of an AIR.
-use Rattle.std.proofs.Common.{◌≡◌, ◌≢◌, ℕ, zero, suc, ◌+◌, ◌*◌, ◌-◌, ◌%◌, ◌<◌, ◌==◌, true, not, Option, Some, IfSome, List, [], ◌∷◌, length, map, drop, get_or, slice_index_or, refl, sym, ap, subst, ◌∙◌, arith}
-use Rattle.std.proofs.Math.Nat.{mod-eq_of_lt}
-use Rattle.std.proofs.lemmas.Bool.{eq-eqb, ne_eqb}
+use Rattle.std.proofs.Common.{◌≡◌, ◌≢◌, ℕ, zero, suc, ◌+◌, ◌*◌, ◌-◌, ◌<◌, Option, Some, IfSome, List, ◌∷◌, length, map, drop, get_or, slice_index_or, refl, sym, ap, subst, ◌∙◌, arith}
 use Rattle.std.proofs.lemmas.List.{ext_get_or, get_or_default, length-drop, length-map, length-take, take_all}
 use Rattle.std.specs.List.{AllByRecursion, flat_map, range_with_len}
-use Rattle.lists.proofs.Images.{map-map, mapped_at}
+use Rattle.lists.proofs.Images.{map-map, mapped_at, same_map}
 use Rattle.lists.proofs.Items.{item_at}
 use Rattle.lists.proofs.Parts.{joined_rows, same_parts}
-use Rattle.lists.proofs.Each.{all_front, all_back, all_here, all_of_map, all_parts}
+use Rattle.lists.proofs.Each.{all_here, all_indexed, all_parts, all_weaker}
 use Rattle.field.specs.laws.Distinct.{all_both}
 use Rattle.field.specs.Sums.{sum_in}
 use Rattle.matrix.specs.Matrix.{Matrix, height, row}
 use Rattle.expressions.specs.Window.{ExtWindow, Window, window_at}
 use Rattle.air.specs.Traces.{AirTraces}
 use Rattle.lookup_model.proofs.Branches.{length-branches_at}
-use Rattle.lookup_model.proofs.ConstraintLaws.{accumulator_constraints-some}
-use Rattle.lookup_model.specs.Constraints.{Constraint, accumulator_at, accumulator_constraints, first_constraint, transition_constraint, last_constraint, fraction_at, fraction_constraint, fractions_at, fraction_denominator, fraction_numerator, terminal_at}
+use Rattle.lookup_model.specs.Constraints.{Constraint, accumulator_at, fraction_at, fraction_constraint, fractions_at, fraction_denominator, fraction_numerator}
 use Rattle.lookup_model.specs.Denominators.{column_denominator, key_denominator}
 use Rattle.field.specs.Extension.{Extension, IsLawful}
 use Rattle.lookup_model.specs.Generated.{plain_matrix, plain_terminal_of}
@@ -23,15 +20,14 @@ use Rattle.lookup_model.specs.Message.{Key, Message}
 use Rattle.lookup_model.specs.Plain.{plain_accumulator, plain_cells, plain_fraction, plain_row, plain_terminal, trace_messages}
 use Rattle.lookup_model.specs.Records.{AreRecords}
 use Rattle.lookup_model.specs.Sent.{Sent, branches_at, flags_at, sent_at}
-use Rattle.lookup_model.proofs.Lookups.PlainRows.{accumulator_after, fractions_together}
-use Rattle.lookup_model.proofs.Lookups.SentRows.{column_is, equal_lengths, get_or-sent_rows, length-sent_rows}
+use Rattle.lookup_model.proofs.Lookups.SentRows.{accumulator_after, column_is, equal_lengths, get_or-sent_rows, length-sent_rows, sent_rows-each}
 use Rattle.lookup_model.specs.Trace.{sent_row, sent_rows}
 use Rattle.lookup_model.specs.Witness.{IsSatisfied, values_of_terminal, witness_window}
 use Rattle.lookup_model.specs.declared.types.Lookup.{Lookup}
 use Rattle.lookup_model.specs.declared.types.LookupTerminal.{LookupTerminal}
 use Rattle.lookup_model.proofs.Lookups.PlainResults.{plain_matrix-some, plain_terminal_of-some}
 use Rattle.lookup_model.proofs.Lookups.SatisfiedLookups.{as_many_flags, lookup_satisfied}
-use Rattle.lookup_model.proofs.Lookups.Selectors.{put_together, zero_selected}
+use Rattle.lookup_model.proofs.Lookups.SatisfiedWitnesses.{first_accumulator, fraction_zeros, last_accumulator, next_accumulator}
 use Rattle.lookup_model.proofs.Lookups.Shapes.{shape-some}
 use Rattle.lookup_model.proofs.Lookups.Terminals.{plain_terminal-sum}
 use Rattle.lookup_model.specs.Batches.Messages.{HasLawfulFlags, NoneVanishes}
@@ -69,20 +65,13 @@ module _ {F K : Type 0} {E : Extension F K} (laws : IsLawful E) (challenges : Li
 
     -- the flags of one lookup on one row, and the denominators of its messages
     lawful_at : (r : ℕ) → r < height traces.main → (k : ℕ) (lookup : Lookup F) → k < length lookups → lookup ≡ get_or lookups k lookup → HasLawfulFlags E.base E.base_eq (sent_of r lookup)
-    lawful_at r lt k lookup below is =
-        let row_lawful : AllByRecursion (HasLawfulFlags E.base E.base_eq) (sents_of r) =
-        subst (AllByRecursion (HasLawfulFlags E.base E.base_eq)) (get_or-sent_rows E.base E.base_eq traces lookups r lt) (all_here (AllByRecursion (HasLawfulFlags E.base E.base_eq)) rows r [] (omega (arith, high, lt)) lawful) in
-        subst (HasLawfulFlags E.base E.base_eq) (sym (mapped_at (sent_of r) lookups k lookup below is)) (all_here (HasLawfulFlags E.base E.base_eq) (sents_of r) k (sent_of r lookup) (omega (arith, length-map lookups (sent_of r), below)) row_lawful)
+    lawful_at = sent_rows-each E.base E.base_eq traces lookups (HasLawfulFlags E.base E.base_eq) lawful
 
     none_at : (r : ℕ) → r < height traces.main → (k : ℕ) (lookup : Lookup F) → k < length lookups → lookup ≡ get_or lookups k lookup → NoneVanishes E den (sent_of r lookup).messages
-    none_at r lt k lookup below is =
+    none_at =
         let Nonzero = λ (m : Message F). den m.key ≢ E.ring.zero in
-        let AllNonzero = λ (s : Sent F). AllByRecursion Nonzero s.messages in
-        let row_none : AllByRecursion AllNonzero (sents_of r) =
-        all_parts Nonzero (λ s. s.messages) (sents_of r)
-        (subst (λ (sents : List (Sent F)). AllByRecursion Nonzero (flat_map (λ s. s.messages) sents)) (get_or-sent_rows E.base E.base_eq traces lookups r lt)
-        (all_here (λ row. AllByRecursion Nonzero (flat_map (λ s. s.messages) row)) rows r [] (omega (arith, high, lt)) (all_parts Nonzero (λ row. flat_map (λ s. s.messages) row) rows none))) in
-        subst AllNonzero (sym (mapped_at (sent_of r) lookups k lookup below is)) (all_here AllNonzero (sents_of r) k (sent_of r lookup) (omega (arith, length-map lookups (sent_of r), below)) row_none)
+        sent_rows-each E.base E.base_eq traces lookups (λ s. AllByRecursion Nonzero s.messages)
+        (all_weaker (λ row. AllByRecursion Nonzero (flat_map (λ s. s.messages) row)) (AllByRecursion (λ s. AllByRecursion Nonzero s.messages)) (λ row. all_parts Nonzero (λ s. s.messages) row) rows (all_parts Nonzero (λ row. flat_map (λ s. s.messages) row) rows none))
 
     -- the fraction of a lookup on a row
     fraction_is : (r : ℕ) → r < height traces.main → (k : ℕ) (lookup : Lookup F) → k < length lookups → lookup ≡ get_or lookups k lookup → fraction_at E lookup.column (window_of r) ≡ pf (sent_of r lookup)
@@ -94,10 +83,9 @@ module _ {F K : Type 0} {E : Extension F K} (laws : IsLawful E) (challenges : Li
         let over_column : List F → K = column_denominator E challenges lookup.column in
         let same : IfSome flags (λ fs. length fs ≡ length bs) =
         as_many_flags laws challenges lookup.column r w lookup.flags (length bs) (λ fs has. lengths.flags fs has ∙ sym (length-branches_at E.base w lookup.column lookup lengths)) in
+        let zeros = fraction_zeros laws traces lookups challenges auxiliary terminal satisfied r lt in
         let here : IsZeroAt r (fraction_constraint E lookup) =
-        subst (λ (l : Lookup F). IsZeroAt r (fraction_constraint E l)) (sym is)
-        (all_here (λ l. IsZeroAt r (fraction_constraint E l)) lookups k lookup below
-        (all_of_map (IsZeroAt r) (fraction_constraint E) lookups (all_front (IsZeroAt r) (map (fraction_constraint E) lookups) (accumulator_constraints E lookups (terminal_at E) (λ t. 0)) (satisfied.equations r lt)))) in
+        subst (λ (l : Lookup F). IsZeroAt r (fraction_constraint E l)) (sym is) (all_here (λ l. IsZeroAt r (fraction_constraint E l)) lookups k lookup below zeros) in
         one_fraction laws (fraction_denominator E over_column flags bs) (fraction_numerator E over_column flags bs) (fraction_at E lookup.column (window_of r)) (pf (sent_of r lookup))
         (denominator_nonzero laws over_column flags bs same (lawful_at r lt k lookup below is) (all_both (λ m. m.key.id ≡ lookup.column) (λ m. den m.key ≢ E.ring.zero) (λ m. over_column m.key.tuple ≢ E.ring.zero) over (sent_of r lookup).messages (sent_ids E.base E.base_eq w lookup.column lookup) (none_at r lt k lookup below is)))
         here
@@ -107,30 +95,22 @@ module _ {F K : Type 0} {E : Extension F K} (laws : IsLawful E) (challenges : Li
         over m at ne e =
             ne (ap (λ c. column_denominator E challenges c m.key.tuple) at ∙ e)
 
+    -- all of them together
     fractions_are : (r : ℕ) → r < height traces.main → fractions_at E lookups (window_of r) ≡ sum_in E.ring (map pf (sents_of r))
-    fractions_are r lt = fractions_together E den traces lookups r (window_of r) (fraction_is r lt)
-
-    -- the accumulator's equations
-    accumulator_zeros : (r : ℕ) → r < height traces.main → AllByRecursion (IsZeroAt r) (accumulator_constraints E lookups (terminal_at E) (λ t. 0))
-    accumulator_zeros r lt = all_back (IsZeroAt r) (map (fraction_constraint E) lookups) (accumulator_constraints E lookups (terminal_at E) (λ t. 0)) (satisfied.equations r lt)
-
-    three_zeros : (r : ℕ) → r < height traces.main → AllByRecursion (IsZeroAt r) (first_constraint E ∷ transition_constraint E lookups ∷ last_constraint E lookups (terminal_at E) (λ t. 0) ∷ [])
-    three_zeros r lt = subst (AllByRecursion (IsZeroAt r)) (accumulator_constraints-some E lookups (terminal_at E) (λ t. 0) some) (accumulator_zeros r lt)
+    fractions_are r lt =
+        ap (sum_in E.ring)
+        (same_map (λ l. fraction_at E l.column (window_of r)) (λ l. pf (sent_of r l)) lookups (all_indexed (λ l. fraction_at E l.column (window_of r) ≡ pf (sent_of r l)) lookups (fraction_is r lt))
+        ∙ sym (map-map pf (sent_of r) lookups))
 
     -- the accumulator of each row
     accumulator_is : (r : ℕ) → r < height traces.main → accumulator_at E (window_of r) ≡ plain_accumulator E den rows r
-    accumulator_is zero lt = zero_selected laws.ring (zero == 0) (accumulator_at E (window_of zero)) refl (three_zeros zero lt).0
+    accumulator_is zero lt = first_accumulator laws traces lookups challenges auxiliary terminal satisfied some lt
     accumulator_is (suc r) lt =
         let below : r < height traces.main = omega (arith, lt) in
-        let inner : r + 1 < height traces.main = omega (arith, lt) in
         let more : r + 1 ≡ suc r = omega arith in
-        let next : (r + 1) % height traces.main ≡ suc r = mod-eq_of_lt inner ∙ more in
-        let on : not (r + 1 == height traces.main) ≡ true = ap not (ne_eqb (r + 1) (height traces.main) (λ e. absurd (omega (arith, e, lt)))) in
-        let step : accumulator_at E (window_of (suc r)) ≡ E.ring.add (accumulator_at E (window_of r)) (fractions_at E lookups (window_of r)) =
-        ap (λ i. slice_index_or (row auxiliary i) 0 E.ring.zero) (sym next)
-        ∙ put_together laws.ring (accumulator_at E (window_of r)) (fractions_at E lookups (window_of r)) (slice_index_or (row auxiliary ((r + 1) % height traces.main)) 0 E.ring.zero)
-        (zero_selected laws.ring (not (r + 1 == height traces.main)) _ on (three_zeros r below).1.0) in
-        step ∙ (λ i. E.ring.add (accumulator_is r below i) (fractions_are r below i))
+        ap (λ n. accumulator_at E (window_of n)) (sym more)
+        ∙ next_accumulator laws traces lookups challenges auxiliary terminal satisfied some r (omega (arith, lt))
+        ∙ (λ i. E.ring.add (accumulator_is r below i) (fractions_are r below i))
         ∙ sym (accumulator_after E den traces lookups laws r below)
         ∙ ap (plain_accumulator E den rows) more
 
@@ -186,8 +166,7 @@ module _ {F K : Type 0} {E : Extension F K} (laws : IsLawful E) (challenges : Li
           let lt : r < height traces.main = omega (arith, nonempty) in
           let last : r + 1 ≡ height traces.main = omega (arith, nonempty) in
           ap (λ o. slice_index_or (values_of_terminal o) 0 E.ring.zero) (sym is)
-          ∙ put_together laws.ring (accumulator_at E (window_of r)) (fractions_at E lookups (window_of r)) (terminal_at E (window_of r))
-          (zero_selected laws.ring (r + 1 == height traces.main) _ (eq-eqb (r + 1) (height traces.main) last) (three_zeros r lt).1.1.0)
+          ∙ last_accumulator laws traces lookups challenges auxiliary terminal satisfied some r last
           ∙ (λ i. E.ring.add (accumulator_is r lt i) (fractions_are r lt i))
           ∙ sym (accumulator_after E den traces lookups laws r lt)
           ∙ ap (λ t. sum_in E.ring (flat_map (λ s. map pf s) t)) (take_all (r + 1) rows (omega (arith, high, last)))

@@ -1,15 +1,14 @@
 -- The plain result: its shape, and that without lookups it is empty.
-use Rattle.std.proofs.Common.{◌≡◌, ℕ, zero, suc, ◌≤◌, ◌+◌, ◌*◌, ◌/◌, ◌<◌, ◌==◌, Some, List, [], ◌∷◌, length, map, get_or, refl, sym, ap, ◌∙◌, arith, cond}
+use Rattle.std.proofs.Common.{◌≡◌, ℕ, ◌+◌, ◌*◌, ◌/◌, ◌<◌, ◌==◌, Some, List, [], ◌∷◌, length, map, refl, sym, ap, ◌∙◌, arith, cond}
 use Rattle.std.proofs.lemmas.Bool.{ne_eqb}
-use Rattle.std.proofs.lemmas.List.{length-append, length-map}
 use Rattle.std.proofs.lemmas.Nat.{div-mul-add}
-use Rattle.std.specs.List.{enumerate_from, flat_map, range_with_len}
+use Rattle.std.specs.List.{enumerate_from, flat_map}
 use Rattle.matrix.specs.Matrix.{IsShaped, height}
 use Rattle.field.specs.Extension.{Extension}
 use Rattle.lookup_model.specs.Fault.{row_faults}
 use Rattle.lookup_model.specs.Generated.{plain_matrix, plain_terminal_of}
 use Rattle.lookup_model.specs.Message.{Key}
-use Rattle.lookup_model.specs.Plain.{plain_cells, plain_fraction, plain_row, plain_terminal}
+use Rattle.lookup_model.specs.Plain.{plain_cells, plain_terminal}
 use Rattle.lookup_model.specs.Sent.{Sent}
 use Rattle.lookup_model.specs.declared.types.Lookup.{Lookup}
 
@@ -38,11 +37,3 @@ module _ {F K : Type 0} (E : Extension F K) (denominator : Key F → K) where
   pub plain_terminal_of-some : (lookups : List (Lookup F)) (rows : List (List (Sent F))) → 0 < length lookups → plain_terminal_of E denominator lookups rows ≡ Some (record { 0 = plain_terminal E denominator rows })
   plain_terminal_of-some [] rows some = absurd (omega arith)
   plain_terminal_of-some (l ∷ ls) rows some = refl
-
-  -- rows of one length each give a cell more than that
-  pub length-plain_rows : (rows : List (List (Sent F))) (n : ℕ) → ((k : ℕ) → k < length rows → length (get_or rows k []) ≡ n) → (a m : ℕ) → a + m ≤ length rows → length (flat_map (plain_row E denominator rows) (range_with_len a m)) ≡ m * (n + 1)
-  length-plain_rows rows n each a zero within = omega arith
-  length-plain_rows rows n each a (suc m) within =
-      let rest = flat_map (plain_row E denominator rows) (range_with_len (a + 1) m) in
-      length-append (plain_row E denominator rows a) rest
-      ∙ omega (arith, length-plain_rows rows n each (a + 1) m (omega arith), length-map (get_or rows a []) (plain_fraction E denominator), each a (omega arith))
