@@ -4,7 +4,7 @@ use Rattle.std.proofs.Common.{◌≡◌, Bool, true, false, cond, ◌||◌, List
 use Rattle.std.proofs.lemmas.Bool.{false≢true, true≢false}
 use Rattle.std.specs.List.{filter, list_any, AllByRecursion}
 use Rattle.lists.proofs.Images.{map_same}
-use Rattle.lists.proofs.Each.{all_weaker}
+use Rattle.lists.proofs.Each.{all_weaker, each_of}
 use Rattle.field.specs.Ring.{Ring, IsCommutativeRing}
 use Rattle.field.specs.laws.RingFacts.{zero_add}
 use Rattle.field.specs.Sums.{sum_in}
@@ -51,11 +51,7 @@ module _ {M X F K : Type 0} (R : Ring F) {S : Ring K} (laws : IsCommutativeRing 
 
   -- the sum over the messages, over separate keys that hold all of theirs
   pub regrouped : (ks : List X) → IsSeparate same ks → (ms : List M) → AllByRecursion (λ m. Holds same ks (key m)) ms → sum_in S (map (λ k. term k (net_by R same key count ms k)) ks) ≡ sum_in S (map (λ m. term (key m) (count m)) ms)
-  regrouped ks apart [] held = sum_in-zeros laws (λ k. term k R.zero) ks (all ks)
-    where
-      all : (xs : List X) → AllByRecursion (λ k. term k R.zero ≡ S.zero) xs
-      all [] = tt
-      all (x ∷ xs) = (none x, all xs)
+  regrouped ks apart [] held = sum_in-zeros laws (λ k. term k R.zero) ks (each_of (λ k. term k R.zero ≡ S.zero) none ks)
   regrouped ks apart (m ∷ ms) held =
       let d = at_key laws same decides (λ (x : X). term x (count m)) (key m) in
       let e = λ (k : X). term k (net_by R same key count ms k) in

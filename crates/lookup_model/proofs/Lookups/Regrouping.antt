@@ -1,6 +1,6 @@
 -- A sum over messages is the sum over their distinct keys, each with its net.
 use Rattle.std.proofs.Common.{◌≡◌, Bool, true, false, cond, not, ◌||◌, List, [], ◌∷◌, refl, sym, ap, ◌∙◌, Decides}
-use Rattle.std.proofs.lemmas.Bool.{false≢true, true≢false}
+use Rattle.std.proofs.lemmas.Bool.{false≢true, not-true, true≢false}
 use Rattle.std.specs.List.{filter, list_any, AllByRecursion}
 use Rattle.lists.proofs.Each.{all_kept, filter_passes, all_weaker}
 use Rattle.lookup_model.specs.Net.{first_seen}
@@ -13,10 +13,6 @@ IsSeparate same (x ∷ xs) = AllByRecursion (λ y. same x y ≡ false) xs × IsS
 -- an item of the list is the same as x
 abbrev pub Holds : {A : Type 0} → (A → A → Bool) → List A → A → Type 0
 Holds same xs x = list_any (λ y. same y x) xs ≡ true
-
-not_true : (b : Bool) → not b ≡ true → b ≡ false
-not_true true e = absurd (false≢true e)
-not_true false e = refl
 
 module _ {A : Type 0} (same : A → A → Bool) where
   -- fewer items of a separate list are separate
@@ -33,7 +29,7 @@ module _ {A : Type 0} (same : A → A → Bool) where
   first_seen_separate [] = tt
   first_seen_separate (x ∷ xs) =
       let p = λ (y : A). not (same x y) in
-      (all_weaker (λ y. p y ≡ true) (λ y. same x y ≡ false) (λ y e. not_true (same x y) e) (filter p (first_seen same xs)) (filter_passes p (first_seen same xs)), IsSeparate-filter p (first_seen same xs) (first_seen_separate xs))
+      (all_weaker (λ y. p y ≡ true) (λ y. same x y ≡ false) (λ y e. not-true (same x y) e) (filter p (first_seen same xs)) (filter_passes p (first_seen same xs)), IsSeparate-filter p (first_seen same xs) (first_seen_separate xs))
 
 module _ {A : Type 0} (same : A → A → Bool) (decides : (a b : A) → Decides (same a b) (a ≡ b)) where
   -- a test of an item and itself passes
