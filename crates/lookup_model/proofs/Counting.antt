@@ -3,7 +3,6 @@ pub mod AcceptingAlphas
 pub mod BadAlphas
 pub mod BetaPolynomials
 pub mod DistinctLists
-pub mod JointCount
 pub mod JointPairs
 pub mod LawfulFlags
 pub mod LawfulKeys

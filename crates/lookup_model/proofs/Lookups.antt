@@ -8,9 +8,7 @@ pub mod Regrouping
 pub mod Rows
 pub mod RunningSums
 pub mod SatisfiedFractions
-pub mod SatisfiedLookups
 pub mod SatisfiedRows
-pub mod SatisfiedSelections
 pub mod SatisfiedWitnesses
 pub mod Selections
 pub mod Selectors

@@ -1,38 +1,97 @@
--- Where no denominator vanishes the plain result is the only satisfied witness of an AIR.
-use Rattle.std.proofs.Common.{◌≡◌, ◌≢◌, ℕ, zero, suc, ◌+◌, ◌*◌, ◌-◌, ◌<◌, Option, Some, IfSome, List, ◌∷◌, length, map, drop, get_or, slice_index_or, refl, sym, ap, subst, ◌∙◌, arith}
-use Rattle.std.proofs.lemmas.List.{ext_get_or, get_or_default, length-drop, length-map, length-take, take_all}
+-- Where no denominator vanishes one fraction alone satisfies the constraint of a lookup, and so the
+-- plain result is the only satisfied witness of an AIR.
+use Rattle.std.proofs.Common.{◌≡◌, ◌≢◌, ℕ, ◌≤◌, Bool, true, false, ◌||◌, Option, None, Some, IfSome, List, [], ◌∷◌, length, map, refl, sym, ◌∙◌, arith, zero, suc, ◌+◌, ◌*◌, ◌-◌, ◌<◌, drop, get_or, slice_index_or, ap, subst}
 use Rattle.std.specs.List.{AllByRecursion, flat_map, range_with_len}
+use Rattle.std.proofs.lemmas.List.{ext_get_or, get_or_default, length-drop, length-map, length-take, take_all}
+use Rattle.lists.proofs.Each.{all_kept, all_here, all_indexed, all_parts, all_weaker}
 use Rattle.lists.proofs.Images.{map-map, mapped_at, same_map}
 use Rattle.lists.proofs.Items.{item_at}
 use Rattle.lists.proofs.Parts.{joined_rows, same_parts}
-use Rattle.lists.proofs.Each.{all_here, all_indexed, all_parts, all_weaker}
-use Rattle.field.specs.laws.Distinct.{all_both}
+use Rattle.field.specs.Ring.{sub_in}
+use Rattle.field.specs.laws.RingFacts.{domain_cancel, product_nonzero, same_from_difference}
+use Rattle.field.specs.laws.RingSolver.{var, con, ◌:+◌, ◌:-◌, ring_law}
 use Rattle.field.specs.Sums.{sum_in}
+use Rattle.field.specs.Extension.{Extension, IsLawful}
+use Rattle.field.specs.laws.Distinct.{all_both}
 use Rattle.matrix.specs.Matrix.{Matrix, height, row}
 use Rattle.expressions.specs.Window.{ExtWindow, Window, window_at}
 use Rattle.air.specs.Traces.{AirTraces}
-use Rattle.lookup_model.proofs.Branches.{length-branches_at}
-use Rattle.lookup_model.specs.Constraints.{Constraint, accumulator_at, fraction_at, fraction_constraint, fractions_at, fraction_denominator, fraction_numerator}
-use Rattle.lookup_model.specs.Denominators.{column_denominator, key_denominator}
-use Rattle.field.specs.Extension.{Extension, IsLawful}
-use Rattle.lookup_model.specs.Generated.{plain_matrix, plain_terminal_of}
+use Rattle.lookup_model.specs.Constraints.{additive_denominator, exclusive_denominator, fraction_denominator, Constraint, accumulator_at, fraction_at, fraction_constraint, fractions_at, fraction_numerator}
+use Rattle.lookup_model.specs.Fault.{are_boolean, fault_of, vanishes}
 use Rattle.lookup_model.specs.Message.{Key, Message}
-use Rattle.lookup_model.specs.Plain.{plain_accumulator, plain_cells, plain_fraction, plain_row, plain_terminal, trace_messages}
+use Rattle.lookup_model.specs.Plain.{counted, plain_accumulator, plain_cells, plain_fraction, plain_row, plain_terminal, trace_messages}
+use Rattle.lookup_model.specs.Sent.{Sent, chosen, sent, branches_at, flags_at, sent_at}
+use Rattle.lookup_model.specs.Batches.Messages.{HasLawfulFlags, NoneVanishes}
+use Rattle.lookup_model.specs.Denominators.{column_denominator, key_denominator}
+use Rattle.lookup_model.specs.Generated.{plain_matrix, plain_terminal_of}
 use Rattle.lookup_model.specs.Records.{AreRecords}
-use Rattle.lookup_model.specs.Sent.{Sent, branches_at, flags_at, sent_at}
-use Rattle.lookup_model.proofs.Lookups.SentRows.{accumulator_after, column_is, equal_lengths, get_or-sent_rows, length-sent_rows, sent_rows-each}
 use Rattle.lookup_model.specs.Trace.{sent_row, sent_rows}
 use Rattle.lookup_model.specs.Witness.{IsSatisfied, values_of_terminal, witness_window}
 use Rattle.lookup_model.specs.declared.types.Lookup.{Lookup}
 use Rattle.lookup_model.specs.declared.types.LookupTerminal.{LookupTerminal}
+use Rattle.lookup_model.proofs.Lookups.LookupFaults.{additive_faultless, exclusive_faultless}
+use Rattle.lookup_model.proofs.Lookups.SatisfiedFractions.{flags_sum, selected_sum, as_many_flags, lookup_satisfied}
+use Rattle.lookup_model.proofs.Lookups.Selections.{chosen_few}
+use Rattle.lookup_model.proofs.Branches.{length-branches_at}
+use Rattle.lookup_model.proofs.Lookups.SentRows.{accumulator_after, column_is, equal_lengths, get_or-sent_rows, length-sent_rows, sent_rows-each}
 use Rattle.lookup_model.proofs.Lookups.PlainResults.{plain_matrix-some, plain_terminal_of-some}
-use Rattle.lookup_model.proofs.Lookups.SatisfiedLookups.{as_many_flags, lookup_satisfied}
 use Rattle.lookup_model.proofs.Lookups.SatisfiedWitnesses.{first_accumulator, fraction_zeros, last_accumulator, next_accumulator}
 use Rattle.lookup_model.proofs.Lookups.Shapes.{shape-some}
 use Rattle.lookup_model.proofs.Lookups.Terminals.{plain_terminal-sum}
-use Rattle.lookup_model.specs.Batches.Messages.{HasLawfulFlags, NoneVanishes}
 use Rattle.lookup_model.proofs.Batches.SentFacts.{sent_ids}
-use Rattle.lookup_model.proofs.Batches.OnlyFractions.{denominator_nonzero, no_fault, one_fraction}
+
+module _ {F K : Type 0} {E : Extension F K} (laws : IsLawful E) where
+  module _ (denominator : List F → K) where
+    abbrev AreNonzero : List (Message F) → Type 0
+    AreNonzero ms = AllByRecursion (λ m. denominator m.key.tuple ≢ E.ring.zero) ms
+
+    -- the product of denominators that are not zero is not zero
+    additive_nonzero : (ms : List (Message F)) → AreNonzero ms → additive_denominator E denominator ms ≢ E.ring.zero
+    additive_nonzero [] each e = laws.domain.zero_is_not_one (sym e)
+    additive_nonzero (m ∷ ms) each e =
+        product_nonzero laws.ring laws.domain (denominator m.key.tuple) (additive_denominator E denominator ms) each.0 (additive_nonzero ms each.1) e
+
+    -- nor is that of lawful flags
+    chosen_nonzero : (ms : List (Message F)) → length ms ≤ 1 → AreNonzero ms → E.ring.add (sum_in E.ring (map (λ m. denominator m.key.tuple) ms)) (sub_in E.ring E.ring.one (sum_in E.ring (map (λ m. E.ring.one) ms))) ≢ E.ring.zero
+    chosen_nonzero [] few each e = laws.domain.zero_is_not_one (sym (ring_law laws.ring [] (con 1) (con 0 :+ (con 1 :- con 0)) refl ∙ e))
+    chosen_nonzero (m ∷ []) few each e =
+        each.0 (ring_law laws.ring (denominator m.key.tuple ∷ []) (var 0) ((var 0 :+ con 0) :+ (con 1 :- (con 1 :+ con 0))) refl ∙ e)
+    chosen_nonzero (m ∷ n ∷ ms) few each e = absurd (omega (arith, few))
+
+    exclusive_nonzero : (fs : List F) (bs : List (Message F)) → length fs ≡ length bs → are_boolean E.base E.base_eq fs ≡ true → length (chosen E.base E.base_eq fs bs) ≤ 1 → AreNonzero (chosen E.base E.base_eq fs bs) → exclusive_denominator E denominator fs bs ≢ E.ring.zero
+    exclusive_nonzero fs bs same lawful few each e =
+        chosen_nonzero (chosen E.base E.base_eq fs bs) few each
+        ((λ i. E.ring.add (sym (selected_sum laws (λ (m : Message F). denominator m.key.tuple) fs bs lawful) i) (sub_in E.ring E.ring.one (sym (flags_sum laws fs bs same lawful) i))) ∙ e)
+
+    -- with flags or without
+    pub denominator_nonzero : (flags : Option (List F)) (bs : List (Message F)) → IfSome flags (λ fs. length fs ≡ length bs) → HasLawfulFlags E.base E.base_eq (sent E.base E.base_eq flags bs) → AreNonzero (sent E.base E.base_eq flags bs).messages → fraction_denominator E denominator flags bs ≢ E.ring.zero
+    denominator_nonzero None bs same lawful each = additive_nonzero bs each
+    denominator_nonzero (Some fs) bs same lawful each =
+        exclusive_nonzero fs bs same lawful.0 (omega (arith, lawful.1, chosen_few E.base E.base_eq 0 fs bs)) each
+
+  -- two fractions that satisfy one equation are one
+  pub one_fraction : (u v f g : K) → u ≢ E.ring.zero → sub_in E.ring (E.ring.mul u f) v ≡ E.ring.zero → sub_in E.ring (E.ring.mul u g) v ≡ E.ring.zero → f ≡ g
+  one_fraction u v f g ne first second =
+      domain_cancel laws.ring laws.domain u f g ne (same_from_difference laws.ring (E.ring.mul u f) v first ∙ sym (same_from_difference laws.ring (E.ring.mul u g) v second))
+
+  module _ (denominator : Key F → K) (row column : ℕ) where
+    -- denominators that are not zero do not vanish
+    none_vanish : (ms : List (Message F)) → NoneVanishes E denominator ms → vanishes E denominator ms ≡ false
+    none_vanish [] each = refl
+    none_vanish (m ∷ ms) each = by_test (E.eq (denominator m.key) E.ring.zero) refl (none_vanish ms each.1)
+      where
+        by_test : (b : Bool) → E.eq (denominator m.key) E.ring.zero ≡ b → vanishes E denominator ms ≡ false → (b || vanishes E denominator ms) ≡ false
+        by_test true e rest = absurd (each.0 ((laws.eq (denominator m.key) E.ring.zero).0 e))
+        by_test false e rest = rest
+
+    -- so a lookup with lawful flags has no fault
+    pub no_fault : (s : Sent F) → HasLawfulFlags E.base E.base_eq s → NoneVanishes E denominator s.messages → fault_of E denominator row column s ≡ None
+    no_fault s lawful each = by_flags s.flags s.messages lawful each
+      where
+        by_flags : (flags : Option (List F)) (ms : List (Message F)) → HasLawfulFlags E.base E.base_eq (record { flags = flags; messages = ms }) → NoneVanishes E denominator ms → fault_of E denominator row column (record { flags = flags; messages = ms }) ≡ None
+        by_flags None ms lawful each =
+            additive_faultless E denominator row column ms (none_vanish (counted E.base E.base_eq ms) (all_kept (λ m. denominator m.key ≢ E.ring.zero) _ ms each))
+        by_flags (Some fs) ms lawful each = exclusive_faultless E denominator row column fs ms lawful.0 lawful.1 (none_vanish ms each)
 
 module _ {F K : Type 0} {E : Extension F K} (laws : IsLawful E) (challenges : List K) (traces : AirTraces F) (lookups : List (Lookup F)) (records : AreRecords lookups) (some : 0 < length lookups) where
   abbrev den : Key F → K

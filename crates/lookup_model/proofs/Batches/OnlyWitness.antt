@@ -16,7 +16,7 @@ use Rattle.lookup_model.specs.Batches.Messages.{AreFlagsLawful, HasLawfulFlags, 
 use Rattle.lookup_model.specs.Batches.Witnesses.{AirResult, AreSatisfied, IsSatisfiedAt, plain_result, plain_witness}
 use Rattle.lookup_model.specs.Challenges.{ChallengeTable, column_challenges, table_key_denominator}
 use Rattle.lookup_model.proofs.Lookups.Shapes.{shape-none}
-use Rattle.lookup_model.proofs.Batches.ByTable.{alike_rows, column_den, den}
+use Rattle.lookup_model.proofs.Batches.TableResults.{alike_rows, column_den, den}
 use Rattle.lookup_model.proofs.Batches.OnlyRows.{only_plain}
 use Rattle.lookup_model.proofs.Batches.Rekeyed.{lawful_up_to_keys, none_up_to_keys, same_matrix, same_terminal_of}
 

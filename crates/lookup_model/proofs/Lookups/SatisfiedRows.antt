@@ -19,7 +19,7 @@ use Rattle.lookup_model.specs.Witness.{IsSatisfied}
 use Rattle.lookup_model.specs.declared.types.Lookup.{Lookup}
 use Rattle.lookup_model.proofs.Lookups.Rows.{row_faults-append, trace_faults-append}
 use Rattle.lookup_model.proofs.Lookups.RunningSums.{running_satisfied}
-use Rattle.lookup_model.proofs.Lookups.SatisfiedLookups.{lookup_satisfied}
+use Rattle.lookup_model.proofs.Lookups.SatisfiedFractions.{lookup_satisfied}
 use Rattle.lookup_model.proofs.Lookups.SentRows.{accumulator_after, column_is, equal_lengths, get_or-sent_rows, length-sent_rows, length-sent_rows-at, sent_rows-at}
 use Rattle.lookup_model.proofs.Lookups.Terminals.{plain_terminal-sum}
 
