@@ -25,7 +25,13 @@ module _ {A : Type 0} where
   pub read_is : (xs : List A) (i : ℕ) (x y : A) → slice_get xs i ≡ Some y → x ≡ get_or xs i x → y ≡ x
   read_is xs i x y there is = sym (get_or_from_slice_get xs i y x there) ∙ sym is
 
-  -- the first item stays where more comes behind
+  -- the items of a list stay where more comes behind
+  pub slice_get-front : (xs ys : List A) (i : ℕ) → i < length xs → slice_get (xs ++ ys) i ≡ slice_get xs i
+  slice_get-front [] ys i lt = absurd (omega (arith, lt))
+  slice_get-front (x ∷ xs) ys zero lt = refl
+  slice_get-front (x ∷ xs) ys (suc i) lt = slice_get-front xs ys i (omega (arith, lt))
+
+  -- so does the first one
   pub first_stays : (xs ys : List A) (x : A) → slice_get xs 0 ≡ Some x → slice_get (xs ++ ys) 0 ≡ Some x
   first_stays [] ys x e = absurd (cc e)
   first_stays (y ∷ xs) ys x e = e
@@ -119,6 +125,10 @@ module _ {A : Type 0} where
   numbered_at n [] i x e = absurd (cc e)
   numbered_at n (y ∷ ys) zero x e = let same : n ≡ n + 0 = omega arith in λ i. Some (same i, some_is y x e i)
   numbered_at n (y ∷ ys) (suc i) x e = let same : n + 1 + i ≡ n + suc i = omega arith in numbered_at (n + 1) ys i x e ∙ (λ j. Some (same j, x))
+
+-- and with its index, where the first has number 0
+pub numbered_there : {A : Type 0} (xs : List A) (i : ℕ) (x : A) → slice_get xs i ≡ Some x → slice_get (enumerate_from 0 xs) i ≡ Some (i, x)
+numbered_there xs i x e = let same : 0 + i ≡ i = omega arith in numbered_at 0 xs i x e ∙ (λ j. Some (same j, x))
 
 module _ {A : Type 0} (xs : List A) (i : ℕ) (x : A) (lt : i < length xs) (is : x ≡ get_or xs i x) where
   pub numbered_read : (i, x) ≡ get_or (enumerate_from 0 xs) i (i, x)

@@ -2,7 +2,7 @@ use Rattle.std.proofs.Common.{inr}
 use Rattle.lists.proofs.Zips.{AllZip-paired}
 use Rattle.lookup_tables.proofs.ZipLaws.{zipped_next}
 use Rattle.lookup_tables.specs.Traces.{AreTracesOf}
-use Rattle.lookup_c.proofs.FirstFaults.{first_fault}
+use Rattle.expressions.proofs.FirstFaults.{first_fault}
 use Rattle.lookup_c.proofs.AnswerLaws.{refused_is}
 use Rattle.lookup_c.proofs.batch_tables.all_traces.Goals as goal
 

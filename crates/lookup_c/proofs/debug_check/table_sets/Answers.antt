@@ -3,7 +3,7 @@ use Rattle.lists.proofs.Zips.{AllZip-paired}
 use Rattle.lookup.specs.Lookups.{lookups_of}
 use Rattle.lookup_tables.proofs.ZipLaws.{zipped_next}
 use Rattle.lookup_tables.specs.Tables.{SayLookups}
-use Rattle.lookup_c.proofs.FirstFaults.{first_fault}
+use Rattle.expressions.proofs.FirstFaults.{first_fault}
 use Rattle.lookup_c.proofs.AnswerLaws.{refused_is}
 use Rattle.lookup_c.proofs.debug_check.table_sets.Goals as goal
 

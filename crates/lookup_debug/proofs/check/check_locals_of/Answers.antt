@@ -46,6 +46,3 @@ returns g c =
     let eq = g.F.PartialEq.eq in
     let all : ℕ × Traced _ = (c.args.instance, traced_of c.args.traced.now) in
     locals_balance R eq all c.loop-index.index c.loop-index-test.false c.loop-index.invariant
-
-pub check_local-requires-clause-fit : goal.check_local-requires-clause-fit
-check_local-requires-clause-fit g c = c.requires

@@ -18,9 +18,6 @@ pub walk_lookup-requires-clause-there : goal.walk_lookup-requires-clause-there
 walk_lookup-requires-clause-there g c =
     let ls = c.args.traced.now.lookups.now in slice_get-get_or ls c.loop-index.index c.index-traced-index.result c.loop-index-test.true
 
-pub walk_lookup-requires-clause-fit : goal.walk_lookup-requires-clause-fit
-walk_lookup-requires-clause-fit g c = c.requires.fit
-
 pub loop-index-init : goal.loop-index-init
 loop-index-init g c = g.met.V.RowVisitor.walks.rests c.args.visitor.now c.requires.ready
 
