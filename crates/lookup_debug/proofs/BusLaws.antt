@@ -1,12 +1,13 @@
 -- The lookups of all AIRs, one after another.
-use Rattle.std.proofs.Common.{◌≡◌, ℕ, ◌+◌, ◌<◌, ◌≤◌, Bool, true, false, cond, List, [], ◌∷◌, ◌++◌, get_or, length, map, take, ap, refl, subst, sym, ◌∙◌, arith}
+use Rattle.std.proofs.Common.{◌≡◌, ℕ, ◌+◌, ◌<◌, Bool, true, false, cond, List, [], ◌∷◌, ◌++◌, get_or, length, map, take, ap, refl, subst, sym, ◌∙◌}
 use Rattle.std.proofs.lemmas.Grind.{flat_map-append}
-use Rattle.std.proofs.lemmas.List.{append-nil, length-map, take_all}
+use Rattle.std.proofs.lemmas.List.{append-nil, length-map}
 use Rattle.std.proofs.lemmas.List.Elements.{filter-append, filter_map-append}
-use Rattle.std.proofs.lemmas.List.FromFn.{get_or-enumerate_from, length-enumerate_from}
+use Rattle.std.proofs.lemmas.List.FromFn.{length-enumerate_from}
 use Rattle.std.specs.List.{cons_option, enumerate_from, filter, filter_map, flat_map}
+use Rattle.lists.proofs.Parts.{flat_next}
 use Rattle.lists.proofs.Images.{mapped_more}
-use Rattle.lists.proofs.Items.{take_item, numbered_read, numbered_within, numbered_more}
+use Rattle.lists.proofs.Items.{numbered_read, numbered_within}
 use Rattle.field.specs.Ring.{Ring}
 use Rattle.lookup_model.specs.Outline.{bus_of}
 use Rattle.lookup_model.specs.declared.types.Lookup.{Lookup}
@@ -41,10 +42,7 @@ module _ {F : Type 0} where
   -- the lookups of one more AIR
   all_lookups-more : (ts : List (Traced F)) (i : ℕ) (t : Traced F) → i < length ts → t ≡ get_or ts i t
       → flat_map lookups_in (take (i + 1) (enumerate_from 0 ts)) ≡ flat_map lookups_in (take i (enumerate_from 0 ts)) ++ lookups_in (i, t)
-  all_lookups-more ts i t lt is =
-      ap (flat_map lookups_in) (numbered_more ts i t lt is)
-      ∙ flat_map-append lookups_in (take i (enumerate_from 0 ts)) ((i, t) ∷ [])
-      ∙ ap (λ ps. flat_map lookups_in (take i (enumerate_from 0 ts)) ++ ps) (append-nil (lookups_in (i, t)))
+  all_lookups-more ts i t lt is = flat_next lookups_in (enumerate_from 0 ts) i (i, t) (numbered_within ts i t lt is) (numbered_read ts i t lt is)
 
   -- the buses of the lookups of an AIR
   buses_in : (n : ℕ) (t : Traced F)

@@ -1,6 +1,7 @@
 -- The least of the entries of a group is its first mismatch.
-use Rattle.std.proofs.Common.{◌≡◌, ◌≢◌, ◌<◌, ◌⊎◌, ◌||◌, ℕ, zero, suc, Bool, true, false, not, List, [], ◌∷◌, None, Some, length, map, option_map, slice_get, refl, sym, ap, ◌∙◌, inl, inr, true≢false, is_some, Decides, Ordering, Less, Equal, Greater}
-use Rattle.std.proofs.lemmas.Option.{slice_get-map, slice_get_within}
+use Rattle.std.proofs.Common.{◌≡◌, ◌≢◌, ◌<◌, ◌⊎◌, ◌||◌, ℕ, suc, Bool, true, false, not, List, [], ◌∷◌, None, Some, length, map, slice_get, refl, sym, ap, ◌∙◌, inl, inr, true≢false, Decides, Ordering, Less, Equal, Greater}
+use Rattle.std.proofs.lemmas.Bool.{false_from_ne_true, not-false}
+use Rattle.std.proofs.lemmas.Option.{slice_get_within}
 use Rattle.std.proofs.lemmas.Slice.Eq.{slice_eq-Decides}
 use Rattle.std.specs.Borrow.{Bor}
 use Rattle.std.specs.List.{list_any}
@@ -44,11 +45,7 @@ module _ {F : Type 0} {R : Ring F} (laws : IsCommutativeRing R) (eq : F → F �
   IsBefore cs a b = (text_cmp text a b ≡ Less) ⊎ ((text_cmp text a b ≡ Equal) × Precedes (tuples cs) a b)
 
   nonzero_is : (v : F) → v ≢ R.zero → not (eq v R.zero) ≡ true
-  nonzero_is v ne = by_test (eq v R.zero) refl
-    where
-      by_test : (b : Bool) → eq v R.zero ≡ b → not b ≡ true
-      by_test true e = absurd (ne ((eq_is v R.zero).0 e))
-      by_test false e = refl
+  nonzero_is v ne = ap not (false_from_ne_true (eq v R.zero) (λ is. ne ((eq_is v R.zero).0 is)))
 
   -- the least is first, and its entry has its net
   pub first_of_least : (es : List (Bor (List F) × F)) (cs : List (Contribution F)) (i : ℕ) → tuple_entries es ≡ tuple_nets R eq cs
@@ -98,11 +95,7 @@ module _ {F : Type 0} {R : Ring F} (laws : IsCommutativeRing R) (eq : F → F �
       by_seen own other ne apart false e = absurd (ne (net-none (pointwise eq) decides laws (λ (c : Contribution F). c.tuple) (λ c. c.amount) cs other e))
 
   zero_is : (v : F) → not (eq v R.zero) ≡ false → v ≡ R.zero
-  zero_is v e = by_test (eq v R.zero) refl e
-    where
-      by_test : (b : Bool) → eq v R.zero ≡ b → not b ≡ false → v ≡ R.zero
-      by_test true f g = (eq_is v R.zero).0 f
-      by_test false f g = absurd (true≢false g)
+  zero_is v e = (eq_is v R.zero).0 (not-false (eq v R.zero) e)
 
   -- where none passes every net is zero
   pub all_zero : (es : List (Bor (List F) × F)) (cs : List (Contribution F)) → tuple_entries es ≡ tuple_nets R eq cs

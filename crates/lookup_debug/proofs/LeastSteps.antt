@@ -1,11 +1,12 @@
 -- One more entry, and which is the least then.
-use Rattle.std.proofs.Common.{◌≡◌, ◌≢◌, ◌<◌, ◌≤◌, ◌+◌, ◌-◌, length-drop, ◌⊎◌, [], ◌∷◌, map, length, drop, ℕ, zero, suc, Bool, true, false, not, List, Option, None, Some, slice_get, refl, sym, ap, ◌∙◌, inl, inr, true≢false, arith, Ordering, Less, Equal, Greater}
+use Rattle.std.proofs.Common.{◌≡◌, ◌≢◌, ◌<◌, ◌≤◌, ◌+◌, ◌-◌, length-drop, ◌⊎◌, [], ◌∷◌, map, length, drop, ℕ, Bool, true, false, not, List, Option, None, Some, slice_get, refl, sym, ap, ◌∙◌, inl, inr, true≢false, arith, Ordering, Less, Equal, Greater}
+use Rattle.std.proofs.lemmas.Bool.{cases_lt}
 use Rattle.std.specs.Borrow.{Bor}
 use Rattle.std.specs.Cmp.{IsTotalOrder, on_total, nat_cmp_is}
 use Rattle.std.specs.Ordering.{nat_cmp, ordering_index, ordering_reverse}
 use Rattle.std.specs.Bool.{◌==◌}
 use Rattle.std.specs.Cmp.Lexicographic.{lists_total, nat_list_cmp_total}
-use Rattle.lists.proofs.Items.{some_is}
+use Rattle.lists.proofs.Items.{holds_next, some_is}
 use Rattle.field.specs.Ring.{Ring}
 use Rattle.lookup_debug.specs.Mismatch.{text_cmp}
 use Rattle.lookup_debug.specs.Least.{IsLeast, NonePasses}
@@ -13,23 +14,16 @@ use Rattle.lookup_debug.specs.Nets.{IsFirstIndex}
 
 -- a number below the next one
 less_or_last : (j n : ℕ) → j < n + 1 → (j < n) ⊎ (j ≡ n)
-less_or_last zero zero lt = inr refl
-less_or_last zero (suc n) lt = inl (omega arith)
-less_or_last (suc j) zero lt = absurd (omega (arith, lt))
-less_or_last (suc j) (suc n) lt = elim (less_or_last j n (omega (arith, lt))) [
-  | inl less ↦ inl (omega (arith, less))
-  | inr is ↦ inr (ap suc is)
+less_or_last j n lt = elim (cases_lt j n) [
+  | inl less ↦ inl less
+  | inr past ↦ inr (omega (arith, past, lt))
 ]
 
 -- two numbers compared
 pub three_ways : (j i : ℕ) → (j < i) ⊎ ((j ≡ i) ⊎ (i < j))
-three_ways zero zero = inr (inl refl)
-three_ways zero (suc i) = inl (omega arith)
-three_ways (suc j) zero = inr (inr (omega arith))
-three_ways (suc j) (suc i) = elim (three_ways j i) [
-  | inl less ↦ inl (omega (arith, less))
-  | inr (inl is) ↦ inr (inl (ap suc is))
-  | inr (inr more) ↦ inr (inr (omega (arith, more)))
+three_ways j i = elim (cases_lt j i) [
+  | inl less ↦ inl less
+  | inr past ↦ elim (cases_lt i j) [ inl more ↦ inr (inr more) | inr le ↦ inr (inl (omega (arith, past, le))) ]
 ]
 
 -- by a total order an item is equal to itself
@@ -57,12 +51,9 @@ module _ {F : Type 0} (R : Ring F) (eq : F → F → Bool) (text : F → List �
   total = text_total text
 
   -- an entry that does not pass changes nothing
-  pub skipped : (best : Option ℕ) → passes last.1 ≡ false → IsFirstIndex R eq text es n best → IsFirstIndex R eq text es (n + 1) best
-  skipped None fails none = λ j e lt here. elim (less_or_last j n lt) [
-    | inl less ↦ none j e less here
-    | inr is ↦ ap (λ (p : Bor (List F) × F). passes p.1) (some_is e last (sym here ∙ ap (slice_get es) is ∙ at)) ∙ fails
-  ]
-  skipped (Some i) fails least = record {
+  pub best_past_failing : (best : Option ℕ) → passes last.1 ≡ false → IsFirstIndex R eq text es n best → IsFirstIndex R eq text es (n + 1) best
+  best_past_failing None fails none = holds_next (λ (e : Bor (List F) × F). passes e.1 ≡ false) es n last at fails none
+  best_past_failing (Some i) fails least = record {
     entry = least.entry;
     there = least.there;
     within = omega (arith, least.within);
@@ -86,8 +77,8 @@ module _ {F : Type 0} (R : Ring F) (eq : F → F → Bool) (text : F → List �
   }
 
   -- one that is less takes its place
-  pub replaced : (i : ℕ) (other : Bor (List F) × F) → slice_get es i ≡ Some other → passes last.1 ≡ true → order last.0 other.0 ≡ Less → IsLeast order passes es n i → IsLeast order passes es (n + 1) n
-  replaced i other there passing less least =
+  pub lesser_is_least : (i : ℕ) (other : Bor (List F) × F) → slice_get es i ≡ Some other → passes last.1 ≡ true → order last.0 other.0 ≡ Less → IsLeast order passes es n i → IsLeast order passes es (n + 1) n
+  lesser_is_least i other there passing less least =
       let is : least.entry ≡ other = some_is least.entry other (sym least.there ∙ there) in
       let under : order last.0 least.entry.0 ≡ Less = ap (λ (p : Bor (List F) × F). order last.0 p.0) is ∙ less in record {
         entry = last;
@@ -113,8 +104,8 @@ module _ {F : Type 0} (R : Ring F) (eq : F → F → Bool) (text : F → List �
       by_index under j e lt here so (inr (inr later)) = by_order e (order least.entry.0 e.0) refl under (least.after j e later lt here so)
 
   -- one that is not less does not
-  pub kept : (i : ℕ) (other : Bor (List F) × F) → slice_get es i ≡ Some other → order last.0 other.0 ≢ Less → IsLeast order passes es n i → IsLeast order passes es (n + 1) i
-  kept i other there not_less least = record {
+  pub least_stays : (i : ℕ) (other : Bor (List F) × F) → slice_get es i ≡ Some other → order last.0 other.0 ≢ Less → IsLeast order passes es n i → IsLeast order passes es (n + 1) i
+  least_stays i other there not_less least = record {
     entry = least.entry;
     there = least.there;
     within = omega (arith, least.within);

@@ -1,6 +1,7 @@
 -- The order in which items are first seen.
-use Rattle.std.proofs.Common.{◌≡◌, ◌<◌, ◌⊎◌, ℕ, zero, suc, Bool, true, false, cond, not, List, [], ◌∷◌, Option, None, Some, slice_get, refl, sym, ap, ◌∙◌, inl, inr, true≢false, is_some, arith, Decides}
+use Rattle.std.proofs.Common.{◌≡◌, ◌<◌, ◌⊎◌, ℕ, zero, suc, Bool, true, false, cond, not, List, [], ◌∷◌, Some, slice_get, refl, sym, ap, ◌∙◌, inl, inr, true≢false, is_some, arith, Decides}
 use Rattle.std.specs.List.{filter}
+use Rattle.lists.proofs.Items.{some_is}
 use Rattle.lookup_model.specs.Net.{first_seen}
 use Rattle.lookup_debug.specs.Mismatch.{Precedes}
 
@@ -15,22 +16,15 @@ IsInOrder [] a b = true ≡ false
 IsInOrder (y ∷ ys) a b = ((y ≡ a) × IsIn ys b) ⊎ IsInOrder ys a b
 
 module _ {A : Type 0} where
-  some_same : (x y : A) → Some x ≡ Some y → x ≡ y
-  some_same x y e = ap (λ o. pick o) e
-    where
-      pick : Option A → A
-      pick None = x
-      pick (Some z) = z
-
   in_at : (ys : List A) (j : ℕ) (b : A) → slice_get ys j ≡ Some b → IsIn ys b
   in_at [] j b e = absurd (true≢false (sym (ap is_some e)))
-  in_at (y ∷ ys) zero b e = inl (some_same y b e)
+  in_at (y ∷ ys) zero b e = inl (some_is y b e)
   in_at (y ∷ ys) (suc j) b e = inr (in_at ys j b e)
 
   in_order_at : (ys : List A) (i j : ℕ) (a b : A) → i < j → slice_get ys i ≡ Some a → slice_get ys j ≡ Some b → IsInOrder ys a b
   in_order_at [] i j a b lt e f = absurd (true≢false (sym (ap is_some e)))
   in_order_at (y ∷ ys) i zero a b lt e f = absurd (omega (arith, lt))
-  in_order_at (y ∷ ys) zero (suc j) a b lt e f = inl (some_same y a e, in_at ys j b f)
+  in_order_at (y ∷ ys) zero (suc j) a b lt e f = inl (some_is y a e, in_at ys j b f)
   in_order_at (y ∷ ys) (suc i) (suc j) a b lt e f = inr (in_order_at ys i j a b (omega (arith, lt)) e f)
 
   in_kept : (p : A → Bool) (ys : List A) (b : A) → IsIn (filter p ys) b → IsIn ys b × (p b ≡ true)

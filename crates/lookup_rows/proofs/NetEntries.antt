@@ -61,7 +61,7 @@ module _ {A : Type 0} (same : A → A → Bool) (decides : (a b : A) → Decides
         by_test false e rest = ap (λ b. cond b (Some (f y)) (lookup (same k) (map (λ a. (a, f a)) ys))) (turned k y ∙ e) ∙ rest
 
     -- values that agree at all keys but k agree at keys apart from k
-    agree : (f g : A → V) (k : A) → ((a : A) → same k a ≡ false → f a ≡ g a) → (ks : List A) → AllByRecursion (λ y. same k y ≡ false) ks → map {B = A × V} (λ a. (a, f a)) ks ≡ map (λ a. (a, g a)) ks
+    pub agree : (f g : A → V) (k : A) → ((a : A) → same k a ≡ false → f a ≡ g a) → (ks : List A) → AllByRecursion (λ y. same k y ≡ false) ks → map {B = A × V} (λ a. (a, f a)) ks ≡ map (λ a. (a, g a)) ks
     agree f g k others [] h = refl
     agree f g k others (y ∷ ys) h = λ i. (y, others y h.0 i) ∷ agree f g k others ys h.1 i
 
