@@ -1,6 +1,5 @@
 -- The first item of a list with a fault: as a loop finds it, and in lists that are put together.
-use Rattle.std.proofs.Common.{◌≡◌, ◌⊎◌, inl, inr, ◌∙◌, ◌∷◌, ◌++◌, ◌<◌, ◌≤◌, ◌+◌, zero, suc, [], ℕ, All, List, Some, arith, drop, get_or, length, refl, sym, subst, take}
-use Rattle.std.proofs.lemmas.Bool.{cases_lt}
+use Rattle.std.proofs.Common.{◌≡◌, ◌∙◌, ◌∷◌, ◌++◌, ◌<◌, ◌+◌, zero, suc, [], ℕ, All, List, Some, arith, drop, get_or, length, refl, sym, subst, take}
 use Rattle.std.proofs.lemmas.List.{append_assoc, get_or-take, length-take}
 use Rattle.std.proofs.lemmas.Option.{get_or_from_slice_get, slice_get-get_or, slice_get_within}
 use Rattle.std.specs.List.{AllByRecursion, slice_get}

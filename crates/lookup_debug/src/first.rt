@@ -38,7 +38,10 @@ pub(crate) fn first_mismatch<'a, F: Field>(
 }
 
 /// The index of the least tuple whose net is not zero, and of several with its texts the first.
-fn least_unbalanced<F: Field>(alloc: Global, nets: &IndexMap<&[F], F>) -> Result<Option<usize>, AllocError>
+fn least_unbalanced<F: Field>(
+    alloc: Global,
+    nets: &IndexMap<&[F], F>,
+) -> Result<Option<usize>, AllocError>
     ensures { IfOk result (IsFirstIndex F.ring F.eq F.text nets.now.entries
         (index_map_len nets.now)) }
 {

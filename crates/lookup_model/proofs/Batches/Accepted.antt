@@ -154,8 +154,8 @@ module _ {F K : Type 0} {E : Extension F K} (laws : IsLawful E) (table : Challen
     made_satisfied : IsSatisfied E i.traces i.lookups (column_challenges table i.ids) (auxiliary laws (column_challenges table i.ids) i.traces i.lookups records some sum_below given_on total) (Some (record { 0 = total }))
     made_satisfied =
         running_satisfied laws (column_challenges table i.ids) i.traces i.lookups records some sum_below given_on total length-fractions refl goes_on ends (λ r lt k lookup below is f_is.
-            let e = equation_at E (challenged_window E table i r) lookup in
-            ap (λ f. sub_in E.ring (E.ring.mul e.denominator f) e.numerator) f_is ∙ ap (λ t. sub_in E.ring t e.numerator) (solved_at r lt k lookup below is) ∙ laws.ring.add_neg e.numerator)
+        let e = equation_at E (challenged_window E table i r) lookup in
+        ap (λ f. sub_in E.ring (E.ring.mul e.denominator f) e.numerator) f_is ∙ ap (λ t. sub_in E.ring t e.numerator) (solved_at r lt k lookup below is) ∙ laws.ring.add_neg e.numerator)
 
   -- each sum of the fractions of an AIR is the terminal of a result
   pub result_of_sum : (i : Instance F) → IsFitting i → (total : K) → CanSumTo E.ring (air_equations E table i) total → (result : AirResult K) × IsSatisfiedAt E table i result × (terminal_value E.ring result.1 ≡ total)

@@ -88,13 +88,18 @@ module _ {F K : Type 0} {E : Extension F K} (laws : IsLawful E) (challenges : Li
       three_zeros : (r : ℕ) → r < height traces.main → AllByRecursion (IsZeroAt r) (first_constraint E ∷ transition_constraint E lookups ∷ last_constraint E lookups (terminal_at E) (λ t. 0) ∷ [])
       three_zeros r lt = (
         selected_zero laws.ring (r == 0) (accumulator_at E (window_of r)) (λ e. accumulator_is r lt ∙ ap sum_below (eqb-true r 0 e) ∙ starts),
-        (selected_zero laws.ring (not (r + 1 == height traces.main)) _ (λ e.
-            let inner : r + 1 < height traces.main = omega (arith, lt, eqb-false (r + 1) (height traces.main) (not-true (r + 1 == height traces.main) e)) in
-            taken_apart laws.ring (accumulator_at E (window_of r)) (fractions_at E lookups (window_of r)) (slice_index_or (row auxiliary ((r + 1) % height traces.main)) 0 E.ring.zero)
-            (ap (λ i. slice_index_or (row auxiliary i) 0 E.ring.zero) (mod-eq_of_lt inner) ∙ accumulator_is (r + 1) inner ∙ after_row r lt)),
-        (selected_zero laws.ring (r + 1 == height traces.main) _ (λ e.
-            taken_apart laws.ring (accumulator_at E (window_of r)) (fractions_at E lookups (window_of r)) total
-            (ends r (eqb-true (r + 1) (height traces.main) e) ∙ after_row r lt)), tt)),
+        (
+          selected_zero laws.ring (not (r + 1 == height traces.main)) _ (λ e.
+              let inner : r + 1 < height traces.main = omega (arith, lt, eqb-false (r + 1) (height traces.main) (not-true (r + 1 == height traces.main) e)) in
+              taken_apart laws.ring (accumulator_at E (window_of r)) (fractions_at E lookups (window_of r)) (slice_index_or (row auxiliary ((r + 1) % height traces.main)) 0 E.ring.zero)
+              (ap (λ i. slice_index_or (row auxiliary i) 0 E.ring.zero) (mod-eq_of_lt inner) ∙ accumulator_is (r + 1) inner ∙ after_row r lt)),
+          (
+            selected_zero laws.ring (r + 1 == height traces.main) _ (λ e.
+                taken_apart laws.ring (accumulator_at E (window_of r)) (fractions_at E lookups (window_of r)) total
+                (ends r (eqb-true (r + 1) (height traces.main) e) ∙ after_row r lt)),
+            tt,
+          ),
+        ),
       )
 
       -- then it is satisfied if the constraint of each lookup is zero

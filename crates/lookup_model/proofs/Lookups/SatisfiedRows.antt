@@ -102,7 +102,7 @@ module _ {F K : Type 0} {E : Extension F K} (laws : IsLawful E) (challenges : Li
         let made = λ (n : ℕ). flat_map (plain_row E den rows) (range_with_len 0 n) in
         subst (λ (n : ℕ). IsSatisfied E traces lookups challenges (record { values = made n; width = length lookups + 1 }) (Some (record { 0 = plain_terminal E den rows }))) (sym high)
         (running_satisfied laws challenges traces lookups records some (plain_accumulator E den rows) fractions_on (plain_terminal E den rows) many refl goes_on ends (λ r lt k lookup below is f_is.
-            lookup_satisfied laws challenges lookup.column r (window_of traces r) lookup _ (equal_lengths lookups k lookup records below is) (f_is ∙ fraction_is r lt k lookup below is) (no_fault_at r lt k lookup below is)))
+        lookup_satisfied laws challenges lookup.column r (window_of traces r) lookup _ (equal_lengths lookups k lookup records below is) (f_is ∙ fraction_is r lt k lookup below is) (no_fault_at r lt k lookup below is)))
 
 -- without lookups no cell and no terminal are a satisfied witness
 pub none_satisfied : {F K : Type 0} (E : Extension F K) (traces : AirTraces F) (challenges : List K) (lookups : List (Lookup F)) (auxiliary : Matrix K) → lookups ≡ [] → auxiliary ≡ record { values = []; width = 0 } → IsSatisfied E traces lookups challenges auxiliary None

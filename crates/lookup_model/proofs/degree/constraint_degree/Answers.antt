@@ -1,1 +1,0 @@
-use Rattle.lookup_model.proofs.degree.constraint_degree.Goals as goal

@@ -1,1 +1,0 @@
-use Rattle.lookup_model.proofs.types.LookupTerminalSerialize.serialize.Goals as goal
