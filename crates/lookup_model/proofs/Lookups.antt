@@ -2,7 +2,6 @@
 -- satisfies the constraints.
 pub mod KeyLaws
 pub mod LookupFaults
-pub mod Nets
 pub mod PlainResults
 pub mod Regrouping
 pub mod Rows
@@ -13,5 +12,4 @@ pub mod SatisfiedWitnesses
 pub mod Selections
 pub mod Selectors
 pub mod SentRows
-pub mod Shapes
 pub mod Terminals

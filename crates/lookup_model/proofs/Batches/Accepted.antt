@@ -31,7 +31,7 @@ use Rattle.lookup_model.specs.Records.{AreRecords}
 use Rattle.lookup_model.specs.Batches.Existence.{HasAccepted}
 use Rattle.lookup_model.proofs.SumLaws.{sum_in-append}
 use Rattle.lookup_model.proofs.Lookups.SatisfiedWitnesses.{first_accumulator, fraction_zeros, last_accumulator, next_accumulator}
-use Rattle.lookup_model.proofs.Lookups.Shapes.{shape-none, shape-some}
+use Rattle.lookup_model.proofs.Lookups.PlainResults.{shape-none, shape-some}
 use Rattle.lookup_model.proofs.Batches.SolutionSums.{sum_of_none, sums_together, none_sums, sums_apart}
 use Rattle.lookup_model.proofs.Lookups.RunningSums.{auxiliary, running_satisfied}
 use Rattle.lookup_model.proofs.Lookups.SatisfiedRows.{none_satisfied}

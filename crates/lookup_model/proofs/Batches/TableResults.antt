@@ -53,42 +53,42 @@ module _ {F K : Type 0} {E : Extension F K} (laws : IsLawful E) (table : Challen
   abbrev pub column_den : Key F → K
   column_den = key_denominator E challenges
 
-  abbrev pub den : Key F → K
-  den = table_key_denominator E table
+  abbrev pub table_den : Key F → K
+  table_den = table_key_denominator E table
 
   abbrev Branches : Type 0
   Branches = List (Vec (SymbolicExpression F) Global × SymbolicExpression F)
 
-  module _ (w : Window F) (c id : ℕ) (same : (tuple : List F) → column_den (record { id = c; tuple = tuple }) ≡ den (record { id = id; tuple = tuple })) where
+  module _ (w : Window F) (c id : ℕ) (same : (tuple : List F) → column_den (record { id = c; tuple = tuple }) ≡ table_den (record { id = id; tuple = tuple })) where
     abbrev by_column : Vec (SymbolicExpression F) Global × SymbolicExpression F → Message F
     by_column b = branch_at E.base w c b.0.items b.1
 
     abbrev by_id : Vec (SymbolicExpression F) Global × SymbolicExpression F → Message F
     by_id b = branch_at E.base w id b.0.items b.1
 
-    rekeyed_all : (zs : Branches) → AreRekeyed laws column_den den (map by_column zs) (map by_id zs)
-    rekeyed_all zs = AllZip-of_one (IsRekeyed laws column_den den) by_column by_id zs (each_of _ (λ z. (refl, same (by_id z).key.tuple)) zs)
+    rekeyed_all : (zs : Branches) → AreRekeyed laws column_den table_den (map by_column zs) (map by_id zs)
+    rekeyed_all zs = AllZip-of_one (IsRekeyed laws column_den table_den) by_column by_id zs (each_of _ (λ z. (refl, same (by_id z).key.tuple)) zs)
 
-    rekeyed_chosen : (fs : List F) (zs : Branches) → AreRekeyed laws column_den den (chosen E.base E.base_eq fs (map by_column zs)) (chosen E.base E.base_eq fs (map by_id zs))
+    rekeyed_chosen : (fs : List F) (zs : Branches) → AreRekeyed laws column_den table_den (chosen E.base E.base_eq fs (map by_column zs)) (chosen E.base E.base_eq fs (map by_id zs))
     rekeyed_chosen fs zs =
-        let Flagged = λ (p q : F × Message F). (p.0 ≡ q.0) × IsRekeyed laws column_den den p.1 q.1 in
+        let Flagged = λ (p q : F × Message F). (p.0 ≡ q.0) × IsRekeyed laws column_den table_den p.1 q.1 in
         let is_set = λ (q : F × Message F). E.base_eq q.0 E.base.one in
         let ps = zip fs (map by_column zs) in
         let qs = zip fs (map by_id zs) in
-        AllZip-images (IsRekeyed laws column_den den) (λ q. q.1) (λ q. q.1) (filter is_set ps) (filter is_set qs)
-        (AllZip-weaker Flagged (λ p q. IsRekeyed laws column_den den p.1 q.1) (λ p q e. e.1) (filter is_set ps) (filter is_set qs)
-        (AllZip-filter Flagged is_set is_set (λ p q e. ap (λ f. E.base_eq f E.base.one) e.0) ps qs (AllZip-zip (IsRekeyed laws column_den den) fs (map by_column zs) (map by_id zs) (rekeyed_all zs))))
+        AllZip-images (IsRekeyed laws column_den table_den) (λ q. q.1) (λ q. q.1) (filter is_set ps) (filter is_set qs)
+        (AllZip-weaker Flagged (λ p q. IsRekeyed laws column_den table_den p.1 q.1) (λ p q e. e.1) (filter is_set ps) (filter is_set qs)
+        (AllZip-filter Flagged is_set is_set (λ p q e. ap (λ f. E.base_eq f E.base.one) e.0) ps qs (AllZip-zip (IsRekeyed laws column_den table_den) fs (map by_column zs) (map by_id zs) (rekeyed_all zs))))
 
-    alike_sent : (flags : Option (List F)) (zs : Branches) → SameUpToKeys laws column_den den (sent E.base E.base_eq flags (map by_column zs)) (sent E.base E.base_eq flags (map by_id zs))
+    alike_sent : (flags : Option (List F)) (zs : Branches) → SameUpToKeys laws column_den table_den (sent E.base E.base_eq flags (map by_column zs)) (sent E.base E.base_eq flags (map by_id zs))
     alike_sent None zs = (refl, rekeyed_all zs)
     alike_sent (Some fs) zs = (refl, rekeyed_chosen fs zs)
 
-  alike_row : (w : Window F) → AllZip (SameUpToKeys laws column_den den) (sent_row E.base E.base_eq w instance.lookups) (sent_row_under E.base E.base_eq (id_of instance.ids) w instance.lookups)
+  alike_row : (w : Window F) → AllZip (SameUpToKeys laws column_den table_den) (sent_row E.base E.base_eq w instance.lookups) (sent_row_under E.base E.base_eq (id_of instance.ids) w instance.lookups)
   alike_row w =
-      AllZip-of_one (SameUpToKeys laws column_den den) (λ lookup. sent_at E.base E.base_eq w lookup.column lookup) (λ lookup. sent_at E.base E.base_eq w (id_of instance.ids lookup) lookup) instance.lookups
-      (all_indexed (λ lookup. SameUpToKeys laws column_den den (sent_at E.base E.base_eq w lookup.column lookup) (sent_at E.base E.base_eq w (id_of instance.ids lookup) lookup)) instance.lookups each)
+      AllZip-of_one (SameUpToKeys laws column_den table_den) (λ lookup. sent_at E.base E.base_eq w lookup.column lookup) (λ lookup. sent_at E.base E.base_eq w (id_of instance.ids lookup) lookup) instance.lookups
+      (all_indexed (λ lookup. SameUpToKeys laws column_den table_den (sent_at E.base E.base_eq w lookup.column lookup) (sent_at E.base E.base_eq w (id_of instance.ids lookup) lookup)) instance.lookups each)
     where
-      each : (k : ℕ) (lookup : Lookup F) → k < length instance.lookups → lookup ≡ get_or instance.lookups k lookup → SameUpToKeys laws column_den den (sent_at E.base E.base_eq w lookup.column lookup) (sent_at E.base E.base_eq w (id_of instance.ids lookup) lookup)
+      each : (k : ℕ) (lookup : Lookup F) → k < length instance.lookups → lookup ≡ get_or instance.lookups k lookup → SameUpToKeys laws column_den table_den (sent_at E.base E.base_eq w lookup.column lookup) (sent_at E.base E.base_eq w (id_of instance.ids lookup) lookup)
       each k lookup below is =
           let within : lookup.column < length instance.ids = omega (arith, column_is instance.lookups k lookup fitting.fit.records below is, below, fitting.ids) in
           alike_sent w lookup.column (id_of instance.ids lookup)
@@ -96,11 +96,11 @@ module _ {F K : Type 0} {E : Extension F K} (laws : IsLawful E) (table : Challen
           (flags_at E.base w lookup) (zip lookup.elements.items lookup.multiplicities.items)
 
   -- the rows by columns are the rows by ids
-  pub alike_rows : AreRowsSameUpToKeys laws column_den den (sent_rows E.base E.base_eq instance.traces instance.lookups) (sent_rows_of E.base E.base_eq instance)
+  pub alike_rows : AreRowsSameUpToKeys laws column_den table_den (sent_rows E.base E.base_eq instance.traces instance.lookups) (sent_rows_of E.base E.base_eq instance)
   alike_rows =
       let window = λ (r : ℕ). window_of instance.traces r in
-      AllZip-of_one (AllZip (SameUpToKeys laws column_den den)) (λ r. sent_row E.base E.base_eq (window r) instance.lookups) (λ r. sent_row_under E.base E.base_eq (id_of instance.ids) (window r) instance.lookups) (range_with_len 0 (height instance.traces.main))
-      (each_of (λ r. AllZip (SameUpToKeys laws column_den den) (sent_row E.base E.base_eq (window r) instance.lookups) (sent_row_under E.base E.base_eq (id_of instance.ids) (window r) instance.lookups)) (λ r. alike_row (window r)) (range_with_len 0 (height instance.traces.main)))
+      AllZip-of_one (AllZip (SameUpToKeys laws column_den table_den)) (λ r. sent_row E.base E.base_eq (window r) instance.lookups) (λ r. sent_row_under E.base E.base_eq (id_of instance.ids) (window r) instance.lookups) (range_with_len 0 (height instance.traces.main))
+      (each_of (λ r. AllZip (SameUpToKeys laws column_den table_den) (sent_row E.base E.base_eq (window r) instance.lookups) (sent_row_under E.base E.base_eq (id_of instance.ids) (window r) instance.lookups)) (λ r. alike_row (window r)) (range_with_len 0 (height instance.traces.main)))
 
 module _ {F K : Type 0} {E : Extension F K} (laws : IsLawful E) (table : ChallengeTable K) (instance : Instance F) (fitting : IsFitting instance) where
   abbrev cold : List K → Key F → K

@@ -12,8 +12,7 @@ use Rattle.lookup_model.specs.Net.{keys, net}
 use Rattle.lookup_model.specs.Plain.{net_sum, plain_fraction, plain_terminal, quotient, trace_messages}
 use Rattle.lookup_model.specs.Sent.{Sent}
 use Rattle.lookup_model.proofs.Lookups.KeyLaws.{same_key-Decides}
-use Rattle.lookup_model.proofs.Lookups.Nets.{regrouped}
-use Rattle.lookup_model.proofs.Lookups.Regrouping.{Holds, first_seen_separate, first_seen_holds}
+use Rattle.lookup_model.proofs.Lookups.Regrouping.{regrouped, Holds, first_seen_separate, first_seen_holds}
 use Rattle.lookup_model.proofs.SumLaws.{sum_in-append, sum_in-filter}
 
 module _ {F K : Type 0} {E : Extension F K} (laws : IsLawful E) (denominator : Key F → K) where

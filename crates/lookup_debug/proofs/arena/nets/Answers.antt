@@ -3,7 +3,7 @@ use Rattle.std.proofs.lemmas.List.{take_all}
 use Rattle.lookup_debug.specs.Arena.{span_amount}
 use Rattle.lookup_debug.specs.declared.arena.TupleSpan.{TupleSpan}
 use Rattle.lookup_debug.specs.Nets.{amount_nets}
-use Rattle.lookup_debug.proofs.SpanNets.{span_more}
+use Rattle.lookup_debug.proofs.SpanLaws.{span_more}
 use Rattle.lookup_debug.proofs.arena.nets.Goals as goal
 
 -- the span that is read of a list with the same items

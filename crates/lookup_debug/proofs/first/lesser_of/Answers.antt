@@ -1,6 +1,6 @@
 use Rattle.std.proofs.Common.{not, ap, sym, subst, ◌∙◌}
 use Rattle.lookup_debug.specs.Nets.{IsFirstIndex}
-use Rattle.lookup_debug.proofs.LeastSteps.{best_past_failing, first_passing, lesser_is_least, least_stays, Less-from_eq, Less-from_ne}
+use Rattle.lookup_debug.proofs.FirstMismatch.{best_past_failing, first_passing, lesser_is_least, least_stays, Less-from_eq, Less-from_ne}
 use Rattle.lookup_debug.proofs.first.lesser_of.Goals as goal
 
 pub returns-then-eq : goal.returns-then-eq
