@@ -1,5 +1,5 @@
 -- The item at an index, and the items before it.
-use Rattle.std.proofs.Common.{◌≡◌, ◌⊎◌, ℕ, zero, suc, ◌+◌, ◌<◌, ◌≤◌, inl, inr, Option, None, Some, List, [], ◌∷◌, ◌++◌, length, take, drop, get_or, refl, sym, ap, subst, ◌∙◌, arith}
+use Rattle.std.proofs.Common.{◌≡◌, ◌⊎◌, ℕ, zero, suc, ◌+◌, ◌<◌, ◌≤◌, inl, inr, Option, None, Some, List, [], ◌∷◌, ◌++◌, length, take, drop, get_or, refl, sym, ap, subst₂, ◌∙◌, arith}
 use Rattle.std.proofs.lemmas.Bool.{cases_lt}
 use Rattle.std.proofs.lemmas.List.{append_assoc, map-id, take_all, take_more, take-append-drop}
 use Rattle.std.proofs.lemmas.List.FromFn.{get_or-enumerate_from, get_or-range_with_len, length-enumerate_from, length-range_with_len, map-range_with_len_more}
@@ -84,6 +84,21 @@ module _ {A : Type 0} where
   pub split_more : (all done left later : List A) (x : A) → all ≡ done ++ left → left ≡ x ∷ later → all ≡ (done ++ x ∷ []) ++ later
   split_more all done left later x whole next = rw append_assoc (split_here all done left later x whole next)
 
+module _ {A : Type 0} (P : ℕ → A → Type 0) (xs : List A) where
+  -- what holds of each of the first n indices and the item there
+  abbrev pub HoldsAtBelow : ℕ → Type 0
+  HoldsAtBelow n = (k : ℕ) (y : A) → k < n → slice_get xs k ≡ Some y → P k y
+
+  -- one index more
+  pub holds_at_next : (i : ℕ) (x : A) → slice_get xs i ≡ Some x → P i x → HoldsAtBelow i → HoldsAtBelow (i + 1)
+  holds_at_next i x x_there here so_far k y below there = elim (cases_lt k i) [
+    | inl earlier ↦ so_far k y earlier there
+    | inr late ↦
+        let same : i ≡ k = omega (arith, late, below) in
+        let x_is : x ≡ y = some_is x y (sym x_there ∙ ap (slice_get xs) same ∙ there) in
+        subst₂ P same x_is here
+  ]
+
 module _ {A : Type 0} (P : A → Type 0) (xs : List A) where
   -- what holds of the items at the first n indices
   abbrev pub HoldsBelow : ℕ → Type 0
@@ -91,15 +106,7 @@ module _ {A : Type 0} (P : A → Type 0) (xs : List A) where
 
   -- one index more
   pub holds_next : (i : ℕ) (x : A) → slice_get xs i ≡ Some x → P x → HoldsBelow i → HoldsBelow (i + 1)
-  holds_next i x x_there here so_far k y below there = by_index (cases_lt k i)
-    where
-      by_index : (k < i) ⊎ (i ≤ k) → P y
-      by_index (inl earlier) = so_far k y earlier there
-      by_index (inr late) =
-          let same : k ≡ i = omega (arith, late, below) in
-          let y_there : slice_get xs i ≡ Some y = subst (λ (n : ℕ). slice_get xs n ≡ Some y) same there in
-          let x_is : x ≡ y = cc (sym x_there ∙ y_there) in
-          subst P x_is here
+  holds_next i x x_there here so_far = holds_at_next (λ k y. P y) xs i x x_there here so_far
 
 -- a range goes on
 pub range_more : (a n : ℕ) → range_with_len a (n + 1) ≡ range_with_len a n ++ (a + n) ∷ []

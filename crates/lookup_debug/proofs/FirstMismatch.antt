@@ -9,7 +9,7 @@ use Rattle.std.specs.Cmp.Lexicographic.{lists_total, nat_list_cmp_total, pointwi
 use Rattle.std.specs.List.{filter, list_any}
 use Rattle.std.proofs.lemmas.Option.{slice_get_within}
 use Rattle.std.proofs.lemmas.Slice.Eq.{slice_eq-Decides}
-use Rattle.lists.proofs.Items.{holds_next, some_is}
+use Rattle.lists.proofs.Items.{holds_at_next, holds_next, some_is}
 use Rattle.lists.proofs.Images.{map_at, from_map}
 use Rattle.field.specs.Ring.{Ring, IsCommutativeRing}
 use Rattle.lookup_model.specs.Net.{first_seen}
@@ -19,13 +19,6 @@ use Rattle.lookup_debug.specs.Least.{IsLeast, NonePasses}
 use Rattle.lookup_debug.specs.Nets.{IsFirstIndex, tuple_entries}
 use Rattle.lookup_debug.specs.Contributions.{Contribution}
 use Rattle.lookup_debug.proofs.AmountNets.{tuple_nets}
-
--- a number below the next one
-less_or_last : (j n : ℕ) → j < n + 1 → (j < n) ⊎ (j ≡ n)
-less_or_last j n lt = elim (cases_lt j n) [
-  | inl less ↦ inl less
-  | inr past ↦ inr (omega (arith, past, lt))
-]
 
 -- two numbers compared
 pub three_ways : (j i : ℕ) → (j < i) ⊎ ((j ≡ i) ⊎ (i < j))
@@ -67,10 +60,8 @@ module _ {F : Type 0} (R : Ring F) (eq : F → F → Bool) (text : F → List �
     within = omega (arith, least.within);
     passing = least.passing;
     before = least.before;
-    after = λ j e later lt here passing. elim (less_or_last j n lt) [
-      | inl less ↦ least.after j e later less here passing
-      | inr is ↦ absurd (true≢false (sym passing ∙ ap (λ (p : Bor (List F) × F). passes p.1) (some_is e last (sym here ∙ ap (slice_get es) is ∙ at)) ∙ fails))
-    ];
+    after = λ j e later lt here. holds_at_next (λ m f. i < m → passes f.1 ≡ true → order least.entry.0 f.0 ≢ Greater) es n last at
+        (λ _ so. absurd (true≢false (sym so ∙ fails))) (λ m f below there above. least.after m f above below there) j e lt here later;
   }
 
   -- the first that passes is the least
@@ -119,13 +110,9 @@ module _ {F : Type 0} (R : Ring F) (eq : F → F → Bool) (text : F → List �
     within = omega (arith, least.within);
     passing = least.passing;
     before = least.before;
-    after = λ j e later lt here passing. elim (less_or_last j n lt) [
-      | inl less ↦ least.after j e later less here passing
-      | inr is ↦ λ greater. not_less (
-          ap (λ (p : Bor (List F) × F). order last.0 p.0) (some_is other least.entry (sym there ∙ least.there))
-          ∙ total.antisymm last.0 least.entry.0
-          ∙ ap ordering_reverse (ap (λ (p : Bor (List F) × F). order least.entry.0 p.0) (some_is last e (sym at ∙ ap (slice_get es) (sym is) ∙ here)) ∙ greater))
-    ];
+    after = λ j e later lt here. holds_at_next (λ m f. i < m → passes f.1 ≡ true → order least.entry.0 f.0 ≢ Greater) es n last at
+        (λ _ so greater. not_less (ap (λ (p : Bor (List F) × F). order last.0 p.0) (some_is other least.entry (sym there ∙ least.there)) ∙ total.antisymm last.0 least.entry.0 ∙ ap ordering_reverse greater))
+        (λ m f below at_m above. least.after m f above below at_m) j e lt here later;
   }
 
 module _ {F : Type 0} (text : F → List ℕ) where

@@ -1,6 +1,5 @@
 -- Counts: all but few betas leave few alphas at which a batch that does not balance is accepted.
 pub mod AcceptingAlphas
-pub mod BadAlphas
 pub mod BetaPolynomials
 pub mod DistinctLists
 pub mod JointPairs
