@@ -1,7 +1,6 @@
 -- Chains of assertions, one expression at a time.
-use Rattle.std.proofs.Common.{◌≡◌, List, [], ◌∷◌, ◌++◌, inl, inr, refl, subst, sym, ap, ◌∙◌, append_assoc}
+use Rattle.std.proofs.Common.{◌≡◌, List, [], ◌∷◌, ◌++◌, inl, inr, refl, subst, sym, ap, ◌∙◌}
 use Rattle.std.specs.Prelude.{Result, Ok, Err, MatchResult, OnOk}
-use Rattle.lists.proofs.Items.{split_here}
 use Rattle.expressions.specs.Builder.{AcceptsAll, RefusesOne}
 use Rattle.expressions.specs.declared.error.AirError.{AirError}
 

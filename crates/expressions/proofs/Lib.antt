@@ -1,2 +1,3 @@
 pub mod Assertions
 pub mod Cells
+pub mod FirstFaults

@@ -1,9 +1,9 @@
 -- What holds of each item of a list: by recursion, which lemmas take apart, and by index (`All`), as loops have it.
-use Rattle.std.proofs.Common.{◌≡◌, ℕ, zero, suc, ◌+◌, ◌<◌, ◌≤◌, Bool, true, false, cond, Some, List, [], ◌∷◌, ◌++◌, All, length, map, take, get_or, refl, sym, ap, subst, ◌∙◌, arith}
+use Rattle.std.proofs.Common.{◌≡◌, ℕ, zero, suc, ◌+◌, ◌<◌, ◌≤◌, Bool, true, false, cond, ◌||◌, Some, List, [], ◌∷◌, ◌++◌, All, length, map, take, get_or, refl, sym, ap, subst, ◌∙◌, arith}
 use Rattle.std.proofs.lemmas.List.{get_or-map, length-map, map_push}
 use Rattle.std.proofs.lemmas.List.Elements.{All-append, All-head, All-nil, All-push, All-tail}
 use Rattle.std.proofs.lemmas.Option.{slice_get-get_or, slice_get_within}
-use Rattle.std.specs.List.{AllByRecursion, filter, flat_map, range_with_len, slice_get}
+use Rattle.std.specs.List.{AllByRecursion, filter, flat_map, list_any, range_with_len, slice_get}
 use Rattle.lists.proofs.Items.{HoldsBelow, take_item}
 
 module _ {A : Type 0} (P : A → Type 0) where
@@ -92,6 +92,15 @@ filter_passes p (x ∷ xs) = by_test (p x) refl (filter_passes p xs)
     by_test : (b : Bool) → p x ≡ b → AllByRecursion (λ y. p y ≡ true) (filter p xs) → AllByRecursion (λ y. p y ≡ true) (cond b (x ∷ filter p xs) (filter p xs))
     by_test true e rest = (e, rest)
     by_test false e rest = rest
+
+-- where no item passes a test each fails it
+pub none_any : {A : Type 0} (p : A → Bool) (xs : List A) → list_any p xs ≡ false → AllByRecursion (λ x. p x ≡ false) xs
+none_any p [] none = tt
+none_any p (x ∷ xs) none = by_test (p x) refl none (none_any p xs)
+  where
+    by_test : (b : Bool) → p x ≡ b → (b || list_any p xs) ≡ false → (list_any p xs ≡ false → AllByRecursion (λ y. p y ≡ false) xs) → AllByRecursion (λ y. p y ≡ false) (x ∷ xs)
+    by_test true e none rest = absurd (cc none)
+    by_test false e none rest = (e, rest none)
 
 -- what holds at each number of a range
 pub all_range : (P : ℕ → Type 0) (a m : ℕ) → ((r : ℕ) → r < a + m → P r) → AllByRecursion P (range_with_len a m)

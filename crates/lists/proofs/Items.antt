@@ -1,5 +1,5 @@
 -- The item at an index, and the items before it.
-use Rattle.std.proofs.Common.{◌≡◌, ◌⊎◌, ℕ, zero, suc, ◌+◌, ◌<◌, ◌≤◌, inl, inr, Option, None, Some, List, [], ◌∷◌, ◌++◌, length, take, drop, get_or, refl, sym, ap, subst, ◌∙◌, arith}
+use Rattle.std.proofs.Common.{◌≡◌, ◌⊎◌, ℕ, zero, suc, ◌+◌, ◌<◌, ◌≤◌, inl, inr, Option, None, Some, List, [], ◌∷◌, ◌++◌, length, take, drop, get_or, refl, sym, ap, subst₂, ◌∙◌, arith}
 use Rattle.std.proofs.lemmas.Bool.{cases_lt}
 use Rattle.std.proofs.lemmas.List.{append_assoc, map-id, take_all, take_more, take-append-drop}
 use Rattle.std.proofs.lemmas.List.FromFn.{get_or-enumerate_from, get_or-range_with_len, length-enumerate_from, length-range_with_len, map-range_with_len_more}
@@ -25,7 +25,13 @@ module _ {A : Type 0} where
   pub read_is : (xs : List A) (i : ℕ) (x y : A) → slice_get xs i ≡ Some y → x ≡ get_or xs i x → y ≡ x
   read_is xs i x y there is = sym (get_or_from_slice_get xs i y x there) ∙ sym is
 
-  -- the first item stays where more comes behind
+  -- the items of a list stay where more comes behind
+  pub slice_get-front : (xs ys : List A) (i : ℕ) → i < length xs → slice_get (xs ++ ys) i ≡ slice_get xs i
+  slice_get-front [] ys i lt = absurd (omega (arith, lt))
+  slice_get-front (x ∷ xs) ys zero lt = refl
+  slice_get-front (x ∷ xs) ys (suc i) lt = slice_get-front xs ys i (omega (arith, lt))
+
+  -- so does the first one
   pub first_stays : (xs ys : List A) (x : A) → slice_get xs 0 ≡ Some x → slice_get (xs ++ ys) 0 ≡ Some x
   first_stays [] ys x e = absurd (cc e)
   first_stays (y ∷ xs) ys x e = e
@@ -78,6 +84,21 @@ module _ {A : Type 0} where
   pub split_more : (all done left later : List A) (x : A) → all ≡ done ++ left → left ≡ x ∷ later → all ≡ (done ++ x ∷ []) ++ later
   split_more all done left later x whole next = rw append_assoc (split_here all done left later x whole next)
 
+module _ {A : Type 0} (P : ℕ → A → Type 0) (xs : List A) where
+  -- what holds of each of the first n indices and the item there
+  abbrev pub HoldsAtBelow : ℕ → Type 0
+  HoldsAtBelow n = (k : ℕ) (y : A) → k < n → slice_get xs k ≡ Some y → P k y
+
+  -- one index more
+  pub holds_at_next : (i : ℕ) (x : A) → slice_get xs i ≡ Some x → P i x → HoldsAtBelow i → HoldsAtBelow (i + 1)
+  holds_at_next i x x_there here so_far k y below there = elim (cases_lt k i) [
+    | inl earlier ↦ so_far k y earlier there
+    | inr late ↦
+        let same : i ≡ k = omega (arith, late, below) in
+        let x_is : x ≡ y = some_is x y (sym x_there ∙ ap (slice_get xs) same ∙ there) in
+        subst₂ P same x_is here
+  ]
+
 module _ {A : Type 0} (P : A → Type 0) (xs : List A) where
   -- what holds of the items at the first n indices
   abbrev pub HoldsBelow : ℕ → Type 0
@@ -85,15 +106,7 @@ module _ {A : Type 0} (P : A → Type 0) (xs : List A) where
 
   -- one index more
   pub holds_next : (i : ℕ) (x : A) → slice_get xs i ≡ Some x → P x → HoldsBelow i → HoldsBelow (i + 1)
-  holds_next i x x_there here so_far k y below there = by_index (cases_lt k i)
-    where
-      by_index : (k < i) ⊎ (i ≤ k) → P y
-      by_index (inl earlier) = so_far k y earlier there
-      by_index (inr late) =
-          let same : k ≡ i = omega (arith, late, below) in
-          let y_there : slice_get xs i ≡ Some y = subst (λ (n : ℕ). slice_get xs n ≡ Some y) same there in
-          let x_is : x ≡ y = cc (sym x_there ∙ y_there) in
-          subst P x_is here
+  holds_next i x x_there here so_far = holds_at_next (λ k y. P y) xs i x x_there here so_far
 
 -- a range goes on
 pub range_more : (a n : ℕ) → range_with_len a (n + 1) ≡ range_with_len a n ++ (a + n) ∷ []
@@ -119,6 +132,10 @@ module _ {A : Type 0} where
   numbered_at n [] i x e = absurd (cc e)
   numbered_at n (y ∷ ys) zero x e = let same : n ≡ n + 0 = omega arith in λ i. Some (same i, some_is y x e i)
   numbered_at n (y ∷ ys) (suc i) x e = let same : n + 1 + i ≡ n + suc i = omega arith in numbered_at (n + 1) ys i x e ∙ (λ j. Some (same j, x))
+
+-- and with its index, where the first has number 0
+pub numbered_there : {A : Type 0} (xs : List A) (i : ℕ) (x : A) → slice_get xs i ≡ Some x → slice_get (enumerate_from 0 xs) i ≡ Some (i, x)
+numbered_there xs i x e = let same : 0 + i ≡ i = omega arith in numbered_at 0 xs i x e ∙ (λ j. Some (same j, x))
 
 module _ {A : Type 0} (xs : List A) (i : ℕ) (x : A) (lt : i < length xs) (is : x ≡ get_or xs i x) where
   pub numbered_read : (i, x) ≡ get_or (enumerate_from 0 xs) i (i, x)

@@ -1,10 +1,10 @@
 -- Two lists side by side: their pairs, and relations of them item by item.
-use Rattle.std.proofs.Common.{◌≡◌, ℕ, zero, suc, ◌+◌, ◌<◌, ◌≤◌, ◌⊎◌, inl, inr, Some, List, [], ◌∷◌, ◌++◌, All, length, map, take, get_or, refl, sym, ap, subst, subst₂, ◌∙◌, arith}
+use Rattle.std.proofs.Common.{◌≡◌, ℕ, zero, suc, ◌+◌, ◌<◌, ◌≤◌, ◌⊎◌, inl, inr, Bool, true, false, cond, Some, List, [], ◌∷◌, ◌++◌, All, length, map, take, get_or, refl, sym, ap, subst, subst₂, ◌∙◌, arith}
 use Rattle.std.proofs.lemmas.Bool.{cases_lt}
 use Rattle.std.proofs.lemmas.List.{get_or-map, length-map, take_more}
 use Rattle.std.proofs.lemmas.List.Elements.{All-cons, All-nil}
 use Rattle.std.proofs.lemmas.Slice.Zip.{AllZip-long, all_zipped_more, get_or-zip, length-zip}
-use Rattle.std.specs.List.{AllByRecursion, AllZip, flat_map, range_with_len, slice_get, zip}
+use Rattle.std.specs.List.{AllByRecursion, AllZip, filter, flat_map, range_with_len, slice_get, zip}
 use Rattle.lists.proofs.Items.{take_item}
 
 module _ {A B : Type 0} where
@@ -152,6 +152,27 @@ module _ {A B : Type 0} (R : A → B → Type 0) where
   AllZip-same_parts f g same [] (y ∷ ys) h = absurd h
   AllZip-same_parts f g same (x ∷ xs) [] h = absurd h
   AllZip-same_parts f g same (x ∷ xs) (y ∷ ys) h = λ i. same x y h.0 i ++ AllZip-same_parts f g same xs ys h.1 i
+
+  -- the items that pass tests which agree
+  pub AllZip-filter : (p : A → Bool) (q : B → Bool) → ((x : A) (y : B) → R x y → p x ≡ q y) → (xs : List A) (ys : List B) → AllZip R xs ys → AllZip R (filter p xs) (filter q ys)
+  AllZip-filter p q agree [] [] h = tt
+  AllZip-filter p q agree [] (y ∷ ys) h = absurd h
+  AllZip-filter p q agree (x ∷ xs) [] h = absurd h
+  AllZip-filter p q agree (x ∷ xs) (y ∷ ys) h = by_tests (p x) (q y) (agree x y h.0) (AllZip-filter p q agree xs ys h.1)
+    where
+      by_tests : (b d : Bool) → b ≡ d → AllZip R (filter p xs) (filter q ys) → AllZip R (cond b (x ∷ filter p xs) (filter p xs)) (cond d (y ∷ filter q ys) (filter q ys))
+      by_tests true true e rest = (h.0, rest)
+      by_tests true false e rest = absurd (cc e)
+      by_tests false true e rest = absurd (cc e)
+      by_tests false false e rest = rest
+
+  -- beside the items of one more list
+  pub AllZip-zip : {T : Type 0} (ts : List T) (xs : List A) (ys : List B) → AllZip R xs ys → AllZip (λ p q. (p.0 ≡ q.0) × R p.1 q.1) (zip ts xs) (zip ts ys)
+  AllZip-zip [] xs ys h = tt
+  AllZip-zip (t ∷ ts) [] [] h = tt
+  AllZip-zip (t ∷ ts) [] (y ∷ ys) h = absurd h
+  AllZip-zip (t ∷ ts) (x ∷ xs) [] h = absurd h
+  AllZip-zip (t ∷ ts) (x ∷ xs) (y ∷ ys) h = ((refl, h.0), AllZip-zip ts xs ys h.1)
 
 module _ {A B : Type 0} (R : A → B → Type 0) where
   -- a relation of images

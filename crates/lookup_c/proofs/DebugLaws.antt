@@ -15,7 +15,7 @@ use Rattle.lookup_tables.specs.declared.traces.Traces.{Traces}
 use Rattle.lookup_c.specs.BatchTables.{AreBatchTraces}
 use Rattle.lookup_c.specs.DebugCheck.{AreTableSets, ChecksTables, ChecksTraced, IsCallRefusal, IsMisfitAt, IsMismatchRefusal, IsUnfitAmong, all_traced, traced_tables}
 use Rattle.lookup_c.specs.declared.fault.Fault.{Fault}
-use Rattle.lookup_c.proofs.FirstFaults.{first_fault}
+use Rattle.expressions.proofs.FirstFaults.{first_fault}
 
 long : (sets : List (Lookups BabyBear)) (traces : List ReadTraces) → length sets ≡ length traces → length (all_traced sets traces) ≡ length sets
 long [] traces same = refl

@@ -1,7 +1,6 @@
 pub mod AnswerLaws
 pub mod BatchLaws
 pub mod DebugLaws
-pub mod FirstFaults
 pub mod GenerateLaws
 pub mod RefusalLaws
 pub mod TableWriting

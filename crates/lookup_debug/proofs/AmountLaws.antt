@@ -1,16 +1,15 @@
 -- What a lookup contributes, branch by branch and row by row.
-use Rattle.std.proofs.Common.{◌≡◌, ℕ, ◌+◌, ◌<◌, Bool, Option, None, Some, inl, inr, List, refl, [], ◌∷◌, ◌++◌, get_or, length, not, slice_get, take, ap, subst, sym, append_assoc, ◌∙◌, arith}
-use Rattle.std.proofs.lemmas.Grind.{flat_map-append}
-use Rattle.std.proofs.lemmas.List.{append-nil, length-map, map-id, map_more}
+use Rattle.std.proofs.Common.{◌≡◌, ℕ, ◌+◌, ◌<◌, Bool, Option, None, Some, List, refl, [], ◌∷◌, ◌++◌, get_or, length, not, slice_get, take, ap, subst, sym, ◌∙◌, arith}
+use Rattle.std.proofs.lemmas.List.{length-map}
 use Rattle.std.proofs.lemmas.List.Elements.{filter-append}
-use Rattle.std.proofs.lemmas.List.FromFn.{map-range_with_len_more}
-use Rattle.std.proofs.lemmas.Option.{get_or_from_slice_get, slice_get_cases, slice_get_read}
+use Rattle.std.proofs.lemmas.Option.{get_or_from_slice_get}
 use Rattle.std.specs.List.{flat_map, range_with_len}
 use Rattle.std.specs.Option.{ForSome, option_map}
 use Rattle.std.specs.declared.alloc.Global.{Global}
 use Rattle.std.specs.declared.vec.Vec.{Vec}
 use Rattle.lists.proofs.Parts.{flat_more}
 use Rattle.lists.proofs.Images.{mapped_at}
+use Rattle.lists.proofs.Items.{item_at, item_there}
 use Rattle.lists.proofs.Zips.{length-zipped, zipped_at, zipped_more}
 use Rattle.air.specs.Traces.{window_of}
 use Rattle.expressions.specs.Window.{Window}
@@ -26,17 +25,6 @@ use Rattle.lookup_debug.specs.Contributions.{Contribution, SentLocation, Traced,
 use Rattle.lookup_debug.specs.Walks.{IsWalk}
 use Rattle.lookup_debug.specs.declared.arena.Contributions.{Contributions}
 use Rattle.lookup_debug.proofs.SpanLaws.{appends-more}
-
--- the values of one more element of a tuple
-pub values_step : {F : Type 0} (R : Ring F) (w : Window F) (es : List (SymbolicExpression F)) (i : ℕ) (e : SymbolicExpression F) (v : F) (before now after : List F)
-    → i < length es → e ≡ get_or es i e → v ≡ value R w e
-    → now ≡ before ++ values R w (take i es) → after ≡ now ++ v ∷ []
-    → after ≡ before ++ values R w (take (i + 1) es)
-values_step R w es i e v before now after lt is v_is so_far this =
-    this
-    ∙ (λ k. so_far k ++ v_is k ∷ [])
-    ∙ append_assoc before (values R w (take i es)) (value R w e ∷ [])
-    ∙ ap (λ t. before ++ t) (sym (map_more (value R w) es i e lt ∙ ap (λ x. values R w (take i es) ++ value R w x ∷ []) (sym is)))
 
 module _ {F : Type 0} (R : Ring F) (eq : F → F → Bool) (location : SentLocation) where
   -- one more branch with its amount
@@ -101,20 +89,18 @@ module _ {F : Type 0} (R : Ring F) (eq : F → F → Bool) (location : SentLocat
 
     -- each branch has an amount
     pub size_there : (i : ℕ) → i < length lookup.elements.items → (amount : F) × (slice_get sizes i ≡ Some amount)
-    size_there i lt = elim (slice_get_cases sizes i).1 [
-      | inl a ↦ (a.0, a.2)
-      | inr past ↦ absurd (omega (arith, lt, past.0, as_many_sizes, length-branches_at R w 0 lookup lengths))
-    ]
+    size_there i lt =
+        let below : i < length sizes = omega (arith, lt, as_many_sizes, length-branches_at R w 0 lookup lengths) in
+        let (amount, is) = item_at sizes i below in
+        (amount, item_there sizes i amount below is)
 
     -- one more branch with its amount
     pub sized_more : (i : ℕ) (tuple : Vec (SymbolicExpression F) Global) → i < length lookup.elements.items → tuple ≡ get_or lookup.elements.items i tuple
         → (amount : F) → slice_get sizes i ≡ Some amount
         → nonzero R eq (take (i + 1) (contributions_from location branches sizes)) ≡ nonzero R eq (take i (contributions_from location branches sizes)) ++ nonzero R eq (record { tuple = values R w tuple.items; amount = amount; location = location } ∷ [])
-    sized_more i tuple lt tuple_is amount there = elim (slice_get_cases lookup.multiplicities.items i).1 [
-      | inl m ↦
-          from_more branches sizes as_many_sizes i (branch i tuple m.0 lt tuple_is (sym m.3)) amount (within i tuple m.0 lt tuple_is (sym m.3)) (branch_is i tuple m.0 lt tuple_is (sym m.3)) (sym (get_or_from_slice_get sizes i amount amount there))
-      | inr past ↦ absurd (omega (arith, lt, past.0, lengths.multiplicities))
-    ]
+    sized_more i tuple lt tuple_is amount there =
+        let (m, m_is) = item_at lookup.multiplicities.items i (omega (arith, lt, lengths.multiplicities)) in
+        from_more branches sizes as_many_sizes i (branch i tuple m lt tuple_is m_is) amount (within i tuple m lt tuple_is m_is) (branch_is i tuple m lt tuple_is m_is) (sym (get_or_from_slice_get sizes i amount amount there))
 
     -- so it is once the branch is appended
     pub sized_step : (i : ℕ) (tuple : Vec (SymbolicExpression F) Global) → i < length lookup.elements.items → tuple ≡ get_or lookup.elements.items i tuple
@@ -131,13 +117,11 @@ module _ {F : Type 0} (R : Ring F) (eq : F → F → Bool) (location : SentLocat
     module _ (i : ℕ) (multiplicity : SymbolicExpression F) (lt : i < length lookup.elements.items) (multiplicity_is : multiplicity ≡ get_or lookup.multiplicities.items i multiplicity) where
       -- without flags the amount of a branch is its multiplicity
       pub size_counted : lookup.flags ≡ None → slice_get sizes i ≡ Some (value R w multiplicity)
-      size_counted none = elim (slice_get_cases lookup.elements.items i).1 [
-        | inl t ↦
-            subst (λ (o : Option (Vec (SymbolicExpression F) Global)). slice_get (amounts R (option_map (λ fs. values R w fs.items) o) branches) i ≡ Some (value R w multiplicity)) (sym none)
-            (slice_get_read counts (length counts) i (value R w multiplicity) refl (omega (arith, within i t.0 multiplicity lt (sym t.3) multiplicity_is, as_many_counts))
-            (mapped_at (λ (m : Message F). m.multiplicity) branches i (branch i t.0 multiplicity lt (sym t.3) multiplicity_is) (within i t.0 multiplicity lt (sym t.3) multiplicity_is) (branch_is i t.0 multiplicity lt (sym t.3) multiplicity_is)))
-        | inr past ↦ absurd (omega (arith, lt, past.0))
-      ]
+      size_counted none =
+          let (t, t_is) = item_at lookup.elements.items i lt in
+          subst (λ (o : Option (Vec (SymbolicExpression F) Global)). slice_get (amounts R (option_map (λ fs. values R w fs.items) o) branches) i ≡ Some (value R w multiplicity)) (sym none)
+          (item_there counts i (value R w multiplicity) (omega (arith, within i t multiplicity lt t_is multiplicity_is, as_many_counts))
+          (mapped_at (λ (m : Message F). m.multiplicity) branches i (branch i t multiplicity lt t_is multiplicity_is) (within i t multiplicity lt t_is multiplicity_is) (branch_is i t multiplicity lt t_is multiplicity_is)))
 
       -- and with flags it is flag times multiplicity
       pub size_flagged : (flags : Vec (SymbolicExpression F) Global) → lookup.flags ≡ Some flags → (flag : SymbolicExpression F) → flag ≡ get_or flags.items i flag
@@ -145,14 +129,12 @@ module _ {F : Type 0} (R : Ring F) (eq : F → F → Bool) (location : SentLocat
       size_flagged flags some flag flag_is =
           let number = lengths.flags flags some in
           let amount = R.mul (value R w flag) (value R w multiplicity) in
-          elim (slice_get_cases lookup.elements.items i).1 [
-            | inl t ↦
-                subst (λ (o : Option (Vec (SymbolicExpression F) Global)). slice_get (amounts R (option_map (λ fs. values R w fs.items) o) branches) i ≡ Some amount) (sym some)
-                (slice_get_read (flagged flags.items number) (length (flagged flags.items number)) i amount refl (omega (arith, within i t.0 multiplicity lt (sym t.3) multiplicity_is, as_many_flagged flags.items number))
-                (zipped_at (λ (b : F × Message F). R.mul b.0 b.1.multiplicity) (values R w flags.items) branches (as_many_flags flags.items number) i (value R w flag) (branch i t.0 multiplicity lt (sym t.3) multiplicity_is)
-                (omega (arith, within i t.0 multiplicity lt (sym t.3) multiplicity_is, as_many_flags flags.items number)) (mapped_at (value R w) flags.items i flag (omega (arith, lt, number)) flag_is) (branch_is i t.0 multiplicity lt (sym t.3) multiplicity_is)))
-            | inr past ↦ absurd (omega (arith, lt, past.0))
-          ]
+          let (t, t_is) = item_at lookup.elements.items i lt in
+          let below = within i t multiplicity lt t_is multiplicity_is in
+          subst (λ (o : Option (Vec (SymbolicExpression F) Global)). slice_get (amounts R (option_map (λ fs. values R w fs.items) o) branches) i ≡ Some amount) (sym some)
+          (item_there (flagged flags.items number) i amount (omega (arith, below, as_many_flagged flags.items number))
+          (zipped_at (λ (b : F × Message F). R.mul b.0 b.1.multiplicity) (values R w flags.items) branches (as_many_flags flags.items number) i (value R w flag) (branch i t multiplicity lt t_is multiplicity_is)
+          (omega (arith, below, as_many_flags flags.items number)) (mapped_at (value R w) flags.items i flag (omega (arith, lt, number)) flag_is) (branch_is i t multiplicity lt t_is multiplicity_is)))
 
 -- One more row, which is that of this window.
 pub row_step : {F A : Type 0} {Ready : A → Type 0} {Does : A → A → List (Contribution F) → Type 0} (walk : IsWalk Ready Does) (R : Ring F) (eq : F → F → Bool) (instance index : ℕ) (t : Traced F) (lookup : Lookup F) (row : ℕ)

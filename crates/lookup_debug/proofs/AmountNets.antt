@@ -1,16 +1,18 @@
 -- The nets of tuples with amounts.
-use Rattle.std.proofs.Common.{◌≡◌, ◌||◌, Bool, true, false, cond, not, List, [], ◌∷◌, ◌++◌, append_assoc, map, unwrap_or, refl, sym, ap, ◌∙◌, Decides}
-use Rattle.std.proofs.lemmas.List.{append-nil, map-append}
+use Rattle.std.proofs.Common.{◌≡◌, ◌||◌, Bool, false, cond, not, List, [], ◌∷◌, ◌++◌, append_assoc, map, unwrap_or, refl, sym, ap, ◌∙◌, Decides}
+use Rattle.std.proofs.lemmas.List.{append-nil, map-append, map-id}
 use Rattle.std.proofs.lemmas.Slice.Eq.{slice_eq-Decides}
 use Rattle.std.specs.Cmp.Lexicographic.{pointwise}
 use Rattle.std.specs.List.{AllByRecursion, filter, list_any}
 use Rattle.std.specs.Map.{lookup}
+use Rattle.lists.proofs.Each.{all_weaker}
+use Rattle.lists.proofs.Images.{filter_all, filter_images, map-map}
 use Rattle.indexmap.specs.IndexMap.{insert_entry}
 use Rattle.field.specs.Ring.{Ring, IsCommutativeRing}
 use Rattle.field.specs.Sums.{sum_in}
 use Rattle.lookup_model.specs.Net.{first_seen}
 use Rattle.lookup_model.proofs.Lookups.Regrouping.{IsSeparate, first_seen_separate}
-use Rattle.lookup_rows.proofs.NetEntries.{entries-push, net-lookup, net-none, net_in, turned}
+use Rattle.lookup_rows.proofs.NetEntries.{agree, entries-push, net-lookup, net-none, net_in, turned}
 use Rattle.lookup_debug.specs.Appended.{without_location}
 use Rattle.lookup_debug.specs.Contributions.{Contribution}
 use Rattle.lookup_debug.specs.Mismatch.{net_amount}
@@ -22,23 +24,12 @@ tuple_nets R eq cs = map (λ tuple. (tuple, net_amount R eq cs tuple)) (first_se
 
 module _ {F : Type 0} where
   tuples_without_location : (cs : List (Contribution F)) → map (λ a. a.0) (map without_location cs) ≡ map (λ c. c.tuple) cs
-  tuples_without_location [] = refl
-  tuples_without_location (c ∷ cs) = ap (λ t. c.tuple ∷ t) (tuples_without_location cs)
+  tuples_without_location cs = map-map (λ a. a.0) without_location cs
 
   -- the amounts of the tuples that pass a test
   amounts_without_location : (p : List F → Bool) (cs : List (Contribution F)) → map (λ a. a.1) (filter (λ a. p a.0) (map without_location cs)) ≡ map (λ c. c.amount) (filter (λ c. p c.tuple) cs)
-  amounts_without_location p [] = refl
-  amounts_without_location p (c ∷ cs) = by_test (p c.tuple) (amounts_without_location p cs)
-    where
-      rest : List (List F × F)
-      rest = filter (λ a. p a.0) (map without_location cs)
-
-      kept : List (Contribution F)
-      kept = filter (λ d. p d.tuple) cs
-
-      by_test : (b : Bool) → map (λ a. a.1) rest ≡ map (λ d. d.amount) kept → map (λ a. a.1) (cond b (without_location c ∷ rest) rest) ≡ map (λ d. d.amount) (cond b (c ∷ kept) kept)
-      by_test true e = ap (λ t. c.amount ∷ t) e
-      by_test false e = e
+  amounts_without_location p cs =
+      ap (map (λ a. a.1)) (filter_images without_location (λ c. p c.tuple) (λ a. p a.0) (λ c. refl) cs) ∙ map-map (λ a. a.1) without_location (filter (λ c. p c.tuple) cs)
 
 module _ {F : Type 0} {R : Ring F} (laws : IsCommutativeRing R) (eq : F → F → Bool) (eq_is : (a b : F) → Decides (eq a b) (a ≡ b)) where
   abbrev same : List F → List F → Bool
@@ -83,13 +74,9 @@ module _ {F : Type 0} {R : Ring F} (laws : IsCommutativeRing R) (eq : F → F �
       ∙ ap (amount_nets R eq) (sym (map-append without_location cs more))
 
   -- items that are separate are each seen once
-  seen_apart : (k : List F) (ks : List (List F)) → AllByRecursion (λ y. same k y ≡ false) ks → filter (λ y. not (same k y)) ks ≡ ks
-  seen_apart k [] h = refl
-  seen_apart k (y ∷ ys) h = ap (λ b. cond (not b) (y ∷ filter (λ z. not (same k z)) ys) (filter (λ z. not (same k z)) ys)) h.0 ∙ ap (λ t. y ∷ t) (seen_apart k ys h.1)
-
   seen_separate : (ks : List (List F)) → IsSeparate same ks → first_seen same ks ≡ ks
   seen_separate [] h = refl
-  seen_separate (k ∷ ks) h = ap (λ t. k ∷ filter (λ y. not (same k y)) t) (seen_separate ks h.1) ∙ ap (λ t. k ∷ t) (seen_apart k ks h.0)
+  seen_separate (k ∷ ks) h = ap (λ t. k ∷ filter (λ y. not (same k y)) t) (seen_separate ks h.1) ∙ ap (λ t. k ∷ t) (filter_all (λ y. not (same k y)) ks (all_weaker (λ y. same k y ≡ false) _ (λ y e. ap not e) ks h.0))
 
   module _ (f : List F → F) where
     -- tuples, each with its value
@@ -97,8 +84,7 @@ module _ {F : Type 0} {R : Ring F} (laws : IsCommutativeRing R) (eq : F → F �
     valued ks = map (λ k. (k, f k)) ks
 
     tuples_valued : (ks : List (List F)) → map (λ a. a.0) (valued ks) ≡ ks
-    tuples_valued [] = refl
-    tuples_valued (k ∷ ks) = ap (λ t. k ∷ t) (tuples_valued ks)
+    tuples_valued ks = map-map (λ a. a.0) (λ k. (k, f k)) ks ∙ map-id ks
 
     none_same : (k : List F) (ks : List (List F)) → AllByRecursion (λ y. same k y ≡ false) ks → list_any (λ y. same y k) (map (λ a. a.0) (valued ks)) ≡ false
     none_same k [] h = refl
@@ -112,14 +98,13 @@ module _ {F : Type 0} {R : Ring F} (laws : IsCommutativeRing R) (eq : F → F �
         ∙ laws.add_zero (f k)
 
     -- and of the others
-    net_later : (k : List F) (ks ys : List (List F)) → AllByRecursion (λ y. same k y ≡ false) ys → map {B = List F × F} (λ y. (y, net_of (valued (k ∷ ks)) y)) ys ≡ map (λ y. (y, net_of (valued ks) y)) ys
-    net_later k ks [] h = refl
-    net_later k ks (y ∷ ys) h =
-        λ i. (y, ap (λ b. sum_in R (map (λ a. a.1) (cond b ((k, f k) ∷ filter (λ a. same y a.0) (valued ks)) (filter (λ a. same y a.0) (valued ks))))) (turned same decides y k ∙ h.0) i) ∷ net_later k ks ys h.1 i
+    net_later : (k : List F) (ks : List (List F)) (y : List F) → same k y ≡ false → net_of (valued (k ∷ ks)) y ≡ net_of (valued ks) y
+    net_later k ks y apart =
+        ap (λ b. sum_in R (map (λ a. a.1) (cond b ((k, f k) ∷ filter (λ a. same y a.0) (valued ks)) (filter (λ a. same y a.0) (valued ks))))) (turned same decides y k ∙ apart)
 
     nets_valued : (ks : List (List F)) → IsSeparate same ks → map {B = List F × F} (λ k. (k, net_of (valued ks) k)) ks ≡ valued ks
     nets_valued [] h = refl
-    nets_valued (k ∷ ks) h = λ i. (k, net_first k ks h.0 i) ∷ (net_later k ks ks h.0 ∙ nets_valued ks h.1) i
+    nets_valued (k ∷ ks) h = λ i. (k, net_first k ks h.0 i) ∷ (agree same decides (net_of (valued (k ∷ ks))) (net_of (valued ks)) k (net_later k ks) ks h.0 ∙ nets_valued ks h.1) i
 
     valued_once : (ks : List (List F)) → IsSeparate same ks → amount_nets R eq (valued ks) ≡ valued ks
     valued_once ks h =

@@ -1,19 +1,73 @@
--- The lookups of all AIRs, one after another.
-use Rattle.std.proofs.Common.{◌≡◌, ℕ, ◌+◌, ◌<◌, ◌≤◌, Bool, true, false, cond, List, [], ◌∷◌, ◌++◌, get_or, length, map, take, ap, refl, subst, sym, ◌∙◌, arith}
+-- The names of buses that a set holds, name by name, and the lookups of all AIRs, one after another.
+use Rattle.std.proofs.Common.{◌≡◌, Bool, cond, List, [], ◌∷◌, ◌++◌, ◌||◌, ◌+◌, ◌<◌, None, Option, Some, append_assoc, get_or, length, map, take, ℕ, refl, ap, sym, ◌∙◌, true, false, subst}
+use Rattle.std.proofs.lemmas.List.{append-nil, map-append, length-map}
+use Rattle.std.proofs.lemmas.List.Elements.{filter_map-append, filter-append}
+use Rattle.std.specs.Borrow.{Bor}
+use Rattle.std.specs.List.{cons_option, filter_map, list_any, enumerate_from, filter, flat_map}
 use Rattle.std.proofs.lemmas.Grind.{flat_map-append}
-use Rattle.std.proofs.lemmas.List.{append-nil, length-map, take_all}
-use Rattle.std.proofs.lemmas.List.Elements.{filter-append, filter_map-append}
-use Rattle.std.proofs.lemmas.List.FromFn.{get_or-enumerate_from, length-enumerate_from}
-use Rattle.std.specs.List.{cons_option, enumerate_from, filter, filter_map, flat_map}
+use Rattle.std.proofs.lemmas.List.FromFn.{length-enumerate_from}
+use Rattle.lists.proofs.Items.{take_item, numbered_read, numbered_within}
+use Rattle.lists.proofs.Parts.{flat_next}
 use Rattle.lists.proofs.Images.{mapped_more}
-use Rattle.lists.proofs.Items.{take_item, numbered_read, numbered_within, numbered_more}
 use Rattle.field.specs.Ring.{Ring}
+use Rattle.lookup_model.specs.Names.{same_name, is_named}
+use Rattle.lookup_model.specs.Net.{first_seen}
 use Rattle.lookup_model.specs.Outline.{bus_of}
 use Rattle.lookup_model.specs.declared.types.Lookup.{Lookup}
+use Rattle.lookup_model.proofs.Names.{same_name-Decides}
+use Rattle.lookup_rows.proofs.FirstSeen.{first_seen-push}
+use Rattle.lookup_rows.proofs.NetEntries.{any-first_seen, turned}
 use Rattle.lookup_debug.specs.Contributions.{Contribution, Traced, contributions_of}
 use Rattle.lookup_debug.specs.Groups.{LookupAt, is_on, lookup_contributions, lookups_in}
-use Rattle.lookup_model.specs.Names.{is_named}
 use Rattle.lookup_debug.specs.Walks.{IsWalk}
+use Rattle.indexmap.specs.IndexSet.{insert_key}
+
+-- a key that is seen through a view
+any-viewed : (k : List ℕ) (ks : List (Bor (List ℕ)))
+    → list_any (λ (b : Bor (List ℕ)). same_name k b.now) ks ≡ list_any (λ n. same_name n k) (map (λ (b : Bor (List ℕ)). b.now) ks)
+any-viewed k [] = refl
+any-viewed k (b ∷ ks) = λ i. turned same_name same_name-Decides k b.now i || any-viewed k ks i
+
+-- the names of a set after one more is inserted
+pub inserted : (seen : List (List ℕ)) (ks : List (Bor (List ℕ))) (k : Bor (List ℕ))
+    → map (λ (b : Bor (List ℕ)). b.now) ks ≡ first_seen same_name seen
+    → map (λ (b : Bor (List ℕ)). b.now) (insert_key (λ (a b : Bor (List ℕ)). same_name a.now b.now) ks k) ≡ first_seen same_name (seen ++ k.now ∷ [])
+inserted seen ks k so_far =
+    by_test (list_any (λ (b : Bor (List ℕ)). same_name k.now b.now) ks)
+    ∙ (λ i. cond (found i) (so_far i) (so_far i ++ k.now ∷ []))
+    ∙ sym (first_seen-push same_name same_name-Decides seen k.now)
+  where
+    by_test : (p : Bool)
+        → map (λ (b : Bor (List ℕ)). b.now) (cond p ks (ks ++ k ∷ [])) ≡ cond p (map (λ (b : Bor (List ℕ)). b.now) ks) (map (λ (b : Bor (List ℕ)). b.now) ks ++ k.now ∷ [])
+    by_test true = refl
+    by_test false = map-append (λ (b : Bor (List ℕ)). b.now) ks (k ∷ [])
+
+    found : list_any (λ (b : Bor (List ℕ)). same_name k.now b.now) ks ≡ list_any (λ n. same_name n k.now) seen
+    found =
+        any-viewed k.now ks ∙ ap (list_any (λ n. same_name n k.now)) so_far
+        ∙ any-first_seen same_name same_name-Decides seen k.now
+
+module _ {F : Type 0} (ls : List (Lookup F)) (i : ℕ) (l : Lookup F) where
+  abbrev buses : List (Lookup F) → List (List ℕ)
+  buses ks = filter_map (λ k. bus_of k.kind) ks
+
+  longer : i < length ls → l ≡ get_or ls i l
+      → buses (take (i + 1) ls) ≡ buses (take i ls) ++ cons_option (bus_of l.kind) []
+  longer lt is = ap buses (take_item ls i l lt is) ∙ filter_map-append (λ k. bus_of k.kind) (take i ls) (l ∷ [])
+
+  -- one more lookup on a bus adds its name
+  pub buses_more : (name : List ℕ) (seen : List (List ℕ)) → i < length ls → l ≡ get_or ls i l
+      → bus_of l.kind ≡ Some name
+      → (seen ++ buses (take i ls)) ++ name ∷ [] ≡ seen ++ buses (take (i + 1) ls)
+  buses_more name seen lt is on =
+      append_assoc seen (buses (take i ls)) (name ∷ [])
+      ∙ ap (λ t. seen ++ t) (sym (longer lt is ∙ ap (λ (o : Option (List ℕ)). buses (take i ls) ++ cons_option o []) on))
+
+  -- and a local one none
+  pub buses_skip : (seen : List (List ℕ)) → i < length ls → l ≡ get_or ls i l → bus_of l.kind ≡ None
+      → seen ++ buses (take i ls) ≡ seen ++ buses (take (i + 1) ls)
+  buses_skip seen lt is off =
+      ap (λ t. seen ++ t) (sym (longer lt is ∙ ap (λ (o : Option (List ℕ)). buses (take i ls) ++ cons_option o []) off ∙ append-nil (buses (take i ls))))
 
 -- what the items that pass give, of two lists one after the other
 chosen-append : {X A : Type 0} (p : X → Bool) (f : X → List A) (xs ys : List X)
@@ -41,10 +95,7 @@ module _ {F : Type 0} where
   -- the lookups of one more AIR
   all_lookups-more : (ts : List (Traced F)) (i : ℕ) (t : Traced F) → i < length ts → t ≡ get_or ts i t
       → flat_map lookups_in (take (i + 1) (enumerate_from 0 ts)) ≡ flat_map lookups_in (take i (enumerate_from 0 ts)) ++ lookups_in (i, t)
-  all_lookups-more ts i t lt is =
-      ap (flat_map lookups_in) (numbered_more ts i t lt is)
-      ∙ flat_map-append lookups_in (take i (enumerate_from 0 ts)) ((i, t) ∷ [])
-      ∙ ap (λ ps. flat_map lookups_in (take i (enumerate_from 0 ts)) ++ ps) (append-nil (lookups_in (i, t)))
+  all_lookups-more ts i t lt is = flat_next lookups_in (enumerate_from 0 ts) i (i, t) (numbered_within ts i t lt is) (numbered_read ts i t lt is)
 
   -- the buses of the lookups of an AIR
   buses_in : (n : ℕ) (t : Traced F)

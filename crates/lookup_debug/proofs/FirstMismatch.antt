@@ -1,21 +1,192 @@
--- The least of the entries of a group is its first mismatch.
-use Rattle.std.proofs.Common.{◌≡◌, ◌≢◌, ◌<◌, ◌⊎◌, ◌||◌, ℕ, zero, suc, Bool, true, false, not, List, [], ◌∷◌, None, Some, length, map, option_map, slice_get, refl, sym, ap, ◌∙◌, inl, inr, true≢false, is_some, Decides, Ordering, Less, Equal, Greater}
-use Rattle.std.proofs.lemmas.Option.{slice_get-map, slice_get_within}
-use Rattle.std.proofs.lemmas.Slice.Eq.{slice_eq-Decides}
+-- The least of the entries of a group, entry by entry, is its first mismatch.
+use Rattle.std.proofs.Common.{◌≡◌, ◌≢◌, ◌<◌, ◌≤◌, ◌+◌, ◌-◌, length-drop, ◌⊎◌, [], ◌∷◌, map, length, drop, ℕ, Bool, true, false, not, List, Option, None, Some, slice_get, refl, sym, ap, ◌∙◌, inl, inr, true≢false, arith, Ordering, Less, Equal, Greater, zero, suc, cond, is_some, Decides, ◌||◌}
+use Rattle.std.proofs.lemmas.Bool.{cases_lt, false_from_ne_true, not-false}
 use Rattle.std.specs.Borrow.{Bor}
-use Rattle.std.specs.List.{list_any}
-use Rattle.std.specs.Cmp.Lexicographic.{pointwise}
-use Rattle.lists.proofs.Items.{some_is}
+use Rattle.std.specs.Cmp.{IsTotalOrder, on_total, nat_cmp_is}
+use Rattle.std.specs.Ordering.{nat_cmp, ordering_index, ordering_reverse}
+use Rattle.std.specs.Bool.{◌==◌}
+use Rattle.std.specs.Cmp.Lexicographic.{lists_total, nat_list_cmp_total, pointwise}
+use Rattle.std.specs.List.{filter, list_any}
+use Rattle.std.proofs.lemmas.Option.{slice_get_within}
+use Rattle.std.proofs.lemmas.Slice.Eq.{slice_eq-Decides}
+use Rattle.lists.proofs.Items.{holds_at_next, holds_next, some_is}
 use Rattle.lists.proofs.Images.{map_at, from_map}
 use Rattle.field.specs.Ring.{Ring, IsCommutativeRing}
 use Rattle.lookup_model.specs.Net.{first_seen}
-use Rattle.lookup_debug.specs.Contributions.{Contribution}
-use Rattle.lookup_debug.specs.Mismatch.{Precedes, IsFirst, net_amount, text_cmp}
-use Rattle.lookup_debug.specs.Nets.{IsFirstIndex, tuple_entries}
-use Rattle.lookup_debug.proofs.AmountNets.{tuple_nets}
-use Rattle.lookup_debug.proofs.LeastSteps.{three_ways}
 use Rattle.lookup_rows.proofs.NetEntries.{any-first_seen, net-none}
-use Rattle.lookup_debug.proofs.SeenOrder.{seen_before}
+use Rattle.lookup_debug.specs.Mismatch.{text_cmp, Precedes, IsFirst, net_amount}
+use Rattle.lookup_debug.specs.Least.{IsLeast, NonePasses}
+use Rattle.lookup_debug.specs.Nets.{IsFirstIndex, tuple_entries}
+use Rattle.lookup_debug.specs.Contributions.{Contribution}
+use Rattle.lookup_debug.proofs.AmountNets.{tuple_nets}
+
+-- two numbers compared
+pub three_ways : (j i : ℕ) → (j < i) ⊎ ((j ≡ i) ⊎ (i < j))
+three_ways j i = elim (cases_lt j i) [
+  | inl less ↦ inl less
+  | inr past ↦ elim (cases_lt i j) [ inl more ↦ inr (inr more) | inr le ↦ inr (inl (omega (arith, past, le))) ]
+]
+
+-- by a total order an item is equal to itself
+pub same-equal : {K : Type 0} {order : K → K → Ordering} → IsTotalOrder order → (x : K) → order x x ≡ Equal
+same-equal {order = order} total x = by_reverse (order x x) (total.antisymm x x)
+  where
+    by_reverse : (o : Ordering) → o ≡ ordering_reverse o → o ≡ Equal
+    by_reverse Less e = absurd (cc e)
+    by_reverse Equal e = refl
+    by_reverse Greater e = absurd (cc e)
+
+-- the order of two tuples by their texts, where keys are seen through references, is total
+pub text_total : {F : Type 0} (text : F → List ℕ) → IsTotalOrder (λ (a b : Bor (List F)). text_cmp text a.now b.now)
+text_total text = on_total (λ (a : Bor (List _)). map text a.now) (lists_total nat_list_cmp_total)
+
+-- The entries of a map of nets up to an index, and the entry there.
+module _ {F : Type 0} (R : Ring F) (eq : F → F → Bool) (text : F → List ℕ) (es : List (Bor (List F) × F)) (n : ℕ) (last : Bor (List F) × F) (at : slice_get es n ≡ Some last) where
+  abbrev order : Bor (List F) → Bor (List F) → Ordering
+  order a b = text_cmp text a.now b.now
+
+  abbrev passes : F → Bool
+  passes v = not (eq v R.zero)
+
+  total : IsTotalOrder order
+  total = text_total text
+
+  -- an entry that does not pass changes nothing
+  pub best_past_failing : (best : Option ℕ) → passes last.1 ≡ false → IsFirstIndex R eq text es n best → IsFirstIndex R eq text es (n + 1) best
+  best_past_failing None fails none = holds_next (λ (e : Bor (List F) × F). passes e.1 ≡ false) es n last at fails none
+  best_past_failing (Some i) fails least = record {
+    entry = least.entry;
+    there = least.there;
+    within = omega (arith, least.within);
+    passing = least.passing;
+    before = least.before;
+    after = λ j e later lt here. holds_at_next (λ m f. i < m → passes f.1 ≡ true → order least.entry.0 f.0 ≢ Greater) es n last at
+        (λ _ so. absurd (true≢false (sym so ∙ fails))) (λ m f below there above. least.after m f above below there) j e lt here later;
+  }
+
+  -- the first that passes is the least
+  pub first_passing : passes last.1 ≡ true → NonePasses order passes es n → IsLeast order passes es (n + 1) n
+  first_passing passing none = record {
+    entry = last;
+    there = at;
+    within = omega arith;
+    passing = passing;
+    before = λ j e lt here so. absurd (true≢false (sym so ∙ none j e lt here));
+    after = λ j e later lt. absurd (omega (arith, later, lt));
+  }
+
+  -- one that is less takes its place
+  pub lesser_is_least : (i : ℕ) (other : Bor (List F) × F) → slice_get es i ≡ Some other → passes last.1 ≡ true → order last.0 other.0 ≡ Less → IsLeast order passes es n i → IsLeast order passes es (n + 1) n
+  lesser_is_least i other there passing less least =
+      let is : least.entry ≡ other = some_is least.entry other (sym least.there ∙ there) in
+      let under : order last.0 least.entry.0 ≡ Less = ap (λ (p : Bor (List F) × F). order last.0 p.0) is ∙ less in record {
+        entry = last;
+        there = at;
+        within = omega arith;
+        passing = passing;
+        before = λ j e lt here so. by_index under j e lt here so (three_ways j i);
+        after = λ j e later lt. absurd (omega (arith, later, lt));
+      }
+    where
+      by_order : (e : Bor (List F) × F) (o : Ordering) → order least.entry.0 e.0 ≡ o → order last.0 least.entry.0 ≡ Less → o ≢ Greater → order last.0 e.0 ≡ Less
+      by_order e Less f under ne = total.trans last.0 least.entry.0 e.0 under f
+      by_order e Equal f under ne =
+          total.antisymm last.0 e.0
+          ∙ ap ordering_reverse (sym (total.congr least.entry.0 e.0 last.0 f))
+          ∙ sym (total.antisymm last.0 least.entry.0)
+          ∙ under
+      by_order e Greater f under ne = absurd (ne refl)
+
+      by_index : order last.0 least.entry.0 ≡ Less → (j : ℕ) (e : Bor (List F) × F) → j < n → slice_get es j ≡ Some e → passes e.1 ≡ true → (j < i) ⊎ ((j ≡ i) ⊎ (i < j)) → order last.0 e.0 ≡ Less
+      by_index under j e lt here so (inl sooner) = total.trans last.0 least.entry.0 e.0 under (least.before j e sooner here so)
+      by_index under j e lt here so (inr (inl same)) = ap (λ (p : Bor (List F) × F). order last.0 p.0) (some_is e least.entry (sym here ∙ ap (slice_get es) same ∙ least.there)) ∙ under
+      by_index under j e lt here so (inr (inr later)) = by_order e (order least.entry.0 e.0) refl under (least.after j e later lt here so)
+
+  -- one that is not less does not
+  pub least_stays : (i : ℕ) (other : Bor (List F) × F) → slice_get es i ≡ Some other → order last.0 other.0 ≢ Less → IsLeast order passes es n i → IsLeast order passes es (n + 1) i
+  least_stays i other there not_less least = record {
+    entry = least.entry;
+    there = least.there;
+    within = omega (arith, least.within);
+    passing = least.passing;
+    before = least.before;
+    after = λ j e later lt here. holds_at_next (λ m f. i < m → passes f.1 ≡ true → order least.entry.0 f.0 ≢ Greater) es n last at
+        (λ _ so greater. not_less (ap (λ (p : Bor (List F) × F). order last.0 p.0) (some_is other least.entry (sym there ∙ least.there)) ∙ total.antisymm last.0 least.entry.0 ∙ ap ordering_reverse greater))
+        (λ m f below at_m above. least.after m f above below at_m) j e lt here later;
+  }
+
+module _ {F : Type 0} (text : F → List ℕ) where
+  -- where one has ended the lengths decide
+  pub texts-end : (a b : List F) (i : ℕ) → i ≤ length a → i ≤ length b → (length a ≤ i) ⊎ (length b ≤ i) → text_cmp text (drop i a) (drop i b) ≡ nat_cmp (length a) (length b)
+  texts-end a b i la lb ends = by_ends (drop i a) (drop i b) (length-drop i a) (length-drop i b) ends
+    where
+      by_ends : (xs ys : List F) → length xs ≡ length a - i → length ys ≡ length b - i → (length a ≤ i) ⊎ (length b ≤ i) → text_cmp text xs ys ≡ nat_cmp (length a) (length b)
+      by_ends [] [] p q e = nat_cmp_is (length a) (length b) Equal (omega (arith, p, q, la, lb))
+      by_ends [] (y ∷ ys) p q e = nat_cmp_is (length a) (length b) Less (omega (arith, p, q, la, lb))
+      by_ends (x ∷ xs) [] p q e = nat_cmp_is (length a) (length b) Greater (omega (arith, p, q, la, lb))
+      by_ends (x ∷ xs) (y ∷ ys) p q (inl l) = absurd (omega (arith, p, l))
+      by_ends (x ∷ xs) (y ∷ ys) p q (inr l) = absurd (omega (arith, q, l))
+
+-- what `== Ordering::Less` says
+pub Less-from_eq : (o : Ordering) → (ordering_index o == 0) ≡ true → o ≡ Less
+Less-from_eq Less e = refl
+Less-from_eq Equal e = absurd (true≢false (sym e))
+Less-from_eq Greater e = absurd (true≢false (sym e))
+
+pub Less-from_ne : (o : Ordering) → (ordering_index o == 0) ≡ false → o ≢ Less
+Less-from_ne o e is = true≢false (ap (λ t. ordering_index t == 0) (sym is) ∙ e)
+
+-- b is in the list
+abbrev pub IsIn : {A : Type 0} → List A → A → Type 0
+IsIn [] b = true ≡ false
+IsIn (y ∷ ys) b = (y ≡ b) ⊎ IsIn ys b
+
+-- a is in the list, and b after it
+abbrev pub IsInOrder : {A : Type 0} → List A → A → A → Type 0
+IsInOrder [] a b = true ≡ false
+IsInOrder (y ∷ ys) a b = ((y ≡ a) × IsIn ys b) ⊎ IsInOrder ys a b
+
+module _ {A : Type 0} where
+  in_at : (ys : List A) (j : ℕ) (b : A) → slice_get ys j ≡ Some b → IsIn ys b
+  in_at [] j b e = absurd (true≢false (sym (ap is_some e)))
+  in_at (y ∷ ys) zero b e = inl (some_is y b e)
+  in_at (y ∷ ys) (suc j) b e = inr (in_at ys j b e)
+
+  in_order_at : (ys : List A) (i j : ℕ) (a b : A) → i < j → slice_get ys i ≡ Some a → slice_get ys j ≡ Some b → IsInOrder ys a b
+  in_order_at [] i j a b lt e f = absurd (true≢false (sym (ap is_some e)))
+  in_order_at (y ∷ ys) i zero a b lt e f = absurd (omega (arith, lt))
+  in_order_at (y ∷ ys) zero (suc j) a b lt e f = inl (some_is y a e, in_at ys j b f)
+  in_order_at (y ∷ ys) (suc i) (suc j) a b lt e f = inr (in_order_at ys i j a b (omega (arith, lt)) e f)
+
+  in_kept : (p : A → Bool) (ys : List A) (b : A) → IsIn (filter p ys) b → IsIn ys b × (p b ≡ true)
+  in_kept p [] b h = absurd (true≢false h)
+  in_kept p (y ∷ ys) b h = by (p y) refl (in_kept p ys b) h
+    where
+      by : (t : Bool) → p y ≡ t → (IsIn (filter p ys) b → IsIn ys b × (p b ≡ true)) → IsIn (cond t (y ∷ filter p ys) (filter p ys)) b → IsIn (y ∷ ys) b × (p b ≡ true)
+      by true e rest (inl is) = (inl is, sym (ap p is) ∙ e)
+      by true e rest (inr more) = (inr (rest more).0, (rest more).1)
+      by false e rest more = (inr (rest more).0, (rest more).1)
+
+  in_order_kept : (p : A → Bool) (ys : List A) (a b : A) → IsInOrder (filter p ys) a b → IsInOrder ys a b × (p b ≡ true)
+  in_order_kept p [] a b h = absurd (true≢false h)
+  in_order_kept p (y ∷ ys) a b h = by (p y) (in_order_kept p ys a b) h
+    where
+      by : (t : Bool) → (IsInOrder (filter p ys) a b → IsInOrder ys a b × (p b ≡ true)) → IsInOrder (cond t (y ∷ filter p ys) (filter p ys)) a b → IsInOrder (y ∷ ys) a b × (p b ≡ true)
+      by true rest (inl here) = (inl (here.0, (in_kept p ys b here.1).0), (in_kept p ys b here.1).1)
+      by true rest (inr more) = (inr (rest more).0, (rest more).1)
+      by false rest more = (inr (rest more).0, (rest more).1)
+
+  module _ (same : A → A → Bool) (decides : (a b : A) → Decides (same a b) (a ≡ b)) where
+    in_order_seen : (xs : List A) (a b : A) → IsInOrder (first_seen same xs) a b → Precedes xs a b
+    in_order_seen [] a b h = h
+    in_order_seen (x ∷ xs) a b (inl here) = inl here.0
+    in_order_seen (x ∷ xs) a b (inr more) =
+        let kept = in_order_kept (λ y. not (same x y)) (first_seen same xs) a b more in
+        inr (λ is. true≢false (sym kept.1 ∙ ap not ((decides x b).1 is)), in_order_seen xs a b kept.0)
+
+    -- of two items the one that stands first among the first seen is seen before the other
+    pub seen_before : (xs : List A) (i j : ℕ) (a b : A) → i < j → slice_get (first_seen same xs) i ≡ Some a → slice_get (first_seen same xs) j ≡ Some b → Precedes xs a b
+    seen_before xs i j a b lt e f = in_order_seen xs a b (in_order_at (first_seen same xs) i j a b lt e f)
 
 -- the index of an item that is among some
 any_at : {A : Type 0} (same : A → A → Bool) (decides : (a b : A) → Decides (same a b) (a ≡ b)) (b : A) (ks : List A) → list_any (λ y. same y b) ks ≡ true → (j : ℕ) × (slice_get ks j ≡ Some b)
@@ -44,11 +215,7 @@ module _ {F : Type 0} {R : Ring F} (laws : IsCommutativeRing R) (eq : F → F �
   IsBefore cs a b = (text_cmp text a b ≡ Less) ⊎ ((text_cmp text a b ≡ Equal) × Precedes (tuples cs) a b)
 
   nonzero_is : (v : F) → v ≢ R.zero → not (eq v R.zero) ≡ true
-  nonzero_is v ne = by_test (eq v R.zero) refl
-    where
-      by_test : (b : Bool) → eq v R.zero ≡ b → not b ≡ true
-      by_test true e = absurd (ne ((eq_is v R.zero).0 e))
-      by_test false e = refl
+  nonzero_is v ne = ap not (false_from_ne_true (eq v R.zero) (λ is. ne ((eq_is v R.zero).0 is)))
 
   -- the least is first, and its entry has its net
   pub first_of_least : (es : List (Bor (List F) × F)) (cs : List (Contribution F)) (i : ℕ) → tuple_entries es ≡ tuple_nets R eq cs
@@ -98,11 +265,7 @@ module _ {F : Type 0} {R : Ring F} (laws : IsCommutativeRing R) (eq : F → F �
       by_seen own other ne apart false e = absurd (ne (net-none (pointwise eq) decides laws (λ (c : Contribution F). c.tuple) (λ c. c.amount) cs other e))
 
   zero_is : (v : F) → not (eq v R.zero) ≡ false → v ≡ R.zero
-  zero_is v e = by_test (eq v R.zero) refl e
-    where
-      by_test : (b : Bool) → eq v R.zero ≡ b → not b ≡ false → v ≡ R.zero
-      by_test true f g = (eq_is v R.zero).0 f
-      by_test false f g = absurd (true≢false g)
+  zero_is v e = (eq_is v R.zero).0 (not-false (eq v R.zero) e)
 
   -- where none passes every net is zero
   pub all_zero : (es : List (Bor (List F) × F)) (cs : List (Contribution F)) → tuple_entries es ≡ tuple_nets R eq cs

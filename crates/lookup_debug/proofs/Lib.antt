@@ -2,14 +2,9 @@ pub mod AmountLaws
 pub mod AmountNets
 pub mod BusLaws
 pub mod FirstMismatch
-pub mod GroupSteps
-pub mod LeastSteps
-pub mod LocalGroupLaws
+pub mod GroupLaws
 pub mod MismatchLaws
-pub mod NameLaws
-pub mod SeenOrder
 pub mod SentContributionLaws
 pub mod SpanLaws
-pub mod SpanNets
 pub mod TextLaws
 pub mod TupleLocationLaws

@@ -1,13 +1,22 @@
--- Cuts of a list of elements that grows.
-use Rattle.std.proofs.Common.{◌≡◌, ℕ, ◌+◌, ◌-◌, ◌≤◌, All, List, [], ◌∷◌, ◌++◌, append_assoc, drop, length, length-append, map, take, ap, refl, subst, sym, ◌∙◌, arith, suc}
+-- Cuts of a list of elements that grows, and the nets of spans, span by span.
+use Rattle.std.proofs.Common.{◌≡◌, ℕ, ◌+◌, ◌-◌, ◌≤◌, All, List, [], ◌∷◌, ◌++◌, append_assoc, drop, length, length-append, map, take, ap, refl, subst, sym, ◌∙◌, arith, suc, ◌<◌, Bool, get_or, slice_range, unwrap_or, Decides}
 use Rattle.std.proofs.lemmas.List.{append-nil, drop-append-le, length-drop, map-append, take-append-le, take_all}
 use Rattle.std.proofs.lemmas.List.Elements.{All-push}
 use Rattle.std.specs.List.{slice_range}
+use Rattle.std.proofs.lemmas.Slice.Eq.{slice_eq-Decides}
+use Rattle.std.specs.Borrow.{Bor}
+use Rattle.std.specs.Cmp.Lexicographic.{pointwise}
+use Rattle.std.specs.Map.{lookup}
+use Rattle.lists.proofs.Images.{images_more}
+use Rattle.field.specs.Ring.{Ring, IsCommutativeRing}
+use Rattle.lookup_rows.proofs.NetEntries.{one_more}
 use Rattle.lookup_debug.specs.Appended.{Appends, without_location}
 use Rattle.lookup_debug.specs.Arena.{AreWithin, amounts_in, span_amount}
 use Rattle.lookup_debug.specs.Contributions.{Contribution}
 use Rattle.lookup_debug.specs.declared.arena.Contributions.{Contributions}
 use Rattle.lookup_debug.specs.declared.arena.TupleSpan.{TupleSpan}
+use Rattle.lookup_debug.specs.Nets.{amount_nets, tuple_entries}
+use Rattle.indexmap.specs.IndexMap.{insert_entry}
 
 module _ {F : Type 0} where
   -- a part of a list stays as it is when more comes after the list
@@ -93,3 +102,17 @@ module _ {F : Type 0} where
           (λ i. map (span_amount (elements_are i)) (spans_are i))
           ∙ map-append (span_amount (xs ++ tuple)) before.spans.items (span ∷ [])
           ∙ (λ i. kept xs tuple before.spans.items within i ++ (last i, span.amount) ∷ [])
+
+module _ {F : Type 0} {R : Ring F} (laws : IsCommutativeRing R) (eq : F → F → Bool) (eq_is : (a b : F) → Decides (eq a b) (a ≡ b)) (elements : List F) where
+  -- one more span is added to the net of its tuple
+  pub span_more : (spans : List (TupleSpan F)) (i : ℕ) (span : TupleSpan F) → i < length spans → span ≡ get_or spans i span
+      → (before after : List (Bor (List F) × F)) (key : Bor (List F)) → key.now ≡ slice_range elements span.start span.end
+      → tuple_entries before ≡ amount_nets R eq (map (span_amount elements) (take i spans))
+      → after ≡ insert_entry (λ a b. pointwise eq a.now b.now) before key (R.add (unwrap_or (lookup (λ b. pointwise eq key.now b.now) before) R.zero) span.amount)
+      → tuple_entries after ≡ amount_nets R eq (map (span_amount elements) (take (i + 1) spans))
+  span_more spans i span lt is before after key key_is so_far inserted =
+      let done = map (span_amount elements) (take i spans) in
+      ap tuple_entries inserted
+      ∙ one_more (pointwise eq) (λ a b. slice_eq-Decides eq_is a b (pointwise eq a b) refl) (λ (k : Bor (List F)). k.now) laws (λ (a : List F × F). a.0) (λ a. a.1)
+      done (span_amount elements span) before key _ _ so_far key_is refl refl
+      ∙ ap (amount_nets R eq) (sym (images_more (span_amount elements) spans i span lt is))

@@ -21,14 +21,6 @@ one_more_part text view separator xs i x d old before middle after lt is so_far 
 pub eight_parts : (a b c d e f g h l k m n o p q r s : List ℕ) → l ≡ [] → k ≡ l ++ a → m ≡ k ++ b → n ≡ m ++ c → o ≡ n ++ d → p ≡ o ++ e → q ≡ p ++ f → r ≡ q ++ g → s ≡ r ++ h
     → s ≡ a ++ (b ++ (c ++ (d ++ (e ++ (f ++ (g ++ h))))))
 eight_parts a b c d e f g h l k m n o p q r s none first second third fourth fifth sixth seventh eighth =
-    let abc = (a ++ b) ++ c in
-    let four = abc ++ d in
-    let five = four ++ e in
-    let six = five ++ f in
     let k_is : k ≡ a = first ∙ ap (λ t. t ++ a) none in
-    let n_is : n ≡ abc = third ∙ ap (λ t. t ++ c) (second ∙ ap (λ t. t ++ b) k_is) in
-    let p_is : p ≡ five = fifth ∙ ap (λ t. t ++ e) (fourth ∙ ap (λ t. t ++ d) n_is) in
-    let r_is : r ≡ six ++ g = seventh ∙ ap (λ t. t ++ g) (sixth ∙ ap (λ t. t ++ f) p_is) in
-    eighth ∙ ap (λ t. t ++ h) r_is
-    ∙ append_assoc six g h ∙ append_assoc five f (g ++ h) ∙ append_assoc four e (f ++ (g ++ h)) ∙ append_assoc abc d (e ++ (f ++ (g ++ h)))
-    ∙ append_assoc (a ++ b) c (d ++ (e ++ (f ++ (g ++ h)))) ∙ append_assoc a b (c ++ (d ++ (e ++ (f ++ (g ++ h)))))
+    let whole : s ≡ ((((((a ++ b) ++ c) ++ d) ++ e) ++ f) ++ g) ++ h = cc in
+    whole ∙ simp append_assoc

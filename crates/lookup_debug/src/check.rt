@@ -102,7 +102,7 @@ fn check_local<F: Field>(
     instance: usize,
     index: usize,
 ) -> Result<(), LookupFault<F>>
-    requires there { slice_get traced.now.lookups.now index ≡ Some lookup.now }
+    requires at_index { slice_get traced.now.lookups.now index ≡ Some lookup.now }
     requires fit { IsTracedFitting (traced_of traced.now) }
     ensures { AnswersGroup F.ring F.eq F.text (local_label instance index)
         (contributions_of F.ring F.eq instance index (traced_of traced.now) lookup.now) result }

@@ -125,9 +125,9 @@ fn push_on_row<F: Field>(
 impl<F: Field> RowVisitor<F> for Contributions<F> {
     ghost ready = { AreWithin };
 
-    ghost does = { Collects F.ring F.eq };
+    ghost changes = { Collects F.ring F.eq };
 
-    ghost walks = { collects_walk F.ring F.eq };
+    ghost composes = { collects_walk F.ring F.eq };
 
     /// Appends what the lookup contributes on the builder's row, and then merges equal tuples at the
     /// limit.

@@ -31,26 +31,29 @@ pub(crate) fn first_mismatch<'a, F: Field>(
         (λ m. IsFirst F.ring F.eq F.text cs m.0.now × (m.1 ≡ net_amount F.ring F.eq cs m.0.now))) }
 {
     let nets = nets(alloc, contributions)?;
-    let Some(index) = least(alloc, &nets)? else {
+    let Some(index) = least_unbalanced(alloc, &nets)? else {
         return Ok(None);
     };
     Ok(Some(entry_at(&nets, index)))
 }
 
 /// The index of the least tuple whose net is not zero, and of several with its texts the first.
-fn least<F: Field>(alloc: Global, nets: &IndexMap<&[F], F>) -> Result<Option<usize>, AllocError>
+fn least_unbalanced<F: Field>(
+    alloc: Global,
+    nets: &IndexMap<&[F], F>,
+) -> Result<Option<usize>, AllocError>
     ensures { IfOk result (IsFirstIndex F.ring F.eq F.text nets.now.entries
         (index_map_len nets.now)) }
 {
     let mut best = None;
     for index in 0..nets.len() {
-        best = better(alloc, nets, best, index)?;
+        best = lesser_of(alloc, nets, best, index)?;
     }
     Ok(best)
 }
 
 /// That of the entries up to `index` and with it, where `best` is that of the entries before it.
-fn better<F: Field>(
+fn lesser_of<F: Field>(
     alloc: Global,
     nets: &IndexMap<&[F], F>,
     best: Option<usize>,

@@ -115,9 +115,9 @@ impl<'a, F> TupleLocations<'a, F> {
 impl<F: Field> RowVisitor<F> for TupleLocations<'_, F> {
     ghost ready = { λ _. ⊤ };
 
-    ghost does = { FindsLocations F.ring F.eq };
+    ghost changes = { FindsLocations F.ring F.eq };
 
-    ghost walks = { locations_walk F.ring F.eq };
+    ghost composes = { locations_walk F.ring F.eq };
 
     /// Appends the locations of the tuple on the builder's row.
     fn visit(

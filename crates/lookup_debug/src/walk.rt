@@ -19,12 +19,12 @@ use std::alloc::{AllocError, Global};
 
 /// Visits the rows of lookups, one by one.
 ///
-/// `ready` says what holds of a visitor before each row. `does before after contributions` says how a
+/// `ready` says what holds of a visitor before each row. `changes before after contributions` says how a
 /// visitor changes over rows that send these contributions.
 pub(crate) trait RowVisitor<F: Field> {
     ghost ready: { Self → Type 0 };
 
-    ghost does: { Self → Self → List (Contribution F) → Type 0 };
+    ghost changes: { Self → Self → List (Contribution F) → Type 0 };
 
     /// Visits a lookup on the builder's row. Fails only when out of memory.
     fn visit(
@@ -37,11 +37,11 @@ pub(crate) trait RowVisitor<F: Field> {
         requires ready { ready self.now }
         requires lengths { HasEqualLengths lookup.now }
         requires fits { IsWithin (builder_layout builder.now) lookup.now }
-        ensures { OnOk result (does self.old self.new
+        ensures { OnOk result (changes self.old self.new
             (contributions_at F.ring F.eq (location_of location) (builder_window builder.now)
             lookup.now)) };
 
-    ghost walks: { IsWalk ready does };
+    ghost composes: { IsWalk ready changes };
 }
 
 /// Visits the lookup at `index` of an AIR on all rows of its traces.
@@ -54,9 +54,9 @@ pub(crate) fn walk_lookup<F: Field, V: RowVisitor<F>>(
     index: usize,
 ) -> Result<(), AllocError>
     requires ready { V.ready visitor.now }
-    requires there { slice_get traced.now.lookups.now index ≡ Some lookup.now }
+    requires at_index { slice_get traced.now.lookups.now index ≡ Some lookup.now }
     requires fit { IsTracedFitting (traced_of traced.now) }
-    ensures { OnOk result (V.does visitor.old visitor.new
+    ensures { OnOk result (V.changes visitor.old visitor.new
         (contributions_of F.ring F.eq instance index (traced_of traced.now) lookup.now)) }
 {
     let traces = Traces {
@@ -86,7 +86,7 @@ pub(crate) fn walk_bus<F: Field, V: RowVisitor<F>>(
 ) -> Result<(), AllocError>
     requires ready { V.ready visitor.now }
     requires fit { AreFitting instances.now }
-    ensures { OnOk result (V.does visitor.old visitor.new
+    ensures { OnOk result (V.changes visitor.old visitor.new
         (flat_map (lookup_contributions F.ring F.eq)
         (filter (is_on name.now) (all_lookups (map traced_of instances.now))))) }
 {
@@ -106,7 +106,7 @@ fn walk_bus_of<F: Field, V: RowVisitor<F>>(
 ) -> Result<(), AllocError>
     requires ready { V.ready visitor.now }
     requires fit { IsTracedFitting (traced_of traced.now) }
-    ensures { OnOk result (V.does visitor.old visitor.new
+    ensures { OnOk result (V.changes visitor.old visitor.new
         (flat_map (lookup_contributions F.ring F.eq)
         (filter (is_on name.now) (lookups_in (instance, traced_of traced.now))))) }
 {

@@ -1,8 +1,7 @@
 -- Laws of faults: how a walk over declarations finds the first one.
-use Rattle.std.proofs.Common.{◌≡◌, ◌+◌, ◌<◌, ◌≤◌, ◌⊎◌, ℕ, suc, nat_eq, List, [], ◌∷◌, ◌++◌, All, length, map, take, drop, get_or, refl, ap, sym, ◌∙◌, subst, inr, true, false}
-use Rattle.std.proofs.Math.Seq.{split_at}
+use Rattle.std.proofs.Common.{arith, ◌≡◌, ◌+◌, ◌<◌, ◌≤◌, ◌⊎◌, ℕ, nat_eq, List, All, length, map, take, get_or, refl, sym, subst, inr, true, false}
 use Rattle.std.proofs.lemmas.Bool.{eqb-true}
-use Rattle.std.proofs.lemmas.List.{map-append, map_push, take_all, take_more}
+use Rattle.std.proofs.lemmas.List.{take_all, take_more}
 use Rattle.std.proofs.lemmas.List.Elements.{All-push}
 use Rattle.std.proofs.lemmas.Map.Keys.{IsDistinct-push}
 use Rattle.std.proofs.lemmas.Map.Views.{Contains-from_any}
@@ -11,7 +10,10 @@ use Rattle.std.specs.List.{Contains, list_any}
 use Rattle.std.specs.String.{string_bytes}
 use Rattle.std.specs.declared.alloc.Global.{Global}
 use Rattle.std.specs.declared.string.String.{String}
+use Rattle.std.proofs.lemmas.List.{get_or_default, length-map, take-map}
+use Rattle.lists.proofs.Images.{mapped_at}
 use Rattle.expressions.specs.Faults.{SplitsAtFault}
+use Rattle.expressions.proofs.FirstFaults.{split_fault}
 use Rattle.lookup_indexed.specs.Faults.{AreDistinctColumns, IsColumnFault, IsFirstColumnFault, Names}
 use Rattle.lookup_indexed.specs.declared.error.IndexedLookupError.{IndexedLookupError}
 use Rattle.lookup_indexed.specs.declared.error.IndexedLookupError.TheVariants.{Memory}
@@ -23,14 +25,8 @@ named table refusal name is =
 
 -- the first fault is that of the column at an index before which there is none
 pub first_column_fault : (table : List ℕ) (width : ℕ) (columns : List ℕ) (i : ℕ) (e : IndexedLookupError) → i < length columns → AreDistinctColumns width (take i columns) → IsColumnFault table width e (take i columns) (get_or columns i 0) → IsFirstColumnFault table width columns e
-first_column_fault table width columns i e lt good fault = record {
-  before = take i columns;
-  item = get_or columns i 0;
-  after = drop (suc i) columns;
-  split = split_at columns i 0 lt;
-  good = good;
-  fault = fault;
-}
+first_column_fault table width columns i e lt good fault =
+    split_fault (AreDistinctColumns width) (IsColumnFault table width e) columns i (get_or columns i 0) lt (get_or_default columns i 0 (get_or columns i 0) lt) good fault
 
 -- one more column without a fault
 pub columns_more : (width : ℕ) (columns : List ℕ) (i : ℕ) → i < length columns → AreDistinctColumns width (take i columns) → get_or columns i 0 < width → list_any (nat_eq (get_or columns i 0)) (take i columns) ≡ false → AreDistinctColumns width (take (i + 1) columns)
@@ -46,23 +42,11 @@ met_before columns column met = Contains-from_any (λ x y h. eqb-true x y h) col
 
 module _ {X Y : Type 0} (f : X → Y) (P : Y → Type 0) (xs : List X) (i : ℕ) where
   -- the first fault of a list of declarations is that of the item at an index before which there is none
-  pub first_fault : (x : X) (IsFault : List Y → Y → Type 0) → i < length xs → x ≡ get_or xs i x → All P (map f (take i xs)) → IsFault (map f (take i xs)) (f x) → SplitsAtFault (All P) IsFault (map f xs)
-  first_fault x IsFault lt is good fault = record {
-    before = map f (take i xs);
-    item = f x;
-    after = map f (drop (suc i) xs);
-    split = ap (map f) (split_at xs i x lt) ∙ map-append f (take i xs) (get_or xs i x ∷ drop (suc i) xs) ∙ ap (λ y. map f (take i xs) ++ f y ∷ map f (drop (suc i) xs)) (sym is);
-    good = good;
-    fault = fault;
-  }
+  pub first_declared_fault : (x : X) (IsFault : List Y → Y → Type 0) → i < length xs → x ≡ get_or xs i x → All P (map f (take i xs)) → IsFault (map f (take i xs)) (f x) → SplitsAtFault (All P) IsFault (map f xs)
+  first_declared_fault x IsFault lt is good fault =
+      split_fault (All P) IsFault (map f xs) i (f x) (omega (arith, length-map xs f, lt)) (mapped_at f xs i x lt is)
+      (subst (All P) (sym (take-map f i xs)) good) (subst (λ (ys : List Y). IsFault ys (f x)) (sym (take-map f i xs)) fault)
 
-  -- one more item of which a fact holds
-  pub all_more : (x : X) → i < length xs → x ≡ get_or xs i x → P (f x) → All P (map f (take i xs)) → All P (map f (take (i + 1) xs))
-  all_more x lt is one all =
-      subst (λ (ys : List Y). All P ys)
-      (sym (ap (map f) (take_more xs i x lt ∙ ap (λ y. take i xs ++ y ∷ []) (sym is)) ∙ map_push f (take i xs) x))
-      (All-push P (map f (take i xs)) (f x) all one)
-
-  -- after the last index all have been met
-  pub all_met : length xs ≤ i → All P (map f (take i xs)) → All P (map f xs)
-  all_met le all = subst (λ (ys : List X). All P (map f ys)) (take_all i xs le) all
+  -- after the last index a fact of the first ones holds of all
+  pub all_at_end : length xs ≤ i → All P (map f (take i xs)) → All P (map f xs)
+  all_at_end le all = subst (λ (ys : List X). All P (map f ys)) (take_all i xs le) all

@@ -1,11 +1,6 @@
 -- Batches of AIRs: which faults one has, that its plain witness is the only satisfied one where no
 -- denominator vanishes, and that its terminals sum to zero where its messages balance.
 pub mod Accepted
-pub mod AcceptedSums
-pub mod ByTable
-pub mod MadeResults
-pub mod OnlyFractions
-pub mod OnlyRows
 pub mod OnlyWitness
 pub mod Rekeyed
 pub mod SentFacts

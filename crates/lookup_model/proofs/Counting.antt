@@ -1,9 +1,7 @@
 -- Counts: all but few betas leave few alphas at which a batch that does not balance is accepted.
 pub mod AcceptingAlphas
-pub mod BadAlphas
 pub mod BetaPolynomials
 pub mod DistinctLists
-pub mod JointCount
 pub mod JointPairs
 pub mod LawfulFlags
 pub mod LawfulKeys

@@ -1,4 +1,5 @@
 -- The degrees of lookups, branch by branch.
+use Rattle.lookup_model.proofs.DegreeBounds.{greatest-push}
 use Rattle.std.proofs.Common.{◌≡◌, ℕ, zero, suc, ◌+◌, ◌-◌, ◌<◌, ◌≤◌, max, List, [], ◌∷◌, ◌++◌, length, map, take, get_or, refl, sym, ap, ◌∙◌, arith}
 use Rattle.std.proofs.lemmas.List.{length-map}
 use Rattle.std.specs.List.{zip}
@@ -6,18 +7,12 @@ use Rattle.field.specs.Sums.{taken_out}
 use Rattle.std.specs.declared.alloc.Global.{Global}
 use Rattle.std.specs.declared.vec.Vec.{Vec}
 use Rattle.lists.proofs.Zips.{length-zipped, zipped_at, zipped_more}
-use Rattle.lists.proofs.Images.{map-map, mapped_at, mapped_more}
+use Rattle.lists.proofs.Images.{map-map, map_same, mapped_at}
 use Rattle.expressions.specs.declared.base_expression.SymbolicExpression.{SymbolicExpression}
 use Rattle.lookup_model.proofs.Branches.{length-degrees}
-use Rattle.lookup_model.specs.LookupDegree.{BranchDegrees, additive_denominator_degree, additive_numerator_degree, branch_degrees, expression_degree, greatest, lookup_branch_degrees, total, tuple_degree}
+use Rattle.lookup_model.specs.LookupDegree.{BranchDegrees, additive_denominator_degree, additive_numerator_degree, branch_degrees, expression_degree, greatest, lookup_branch_degrees, total}
 use Rattle.lookup_model.specs.Records.{HasEqualLengths}
-use Rattle.lookup_model.proofs.TakenOut.{total-push}
 use Rattle.lookup_model.specs.declared.types.Lookup.{Lookup}
-
--- the greatest of a list with one more
-greatest-push : (ns : List ℕ) (n : ℕ) → greatest (ns ++ n ∷ []) ≡ max (greatest ns) n
-greatest-push [] n = omega arith
-greatest-push (m ∷ ns) n = omega (arith, greatest-push ns n)
 
 -- the greatest of a beginning that is one item longer
 pub greatest_next_is : (ns : List ℕ) (i n : ℕ) → take (i + 1) ns ≡ take i ns ++ n ∷ [] → greatest (take (i + 1) ns) ≡ max (greatest (take i ns)) n
@@ -26,22 +21,12 @@ greatest_next_is ns i n longer = ap greatest longer ∙ greatest-push (take i ns
 pub greatest_longer : (ns : List ℕ) (i n so_far next : ℕ) → take (i + 1) ns ≡ take i ns ++ n ∷ [] → so_far ≡ greatest (take i ns) → next ≡ max so_far n → next ≡ greatest (take (i + 1) ns)
 greatest_longer ns i n so_far next longer is next_is = next_is ∙ ap (λ m. max m n) is ∙ sym (greatest_next_is ns i n longer)
 
-pub total_longer : (ns : List ℕ) (i n so_far next : ℕ) → take (i + 1) ns ≡ take i ns ++ n ∷ [] → so_far ≡ total (take i ns) → next ≡ so_far + n → next ≡ total (take (i + 1) ns)
-total_longer ns i n so_far next longer is next_is = next_is ∙ ap (λ m. m + n) is ∙ sym (ap total longer ∙ total-push (take i ns) n)
-
 -- an item is at most the greatest one, and at most the sum
 pub item_within : (ns : List ℕ) (i n : ℕ) → i < length ns → n ≡ get_or ns i n → (n ≤ greatest ns) × (n ≤ total ns)
 item_within [] i n lt is = absurd (omega (arith, lt))
 item_within (m ∷ ns) zero n lt is = (omega (arith, is), omega (arith, is))
 item_within (m ∷ ns) (suc i) n lt is =
     let rest = item_within ns i n (omega (arith, lt)) is in (omega (arith, rest.0), omega (arith, rest.1))
-
--- a beginning adds up to no more than all
-pub total_take : (ns : List ℕ) (i : ℕ) → total (take i ns) ≤ total ns
-total_take [] zero = omega arith
-total_take [] (suc i) = omega arith
-total_take (n ∷ ns) zero = omega arith
-total_take (n ∷ ns) (suc i) = omega (arith, total_take ns i)
 
 -- what is left of the product of all denominators without one of them
 others_are : (c : ℕ) (bs : List BranchDegrees) → map (λ (t : BranchDegrees × List BranchDegrees). t.0.multiplicity + (c + additive_denominator_degree t.1)) (taken_out bs) ≡ map (λ (b : BranchDegrees). b.multiplicity + (c + additive_denominator_degree bs - b.tuple)) bs
@@ -52,36 +37,16 @@ others_are c (b ∷ bs) =
     let here : b.multiplicity + (c + additive_denominator_degree bs) ≡ b.multiplicity + (c + (b.tuple + additive_denominator_degree bs) - b.tuple) = omega arith in
     let there : map item (map with_first (taken_out bs)) ≡ map (λ (a : BranchDegrees). a.multiplicity + (c + (b.tuple + additive_denominator_degree bs) - a.tuple)) bs =
     map-map item with_first (taken_out bs)
-    ∙ regrouped (λ t. omega arith) (taken_out bs)
+    ∙ map_same (λ (t : BranchDegrees × List BranchDegrees). t.0.multiplicity + (c + (b.tuple + additive_denominator_degree t.1))) (λ (t : BranchDegrees × List BranchDegrees). t.0.multiplicity + (c + b.tuple + additive_denominator_degree t.1)) (λ t. omega arith) (taken_out bs)
     ∙ others_are (c + b.tuple) bs
     ∙ ap (λ (n : ℕ). map (λ (a : BranchDegrees). a.multiplicity + (n - a.tuple)) bs) (omega arith) in
     λ i. here i ∷ there i
-  where
-    regrouped : ((t : BranchDegrees × List BranchDegrees) → t.0.multiplicity + (c + (b.tuple + additive_denominator_degree t.1)) ≡ t.0.multiplicity + (c + b.tuple + additive_denominator_degree t.1)) → (ts : List (BranchDegrees × List BranchDegrees))
-        → map (λ (t : BranchDegrees × List BranchDegrees). t.0.multiplicity + (c + (b.tuple + additive_denominator_degree t.1))) ts ≡ map (λ (t : BranchDegrees × List BranchDegrees). t.0.multiplicity + (c + b.tuple + additive_denominator_degree t.1)) ts
-    regrouped each [] = refl
-    regrouped each (t ∷ ts) = λ i. each t i ∷ regrouped each ts i
 
 -- so the degree of the numerator goes by the branches
 pub numerator_terms : (bs : List BranchDegrees) → additive_numerator_degree bs ≡ greatest (map (λ (b : BranchDegrees). b.multiplicity + (additive_denominator_degree bs - b.tuple)) bs)
 numerator_terms bs =
-    ap greatest (unshifted (taken_out bs) ∙ others_are 0 bs ∙ ap (λ (n : ℕ). map (λ (b : BranchDegrees). b.multiplicity + (n - b.tuple)) bs) (omega arith))
-  where
-    unshifted : (ts : List (BranchDegrees × List BranchDegrees)) → map (λ (t : BranchDegrees × List BranchDegrees). t.0.multiplicity + additive_denominator_degree t.1) ts ≡ map (λ (t : BranchDegrees × List BranchDegrees). t.0.multiplicity + (0 + additive_denominator_degree t.1)) ts
-    unshifted [] = refl
-    unshifted (t ∷ ts) =
-        let e : t.0.multiplicity + additive_denominator_degree t.1 ≡ t.0.multiplicity + (0 + additive_denominator_degree t.1) = omega arith in
-        λ i. e i ∷ unshifted ts i
-
--- the tuples alone give the degree of the product of all denominators
-first_of_pairs : {A B : Type 0} (f : A → ℕ) (xs : List A) (ys : List B) → length ys ≡ length xs → map f xs ≡ map (λ (p : A × B). f p.0) (zip xs ys)
-first_of_pairs f [] ys same = refl
-first_of_pairs f (x ∷ xs) [] same = absurd (omega (arith, same))
-first_of_pairs f (x ∷ xs) (y ∷ ys) same = ap (λ ns. f x ∷ ns) (first_of_pairs f xs ys (omega (arith, same)))
-
-pub product_is : {F : Type 0} (t : ℕ) (lookup : Lookup F) → HasEqualLengths lookup → total (map (λ tuple. tuple_degree t tuple.items) lookup.elements.items) ≡ additive_denominator_degree (lookup_branch_degrees t lookup)
-product_is t lookup lengths =
-    ap total (first_of_pairs (λ tuple. tuple_degree t tuple.items) lookup.elements.items lookup.multiplicities.items lengths.multiplicities ∙ sym (map-map (λ b. b.tuple) (λ p. branch_degrees t p.0.items p.1) (zip lookup.elements.items lookup.multiplicities.items)))
+    ap greatest (map_same (λ (t : BranchDegrees × List BranchDegrees). t.0.multiplicity + additive_denominator_degree t.1) (λ (t : BranchDegrees × List BranchDegrees). t.0.multiplicity + (0 + additive_denominator_degree t.1)) (λ t. omega arith) (taken_out bs)
+    ∙ others_are 0 bs ∙ ap (λ (n : ℕ). map (λ (b : BranchDegrees). b.multiplicity + (n - b.tuple)) bs) (omega arith))
 
 module _ {F : Type 0} (t : ℕ) (lookup : Lookup F) (lengths : HasEqualLengths lookup) (i : ℕ) (tuple : Vec (SymbolicExpression F) Global) (multiplicity : SymbolicExpression F) (lt : i < length lookup.elements.items) (tuple_is : tuple ≡ get_or lookup.elements.items i tuple) (multiplicity_is : multiplicity ≡ get_or lookup.multiplicities.items i multiplicity) where
   abbrev pub branches : List BranchDegrees
@@ -100,11 +65,6 @@ module _ {F : Type 0} (t : ℕ) (lookup : Lookup F) (lengths : HasEqualLengths l
   branch_within f =
       let within : i < length branches = omega (arith, lt, length-degrees lookup lengths t) in
       item_within (map f branches) i (f branch) (omega (arith, within, length-map branches f)) (mapped_at f branches i branch within branch_is)
-
-  -- and it is the next one
-  pub branch_next : (f : BranchDegrees → ℕ) → greatest (take (i + 1) (map f branches)) ≡ max (greatest (take i (map f branches))) (f branch)
-  branch_next f =
-      greatest_next_is (map f branches) i (f branch) (mapped_more f branches i branch (omega (arith, lt, length-degrees lookup lengths t)) branch_is)
 
   module _ (flags : List (SymbolicExpression F)) (flag : SymbolicExpression F) (as_many : length flags ≡ length lookup.elements.items) (flag_is : flag ≡ get_or flags i flag) where
     abbrev flag_degrees : List ℕ

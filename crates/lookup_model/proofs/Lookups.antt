@@ -2,18 +2,14 @@
 -- satisfies the constraints.
 pub mod KeyLaws
 pub mod LookupFaults
-pub mod Nets
 pub mod PlainResults
-pub mod PlainRows
 pub mod Regrouping
 pub mod Rows
 pub mod RunningSums
 pub mod SatisfiedFractions
-pub mod SatisfiedLookups
 pub mod SatisfiedRows
-pub mod SatisfiedSelections
+pub mod SatisfiedWitnesses
 pub mod Selections
 pub mod Selectors
 pub mod SentRows
-pub mod Shapes
 pub mod Terminals

@@ -6,7 +6,7 @@ use Rattle.field.specs.Ring.{Ring, IsCommutativeRing}
 use Rattle.field.specs.laws.RingFacts.{add_mul, zero_mul}
 use Rattle.field.specs.Sums.{product_in, sum_in, taken_out}
 use Rattle.lookup_model.specs.LookupDegree.{greatest, total}
-use Rattle.lookup_model.proofs.DegreeBounds.{greatest_of_front, greatest_of_last}
+use Rattle.lookup_model.proofs.DegreeBounds.{greatest-push}
 use Rattle.lookup_model.proofs.SumLaws.{sum_in-push}
 
 module _ {X : Type 0} where
@@ -100,6 +100,4 @@ module _ {X : Type 0} (m d : X → ℕ) where
       ap (λ ts. greatest (map item_degree ts)) (taken_out-push xs x) ∙ ap greatest (map_push item_degree (map with_last (taken_out xs)) (x, xs)) in
       let shifted : sum_degree xs + d x ≤ max (d x) (greatest (map item_degree (map with_last (taken_out xs)))) =
       subst (λ (ns : List ℕ). sum_degree xs + d x ≤ max (d x) (greatest ns)) (sym (map-map item_degree with_last (taken_out xs))) (greatest_shift item_degree (λ t. item_degree (with_last t)) (d x) grown (taken_out xs)) in
-      let front = greatest_of_front (map item_degree (map with_last (taken_out xs))) (item_degree (x, xs)) in
-      let last = greatest_of_last (map item_degree (map with_last (taken_out xs))) (item_degree (x, xs)) in
-      omega (arith, above, below, step, product_degree-push xs x, longer, shifted, front, last)
+      omega (arith, above, below, step, product_degree-push xs x, longer, shifted, greatest-push (map item_degree (map with_last (taken_out xs))) (item_degree (x, xs)))

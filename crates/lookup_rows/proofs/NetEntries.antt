@@ -1,9 +1,11 @@
 -- The entries of a map of nets, item by item.
-use Rattle.std.proofs.Common.{length-append, suc, ◌≡◌, ℕ, ◌+◌, ◌<◌, length, take, get_or, Bool, true, false, cond, not, ◌||◌, List, [], ◌∷◌, ◌++◌, map, None, Some, unwrap_or, refl, sym, ap, subst, ◌∙◌, true≢false, Decides}
-use Rattle.std.proofs.lemmas.List.{append-nil, map-append, map_more}
+use Rattle.std.proofs.Common.{length-append, ◌≡◌, ℕ, ◌+◌, ◌<◌, length, take, get_or, Bool, true, false, cond, not, ◌||◌, List, [], ◌∷◌, ◌++◌, map, None, Some, unwrap_or, refl, sym, ap, subst, ◌∙◌, true≢false, Decides}
+use Rattle.std.proofs.lemmas.List.{append-nil, length-map, map-append}
 use Rattle.std.proofs.lemmas.List.Elements.{filter-append}
 use Rattle.std.specs.List.{filter, list_any, AllByRecursion}
 use Rattle.std.specs.Map.{lookup}
+use Rattle.lists.proofs.Each.{all_of_map, all_weaker, none_any}
+use Rattle.lists.proofs.Images.{filter_images, filter_none, map-map}
 use Rattle.lists.proofs.Items.{take_item}
 use Rattle.indexmap.specs.IndexMap.{insert_entry}
 use Rattle.field.specs.Ring.{Ring, IsCommutativeRing}
@@ -59,7 +61,7 @@ module _ {A : Type 0} (same : A → A → Bool) (decides : (a b : A) → Decides
         by_test false e rest = ap (λ b. cond b (Some (f y)) (lookup (same k) (map (λ a. (a, f a)) ys))) (turned k y ∙ e) ∙ rest
 
     -- values that agree at all keys but k agree at keys apart from k
-    agree : (f g : A → V) (k : A) → ((a : A) → same k a ≡ false → f a ≡ g a) → (ks : List A) → AllByRecursion (λ y. same k y ≡ false) ks → map {B = A × V} (λ a. (a, f a)) ks ≡ map (λ a. (a, g a)) ks
+    pub agree : (f g : A → V) (k : A) → ((a : A) → same k a ≡ false → f a ≡ g a) → (ks : List A) → AllByRecursion (λ y. same k y ≡ false) ks → map {B = A × V} (λ a. (a, f a)) ks ≡ map (λ a. (a, g a)) ks
     agree f g k others [] h = refl
     agree f g k others (y ∷ ys) h = λ i. (y, others y h.0 i) ∷ agree f g k others ys h.1 i
 
@@ -109,18 +111,9 @@ module _ {A : Type 0} (same : A → A → Bool) (decides : (a b : A) → Decides
 
     -- where no item has the key nothing is sent
     pub net-none : (xs : List X) (k : A) → list_any (λ y. same y k) (map key xs) ≡ false → net_in xs k ≡ R.zero
-    net-none xs k none = ap (λ t. sum_in R (map amount t)) (nothing xs none)
-      where
-        nothing : (xs : List X) → list_any (λ y. same y k) (map key xs) ≡ false → filter (λ x. same k (key x)) xs ≡ []
-        nothing [] e = refl
-        nothing (x ∷ xs) e = by_test (same (key x) k) refl (nothing xs)
-          where
-            by_test : (p : Bool) → same (key x) k ≡ p → (list_any (λ y. same y k) (map key xs) ≡ false → filter (λ y. same k (key y)) xs ≡ [])
-                → cond (same k (key x)) (x ∷ filter (λ y. same k (key y)) xs) (filter (λ y. same k (key y)) xs) ≡ []
-            by_test true f rest = absurd (true≢false (sym (ap (λ b. b || list_any (λ y. same y k) (map key xs)) f) ∙ e))
-            by_test false f rest =
-                ap (λ b. cond b (x ∷ filter (λ y. same k (key y)) xs) (filter (λ y. same k (key y)) xs)) (turned k (key x) ∙ f)
-                ∙ rest (sym (ap (λ b. b || list_any (λ y. same y k) (map key xs)) f) ∙ e)
+    net-none xs k none =
+        let apart = all_weaker (λ x. same (key x) k ≡ false) (λ x. same k (key x) ≡ false) (λ x e. turned k (key x) ∙ e) xs (all_of_map (λ y. same y k ≡ false) key xs (none_any (λ y. same y k) (map key xs) none)) in
+        ap (λ t. sum_in R (map amount t)) (filter_none (λ x. same k (key x)) xs apart)
 
     -- what the entries have at a key, or zero, is its net
     pub net-lookup : (xs : List X) (k : A) → unwrap_or (lookup (same k) (entries_in xs)) R.zero ≡ net_in xs k
@@ -197,15 +190,10 @@ count-more p xs i x lt is =
 
 -- how many values pass is how many keys have a value that does
 pub counted-values : {A V : Type 0} (p : V → Bool) (f : A → V) (ks : List A) → length (filter p (map (λ e. e.1) (map {B = A × V} (λ a. (a, f a)) ks))) ≡ length (filter (λ a. p (f a)) ks)
-counted-values p f [] = refl
-counted-values p f (k ∷ ks) = by_test (p (f k)) (counted-values p f ks)
-  where
-    by_test : (b : Bool) → length (filter p (map (λ e. e.1) (map {B = _ × _} (λ a. (a, f a)) ks))) ≡ length (filter (λ a. p (f a)) ks)
-        → length (cond b (f k ∷ filter p (map (λ e. e.1) (map {B = _ × _} (λ a. (a, f a)) ks))) (filter p (map (λ e. e.1) (map {B = _ × _} (λ a. (a, f a)) ks)))) ≡ length (cond b (k ∷ filter (λ a. p (f a)) ks) (filter (λ a. p (f a)) ks))
-    by_test true e = ap suc e
-    by_test false e = e
+counted-values p f ks =
+    ap (λ t. length (filter p t)) (map-map (λ e. e.1) (λ a. (a, f a)) ks)
+    ∙ ap length (filter_images f (λ a. p (f a)) p (λ a. refl) ks) ∙ length-map (filter (λ a. p (f a)) ks) f
 
 -- a view of the keys leaves the values
 pub values-viewed : {A K V : Type 0} (view : K → A) (es : List (K × V)) → map (λ e. e.1) es ≡ map (λ e. e.1) (map {B = A × V} (λ e. (view e.0, e.1)) es)
-values-viewed view [] = refl
-values-viewed view (e ∷ es) = ap (λ t. e.1 ∷ t) (values-viewed view es)
+values-viewed view es = sym (map-map (λ e. e.1) (λ e. (view e.0, e.1)) es)

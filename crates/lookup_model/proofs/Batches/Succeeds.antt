@@ -12,7 +12,7 @@ use Rattle.lookup_model.specs.Batches.Faults.{instance_faults}
 use Rattle.lookup_model.specs.Batches.Instances.{Instance}
 use Rattle.lookup_model.specs.Batches.Messages.{AreFlagsLawful, HasLawfulFlags, NoneVanishes, batch_messages, sent_rows_of}
 use Rattle.lookup_model.specs.Challenges.{ChallengeTable, table_key_denominator}
-use Rattle.lookup_model.proofs.Batches.OnlyFractions.{no_fault}
+use Rattle.lookup_model.proofs.Batches.OnlyWitness.{no_fault}
 
 module _ {F K : Type 0} {E : Extension F K} (laws : IsLawful E) (denominator : Key F → K) where
   no_row_faults : (row index : ℕ) (sents : List (Sent F)) → AllByRecursion (HasLawfulFlags E.base E.base_eq) sents → NoneVanishes E denominator (flat_map (λ s. s.messages) sents) → filter_map (λ p. fault_of E denominator row p.0 p.1) (enumerate_from index sents) ≡ []

@@ -1,25 +1,106 @@
--- The answer over the challenges of columns is the answer over the table.
-use Rattle.std.proofs.Common.{◌≡◌, ◌⊎◌, inl, inr, Option, Some, List, [], Result, Ok, Err, MatchResult, sym, ap, ◌∙◌}
-use Rattle.std.specs.List.{slice_get}
-use Rattle.matrix.specs.Matrix.{Matrix}
-use Rattle.lookup_model.specs.Denominators.{key_denominator}
+-- The lookups of an AIR over the challenges of its columns, and under the ids of a table: their results
+-- and faults are the same.
+use Rattle.std.proofs.Common.{◌≡◌, ℕ, zero, suc, ◌+◌, ◌*◌, ◌<◌, Option, None, Some, List, [], ◌∷◌, length, map, get_or, refl, ap, ◌∙◌, arith, ◌⊎◌, inl, inr, Result, Ok, Err, MatchResult, sym}
+use Rattle.std.specs.List.{AllZip, filter, range_with_len, zip, slice_get}
+use Rattle.std.specs.declared.alloc.Global.{Global}
+use Rattle.std.specs.declared.vec.Vec.{Vec}
+use Rattle.lists.proofs.Zips.{AllZip-filter, AllZip-images, AllZip-of_one, AllZip-weaker, AllZip-zip}
+use Rattle.lists.proofs.Each.{all_indexed, each_of}
 use Rattle.field.specs.Extension.{Extension, IsLawful}
+use Rattle.matrix.specs.Matrix.{height, Matrix}
+use Rattle.expressions.specs.Window.{Window}
+use Rattle.expressions.specs.declared.base_expression.SymbolicExpression.{SymbolicExpression}
+use Rattle.air.specs.Traces.{window_of}
+use Rattle.lookup_model.specs.Denominators.{key_denominator, tuple_denominator}
+use Rattle.lookup_model.specs.Message.{Key, Message}
+use Rattle.lookup_model.specs.Sent.{branch_at, chosen, flags_at, sent, sent_at, Sent}
+use Rattle.lookup_model.specs.declared.types.Lookup.{Lookup}
+use Rattle.lookup_model.specs.Batches.Instances.{Instance, IsFitting}
+use Rattle.lookup_model.specs.Batches.Messages.{id_of, sent_rows_of}
+use Rattle.lookup_model.specs.Challenges.{ChallengeTable, column_challenges, table_key_denominator}
+use Rattle.lookup_model.specs.Trace.{sent_row, sent_row_under, sent_rows}
 use Rattle.lookup_model.specs.Fault.{trace_faults}
 use Rattle.lookup_model.specs.Generated.{plain_matrix, plain_terminal_of}
-use Rattle.lookup_model.specs.Message.{Key}
-use Rattle.lookup_model.specs.Sent.{Sent}
-use Rattle.lookup_model.specs.Trace.{sent_rows}
 use Rattle.lookup_model.specs.Witness.{IsSatisfied}
 use Rattle.lookup_model.specs.declared.error.LookupError.{LookupError}
 use Rattle.lookup_model.specs.declared.error.LookupError.TheVariants.{Memory}
 use Rattle.lookup_model.specs.declared.types.LookupTerminal.{LookupTerminal}
 use Rattle.lookup_model.specs.Batches.Faults.{instance_faults}
-use Rattle.lookup_model.specs.Batches.Instances.{Instance, IsFitting}
-use Rattle.lookup_model.specs.Batches.Messages.{sent_rows_of}
 use Rattle.lookup_model.specs.Batches.Witnesses.{IsSatisfiedAt, plain_result}
-use Rattle.lookup_model.specs.Challenges.{ChallengeTable, column_challenges, table_key_denominator}
-use Rattle.lookup_model.proofs.Batches.ByTable.{alike_rows}
-use Rattle.lookup_model.proofs.Batches.Rekeyed.{same_faults, same_matrix, same_terminal_of}
+use Rattle.lookup_model.proofs.Lookups.SentRows.{column_is}
+use Rattle.lookup_model.proofs.Batches.Rekeyed.{AreRekeyed, AreRowsSameUpToKeys, IsRekeyed, SameUpToKeys, same_faults, same_matrix, same_terminal_of}
+
+module _ {K : Type 0} (table : ChallengeTable K) (d : K) where
+  -- the challenges of a column are the prefix of its id, and beta
+  pub alpha_at : (ids : List ℕ) (c : ℕ) → c < length ids → get_or (column_challenges table ids) (2 * c) d ≡ table.prefix (get_or ids c 0)
+  alpha_at [] c lt = absurd (omega (arith, lt))
+  alpha_at (id ∷ ids) zero lt = refl
+  alpha_at (id ∷ ids) (suc c) lt =
+      let two : 2 * suc c ≡ suc (suc (2 * c)) = omega arith in
+      ap (λ i. get_or (column_challenges table (id ∷ ids)) i d) two ∙ alpha_at ids c (omega (arith, lt))
+
+  pub beta_at : (ids : List ℕ) (c : ℕ) → c < length ids → get_or (column_challenges table ids) (2 * c + 1) d ≡ table.beta
+  beta_at [] c lt = absurd (omega (arith, lt))
+  beta_at (id ∷ ids) zero lt = refl
+  beta_at (id ∷ ids) (suc c) lt =
+      let two : 2 * suc c + 1 ≡ suc (suc (2 * c + 1)) = omega arith in
+      ap (λ i. get_or (column_challenges table (id ∷ ids)) i d) two ∙ beta_at ids c (omega (arith, lt))
+
+module _ {F K : Type 0} {E : Extension F K} (laws : IsLawful E) (table : ChallengeTable K) (instance : Instance F) (fitting : IsFitting instance) where
+  abbrev challenges : List K
+  challenges = column_challenges table instance.ids
+
+  abbrev pub column_den : Key F → K
+  column_den = key_denominator E challenges
+
+  abbrev pub table_den : Key F → K
+  table_den = table_key_denominator E table
+
+  abbrev Branches : Type 0
+  Branches = List (Vec (SymbolicExpression F) Global × SymbolicExpression F)
+
+  module _ (w : Window F) (c id : ℕ) (same : (tuple : List F) → column_den (record { id = c; tuple = tuple }) ≡ table_den (record { id = id; tuple = tuple })) where
+    abbrev by_column : Vec (SymbolicExpression F) Global × SymbolicExpression F → Message F
+    by_column b = branch_at E.base w c b.0.items b.1
+
+    abbrev by_id : Vec (SymbolicExpression F) Global × SymbolicExpression F → Message F
+    by_id b = branch_at E.base w id b.0.items b.1
+
+    rekeyed_all : (zs : Branches) → AreRekeyed laws column_den table_den (map by_column zs) (map by_id zs)
+    rekeyed_all zs = AllZip-of_one (IsRekeyed laws column_den table_den) by_column by_id zs (each_of _ (λ z. (refl, same (by_id z).key.tuple)) zs)
+
+    rekeyed_chosen : (fs : List F) (zs : Branches) → AreRekeyed laws column_den table_den (chosen E.base E.base_eq fs (map by_column zs)) (chosen E.base E.base_eq fs (map by_id zs))
+    rekeyed_chosen fs zs =
+        let Flagged = λ (p q : F × Message F). (p.0 ≡ q.0) × IsRekeyed laws column_den table_den p.1 q.1 in
+        let is_set = λ (q : F × Message F). E.base_eq q.0 E.base.one in
+        let ps = zip fs (map by_column zs) in
+        let qs = zip fs (map by_id zs) in
+        AllZip-images (IsRekeyed laws column_den table_den) (λ q. q.1) (λ q. q.1) (filter is_set ps) (filter is_set qs)
+        (AllZip-weaker Flagged (λ p q. IsRekeyed laws column_den table_den p.1 q.1) (λ p q e. e.1) (filter is_set ps) (filter is_set qs)
+        (AllZip-filter Flagged is_set is_set (λ p q e. ap (λ f. E.base_eq f E.base.one) e.0) ps qs (AllZip-zip (IsRekeyed laws column_den table_den) fs (map by_column zs) (map by_id zs) (rekeyed_all zs))))
+
+    alike_sent : (flags : Option (List F)) (zs : Branches) → SameUpToKeys laws column_den table_den (sent E.base E.base_eq flags (map by_column zs)) (sent E.base E.base_eq flags (map by_id zs))
+    alike_sent None zs = (refl, rekeyed_all zs)
+    alike_sent (Some fs) zs = (refl, rekeyed_chosen fs zs)
+
+  alike_row : (w : Window F) → AllZip (SameUpToKeys laws column_den table_den) (sent_row E.base E.base_eq w instance.lookups) (sent_row_under E.base E.base_eq (id_of instance.ids) w instance.lookups)
+  alike_row w =
+      AllZip-of_one (SameUpToKeys laws column_den table_den) (λ lookup. sent_at E.base E.base_eq w lookup.column lookup) (λ lookup. sent_at E.base E.base_eq w (id_of instance.ids lookup) lookup) instance.lookups
+      (all_indexed (λ lookup. SameUpToKeys laws column_den table_den (sent_at E.base E.base_eq w lookup.column lookup) (sent_at E.base E.base_eq w (id_of instance.ids lookup) lookup)) instance.lookups each)
+    where
+      each : (k : ℕ) (lookup : Lookup F) → k < length instance.lookups → lookup ≡ get_or instance.lookups k lookup → SameUpToKeys laws column_den table_den (sent_at E.base E.base_eq w lookup.column lookup) (sent_at E.base E.base_eq w (id_of instance.ids lookup) lookup)
+      each k lookup below is =
+          let within : lookup.column < length instance.ids = omega (arith, column_is instance.lookups k lookup fitting.fit.records below is, below, fitting.ids) in
+          alike_sent w lookup.column (id_of instance.ids lookup)
+          (λ tuple i. tuple_denominator E (alpha_at table E.ring.zero instance.ids lookup.column within i) (beta_at table E.ring.zero instance.ids lookup.column within i) tuple)
+          (flags_at E.base w lookup) (zip lookup.elements.items lookup.multiplicities.items)
+
+  -- the rows by columns are the rows by ids
+  pub alike_rows : AreRowsSameUpToKeys laws column_den table_den (sent_rows E.base E.base_eq instance.traces instance.lookups) (sent_rows_of E.base E.base_eq instance)
+  alike_rows =
+      let window = λ (r : ℕ). window_of instance.traces r in
+      AllZip-of_one (AllZip (SameUpToKeys laws column_den table_den)) (λ r. sent_row E.base E.base_eq (window r) instance.lookups) (λ r. sent_row_under E.base E.base_eq (id_of instance.ids) (window r) instance.lookups) (range_with_len 0 (height instance.traces.main))
+      (each_of (λ r. AllZip (SameUpToKeys laws column_den table_den) (sent_row E.base E.base_eq (window r) instance.lookups) (sent_row_under E.base E.base_eq (id_of instance.ids) (window r) instance.lookups)) (λ r. alike_row (window r)) (range_with_len 0 (height instance.traces.main)))
 
 module _ {F K : Type 0} {E : Extension F K} (laws : IsLawful E) (table : ChallengeTable K) (instance : Instance F) (fitting : IsFitting instance) where
   abbrev cold : List K → Key F → K

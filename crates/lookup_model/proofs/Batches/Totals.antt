@@ -1,7 +1,10 @@
 -- The terminals of a batch, by the nets of all its messages.
-use Rattle.std.proofs.Common.{◌≡◌, ℕ, cond, not, List, [], ◌∷◌, ◌++◌, map, refl, sym, ap, ◌∙◌}
+use Rattle.std.proofs.Common.{◌≡◌, not, List, [], ◌∷◌, ◌++◌, map, refl, sym, ap, ◌∙◌}
 use Rattle.std.proofs.lemmas.List.{map-append}
-use Rattle.std.specs.List.{filter, flat_map, range_with_len}
+use Rattle.std.specs.List.{flat_map, range_with_len}
+use Rattle.lists.proofs.Each.{all_images, each_of}
+use Rattle.lists.proofs.Images.{filter_none}
+use Rattle.lists.proofs.Parts.{nothing_flat}
 use Rattle.field.specs.Sums.{sum_in}
 use Rattle.matrix.specs.Matrix.{height}
 use Rattle.air.specs.Traces.{window_of}
@@ -33,14 +36,11 @@ module _ {F K : Type 0} {E : Extension F K} (laws : IsLawful E) (denominator : K
   message_sum-append ms ns = ap (sum_in E.ring) (map-append of_message ms ns) ∙ sum_in-append laws.ring (map of_message ms) (map of_message ns)
 
   -- messages that balance sum to zero
-  no_keys : (eq : Key F → F) (ks : List (Key F)) → ((k : Key F) → eq k ≡ E.base.zero) → filter (λ k. not (E.base_eq (eq k) E.base.zero)) ks ≡ []
-  no_keys nets [] zero = refl
-  no_keys nets (k ∷ ks) zero =
-      ap (λ b. cond (not b) (k ∷ filter (λ j. not (E.base_eq (nets j) E.base.zero)) ks) (filter (λ j. not (E.base_eq (nets j) E.base.zero)) ks)) ((laws.base_eq (nets k) E.base.zero).1 (zero k)) ∙ no_keys nets ks zero
-
   pub balanced_sum : (ms : List (Message F)) → IsBalanced E.base E.base_eq ms → net_sum E denominator ms ≡ E.ring.zero
   balanced_sum ms balanced =
-      ap (λ ks. sum_in E.ring (map (λ key. quotient E denominator (net E.base E.base_eq ms key) key) ks)) (no_keys (net E.base E.base_eq ms) (keys E.base_eq ms) balanced)
+      let net_of = net E.base E.base_eq ms in
+      ap (λ ks. sum_in E.ring (map (λ key. quotient E denominator (net_of key) key) ks))
+      (filter_none (λ key. not (E.base_eq (net_of key) E.base.zero)) (keys E.base_eq ms) (each_of _ (λ key. ap not ((laws.base_eq (net_of key) E.base.zero).1 (balanced key))) (keys E.base_eq ms)))
 
 module _ {F K : Type 0} {E : Extension F K} (laws : IsLawful E) (table : ChallengeTable K) where
   abbrev den : Key F → K
@@ -48,10 +48,6 @@ module _ {F K : Type 0} {E : Extension F K} (laws : IsLawful E) (table : Challen
 
   abbrev messages_of : Instance F → List (Message F)
   messages_of instance = trace_messages (sent_rows_of E.base E.base_eq instance)
-
-  no_messages : (f : ℕ → List (Sent F)) → ((r : ℕ) → f r ≡ []) → (rs : List ℕ) → trace_messages (map f rs) ≡ []
-  no_messages f none [] = refl
-  no_messages f none (r ∷ rs) = λ i. flat_map (λ s. s.messages) (none r i) ++ no_messages f none rs i
 
   -- the terminal of an AIR, zero without lookups
   pub terminal_is : (instance : Instance F) → terminal_value E.ring (plain_result E table instance).1 ≡ message_sum laws den (messages_of instance)
@@ -61,7 +57,7 @@ module _ {F K : Type 0} {E : Extension F K} (laws : IsLawful E) (table : Challen
       rows ls = map (λ r. sent_row_under E.base E.base_eq (id_of instance.ids) (window_of instance.traces r) ls) (range_with_len 0 (height instance.traces.main))
 
       by_lookups : (ls : List (Lookup F)) → terminal_value E.ring (plain_terminal_of E (table_key_denominator E table) ls (rows ls)) ≡ message_sum laws den (trace_messages (rows ls))
-      by_lookups [] = sym (ap (message_sum laws den) (no_messages (λ r. []) (λ r. refl) (range_with_len 0 (height instance.traces.main))))
+      by_lookups [] = sym (ap (message_sum laws den) (nothing_flat (λ row. flat_map (λ s. s.messages) row) (rows []) (all_images _ (λ r. []) (range_with_len 0 (height instance.traces.main)) (each_of _ (λ r. refl) (range_with_len 0 (height instance.traces.main))))))
       by_lookups (l ∷ ls) = net_sum-messages laws den (trace_messages (rows (l ∷ ls)))
 
   -- the terminals of the plain witness sum to the net sum of all messages

@@ -1,17 +1,21 @@
--- The plain result: its shape, and that without lookups it is empty.
-use Rattle.std.proofs.Common.{◌≡◌, ℕ, zero, suc, ◌≤◌, ◌+◌, ◌*◌, ◌/◌, ◌<◌, ◌==◌, Some, List, [], ◌∷◌, length, map, get_or, refl, sym, ap, ◌∙◌, arith, cond}
+-- The plain result and its shape, and what a witness has by its shape: with lookups a width, a height
+-- and a terminal; without them no cells and no terminal.
+use Rattle.std.proofs.Common.{◌≡◌, ℕ, ◌+◌, ◌*◌, ◌/◌, ◌<◌, ◌==◌, Some, List, [], ◌∷◌, length, map, refl, sym, ap, ◌∙◌, arith, cond, true, false, Option, None}
 use Rattle.std.proofs.lemmas.Bool.{ne_eqb}
-use Rattle.std.proofs.lemmas.List.{length-append, length-map}
 use Rattle.std.proofs.lemmas.Nat.{div-mul-add}
-use Rattle.std.specs.List.{enumerate_from, flat_map, range_with_len}
-use Rattle.matrix.specs.Matrix.{IsShaped, height}
+use Rattle.std.specs.List.{enumerate_from, flat_map}
+use Rattle.std.proofs.lemmas.List.{nil_from_length}
+use Rattle.std.specs.Option.{is_some}
 use Rattle.field.specs.Extension.{Extension}
+use Rattle.matrix.specs.Matrix.{IsShaped, height, Matrix}
 use Rattle.lookup_model.specs.Fault.{row_faults}
 use Rattle.lookup_model.specs.Generated.{plain_matrix, plain_terminal_of}
 use Rattle.lookup_model.specs.Message.{Key}
-use Rattle.lookup_model.specs.Plain.{plain_cells, plain_fraction, plain_row, plain_terminal}
+use Rattle.lookup_model.specs.Plain.{plain_cells, plain_terminal}
 use Rattle.lookup_model.specs.Sent.{Sent}
 use Rattle.lookup_model.specs.declared.types.Lookup.{Lookup}
+use Rattle.lookup_model.specs.Witness.{HasShape}
+use Rattle.lookup_model.specs.declared.types.LookupTerminal.{LookupTerminal}
 
 -- the height of as many rows of this width
 pub height_of : {T : Type 0} (values : List T) (rows width : ℕ) → length values ≡ rows * (width + 1) → height (record { values = values; width = width + 1 }) ≡ rows
@@ -39,10 +43,29 @@ module _ {F K : Type 0} (E : Extension F K) (denominator : Key F → K) where
   plain_terminal_of-some [] rows some = absurd (omega arith)
   plain_terminal_of-some (l ∷ ls) rows some = refl
 
-  -- rows of one length each give a cell more than that
-  pub length-plain_rows : (rows : List (List (Sent F))) (n : ℕ) → ((k : ℕ) → k < length rows → length (get_or rows k []) ≡ n) → (a m : ℕ) → a + m ≤ length rows → length (flat_map (plain_row E denominator rows) (range_with_len a m)) ≡ m * (n + 1)
-  length-plain_rows rows n each a zero within = omega arith
-  length-plain_rows rows n each a (suc m) within =
-      let rest = flat_map (plain_row E denominator rows) (range_with_len (a + 1) m) in
-      length-append (plain_row E denominator rows a) rest
-      ∙ omega (arith, length-plain_rows rows n each (a + 1) m (omega arith), length-map (get_or rows a []) (plain_fraction E denominator), each a (omega arith))
+module _ {K : Type 0} where
+  -- if no terminal is present, it is `None`
+  no_terminal : (terminal : Option (LookupTerminal K)) → false ≡ is_some terminal → terminal ≡ None
+  no_terminal None e = refl
+  no_terminal (Some t) e = absurd (cc e)
+
+  -- if one is present, it is `Some`
+  a_terminal : (terminal : Option (LookupTerminal K)) → true ≡ is_some terminal → (t : LookupTerminal K) × (terminal ≡ Some t)
+  a_terminal None e = absurd (cc e)
+  a_terminal (Some t) e = (t, refl)
+
+module _ {F K : Type 0} where
+  -- without lookups there are no cells and no terminal
+  pub shape-none : (lookups : List (Lookup F)) (h : ℕ) (auxiliary : Matrix K) (terminal : Option (LookupTerminal K)) → lookups ≡ [] → HasShape lookups h auxiliary terminal
+      → (auxiliary ≡ record { values = []; width = 0 }) × (terminal ≡ None)
+  shape-none [] h auxiliary terminal is has =
+      let none : height auxiliary * auxiliary.width ≡ height auxiliary * 0 = ap (λ n. height auxiliary * n) has.width in
+      let empty : auxiliary.values ≡ [] = nil_from_length auxiliary.values (omega (arith, has.whole, none)) in
+      (λ i. record { values = empty i; width = has.width i }, no_terminal terminal has.presence)
+  shape-none (l ∷ ls) h auxiliary terminal is has = absurd (cc is)
+
+  -- with lookups there are as many rows as the main trace has, one column more than lookups, and a terminal
+  pub shape-some : (lookups : List (Lookup F)) (h : ℕ) (auxiliary : Matrix K) (terminal : Option (LookupTerminal K)) → 0 < length lookups → HasShape lookups h auxiliary terminal
+      → (auxiliary.width ≡ length lookups + 1) × (height auxiliary ≡ h) × ((t : LookupTerminal K) × (terminal ≡ Some t))
+  shape-some [] h auxiliary terminal some has = absurd (omega (arith, some))
+  shape-some (l ∷ ls) h auxiliary terminal some has = (has.width, has.high, a_terminal terminal has.presence)

@@ -32,23 +32,21 @@ module _ {F : Type 0} (is_set : F → Bool) where
       zero_plus = omega arith
 
 module _ {F : Type 0} (R : Ring F) (eq : F → F → Bool) where
-  -- an index is not before the first one
-  pub indices_from : (n : ℕ) (fs : List F) (p : ℕ) (ps : List ℕ) → set_indices R eq n fs ≡ p ∷ ps → n ≤ p
-  indices_from n [] p ps e = absurd (cc e)
-  indices_from n (f ∷ fs) p ps e = by_test (eq f R.one) e (indices_from (n + 1) fs p ps)
+  -- an index is not before the first one, and within the flags
+  index_between : (n : ℕ) (fs : List F) (p : ℕ) (ps : List ℕ) → set_indices R eq n fs ≡ p ∷ ps → (n ≤ p) × (p < n + length fs)
+  index_between n [] p ps e = absurd (cc e)
+  index_between n (f ∷ fs) p ps e = by_test (eq f R.one) e (index_between (n + 1) fs p ps)
     where
-      by_test : (b : Bool) → map (λ (q : ℕ × F). q.0) (cond b ((n, f) ∷ filter (λ q. eq q.1 R.one) (enumerate_from (n + 1) fs)) (filter (λ q. eq q.1 R.one) (enumerate_from (n + 1) fs))) ≡ p ∷ ps → (set_indices R eq (n + 1) fs ≡ p ∷ ps → n + 1 ≤ p) → n ≤ p
-      by_test true at later = let first : n ≡ p = cc at in omega (arith, first)
-      by_test false at later = omega (arith, later at)
+      by_test : (b : Bool) → map (λ (q : ℕ × F). q.0) (cond b ((n, f) ∷ filter (λ q. eq q.1 R.one) (enumerate_from (n + 1) fs)) (filter (λ q. eq q.1 R.one) (enumerate_from (n + 1) fs))) ≡ p ∷ ps
+          → (set_indices R eq (n + 1) fs ≡ p ∷ ps → (n + 1 ≤ p) × (p < n + 1 + length fs)) → (n ≤ p) × (p < n + suc (length fs))
+      by_test true at later = let first : n ≡ p = cc at in (omega (arith, first), omega (arith, first))
+      by_test false at later = let rest = later at in (omega (arith, rest.0), omega (arith, rest.1))
 
-  -- and within the flags
+  pub indices_from : (n : ℕ) (fs : List F) (p : ℕ) (ps : List ℕ) → set_indices R eq n fs ≡ p ∷ ps → n ≤ p
+  indices_from n fs p ps e = (index_between n fs p ps e).0
+
   pub index_within : (n : ℕ) (fs : List F) (p : ℕ) (ps : List ℕ) → set_indices R eq n fs ≡ p ∷ ps → p < n + length fs
-  index_within n [] p ps e = absurd (cc e)
-  index_within n (f ∷ fs) p ps e = by_test (eq f R.one) e (index_within (n + 1) fs p ps)
-    where
-      by_test : (b : Bool) → map (λ (q : ℕ × F). q.0) (cond b ((n, f) ∷ filter (λ q. eq q.1 R.one) (enumerate_from (n + 1) fs)) (filter (λ q. eq q.1 R.one) (enumerate_from (n + 1) fs))) ≡ p ∷ ps → (set_indices R eq (n + 1) fs ≡ p ∷ ps → p < n + 1 + length fs) → p < n + suc (length fs)
-      by_test true at later = let first : n ≡ p = cc at in omega (arith, first)
-      by_test false at later = omega (arith, later at)
+  index_within n fs p ps e = (index_between n fs p ps e).1
 
   module _ {X : Type 0} where
     -- no more branches are chosen than flags are set

@@ -2,7 +2,8 @@
 use Rattle.std.proofs.Common.{◌≡◌, false, not, List, [], ◌∷◌, map, refl, sym, ap, ◌∙◌}
 use Rattle.std.proofs.lemmas.Bool.{not-false}
 use Rattle.std.proofs.lemmas.List.{map-append}
-use Rattle.std.specs.List.{flat_map, AllByRecursion}
+use Rattle.std.specs.List.{flat_map}
+use Rattle.lists.proofs.Each.{all_of_map}
 use Rattle.field.specs.laws.RingFacts.{zero_mul, add_mul}
 use Rattle.field.specs.Sums.{sum_in}
 use Rattle.field.specs.Extension.{Extension, IsLawful}
@@ -11,8 +12,7 @@ use Rattle.lookup_model.specs.Net.{keys, net}
 use Rattle.lookup_model.specs.Plain.{net_sum, plain_fraction, plain_terminal, quotient, trace_messages}
 use Rattle.lookup_model.specs.Sent.{Sent}
 use Rattle.lookup_model.proofs.Lookups.KeyLaws.{same_key-Decides}
-use Rattle.lookup_model.proofs.Lookups.Nets.{regrouped}
-use Rattle.lookup_model.proofs.Lookups.Regrouping.{Holds, first_seen_separate, first_seen_holds}
+use Rattle.lookup_model.proofs.Lookups.Regrouping.{regrouped, Holds, first_seen_separate, first_seen_holds}
 use Rattle.lookup_model.proofs.SumLaws.{sum_in-append, sum_in-filter}
 
 module _ {F K : Type 0} {E : Extension F K} (laws : IsLawful E) (denominator : Key F → K) where
@@ -52,11 +52,6 @@ module _ {F K : Type 0} {E : Extension F K} (laws : IsLawful E) (denominator : K
       ∙ sym (sum_in-append laws.ring (map of_message (flat_map (λ s. s.messages) row)) (map of_message (trace_messages rows)))
       ∙ ap (sum_in E.ring) (sym (map-append of_message (flat_map (λ s. s.messages) row) (trace_messages rows)))
 
-  -- every message's key is among the keys
-  held : (ks : List (Key F)) (ms : List (Message F)) → AllByRecursion (Holds (same_key E.base_eq) ks) (map (λ m. m.key) ms) → AllByRecursion (λ m. Holds (same_key E.base_eq) ks m.key) ms
-  held ks [] h = tt
-  held ks (m ∷ ms) h = (h.0, held ks ms h.1)
-
   -- the sum by nets is the sum of the quotients of all messages
   pub net_sum-messages : (messages : List (Message F)) → net_sum E denominator messages ≡ sum_in E.ring (map of_message messages)
   net_sum-messages messages =
@@ -65,7 +60,7 @@ module _ {F K : Type 0} {E : Extension F K} (laws : IsLawful E) (denominator : K
       let ks = keys E.base_eq messages in
       let net_quotient = λ (key : Key F). quotient E denominator (net E.base E.base_eq messages key) key in
       sum_in-filter laws.ring net_quotient (λ key. not (E.base_eq (net E.base E.base_eq messages key) E.base.zero)) (λ key e. dropped key (net E.base E.base_eq messages key) e) ks
-      ∙ regrouped E.base laws.ring same decides (λ m. m.key) (λ m. m.multiplicity) (λ key a. quotient E denominator a key) quotient-add quotient-zero ks (first_seen_separate same (map (λ m. m.key) messages)) messages (held ks messages (first_seen_holds same decides (map (λ m. m.key) messages)))
+      ∙ regrouped E.base laws.ring same decides (λ m. m.key) (λ m. m.multiplicity) (λ key a. quotient E denominator a key) quotient-add quotient-zero ks (first_seen_separate same (map (λ m. m.key) messages)) messages (all_of_map (Holds same ks) (λ m. m.key) messages (first_seen_holds same decides (map (λ m. m.key) messages)))
 
   -- the terminal by nets is the sum of all fractions
   pub plain_terminal-sum : (rows : List (List (Sent F))) → plain_terminal E denominator rows ≡ sum_in E.ring (flat_map (λ row. map (plain_fraction E denominator) row) rows)

@@ -2,7 +2,7 @@ use Rattle.std.proofs.Common.{refl, inr}
 use Rattle.lists.proofs.Zips.{AllZip-paired}
 use Rattle.lists.proofs.Zips.{AllZip-more}
 use Rattle.lookup_tables.specs.Traces.{AreTracesOf}
-use Rattle.lookup_c.proofs.FirstFaults.{first_fault}
+use Rattle.expressions.proofs.FirstFaults.{first_fault}
 use Rattle.lookup_c.proofs.AnswerLaws.{refused_is}
 use Rattle.lookup_c.proofs.batch_tables.all_traces.Goals as goal
 

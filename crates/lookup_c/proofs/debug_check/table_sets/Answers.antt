@@ -1,9 +1,8 @@
 use Rattle.std.proofs.Common.{refl, inr}
-use Rattle.lists.proofs.Zips.{AllZip-paired}
+use Rattle.lists.proofs.Zips.{AllZip-more, AllZip-paired}
 use Rattle.lookup.specs.Lookups.{lookups_of}
-use Rattle.lists.proofs.Zips.{AllZip-more}
 use Rattle.lookup_tables.specs.Tables.{EncodeLookups}
-use Rattle.lookup_c.proofs.FirstFaults.{first_fault}
+use Rattle.expressions.proofs.FirstFaults.{first_fault}
 use Rattle.lookup_c.proofs.AnswerLaws.{refused_is}
 use Rattle.lookup_c.proofs.debug_check.table_sets.Goals as goal
 

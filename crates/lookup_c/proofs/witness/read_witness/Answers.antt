@@ -1,7 +1,7 @@
 use Rattle.std.proofs.Common.{inl, inr}
 use Rattle.std.proofs.lemmas.List.Elements.{All-more}
 use Rattle.lookup_c.specs.Witnesses.{IsAirWitness, auxiliary_of, terminal_of}
-use Rattle.lookup_c.proofs.FirstFaults.{first_fault}
+use Rattle.expressions.proofs.FirstFaults.{first_fault}
 use Rattle.lookup_c.proofs.WrittenLaws.{map_next}
 use Rattle.lookup_c.proofs.AnswerLaws.{refused_is}
 use Rattle.lookup_c.proofs.witness.read_witness.Goals as goal

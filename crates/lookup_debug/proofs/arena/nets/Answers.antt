@@ -1,9 +1,14 @@
-use Rattle.std.proofs.Common.{◌≡◌, ◌≤◌, ◌<◌, sym, get_or, length, map, slice_range, subst, ap, ◌∙◌, arith}
+use Rattle.std.proofs.Common.{◌≡◌, ◌≤◌, ◌<◌, ℕ, List, sym, get_or, length, map, slice_range, subst, ap, ◌∙◌, arith}
 use Rattle.std.proofs.lemmas.List.{take_all}
 use Rattle.lookup_debug.specs.Arena.{span_amount}
+use Rattle.lookup_debug.specs.declared.arena.TupleSpan.{TupleSpan}
 use Rattle.lookup_debug.specs.Nets.{amount_nets}
-use Rattle.lookup_debug.proofs.SpanNets.{span_more}
+use Rattle.lookup_debug.proofs.SpanLaws.{span_more}
 use Rattle.lookup_debug.proofs.arena.nets.Goals as goal
+
+-- the span that is read of a list with the same items
+span_there : {F : Type 0} (spans all : List (TupleSpan F)) (i : ℕ) (span : TupleSpan F) → all ≡ spans → i < length all → span ≡ get_or all i span → (i < length spans) × (span ≡ get_or spans i span)
+span_there spans all i span same lt is = (subst (λ t. i < length t) same lt, is ∙ ap (λ t. get_or t i span) same)
 
 pub loop-span-preserved : goal.loop-span-preserved
 loop-span-preserved g c =
@@ -12,10 +17,8 @@ loop-span-preserved g c =
     let elements = c.args.contributions.now.elements.items in
     let i = c.loop-span.span-index in
     let span = c.span-item.result in
-    let all = c.deref-span-items.ensures.value in
-    let lt = subst (λ t. i < length t) all c.loop-span-test.true in
-    let is = c.span-item.is ∙ ap (λ t. get_or t i span) all in
-    span_more R.lawful g.F.PartialEq.eq g.met.F.PrimeCharacteristicRing.eq_is elements spans i span lt is c.loop-span.nets.entries _ _
+    let at = span_there spans _ i span c.deref-span-items.ensures.value c.loop-span-test.true c.span-item.is in
+    span_more R.lawful g.F.PartialEq.eq g.met.F.PrimeCharacteristicRing.eq_is elements spans i span at.0 at.1 c.loop-span.nets.entries _ _
     (λ j. slice_range (c.as_slice-elements.ensures.value j) span.start span.end) c.loop-span.invariant c.in_ok-add_at.ensures.adds
 
 pub returns : goal.returns
@@ -37,18 +40,14 @@ slice_bounds-tuple-count g c =
     let i = c.loop-span.span-index in
     let spans = c.args.contributions.now.spans.items in
     let span = c.span-item.result in
-    let all = c.deref-span-items.ensures.value in
-    let lt = subst (λ t. i < length t) all c.loop-span-test.true in
-    let is : span ≡ get_or spans i span = c.span-item.is ∙ ap (λ t. get_or t i span) all in
-    subst (λ d. d.start ≤ d.end) (sym is) (c.requires.within i span lt).0
+    let at = span_there spans _ i span c.deref-span-items.ensures.value c.loop-span-test.true c.span-item.is in
+    subst (λ d. d.start ≤ d.end) (sym at.1) (c.requires.within i span at.0).0
 
 pub offset_bounds-elements-span : goal.offset_bounds-elements-span
 offset_bounds-elements-span g c =
     let i = c.loop-span.span-index in
     let spans = c.args.contributions.now.spans.items in
     let span = c.span-item.result in
-    let all = c.deref-span-items.ensures.value in
-    let lt = subst (λ t. i < length t) all c.loop-span-test.true in
-    let is : span ≡ get_or spans i span = c.span-item.is ∙ ap (λ t. get_or t i span) all in
-    let within = c.requires.within i span lt in
-    omega (arith, within.0, within.1, ap (λ d. d.start) is, ap length c.as_slice-elements.ensures.value)
+    let at = span_there spans _ i span c.deref-span-items.ensures.value c.loop-span-test.true c.span-item.is in
+    let within = c.requires.within i span at.0 in
+    omega (arith, within.0, within.1, ap (λ d. d.start) at.1, ap length c.as_slice-elements.ensures.value)

@@ -27,9 +27,3 @@ returns g c =
     c.in_ok-label.ensures found
     (ap (λ ls. map location_of ls.items) c.into_locations.ensures ∙ c.in_ok-walk_bus-2.ensures.1 ∙ (λ i. map location_of (c.new-locations.ensures.empty i) ++ tuple_locations R eq (c.new-locations.ensures.tuple i) cs))
     c.in_ok-mismatch.ensures)
-
-pub walk_bus-requires-clause-fit : goal.walk_bus-requires-clause-fit
-walk_bus-requires-clause-fit g c = c.requires
-
-pub walk_bus-requires-2-clause-fit : goal.walk_bus-requires-2-clause-fit
-walk_bus-requires-2-clause-fit g c = c.requires

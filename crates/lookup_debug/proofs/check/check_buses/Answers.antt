@@ -5,7 +5,7 @@ use Rattle.std.specs.Borrow.{Bor}
 use Rattle.lookup_debug.specs.Contributions.{traced_of}
 use Rattle.lookup_debug.specs.Groups.{bus_group}
 use Rattle.lookup_debug.specs.Mismatch.{EachBalances, IsFirstMismatch}
-use Rattle.lookup_debug.proofs.LocalGroupLaws.{bus_balances, bus_mismatch, buses_balance}
+use Rattle.lookup_debug.proofs.GroupLaws.{bus_balances, bus_mismatch, buses_balance}
 use Rattle.lookup_debug.proofs.check.check_buses.Goals as goal
 
 pub returns-in_err-check_bus : goal.returns-in_err-check_bus

@@ -2,7 +2,7 @@ use Rattle.std.proofs.Common.{map}
 use Rattle.std.specs.Borrow.{Bor}
 use Rattle.lookup_debug.specs.Contributions.{traced_of}
 use Rattle.lookup_debug.specs.Mismatch.{EachBalances}
-use Rattle.lookup_debug.proofs.LocalGroupLaws.{first_bus_groups}
+use Rattle.lookup_debug.proofs.GroupLaws.{first_bus_groups}
 use Rattle.lookup_debug.proofs.check.check_buses.Given as goal
 
 abbrev pub invariant-loop-index : goal.invariant-loop-index

@@ -27,15 +27,3 @@ returns g c =
     c.in_ok-label.ensures found
     (ap (λ ls. map location_of ls.items) c.into_locations.ensures ∙ c.in_ok-walk_lookup-2.ensures.1 ∙ (λ i. map location_of (c.new-locations.ensures.empty i) ++ tuple_locations R eq (c.new-locations.ensures.tuple i) cs))
     c.in_ok-mismatch.ensures)
-
-pub walk_lookup-requires-clause-there : goal.walk_lookup-requires-clause-there
-walk_lookup-requires-clause-there g c = c.requires.there
-
-pub walk_lookup-requires-2-clause-there : goal.walk_lookup-requires-2-clause-there
-walk_lookup-requires-2-clause-there g c = c.requires.there
-
-pub walk_lookup-requires-clause-fit : goal.walk_lookup-requires-clause-fit
-walk_lookup-requires-clause-fit g c = c.requires.fit
-
-pub walk_lookup-requires-2-clause-fit : goal.walk_lookup-requires-2-clause-fit
-walk_lookup-requires-2-clause-fit g c = c.requires.fit

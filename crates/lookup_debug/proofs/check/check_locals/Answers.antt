@@ -3,7 +3,7 @@ use Rattle.std.proofs.lemmas.List.{length-map}
 use Rattle.std.proofs.lemmas.Result.{err_from_is_err_and}
 use Rattle.lookup_debug.specs.Contributions.{IsTracedFitting, traced_of}
 use Rattle.lookup_debug.specs.declared.instance.LookupDebugInstance.{LookupDebugInstance}
-use Rattle.lookup_debug.proofs.LocalGroupLaws.{air_balances, air_mismatch, airs_balance, traced_at}
+use Rattle.lookup_debug.proofs.GroupLaws.{air_balances, air_mismatch, airs_balance, traced_at}
 use Rattle.lookup_debug.proofs.check.check_locals.Goals as goal
 
 pub check_locals_of-requires : goal.check_locals_of-requires

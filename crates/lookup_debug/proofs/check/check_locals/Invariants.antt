@@ -1,7 +1,7 @@
 use Rattle.std.proofs.Common.{map}
 use Rattle.lookup_debug.specs.Contributions.{traced_of}
 use Rattle.lookup_debug.specs.Mismatch.{EachBalances}
-use Rattle.lookup_debug.proofs.LocalGroupLaws.{first_air_groups}
+use Rattle.lookup_debug.proofs.GroupLaws.{first_air_groups}
 use Rattle.lookup_debug.proofs.check.check_locals.Given as goal
 
 abbrev pub invariant-loop-instance : goal.invariant-loop-instance

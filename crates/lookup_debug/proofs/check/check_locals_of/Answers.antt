@@ -2,7 +2,7 @@ use Rattle.std.proofs.Common.{ℕ, get_or, inl, inr, sym, ◌∙◌}
 use Rattle.std.proofs.lemmas.Option.{slice_get-get_or}
 use Rattle.std.proofs.lemmas.Result.{err_from_is_err_and}
 use Rattle.lookup_debug.specs.Contributions.{Traced, traced_of}
-use Rattle.lookup_debug.proofs.LocalGroupLaws.{local_balances, local_mismatch, locals_balance, other_balances}
+use Rattle.lookup_debug.proofs.GroupLaws.{local_balances, local_mismatch, locals_balance, other_balances}
 use Rattle.lookup_debug.proofs.check.check_locals_of.Goals.{then-is_local+in_ok-check_local, else-is_local}
 use Rattle.lookup_debug.proofs.check.check_locals_of.Goals as goal
 
@@ -46,6 +46,3 @@ returns g c =
     let eq = g.F.PartialEq.eq in
     let all : ℕ × Traced _ = (c.args.instance, traced_of c.args.traced.now) in
     locals_balance R eq all c.loop-index.index c.loop-index-test.false c.loop-index.invariant
-
-pub check_local-requires-clause-fit : goal.check_local-requires-clause-fit
-check_local-requires-clause-fit g c = c.requires

@@ -1,6 +1,6 @@
 use Rattle.lookup_debug.specs.Contributions.{traced_of}
 use Rattle.lookup_debug.specs.Mismatch.{EachBalances}
-use Rattle.lookup_debug.proofs.LocalGroupLaws.{first_local_groups}
+use Rattle.lookup_debug.proofs.GroupLaws.{first_local_groups}
 use Rattle.lookup_debug.proofs.check.check_locals_of.Given as goal
 
 abbrev pub invariant-loop-index : goal.invariant-loop-index

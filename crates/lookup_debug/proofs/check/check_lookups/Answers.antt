@@ -2,7 +2,7 @@ use Rattle.std.proofs.Common.{inl, inr, map}
 use Rattle.std.proofs.lemmas.Result.{err_from_is_err_and}
 use Rattle.lookup_debug.specs.Contributions.{traced_of}
 use Rattle.lookup_debug.specs.Groups.{bus_group, local_groups, traced_bus_names}
-use Rattle.lookup_debug.proofs.GroupSteps.{answers-after, mismatch-sooner}
+use Rattle.lookup_debug.proofs.GroupLaws.{answers-after, mismatch-sooner}
 use Rattle.lookup_debug.proofs.check.check_lookups.Goals as goal
 
 pub check_locals-requires : goal.check_locals-requires

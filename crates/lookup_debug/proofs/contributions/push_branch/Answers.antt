@@ -19,6 +19,3 @@ returns g c location =
     let counts : eq c.args.amount R.zero ≡ false = ap (eq c.args.amount) (sym zero_is) ∙ (sym c.eq.ensures ∙ c.if-eq.false) in
     subst (λ (b : Bool). Appends before after (cond (not b) one [])) (sym counts)
     (appends-span before after tuple _ c.requires.within c.in_ok-push_tuple.ensures c.in_ok-push.ensures.items (omega (arith, c.len-start.ensures, before.elements.ok.0)) (omega (arith, c.len-end.ensures, after.elements.ok.0)))
-
-pub push_tuple-requires : goal.push_tuple-requires
-push_tuple-requires g c = c.requires.fits

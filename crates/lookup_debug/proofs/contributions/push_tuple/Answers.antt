@@ -1,9 +1,9 @@
-use Rattle.std.proofs.Common.{◌++◌, ap, sym, ◌∙◌}
+use Rattle.std.proofs.Common.{◌++◌, ◌∷◌, [], ap, sym, ◌∙◌}
 use Rattle.std.proofs.lemmas.List.{append-nil, take_all}
 use Rattle.lookup_model.proofs.RecordLaws.{Fits-at}
-use Rattle.lookup_model.specs.Sent.{values}
+use Rattle.lookup_model.specs.Sent.{value, values}
 use Rattle.lookup_rows.specs.TraceBuilder.{builder_layout, builder_window}
-use Rattle.lookup_debug.proofs.AmountLaws.{values_step}
+use Rattle.lists.proofs.Images.{appended_more}
 use Rattle.lookup_debug.proofs.contributions.push_tuple.Goals as goal
 
 pub value_of-requires : goal.value_of-requires
@@ -15,8 +15,9 @@ loop-element-init g c = sym (append-nil c.args.elements.now.items)
 
 pub loop-element-preserved : goal.loop-element-preserved
 loop-element-preserved g c =
-    values_step g.F.PrimeCharacteristicRing.ring (builder_window c.args.builder.now) c.args.tuple.now c.loop-element.element-index c.element-item.result c.value_of.result
-    c.args.elements.now.items c.loop-element.elements.items c.push.new.self.items c.loop-element-test.true c.element-item.is c.value_of.ensures c.loop-element.invariant c.in_ok-push.ensures.items
+    let now = c.loop-element.elements.items in
+    appended_more (value g.F.PrimeCharacteristicRing.ring (builder_window c.args.builder.now)) c.args.tuple.now c.loop-element.element-index c.element-item.result
+    c.args.elements.now.items now c.push.new.self.items c.loop-element-test.true c.element-item.is c.loop-element.invariant (c.in_ok-push.ensures.items ∙ ap (λ v. now ++ v ∷ []) c.value_of.ensures)
 
 pub returns : goal.returns
 returns g c =

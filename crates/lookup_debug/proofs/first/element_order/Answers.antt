@@ -1,7 +1,7 @@
 use Rattle.std.proofs.Common.{sym, ap, ◌∙◌}
 use Rattle.std.specs.Cmp.Lexicographic.{nat_list_cmp_total, slice_cmp}
 use Rattle.std.specs.Ordering.{nat_cmp}
-use Rattle.lookup_debug.proofs.LeastSteps.{same-equal}
+use Rattle.lookup_debug.proofs.FirstMismatch.{same-equal}
 use Rattle.lookup_debug.proofs.first.element_order.Goals as goal
 
 pub returns-then-eq : goal.returns-then-eq

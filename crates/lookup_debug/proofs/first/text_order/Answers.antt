@@ -1,5 +1,5 @@
 use Rattle.std.proofs.Common.{refl, arith, inl, inr, sym, ◌∙◌}
-use Rattle.lookup_debug.proofs.LeastSteps.{texts-end}
+use Rattle.lookup_debug.proofs.FirstMismatch.{texts-end}
 use Rattle.lookup_debug.proofs.first.text_order.Goals.{then-loop-index-test+else-index-b, else-loop-index-test}
 use Rattle.lookup_debug.proofs.first.text_order.Goals as goal
 

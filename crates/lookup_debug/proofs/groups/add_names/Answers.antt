@@ -3,7 +3,7 @@ use Rattle.std.specs.Cmp.Lexicographic.{pointwise}
 use Rattle.indexmap.specs.IndexSet.{keys}
 use Rattle.lookup_model.specs.Net.{first_seen}
 use Rattle.lookup_model.specs.Outline.{bus_of}
-use Rattle.lookup_debug.proofs.NameLaws.{buses_more, buses_skip, inserted}
+use Rattle.lookup_debug.proofs.BusLaws.{buses_more, buses_skip, inserted}
 use Rattle.lookup_debug.proofs.groups.add_names.Goals.{in-Global+in_ok-insert-in-Global, in-Local}
 use Rattle.lookup_debug.proofs.groups.add_names.Goals as goal
 

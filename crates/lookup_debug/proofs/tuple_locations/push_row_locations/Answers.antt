@@ -64,9 +64,3 @@ returns g c =
     let all = contributions_from location branches (amounts R (flags_at R w lookup) branches) in
     c.loop-branch.invariant
     ∙ ap (λ cs. map location_of c.args.locations.now.items ++ tuple_locations R eq c.args.tuple.now (nonzero R eq cs)) (take_all c.loop-branch.branch all (omega (arith, length-sized R eq location w lookup c.requires.lengths)))
-
-pub amount_of-amount-requires-clause-lengths : goal.amount_of-amount-requires-clause-lengths
-amount_of-amount-requires-clause-lengths g c = c.requires.lengths
-
-pub amount_of-amount-requires-clause-fits : goal.amount_of-amount-requires-clause-fits
-amount_of-amount-requires-clause-fits g c = c.requires.fits

@@ -6,4 +6,4 @@ use Rattle.lookup_debug.proofs.walk.walk_bus.Given as goal
 
 abbrev pub invariant-loop-instance : goal.invariant-loop-instance
 invariant-loop-instance g l =
-    g.V.RowVisitor.does l.fn.visitor l.visitor (flat_map (lookup_contributions g.F.PrimeCharacteristicRing.ring g.F.PartialEq.eq) (filter (is_on l.name) (flat_map lookups_in (take l.instance (enumerate_from 0 (map traced_of l.instances))))))
+    g.V.RowVisitor.changes l.fn.visitor l.visitor (flat_map (lookup_contributions g.F.PrimeCharacteristicRing.ring g.F.PartialEq.eq) (filter (is_on l.name) (flat_map lookups_in (take l.instance (enumerate_from 0 (map traced_of l.instances))))))

@@ -12,23 +12,20 @@ use Rattle.lookup_debug.proofs.walk.walk_bus_of.Goals.{else-is_on_bus, then-is_o
 use Rattle.lookup_debug.proofs.walk.walk_bus_of.Goals as goal
 
 pub walk_lookup-requires-clause-ready : goal.walk_lookup-requires-clause-ready
-walk_lookup-requires-clause-ready g c = g.met.V.RowVisitor.walks.leaves _ _ _ c.loop-index.invariant
+walk_lookup-requires-clause-ready g c = g.met.V.RowVisitor.composes.leaves _ _ _ c.loop-index.invariant
 
-pub walk_lookup-requires-clause-there : goal.walk_lookup-requires-clause-there
-walk_lookup-requires-clause-there g c =
+pub walk_lookup-requires-clause-at_index : goal.walk_lookup-requires-clause-at_index
+walk_lookup-requires-clause-at_index g c =
     let ls = c.args.traced.now.lookups.now in slice_get-get_or ls c.loop-index.index c.index-traced-index.result c.loop-index-test.true
 
-pub walk_lookup-requires-clause-fit : goal.walk_lookup-requires-clause-fit
-walk_lookup-requires-clause-fit g c = c.requires.fit
-
 pub loop-index-init : goal.loop-index-init
-loop-index-init g c = g.met.V.RowVisitor.walks.rests c.args.visitor.now c.requires.ready
+loop-index-init g c = g.met.V.RowVisitor.composes.rests c.args.visitor.now c.requires.ready
 
 pub loop-index-preserved : goal.loop-index-preserved
 loop-index-preserved g c =
     let R = g.F.PrimeCharacteristicRing.ring in
     let eq = g.F.PartialEq.eq in
-    let walks = g.met.V.RowVisitor.walks in
+    let composes = g.met.V.RowVisitor.composes in
     let name = c.args.name.now in
     let t = traced_of c.args.traced.now in
     let n = c.args.instance in
@@ -42,10 +39,10 @@ loop-index-preserved g c =
     elim c.if-is_on_bus.branch [
       | then-is_on_bus+in_ok-walk_lookup w ↦
           let made = w.walk_lookup.new.visitor in
-          step_on walks R eq name n t j l c.loop-index-test.true is start so_far c.loop-index.invariant made after w.visitor-is (named ∙ w.if-is_on_bus.true)
-          (subst (λ (k : Lookup _). g.V.RowVisitor.does so_far made (contributions_of R eq n j t k)) (sym is) w.in_ok-walk_lookup.ensures)
+          step_on composes R eq name n t j l c.loop-index-test.true is start so_far c.loop-index.invariant made after w.visitor-is (named ∙ w.if-is_on_bus.true)
+          (subst (λ (k : Lookup _). g.V.RowVisitor.changes so_far made (contributions_of R eq n j t k)) (sym is) w.in_ok-walk_lookup.ensures)
       | else-is_on_bus w ↦
-          step_off walks R eq name n t j l c.loop-index-test.true is start so_far c.loop-index.invariant after w.visitor-is (named ∙ w.if-is_on_bus.false)
+          step_off composes R eq name n t j l c.loop-index-test.true is start so_far c.loop-index.invariant after w.visitor-is (named ∙ w.if-is_on_bus.false)
     ]
 
 pub returns : goal.returns
@@ -54,4 +51,4 @@ returns g c =
     let on = is_on c.args.name.now in
     let t = traced_of c.args.traced.now in
     let ps = lookups_in (c.args.instance, t) in
-    subst (λ (qs : List (LookupAt _)). g.V.RowVisitor.does c.args.visitor.now c.loop-index.visitor (flat_map f (filter on qs))) (take_all c.loop-index.index ps (omega (arith, c.loop-index-test.false, length-lookups_in c.args.instance t))) c.loop-index.invariant
+    subst (λ (qs : List (LookupAt _)). g.V.RowVisitor.changes c.args.visitor.now c.loop-index.visitor (flat_map f (filter on qs))) (take_all c.loop-index.index ps (omega (arith, c.loop-index-test.false, length-lookups_in c.args.instance t))) c.loop-index.invariant

@@ -6,4 +6,4 @@ use Rattle.lookup_debug.proofs.walk.walk_bus_of.Given as goal
 
 abbrev pub invariant-loop-index : goal.invariant-loop-index
 invariant-loop-index g l =
-    g.V.RowVisitor.does l.fn.visitor l.visitor (flat_map (lookup_contributions g.F.PrimeCharacteristicRing.ring g.F.PartialEq.eq) (filter (is_on l.name) (take l.index (lookups_in (l.instance, traced_of l.traced)))))
+    g.V.RowVisitor.changes l.fn.visitor l.visitor (flat_map (lookup_contributions g.F.PrimeCharacteristicRing.ring g.F.PartialEq.eq) (filter (is_on l.name) (take l.index (lookups_in (l.instance, traced_of l.traced)))))

@@ -13,7 +13,7 @@ use Rattle.lookup_debug.proofs.AmountLaws.{row_step}
 use Rattle.lookup_debug.proofs.walk.walk_lookup.Goals as goal
 
 pub visit-requires-clause-ready : goal.visit-requires-clause-ready
-visit-requires-clause-ready g c = g.met.V.RowVisitor.walks.leaves _ _ _ c.loop-row.invariant
+visit-requires-clause-ready g c = g.met.V.RowVisitor.composes.leaves _ _ _ c.loop-row.invariant
 
 pub visit-requires-clause-fits : goal.visit-requires-clause-fits
 visit-requires-clause-fits g c =
@@ -24,15 +24,15 @@ visit-requires-clause-fits g c =
     let layout = layout_of (traced_of i).traces in
     let fit = LookupsFit-with_challenges layout n lookups c.requires.fit.fit in
     subst (λ (a : AirLayout). IsWithin a lookup) (sym c.row_builder-builder.ensures.layout)
-    (subst (λ (l : Lookup _). IsWithin (with_challenges layout n) l) (get_or_from_slice_get lookups c.args.index lookup lookup c.requires.there)
-    (fit.within c.args.index lookup (slice_get_within lookups c.args.index lookup c.requires.there)))
+    (subst (λ (l : Lookup _). IsWithin (with_challenges layout n) l) (get_or_from_slice_get lookups c.args.index lookup lookup c.requires.at_index)
+    (fit.within c.args.index lookup (slice_get_within lookups c.args.index lookup c.requires.at_index)))
 
 pub loop-row-init : goal.loop-row-init
-loop-row-init g c = g.met.V.RowVisitor.walks.rests c.args.visitor.now c.requires.ready
+loop-row-init g c = g.met.V.RowVisitor.composes.rests c.args.visitor.now c.requires.ready
 
 pub loop-row-preserved : goal.loop-row-preserved
 loop-row-preserved g c =
-    row_step g.met.V.RowVisitor.walks g.F.PrimeCharacteristicRing.ring g.F.PartialEq.eq c.args.instance c.args.index (traced_of c.args.traced.now) c.args.lookup.now c.loop-row.row c.args.visitor.now c.loop-row.visitor c.visit.new.self
+    row_step g.met.V.RowVisitor.composes g.F.PrimeCharacteristicRing.ring g.F.PartialEq.eq c.args.instance c.args.index (traced_of c.args.traced.now) c.args.lookup.now c.loop-row.row c.args.visitor.now c.loop-row.visitor c.visit.new.self
     (builder_window c.row_builder-builder.result) c.row_builder-builder.ensures.window c.loop-row.invariant c.in_ok-visit.ensures
 
 pub row_builder-builder-requires : goal.row_builder-builder-requires
@@ -45,9 +45,9 @@ pub invariant_of-traces : goal.invariant_of-traces
 invariant_of-traces g c = record { heights = c.requires.fit.heights }
 
 pub visit-requires-clause-lengths : goal.visit-requires-clause-lengths
-visit-requires-clause-lengths g c = (c.requires.fit.fit.records c.args.index c.args.lookup.now (slice_get_within c.args.traced.now.lookups.now c.args.index c.args.lookup.now c.requires.there) c.requires.there).1
+visit-requires-clause-lengths g c = (c.requires.fit.fit.records c.args.index c.args.lookup.now (slice_get_within c.args.traced.now.lookups.now c.args.index c.args.lookup.now c.requires.at_index) c.requires.at_index).1
 
 pub returns : goal.returns
 returns g c =
     let all : c.loop-row.row ≡ height c.args.traced.now.main_trace.now = omega (arith, c.loop-row-test.false, c.loop-row.auto.row-end, c.height-rows.ensures.height) in
-    subst (λ n. g.V.RowVisitor.does c.args.visitor.now c.loop-row.visitor (flat_map (contributions_on g.F.PrimeCharacteristicRing.ring g.F.PartialEq.eq c.args.instance c.args.index (traced_of c.args.traced.now) c.args.lookup.now) (range_with_len 0 n))) all c.loop-row.invariant
+    subst (λ n. g.V.RowVisitor.changes c.args.visitor.now c.loop-row.visitor (flat_map (contributions_on g.F.PrimeCharacteristicRing.ring g.F.PartialEq.eq c.args.instance c.args.index (traced_of c.args.traced.now) c.args.lookup.now) (range_with_len 0 n))) all c.loop-row.invariant

@@ -4,4 +4,4 @@ use Rattle.lookup_debug.proofs.walk.walk_lookup.Given as goal
 
 abbrev pub invariant-loop-row : goal.invariant-loop-row
 invariant-loop-row g l =
-    g.V.RowVisitor.does l.fn.visitor l.visitor (flat_map (contributions_on g.F.PrimeCharacteristicRing.ring g.F.PartialEq.eq l.instance l.index (traced_of l.traced) l.lookup) (range_with_len 0 l.row))
+    g.V.RowVisitor.changes l.fn.visitor l.visitor (flat_map (contributions_on g.F.PrimeCharacteristicRing.ring g.F.PartialEq.eq l.instance l.index (traced_of l.traced) l.lookup) (range_with_len 0 l.row))

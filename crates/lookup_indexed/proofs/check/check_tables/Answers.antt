@@ -2,7 +2,8 @@ use Rattle.std.proofs.Common.{inl, inr}
 use Rattle.std.proofs.lemmas.Result.{err_from_is_err_and}
 use Rattle.lookup_indexed.specs.Declaration.{declared_table}
 use Rattle.lookup_indexed.specs.Faults.{IsFaultlessTable}
-use Rattle.lookup_indexed.proofs.FaultLaws.{all_met, all_more, first_fault}
+use Rattle.lists.proofs.Each.{All-more_images}
+use Rattle.lookup_indexed.proofs.FaultLaws.{all_at_end, first_declared_fault}
 use Rattle.lookup_indexed.proofs.check.check_tables.Goals as goal
 
 pub returns-in_err-check_table : goal.returns-in_err-check_table
@@ -10,12 +11,12 @@ returns-in_err-check_table c =
     let p = err_from_is_err_and c.from_residual.result c.from_residual.ensures.1 in
     rw (p.1, p.2) (elim c.in_err-check_table.ensures [
       | inl memory ↦ inl memory
-      | inr fault ↦ inr (first_fault declared_table (IsFaultlessTable c.args.layout.now) c.args.tables.now c.loop-table.table-index c.table-item.result _ c.loop-table-test.true c.table-item.is c.loop-table.invariant fault)
+      | inr fault ↦ inr (first_declared_fault declared_table (IsFaultlessTable c.args.layout.now) c.args.tables.now c.loop-table.table-index c.table-item.result _ c.loop-table-test.true c.table-item.is c.loop-table.invariant fault)
     ])
 
 pub loop-table-preserved : goal.loop-table-preserved
 loop-table-preserved c =
-    all_more declared_table (IsFaultlessTable c.args.layout.now) c.args.tables.now c.loop-table.table-index c.table-item.result c.loop-table-test.true c.table-item.is c.in_ok-check_table.ensures c.loop-table.invariant
+    All-more_images (IsFaultlessTable c.args.layout.now) declared_table c.args.tables.now c.loop-table.table-index c.table-item.result c.loop-table-test.true c.table-item.is c.in_ok-check_table.ensures c.loop-table.invariant
 
 pub returns : goal.returns
-returns c = all_met declared_table (IsFaultlessTable c.args.layout.now) c.args.tables.now c.loop-table.table-index c.loop-table-test.false c.loop-table.invariant
+returns c = all_at_end declared_table (IsFaultlessTable c.args.layout.now) c.args.tables.now c.loop-table.table-index c.loop-table-test.false c.loop-table.invariant

@@ -52,8 +52,5 @@ returns-clause-pushes g c =
     c.loop-branch.invariant.0
     ∙ ap (λ t. messages_of c.args.messages.now.items ++ t) (take_all c.loop-branch.branch branches (omega (arith, length-branches_at R w c.args.id lookup c.requires.lengths)))
 
-pub returns-clause-front : goal.returns-clause-front
-returns-clause-front g c = c.loop-branch.invariant.1
-
 pub returns-in_err-push_branch-clause-front : goal.returns-in_err-push_branch-clause-front
 returns-in_err-push_branch-clause-front g c = further_back _ _ _ c.loop-branch.invariant.1 c.in_err-push_branch.ensures.front

@@ -77,8 +77,5 @@ push_sent-requires-clause-lengths g c = equal_lengths c.args.lookups.now c.loop-
 pub push_sent-requires-clause-within : goal.push_sent-requires-clause-within
 push_sent-requires-clause-within g c = All-at (IsWithin (builder_layout c.args.builder.now)) c.args.lookups.now c.loop-lookup.lookup-index c.lookup-item.result c.requires.fit.within c.loop-lookup-test.true c.lookup-item.is
 
-pub returns-clause-front : goal.returns-clause-front
-returns-clause-front g c = c.loop-lookup.invariant.1
-
 pub returns-in_err-push_sent-clause-front : goal.returns-in_err-push_sent-clause-front
 returns-in_err-push_sent-clause-front g c = further_back _ _ _ c.loop-lookup.invariant.1 c.in_err-push_sent.ensures.front

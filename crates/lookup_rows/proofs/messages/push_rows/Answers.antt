@@ -63,8 +63,5 @@ returns-clause-pushes g c =
     subst (λ (rs : List (List (Sent _))). HasSentRows R eq c.args.messages.now.items c.loop-row.messages.items rs)
     (take_all c.loop-row.row rows (omega (arith, length-all_rows R eq id traces c.args.lookups.now, c.loop-row-test.false, c.height-height.ensures.height))) c.loop-row.invariant.0
 
-pub returns-clause-front : goal.returns-clause-front
-returns-clause-front g c = c.loop-row.invariant.1
-
 pub returns-in_err-push_row_messages-clause-front : goal.returns-in_err-push_row_messages-clause-front
 returns-in_err-push_row_messages-clause-front g c = further_back _ _ _ c.loop-row.invariant.1 c.in_err-push_row_messages.ensures.front

@@ -1,13 +1,15 @@
-use Rattle.std.proofs.Common.{◌≡◌, ◌<◌, ◌∷◌, ◌++◌, List, [], length, inl, refl, get_or, sym, ap, ◌∙◌, subst, arith}
+use Rattle.std.proofs.Common.{◌≡◌, ◌<◌, ◌∷◌, ◌++◌, ℕ, Bool, List, [], length, inl, refl, get_or, sym, ap, ◌∙◌, subst, arith}
 use Rattle.std.proofs.lemmas.List.{append-nil, length-map}
 use Rattle.std.proofs.lemmas.Result.{MatchResult-weaker}
 use Rattle.lists.proofs.Zips.{zipped_at}
 use Rattle.lists.proofs.Each.{All-at}
+use Rattle.field.specs.Ring.{Ring}
+use Rattle.lookup_rows.specs.declared.flags.SetFlags.{SetFlags}
 use Rattle.expressions.specs.declared.base_expression.SymbolicExpression.{SymbolicExpression}
 use Rattle.lookup_model.proofs.Branches.{length-branches_at}
 use Rattle.lookup_model.proofs.RecordLaws.{Fits-at}
 use Rattle.lookup_model.specs.Records.{AllFit, IsWithin}
-use Rattle.lookup_model.specs.Sent.{branch_at, branches_at, value, values}
+use Rattle.lookup_model.specs.Sent.{branch_at, branches_at, values}
 use Rattle.lookup_model.proofs.Lookups.Selections.{index_within}
 use Rattle.lookup_rows.specs.Selection.{AreSetFlags}
 use Rattle.lookup_rows.specs.SentMessages.{messages_of}
@@ -16,45 +18,30 @@ use Rattle.lookup_rows.specs.declared.flags.SetFlags.TheVariants.{Nothing, One}
 use Rattle.lookup_rows.proofs.SentMessageLaws.{in_front, no_flag, one_flag}
 use Rattle.lookup_rows.proofs.messages.push_selected.Goals as goal
 
+-- the index of the one set flag is that of a branch
+one_within : {F : Type 0} {R : Ring F} {eq : F → F → Bool} {flags : List F} {set : SetFlags} (n k : ℕ) → set ≡ One k → AreSetFlags R eq flags set → length flags ≡ n → k < n
+one_within {R = R} {eq = eq} {flags = flags} n k is are long =
+    let one : AreSetFlags R eq flags (One k) = subst (AreSetFlags R eq flags) is are in
+    omega (arith, index_within R eq 0 flags k [] one.indices, long)
+
 pub index-tuple-requires : goal.index-tuple-requires
-index-tuple-requires g c =
-    let R = g.F.PrimeCharacteristicRing.ring in
-    let eq = g.F.PartialEq.eq in
-    let w = builder_window c.args.builder.now in
-    let vals = values R w c.args.flags.now in
-    let set : AreSetFlags R eq vals (One c.in-One.branch) = subst (AreSetFlags R eq vals) c.in-One.is c.in_ok-set_flags.ensures in
-    omega (arith, index_within R eq 0 vals c.in-One.branch [] set.indices, length-map c.args.flags.now (value R w), c.requires.flag_number)
+index-tuple-requires g c = omega (arith, one_within (length c.args.lookup.now.elements.items) c.in-One.branch c.in-One.is c.in_ok-set_flags.ensures (length-map _ _ ∙ c.requires.flag_number))
 
 pub index-multiplicity-requires : goal.index-multiplicity-requires
-index-multiplicity-requires g c =
-    let R = g.F.PrimeCharacteristicRing.ring in
-    let eq = g.F.PartialEq.eq in
-    let w = builder_window c.args.builder.now in
-    let vals = values R w c.args.flags.now in
-    let set : AreSetFlags R eq vals (One c.in-One.branch) = subst (AreSetFlags R eq vals) c.in-One.is c.in_ok-set_flags.ensures in
-    omega (arith, index_within R eq 0 vals c.in-One.branch [] set.indices, length-map c.args.flags.now (value R w), c.requires.flag_number, c.requires.lengths.multiplicities)
+index-multiplicity-requires g c = omega (arith, one_within (length c.args.lookup.now.elements.items) c.in-One.branch c.in-One.is c.in_ok-set_flags.ensures (length-map _ _ ∙ c.requires.flag_number), c.requires.lengths.multiplicities)
 
 pub push_branch-requires-clause-tuple_fits : goal.push_branch-requires-clause-tuple_fits
 unfolding IsWithin
 push_branch-requires-clause-tuple_fits g c =
-    let R = g.F.PrimeCharacteristicRing.ring in
-    let eq = g.F.PartialEq.eq in
-    let w = builder_window c.args.builder.now in
-    let vals = values R w c.args.flags.now in
-    let set : AreSetFlags R eq vals (One c.in-One.branch) = subst (AreSetFlags R eq vals) c.in-One.is c.in_ok-set_flags.ensures in
     let layout = builder_layout c.args.builder.now in
-    subst (λ (t : List (SymbolicExpression _)). AllFit layout t) (sym c.deref.ensures.value) (All-at (λ tuple. AllFit layout tuple.items) c.args.lookup.now.elements.items c.in-One.branch c.index-tuple.result.now c.requires.within.0 (omega (arith, index_within R eq 0 vals c.in-One.branch [] set.indices, length-map c.args.flags.now (value R w), c.requires.flag_number)) c.index-tuple.ensures)
+    subst (λ (t : List (SymbolicExpression _)). AllFit layout t) (sym c.deref.ensures.value) (All-at (λ tuple. AllFit layout tuple.items) c.args.lookup.now.elements.items c.in-One.branch c.index-tuple.result.now c.requires.within.0 (one_within (length c.args.lookup.now.elements.items) c.in-One.branch c.in-One.is c.in_ok-set_flags.ensures (length-map _ _ ∙ c.requires.flag_number)) c.index-tuple.ensures)
 
 pub push_branch-requires-clause-multiplicity_fits :
     goal.push_branch-requires-clause-multiplicity_fits
 unfolding IsWithin
 push_branch-requires-clause-multiplicity_fits g c =
-    let R = g.F.PrimeCharacteristicRing.ring in
-    let eq = g.F.PartialEq.eq in
-    let w = builder_window c.args.builder.now in
-    let vals = values R w c.args.flags.now in
-    let set : AreSetFlags R eq vals (One c.in-One.branch) = subst (AreSetFlags R eq vals) c.in-One.is c.in_ok-set_flags.ensures in
-    Fits-at (builder_layout c.args.builder.now) c.args.lookup.now.multiplicities.items c.in-One.branch _ c.requires.within.1 (omega (arith, index_within R eq 0 vals c.in-One.branch [] set.indices, length-map c.args.flags.now (value R w), c.requires.flag_number, c.requires.lengths.multiplicities)) c.index-multiplicity.ensures
+    let within = one_within (length c.args.lookup.now.elements.items) c.in-One.branch c.in-One.is c.in_ok-set_flags.ensures (length-map _ _ ∙ c.requires.flag_number) in
+    Fits-at (builder_layout c.args.builder.now) c.args.lookup.now.multiplicities.items c.in-One.branch _ c.requires.within.1 (omega (arith, within, c.requires.lengths.multiplicities)) c.index-multiplicity.ensures
 
 pub returns-in-Nothing-clause-pushes : goal.returns-in-Nothing-clause-pushes
 returns-in-Nothing-clause-pushes g c =
@@ -83,7 +70,7 @@ returns-in-One-clause-pushes g c =
     let multiplicity = c.index-multiplicity.result.now in
     let m = branch_at R w id tuple.items multiplicity in
     let set : AreSetFlags R eq vals (One k) = subst (AreSetFlags R eq vals) c.in-One.is c.in_ok-set_flags.ensures in
-    let lt : k < length lookup.elements.items = omega (arith, index_within R eq 0 vals k [] set.indices, length-map c.args.flags.now (value R w), c.requires.flag_number) in
+    let lt = one_within (length c.args.lookup.now.elements.items) k c.in-One.is c.in_ok-set_flags.ensures (length-map _ _ ∙ c.requires.flag_number) in
     let within : k < length branches = omega (arith, lt, length-branches_at R w id lookup c.requires.lengths) in
     let at : m ≡ get_or branches k m = zipped_at (λ b. branch_at R w id b.0.items b.1) lookup.elements.items lookup.multiplicities.items c.requires.lengths.multiplicities k tuple multiplicity lt c.index-tuple.ensures c.index-multiplicity.ensures in
     let is = one_flag R eq c.args.builder.now.row lookup.column branches vals set.boolean k m set.indices within at in
@@ -93,9 +80,6 @@ returns-in-One-clause-pushes g c =
 
 pub returns-in-Nothing-clause-front : goal.returns-in-Nothing-clause-front
 returns-in-Nothing-clause-front g c = in_front _ _ refl
-
-pub returns-in-One-clause-front : goal.returns-in-One-clause-front
-returns-in-One-clause-front g c = c.push_branch.ensures.front
 
 pub returns-in-Several-clause-front : goal.returns-in-Several-clause-front
 returns-in-Several-clause-front g c = in_front _ _ refl

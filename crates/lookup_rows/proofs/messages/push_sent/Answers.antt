@@ -55,9 +55,3 @@ unfolding IsWithin
 push_selected-requires-clause-flags_fit g c =
     let layout = builder_layout c.args.builder.now in
     subst (λ (es : List (SymbolicExpression _)). AllFit layout es) (sym c.deref.ensures.value) (subst (λ (o : Option _). IfSome o (λ flags. AllFit layout flags.items)) c.in-Some.is c.requires.within.2)
-
-pub returns-in-None-clause-front : goal.returns-in-None-clause-front
-returns-in-None-clause-front g c = c.push_branches.ensures.front
-
-pub returns-in-Some-clause-front : goal.returns-in-Some-clause-front
-returns-in-Some-clause-front g c = c.push_selected.ensures.front

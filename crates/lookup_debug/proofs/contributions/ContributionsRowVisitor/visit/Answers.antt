@@ -6,15 +6,6 @@ use Rattle.lookup_debug.specs.Contributions.{contributions_at, location_of}
 use Rattle.lookup_debug.proofs.AmountNets.{nets_go_on}
 use Rattle.lookup_debug.proofs.contributions.ContributionsRowVisitor.visit.Goals as goal
 
-pub push_on_row-requires-clause-within : goal.push_on_row-requires-clause-within
-push_on_row-requires-clause-within g c = c.requires.ready
-
-pub push_on_row-requires-clause-lengths : goal.push_on_row-requires-clause-lengths
-push_on_row-requires-clause-lengths g c = c.requires.lengths
-
-pub push_on_row-requires-clause-fits : goal.push_on_row-requires-clause-fits
-push_on_row-requires-clause-fits g c = c.requires.fits
-
 pub merge_at_limit-requires : goal.merge_at_limit-requires
 merge_at_limit-requires g c = record { within = (c.in_ok-push_on_row.ensures (location_of c.args._location)).0 }
 

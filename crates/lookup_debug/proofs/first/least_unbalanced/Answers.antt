@@ -1,6 +1,6 @@
 use Rattle.std.proofs.Common.{subst, arith}
 use Rattle.lookup_debug.specs.Nets.{IsFirstIndex}
-use Rattle.lookup_debug.proofs.first.least.Goals as goal
+use Rattle.lookup_debug.proofs.first.least_unbalanced.Goals as goal
 
 pub returns : goal.returns
 returns g c =

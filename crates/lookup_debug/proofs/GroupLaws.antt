@@ -1,31 +1,74 @@
--- Lookups with their indices, one after another.
-use Rattle.std.proofs.Common.{◌≡◌, ◌<◌, ◌≤◌, ◌+◌, ◌++◌, ℕ, zero, suc, Bool, true, false, cond, List, [], ◌∷◌, Some, get_or, length, map, option_map, slice_get, take, refl, sym, ap, subst, ◌∙◌, true≢false, is_some, arith}
+-- Groups that are checked one after another: those of local lookups, AIR by AIR, and those of buses.
+use Rattle.std.proofs.Common.{◌++◌, ◌+◌, ℕ, Bool, List, [], ◌∷◌, Some, Result, Ok, Err, inl, inr, ◌≡◌, slice_get, take, drop, sym, subst, ◌<◌, ◌≤◌, true, false, cond, get_or, length, map, option_map, refl, ap, ◌∙◌, arith}
+use Rattle.std.proofs.lemmas.Option.{get_or_from_slice_get, slice_get_within, slice_get-map, slice_get_read}
+use Rattle.std.specs.Bool.{⊤}
+use Rattle.std.specs.List.{AllByRecursion, flat_map, enumerate_from, filter}
 use Rattle.std.proofs.lemmas.List.{map-append, take_all}
 use Rattle.std.proofs.lemmas.List.Elements.{filter-append}
 use Rattle.std.proofs.lemmas.List.Concat.{flat_map_single}
 use Rattle.std.proofs.lemmas.List.FromFn.{length-enumerate_from}
-use Rattle.std.proofs.lemmas.Option.{slice_get-map, slice_get_read}
-use Rattle.std.specs.List.{enumerate_from, filter, flat_map}
-use Rattle.lists.proofs.Items.{some_is}
+use Rattle.lists.proofs.Each.{all_both, all_indexed, all_there}
+use Rattle.lists.proofs.Items.{item_there, numbered_there}
+use Rattle.lists.proofs.Parts.{flat_next, flat_split}
+use Rattle.lists.proofs.Images.{map-map}
 use Rattle.field.specs.Ring.{Ring}
+use Rattle.expressions.proofs.FirstFaults.{fault_here, fault_later, fault_sooner}
 use Rattle.lookup_model.specs.Outline.{bus_of}
 use Rattle.lookup_model.specs.declared.types.Lookup.{Lookup}
-use Rattle.lookup_debug.specs.Checks.{local_groups_in}
+use Rattle.lookup_debug.specs.Checks.{AnswersGroups, local_groups_in}
 use Rattle.lookup_debug.specs.Contributions.{Contribution, Traced, contributions_of, traced_of}
 use Rattle.lookup_debug.specs.Groups.{Group, LookupAt, bus_group, bus_label, is_local, is_missing, local_group, local_groups, local_label, lookups_in}
 use Rattle.lookup_debug.specs.Mismatch.{Balances, EachBalances, IsFirstMismatch, IsMismatchOf}
 use Rattle.lookup_debug.specs.declared.fault.LookupFault.{LookupFault}
 use Rattle.lookup_debug.specs.declared.instance.LookupDebugInstance.{LookupDebugInstance}
-use Rattle.lookup_debug.proofs.GroupSteps.{balance-cons, balance-more, mismatch-at, mismatch-here, none_balance}
 
--- an item with its number
-numbered_from : {A : Type 0} (n : ℕ) (xs : List A) (i : ℕ) (x : A) → slice_get xs i ≡ Some x → slice_get (enumerate_from n xs) i ≡ Some (n + i, x)
-numbered_from n [] i x e = absurd (true≢false (sym (ap is_some e)))
-numbered_from n (y ∷ ys) zero x e = let same : n ≡ n + 0 = omega arith in λ i. Some (same i, some_is y x e i)
-numbered_from n (y ∷ ys) (suc i) x e = let same : n + 1 + i ≡ n + suc i = omega arith in numbered_from (n + 1) ys i x e ∙ (λ j. Some (same j, x))
+module _ {F : Type 0} (R : Ring F) (eq : F → F → Bool) where
+  abbrev GroupBalances : Group F → Type 0
+  GroupBalances g = Balances R eq g.contributions
 
-pub numbered_at : {A : Type 0} (xs : List A) (i : ℕ) (x : A) → slice_get xs i ≡ Some x → slice_get (enumerate_from 0 xs) i ≡ Some (i, x)
-numbered_at xs i x e = let same : 0 + i ≡ i = omega arith in numbered_from 0 xs i x e ∙ (λ j. Some (same j, x))
+  -- groups that balance, group by group and by their indices
+  pub balance_at : (gs : List (Group F)) → AllByRecursion GroupBalances gs → EachBalances R eq gs
+  balance_at gs all i group there = all_there GroupBalances gs i group all there
+
+  all_balance : (gs : List (Group F)) → EachBalances R eq gs → AllByRecursion GroupBalances gs
+  all_balance gs each = all_indexed GroupBalances gs (λ i g lt is. each i g (item_there gs i g lt is))
+
+  balance-append : (gs hs : List (Group F)) → EachBalances R eq gs → EachBalances R eq hs → EachBalances R eq (gs ++ hs)
+  balance-append gs hs left right = balance_at (gs ++ hs) (all_both GroupBalances gs hs (all_balance gs left) (all_balance hs right))
+
+  module _ (text : F → List ℕ) where
+    abbrev HasMismatch : LookupFault F → Group F → Type 0
+    HasMismatch fault g = IsMismatchOf R eq text g.label g.contributions fault
+
+    -- the mismatch of one group
+    pub mismatch-here : (label : List ℕ) (cs : List (Contribution F)) (fault : LookupFault F) → IsMismatchOf R eq text label cs fault → IsFirstMismatch R eq text (record { label = label; contributions = cs } ∷ []) fault
+    mismatch-here label cs fault is = fault_here GroupBalances (HasMismatch fault) (record { label = label; contributions = cs }) is
+
+    -- it is the first whatever groups come after
+    pub mismatch-sooner : (gs hs : List (Group F)) (fault : LookupFault F) → IsFirstMismatch R eq text gs fault → IsFirstMismatch R eq text (gs ++ hs) fault
+    mismatch-sooner gs hs fault is = fault_sooner GroupBalances (HasMismatch fault) gs hs is
+
+    -- and after groups that balance
+    mismatch-later : (gs hs : List (Group F)) (fault : LookupFault F) → EachBalances R eq gs → IsFirstMismatch R eq text hs fault → IsFirstMismatch R eq text (gs ++ hs) fault
+    mismatch-later gs hs fault each is = fault_later GroupBalances (HasMismatch fault) gs hs (all_balance gs each) is
+
+    -- the answer of a check of groups after others that balance
+    pub answers-after : (gs hs : List (Group F)) → EachBalances R eq gs → (result : Result ⊤ (LookupFault F)) → AnswersGroups R eq text hs result → AnswersGroups R eq text (gs ++ hs) result
+    answers-after gs hs each (Ok done) rest = balance-append gs hs each rest
+    answers-after gs hs each (Err fault) (inl memory) = inl memory
+    answers-after gs hs each (Err fault) (inr is) = inr (mismatch-later gs hs fault each is)
+
+  -- the groups of some items, item by item
+  module _ {X : Type 0} (groups : X → List (Group F)) (xs : List X) (i : ℕ) (x : X) (there : slice_get xs i ≡ Some x) (before : EachBalances R eq (flat_map groups (take i xs))) where
+    pub balance-more : EachBalances R eq (groups x) → EachBalances R eq (flat_map groups (take (i + 1) xs))
+    balance-more here =
+        subst (EachBalances R eq) (sym (flat_next groups xs i x (slice_get_within xs i x there) (sym (get_or_from_slice_get xs i x x there)))) (balance-append (flat_map groups (take i xs)) (groups x) before here)
+
+    pub mismatch-at : (text : F → List ℕ) (fault : LookupFault F) → IsFirstMismatch R eq text (groups x) fault → IsFirstMismatch R eq text (flat_map groups xs) fault
+    mismatch-at text fault here =
+        let rest = flat_map groups (drop (i + 1) xs) in
+        subst (λ gs. IsFirstMismatch R eq text gs fault) (sym (flat_split groups xs i x (slice_get_within xs i x there) (sym (get_or_from_slice_get xs i x x there))))
+        (mismatch-later text (flat_map groups (take i xs)) (groups x ++ rest) fault before (mismatch-sooner text (groups x) rest fault here))
 
 -- an AIR among those that a list of the program holds
 pub traced_at : {F : Type 0} (instances : List (LookupDebugInstance F)) (i : ℕ) (instance : LookupDebugInstance F) → i < length instances → instance ≡ get_or instances i instance → slice_get (map traced_of instances) i ≡ Some (traced_of instance)
@@ -81,7 +124,7 @@ module _ {F : Type 0} (R : Ring F) (eq : F → F → Bool) where
   -- a lookup of an AIR after some that balance
   module _ (i : ℕ × Traced F) (index : ℕ) (lookup : Lookup F) (there : slice_get i.1.lookups index ≡ Some lookup) (before : EachBalances R eq (first_local_groups i index)) where
     numbered : slice_get (enumerate_from 0 i.1.lookups) index ≡ Some (index, lookup)
-    numbered = numbered_at i.1.lookups index lookup there
+    numbered = numbered_there i.1.lookups index lookup there
 
     -- what it contributes, and its group
     abbrev own : List (Contribution F)
@@ -94,19 +137,19 @@ module _ {F : Type 0} (R : Ring F) (eq : F → F → Bool) where
         → IsMismatchOf R eq text (local_label i.0 index) own fault → IsFirstMismatch R eq text (local_groups_in R eq i) fault
     local_mismatch text fault local is =
         subst (λ gs. IsFirstMismatch R eq text gs fault) (sym (local_groups-parts i))
-        (mismatch-at R eq (group_at i) text (enumerate_from 0 i.1.lookups) index (index, lookup) fault numbered before
+        (mismatch-at R eq (group_at i) (enumerate_from 0 i.1.lookups) index (index, lookup) numbered before text fault
         (subst (λ b. IsFirstMismatch R eq text (cond b (group ∷ []) []) fault) (sym local) (mismatch-here R eq text (local_label i.0 index) own fault is)))
 
     pub local_balances : is_missing (bus_of lookup.kind) ≡ true → Balances R eq own → EachBalances R eq (first_local_groups i (index + 1))
     local_balances local here =
         balance-more R eq (group_at i) (enumerate_from 0 i.1.lookups) index (index, lookup) numbered before
-        (subst (λ b. EachBalances R eq (cond b (group ∷ []) [])) (sym local) (balance-cons R eq group [] here (none_balance R eq)))
+        (subst (λ b. EachBalances R eq (cond b (group ∷ []) [])) (sym local) (balance_at R eq (group ∷ []) (here, tt)))
 
     -- nothing is checked of one that is not local
     pub other_balances : is_missing (bus_of lookup.kind) ≡ false → EachBalances R eq (first_local_groups i (index + 1))
     other_balances other =
         balance-more R eq (group_at i) (enumerate_from 0 i.1.lookups) index (index, lookup) numbered before
-        (subst (λ b. EachBalances R eq (cond b (group ∷ []) [])) (sym other) (none_balance R eq))
+        (subst (λ b. EachBalances R eq (cond b (group ∷ []) [])) (sym other) (balance_at R eq [] tt))
 
   -- all of them
   pub locals_balance : (i : ℕ × Traced F) (n : ℕ) → length i.1.lookups ≤ n → EachBalances R eq (first_local_groups i n) → EachBalances R eq (local_groups_in R eq i)
@@ -119,10 +162,10 @@ module _ {F : Type 0} (R : Ring F) (eq : F → F → Bool) where
     pub air_mismatch : (text : F → List ℕ) (fault : LookupFault F) → IsFirstMismatch R eq text (local_groups_in R eq (index, traced)) fault → IsFirstMismatch R eq text (local_groups R eq instances) fault
     air_mismatch text fault is =
         subst (λ gs. IsFirstMismatch R eq text gs fault) (sym (air_groups-parts instances))
-        (mismatch-at R eq (local_groups_in R eq) text (enumerate_from 0 instances) index (index, traced) fault (numbered_at instances index traced there) before is)
+        (mismatch-at R eq (local_groups_in R eq) (enumerate_from 0 instances) index (index, traced) (numbered_there instances index traced there) before text fault is)
 
     pub air_balances : EachBalances R eq (local_groups_in R eq (index, traced)) → EachBalances R eq (first_air_groups instances (index + 1))
-    air_balances here = balance-more R eq (local_groups_in R eq) (enumerate_from 0 instances) index (index, traced) (numbered_at instances index traced there) before here
+    air_balances here = balance-more R eq (local_groups_in R eq) (enumerate_from 0 instances) index (index, traced) (numbered_there instances index traced there) before here
 
   -- all of them
   pub airs_balance : (instances : List (Traced F)) (n : ℕ) → length instances ≤ n → EachBalances R eq (first_air_groups instances n) → EachBalances R eq (local_groups R eq instances)
@@ -141,11 +184,7 @@ module _ {F : Type 0} (R : Ring F) (eq : F → F → Bool) where
     first_bus_groups n = flat_map bus_at (take n names)
 
     bus_groups-parts : flat_map bus_at names ≡ map (bus_group R eq all) (map text_of names)
-    bus_groups-parts = flat_map_single (λ name. bus_group R eq all (text_of name)) names ∙ images_twice names
-      where
-        images_twice : (ns : List N) → map (λ name. bus_group R eq all (text_of name)) ns ≡ map (bus_group R eq all) (map text_of ns)
-        images_twice [] = refl
-        images_twice (n ∷ ns) = ap (λ t. bus_group R eq all (text_of n) ∷ t) (images_twice ns)
+    bus_groups-parts = flat_map_single (λ name. bus_group R eq all (text_of name)) names ∙ sym (map-map (bus_group R eq all) text_of names)
 
     -- a bus after some that balance
     module _ (index : ℕ) (name : N) (there : slice_get names index ≡ Some name) (before : EachBalances R eq (first_bus_groups index)) where
@@ -156,10 +195,10 @@ module _ {F : Type 0} (R : Ring F) (eq : F → F → Bool) where
           → IsFirstMismatch R eq text (map (bus_group R eq all) (map text_of names)) fault
       bus_mismatch text fault is =
           subst (λ gs. IsFirstMismatch R eq text gs fault) bus_groups-parts
-          (mismatch-at R eq bus_at text names index name fault there before (mismatch-here R eq text (bus_label (text_of name)) sent fault is))
+          (mismatch-at R eq bus_at names index name there before text fault (mismatch-here R eq text (bus_label (text_of name)) sent fault is))
 
       pub bus_balances : Balances R eq sent → EachBalances R eq (first_bus_groups (index + 1))
-      bus_balances here = balance-more R eq bus_at names index name there before (balance-cons R eq (bus_group R eq all (text_of name)) [] here (none_balance R eq))
+      bus_balances here = balance-more R eq bus_at names index name there before (balance_at R eq (bus_at name) (here, tt))
 
     -- all of them
     pub buses_balance : (n : ℕ) → length names ≤ n → EachBalances R eq (first_bus_groups n) → EachBalances R eq (map (bus_group R eq all) (map text_of names))
