@@ -178,7 +178,11 @@ fn the_first_fault_of_a_record(rt: HostRuntime) {
     let alloc = rt.alloc();
     let (good, bad, past) = (span(0, 1), span(0, 2), span(0, 3));
     let fault = fault_of(alloc, &[0xff], &[bad], past, past);
-    holds(&rt, "a name", matches!(&fault, Some(TableFault::NameNotUtf8)));
+    holds(
+        &rt,
+        "a name",
+        matches!(&fault, Some(TableFault::NameNotUtf8)),
+    );
     let fault = fault_of(alloc, b"a", &[good, bad, past], past, past);
     let is_second = matches!(&fault, Some(TableFault::Node(1)));
     holds(&rt, "a bad node of a tuple", is_second);
