@@ -7,11 +7,13 @@ use Rattle.std.proofs.lemmas.Option.{slice_get-get_or}
 use Rattle.std.proofs.lemmas.Slice.Zip.{get_or-zip, length-zip}
 use Rattle.std.specs.List.{AllByRecursion, AllZip, filter, zip}
 use Rattle.std.specs.List.Sorted.{IsPermutation}
+use Rattle.lists.proofs.Images.{filter_images, map-map, same_map}
+use Rattle.lists.proofs.Zips.{AllZip-weaker, seconds, zip-map_left}
 use Rattle.field.specs.Ring.{Ring}
 use Rattle.expressions.specs.Window.{Window}
 use Rattle.std.specs.Option.{is_some}
 use Rattle.lists.proofs.Items.{same_front, same_back}
-use Rattle.lists.proofs.Each.{all_front, all_back, all_indexed}
+use Rattle.lists.proofs.Each.{all_front, all_back, all_indexed, all_images, all_kept, all_weaker, all_with}
 use Rattle.lookup_model.specs.Message.{Message}
 use Rattle.lookup_model.specs.Sent.{branches_at, flags_at, sent, sent_at}
 use Rattle.lookup_model.specs.Trace.{sent_row_under}
@@ -80,39 +82,35 @@ module _ {F : Type 0} (R : Ring F) (eq : F → F → Bool) where
   }
 
   pub all_keep : (airs later : List (Lookups F)) → ArePackedAirs R eq airs later → AllZip (λ b a. Keeps (lookups_of b) (lookups_of a)) airs later
-  all_keep [] [] packed = tt
-  all_keep [] (a ∷ later) packed = absurd packed
-  all_keep (b ∷ bs) [] packed = absurd packed
-  all_keep (b ∷ bs) (a ∷ later) packed = (by_case packed.0, all_keep bs later packed.1)
+  all_keep airs later packed = AllZip-weaker (λ b a. (lookups_of a ≡ lookups_of b) ⊎ KeepsSent R eq (lookups_of b) (lookups_of a)) (λ b a. Keeps (lookups_of b) (lookups_of a)) by_case airs later packed
     where
-      by_case : (lookups_of a ≡ lookups_of b) ⊎ KeepsSent R eq (lookups_of b) (lookups_of a) → Keeps (lookups_of b) (lookups_of a)
-      by_case (inl same) = subst (λ (ls : List (Lookup F)). Keeps (lookups_of b) ls) (sym same) (kept_itself (lookups_of b))
-      by_case (inr sent_alike) = record { messages = sent_alike.messages; flags = sent_alike.flags; other_buses_are = sent_alike.other_buses_are; widths = sent_alike.widths }
+      by_case : (b a : Lookups F) → (lookups_of a ≡ lookups_of b) ⊎ KeepsSent R eq (lookups_of b) (lookups_of a) → Keeps (lookups_of b) (lookups_of a)
+      by_case b a (inl same) = subst (λ (ls : List (Lookup F)). Keeps (lookups_of b) ls) (sym same) (kept_itself (lookups_of b))
+      by_case b a (inr sent_alike) = record { messages = sent_alike.messages; flags = sent_alike.flags; other_buses_are = sent_alike.other_buses_are; widths = sent_alike.widths }
 
 module _ {F : Type 0} where
-  -- the buses of what passes through, with ids
-  buses_of : (ids : List ℕ) (ls : List (Lookup F)) → length ids ≡ length ls → map bus_at (filter passes (zip ids ls)) ≡ other_buses ls
-  buses_of [] [] same = refl
-  buses_of [] (l ∷ ls) same = absurd (omega (arith, same))
-  buses_of (i ∷ is) [] same = absurd (omega (arith, same))
-  buses_of (i ∷ is) (l ∷ ls) same = by_test (not (is_additive (fields_of l))) (buses_of is ls (omega (arith, same)))
-    where
-      by_test : (b : Bool) → map bus_at (filter passes (zip is ls)) ≡ other_buses ls
-          → map bus_at (cond b ((i, l) ∷ filter passes (zip is ls)) (filter passes (zip is ls))) ≡ map (λ (k : Lookup F). bus_of k.kind) (cond b (l ∷ filter (λ k. not (is_additive (fields_of k))) ls) (filter (λ k. not (is_additive (fields_of k))) ls))
-      by_test true rest = ap (λ t. bus_of l.kind ∷ t) rest
-      by_test false rest = rest
+  abbrev lookup_in : Entry F → Lookup F
+  lookup_in a = a.1
 
-  -- the ids of what passes through, where each lookup has that of its column
+  abbrev passes_through : Lookup F → Bool
+  passes_through l = not (is_additive (fields_of l))
+
+  -- what passes through, with ids and without
+  passing_in : (ids : List ℕ) (ls : List (Lookup F)) → length ids ≡ length ls → map lookup_in (filter passes (zip ids ls)) ≡ filter passes_through ls
+  passing_in ids ls same = sym (filter_images lookup_in passes passes_through (λ a. refl) (zip ids ls)) ∙ ap (filter passes_through) (seconds ids ls same)
+
+  -- its buses
+  buses_of : (ids : List ℕ) (ls : List (Lookup F)) → length ids ≡ length ls → map bus_at (filter passes (zip ids ls)) ≡ other_buses ls
+  buses_of ids ls same =
+      let bus = λ (l : Lookup F). bus_of l.kind in
+      sym (map-map bus lookup_in (filter passes (zip ids ls))) ∙ ap (map bus) (passing_in ids ls same)
+
+  -- its ids, where each lookup has that of its column
   ids_of : (id : Lookup F → ℕ) (ids : List ℕ) (ls : List (Lookup F)) → length ids ≡ length ls → AllByRecursion (λ a. id a.1 ≡ a.0) (zip ids ls) → other_ids id ls ≡ map (λ (a : Entry F). a.0) (filter passes (zip ids ls))
-  ids_of id [] [] same all = refl
-  ids_of id [] (l ∷ ls) same all = absurd (omega (arith, same))
-  ids_of id (i ∷ is) [] same all = absurd (omega (arith, same))
-  ids_of id (i ∷ is) (l ∷ ls) same all = by_test (not (is_additive (fields_of l))) (ids_of id is ls (omega (arith, same)) all.1)
-    where
-      by_test : (b : Bool) → other_ids id ls ≡ map (λ (a : Entry F). a.0) (filter passes (zip is ls))
-          → map id (cond b (l ∷ filter (λ k. not (is_additive (fields_of k))) ls) (filter (λ k. not (is_additive (fields_of k))) ls)) ≡ map (λ (a : Entry F). a.0) (cond b ((i, l) ∷ filter passes (zip is ls)) (filter passes (zip is ls)))
-      by_test true rest = λ j. all.0 j ∷ rest j
-      by_test false rest = rest
+  ids_of id ids ls same all =
+      ap (map id) (sym (passing_in ids ls same))
+      ∙ map-map id lookup_in (filter passes (zip ids ls))
+      ∙ same_map (λ a. id a.1) (λ a. a.0) (filter passes (zip ids ls)) (all_kept (λ a. id a.1 ≡ a.0) passes (zip ids ls) all)
 
   -- a lookup at its place has the id at its column
   column_ids : (ids : List ℕ) (ls : List (Lookup F)) → length ids ≡ length ls → AreRecords ls → AllByRecursion (λ a. id_of ids a.1 ≡ a.0) (zip ids ls)
@@ -129,27 +127,26 @@ module _ {F : Type 0} where
 
   -- what holds of each lookup with its id holds of it with the id at its column
   by_columns : (P : ℕ → Lookup F → Type 0) (ids : List ℕ) (ls : List (Lookup F)) → length ids ≡ length ls → (id : Lookup F → ℕ) → AllByRecursion (λ a. id a.1 ≡ a.0) (zip ids ls) → AllByRecursion (λ a. P a.0 a.1) (zip ids ls) → AllByRecursion (λ l. P (id l) l) ls
-  by_columns P [] [] same id columns all = tt
-  by_columns P [] (l ∷ ls) same id columns all = absurd (omega (arith, same))
-  by_columns P (i ∷ is) [] same id columns all = absurd (omega (arith, same))
-  by_columns P (i ∷ is) (l ∷ ls) same id columns all = (subst (λ n. P n l) (sym columns.0) all.0, by_columns P is ls (omega (arith, same)) id columns.1 all.1)
+  by_columns P ids ls same id columns all =
+      subst (AllByRecursion (λ l. P (id l) l)) (seconds ids ls same)
+      (all_images (λ l. P (id l) l) lookup_in (zip ids ls)
+      (all_with (λ a. id a.1 ≡ a.0) (λ a. P a.0 a.1) (λ a. P (id a.1) a.1) (λ a e holds. subst (λ n. P n a.1) (sym e) holds) (zip ids ls) columns all))
 
   module _ (rename : ℕ → ℕ) where
-    -- renamed ids are those at the columns
-    renamed_columns : (id : Lookup F → ℕ) (ids : List ℕ) (ls : List (Lookup F)) → AllByRecursion (λ a. id a.1 ≡ a.0) (zip (map rename ids) ls) → (P : ℕ → Lookup F → Type 0) → AllByRecursion (λ a. P (rename a.0) a.1) (zip ids ls) → AllByRecursion (λ a. P a.0 a.1) (zip (map rename ids) ls)
-    renamed_columns id [] ls columns P all = tt
-    renamed_columns id (i ∷ is) [] columns P all = tt
-    renamed_columns id (i ∷ is) (l ∷ ls) columns P all = (all.0, renamed_columns id is ls columns.1 P all.1)
+    abbrev renamed_in : Entry F → Entry F
+    renamed_in a = (rename a.0, a.1)
+
+    -- what holds under renamed ids, and which of them pass through
+    renamed_columns : (P : ℕ → Lookup F → Type 0) (ids : List ℕ) (ls : List (Lookup F)) → AllByRecursion (λ a. P (rename a.0) a.1) (zip ids ls) → AllByRecursion (λ a. P a.0 a.1) (zip (map rename ids) ls)
+    renamed_columns P ids ls all =
+        subst (AllByRecursion (λ a. P a.0 a.1)) (sym (zip-map_left rename ids ls)) (all_images (λ a. P a.0 a.1) renamed_in (zip ids ls) all)
 
     renamed_passing : (ids : List ℕ) (ls : List (Lookup F)) → map (λ (a : Entry F). a.0) (filter passes (zip (map rename ids) ls)) ≡ map (λ (a : Entry F). rename a.0) (filter passes (zip ids ls))
-    renamed_passing [] ls = refl
-    renamed_passing (i ∷ is) [] = refl
-    renamed_passing (i ∷ is) (l ∷ ls) = by_test (not (is_additive (fields_of l))) (renamed_passing is ls)
-      where
-        by_test : (b : Bool) → map (λ (a : Entry F). a.0) (filter passes (zip (map rename is) ls)) ≡ map (λ (a : Entry F). rename a.0) (filter passes (zip is ls))
-            → map (λ (a : Entry F). a.0) (cond b ((rename i, l) ∷ filter passes (zip (map rename is) ls)) (filter passes (zip (map rename is) ls))) ≡ map (λ (a : Entry F). rename a.0) (cond b ((i, l) ∷ filter passes (zip is ls)) (filter passes (zip is ls)))
-        by_test true rest = ap (λ t. rename i ∷ t) rest
-        by_test false rest = rest
+    renamed_passing ids ls =
+        let id = λ (a : Entry F). a.0 in
+        ap (λ t. map id (filter passes t)) (zip-map_left rename ids ls)
+        ∙ ap (map id) (filter_images renamed_in passes passes (λ a. refl) (zip ids ls))
+        ∙ map-map id renamed_in (filter passes (zip ids ls))
 
     module _ (bus_id : List ℕ → ℕ) where
       -- the id of a lookup is that of its bus, renamed before and as it is after
@@ -173,7 +170,7 @@ module _ {F : Type 0} where
             bus_id = bus_id;
             by_bus_before =
                 without_flags (id_of (map rename ids)) (lookups_of b)
-                (by_columns Named (map rename ids) (lookups_of b) many (id_of (map rename ids)) columns (renamed_columns (id_of (map rename ids)) ids (lookups_of b) columns Named before));
+                (by_columns Named (map rename ids) (lookups_of b) many (id_of (map rename ids)) columns (renamed_columns Named ids (lookups_of b) before));
             by_bus_after =
                 without_flags (id_of more) (lookups_of a) (by_columns Named more (lookups_of a) long_after (id_of more) columns_after after);
             others =
@@ -184,8 +181,7 @@ module _ {F : Type 0} where
           }
         where
           without_flags : (id : Lookup F → ℕ) (ls : List (Lookup F)) → AllByRecursion (λ l. (name : List ℕ) → bus_of l.kind ≡ Some name → id l ≡ bus_id name) ls → AllByRecursion (HasIdOfBus bus_id id) ls
-          without_flags id [] all = tt
-          without_flags id (l ∷ ls) all = (λ name on none. all.0 name on, without_flags id ls all.1)
+          without_flags id ls all = all_weaker (λ l. (name : List ℕ) → bus_of l.kind ≡ Some name → id l ≡ bus_id name) (HasIdOfBus bus_id id) (λ l named name on none. named name on) ls all
 
       module _ (R : Ring F) (eq : F → F → Bool) where
         -- the batch of a plan before, renamed, is packed into that of the plan after

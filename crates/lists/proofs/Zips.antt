@@ -46,6 +46,12 @@ pub zip_of_maps : {T A B C : Type 0} (h : A → B → C) (f : T → A) (g : T �
 zip_of_maps h f g [] = refl
 zip_of_maps h f g (t ∷ ts) = ap (λ r. h (f t) (g t) ∷ r) (zip_of_maps h f g ts)
 
+-- pairs of images with other items
+pub zip-map_left : {A B C : Type 0} (f : A → B) (xs : List A) (ys : List C) → zip (map f xs) ys ≡ map (λ p. (f p.0, p.1)) (zip xs ys)
+zip-map_left f [] ys = refl
+zip-map_left f (x ∷ xs) [] = refl
+zip-map_left f (x ∷ xs) (y ∷ ys) = ap (λ t. (f x, y) ∷ t) (zip-map_left f xs ys)
+
 -- pairs with a map of the first items
 pub zip_mapped : {A B C D : Type 0} (f : A → B) (g : B → C → D) (xs : List A) (ys : List C) → map (λ b. g (f b.0) b.1) (zip xs ys) ≡ map (λ b. g b.0 b.1) (zip (map f xs) ys)
 zip_mapped f g [] ys = refl
