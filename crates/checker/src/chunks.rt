@@ -11,7 +11,7 @@ use air::{RowInputs, Traces};
 use field::{ExtensionField, Field, Over};
 use lookup::Lookup;
 use lookup_columns::{
-    ColumnMemory, LookupSteps, columns_of_lookup, rows_between, steps_of_lookups,
+    ColumnInputs, ColumnMemory, LookupSteps, columns_of_lookup, rows_between, steps_of_lookups,
 };
 use lookup_generation::chunk_end;
 use std::alloc::{AllocError, Global};
@@ -69,18 +69,15 @@ fn chunk_holds_until<'a, F: Field, EF: ExtensionField<F>>(
         public_values: inputs.public_values,
     };
     let rows = rows_between(alloc, &mut memory.indices, first, end)?;
+    let on_rows = ColumnInputs {
+        traces: &traces,
+        challenges: inputs.challenges,
+        rows: &rows,
+    };
     let mut until = accumulator_holds_until(inputs, lookups, first, end);
     for i in 0..lookups.len() {
         let lookup = &lookups[i];
-        let columns = columns_of_lookup(
-            alloc,
-            memory,
-            lookup,
-            &steps[i],
-            &traces,
-            inputs.challenges,
-            &rows,
-        )?;
+        let columns = columns_of_lookup(alloc, memory, &on_rows, lookup, &steps[i])?;
         until = fraction_holds_until(inputs, lookup, &columns, first, until);
         memory.put_branches(columns)?;
     }

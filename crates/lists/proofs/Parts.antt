@@ -48,6 +48,16 @@ module _ {A B : Type 0} (f : A → List B) where
       ∙ ap (take width) (drop-append-add (f y) (flat_map f ys) (k * width))
       ∙ part_at width ys wide.1 k x (omega (arith, lt)) is
 
+-- functions with the same value at each item give the same parts
+pub flat_same : {A B : Type 0} (f g : A → List B) (xs : List A) → AllByRecursion (λ x. f x ≡ g x) xs → flat_map f xs ≡ flat_map g xs
+flat_same f g [] each = refl
+flat_same f g (x ∷ xs) each = λ i. each.0 i ++ flat_same f g xs each.1 i
+
+-- parts of parts
+pub flat_map-flat_map : {A B C : Type 0} (f : B → List C) (g : A → List B) (xs : List A) → flat_map f (flat_map g xs) ≡ flat_map (λ x. flat_map f (g x)) xs
+flat_map-flat_map f g [] = refl
+flat_map-flat_map f g (x ∷ xs) = flat_map-append f (g x) (flat_map g xs) ∙ ap (λ t. flat_map f (g x) ++ t) (flat_map-flat_map f g xs)
+
 -- images of parts
 pub map-flat_map : {A B C : Type 0} (g : B → C) (f : A → List B) (xs : List A) → map g (flat_map f xs) ≡ flat_map (λ x. map g (f x)) xs
 map-flat_map g f [] = refl

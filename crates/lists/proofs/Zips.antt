@@ -1,7 +1,7 @@
 -- Two lists side by side: their pairs, and relations of them item by item.
 use Rattle.std.proofs.Common.{◌≡◌, ℕ, zero, suc, ◌+◌, ◌<◌, ◌≤◌, ◌⊎◌, inl, inr, Bool, true, false, cond, Some, List, [], ◌∷◌, ◌++◌, All, length, map, take, get_or, refl, sym, ap, subst, subst₂, ◌∙◌, arith}
 use Rattle.std.proofs.lemmas.Bool.{cases_lt}
-use Rattle.std.proofs.lemmas.List.{get_or-map, length-map, take_more}
+use Rattle.std.proofs.lemmas.List.{get_or-map, length-map, take_all, take_more}
 use Rattle.std.proofs.lemmas.List.Elements.{All-cons, All-nil}
 use Rattle.std.proofs.lemmas.Slice.Zip.{AllZip-long, all_zipped_more, get_or-zip, length-zip}
 use Rattle.std.specs.List.{AllByRecursion, AllZip, filter, flat_map, range_with_len, slice_get, zip}
@@ -105,6 +105,15 @@ module _ {A B : Type 0} (R : A → B → Type 0) where
   AllZip-more xs ys zs i d x y lt is pushed here so_far =
       subst₂ (AllZip R) (sym (take_more xs i d lt ∙ ap (λ z. take i xs ++ z ∷ []) (sym is))) (sym pushed) (all_zipped_more R (take i xs) ys x y so_far here)
 
+  -- one more item of a list beside the next one
+  pub AllZip-more_right : (xs zs : List A) (ys : List B) (i : ℕ) (x : A) (y : B) → i < length ys → y ≡ get_or ys i y → zs ≡ xs ++ x ∷ [] → R x y → AllZip R xs (take i ys) → AllZip R zs (take (i + 1) ys)
+  AllZip-more_right xs zs ys i x y lt is pushed here so_far =
+      subst₂ (AllZip R) (sym pushed) (sym (take_item ys i y lt is)) (all_zipped_more R xs (take i ys) x y so_far here)
+
+  -- at the end all of them
+  pub AllZip-all_right : (xs : List A) (ys : List B) (n : ℕ) → length ys ≤ n → AllZip R xs (take n ys) → AllZip R xs ys
+  AllZip-all_right xs ys n le all = subst (AllZip R xs) (take_all n ys le) all
+
   -- the item that goes with the one at an index
   pub AllZip-at : (xs : List A) (ys : List B) (i : ℕ) (x : A) (d : B) → i < length xs → x ≡ get_or xs i x → AllZip R xs ys → R x (get_or ys i d)
   AllZip-at [] ys i x d lt is all = absurd (omega (arith, lt))
@@ -145,6 +154,13 @@ module _ {A B : Type 0} (R : A → B → Type 0) where
   AllZip-each P Q each [] (y ∷ ys) h all = absurd h
   AllZip-each P Q each (x ∷ xs) [] h all = absurd h
   AllZip-each P Q each (x ∷ xs) (y ∷ ys) h all = (each x y h.0 all.0, AllZip-each P Q each xs ys h.1 all.1)
+
+  -- what follows of the second item of each pair
+  pub AllZip-right : (Q : B → Type 0) → ((x : A) (y : B) → R x y → Q y) → (xs : List A) (ys : List B) → AllZip R xs ys → AllByRecursion Q ys
+  AllZip-right Q each [] [] h = tt
+  AllZip-right Q each [] (y ∷ ys) h = absurd h
+  AllZip-right Q each (x ∷ xs) [] h = absurd h
+  AllZip-right Q each (x ∷ xs) (y ∷ ys) h = (each x y h.0, AllZip-right Q each xs ys h.1)
 
   -- functions with the same value at related items give the same list, and the same parts
   pub AllZip-same_map : {C : Type 0} (f : A → C) (g : B → C) → ((x : A) (y : B) → R x y → f x ≡ g y) → (xs : List A) (ys : List B) → AllZip R xs ys → map f xs ≡ map g ys

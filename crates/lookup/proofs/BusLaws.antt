@@ -9,6 +9,8 @@ use Rattle.std.specs.declared.alloc.Global.{Global}
 use Rattle.std.specs.declared.string.String.{String}
 use Rattle.indexmap.proofs.MapLemmas.{Found, Found-position, insert_entry-first}
 use Rattle.indexmap.specs.IndexMap.{insert_entry, set_value_at}
+use Rattle.lists.proofs.Images.{map-map}
+use Rattle.lists.proofs.Zips.{AllZip-images, AllZip-same_map, AllZip-weaker}
 use Rattle.lookup_model.specs.Names.{same_name}
 use Rattle.lookup_model.specs.Outline.{Outline}
 use Rattle.lookup.proofs.GroupLaws.{groups-lookup, groups-push}
@@ -31,16 +33,11 @@ module _ {E V : Type 0} (Holds : List (Outline E) → V → Type 0) where
 
   -- the values of a map, and the groups without their names
   pub values_hold : (gs : List (List ℕ × List (Outline E))) (es : List (String Global × V)) → AllZip IsEntry gs es → AllZip Holds (map (λ g. g.1) gs) (values_of es)
-  values_hold [] [] h = tt
-  values_hold [] (e ∷ es) h = absurd h
-  values_hold (g ∷ gs) [] h = absurd h
-  values_hold (g ∷ gs) (e ∷ es) h = (h.0.1, values_hold gs es h.1)
+  values_hold gs es h = AllZip-images Holds (λ g. g.1) (λ e. e.1) gs es (AllZip-weaker IsEntry (λ g e. Holds g.1 e.1) (λ g e is. is.1) gs es h)
 
   names_are : (gs : List (List ℕ × List (Outline E))) (es : List (String Global × V)) → AllZip IsEntry gs es → keys_of gs ≡ map string_bytes (keys_of es)
-  names_are [] [] h = refl
-  names_are [] (e ∷ es) h = absurd h
-  names_are (g ∷ gs) [] h = absurd h
-  names_are (g ∷ gs) (e ∷ es) h = λ i. sym h.0.0 i ∷ names_are gs es h.1 i
+  names_are gs es h =
+      AllZip-same_map IsEntry (λ g. g.0) (λ e. string_bytes e.0) (λ g e is. sym is.0) gs es h ∙ sym (map-map string_bytes (λ e. e.0) es)
 
   -- the group of the entry at an index
   group_at : (gs : List (List ℕ × List (Outline E))) (es : List (String Global × V)) (i : ℕ) (v : V) → AllZip IsEntry gs es → slice_get (values_of es) i ≡ Some v → (group : List (Outline E)) × (slice_get (values_of gs) i ≡ Some group) × Holds group v

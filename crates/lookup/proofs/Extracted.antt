@@ -1,11 +1,13 @@
 -- What the lookups that are extracted from an AIR send.
 use Rattle.std.proofs.Common.{◌≡◌, ℕ, zero, suc, ◌+◌, Bool, List, [], ◌∷◌, ◌++◌, length, map, Option, None, Some, option_map, slice_get, All, inl, inr, refl, sym, ap, ap₂, arith, ◌∙◌}
-use Rattle.std.proofs.lemmas.List.{append_assoc, length-map}
+use Rattle.std.proofs.lemmas.List.{append_assoc, length-map, map-append}
 use Rattle.std.proofs.lemmas.List.Elements.{All-head, All-tail}
 use Rattle.std.specs.List.{enumerate_from, zip}
 use Rattle.std.specs.declared.alloc.Global.{Global}
 use Rattle.std.specs.declared.vec.Vec.{Vec}
-use Rattle.lists.proofs.Zips.{zip_mapped}
+use Rattle.lists.proofs.Images.{map-map}
+use Rattle.lists.proofs.Items.{enumerate_from-append}
+use Rattle.lists.proofs.Zips.{zip_mapped, zip_of_maps}
 use Rattle.field.specs.Ring.{Ring}
 use Rattle.expressions.specs.Window.{Window}
 use Rattle.expressions.specs.declared.base_expression.SymbolicExpression.{SymbolicExpression}
@@ -39,9 +41,9 @@ module _ {E : Type 0} where
 
   -- interactions one list after another
   outlines_append : (n : ℕ) (xs ys : List (Interaction E)) → outlines_from n (xs ++ ys) ≡ outlines_from n xs ++ outlines_from (n + length xs) ys
-  outlines_append n [] ys = ap (λ k. outlines_from k ys) (omega arith)
-  outlines_append n (x ∷ xs) ys =
-      ap (λ t. outline_at n x ∷ t) (outlines_append (n + 1) xs ys ∙ ap (λ k. outlines_from (n + 1) xs ++ outlines_from k ys) (omega arith))
+  outlines_append n xs ys =
+      let at = λ (p : ℕ × Interaction E). outline_at p.0 p.1 in
+      ap (map at) (enumerate_from-append n xs ys) ∙ map-append at (enumerate_from n xs) (enumerate_from (n + length xs) ys)
 
   -- the extraction is that of the interactions in order
   extraction_in_order : (locals : List (List (Tuple E))) (globals : List (GlobalInteraction E)) (exclusives : List (ExclusiveInteraction E))
@@ -60,16 +62,6 @@ module _ {E : Type 0} where
       behind =
           sym (outlines_append (length locals) (map global globals) (map exclusive exclusives)
           ∙ ap (λ k. outlines_from (length locals) (map global globals) ++ outlines_from (length locals + k) (map exclusive exclusives)) (length-map globals global))
-
--- pairs of two maps of one list
-zip_of_maps : {T A B C : Type 0} (f : T → A) (g : T → B) (h : A → B → C) (ts : List T) → map (λ p. h p.0 p.1) (zip (map f ts) (map g ts)) ≡ map (λ t. h (f t) (g t)) ts
-zip_of_maps f g h [] = refl
-zip_of_maps f g h (t ∷ ts) = ap (λ r. h (f t) (g t) ∷ r) (zip_of_maps f g h ts)
-
--- a map of a map
-map_twice : {A B C : Type 0} (f : A → B) (g : B → C) (xs : List A) → map g (map f xs) ≡ map (λ x. g (f x)) xs
-map_twice f g [] = refl
-map_twice f g (x ∷ xs) = ap (λ t. g (f x) ∷ t) (map_twice f g xs)
 
 module _ {F : Type 0} (R : Ring F) (eq : F → F → Bool) (w : Window F) where
   -- what the fields of a lookup send under an id
@@ -91,10 +83,10 @@ module _ {F : Type 0} (R : Ring F) (eq : F → F → Bool) (w : Window F) where
   outline_sends_pushed : (id column : ℕ) (m : Interaction (SymbolicExpression F)) → outline_sends id (outline_at column m) ≡ interaction_sends R eq (value R w) id m
   outline_sends_pushed id column (global m) = refl
   outline_sends_pushed id column (local tuples) =
-      ap (sent R eq None) (zip_of_maps (λ t. t.fields) (λ t. t.count) (branch_at R w id) tuples)
+      ap (sent R eq None) (zip_of_maps (branch_at R w id) (λ t. t.fields) (λ t. t.count) tuples)
   outline_sends_pushed id column (exclusive m) =
-      ap₂ (λ flags messages. sent R eq (Some flags) messages) (map_twice (λ b. b.flag) (value R w) m.branches)
-      (zip_of_maps (λ b. b.fields) (λ b. b.count) (branch_at R w id) m.branches)
+      ap₂ (λ flags messages. sent R eq (Some flags) messages) (map-map (value R w) (λ b. b.flag) m.branches)
+      (zip_of_maps (branch_at R w id) (λ b. b.fields) (λ b. b.count) m.branches)
 
   -- what lookups with the fields of these interactions send, each under the id of its column
   sent_from : (id : ℕ → ℕ) (n : ℕ) (lookups : List (Lookup F)) (interactions : List (Interaction (SymbolicExpression F))) → map fields_of lookups ≡ outlines_from n interactions
@@ -138,7 +130,7 @@ kinds_from n (exclusive m ∷ ms) = ap (λ t. bus_and_weight (exclusive m) ∷ t
 pub extracted_kinds : {F : Type 0} (lookups : List (Lookup F)) (locals : List (List (Tuple (SymbolicExpression F)))) (globals : List (GlobalInteraction (SymbolicExpression F))) (exclusives : List (ExclusiveInteraction (SymbolicExpression F)))
     → map fields_of lookups ≡ extraction locals globals exclusives → map lookup_bus_and_weight lookups ≡ map bus_and_weight (in_order locals globals exclusives)
 extracted_kinds lookups locals globals exclusives same =
-    sym (map_twice fields_of outline_bus_and_weight lookups)
+    sym (map-map outline_bus_and_weight fields_of lookups)
     ∙ ap (map outline_bus_and_weight) (same ∙ extraction_in_order locals globals exclusives)
     ∙ kinds_from 0 (in_order locals globals exclusives)
 
@@ -153,7 +145,7 @@ tuples_from n (exclusive m ∷ ms) = ap (λ t. interaction_tuples (exclusive m) 
 pub extracted_tuples : {F : Type 0} (lookups : List (Lookup F)) (locals : List (List (Tuple (SymbolicExpression F)))) (globals : List (GlobalInteraction (SymbolicExpression F))) (exclusives : List (ExclusiveInteraction (SymbolicExpression F)))
     → map fields_of lookups ≡ extraction locals globals exclusives → map (λ l. (fields_of l).elements) lookups ≡ map interaction_tuples (in_order locals globals exclusives)
 extracted_tuples lookups locals globals exclusives same =
-    sym (map_twice fields_of (λ o. o.elements) lookups)
+    sym (map-map (λ o. o.elements) fields_of lookups)
     ∙ ap (map (λ o. o.elements)) (same ∙ extraction_in_order locals globals exclusives)
     ∙ tuples_from 0 (in_order locals globals exclusives)
 

@@ -1,11 +1,12 @@
 -- With the degree of the gadget a greedy filling has the fewest columns.
-use Rattle.std.proofs.Common.{◌≡◌, ◌+◌, ◌≤◌, ◌⊎◌, inl, inr, ℕ, suc, Bool, true, false, cond, not, List, [], ◌∷◌, ◌++◌, Option, None, Some, length, map, refl, sym, ap, subst, ◌∙◌, arith}
+use Rattle.std.proofs.Common.{◌≡◌, ◌≤◌, ◌⊎◌, inl, inr, ℕ, Bool, true, false, cond, not, List, [], ◌∷◌, ◌++◌, Option, None, Some, length, map, refl, sym, ap, subst, ◌∙◌, arith}
 use Rattle.std.proofs.lemmas.List.{append-nil, length-map, map-append}
 use Rattle.std.proofs.lemmas.List.Elements.{filter-append}
 use Rattle.std.specs.List.{AllByRecursion, filter, filter_map, flat_map, zip}
 use Rattle.std.specs.Option.{option_map}
+use Rattle.lists.proofs.Images.{filter_images}
 use Rattle.lists.proofs.Zips.{zip-append}
-use Rattle.lists.proofs.Each.{all_front, all_back, all_both, all_kept, filter_passes}
+use Rattle.lists.proofs.Each.{all_front, all_back, all_both, all_kept, all_with, filter_passes}
 use Rattle.expressions.specs.declared.base_expression.SymbolicExpression.{SymbolicExpression}
 use Rattle.lookup_model.proofs.Lookups.Regrouping.{IsSeparate, first_seen_separate}
 use Rattle.lookup_model.specs.LookupDegree.{branch_degrees, constraint_degree_of, expression_degree, outline_branch_degrees, outline_degree}
@@ -16,6 +17,7 @@ use Rattle.lookup.specs.Cuts.{AreClosed, IsCut, part_items}
 use Rattle.lookup.specs.Fewest.{AnswersDegree, HasFewestColumns}
 use Rattle.lookup.specs.Packing.{AreFilled, IsAbove, IsFilling, IsPacking, additive, is_additive, joined, numbered_from, passing, trial}
 use Rattle.lookup.specs.TrialDegrees.{IsPlain}
+use Rattle.lookup.proofs.Columns.{unnumbered, unnumbered_all}
 use Rattle.lookup.proofs.FewestParts.{AreFull, fewest_parts}
 use Rattle.lookup.proofs.FillLaws.{joined_more, with_next}
 use Rattle.lookup_model.proofs.Names.{same_name-Decides}
@@ -75,24 +77,15 @@ module _ {F : Type 0} where
 
 module _ {E : Type 0} where
   -- numbers of columns do not matter to what is counted
+  counted : (name : List ℕ) (os : List (Outline E)) → length (on_bus name (additive (map unnumbered os))) ≡ length (on_bus name (additive os))
+  counted name os =
+      let named = λ (o : Outline E). is_named name o.bus in
+      ap length (ap (filter named) (filter_images unnumbered is_additive is_additive (λ o. refl) os) ∙ filter_images unnumbered named named (λ o. refl) (additive os))
+      ∙ length-map (on_bus name (additive os)) unnumbered
+
   on_bus-numbered : (name : List ℕ) (n : ℕ) (os : List (Outline E)) → length (on_bus name (additive (numbered_from n os))) ≡ length (on_bus name (additive os))
-  on_bus-numbered name n [] = refl
-  on_bus-numbered name n (o ∷ os) = by_tests (is_additive o) (is_named name o.bus) (on_bus-numbered name (n + 1) os)
-    where
-      numbers : List (Outline E)
-      numbers = additive (numbered_from (n + 1) os)
-
-      one : Outline E
-      one = record o { column = n }
-
-      by_tests : (p q : Bool) → length (on_bus name numbers) ≡ length (on_bus name (additive os))
-          → length (filter (λ x. is_named name x.bus) (cond p (record o { column = n } ∷ numbers) numbers)) ≡ length (filter (λ x. is_named name x.bus) (cond p (o ∷ additive os) (additive os)))
-      by_tests false q e = e
-      by_tests true q e = by_name (is_named name o.bus)
-        where
-          by_name : (b : Bool) → length (cond b (record o { column = n } ∷ on_bus name numbers) (on_bus name numbers)) ≡ length (cond b (o ∷ on_bus name (additive os)) (on_bus name (additive os)))
-          by_name true = ap suc e
-          by_name false = e
+  on_bus-numbered name n os =
+      sym (counted name (numbered_from n os)) ∙ ap (λ t. length (on_bus name (additive t))) (unnumbered_all n os) ∙ counted name os
 
   -- what passes through is not counted
   pub none_additive : (os : List (Outline E)) → additive (passing os) ≡ []
@@ -110,11 +103,7 @@ module _ {E : Type 0} where
 
   pub members_on : (name : List ℕ) (os : List (Outline E)) → AllByRecursion (IsOn name) (on_bus name (additive os))
   members_on name os =
-      both (on_bus name (additive os)) (all_kept (λ o. is_additive o ≡ true) (λ o. is_named name o.bus) (additive os) (filter_passes is_additive os)) (filter_passes (λ o. is_named name o.bus) (additive os))
-    where
-      both : (xs : List (Outline E)) → AllByRecursion (λ o. is_additive o ≡ true) xs → AllByRecursion (λ o. is_named name o.bus ≡ true) xs → AllByRecursion (IsOn name) xs
-      both [] p q = tt
-      both (x ∷ xs) p q = (record { joins = p.0; named = q.0 }, both xs p.1 q.1)
+      all_with (λ o. is_additive o ≡ true) (λ o. is_named name o.bus ≡ true) (IsOn name) (λ o joins named. record { joins = joins; named = named }) (on_bus name (additive os)) (all_kept (λ o. is_additive o ≡ true) (λ o. is_named name o.bus) (additive os) (filter_passes is_additive os)) (filter_passes (λ o. is_named name o.bus) (additive os))
 
   -- the columns of a bus are those that its parts make, and on another bus there are none of them
   own_columns : (name : List ℕ) (cut : List (Outline E × List (Outline E))) → AllByRecursion (IsOn name) (flat_map part_items cut) → on_bus name (additive (map joined cut)) ≡ map joined cut

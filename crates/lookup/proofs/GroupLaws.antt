@@ -8,7 +8,7 @@ use Rattle.std.specs.Option.{option_map_or}
 use Rattle.std.specs.declared.alloc.Global.{Global}
 use Rattle.std.specs.Borrow.{Bor}
 use Rattle.std.specs.declared.vec.Vec.{Vec}
-use Rattle.lists.proofs.Images.{images_more}
+use Rattle.lists.proofs.Images.{images_more, map_same}
 use Rattle.expressions.specs.declared.base_expression.SymbolicExpression.{SymbolicExpression}
 use Rattle.indexmap.specs.IndexMap.{insert_entry}
 use Rattle.lookup_model.proofs.Lookups.Regrouping.{first_seen_separate}
@@ -64,8 +64,7 @@ module _ {E : Type 0} where
       same_lookups name = on_bus-push name os o ∙ ap (λ b. on_bus name os ++ cond (is_named name b) (o ∷ []) []) local ∙ append-nil (on_bus name os)
 
       same_groups : (ns : List (List ℕ)) → map {B = List ℕ × List (Outline E)} (λ n. (n, on_bus n (os ++ o ∷ []))) ns ≡ map (λ n. (n, on_bus n os)) ns
-      same_groups [] = refl
-      same_groups (n ∷ ns) = λ i. (n, same_lookups n i) ∷ same_groups ns i
+      same_groups ns = map_same (λ n. (n, on_bus n (os ++ o ∷ []))) (λ n. (n, on_bus n os)) (λ n i. (n, same_lookups n i)) ns
 
       by_names : bus_groups (os ++ o ∷ []) ≡ bus_groups os
       by_names = ap (λ ns. map (λ n. (n, on_bus n (os ++ o ∷ []))) (first_seen same_name ns)) same_names ∙ same_groups (bus_names os)

@@ -1,12 +1,12 @@
 -- What joined lookups send is what their members send.
-use Rattle.std.proofs.Common.{◌≡◌, ℕ, Bool, true, ◌&&◌, not, List, [], ◌∷◌, ◌++◌, Option, None, Some, Result, map, refl, sym, ap, subst, ◌∙◌}
+use Rattle.std.proofs.Common.{◌≡◌, ℕ, Bool, true, ◌&&◌, not, List, [], ◌∷◌, ◌++◌, Option, None, Some, Result, map, refl, sym, ap, ◌∙◌}
 use Rattle.std.proofs.lemmas.Bool.{false≢true}
-use Rattle.std.proofs.lemmas.Grind.{flat_map-append}
 use Rattle.std.proofs.lemmas.List.{map-append}
 use Rattle.std.specs.List.{AllByRecursion, flat_map, zip}
 use Rattle.std.specs.Option.{is_some, option_map, option_map_or}
 use Rattle.lists.proofs.Zips.{zip-append, zip_mapped}
-use Rattle.lists.proofs.Each.{all_front, all_back}
+use Rattle.lists.proofs.Each.{all_weaker, all_with}
+use Rattle.lists.proofs.Parts.{flat_same}
 use Rattle.field.specs.Ring.{Ring}
 use Rattle.expressions.specs.Window.{Window}
 use Rattle.expressions.specs.declared.base_expression.SymbolicExpression.{SymbolicExpression}
@@ -19,6 +19,7 @@ use Rattle.lookup.specs.Buses.{on_bus}
 use Rattle.lookup_model.specs.Names.{is_named}
 use Rattle.lookup.specs.Cuts.{part_items}
 use Rattle.lookup.specs.Packing.{AreFilled, additive, is_additive, joined}
+use Rattle.lookup.proofs.Columns.{columns_give}
 use Rattle.lookup.proofs.FewestColumns.{IsOn, members_on}
 use Rattle.lookup.specs.TrialDegrees.{IsPlain}
 use Rattle.lookup_model.proofs.Names.{same_name-Decides}
@@ -75,38 +76,18 @@ module _ {F : Type 0} (R : Ring F) (eq : F → F → Bool) (w : Window F) where
         ap (λ flags. (sent R eq (option_map (values R w) flags) (branches_of (own_id bus_id o) o)).messages) none
         ∙ ap (λ id. branches_of id o) (own_named bus_id name o.bus named)
 
-    members_branches : (name : List ℕ) (os : List (Outline (SymbolicExpression F))) → AllByRecursion IsPlain os → AllByRecursion (IsOn name) os → flat_map own_messages os ≡ flat_map (branches_of (bus_id name)) os
-    members_branches name [] plain on = refl
-    members_branches name (o ∷ os) plain on = λ i. all_branches name o (plain.0).no_flags (on.0).named i ++ members_branches name os plain.1 on.1 i
-
     -- a part sends what its members send
-    part_messages : (name : List ℕ) (part : Outline (SymbolicExpression F) × List (Outline (SymbolicExpression F))) → AllByRecursion IsPlain (part_items part) → AllByRecursion (IsOn name) (part_items part)
+    part_messages : (name : List ℕ) (part : Outline (SymbolicExpression F) × List (Outline (SymbolicExpression F))) → AllByRecursion (λ o. IsPlain o × IsOn name o) (part_items part)
         → own_messages (joined part) ≡ flat_map own_messages (part_items part)
-    part_messages name part plain on =
-        all_branches name (joined part) (plain.0).no_flags (on.0).named
-        ∙ branches_joined (bus_id name) (part_items part) plain
-        ∙ sym (members_branches name (part_items part) plain on)
-
-    -- so do all parts of a cut
-    cut_messages : (name : List ℕ) (cut : List (Outline (SymbolicExpression F) × List (Outline (SymbolicExpression F)))) → AllByRecursion IsPlain (flat_map part_items cut) → AllByRecursion (IsOn name) (flat_map part_items cut)
-        → flat_map own_messages (map joined cut) ≡ flat_map own_messages (flat_map part_items cut)
-    cut_messages name [] plain on = refl
-    cut_messages name (p ∷ ps) plain on =
-        (λ i.
-        part_messages name p (all_front IsPlain (part_items p) (flat_map part_items ps) plain) (all_front (IsOn name) (part_items p) (flat_map part_items ps) on) i
-        ++ cut_messages name ps (all_back IsPlain (part_items p) (flat_map part_items ps) plain) (all_back (IsOn name) (part_items p) (flat_map part_items ps) on) i)
-        ∙ sym (flat_map-append own_messages (part_items p) (flat_map part_items ps))
+    part_messages name part each =
+        all_branches name (joined part) (each.0.0).no_flags (each.0.1).named
+        ∙ branches_joined (bus_id name) (part_items part) (all_weaker (λ o. IsPlain o × IsOn name o) IsPlain (λ o both. both.0) (part_items part) each)
+        ∙ sym (flat_same own_messages (branches_of (bus_id name)) (part_items part) (all_weaker (λ o. IsPlain o × IsOn name o) (λ o. own_messages o ≡ branches_of (bus_id name) o) (λ o both. all_branches name o (both.0).no_flags (both.1).named) (part_items part) each))
 
     -- the columns of all buses send what the lookups on them send
     pub columns_messages : (answers : Outline (SymbolicExpression F) → Result ℕ LookupError → Type 0) (most : ℕ) (os : List (Outline (SymbolicExpression F))) (names : List (List ℕ)) (cuts : List (List (Outline (SymbolicExpression F) × List (Outline (SymbolicExpression F)))))
         → ((name : List ℕ) → AllByRecursion IsPlain (on_bus name (additive os))) → AreFilled answers most (additive os) names cuts
         → flat_map own_messages (flat_map (λ cut. map joined cut) cuts) ≡ flat_map (λ name. flat_map own_messages (on_bus name (additive os))) names
-    columns_messages answers most os [] [] plain filled = refl
-    columns_messages answers most os [] (c ∷ cs) plain filled = absurd filled
-    columns_messages answers most os (n ∷ ns) [] plain filled = absurd filled
-    columns_messages answers most os (n ∷ ns) (c ∷ cs) plain filled =
-        let is = filled.0.0 in
-        let plain_here = subst (λ (t : List (Outline (SymbolicExpression F))). AllByRecursion IsPlain t) (sym is) (plain n) in
-        let on_here = subst (λ (t : List (Outline (SymbolicExpression F))). AllByRecursion (IsOn n) t) (sym is) (members_on n os) in
-        flat_map-append own_messages (map joined c) (flat_map (λ cut. map joined cut) cs)
-        ∙ (λ i. (cut_messages n c plain_here on_here ∙ ap (flat_map own_messages) is) i ++ columns_messages answers most os ns cs plain filled.1 i)
+    columns_messages answers most os names cuts plain =
+        columns_give answers most (additive os) (λ name o. IsPlain o × IsOn name o)
+        (λ name. all_with IsPlain (IsOn name) (λ o. IsPlain o × IsOn name o) (λ o is on. (is, on)) (on_bus name (additive os)) (plain name) (members_on name os)) own_messages part_messages names cuts

@@ -21,7 +21,8 @@ use Rattle.lookup_model.specs.declared.error.LookupError.{LookupError}
 use Rattle.lookup_model.specs.declared.types.Lookup.{Lookup}
 use Rattle.lookup.specs.Kept.{KeepsLawfulFlags, KeepsOtherBuses, other_buses}
 use Rattle.lookup.specs.Packing.{IsPacking, is_additive, passing}
-use Rattle.lookup.proofs.KeptLaws.{filter_seen, passing_after, unnumbered}
+use Rattle.lookup.proofs.Columns.{unnumbered}
+use Rattle.lookup.proofs.KeptLaws.{filter_seen, passing_after}
 
 module _ {F : Type 0} (R : Ring F) (eq : F → F → Bool) (w : Window F) where
   -- flags, of which there may be none, are lawful at the window

@@ -9,8 +9,8 @@ use Rattle.std.specs.List.{AllByRecursion, filter, filter_map, flat_map, range_w
 use Rattle.std.specs.List.Sorted.{IsPermutation}
 use Rattle.std.specs.Option.{is_some, option_map_or}
 use Rattle.lists.proofs.Parts.{singles}
-use Rattle.lists.proofs.Images.{filter_all, filter_again, sum_by-mapped}
-use Rattle.lists.proofs.Each.{all_back, all_both, filter_passes}
+use Rattle.lists.proofs.Images.{filter_again, filter_all, filter_images, filter_none, sum_by-mapped}
+use Rattle.lists.proofs.Each.{all_weaker, filter_passes}
 use Rattle.field.specs.Ring.{IsCommutativeRing, Ring}
 use Rattle.matrix.specs.Matrix.{height}
 use Rattle.expressions.specs.Window.{Window}
@@ -30,74 +30,35 @@ use Rattle.lookup.specs.Buses.{bus_names, on_bus}
 use Rattle.lookup_model.specs.Names.{same_name}
 use Rattle.lookup.specs.Cuts.{part_items}
 use Rattle.lookup.specs.Kept.{HasIdOfBus, HaveSameIds, KeepsMessages, KeepsNets, KeepsTotalWeight, other_ids, row_messages}
-use Rattle.lookup.specs.Packing.{AreFilled, IsPacking, additive, is_additive, joined, numbered_from, passing}
+use Rattle.lookup.specs.Packing.{AreFilled, IsPacking, additive, is_additive, joined, passing}
+use Rattle.lookup.proofs.Columns.{columns_all, unnumbered, unnumbered_all}
 use Rattle.lookup.proofs.FewestColumns.{IsOn, members_on, none_additive}
 use Rattle.lookup.proofs.JoinedMessages.{columns_messages, messages_of, own_messages, seen_messages, on_some_bus}
 use Rattle.lookup.proofs.Rearranged.{among_names, grouped, parted}
 use Rattle.lookup.proofs.RearrangedSums.{sum_in-passing, sum_in-permutation}
 use Rattle.lookup.proofs.StepLaws.{no_flags_of, plain_on}
 
-module _ {A : Type 0} (p : A → Bool) where
-  others_none : (xs : List A) → AllByRecursion (λ x. p x ≡ true) xs → filter (λ x. not (p x)) xs ≡ []
-  others_none [] all = refl
-  others_none (x ∷ xs) all = ap (λ b. cond (not b) (x ∷ filter (λ y. not (p y)) xs) (filter (λ y. not (p y)) xs)) all.0 ∙ others_none xs all.1
-
 -- what is seen of the items that pass a test of what is seen
 pub filter_seen : {A B : Type 0} (see : A → B) (p : B → Bool) (xs : List A) → map see (filter (λ x. p (see x)) xs) ≡ filter p (map see xs)
-filter_seen see p [] = refl
-filter_seen see p (x ∷ xs) = by_test (p (see x)) (filter_seen see p xs)
-  where
-    by_test : (b : Bool) → map see (filter (λ y. p (see y)) xs) ≡ filter p (map see xs) → map see (cond b (x ∷ filter (λ y. p (see y)) xs) (filter (λ y. p (see y)) xs)) ≡ cond b (see x ∷ filter p (map see xs)) (filter p (map see xs))
-    by_test true rest = ap (λ t. see x ∷ t) rest
-    by_test false rest = rest
+filter_seen see p xs = sym (filter_images see (λ x. p (see x)) p (λ x. refl) xs)
 
 module _ {E : Type 0} where
-  -- a lookup without the number of its column
-  abbrev pub unnumbered : Outline E → Outline E
-  unnumbered o = record o { column = 0 }
-
-  pub unnumbered_all : (n : ℕ) (os : List (Outline E)) → map unnumbered (numbered_from n os) ≡ map unnumbered os
-  unnumbered_all n [] = refl
-  unnumbered_all n (o ∷ os) = ap (λ t. unnumbered o ∷ t) (unnumbered_all (n + 1) os)
-
-  -- numbers of columns do not matter to which lookups pass a test that does not see them
-  numbers_apart : (p : Outline E → Bool) → ((o : Outline E) → p (unnumbered o) ≡ p o) → (os : List (Outline E)) → map unnumbered (filter p os) ≡ filter p (map unnumbered os)
-  numbers_apart p same [] = refl
-  numbers_apart p same (o ∷ os) = by_test (p o) (numbers_apart p same os) ∙ ap (λ b. cond b (unnumbered o ∷ filter p (map unnumbered os)) (filter p (map unnumbered os))) (sym (same o))
-    where
-      by_test : (b : Bool) → map unnumbered (filter p os) ≡ filter p (map unnumbered os) → map unnumbered (cond b (o ∷ filter p os) (filter p os)) ≡ cond b (unnumbered o ∷ filter p (map unnumbered os)) (filter p (map unnumbered os))
-      by_test true rest = ap (λ t. unnumbered o ∷ t) rest
-      by_test false rest = rest
-
-  -- the columns of all buses may be joined further
-  cut_additive : (name : List ℕ) (cut : List (Outline E × List (Outline E))) → AllByRecursion (IsOn name) (flat_map part_items cut) → AllByRecursion (λ o. is_additive o ≡ true) (map joined cut)
-  cut_additive name [] on = tt
-  cut_additive name (p ∷ ps) on = ((on.0).joins, cut_additive name ps (all_back (IsOn name) (part_items p) (flat_map part_items ps) on))
-
   module _ (answers : Outline E → Result ℕ LookupError → Type 0) (most : ℕ) (before : List (Outline E)) where
-    columns_additive : (names : List (List ℕ)) (cuts : List (List (Outline E × List (Outline E)))) → AreFilled answers most (additive before) names cuts → AllByRecursion (λ o. is_additive o ≡ true) (flat_map (λ cut. map joined cut) cuts)
-    columns_additive [] [] filled = tt
-    columns_additive [] (c ∷ cs) filled = absurd filled
-    columns_additive (n ∷ ns) [] filled = absurd filled
-    columns_additive (n ∷ ns) (c ∷ cs) filled =
-        all_both (λ (o : Outline E). is_additive o ≡ true) (map joined c) (flat_map (λ cut. map joined cut) cs)
-        (cut_additive n c (subst (λ (t : List (Outline E)). AllByRecursion (IsOn n) t) (sym filled.0.0) (members_on n before))) (columns_additive ns cs filled.1)
-
     module _ (after : List (Outline E)) (packing : IsPacking answers most before after) where
       -- the columns of all buses, which come behind what passes through
       abbrev columns : List (Outline E)
       columns = flat_map (λ cut. map joined cut) packing.cuts
 
       all_additive : AllByRecursion (λ o. is_additive o ≡ true) columns
-      all_additive = columns_additive (bus_names (additive before)) packing.cuts packing.filled
+      all_additive = columns_all answers most (additive before) IsOn (λ name. members_on name before) (λ o. is_additive o ≡ true) (λ name part on. (on.0).joins) (bus_names (additive before)) packing.cuts packing.filled
 
       -- the lookups after that pass a test
       tested : (p : Outline E → Bool) → ((o : Outline E) → p (unnumbered o) ≡ p o) → map unnumbered (filter p after) ≡ map unnumbered (filter p (passing before) ++ filter p columns)
       tested p same =
-          numbers_apart p same after
+          sym (filter_images unnumbered p p same after)
           ∙ ap (λ os. filter p (map unnumbered os)) packing.columns
           ∙ ap (filter p) (unnumbered_all 0 (passing before ++ columns))
-          ∙ sym (numbers_apart p same (passing before ++ columns))
+          ∙ filter_images unnumbered p p same (passing before ++ columns)
           ∙ ap (map unnumbered) (filter-append p (passing before) columns)
 
       -- those that may be joined are the columns of the buses, and the others those that pass through
@@ -107,7 +68,7 @@ module _ {E : Type 0} where
       pub passing_after : map unnumbered (passing after) ≡ map unnumbered (passing before)
       passing_after =
           tested (λ o. not (is_additive o)) (λ o. refl)
-          ∙ ap (map unnumbered) ((λ i. filter_again (λ o. not (is_additive o)) before i ++ others_none is_additive columns all_additive i) ∙ append-nil (passing before))
+          ∙ ap (map unnumbered) ((λ i. filter_again (λ o. not (is_additive o)) before i ++ filter_none (λ o. not (is_additive o)) columns (all_weaker (λ o. is_additive o ≡ true) (λ o. not (is_additive o) ≡ false) (λ o is. ap not is) columns all_additive) i) ∙ append-nil (passing before))
 
 module _ {E : Type 0} where
   abbrev weight : List (Outline E) → ℕ

@@ -1,13 +1,13 @@
 -- A packing keeps the widths of tuples.
 use Rattle.std.proofs.Common.{◌≡◌, ℕ, List, [], ◌∷◌, ◌++◌, Result, length, map, refl, sym, ap, subst, ◌∙◌}
-use Rattle.std.proofs.lemmas.List.{map-append}
 use Rattle.std.proofs.lemmas.Simd.{map-map}
 use Rattle.std.proofs.lemmas.List.Folds.{flat_map-map}
 use Rattle.std.proofs.lemmas.Grind.{flat_map-append}
 use Rattle.std.proofs.lemmas.List.Sorted.{IsPermutation-append_comm, IsPermutation-append_left, IsPermutation-trans}
 use Rattle.std.specs.List.{filter_map, flat_map}
 use Rattle.std.specs.List.Sorted.{IsPermutation}
-use Rattle.lists.proofs.Each.{filter_passes}
+use Rattle.lists.proofs.Each.{each_of, filter_passes}
+use Rattle.lists.proofs.Parts.{map-flat_map}
 use Rattle.expressions.specs.declared.base_expression.SymbolicExpression.{SymbolicExpression}
 use Rattle.lookup_model.proofs.Lookups.Regrouping.{first_seen_separate}
 use Rattle.lookup_model.specs.Outline.{Outline, fields_of}
@@ -17,8 +17,8 @@ use Rattle.lookup_model.specs.declared.types.Lookup.{Lookup}
 use Rattle.lookup.specs.Buses.{bus_names, on_bus}
 use Rattle.lookup.specs.Cuts.{part_items}
 use Rattle.lookup.specs.Kept.{KeepsWidths, widths_of}
-use Rattle.lookup.specs.Packing.{AreFilled, IsPacking, additive, is_additive, joined, passing}
-use Rattle.lookup.proofs.KeptLaws.{unnumbered, unnumbered_all}
+use Rattle.lookup.specs.Packing.{IsPacking, additive, is_additive, joined, passing}
+use Rattle.lookup.proofs.Columns.{columns_give, unnumbered, unnumbered_all}
 use Rattle.lookup.proofs.Rearranged.{among_names, grouped, parted}
 
 module _ {E : Type 0} where
@@ -27,26 +27,6 @@ module _ {E : Type 0} where
 
   abbrev widths : List (Outline E) → List ℕ
   widths os = flat_map own os
-
-  -- a joined lookup has the tuples of its members
-  joined_widths : (os : List (Outline E)) → map length (flat_map (λ o. o.elements) os) ≡ widths os
-  joined_widths [] = refl
-  joined_widths (o ∷ os) = map-append length o.elements (flat_map (λ p. p.elements) os) ∙ ap (λ t. own o ++ t) (joined_widths os)
-
-  cut_widths : (cut : List (Outline E × List (Outline E))) → widths (map joined cut) ≡ widths (flat_map part_items cut)
-  cut_widths [] = refl
-  cut_widths (p ∷ ps) =
-      (λ i. joined_widths (part_items p) i ++ cut_widths ps i) ∙ sym (flat_map-append own (part_items p) (flat_map part_items ps))
-
-  module _ (answers : Outline E → Result ℕ LookupError → Type 0) (most : ℕ) (os : List (Outline E)) where
-    columns_widths : (names : List (List ℕ)) (cuts : List (List (Outline E × List (Outline E)))) → AreFilled answers most os names cuts
-        → widths (flat_map (λ cut. map joined cut) cuts) ≡ flat_map (λ name. widths (on_bus name os)) names
-    columns_widths [] [] filled = refl
-    columns_widths [] (c ∷ cs) filled = absurd filled
-    columns_widths (n ∷ ns) [] filled = absurd filled
-    columns_widths (n ∷ ns) (c ∷ cs) filled =
-        flat_map-append own (map joined c) (flat_map (λ cut. map joined cut) cs)
-        ∙ (λ i. (cut_widths c ∙ ap widths filled.0.0) i ++ columns_widths ns cs filled.1 i)
 
 module _ {F : Type 0} (answers : Outline (SymbolicExpression F) → Result ℕ LookupError → Type 0) (most : ℕ) (before after : List (Lookup F)) (packing : IsPacking answers most (map fields_of before) (map fields_of after)) where
   seen_widths : (ls : List (Lookup F)) → widths (map fields_of ls) ≡ widths_of ls
@@ -66,7 +46,7 @@ module _ {F : Type 0} (answers : Outline (SymbolicExpression F) → Result ℕ L
       ∙ flat_map-map own unnumbered (passing os ++ columns)
       ∙ flat_map-append own (passing os) columns in
       let on_buses : IsPermutation (widths (additive os)) (widths columns) =
-      subst (λ (t : List ℕ). IsPermutation (widths (additive os)) t) (sym (columns_widths answers most (additive os) names packing.cuts packing.filled))
+      subst (λ (t : List ℕ). IsPermutation (widths (additive os)) t) (sym (columns_give answers most (additive os) (λ _ _. Unit {0}) (λ name. each_of (λ _. Unit {0}) (λ _. tt) (on_bus name (additive os))) own (λ name part _. map-flat_map length (λ o. o.elements) (part_items part)) names packing.cuts packing.filled))
       (grouped own names (additive os) (first_seen_separate same_name (filter_map (λ o. o.bus) (additive os))) (among_names (additive os) (filter_passes is_additive os))) in
       let in_two : IsPermutation (widths os) (widths (additive os) ++ widths (passing os)) = parted own is_additive os in
       let both : IsPermutation (widths os) (widths (passing os) ++ widths columns) =

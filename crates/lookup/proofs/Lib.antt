@@ -1,4 +1,5 @@
 pub mod BusLaws
+mod Columns
 mod DegreeLaws
 pub mod Evaluations
 pub mod Extracted

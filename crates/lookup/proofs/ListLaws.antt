@@ -2,7 +2,7 @@
 use Rattle.std.proofs.Common.{◌≡◌, ◌⊎◌, inl, inr, Bool, true, false, cond, List, [], ◌∷◌, ◌++◌, map, refl, sym, ap, ◌∙◌}
 use Rattle.std.proofs.lemmas.Grind.{flat_map-append}
 use Rattle.std.proofs.lemmas.List.{append-nil, append_assoc, map-append}
-use Rattle.std.specs.List.{AllZip, filter, flat_map}
+use Rattle.std.specs.List.{filter, flat_map}
 
 module _ {A : Type 0} where
   -- an item of a list with one more at the end is that one, or stands before it
@@ -27,28 +27,23 @@ module _ {A : Type 0} where
       by_rest (inl h) = inl ((λ i. head i ∷ h.0 i), h.1)
       by_rest (inr h) = inr (h.0, λ i. head i ∷ h.1 i)
 
-module _ {A B : Type 0} (f : A → B) where
-  -- one more item is seen
-  pub seen_more : (seen all : List B) (left later : List A) (x : A) → left ≡ x ∷ later → seen ++ map f left ≡ all → (seen ++ f x ∷ []) ++ map f later ≡ all
-  seen_more seen all left later x next e = append_assoc seen (f x ∷ []) (map f later) ∙ ap (λ t. seen ++ map f t) (sym next) ∙ e
+module _ {A B : Type 0} (f : A → B) (p : B → Bool) where
+  -- one more item is kept, or left out
+  pub kept_more : (done all : List B) (left later : List A) (x : A) → left ≡ x ∷ later → p (f x) ≡ true → done ++ filter p (map f left) ≡ all → (done ++ f x ∷ []) ++ filter p (map f later) ≡ all
+  kept_more done all left later x next test e =
+      append_assoc done (f x ∷ []) (filter p (map f later))
+      ∙ ap (λ b. done ++ cond b (f x ∷ filter p (map f later)) (filter p (map f later))) (sym test)
+      ∙ ap (λ t. done ++ filter p (map f t)) (sym next) ∙ e
 
-  module _ (p : B → Bool) where
-    -- one more item is kept, or left out
-    pub kept_more : (done all : List B) (left later : List A) (x : A) → left ≡ x ∷ later → p (f x) ≡ true → done ++ filter p (map f left) ≡ all → (done ++ f x ∷ []) ++ filter p (map f later) ≡ all
-    kept_more done all left later x next test e =
-        append_assoc done (f x ∷ []) (filter p (map f later))
-        ∙ ap (λ b. done ++ cond b (f x ∷ filter p (map f later)) (filter p (map f later))) (sym test)
-        ∙ ap (λ t. done ++ filter p (map f t)) (sym next) ∙ e
+  pub left_out : (done all : List B) (left later : List A) (x : A) → left ≡ x ∷ later → p (f x) ≡ false → done ++ filter p (map f left) ≡ all → done ++ filter p (map f later) ≡ all
+  left_out done all left later x next test e =
+      ap (λ b. done ++ cond b (f x ∷ filter p (map f later)) (filter p (map f later))) (sym test)
+      ∙ ap (λ t. done ++ filter p (map f t)) (sym next) ∙ e
 
-    pub left_out : (done all : List B) (left later : List A) (x : A) → left ≡ x ∷ later → p (f x) ≡ false → done ++ filter p (map f left) ≡ all → done ++ filter p (map f later) ≡ all
-    left_out done all left later x next test e =
-        ap (λ b. done ++ cond b (f x ∷ filter p (map f later)) (filter p (map f later))) (sym test)
-        ∙ ap (λ t. done ++ filter p (map f t)) (sym next) ∙ e
-
-    -- one more item is kept behind those that are
-    pub kept_pushed : (done after : List A) (all : List B) (left later : List A) (x : A) → after ≡ done ++ x ∷ [] → left ≡ x ∷ later → p (f x) ≡ true → map f done ++ filter p (map f left) ≡ all → map f after ++ filter p (map f later) ≡ all
-    kept_pushed done after all left later x pushed next test e =
-        ap (λ t. t ++ filter p (map f later)) (ap (map f) pushed ∙ map-append f done (x ∷ [])) ∙ kept_more (map f done) all left later x next test e
+  -- one more item is kept behind those that are
+  pub kept_pushed : (done after : List A) (all : List B) (left later : List A) (x : A) → after ≡ done ++ x ∷ [] → left ≡ x ∷ later → p (f x) ≡ true → map f done ++ filter p (map f left) ≡ all → map f after ++ filter p (map f later) ≡ all
+  kept_pushed done after all left later x pushed next test e =
+      ap (λ t. t ++ filter p (map f later)) (ap (map f) pushed ∙ map-append f done (x ∷ [])) ∙ kept_more (map f done) all left later x next test e
 
 -- the columns of one more cut behind those of others
 pub columns_behind : {L O P : Type 0} (see : L → O) (make : P → O) (before : List O) (columns made after : List L) (cuts : List (List P)) (cut : List P) → after ≡ columns ++ made → map see columns ≡ before ++ flat_map (λ c. map make c) cuts → map see made ≡ map make cut

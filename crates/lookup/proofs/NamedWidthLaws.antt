@@ -1,13 +1,14 @@
 -- Widths on buses, one by one.
 use Rattle.std.proofs.Common.{◌≡◌, ◌≢◌, ◌++◌, ◌∷◌, ◌+◌, ◌<◌, ℕ, Bool, true, false, cond, true≢false, List, [], Option, None, Some, get_or, length, map, max, nat_cmp, rules, slice_get, take, unwrap_or, refl, sym, ap, arith, ◌∙◌}
-use Rattle.std.proofs.lemmas.List.{append-nil, append_assoc, map-append, map_push, take_more}
-use Rattle.std.proofs.lemmas.Grind.{flat_map-append}
+use Rattle.std.proofs.lemmas.List.{map_push}
 use Rattle.std.proofs.lemmas.Option.{slice_get-get_or, slice_get-map}
 use Rattle.std.specs.Borrow.{Bor}
-use Rattle.std.specs.List.{AllByRecursion, flat_map}
+use Rattle.std.specs.List.{flat_map}
 use Rattle.std.specs.Option.{option_map}
 use Rattle.std.specs.Ordering.{ord_max}
 use Rattle.std.specs.Map.{lookup}
+use Rattle.lists.proofs.Each.{all_both, all_weaker}
+use Rattle.lists.proofs.Items.{take_item}
 use Rattle.lists.proofs.Parts.{parts_next}
 use Rattle.indexmap.specs.IndexMap.{insert_entry}
 use Rattle.lookup_model.specs.LookupDegree.{greatest}
@@ -113,20 +114,16 @@ module _ (widths : List (List ℕ × ℕ)) (name : List ℕ) (width : ℕ) where
   more = widths ++ (name, width) ∷ []
 
   -- earlier widths stay the first of theirs
-  still : (ws : List (List ℕ × ℕ)) → AllByRecursion (λ w. first_width widths w.0 ≡ Some w.1) ws → AllByRecursion (λ w. first_width more w.0 ≡ Some w.1) ws
-  still [] all = tt
-  still (w ∷ ws) all = (first_push widths name width w.0 ∙ ap (λ o. or_else o (cond (same_name w.0 name) (Some width) None)) all.0, still ws all.1)
-
-  joined : (ws : List (List ℕ × ℕ)) → AllByRecursion (λ w. first_width more w.0 ≡ Some w.1) ws → first_width more name ≡ Some width → AllByRecursion (λ w. first_width more w.0 ≡ Some w.1) (ws ++ (name, width) ∷ [])
-  joined [] all last = (last, tt)
-  joined (w ∷ ws) all last = (all.0, joined ws all.1 last)
+  still : (w : List ℕ × ℕ) → first_width widths w.0 ≡ Some w.1 → first_width more w.0 ≡ Some w.1
+  still w first = first_push widths name width w.0 ∙ ap (λ o. or_else o (cond (same_name w.0 name) (Some width) None)) first
 
   -- a width that is the first of its bus
   pub agree_more : AgreeOnWidths widths → unwrap_or (first_width widths name) width ≡ width → AgreeOnWidths more
   agree_more agree same =
-      joined widths (still widths agree)
-      (first_push widths name width name ∙ ap (λ b. or_else (first_width widths name) (cond b (Some width) None)) ((same_name-Decides name name).1 refl)
-      ∙ sym (or_some (first_width widths name) width) ∙ ap Some same)
+      let first : first_width more name ≡ Some width =
+      first_push widths name width name ∙ ap (λ b. or_else (first_width widths name) (cond b (Some width) None)) ((same_name-Decides name name).1 refl)
+      ∙ sym (or_some (first_width widths name) width) ∙ ap Some same in
+      all_both (λ w. first_width more w.0 ≡ Some w.1) widths ((name, width) ∷ []) (all_weaker (λ w. first_width widths w.0 ≡ Some w.1) (λ w. first_width more w.0 ≡ Some w.1) still widths agree) (first, tt)
 
 -- a width that is not
 pub mismatch_here : (widths : List (List ℕ × ℕ)) (i : ℕ) (name : List ℕ) (width v : ℕ) (e : LookupError) → slice_get widths i ≡ Some (name, width) → AgreeOnWidths (take i widths)
@@ -187,14 +184,4 @@ module _ (widths : List NamedWidth) (i : ℕ) (d : NamedWidth) (lt : i < length 
 module _ {X Y : Type 0} where
   pub parts_more : (f : X → List Y) (xs : List X) (i : ℕ) (x : X) (old before after : List Y) → i < length xs → x ≡ get_or xs i x → before ≡ old ++ flat_map f (take i xs) → after ≡ before ++ f x → after ≡ old ++ flat_map f (take (i + 1) xs)
   parts_more f xs i x old before after lt is =
-      parts_next f (take i xs) (take (i + 1) xs) x old before after (take_more xs i x lt ∙ ap (λ y. take i xs ++ y ∷ []) (sym is))
-
--- images of parts of images
-pub images_of_parts : {X Y Z W : Type 0} (k : X → Y) (h : Y → List Z) (g : Z → W) (xs : List X) → map g (flat_map h (map k xs)) ≡ flat_map (λ x. map g (h (k x))) xs
-images_of_parts k h g [] = refl
-images_of_parts k h g (x ∷ xs) = map-append g (h (k x)) (flat_map h (map k xs)) ∙ ap (λ t. map g (h (k x)) ++ t) (images_of_parts k h g xs)
-
--- parts of images
-pub parts_of_images : {X Y Z : Type 0} (k : X → Y) (h : Y → List Z) (xs : List X) → flat_map (λ x. h (k x)) xs ≡ flat_map h (map k xs)
-parts_of_images k h [] = refl
-parts_of_images k h (x ∷ xs) = ap (λ t. h (k x) ++ t) (parts_of_images k h xs)
+      parts_next f (take i xs) (take (i + 1) xs) x old before after (take_item xs i x lt is)

@@ -109,7 +109,7 @@ impl LogUpGadget {
             lookups.now challenges.now result) }
         ensures counted { I.count inverter.new
             ≤ I.count inverter.old + started_chunks (height main.now) }
-        ensures spared { IfErr result (λ e. (e ≡ LookupError.Memory)
+        ensures one_fewer_if_refused { IfErr result (λ e. (e ≡ LookupError.Memory)
             ⊎ (I.count inverter.new < I.count inverter.old + started_chunks (height main.now))) }
         ensures nothing_sent { HaveNoTuples lookups.now
             → I.count inverter.new ≡ I.count inverter.old }

@@ -6,16 +6,14 @@
 //! `messages_keep_terminals` says that packing changes no terminal. `specs/` says what a greedy cut is,
 //! that no consecutive split has fewer columns, and that packing keeps every message.
 
-mod bus_widths;
 mod buses;
 mod degrees;
 mod filling;
 mod greedy;
 mod terminals;
 mod trials;
-mod widths;
 
+pub use crate::bus_widths::assert_uniform_tuple_width;
 pub use buses::by_bus;
-pub use greedy::{pack_by_degree, pack_lookups};
+pub use greedy::{may_be_joined, pack_by_degree, pack_lookups};
 pub use terminals::messages_keep_terminals;
-pub use widths::assert_uniform_tuple_width;

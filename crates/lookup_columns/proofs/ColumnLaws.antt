@@ -1,5 +1,5 @@
 -- Columns of sums, differences, products and negatives.
-use Rattle.std.specs.Prelude.{◌≡◌, List, [], ◌∷◌, map, refl}
+use Rattle.std.specs.Prelude.{◌≡◌, List, map}
 use Rattle.std.specs.List.{zip}
 use Rattle.std.proofs.Common.{ap, ◌∙◌}
 use Rattle.lists.proofs.Zips.{zip_of_maps}

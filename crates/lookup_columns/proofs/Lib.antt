@@ -1,10 +1,10 @@
 pub mod ChunkColumnLaws
 pub mod ColumnLaws
-pub mod HeldRows
 pub mod LessenedLaws
 pub mod ReadLaws
 pub mod SelectedRows
 pub mod SlotLaws
 pub mod SpareLaws
 pub mod StepLaws
+pub mod StoredRows
 pub mod ZipLaws

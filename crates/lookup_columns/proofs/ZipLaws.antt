@@ -1,7 +1,5 @@
 -- Lists whose items are related item by item.
-use Rattle.std.proofs.Common.{◌≡◌, ◌<◌, ◌+◌, ◌∷◌, ◌++◌, ℕ, zero, suc, List, [], length, get_or, take, sym, refl, subst, ap, ◌∙◌, arith}
-use Rattle.std.proofs.lemmas.List.{get_or_default, take_more}
-use Rattle.std.proofs.lemmas.Slice.Zip.{AllZip-long}
+use Rattle.std.proofs.Common.{◌≡◌, ◌<◌, ◌∷◌, ℕ, zero, suc, List, [], length, get_or, sym, refl, subst, arith}
 use Rattle.std.specs.List.{AllZip}
 
 -- the item beside an item

@@ -20,8 +20,8 @@ pub record IsSelected (indices selected : List ℕ) (i r : ℕ) : Type 0 where
 
 module _ {F K : Type 0} where
   -- At this index, a column holds the multiplicity and the denominator of this message.
-  abbrev pub IsHeld : (Key F → K) → ℕ → BranchColumns F K → Message F → Type 0
-  IsHeld denominator index c m =
+  abbrev pub IsStored : (Key F → K) → ℕ → BranchColumns F K → Message F → Type 0
+  IsStored denominator index c m =
       (slice_get c.multiplicities.items index ≡ Some m.multiplicity) × (slice_get c.denominators.items index ≡ Some (denominator m.key))
 
   -- the denominator of a key whose id is a column, as `key_denominator` of an extension has it
@@ -34,29 +34,29 @@ module _ {F K : Type 0} where
 
   -- The index that is kept for the row at `index`, where the multiplicity and the denominator are
   -- those of this message.
-  pub record IsHeldSelected (denominator : Key F → K) (index : ℕ) (c : BranchColumns F K) (m : Message F) : Type 0 where
+  pub record IsStoredSelected (denominator : Key F → K) (index : ℕ) (c : BranchColumns F K) (m : Message F) : Type 0 where
     pub at : ℕ
     pub there : slice_get c.indices.items index ≡ Some at
-    pub held : IsHeld denominator at c m
+    pub held : IsStored denominator at c m
 
   -- A column holds the message, if its flag at this index is not zero.
-  abbrev pub IsHeldIfSet : Ring F → (Key F → K) → ℕ → BranchColumns F K → Message F → Type 0
-  IsHeldIfSet R denominator index c m = (f : F) → HasFlag index c f → f ≢ R.zero → IsHeldSelected denominator index c m
+  abbrev pub IsStoredIfSet : Ring F → (Key F → K) → ℕ → BranchColumns F K → Message F → Type 0
+  IsStoredIfSet R denominator index c m = (f : F) → HasFlag index c f → f ≢ R.zero → IsStoredSelected denominator index c m
 
   -- At this index, the columns hold these flags, and the messages whose flags are not zero.
-  pub record HoldSelected (R : Ring F) (denominator : Key F → K) (index : ℕ) (columns : List (BranchColumns F K)) (flags : List F) (messages : List (Message F)) : Type 0 where
+  pub record StoreSelected (R : Ring F) (denominator : Key F → K) (index : ℕ) (columns : List (BranchColumns F K)) (flags : List F) (messages : List (Message F)) : Type 0 where
     pub flags_are : AllZip (HasFlag index) columns flags
-    pub held : AllZip (IsHeldIfSet R denominator index) columns messages
+    pub held : AllZip (IsStoredIfSet R denominator index) columns messages
 
   -- At this index, the columns hold what a lookup sends at a window.
-  pub record HoldLookup (R : Ring F) (S : Ring K) (embed : F → K) (challenges : List K) (w : Window F) (index : ℕ) (lookup : Lookup F) (columns : List (BranchColumns F K)) : Type 0 where
-    pub additive : lookup.flags ≡ None → AllZip (IsHeld (key_denominator_over S embed challenges) index) columns (branches_at R w lookup.column lookup)
-    pub exclusive : (flags : Vec (SymbolicExpression F) Global) → lookup.flags ≡ Some flags → HoldSelected R (key_denominator_over S embed challenges) index columns (values R w flags.items) (branches_at R w lookup.column lookup)
+  pub record StoreLookup (R : Ring F) (S : Ring K) (embed : F → K) (challenges : List K) (w : Window F) (index : ℕ) (lookup : Lookup F) (columns : List (BranchColumns F K)) : Type 0 where
+    pub additive : lookup.flags ≡ None → AllZip (IsStored (key_denominator_over S embed challenges) index) columns (branches_at R w lookup.column lookup)
+    pub exclusive : (flags : Vec (SymbolicExpression F) Global) → lookup.flags ≡ Some flags → StoreSelected R (key_denominator_over S embed challenges) index columns (values R w flags.items) (branches_at R w lookup.column lookup)
 
   -- At the index of each of these rows, the columns hold what a lookup sends on that row.
   abbrev pub AreColumns : Ring F → Ring K → (F → K) → List K → (ℕ → Window F) → List ℕ → Lookup F → List (BranchColumns F K) → Type 0
   AreColumns R S embed challenges window rows lookup columns =
-      (index r : ℕ) → slice_get rows index ≡ Some r → HoldLookup R S embed challenges (window r) index lookup columns
+      (index r : ℕ) → slice_get rows index ≡ Some r → StoreLookup R S embed challenges (window r) index lookup columns
 
   -- the same for each lookup
   abbrev pub AreLookupColumns : Ring F → Ring K → (F → K) → List K → (ℕ → Window F) → List ℕ → List (Lookup F) → List (Vec (BranchColumns F K) Global) → Type 0

@@ -1,12 +1,12 @@
 //! The values of lookups on some rows, a column at a time.
-ghost use Rattle.std.specs.Prelude.{◌≡◌, ◌+◌, ◌*◌, ◌<◌, ℕ, All, IfOk, Some, length, slice_get};
+ghost use Rattle.std.specs.Prelude.{◌≡◌, ◌<◌, ℕ, IfOk, Some, length, slice_get};
 ghost use Rattle.std.specs.List.{AllZip};
-ghost use Rattle.lookup_columns.specs.ChunkColumns.{AreColumns, HoldSelected, IsHeld, key_denominator_over};
-ghost use Rattle.lookup_columns.specs.LookupSteps.{AreLookupSteps};
+ghost use Rattle.lookup_columns.specs.ChunkColumns.{AreColumns, IsStored, StoreSelected, key_denominator_over};
+ghost use Rattle.lookup_columns.specs.ColumnInputs.{AreColumnInputs};
 ghost use Rattle.lookup_columns.specs.Steps.{AreStepsOf};
-ghost use Rattle.air.specs.Traces.{height_of, layout_of, traces_of, window_of};
+ghost use Rattle.air.specs.Traces.{layout_of, traces_of, window_of};
 ghost use Rattle.lookup_model.specs.Message.{Message};
-ghost use Rattle.lookup_model.specs.Records.{AllFit, HasEqualLengths, IsWithin};
+ghost use Rattle.lookup_model.specs.Records.{AllFit};
 ghost use Rattle.lookup_model.specs.Sent.{branches_at, values};
 
 use crate::column::column_of;
@@ -18,6 +18,17 @@ use air::{SymbolicExpression, Traces};
 use field::{ExtensionDomain, Field};
 use lookup_model::Lookup;
 use std::alloc::{AllocError, Global};
+
+/// What the columns of lookups are made from.
+#[derive(Drop)]
+pub struct ColumnInputs<'a, F, EF> {
+    /// The traces of the AIR.
+    pub traces: &'a Traces<'a, F>,
+    /// An alpha and a beta for each lookup of the AIR, in the order of their columns.
+    pub challenges: &'a [EF],
+    /// The rows, in the order in which the columns have them.
+    pub rows: &'a [usize],
+}
 
 /// One tuple of a lookup on some rows.
 #[derive(Drop)]
@@ -33,54 +44,44 @@ pub struct BranchColumns<F, EF> {
     pub denominators: Vec<EF>,
 }
 
-/// The multiplicities and denominators of a tuple of a lookup on these rows.
+/// The multiplicities and denominators of a tuple of a lookup on these rows, without flags.
 fn branch_columns<F: Field, EF: ExtensionDomain<F>>(
     alloc: Global,
     memory: &mut ColumnMemory<F, EF>,
+    inputs: &ColumnInputs<'_, F, EF>,
     lookup: &Lookup<F>,
     steps: &LookupSteps<F>,
     branch: usize,
-    flags: Vec<F>,
-    indices: Vec<usize>,
-    traces: &Traces<'_, F>,
-    challenges: &[EF],
-    rows: &[usize],
 ) -> Result<BranchColumns<F, EF>, AllocError>
-    requires steps { AreLookupSteps steps.now lookup.now }
-    requires lengths { HasEqualLengths lookup.now }
-    requires within { IsWithin (layout_of (traces_of traces.now)) lookup.now }
-    requires challenges { 2 * lookup.now.column + 1 < length challenges.now }
-    requires rows_exist { All (λ r. r < height_of (traces_of traces.now)) rows.now }
+    requires inputs { AreColumnInputs inputs.now lookup.now steps.now }
     requires branch_exists { branch < length lookup.now.elements.items }
-    ensures flags { IfOk result (λ v. (v.flags ≡ flags) × (v.indices ≡ indices)) }
-    ensures held { IfOk result (λ v. (index r : ℕ) (m : Message F)
-        → slice_get rows.now index ≡ Some r
-        → slice_get (branches_at F.ring (window_of (traces_of traces.now) r) lookup.now.column
-        lookup.now) branch ≡ Some m
-        → IsHeld (key_denominator_over EF.ring EF.embed challenges.now) index v m) }
+    ensures { IfOk result (λ v. (index r : ℕ) (m : Message F)
+        → slice_get inputs.now.rows.now index ≡ Some r
+        → slice_get (branches_at F.ring (window_of (traces_of inputs.now.traces.now) r)
+        lookup.now.column lookup.now) branch ≡ Some m
+        → IsStored (key_denominator_over EF.ring EF.embed inputs.now.challenges.now) index v m) }
 {
-    let alpha = challenges[2 * lookup.column];
-    let beta = challenges[2 * lookup.column + 1];
+    let alpha = inputs.challenges[2 * lookup.column];
+    let beta = inputs.challenges[2 * lookup.column + 1];
     let multiplicities = column_of(
         alloc,
         &mut memory.slots,
         &steps.multiplicities[branch],
-        traces,
-        rows,
+        inputs.traces,
+        inputs.rows,
     )?;
     let denominators = denominators_of(
         alloc,
-        &mut memory.slots,
-        &mut memory.denominators,
+        memory,
         &steps.elements[branch],
-        traces,
-        rows,
+        inputs.traces,
+        inputs.rows,
         alpha,
         beta,
     )?;
     Ok(BranchColumns {
-        flags,
-        indices,
+        flags: Vec::new(alloc),
+        indices: Vec::new(alloc),
         multiplicities,
         denominators,
     })
@@ -90,36 +91,19 @@ fn branch_columns<F: Field, EF: ExtensionDomain<F>>(
 fn additive_columns<F: Field, EF: ExtensionDomain<F>>(
     alloc: Global,
     memory: &mut ColumnMemory<F, EF>,
+    inputs: &ColumnInputs<'_, F, EF>,
     lookup: &Lookup<F>,
     steps: &LookupSteps<F>,
-    traces: &Traces<'_, F>,
-    challenges: &[EF],
-    rows: &[usize],
 ) -> Result<Vec<BranchColumns<F, EF>>, AllocError>
-    requires steps { AreLookupSteps steps.now lookup.now }
-    requires lengths { HasEqualLengths lookup.now }
-    requires within { IsWithin (layout_of (traces_of traces.now)) lookup.now }
-    requires challenges { 2 * lookup.now.column + 1 < length challenges.now }
-    requires rows_exist { All (λ r. r < height_of (traces_of traces.now)) rows.now }
-    ensures { IfOk result (λ v. (index r : ℕ) → slice_get rows.now index ≡ Some r
-        → AllZip (IsHeld (key_denominator_over EF.ring EF.embed challenges.now) index) v.items
-        (branches_at F.ring (window_of (traces_of traces.now) r) lookup.now.column lookup.now)) }
+    requires { AreColumnInputs inputs.now lookup.now steps.now }
+    ensures { IfOk result (λ v. (index r : ℕ) → slice_get inputs.now.rows.now index ≡ Some r
+        → AllZip (IsStored (key_denominator_over EF.ring EF.embed inputs.now.challenges.now) index)
+        v.items (branches_at F.ring (window_of (traces_of inputs.now.traces.now) r)
+        lookup.now.column lookup.now)) }
 {
     let mut branches = Vec::with_capacity(alloc, lookup.elements.len())?;
     for branch in 0..lookup.elements.len() {
-        let columns = branch_columns(
-            alloc,
-            memory,
-            lookup,
-            steps,
-            branch,
-            Vec::new(alloc),
-            Vec::new(alloc),
-            traces,
-            challenges,
-            rows,
-        )?;
-        branches.push(columns)?;
+        branches.push(branch_columns(alloc, memory, inputs, lookup, steps, branch)?)?;
     }
     Ok(branches)
 }
@@ -129,33 +113,39 @@ fn additive_columns<F: Field, EF: ExtensionDomain<F>>(
 fn exclusive_columns<F: Field, EF: ExtensionDomain<F>>(
     alloc: Global,
     memory: &mut ColumnMemory<F, EF>,
+    inputs: &ColumnInputs<'_, F, EF>,
     lookup: &Lookup<F>,
     steps: &LookupSteps<F>,
     flags: &[SymbolicExpression<F>],
-    traces: &Traces<'_, F>,
-    challenges: &[EF],
-    rows: &[usize],
 ) -> Result<Vec<BranchColumns<F, EF>>, AllocError>
-    requires steps { AreLookupSteps steps.now lookup.now }
-    requires lengths { HasEqualLengths lookup.now }
-    requires within { IsWithin (layout_of (traces_of traces.now)) lookup.now }
-    requires challenges { 2 * lookup.now.column + 1 < length challenges.now }
-    requires rows_exist { All (λ r. r < height_of (traces_of traces.now)) rows.now }
+    requires inputs { AreColumnInputs inputs.now lookup.now steps.now }
     requires flag_steps { AllZip AreStepsOf steps.now.flags.items flags.now }
     requires flag_number { length flags.now ≡ length lookup.now.elements.items }
-    requires flags_fit { AllFit (layout_of (traces_of traces.now)) flags.now }
-    ensures { IfOk result (λ v. (index r : ℕ) → slice_get rows.now index ≡ Some r
-        → let w = window_of (traces_of traces.now) r in
-        HoldSelected F.ring (key_denominator_over EF.ring EF.embed challenges.now) index v.items
-        (values F.ring w flags.now) (branches_at F.ring w lookup.now.column lookup.now)) }
+    requires flags_fit { AllFit (layout_of (traces_of inputs.now.traces.now)) flags.now }
+    ensures { IfOk result (λ v. (index r : ℕ) → slice_get inputs.now.rows.now index ≡ Some r
+        → let w = window_of (traces_of inputs.now.traces.now) r in
+        StoreSelected F.ring (key_denominator_over EF.ring EF.embed inputs.now.challenges.now)
+        index v.items (values F.ring w flags.now)
+        (branches_at F.ring w lookup.now.column lookup.now)) }
 {
     let mut branches = Vec::with_capacity(alloc, flags.len())?;
     for branch in 0..flags.len() {
-        let column = column_of(alloc, &mut memory.slots, &steps.flags[branch], traces, rows)?;
-        let (indices, selected) = selected_rows(alloc, &mut memory.indices, &column, rows)?;
-        let columns = branch_columns(
-            alloc, memory, lookup, steps, branch, column, indices, traces, challenges, &selected,
+        let column = column_of(
+            alloc,
+            &mut memory.slots,
+            &steps.flags[branch],
+            inputs.traces,
+            inputs.rows,
         )?;
+        let (indices, selected) = selected_rows(alloc, &mut memory.indices, &column, inputs.rows)?;
+        let on_selected = ColumnInputs {
+            traces: inputs.traces,
+            challenges: inputs.challenges,
+            rows: &selected,
+        };
+        let mut columns = branch_columns(alloc, memory, &on_selected, lookup, steps, branch)?;
+        columns.flags = column;
+        columns.indices = indices;
         memory.indices.put(selected)?;
         branches.push(columns)?;
     }
@@ -166,30 +156,21 @@ fn exclusive_columns<F: Field, EF: ExtensionDomain<F>>(
 /// lookup, its flag on these rows, and its multiplicity and denominator on those of them whose flag is
 /// not zero.
 ///
-/// `steps` are those of the lookup (`steps_of_lookups`), and `challenges` are an alpha and a beta for
-/// each lookup of its AIR, in the order of their columns. The columns that are returned can be put away
+/// `steps` are those of the lookup (`steps_of_lookups`). The columns that are returned can be put away
 /// in `memory` after use. Fails only when out of memory.
 pub fn columns_of_lookup<F: Field, EF: ExtensionDomain<F>>(
     alloc: Global,
     memory: &mut ColumnMemory<F, EF>,
+    inputs: &ColumnInputs<'_, F, EF>,
     lookup: &Lookup<F>,
     steps: &LookupSteps<F>,
-    traces: &Traces<'_, F>,
-    challenges: &[EF],
-    rows: &[usize],
 ) -> Result<Vec<BranchColumns<F, EF>>, AllocError>
-    requires steps { AreLookupSteps steps.now lookup.now }
-    requires lengths { HasEqualLengths lookup.now }
-    requires within { IsWithin (layout_of (traces_of traces.now)) lookup.now }
-    requires challenges { 2 * lookup.now.column + 1 < length challenges.now }
-    requires rows_exist { All (λ r. r < height_of (traces_of traces.now)) rows.now }
-    ensures { IfOk result (λ v. AreColumns F.ring EF.ring EF.embed challenges.now
-        (window_of (traces_of traces.now)) rows.now lookup.now v.items) }
+    requires { AreColumnInputs inputs.now lookup.now steps.now }
+    ensures { IfOk result (λ v. AreColumns F.ring EF.ring EF.embed inputs.now.challenges.now
+        (window_of (traces_of inputs.now.traces.now)) inputs.now.rows.now lookup.now v.items) }
 {
     match &lookup.flags {
-        None => additive_columns(alloc, memory, lookup, steps, traces, challenges, rows),
-        Some(flags) => exclusive_columns(
-            alloc, memory, lookup, steps, flags, traces, challenges, rows,
-        ),
+        None => additive_columns(alloc, memory, inputs, lookup, steps),
+        Some(flags) => exclusive_columns(alloc, memory, inputs, lookup, steps, flags),
     }
 }

@@ -8,8 +8,7 @@ ghost use Rattle.lookup_columns.specs.Steps.{AreStepsOf, StepsFit};
 ghost use Rattle.air.specs.Traces.{height_of, layout_of, traces_of, window_of};
 
 use crate::column::{column_of, push_alike};
-use crate::slots::Slots;
-use crate::spare::SpareLists;
+use crate::memory::ColumnMemory;
 use crate::step::Step;
 use air::Traces;
 use field::{Domain, ExtensionDomain, Field};
@@ -39,14 +38,13 @@ fn push_minus_scaled<F: Field, EF: ExtensionDomain<F>>(
 /// (<https://eprint.iacr.org/2022/1530>).
 ///
 /// The last element of a tuple has the factor 1, each one before it a power of `beta` more. The next
-/// row of the last one is the first one. The list that is returned can be put away in `spare` after
+/// row of the last one is the first one. The list that is returned can be put away in `memory` after
 /// use. Fails only when out of memory.
 ///
 /// Constraints combine tuples as expressions of a builder, in `lookup_evaluation`.
 pub fn denominators_of<F: Field, EF: ExtensionDomain<F>>(
     alloc: Global,
-    slots: &mut Slots<F>,
-    spare: &mut SpareLists<EF>,
+    memory: &mut ColumnMemory<F, EF>,
     tuple: &[Vec<Step<F>>],
     traces: &Traces<'_, F>,
     rows: &[usize],
@@ -60,17 +58,17 @@ pub fn denominators_of<F: Field, EF: ExtensionDomain<F>>(
         (window_of (traces_of traces.now)) alpha beta
         rows.now expressions) }
 {
-    let mut denominators = spare.take(alloc, rows.len())?;
+    let mut denominators = memory.denominators.take(alloc, rows.len())?;
     push_alike(&mut denominators, rows, alpha)?;
     let mut power = EF::ONE;
     let mut left = tuple.len();
     while left > 0 {
         left -= 1;
-        let column = column_of(alloc, slots, &tuple[left], traces, rows)?;
-        let mut lessened = spare.take(alloc, rows.len())?;
+        let column = column_of(alloc, &mut memory.slots, &tuple[left], traces, rows)?;
+        let mut lessened = memory.denominators.take(alloc, rows.len())?;
         push_minus_scaled(&mut lessened, &denominators, power, &column)?;
-        slots.put(column)?;
-        spare.put(denominators)?;
+        memory.slots.put(column)?;
+        memory.denominators.put(denominators)?;
         denominators = lessened;
         power = power * beta;
     }

@@ -16,7 +16,7 @@ mod slots;
 mod spare;
 mod step;
 
-pub use branches::{BranchColumns, columns_of_lookup};
+pub use branches::{BranchColumns, ColumnInputs, columns_of_lookup};
 pub use column::{column_of, next_row};
 pub use denominators::denominators_of;
 pub use lookup_steps::{LookupSteps, steps_of_lookups};

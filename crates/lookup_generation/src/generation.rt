@@ -1,6 +1,6 @@
 //! Generation of the auxiliary trace, in chunks of rows: a chunk's fractions are found as ratios, a
 //! column at a time, and divided by at most one inverse.
-ghost use Rattle.std.specs.Prelude.{◌≡◌, ◌+◌, ◌-◌, ◌*◌, ◌%◌, ℕ, ◌<◌, ◌≤◌, ◌⊎◌, ◌++◌, ◌∷◌, [], List, None, IfErr, IfOk, IfSome, MatchResult, length, take};
+ghost use Rattle.std.specs.Prelude.{◌≡◌, ◌+◌, ◌-◌, ◌*◌, ◌%◌, ℕ, ◌<◌, ◌≤◌, ◌⊎◌, ◌++◌, ◌∷◌, [], List, None, IfErr, IfOk, IfSome, MatchResult, OnOk, length, take};
 ghost use Rattle.std.specs.List.{AllZip};
 ghost use Rattle.std.specs.Option.{option_map_or};
 ghost use Rattle.air.specs.Traces.{height_of, layout_of, traces_of};
@@ -8,22 +8,24 @@ ghost use Rattle.expressions.specs.Window.{Window};
 ghost use Rattle.lookup_model.specs.Denominators.{key_denominator};
 ghost use Rattle.lookup_model.specs.Fault.{trace_faults};
 ghost use Rattle.field.specs.Sums.{sum_in};
-ghost use Rattle.lookup_generation.specs.Fraction.{AreDefined, AreWhole};
+ghost use Rattle.lookup_generation.specs.Chunks.{AnswersRatios, HasRowsOf, RefusesFault, all_sent};
+ghost use Rattle.lookup_generation.specs.GenerationInputs.{AreGenerationInputs};
+ghost use Rattle.lookup_generation.specs.Fraction.{AreDefined, HaveUnitDenominators};
 ghost use Rattle.lookup_generation.specs.Inverses.{ForExtensions};
-ghost use Rattle.lookup_columns.specs.HeldRows.{HoldAllOnRows, HoldOnRows};
+ghost use Rattle.lookup_columns.specs.StoredRows.{StoreAllOnRows, StoreOnRows};
 ghost use Rattle.lookup_columns.specs.LookupSteps.{AreLookupSteps};
 ghost use Rattle.lookup_generation.specs.Progress.{AnswersColumn, AnswersColumns, AreRatios, HasRows, HaveNoTuples, IsFirstOf, column_cells, sent_on, started_chunks};
 ghost use Rattle.lookup_model.specs.Records.{AreRecords, LookupsFit};
 ghost use Rattle.lookup_model.specs.Generation.{AnswersGeneration};
 ghost use Rattle.lookup_model.specs.Trace.{sent_rows};
 
-use crate::columns::columns_of_lookups;
+use crate::columns::{GenerationInputs, columns_of_lookups};
 use crate::fraction::fraction;
 use crate::memory::ChunkMemory;
 use crate::ratio::{Ratio, values_of};
 use air::Traces;
 use field::{Domain, ExtensionDomain, ExtensionField, Field, InverseCount, Inverter, Over};
-use lookup_columns::{BranchColumns, LookupSteps, rows_between, steps_of_lookups};
+use lookup_columns::{BranchColumns, rows_between, steps_of_lookups};
 use lookup_model::{Lookup, LookupError, LookupTerminal};
 use matrix::RowMajorMatrix;
 use std::alloc::{AllocError, Global};
@@ -52,17 +54,17 @@ fn push_column<F: Field, EF: ExtensionDomain<F>>(
 ) -> Result<Option<RowFault>, AllocError>
     requires from { first ≤ end }
     requires columns { (challenges : List EF) × (window : ℕ → Window F)
-        × HoldOnRows F.ring EF.ring EF.embed challenges window first end lookup.now columns.now }
+        × StoreOnRows F.ring EF.ring EF.embed challenges window first end lookup.now columns.now }
     ensures answers { ForExtensions F.ring F.eq EF.ring EF.eq EF.embed (λ E.
         IfOk result (λ found. (challenges : List EF) (window : ℕ → Window F)
-        → HoldOnRows F.ring EF.ring EF.embed challenges window first end lookup.now columns.now
+        → StoreOnRows F.ring EF.ring EF.embed challenges window first end lookup.now columns.now
         → AnswersColumn E (key_denominator E challenges) (sent_on F.ring F.eq window lookup.now)
         lookup.now.column first end ratios.old.items ratios.new.items found)) }
     ensures defined { IfOk result (λ found. found ≡ None → (n : ℕ)
         → AreDefined EF.ring n ratios.old.items
         → AreDefined EF.ring (n + (end - first)) ratios.new.items) }
-    ensures bare { lookup.now.elements.items ≡ [] → AreWhole EF.ring ratios.old.items
-        → IfOk result (λ _. AreWhole EF.ring ratios.new.items) }
+    ensures unit_denominators { lookup.now.elements.items ≡ [] → HaveUnitDenominators EF.ring ratios.old.items
+        → IfOk result (λ _. HaveUnitDenominators EF.ring ratios.new.items) }
     ensures there { IfOk result (λ found. IfSome found
         (λ fault. (first ≤ fault.row) × (fault.row < end))) }
 {
@@ -102,17 +104,17 @@ fn push_columns<F: Field, EF: ExtensionDomain<F>>(
     requires records { AreRecords lookups.now }
     requires from { first ≤ end }
     requires columns { (challenges : List EF) × (window : ℕ → Window F)
-        × HoldAllOnRows F.ring EF.ring EF.embed challenges window first end lookups.now columns.now }
+        × StoreAllOnRows F.ring EF.ring EF.embed challenges window first end lookups.now columns.now }
     requires none_yet { ratios.old.items ≡ [] }
     ensures answers { ForExtensions F.ring F.eq EF.ring EF.eq EF.embed (λ E.
         IfOk result (λ found. (challenges : List EF) (window : ℕ → Window F)
-        → HoldAllOnRows F.ring EF.ring EF.embed challenges window first end lookups.now columns.now
+        → StoreAllOnRows F.ring EF.ring EF.embed challenges window first end lookups.now columns.now
         → AnswersColumns E (key_denominator E challenges) window lookups.now first end
         ratios.new.items found)) }
     ensures defined { IfOk result (λ found. found ≡ None
         → AreDefined EF.ring (length lookups.now * (end - first)) ratios.new.items) }
-    ensures bare { HaveNoTuples lookups.now
-        → IfOk result (λ _. AreWhole EF.ring ratios.new.items) }
+    ensures unit_denominators { HaveNoTuples lookups.now
+        → IfOk result (λ _. HaveUnitDenominators EF.ring ratios.new.items) }
     ensures there { IfOk result (λ found. IfSome found
         (λ fault. (first ≤ fault.row) × (fault.row < end))) }
 {
@@ -133,47 +135,31 @@ fn push_columns<F: Field, EF: ExtensionDomain<F>>(
 fn ratios_of<F: Field, EF: ExtensionDomain<F>>(
     alloc: Global,
     memory: &mut ChunkMemory<F, EF>,
-    traces: &Traces<'_, F>,
-    lookups: &[Lookup<F>],
-    steps: &[LookupSteps<F>],
-    challenges: &[EF],
+    inputs: &GenerationInputs<'_, F, EF>,
     first: usize,
     end: usize,
 ) -> Result<Vec<Ratio<EF>>, LookupError>
-    requires steps { AllZip AreLookupSteps steps.now lookups.now }
-    requires fit { LookupsFit (layout_of (traces_of traces.now)) lookups.now }
-    requires challenges { 2 * length lookups.now ≤ length challenges.now }
+    requires inputs { AreGenerationInputs inputs.now }
     requires from { first ≤ end }
-    requires up_to { end ≤ height_of (traces_of traces.now) }
+    requires up_to { end ≤ height_of (traces_of inputs.now.traces.now) }
     requires faultless { ForExtensions F.ring F.eq EF.ring EF.eq EF.embed (λ E.
-        trace_faults E (key_denominator E challenges.now)
-        (take first (sent_rows F.ring F.eq (traces_of traces.now) lookups.now)) ≡ []) }
+        trace_faults E (key_denominator E inputs.now.challenges.now)
+        (take first (all_sent F.ring F.eq inputs.now)) ≡ []) }
     ensures answers { ForExtensions F.ring F.eq EF.ring EF.eq EF.embed (λ E.
-        let denominator = key_denominator E challenges.now in
-        MatchResult result
-        (λ v. AreRatios E denominator (traces_of traces.now) lookups.now first end v.items)
-        (IsFirstOf (trace_faults E denominator
-        (sent_rows F.ring F.eq (traces_of traces.now) lookups.now)))) }
+        AnswersRatios E inputs.now first end result) }
     ensures defined { IfOk result (λ v. AreDefined EF.ring
-        (length lookups.now * (end - first)) v.items) }
-    ensures bare { HaveNoTuples lookups.now → IfOk result (λ v. AreWhole EF.ring v.items) }
+        (length inputs.now.lookups.now * (end - first)) v.items) }
+    ensures unit_denominators { HaveNoTuples inputs.now.lookups.now
+        → IfOk result (λ v. HaveUnitDenominators EF.ring v.items) }
 {
     let rows = rows_between(alloc, &mut memory.columns.indices, first, end)?;
-    let columns = columns_of_lookups(
-        alloc,
-        &mut memory.columns,
-        lookups,
-        steps,
-        traces,
-        challenges,
-        &rows,
-    )?;
+    let columns = columns_of_lookups(alloc, &mut memory.columns, inputs, &rows)?;
     let size = rows
         .len()
-        .checked_mul(lookups.len())
+        .checked_mul(inputs.lookups.len())
         .ok_or(LookupError::Memory)?;
     let mut ratios = memory.ratios.take(alloc, size)?;
-    let fault = push_columns(&mut ratios, lookups, &columns, first, end)?;
+    let fault = push_columns(&mut ratios, inputs.lookups, &columns, first, end)?;
     match fault {
         Some(RowFault { row: _, error }) => Err(error),
         None => {
@@ -184,83 +170,77 @@ fn ratios_of<F: Field, EF: ExtensionDomain<F>>(
     }
 }
 
-/// Appends a row of the auxiliary trace to `cells`: the accumulator, and the fraction of each lookup,
-/// which stands at `index` in its row of `fractions`. Returns the accumulator of the next row.
-fn push_row<K: Domain>(
-    cells: &mut Vec<K>,
+/// The rows of an auxiliary trace that are made so far.
+#[derive(Drop)]
+struct AuxiliaryRows<K> {
+    /// Their cells, row after row.
+    cells: Vec<K>,
+    /// The accumulator of the next row.
     accumulator: K,
-    fractions: &RowMajorMatrix<K>,
-    index: usize,
-) -> Result<K, AllocError>
-    requires { index < fractions.now.width }
-    ensures { IfOk result (λ next. (cells.new.items ≡ cells.old.items
-        ++ accumulator ∷ column_cells K.ring.zero fractions.now index)
-        × (next ≡ K.ring.add accumulator
-        (sum_in K.ring (column_cells K.ring.zero fractions.now index)))) }
-{
-    cells.push(accumulator)?;
-    let mut next = accumulator;
-    for lookup in 0..fractions.height() {
-        let fraction = fractions.row_slice(lookup)[index];
-        cells.push(fraction)?;
-        next = next + fraction;
-    }
-    Ok(next)
 }
 
-/// Appends the rows from `first` up to `end` of the auxiliary trace to `cells`, by at most one inverse.
-/// Returns the accumulator of row `end`.
+/// Appends a row of the auxiliary trace: the accumulator, and the fraction of each lookup, which stands at
+/// `index` in its row of `by_lookup`.
+fn push_row<K: Domain>(
+    made: &mut AuxiliaryRows<K>,
+    by_lookup: &RowMajorMatrix<K>,
+    index: usize,
+) -> Result<(), AllocError>
+    requires { index < by_lookup.now.width }
+    ensures { let fractions = column_cells K.ring.zero by_lookup.now index in
+        OnOk result ((made.new.cells.items
+        ≡ made.old.cells.items ++ made.old.accumulator ∷ fractions)
+        × (made.new.accumulator ≡ K.ring.add made.old.accumulator (sum_in K.ring fractions))) }
+{
+    made.cells.push(made.accumulator)?;
+    let mut next = made.accumulator;
+    for lookup in 0..by_lookup.height() {
+        let fraction = by_lookup.row_slice(lookup)[index];
+        made.cells.push(fraction)?;
+        next = next + fraction;
+    }
+    made.accumulator = next;
+    Ok(())
+}
+
+/// Appends the rows from `first` up to `end` of the auxiliary trace, by at most one inverse.
 ///
 /// Refuses the first fault in the order row, lookup. A fault is found before anything is inverted, and
 /// nothing is inverted where no lookup has tuples.
 fn push_chunk<F: Field, EF: ExtensionDomain<F>, I: Inverter<EF>>(
     alloc: Global,
     memory: &mut ChunkMemory<F, EF>,
-    cells: &mut Vec<EF>,
-    accumulator: EF,
-    traces: &Traces<'_, F>,
-    lookups: &[Lookup<F>],
-    steps: &[LookupSteps<F>],
-    challenges: &[EF],
+    inputs: &GenerationInputs<'_, F, EF>,
+    made: &mut AuxiliaryRows<EF>,
     first: usize,
     end: usize,
     inverter: &mut I,
-) -> Result<EF, LookupError>
-    requires steps { AllZip AreLookupSteps steps.now lookups.now }
-    requires fit { LookupsFit (layout_of (traces_of traces.now)) lookups.now }
-    requires challenges { 2 * length lookups.now ≤ length challenges.now }
+) -> Result<(), LookupError>
+    requires inputs { AreGenerationInputs inputs.now }
     requires from { first < end }
-    requires up_to { end ≤ height_of (traces_of traces.now) }
+    requires up_to { end ≤ height_of (traces_of inputs.now.traces.now) }
     requires so_far { ForExtensions F.ring F.eq EF.ring EF.eq EF.embed (λ E.
-        let denominator = key_denominator E challenges.now in
-        let rows = sent_rows F.ring F.eq (traces_of traces.now) lookups.now in
-        HasRows E denominator rows first cells.now.items accumulator) }
+        HasRowsOf E inputs.now first made.now) }
     ensures rows { ForExtensions F.ring F.eq EF.ring EF.eq EF.embed (λ E.
-        let denominator = key_denominator E challenges.now in
-        let rows = sent_rows F.ring F.eq (traces_of traces.now) lookups.now in
-        MatchResult result
-        (HasRows E denominator rows end cells.new.items)
-        (IsFirstOf (trace_faults E denominator rows))) }
-    ensures many { IfOk result (λ _. length cells.new.items
-        ≡ length cells.old.items + (end - first) * (length lookups.now + 1)) }
+        MatchResult result (λ _. HasRowsOf E inputs.now end made.new) (RefusesFault E inputs.now)) }
+    ensures many { OnOk result (length made.new.cells.items
+        ≡ length made.old.cells.items + (end - first) * (length inputs.now.lookups.now + 1)) }
     ensures counted { I.count inverter.new ≤ I.count inverter.old + 1 }
-    ensures spared { IfErr result (λ e. (e ≡ LookupError.Memory)
+    ensures one_fewer_if_refused { IfErr result (λ e. (e ≡ LookupError.Memory)
         ⊎ (I.count inverter.new ≡ I.count inverter.old)) }
-    ensures nothing_sent { HaveNoTuples lookups.now → I.count inverter.new ≡ I.count inverter.old }
+    ensures nothing_sent { HaveNoTuples inputs.now.lookups.now
+        → I.count inverter.new ≡ I.count inverter.old }
 {
-    let ratios = ratios_of(
-        alloc, memory, traces, lookups, steps, challenges, first, end,
-    )?;
-    let values = values_of(alloc, &mut memory.fractions, &ratios, inverter)?;
+    let ratios = ratios_of(alloc, memory, inputs, first, end)?;
+    let fractions = values_of(alloc, &mut memory.fractions, &ratios, inverter)?;
     memory.ratios.put(ratios)?;
     let num_rows = end - first;
-    let fractions = RowMajorMatrix::new(values, num_rows);
-    let mut next = accumulator;
+    let by_lookup = RowMajorMatrix::new(fractions, num_rows);
     for index in 0..num_rows {
-        next = push_row(cells, next, &fractions, index)?;
+        push_row(made, &by_lookup, index)?;
     }
-    memory.fractions.put(fractions.into_values())?;
-    Ok(next)
+    memory.fractions.put(by_lookup.into_values())?;
+    Ok(())
 }
 
 /// Where the chunk ends that starts at `first`, in a trace of this height.
@@ -268,7 +248,7 @@ pub fn chunk_end(first: usize, height: usize) -> usize
     requires { first < height }
     ensures further { first < result }
     ensures up_to { result ≤ height }
-    ensures whole { first % 1024 ≡ 0 → (result % 1024 ≡ 0) ⊎ (result ≡ height) }
+    ensures full_or_last { first % 1024 ≡ 0 → (result % 1024 ≡ 0) ⊎ (result ≡ height) }
     ensures one { first % 1024 ≡ 0 → started_chunks result ≡ started_chunks first + 1 }
 {
     if height - first > CHUNK_ROWS {
@@ -278,72 +258,55 @@ pub fn chunk_end(first: usize, height: usize) -> usize
     }
 }
 
-/// The cells of the auxiliary trace, row after row, and the sum of all fractions.
+/// All rows of the auxiliary trace; the accumulator behind them is the sum of all fractions.
 ///
 /// Refuses the first fault in the order row, lookup. `inverter` is asked as [`generate_counted`] says.
 fn generate<F: Field, EF: ExtensionDomain<F>, I: Inverter<EF>>(
     alloc: Global,
-    traces: &Traces<'_, F>,
-    lookups: &[Lookup<F>],
-    challenges: &[EF],
+    inputs: &GenerationInputs<'_, F, EF>,
     inverter: &mut I,
-) -> Result<(Vec<EF>, EF), LookupError>
-    requires fit { LookupsFit (layout_of (traces_of traces.now)) lookups.now }
-    requires challenges { 2 * length lookups.now ≤ length challenges.now }
-    requires some { 0 < length lookups.now }
-    ensures rows { ForExtensions F.ring F.eq EF.ring EF.eq EF.embed (λ E.
-        let denominator = key_denominator E challenges.now in
-        let rows = sent_rows F.ring F.eq (traces_of traces.now) lookups.now in
-        MatchResult result
-        (λ r. HasRows E denominator rows (height_of (traces_of traces.now)) r.0.items r.1)
-        (IsFirstOf (trace_faults E denominator rows))) }
-    ensures many { IfOk result (λ r. length r.0.items
-        ≡ height_of (traces_of traces.now) * (length lookups.now + 1)) }
+) -> Result<AuxiliaryRows<EF>, LookupError>
+    requires { AreGenerationInputs inputs.now }
+    ensures rows { ForExtensions F.ring F.eq EF.ring EF.eq EF.embed (λ E. MatchResult result
+        (HasRowsOf E inputs.now (height_of (traces_of inputs.now.traces.now)))
+        (RefusesFault E inputs.now)) }
+    ensures many { IfOk result (λ made. length made.cells.items
+        ≡ height_of (traces_of inputs.now.traces.now) * (length inputs.now.lookups.now + 1)) }
     ensures counted { I.count inverter.new ≤ I.count inverter.old + started_chunks
-        (height_of (traces_of traces.now)) }
-    ensures spared { IfErr result (λ e. (e ≡ LookupError.Memory)
+        (height_of (traces_of inputs.now.traces.now)) }
+    ensures one_fewer_if_refused { IfErr result (λ e. (e ≡ LookupError.Memory)
         ⊎ (I.count inverter.new < I.count inverter.old + started_chunks
-        (height_of (traces_of traces.now)))) }
-    ensures nothing_sent { HaveNoTuples lookups.now → I.count inverter.new ≡ I.count inverter.old }
+        (height_of (traces_of inputs.now.traces.now)))) }
+    ensures nothing_sent { HaveNoTuples inputs.now.lookups.now
+        → I.count inverter.new ≡ I.count inverter.old }
 {
-    let height = traces.main.height();
+    let height = inputs.traces.main.height();
     let size = height
-        .checked_mul(lookups.len() + 1)
+        .checked_mul(inputs.lookups.len() + 1)
         .ok_or(LookupError::Memory)?;
-    let mut cells = Vec::with_capacity(alloc, size)?;
-    let steps = steps_of_lookups(alloc, lookups)?;
+    let mut made = AuxiliaryRows {
+        cells: Vec::with_capacity(alloc, size)?,
+        accumulator: EF::ZERO,
+    };
     let mut memory = ChunkMemory::new(alloc);
-    let mut accumulator = EF::ZERO;
     let mut first = 0;
     while first < height {
         let end = chunk_end(first, height);
-        accumulator = push_chunk(
-            alloc,
-            &mut memory,
-            &mut cells,
-            accumulator,
-            traces,
-            lookups,
-            &steps,
-            challenges,
-            first,
-            end,
-            inverter,
-        )?;
+        push_chunk(alloc, &mut memory, inputs, &mut made, first, end, inverter)?;
         first = end;
     }
-    Ok((cells, accumulator))
+    Ok(made)
 }
 
 /// The auxiliary trace of one AIR and its terminal, by at most one inverse for each chunk of 1024 rows.
 ///
 /// It answers as [`generate_permutation`] does. `inverter` is called at most once for each chunk
 /// that is started, at least once less if a fault is refused, and never if no lookup has tuples.
-pub fn generate_counted<F: Field, EF: ExtensionDomain<F>, I: Inverter<EF>>(
+pub fn generate_counted<'a, F: Field, EF: ExtensionDomain<F>, I: Inverter<EF>>(
     alloc: Global,
-    traces: &Traces<'_, F>,
-    lookups: &[Lookup<F>],
-    challenges: &[EF],
+    traces: &'a Traces<'a, F>,
+    lookups: &'a [Lookup<F>],
+    challenges: &'a [EF],
     inverter: &mut I,
 ) -> Result<(RowMajorMatrix<EF>, Option<LookupTerminal<EF>>), LookupError>
     requires fit { LookupsFit (layout_of (traces_of traces.now)) lookups.now }
@@ -352,7 +315,7 @@ pub fn generate_counted<F: Field, EF: ExtensionDomain<F>, I: Inverter<EF>>(
         (traces_of traces.now) lookups.now challenges.now result) }
     ensures counted { I.count inverter.new ≤ I.count inverter.old + started_chunks
         (height_of (traces_of traces.now)) }
-    ensures spared { IfErr result (λ e. (e ≡ LookupError.Memory)
+    ensures one_fewer_if_refused { IfErr result (λ e. (e ≡ LookupError.Memory)
         ⊎ (I.count inverter.new < I.count inverter.old + started_chunks
         (height_of (traces_of traces.now)))) }
     ensures nothing_sent { HaveNoTuples lookups.now → I.count inverter.new ≡ I.count inverter.old }
@@ -360,10 +323,16 @@ pub fn generate_counted<F: Field, EF: ExtensionDomain<F>, I: Inverter<EF>>(
     if lookups.is_empty() {
         return Ok((RowMajorMatrix::new(Vec::new(alloc), 0), None));
     }
-    let (cells, terminal) = generate(alloc, traces, lookups, challenges, inverter)?;
+    let inputs = GenerationInputs {
+        traces,
+        lookups,
+        challenges,
+        steps: steps_of_lookups(alloc, lookups)?,
+    };
+    let made = generate(alloc, &inputs, inverter)?;
     Ok((
-        RowMajorMatrix::new(cells, lookups.len() + 1),
-        Some(LookupTerminal(terminal)),
+        RowMajorMatrix::new(made.cells, lookups.len() + 1),
+        Some(LookupTerminal(made.accumulator)),
     ))
 }
 

@@ -13,7 +13,7 @@ ghost use Rattle.lookup.specs.Kept.{KeepsSent};
 ghost use Rattle.lookup.specs.Packing.{Packs, additive, is_additive, numbered, passing};
 ghost use Rattle.lookup.specs.Trials.{AnswersTrial, IsBusTrial, IsMember, IsTrialAmong};
 
-use crate::packing::bus_widths::assert_bus_widths;
+use crate::bus_widths::assert_bus_widths;
 use crate::packing::degrees::{Asked, GadgetDegrees, TrialDegrees};
 use crate::packing::filling::{Bus, append_columns, open_bus, push_on};
 use field::Field;
@@ -185,8 +185,8 @@ fn bus_name<F: Field>(lookup: &Lookup<F>) -> Option<&str>
     }
 }
 
-/// Whether a lookup is sent on a bus and has no flags.
-fn may_be_joined<F: Field>(lookup: &Lookup<F>) -> bool
+/// Whether a lookup is sent on a bus and has no flags, so that it may share a column.
+pub fn may_be_joined<F: Field>(lookup: &Lookup<F>) -> bool
     ensures { result ≡ is_additive (fields_of lookup.now) }
 {
     match (&lookup.kind, &lookup.flags) {

@@ -1,10 +1,12 @@
 use Rattle.std.proofs.Common.{◌++◌, ap, arith, length, map, sym, take_all, ◌∙◌}
+use Rattle.std.proofs.lemmas.List.Folds.{flat_map-map}
 use Rattle.std.specs.List.{flat_map}
 use Rattle.lists.proofs.Images.{map-map}
+use Rattle.lists.proofs.Parts.{map-flat_map}
 use Rattle.lookup_model.specs.Outline.{fields_of}
 use Rattle.lookup.specs.BusWidths.{widths_of}
 use Rattle.lookup.specs.NamedWidths.{seen_widths}
-use Rattle.lookup.proofs.NamedWidthLaws.{images_of_parts, parts_more}
+use Rattle.lookup.proofs.NamedWidthLaws.{parts_more}
 use Rattle.lookup.proofs.bus_widths.push_bus.Goals as goal
 
 pub loop-lookup-preserved : goal.loop-lookup-preserved
@@ -22,4 +24,4 @@ returns g c =
     c.loop-lookup.invariant
     ∙ ap (λ l. seen_widths c.args.widths.now.items ++ l)
     (ap (flat_map (λ r. map (λ w. (c.args.name.now, w)) (widths_of (fields_of r.now)))) (take_all c.loop-lookup.lookup-index c.args.members.now (omega arith))
-    ∙ sym (images_of_parts (λ r. fields_of r.now) widths_of (λ w. (c.args.name.now, w)) c.args.members.now))
+    ∙ sym (ap (map (λ w. (c.args.name.now, w))) (flat_map-map widths_of (λ r. fields_of r.now) c.args.members.now) ∙ map-flat_map (λ w. (c.args.name.now, w)) (λ r. widths_of (fields_of r.now)) c.args.members.now))

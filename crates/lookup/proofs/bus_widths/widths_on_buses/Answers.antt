@@ -1,9 +1,10 @@
-use Rattle.std.proofs.Common.{◌++◌, [], ap, arith, map, take_all, ◌∙◌}
+use Rattle.std.proofs.Common.{◌++◌, [], ap, arith, map, sym, take_all, ◌∙◌}
+use Rattle.std.proofs.lemmas.List.Folds.{flat_map-map}
 use Rattle.std.specs.List.{flat_map}
 use Rattle.lookup_model.specs.Outline.{fields_of}
 use Rattle.lookup.specs.Lookups.{lookups_of}
 use Rattle.lookup.specs.NamedWidths.{named_widths, seen_widths}
-use Rattle.lookup.proofs.NamedWidthLaws.{parts_more, parts_of_images}
+use Rattle.lookup.proofs.NamedWidthLaws.{parts_more}
 use Rattle.lookup.proofs.bus_widths.widths_on_buses.Goals as goal
 
 pub loop-air-preserved : goal.loop-air-preserved
@@ -15,4 +16,4 @@ pub returns : goal.returns
 returns g c =
     c.loop-air.invariant
     ∙ ap (flat_map (λ air. named_widths (map fields_of (lookups_of air)))) (take_all c.loop-air.air-index c.args.airs.now (omega arith))
-    ∙ parts_of_images (λ air. map fields_of (lookups_of air)) named_widths c.args.airs.now
+    ∙ sym (flat_map-map named_widths (λ air. map fields_of (lookups_of air)) c.args.airs.now)

@@ -10,12 +10,6 @@ returns g c =
     let three = c.in_ok-with_exclusives.ensures in
     (extraction_of_three fields_of _ _ _ _ _ _ one.0 two.0 three.0, one.1, three.1)
 
-pub with_globals-requires : goal.with_globals-requires
-with_globals-requires g c = c.in_ok-lookups.ensures.2
-
-pub with_exclusives-requires : goal.with_exclusives-requires
-with_exclusives-requires g c = c.in_ok-lookups-2.ensures.1
-
 pub returns-in_err-lookups : goal.returns-in_err-lookups
 returns-in_err-lookups g c =
     let p = err_from_is_err_and c.from_residual.result c.from_residual.ensures.1 in

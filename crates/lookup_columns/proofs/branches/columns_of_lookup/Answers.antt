@@ -3,7 +3,7 @@ use Rattle.std.proofs.lemmas.Result.{IfOk-weaker}
 use Rattle.std.specs.List.{AllZip}
 use Rattle.expressions.specs.declared.base_expression.SymbolicExpression.{SymbolicExpression}
 use Rattle.lookup_columns.specs.Steps.{AreStepsOf}
-use Rattle.lookup_columns.specs.ChunkColumns.{HoldSelected, key_denominator_over}
+use Rattle.lookup_columns.specs.ChunkColumns.{StoreSelected, key_denominator_over}
 use Rattle.lookup_model.specs.Records.{AllFit, IsWithin}
 use Rattle.lookup_model.specs.Sent.{branches_at, values}
 use Rattle.air.specs.Traces.{layout_of, traces_of, window_of}
@@ -12,7 +12,7 @@ use Rattle.lookup_columns.proofs.branches.columns_of_lookup.Goals as goal
 pub exclusive_columns-requires-clause-flags_fit : goal.exclusive_columns-requires-clause-flags_fit
 unfolding IsWithin
 exclusive_columns-requires-clause-flags_fit g c =
-    let layout = layout_of (traces_of c.args.traces.now) in
+    let layout = layout_of (traces_of c.args.inputs.now.traces.now) in
     subst (λ (es : List (SymbolicExpression _)). AllFit layout es) (sym c.deref.ensures.value) (subst (λ (o : Option _). IfSome o (λ flags. AllFit layout flags.items)) c.in-Some.is c.requires.within.2)
 
 pub exclusive_columns-requires-clause-flag_steps : goal.exclusive_columns-requires-clause-flag_steps
@@ -31,44 +31,14 @@ returns-in-None g c =
 pub returns-in-Some : goal.returns-in-Some
 returns-in-Some g c =
     let R = g.F.PrimeCharacteristicRing.ring in
-    let D = key_denominator_over g.EF.PrimeCharacteristicRing.ring g.EF.ExtensionDomain.embed c.args.challenges.now in
+    let D = key_denominator_over g.EF.PrimeCharacteristicRing.ring g.EF.ExtensionDomain.embed c.args.inputs.now.challenges.now in
     let lookup = c.args.lookup.now in
-    let windows = window_of (traces_of c.args.traces.now) in
+    let windows = window_of (traces_of c.args.inputs.now.traces.now) in
     IfOk-weaker c.exclusive_columns.result _ _
     (λ v are index r there. record {
       additive = λ none. absurd (cc (sym none ∙ c.in-Some.is));
       exclusive = λ flags some.
           let is : Some c.in-Some.flags ≡ Some flags = sym c.in-Some.is ∙ some in
           let same : c.in-Some.flags ≡ flags = cc is in
-          subst (λ (es : List (SymbolicExpression _)). HoldSelected R D index v.items (values R (windows r) es) (branches_at R (windows r) lookup.column lookup)) (c.deref.ensures.value ∙ ap (λ t. t.items) same) (are index r there);
+          subst (λ (es : List (SymbolicExpression _)). StoreSelected R D index v.items (values R (windows r) es) (branches_at R (windows r) lookup.column lookup)) (c.deref.ensures.value ∙ ap (λ t. t.items) same) (are index r there);
     }) c.exclusive_columns.ensures
-
-pub additive_columns-requires-clause-steps : goal.additive_columns-requires-clause-steps
-additive_columns-requires-clause-steps g c = c.requires.steps
-
-pub additive_columns-requires-clause-lengths : goal.additive_columns-requires-clause-lengths
-additive_columns-requires-clause-lengths g c = c.requires.lengths
-
-pub additive_columns-requires-clause-within : goal.additive_columns-requires-clause-within
-additive_columns-requires-clause-within g c = c.requires.within
-
-pub additive_columns-requires-clause-challenges : goal.additive_columns-requires-clause-challenges
-additive_columns-requires-clause-challenges g c = c.requires.challenges
-
-pub additive_columns-requires-clause-rows_exist : goal.additive_columns-requires-clause-rows_exist
-additive_columns-requires-clause-rows_exist g c = c.requires.rows_exist
-
-pub exclusive_columns-requires-clause-steps : goal.exclusive_columns-requires-clause-steps
-exclusive_columns-requires-clause-steps g c = c.requires.steps
-
-pub exclusive_columns-requires-clause-lengths : goal.exclusive_columns-requires-clause-lengths
-exclusive_columns-requires-clause-lengths g c = c.requires.lengths
-
-pub exclusive_columns-requires-clause-within : goal.exclusive_columns-requires-clause-within
-exclusive_columns-requires-clause-within g c = c.requires.within
-
-pub exclusive_columns-requires-clause-challenges : goal.exclusive_columns-requires-clause-challenges
-exclusive_columns-requires-clause-challenges g c = c.requires.challenges
-
-pub exclusive_columns-requires-clause-rows_exist : goal.exclusive_columns-requires-clause-rows_exist
-exclusive_columns-requires-clause-rows_exist g c = c.requires.rows_exist

@@ -29,6 +29,3 @@ returns g c = λ tree are.
     sym (ap (λ l. go l (filled c.loop-step.slots)) none)
     ∙ c.loop-step.invariant ∙ ap (λ l. go l []) are ∙ worked_out_tree R ws c.args.rows.now tree []
     )
-
-pub work_out-requires-clause-rows_exist : goal.work_out-requires-clause-rows_exist
-work_out-requires-clause-rows_exist g c = c.requires.rows_exist

@@ -30,6 +30,3 @@ returns-in_ok-push_products-in-Mul g c =
     let slots = filled c.args.slots.now in
     let is = joined_slots R.mul c.take.ensures.others (c.deref-in-Mul.ensures.value ∙ c.pop_two-left-in-Mul.ensures.first) (c.deref-in-Mul-2.ensures.value ∙ c.pop_two-left-in-Mul.ensures.last) c.pop_two-left-in-Mul.ensures.others (c.in_ok-push_products-in-Mul.ensures ∙ ap (λ v. v ++ map (λ p. R.mul p.0 p.1) (zip c.deref-in-Mul.result.now c.deref-in-Mul-2.result.now)) c.in_ok-values.ensures.empty) in
     subst (λ s. OnOk c.push_made-in-Mul.result (filled c.push_made-in-Mul.new.slots ≡ after R ws c.args.rows.now s slots)) (sym c.in-Mul.is) (on_ok_weaker c.push_made-in-Mul.result (λ pushed. pushed ∙ is) c.push_made-in-Mul.ensures)
-
-pub push_leaf-requires-clause-rows_exist : goal.push_leaf-requires-clause-rows_exist
-push_leaf-requires-clause-rows_exist g c = c.requires.rows_exist

@@ -31,12 +31,6 @@ loop-left-init g c =
           ∙ ap (tuple_denominators R S g.EF.ExtensionDomain.embed ws c.args.alpha c.args.beta c.args.rows.now) nothing,
     )
 
-pub offset_bounds-tuple-left : goal.offset_bounds-tuple-left
-offset_bounds-tuple-left g c = omega (arith, c.loop-left.invariant.0, c.loop-left-test.true)
-
-pub bounds-tuple-left : goal.bounds-tuple-left
-bounds-tuple-left g c = omega (arith, c.loop-left.invariant.0, c.loop-left-test.true)
-
 pub column_of-requires-clause-fits : goal.column_of-requires-clause-fits
 column_of-requires-clause-fits g c =
     let fits = StepFits (layout_of (traces_of c.args.traces.now)) in
@@ -81,6 +75,3 @@ returns g c = λ es are.
     let none_left : c.loop-left.left ≡ 0 = omega (arith, c.loop-left-test.false) in
     c.loop-left.invariant.2 es are
     ∙ ap (λ n. tuple_denominators g.F.PrimeCharacteristicRing.ring S g.EF.ExtensionDomain.embed ws c.args.alpha c.args.beta c.args.rows.now (drop n es)) none_left
-
-pub column_of-requires-clause-rows_exist : goal.column_of-requires-clause-rows_exist
-column_of-requires-clause-rows_exist g c = c.requires.rows_exist

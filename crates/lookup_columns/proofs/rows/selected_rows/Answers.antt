@@ -51,15 +51,3 @@ loop-i-preserved g c =
             λ m below. subst (λ (l : List ℕ). All (λ q. q < m) l) (sym selected_are) (so_far.3 m below),
           )
     ]
-
-pub offset_bounds-flags-i : goal.offset_bounds-flags-i
-offset_bounds-flags-i g c = omega (arith, c.requires, c.loop-i-test.true)
-
-pub bounds-flags-i : goal.bounds-flags-i
-bounds-flags-i g c = omega (arith, c.requires, c.loop-i-test.true)
-
-pub offset_bounds-rows-i : goal.offset_bounds-rows-i
-offset_bounds-rows-i g c = omega (arith, c.loop-i-test.true)
-
-pub bounds-rows-i : goal.bounds-rows-i
-bounds-rows-i g c = omega (arith, c.loop-i-test.true)

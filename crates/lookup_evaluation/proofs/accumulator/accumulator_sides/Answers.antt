@@ -2,27 +2,6 @@ use Rattle.std.proofs.Common.{refl, arith}
 use Rattle.lookup_evaluation.proofs.Meanings.{step_equation_on}
 use Rattle.lookup_evaluation.proofs.accumulator.accumulator_sides.Goals as goal
 
-pub accumulator_cell-current-requires-clause-window : goal.accumulator_cell-current-requires-clause-window
-accumulator_cell-current-requires-clause-window g c =
-    let window = c.in_ok-permutation.ensures in record { can_be_read = window.readable; current_row = window.current; next_row = window.next }
-
-pub accumulator_cell-current-requires-clause-within : goal.accumulator_cell-current-requires-clause-within
-accumulator_cell-current-requires-clause-within g c = c.requires.row
-
-pub next_accumulator_cell-next-requires-clause-window : goal.next_accumulator_cell-next-requires-clause-window
-next_accumulator_cell-next-requires-clause-window g c =
-    let window = c.in_ok-permutation.ensures in record { can_be_read = window.readable; current_row = window.current; next_row = window.next }
-
-pub next_accumulator_cell-next-requires-clause-within : goal.next_accumulator_cell-next-requires-clause-within
-next_accumulator_cell-next-requires-clause-within g c = c.requires.row
-
-pub row_sum-requires-clause-window : goal.row_sum-requires-clause-window
-row_sum-requires-clause-window g c =
-    let window = c.in_ok-permutation.ensures in record { can_be_read = window.readable; current_row = window.current; next_row = window.next }
-
-pub row_sum-requires-clause-cells : goal.row_sum-requires-clause-cells
-row_sum-requires-clause-cells g c = c.requires.fractions
-
 pub returns-clause-sides : goal.returns-clause-sides
 returns-clause-sides g c =
     let S = g.AB.EF.PrimeCharacteristicRing.ring in

@@ -2,18 +2,6 @@ use Rattle.std.proofs.lemmas.Result.{MatchResult-weaker}
 use Rattle.lookup_evaluation.proofs.Meanings.{plus_fraction_on}
 use Rattle.lookup_evaluation.proofs.additive.add_tuple.Goals as goal
 
-pub denominator-requires-clause-row : goal.denominator-requires-clause-row
-denominator-requires-clause-row g c = c.requires.row
-
-pub denominator-requires-clause-fits : goal.denominator-requires-clause-fits
-denominator-requires-clause-fits g c = c.requires.tuple_fits
-
-pub lift_expression-requires-clause-row : goal.lift_expression-requires-clause-row
-lift_expression-requires-clause-row g c = c.requires.row
-
-pub lift_expression-requires-clause-fits : goal.lift_expression-requires-clause-fits
-lift_expression-requires-clause-fits g c = c.requires.multiplicity_fits
-
 pub returns : goal.returns
 returns g c =
     MatchResult-weaker c.add_fraction.result c.add_fraction.ensures

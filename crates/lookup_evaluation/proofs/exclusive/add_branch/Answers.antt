@@ -2,24 +2,6 @@ use Rattle.std.proofs.lemmas.Result.{MatchResult-weaker}
 use Rattle.lookup_evaluation.proofs.Meanings.{plus_branch_on}
 use Rattle.lookup_evaluation.proofs.exclusive.add_branch.Goals as goal
 
-pub denominator-requires-clause-row : goal.denominator-requires-clause-row
-denominator-requires-clause-row g c = c.requires.row
-
-pub denominator-requires-clause-fits : goal.denominator-requires-clause-fits
-denominator-requires-clause-fits g c = c.requires.tuple_fits
-
-pub lift_expression-requires-clause-row : goal.lift_expression-requires-clause-row
-lift_expression-requires-clause-row g c = c.requires.row
-
-pub lift_expression-requires-clause-fits : goal.lift_expression-requires-clause-fits
-lift_expression-requires-clause-fits g c = c.requires.multiplicity_fits
-
-pub lift_expression-requires-2-clause-row : goal.lift_expression-requires-2-clause-row
-lift_expression-requires-2-clause-row g c = c.requires.row
-
-pub lift_expression-requires-2-clause-fits : goal.lift_expression-requires-2-clause-fits
-lift_expression-requires-2-clause-fits g c = c.requires.flag_fits
-
 pub returns : goal.returns
 returns g c =
     MatchResult-weaker c.select.result c.select.ensures

@@ -8,18 +8,6 @@ use Rattle.lookup_evaluation.proofs.exclusive.branch_sums.Goals as goal
 use Rattle.lookup_model.specs.Records.{AllFit, IsWithin}
 use Rattle.lookup_model.proofs.RecordLaws.{Fits-at}
 
-pub offset_bounds-flags-branch : goal.offset_bounds-flags-branch
-offset_bounds-flags-branch g c = omega arith
-
-pub bounds-flags-branch : goal.bounds-flags-branch
-bounds-flags-branch g c = omega arith
-
-pub add_branch-requires-clause-row : goal.add_branch-requires-clause-row
-add_branch-requires-clause-row g c = c.requires.row
-
-pub add_branch-requires-clause-flag_fits : goal.add_branch-requires-clause-flag_fits
-add_branch-requires-clause-flag_fits g c = Fits-at (g.AB.AirBuilder.layout c.args.row.now.builder.now) c.args.flags.now c.loop-branch.branch c.index-flags-branch.result c.requires.flags_fit (omega arith) c.index-flags-branch.is
-
 pub add_branch-requires-clause-tuple_fits : goal.add_branch-requires-clause-tuple_fits
 unfolding IsWithin
 add_branch-requires-clause-tuple_fits g c =
@@ -48,3 +36,6 @@ loop-branch-preserved g c =
 
 pub returns : goal.returns
 returns g c = rw (take_all c.loop-branch.branch c.args.flags.now (omega arith)) at c.loop-branch.invariant
+
+pub add_branch-requires-clause-flag_fits : goal.add_branch-requires-clause-flag_fits
+add_branch-requires-clause-flag_fits g c = Fits-at (g.AB.AirBuilder.layout c.args.row.now.builder.now) c.args.flags.now c.loop-branch.branch c.index-flags-branch.result c.requires.flags_fit (omega arith) c.index-flags-branch.is

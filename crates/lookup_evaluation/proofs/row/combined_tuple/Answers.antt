@@ -16,12 +16,6 @@ loop-element-init g c = record {
   within = λ t. omega (arith, c.constant-sum.ensures.degree t);
 }
 
-pub lift_expression-requires-clause-row : goal.lift_expression-requires-clause-row
-lift_expression-requires-clause-row g c = c.requires.row
-
-pub lift_expression-requires-clause-fits : goal.lift_expression-requires-clause-fits
-lift_expression-requires-clause-fits g c = Fits-at (g.AB.AirBuilder.layout c.args.row.now.builder.now) c.args.tuple.now c.loop-element.element-index _ c.requires.fits c.loop-element-test.true c.element-item.is
-
 pub loop-element-preserved : goal.loop-element-preserved
 loop-element-preserved g c =
     let so_far = c.loop-element.invariant in
@@ -50,3 +44,6 @@ loop-element-preserved g c =
 
 pub returns : goal.returns
 returns g c = rw (take_all c.loop-element.element-index c.args.tuple.now (omega arith)) at c.loop-element.invariant
+
+pub lift_expression-requires-clause-fits : goal.lift_expression-requires-clause-fits
+lift_expression-requires-clause-fits g c = Fits-at (g.AB.AirBuilder.layout c.args.row.now.builder.now) c.args.tuple.now c.loop-element.element-index _ c.requires.fits c.loop-element-test.true c.element-item.is

@@ -4,6 +4,3 @@ use Rattle.lookup.proofs.lookups.Lookups.from_records.Goals as goal
 
 pub returns-in-Some : goal.returns-in-Some
 returns-in-Some g c = (c.in-Some.lookup, refl, subst (λ records. IsFirstMalformed records c.in-Some.lookup) c.deref.ensures.value c.in-Some.ensures)
-
-pub returns-in-None : goal.returns-in-None
-returns-in-None g c = refl

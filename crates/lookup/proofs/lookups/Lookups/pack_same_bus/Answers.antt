@@ -6,9 +6,6 @@ use Rattle.lookup.proofs.PackedDegrees.{fewest_packed}
 use Rattle.lookup.proofs.PackedWithin.{packed_fit}
 use Rattle.lookup.proofs.lookups.Lookups.pack_same_bus.Goals as goal
 
-pub pack_by_degree-requires : goal.pack_by_degree-requires
-pack_by_degree-requires g c = λ k d lt. (c.args.self.records k (get_or c.args.self.lookups.items k d) lt (slice_get-get_or c.args.self.lookups.items k d lt)).1
-
 pub returns-clause-fewest : goal.returns-clause-fewest
 returns-clause-fewest g c =
     fewest_packed c.args.max_degree (λ v. map fields_of v.items) (map fields_of c.args.self.lookups.items) (Ok c.in_ok-lookups.lookups)

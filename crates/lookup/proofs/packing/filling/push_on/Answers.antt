@@ -1,14 +1,11 @@
 use Rattle.std.proofs.Common.{◌≡◌, None, Option, Some, is_some, false, refl, sym, ◌∙◌, true≢false}
 use Rattle.lookup_model.specs.Outline.{fields_of}
-use Rattle.lookup.proofs.StepLaws.{free_bus, pushed_on, refused_on, stuck_on, tried_on}
+use Rattle.lookup.proofs.StepLaws.{pushed_on, refused_on, stuck_on, tried_on}
 use Rattle.lookup.proofs.packing.filling.push_on.Goals as goal
 
 none_of : {A : Type 0} (o : Option A) → is_some o ≡ false → o ≡ None
 none_of None e = refl
 none_of (Some x) e = absurd (true≢false e)
-
-pub push_next-requires-clause-open : goal.push_next-requires-clause-open
-push_next-requires-clause-open g c = (free_bus (g.T.TrialDegrees.keeps c.args.degrees.now) (g.T.TrialDegrees.answers c.args.degrees.now) c.args.max_degree c.requires.members.0 c.args.bus.now c.requires.members.1 (none_of c.args.bus.now.refusal (sym c.is_some.ensures ∙ c.if-is_some.false))).0
 
 pub push_next-requires-clause-callable : goal.push_next-requires-clause-callable
 push_next-requires-clause-callable g c = λ lookup is.

@@ -24,12 +24,6 @@ use Rattle.lookup.proofs.SameKeys.{kept_keys}
 use Rattle.lookup.proofs.StepLaws.{free_bus, stuck_bus}
 use Rattle.lookup.proofs.packing.greedy.pack_by.Goals as goal
 
-pub fill_buses-requires-clause-callable : goal.fill_buses-requires-clause-callable
-fill_buses-requires-clause-callable g c = c.requires.callable
-
-pub fill_buses-requires-clause-lengths : goal.fill_buses-requires-clause-lengths
-fill_buses-requires-clause-lengths g c = c.requires.lengths
-
 pub loop-bus-init : goal.loop-bus-init
 loop-bus-init g c =
     let gives = c.into_iter-bus-iterator.ensures.into_iter_gives.0 in
@@ -88,9 +82,6 @@ returns-in_err-append_columns-clause-packs g c =
         | inr stuck ↦ inr (inr (widths, first stuck))
       ]
     ])
-
-pub in_columns-requires : goal.in_columns-requires
-in_columns-requires g c = c.loop-bus.invariant.lengths
 
 pub returns-clause-packs : goal.returns-clause-packs
 returns-clause-packs g c =

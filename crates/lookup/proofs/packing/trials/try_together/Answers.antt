@@ -1,9 +1,7 @@
-use Rattle.std.proofs.Common.{◌≡◌, ◌<◌, ◌+◌, inl, inr, refl, sym, subst, length, arith}
+use Rattle.std.proofs.Common.{◌≡◌, ◌<◌, ◌+◌, inl, inr, refl, length, arith}
 use Rattle.std.proofs.lemmas.Result.{err_from_is_err_and}
-use Rattle.expressions.specs.declared.base_expression.SymbolicExpression.{SymbolicExpression}
-use Rattle.lookup_model.specs.Outline.{Outline}
 use Rattle.lookup_model.specs.Weight.{weight_bound}
-use Rattle.lookup.proofs.TrialLaws.{asked, joined_both, refused, set_apart, trial_is, trial_member}
+use Rattle.lookup.proofs.TrialLaws.{joined_both, refused, set_apart}
 use Rattle.lookup.proofs.packing.trials.try_together.Goals as goal
 
 pub returns-in_err-answer : goal.returns-in_err-answer
@@ -43,13 +41,3 @@ pub returns-in_err-next-2 : goal.returns-in_err-next-2
 returns-in_err-next-2 g c =
     let p = err_from_is_err_and c.from_residual-in_err-next-2.result c.from_residual-in_err-next-2.ensures.1 in
     rw (p.1, p.2) (inl refl)
-
-pub degree-requires-clause-asked : goal.degree-requires-clause-asked
-degree-requires-clause-asked g c = c.requires.callable _ (asked (g.T.TrialDegrees.answers c.args.degrees.now) c.args.max_degree c.args.column.now c.args.next c.requires.column c.requires.next c.append.new.self c.append-2.new.self c.in_ok-append.ensures.items c.in_ok-append-2.ensures.items)
-
-pub degree-requires-clause-member : goal.degree-requires-clause-member
-degree-requires-clause-member g c = trial_member (g.T.TrialDegrees.answers c.args.degrees.now) c.args.max_degree c.args.column.now c.args.next c.requires.column c.requires.next c.append.new.self c.append-2.new.self c.in_ok-append.ensures.items c.in_ok-append-2.ensures.items
-
-pub degree-requires-clause-kept : goal.degree-requires-clause-kept
-degree-requires-clause-kept g c =
-    subst (λ (o : Outline (SymbolicExpression g.row.F.Denot)). g.T.TrialDegrees.keeps c.args.degrees.now c.args.kept o) (sym (trial_is (g.T.TrialDegrees.answers c.args.degrees.now) c.args.max_degree c.args.column.now c.args.next c.requires.column c.requires.next c.append.new.self c.append-2.new.self c.in_ok-append.ensures.items c.in_ok-append-2.ensures.items)) c.requires.kept
