@@ -217,6 +217,13 @@ module _ {F : Type 0} {R : Ring F} (laws : IsCommutativeRing R) (eq : F → F �
   nonzero_is : (v : F) → v ≢ R.zero → not (eq v R.zero) ≡ true
   nonzero_is v ne = ap not (false_from_ne_true (eq v R.zero) (λ is. ne ((eq_is v R.zero).0 is)))
 
+  -- the entry of a tuple that is seen
+  entry_of : (es : List (Bor (List F) × F)) (cs : List (Contribution F)) → tuple_entries es ≡ tuple_nets R eq cs → (j : ℕ) (other : List F) → slice_get (seen cs) j ≡ Some other
+      → (e : Bor (List F) × F) × (slice_get es j ≡ Some e) × (e.0.now ≡ other) × (e.1 ≡ net_amount R eq cs other)
+  entry_of es cs is j other there =
+      let found = from_map (λ (e : Bor (List F) × F). (e.0.now, e.1)) es j (other, net_amount R eq cs other) (ap (λ t. slice_get t j) is ∙ map_at (λ k. (k, net_amount R eq cs k)) (seen cs) j other there) in
+      (found.0, found.1, ap (λ (p : List F × F). p.0) found.2, ap (λ (p : List F × F). p.1) found.2)
+
   -- the least is first, and its entry has its net
   pub first_of_least : (es : List (Bor (List F) × F)) (cs : List (Contribution F)) (i : ℕ) → tuple_entries es ≡ tuple_nets R eq cs
       → (least : IsFirstIndex R eq text es (length es) (Some i)) → IsFirst R eq text cs least.entry.0.now × (least.entry.1 ≡ net_amount R eq cs least.entry.0.now)
@@ -247,14 +254,12 @@ module _ {F : Type 0} {R : Ring F} (laws : IsCommutativeRing R) (eq : F → F �
       by_index own other ne apart j there (inr (inl same)) =
           absurd (apart (some_is other least.entry.0.now (sym there ∙ ap (slice_get (seen cs)) same ∙ own)))
       by_index own other ne apart j there (inl sooner) =
-          let found = from_map (λ (e : Bor (List F) × F). (e.0.now, e.1)) es j (other, net_amount R eq cs other) (ap (λ t. slice_get t j) is ∙ map_at (λ k. (k, net_amount R eq cs k)) (seen cs) j other there) in
-          let passing = nonzero_is found.0.1 (λ z. ne (sym (ap (λ (p : List F × F). p.1) found.2) ∙ z)) in
-          inl (ap (text_cmp text least.entry.0.now) (sym (ap (λ (p : List F × F). p.0) found.2)) ∙ least.before j found.0 sooner found.1 passing)
+          let (e, at, tuple_is, net_is) = entry_of es cs is j other there in
+          inl (ap (text_cmp text least.entry.0.now) (sym tuple_is) ∙ least.before j e sooner at (nonzero_is e.1 (λ z. ne (sym net_is ∙ z))))
       by_index own other ne apart j there (inr (inr later)) =
-          let found = from_map (λ (e : Bor (List F) × F). (e.0.now, e.1)) es j (other, net_amount R eq cs other) (ap (λ t. slice_get t j) is ∙ map_at (λ k. (k, net_amount R eq cs k)) (seen cs) j other there) in
-          let passing = nonzero_is found.0.1 (λ z. ne (sym (ap (λ (p : List F × F). p.1) found.2) ∙ z)) in
+          let (e, at, tuple_is, net_is) = entry_of es cs is j other there in
           by_order other (seen_before (pointwise eq) decides (tuples cs) i j least.entry.0.now other later own there) (text_cmp text least.entry.0.now other) refl
-          (λ greater. least.after j found.0 later (slice_get_within es j found.0 found.1) found.1 passing (ap (text_cmp text least.entry.0.now) (ap (λ (p : List F × F). p.0) found.2) ∙ greater))
+          (λ greater. least.after j e later (slice_get_within es j e at) at (nonzero_is e.1 (λ z. ne (sym net_is ∙ z))) (ap (text_cmp text least.entry.0.now) tuple_is ∙ greater))
 
       by_seen : slice_get (seen cs) i ≡ Some least.entry.0.now → (other : List F) → net_amount R eq cs other ≢ R.zero → other ≢ least.entry.0.now
           → (b : Bool) → list_any (λ y. pointwise eq y other) (tuples cs) ≡ b
@@ -274,8 +279,7 @@ module _ {F : Type 0} {R : Ring F} (laws : IsCommutativeRing R) (eq : F → F �
     where
       by_seen : (b : Bool) → list_any (λ y. pointwise eq y tuple) (tuples cs) ≡ b → net_amount R eq cs tuple ≡ R.zero
       by_seen true e =
-          let ks = seen cs in
-          let index = any_at (pointwise eq) decides tuple ks (any-first_seen (pointwise eq) decides (tuples cs) tuple ∙ e) in
-          let found = from_map (λ (e : Bor (List F) × F). (e.0.now, e.1)) es index.0 (tuple, net_amount R eq cs tuple) (ap (λ t. slice_get t index.0) is ∙ map_at (λ k. (k, net_amount R eq cs k)) ks index.0 tuple index.1) in
-          sym (ap (λ (p : List F × F). p.1) found.2) ∙ zero_is found.0.1 (none index.0 found.0 (slice_get_within es index.0 found.0 found.1) found.1)
+          let index = any_at (pointwise eq) decides tuple (seen cs) (any-first_seen (pointwise eq) decides (tuples cs) tuple ∙ e) in
+          let (entry, at, tuple_is, net_is) = entry_of es cs is index.0 tuple index.1 in
+          sym net_is ∙ zero_is entry.1 (none index.0 entry (slice_get_within es index.0 entry at) at)
       by_seen false e = net-none (pointwise eq) decides laws (λ (c : Contribution F). c.tuple) (λ c. c.amount) cs tuple e

@@ -1,13 +1,15 @@
 -- Well formed records and fitting expressions, one after another.
-use Rattle.std.proofs.Common.{◌≡◌, ℕ, ◌+◌, ◌<◌, List, length, get_or, Some}
+use Rattle.std.proofs.Common.{arith, subst, sym, ◌≡◌, ℕ, ◌+◌, ◌<◌, List, length, get_or, Some}
 use Rattle.std.specs.List.{slice_get}
+use Rattle.std.specs.declared.alloc.Global.{Global}
+use Rattle.std.specs.declared.vec.Vec.{Vec}
 use Rattle.lists.proofs.Each.{All-at}
 use Rattle.lists.proofs.Items.{holds_at_next}
 use Rattle.expressions.specs.declared.layout.AirLayout.{AirLayout}
 use Rattle.expressions.specs.declared.base_expression.SymbolicExpression.{SymbolicExpression}
 use Rattle.expressions.specs.Layout.{Fits}
 use Rattle.expressions.specs.Tree.{tree_of}
-use Rattle.lookup_model.specs.Records.{AllFit, AreRecordsBelow, IsRecordAt}
+use Rattle.lookup_model.specs.Records.{AllFit, AreRecordsBelow, HasEqualLengths, IsRecordAt, IsWithin}
 use Rattle.lookup_model.specs.declared.types.Lookup.{Lookup}
 
 -- one more well formed record
@@ -18,3 +20,14 @@ AreRecordsBelow-more lookups i lookup below is_there is = holds_at_next IsRecord
 pub Fits-at : {F : Type 0} (layout : AirLayout) (es : List (SymbolicExpression F)) (i : ℕ) (e : SymbolicExpression F) → AllFit layout es → i < length es → e ≡ get_or es i e → Fits layout (tree_of e)
 unfolding AllFit
 Fits-at layout es i e all lt is = All-at (λ x. Fits layout (tree_of x)) es i e all lt is
+
+module _ {F : Type 0} (layout : AirLayout) (lookup : Lookup F) (within : IsWithin layout lookup) where
+  -- the elements of a tuple of a lookup that is within a layout fit it
+  pub tuple_fits : (i : ℕ) (tuple : Vec (SymbolicExpression F) Global) (es : List (SymbolicExpression F)) → i < length lookup.elements.items → tuple ≡ get_or lookup.elements.items i tuple → es ≡ tuple.items → AllFit layout es
+  unfolding IsWithin
+  tuple_fits i tuple es lt is same = subst (AllFit layout) (sym same) (All-at (λ t. AllFit layout t.items) lookup.elements.items i tuple within.0 lt is)
+
+  -- and so does its multiplicity
+  pub multiplicity_fits : HasEqualLengths lookup → (i : ℕ) (m : SymbolicExpression F) → i < length lookup.elements.items → m ≡ get_or lookup.multiplicities.items i m → Fits layout (tree_of m)
+  unfolding IsWithin
+  multiplicity_fits lengths i m lt is = Fits-at layout lookup.multiplicities.items i m within.1 (omega (arith, lt, lengths.multiplicities)) is

@@ -1,19 +1,17 @@
 use Rattle.std.proofs.Common.{◌∙◌, IfSome, Option, Some, ap, arith, subst, sym}
 use Rattle.lookup_rows.specs.TraceBuilder.{builder_layout, builder_window}
-use Rattle.lookup_model.proofs.RecordLaws.{Fits-at}
+use Rattle.lookup_model.proofs.RecordLaws.{Fits-at, multiplicity_fits}
 use Rattle.lookup_model.specs.Records.{AllFit, IsWithin}
 use Rattle.lookup_debug.proofs.AmountLaws.{size_counted, size_flagged}
 use Rattle.lookup_debug.proofs.contributions.amount_of.Goals as goal
 
 pub value_of-requires : goal.value_of-requires
-unfolding IsWithin
 value_of-requires g c =
-    Fits-at (builder_layout c.args.builder.now) c.args.lookup.now.multiplicities.items c.args.branch _ c.requires.fits.1 (omega (arith, c.requires.branch, c.requires.lengths.multiplicities)) c.index-multiplicity.ensures
+    multiplicity_fits (builder_layout c.args.builder.now) c.args.lookup.now c.requires.fits c.requires.lengths c.args.branch _ (omega (arith, c.requires.branch)) c.index-multiplicity.ensures
 
 pub flagged_amount-requires-clause-count_fits : goal.flagged_amount-requires-clause-count_fits
-unfolding IsWithin
 flagged_amount-requires-clause-count_fits g c =
-    Fits-at (builder_layout c.args.builder.now) c.args.lookup.now.multiplicities.items c.args.branch _ c.requires.fits.1 (omega (arith, c.requires.branch, c.requires.lengths.multiplicities)) c.index-multiplicity.ensures
+    multiplicity_fits (builder_layout c.args.builder.now) c.args.lookup.now c.requires.fits c.requires.lengths c.args.branch _ (omega (arith, c.requires.branch)) c.index-multiplicity.ensures
 
 pub flagged_amount-requires-clause-flag_fits : goal.flagged_amount-requires-clause-flag_fits
 unfolding IsWithin

@@ -1,9 +1,7 @@
-use Rattle.std.proofs.Common.{List, arith, subst, sym}
+use Rattle.std.proofs.Common.{List, arith, subst}
 use Rattle.std.proofs.lemmas.List.{take_all}
-use Rattle.lists.proofs.Each.{All-at}
-use Rattle.expressions.specs.declared.base_expression.SymbolicExpression.{SymbolicExpression}
 use Rattle.lookup_rows.specs.TraceBuilder.{builder_layout, builder_window}
-use Rattle.lookup_model.specs.Records.{AllFit, IsWithin}
+use Rattle.lookup_model.proofs.RecordLaws.{tuple_fits}
 use Rattle.lookup_model.specs.Sent.{branches_at, flags_at}
 use Rattle.lookup_debug.specs.Appended.{Appends}
 use Rattle.lookup_debug.specs.Contributions.{Contribution, amounts, contributions_from, nonzero}
@@ -12,10 +10,8 @@ use Rattle.lookup_debug.proofs.SpanLaws.{appends-none}
 use Rattle.lookup_debug.proofs.contributions.push_on_row.Goals as goal
 
 pub push_branch-requires-clause-fits : goal.push_branch-requires-clause-fits
-unfolding IsWithin
 push_branch-requires-clause-fits g c =
-    let layout = builder_layout c.args.builder.now in
-    subst (λ (t : List (SymbolicExpression _)). AllFit layout t) (sym c.deref.ensures.value) (All-at (λ tuple. AllFit layout tuple.items) c.args.lookup.now.elements.items c.loop-branch.branch c.index-tuple.result.now c.requires.fits.0 (omega arith) c.index-tuple.ensures)
+    tuple_fits (builder_layout c.args.builder.now) c.args.lookup.now c.requires.fits c.loop-branch.branch c.index-tuple.result.now _ (omega arith) c.index-tuple.ensures c.deref.ensures.value
 
 pub push_branch-requires-clause-within : goal.push_branch-requires-clause-within
 push_branch-requires-clause-within g c = (c.loop-branch.invariant (record { instance = 0; lookup = 0; row = 0 })).0

@@ -1,10 +1,8 @@
-use Rattle.std.proofs.Common.{◌≡◌, ◌++◌, ◌+◌, List, arith, ap, map, subst, sym, take, ◌∙◌}
+use Rattle.std.proofs.Common.{◌≡◌, ◌++◌, ◌+◌, List, arith, ap, map, sym, take, ◌∙◌}
 use Rattle.std.proofs.lemmas.List.{append-nil, take_all}
 use Rattle.std.specs.Cmp.Lexicographic.{pointwise}
-use Rattle.lists.proofs.Each.{All-at}
-use Rattle.expressions.specs.declared.base_expression.SymbolicExpression.{SymbolicExpression}
 use Rattle.lookup_rows.specs.TraceBuilder.{builder_layout, builder_window}
-use Rattle.lookup_model.specs.Records.{AllFit, IsWithin}
+use Rattle.lookup_model.proofs.RecordLaws.{tuple_fits}
 use Rattle.lookup_model.specs.Sent.{branches_at, flags_at, values}
 use Rattle.lookup_debug.specs.Contributions.{Contribution, amounts, contributions_from, nonzero, location_of}
 use Rattle.lookup_debug.specs.Mismatch.{tuple_locations}
@@ -14,10 +12,8 @@ use Rattle.lookup_debug.proofs.tuple_locations.push_row_locations.Goals.{else-ha
 use Rattle.lookup_debug.proofs.tuple_locations.push_row_locations.Goals as goal
 
 pub has_values-requires : goal.has_values-requires
-unfolding IsWithin
 has_values-requires g c =
-    let layout = builder_layout c.args.builder.now in
-    subst (λ (t : List (SymbolicExpression _)). AllFit layout t) (sym c.deref.ensures.value) (All-at (λ tuple. AllFit layout tuple.items) c.args.lookup.now.elements.items c.loop-branch.branch c.index-elements.result.now c.requires.fits.0 (omega arith) c.index-elements.ensures)
+    tuple_fits (builder_layout c.args.builder.now) c.args.lookup.now c.requires.fits c.loop-branch.branch c.index-elements.result.now _ (omega arith) c.index-elements.ensures c.deref.ensures.value
 
 pub loop-branch-init : goal.loop-branch-init
 loop-branch-init g c = sym (append-nil (map location_of c.args.locations.now.items))

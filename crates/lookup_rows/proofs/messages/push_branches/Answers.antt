@@ -1,10 +1,7 @@
-use Rattle.std.proofs.Common.{◌∷◌, ◌++◌, [], List, append_assoc, refl, take, ap, sym, subst, ◌∙◌, arith}
+use Rattle.std.proofs.Common.{◌∷◌, ◌++◌, [], append_assoc, refl, take, ap, sym, ◌∙◌, arith}
 use Rattle.std.proofs.lemmas.List.{append-nil, take_all}
-use Rattle.lists.proofs.Each.{All-at}
-use Rattle.expressions.specs.declared.base_expression.SymbolicExpression.{SymbolicExpression}
 use Rattle.lookup_model.proofs.Branches.{branches_more, length-branches_at}
-use Rattle.lookup_model.proofs.RecordLaws.{Fits-at}
-use Rattle.lookup_model.specs.Records.{AllFit, IsWithin}
+use Rattle.lookup_model.proofs.RecordLaws.{multiplicity_fits, tuple_fits}
 use Rattle.lookup_model.specs.Sent.{branch_at, branches_at}
 use Rattle.lookup_rows.specs.SentMessages.{messages_of}
 use Rattle.lookup_rows.specs.TraceBuilder.{builder_layout, builder_window}
@@ -12,16 +9,12 @@ use Rattle.lookup_rows.proofs.SentMessageLaws.{further_back, in_front}
 use Rattle.lookup_rows.proofs.messages.push_branches.Goals as goal
 
 pub push_branch-requires-clause-tuple_fits : goal.push_branch-requires-clause-tuple_fits
-unfolding IsWithin
 push_branch-requires-clause-tuple_fits g c =
-    let layout = builder_layout c.args.builder.now in
-    subst (λ (t : List (SymbolicExpression _)). AllFit layout t) (sym c.deref.ensures.value) (All-at (λ tuple. AllFit layout tuple.items) c.args.lookup.now.elements.items c.loop-branch.branch c.index-tuple.result.now c.requires.within.0 (omega arith) c.index-tuple.ensures)
+    tuple_fits (builder_layout c.args.builder.now) c.args.lookup.now c.requires.within c.loop-branch.branch c.index-tuple.result.now _ (omega arith) c.index-tuple.ensures c.deref.ensures.value
 
-pub push_branch-requires-clause-multiplicity_fits :
-    goal.push_branch-requires-clause-multiplicity_fits
-unfolding IsWithin
+pub push_branch-requires-clause-multiplicity_fits : goal.push_branch-requires-clause-multiplicity_fits
 push_branch-requires-clause-multiplicity_fits g c =
-    Fits-at (builder_layout c.args.builder.now) c.args.lookup.now.multiplicities.items c.loop-branch.branch _ c.requires.within.1 (omega (arith, c.requires.lengths.multiplicities)) c.index-multiplicity.ensures
+    multiplicity_fits (builder_layout c.args.builder.now) c.args.lookup.now c.requires.within c.requires.lengths c.loop-branch.branch _ (omega arith) c.index-multiplicity.ensures
 
 pub loop-branch-init : goal.loop-branch-init
 loop-branch-init g c = (sym (append-nil (messages_of c.args.messages.now.items)), in_front _ _ refl)

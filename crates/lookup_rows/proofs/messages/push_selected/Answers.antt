@@ -2,13 +2,10 @@ use Rattle.std.proofs.Common.{◌≡◌, ◌<◌, ◌∷◌, ◌++◌, ℕ, Bool
 use Rattle.std.proofs.lemmas.List.{append-nil, length-map}
 use Rattle.std.proofs.lemmas.Result.{MatchResult-weaker}
 use Rattle.lists.proofs.Zips.{zipped_at}
-use Rattle.lists.proofs.Each.{All-at}
 use Rattle.field.specs.Ring.{Ring}
 use Rattle.lookup_rows.specs.declared.flags.SetFlags.{SetFlags}
-use Rattle.expressions.specs.declared.base_expression.SymbolicExpression.{SymbolicExpression}
 use Rattle.lookup_model.proofs.Branches.{length-branches_at}
-use Rattle.lookup_model.proofs.RecordLaws.{Fits-at}
-use Rattle.lookup_model.specs.Records.{AllFit, IsWithin}
+use Rattle.lookup_model.proofs.RecordLaws.{multiplicity_fits, tuple_fits}
 use Rattle.lookup_model.specs.Sent.{branch_at, branches_at, values}
 use Rattle.lookup_model.proofs.Lookups.Selections.{index_within}
 use Rattle.lookup_rows.specs.Selection.{AreSetFlags}
@@ -31,17 +28,12 @@ pub index-multiplicity-requires : goal.index-multiplicity-requires
 index-multiplicity-requires g c = omega (arith, one_within (length c.args.lookup.now.elements.items) c.in-One.branch c.in-One.is c.in_ok-set_flags.ensures (length-map _ _ ∙ c.requires.flag_number), c.requires.lengths.multiplicities)
 
 pub push_branch-requires-clause-tuple_fits : goal.push_branch-requires-clause-tuple_fits
-unfolding IsWithin
 push_branch-requires-clause-tuple_fits g c =
-    let layout = builder_layout c.args.builder.now in
-    subst (λ (t : List (SymbolicExpression _)). AllFit layout t) (sym c.deref.ensures.value) (All-at (λ tuple. AllFit layout tuple.items) c.args.lookup.now.elements.items c.in-One.branch c.index-tuple.result.now c.requires.within.0 (one_within (length c.args.lookup.now.elements.items) c.in-One.branch c.in-One.is c.in_ok-set_flags.ensures (length-map _ _ ∙ c.requires.flag_number)) c.index-tuple.ensures)
+    tuple_fits (builder_layout c.args.builder.now) c.args.lookup.now c.requires.within c.in-One.branch c.index-tuple.result.now _ (one_within (length c.args.lookup.now.elements.items) c.in-One.branch c.in-One.is c.in_ok-set_flags.ensures (length-map _ _ ∙ c.requires.flag_number)) c.index-tuple.ensures c.deref.ensures.value
 
-pub push_branch-requires-clause-multiplicity_fits :
-    goal.push_branch-requires-clause-multiplicity_fits
-unfolding IsWithin
+pub push_branch-requires-clause-multiplicity_fits : goal.push_branch-requires-clause-multiplicity_fits
 push_branch-requires-clause-multiplicity_fits g c =
-    let within = one_within (length c.args.lookup.now.elements.items) c.in-One.branch c.in-One.is c.in_ok-set_flags.ensures (length-map _ _ ∙ c.requires.flag_number) in
-    Fits-at (builder_layout c.args.builder.now) c.args.lookup.now.multiplicities.items c.in-One.branch _ c.requires.within.1 (omega (arith, within, c.requires.lengths.multiplicities)) c.index-multiplicity.ensures
+    multiplicity_fits (builder_layout c.args.builder.now) c.args.lookup.now c.requires.within c.requires.lengths c.in-One.branch _ (one_within (length c.args.lookup.now.elements.items) c.in-One.branch c.in-One.is c.in_ok-set_flags.ensures (length-map _ _ ∙ c.requires.flag_number)) c.index-multiplicity.ensures
 
 pub returns-in-Nothing-clause-pushes : goal.returns-in-Nothing-clause-pushes
 returns-in-Nothing-clause-pushes g c =
