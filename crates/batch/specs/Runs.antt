@@ -1,5 +1,5 @@
 -- Runs of a plan: its traces at a pair of challenges, and what the calls of a prover and a verifier answer.
-use Rattle.std.specs.Prelude.{◌≡◌, ◌≢◌, ◌⊎◌, ℕ, List, Result, IfErr, IfOk, MatchResult, length}
+use Rattle.std.specs.Prelude.{◌≡◌, ◌≢◌, ◌⊎◌, List, Result, IfErr, IfOk, MatchResult, length}
 use Rattle.field.specs.Extension.{Extension}
 use Rattle.lookup_model.specs.Batches.Counts.{IsAccepting, IsCountedSound}
 use Rattle.lookup_model.specs.Batches.Faults.{IsFirstFault}

@@ -1,6 +1,5 @@
 -- A refused witness is not accepted.
-use Rattle.std.proofs.Common.{◌≡◌, ℕ, zero, suc, inl, inr, Some, List, [], ◌∷◌, Result, Ok, Err, subst₂}
-use Rattle.std.specs.List.{AllZip, slice_get}
+use Rattle.std.proofs.Common.{ℕ, inl, inr, List, Result, Ok, Err}
 use Rattle.lists.proofs.Zips.{AllZip-there}
 use Rattle.lookup_model.specs.Challenges.{ChallengeTable}
 use Rattle.field.specs.Extension.{Extension}

@@ -95,9 +95,9 @@ module _ {A B : Type 0} (R : A → B → Type 0) where
       (z ∷ us, vs, ap (λ t. z ∷ t) are, (all.0, first), second)
 
   -- one more item beside the next one of a list
-  pub AllZip-more : (xs : List A) (ys zs : List B) (i : ℕ) (x : A) (y : B) → i < length xs → x ≡ get_or xs i x → zs ≡ ys ++ y ∷ [] → R x y → AllZip R (take i xs) ys → AllZip R (take (i + 1) xs) zs
-  AllZip-more xs ys zs i x y lt is pushed here so_far =
-      subst₂ (AllZip R) (sym (take_item xs i x lt is)) (sym pushed) (all_zipped_more R (take i xs) ys x y so_far here)
+  pub AllZip-more : (xs : List A) (ys zs : List B) (i : ℕ) (d x : A) (y : B) → i < length xs → x ≡ get_or xs i d → zs ≡ ys ++ y ∷ [] → R x y → AllZip R (take i xs) ys → AllZip R (take (i + 1) xs) zs
+  AllZip-more xs ys zs i d x y lt is pushed here so_far =
+      subst₂ (AllZip R) (sym (take_more xs i d lt ∙ ap (λ z. take i xs ++ z ∷ []) (sym is))) (sym pushed) (all_zipped_more R (take i xs) ys x y so_far here)
 
   -- the item that goes with the one at an index
   pub AllZip-at : (xs : List A) (ys : List B) (i : ℕ) (x : A) (d : B) → i < length xs → x ≡ get_or xs i x → AllZip R xs ys → R x (get_or ys i d)

@@ -3,7 +3,7 @@ use Rattle.std.proofs.Common.{◌≡◌, ◌≢◌, ◌∙◌, ℕ, Result, Err,
 use Rattle.std.proofs.lemmas.Result.{err_from_is_err_and}
 use Rattle.std.specs.Result.{IsErrAnd}
 use Rattle.lookup_c.specs.Answers.{Answers}
-use Rattle.lookup_c.specs.Refusals.{IsRefusal, no_refusal}
+use Rattle.lookup_c.specs.Refusals.{IsRefusalOf, no_refusal}
 use Rattle.lookup_c.specs.declared.fault.Fault.{Fault}
 use Rattle.lookup_c.specs.declared.refusal.Refusal.{Refusal}
 
@@ -18,7 +18,7 @@ module _ {code : ℕ} {refusal : Refusal} {Done : Type 0} {Refused : Fault → T
   }
 
   -- a call that is refused
-  pub refused_answer : (fault : Fault) → code ≡ refusal.code → code ≢ 0 → IsRefusal fault refusal → Refused fault → Answers code refusal Done Refused
+  pub refused_answer : (fault : Fault) → code ≡ refusal.code → code ≢ 0 → IsRefusalOf fault refusal → Refused fault → Answers code refusal Done Refused
   refused_answer fault code_is other is refused = record {
     code_is = code_is;
     no_refusal_is = λ zero. absurd (other zero);

@@ -1,4 +1,4 @@
--- The batch that tables say, as calls read it.
+-- The batch that tables encode, as calls read it.
 use Rattle.std.proofs.Common.{◌≡◌, ◌∙◌, ◌∷◌, [], List, ap, ap₂, map, refl}
 use Rattle.lists.proofs.Zips.{AllZip-paired}
 use Rattle.air.specs.Traces.{air_traces}
@@ -10,19 +10,19 @@ use Rattle.lookup_tables.specs.Traces.{AreTracesOf}
 use Rattle.lookup_tables.specs.declared.traces.ReadTraces.{ReadTraces}
 use Rattle.lookup_tables.specs.declared.traces.Traces.{Traces}
 use Rattle.lookup_c.specs.BatchTables.{AreBatchTraces, IsBatch, IsPlanOf}
-use Rattle.lookup_c.specs.Inputs.{said_traces, view_of_read}
+use Rattle.lookup_c.specs.Inputs.{decoded_traces, view_of_read}
 use Rattle.lookup_c.specs.declared.batch_tables.Air.{Air}
 
--- what is read is what the numbers say
-pub said : (numbers : Traces) (traces : ReadTraces) → AreTracesOf numbers traces → view_of_read traces ≡ said_traces numbers
-said numbers traces are i = air_traces (are.main i) (are.preprocessed i) (are.public_values i)
+-- what is read is what the numbers encode
+pub decoded : (numbers : Traces) (traces : ReadTraces) → AreTracesOf numbers traces → view_of_read traces ≡ decoded_traces numbers
+decoded numbers traces are i = air_traces (are.main i) (are.preprocessed i) (are.public_values i)
 
-said_all : (traces : List Traces) (all : List ReadTraces) → AreBatchTraces traces all → map view_of_read all ≡ map said_traces traces
-said_all [] [] are = refl
-said_all [] (a ∷ rest) are = absurd are
-said_all (t ∷ ts) [] are = absurd are
-said_all (t ∷ ts) (a ∷ rest) are =
-    ap₂ (λ s ss. s ∷ ss) (said t a are.0) (said_all ts rest are.1)
+decoded_all : (traces : List Traces) (all : List ReadTraces) → AreBatchTraces traces all → map view_of_read all ≡ map decoded_traces traces
+decoded_all [] [] are = refl
+decoded_all [] (a ∷ rest) are = absurd are
+decoded_all (t ∷ ts) [] are = absurd are
+decoded_all (t ∷ ts) (a ∷ rest) are =
+    ap₂ (λ s ss. s ∷ ss) (decoded t a are.0) (decoded_all ts rest are.1)
 
 -- a plan and traces that are read are the batch
 pub batch_read : {airs : List Air} {plan : Plan BabyBear} {all read : List ReadTraces} {given made : List (BatchTrace BabyBear)} (traces : List Traces)
@@ -30,5 +30,5 @@ pub batch_read : {airs : List Air} {plan : Plan BabyBear} {all read : List ReadT
 batch_read {all = all} traces plan_is are read_is given_is views = record {
   plan_is = plan_is;
   below = λ k t there. (AllZip-paired AreTracesOf traces all are k t there).1.canonical;
-  views = ap (map view_of) given_is ∙ (views ∙ (ap (map view_of_read) read_is ∙ said_all traces all are));
+  views = ap (map view_of) given_is ∙ (views ∙ (ap (map view_of_read) read_is ∙ decoded_all traces all are));
 }

@@ -55,7 +55,7 @@ module _ (sets : List (Lookups BabyBear)) (traces : List ReadTraces) (i : ℕ) (
       (subst (λ (ts : List (Traced BabyBear)). All IsTracedFitting ts) are (All-map IsTracedFitting traced_of instances fit))
       (subst (λ (x : Traced BabyBear). IsMisfitAt i x fault) (sym this) misfit)
 
--- a debug check over what tables say
+-- a debug check over what tables encode
 pub checks_tables : (E : Extension BabyBear (Quartic BabyBear)) (airs : List Tables) (traces : List Traces) (sets : List (Lookups BabyBear)) (all : List ReadTraces) (ts : List (Traced BabyBear))
     (answer : Result (Unit {0}) Fault) → AreTableSets airs sets → AreBatchTraces traces all → length traces ≡ length airs → ts ≡ all_traced sets all
     → MatchResult answer (λ _. ChecksTraced E ts) (IsMismatchRefusal E ts)

@@ -1,9 +1,7 @@
 -- The first item of a list with a fault, as a loop finds it.
-use Rattle.std.proofs.Common.{◌≡◌, ◌∙◌, ◌∷◌, ◌<◌, [], ℕ, All, List, arith, get_or, length, subst, take}
+use Rattle.std.proofs.Common.{◌∙◌, ◌<◌, ℕ, All, List, arith, get_or, length, subst, take}
 use Rattle.std.proofs.lemmas.List.{get_or-take, length-take}
-use Rattle.std.proofs.lemmas.List.Elements.{All-cons, All-nil}
 use Rattle.std.proofs.lemmas.Option.{get_or_from_slice_get, slice_get-get_or, slice_get_within}
-use Rattle.std.specs.List.{AllZip}
 use Rattle.expressions.specs.Faults.{HasFirstFault}
 
 -- an item has a fault, and those before it have none

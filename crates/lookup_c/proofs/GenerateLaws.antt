@@ -7,7 +7,7 @@ use Rattle.field.specs.Quartic.{Quartic}
 use Rattle.lookup_model.specs.declared.types.Lookup.{Lookup}
 use Rattle.lookup_model.specs.declared.types.LookupTerminal.{LookupTerminal}
 use Rattle.lookup_tables.specs.Nodes.{BabyBear}
-use Rattle.lookup_tables.specs.Tables.{SayLookups}
+use Rattle.lookup_tables.specs.Tables.{EncodeLookups}
 use Rattle.lookup_tables.specs.Traces.{AreTracesOf}
 use Rattle.lookup_tables.specs.declared.tables.Tables.{Tables}
 use Rattle.lookup_tables.specs.declared.traces.ReadTraces.{ReadTraces}
@@ -21,9 +21,9 @@ use Rattle.lookup_c.specs.declared.fault.Fault.{Fault}
 use Rattle.lookup_c.specs.declared.generate.Generated.{Generated}
 use Rattle.lookup_c.specs.declared.outputs.Terminal.{Terminal}
 use Rattle.lookup_c.specs.declared.plan.PlanSizes.{PlanSizes}
-use Rattle.lookup_c.proofs.BatchLaws.{said}
+use Rattle.lookup_c.proofs.BatchLaws.{decoded}
 
-module _ (E : Extension BabyBear (Quartic BabyBear)) (tables : Tables) (traces : Traces) (answer : Result Generated Fault) (lookups : List (Lookup BabyBear)) (read : ReadTraces) (challenges : List (Quartic BabyBear)) (say : SayLookups tables lookups)
+module _ (E : Extension BabyBear (Quartic BabyBear)) (tables : Tables) (traces : Traces) (answer : Result Generated Fault) (lookups : List (Lookup BabyBear)) (read : ReadTraces) (challenges : List (Quartic BabyBear)) (say : EncodeLookups tables lookups)
     (are : AreTracesOf traces read) where
   -- what generation over elements answers
   abbrev AnswersOver : AirTraces BabyBear → Type 0
@@ -33,16 +33,16 @@ module _ (E : Extension BabyBear (Quartic BabyBear)) (tables : Tables) (traces :
   pub generates_tables : (numbers : List (List ℕ)) → AreElements numbers challenges → AnswersOver (view_of_read read)
       → MatchResult answer (λ g. one_air.GeneratesTables E tables traces numbers g.auxiliary g.terminal) (one_air.IsRefusal E tables traces numbers)
   generates_tables numbers challenges_are over =
-      MatchResult-weaker answer (subst AnswersOver (said traces read are) over)
-      (λ g generates. record { lookups = lookups; say = say; traces_below = are.canonical; elements = challenges; elements_are = challenges_are; generates = generates })
+      MatchResult-weaker answer (subst AnswersOver (decoded traces read are) over)
+      (λ g generates. record { lookups = lookups; encoded = say; traces_below = are.canonical; elements = challenges; elements_are = challenges_are; generates = generates })
       (λ fault refusal. inr (inr (inr (lookups, challenges, say, challenges_are, refusal))))
 
   -- and under ids
   pub generates_by_ids : (ids : List ℕ) (sizes : PlanSizes) (alpha beta : List ℕ) → length ids ≡ length lookups → by_ids.AreChallengesOfIds E tables traces ids sizes alpha beta challenges → AnswersOver (view_of_read read)
       → MatchResult answer (λ g. by_ids.GeneratesTables E tables traces ids sizes alpha beta g.auxiliary g.terminal) (by_ids.IsRefusal E tables traces ids sizes alpha beta)
   generates_by_ids ids sizes alpha beta as_many challenges_are over =
-      MatchResult-weaker answer (subst AnswersOver (said traces read are) over)
-      (λ g generates. record { lookups = lookups; say = say; traces_below = are.canonical; as_many = as_many; challenges = challenges; challenges_are = challenges_are; generates = generates })
+      MatchResult-weaker answer (subst AnswersOver (decoded traces read are) over)
+      (λ g generates. record { lookups = lookups; encoded = say; traces_below = are.canonical; as_many = as_many; challenges = challenges; challenges_are = challenges_are; generates = generates })
       (λ fault refusal. inr (inr (inr (inr (inr (lookups, say, inr (challenges, challenges_are, refusal)))))))
 
 module _ (Makes : Matrix (Quartic BabyBear) → Option (LookupTerminal (Quartic BabyBear)) → Type 0) (Refuses : Fault → Type 0) (answer : Result Generated Fault) (over : MatchResult answer (λ g. Makes g.auxiliary g.terminal) Refuses) where

@@ -1,6 +1,6 @@
 -- What a call answers.
 use Rattle.std.specs.Prelude.{◌≡◌, ◌≢◌, ℕ}
-use Rattle.lookup_c.specs.Refusals.{IsRefusal, no_refusal}
+use Rattle.lookup_c.specs.Refusals.{IsRefusalOf, no_refusal}
 use Rattle.lookup_c.specs.declared.fault.Fault.{Fault}
 use Rattle.lookup_c.specs.declared.refusal.Refusal.{Refusal}
 
@@ -10,4 +10,4 @@ pub record Answers (code : ℕ) (refusal : Refusal) (Done : Type 0) (Refused : F
   pub code_is : code ≡ refusal.code
   pub no_refusal_is : code ≡ 0 → refusal ≡ no_refusal
   pub done : code ≡ 0 → Done
-  pub refused : code ≢ 0 → (fault : Fault) × IsRefusal fault refusal × Refused fault
+  pub refused : code ≢ 0 → (fault : Fault) × IsRefusalOf fault refusal × Refused fault

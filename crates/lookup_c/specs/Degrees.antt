@@ -4,7 +4,7 @@ use Rattle.lookup_model.specs.LookupDegree.{lookup_degree}
 use Rattle.lookup_model.specs.declared.error.LookupError.TheVariants.{DegreeOverflow}
 use Rattle.lookup_model.specs.declared.types.Lookup.{Lookup}
 use Rattle.lookup_tables.specs.Nodes.{BabyBear}
-use Rattle.lookup_tables.specs.Tables.{SayLookups}
+use Rattle.lookup_tables.specs.Tables.{EncodeLookups}
 use Rattle.lookup_tables.specs.declared.tables.Tables.{Tables}
 use Rattle.lookup_c.specs.BatchTables.{IsSetRefusal}
 use Rattle.lookup_c.specs.declared.fault.Fault.{Fault}
@@ -17,15 +17,15 @@ IsDegreeRefusal lookups fault =
     (fault ≡ Memory)
     ⊎ ((i : ℕ) × (lookup : Lookup BabyBear) × (slice_get lookups i ≡ Some lookup) × (2 ^ 64 ≤ lookup_degree 0 lookup) × (fault ≡ OfLookup 0 DegreeOverflow))
 
--- the degree of each lookup that the tables say
+-- the degree of each lookup that the tables encode
 pub record GivesDegrees (tables : Tables) (degrees : List ℕ) : Type 0 where
   pub lookups : List (Lookup BabyBear)
-  pub say : SayLookups tables lookups
+  pub encoded : EncodeLookups tables lookups
   pub degrees_are : degrees ≡ map (lookup_degree 0) lookups
 
 -- The refusal of the lookups, of a degree, or for the room.
 abbrev pub IsCallRefusal : Tables → ℕ → Fault → Type 0
 IsCallRefusal tables room fault =
     IsSetRefusal 0 tables fault
-    ⊎ ((lookups : List (Lookup BabyBear)) × SayLookups tables lookups
+    ⊎ ((lookups : List (Lookup BabyBear)) × EncodeLookups tables lookups
     × (IsDegreeRefusal lookups fault ⊎ ((length lookups ≢ room) × (fault ≡ Length Degrees (length lookups) room))))

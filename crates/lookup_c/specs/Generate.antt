@@ -14,11 +14,11 @@ use Rattle.lookup_model.specs.declared.error.LookupError.{LookupError}
 use Rattle.lookup_model.specs.declared.types.Lookup.{Lookup}
 use Rattle.lookup_model.specs.declared.types.LookupTerminal.{LookupTerminal}
 use Rattle.lookup_tables.specs.Nodes.{BabyBear}
-use Rattle.lookup_tables.specs.Tables.{SayLookups}
+use Rattle.lookup_tables.specs.Tables.{EncodeLookups}
 use Rattle.lookup_tables.specs.Traces.{AreCanonical}
 use Rattle.lookup_tables.specs.declared.tables.Tables.{Tables}
 use Rattle.lookup_tables.specs.declared.traces.Traces.{Traces}
-use Rattle.lookup_c.specs.Inputs.{AreElements, IsListRefusal, IsTableRefusal, IsTracesRefusal, said_traces}
+use Rattle.lookup_c.specs.Inputs.{AreElements, IsListRefusal, IsTableRefusal, IsTracesRefusal, decoded_traces}
 use Rattle.lookup_c.specs.Outputs.{cells_of, terminal_numbers}
 use Rattle.lookup_c.specs.declared.fault.Fault.{Fault}
 use Rattle.lookup_c.specs.declared.fault.Fault.TheVariants.{Heights, Length, Lookup as OfLookup, Memory, Misfit}
@@ -35,6 +35,10 @@ module _ (E : Extension BabyBear (Quartic BabyBear)) (traces : AirTraces BabyBea
     pub terminal_is : terminal ≡ plain_terminal_of E (key_denominator E challenges) lookups (sent_rows E.base E.base_eq traces lookups)
     pub faultless : trace_faults E (key_denominator E challenges) (sent_rows E.base E.base_eq traces lookups) ≡ []
     pub satisfied : IsSatisfied E traces lookups challenges auxiliary terminal
+
+  -- and what is generated, in one value
+  abbrev pub GeneratesLookups : Generated → Type 0
+  GeneratesLookups g = GeneratesOver g.auxiliary g.terminal
 
   -- the lookups do not fit the traces
   abbrev pub IsMisfit : Fault → Type 0
@@ -92,15 +96,15 @@ module _ (Makes : Matrix (Quartic BabyBear) → Option (LookupTerminal (Quartic 
       (auxiliary : Matrix (Quartic BabyBear)) × (terminal : Option (LookupTerminal (Quartic BabyBear))) × Makes auxiliary terminal × HasOtherRoom auxiliary room fault
 
 module _ (E : Extension BabyBear (Quartic BabyBear)) (tables : Tables) (traces : Traces) (challenges : List (List ℕ)) where
-  -- Generation over the one list of lookups that the tables say, and over the traces and the challenges
+  -- Generation over the one list of lookups that the tables encode, and over the traces and the challenges
   -- of these numbers, which are all below the modulus.
   pub record GeneratesTables (auxiliary : Matrix (Quartic BabyBear)) (terminal : Option (LookupTerminal (Quartic BabyBear))) : Type 0 where
     pub lookups : List (Lookup BabyBear)
-    pub say : SayLookups tables lookups
+    pub encoded : EncodeLookups tables lookups
     pub traces_below : AreCanonical traces
     pub elements : List (Quartic BabyBear)
     pub elements_are : AreElements challenges elements
-    pub generates : GeneratesOver E (said_traces traces) elements lookups auxiliary terminal
+    pub generates : GeneratesOver E (decoded_traces traces) elements lookups auxiliary terminal
 
   -- the refusal of the tables, of the traces, of the challenges, or of generation
   abbrev pub IsRefusal : Fault → Type 0
@@ -108,8 +112,8 @@ module _ (E : Extension BabyBear (Quartic BabyBear)) (tables : Tables) (traces :
       IsTableRefusal 0 tables fault
       ⊎ (IsTracesRefusal 0 traces fault
       ⊎ (IsListRefusal Challenges 0 challenges fault
-      ⊎ ((lookups : List (Lookup BabyBear)) × (elements : List (Quartic BabyBear)) × SayLookups tables lookups × AreElements challenges elements
-      × IsLookupsRefusal E (said_traces traces) elements lookups fault)))
+      ⊎ ((lookups : List (Lookup BabyBear)) × (elements : List (Quartic BabyBear)) × EncodeLookups tables lookups × AreElements challenges elements
+      × IsLookupsRefusal E (decoded_traces traces) elements lookups fault)))
 
   -- the numbers of what is generated
   abbrev pub GeneratesNumbers : List (List ℕ) → Terminal → Type 0

@@ -29,14 +29,14 @@ pub record PlanCounts (E : Extension BabyBear (Quartic BabyBear)) (plan : Plan B
   pub within : StaysWithinBound answer
   pub linear : PlanStaysWithinLinearBound E plan traces alphas betas answer
 
--- something holds of the batch that tables say, at the challenges that numbers are
+-- something holds of the batch that tables encode, at the challenges that numbers are
 abbrev pub AtGrid : List Air → List Traces → List (List ℕ) → List (List ℕ) → (Plan BabyBear → List (BatchTrace BabyBear) → List (Quartic BabyBear) → List (Quartic BabyBear) → Type 0) → Type 0
 AtGrid airs traces alphas betas Holds =
     (a : List (Quartic BabyBear)) × (b : List (Quartic BabyBear)) × (plan : Plan BabyBear) × (given : List (BatchTrace BabyBear))
     × AreElements alphas a × AreElements betas b × IsBatch airs traces plan given × Holds plan given a b
 
 module _ (E : Extension BabyBear (Quartic BabyBear)) (airs : List Air) (traces : List Traces) (alphas betas : List (List ℕ)) where
-  -- The count of the plan of the AIRs over the traces and the challenges, all as the tables say them.
+  -- The count of the plan of the AIRs over the traces and the challenges, all as the tables encode them.
   abbrev pub CountsTables : GridCount → Type 0
   CountsTables count = AtGrid airs traces alphas betas (λ plan given a b. PlanCounts E plan given a b (Ok count))
 

@@ -15,9 +15,9 @@ use Rattle.lookup_c.specs.declared.codes.Part.{Part}
 use Rattle.lookup_c.specs.declared.fault.Fault.{Fault}
 use Rattle.lookup_c.specs.declared.fault.Fault.TheVariants.{Memory, Table, Traces as OfTraces, Large}
 
--- the traces that numbers say
-abbrev pub said_traces : Traces → AirTraces BabyBear
-said_traces t = air_traces (main_trace t) (preprocessed_trace_of t) (public_values_of t)
+-- the traces that numbers encode
+abbrev pub decoded_traces : Traces → AirTraces BabyBear
+decoded_traces t = air_traces (main_trace t) (preprocessed_trace_of t) (public_values_of t)
 
 -- the traces that are read
 abbrev pub view_of_read : ReadTraces → AirTraces BabyBear

@@ -20,7 +20,7 @@ items_of ids = ids.items
 abbrev pub all_ids : Plan BabyBear → List ℕ
 all_ids plan = concat plan.ids
 
--- the numbers of the plan of the AIRs that tables say
+-- the numbers of the plan of the AIRs that tables encode
 pub record PlansNumbers (airs : List Air) (ids : List ℕ) (numbers : PlanSizes) : Type 0 where
   pub plan : Plan BabyBear
   pub plan_is : IsPlanOf airs plan

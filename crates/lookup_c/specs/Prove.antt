@@ -8,6 +8,7 @@ use Rattle.batch.specs.Runs.{Proves, ProvesBalanced, ProvesRegular, ProvesSatisf
 use Rattle.batch.specs.declared.error.BatchError.{BatchError}
 use Rattle.lookup_tables.specs.Nodes.{BabyBear}
 use Rattle.lookup_tables.specs.declared.traces.Traces.{Traces}
+use Rattle.lookup_c.specs.Answers.{Answers}
 use Rattle.lookup_c.specs.BatchTables.{IsRunRefusal, OfRun}
 use Rattle.lookup_c.specs.Outputs.{cells_of, terminal_numbers}
 use Rattle.lookup_c.specs.declared.batch_tables.Air.{Air}
@@ -15,6 +16,7 @@ use Rattle.lookup_c.specs.declared.codes.Part.TheVariants.{Auxiliary, Terminals}
 use Rattle.lookup_c.specs.declared.fault.Fault.{Fault}
 use Rattle.lookup_c.specs.declared.fault.Fault.TheVariants.{Batch, Length, Memory}
 use Rattle.lookup_c.specs.declared.outputs.Terminal.{Terminal}
+use Rattle.lookup_c.specs.declared.refusal.Refusal.{Refusal}
 
 -- what `BatchPlan::prove` says of its answer
 pub record PlanProves (run : Run BabyBear (Quartic BabyBear)) (answer : Result (Witness (Quartic BabyBear)) BatchError) : Type 0 where
@@ -40,7 +42,7 @@ IsRoomRefusal w cells terminals fault =
     ⊎ ((length (witness_cells w) ≡ cells) × (length w.terminals.items ≢ terminals) × (fault ≡ Length Terminals (length w.terminals.items) terminals)))
 
 module _ (E : Extension BabyBear (Quartic BabyBear)) (airs : List Air) (traces : List Traces) (alpha beta : List ℕ) where
-  -- The witness of the plan of the AIRs over the traces, all as the tables say them.
+  -- The witness of the plan of the AIRs over the traces, all as the tables encode them.
   abbrev pub ProvesTables : Witness (Quartic BabyBear) → Type 0
   ProvesTables witness = OfRun E airs traces alpha beta (λ run. PlanProves run (Ok witness))
 
@@ -61,3 +63,7 @@ module _ (E : Extension BabyBear (Quartic BabyBear)) (airs : List Air) (traces :
   abbrev pub IsCallRefusal : ℕ → ℕ → Fault → Type 0
   IsCallRefusal cells terminals fault =
       IsRefusal fault ⊎ ((witness : Witness (Quartic BabyBear)) × ProvesTables witness × IsRoomRefusal witness cells terminals fault)
+
+  -- what such a call answers
+  abbrev pub AnswersProve : ℕ → ℕ → List (List ℕ) → List Terminal → ℕ → Refusal → Type 0
+  AnswersProve room terminals_room cells terminals code refusal = Answers code refusal (ProvesNumbers cells terminals) (IsCallRefusal room terminals_room)

@@ -7,13 +7,15 @@ use Rattle.lookup_model.specs.Records.{IsFirstMalformed}
 use Rattle.lookup_model.specs.declared.error.LookupError.TheVariants.{BadRecord}
 use Rattle.lookup_model.specs.declared.types.Lookup.{Lookup}
 use Rattle.lookup_tables.specs.Nodes.{BabyBear}
-use Rattle.lookup_tables.specs.Written.{SaysWritten}
+use Rattle.lookup_tables.specs.Written.{EncodesWritten}
 use Rattle.lookup_tables.specs.declared.writer.Written.{Written}
 use Rattle.serde_json.specs.Errors.{IsMemory}
 use Rattle.serde_json.specs.declared.error.Error.{Error}
-use Rattle.lookup_c.specs.WrittenTables.{Arrays, IsWritingRefusal, WritesTables}
+use Rattle.lookup_c.specs.Answers.{Answers}
+use Rattle.lookup_c.specs.WrittenTables.{Arrays, IsWritingRefusal, WritesTables, room_of}
 use Rattle.lookup_c.specs.declared.fault.Fault.{Fault}
 use Rattle.lookup_c.specs.declared.fault.Fault.TheVariants.{Lookup as OfLookup, Memory, Text}
+use Rattle.lookup_c.specs.declared.refusal.Refusal.{Refusal}
 use Rattle.lookup_c.specs.declared.written_tables.TableSizes.{TableSizes}
 
 -- what an error of reading is refused as: that memory ran out, or the text
@@ -30,13 +32,17 @@ IsJsonRefusal fault =
 pub record ReadsTables (json : List ℕ) (made : Written) : Type 0 where
   pub utf8 : IsUtf8 json
   pub set : Lookups BabyBear
-  pub written : SaysWritten made (lookups_of set)
+  pub written : EncodesWritten made (lookups_of set)
 
 -- such tables are written over the start of each array
 abbrev pub ReadsInto : List ℕ → Arrays → Arrays → TableSizes → Type 0
 ReadsInto json before after sizes = (made : Written) × ReadsTables json made × WritesTables made before after sizes
 
--- the refusal of the text, of a lookup that no tables say, or for the room
+-- the refusal of the text, of a lookup that no tables encode, or for the room
 abbrev pub IsCallRefusal : List ℕ → TableSizes → Fault → Type 0
 IsCallRefusal json room fault =
     IsJsonRefusal fault ⊎ (IsUtf8 json × (set : Lookups BabyBear) × IsWritingRefusal (lookups_of set) room fault)
+
+-- what a call answers that writes them over arrays
+abbrev pub AnswersReadJson : List ℕ → Arrays → Arrays → TableSizes → ℕ → Refusal → Type 0
+AnswersReadJson json before after sizes code refusal = Answers code refusal (ReadsInto json before after sizes) (IsCallRefusal json (room_of before))

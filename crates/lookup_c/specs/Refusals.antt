@@ -30,8 +30,8 @@ pub record CodedRefusal : Type 0 where
   pub actual : ℕ
 
 -- the numbers of a refusal, without a text
-abbrev pub numbers_of : CodedRefusal → Refusal
-numbers_of r = record { code = code_number r.code; part = r.part; air = r.air; row = r.row; lookup = r.lookup; expected = r.expected; actual = r.actual; text_length = 0 }
+abbrev pub refusal_numbers : CodedRefusal → Refusal
+refusal_numbers r = record { code = code_number r.code; part = r.part; air = r.air; row = r.row; lookup = r.lookup; expected = r.expected; actual = r.actual; text_length = 0 }
 
 -- the refusal with this code and no fields
 abbrev pub of_code : Code → CodedRefusal
@@ -39,7 +39,7 @@ of_code c = record { code = c; part = 0; air = 0; row = 0; lookup = 0; expected 
 
 -- what is written where nothing is refused
 abbrev pub no_refusal : Refusal
-no_refusal = numbers_of (of_code code.Ok)
+no_refusal = refusal_numbers (of_code code.Ok)
 
 -- A refusal with each code has these fields alone; all others are 0.
 abbrev pub fields_of : Code → CodedRefusal → CodedRefusal
@@ -75,12 +75,12 @@ abbrev pub table_refusal : ℕ → ℕ → TableFault → CodedRefusal
 table_refusal a l table_fault.Memory = of_code code.OutOfMemory
 table_refusal a l (table_fault.Node n) = record (bad_table a l record_fault.Node) { row = n }
 table_refusal a l table_fault.Range = bad_table a l record_fault.Range
-table_refusal a l table_fault.Long = bad_table a l record_fault.LongList
-table_refusal a l table_fault.Kind = bad_table a l record_fault.Kind
-table_refusal a l table_fault.Name = bad_table a l record_fault.Name
-table_refusal a l table_fault.Deep = bad_table a l record_fault.DeepExpression
-table_refusal a l table_fault.Row = bad_table a l record_fault.LargeRow
-table_refusal a l table_fault.Many = bad_table a l record_fault.LongWrittenList
+table_refusal a l table_fault.TooManyNodesRead = bad_table a l record_fault.LongList
+table_refusal a l table_fault.BadKind = bad_table a l record_fault.Kind
+table_refusal a l table_fault.NameNotUtf8 = bad_table a l record_fault.Name
+table_refusal a l table_fault.TooDeep = bad_table a l record_fault.DeepExpression
+table_refusal a l table_fault.RowTooLarge = bad_table a l record_fault.LargeRow
+table_refusal a l table_fault.TooManyNodesWritten = bad_table a l record_fault.LongWrittenList
 
 -- the refusal of the traces of an AIR
 abbrev pub trace_refusal : ℕ → TraceFault → CodedRefusal
@@ -143,6 +143,6 @@ abbrev pub HasItsFields : CodedRefusal → Type 0
 HasItsFields r = r ≡ fields_of r.code r
 
 -- C sees this refusal of a fault, with the length of some text
-pub record IsRefusal (fault : Fault) (refusal : Refusal) : Type 0 where
-  pub is : refusal ≡ record (numbers_of (refusal_of fault)) { text_length = refusal.text_length }
+pub record IsRefusalOf (fault : Fault) (refusal : Refusal) : Type 0 where
+  pub is : refusal ≡ record (refusal_numbers (refusal_of fault)) { text_length = refusal.text_length }
   pub fields : HasItsFields (refusal_of fault)

@@ -38,7 +38,7 @@ pub record PlanCounts (E : Extension BabyBear (Quartic BabyBear)) (plan : Plan B
   pub linear : CountsLinearly E plan traces answer
 
 module _ (E : Extension BabyBear (Quartic BabyBear)) (airs : List Air) (traces : List Traces) where
-  -- The counts of the plan of the AIRs over the traces, all as the tables say them.
+  -- The counts of the plan of the AIRs over the traces, all as the tables encode them.
   abbrev pub CountsTables : SoundnessCount → Type 0
   CountsTables count = OfBatch airs traces (λ plan given. PlanCounts E plan given (Ok count))
 

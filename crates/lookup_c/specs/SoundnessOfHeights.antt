@@ -26,7 +26,7 @@ module _ (E : Extension BabyBear (Quartic BabyBear)) where
     pub counts : CountsHeights (most_planned plan.airs plan.heights) plan.width answer
     pub sound : BoundsAllTraces E plan
 
-  -- The counts by heights of the plan of the AIRs, as the tables say them.
+  -- The counts by heights of the plan of the AIRs, as the tables encode them.
   abbrev pub CountsTables : List Air → HeightSoundness → Type 0
   CountsTables airs count = (plan : Plan BabyBear) × IsPlanOf airs plan × PlanCounts plan (Ok count)
 

@@ -22,7 +22,7 @@ pub record PlanVerifies (witness : Witness (Quartic BabyBear)) (run : Run BabyBe
   pub unaccepted : RefusesOnlyUnaccepted run witness answer
 
 module _ (E : Extension BabyBear (Quartic BabyBear)) (airs : List Air) (traces : List Traces) (alpha beta : List ℕ) (numbers : List AirWitness) where
-  -- The plan of the AIRs accepts the witness over the traces, all as the tables say them.
+  -- The plan of the AIRs accepts the witness over the traces, all as the tables encode them.
   abbrev pub VerifiesTables : Type 0
   VerifiesTables =
       (witness : Witness (Quartic BabyBear)) × AreWitness numbers witness × OfRun E airs traces alpha beta (λ run. PlanVerifies witness run (Ok tt))

@@ -1,4 +1,4 @@
--- Witnesses that numbers say.
+-- Witnesses that numbers encode.
 use Rattle.std.specs.Prelude.{◌≡◌, ◌≢◌, ◌⊎◌, ◌==◌, if◌then◌else◌, ℕ, All, false, true, List, Option, None, Some, length, map}
 use Rattle.expressions.specs.Faults.{HasFirstFault}
 use Rattle.field.specs.Quartic.{Quartic}
@@ -33,11 +33,16 @@ pub record IsAirWitness (air : AirWitness) : Type 0 where
   pub cells : AreGroupsBelow (length air.auxiliary.now) air.auxiliary.now
   pub terminal : IsTerminal air.terminal
 
--- the witness that numbers say, AIR by AIR
+-- the witness that numbers encode, AIR by AIR
 pub record AreWitness (numbers : List AirWitness) (witness : Witness (Quartic BabyBear)) : Type 0 where
   pub aux : witness.aux.items ≡ map auxiliary_of numbers
   pub terminals : witness.terminals.items ≡ map (λ air. terminal_of air.terminal) numbers
   pub each : All IsAirWitness numbers
+
+-- the auxiliary trace of cells that make whole rows, and are all below the modulus
+abbrev pub IsAuxiliary : AirWitness → Matrix (Quartic BabyBear) → Type 0
+IsAuxiliary air m =
+    (m ≡ auxiliary_of air) × (makes_rows (length air.auxiliary.now) air.width ≡ true) × AreGroupsBelow (length air.auxiliary.now) air.auxiliary.now
 
 -- the refusal of cells: no whole rows, or numbers that are no elements; or memory runs out
 abbrev pub IsAuxiliaryRefusal : ℕ → AirWitness → Fault → Type 0

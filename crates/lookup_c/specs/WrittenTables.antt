@@ -2,7 +2,7 @@
 use Rattle.std.specs.Prelude.{◌≡◌, ◌⊎◌, ◌++◌, ◌<◌, ◌≤◌, ℕ, List, drop, length}
 use Rattle.lookup_model.specs.declared.types.Lookup.{Lookup}
 use Rattle.lookup_tables.specs.Nodes.{BabyBear}
-use Rattle.lookup_tables.specs.Written.{IsUnsayableAt, SaysWritten}
+use Rattle.lookup_tables.specs.Written.{IsUnencodableAt, EncodesWritten}
 use Rattle.lookup_tables.specs.declared.nodes.Node.{Node}
 use Rattle.lookup_tables.specs.declared.tables.Record.{Record}
 use Rattle.lookup_tables.specs.declared.tables.Span.{Span}
@@ -32,10 +32,10 @@ room_of a = record { nodes = length a.nodes; tuples = length a.tuples; names = l
 abbrev pub sizes_of : Written → TableSizes
 sizes_of w = room_of (arrays w.nodes.items w.tuples.items w.names.items w.records.items)
 
--- the refusal of the first lookup that no tables say; or memory runs out
-abbrev pub IsUnsayableRefusal : List (Lookup BabyBear) → Fault → Type 0
-IsUnsayableRefusal lookups fault =
-    (fault ≡ Memory) ⊎ ((i : ℕ) × (reason : TableFault) × (fault ≡ Table 0 i reason) × IsUnsayableAt lookups i reason)
+-- the refusal of the first lookup that no tables encode; or memory runs out
+abbrev pub IsUnencodableRefusal : List (Lookup BabyBear) → Fault → Type 0
+IsUnencodableRefusal lookups fault =
+    (fault ≡ Memory) ⊎ ((i : ℕ) × (reason : TableFault) × (fault ≡ Table 0 i reason) × IsUnencodableAt lookups i reason)
 
 -- arrays of the second sizes have room for tables of the first ones
 pub record HasTableRoom (sizes room : TableSizes) : Type 0 where
@@ -52,11 +52,11 @@ IsTableRoomRefusal sizes room fault =
     ⊎ ((sizes.tuples ≤ room.tuples) × (((room.names < sizes.names) × (fault ≡ Length Names sizes.names room.names))
     ⊎ ((sizes.names ≤ room.names) × (room.records < sizes.records) × (fault ≡ Length Records sizes.records room.records))))))
 
--- the refusal of lookups that are to be written: that no tables say one, or that there is no room for them
+-- the refusal of lookups that are to be written: that no tables encode one, or that there is no room for them
 abbrev pub IsWritingRefusal : List (Lookup BabyBear) → TableSizes → Fault → Type 0
 IsWritingRefusal lookups room fault =
-    IsUnsayableRefusal lookups fault
-    ⊎ ((made : Written) × SaysWritten made lookups × IsTableRoomRefusal (sizes_of made) room fault)
+    IsUnencodableRefusal lookups fault
+    ⊎ ((made : Written) × EncodesWritten made lookups × IsTableRoomRefusal (sizes_of made) room fault)
 
 -- items are written over those at the start of an array
 abbrev pub written_over : {A : Type 0} → List A → List A → List A

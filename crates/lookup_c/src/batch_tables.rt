@@ -3,7 +3,7 @@ ghost use Rattle.std.specs.Prelude.{◌≡◌, IfOk, MatchResult, map};
 ghost use Rattle.batch.specs.Runs.{plan_of};
 ghost use Rattle.batch.specs.Traces.{view_of};
 ghost use Rattle.lookup.specs.Lookups.{lookups_of};
-ghost use Rattle.lookup_tables.specs.Tables.{SayLookups};
+ghost use Rattle.lookup_tables.specs.Tables.{EncodeLookups};
 ghost use Rattle.lookup_c.specs.BatchTables.{AreBatchTraces, AreSets, IsAirsRefusal, IsBatchTracesRefusal, IsPlanOf, IsPlanOfRefusal, IsSetRefusal};
 ghost use Rattle.lookup_c.specs.Inputs.{view_of_read};
 
@@ -25,13 +25,13 @@ pub struct Air<'a> {
     pub height: usize,
 }
 
-/// The set of lookups that the tables of an AIR say.
+/// The set of lookups that the tables of an AIR encode.
 pub(crate) fn set_of(
     alloc: Global,
     air: usize,
     tables: &Tables<'_>,
 ) -> Result<Lookups<BabyBear>, Fault>
-    ensures { MatchResult result (λ set. SayLookups tables.now (lookups_of set))
+    ensures { MatchResult result (λ set. EncodeLookups tables.now (lookups_of set))
         (IsSetRefusal air tables.now) }
 {
     let lookups = lookups_of(alloc, air, tables)?;
@@ -77,7 +77,7 @@ pub(crate) fn plan_of(alloc: Global, airs: &[Air<'_>]) -> Result<BatchPlan<BabyB
     Ok(BatchPlan::new(alloc, sets, heights)?)
 }
 
-/// The traces that the tables of all AIRs say, in order.
+/// The traces that the tables of all AIRs encode, in order.
 pub(crate) fn all_traces(alloc: Global, traces: &[Traces<'_>]) -> Result<Vec<ReadTraces>, Fault>
     ensures { MatchResult result (λ v. AreBatchTraces traces.now v.items)
         (IsBatchTracesRefusal traces.now) }

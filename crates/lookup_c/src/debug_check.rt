@@ -1,7 +1,7 @@
 //! The call that finds the first tuple that does not balance.
 ghost use Rattle.std.specs.Prelude.{◌≡◌, ◌≢◌, ◌⊎◌, MatchResult, length, map};
 ghost use Rattle.lookup_debug.specs.Contributions.{AreFitting, IsTracedFitting, traced_of};
-ghost use Rattle.lookup_c.specs.DebugCheck.{AreTableSets, ChecksTables, ChecksTraced, IsMismatchRefusal, IsCallRefusal, IsMisfitAt, IsTableSetsRefusal, IsUnfitAmong, all_traced, traced_tables};
+ghost use Rattle.lookup_c.specs.DebugCheck.{AreDebugInstances, AreTableSets, ChecksTables, ChecksTraced, IsCallRefusal, IsMisfitAt, IsMismatchRefusal, IsTableSetsRefusal, IsUnfitAmong, all_traced, traced_tables};
 ghost use Rattle.lookup_c.specs.Answers.{Answers};
 
 use crate::batch_tables::{all_traces, set_of};
@@ -15,7 +15,7 @@ use lookup::{Lookups, fits};
 use lookup_tables::{ReadTraces, Tables, Traces};
 use std::alloc::Global;
 
-/// The sets of lookups that tables say, AIR by AIR.
+/// The sets of lookups that tables encode, AIR by AIR.
 fn table_sets(alloc: Global, airs: &[Tables<'_>]) -> Result<Vec<Lookups<BabyBear>>, Fault>
     ensures { MatchResult result (λ v. AreTableSets airs.now v.items)
         (IsTableSetsRefusal airs.now) }
@@ -68,9 +68,7 @@ fn debug_instances<'a>(
     traces: &'a [ReadTraces],
 ) -> Result<Vec<LookupDebugInstance<'a, BabyBear>>, Fault>
     requires { length sets.now ≡ length traces.now }
-    ensures { MatchResult result
-        (λ v. (map traced_of v.items ≡ all_traced sets.now traces.now)
-        × AreFitting v.items)
+    ensures { MatchResult result (AreDebugInstances sets.now traces.now)
         (λ fault. (fault ≡ Fault.Memory) ⊎ IsUnfitAmong (all_traced sets.now traces.now) fault) }
 {
     let mut instances = Vec::with_capacity(alloc, sets.len())?;
@@ -88,8 +86,7 @@ fn check_instances(
     instances: &[LookupDebugInstance<'_, BabyBear>],
 ) -> Result<(), Fault>
     requires { AreFitting instances.now }
-    ensures { let E = ⟦<BabyBear4 as Over<BabyBear>>⟧.fields in
-        MatchResult result
+    ensures { let E = ⟦<BabyBear4 as Over<BabyBear>>⟧.fields in MatchResult result
         (λ _. ChecksTraced E (map traced_of instances.now))
         (IsMismatchRefusal E (map traced_of instances.now)) }
 {
@@ -102,7 +99,7 @@ fn check_instances(
     }
 }
 
-/// Checks what tables say.
+/// Checks what tables encode.
 fn check_tables(alloc: Global, airs: &[Tables<'_>], traces: &[Traces<'_>]) -> Result<(), Fault>
     ensures { let E = ⟦<BabyBear4 as Over<BabyBear>>⟧.fields in
         MatchResult result (λ _. ChecksTables E airs.now traces.now)

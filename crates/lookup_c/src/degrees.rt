@@ -33,7 +33,7 @@ fn degrees_of(alloc: Global, set: &Lookups<BabyBear>) -> Result<Vec<usize>, Faul
     Ok(degrees)
 }
 
-/// The degrees of the lookups that tables say, for room for so many.
+/// The degrees of the lookups that tables encode, for room for so many.
 fn degrees_into_room(alloc: Global, tables: &Tables<'_>, room: usize) -> Result<Vec<usize>, Fault>
     ensures { MatchResult result (λ v. GivesDegrees tables.now v.items × (length v.items ≡ room))
         (IsCallRefusal tables.now room) }

@@ -1,7 +1,7 @@
 //! The call that generates the auxiliary trace of one AIR.
 ghost use Rattle.std.specs.Prelude.{◌≡◌, ◌≢◌, MatchResult, length};
 ghost use Rattle.lookup_c.specs.Answers.{Answers};
-ghost use Rattle.lookup_c.specs.Generate.{AreNumbersOfGenerated, GeneratesNumbers, GeneratesOver, GeneratesTables, IsCallRefusal, IsLookupsRefusal, IsNotWritten, IsRefusal};
+ghost use Rattle.lookup_c.specs.Generate.{AreNumbersOfGenerated, GeneratesLookups, GeneratesNumbers, GeneratesTables, IsCallRefusal, IsLookupsRefusal, IsNotWritten, IsRefusal};
 ghost use Rattle.lookup_c.specs.Inputs.{view_of_read};
 
 use crate::codes::Part;
@@ -31,10 +31,8 @@ pub(crate) fn generate_lookups(
     lookups: &[Lookup<BabyBear>],
     challenges: &[BabyBear4],
 ) -> Result<Generated, Fault>
-    ensures { let E = ⟦<BabyBear4 as Over<BabyBear>>⟧.fields in
-        MatchResult result
-        (λ g. GeneratesOver E (view_of_read traces.now) challenges.now lookups.now g.auxiliary
-        g.terminal)
+    ensures { let E = ⟦<BabyBear4 as Over<BabyBear>>⟧.fields in MatchResult result
+        (GeneratesLookups E (view_of_read traces.now) challenges.now lookups.now)
         (IsLookupsRefusal E (view_of_read traces.now) challenges.now lookups.now) }
 {
     let main = &traces.main;
@@ -71,7 +69,7 @@ pub(crate) fn generate_lookups(
     }
 }
 
-/// Generates over what tables say.
+/// Generates over what tables encode.
 ///
 /// Refuses the first of these with a fault: the tables, the traces, the challenges, whether the lookups
 /// fit the traces, the heights of the traces, the number of challenges, and the generation.
@@ -81,8 +79,7 @@ fn generate_tables(
     traces: &Traces<'_>,
     challenges: &[[u32; 4]],
 ) -> Result<Generated, Fault>
-    ensures { let E = ⟦<BabyBear4 as Over<BabyBear>>⟧.fields in
-        MatchResult result
+    ensures { let E = ⟦<BabyBear4 as Over<BabyBear>>⟧.fields in MatchResult result
         (λ g. GeneratesTables E tables.now traces.now challenges.now g.auxiliary g.terminal)
         (IsRefusal E tables.now traces.now challenges.now) }
 {
@@ -146,8 +143,7 @@ pub extern "C" fn volgwain_generate(
     refusal: &mut Refusal,
     text: &mut [u8],
 ) -> u32
-    ensures answers { let E = ⟦<BabyBear4 as Over<BabyBear>>⟧.fields in
-        Answers result refusal.new
+    ensures answers { let E = ⟦<BabyBear4 as Over<BabyBear>>⟧.fields in Answers result refusal.new
         (GeneratesNumbers E tables.now traces.now challenges.now auxiliary.new terminal.new)
         (IsCallRefusal E tables.now traces.now challenges.now (length auxiliary.old)) }
     ensures kept { result ≢ 0

@@ -1,9 +1,6 @@
 //! The call that generates the auxiliary trace of one AIR of a planned batch.
 ghost use Rattle.std.specs.Prelude.{◌≡◌, ◌≢◌, ◌<◌, All, MatchResult, length};
-ghost use Rattle.batch.specs.Tables.{made_table};
-ghost use Rattle.lookup_model.specs.Challenges.{column_challenges};
-ghost use Rattle.lookup_c.specs.GenerateByIds.{GeneratesNumbers, GeneratesTables, IsCallRefusal, IsFirstLargeId, IsIdsRefusal, IsRefusal};
-ghost use Rattle.lookup_c.specs.Answers.{Answers};
+ghost use Rattle.lookup_c.specs.GenerateByIds.{AnswersByIds, AreIdChallenges, Generates, IsFirstLargeId, IsIdsRefusal, IsRefusal};
 
 use crate::codes::Part;
 use crate::fault::Fault;
@@ -41,9 +38,7 @@ fn challenges_of_ids(
     beta: BabyBear4,
 ) -> Result<Vec<BabyBear4>, Fault>
     ensures { MatchResult result
-        (λ v. v.items ≡ column_challenges (made_table
-        ⟦<BabyBear4 as PrimeCharacteristicRing>⟧.ring alpha beta sizes.now.max_message_width
-        sizes.now.num_ids) ids.now)
+        (AreIdChallenges ⟦<BabyBear4 as PrimeCharacteristicRing>⟧.ring ids.now sizes.now alpha beta)
         (IsIdsRefusal ids.now sizes.now) }
 {
     let width = sizes.max_message_width;
@@ -55,7 +50,7 @@ fn challenges_of_ids(
     Ok(challenges.for_columns(alloc, ids)?)
 }
 
-/// Generates over what tables say, under ids.
+/// Generates over what tables encode, under ids.
 ///
 /// Refuses the first of these with a fault: the tables, the traces, alpha, beta, the number of ids, the
 /// sizes of the plan, an id, whether the lookups fit the traces, the heights of the traces, and the
@@ -69,10 +64,8 @@ fn generate_tables(
     alpha: &[u32; 4],
     beta: &[u32; 4],
 ) -> Result<Generated, Fault>
-    ensures { let E = ⟦<BabyBear4 as Over<BabyBear>>⟧.fields in
-        MatchResult result
-        (λ g. GeneratesTables E tables.now traces.now ids.now sizes.now alpha.now beta.now
-        g.auxiliary g.terminal)
+    ensures { let E = ⟦<BabyBear4 as Over<BabyBear>>⟧.fields in MatchResult result
+        (Generates E tables.now traces.now ids.now sizes.now alpha.now beta.now)
         (IsRefusal E tables.now traces.now ids.now sizes.now alpha.now beta.now) }
 {
     let lookups = lookups_of(alloc, 0, tables)?;
@@ -111,10 +104,9 @@ pub extern "C" fn volgwain_generate_by_ids(
     refusal: &mut Refusal,
     text: &mut [u8],
 ) -> u32
-    ensures answers { let E = ⟦<BabyBear4 as Over<BabyBear>>⟧.fields in
-        Answers result refusal.new (GeneratesNumbers E tables.now traces.now ids.now sizes.now alpha.now
-        beta.now auxiliary.new terminal.new) (IsCallRefusal E tables.now traces.now ids.now sizes.now
-        alpha.now beta.now (length auxiliary.old)) }
+    ensures answers { AnswersByIds ⟦<BabyBear4 as Over<BabyBear>>⟧.fields tables.now traces.now
+        ids.now sizes.now alpha.now beta.now (length auxiliary.old) auxiliary.new terminal.new
+        result refusal.new }
     ensures kept { result ≢ 0
         → (auxiliary.new ≡ auxiliary.old) × (terminal.new ≡ terminal.old) }
 {

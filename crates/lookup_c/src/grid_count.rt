@@ -38,7 +38,7 @@ fn grid_of(count: &GridCount) -> Grid
     }
 }
 
-/// The count of a grid of challenges over what tables say.
+/// The count of a grid of challenges over what tables encode.
 ///
 /// Refuses the first of these with a fault: the plan of the AIRs, the traces, the alphas, the betas, and
 /// the count.
@@ -76,8 +76,7 @@ pub extern "C" fn volgwain_grid_count(
     refusal: &mut Refusal,
     text: &mut [u8],
 ) -> u32
-    ensures answers { let E = ⟦<BabyBear4 as Over<BabyBear>>⟧.fields in
-        Answers result refusal.new
+    ensures answers { let E = ⟦<BabyBear4 as Over<BabyBear>>⟧.fields in Answers result refusal.new
         (CountsNumbers E airs.now traces.now alphas.now betas.now grid.new)
         (IsRefusal E airs.now traces.now alphas.now betas.now) }
     ensures kept { result ≢ 0 → grid.new ≡ grid.old }

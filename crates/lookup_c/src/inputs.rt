@@ -1,6 +1,6 @@
 //! What calls read: lookups, traces and challenges, with the refusals of each.
 ghost use Rattle.std.specs.Prelude.{MatchResult};
-ghost use Rattle.lookup_tables.specs.Tables.{SayLookups};
+ghost use Rattle.lookup_tables.specs.Tables.{EncodeLookups};
 ghost use Rattle.lookup_tables.specs.Traces.{AreTracesOf};
 ghost use Rattle.lookup_c.specs.Inputs.{AreElements, IsChallenge, IsChallengeRefusal, IsListRefusal, IsTableRefusal, IsTracesRefusal};
 
@@ -14,13 +14,13 @@ use lookup_tables::{
 };
 use std::alloc::Global;
 
-/// The lookups that the tables of an AIR say.
+/// The lookups that the tables of an AIR encode.
 pub(crate) fn lookups_of(
     alloc: Global,
     air: usize,
     tables: &Tables<'_>,
 ) -> Result<Vec<Lookup<BabyBear>>, Fault>
-    ensures { MatchResult result (λ v. SayLookups tables.now v.items)
+    ensures { MatchResult result (λ v. EncodeLookups tables.now v.items)
         (IsTableRefusal air tables.now) }
 {
     match read_lookups(alloc, tables) {
@@ -30,7 +30,7 @@ pub(crate) fn lookups_of(
     }
 }
 
-/// The traces that the tables of an AIR say.
+/// The traces that the tables of an AIR encode.
 pub(crate) fn traces_of(alloc: Global, air: usize, traces: &Traces<'_>) -> Result<ReadTraces, Fault>
     ensures { MatchResult result (AreTracesOf traces.now) (IsTracesRefusal air traces.now) }
 {
@@ -58,7 +58,7 @@ pub(crate) fn list_of(
     }
 }
 
-/// The challenge that four numbers say.
+/// The challenge that four numbers encode.
 pub(crate) fn challenge_of(part: Part, numbers: [u32; 4]) -> Result<BabyBear4, Fault>
     ensures { MatchResult result (IsChallenge numbers)
         (IsChallengeRefusal part numbers) }

@@ -1,9 +1,8 @@
 //! The call that packs the lookups of an AIR.
 ghost use Rattle.std.specs.Prelude.{◌≡◌, ◌≢◌, MatchResult};
 ghost use Rattle.lookup.specs.Lookups.{lookups_of};
-ghost use Rattle.lookup_c.specs.Pack.{IsCallRefusal, IsPackError, IsPackedFrom, PacksInto, PacksTables};
-ghost use Rattle.lookup_c.specs.Answers.{Answers};
-ghost use Rattle.lookup_c.specs.WrittenTables.{HasTableRoom, arrays, room_of, sizes_of};
+ghost use Rattle.lookup_c.specs.Pack.{AnswersPack, IsCallRefusal, IsPackError, IsPackedFrom, PacksTables};
+ghost use Rattle.lookup_c.specs.WrittenTables.{HasTableRoom, arrays, sizes_of};
 
 use crate::batch_tables::set_of;
 use crate::fault::Fault;
@@ -31,15 +30,14 @@ fn pack_set(
     }
 }
 
-/// Tables of the packed lookups that tables say.
+/// Tables of the packed lookups that tables encode.
 fn pack_tables(
     alloc: Global,
     tables: &Tables<'_>,
     max_degree: usize,
     room: TableSizes,
 ) -> Result<Written, Fault>
-    ensures { let E = ⟦<BabyBear4 as Over<BabyBear>>⟧.fields in
-        MatchResult result
+    ensures { let E = ⟦<BabyBear4 as Over<BabyBear>>⟧.fields in MatchResult result
         (λ w. PacksTables E tables.now max_degree w × HasTableRoom (sizes_of w) room)
         (IsCallRefusal E tables.now max_degree room) }
 {
@@ -66,11 +64,9 @@ pub extern "C" fn volgwain_pack(
     refusal: &mut Refusal,
     text: &mut [u8],
 ) -> u32
-    ensures answers { let E = ⟦<BabyBear4 as Over<BabyBear>>⟧.fields in
-        let old = arrays nodes.old tuples.old names.old records.old in
-        let new = arrays nodes.new tuples.new names.new records.new in
-        Answers result refusal.new (PacksInto E tables.now max_degree old new sizes.new)
-        (IsCallRefusal E tables.now max_degree (room_of old)) }
+    ensures answers { AnswersPack ⟦<BabyBear4 as Over<BabyBear>>⟧.fields tables.now max_degree
+        (arrays nodes.old tuples.old names.old records.old)
+        (arrays nodes.new tuples.new names.new records.new) sizes.new result refusal.new }
     ensures kept { result ≢ 0 → (nodes.new ≡ nodes.old) × (tuples.new ≡ tuples.old)
         × (names.new ≡ names.old) × (records.new ≡ records.old) × (sizes.new ≡ sizes.old) }
 {

@@ -64,8 +64,7 @@ fn plan_into_room(
     room: usize,
 ) -> Result<BatchPlan<BabyBear>, Fault>
     ensures { MatchResult result
-        (λ plan. IsPlanOf airs.now (plan_of plan)
-        × (length (flat_map items_of plan.ids.items) ≡ room))
+        (λ plan. IsPlanOf airs.now (plan_of plan) × (length (flat_map items_of plan.ids.items) ≡ room))
         (IsCallRefusal airs.now room) }
 {
     let plan = plan_of(alloc, airs)?;

@@ -1,7 +1,6 @@
 //! The call of a prover on the plan of a batch.
 ghost use Rattle.std.specs.Prelude.{◌≡◌, ◌≢◌, MatchResult, length};
-ghost use Rattle.lookup_c.specs.Prove.{HasRoom, IsCallRefusal, IsRefusal, IsRoomRefusal, ProvesNumbers, ProvesTables};
-ghost use Rattle.lookup_c.specs.Answers.{Answers};
+ghost use Rattle.lookup_c.specs.Prove.{AnswersProve, HasRoom, IsCallRefusal, IsRefusal, IsRoomRefusal, ProvesTables};
 
 use crate::batch_tables::{Air, all_traces, plan_of, plan_traces};
 use crate::codes::Part;
@@ -14,7 +13,7 @@ use field::{BabyBear, BabyBear4, Over};
 use lookup_tables::Traces;
 use std::alloc::Global;
 
-/// The witness of the batch that tables say.
+/// The witness of the batch that tables encode.
 ///
 /// Refuses the first of these with a fault: the plan of the AIRs, the traces, alpha, beta, and the proof.
 fn prove_tables(
@@ -61,7 +60,7 @@ fn check_room(witness: &Witness<BabyBear4>, cells: usize, terminals: usize) -> R
     Ok(())
 }
 
-/// The witness of the batch that tables say, for room for so many cells and terminals.
+/// The witness of the batch that tables encode, for room for so many cells and terminals.
 fn prove_into_room(
     alloc: Global,
     airs: &[Air<'_>],
@@ -71,8 +70,7 @@ fn prove_into_room(
     cells: usize,
     terminals: usize,
 ) -> Result<Witness<BabyBear4>, Fault>
-    ensures { let E = ⟦<BabyBear4 as Over<BabyBear>>⟧.fields in
-        MatchResult result
+    ensures { let E = ⟦<BabyBear4 as Over<BabyBear>>⟧.fields in MatchResult result
         (λ w. ProvesTables E airs.now traces.now alpha.now beta.now w × HasRoom w cells terminals)
         (IsCallRefusal E airs.now traces.now alpha.now beta.now cells terminals) }
 {
@@ -101,9 +99,9 @@ pub extern "C" fn volgwain_prove(
     refusal: &mut Refusal,
     text: &mut [u8],
 ) -> u32
-    ensures answers { let E = ⟦<BabyBear4 as Over<BabyBear>>⟧.fields in Answers result refusal.new
-        (ProvesNumbers E airs.now traces.now alpha.now beta.now auxiliary.new terminals.new) (IsCallRefusal
-        E airs.now traces.now alpha.now beta.now (length auxiliary.old) (length terminals.old)) }
+    ensures answers { AnswersProve ⟦<BabyBear4 as Over<BabyBear>>⟧.fields airs.now traces.now
+        alpha.now beta.now (length auxiliary.old) (length terminals.old) auxiliary.new
+        terminals.new result refusal.new }
     ensures kept { result ≢ 0
         → (auxiliary.new ≡ auxiliary.old) × (terminals.new ≡ terminals.old) }
 {

@@ -1,9 +1,8 @@
 //! The call that reads lookups from JSON.
 ghost use Rattle.std.specs.Prelude.{◌≡◌, ◌≢◌, MatchResult};
 ghost use Rattle.std.specs.Str.{IsUtf8};
-ghost use Rattle.lookup_c.specs.ReadJson.{IsCallRefusal, IsJsonRefusal, IsTextRefusal, ReadsInto, ReadsTables};
-ghost use Rattle.lookup_c.specs.Answers.{Answers};
-ghost use Rattle.lookup_c.specs.WrittenTables.{HasTableRoom, arrays, room_of, sizes_of};
+ghost use Rattle.lookup_c.specs.ReadJson.{AnswersReadJson, IsCallRefusal, IsJsonRefusal, IsTextRefusal, ReadsTables};
+ghost use Rattle.lookup_c.specs.WrittenTables.{HasTableRoom, arrays, sizes_of};
 
 use crate::fault::Fault;
 use crate::refusal::{Refusal, accept, refuse};
@@ -69,10 +68,8 @@ pub extern "C" fn volgwain_read_json(
     refusal: &mut Refusal,
     text: &mut [u8],
 ) -> u32
-    ensures answers { let old = arrays nodes.old tuples.old names.old records.old in
-        let new = arrays nodes.new tuples.new names.new records.new in
-        Answers result refusal.new (ReadsInto json.now old new sizes.new)
-        (IsCallRefusal json.now (room_of old)) }
+    ensures answers { AnswersReadJson json.now (arrays nodes.old tuples.old names.old records.old)
+        (arrays nodes.new tuples.new names.new records.new) sizes.new result refusal.new }
     ensures kept { result ≢ 0 → (nodes.new ≡ nodes.old) × (tuples.new ≡ tuples.old)
         × (names.new ≡ names.old) × (records.new ≡ records.old) × (sizes.new ≡ sizes.old) }
 {

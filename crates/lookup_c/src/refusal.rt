@@ -1,7 +1,7 @@
 //! Refusals as C sees them.
 ghost use Rattle.std.specs.Prelude.{◌≡◌, ◌≢◌};
 ghost use Rattle.lookup_c.specs.Codes.{part_of};
-ghost use Rattle.lookup_c.specs.Refusals.{IsRefusal, bad_table, batch_refusal, lookup_refusal, no_refusal, numbers_of, of_code, refusal_of, table_refusal, trace_refusal};
+ghost use Rattle.lookup_c.specs.Refusals.{IsRefusalOf, bad_table, batch_refusal, lookup_refusal, no_refusal, refusal_numbers, of_code, refusal_of, table_refusal, trace_refusal};
 
 use crate::codes::{Code, Part, RecordFault};
 use crate::fault::Fault;
@@ -35,7 +35,7 @@ pub struct Refusal {
 impl Refusal {
     /// The refusal with this code and no fields.
     fn of(code: Code) -> Refusal
-        ensures { result ≡ numbers_of (of_code code) }
+        ensures { result ≡ refusal_numbers (of_code code) }
     {
         Refusal {
             code: code as u32,
@@ -52,7 +52,7 @@ impl Refusal {
 
 /// The refusal of a record, for what is wrong with it.
 fn bad_table(air: usize, lookup: usize, fault: RecordFault) -> Refusal
-    ensures { result ≡ numbers_of (bad_table air lookup fault) }
+    ensures { result ≡ refusal_numbers (bad_table air lookup fault) }
 {
     Refusal {
         part: fault as u32,
@@ -63,7 +63,7 @@ fn bad_table(air: usize, lookup: usize, fault: RecordFault) -> Refusal
 }
 
 fn table_refusal(air: usize, lookup: usize, fault: &TableFault) -> Refusal
-    ensures { result ≡ numbers_of (table_refusal air lookup fault.now) }
+    ensures { result ≡ refusal_numbers (table_refusal air lookup fault.now) }
 {
     match fault {
         TableFault::Memory => Refusal::of(Code::OutOfMemory),
@@ -72,12 +72,12 @@ fn table_refusal(air: usize, lookup: usize, fault: &TableFault) -> Refusal
             ..bad_table(air, lookup, RecordFault::Node)
         },
         TableFault::Range => bad_table(air, lookup, RecordFault::Range),
-        TableFault::Long => bad_table(air, lookup, RecordFault::LongList),
-        TableFault::Kind => bad_table(air, lookup, RecordFault::Kind),
-        TableFault::Name => bad_table(air, lookup, RecordFault::Name),
-        TableFault::Deep => bad_table(air, lookup, RecordFault::DeepExpression),
-        TableFault::Row => bad_table(air, lookup, RecordFault::LargeRow),
-        TableFault::Many => bad_table(air, lookup, RecordFault::LongWrittenList),
+        TableFault::TooManyNodesRead => bad_table(air, lookup, RecordFault::LongList),
+        TableFault::BadKind => bad_table(air, lookup, RecordFault::Kind),
+        TableFault::NameNotUtf8 => bad_table(air, lookup, RecordFault::Name),
+        TableFault::TooDeep => bad_table(air, lookup, RecordFault::DeepExpression),
+        TableFault::RowTooLarge => bad_table(air, lookup, RecordFault::LargeRow),
+        TableFault::TooManyNodesWritten => bad_table(air, lookup, RecordFault::LongWrittenList),
     }
 }
 
@@ -92,7 +92,7 @@ fn part_of(part: TracePart) -> Part
 }
 
 fn trace_refusal(air: usize, fault: &TraceFault) -> Refusal
-    ensures { result ≡ numbers_of (trace_refusal air fault.now) }
+    ensures { result ≡ refusal_numbers (trace_refusal air fault.now) }
 {
     match fault {
         TraceFault::Memory => Refusal::of(Code::OutOfMemory),
@@ -111,7 +111,7 @@ fn trace_refusal(air: usize, fault: &TraceFault) -> Refusal
 }
 
 fn lookup_refusal(at: usize, error: &LookupError) -> Refusal
-    ensures { result ≡ numbers_of (lookup_refusal at error.now) }
+    ensures { result ≡ refusal_numbers (lookup_refusal at error.now) }
 {
     match error {
         LookupError::Memory => Refusal::of(Code::OutOfMemory),
@@ -197,7 +197,7 @@ fn lookup_refusal(at: usize, error: &LookupError) -> Refusal
 }
 
 fn batch_refusal(error: &BatchError) -> Refusal
-    ensures { result ≡ numbers_of (batch_refusal error.now) }
+    ensures { result ≡ refusal_numbers (batch_refusal error.now) }
 {
     match error {
         BatchError::Memory => Refusal::of(Code::OutOfMemory),
@@ -224,7 +224,7 @@ fn batch_refusal(error: &BatchError) -> Refusal
 
 /// A refusal as C sees it, without the length of its text.
 fn refusal_of(fault: &Fault) -> Refusal
-    ensures { result ≡ numbers_of (refusal_of fault.now) }
+    ensures { result ≡ refusal_numbers (refusal_of fault.now) }
 {
     match fault {
         Fault::Memory => Refusal::of(Code::OutOfMemory),
@@ -280,7 +280,7 @@ fn refusal_of(fault: &Fault) -> Refusal
 pub(crate) fn refuse(fault: &Fault, refusal: &mut Refusal, text: &mut [u8]) -> u32
     ensures code { result ≡ refusal.new.code }
     ensures refused { result ≢ 0 }
-    ensures is { IsRefusal fault.now refusal.new }
+    ensures is { IsRefusalOf fault.now refusal.new }
 {
     let made = refusal_of(fault);
     let text_length = write_text(fault, text);

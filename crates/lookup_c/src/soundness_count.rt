@@ -52,7 +52,7 @@ fn counts_of(count: &SoundnessCount) -> Counts
     }
 }
 
-/// The counts of what tables say.
+/// The counts of what tables encode.
 ///
 /// Refuses the first of these with a fault: the plan of the AIRs, the traces, and the count.
 fn count_messages(

@@ -38,7 +38,7 @@ fn counts_of(count: &HeightSoundness) -> HeightCounts
     }
 }
 
-/// The counts by heights of what tables say.
+/// The counts by heights of what tables encode.
 ///
 /// Refuses the plan of the AIRs, or else the count.
 fn count_by_heights(alloc: Global, airs: &[Air<'_>]) -> Result<HeightSoundness, Fault>

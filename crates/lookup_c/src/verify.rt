@@ -13,7 +13,7 @@ use field::{BabyBear, BabyBear4, Over};
 use lookup_tables::Traces;
 use std::alloc::Global;
 
-/// Whether the plan that tables say accepts the witness that numbers say.
+/// Whether the plan that tables encode accepts the witness that numbers encode.
 ///
 /// Refuses the first of these with a fault: the plan of the AIRs, the traces, alpha, beta, the witness,
 /// and its verification.
@@ -25,8 +25,7 @@ fn verify_tables(
     beta: &[u32; 4],
     witness: &[AirWitness<'_>],
 ) -> Result<(), Fault>
-    ensures { let E = ⟦<BabyBear4 as Over<BabyBear>>⟧.fields in
-        MatchResult result
+    ensures { let E = ⟦<BabyBear4 as Over<BabyBear>>⟧.fields in MatchResult result
         (λ _. VerifiesTables E airs.now traces.now alpha.now beta.now witness.now)
         (IsRefusal E airs.now traces.now alpha.now beta.now witness.now) }
 {
@@ -55,8 +54,7 @@ pub extern "C" fn volgwain_verify(
     refusal: &mut Refusal,
     text: &mut [u8],
 ) -> u32
-    ensures answers { let E = ⟦<BabyBear4 as Over<BabyBear>>⟧.fields in
-        Answers result refusal.new
+    ensures answers { let E = ⟦<BabyBear4 as Over<BabyBear>>⟧.fields in Answers result refusal.new
         (VerifiesTables E airs.now traces.now alpha.now beta.now witness.now)
         (IsRefusal E airs.now traces.now alpha.now beta.now witness.now) }
 {

@@ -1,8 +1,6 @@
 //! Witnesses as a verifier gets them.
 ghost use Rattle.std.specs.Prelude.{◌≡◌, MatchResult, length, true};
-ghost use Rattle.lookup_tables.specs.Numbers.{AreGroupsBelow};
-ghost use Rattle.lookup_tables.specs.Traces.{makes_rows};
-ghost use Rattle.lookup_c.specs.Witnesses.{AreWitness, IsAuxiliaryRefusal, IsTerminal, IsTerminalRefusal, IsWitnessRefusal, auxiliary_of, terminal_of};
+ghost use Rattle.lookup_c.specs.Witnesses.{AreWitness, IsAuxiliary, IsAuxiliaryRefusal, IsTerminal, IsTerminalRefusal, IsWitnessRefusal, terminal_of};
 
 use crate::codes::Part;
 use crate::fault::Fault;
@@ -35,10 +33,7 @@ fn read_auxiliary(
     air: usize,
     witness: &AirWitness<'_>,
 ) -> Result<RowMajorMatrix<BabyBear4>, Fault>
-    ensures { MatchResult result
-        (λ m. (m ≡ auxiliary_of witness.now)
-        × (makes_rows (length witness.now.auxiliary.now) witness.now.width ≡ true)
-        × AreGroupsBelow (length witness.now.auxiliary.now) witness.now.auxiliary.now)
+    ensures { MatchResult result (IsAuxiliary witness.now)
         (IsAuxiliaryRefusal air witness.now) }
 {
     let width = witness.width;
@@ -69,7 +64,7 @@ fn read_terminal(air: usize, terminal: Terminal) -> Result<Option<LookupTerminal
     }
 }
 
-/// The witness that numbers say.
+/// The witness that numbers encode.
 ///
 /// Refuses the first AIR whose auxiliary trace, or then whose terminal, is refused. Also fails when out of
 /// memory.

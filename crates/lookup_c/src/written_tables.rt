@@ -1,8 +1,8 @@
 //! Tables that calls write.
 ghost use Rattle.std.specs.Prelude.{◌≡◌, ◌<◌, ◌≤◌, MatchResult, length};
 ghost use Rattle.lookup.specs.Lookups.{lookups_of};
-ghost use Rattle.lookup_tables.specs.Written.{SaysWritten};
-ghost use Rattle.lookup_c.specs.WrittenTables.{HasTableRoom, IsTableRoomRefusal, IsUnsayableRefusal, IsWritingRefusal, WritesTables, arrays, room_of, sizes_of, written_over};
+ghost use Rattle.lookup_tables.specs.Written.{EncodesWritten};
+ghost use Rattle.lookup_c.specs.WrittenTables.{HasTableRoom, IsTableRoomRefusal, IsUnencodableRefusal, IsWritingRefusal, WritesTables, arrays, room_of, sizes_of, written_over};
 ghost use Rattle.lookup_c.specs.declared.fault.Fault.TheVariants.{Length};
 
 use crate::codes::Part;
@@ -40,10 +40,10 @@ fn sizes_of(tables: &Written) -> TableSizes
 
 /// Tables of the lookups of a set.
 ///
-/// Refuses the first lookup that no tables say.
+/// Refuses the first lookup that no tables encode.
 fn tables_of(alloc: Global, set: &Lookups<BabyBear>) -> Result<Written, Fault>
-    ensures { MatchResult result (λ tables. SaysWritten tables (lookups_of set.now))
-        (IsUnsayableRefusal (lookups_of set.now)) }
+    ensures { MatchResult result (λ tables. EncodesWritten tables (lookups_of set.now))
+        (IsUnencodableRefusal (lookups_of set.now)) }
 {
     match write_lookups(alloc, set.as_slice()) {
         Ok(tables) => Ok(tables),
@@ -87,14 +87,14 @@ fn check_table_room(tables: &Written, room: TableSizes) -> Result<(), Fault>
 
 /// Tables of the lookups of a set, for which arrays of these sizes have room.
 ///
-/// Refuses the first lookup that no tables say, and then the first array that is too short.
+/// Refuses the first lookup that no tables encode, and then the first array that is too short.
 pub(crate) fn tables_for(
     alloc: Global,
     set: &Lookups<BabyBear>,
     room: TableSizes,
 ) -> Result<Written, Fault>
     ensures { MatchResult result
-        (λ w. SaysWritten w (lookups_of set.now) × HasTableRoom (sizes_of w) room)
+        (λ w. EncodesWritten w (lookups_of set.now) × HasTableRoom (sizes_of w) room)
         (IsWritingRefusal (lookups_of set.now) room) }
 {
     let made = tables_of(alloc, set)?;

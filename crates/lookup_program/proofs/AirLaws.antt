@@ -1,10 +1,10 @@
 -- What the AIRs of the machines push sends what the machine says.
-use Rattle.std.proofs.Common.{◌≡◌, ℕ, Bool, List, [], ◌∷◌, codes, length, map, slice_index_or, None, Some, All, OnOk, Result, Ok, Err, MatchResult, inl, inr, max, refl, subst, sym, ap, ap₂, arith, ◌∙◌}
+use Rattle.std.proofs.Common.{◌≡◌, ℕ, Bool, List, [], ◌∷◌, codes, length, map, slice_index_or, None, Some, All, OnOk, Result, Ok, Err, MatchResult, inl, inr, max, subst, sym, ap, ap₂, arith, ◌∙◌}
 use Rattle.std.proofs.lemmas.List.Elements.{All-cons, All-nil}
 use Rattle.std.proofs.lemmas.Option.{get_or_from_slice_get}
 use Rattle.std.specs.declared.alloc.Global.{Global}
 use Rattle.std.specs.declared.vec.Vec.{Vec}
-use Rattle.lists.proofs.Images.{one_item, two_items}
+use Rattle.lists.proofs.Images.{two_items}
 use Rattle.field.specs.Ring.{Ring}
 use Rattle.air.specs.Cell.{IsCell}
 use Rattle.expressions.specs.declared.error.AirError.{AirError}

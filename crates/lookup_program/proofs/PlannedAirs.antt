@@ -1,5 +1,5 @@
 -- The plan of a machine's AIRs over the rows of its input: its ids, its batch, and why it is refused.
-use Rattle.std.proofs.Common.{◌≡◌, ◌<◌, ◌≤◌, ◌+◌, ◌*◌, ◌++◌, ℕ, zero, suc, Bool, IsTrue, List, [], ◌∷◌, All, inl, inr, length, get_or, map, refl, sym, ap, ap₂, subst, subst₂, arith, ◌∙◌}
+use Rattle.std.proofs.Common.{◌≡◌, ◌<◌, ◌≤◌, ◌+◌, ◌*◌, ◌++◌, ℕ, suc, Bool, IsTrue, List, [], ◌∷◌, All, inl, inr, length, get_or, map, refl, sym, ap, ap₂, subst, subst₂, arith, ◌∙◌}
 use Rattle.std.proofs.lemmas.List.{length-map}
 use Rattle.std.proofs.lemmas.List.Elements.{All-cons, All-nil}
 use Rattle.std.proofs.lemmas.List.Sums.{sum_by-cons}

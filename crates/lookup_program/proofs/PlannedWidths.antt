@@ -1,6 +1,6 @@
 -- Tuples of one value have one width, so no check of widths refuses them.
 use Rattle.std.proofs.Common.{◌≡◌, ◌≤◌, ◌++◌, ℕ, Bool, true, false, cond, List, [], ◌∷◌, Some, All, length, map, refl, sym, ap, subst, arith, ◌∙◌}
-use Rattle.std.proofs.lemmas.List.Elements.{All-append, All-filter, All-head, All-map, All-nil, All-tail, recursion_from_All}
+use Rattle.std.proofs.lemmas.List.Elements.{All-filter, All-map, recursion_from_All}
 use Rattle.std.specs.List.{AllByRecursion, flat_map}
 use Rattle.lists.proofs.Each.{all_front, all_back, All-there, All-parts}
 use Rattle.lookup_model.specs.LookupDegree.{greatest}

@@ -24,37 +24,33 @@ quartic_with xs = record {
   c3 = get_or xs 3 (baby_bear_of 0);
 }
 
+-- the items of a list of four
+four_items : (g : List ℕ) → length g ≡ 4 → (a : ℕ) × (b : ℕ) × (c : ℕ) × (d : ℕ) × (g ≡ a ∷ b ∷ c ∷ d ∷ [])
+four_items (a ∷ b ∷ c ∷ d ∷ []) four = (a, b, c, d, refl)
+four_items [] four = absurd (omega (arith, four))
+four_items (a ∷ []) four = absurd (omega (arith, four))
+four_items (a ∷ b ∷ []) four = absurd (omega (arith, four))
+four_items (a ∷ b ∷ c ∷ []) four = absurd (omega (arith, four))
+four_items (a ∷ b ∷ c ∷ d ∷ e ∷ more) four = absurd (omega (arith, four))
+
 -- the residues of all numbers, four each
 pub regrouped : (groups : List (List ℕ)) → AreFours groups → map quartic_with (first_chunks 4 (length groups) (map baby_bear_of (flat_map (λ g. g) groups))) ≡ map quartic_of groups
 regrouped [] fours = refl
-regrouped (g ∷ gs) fours = by_group g (All-head (λ group. length group ≡ 4) g gs fours) (regrouped gs (All-tail (λ group. length group ≡ 4) g gs fours))
-  where
-    by_group : (g : List ℕ) → length g ≡ 4 → map quartic_with (first_chunks 4 (length gs) (map baby_bear_of (flat_map (λ h. h) gs))) ≡ map quartic_of gs
-        → map quartic_with (first_chunks 4 (suc (length gs)) (map baby_bear_of (g ++ flat_map (λ h. h) gs))) ≡ quartic_of g ∷ map quartic_of gs
-    by_group (a ∷ b ∷ c ∷ d ∷ []) four rest = ap (λ qs. quartic_of (a ∷ b ∷ c ∷ d ∷ []) ∷ qs) rest
-    by_group [] four rest = absurd (omega (arith, four))
-    by_group (a ∷ []) four rest = absurd (omega (arith, four))
-    by_group (a ∷ b ∷ []) four rest = absurd (omega (arith, four))
-    by_group (a ∷ b ∷ c ∷ []) four rest = absurd (omega (arith, four))
-    by_group (a ∷ b ∷ c ∷ d ∷ e ∷ more) four rest = absurd (omega (arith, four))
+regrouped (g ∷ gs) fours =
+    let (a, b, c, d, is) = four_items g (All-head (λ group. length group ≡ 4) g gs fours) in
+    let rest = regrouped gs (All-tail (λ group. length group ≡ 4) g gs fours) in
+    subst (λ (h : List ℕ). map quartic_with (first_chunks 4 (suc (length gs)) (map baby_bear_of (h ++ flat_map (λ g. g) gs))) ≡ quartic_of h ∷ map quartic_of gs) (sym is)
+    (ap (λ qs. quartic_of (a ∷ b ∷ c ∷ d ∷ []) ∷ qs) rest)
 
 -- all numbers are at most this one, four each
 pub groups_up_to : (most : ℕ) (groups : List (List ℕ)) → AreFours groups → AreNumbersUpTo most (length (flat_map (λ g. g) groups)) (flat_map (λ g. g) groups) → All (IsGroupUpTo most) groups
 groups_up_to most [] fours flat = All-nil (IsGroupUpTo most)
 groups_up_to most (g ∷ gs) fours flat =
-    by_group g (All-head (λ group. length group ≡ 4) g gs fours) flat (groups_up_to most gs (All-tail (λ group. length group ≡ 4) g gs fours))
-  where
-    by_group : (g : List ℕ) → length g ≡ 4 → AreNumbersUpTo most (length (g ++ flat_map (λ h. h) gs)) (g ++ flat_map (λ h. h) gs)
-        → (AreNumbersUpTo most (length (flat_map (λ h. h) gs)) (flat_map (λ h. h) gs) → All (IsGroupUpTo most) gs) → All (IsGroupUpTo most) (g ∷ gs)
-    by_group (a ∷ b ∷ c ∷ d ∷ []) four all rest =
-        All-cons (IsGroupUpTo most) (a ∷ b ∷ c ∷ d ∷ []) gs
-        (record { n0 = all 0 (omega arith); n1 = all 1 (omega arith); n2 = all 2 (omega arith); n3 = all 3 (omega arith) })
-        (rest (λ k below. all (suc (suc (suc (suc k)))) (omega (arith, below))))
-    by_group [] four all rest = absurd (omega (arith, four))
-    by_group (a ∷ []) four all rest = absurd (omega (arith, four))
-    by_group (a ∷ b ∷ []) four all rest = absurd (omega (arith, four))
-    by_group (a ∷ b ∷ c ∷ []) four all rest = absurd (omega (arith, four))
-    by_group (a ∷ b ∷ c ∷ d ∷ e ∷ more) four all rest = absurd (omega (arith, four))
+    let (a, b, c, d, is) = four_items g (All-head (λ group. length group ≡ 4) g gs fours) in
+    let all = subst (λ (h : List ℕ). AreNumbersUpTo most (length (h ++ flat_map (λ g. g) gs)) (h ++ flat_map (λ g. g) gs)) is flat in
+    All-cons (IsGroupUpTo most) g gs
+    (subst (IsGroupUpTo most) (sym is) (record { n0 = all 0 (omega arith); n1 = all 1 (omega arith); n2 = all 2 (omega arith); n3 = all 3 (omega arith) }))
+    (groups_up_to most gs (All-tail (λ group. length group ≡ 4) g gs fours) (λ k below. all (suc (suc (suc (suc k)))) (omega (arith, below))))
 
 -- the elements of a chunk are appended
 pub chunk_appended : (groups : List (List ℕ)) (flat : List ℕ) (values : List BabyBear) (fours : List (List BabyBear)) (n : ℕ) (before after : List (Quartic BabyBear)) → AreFours groups → flat ≡ flat_map (λ g. g) groups

@@ -7,4 +7,3 @@ pub mod TablesOnce
 pub mod TraceLaws
 pub mod Unique
 pub mod WriterLaws
-pub mod ZipLaws

@@ -6,34 +6,34 @@ use Rattle.std.specs.List.{flat_map}
 use Rattle.expressions.specs.Tree.{Tree, tree_of}
 use Rattle.expressions.specs.declared.base_expression.SymbolicExpression.{SymbolicExpression}
 use Rattle.lookup_tables.specs.Nodes.{AreTrees, BabyBear, IsFirstBadNode, IsShallow, node, nodes_of}
-use Rattle.lookup_tables.specs.Stack.{has_one, has_room, has_two, heights, heights_on, written}
+use Rattle.lookup_tables.specs.Stack.{has_one, has_room, has_two, part_depths, part_depths_on, written}
 use Rattle.lookup_tables.specs.declared.nodes.Node.{Node}
 use Rattle.lookup_tables.specs.declared.part.Part.{Part}
 use Rattle.lookup_tables.proofs.NodeLaws.{depths_on, none_begins}
 
-heights_on_push : (ds : List ℕ) (ps : List Part) (p : Part) → heights_on ds (ps ++ p ∷ []) ≡ p.depth ∷ heights_on ds ps
-heights_on_push ds [] p = refl
-heights_on_push ds (q ∷ ps) p = heights_on_push (q.depth ∷ ds) ps p
+part_depths_on-push : (ds : List ℕ) (ps : List Part) (p : Part) → part_depths_on ds (ps ++ p ∷ []) ≡ p.depth ∷ part_depths_on ds ps
+part_depths_on-push ds [] p = refl
+part_depths_on-push ds (q ∷ ps) p = part_depths_on-push (q.depth ∷ ds) ps p
 
-pub heights_push : (all ps : List Part) (p : Part) → all ≡ ps ++ p ∷ [] → heights all ≡ p.depth ∷ heights ps
-heights_push all ps p e = ap heights e ∙ heights_on_push [] ps p
+pub part_depths-push : (all ps : List Part) (p : Part) → all ≡ ps ++ p ∷ [] → part_depths all ≡ p.depth ∷ part_depths ps
+part_depths-push all ps p e = ap part_depths e ∙ part_depths_on-push [] ps p
 
 -- one expression at the bound
-pub full_one : (all ps : List Part) (p : Part) → all ≡ ps ++ p ∷ [] → 1024 ≤ p.depth → has_one (heights all) ≡ false
-full_one all ps p e deep = ap has_one (heights_push all ps p e) ∙ le-ltb p.depth 1024 deep
+pub full_one : (all ps : List Part) (p : Part) → all ≡ ps ++ p ∷ [] → 1024 ≤ p.depth → has_one (part_depths all) ≡ false
+full_one all ps p e deep = ap has_one (part_depths-push all ps p e) ∙ le-ltb p.depth 1024 deep
 
 -- no expression
-pub none_one : (all : List Part) → all ≡ [] → has_one (heights all) ≡ false
-none_one all e = ap (λ ps. has_one (heights ps)) e
+pub none_one : (all : List Part) → all ≡ [] → has_one (part_depths all) ≡ false
+none_one all e = ap (λ ps. has_one (part_depths ps)) e
 
-pub none_two : (all : List Part) → all ≡ [] → has_two (heights all) ≡ false
-none_two all e = ap (λ ps. has_two (heights ps)) e
+pub none_two : (all : List Part) → all ≡ [] → has_two (part_depths all) ≡ false
+none_two all e = ap (λ ps. has_two (part_depths ps)) e
 
-pub one_two : (all ps : List Part) (p : Part) → all ≡ ps ++ p ∷ [] → ps ≡ [] → has_two (heights all) ≡ false
-one_two all ps p e none = ap has_two (heights_push all ps p e ∙ ap (λ qs. p.depth ∷ heights qs) none)
+pub one_two : (all ps : List Part) (p : Part) → all ≡ ps ++ p ∷ [] → ps ≡ [] → has_two (part_depths all) ≡ false
+one_two all ps p e none = ap has_two (part_depths-push all ps p e ∙ ap (λ qs. p.depth ∷ part_depths qs) none)
 
-pub full_two : (all ps qs : List Part) (p q : Part) → all ≡ ps ++ p ∷ [] → ps ≡ qs ++ q ∷ [] → 1024 ≤ max q.depth p.depth → has_two (heights all) ≡ false
-full_two all ps qs p q e f deep = ap has_two (heights_push all ps p e ∙ ap (λ hs. p.depth ∷ hs) (heights_push ps qs q f)) ∙ le-ltb (max q.depth p.depth) 1024 deep
+pub full_two : (all ps qs : List Part) (p q : Part) → all ≡ ps ++ p ∷ [] → ps ≡ qs ++ q ∷ [] → 1024 ≤ max q.depth p.depth → has_two (part_depths all) ≡ false
+full_two all ps qs p q e f deep = ap has_two (part_depths-push all ps p e ∙ ap (λ hs. p.depth ∷ hs) (part_depths-push ps qs q f)) ∙ le-ltb (max q.depth p.depth) 1024 deep
 
 -- the trees of the expressions on the stack
 abbrev pub trees : List Part → List (Tree BabyBear)
@@ -48,7 +48,7 @@ shallow_trees [] k d l = absurd (omega (arith, l))
 shallow_trees (p ∷ ps) zero d l = omega (arith, p.measured, p.shallow)
 shallow_trees (p ∷ ps) (suc k) d l = shallow_trees ps k d (omega (arith, l))
 
-depths_are : (ds : List ℕ) (ps : List Part) → depths_on ds (trees ps) ≡ heights_on ds ps
+depths_are : (ds : List ℕ) (ps : List Part) → depths_on ds (trees ps) ≡ part_depths_on ds ps
 depths_are ds [] = refl
 depths_are ds (p ∷ ps) = ap (λ d. depths_on (d ∷ ds) (trees ps)) (sym p.measured) ∙ depths_are (p.depth ∷ ds) ps
 
@@ -56,7 +56,7 @@ pub are_trees : (ps : List Part) (nodes : List Node) → written ps ≡ nodes �
 are_trees ps nodes e = record { same = sym (written_trees ps) ∙ e; shallow = shallow_trees ps }
 
 -- A node for which the stack has no room is the first bad one.
-pub first_bad : (ps : List Part) (nodes : List Node) (i : ℕ) → i < length nodes → written ps ≡ take i nodes → has_room (heights ps) (get_or nodes i (node 0 0 0)) ≡ false → IsFirstBadNode nodes i
+pub first_bad : (ps : List Part) (nodes : List Node) (i : ℕ) → i < length nodes → written ps ≡ take i nodes → has_room (part_depths ps) (get_or nodes i (node 0 0 0)) ≡ false → IsFirstBadNode nodes i
 first_bad ps nodes i there so_far none =
     let n = get_or nodes i (node 0 0 0) in
     let so_far_trees : take i nodes ≡ flat_map nodes_of (trees ps) = sym so_far ∙ written_trees ps in record {

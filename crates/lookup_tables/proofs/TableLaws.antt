@@ -1,8 +1,9 @@
 -- Tables that are no lookups.
-use Rattle.std.proofs.Common.{◌≡◌, ◌≢◌, ◌++◌, ◌+◌, ◌<◌, ◌≤◌, ℕ, zero, suc, List, [], ◌∷◌, None, Some, get_or, length, take, drop, map, refl, subst, sym, ap, ◌∙◌, arith}
+use Rattle.std.proofs.Common.{◌≡◌, ◌≢◌, ◌++◌, ◌+◌, ◌<◌, ◌≤◌, ℕ, zero, suc, List, [], ◌∷◌, None, Some, get_or, length, take, drop, map, subst, sym, ap, ◌∙◌, arith}
 use Rattle.std.proofs.lemmas.List.{length-map, map_push, take-append-drop, take_all}
-use Rattle.std.proofs.lemmas.List.FromFn.{length-range_with_len, map-range_with_len_more}
+use Rattle.std.proofs.lemmas.List.FromFn.{length-range_with_len}
 use Rattle.std.proofs.lemmas.Option.{slice_get-get_or}
+use Rattle.lists.proofs.Items.{range_more}
 use Rattle.lookup_model.specs.declared.types.Lookup.{Lookup}
 use Rattle.lookup_tables.specs.declared.tables.Tables.{Tables}
 use Rattle.std.proofs.lemmas.Str.{IsUtf8-string_bytes}
@@ -87,21 +88,11 @@ first_bad_record tables i d lookups e there before none fault = record {
   fault = fault;
 }
 
-map_same : (xs : List ℕ) → map (λ n. n) xs ≡ xs
-map_same [] = refl
-map_same (x ∷ xs) = ap (λ ys. x ∷ ys) (map_same xs)
-
--- one number more
-range_next : (n : ℕ) → range_with_len 0 (n + 1) ≡ range_with_len 0 n ++ n ∷ []
-range_next n =
-    sym (map_same (range_with_len 0 (n + 1)))
-    ∙ (map-range_with_len_more (λ k. k) 0 n n (omega arith) ∙ ap (λ ks. ks ++ n ∷ []) (map_same (range_with_len 0 n)))
-
 -- one column more
 pub columns_next : (before after : List (Lookup BabyBear)) (lookup : Lookup BabyBear) (n : ℕ) → after ≡ before ++ lookup ∷ [] → lookup.column ≡ n
     → map (λ l. l.column) before ≡ range_with_len 0 n → map (λ l. l.column) after ≡ range_with_len 0 (n + 1)
 columns_next before after lookup n pushed is so_far =
-    ap (map (λ l. l.column)) pushed ∙ (map_push (λ l. l.column) before lookup ∙ ((λ i. so_far i ++ is i ∷ []) ∙ sym (range_next n)))
+    ap (map (λ l. l.column)) pushed ∙ (map_push (λ l. l.column) before lookup ∙ ((λ i. so_far i ++ is i ∷ []) ∙ ap (λ k. range_with_len 0 n ++ k ∷ []) (omega arith) ∙ sym (range_more 0 n)))
 
 -- the lookups of all records
 pub all_lookups : (tables : Tables) (n : ℕ) (lookups : List (Lookup BabyBear)) → length tables.records.now ≤ n → AllZip (IsLookup tables) (take n tables.records.now) lookups

@@ -1,4 +1,4 @@
--- Tables say one list of lookups at most.
+-- Tables encode one list of lookups at most.
 use Rattle.std.proofs.Common.{◌≡◌, ◌∷◌, ◌∙◌, List, [], Option, None, Some, ap, ap₂, arith, length, map, refl, sym, ℕ}
 use Rattle.std.proofs.lemmas.Slice.Zip.{AllZip-long}
 use Rattle.std.specs.List.{AllZip, range_with_len}

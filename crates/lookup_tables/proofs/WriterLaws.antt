@@ -1,15 +1,16 @@
 -- Tables that are written part by part.
-use Rattle.std.proofs.Common.{◌≡◌, ◌≢◌, ◌++◌, ◌∷◌, ◌+◌, ◌-◌, ◌<◌, ◌≤◌, ◌⊎◌, ℕ, List, [], All, Option, None, Some, ap, append_assoc, arith, drop, get_or, inl, inr, length, length-append, map, subst, sym, take, ◌∙◌}
+use Rattle.std.proofs.Common.{◌≡◌, ◌≢◌, ◌++◌, ◌∷◌, ◌+◌, ◌-◌, ◌<◌, ◌≤◌, ℕ, List, [], All, Option, None, Some, ap, append_assoc, arith, drop, get_or, length, length-append, map, subst, sym, take, ◌∙◌}
 use Rattle.std.proofs.Math.Seq.{drop-append_seam, take-append_seam}
-use Rattle.std.proofs.lemmas.Bool.{cases_lt}
 use Rattle.std.proofs.lemmas.List.{append-nil, map_push, take_all, take_more}
 use Rattle.std.proofs.lemmas.List.Concat.{flat_map-append}
 use Rattle.std.proofs.lemmas.List.Elements.{All-map}
 use Rattle.std.proofs.lemmas.Option.{slice_get-get_or}
+use Rattle.std.proofs.lemmas.Slice.Zip.{all_zipped_more}
 use Rattle.std.specs.List.{AllZip, flat_map, range_with_len, slice_get}
 use Rattle.std.specs.Option.{option_map}
 use Rattle.std.specs.declared.alloc.Global.{Global}
 use Rattle.std.specs.declared.vec.Vec.{Vec}
+use Rattle.lists.proofs.Items.{take_item}
 use Rattle.expressions.specs.Depth.{depth_of}
 use Rattle.expressions.specs.Tree.{Tree, leaf, add, sub, mul, neg, tree_of}
 use Rattle.expressions.specs.declared.base_expression.BaseLeaf.{BaseLeaf}
@@ -18,12 +19,12 @@ use Rattle.lookup_model.specs.Outline.{bus_of}
 use Rattle.lookup_model.specs.declared.types.Lookup.{Lookup}
 use Rattle.lookup_tables.specs.Nodes.{BabyBear, IsShallow, nodes_of}
 use Rattle.lookup_tables.specs.Tables.{AreFlags, AreTuples, IsBus, IsInside, IsLookup, IsWritten, items_at}
-use Rattle.lookup_tables.specs.Written.{HoldsFrom, IsLonger, IsLookupFault, IsNear, IsNearLeaf, IsSayable, IsTreeFault, IsUnsayableAt, SayLists, SaysBus, SaysFlags, SaysRecord}
+use Rattle.lookup_tables.specs.Written.{HoldsFrom, IsLonger, IsLookupFault, IsNear, IsNearLeaf, IsEncodable, IsTreeFault, IsUnencodableAt, EncodeLists, EncodesBus, EncodesFlags, EncodesRecord}
 use Rattle.lookup_tables.specs.declared.nodes.Node.{Node}
 use Rattle.lookup_tables.specs.declared.tables.Record.{Record}
 use Rattle.lookup_tables.specs.declared.tables.Span.{Span}
 use Rattle.lookup_tables.specs.declared.tables.TableFault.{TableFault}
-use Rattle.lookup_tables.specs.declared.tables.TableFault.TheVariants.{Deep, Row}
+use Rattle.lookup_tables.specs.declared.tables.TableFault.TheVariants.{TooDeep, RowTooLarge}
 use Rattle.lookup_tables.specs.declared.tables.Tables.{Tables}
 
 -- a tree has a node at least
@@ -34,17 +35,17 @@ positive (sub a b) = omega arith
 positive (mul a b) = omega arith
 positive (neg a) = omega arith
 
-pub none_within : (t : Tree BabyBear) (depth : ℕ) → depth ≡ 0 → IsTreeFault depth t Deep
+pub none_within : (t : Tree BabyBear) (depth : ℕ) → depth ≡ 0 → IsTreeFault depth t TooDeep
 none_within t depth none = omega (arith, positive t, none)
 
 -- what is wrong with a leaf
-pub leaf_fault : (l : BaseLeaf BabyBear) (depth : ℕ) (e : TableFault) → e ≡ Row → ¬ IsNearLeaf l → IsTreeFault depth (leaf l) e
+pub leaf_fault : (l : BaseLeaf BabyBear) (depth : ℕ) (e : TableFault) → e ≡ RowTooLarge → ¬ IsNearLeaf l → IsTreeFault depth (leaf l) e
 leaf_fault l depth e is far = subst (λ (f : TableFault). IsTreeFault depth (leaf l) f) (sym is) far
 
 -- what is wrong with an operand, one level deeper, is wrong with the operation
 pub fault_above : (t a : Tree BabyBear) (depth : ℕ) (e : TableFault) → depth ≢ 0 → (IsNear t → IsNear a) → depth_of a < depth_of t → IsTreeFault (depth - 1) a e → IsTreeFault depth t e
-fault_above t a depth Row some part lower far = λ near. far (part near)
-fault_above t a depth Deep some part lower deep = omega (arith, some, lower, deep)
+fault_above t a depth RowTooLarge some part lower far = λ near. far (part near)
+fault_above t a depth TooDeep some part lower deep = omega (arith, some, lower, deep)
 fault_above t a depth _ some part lower none = absurd none
 
 pub left_fault : (a b : Tree BabyBear) (depth : ℕ) (e : TableFault) → depth ≢ 0 → IsTreeFault (depth - 1) a e → IsTreeFault depth (add a b) e × IsTreeFault depth (sub a b) e × IsTreeFault depth (mul a b) e
@@ -143,14 +144,8 @@ pub tuples_next : (tuples : List (Vec (SymbolicExpression BabyBear) Global)) (i 
     → HoldsFrom after (λ all. AreTuples all (made ++ span ∷ []) (take (i + 1) tuples))
 tuples_next tuples i tuple made span now after there is longer so_far holds all further =
     subst (λ (ts : List (Vec (SymbolicExpression BabyBear) Global)). AreTuples all (made ++ span ∷ []) ts)
-    (sym (take_more tuples i tuple there ∙ ap (λ x. take i tuples ++ x ∷ []) (sym is)))
-    (zip_push made (take i tuples) (so_far all (longer_then now after all longer further)))
-  where
-    zip_push : (ss : List Span) (ts : List (Vec (SymbolicExpression BabyBear) Global)) → AreTuples all ss ts → AreTuples all (ss ++ span ∷ []) (ts ++ tuple ∷ [])
-    zip_push [] [] are = (holds all further, tt)
-    zip_push [] (t ∷ ts) are = absurd are
-    zip_push (s ∷ ss) [] are = absurd are
-    zip_push (s ∷ ss) (t ∷ ts) are = (are.0, zip_push ss ts are.1)
+    (sym (take_item tuples i tuple there is))
+    (all_zipped_more (λ s t. IsWritten all s t.items) made (take i tuples) span tuple (so_far all (longer_then now after all longer further)) (holds all further))
 
 -- all tuples are written, and their ranges stand there
 pub tuples_written : (tuples : List (Vec (SymbolicExpression BabyBear) Global)) (n : ℕ) (old made now : List Span) (nodes : List Node) (span : Span) → length tuples ≤ n → now ≡ old ++ made → span.start ≡ length old → span.end ≡ length now
@@ -173,11 +168,11 @@ name_written name old now span now_is start end' all (more, all_is) = (
 -- the record of a lookup whose parts are written
 module _ (lookup : Lookup BabyBear) (r : Record) (nodes_1 nodes_2 nodes_3 : List Node) (spans : List Span) (names : List ℕ) where
   pub record_says : IsLonger nodes_1 nodes_2 → IsLonger nodes_2 nodes_3
-      → HoldsFrom names (λ all. SaysBus all r.kind r.bus (bus_of lookup.kind))
+      → HoldsFrom names (λ all. EncodesBus all r.kind r.bus (bus_of lookup.kind))
       → HoldsFrom spans (λ all. IsInside all r.tuples × HoldsFrom nodes_1 (λ ns. AreTuples ns (items_at all r.tuples) lookup.elements.items))
       → HoldsFrom nodes_2 (λ all. IsWritten all r.multiplicities lookup.multiplicities.items)
-      → HoldsFrom nodes_3 (λ all. SaysFlags all r.exclusive r.flags lookup.flags)
-      → lookup.count_weight ≡ r.weight → SaysRecord nodes_3 spans names r lookup
+      → HoldsFrom nodes_3 (λ all. EncodesFlags all r.exclusive r.flags lookup.flags)
+      → lookup.count_weight ≡ r.weight → EncodesRecord nodes_3 spans names r lookup
   record_says longer_2 longer_3 bus tuples multiplicities flags weight t on_nodes on_spans on_names =
       let from_2 = longer_then nodes_2 nodes_3 t.nodes.now longer_3 on_nodes in
       let there = tuples t.tuples.now on_spans in record {
@@ -189,11 +184,11 @@ module _ (lookup : Lookup BabyBear) (r : Record) (nodes_1 nodes_2 nodes_3 : List
         weight = weight;
       }
     where
-      bus_is : (b : Option (List ℕ)) → SaysBus t.names.now r.kind r.bus b → IsBus t.names.now r b
+      bus_is : (b : Option (List ℕ)) → EncodesBus t.names.now r.kind r.bus b → IsBus t.names.now r b
       bus_is None says = says
       bus_is (Some name) says = says
 
-      flags_are : (f : Option (Vec (SymbolicExpression BabyBear) Global)) → SaysFlags t.nodes.now r.exclusive r.flags f → AreFlags t.nodes.now r (option_map (λ v. v.items) f)
+      flags_are : (f : Option (Vec (SymbolicExpression BabyBear) Global)) → EncodesFlags t.nodes.now r.exclusive r.flags f → AreFlags t.nodes.now r (option_map (λ v. v.items) f)
       flags_are None says = says
       flags_are (Some v) says = says
 
@@ -201,33 +196,13 @@ module _ (lookup : Lookup BabyBear) (r : Record) (nodes_1 nodes_2 nodes_3 : List
 pub records_next : (lookups : List (Lookup BabyBear)) (i : ℕ) (lookup : Lookup BabyBear) (records : List Record) (r : Record) (t : Tables) → i < length lookups → lookup ≡ get_or lookups i lookup
     → AllZip (IsLookup t) records (take i lookups) → IsLookup t r lookup → AllZip (IsLookup t) (records ++ r ∷ []) (take (i + 1) lookups)
 records_next lookups i lookup records r t there is so_far here =
-    subst (λ (ls : List (Lookup BabyBear)). AllZip (IsLookup t) (records ++ r ∷ []) ls)
-    (sym (take_more lookups i lookup there ∙ ap (λ x. take i lookups ++ x ∷ []) (sym is)))
-    (zip_push records (take i lookups) so_far)
-  where
-    zip_push : (rs : List Record) (ls : List (Lookup BabyBear)) → AllZip (IsLookup t) rs ls → AllZip (IsLookup t) (rs ++ r ∷ []) (ls ++ lookup ∷ [])
-    zip_push [] [] are = (here, tt)
-    zip_push [] (l ∷ ls) are = absurd are
-    zip_push (s ∷ rs) [] are = absurd are
-    zip_push (s ∷ rs) (l ∷ ls) are = (are.0, zip_push rs ls are.1)
+    subst (λ (ls : List (Lookup BabyBear)). AllZip (IsLookup t) (records ++ r ∷ []) ls) (sym (take_item lookups i lookup there is))
+    (all_zipped_more (IsLookup t) records (take i lookups) r lookup so_far here)
 
--- one lookup more is said
-pub said_next : (lookups : List (Lookup BabyBear)) (i : ℕ) (lookup : Lookup BabyBear) → i < length lookups → lookup ≡ get_or lookups i lookup → IsSayable lookup
-    → ((k : ℕ) (other : Lookup BabyBear) → k < i → slice_get lookups k ≡ Some other → IsSayable other) → (k : ℕ) (other : Lookup BabyBear) → k < i + 1 → slice_get lookups k ≡ Some other → IsSayable other
-said_next lookups i lookup there is here so_far k other below other_is = by_index (cases_lt k i)
-  where
-    by_index : (k < i) ⊎ (i ≤ k) → IsSayable other
-    by_index (inl earlier) = so_far k other earlier other_is
-    by_index (inr late) =
-        let same : k ≡ i = omega (arith, late, below) in
-        let also : slice_get lookups i ≡ Some other = subst (λ (n : ℕ). slice_get lookups n ≡ Some other) same other_is in
-        let other_same : get_or lookups i lookup ≡ other = cc (sym (slice_get-get_or lookups i lookup there) ∙ also) in
-        subst IsSayable (is ∙ other_same) here
-
--- a lookup that tables do not say, behind those that they say
-pub unsayable_there : (lookups : List (Lookup BabyBear)) (i : ℕ) (lookup : Lookup BabyBear) (e : TableFault) → i < length lookups → lookup ≡ get_or lookups i lookup → IsLookupFault lookup e
-    → ((k : ℕ) (other : Lookup BabyBear) → k < i → slice_get lookups k ≡ Some other → IsSayable other) → IsUnsayableAt lookups i e
-unsayable_there lookups i lookup e there is fault before = record {
+-- a lookup that tables can't encode, behind those that they can
+pub unencodable_at : (lookups : List (Lookup BabyBear)) (i : ℕ) (lookup : Lookup BabyBear) (e : TableFault) → i < length lookups → lookup ≡ get_or lookups i lookup → IsLookupFault lookup e
+    → ((k : ℕ) (other : Lookup BabyBear) → k < i → slice_get lookups k ≡ Some other → IsEncodable other) → IsUnencodableAt lookups i e
+unencodable_at lookups i lookup e there is fault before = record {
   lookup = get_or lookups i lookup;
   is_there = slice_get-get_or lookups i lookup there;
   before = before;
@@ -235,10 +210,10 @@ unsayable_there lookups i lookup e there is fault before = record {
 }
 
 -- all records are written
-pub all_say : (lookups : List (Lookup BabyBear)) (n : ℕ) (nodes : List Node) (tuples : List Span) (names : List ℕ) (records : List Record) → length lookups ≤ n → map (λ l. l.column) lookups ≡ range_with_len 0 (length lookups)
+pub all_encode : (lookups : List (Lookup BabyBear)) (n : ℕ) (nodes : List Node) (tuples : List Span) (names : List ℕ) (records : List Record) → length lookups ≤ n → map (λ l. l.column) lookups ≡ range_with_len 0 (length lookups)
     → ((t : Tables) → IsLonger nodes t.nodes.now → IsLonger tuples t.tuples.now → IsLonger names t.names.now → AllZip (IsLookup t) records (take n lookups))
-    → SayLists nodes tuples names records lookups
-all_say lookups n nodes tuples names records whole columns say t nodes_are tuples_are names_are records_are = record {
+    → EncodeLists nodes tuples names records lookups
+all_encode lookups n nodes tuples names records whole columns say t nodes_are tuples_are names_are records_are = record {
   are = subst (λ (ls : List (Lookup BabyBear)). AllZip (IsLookup t) t.records.now ls) (take_all n lookups whole)
       (subst (λ (rs : List Record). AllZip (IsLookup t) rs (take n lookups)) (sym records_are)
       (say t (longer_is nodes t.nodes.now nodes_are) (longer_is tuples t.tuples.now tuples_are) (longer_is names t.names.now names_are)));

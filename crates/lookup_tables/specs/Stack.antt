@@ -11,12 +11,12 @@ abbrev pub written : List Part → List Node
 written parts = flat_map (λ p. nodes_of (tree_of p.expression)) parts
 
 -- their depths, the last one first, before these
-abbrev pub heights_on : List ℕ → List Part → List ℕ
-heights_on ds [] = ds
-heights_on ds (p ∷ ps) = heights_on (p.depth ∷ ds) ps
+abbrev pub part_depths_on : List ℕ → List Part → List ℕ
+part_depths_on ds [] = ds
+part_depths_on ds (p ∷ ps) = part_depths_on (p.depth ∷ ds) ps
 
-abbrev pub heights : List Part → List ℕ
-heights = heights_on []
+abbrev pub part_depths : List Part → List ℕ
+part_depths = part_depths_on []
 
 -- whether one or two expressions of these depths are there, none at the bound
 abbrev pub has_one : List ℕ → Bool

@@ -1,4 +1,4 @@
--- Which lookups tables say.
+-- Which lookups tables encode.
 use Rattle.std.specs.Prelude.{◌≡◌, ◌≢◌, ◌⊎◌, ◌≤◌, ◌<◌, ◌+◌, ◌-◌, ℕ, List, Option, Some, None, length, map, slice_get, slice_range, take}
 use Rattle.std.specs.List.{AllZip, range_with_len}
 use Rattle.std.specs.Option.{option_map}
@@ -14,7 +14,7 @@ use Rattle.lookup_tables.specs.declared.nodes.Node.{Node}
 use Rattle.lookup_tables.specs.declared.tables.Record.{Record}
 use Rattle.lookup_tables.specs.declared.tables.Span.{Span}
 use Rattle.lookup_tables.specs.declared.tables.TableFault.{TableFault}
-use Rattle.lookup_tables.specs.declared.tables.TableFault.TheVariants.{Kind as BadKind, Long, Name, Node as BadNode, Range}
+use Rattle.lookup_tables.specs.declared.tables.TableFault.TheVariants.{BadKind, TooManyNodesRead, NameNotUtf8, Node as BadNode, Range}
 use Rattle.lookup_tables.specs.declared.tables.Tables.{Tables}
 
 -- nothing is so
@@ -68,8 +68,8 @@ pub record AreLookups (tables : Tables) (lookups : List (Lookup BabyBear)) : Typ
   pub are : AllZip (IsLookup tables) tables.records.now lookups
   pub columns : map (λ lookup. lookup.column) lookups ≡ range_with_len 0 (length lookups)
 
--- The tables say these lookups, and no others: all that they say have these expressions, node by node.
-pub record SayLookups (tables : Tables) (lookups : List (Lookup BabyBear)) : Type 0 where
+-- The tables encode these lookups, and no others: all that they encode have these expressions, node by node.
+pub record EncodeLookups (tables : Tables) (lookups : List (Lookup BabyBear)) : Type 0 where
   pub are : AreLookups tables lookups
   pub only : (others : List (Lookup BabyBear)) → AreLookups tables others → map outline_of others ≡ map outline_of lookups
 
@@ -77,7 +77,7 @@ pub record SayLookups (tables : Tables) (lookups : List (Lookup BabyBear)) : Typ
 -- node.
 abbrev pub IsSpanFault : List Node → Span → TableFault → Type 0
 IsSpanFault nodes span Range = ¬ IsInside nodes span
-IsSpanFault nodes span Long = IsInside nodes span × (1048576 < span.end - span.start)
+IsSpanFault nodes span TooManyNodesRead = IsInside nodes span × (1048576 < span.end - span.start)
 IsSpanFault nodes span (BadNode n) =
     IsInside nodes span × (span.end - span.start ≤ 1048576) × ((i : ℕ) × (n ≡ span.start + i) × IsFirstBadNode (items_at nodes span) i)
 IsSpanFault nodes span _ = ⊥
@@ -95,7 +95,7 @@ pub record IsFirstBadTuple (nodes : List Node) (spans : List Span) (i : ℕ) (e 
 abbrev pub IsBusFault : List ℕ → Record → TableFault → Type 0
 IsBusFault names r BadKind = (r.kind ≢ 0) × (r.kind ≢ 1)
 IsBusFault names r Range = (r.kind ≡ 1) × (¬ IsInside names r.bus)
-IsBusFault names r Name = (r.kind ≡ 1) × IsInside names r.bus × (¬ IsUtf8 (items_at names r.bus))
+IsBusFault names r NameNotUtf8 = (r.kind ≡ 1) × IsInside names r.bus × (¬ IsUtf8 (items_at names r.bus))
 IsBusFault names r _ = ⊥
 
 -- Why a record has no tuples: its range is none of the tuples' ranges, or one of these has no tuple.

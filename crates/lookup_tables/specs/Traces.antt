@@ -27,7 +27,7 @@ preprocessed_of numbers width = if width == 0 then None else Some (trace_of numb
 abbrev pub makes_rows : ℕ → ℕ → Bool
 makes_rows numbers width = if width == 0 then numbers == 0 else ((numbers % width) == 0)
 
--- what the tables of an AIR's traces say
+-- what the tables of an AIR's traces encode
 abbrev pub main_trace : Traces → Matrix BabyBear
 main_trace t = trace_of t.main.now t.main_width
 
@@ -48,7 +48,7 @@ pub record AreCanonical (tables : Traces) : Type 0 where
   pub preprocessed : AreRows tables.preprocessed.now tables.preprocessed_width
   pub public_values : AreNumbersBelow (length tables.public_values.now) tables.public_values.now
 
--- these are the traces that the tables say
+-- these are the traces that the tables encode
 pub record AreTracesOf (tables : Traces) (traces : ReadTraces) : Type 0 where
   pub main : traces.main ≡ main_trace tables
   pub preprocessed : traces.preprocessed ≡ preprocessed_trace_of tables

@@ -17,7 +17,7 @@ use Rattle.lookup_tables.specs.declared.nodes.Node.{Node}
 use Rattle.lookup_tables.specs.declared.tables.Record.{Record}
 use Rattle.lookup_tables.specs.declared.tables.Span.{Span}
 use Rattle.lookup_tables.specs.declared.tables.TableFault.{TableFault}
-use Rattle.lookup_tables.specs.declared.tables.TableFault.TheVariants.{Deep, Many, Row}
+use Rattle.lookup_tables.specs.declared.tables.TableFault.TheVariants.{TooDeep, TooManyNodesWritten, RowTooLarge}
 use Rattle.lookup_tables.specs.declared.tables.Tables.{Tables}
 use Rattle.lookup_tables.specs.declared.writer.Written.{Written}
 
@@ -41,13 +41,13 @@ IsNear (sub a b) = IsNear a × IsNear b
 IsNear (mul a b) = IsNear a × IsNear b
 IsNear (neg a) = IsNear a
 
--- a tree that nodes say, if it is at most so deep
-abbrev pub IsSayableWithin : ℕ → Tree BabyBear → Type 0
-IsSayableWithin depth t = IsNear t × (depth_of t ≤ depth)
+-- a tree that nodes encode, if it is at most so deep
+abbrev pub IsEncodableWithin : ℕ → Tree BabyBear → Type 0
+IsEncodableWithin depth t = IsNear t × (depth_of t ≤ depth)
 
--- a list of expressions that nodes say: none too deep, and not too many nodes
+-- a list of expressions that nodes encode: none too deep, and not too many nodes
 pub record AreSayable (expressions : List (SymbolicExpression BabyBear)) : Type 0 where
-  pub each : All (λ e. IsSayableWithin 1024 (tree_of e)) expressions
+  pub each : All (λ e. IsEncodableWithin 1024 (tree_of e)) expressions
   pub short : length (flat_map nodes_of (map tree_of expressions)) ≤ 1048576
 
 -- the same of flags, if there are any
@@ -55,22 +55,22 @@ abbrev pub AreSayableFlags : Option (Vec (SymbolicExpression BabyBear) Global) �
 AreSayableFlags None = Unit {0}
 AreSayableFlags (Some flags) = AreSayable flags.items
 
--- a lookup that tables say
-pub record IsSayable (lookup : Lookup BabyBear) : Type 0 where
+-- a lookup that tables encode
+pub record IsEncodable (lookup : Lookup BabyBear) : Type 0 where
   pub elements : All (λ tuple. AreSayable tuple.items) lookup.elements.items
   pub multiplicities : AreSayable lookup.multiplicities.items
   pub flags : AreSayableFlags lookup.flags
 
--- why nodes do not say a tree that is to be at most so deep
+-- why nodes can't encode a tree that is to be at most so deep
 abbrev pub IsTreeFault : ℕ → Tree BabyBear → TableFault → Type 0
-IsTreeFault depth t Row = ¬ IsNear t
-IsTreeFault depth t Deep = depth < depth_of t
+IsTreeFault depth t RowTooLarge = ¬ IsNear t
+IsTreeFault depth t TooDeep = depth < depth_of t
 IsTreeFault depth t _ = ⊥
 
--- why nodes do not say a list of expressions
+-- why nodes can't encode a list of expressions
 abbrev pub IsListFault : List (SymbolicExpression BabyBear) → TableFault → Type 0
 IsListFault expressions e =
-    ((e ≡ Many) × (1048576 < length (flat_map nodes_of (map tree_of expressions))))
+    ((e ≡ TooManyNodesWritten) × (1048576 < length (flat_map nodes_of (map tree_of expressions))))
     ⊎ ((i : ℕ) × (x : SymbolicExpression BabyBear) × (slice_get expressions i ≡ Some x) × IsTreeFault 1024 (tree_of x) e)
 
 -- the same of tuples, and of flags, if there are any
@@ -82,16 +82,16 @@ abbrev pub IsOptionFault : Option (Vec (SymbolicExpression BabyBear) Global) →
 IsOptionFault None e = ⊥
 IsOptionFault (Some flags) e = IsListFault flags.items e
 
--- why tables do not say a lookup
+-- why tables can't encode a lookup
 abbrev pub IsLookupFault : Lookup BabyBear → TableFault → Type 0
 IsLookupFault lookup e =
     IsElementsFault lookup.elements.items e ⊎ (IsListFault lookup.multiplicities.items e ⊎ IsOptionFault lookup.flags e)
 
--- tables do not say lookup i, and why, and they say all those before it
-pub record IsUnsayableAt (lookups : List (Lookup BabyBear)) (i : ℕ) (e : TableFault) : Type 0 where
+-- tables can't encode lookup i, and why, and they can encode all those before it
+pub record IsUnencodableAt (lookups : List (Lookup BabyBear)) (i : ℕ) (e : TableFault) : Type 0 where
   pub lookup : Lookup BabyBear
   pub is_there : slice_get lookups i ≡ Some lookup
-  pub before : (k : ℕ) (other : Lookup BabyBear) → k < i → slice_get lookups k ≡ Some other → IsSayable other
+  pub before : (k : ℕ) (other : Lookup BabyBear) → k < i → slice_get lookups k ≡ Some other → IsEncodable other
   pub fault : IsLookupFault lookup e
 
 -- a list goes on from another one
@@ -103,25 +103,25 @@ abbrev pub HoldsFrom : {A : Type 0} → List A → (List A → Type 0) → Type 
 HoldsFrom {A} items P = (all : List A) → IsLonger items all → P all
 
 -- what a record says of its bus: a mark of 0 and none, or a mark of 1 and the name at a range
-abbrev pub SaysBus : List ℕ → ℕ → Span → Option (List ℕ) → Type 0
-SaysBus names mark span None = mark ≡ 0
-SaysBus names mark span (Some name) = (mark ≡ 1) × IsInside names span × (name ≡ items_at names span)
+abbrev pub EncodesBus : List ℕ → ℕ → Span → Option (List ℕ) → Type 0
+EncodesBus names mark span None = mark ≡ 0
+EncodesBus names mark span (Some name) = (mark ≡ 1) × IsInside names span × (name ≡ items_at names span)
 
 -- what a record says of its flags, likewise
-abbrev pub SaysFlags : List Node → ℕ → Span → Option (Vec (SymbolicExpression BabyBear) Global) → Type 0
-SaysFlags nodes mark span None = mark ≡ 0
-SaysFlags nodes mark span (Some flags) = (mark ≡ 1) × IsWritten nodes span flags.items
+abbrev pub EncodesFlags : List Node → ℕ → Span → Option (Vec (SymbolicExpression BabyBear) Global) → Type 0
+EncodesFlags nodes mark span None = mark ≡ 0
+EncodesFlags nodes mark span (Some flags) = (mark ≡ 1) × IsWritten nodes span flags.items
 
 -- a record is this lookup, but for its column, over all tables that go on from these
-abbrev pub SaysRecord : List Node → List Span → List ℕ → Record → Lookup BabyBear → Type 0
-SaysRecord nodes tuples names r lookup =
+abbrev pub EncodesRecord : List Node → List Span → List ℕ → Record → Lookup BabyBear → Type 0
+EncodesRecord nodes tuples names r lookup =
     (t : Tables) → IsLonger nodes t.nodes.now → IsLonger tuples t.tuples.now → IsLonger names t.names.now → IsLookup t r lookup
 
--- tables with these nodes, tuples, names and records say these lookups
-abbrev pub SayLists : List Node → List Span → List ℕ → List Record → List (Lookup BabyBear) → Type 0
-SayLists nodes tuples names records lookups =
+-- tables with these nodes, tuples, names and records encode these lookups
+abbrev pub EncodeLists : List Node → List Span → List ℕ → List Record → List (Lookup BabyBear) → Type 0
+EncodeLists nodes tuples names records lookups =
     (t : Tables) → t.nodes.now ≡ nodes → t.tuples.now ≡ tuples → t.names.now ≡ names → t.records.now ≡ records → AreLookups t lookups
 
 -- what is written says these lookups
-abbrev pub SaysWritten : Written → List (Lookup BabyBear) → Type 0
-SaysWritten w lookups = SayLists w.nodes.items w.tuples.items w.names.items w.records.items lookups
+abbrev pub EncodesWritten : Written → List (Lookup BabyBear) → Type 0
+EncodesWritten w lookups = EncodeLists w.nodes.items w.tuples.items w.names.items w.records.items lookups

@@ -2,7 +2,7 @@
 ghost use Rattle.std.specs.Prelude.{◌≡◌, ◌⊎◌, ◌++◌, ◌∷◌, [], ℕ, true, false, IfOk, MatchResult, map};
 ghost use Rattle.expressions.specs.Tree.{tree_of};
 ghost use Rattle.lookup_tables.specs.Nodes.{AreTrees, IsFirstBadNode, is_negation, is_operation};
-ghost use Rattle.lookup_tables.specs.Stack.{has_one, has_room, has_two, heights, written};
+ghost use Rattle.lookup_tables.specs.Stack.{has_one, has_room, has_two, part_depths, written};
 ghost use Rattle.lookup_tables.specs.declared.nodes.NodeFault.TheVariants.{Memory, Bad};
 
 use crate::nodes::{Node, NodeFault, is_leaf, is_negation, is_operation, joined, leaf_of};
@@ -12,13 +12,13 @@ use field::BabyBear;
 use std::alloc::Global;
 
 /// The deepest expression that is taken.
-pub(crate) const MOST_DEPTH: usize = 1024;
+pub(crate) const MAX_DEPTH: usize = 1024;
 
 /// Takes one node onto the stack.
 fn push_node(alloc: Global, stack: &mut Vec<Part>, node: &Node) -> Result<(), NodeFault>
     ensures { MatchResult result
         (λ _. written stack.new.items ≡ written stack.old.items ++ node.now ∷ [])
-        (λ e. (e ≡ Memory) ⊎ (has_room (heights stack.old.items) node.now ≡ false)) }
+        (λ e. (e ≡ Memory) ⊎ (has_room (part_depths stack.old.items) node.now ≡ false)) }
 {
     if is_leaf(node) {
         let expression = SymbolicExpression::Leaf(leaf_of(node));
@@ -40,11 +40,11 @@ fn push_negation(alloc: Global, stack: &mut Vec<Part>, node: &Node) -> Result<()
     requires { is_negation node.now ≡ true }
     ensures { MatchResult result
         (λ _. written stack.new.items ≡ written stack.old.items ++ node.now ∷ [])
-        (λ e. (e ≡ Memory) ⊎ (has_one (heights stack.old.items) ≡ false)) }
+        (λ e. (e ≡ Memory) ⊎ (has_one (part_depths stack.old.items) ≡ false)) }
 {
     match stack.pop() {
         Some(part) => {
-            if part.depth >= MOST_DEPTH {
+            if part.depth >= MAX_DEPTH {
                 return Err(NodeFault::Bad(0));
             }
             let Part { expression, depth } = part;
@@ -62,7 +62,7 @@ fn push_operation(alloc: Global, stack: &mut Vec<Part>, node: &Node) -> Result<(
     requires { is_operation node.now ≡ true }
     ensures { MatchResult result
         (λ _. written stack.new.items ≡ written stack.old.items ++ node.now ∷ [])
-        (λ e. (e ≡ Memory) ⊎ (has_two (heights stack.old.items) ≡ false)) }
+        (λ e. (e ≡ Memory) ⊎ (has_two (part_depths stack.old.items) ≡ false)) }
 {
     let Some(right) = stack.pop() else {
         return Err(NodeFault::Bad(0));
@@ -70,7 +70,7 @@ fn push_operation(alloc: Global, stack: &mut Vec<Part>, node: &Node) -> Result<(
     let Some(left) = stack.pop() else {
         return Err(NodeFault::Bad(0));
     };
-    if left.depth.max(right.depth) >= MOST_DEPTH {
+    if left.depth.max(right.depth) >= MAX_DEPTH {
         return Err(NodeFault::Bad(0));
     }
     let depth = left.depth.max(right.depth) + 1;

@@ -2,7 +2,7 @@
 ghost use Rattle.std.specs.Prelude.{◌≡◌, ◌⊎◌, ℕ, MatchResult};
 ghost use Rattle.std.specs.Option.{option_map};
 ghost use Rattle.lookup_model.specs.Outline.{bus_of};
-ghost use Rattle.lookup_tables.specs.Tables.{AreFlags, AreLookups, AreTuples, IsBus, IsBusFault, IsFirstBadRecord, IsFirstBadTuple, IsFlagsFault, IsLookup, IsRecordFault, IsSpanFault, IsWritten, NothingIs, SayLookups};
+ghost use Rattle.lookup_tables.specs.Tables.{AreFlags, AreLookups, AreTuples, IsBus, IsBusFault, IsFirstBadRecord, IsFirstBadTuple, IsFlagsFault, IsLookup, IsRecordFault, IsSpanFault, IsWritten, NothingIs, EncodeLookups};
 ghost use Rattle.lookup_tables.specs.declared.tables.TableFault.TheVariants.{Memory};
 
 use crate::nodes::{Node, NodeFault};
@@ -14,7 +14,7 @@ use std::alloc::{AllocError, AllocFailed, Global};
 use thiserror::Error;
 
 /// The most nodes of one list of expressions.
-pub(crate) const MOST_NODES: usize = 1_048_576;
+pub(crate) const MAX_NODES: usize = 1_048_576;
 
 /// A range of a table: from `start` up to, but not including, `end`.
 #[repr(C)]
@@ -76,22 +76,22 @@ pub enum TableFault {
     Range,
     /// A list of expressions has more than 1,048,576 nodes.
     #[error("a list of expressions has more than 1048576 nodes")]
-    Long,
+    TooManyNodesRead,
     /// The kind of a bus, or whether there are flags, is neither 0 nor 1.
     #[error("a kind is neither 0 nor 1")]
-    Kind,
+    BadKind,
     /// The name of a bus is not UTF-8.
     #[error("the name of a bus is not UTF-8")]
-    Name,
+    NameNotUtf8,
     /// An expression that is written is more than 1024 deep.
     #[error("an expression is more than 1024 deep")]
-    Deep,
+    TooDeep,
     /// A cell that is written is of a row whose number does not fit 32 bits.
     #[error("the row of a cell does not fit 32 bits")]
-    Row,
+    RowTooLarge,
     /// A list of expressions that is written has more than 1,048,576 nodes.
     #[error("a list of expressions would have more than 1048576 nodes")]
-    Many,
+    TooManyNodesWritten,
 }
 
 impl From<AllocError> for TableFault {
@@ -125,8 +125,8 @@ fn expressions_at(
     if span.start > span.end || span.end > nodes.len() {
         return Err(TableFault::Range);
     }
-    if span.end - span.start > MOST_NODES {
-        return Err(TableFault::Long);
+    if span.end - span.start > MAX_NODES {
+        return Err(TableFault::TooManyNodesRead);
     }
     match read_expressions(alloc, &nodes[span.start..span.end]) {
         Ok(list) => Ok(list),
@@ -167,14 +167,14 @@ fn bus_at(alloc: Global, names: &[u8], record: &Record) -> Result<Kind, TableFau
     }
     let span = record.bus;
     if record.kind != 1 {
-        return Err(TableFault::Kind);
+        return Err(TableFault::BadKind);
     }
     if span.start > span.end || span.end > names.len() {
         return Err(TableFault::Range);
     }
     match str::from_utf8(&names[span.start..span.end]) {
         Ok(name) => Ok(Kind::Global(String::from_str(alloc, name)?)),
-        Err(_) => Err(TableFault::Name),
+        Err(_) => Err(TableFault::NameNotUtf8),
     }
 }
 
@@ -193,7 +193,7 @@ fn flags_at(
     match record.exclusive {
         0 => Ok(None),
         1 => Ok(Some(expressions_at(alloc, nodes, record.flags)?)),
-        _ => Err(TableFault::Kind),
+        _ => Err(TableFault::BadKind),
     }
 }
 
@@ -262,7 +262,7 @@ pub fn read_lookups(
     alloc: Global,
     tables: &Tables<'_>,
 ) -> Result<Vec<Lookup<BabyBear>>, (usize, TableFault)>
-    ensures { MatchResult result (λ v. SayLookups tables.now v.items)
+    ensures { MatchResult result (λ v. EncodeLookups tables.now v.items)
         (λ e. (e.1 ≡ Memory) ⊎ IsFirstBadRecord tables.now e.0 e.1) }
 {
     lookups_at(alloc, tables)

@@ -5,12 +5,12 @@ ghost use Rattle.expressions.specs.Tree.{tree_of};
 ghost use Rattle.lookup_model.specs.Outline.{bus_of};
 ghost use Rattle.lookup_tables.specs.Nodes.{entry_node, leaf_node, node, nodes_of};
 ghost use Rattle.lookup_tables.specs.Tables.{AreTuples, IsInside, IsWritten, items_at};
-ghost use Rattle.lookup_tables.specs.Written.{AreSayable, AreSayableFlags, HoldsFrom, IsElementsFault, IsListFault, IsLonger, IsLookupFault, IsNearEntry, IsNearLeaf, IsOptionFault, IsSayable, IsSayableWithin, IsTreeFault, IsUnsayableAt, SaysBus, SaysFlags, SaysRecord, SaysWritten};
+ghost use Rattle.lookup_tables.specs.Written.{AreSayable, AreSayableFlags, HoldsFrom, IsElementsFault, IsListFault, IsLonger, IsLookupFault, IsNearEntry, IsNearLeaf, IsOptionFault, IsEncodable, IsEncodableWithin, IsTreeFault, IsUnencodableAt, EncodesBus, EncodesFlags, EncodesRecord, EncodesWritten};
 ghost use Rattle.lookup_tables.specs.declared.tables.TableFault.TheVariants.{Memory};
 
 use crate::nodes::Node;
-use crate::reader::MOST_DEPTH;
-use crate::tables::{MOST_NODES, Record, Span, TableFault};
+use crate::reader::MAX_DEPTH;
+use crate::tables::{MAX_NODES, Record, Span, TableFault};
 use expressions::{BaseEntry, BaseLeaf, SymbolicExpression};
 use field::BabyBear;
 use lookup_model::{Kind, Lookup};
@@ -64,7 +64,7 @@ fn node(kind: u32, number: u32, index: usize) -> Node
 /// Refuses one of a row whose number does not fit 32 bits.
 fn variable_node(entry: BaseEntry, index: usize) -> Result<Node, TableFault>
     ensures { MatchResult result (λ n. (n ≡ entry_node entry index) × IsNearEntry entry)
-        (λ e. (e ≡ TableFault.Row) × (¬ IsNearEntry entry)) }
+        (λ e. (e ≡ TableFault.RowTooLarge) × (¬ IsNearEntry entry)) }
 {
     match entry {
         BaseEntry::Main { offset } => row_node(0, offset, index),
@@ -77,10 +77,10 @@ fn variable_node(entry: BaseEntry, index: usize) -> Result<Node, TableFault>
 fn row_node(kind: u32, row: usize, index: usize) -> Result<Node, TableFault>
     ensures { MatchResult result
         (λ n. (n ≡ node kind row index) × (row < 2 ^ 32))
-        (λ e. (e ≡ TableFault.Row) × (2 ^ 32 ≤ row)) }
+        (λ e. (e ≡ TableFault.RowTooLarge) × (2 ^ 32 ≤ row)) }
 {
     if row > LAST_ROW {
-        return Err(TableFault::Row);
+        return Err(TableFault::RowTooLarge);
     }
     Ok(node(kind, row as u32, index))
 }
@@ -90,7 +90,7 @@ fn row_node(kind: u32, row: usize, index: usize) -> Result<Node, TableFault>
 /// Refuses a cell of a row whose number does not fit 32 bits.
 fn node_of(leaf: &BaseLeaf<BabyBear>) -> Result<Node, TableFault>
     ensures { MatchResult result (λ n. (n ≡ leaf_node leaf.now) × IsNearLeaf leaf.now)
-        (λ e. (e ≡ TableFault.Row) × (¬ IsNearLeaf leaf.now)) }
+        (λ e. (e ≡ TableFault.RowTooLarge) × (¬ IsNearLeaf leaf.now)) }
 {
     match leaf {
         BaseLeaf::Variable(variable) => variable_node(variable.entry, variable.index),
@@ -107,7 +107,7 @@ fn push_leaf(nodes: &mut Vec<Node>, leaf: &BaseLeaf<BabyBear>) -> Result<(), Tab
     ensures { MatchResult result
         (λ _. (nodes.new.items ≡ nodes.old.items ++ leaf_node leaf.now ∷ [])
         × IsNearLeaf leaf.now)
-        (λ e. (e ≡ Memory) ⊎ ((e ≡ TableFault.Row) × (¬ IsNearLeaf leaf.now))) }
+        (λ e. (e ≡ Memory) ⊎ ((e ≡ TableFault.RowTooLarge) × (¬ IsNearLeaf leaf.now))) }
 {
     nodes.push(node_of(leaf)?)?;
     Ok(())
@@ -131,11 +131,11 @@ fn push_nodes(
 ) -> Result<(), TableFault>
     ensures { MatchResult result
         (λ _. (nodes.new.items ≡ nodes.old.items ++ nodes_of (tree_of expression.now))
-        × IsSayableWithin depth (tree_of expression.now))
+        × IsEncodableWithin depth (tree_of expression.now))
         (λ e. (e ≡ Memory) ⊎ IsTreeFault depth (tree_of expression.now) e) }
 {
     if depth == 0 {
-        return Err(TableFault::Deep);
+        return Err(TableFault::TooDeep);
     }
     match expression {
         SymbolicExpression::Leaf(leaf) => push_leaf(nodes, leaf),
@@ -163,7 +163,7 @@ fn push_nodes(
 
 /// Appends the nodes of a list of expressions, and answers their range.
 ///
-/// Refuses the first expression that no nodes say, and then a list of too many nodes.
+/// Refuses the first expression that no nodes encode, and then a list of too many nodes.
 fn write_list(
     nodes: &mut Vec<Node>,
     expressions: &[SymbolicExpression<BabyBear>],
@@ -176,11 +176,11 @@ fn write_list(
 {
     let start = nodes.len();
     for expression in expressions {
-        push_nodes(nodes, expression, MOST_DEPTH)?;
+        push_nodes(nodes, expression, MAX_DEPTH)?;
     }
     let end = nodes.len();
-    if end - start > MOST_NODES {
-        return Err(TableFault::Many);
+    if end - start > MAX_NODES {
+        return Err(TableFault::TooManyNodesWritten);
     }
     Ok(Span { start, end })
 }
@@ -228,7 +228,7 @@ fn write_name(names: &mut Vec<u8>, name: &str) -> Result<Span, AllocError>
 /// Appends the name of a lookup's bus, if it is on one.
 fn write_bus(names: &mut Vec<u8>, kind: &Kind) -> Result<Marked, AllocError>
     ensures { IfOk result (λ bus. IsLonger names.old.items names.new.items
-        × HoldsFrom names.new.items (λ all. SaysBus all bus.mark bus.span (bus_of kind.now))) }
+        × HoldsFrom names.new.items (λ all. EncodesBus all bus.mark bus.span (bus_of kind.now))) }
 {
     match kind {
         Kind::Local => Ok(unmarked()),
@@ -246,7 +246,7 @@ fn write_flags(
 ) -> Result<Marked, TableFault>
     ensures { MatchResult result
         (λ made. IsLonger nodes.old.items nodes.new.items
-        × HoldsFrom nodes.new.items (λ all. SaysFlags all made.mark made.span flags.now)
+        × HoldsFrom nodes.new.items (λ all. EncodesFlags all made.mark made.span flags.now)
         × AreSayableFlags flags.now)
         (λ e. (e ≡ Memory) ⊎ IsOptionFault flags.now e) }
 {
@@ -269,8 +269,8 @@ fn write_lookup(
     ensures { MatchResult result
         (λ made. IsLonger nodes.old.items nodes.new.items
         × IsLonger spans.old.items spans.new.items × IsLonger names.old.items names.new.items
-        × SaysRecord nodes.new.items spans.new.items names.new.items made lookup.now
-        × IsSayable lookup.now)
+        × EncodesRecord nodes.new.items spans.new.items names.new.items made lookup.now
+        × IsEncodable lookup.now)
         (λ e. (e ≡ Memory) ⊎ IsLookupFault lookup.now e) }
 {
     let bus = write_bus(names, &lookup.kind)?;
@@ -299,8 +299,8 @@ pub fn write_lookups(
 ) -> Result<Written, (usize, TableFault)>
     requires { map (λ lookup. lookup.column) lookups.now
         ≡ range_with_len 0 (length lookups.now) }
-    ensures { MatchResult result (λ tables. SaysWritten tables lookups.now)
-        (λ e. (e.1 ≡ Memory) ⊎ IsUnsayableAt lookups.now e.0 e.1) }
+    ensures { MatchResult result (λ tables. EncodesWritten tables lookups.now)
+        (λ e. (e.1 ≡ Memory) ⊎ IsUnencodableAt lookups.now e.0 e.1) }
 {
     let mut nodes = Vec::new(alloc);
     let mut tuples = Vec::new(alloc);

@@ -1,5 +1,5 @@
 -- The batch of a memory check over a plan.
-use Rattle.std.proofs.Common.{◌≡◌, ◌≢◌, ℕ, inl, inr, List, All, Result, Ok, Err, IfErr, OnOk, length, map, refl, sym, ap, subst, ◌∙◌}
+use Rattle.std.proofs.Common.{◌≡◌, ◌≢◌, inl, inr, List, All, Result, Ok, Err, IfErr, OnOk, length, map, sym, ap, subst, ◌∙◌}
 use Rattle.std.proofs.lemmas.List.{length-map}
 use Rattle.std.specs.List.{zip}
 use Rattle.matrix.specs.Matrix.{Matrix}

@@ -178,7 +178,7 @@ fn the_first_fault_of_a_record(rt: HostRuntime) {
     let alloc = rt.alloc();
     let (good, bad, past) = (span(0, 1), span(0, 2), span(0, 3));
     let fault = fault_of(alloc, &[0xff], &[bad], past, past);
-    holds(&rt, "a name", matches!(&fault, Some(TableFault::Name)));
+    holds(&rt, "a name", matches!(&fault, Some(TableFault::NameNotUtf8)));
     let fault = fault_of(alloc, b"a", &[good, bad, past], past, past);
     let is_second = matches!(&fault, Some(TableFault::Node(1)));
     holds(&rt, "a bad node of a tuple", is_second);
@@ -495,7 +495,7 @@ fn refuses_what_nodes_do_not_say(rt: HostRuntime) {
     let alloc = rt.alloc();
     let deep = [counted(&rt, alloc, negated(&rt, alloc, 1024))];
     let written = write_lookups(alloc, &deep);
-    let is_deep = matches!(&written, Err((0, TableFault::Deep)));
+    let is_deep = matches!(&written, Err((0, TableFault::TooDeep)));
     holds(&rt, "1025 deep", is_deep);
     let entry = BaseEntry::Main {
         offset: 4_294_967_296,
@@ -503,7 +503,7 @@ fn refuses_what_nodes_do_not_say(rt: HostRuntime) {
     let cell = SymbolicExpression::from(SymbolicVariable::new(entry, 0));
     let far = [counted(&rt, alloc, cell)];
     let written = write_lookups(alloc, &far);
-    let is_far = matches!(&written, Err((0, TableFault::Row)));
+    let is_far = matches!(&written, Err((0, TableFault::RowTooLarge)));
     holds(&rt, "a row past 32 bits", is_far);
     let deepest = [counted(&rt, alloc, negated(&rt, alloc, 1023))];
     let made = write_lookups(alloc, &deepest).expect(&rt, "tables");

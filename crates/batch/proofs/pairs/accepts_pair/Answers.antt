@@ -1,4 +1,3 @@
-use Rattle.std.proofs.Common.{◌≡◌}
 use Rattle.std.proofs.lemmas.Result.{MatchResult-weaker}
 use Rattle.batch.proofs.PlanCalls.{have_prefixes}
 use Rattle.batch.proofs.pairs.accepts_pair.Goals as goal

@@ -1,6 +1,6 @@
-use Rattle.std.proofs.Common.{inr}
+use Rattle.std.proofs.Common.{refl, inr}
 use Rattle.lists.proofs.Zips.{AllZip-paired}
-use Rattle.lookup_tables.proofs.ZipLaws.{zipped_next}
+use Rattle.lists.proofs.Zips.{AllZip-more}
 use Rattle.lookup_tables.specs.Traces.{AreTracesOf}
 use Rattle.lookup_c.proofs.FirstFaults.{first_fault}
 use Rattle.lookup_c.proofs.AnswerLaws.{refused_is}
@@ -8,7 +8,7 @@ use Rattle.lookup_c.proofs.batch_tables.all_traces.Goals as goal
 
 pub loop-index-preserved : goal.loop-index-preserved
 loop-index-preserved c =
-    zipped_next AreTracesOf c.args.traces.now c.loop-index.index _ c.loop-index.all.items _ c.in_ok-traces_of.field-0 c.loop-index-test.true c.in_ok-push.ensures.items c.in_ok-traces_of.ensures c.loop-index.invariant
+    AllZip-more AreTracesOf c.args.traces.now c.loop-index.all.items _ c.loop-index.index _ _ c.in_ok-traces_of.field-0 c.loop-index-test.true refl c.in_ok-push.ensures.items c.in_ok-traces_of.ensures c.loop-index.invariant
 
 pub returns-in_err-traces_of : goal.returns-in_err-traces_of
 returns-in_err-traces_of c = rw (refused_is c.from_residual-in_err-traces_of.result c.from_residual-in_err-traces_of.ensures.1) (inr (first_fault _ _ c.args.traces.now c.loop-index.index _ c.loop-index-test.true (AllZip-paired AreTracesOf _ _ c.loop-index.invariant) c.in_err-traces_of.ensures))

@@ -4,7 +4,7 @@ use Rattle.lookup_debug.specs.Contributions.{AreFitting, traced_of}
 use Rattle.lookup_debug.specs.declared.instance.LookupDebugInstance.{LookupDebugInstance}
 use Rattle.lookup.specs.Lookups.{lookups_of}
 use Rattle.lookup_tables.specs.Nodes.{BabyBear}
-use Rattle.lookup_tables.specs.Tables.{SayLookups}
+use Rattle.lookup_tables.specs.Tables.{EncodeLookups}
 use Rattle.lookup_tables.specs.Traces.{AreTracesOf}
 use Rattle.lookup_c.specs.DebugCheck.{all_traced}
 use Rattle.lookup_c.proofs.DebugLaws.{checks_tables}
@@ -17,7 +17,7 @@ debug_instances-requires c =
       c.if-traces-airs.false,
       c.deref.ensures.len,
       c.deref-2.ensures.len,
-      AllZip-long (λ tables set. SayLookups tables (lookups_of set)) c.args.airs.now c.in_ok-sets.sets.items c.in_ok-sets.ensures,
+      AllZip-long (λ tables set. EncodeLookups tables (lookups_of set)) c.args.airs.now c.in_ok-sets.sets.items c.in_ok-sets.ensures,
       AllZip-long AreTracesOf c.args.traces.now c.in_ok-all.all.items c.in_ok-all.ensures,
       ap length c.deref.ensures.value,
       ap length c.deref-2.ensures.value,

@@ -1,7 +1,7 @@
 use Rattle.std.proofs.Common.{◌∙◌, List, inl, inr, subst, sym}
 use Rattle.lookup_model.specs.declared.types.Lookup.{Lookup}
 use Rattle.lookup_tables.specs.Nodes.{BabyBear}
-use Rattle.lookup_tables.specs.Tables.{SayLookups}
+use Rattle.lookup_tables.specs.Tables.{EncodeLookups}
 use Rattle.lookup_c.proofs.GenerateLaws.{generates_tables}
 use Rattle.lookup_c.proofs.AnswerLaws.{refused_is}
 use Rattle.lookup_c.proofs.generate.generate_tables.Goals as goal
@@ -12,5 +12,5 @@ returns-in_err-traces c = rw (refused_is c.from_residual-in_err-traces.result c.
 pub returns : goal.returns
 returns c =
     generates_tables _ c.args.tables.now c.args.traces.now c.generate_lookups.result c.deref.result.now c.in_ok-traces.traces c.deref-2.result.now
-    (subst (λ (ls : List (Lookup BabyBear)). SayLookups c.args.tables.now ls) (sym c.deref.ensures.value) c.in_ok-lookups.ensures) c.in_ok-traces.ensures
+    (subst (λ (ls : List (Lookup BabyBear)). EncodeLookups c.args.tables.now ls) (sym c.deref.ensures.value) c.in_ok-lookups.ensures) c.in_ok-traces.ensures
     c.args.challenges.now (c.deref-2.ensures.value ∙ c.in_ok-challenges.ensures.0, c.in_ok-challenges.ensures.1) c.generate_lookups.ensures

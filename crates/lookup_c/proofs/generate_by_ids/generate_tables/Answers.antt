@@ -1,7 +1,7 @@
 use Rattle.std.proofs.Common.{◌∙◌, List, ap, arith, inl, inr, length, subst, sym}
 use Rattle.lookup_model.specs.declared.types.Lookup.{Lookup}
 use Rattle.lookup_tables.specs.Nodes.{BabyBear}
-use Rattle.lookup_tables.specs.Tables.{SayLookups}
+use Rattle.lookup_tables.specs.Tables.{EncodeLookups}
 use Rattle.lookup_c.proofs.GenerateLaws.{generates_by_ids}
 use Rattle.lookup_c.proofs.AnswerLaws.{refused_is}
 use Rattle.lookup_c.proofs.generate_by_ids.generate_tables.Goals as goal
@@ -12,7 +12,7 @@ returns-in_err-traces c = rw (refused_is c.from_residual-in_err-traces.result c.
 pub returns : goal.returns
 returns c =
     generates_by_ids _ c.args.tables.now c.args.traces.now c.generate_lookups.result c.deref.result.now c.in_ok-traces.traces c.deref-2.result.now
-    (subst (λ (ls : List (Lookup BabyBear)). SayLookups c.args.tables.now ls) (sym c.deref.ensures.value) c.in_ok-lookups.ensures) c.in_ok-traces.ensures
+    (subst (λ (ls : List (Lookup BabyBear)). EncodeLookups c.args.tables.now ls) (sym c.deref.ensures.value) c.in_ok-lookups.ensures) c.in_ok-traces.ensures
     c.args.ids.now c.args.sizes.now c.args.alpha.now c.args.beta.now (omega (arith, c.if-ids-len.false, c.len.ensures, ap length c.deref.ensures.value))
     (record {
       a = c.in_ok-alpha.alpha;

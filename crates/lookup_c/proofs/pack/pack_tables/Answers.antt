@@ -14,7 +14,7 @@ returns c = MatchResult-weaker c.tables_for.result c.tables_for.ensures
     (λ w made. (
       record {
         before = c.in_ok-set.set;
-        say = c.in_ok-set.ensures;
+        encoded = c.in_ok-set.ensures;
         after = c.in_ok-after.after;
         packed = c.in_ok-after.ensures;
         written = made.0;

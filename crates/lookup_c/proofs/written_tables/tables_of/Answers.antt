@@ -3,7 +3,7 @@ use Rattle.std.specs.List.{range_with_len}
 use Rattle.lookup.specs.Lookups.{lookups_of}
 use Rattle.lookup_model.specs.declared.types.Lookup.{Lookup}
 use Rattle.lookup_tables.specs.Nodes.{BabyBear}
-use Rattle.lookup_tables.specs.Written.{SaysWritten}
+use Rattle.lookup_tables.specs.Written.{EncodesWritten}
 use Rattle.lookup_c.proofs.TableWriting.{columns_are}
 use Rattle.lookup_c.proofs.written_tables.tables_of.Goals as goal
 
@@ -12,4 +12,4 @@ write_lookups-requires c =
     subst (λ (ls : List (Lookup BabyBear)). map (λ l. l.column) ls ≡ range_with_len 0 (length ls)) (sym c.as_slice.ensures.lookups) (columns_are (lookups_of c.args.set.now) c.as_slice.ensures.records)
 
 pub returns-in-Ok : goal.returns-in-Ok
-returns-in-Ok c = subst (λ (ls : List (Lookup BabyBear)). SaysWritten c.in-Ok.tables ls) c.as_slice.ensures.lookups c.in-Ok.ensures
+returns-in-Ok c = subst (λ (ls : List (Lookup BabyBear)). EncodesWritten c.in-Ok.tables ls) c.as_slice.ensures.lookups c.in-Ok.ensures

@@ -1,12 +1,12 @@
-use Rattle.std.proofs.Common.{inl, inr, arith}
+use Rattle.std.proofs.Common.{refl, inl, inr, arith}
 use Rattle.lookup_tables.proofs.TableLaws.{all_lookups, columns_next, first_bad_record}
-use Rattle.lookup_tables.proofs.ZipLaws.{zipped_next}
+use Rattle.lists.proofs.Zips.{AllZip-more}
 use Rattle.lookup_tables.specs.Tables.{IsLookup}
 use Rattle.lookup_tables.proofs.tables.lookups_at.Goals as goal
 
 pub loop-index-preserved : goal.loop-index-preserved
 loop-index-preserved c = record {
-  are = zipped_next (IsLookup c.args.tables.now) c.args.tables.now.records.now c.loop-index.index _ c.loop-index.lookups.items _ c.in-Ok.lookup c.loop-index-test.true c.in_default.ensures.items c.in-Ok.ensures.0 c.loop-index.invariant.are;
+  are = AllZip-more (IsLookup c.args.tables.now) c.args.tables.now.records.now c.loop-index.lookups.items _ c.loop-index.index _ _ c.in-Ok.lookup c.loop-index-test.true refl c.in_default.ensures.items c.in-Ok.ensures.0 c.loop-index.invariant.are;
   columns = columns_next c.loop-index.lookups.items _ c.in-Ok.lookup c.loop-index.index c.in_default.ensures.items c.in-Ok.ensures.1 c.loop-index.invariant.columns;
 }
 

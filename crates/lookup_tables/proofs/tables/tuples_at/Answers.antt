@@ -1,13 +1,13 @@
-use Rattle.std.proofs.Common.{inl, inr}
+use Rattle.std.proofs.Common.{refl, inl, inr}
 use Rattle.std.proofs.lemmas.Result.{err_from_is_err_and}
 use Rattle.lookup_tables.proofs.TableLaws.{first_bad_tuple, none_zipped}
-use Rattle.lookup_tables.proofs.ZipLaws.{zipped_next}
+use Rattle.lists.proofs.Zips.{AllZip-more}
 use Rattle.lookup_tables.specs.Tables.{IsWritten}
 use Rattle.lookup_tables.proofs.tables.tuples_at.Goals as goal
 
 pub loop-span-preserved : goal.loop-span-preserved
 loop-span-preserved c =
-    zipped_next (λ span tuple. IsWritten c.args.nodes.now span tuple.items) c.args.spans.now c.loop-span.span-index _ c.loop-span.tuples.items _ c.in_ok-expressions_at.field-0 c.loop-span-test.true c.in_ok-push.ensures.items c.in_ok-expressions_at.ensures c.loop-span.invariant
+    AllZip-more (λ span tuple. IsWritten c.args.nodes.now span tuple.items) c.args.spans.now c.loop-span.tuples.items _ c.loop-span.span-index _ _ c.in_ok-expressions_at.field-0 c.loop-span-test.true refl c.in_ok-push.ensures.items c.in_ok-expressions_at.ensures c.loop-span.invariant
 
 pub returns-in_err-expressions_at : goal.returns-in_err-expressions_at
 returns-in_err-expressions_at c =

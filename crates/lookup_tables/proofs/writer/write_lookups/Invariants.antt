@@ -3,12 +3,12 @@ use Rattle.std.specs.List.{AllZip, slice_get}
 use Rattle.lookup_model.specs.declared.types.Lookup.{Lookup}
 use Rattle.lookup_tables.specs.Nodes.{BabyBear}
 use Rattle.lookup_tables.specs.Tables.{IsLookup}
-use Rattle.lookup_tables.specs.Written.{IsLonger, IsSayable}
+use Rattle.lookup_tables.specs.Written.{IsLonger, IsEncodable}
 use Rattle.lookup_tables.specs.declared.tables.Tables.{Tables}
 use Rattle.lookup_tables.proofs.writer.write_lookups.Given as goal
 
 abbrev pub invariant-loop-index : goal.invariant-loop-index
 invariant-loop-index l = record {
-  say : (t : Tables) → IsLonger l.nodes.items t.nodes.now → IsLonger l.tuples.items t.tuples.now → IsLonger l.names.items t.names.now → AllZip (IsLookup t) l.records.items (take l.index l.lookups);
-  said : (k : ℕ) (other : Lookup BabyBear) → k < l.index → slice_get l.lookups k ≡ Some other → IsSayable other;
+  encoded : (t : Tables) → IsLonger l.nodes.items t.nodes.now → IsLonger l.tuples.items t.tuples.now → IsLonger l.names.items t.names.now → AllZip (IsLookup t) l.records.items (take l.index l.lookups);
+  encodable : (k : ℕ) (other : Lookup BabyBear) → k < l.index → slice_get l.lookups k ≡ Some other → IsEncodable other;
 }

@@ -17,7 +17,7 @@ loop-tuple-init c = record {
   longer = longer_same c.args.nodes.now.items;
   made = [];
   spans_are = sym (append-nil c.args.spans.now.items);
-  say = λ all longer. tt;
+  encoded = λ all longer. tt;
   each = All-nil (λ tuple. AreSayable tuple.items);
 }
 
@@ -44,7 +44,7 @@ loop-tuple-preserved c =
       longer = longer_then c.args.nodes.now.items c.loop-tuple.nodes.items c.write_list.new.nodes.items so_far.longer c.in_ok-span.ensures.0;
       made = so_far.made ++ span ∷ [];
       spans_are = c.in_ok-push.ensures.items ∙ (ap (λ ss. ss ++ span ∷ []) so_far.spans_are ∙ append_assoc c.args.spans.now.items so_far.made (span ∷ []));
-      say = tuples_next c.args.tuples.now c.loop-tuple.tuple-index c.tuple-item.result so_far.made span c.loop-tuple.nodes.items c.write_list.new.nodes.items c.loop-tuple-test.true c.tuple-item.is c.in_ok-span.ensures.0 so_far.say
+      encoded = tuples_next c.args.tuples.now c.loop-tuple.tuple-index c.tuple-item.result so_far.made span c.loop-tuple.nodes.items c.write_list.new.nodes.items c.loop-tuple-test.true c.tuple-item.is c.in_ok-span.ensures.0 so_far.encoded
           (λ all further. subst (λ (es : List (SymbolicExpression BabyBear)). IsWritten all span es) c.deref.ensures.value (c.in_ok-span.ensures.1 all further));
       each = All-more (λ tuple. AreSayable tuple.items) c.args.tuples.now c.loop-tuple.tuple-index c.tuple-item.result c.loop-tuple-test.true so_far.each
           (subst (λ (v : Vec (SymbolicExpression BabyBear) Global). AreSayable v.items) c.tuple-item.is
@@ -57,6 +57,6 @@ returns c =
     let whole : take c.loop-tuple.tuple-index c.args.tuples.now ≡ c.args.tuples.now = take_all c.loop-tuple.tuple-index c.args.tuples.now (omega (arith, c.loop-tuple-test.false)) in (
       so_far.longer,
       (so_far.made, so_far.spans_are),
-      tuples_written c.args.tuples.now c.loop-tuple.tuple-index c.args.spans.now.items so_far.made c.loop-tuple.spans.items c.loop-tuple.nodes.items (record { start = c.len-start.result; end = c.len.result }) (omega (arith, c.loop-tuple-test.false)) so_far.spans_are (omega (arith, c.len-start.ensures)) (omega (arith, c.len.ensures)) so_far.say,
+      tuples_written c.args.tuples.now c.loop-tuple.tuple-index c.args.spans.now.items so_far.made c.loop-tuple.spans.items c.loop-tuple.nodes.items (record { start = c.len-start.result; end = c.len.result }) (omega (arith, c.loop-tuple-test.false)) so_far.spans_are (omega (arith, c.len-start.ensures)) (omega (arith, c.len.ensures)) so_far.encoded,
       subst (λ (ts : List (Vec (SymbolicExpression BabyBear) Global)). All (λ tuple. AreSayable tuple.items) ts) whole so_far.each,
     )

@@ -9,6 +9,6 @@ invariant-loop-tuple l = record {
   longer : IsLonger l.initial.nodes.items l.nodes.items;
   made : List Span;
   spans_are : l.spans.items ≡ l.initial.spans.items ++ made;
-  say : HoldsFrom l.nodes.items (λ all. AreTuples all made (take l.tuple-index l.tuples));
+  encoded : HoldsFrom l.nodes.items (λ all. AreTuples all made (take l.tuple-index l.tuples));
   each : All (λ tuple. AreSayable tuple.items) (take l.tuple-index l.tuples);
 }

@@ -1,4 +1,4 @@
-use Rattle.std.proofs.Common.{◌≡◌, ◌≤◌, ℕ, List, length, subst, subst₂, sym, ap, ◌∙◌, arith}
+use Rattle.std.proofs.Common.{◌≤◌, ℕ, List, length, subst, subst₂, sym, ap, ◌∙◌, arith}
 use Rattle.field.specs.laws.Extension.{of_laws}
 use Rattle.lookup_model.proofs.Counting.MessageNumbers.{keys_within}
 use Rattle.lookup_model.specs.Batches.Counts.{message_count}
