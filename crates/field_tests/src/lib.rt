@@ -12,6 +12,8 @@ mod batch_inverse;
 #[cfg(test)]
 mod cases;
 #[cfg(test)]
+mod division;
+#[cfg(test)]
 mod integers_modulo_2;
 #[cfg(test)]
 mod integers_modulo_7;

@@ -1,0 +1,142 @@
+ghost use Rattle.std.specs.Prelude.{◌≡◌, ◌≢◌, IfOk, All, length};
+
+use crate::cases::holds_at;
+use field::{
+    BabyBear, BabyBear4, DivisionLists, Domain, ExtensionField, F2, F7, Field, InverseCount,
+    PrimeCharacteristicRing,
+};
+use std::alloc::{AllocError, Global};
+
+/// Those of these elements that are not zero.
+fn units_of<K: Field>(alloc: Global, xs: &[K]) -> Result<Vec<K>, AllocError>
+    ensures { IfOk result (λ v. All (λ x. x ≢ K.ring.zero) v.items) }
+{
+    let mut units = Vec::with_capacity(alloc, xs.len())?;
+    for x in xs {
+        if !x.is_zero() {
+            units.push(*x)?;
+        }
+    }
+    Ok(units)
+}
+
+/// Whether division by these elements gives quotients that, times the denominators, are the numerators
+/// again, by one counted inverse, or by none if there are none.
+fn divides<F: Field, K: ExtensionField<F>>(
+    lists: &mut DivisionLists<K>,
+    quotients: &mut [K],
+    numerators: &[K],
+    denominators: &[K],
+) -> bool
+    requires long { length quotients.old ≡ length denominators.now }
+    requires nonzero { All (λ x. x ≢ K.ring.zero) denominators.now }
+{
+    let mut count = InverseCount::new();
+    if K::divide_all(lists, quotients, denominators, &mut count).is_err() {
+        return false;
+    }
+    let again = quotients.iter().zip(denominators).map(|(q, d)| *q * *d);
+    let calls = if denominators.is_empty() { 0 } else { 1 };
+    again.eq(numerators.iter().copied()) && count.get() == calls
+}
+
+/// Whether the first elements of one list, divided by the units of another, are such quotients.
+fn divides_units<F: Field, K: ExtensionField<F>>(
+    alloc: Global,
+    lists: &mut DivisionLists<K>,
+    numerators: &[K],
+    denominators: &[K],
+) -> Result<bool, AllocError> {
+    let units = units_of(alloc, denominators)?;
+    let mut quotients = Vec::with_capacity(alloc, units.len())?;
+    for x in numerators {
+        if quotients.len() < units.len() {
+            quotients.push(*x)?;
+        }
+    }
+    if quotients.len() != units.len() {
+        return Ok(false);
+    }
+    let before = quotients.clone()?;
+    Ok(divides::<F, K>(lists, &mut quotients, &before, &units))
+}
+
+/// Whether lists of each of these lengths are divided, one after the other with the same lists to work in.
+fn all_divide<F: Field, K: ExtensionField<F>>(
+    alloc: Global,
+    numerators: &[K],
+    denominators: &[K],
+    lengths: &[usize],
+) -> bool {
+    let mut lists = DivisionLists::new(alloc);
+    for n in lengths {
+        if *n > numerators.len() || *n > denominators.len() {
+            return false;
+        }
+        let held = divides_units::<F, K>(alloc, &mut lists, &numerators[..*n], &denominators[..*n]);
+        if !matches!(held, Ok(true)) {
+            return false;
+        }
+    }
+    true
+}
+
+/// Lengths that fill blocks of four, and that do not; shorter ones after longer ones too.
+const LENGTHS: [usize; 24] = [
+    17, 0, 1, 2, 3, 4, 5, 6, 7, 8, 9, 10, 11, 12, 13, 14, 15, 16, 1021, 1022, 1023, 1024, 1025, 3,
+];
+
+/// Elements with all four coefficients, the numerators' first ones in the base field.
+fn quartics(alloc: Global, n: u32, embedded: u32) -> Result<Vec<BabyBear4>, AllocError> {
+    let mut list = Vec::with_capacity(alloc, n as usize)?;
+    for i in 0..n {
+        let first = BabyBear::new(i + 2);
+        if i < embedded {
+            list.push(BabyBear4::new([first, BabyBear::ZERO, BabyBear::ZERO, BabyBear::ZERO]))?;
+        } else {
+            let square = first * first;
+            list.push(BabyBear4::new([square, first, BabyBear::new(5), square * first]))?;
+        }
+    }
+    Ok(list)
+}
+
+#[test]
+fn quartic_lists_divide(rt: HostRuntime) {
+    let alloc = rt.alloc();
+    for embedded in [0, 4, 9, 1025] {
+        let held = match (quartics(alloc, 1025, embedded), quartics(alloc, 1025, 0)) {
+            (Ok(numerators), Ok(denominators)) => {
+                all_divide::<BabyBear, BabyBear4>(alloc, &numerators, &denominators, &LENGTHS)
+            }
+            _ => false,
+        };
+        holds_at(&rt, "embedded numerators", embedded, held);
+    }
+}
+
+/// Elements one after another.
+fn elements<K: Field>(alloc: Global, first: u32, n: u32) -> Result<Vec<K>, AllocError> {
+    let mut list = Vec::with_capacity(alloc, n as usize)?;
+    for i in 0..n {
+        let x = K::from_u32(first + i);
+        list.push(if x.is_zero() { K::ONE } else { x })?;
+    }
+    Ok(list)
+}
+
+/// Whether lists over a field divide, where it extends itself.
+fn over_itself<K: Field>(alloc: Global) -> bool {
+    match (elements::<K>(alloc, 3, 1025), elements::<K>(alloc, 1, 1025)) {
+        (Ok(numerators), Ok(denominators)) => {
+            all_divide::<K, K>(alloc, &numerators, &denominators, &LENGTHS)
+        }
+        _ => false,
+    }
+}
+
+#[test]
+fn lists_over_small_fields_divide(rt: HostRuntime) {
+    holds_at(&rt, "modulo", 2, over_itself::<F2>(rt.alloc()));
+    holds_at(&rt, "modulo", 7, over_itself::<F7>(rt.alloc()));
+}
