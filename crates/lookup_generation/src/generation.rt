@@ -232,7 +232,13 @@ fn push_chunk<F: Field, EF: ExtensionDomain<F>, I: Inverter<EF>>(
         → I.count inverter.new ≡ I.count inverter.old }
 {
     let ratios = ratios_of(alloc, memory, inputs, first, end)?;
-    let fractions = values_of(alloc, &mut memory.fractions, &ratios, inverter)?;
+    let fractions = values_of::<F, EF, I>(
+        alloc,
+        &mut memory.fractions,
+        &mut memory.division,
+        &ratios,
+        inverter,
+    )?;
     memory.ratios.put(ratios)?;
     let num_rows = end - first;
     let by_lookup = RowMajorMatrix::new(fractions, num_rows);
