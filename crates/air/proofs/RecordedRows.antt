@@ -11,7 +11,7 @@ use Rattle.expressions.specs.ExtTree.{ExtTree, variable}
 use Rattle.expressions.specs.Layout.{EntryFits, Fits}
 use Rattle.expressions.specs.Meaning.{cells_of, variable_value}
 use Rattle.expressions.specs.Tree.{Tree, leaf}
-use Rattle.air.specs.Variables.{AreVariables, IsVariableRow}
+use Rattle.air.specs.internal.Variables.{AreVariables, IsVariableRow}
 use Rattle.expressions.specs.Window.{ExtWindow, Window}
 use Rattle.expressions.specs.declared.base_expression.BaseLeaf.TheVariants.{Variable}
 use Rattle.expressions.specs.declared.layout.AirLayout.{AirLayout}

@@ -4,7 +4,7 @@ use Rattle.std.proofs.Math.Seq.{drop-append_seam, take-append_seam}
 use Rattle.std.proofs.lemmas.List.{drop_all, take_all}
 use Rattle.matrix.specs.Matrix.{row}
 use Rattle.expressions.specs.Builder.{MeansRow}
-use Rattle.air.specs.Variables.{AreVariables, IsVariableRow, IsVariableMatrix}
+use Rattle.air.specs.internal.Variables.{AreVariables, IsVariableRow, IsVariableMatrix}
 
 -- one more variable with the next index makes the list longer
 pub variables_more : {V E : Type 0} (entry_of : V → E) (index_of : V → ℕ) (entry : E) (i n : ℕ) (vs : List V) (v : V) → AreVariables entry_of index_of entry i vs → n ≡ i + length vs → entry_of v ≡ entry → index_of v ≡ n → AreVariables entry_of index_of entry i (vs ++ v ∷ [])

@@ -13,9 +13,9 @@ use Rattle.lookup_model.specs.declared.types.Lookup.{Lookup}
 use Rattle.lookup_model.specs.Names.{same_name}
 use Rattle.lookup_model.proofs.Names.{same_name-Decides}
 use Rattle.lookup.proofs.NamedWidthLaws.{at_inserted, greatest_push}
-use Rattle.batch.specs.Numbering.{AreGivenInOrder, IsBusId, IsKnown}
 use Rattle.batch.specs.Order.{AreInOrder, bus_at, next_id, same_bus}
 use Rattle.batch.specs.declared.ids.GivenIds.{GivenIds}
+use Rattle.batch.specs.internal.Numbering.{AreGivenInOrder, IsBusId, IsKnown}
 
 is_false : (b : Bool) → ¬ IsTrue b → b ≡ false
 is_false true untrue = absurd (untrue refl)

@@ -11,10 +11,11 @@ use Rattle.lookup_model.specs.Batches.Messages.{AreFlagsLawful}
 use Rattle.lookup_model.specs.declared.count.SoundnessCount.{SoundnessCount}
 use Rattle.lookup_model.specs.declared.fault.BatchFault.{BatchFault}
 use Rattle.batch.proofs.PlanLaws.{fault_of_none}
-use Rattle.batch.specs.Grids.{HaveNoRepeat, IsBoundOf, IsGridOverflow, IsGridRefusal}
+use Rattle.batch.specs.Grids.{HaveNoRepeat, IsGridOverflow, IsGridRefusal}
 use Rattle.batch.specs.Refusals.{of_fault, refusal_at}
 use Rattle.batch.specs.declared.error.BatchError.{BatchError}
 use Rattle.batch.specs.declared.error.BatchError.TheVariants.{CountOverflow, Memory}
+use Rattle.batch.specs.internal.Grids.{IsBoundOf}
 
 module _ {F K : Type 0} (E : Extension F K) (instances : List (Instance F)) (W : ℕ) (alphas betas : List K) where
   -- what a bound from the counts of the batch is

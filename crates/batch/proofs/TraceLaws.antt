@@ -16,10 +16,10 @@ use Rattle.lookup_model.specs.declared.types.Lookup.{Lookup}
 use Rattle.lookup.specs.Lookups.{lookups_of}
 use Rattle.lookup.specs.declared.lookups.Lookups.{Lookups}
 use Rattle.batch.specs.Lists.{lists_of}
-use Rattle.batch.specs.Pairs.{HaveIdsBelow}
 use Rattle.batch.specs.Traces.{FitsAt, IsFirstUnfit, batch_over, instance_of_main, instance_over, traces_of_main, view_of}
 use Rattle.batch.specs.declared.error.BatchError.TheVariants.{TraceMismatch}
 use Rattle.batch.specs.declared.trace.BatchTrace.{BatchTrace}
+use Rattle.batch.specs.internal.Pairs.{HaveIdsBelow}
 
 module _ {F : Type 0} where
   -- AIRs that fit their heights fit

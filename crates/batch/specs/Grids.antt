@@ -1,5 +1,5 @@
 -- What counting the accepted pairs of a grid of challenges answers.
-use Rattle.std.specs.Prelude.{◌≡◌, ◌⊎◌, ◌+◌, ◌*◌, ◌^◌, ◌<◌, ◌≤◌, ℕ, List, Option, None, Some, Result, IfOk, MatchOption, MatchResult, length}
+use Rattle.std.specs.Prelude.{◌≡◌, ◌⊎◌, ◌^◌, ◌<◌, ◌≤◌, ℕ, List, Result, IfOk, MatchOption, MatchResult, length}
 use Rattle.field.specs.Distinct.{IsDistinct}
 use Rattle.field.specs.Extension.{Extension}
 use Rattle.lookup_model.specs.Batches.Counts.{bad_beta_bound, unbalanced_count}
@@ -42,13 +42,6 @@ module _ {F K : Type 0} (E : Extension F K) (instances : List (Instance F)) (W :
       ⊎ ((HaveNoRepeat alphas betas × ((fault : BatchFault) × IsFirstFlagFault E.base E.base_eq instances fault × (e ≡ of_fault fault)))
       ⊎ (HaveNoRepeat alphas betas × AreFlagsLawful E.base E.base_eq instances × IsGridOverflow × (e ≡ CountOverflow)))
 
-  -- the count of the grid, over challenges without a repeat and lawful flags; or the refusal; or memory
-  -- runs out
-  abbrev pub CountsGrid : Result GridCount BatchError → Type 0
-  CountsGrid answer = MatchResult answer
-      (λ count. HaveNoRepeat alphas betas × AreFlagsLawful E.base E.base_eq instances × IsGridCount count)
-      (λ e. (e ≡ Memory) ⊎ IsGridRefusal e)
-
   -- if some message does not balance, the linear joint bound holds as well
   abbrev pub StaysWithinLinearBound : Result GridCount BatchError → Type 0
   StaysWithinLinearBound answer =
@@ -70,11 +63,3 @@ module _ {F K : Type 0} (E : Extension F K) (plan : Plan F) (traces : List (Batc
 -- at most as many pairs are accepted as the bound says, where there is one
 abbrev pub StaysWithinBound : Result GridCount BatchError → Type 0
 StaysWithinBound answer = IfOk answer (λ count. MatchOption count.bound (Unit {0}) (λ bound. count.accepted ≤ bound))
-
--- the bound of a grid of a alphas and b betas from the counts of its batch: none where no message is
--- unbalanced, and else a sum of two products, or the refusal where that does not fit
-abbrev pub IsBoundOf : ℕ → Option ℕ → ℕ → ℕ → Result (Option ℕ) BatchError → Type 0
-IsBoundOf bad_betas None a b answer = MatchResult answer (λ bound. bound ≡ None) (λ e. ⊥)
-IsBoundOf bad_betas (Some most) a b answer = MatchResult answer
-    (λ bound. bound ≡ Some (bad_betas * a + most * b))
-    (λ e. (e ≡ CountOverflow) × (2 ^ 128 ≤ bad_betas * a + most * b))

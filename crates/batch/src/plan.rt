@@ -42,7 +42,8 @@ impl<F: Field> BatchPlan<F> {
     ghost use Rattle.batch.specs.Packing.{ArePackedAirs, KeepsPlanCounts};
     ghost use Rattle.batch.specs.Grids.{CountsPlanGrid, PlanStaysWithinLinearBound, StaysWithinBound};
     ghost use Rattle.batch.specs.Heights.{BoundsAllTraces, CountsHeights, most_planned};
-    ghost use Rattle.batch.specs.PlanBatches.{HasLawfulIds, InstancesFitPlan, MakesPlanBatch};
+    ghost use Rattle.batch.specs.PlanBatches.{HasLawfulIds, InstancesFitPlan};
+    ghost use Rattle.batch.specs.internal.PlanBatches.{MakesPlanBatch};
     ghost use Rattle.batch.specs.Runs.{PassIsCounted, Proves, ProvesBalanced, ProvesRegular, ProvesSatisfied, RefusesOnlyUnaccepted, Verifies, VerifiesOnlyPlain, plan_of, run_of};
     ghost use Rattle.batch.specs.SoundnessCounts.{CountsLinearly, CountsPlan, CountsSoundly};
     ghost use Rattle.lookup.specs.Lookups.{lookups_of};

@@ -13,7 +13,7 @@ use Rattle.lookup_model.specs.declared.types.LookupTerminal.{LookupTerminal}
 use Rattle.lookup_model.specs.Batches.Instances.{Instance}
 use Rattle.lookup_model.specs.Batches.Refusals.{HasShapeAt, HoldsAt, IsFirstFailing}
 use Rattle.lookup_model.specs.Batches.Witnesses.{AirResult}
-use Rattle.checker.specs.Checks.{ChecksResult, ChecksRows}
+use Rattle.checker.specs.internal.Checks.{ChecksResult, ChecksRows}
 
 -- what is said of what is found, where something is found and where nothing is
 pub found_some : {X : Type 0} (A : Type 0) (B : X → Type 0) (found : Option X) (x : X) → found ≡ Some x → MatchOption found A B → B x

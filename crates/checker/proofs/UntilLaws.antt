@@ -1,7 +1,7 @@
 -- Rows on which properties hold until one fails.
 use Rattle.std.proofs.Common.{◌≡◌, ◌⊎◌, ℕ, ◌+◌, ◌<◌, ◌≤◌, inl, inr, subst, arith}
 use Rattle.std.proofs.lemmas.Bool.{cases_lt}
-use Rattle.checker.specs.Rows.{HoldsUntil}
+use Rattle.checker.specs.internal.Rows.{HoldsUntil}
 
 module _ (P : ℕ → Type 0) (first : ℕ) where
   -- a property that holds on the rows so far, and on this one

@@ -1,7 +1,7 @@
 //! The first row on which a constraint is not zero, in chunks of rows.
 ghost use Rattle.std.specs.Prelude.{◌<◌, ◌≤◌, IfOk};
 ghost use Rattle.std.specs.List.{AllZip};
-ghost use Rattle.checker.specs.Rows.{AreChecked, FindsFailing, HoldsOn, HoldsUntil};
+ghost use Rattle.checker.specs.internal.Rows.{AreChecked, FindsFailing, HoldsOn, HoldsUntil};
 ghost use Rattle.lookup_columns.specs.LookupSteps.{AreLookupSteps};
 ghost use Rattle.matrix.specs.Matrix.{height};
 

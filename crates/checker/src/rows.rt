@@ -1,7 +1,7 @@
 //! The constraints of lookups on the rows of given traces.
 ghost use Rattle.std.specs.Prelude.{◌<◌, length};
 ghost use Rattle.matrix.specs.Matrix.{height};
-ghost use Rattle.checker.specs.Rows.{AreChecked, ChecksRow, FindsFailing};
+ghost use Rattle.checker.specs.internal.Rows.{AreChecked, ChecksRow, FindsFailing};
 
 use crate::chunks::first_failing_in_chunks;
 use air::{AirError, DebugConstraintBuilder, RowInputs};

@@ -6,7 +6,7 @@ ghost use Rattle.lookup_model.specs.Witness.{values_of_terminal};
 ghost use Rattle.checker.specs.Answers.{AreReady, ChecksWitness, PassesOnlyPlain, RefusesUnaccepted};
 ghost use Rattle.lookup_model.specs.Batches.Instances.{HasPrefixes, IsFitting, instance_of, instances_of};
 ghost use Rattle.lookup_model.specs.Batches.Refusals.{HasShapeAt};
-ghost use Rattle.checker.specs.Checks.{ChecksResult, ChecksRows, ChecksShape};
+ghost use Rattle.checker.specs.internal.Checks.{ChecksResult, ChecksRows, ChecksShape};
 
 use crate::rows::first_failing_row;
 use air::RowInputs;

@@ -12,8 +12,9 @@ use Rattle.lookup_model.specs.Message.{Key, Message, same_key}
 use Rattle.lookup_model.specs.Fault.{vanishes}
 use Rattle.lookup_model.specs.Net.{first_seen, keys, net, unbalanced_keys}
 use Rattle.lookup_model.specs.Plain.{counted, net_sum, quotient}
-use Rattle.generation_tests.specs.PlainProgram.{IsSumOfQuotients, as_message, as_messages, net_message, net_vanishes}
+use Rattle.generation_tests.specs.PlainProgram.{as_message, as_messages, net_vanishes}
 use Rattle.generation_tests.specs.declared.plain.PlainMessage.{PlainMessage}
+use Rattle.generation_tests.specs.internal.PlainProgram.{IsSumOfQuotients, net_message}
 use Rattle.lookup_rows.proofs.FirstSeen.{first_seen-push}
 use Rattle.std.proofs.lemmas.List.Elements.{filter-append}
 use Rattle.lists.proofs.Images.{map-map, mapped_at}

@@ -1,1 +1,2 @@
 pub mod PlainProgram
+pub mod internal

@@ -1,13 +1,9 @@
 -- What the plain program's messages mean.
-use Rattle.std.specs.Prelude.{◌≡◌, Bool, false, List, None, map}
+use Rattle.std.specs.Prelude.{Bool, List, None, map}
 use Rattle.std.specs.List.{list_any}
-use Rattle.field.specs.Ring.{Ring}
-use Rattle.field.specs.Sums.{sum_in}
 use Rattle.field.specs.Extension.{Extension}
-use Rattle.lookup_model.specs.Fault.{vanishes}
 use Rattle.lookup_model.specs.Message.{Key, Message}
-use Rattle.lookup_model.specs.Net.{net, unbalanced_keys}
-use Rattle.lookup_model.specs.Plain.{counted, quotient_of}
+use Rattle.lookup_model.specs.Net.{unbalanced_keys}
 use Rattle.lookup_model.specs.Sent.{Sent}
 use Rattle.generation_tests.specs.declared.plain.PlainMessage.{PlainMessage}
 
@@ -26,12 +22,3 @@ sent_of ms = record { flags = None; messages = as_messages ms }
 -- whether the denominator of a key whose net is not zero is zero
 abbrev pub net_vanishes : {F K : Type 0} → Extension F K → (Key F → K) → List (Message F) → Bool
 net_vanishes E denominator messages = list_any (λ key. E.eq (denominator key) E.ring.zero) (unbalanced_keys E.base E.base_eq messages)
-
--- a key with its net, as a message
-abbrev pub net_message : {F : Type 0} → Ring F → (F → F → Bool) → List (Message F) → Key F → Message F
-net_message R eq messages key = record { key = key; multiplicity = net R eq messages key }
-
--- f is the sum of the quotients of the counted messages, and none of their denominators vanishes
-pub record IsSumOfQuotients {F K : Type 0} (E : Extension F K) (denominator : Key F → K) (ms : List (Message F)) (f : K) : Type 0 where
-  pub value : f ≡ sum_in E.ring (map (quotient_of E denominator) (counted E.base E.base_eq ms))
-  pub divides : vanishes E denominator (counted E.base E.base_eq ms) ≡ false

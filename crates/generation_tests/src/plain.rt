@@ -3,7 +3,8 @@
 ghost use Rattle.std.specs.Prelude.{◌≡◌, ◌≢◌, ◌+◌, ◌*◌, ◌<◌, ◌⊎◌, ◌||◌, All, IfOk, IsTrue, List, [], ◌∷◌, Some, false, length, map, MatchOption, MatchResult};
 ghost use Rattle.std.specs.List.{list_all, list_any};
 ghost use Rattle.field.specs.Polynomial.{combined};
-ghost use Rattle.generation_tests.specs.PlainProgram.{IsSumOfQuotients, as_message, as_messages, net_vanishes, sent_of};
+ghost use Rattle.generation_tests.specs.PlainProgram.{as_message, as_messages, net_vanishes, sent_of};
+ghost use Rattle.generation_tests.specs.internal.PlainProgram.{IsSumOfQuotients};
 ghost use Rattle.lookup_model.specs.Denominators.{key_denominator};
 ghost use Rattle.lookup_model.specs.Fault.{fault_of, set_indices, vanishes};
 ghost use Rattle.lookup_model.specs.Message.{Message, same_key};

@@ -16,8 +16,8 @@ use Rattle.lookup_model.specs.declared.sum_degrees.SumDegrees.{SumDegrees}
 use Rattle.lookup_model.specs.declared.types.Lookup.{Lookup}
 use Rattle.lookup.specs.Fewest.{AnswersDegree}
 use Rattle.lookup.specs.Packing.{trial}
-use Rattle.lookup.specs.TrialDegrees.{IsPlain, KeepsDegrees}
 use Rattle.lookup.specs.Trials.{IsMember}
+use Rattle.lookup.specs.internal.TrialDegrees.{IsPlain, KeepsDegrees}
 use Rattle.lookup.proofs.StepLaws.{plain_of}
 
 -- degrees that are answered, of branches by another name

@@ -16,7 +16,7 @@ use Rattle.lookup_model.specs.Names.{is_named, same_name}
 use Rattle.lookup.specs.Cuts.{AreClosed, IsCut, part_items}
 use Rattle.lookup.specs.Fewest.{AnswersDegree, HasFewestColumns}
 use Rattle.lookup.specs.Packing.{AreFilled, IsAbove, IsFilling, IsPacking, additive, is_additive, joined, numbered_from, passing, trial}
-use Rattle.lookup.specs.TrialDegrees.{IsPlain}
+use Rattle.lookup.specs.internal.TrialDegrees.{IsPlain}
 use Rattle.lookup.proofs.Columns.{unnumbered, unnumbered_all}
 use Rattle.lookup.proofs.FewestParts.{AreFull, fewest_parts}
 use Rattle.lookup.proofs.FillLaws.{joined_more, with_next}

@@ -4,7 +4,8 @@ use Rattle.std.proofs.Math.Seq.{drop-append-add, take-append_seam}
 use Rattle.std.proofs.lemmas.Bool.{cases_lt}
 use Rattle.std.proofs.lemmas.List.{drop-drop, drop-take, length-drop, take-take}
 use Rattle.std.specs.List.{AllByRecursion, flat_map}
-use Rattle.lookup.specs.Cuts.{AreClosed, IsCut, IsHereditary, IsSplit, part_items}
+use Rattle.lookup.specs.Cuts.{AreClosed, IsCut, part_items}
+use Rattle.lookup.specs.internal.Cuts.{IsHereditary, IsSplit}
 
 -- a beginning and the next item
 take_into : {A : Type 0} (xs : List A) (y : A) (ys : List A) → take (length xs + 1) (xs ++ y ∷ ys) ≡ xs ++ y ∷ []

@@ -11,8 +11,8 @@ use Rattle.lookup_model.specs.Weight.{weight_bound}
 use Rattle.lookup_model.specs.declared.error.LookupError.{LookupError}
 use Rattle.lookup_model.specs.declared.error.LookupError.TheVariants.{CountWeightOverflow}
 use Rattle.lookup.specs.Cuts.{AreClosed, IsGrown, part_items}
-use Rattle.lookup.specs.Fillings.{AreGreedyColumns}
 use Rattle.lookup.specs.Packing.{IsAbove, IsFilling, IsStuck, Joins, joined, trial}
+use Rattle.lookup.specs.internal.Fillings.{AreGreedyColumns}
 use Rattle.lookup.proofs.ListLaws.{snoc_split}
 
 module _ {A : Type 0} where

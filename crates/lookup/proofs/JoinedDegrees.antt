@@ -5,7 +5,7 @@ use Rattle.std.proofs.lemmas.Grind.{flat_map-append}
 use Rattle.std.specs.List.{flat_map}
 use Rattle.lookup_model.proofs.SumDegreeLaws.{degree_of_back, degree_of_front}
 use Rattle.lookup_model.specs.LookupDegree.{BranchDegrees, constraint_degree_of}
-use Rattle.lookup.specs.Cuts.{IsHereditary}
+use Rattle.lookup.specs.internal.Cuts.{IsHereditary}
 
 -- so a part of a part that is within a degree is so
 pub degree_hereditary : {A : Type 0} (branches : A → List BranchDegrees) (most : ℕ) → IsHereditary (λ xs. constraint_degree_of None (flat_map branches xs) ≤ most)

@@ -21,7 +21,7 @@ use Rattle.lookup.specs.Cuts.{part_items}
 use Rattle.lookup.specs.Packing.{AreFilled, additive, is_additive, joined}
 use Rattle.lookup.proofs.Columns.{columns_give}
 use Rattle.lookup.proofs.FewestColumns.{IsOn, members_on}
-use Rattle.lookup.specs.TrialDegrees.{IsPlain}
+use Rattle.lookup.specs.internal.TrialDegrees.{IsPlain}
 use Rattle.lookup_model.proofs.Names.{same_name-Decides}
 
 -- a map of a mapped option

@@ -8,7 +8,7 @@ use Rattle.lookup.proofs.FewestColumns.{fewest_columns}
 use Rattle.lookup.specs.Buses.{on_bus}
 use Rattle.lookup.specs.Fewest.{AnswersDegree, HasFewestColumns}
 use Rattle.lookup.specs.Packing.{additive, Packs}
-use Rattle.lookup.specs.TrialDegrees.{IsPlain}
+use Rattle.lookup.specs.internal.TrialDegrees.{IsPlain}
 
 -- by the degree of the gadget a packing has the fewest columns
 pub fewest_packed : {F S : Type 0} (most : ℕ) (seen : S → List (Outline (SymbolicExpression F))) (before : List (Outline (SymbolicExpression F))) (r : Result S LookupError) → ((name : List ℕ) → AllByRecursion IsPlain (on_bus name (additive before))) → Packs AnswersDegree most seen before r → IfOk r (λ set. HasFewestColumns most before (seen set))

@@ -17,11 +17,12 @@ use Rattle.lookup_model.specs.declared.types.Lookup.{Lookup}
 use Rattle.lookup.specs.Buses.{on_bus}
 use Rattle.lookup_model.specs.Names.{is_named}
 use Rattle.lookup.specs.Cuts.{part_items}
-use Rattle.lookup.specs.Fillings.{AreGreedyColumns, IsFilled, IsOpen, columns_of}
+use Rattle.lookup.specs.internal.Fillings.{AreGreedyColumns, IsFilled, IsOpen, columns_of}
 use Rattle.lookup.specs.Packing.{IsStuck, additive, is_additive, trial}
-use Rattle.lookup.specs.Trials.{IsMember, IsStep, IsTrial, IsTrialAmong, IsTrialRefusal, IsTried}
+use Rattle.lookup.specs.Trials.{IsMember, IsTrial, IsTrialAmong}
+use Rattle.lookup.specs.internal.Trials.{IsStep, IsTrialRefusal, IsTried}
 use Rattle.lookup.specs.declared.packing.filling.Bus.{Bus}
-use Rattle.lookup.specs.TrialDegrees.{IsPlain}
+use Rattle.lookup.specs.internal.TrialDegrees.{IsPlain}
 use Rattle.lookup.proofs.FillLaws.{HasLast, joined_column, last_part, next_column, one_column, stuck_at, stuck_more}
 
 -- columns with one more lookup

@@ -11,7 +11,8 @@ use Rattle.lookup_model.specs.declared.error.LookupError.{LookupError}
 use Rattle.lookup_model.specs.declared.error.LookupError.TheVariants.{CountWeightOverflow}
 use Rattle.lookup_model.specs.declared.types.Lookup.{Lookup}
 use Rattle.lookup.specs.Packing.{trial}
-use Rattle.lookup.specs.Trials.{IsMember, IsTrial, IsTrialRefusal, IsTried}
+use Rattle.lookup.specs.Trials.{IsMember, IsTrial}
+use Rattle.lookup.specs.internal.Trials.{IsTrialRefusal, IsTried}
 
 module _ {A : Type 0} where
   -- two lists one after the other, cut where the second begins

@@ -1,5 +1,5 @@
 -- Lists cut into consecutive parts.
-use Rattle.std.specs.Prelude.{◌≡◌, ◌<◌, ◌≤◌, ◌+◌, ◌⊎◌, ℕ, List, [], ◌∷◌, ◌++◌, length, take, drop}
+use Rattle.std.specs.Prelude.{◌≡◌, List, [], ◌∷◌, ◌++◌}
 use Rattle.std.specs.List.{AllByRecursion, flat_map}
 
 -- a part has a first member and further ones
@@ -33,12 +33,3 @@ module _ {A : Type 0} where
     -- A greedy cut of a list.
     abbrev pub IsGreedyCut : List (A × List A) → List A → Type 0
     IsGreedyCut parts xs = IsCut parts xs × AreGreedy parts
-
-  module _ (Fits : List A → Type 0) where
-    -- A consecutive split: each part has one member, or it fits.
-    abbrev pub IsSplit : List (A × List A) → List A → Type 0
-    IsSplit parts xs = IsCut parts xs × AllByRecursion (λ part. (part.1 ≡ []) ⊎ Fits (part_items part)) parts
-
-    -- What fits does so in every part of it.
-    abbrev pub IsHereditary : Type 0
-    IsHereditary = (xs : List A) (a n : ℕ) → 0 < n → a + n ≤ length xs → Fits xs → Fits (take n (drop a xs))

@@ -3,7 +3,6 @@ pub mod Buses
 pub mod Cuts
 pub mod Extraction
 pub mod Fewest
-pub mod Fillings
 pub mod Guards
 pub mod Kept
 pub mod Lookups
@@ -11,8 +10,8 @@ pub mod NamedWidths
 pub mod Packing
 pub mod Rooms
 pub mod Sends
-pub mod TrialDegrees
 pub mod Trials
 pub mod TupleWidths
 pub mod Weights
 pub mod WholeAir
+pub mod internal

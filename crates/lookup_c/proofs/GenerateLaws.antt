@@ -13,7 +13,7 @@ use Rattle.lookup_tables.specs.declared.tables.Tables.{Tables}
 use Rattle.lookup_tables.specs.declared.traces.ReadTraces.{ReadTraces}
 use Rattle.lookup_tables.specs.declared.traces.Traces.{Traces}
 use Rattle.matrix.specs.Matrix.{Matrix}
-use Rattle.lookup_c.specs.Generate.{AreNumbersOf, AreNumbersOfGenerated, GeneratesOver, IsLookupsRefusal, IsNotWritten, LacksRoom}
+use Rattle.lookup_c.specs.Generate.{AreNumbersOf, GeneratesOver, IsLookupsRefusal, LacksRoom}
 use Rattle.lookup_c.specs.Generate as one_air
 use Rattle.lookup_c.specs.GenerateByIds as by_ids
 use Rattle.lookup_c.specs.Inputs.{AreElements, view_of_read}
@@ -21,6 +21,7 @@ use Rattle.lookup_c.specs.declared.fault.Fault.{Fault}
 use Rattle.lookup_c.specs.declared.generate.Generated.{Generated}
 use Rattle.lookup_c.specs.declared.outputs.Terminal.{Terminal}
 use Rattle.lookup_c.specs.declared.plan.PlanSizes.{PlanSizes}
+use Rattle.lookup_c.specs.internal.Generate.{AreNumbersOfGenerated, IsNotWritten}
 use Rattle.lookup_c.proofs.BatchLaws.{decoded}
 
 module _ (E : Extension BabyBear (Quartic BabyBear)) (tables : Tables) (traces : Traces) (answer : Result Generated Fault) (lookups : List (Lookup BabyBear)) (read : ReadTraces) (challenges : List (Quartic BabyBear)) (say : EncodeLookups tables lookups)

@@ -1,5 +1,5 @@
 -- What generation of one AIR answers from tables of numbers.
-use Rattle.std.specs.Prelude.{◌≡◌, ◌≢◌, ◌⊎◌, ◌*◌, ◌-◌, ◌^◌, ◌<◌, ℕ, List, [], Option, Result, Ok, Err, Some, length, min, slice_get}
+use Rattle.std.specs.Prelude.{◌≡◌, ◌≢◌, ◌⊎◌, ◌*◌, ◌-◌, ◌^◌, ◌<◌, ℕ, List, [], Option, Some, length, min, slice_get}
 use Rattle.field.specs.Extension.{Extension}
 use Rattle.field.specs.Quartic.{Quartic}
 use Rattle.matrix.specs.Matrix.{Matrix}
@@ -68,18 +68,6 @@ module _ (E : Extension BabyBear (Quartic BabyBear)) (traces : AirTraces BabyBea
 -- there is not room for exactly the cells of a trace
 abbrev pub HasOtherRoom : Matrix (Quartic BabyBear) → ℕ → Fault → Type 0
 HasOtherRoom auxiliary room fault = (length auxiliary.values ≢ room) × (fault ≡ Length Auxiliary (length auxiliary.values) room)
-
--- the numbers of what was generated
-pub record AreNumbersOfGenerated (answer : Result Generated Fault) (cells : List (List ℕ)) (ending : Terminal) : Type 0 where
-  pub made : Generated
-  pub is : answer ≡ Ok made
-  pub cells_are : cells ≡ cells_of made.auxiliary
-  pub ending_is : ending ≡ terminal_numbers made.terminal
-
--- nothing was generated, or there is not room for exactly its cells
-abbrev pub IsNotWritten : Result Generated Fault → ℕ → Fault → Type 0
-IsNotWritten answer room fault =
-    (answer ≡ Err fault) ⊎ ((made : Generated) × (answer ≡ Ok made) × HasOtherRoom made.auxiliary room fault)
 
 module _ (Makes : Matrix (Quartic BabyBear) → Option (LookupTerminal (Quartic BabyBear)) → Type 0) where
   -- the numbers of an auxiliary trace and a terminal that are made so

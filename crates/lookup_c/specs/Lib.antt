@@ -18,3 +18,4 @@ pub mod SoundnessOfHeights
 pub mod Verify
 pub mod Witnesses
 pub mod WrittenTables
+pub mod internal

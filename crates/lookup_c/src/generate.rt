@@ -1,8 +1,9 @@
 //! The call that generates the auxiliary trace of one AIR.
 ghost use Rattle.std.specs.Prelude.{◌≡◌, ◌≢◌, MatchResult, length};
 ghost use Rattle.lookup_c.specs.Answers.{Answers};
-ghost use Rattle.lookup_c.specs.Generate.{AreNumbersOfGenerated, GeneratesLookups, GeneratesNumbers, GeneratesTables, IsCallRefusal, IsLookupsRefusal, IsNotWritten, IsRefusal};
+ghost use Rattle.lookup_c.specs.Generate.{GeneratesLookups, GeneratesNumbers, GeneratesTables, IsCallRefusal, IsLookupsRefusal, IsRefusal};
 ghost use Rattle.lookup_c.specs.Inputs.{view_of_read};
+ghost use Rattle.lookup_c.specs.internal.Generate.{AreNumbersOfGenerated, IsNotWritten};
 
 use crate::codes::Part;
 use crate::fault::Fault;

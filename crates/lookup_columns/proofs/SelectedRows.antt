@@ -5,7 +5,7 @@ use Rattle.std.proofs.lemmas.List.{length_push}
 use Rattle.std.proofs.lemmas.Option.{slice_get_within}
 use Rattle.std.specs.List.{filter, slice_get, zip}
 use Rattle.field.specs.Ring.{Ring}
-use Rattle.lookup_columns.specs.ChunkColumns.{AreSelected, IsSelected, selected_rows}
+use Rattle.lookup_columns.specs.internal.ChunkColumns.{AreSelected, IsSelected, selected_rows}
 
 module _ {A : Type 0} where
   -- an item before the last one

@@ -1,7 +1,7 @@
 -- Two slots that are taken together.
 use Rattle.std.proofs.Common.{◌≡◌, List, ◌∷◌, map, ap, ◌∙◌}
 use Rattle.std.specs.List.{zip}
-use Rattle.lookup_columns.specs.Slots.{last_two_joined, last_of, without_last}
+use Rattle.lookup_columns.specs.internal.Slots.{last_two_joined, last_of, without_last}
 
 -- the values of an operation on the last two slots, in place of both
 pub joined_slots : {F : Type 0} (f : F → F → F) {values left right : List F} {others now old : List (List F)}

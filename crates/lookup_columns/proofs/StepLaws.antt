@@ -14,10 +14,10 @@ use Rattle.expressions.specs.Window.{Window}
 use Rattle.expressions.specs.declared.base_expression.SymbolicExpression.{SymbolicExpression}
 use Rattle.expressions.specs.declared.layout.AirLayout.{AirLayout}
 use Rattle.lookup_columns.specs.Columns.{column}
-use Rattle.lookup_columns.specs.Slots.{after}
 use Rattle.lookup_columns.specs.Steps.{AreStepsOf, StepFits, StepsFit, steps_in_order}
 use Rattle.lookup_columns.specs.declared.step.Step.{Step}
 use Rattle.lookup_columns.specs.declared.step.Step.TheVariants.{Leaf, Add, Sub, Mul, Neg}
+use Rattle.lookup_columns.specs.internal.Slots.{after}
 use Rattle.lookup_model.specs.Records.{AllFit}
 
 module _ {F : Type 0} where

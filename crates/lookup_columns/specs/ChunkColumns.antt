@@ -1,6 +1,6 @@
 -- The columns of lookups on the rows of a chunk.
-use Rattle.std.specs.Prelude.{◌≡◌, ◌≢◌, ℕ, Bool, List, None, Some, map, not, slice_get}
-use Rattle.std.specs.List.{AllZip, filter, zip}
+use Rattle.std.specs.Prelude.{◌≡◌, ◌≢◌, ℕ, List, None, Some, slice_get}
+use Rattle.std.specs.List.{AllZip}
 use Rattle.std.specs.declared.alloc.Global.{Global}
 use Rattle.std.specs.declared.vec.Vec.{Vec}
 use Rattle.field.specs.Ring.{Ring}
@@ -11,12 +11,6 @@ use Rattle.lookup_model.specs.Message.{Key, Message}
 use Rattle.lookup_model.specs.Sent.{branches_at, values}
 use Rattle.lookup_model.specs.declared.types.Lookup.{Lookup}
 use Rattle.lookup_columns.specs.declared.branches.BranchColumns.{BranchColumns}
-
--- Row r, the one at index i, stands among the selected rows at the index that `indices` has at i.
-pub record IsSelected (indices selected : List ℕ) (i r : ℕ) : Type 0 where
-  pub at : ℕ
-  pub there : slice_get indices i ≡ Some at
-  pub selected_there : slice_get selected at ≡ Some r
 
 module _ {F K : Type 0} where
   -- At this index, a column holds the multiplicity and the denominator of this message.
@@ -62,11 +56,3 @@ module _ {F K : Type 0} where
   abbrev pub AreLookupColumns : Ring F → Ring K → (F → K) → List K → (ℕ → Window F) → List ℕ → List (Lookup F) → List (Vec (BranchColumns F K) Global) → Type 0
   AreLookupColumns R S embed challenges window rows =
       AllZip (λ lookup columns. AreColumns R S embed challenges window rows lookup columns.items)
-
--- the rows whose flag is not zero
-abbrev pub selected_rows : {F : Type 0} → Ring F → (F → F → Bool) → List F → List ℕ → List ℕ
-selected_rows R eq flags rows = map (λ p. p.1) (filter (λ p. not (eq p.0 R.zero)) (zip flags rows))
-
--- Each of these rows whose flag is not zero stands among the selected ones, at its index.
-pub record AreSelected {F : Type 0} (R : Ring F) (flags : List F) (rows indices selected : List ℕ) : Type 0 where
-  pub at : (i r : ℕ) (f : F) → slice_get rows i ≡ Some r → slice_get flags i ≡ Some f → f ≢ R.zero → IsSelected indices selected i r

@@ -6,8 +6,9 @@ ghost use Rattle.expressions.specs.Layout.{LeafFits};
 ghost use Rattle.expressions.specs.Meaning.{row_at};
 ghost use Rattle.expressions.specs.Tree.{Tree};
 ghost use Rattle.lookup_columns.specs.Columns.{column, leaf_column};
-ghost use Rattle.lookup_columns.specs.Slots.{after, filled};
+ghost use Rattle.lookup_columns.specs.Slots.{filled};
 ghost use Rattle.lookup_columns.specs.Steps.{StepFits, steps_in_order};
+ghost use Rattle.lookup_columns.specs.internal.Slots.{after};
 ghost use Rattle.air.specs.Traces.{height_of, layout_of, traces_of, window_of};
 ghost use Rattle.matrix.specs.Matrix.{height, row};
 

@@ -1,7 +1,7 @@
 //! Lists of rows.
 ghost use Rattle.std.specs.Prelude.{◌≡◌, ◌-◌, ◌<◌, ◌≤◌, ℕ, All, IfOk, length};
 ghost use Rattle.std.specs.List.{range_with_len};
-ghost use Rattle.lookup_columns.specs.ChunkColumns.{AreSelected, selected_rows};
+ghost use Rattle.lookup_columns.specs.internal.ChunkColumns.{AreSelected, selected_rows};
 
 use crate::spare::SpareLists;
 use field::{Domain, Field};

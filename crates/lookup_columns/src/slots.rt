@@ -1,6 +1,7 @@
 //! The slots that steps fill and empty.
 ghost use Rattle.std.specs.Prelude.{◌≡◌, ◌<◌, ◌∷◌, [], IfErr, IfOk, OnOk, drop, max, slice_index_or, vec_capacity};
-ghost use Rattle.lookup_columns.specs.Slots.{filled, last_of, spare_rooms, without_last};
+ghost use Rattle.lookup_columns.specs.Slots.{filled, spare_rooms};
+ghost use Rattle.lookup_columns.specs.internal.Slots.{last_of, without_last};
 
 use crate::spare::SpareLists;
 use std::alloc::{AllocError, Global};

@@ -20,10 +20,10 @@ use Rattle.lookup_model.specs.Message.{Message}
 use Rattle.lookup_model.specs.Records.{HasEqualLengths}
 use Rattle.lookup_model.specs.Sent.{branch_at, branches_at, flags_at, value, values}
 use Rattle.lookup_model.specs.declared.types.Lookup.{Lookup}
-use Rattle.lookup_debug.specs.Appended.{Appends}
 use Rattle.lookup_debug.specs.Contributions.{Contribution, SentLocation, Traced, amounts, contributions_at, contributions_from, contributions_on, nonzero}
-use Rattle.lookup_debug.specs.Walks.{IsWalk}
 use Rattle.lookup_debug.specs.declared.arena.Contributions.{Contributions}
+use Rattle.lookup_debug.specs.internal.Appended.{Appends}
+use Rattle.lookup_debug.specs.internal.Walks.{IsWalk}
 use Rattle.lookup_debug.proofs.SpanLaws.{appends-more}
 
 module _ {F : Type 0} (R : Ring F) (eq : F → F → Bool) (location : SentLocation) where

@@ -13,10 +13,10 @@ use Rattle.field.specs.Sums.{sum_in}
 use Rattle.lookup_model.specs.Net.{first_seen}
 use Rattle.lookup_model.proofs.Lookups.Regrouping.{IsSeparate, first_seen_separate}
 use Rattle.lookup_rows.proofs.NetEntries.{agree, entries-push, net-lookup, net-none, net_in, turned}
-use Rattle.lookup_debug.specs.Appended.{without_location}
 use Rattle.lookup_debug.specs.Contributions.{Contribution}
 use Rattle.lookup_debug.specs.Mismatch.{net_amount}
-use Rattle.lookup_debug.specs.Nets.{amount_nets}
+use Rattle.lookup_debug.specs.internal.Appended.{without_location}
+use Rattle.lookup_debug.specs.internal.Nets.{amount_nets}
 
 -- each distinct tuple of some contributions with its net, in the order in which the tuples are first seen
 abbrev pub tuple_nets : {F : Type 0} → Ring F → (F → F → Bool) → List (Contribution F) → List (List F × F)

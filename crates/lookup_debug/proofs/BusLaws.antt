@@ -19,7 +19,7 @@ use Rattle.lookup_rows.proofs.FirstSeen.{first_seen-push}
 use Rattle.lookup_rows.proofs.NetEntries.{any-first_seen, turned}
 use Rattle.lookup_debug.specs.Contributions.{Contribution, Traced, contributions_of}
 use Rattle.lookup_debug.specs.Groups.{LookupAt, is_on, lookup_contributions, lookups_in}
-use Rattle.lookup_debug.specs.Walks.{IsWalk}
+use Rattle.lookup_debug.specs.internal.Walks.{IsWalk}
 use Rattle.indexmap.specs.IndexSet.{insert_key}
 
 -- a key that is seen through a view

@@ -15,8 +15,8 @@ use Rattle.field.specs.Ring.{Ring, IsCommutativeRing}
 use Rattle.lookup_model.specs.Net.{first_seen}
 use Rattle.lookup_rows.proofs.NetEntries.{any-first_seen, net-none}
 use Rattle.lookup_debug.specs.Mismatch.{text_cmp, Precedes, IsFirst, net_amount}
-use Rattle.lookup_debug.specs.Least.{IsLeast, NonePasses}
-use Rattle.lookup_debug.specs.Nets.{IsFirstIndex, tuple_entries}
+use Rattle.lookup_debug.specs.internal.Least.{IsLeast, NonePasses}
+use Rattle.lookup_debug.specs.internal.Nets.{IsFirstIndex, tuple_entries}
 use Rattle.lookup_debug.specs.Contributions.{Contribution}
 use Rattle.lookup_debug.proofs.AmountNets.{tuple_nets}
 

@@ -15,12 +15,12 @@ use Rattle.field.specs.Ring.{Ring}
 use Rattle.expressions.proofs.FirstFaults.{fault_here, fault_later, fault_sooner}
 use Rattle.lookup_model.specs.Outline.{bus_of}
 use Rattle.lookup_model.specs.declared.types.Lookup.{Lookup}
-use Rattle.lookup_debug.specs.Checks.{AnswersGroups, local_groups_in}
 use Rattle.lookup_debug.specs.Contributions.{Contribution, Traced, contributions_of, traced_of}
 use Rattle.lookup_debug.specs.Groups.{Group, LookupAt, bus_group, bus_label, is_local, is_missing, local_group, local_groups, local_label, lookups_in}
 use Rattle.lookup_debug.specs.Mismatch.{Balances, EachBalances, IsFirstMismatch, IsMismatchOf}
 use Rattle.lookup_debug.specs.declared.fault.LookupFault.{LookupFault}
 use Rattle.lookup_debug.specs.declared.instance.LookupDebugInstance.{LookupDebugInstance}
+use Rattle.lookup_debug.specs.internal.Checks.{AnswersGroups, local_groups_in}
 
 module _ {F : Type 0} (R : Ring F) (eq : F → F → Bool) where
   abbrev GroupBalances : Group F → Type 0

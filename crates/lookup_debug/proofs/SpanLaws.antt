@@ -10,12 +10,12 @@ use Rattle.std.specs.Map.{lookup}
 use Rattle.lists.proofs.Images.{images_more}
 use Rattle.field.specs.Ring.{Ring, IsCommutativeRing}
 use Rattle.lookup_rows.proofs.NetEntries.{one_more}
-use Rattle.lookup_debug.specs.Appended.{Appends, without_location}
-use Rattle.lookup_debug.specs.Arena.{AreWithin, amounts_in, span_amount}
+use Rattle.lookup_debug.specs.internal.Appended.{Appends, without_location}
+use Rattle.lookup_debug.specs.internal.Arena.{AreWithin, amounts_in, span_amount}
 use Rattle.lookup_debug.specs.Contributions.{Contribution}
 use Rattle.lookup_debug.specs.declared.arena.Contributions.{Contributions}
 use Rattle.lookup_debug.specs.declared.arena.TupleSpan.{TupleSpan}
-use Rattle.lookup_debug.specs.Nets.{amount_nets, tuple_entries}
+use Rattle.lookup_debug.specs.internal.Nets.{amount_nets, tuple_entries}
 use Rattle.indexmap.specs.IndexMap.{insert_entry}
 
 module _ {F : Type 0} where

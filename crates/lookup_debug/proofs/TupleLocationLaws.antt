@@ -5,7 +5,7 @@ use Rattle.std.specs.Cmp.Lexicographic.{pointwise}
 use Rattle.field.specs.Ring.{Ring}
 use Rattle.lookup_debug.specs.Contributions.{Contribution, SentLocation, nonzero}
 use Rattle.lookup_debug.specs.Mismatch.{tuple_locations}
-use Rattle.lookup_debug.specs.Visits.{tuple_locations-append}
+use Rattle.lookup_debug.specs.internal.Visits.{tuple_locations-append}
 
 module _ {F : Type 0} (R : Ring F) (eq : F → F → Bool) (tuple : List F) where
   module _ (c : Contribution F) where

@@ -1,12 +1,6 @@
-pub mod Appended
-pub mod Arena
-pub mod Checks
 pub mod Contributions
 pub mod FaultText
 pub mod Groups
-pub mod Least
 pub mod Mismatch
-pub mod Nets
 pub mod SentContributions
-pub mod Visits
-pub mod Walks
+pub mod internal

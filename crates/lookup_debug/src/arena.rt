@@ -1,8 +1,8 @@
 //! Tuples with amounts, whose elements stand in one list.
 ghost use Rattle.std.specs.Prelude.{◌≡◌, ◌<◌, ◌∷◌, ◌++◌, [], IfOk, OnOk, Some, slice_get};
 ghost use Rattle.indexmap.specs.IndexMap.{index_map_len};
-ghost use Rattle.lookup_debug.specs.Arena.{AreWithin, amounts_in};
-ghost use Rattle.lookup_debug.specs.Nets.{amount_nets, tuple_entries};
+ghost use Rattle.lookup_debug.specs.internal.Arena.{AreWithin, amounts_in};
+ghost use Rattle.lookup_debug.specs.internal.Nets.{amount_nets, tuple_entries};
 
 use field::Field;
 use indexmap::IndexMap;

@@ -1,10 +1,10 @@
 //! The debug check.
 ghost use Rattle.std.specs.Prelude.{◌≡◌, ◌⊎◌, All, IfOk, MatchResult, Some, map, slice_get, string_bytes};
 ghost use Rattle.air.specs.Traces.{HaveOneHeight, layout_of};
-ghost use Rattle.lookup_debug.specs.Checks.{AnswersGroup, AnswersGroups, local_groups_in};
 ghost use Rattle.lookup_debug.specs.Contributions.{AreFitting, IsTracedFitting, contributions_of, location_of, traced_of};
 ghost use Rattle.lookup_debug.specs.Groups.{bus_group, is_missing, local_groups, local_label, traced_bus_names};
 ghost use Rattle.lookup_debug.specs.Mismatch.{AllBalance, HasParts, IsMismatch};
+ghost use Rattle.lookup_debug.specs.internal.Checks.{AnswersGroup, AnswersGroups, local_groups_in};
 ghost use Rattle.lookup_model.specs.Outline.{bus_of};
 ghost use Rattle.lookup_model.specs.Records.{LookupsFit};
 

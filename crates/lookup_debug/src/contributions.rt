@@ -2,10 +2,10 @@
 ghost use Rattle.std.specs.Prelude.{◌≡◌, ◌<◌, ◌++◌, [], ◌∷◌, Some, OnOk, length, slice_get};
 ghost use Rattle.expressions.specs.Layout.{Fits};
 ghost use Rattle.expressions.specs.Tree.{tree_of};
-ghost use Rattle.lookup_debug.specs.Appended.{Appends, Collects};
-ghost use Rattle.lookup_debug.specs.Arena.{AreWithin};
 ghost use Rattle.lookup_debug.specs.Contributions.{SentLocation, amounts, contributions_at, nonzero};
-ghost use Rattle.lookup_debug.specs.Visits.{collects_walk};
+ghost use Rattle.lookup_debug.specs.internal.Appended.{Appends, Collects};
+ghost use Rattle.lookup_debug.specs.internal.Arena.{AreWithin};
+ghost use Rattle.lookup_debug.specs.internal.Visits.{collects_walk};
 ghost use Rattle.lookup_rows.specs.TraceBuilder.{builder_layout, builder_window};
 ghost use Rattle.lookup_model.specs.Records.{AllFit, HasEqualLengths, IsWithin};
 ghost use Rattle.lookup_model.specs.Sent.{branches_at, flags_at, value, values};

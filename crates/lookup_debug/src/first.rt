@@ -3,11 +3,11 @@ ghost use Rattle.std.specs.Prelude.{◌≡◌, ◌<◌, ◌+◌, IfOk, List, Mat
 ghost use Rattle.std.specs.Cmp.Lexicographic.{slice_cmp};
 ghost use Rattle.std.specs.Ordering.{nat_cmp};
 ghost use Rattle.indexmap.specs.IndexMap.{index_map_len};
-ghost use Rattle.lookup_debug.specs.Appended.{without_location};
-ghost use Rattle.lookup_debug.specs.Arena.{AreWithin, amounts_in};
 ghost use Rattle.lookup_debug.specs.Contributions.{Contribution};
 ghost use Rattle.lookup_debug.specs.Mismatch.{Balances, IsFirst, net_amount, text_cmp};
-ghost use Rattle.lookup_debug.specs.Nets.{IsFirstIndex, amount_nets};
+ghost use Rattle.lookup_debug.specs.internal.Appended.{without_location};
+ghost use Rattle.lookup_debug.specs.internal.Arena.{AreWithin, amounts_in};
+ghost use Rattle.lookup_debug.specs.internal.Nets.{IsFirstIndex, amount_nets};
 
 use crate::arena::{Contributions, entry_at, nets};
 use field::Field;

@@ -1,9 +1,9 @@
 //! The locations of one tuple, which a second walk over the rows of a group finds. Nothing else is kept.
 ghost use Rattle.std.specs.Prelude.{◌≡◌, ◌++◌, [], ◌∷◌, List, OnOk, map, ⊤};
 ghost use Rattle.std.specs.Cmp.Lexicographic.{pointwise};
-ghost use Rattle.lookup_debug.specs.Appended.{AppendsLocations, FindsLocations};
 ghost use Rattle.lookup_debug.specs.Contributions.{contributions_at, nonzero, location_of};
-ghost use Rattle.lookup_debug.specs.Visits.{locations_walk};
+ghost use Rattle.lookup_debug.specs.internal.Appended.{AppendsLocations, FindsLocations};
+ghost use Rattle.lookup_debug.specs.internal.Visits.{locations_walk};
 ghost use Rattle.lookup_rows.specs.TraceBuilder.{builder_layout, builder_window};
 ghost use Rattle.lookup_model.specs.Records.{AllFit, HasEqualLengths, IsWithin};
 ghost use Rattle.lookup_model.specs.Sent.{values};

@@ -4,7 +4,7 @@ ghost use Rattle.std.specs.Prelude.{◌≡◌, List, OnOk, Some, filter, map, sl
 ghost use Rattle.std.specs.List.{flat_map};
 ghost use Rattle.lookup_debug.specs.Contributions.{AreFitting, Contribution, IsTracedFitting, contributions_at, contributions_of, location_of, traced_of};
 ghost use Rattle.lookup_debug.specs.Groups.{is_on, all_lookups, lookup_contributions, lookups_in};
-ghost use Rattle.lookup_debug.specs.Walks.{IsWalk};
+ghost use Rattle.lookup_debug.specs.internal.Walks.{IsWalk};
 ghost use Rattle.lookup_rows.specs.TraceBuilder.{builder_layout, builder_window};
 ghost use Rattle.lookup_model.specs.Records.{HasEqualLengths, IsWithin};
 

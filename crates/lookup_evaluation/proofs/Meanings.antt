@@ -3,11 +3,11 @@ use Rattle.std.proofs.Common.{◌≡◌, ℕ, ◌≤◌, refl, ◌∙◌, arith}
 use Rattle.field.specs.Ring.{Ring, sub_in}
 use Rattle.expressions.specs.Window.{ExtWindow}
 use Rattle.lookup_evaluation.specs.Asserted.{IsConstraint}
-use Rattle.lookup_evaluation.specs.Meanings.{Meaning, Means, constant, meaning_of, minus, plus, times}
-use Rattle.lookup_evaluation.specs.Quotients.{IsQuotient, plus_fraction, quotient_meaning}
-use Rattle.lookup_evaluation.specs.Selections.{IsSelection, plus_branch, selected_quotient, selection_meaning}
 use Rattle.lookup_evaluation.specs.declared.exclusive.Selection.{Selection}
 use Rattle.lookup_evaluation.specs.declared.quotient.Quotient.{Quotient}
+use Rattle.lookup_evaluation.specs.internal.Meanings.{Meaning, Means, constant, meaning_of, minus, plus, times}
+use Rattle.lookup_evaluation.specs.internal.Quotients.{IsQuotient, plus_fraction, quotient_meaning}
+use Rattle.lookup_evaluation.specs.internal.Selections.{IsSelection, plus_branch, selected_quotient, selection_meaning}
 
 -- an expression has this meaning at some windows, and at most this degree
 abbrev pub On : {F K X : Type 0} → (X → ExtWindow F K → K) → (X → ℕ → ℕ) → (ExtWindow F K → Type 0) → Meaning (ExtWindow F K) K → X → Type 0

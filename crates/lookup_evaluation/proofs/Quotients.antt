@@ -9,10 +9,11 @@ use Rattle.field.specs.Ring.{IsCommutativeRing}
 use Rattle.expressions.specs.Window.{ExtWindow, Window}
 use Rattle.expressions.specs.declared.base_expression.SymbolicExpression.{SymbolicExpression}
 use Rattle.expressions.specs.declared.view.BuilderView.{Ghosts as BuilderView}
-use Rattle.lookup_evaluation.specs.Meanings.{Meaning, MeansOn, denominator_meaning, lifted_meaning, meaning_of}
-use Rattle.lookup_evaluation.specs.Quotients.{IsLookupQuotient, IsQuotientUnder, IsQuotient, additive_meaning, additive_of, plus_fraction, quotient_meaning}
-use Rattle.lookup_evaluation.specs.Selections.{exclusive_meaning}
+use Rattle.lookup_evaluation.specs.Quotients.{IsLookupQuotient, IsQuotientUnder}
 use Rattle.lookup_evaluation.specs.declared.quotient.Quotient.{Quotient}
+use Rattle.lookup_evaluation.specs.internal.Meanings.{Meaning, MeansOn, denominator_meaning, lifted_meaning, meaning_of}
+use Rattle.lookup_evaluation.specs.internal.Quotients.{IsQuotient, additive_meaning, additive_of, plus_fraction, quotient_meaning}
+use Rattle.lookup_evaluation.specs.internal.Selections.{exclusive_meaning}
 use Rattle.lookup_evaluation.proofs.Meanings.{On}
 use Rattle.lookup_model.specs.Constraints.{additive_denominator, additive_numerator}
 use Rattle.lookup_model.specs.Denominators.{column_denominator}

@@ -11,9 +11,9 @@ use Rattle.field.specs.Ring.{Ring, IsCommutativeRing}
 use Rattle.field.specs.Sums.{sum_in}
 use Rattle.expressions.specs.Window.{ExtWindow}
 use Rattle.expressions.specs.declared.base_expression.SymbolicExpression.{SymbolicExpression}
-use Rattle.lookup_evaluation.specs.Meanings.{denominator_meaning, lifted_meaning, meaning_of}
-use Rattle.lookup_evaluation.specs.Selections.{IsSelection, branch_sums, plus_branch, selection_meaning}
 use Rattle.lookup_evaluation.specs.declared.exclusive.Selection.{Selection}
+use Rattle.lookup_evaluation.specs.internal.Meanings.{denominator_meaning, lifted_meaning, meaning_of}
+use Rattle.lookup_evaluation.specs.internal.Selections.{IsSelection, branch_sums, plus_branch, selection_meaning}
 use Rattle.lookup_evaluation.proofs.Meanings.{On}
 use Rattle.lookup_model.specs.Denominators.{column_denominator}
 use Rattle.lookup_model.specs.LookupDegree.{BranchDegrees, branch_degrees, expression_degree, greatest, lookup_branch_degrees}

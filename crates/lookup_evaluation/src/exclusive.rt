@@ -2,10 +2,10 @@
 ghost use Rattle.std.specs.Prelude.{◌≡◌, IfOk, length};
 ghost use Rattle.expressions.specs.Layout.{Fits};
 ghost use Rattle.expressions.specs.Tree.{tree_of};
-ghost use Rattle.lookup_evaluation.specs.Meanings.{Means, MeansOn, meaning_of};
-ghost use Rattle.lookup_evaluation.specs.Quotients.{IsQuotient};
-ghost use Rattle.lookup_evaluation.specs.Rows.{IsLookupRow};
-ghost use Rattle.lookup_evaluation.specs.Selections.{AddsBranch, IsSelection, branch_sums, empty_selection, exclusive_meaning, plus_branch, selected_quotient, selection_meaning};
+ghost use Rattle.lookup_evaluation.specs.internal.Meanings.{Means, MeansOn, meaning_of};
+ghost use Rattle.lookup_evaluation.specs.internal.Quotients.{IsQuotient};
+ghost use Rattle.lookup_evaluation.specs.internal.Rows.{IsLookupRow};
+ghost use Rattle.lookup_evaluation.specs.internal.Selections.{AddsBranch, IsSelection, branch_sums, empty_selection, exclusive_meaning, plus_branch, selected_quotient, selection_meaning};
 ghost use Rattle.lookup_model.specs.Records.{AllFit, HasEqualLengths};
 
 use crate::quotient::Quotient;

@@ -2,8 +2,8 @@
 ghost use Rattle.std.specs.Prelude.{IfOk};
 ghost use Rattle.expressions.specs.Layout.{Fits};
 ghost use Rattle.expressions.specs.Tree.{tree_of};
-ghost use Rattle.lookup_evaluation.specs.Meanings.{MeansOn, tuple_meaning, denominator_meaning, lifted_meaning};
-ghost use Rattle.lookup_evaluation.specs.Rows.{IsLookupRow};
+ghost use Rattle.lookup_evaluation.specs.internal.Meanings.{MeansOn, tuple_meaning, denominator_meaning, lifted_meaning};
+ghost use Rattle.lookup_evaluation.specs.internal.Rows.{IsLookupRow};
 ghost use Rattle.lookup_model.specs.Records.{AllFit};
 
 use expressions::{

@@ -22,3 +22,4 @@ pub mod Terminals
 pub mod Trace
 pub mod Weight
 pub mod Witness
+pub mod internal

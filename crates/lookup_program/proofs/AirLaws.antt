@@ -13,8 +13,8 @@ use Rattle.lookup_record.specs.Interaction.{Branch, Interaction, exclusive, glob
 use Rattle.lookup_record.specs.Messages.{IsExclusiveQuery, IsUnitQuery, PushesOne, flag_and_fields}
 use Rattle.lookup.specs.Sends.{bus_and_weight, interaction_sends, interaction_tuples, message_under}
 use Rattle.lookup_program.specs.Machines.{SendsLike, value_message}
-use Rattle.lookup_program.specs.Pushes.{AreTwoKeys, IsCellTuple}
 use Rattle.lookup_program.specs.declared.airs.MachineAir.TheVariants.{Entries, Group, Keys, RangeCheck}
+use Rattle.lookup_program.specs.internal.Pushes.{AreTwoKeys, IsCellTuple}
 
 module _ {B M : Type 0} (pushes : B → M → B → Type 0) (refuses : B → M → AirError → B → Type 0) (Q : M → Type 0) (before after : B) where
   -- what pushes an interaction of one meaning pushes one of a weaker meaning

@@ -33,12 +33,12 @@ use Rattle.lookup.specs.Sends.{lookup_bus_and_weight}
 use Rattle.lookup_program.specs.Machines.{air_bus_and_weight, air_cells, air_sends, air_trace, airs_of, input_columns, first_column_of, width_of}
 use Rattle.lookup_program.specs.Program.{AreFaultlessAirs, IsFirstAirFault, air_faults, air_result, machine_witness, run_table}
 use Rattle.lookup_program.specs.Refusal.{of_batch}
-use Rattle.lookup_program.specs.Traces.{IsTraceOf, traced_instance}
 use Rattle.lookup_program.specs.declared.airs.MachineAir.{MachineAir}
 use Rattle.lookup_program.specs.declared.airs.MachineAir.TheVariants.{Entries, Group, Keys, RangeCheck}
 use Rattle.lookup_program.specs.declared.machine.Machine.{Machine}
 use Rattle.lookup_program.specs.declared.machine.Machine.TheVariants.{Bus, Exclusive, Range}
 use Rattle.lookup_program.specs.declared.traces.AirTrace.{AirTrace}
+use Rattle.lookup_program.specs.internal.Traces.{IsTraceOf, traced_instance}
 
 -- a part of a list
 length_part : {T : Type 0} (values : List T) (first width : ℕ) → first + width ≤ length values → length (slice_range values first (first + width)) ≡ width

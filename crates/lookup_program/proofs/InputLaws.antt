@@ -7,8 +7,9 @@ use Rattle.std.proofs.lemmas.List.Splits.{length-slice_split}
 use Rattle.std.proofs.lemmas.List.Sums.{count_by-le-length}
 use Rattle.std.proofs.lemmas.Option.{same_Some}
 use Rattle.lookup_program.specs.Input.{NoneRefusedOf, line_refusal}
-use Rattle.lookup_program.specs.Words.{is_number, lines_of, number_of, numbers_or_zeros, words_of}
+use Rattle.lookup_program.specs.Words.{is_number, lines_of, number_of, words_of}
 use Rattle.lookup_program.specs.declared.error.RunError.TheVariants.{WrongCount, BadNumber}
+use Rattle.lookup_program.specs.internal.Words.{numbers_or_zeros}
 
 -- a text has at most one line more than bytes
 pub length-lines_of : (text : List ℕ) → length (lines_of text) ≤ length text + 1

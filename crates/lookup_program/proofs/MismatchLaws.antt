@@ -32,14 +32,15 @@ use Rattle.lookup_debug.specs.declared.instance.LookupDebugInstance.{LookupDebug
 use Rattle.lookup_debug.specs.SentContributions.{sent_contributions}
 use Rattle.lookup_debug.proofs.SentContributionLaws.{contributions_sent}
 use Rattle.lookup_program.specs.Machines.{air_bus_and_weight, air_sends, air_trace, airs_of}
-use Rattle.lookup_program.specs.Mismatches.{AreFlagsBoolean, HasBooleanFlags, air_contributions, label_of, machine_contributions, mismatch_line}
+use Rattle.lookup_program.specs.Mismatches.{air_contributions, label_of, machine_contributions, mismatch_line}
 use Rattle.lookup_program.specs.Program.{AreFaultlessAirs, air_rows, run_table}
-use Rattle.lookup_program.specs.Traces.{IsTraceOf, traced_over}
 use Rattle.lookup_program.specs.declared.airs.MachineAir.{MachineAir}
 use Rattle.lookup_program.specs.declared.airs.MachineAir.TheVariants.{Entries, Group as GroupAir, Keys, RangeCheck}
 use Rattle.lookup_program.specs.declared.machine.Machine.{Machine}
 use Rattle.lookup_program.specs.declared.machine.Machine.TheVariants.{Bus, Exclusive, Range}
 use Rattle.lookup_program.specs.declared.traces.AirTrace.{AirTrace}
+use Rattle.lookup_program.specs.internal.Mismatches.{AreFlagsBoolean, HasBooleanFlags}
+use Rattle.lookup_program.specs.internal.Traces.{IsTraceOf, traced_over}
 use Rattle.lookup_program.proofs.BatchLaws.{one_lookup, row_widths}
 
 -- what holds of the one item of each row

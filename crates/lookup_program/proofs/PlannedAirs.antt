@@ -25,12 +25,12 @@ use Rattle.batch.specs.declared.trace.BatchTrace.{BatchTrace}
 use Rattle.lookup_program.specs.Machines.{air_bus_and_weight, air_trace, airs_of, input_columns, first_column_of, width_of}
 use Rattle.lookup_program.specs.Program.{height_sum}
 use Rattle.batch.specs.Traces.{traces_of_main, view_of}
-use Rattle.lookup_program.specs.Traces.{IsTraceOf}
 use Rattle.lookup_program.specs.declared.airs.MachineAir.{MachineAir}
 use Rattle.lookup_program.specs.declared.airs.MachineAir.TheVariants.{Entries, Group, Keys, RangeCheck}
 use Rattle.lookup_program.specs.declared.machine.Machine.{Machine}
 use Rattle.lookup_program.specs.declared.machine.Machine.TheVariants.{Bus, Exclusive, Range}
 use Rattle.lookup_program.specs.declared.traces.AirTrace.{AirTrace}
+use Rattle.lookup_program.specs.internal.Traces.{IsTraceOf}
 use Rattle.lookup_program.proofs.BatchLaws.{airs_within, fitting, ids, instance}
 use Rattle.lookup_program.proofs.PlannedWidths.{AreOnes, no_bus_mismatch, no_local_mismatch}
 

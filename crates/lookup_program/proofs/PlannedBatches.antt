@@ -31,10 +31,10 @@ use Rattle.lookup_program.specs.Machines.{airs_of, input_columns}
 use Rattle.lookup_program.specs.Program.{AreFaultlessAirs, IsFirstAirFault, IsHeavyInput, height_sum, machine_witness, run_table}
 use Rattle.lookup_program.specs.Refusal.{of_batch}
 use Rattle.batch.specs.Traces.{traces_of_main, view_of}
-use Rattle.lookup_program.specs.Traces.{IsTraceOf}
 use Rattle.lookup_program.specs.declared.error.RunError.TheVariants.{Memory}
 use Rattle.lookup_program.specs.declared.machine.Machine.{Machine}
 use Rattle.lookup_program.specs.declared.traces.AirTrace.{AirTrace}
+use Rattle.lookup_program.specs.internal.Traces.{IsTraceOf}
 use Rattle.lookup_program.proofs.BatchLaws.{faultless_is, first_fault_is, ids, instance, witness_is}
 use Rattle.lookup_program.proofs.PlannedAirs.{batch_is, height_sum_is, heights, machine_fits, machine_ids, refused_for_height, sets, sets_ones}
 use Rattle.lookup_program.proofs.PlannedWidths.{width_is_one}

@@ -1,8 +1,6 @@
 -- The fields that a run works over.
-use Rattle.std.specs.Prelude.{ℕ, Bool, List}
-use Rattle.field.specs.Ring.{Ring}
-use Rattle.field.specs.Extension.{Extension, extension}
-use Rattle.lookup_program.specs.Words.{number_bound}
+use Rattle.std.specs.Prelude.{ℕ, List}
+use Rattle.field.specs.Extension.{Extension}
 
 -- The fields of a run: the field of the rows and the field of the challenges, their characteristic,
 -- the bound of the numbers in a row, which words are challenges, and how cells and values of rows are
@@ -14,14 +12,3 @@ pub record Fields (F K : Type 0) : Type 1 where
   pub written : List ℕ → K → Type 0
   pub text : K → List ℕ
   pub base_text : F → List ℕ
-
--- these fields; the numbers of a row are below the characteristic, and below 2^32
-abbrev pub run_fields : {F K : Type 0} → Ring F → (F → F → Bool) → ℕ → Ring K → (K → K → Bool) → (F → K) → (K → K) → (List ℕ → K → Type 0) → (K → List ℕ) → (F → List ℕ) → Fields F K
-run_fields base base_eq characteristic ring eq embed inverse written text base_text = record {
-  extension = extension base base_eq ring eq embed inverse;
-  characteristic = characteristic;
-  bound = number_bound characteristic;
-  written = written;
-  text = text;
-  base_text = base_text;
-}

@@ -6,5 +6,5 @@ pub mod Program
 pub mod Pushes
 pub mod Refusal
 pub mod Report
-pub mod Traces
 pub mod Words
+pub mod internal

@@ -1,6 +1,6 @@
 -- The first tuple that does not balance, over the AIRs of a machine.
-use Rattle.std.specs.Prelude.{◌≡◌, ◌<◌, ◌++◌, ◌||◌, ℕ, Bool, true, List, Option, None, Some, IfSome, codes, map, slice_get, string_bytes}
-use Rattle.std.specs.List.{enumerate_from, flat_map, list_all, range_with_len}
+use Rattle.std.specs.Prelude.{◌≡◌, ◌++◌, ℕ, Bool, List, Option, None, Some, codes, map, string_bytes}
+use Rattle.std.specs.List.{enumerate_from, flat_map, range_with_len}
 use Rattle.std.specs.declared.alloc.Global.{Global}
 use Rattle.std.specs.declared.string.String.{String}
 use Rattle.field.specs.Ring.{Ring}
@@ -10,7 +10,6 @@ use Rattle.lookup_debug.specs.FaultText.{mismatch_text}
 use Rattle.lookup_debug.specs.Groups.{bus_label, local_label}
 use Rattle.lookup_debug.specs.Mismatch.{Balances, IsFirst, net_amount, of_tuple}
 use Rattle.lookup_debug.specs.SentContributions.{sent_contributions}
-use Rattle.lookup_model.specs.Sent.{Sent}
 use Rattle.lookup_program.specs.Machines.{air_sends, air_trace, airs_of}
 use Rattle.lookup_program.specs.declared.airs.MachineAir.{MachineAir}
 use Rattle.lookup_program.specs.declared.machine.Machine.{Machine}
@@ -31,15 +30,6 @@ module _ {F : Type 0} (R : Ring F) (eq : F → F → Bool) where
   -- what all AIRs of a machine contribute, over the rows of an input
   abbrev pub machine_contributions : Machine → Matrix F → List (Contribution F)
   machine_contributions machine input = flat_map (λ p. air_contributions p.0 p.1 (air_trace p.1 input)) (enumerate_from 0 (airs_of machine))
-
-  -- each flag of what an AIR sends is zero or one
-  abbrev pub HasBooleanFlags : Sent F → Type 0
-  HasBooleanFlags sent = IfSome sent.flags (λ flags. list_all (λ f. eq f R.zero || eq f R.one) flags ≡ true)
-
-  abbrev pub AreFlagsBoolean : Machine → Matrix F → Type 0
-  AreFlagsBoolean machine input =
-      (i : ℕ) (air : MachineAir) → slice_get (airs_of machine) i ≡ Some air
-      → (r : ℕ) → r < height (air_trace air input) → HasBooleanFlags (air_sends R eq air (row (air_trace air input) r))
 
   module _ (text : F → List ℕ) where
     -- the line of a tuple that does not balance

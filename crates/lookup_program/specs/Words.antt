@@ -1,5 +1,5 @@
 -- The lines of a text, the words of a line, and what words write.
-use Rattle.std.specs.Prelude.{◌≡◌, ◌==◌, ◌&&◌, ◌||◌, ℕ, Bool, List, Option, Some, None, filter, is_some, length, map, min, nat_lt, unwrap_or, if◌then◌else◌}
+use Rattle.std.specs.Prelude.{◌≡◌, ◌==◌, ◌&&◌, ◌||◌, ℕ, Bool, List, Option, Some, None, filter, is_some, length, map, nat_lt, if◌then◌else◌}
 use Rattle.std.specs.List.{slice_split}
 use Rattle.std.specs.Str.{all_ascii_digits}
 use Rattle.std.specs.Str.Parse.{digits_value}
@@ -22,10 +22,6 @@ has_bytes part = nat_lt 0 (length part)
 unfoldable pub words_of : List ℕ → List (List ℕ)
 words_of line = filter has_bytes (slice_split separates_words line)
 
--- the bound of the numbers of words: the lesser of this bound and 2^32
-abbrev pub number_bound : ℕ → ℕ
-number_bound bound = min bound 4294967296
-
 -- the number that a word writes: the value of one or more decimal digits, if it is below the bound
 unfoldable pub number_of : ℕ → List ℕ → Option ℕ
 number_of bound word =
@@ -34,10 +30,6 @@ number_of bound word =
 -- whether a word writes a number below the bound
 abbrev pub is_number : ℕ → List ℕ → Bool
 is_number bound word = is_some (number_of bound word)
-
--- the number of each word, and 0 for a word that writes none
-abbrev pub numbers_or_zeros : ℕ → List (List ℕ) → List ℕ
-numbers_or_zeros bound words = map (λ word. unwrap_or (number_of bound word) 0) words
 
 -- the word is a number below p, and the residue is that number
 abbrev pub WritesResidue : {p : ℕ} → List ℕ → Residue p → Type 0

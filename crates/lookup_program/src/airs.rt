@@ -4,8 +4,9 @@ ghost use Rattle.air.specs.Cell.{IsCellsRefusal};
 ghost use Rattle.lookup_record.specs.Pushed.{pushed_local};
 ghost use Rattle.lookup_record.specs.Within.{IsInteractionWithin, KeyWithin};
 ghost use Rattle.lookup_program.specs.Machines.{SendsLike, first_column_of, width_of};
-ghost use Rattle.lookup_program.specs.Pushes.{AreTwoKeys, EvaluatesOnePush, IsCellTuple, pushed_if_accepted};
+ghost use Rattle.lookup_program.specs.Pushes.{EvaluatesOnePush, pushed_if_accepted};
 ghost use Rattle.lookup_program.specs.declared.airs.MachineAir.TheVariants.{RangeCheck};
+ghost use Rattle.lookup_program.specs.internal.Pushes.{AreTwoKeys, IsCellTuple};
 
 use air::{Air, AirBuilder, AirError, BaseAir, Expression, current_cell};
 use lookup::{Count, InteractionBuilder, LookupBus};

@@ -1,8 +1,10 @@
 //! Reading numbers and challenges from words.
 ghost use Rattle.std.specs.Prelude.{◌≡◌, ℕ, List, MatchOption, option_map};
 ghost use Rattle.field.specs.Ring.{of_nat};
-ghost use Rattle.lookup_program.specs.Fields.{Fields, run_fields};
-ghost use Rattle.lookup_program.specs.Words.{number_bound, number_of, WritesQuartic, WritesResidue};
+ghost use Rattle.lookup_program.specs.Fields.{Fields};
+ghost use Rattle.lookup_program.specs.Words.{number_of, WritesQuartic, WritesResidue};
+ghost use Rattle.lookup_program.specs.internal.Fields.{run_fields};
+ghost use Rattle.lookup_program.specs.internal.Words.{number_bound};
 
 use field::{
     BabyBear, BabyBear4, ExtensionDomain, ExtensionField, F7, Field, PrimeCharacteristicRing,

@@ -2,8 +2,8 @@
 ghost use Rattle.std.specs.Prelude.{◌≡◌, ◌⊎◌, ℕ, List, IfSome, MatchResult, OnOk, Result, cond, map, string_bytes};
 ghost use Rattle.std.specs.Io.KnownBytes.{Appends};
 ghost use Rattle.std.specs.Process.{exit_status};
-ghost use Rattle.lookup_program.specs.Fields.{run_fields};
 ghost use Rattle.lookup_program.specs.Program.{Answers, AnswersOver, Ends, HasMismatch, IsBadChallenge, WritesInOrder};
+ghost use Rattle.lookup_program.specs.internal.Fields.{run_fields};
 
 use crate::challenge::Challenge;
 use crate::error::RunError;

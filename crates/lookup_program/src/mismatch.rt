@@ -3,9 +3,10 @@ ghost use Rattle.std.specs.Prelude.{◌≡◌, ◌≢◌, ◌++◌, IfOk, codes,
 ghost use Rattle.std.specs.List.{AllZip};
 ghost use Rattle.lookup_debug.specs.FaultText.{fault_text};
 ghost use Rattle.lookup_program.specs.Machines.{airs_of};
-ghost use Rattle.lookup_program.specs.Mismatches.{AreFlagsBoolean, IsMismatchLine};
-ghost use Rattle.lookup_program.specs.Traces.{AreTracesOf, IsTraceOf};
+ghost use Rattle.lookup_program.specs.Mismatches.{IsMismatchLine};
 ghost use Rattle.lookup_program.specs.declared.machine.Machine.{Machine};
+ghost use Rattle.lookup_program.specs.internal.Mismatches.{AreFlagsBoolean};
+ghost use Rattle.lookup_program.specs.internal.Traces.{AreTracesOf, IsTraceOf};
 ghost use Rattle.matrix.specs.Matrix.{Matrix};
 
 use crate::traces::{AirTrace, debug_instances};

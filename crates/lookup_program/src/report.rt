@@ -3,11 +3,11 @@ ghost use Rattle.std.specs.Prelude.{◌≡◌, ◌++◌, ◌<◌, ◌⊎◌, Mat
 ghost use Rattle.std.specs.List.{AllZip, flat_map};
 ghost use Rattle.matrix.specs.Matrix.{height};
 ghost use Rattle.lookup_model.specs.Batches.Witnesses.{results_of};
-ghost use Rattle.lookup_program.specs.Fields.{run_fields};
 ghost use Rattle.lookup_program.specs.Machines.{airs_of, input_columns};
 ghost use Rattle.lookup_program.specs.Program.{AreFaultlessAirs, IsFirstAirFault, IsHeavyInput, IsReport, IsReportRefusal, height_sum, machine_witness};
 ghost use Rattle.lookup_program.specs.Report.{air_lines, row_line, witness_lines};
-ghost use Rattle.lookup_program.specs.Traces.{IsTraceOf};
+ghost use Rattle.lookup_program.specs.internal.Fields.{run_fields};
+ghost use Rattle.lookup_program.specs.internal.Traces.{IsTraceOf};
 
 use crate::challenge::Challenge;
 use crate::error::RunError;

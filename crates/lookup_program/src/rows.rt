@@ -4,7 +4,8 @@ ghost use Rattle.std.specs.List.{list_all};
 ghost use Rattle.field.specs.Ring.{of_nat};
 ghost use Rattle.matrix.specs.Matrix.{height};
 ghost use Rattle.lookup_program.specs.Input.{AreNumbers, IsFirstLineRefusal, IsInput, IsInputRefusal, line_refusal};
-ghost use Rattle.lookup_program.specs.Words.{is_number, number_bound, number_of, numbers_or_zeros, words_of};
+ghost use Rattle.lookup_program.specs.Words.{is_number, number_of, words_of};
+ghost use Rattle.lookup_program.specs.internal.Words.{number_bound, numbers_or_zeros};
 
 use crate::challenge::number;
 use crate::error::RunError;

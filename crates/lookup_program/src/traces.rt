@@ -5,7 +5,7 @@ ghost use Rattle.lookup.specs.Lookups.{lookups_of};
 ghost use Rattle.lookup_debug.specs.Contributions.{traced_of};
 ghost use Rattle.lookup_program.specs.Machines.{AreLookupsOf, air_trace, airs_of, input_columns, first_column_of, width_of};
 ghost use Rattle.batch.specs.Traces.{traces_of_main, view_of};
-ghost use Rattle.lookup_program.specs.Traces.{IsTraceOf, traced_over};
+ghost use Rattle.lookup_program.specs.internal.Traces.{IsTraceOf, traced_over};
 ghost use Rattle.matrix.specs.Matrix.{height};
 
 use crate::airs::MachineAir;

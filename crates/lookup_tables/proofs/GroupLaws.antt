@@ -9,7 +9,8 @@ use Rattle.std.specs.Simd.{first_chunks}
 use Rattle.field.specs.BabyBear.{baby_bear_of}
 use Rattle.field.specs.Quartic.{Quartic}
 use Rattle.lookup_tables.specs.Nodes.{BabyBear}
-use Rattle.lookup_tables.specs.Numbers.{AreGroupsBelow, AreNumbersUpTo, IsGroupUpTo, quartic_of}
+use Rattle.lookup_tables.specs.Numbers.{AreGroupsBelow, quartic_of}
+use Rattle.lookup_tables.specs.internal.Numbers.{AreNumbersUpTo, IsGroupUpTo}
 
 -- each has four numbers
 abbrev pub AreFours : List (List ℕ) → Type 0

@@ -9,9 +9,10 @@ use Rattle.expressions.specs.declared.base_expression.BaseLeaf.{BaseLeaf}
 use Rattle.expressions.specs.declared.base_expression.BaseLeaf.TheVariants.{Variable, IsFirstRow, IsLastRow, IsTransition, Constant}
 use Rattle.expressions.specs.declared.variable.BaseEntry.{BaseEntry}
 use Rattle.expressions.specs.declared.variable.BaseEntry.TheVariants.{Preprocessed, Main, Public}
-use Rattle.lookup_tables.specs.Nodes.{BabyBear, IsShallow, entry_node, is_leaf, is_negation, leaf_node, node, nodes_of}
-use Rattle.lookup_tables.specs.Stack.{has_room}
+use Rattle.lookup_tables.specs.Nodes.{BabyBear, IsShallow, entry_node, leaf_node, node, nodes_of}
 use Rattle.lookup_tables.specs.declared.nodes.Node.{Node}
+use Rattle.lookup_tables.specs.internal.Nodes.{is_leaf, is_negation}
+use Rattle.lookup_tables.specs.internal.Stack.{has_room}
 
 abbrev OnTrue : Bool → Type 0
 OnTrue true = Unit {0}

@@ -3,7 +3,8 @@ use Rattle.std.proofs.Common.{◌≡◌, ◌⊎◌, ◌<◌, ◌≤◌, ◌+◌,
 use Rattle.std.proofs.lemmas.Bool.{cases_lt}
 use Rattle.std.proofs.lemmas.Option.{slice_get-get_or}
 use Rattle.std.specs.List.{slice_get}
-use Rattle.lookup_tables.specs.Numbers.{AreGroupsBelow, AreNumbersBelow, AreNumbersUpTo, IsFirstLargeGroup, IsGroup}
+use Rattle.lookup_tables.specs.Numbers.{AreGroupsBelow, AreNumbersBelow, IsFirstLargeGroup, IsGroup}
+use Rattle.lookup_tables.specs.internal.Numbers.{AreNumbersUpTo}
 
 -- one number more
 pub numbers_next : (numbers : List ℕ) (i : ℕ) → slice_index numbers i < 2013265921 → AreNumbersBelow i numbers → AreNumbersBelow (i + 1) numbers

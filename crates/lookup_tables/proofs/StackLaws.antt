@@ -6,9 +6,9 @@ use Rattle.std.specs.List.{flat_map}
 use Rattle.expressions.specs.Tree.{Tree, tree_of}
 use Rattle.expressions.specs.declared.base_expression.SymbolicExpression.{SymbolicExpression}
 use Rattle.lookup_tables.specs.Nodes.{AreTrees, BabyBear, IsFirstBadNode, IsShallow, node, nodes_of}
-use Rattle.lookup_tables.specs.Stack.{has_one, has_room, has_two, part_depths, part_depths_on, written}
 use Rattle.lookup_tables.specs.declared.nodes.Node.{Node}
 use Rattle.lookup_tables.specs.declared.part.Part.{Part}
+use Rattle.lookup_tables.specs.internal.Stack.{has_one, has_room, has_two, part_depths, part_depths_on, written}
 use Rattle.lookup_tables.proofs.NodeLaws.{depths_on, none_begins}
 
 part_depths_on-push : (ds : List ℕ) (ps : List Part) (p : Part) → part_depths_on ds (ps ++ p ∷ []) ≡ p.depth ∷ part_depths_on ds ps

@@ -10,8 +10,9 @@ use Rattle.expressions.specs.declared.base_expression.BaseLeaf.{BaseLeaf}
 use Rattle.expressions.specs.declared.base_expression.BaseLeaf.TheVariants.{Variable, IsFirstRow, IsLastRow, IsTransition, Constant}
 use Rattle.expressions.specs.declared.variable.BaseEntry.{BaseEntry}
 use Rattle.expressions.specs.declared.variable.BaseEntry.TheVariants.{Preprocessed, Main, Public}
-use Rattle.lookup_tables.specs.Nodes.{BabyBear, entry_node, is_leaf, is_negation, leaf_node, node, nodes_of}
+use Rattle.lookup_tables.specs.Nodes.{BabyBear, entry_node, leaf_node, node, nodes_of}
 use Rattle.lookup_tables.specs.declared.nodes.Node.{Node}
+use Rattle.lookup_tables.specs.internal.Nodes.{is_leaf, is_negation}
 use Rattle.lookup_tables.proofs.NodeLaws.{leaf_is_leaf}
 
 -- the leaf that a node is

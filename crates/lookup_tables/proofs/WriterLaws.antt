@@ -19,13 +19,14 @@ use Rattle.lookup_model.specs.Outline.{bus_of}
 use Rattle.lookup_model.specs.declared.types.Lookup.{Lookup}
 use Rattle.lookup_tables.specs.Nodes.{BabyBear, IsShallow, nodes_of}
 use Rattle.lookup_tables.specs.Tables.{AreFlags, AreTuples, IsBus, IsInside, IsLookup, IsWritten, items_at}
-use Rattle.lookup_tables.specs.Written.{HoldsFrom, IsLonger, IsLookupFault, IsNear, IsNearLeaf, IsEncodable, IsTreeFault, IsUnencodableAt, EncodeLists, EncodesBus, EncodesFlags, EncodesRecord}
+use Rattle.lookup_tables.specs.Written.{IsLookupFault, IsNear, IsNearLeaf, IsEncodable, IsTreeFault, IsUnencodableAt, EncodeLists}
 use Rattle.lookup_tables.specs.declared.nodes.Node.{Node}
 use Rattle.lookup_tables.specs.declared.tables.Record.{Record}
 use Rattle.lookup_tables.specs.declared.tables.Span.{Span}
 use Rattle.lookup_tables.specs.declared.tables.TableFault.{TableFault}
 use Rattle.lookup_tables.specs.declared.tables.TableFault.TheVariants.{TooDeep, RowTooLarge}
 use Rattle.lookup_tables.specs.declared.tables.Tables.{Tables}
+use Rattle.lookup_tables.specs.internal.Written.{HoldsFrom, IsLonger, EncodesBus, EncodesFlags, EncodesRecord}
 
 -- a tree has a node at least
 positive : (t : Tree BabyBear) → 1 ≤ depth_of t

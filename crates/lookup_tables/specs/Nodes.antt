@@ -1,5 +1,5 @@
 -- Expressions over BabyBear as tables of nodes, in postfix order.
-use Rattle.std.specs.Prelude.{◌≡◌, ◌≢◌, ◌≤◌, ◌<◌, ◌+◌, nat_le, ◌==◌, ◌&&◌, ◌||◌, nat_lt, ℕ, Bool, List, [], ◌∷◌, ◌++◌, All, length, take}
+use Rattle.std.specs.Prelude.{◌≡◌, ◌≢◌, ◌≤◌, ◌<◌, ◌+◌, ℕ, List, [], ◌∷◌, ◌++◌, All, length, take}
 use Rattle.std.specs.List.{flat_map}
 use Rattle.field.specs.Residue.{Residue}
 use Rattle.expressions.specs.Depth.{depth_of}
@@ -56,17 +56,3 @@ pub record IsFirstBadNode (nodes : List Node) (i : ℕ) : Type 0 where
   pub trees : List (Tree BabyBear)
   pub before : AreTrees trees (take i nodes)
   pub bad : (others : List (Tree BabyBear)) (rest : List Node) → All IsShallow others → flat_map nodes_of others ≢ take (i + 1) nodes ++ rest
-
--- what a node is
-abbrev pub is_leaf : Node → Bool
-is_leaf n =
-    nat_le n.kind 1
-    || (((n.kind == 2) && (n.number == 0))
-    || ((nat_le n.kind 5 && (nat_le 3 n.kind && ((n.number == 0) && (n.index == 0))))
-    || ((n.kind == 6) && (nat_lt n.number 2013265921 && (n.index == 0)))))
-
-abbrev pub is_negation : Node → Bool
-is_negation n = (n.kind == 10) && ((n.number == 0) && (n.index == 0))
-
-abbrev pub is_operation : Node → Bool
-is_operation n = nat_le n.kind 9 && (nat_le 7 n.kind && ((n.number == 0) && (n.index == 0)))

@@ -21,10 +21,6 @@ quartic_of ns = record {
 abbrev pub AreNumbersBelow : ℕ → List ℕ → Type 0
 AreNumbersBelow n numbers = (k : ℕ) → k < n → slice_index numbers k < 2013265921
 
--- the first n numbers are at most this one
-abbrev pub AreNumbersUpTo : ℕ → ℕ → List ℕ → Type 0
-AreNumbersUpTo most n numbers = (k : ℕ) → k < n → slice_index numbers k ≤ most
-
 -- number i is not below the modulus, and all those before it are
 pub record IsFirstLarge (numbers : List ℕ) (i : ℕ) : Type 0 where
   pub within : i < length numbers
@@ -41,13 +37,6 @@ pub record IsGroup (ns : List ℕ) : Type 0 where
 -- the first n groups of four are such
 abbrev pub AreGroupsBelow : ℕ → List (List ℕ) → Type 0
 AreGroupsBelow n groups = (k : ℕ) (group : List ℕ) → k < n → slice_get groups k ≡ Some group → IsGroup group
-
--- four numbers are at most this one
-pub record IsGroupUpTo (most : ℕ) (ns : List ℕ) : Type 0 where
-  pub n0 : slice_index ns 0 ≤ most
-  pub n1 : slice_index ns 1 ≤ most
-  pub n2 : slice_index ns 2 ≤ most
-  pub n3 : slice_index ns 3 ≤ most
 
 -- group i has a number that is not below the modulus, and the groups before it have none
 pub record IsFirstLargeGroup (groups : List (List ℕ)) (i : ℕ) : Type 0 where

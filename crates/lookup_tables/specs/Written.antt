@@ -1,5 +1,5 @@
--- Tables that are written.
-use Rattle.std.specs.Prelude.{◌≡◌, ◌⊎◌, ◌≤◌, ◌<◌, ◌^◌, ◌++◌, ℕ, All, List, Option, None, Some, length, map, slice_get}
+-- Which lookups tables can encode, and what tables that are written encode.
+use Rattle.std.specs.Prelude.{◌≡◌, ◌⊎◌, ◌≤◌, ◌<◌, ◌^◌, ℕ, All, List, Option, None, Some, length, map, slice_get}
 use Rattle.std.specs.List.{flat_map}
 use Rattle.std.specs.declared.alloc.Global.{Global}
 use Rattle.std.specs.declared.vec.Vec.{Vec}
@@ -12,7 +12,7 @@ use Rattle.expressions.specs.declared.variable.BaseEntry.{BaseEntry}
 use Rattle.expressions.specs.declared.variable.BaseEntry.TheVariants.{Preprocessed, Main, Public}
 use Rattle.lookup_model.specs.declared.types.Lookup.{Lookup}
 use Rattle.lookup_tables.specs.Nodes.{BabyBear, nodes_of}
-use Rattle.lookup_tables.specs.Tables.{AreLookups, IsInside, IsLookup, IsWritten, items_at}
+use Rattle.lookup_tables.specs.Tables.{AreLookups}
 use Rattle.lookup_tables.specs.declared.nodes.Node.{Node}
 use Rattle.lookup_tables.specs.declared.tables.Record.{Record}
 use Rattle.lookup_tables.specs.declared.tables.Span.{Span}
@@ -93,29 +93,6 @@ pub record IsUnencodableAt (lookups : List (Lookup BabyBear)) (i : ℕ) (e : Tab
   pub is_there : slice_get lookups i ≡ Some lookup
   pub before : (k : ℕ) (other : Lookup BabyBear) → k < i → slice_get lookups k ≡ Some other → IsEncodable other
   pub fault : IsLookupFault lookup e
-
--- a list goes on from another one
-abbrev pub IsLonger : {A : Type 0} → List A → List A → Type 0
-IsLonger {A} items all = (more : List A) × (all ≡ items ++ more)
-
--- it holds of each list that goes on from this one
-abbrev pub HoldsFrom : {A : Type 0} → List A → (List A → Type 0) → Type 0
-HoldsFrom {A} items P = (all : List A) → IsLonger items all → P all
-
--- what a record says of its bus: a mark of 0 and none, or a mark of 1 and the name at a range
-abbrev pub EncodesBus : List ℕ → ℕ → Span → Option (List ℕ) → Type 0
-EncodesBus names mark span None = mark ≡ 0
-EncodesBus names mark span (Some name) = (mark ≡ 1) × IsInside names span × (name ≡ items_at names span)
-
--- what a record says of its flags, likewise
-abbrev pub EncodesFlags : List Node → ℕ → Span → Option (Vec (SymbolicExpression BabyBear) Global) → Type 0
-EncodesFlags nodes mark span None = mark ≡ 0
-EncodesFlags nodes mark span (Some flags) = (mark ≡ 1) × IsWritten nodes span flags.items
-
--- a record is this lookup, but for its column, over all tables that go on from these
-abbrev pub EncodesRecord : List Node → List Span → List ℕ → Record → Lookup BabyBear → Type 0
-EncodesRecord nodes tuples names r lookup =
-    (t : Tables) → IsLonger nodes t.nodes.now → IsLonger tuples t.tuples.now → IsLonger names t.names.now → IsLookup t r lookup
 
 -- tables with these nodes, tuples, names and records encode these lookups
 abbrev pub EncodeLists : List Node → List Span → List ℕ → List Record → List (Lookup BabyBear) → Type 0

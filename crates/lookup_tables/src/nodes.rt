@@ -2,8 +2,9 @@
 ghost use Rattle.std.specs.Prelude.{◌≡◌, ◌+◌, ◌++◌, ◌∷◌, [], true, IfOk, max};
 ghost use Rattle.expressions.specs.Depth.{depth_of};
 ghost use Rattle.expressions.specs.Tree.{tree_of};
-ghost use Rattle.lookup_tables.specs.Nodes.{entry_node, is_leaf, is_negation, is_operation, leaf_node, nodes_of};
+ghost use Rattle.lookup_tables.specs.Nodes.{entry_node, leaf_node, nodes_of};
 ghost use Rattle.lookup_tables.specs.declared.nodes.NodeFault.TheVariants.{Memory};
+ghost use Rattle.lookup_tables.specs.internal.Nodes.{is_leaf, is_negation, is_operation};
 
 use crate::numbers::MODULUS;
 use expressions::{BaseEntry, BaseLeaf, Expression, SymbolicExpression, SymbolicVariable};

@@ -1,8 +1,9 @@
 //! Numbers as elements, and elements as numbers.
 ghost use Rattle.std.specs.Prelude.{◌≡◌, ◌⊎◌, ◌↔◌, ◌+◌, ◌<◌, ◌≤◌, ◌++◌, ℕ, All, IfOk, IsTrue, MatchOption, MatchResult, length, map, vec_capacity};
 ghost use Rattle.field.specs.BabyBear.{baby_bear_of};
-ghost use Rattle.lookup_tables.specs.Numbers.{AreGroupsBelow, AreNumbersBelow, AreNumbersUpTo, IsFirstLarge, IsFirstLargeGroup, IsGroup, IsGroupUpTo, numbers_of, quartic_of};
+ghost use Rattle.lookup_tables.specs.Numbers.{AreGroupsBelow, AreNumbersBelow, IsFirstLarge, IsFirstLargeGroup, IsGroup, numbers_of, quartic_of};
 ghost use Rattle.lookup_tables.specs.declared.numbers.NumberFault.TheVariants.{Memory, Large};
+ghost use Rattle.lookup_tables.specs.internal.Numbers.{AreNumbersUpTo, IsGroupUpTo};
 
 use field::{BabyBear, BabyBear4};
 use std::alloc::{AllocError, AllocFailed, Global};

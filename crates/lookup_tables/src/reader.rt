@@ -1,9 +1,10 @@
 //! The reader of expressions.
 ghost use Rattle.std.specs.Prelude.{◌≡◌, ◌⊎◌, ◌++◌, ◌∷◌, [], ℕ, true, false, IfOk, MatchResult, map};
 ghost use Rattle.expressions.specs.Tree.{tree_of};
-ghost use Rattle.lookup_tables.specs.Nodes.{AreTrees, IsFirstBadNode, is_negation, is_operation};
-ghost use Rattle.lookup_tables.specs.Stack.{has_one, has_room, has_two, part_depths, written};
+ghost use Rattle.lookup_tables.specs.Nodes.{AreTrees, IsFirstBadNode};
 ghost use Rattle.lookup_tables.specs.declared.nodes.NodeFault.TheVariants.{Memory, Bad};
+ghost use Rattle.lookup_tables.specs.internal.Nodes.{is_negation, is_operation};
+ghost use Rattle.lookup_tables.specs.internal.Stack.{has_one, has_room, has_two, part_depths, written};
 
 use crate::nodes::{Node, NodeFault, is_leaf, is_negation, is_operation, joined, leaf_of};
 use crate::part::Part;

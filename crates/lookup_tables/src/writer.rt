@@ -5,8 +5,9 @@ ghost use Rattle.expressions.specs.Tree.{tree_of};
 ghost use Rattle.lookup_model.specs.Outline.{bus_of};
 ghost use Rattle.lookup_tables.specs.Nodes.{entry_node, leaf_node, node, nodes_of};
 ghost use Rattle.lookup_tables.specs.Tables.{AreTuples, IsInside, IsWritten, items_at};
-ghost use Rattle.lookup_tables.specs.Written.{AreSayable, AreSayableFlags, HoldsFrom, IsElementsFault, IsListFault, IsLonger, IsLookupFault, IsNearEntry, IsNearLeaf, IsOptionFault, IsEncodable, IsEncodableWithin, IsTreeFault, IsUnencodableAt, EncodesBus, EncodesFlags, EncodesRecord, EncodesWritten};
+ghost use Rattle.lookup_tables.specs.Written.{AreSayable, AreSayableFlags, IsElementsFault, IsListFault, IsLookupFault, IsNearEntry, IsNearLeaf, IsOptionFault, IsEncodable, IsEncodableWithin, IsTreeFault, IsUnencodableAt, EncodesWritten};
 ghost use Rattle.lookup_tables.specs.declared.tables.TableFault.TheVariants.{Memory};
+ghost use Rattle.lookup_tables.specs.internal.Written.{HoldsFrom, IsLonger, EncodesBus, EncodesFlags, EncodesRecord};
 
 use crate::nodes::Node;
 use crate::reader::MAX_DEPTH;

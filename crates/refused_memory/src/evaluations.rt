@@ -3,7 +3,7 @@ ghost use Rattle.std.specs.Prelude.{◌≡◌, None};
 ghost use Rattle.std.specs.Option.{option_copied};
 ghost use Rattle.air.specs.Row.{HeightFits, OptionHeightFits};
 ghost use Rattle.matrix.specs.Matrix.{height};
-ghost use Rattle.refused_memory.specs.Layout.{swept_layout};
+ghost use Rattle.refused_memory.specs.internal.Layout.{swept_layout};
 
 use crate::airs::Zeros;
 use crate::inputs::{LOOKUPS, lookups_of, trace};

@@ -7,7 +7,8 @@ use crate::show::{Out, show};
 use crate::trees::nodes;
 use field::{
     BabyBear, BabyBear4, DivisionLists, ExtensionDomain, F2, F7, Field, InverseCount,
-    PrimeCharacteristicRing, batch_multiplicative_inverse, batch_multiplicative_inverse_into, powers,
+    PrimeCharacteristicRing, batch_multiplicative_inverse, batch_multiplicative_inverse_into,
+    powers,
 };
 use std::alloc::Global;
 

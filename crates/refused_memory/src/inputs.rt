@@ -1,6 +1,6 @@
 //! The inputs of the calls.
 ghost use Rattle.std.specs.Prelude.{◌≡◌};
-ghost use Rattle.refused_memory.specs.Layout.{swept_layout};
+ghost use Rattle.refused_memory.specs.internal.Layout.{swept_layout};
 
 use crate::show::{Out, input};
 use air::{

@@ -2,7 +2,7 @@
 ghost use Rattle.std.specs.Prelude.{◌↔◌, ◌+◌, ◌<◌, All, IsTrue, length};
 ghost use Rattle.lookup.specs.Rooms.{HasRoomForLookups};
 ghost use Rattle.lookup_model.specs.Records.{LookupsFit};
-ghost use Rattle.refused_memory.specs.Layout.{swept_layout};
+ghost use Rattle.refused_memory.specs.internal.Layout.{swept_layout};
 
 use crate::inputs::layout;
 use lookup::{Lookup, fits};

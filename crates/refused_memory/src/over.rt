@@ -1,6 +1,6 @@
 //! The place where code over any builder is given the recorder.
 ghost use Rattle.std.specs.Prelude.{◌≡◌};
-ghost use Rattle.refused_memory.specs.Layout.{swept_layout};
+ghost use Rattle.refused_memory.specs.internal.Layout.{swept_layout};
 
 use crate::airs::BusCall;
 use crate::builders::{call_five_times, on_cells};

@@ -1,6 +1,6 @@
 //! Calls of expressions.
 ghost use Rattle.std.specs.Prelude.{◌≡◌};
-ghost use Rattle.refused_memory.specs.Layout.{swept_layout};
+ghost use Rattle.refused_memory.specs.internal.Layout.{swept_layout};
 
 use crate::inputs::{TREES, layout, read};
 use crate::over::{Call, over_recorder};

@@ -1,6 +1,6 @@
 //! Variables by entry and index.
 ghost use Rattle.std.specs.Prelude.{◌≡◌, ℕ, IfOk};
-ghost use Rattle.air.specs.Variables.{IsVariableRow, IsVariableMatrix};
+ghost use Rattle.air.specs.internal.Variables.{IsVariableRow, IsVariableMatrix};
 
 use expressions::{BaseEntry, ExtEntry, SymbolicVariable, SymbolicVariableExt};
 use matrix::RowMajorMatrix;

@@ -1,6 +1,6 @@
 //! The variables of a layout.
 ghost use Rattle.std.specs.Prelude.{◌≡◌, IfOk};
-ghost use Rattle.air.specs.Variables.{IsVariableMatrix, IsVariableRow};
+ghost use Rattle.air.specs.internal.Variables.{IsVariableMatrix, IsVariableRow};
 ghost use Rattle.expressions.specs.declared.variable.BaseEntry.TheVariants.{Main, Preprocessed, Public};
 ghost use Rattle.expressions.specs.declared.variable.ExtEntry.TheVariants.{Challenge, Permutation, PermutationValue};
 
@@ -27,7 +27,7 @@ impl<F, EF> Model for LayoutVariables<F, EF> {
 
     ghost Value = { AirLayout };
 
-    ghost use Rattle.air.specs.Stored.{IsStored};
+    ghost use Rattle.air.specs.internal.Stored.{IsStored};
 
     ghost view = { λ s. s.layout };
 

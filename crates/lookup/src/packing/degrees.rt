@@ -8,8 +8,8 @@ ghost use Rattle.lookup_model.specs.declared.error.LookupError.{LookupError};
 ghost use Rattle.lookup_model.specs.declared.types.Lookup.{Lookup};
 ghost use Rattle.lookup.specs.Fewest.{AnswersDegree};
 ghost use Rattle.lookup.specs.Packing.{trial};
-ghost use Rattle.lookup.specs.TrialDegrees.{KeepsDegrees, kept_at_any_weight};
 ghost use Rattle.lookup.specs.Trials.{AnswersTrial, IsMember};
+ghost use Rattle.lookup.specs.internal.TrialDegrees.{KeepsDegrees, kept_at_any_weight};
 
 use field::Field;
 use lookup_model::{Lookup, LookupError, SumDegrees};

@@ -2,8 +2,9 @@
 ghost use Rattle.std.specs.Prelude.{◌≡◌, ◌⊎◌, ◌∷◌, ◌++◌, [], List, MatchResult, None, Some, ℕ, map};
 ghost use Rattle.expressions.specs.declared.base_expression.SymbolicExpression.{SymbolicExpression};
 ghost use Rattle.lookup_model.specs.Outline.{Outline, fields_of};
-ghost use Rattle.lookup.specs.Fillings.{IsFilled, IsOpen, columns_of};
-ghost use Rattle.lookup.specs.Trials.{IsMember, IsStep, IsTrial, IsTrialAmong, IsTrialRefusal};
+ghost use Rattle.lookup.specs.Trials.{IsMember, IsTrial, IsTrialAmong};
+ghost use Rattle.lookup.specs.internal.Fillings.{IsFilled, IsOpen, columns_of};
+ghost use Rattle.lookup.specs.internal.Trials.{IsStep, IsTrialRefusal};
 
 use crate::packing::degrees::TrialDegrees;
 use crate::packing::trials::try_together;

@@ -2,7 +2,8 @@
 ghost use Rattle.std.specs.Prelude.{◌≡◌, ◌<◌, ◌⊎◌, MatchResult};
 ghost use Rattle.lookup_model.specs.Outline.{fields_of};
 ghost use Rattle.lookup.specs.Packing.{trial};
-ghost use Rattle.lookup.specs.Trials.{IsMember, IsTrial, IsTried, IsTrialRefusal};
+ghost use Rattle.lookup.specs.Trials.{IsMember, IsTrial};
+ghost use Rattle.lookup.specs.internal.Trials.{IsTried, IsTrialRefusal};
 
 use crate::packing::degrees::TrialDegrees;
 use field::Field;

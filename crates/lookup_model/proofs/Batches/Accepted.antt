@@ -24,7 +24,7 @@ use Rattle.lookup_model.specs.Terminals.{terminal_sum, terminal_value}
 use Rattle.lookup_model.specs.Witness.{values_of_terminal, witness_window, IsSatisfied}
 use Rattle.lookup_model.specs.declared.types.Lookup.{Lookup}
 use Rattle.lookup_model.specs.declared.types.LookupTerminal.{LookupTerminal}
-use Rattle.lookup_model.specs.Batches.Equations.{CanSumTo, Equation, Solves, air_equations, batch_equations, challenged_window, equation_at, row_equations}
+use Rattle.lookup_model.specs.internal.Equations.{CanSumTo, Equation, Solves, air_equations, batch_equations, challenged_window, equation_at, row_equations}
 use Rattle.lookup_model.specs.Batches.Instances.{Instance, IsFitting}
 use Rattle.lookup_model.specs.Batches.Witnesses.{AirResult, AreSatisfied, IsSatisfiedAt}
 use Rattle.lookup_model.specs.Records.{AreRecords}

@@ -5,7 +5,7 @@ use Rattle.lists.proofs.Zips.{AllZip-parts}
 use Rattle.field.specs.Ring.{Ring, IsCommutativeRing}
 use Rattle.field.specs.Sums.{sum_in}
 use Rattle.lookup_model.proofs.SumLaws.{sum_in-append}
-use Rattle.lookup_model.specs.Batches.Equations.{CanSumTo, Equation, Solves}
+use Rattle.lookup_model.specs.internal.Equations.{CanSumTo, Equation, Solves}
 use Rattle.lists.proofs.Zips.{AllZip-append}
 
 module _ {K : Type 0} {S : Ring K} (laws : IsCommutativeRing S) where

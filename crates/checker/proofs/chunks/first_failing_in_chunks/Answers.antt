@@ -1,6 +1,6 @@
 use Rattle.std.proofs.Common.{◌<◌, ◌≤◌, ◌⊎◌, ℕ, inl, inr, arith}
 use Rattle.std.proofs.lemmas.Bool.{cases_lt}
-use Rattle.checker.specs.Rows.{HoldsUntil}
+use Rattle.checker.specs.internal.Rows.{HoldsUntil}
 use Rattle.checker.proofs.chunks.first_failing_in_chunks.Goals as goal
 
 -- what holds on all rows before a first one, and from there on until some row, holds on all rows before

@@ -1,7 +1,7 @@
 use Rattle.std.proofs.Common.{ℕ, ◌-◌, ◌<◌, ◌≤◌}
 use Rattle.field.specs.laws.Extension.{of_laws}
 use Rattle.matrix.specs.Matrix.{height}
-use Rattle.checker.specs.Rows.{HoldsOn}
+use Rattle.checker.specs.internal.Rows.{HoldsOn}
 use Rattle.checker.proofs.chunks.first_failing_in_chunks.Given as goal
 
 abbrev pub invariant-loop-first : goal.invariant-loop-first

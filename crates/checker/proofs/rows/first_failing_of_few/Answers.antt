@@ -1,7 +1,7 @@
 use Rattle.std.proofs.Common.{rules, ◌≡◌, inl, inr, subst, arith}
 use Rattle.std.proofs.lemmas.Bool.{cases_lt}
 use Rattle.field.specs.laws.Extension.{of_laws}
-use Rattle.checker.specs.Rows.{HoldsOn}
+use Rattle.checker.specs.internal.Rows.{HoldsOn}
 use Rattle.checker.proofs.rows.first_failing_of_few.Goals as goal
 
 pub loop-row-preserved : goal.loop-row-preserved

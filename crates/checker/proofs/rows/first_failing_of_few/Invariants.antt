@@ -1,6 +1,6 @@
 use Rattle.std.proofs.Common.{◌<◌, ℕ}
 use Rattle.field.specs.laws.Extension.{of_laws}
-use Rattle.checker.specs.Rows.{HoldsOn}
+use Rattle.checker.specs.internal.Rows.{HoldsOn}
 use Rattle.checker.proofs.rows.first_failing_of_few.Given as goal
 
 abbrev pub invariant-loop-row : goal.invariant-loop-row

@@ -7,7 +7,8 @@ use Rattle.field.specs.laws.Extension.{of_laws}
 use Rattle.lookup_model.specs.Fault.{vanishes}
 use Rattle.lookup_model.specs.Message.{Message}
 use Rattle.lookup_model.specs.Plain.{counted}
-use Rattle.generation_tests.specs.PlainProgram.{IsSumOfQuotients, as_message, as_messages}
+use Rattle.generation_tests.specs.PlainProgram.{as_message, as_messages}
+use Rattle.generation_tests.specs.internal.PlainProgram.{IsSumOfQuotients}
 use Rattle.generation_tests.proofs.PlainProgramLaws.{fraction_of_both, messages-more, vanishes_among}
 use Rattle.generation_tests.proofs.plain.fraction_of.Goals as goal
 

@@ -1,7 +1,8 @@
 use Rattle.std.proofs.Common.{take}
 use Rattle.lookup_model.specs.Denominators.{key_denominator}
 use Rattle.field.specs.laws.Extension.{of_laws}
-use Rattle.generation_tests.specs.PlainProgram.{IsSumOfQuotients, as_messages}
+use Rattle.generation_tests.specs.PlainProgram.{as_messages}
+use Rattle.generation_tests.specs.internal.PlainProgram.{IsSumOfQuotients}
 use Rattle.generation_tests.proofs.plain.fraction_of.Given as goal
 
 abbrev pub invariant-loop-message : goal.invariant-loop-message

@@ -6,7 +6,8 @@ use Rattle.field.specs.laws.Extension.{of_laws}
 use Rattle.lookup_model.specs.Fault.{vanishes}
 use Rattle.lookup_model.specs.Message.{Key, Message}
 use Rattle.lookup_model.specs.Plain.{counted}
-use Rattle.generation_tests.specs.PlainProgram.{IsSumOfQuotients, as_message, as_messages, net_message}
+use Rattle.generation_tests.specs.PlainProgram.{as_message, as_messages}
+use Rattle.generation_tests.specs.internal.PlainProgram.{IsSumOfQuotients, net_message}
 use Rattle.generation_tests.proofs.PlainProgramLaws.{fraction_of_both, keys-new, keys-seen, keys_of, sum_of_nets, vanishing_net, vanishing_nets}
 use Rattle.generation_tests.proofs.plain.terminal_of.Goals.{then-not-holds+in_ok-quotient_of, else-not-holds}
 use Rattle.generation_tests.proofs.plain.terminal_of.Goals as goal

@@ -2,7 +2,8 @@ use Rattle.std.proofs.Common.{map, take}
 use Rattle.lookup_model.specs.Denominators.{key_denominator}
 use Rattle.field.specs.laws.Extension.{of_laws}
 use Rattle.lookup_model.specs.Net.{keys}
-use Rattle.generation_tests.specs.PlainProgram.{IsSumOfQuotients, as_messages, net_message}
+use Rattle.generation_tests.specs.PlainProgram.{as_messages}
+use Rattle.generation_tests.specs.internal.PlainProgram.{IsSumOfQuotients, net_message}
 use Rattle.generation_tests.proofs.plain.terminal_of.Given as goal
 
 abbrev pub invariant-loop-index : goal.invariant-loop-index

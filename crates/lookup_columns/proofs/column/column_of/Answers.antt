@@ -1,7 +1,8 @@
 use Rattle.std.proofs.Common.{◌+◌, [], ap, drop, sym, ◌∙◌, arith}
 use Rattle.std.proofs.lemmas.List.{drop_all}
 use Rattle.field.proofs.DotProduct.{drop_read}
-use Rattle.lookup_columns.specs.Slots.{filled, last_of}
+use Rattle.lookup_columns.specs.Slots.{filled}
+use Rattle.lookup_columns.specs.internal.Slots.{last_of}
 use Rattle.air.specs.Traces.{traces_of, window_of}
 use Rattle.lookup_columns.proofs.StepLaws.{worked_out, worked_out_tree}
 use Rattle.lookup_columns.proofs.column.column_of.Goals as goal

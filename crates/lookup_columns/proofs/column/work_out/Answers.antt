@@ -2,7 +2,8 @@ use Rattle.std.proofs.Common.{◌≡◌, ◌++◌, OnOk, map, ap, sym, subst, �
 use Rattle.std.proofs.lemmas.Result.{on_ok_weaker}
 use Rattle.std.specs.List.{zip}
 use Rattle.field.specs.Ring.{sub_in}
-use Rattle.lookup_columns.specs.Slots.{after, filled}
+use Rattle.lookup_columns.specs.Slots.{filled}
+use Rattle.lookup_columns.specs.internal.Slots.{after}
 use Rattle.air.specs.Traces.{traces_of, window_of}
 use Rattle.lookup_columns.proofs.SlotLaws.{joined_slots}
 use Rattle.lookup_columns.proofs.column.work_out.Goals as goal

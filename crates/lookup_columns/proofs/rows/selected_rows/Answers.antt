@@ -3,7 +3,7 @@ use Rattle.std.proofs.lemmas.Bool.{false_from_ne_true, true≢false}
 use Rattle.std.proofs.lemmas.List.{append-nil, get_or_default, length-take, length_push}
 use Rattle.std.proofs.lemmas.List.Elements.{All-push}
 use Rattle.lists.proofs.Items.{take_item}
-use Rattle.lookup_columns.specs.ChunkColumns.{AreSelected, selected_rows}
+use Rattle.lookup_columns.specs.internal.ChunkColumns.{AreSelected, selected_rows}
 use Rattle.lookup_columns.proofs.SelectedRows.{selected_more, selected_skipped, selected_push}
 use Rattle.lookup_columns.proofs.rows.selected_rows.Goals.{then-not-is_zero+in_ok-push-2, else-not-is_zero}
 use Rattle.lookup_columns.proofs.rows.selected_rows.Goals as goal

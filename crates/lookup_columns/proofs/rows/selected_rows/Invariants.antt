@@ -1,5 +1,5 @@
 use Rattle.std.proofs.Common.{◌≡◌, ◌<◌, ℕ, All, length, take}
-use Rattle.lookup_columns.specs.ChunkColumns.{AreSelected, selected_rows}
+use Rattle.lookup_columns.specs.internal.ChunkColumns.{AreSelected, selected_rows}
 use Rattle.lookup_columns.proofs.rows.selected_rows.Given as goal
 
 abbrev pub invariant-loop-i : goal.invariant-loop-i

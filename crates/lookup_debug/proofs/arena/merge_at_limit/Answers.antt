@@ -1,6 +1,6 @@
 use Rattle.std.proofs.Common.{ap, ◌∙◌}
-use Rattle.lookup_debug.specs.Arena.{amounts_in}
-use Rattle.lookup_debug.specs.Nets.{amount_nets}
+use Rattle.lookup_debug.specs.internal.Arena.{amounts_in}
+use Rattle.lookup_debug.specs.internal.Nets.{amount_nets}
 use Rattle.lookup_debug.proofs.AmountNets.{nets_once}
 use Rattle.lookup_debug.proofs.arena.merge_at_limit.Goals as goal
 

@@ -1,6 +1,6 @@
 use Rattle.std.proofs.Common.{◌≡◌, take}
-use Rattle.lookup_debug.specs.Arena.{AreWithin, amounts_in}
-use Rattle.lookup_debug.specs.Nets.{amount_nets}
+use Rattle.lookup_debug.specs.internal.Arena.{AreWithin, amounts_in}
+use Rattle.lookup_debug.specs.internal.Nets.{amount_nets}
 use Rattle.lookup_debug.proofs.arena.merge_equal.Given as goal
 
 abbrev pub invariant-loop-index : goal.invariant-loop-index

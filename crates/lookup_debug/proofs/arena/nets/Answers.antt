@@ -1,8 +1,8 @@
 use Rattle.std.proofs.Common.{◌≡◌, ◌≤◌, ◌<◌, ℕ, List, sym, get_or, length, map, slice_range, subst, ap, ◌∙◌, arith}
 use Rattle.std.proofs.lemmas.List.{take_all}
-use Rattle.lookup_debug.specs.Arena.{span_amount}
+use Rattle.lookup_debug.specs.internal.Arena.{span_amount}
 use Rattle.lookup_debug.specs.declared.arena.TupleSpan.{TupleSpan}
-use Rattle.lookup_debug.specs.Nets.{amount_nets}
+use Rattle.lookup_debug.specs.internal.Nets.{amount_nets}
 use Rattle.lookup_debug.proofs.SpanLaws.{span_more}
 use Rattle.lookup_debug.proofs.arena.nets.Goals as goal
 

@@ -1,6 +1,6 @@
 use Rattle.std.proofs.Common.{◌≡◌, map, take}
-use Rattle.lookup_debug.specs.Arena.{span_amount}
-use Rattle.lookup_debug.specs.Nets.{amount_nets, tuple_entries}
+use Rattle.lookup_debug.specs.internal.Arena.{span_amount}
+use Rattle.lookup_debug.specs.internal.Nets.{amount_nets, tuple_entries}
 use Rattle.lookup_debug.proofs.arena.nets.Given as goal
 
 abbrev pub invariant-loop-span : goal.invariant-loop-span

@@ -2,7 +2,7 @@ use Rattle.std.proofs.Common.{◌++◌, [], inr, map, string_bytes, subst, ap, �
 use Rattle.lookup_debug.specs.Contributions.{location_of, traced_of}
 use Rattle.lookup_debug.specs.Groups.{bus_group, bus_label}
 use Rattle.lookup_debug.specs.Mismatch.{tuple_locations}
-use Rattle.lookup_debug.specs.Nets.{amount_nets}
+use Rattle.lookup_debug.specs.internal.Nets.{amount_nets}
 use Rattle.lookup_debug.proofs.MismatchLaws.{IsFound, mismatch_of}
 use Rattle.lookup_debug.proofs.check.check_bus.Goals as goal
 

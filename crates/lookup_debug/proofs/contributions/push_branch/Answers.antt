@@ -1,9 +1,9 @@
 use Rattle.std.proofs.Common.{◌≡◌, ◌∷◌, [], Bool, List, arith, cond, false, not, subst, sym, ap, ◌∙◌}
 use Rattle.lookup_rows.specs.TraceBuilder.{builder_window}
 use Rattle.lookup_model.specs.Sent.{values}
-use Rattle.lookup_debug.specs.Appended.{Appends}
 use Rattle.lookup_debug.specs.Contributions.{Contribution}
 use Rattle.lookup_debug.specs.declared.arena.Contributions.{Contributions}
+use Rattle.lookup_debug.specs.internal.Appended.{Appends}
 use Rattle.lookup_debug.proofs.SpanLaws.{appends-span}
 use Rattle.lookup_debug.proofs.contributions.push_branch.Goals as goal
 

@@ -3,8 +3,8 @@ use Rattle.std.proofs.lemmas.List.{take_all}
 use Rattle.lookup_rows.specs.TraceBuilder.{builder_layout, builder_window}
 use Rattle.lookup_model.proofs.RecordLaws.{tuple_fits}
 use Rattle.lookup_model.specs.Sent.{branches_at, flags_at}
-use Rattle.lookup_debug.specs.Appended.{Appends}
 use Rattle.lookup_debug.specs.Contributions.{Contribution, amounts, contributions_from, nonzero}
+use Rattle.lookup_debug.specs.internal.Appended.{Appends}
 use Rattle.lookup_debug.proofs.AmountLaws.{length-sized, sized_step}
 use Rattle.lookup_debug.proofs.SpanLaws.{appends-none}
 use Rattle.lookup_debug.proofs.contributions.push_on_row.Goals as goal

@@ -2,7 +2,7 @@ use Rattle.std.proofs.Common.{◌≡◌, List, length, sym, subst, ◌∙◌}
 use Rattle.std.specs.Borrow.{Bor}
 use Rattle.lists.proofs.Items.{some_is}
 use Rattle.lookup_debug.specs.Mismatch.{IsFirst, net_amount}
-use Rattle.lookup_debug.specs.Nets.{IsFirstIndex}
+use Rattle.lookup_debug.specs.internal.Nets.{IsFirstIndex}
 use Rattle.lookup_debug.proofs.AmountNets.{nets_without_location}
 use Rattle.lookup_debug.proofs.FirstMismatch.{all_zero, first_of_least}
 use Rattle.lookup_debug.proofs.first.first_mismatch.Goals as goal

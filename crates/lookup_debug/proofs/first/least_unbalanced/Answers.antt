@@ -1,5 +1,5 @@
 use Rattle.std.proofs.Common.{subst, arith}
-use Rattle.lookup_debug.specs.Nets.{IsFirstIndex}
+use Rattle.lookup_debug.specs.internal.Nets.{IsFirstIndex}
 use Rattle.lookup_debug.proofs.first.least_unbalanced.Goals as goal
 
 pub returns : goal.returns

@@ -1,4 +1,4 @@
-use Rattle.lookup_debug.specs.Nets.{IsFirstIndex}
+use Rattle.lookup_debug.specs.internal.Nets.{IsFirstIndex}
 use Rattle.lookup_debug.proofs.first.least_unbalanced.Given as goal
 
 abbrev pub invariant-loop-index : goal.invariant-loop-index

@@ -1,5 +1,5 @@
 use Rattle.std.proofs.Common.{not, ap, sym, subst, ◌∙◌}
-use Rattle.lookup_debug.specs.Nets.{IsFirstIndex}
+use Rattle.lookup_debug.specs.internal.Nets.{IsFirstIndex}
 use Rattle.lookup_debug.proofs.FirstMismatch.{best_past_failing, first_passing, lesser_is_least, least_stays, Less-from_eq, Less-from_ne}
 use Rattle.lookup_debug.proofs.first.lesser_of.Goals as goal
 

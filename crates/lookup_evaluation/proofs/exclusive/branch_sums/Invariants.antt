@@ -1,6 +1,6 @@
 use Rattle.std.proofs.Common.{take}
 use Rattle.field.specs.laws.Extension.{of_laws}
-use Rattle.lookup_evaluation.specs.Selections.{IsSelection, branch_sums}
+use Rattle.lookup_evaluation.specs.internal.Selections.{IsSelection, branch_sums}
 use Rattle.lookup_evaluation.proofs.Meanings.{On}
 use Rattle.lookup_evaluation.proofs.exclusive.branch_sums.Given as goal
 

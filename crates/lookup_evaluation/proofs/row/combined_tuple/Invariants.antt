@@ -1,6 +1,6 @@
 use Rattle.std.proofs.Common.{take}
 use Rattle.field.specs.laws.Extension.{of_laws}
-use Rattle.lookup_evaluation.specs.Meanings.{tuple_meaning}
+use Rattle.lookup_evaluation.specs.internal.Meanings.{tuple_meaning}
 use Rattle.lookup_evaluation.proofs.Meanings.{On}
 use Rattle.lookup_evaluation.proofs.row.combined_tuple.Given as goal
 

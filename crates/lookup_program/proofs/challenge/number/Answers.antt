@@ -3,7 +3,7 @@ use Rattle.std.specs.Str.Parse.{AllDigits, digits_value}
 use Rattle.std.proofs.lemmas.Bool.Decides.{nat_tests}
 use Rattle.std.proofs.lemmas.Int.Digits.{digits_more, digits_value_more}
 use Rattle.std.proofs.lemmas.Str.{digit_value_digit}
-use Rattle.lookup_program.specs.Words.{number_bound}
+use Rattle.lookup_program.specs.internal.Words.{number_bound}
 use Rattle.lookup_program.proofs.WordLaws.{ascii_digits, number_of-large, number_of-none, number_of-other, number_of-some}
 use Rattle.lookup_program.proofs.challenge.number.Goals as goal
 

@@ -1,7 +1,8 @@
 use Rattle.std.proofs.Common.{◌≡◌, ◌++◌, filter, map}
 use Rattle.std.specs.List.{list_all, slice_split}
 use Rattle.std.proofs.lemmas.Iterator.{YieldsList}
-use Rattle.lookup_program.specs.Words.{number_bound, has_bytes, is_number, numbers_or_zeros, separates_words}
+use Rattle.lookup_program.specs.Words.{has_bytes, is_number, separates_words}
+use Rattle.lookup_program.specs.internal.Words.{number_bound, numbers_or_zeros}
 use Rattle.lookup_program.proofs.rows.push_words.Given as goal
 
 abbrev pub invariant-loop-word : goal.invariant-loop-word

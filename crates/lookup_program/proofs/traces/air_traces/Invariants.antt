@@ -1,6 +1,6 @@
 use Rattle.std.proofs.Common.{take}
 use Rattle.std.specs.List.{AllZip}
-use Rattle.lookup_program.specs.Traces.{IsTraceOf}
+use Rattle.lookup_program.specs.internal.Traces.{IsTraceOf}
 use Rattle.lookup_program.proofs.traces.air_traces.Given as goal
 
 abbrev pub invariant-loop-air : goal.invariant-loop-air

@@ -1,6 +1,6 @@
 use Rattle.std.proofs.Common.{◌≡◌, map, take}
 use Rattle.lookup_debug.specs.Contributions.{traced_of}
-use Rattle.lookup_program.specs.Traces.{traced_over}
+use Rattle.lookup_program.specs.internal.Traces.{traced_over}
 use Rattle.lookup_program.proofs.traces.debug_instances.Given as goal
 
 abbrev pub invariant-loop-trace : goal.invariant-loop-trace

@@ -2,7 +2,7 @@ use Rattle.std.proofs.Common.{◌≡◌, ◌∙◌, ◌++◌, ◌*◌, ◌/◌, 
 use Rattle.std.proofs.lemmas.List.{length-map, take_all}
 use Rattle.std.proofs.lemmas.List.Elements.{All-from_get_or}
 use Rattle.field.specs.BabyBear.{baby_bear_of}
-use Rattle.lookup_tables.specs.Numbers.{AreNumbersUpTo}
+use Rattle.lookup_tables.specs.internal.Numbers.{AreNumbersUpTo}
 use Rattle.lookup_tables.proofs.GroupLaws.{AreFours, chunk_appended, groups_up_to, quartic_with}
 use Rattle.lookup_tables.proofs.numbers.push_quartics.Goals as goal
 

@@ -1,6 +1,6 @@
 use Rattle.std.proofs.Common.{◌≤◌, ℕ, All, arith, refl, subst, sym, take}
 use Rattle.lookup_tables.proofs.GroupLaws.{chunk_next, up_to_next}
-use Rattle.lookup_tables.specs.Numbers.{IsGroupUpTo}
+use Rattle.lookup_tables.specs.internal.Numbers.{IsGroupUpTo}
 use Rattle.lookup_tables.proofs.numbers.quartics_of.Goals as goal
 
 pub loop-first-preserved : goal.loop-first-preserved

@@ -1,5 +1,6 @@
 use Rattle.std.proofs.Common.{◌≡◌, ◌≤◌, ◌-◌, All, length, map, take, vec_capacity}
-use Rattle.lookup_tables.specs.Numbers.{IsGroupUpTo, quartic_of}
+use Rattle.lookup_tables.specs.Numbers.{quartic_of}
+use Rattle.lookup_tables.specs.internal.Numbers.{IsGroupUpTo}
 use Rattle.lookup_tables.proofs.numbers.quartics_of.Given as goal
 
 abbrev pub invariant-loop-first : goal.invariant-loop-first

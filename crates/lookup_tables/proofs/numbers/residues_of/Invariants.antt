@@ -1,6 +1,6 @@
 use Rattle.std.proofs.Common.{◌≡◌, ◌≤◌, length, map, take, vec_capacity}
 use Rattle.field.specs.BabyBear.{baby_bear_of}
-use Rattle.lookup_tables.specs.Numbers.{AreNumbersUpTo}
+use Rattle.lookup_tables.specs.internal.Numbers.{AreNumbersUpTo}
 use Rattle.lookup_tables.proofs.numbers.residues_of.Given as goal
 
 abbrev pub invariant-loop-n : goal.invariant-loop-n

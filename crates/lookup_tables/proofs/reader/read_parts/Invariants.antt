@@ -1,5 +1,5 @@
 use Rattle.std.proofs.Common.{◌≡◌, take}
-use Rattle.lookup_tables.specs.Stack.{written}
+use Rattle.lookup_tables.specs.internal.Stack.{written}
 use Rattle.lookup_tables.proofs.reader.read_parts.Given as goal
 
 abbrev pub invariant-loop-index : goal.invariant-loop-index

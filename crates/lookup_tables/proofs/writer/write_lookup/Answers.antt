@@ -5,8 +5,9 @@ use Rattle.std.specs.declared.vec.Vec.{Vec}
 use Rattle.expressions.specs.declared.base_expression.SymbolicExpression.{SymbolicExpression}
 use Rattle.lookup_tables.specs.Nodes.{BabyBear}
 use Rattle.lookup_tables.specs.Tables.{AreTuples, IsInside, IsWritten, items_at}
-use Rattle.lookup_tables.specs.Written.{AreSayable, HoldsFrom, IsElementsFault, IsListFault}
+use Rattle.lookup_tables.specs.Written.{AreSayable, IsElementsFault, IsListFault}
 use Rattle.lookup_tables.specs.declared.tables.Record.{Record}
+use Rattle.lookup_tables.specs.internal.Written.{HoldsFrom}
 use Rattle.lookup_tables.proofs.WriterLaws.{longer_then, record_says}
 use Rattle.lookup_tables.proofs.writer.write_lookup.Goals as goal
 

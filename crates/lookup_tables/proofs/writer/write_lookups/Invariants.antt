@@ -3,8 +3,9 @@ use Rattle.std.specs.List.{AllZip, slice_get}
 use Rattle.lookup_model.specs.declared.types.Lookup.{Lookup}
 use Rattle.lookup_tables.specs.Nodes.{BabyBear}
 use Rattle.lookup_tables.specs.Tables.{IsLookup}
-use Rattle.lookup_tables.specs.Written.{IsLonger, IsEncodable}
+use Rattle.lookup_tables.specs.Written.{IsEncodable}
 use Rattle.lookup_tables.specs.declared.tables.Tables.{Tables}
+use Rattle.lookup_tables.specs.internal.Written.{IsLonger}
 use Rattle.lookup_tables.proofs.writer.write_lookups.Given as goal
 
 abbrev pub invariant-loop-index : goal.invariant-loop-index

@@ -1,7 +1,8 @@
 use Rattle.std.proofs.Common.{◌≡◌, ◌++◌, All, List, take}
 use Rattle.lookup_tables.specs.Tables.{AreTuples}
-use Rattle.lookup_tables.specs.Written.{AreSayable, HoldsFrom, IsLonger}
+use Rattle.lookup_tables.specs.Written.{AreSayable}
 use Rattle.lookup_tables.specs.declared.tables.Span.{Span}
+use Rattle.lookup_tables.specs.internal.Written.{HoldsFrom, IsLonger}
 use Rattle.lookup_tables.proofs.writer.write_tuples.Given as goal
 
 abbrev pub invariant-loop-tuple : goal.invariant-loop-tuple

@@ -1,5 +1,5 @@
 use Rattle.std.proofs.Common.{◌≡◌, length}
-use Rattle.air.specs.Variables.{AreVariables}
+use Rattle.air.specs.internal.Variables.{AreVariables}
 use Rattle.air.proofs.recording.variable_kind.variables.Given as goal
 
 abbrev pub invariant-loop-i : goal.invariant-loop-i

@@ -1,6 +1,6 @@
 use Rattle.std.proofs.Common.{◌∷◌, ◌++◌, [], ap, subst, ◌∙◌}
 use Rattle.lookup_model.specs.Outline.{fields_of}
-use Rattle.lookup.specs.Trials.{IsTried}
+use Rattle.lookup.specs.internal.Trials.{IsTried}
 use Rattle.lookup.proofs.StepLaws.{joined_step, next_step}
 use Rattle.lookup.proofs.packing.filling.push_next.Goals.{in-None, in-Some+in_ok-push-in-Some}
 use Rattle.lookup.proofs.packing.filling.push_next.Goals as goal

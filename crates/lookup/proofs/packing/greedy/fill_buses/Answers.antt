@@ -9,8 +9,8 @@ use Rattle.lookup_model.specs.Outline.{Outline, fields_of}
 use Rattle.lookup_model.specs.Records.{HasEqualLengths}
 use Rattle.lookup_model.specs.declared.types.Lookup.{Lookup}
 use Rattle.lookup.specs.Buses.{bus_groups}
-use Rattle.lookup.specs.Fillings.{AreFilledBuses, IsFilled}
 use Rattle.lookup.specs.Packing.{additive, is_additive, passing}
+use Rattle.lookup.specs.internal.Fillings.{AreFilledBuses, IsFilled}
 use Rattle.lookup.proofs.BusLaws.{values_hold}
 use Rattle.lookup.proofs.ListLaws.{kept_more, kept_pushed, left_out}
 use Rattle.lookup.proofs.StepLaws.{additive_member, among_all}

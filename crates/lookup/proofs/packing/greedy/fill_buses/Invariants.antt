@@ -3,8 +3,8 @@ use Rattle.std.specs.Vec.Iter.{into_iter_items}
 use Rattle.expressions.specs.declared.base_expression.SymbolicExpression.{SymbolicExpression}
 use Rattle.lookup_model.specs.Outline.{Outline, fields_of}
 use Rattle.lookup_model.specs.Records.{HasEqualLengths}
-use Rattle.lookup.specs.Fillings.{AreFilledBuses}
 use Rattle.lookup.specs.Packing.{additive, passing}
+use Rattle.lookup.specs.internal.Fillings.{AreFilledBuses}
 use Rattle.lookup.proofs.packing.greedy.fill_buses.Given as goal
 
 abbrev pub invariant-loop-lookup : goal.invariant-loop-lookup

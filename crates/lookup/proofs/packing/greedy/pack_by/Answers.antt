@@ -12,7 +12,7 @@ use Rattle.lookup_model.specs.Records.{HasEqualLengths}
 use Rattle.lookup_model.specs.declared.types.Lookup.{Lookup}
 use Rattle.lookup.specs.Buses.{bus_groups}
 use Rattle.lookup.specs.BusWidths.{HaveBusWidths}
-use Rattle.lookup.specs.Fillings.{IsFilled}
+use Rattle.lookup.specs.internal.Fillings.{IsFilled}
 use Rattle.lookup.specs.Packing.{IsFilling, IsStuck, additive, joined, passing}
 use Rattle.lookup.specs.Trials.{IsMember}
 use Rattle.lookup.proofs.KeptFlags.{kept_flags, kept_other_buses}

@@ -5,8 +5,8 @@ use Rattle.expressions.specs.declared.base_expression.SymbolicExpression.{Symbol
 use Rattle.lookup_model.specs.Outline.{Outline, fields_of}
 use Rattle.lookup_model.specs.Records.{HasEqualLengths}
 use Rattle.lookup.specs.Buses.{bus_groups}
-use Rattle.lookup.specs.Fillings.{IsFilled}
 use Rattle.lookup.specs.Packing.{additive, passing}
+use Rattle.lookup.specs.internal.Fillings.{IsFilled}
 use Rattle.lookup.proofs.PackLaws.{AreColumnsAdded}
 use Rattle.lookup.proofs.packing.greedy.pack_by.Given as goal
 

@@ -1,7 +1,7 @@
 use Rattle.std.proofs.Common.{rules, Option, subst}
 use Rattle.lookup_model.specs.Outline.{fields_of}
 use Rattle.lookup_model.specs.declared.sum_degrees.SumDegrees.{SumDegrees}
-use Rattle.lookup.specs.TrialDegrees.{KeepsDegrees}
+use Rattle.lookup.specs.internal.TrialDegrees.{KeepsDegrees}
 use Rattle.lookup.proofs.DegreeLaws.{answers_kept, answers_none}
 use Rattle.lookup.proofs.packing.degrees.GadgetDegreesTrialDegrees.degree.Goals as goal
 

@@ -2,7 +2,7 @@ use Rattle.std.proofs.Common.{rules, ℕ, Option, Result, subst}
 use Rattle.lookup_model.specs.declared.error.LookupError.{LookupError}
 use Rattle.lookup_model.specs.declared.sum_degrees.SumDegrees.{SumDegrees}
 use Rattle.lookup.specs.Fewest.{AnswersDegree}
-use Rattle.lookup.specs.TrialDegrees.{KeepsDegrees}
+use Rattle.lookup.specs.internal.TrialDegrees.{KeepsDegrees}
 use Rattle.lookup.proofs.DegreeLaws.{answers_kept}
 use Rattle.lookup.proofs.packing.degrees.GadgetDegreesTrialDegrees.is_above.Goals as goal
 

@@ -1,7 +1,7 @@
 use Rattle.std.proofs.Common.{Option, subst}
 use Rattle.lookup_model.specs.declared.sum_degrees.SumDegrees.{SumDegrees}
 use Rattle.lookup.proofs.DegreeLaws.{kept_of_both, none_of_first, none_of_second}
-use Rattle.lookup.specs.TrialDegrees.{KeepsDegrees}
+use Rattle.lookup.specs.internal.TrialDegrees.{KeepsDegrees}
 use Rattle.lookup.proofs.packing.degrees.GadgetDegreesTrialDegrees.keep_trial.Goals as goal
 
 pub returns-in_err-column : goal.returns-in_err-column

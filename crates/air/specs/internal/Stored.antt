@@ -1,5 +1,5 @@
 -- The variables that are kept for a layout.
-use Rattle.air.specs.Variables.{IsVariableMatrix, IsVariableRow}
+use Rattle.air.specs.internal.Variables.{IsVariableMatrix, IsVariableRow}
 use Rattle.expressions.specs.declared.variable.BaseEntry.TheVariants.{Main, Preprocessed, Public}
 use Rattle.expressions.specs.declared.variable.ExtEntry.TheVariants.{Challenge, Permutation, PermutationValue}
 use Rattle.air.specs.declared.recording.variables.LayoutVariables.TheInside.{Inside}

@@ -3,8 +3,8 @@ use Rattle.std.specs.Prelude.{List}
 use Rattle.field.specs.Extension.{Extension}
 use Rattle.expressions.specs.Window.{ExtWindow}
 use Rattle.expressions.specs.declared.view.BuilderView.{Ghosts as BuilderView}
-use Rattle.lookup_evaluation.specs.Meanings.{Meaning, MeansOn, cell_meaning, minus}
 use Rattle.lookup_evaluation.specs.declared.accumulator.AccumulatorSides.{AccumulatorSides}
+use Rattle.lookup_evaluation.specs.internal.Meanings.{Meaning, MeansOn, cell_meaning, minus}
 use Rattle.lookup_model.specs.Constraints.{accumulator_at, fractions_at, next_accumulator_at}
 use Rattle.lookup_model.specs.declared.types.Lookup.{Lookup}
 

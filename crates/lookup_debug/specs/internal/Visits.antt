@@ -5,13 +5,13 @@ use Rattle.std.proofs.Common.{◌∙◌, ap, append_assoc, subst, sym}
 use Rattle.std.proofs.lemmas.List.{append-nil, map-append}
 use Rattle.std.proofs.lemmas.List.Elements.{filter-append}
 use Rattle.field.specs.Ring.{Ring}
-use Rattle.lookup_debug.specs.Appended.{AppendsLocations, Collects, FindsLocations, without_location}
-use Rattle.lookup_debug.specs.Arena.{AreWithin, amounts_in}
 use Rattle.lookup_debug.specs.Contributions.{Contribution, location_of}
 use Rattle.lookup_debug.specs.Mismatch.{of_tuple, tuple_locations}
-use Rattle.lookup_debug.specs.Nets.{amount_nets}
-use Rattle.lookup_debug.specs.Walks.{IsWalk}
 use Rattle.lookup_debug.specs.declared.arena.Contributions.{Contributions}
+use Rattle.lookup_debug.specs.internal.Appended.{AppendsLocations, Collects, FindsLocations, without_location}
+use Rattle.lookup_debug.specs.internal.Arena.{AreWithin, amounts_in}
+use Rattle.lookup_debug.specs.internal.Nets.{amount_nets}
+use Rattle.lookup_debug.specs.internal.Walks.{IsWalk}
 
 module _ {F : Type 0} (R : Ring F) (eq : F → F → Bool) where
   -- the nets of a list of contributions are those that the spans have

@@ -6,8 +6,8 @@ use Rattle.std.specs.List.{filter}
 use Rattle.field.specs.Ring.{Ring}
 use Rattle.field.specs.Sums.{sum_in}
 use Rattle.lookup_model.specs.Net.{first_seen}
-use Rattle.lookup_debug.specs.Least.{IsBest}
 use Rattle.lookup_debug.specs.Mismatch.{text_cmp}
+use Rattle.lookup_debug.specs.internal.Least.{IsBest}
 
 -- each distinct tuple with the sum of its amounts, in the order in which the tuples are first seen
 abbrev pub amount_nets : {F : Type 0} → Ring F → (F → F → Bool) → List (List F × F) → List (List F × F)

@@ -5,10 +5,10 @@ use Rattle.std.specs.declared.vec.Vec.{Vec}
 use Rattle.field.specs.Extension.{Extension}
 use Rattle.field.specs.Ring.{Ring}
 use Rattle.air.specs.Traces.{traces_of}
-use Rattle.lookup_generation.specs.Progress.{AreRatios, HasRows, IsFirstOf}
 use Rattle.lookup_generation.specs.declared.columns.GenerationInputs.{GenerationInputs}
 use Rattle.lookup_generation.specs.declared.generation.AuxiliaryRows.{AuxiliaryRows}
 use Rattle.lookup_generation.specs.declared.ratio.Ratio.{Ratio}
+use Rattle.lookup_generation.specs.internal.Progress.{AreRatios, HasRows, IsFirstOf}
 use Rattle.lookup_model.specs.Denominators.{key_denominator}
 use Rattle.lookup_model.specs.Fault.{trace_faults}
 use Rattle.lookup_model.specs.Sent.{Sent}

@@ -4,8 +4,8 @@ use Rattle.field.specs.Extension.{Extension}
 use Rattle.expressions.specs.MainWindow.{IsMainWindow}
 use Rattle.expressions.specs.declared.builder.AirBuilder.{Ghosts as AirBuilder}
 use Rattle.expressions.specs.declared.view.BuilderView.{Ghosts as BuilderView}
-use Rattle.lookup_evaluation.specs.Meanings.{MeansOn, challenge_meaning}
 use Rattle.lookup_evaluation.specs.declared.row.LookupRow.{LookupRow}
+use Rattle.lookup_evaluation.specs.internal.Meanings.{MeansOn, challenge_meaning}
 use Rattle.lookup_model.specs.Records.{IsWithin}
 use Rattle.matrix.specs.declared.window.WindowAccess.{Ghosts as WindowAccess}
 

@@ -3,13 +3,13 @@ use Rattle.std.specs.Prelude.{◌≡◌, ◌++◌, Bool, List, map}
 use Rattle.std.specs.declared.alloc.Global.{Global}
 use Rattle.std.specs.declared.vec.Vec.{Vec}
 use Rattle.field.specs.Ring.{Ring}
-use Rattle.lookup_debug.specs.Arena.{AreWithin, amounts_in}
 use Rattle.lookup_debug.specs.Contributions.{Contribution, location_of}
 use Rattle.lookup_debug.specs.Mismatch.{tuple_locations}
-use Rattle.lookup_debug.specs.Nets.{amount_nets}
 use Rattle.lookup_debug.specs.declared.arena.Contributions.{Contributions}
 use Rattle.lookup_debug.specs.declared.fault.Location.{Location}
 use Rattle.lookup_debug.specs.declared.tuple_locations.TupleLocations.{TupleLocations}
+use Rattle.lookup_debug.specs.internal.Arena.{AreWithin, amounts_in}
+use Rattle.lookup_debug.specs.internal.Nets.{amount_nets}
 
 -- a contribution without its location
 abbrev pub without_location : {F : Type 0} → Contribution F → List F × F

@@ -4,7 +4,8 @@ use Rattle.std.specs.List.{flat_map}
 use Rattle.expressions.specs.Tree.{tree_of}
 use Rattle.lookup_tables.specs.declared.nodes.Node.{Node}
 use Rattle.lookup_tables.specs.declared.part.Part.{Part}
-use Rattle.lookup_tables.specs.Nodes.{is_leaf, is_negation, is_operation, nodes_of}
+use Rattle.lookup_tables.specs.Nodes.{nodes_of}
+use Rattle.lookup_tables.specs.internal.Nodes.{is_leaf, is_negation, is_operation}
 
 -- the nodes of the expressions on the stack
 abbrev pub written : List Part → List Node

@@ -6,9 +6,9 @@ use Rattle.field.specs.Sums.{sum_in}
 use Rattle.expressions.specs.Window.{ExtWindow}
 use Rattle.expressions.specs.declared.base_expression.SymbolicExpression.{SymbolicExpression}
 use Rattle.expressions.specs.declared.view.BuilderView.{Ghosts as BuilderView}
-use Rattle.lookup_evaluation.specs.Meanings.{Meaning, MeansOn, constant, denominator_meaning, lifted_meaning, meaning_of, minus, plus, times}
 use Rattle.lookup_evaluation.specs.declared.exclusive.Selection.{Selection}
 use Rattle.lookup_evaluation.specs.declared.quotient.Quotient.{Quotient}
+use Rattle.lookup_evaluation.specs.internal.Meanings.{Meaning, MeansOn, constant, denominator_meaning, lifted_meaning, meaning_of, minus, plus, times}
 use Rattle.lookup_model.specs.Constraints.{exclusive_numerator, flagged_denominators}
 use Rattle.lookup_model.specs.Denominators.{column_denominator}
 use Rattle.lookup_model.specs.LookupDegree.{exclusive_denominator_degree, exclusive_numerator_degree, expression_degree, lookup_branch_degrees}

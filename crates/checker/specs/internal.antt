@@ -1,0 +1,9 @@
+-- What contracts of private functions and proofs are stated with. No public contract rests on it.
+pub mod Checks
+pub mod Collected
+pub mod Identified
+pub mod Quotients
+pub mod Results
+pub mod Rows
+pub mod SameIds
+pub mod Sums

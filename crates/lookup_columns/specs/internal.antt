@@ -1,0 +1,4 @@
+-- What contracts of private functions and proofs are stated with. No public contract rests on it.
+pub mod ChunkColumns
+pub mod Slots
+pub mod StoredRows

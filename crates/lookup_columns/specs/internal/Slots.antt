@@ -1,0 +1,31 @@
+-- The slots after a step, the one that was filled last first.
+use Rattle.std.specs.Prelude.{ℕ, List, [], ◌∷◌, map}
+use Rattle.std.specs.List.{zip}
+use Rattle.field.specs.Ring.{Ring, sub_in}
+use Rattle.expressions.specs.Window.{Window}
+use Rattle.lookup_columns.specs.Columns.{leaf_column}
+use Rattle.lookup_columns.specs.declared.step.Step.{Step}
+use Rattle.lookup_columns.specs.declared.step.Step.TheVariants.{Leaf, Add, Sub, Mul, Neg}
+
+module _ {F : Type 0} where
+  -- what the last filled slot holds: nothing if there is none
+  abbrev pub last_of : List (List F) → List F
+  last_of [] = []
+  last_of (x ∷ xs) = x
+
+  -- the other slots
+  abbrev pub without_last : List (List F) → List (List F)
+  without_last [] = []
+  without_last (x ∷ xs) = xs
+
+  -- the last two slots, taken together row by row by an operation, in place of both
+  abbrev pub last_two_joined : (F → F → F) → List (List F) → List (List F)
+  last_two_joined f s = map (λ p. f p.0 p.1) (zip (last_of (without_last s)) (last_of s)) ∷ without_last (without_last s)
+
+  -- the slots after a step on these rows
+  abbrev pub after : Ring F → (ℕ → Window F) → List ℕ → Step F → List (List F) → List (List F)
+  after R window rows (Leaf l) s = leaf_column R window rows l ∷ s
+  after R window rows Add s = last_two_joined R.add s
+  after R window rows Sub s = last_two_joined (sub_in R) s
+  after R window rows Mul s = last_two_joined R.mul s
+  after R window rows Neg s = map R.neg (last_of s) ∷ without_last s
