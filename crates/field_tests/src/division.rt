@@ -90,7 +90,7 @@ const LENGTHS: [usize; 24] = [
 fn quartics(alloc: Global, n: u32, embedded: u32) -> Result<Vec<BabyBear4>, AllocError> {
     let mut list = Vec::with_capacity(alloc, n as usize)?;
     for i in 0..n {
-        let first = BabyBear::new(i + 2);
+        let first = BabyBear::new(i) + BabyBear::new(2);
         if i < embedded {
             list.push(BabyBear4::new([first, BabyBear::ZERO, BabyBear::ZERO, BabyBear::ZERO]))?;
         } else {
@@ -115,11 +115,11 @@ fn quartic_lists_divide(rt: HostRuntime) {
     }
 }
 
-/// Elements one after another.
-fn elements<K: Field>(alloc: Global, first: u32, n: u32) -> Result<Vec<K>, AllocError> {
+/// The elements from one on, each one more than that before it, with ones in place of zeros.
+fn elements<K: Field>(alloc: Global, first: K, n: u32) -> Result<Vec<K>, AllocError> {
     let mut list = Vec::with_capacity(alloc, n as usize)?;
     for i in 0..n {
-        let x = K::from_u32(first + i);
+        let x = first + K::from_u32(i);
         list.push(if x.is_zero() { K::ONE } else { x })?;
     }
     Ok(list)
@@ -127,7 +127,8 @@ fn elements<K: Field>(alloc: Global, first: u32, n: u32) -> Result<Vec<K>, Alloc
 
 /// Whether lists over a field divide, where it extends itself.
 fn over_itself<K: Field>(alloc: Global) -> bool {
-    match (elements::<K>(alloc, 3, 1025), elements::<K>(alloc, 1, 1025)) {
+    let three = K::from_u32(3);
+    match (elements(alloc, three, 1025), elements(alloc, K::ONE, 1025)) {
         (Ok(numerators), Ok(denominators)) => {
             all_divide::<K, K>(alloc, &numerators, &denominators, &LENGTHS)
         }

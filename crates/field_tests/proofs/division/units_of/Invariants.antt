@@ -1,0 +1,5 @@
+use Rattle.std.proofs.Common.{◌≢◌, All}
+use Rattle.field_tests.proofs.division.units_of.Given as goal
+
+abbrev pub invariant-loop-x : goal.invariant-loop-x
+invariant-loop-x g l = All (λ x. x ≢ g.K.PrimeCharacteristicRing.ring.zero) l.units.items
