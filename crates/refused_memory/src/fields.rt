@@ -49,7 +49,12 @@ fn divisions(alloc: Global, out: &mut Out) {
     show(out, "count", count.get());
     let (mut lists, mut count) = (DivisionLists::new(alloc), InverseCount::new());
     let mut values = [BabyBear4::new([1, 22, 333, 4444].map(BabyBear::new)); 5];
-    let answer = BabyBear4::divide_all(&mut lists, &mut values, &quartic_units(), &mut count);
+    let answer = <BabyBear4 as ExtensionDomain<BabyBear>>::divide_all(
+        &mut lists,
+        &mut values,
+        &quartic_units(),
+        &mut count,
+    );
     show(out, "divide_all over BabyBear4", answer.map(|()| values));
     show(out, "count", count.get());
 }
