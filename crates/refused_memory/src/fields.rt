@@ -1,14 +1,12 @@
 //! Calls of fields.
 ghost use Rattle.std.specs.Prelude.{◌≢◌, All};
-ghost use Rattle.field.specs.BabyBear4.{baby_bear4_ring};
 ghost use Rattle.field.specs.IntegersModulo7.{f7_ring};
 
 use crate::show::{Out, show};
 use crate::trees::nodes;
 use field::{
-    BabyBear, BabyBear4, DivisionLists, ExtensionDomain, F2, F7, Field, InverseCount,
-    PrimeCharacteristicRing, batch_multiplicative_inverse, batch_multiplicative_inverse_into,
-    powers,
+    BabyBear, BabyBear4, F2, F7, Field, InverseCount, batch_multiplicative_inverse,
+    batch_multiplicative_inverse_into, powers,
 };
 use std::alloc::Global;
 
@@ -26,37 +24,6 @@ fn units() -> [F7; 3]
     ensures { All (λ x. x ≢ f7_ring.zero) result }
 {
     [F7::new(2), F7::new(3), F7::new(4)]
-}
-
-/// Five elements that are not zero: a block of four, and one more.
-fn quartic_units() -> [BabyBear4; 5]
-    ensures { All (λ x. x ≢ baby_bear4_ring.zero) result }
-{
-    [BabyBear4::ONE; 5]
-}
-
-/// Divisions of a list: as by default, and four at a time.
-fn divisions(alloc: Global, out: &mut Out) {
-    let (mut lists, mut count) = (DivisionLists::new(alloc), InverseCount::new());
-    let mut values = [6, 5, 3].map(F7::new);
-    let answer = <F7 as ExtensionDomain<F7>>::divide_all(
-        &mut lists,
-        &mut values,
-        &units(),
-        &mut count,
-    );
-    show(out, "divide_all over F7", answer.map(|()| values));
-    show(out, "count", count.get());
-    let (mut lists, mut count) = (DivisionLists::new(alloc), InverseCount::new());
-    let mut values = [BabyBear4::new([1, 22, 333, 4444].map(BabyBear::new)); 5];
-    let answer = <BabyBear4 as ExtensionDomain<BabyBear>>::divide_all(
-        &mut lists,
-        &mut values,
-        &quartic_units(),
-        &mut count,
-    );
-    show(out, "divide_all over BabyBear4", answer.map(|()| values));
-    show(out, "count", count.get());
 }
 
 /// Powers, and the inverses of a list.
@@ -120,7 +87,6 @@ pub fn fields(alloc: Global, out: &mut Out) {
     for _ in 0..2 {
         texts(alloc, out);
         lists(alloc, out);
-        divisions(alloc, out);
         elements(alloc, out);
     }
 }
