@@ -1,5 +1,6 @@
 //! Lists that divisions use again.
 ghost use Rattle.std.specs.Prelude.{◌≡◌, OnOk, replicate};
+ghost use Rattle.field.specs.Division.{AreEmptyLists};
 
 use crate::lanes::Lanes;
 use crate::planes::NormParts;
@@ -17,7 +18,9 @@ pub struct DivisionLists<K> {
 
 impl<K> DivisionLists<K> {
     /// Empty lists, which have no memory yet.
-    pub fn new(alloc: Global) -> Self {
+    pub fn new(alloc: Global) -> Self
+        ensures { AreEmptyLists result }
+    {
         DivisionLists {
             inverses: Vec::new(alloc),
             parts: Vec::new(alloc),
