@@ -101,7 +101,7 @@ fn additive_columns<F: Field, EF: ExtensionDomain<F>>(
         v.items (branches_at F.ring (window_of (traces_of inputs.now.traces.now) r)
         lookup.now.column lookup.now)) }
 {
-    let mut branches = Vec::with_capacity(alloc, lookup.elements.len())?;
+    let mut branches = memory.branches.take(alloc, lookup.elements.len())?;
     for branch in 0..lookup.elements.len() {
         branches.push(branch_columns(alloc, memory, inputs, lookup, steps, branch)?)?;
     }
@@ -128,7 +128,7 @@ fn exclusive_columns<F: Field, EF: ExtensionDomain<F>>(
         index v.items (values F.ring w flags.now)
         (branches_at F.ring w lookup.now.column lookup.now)) }
 {
-    let mut branches = Vec::with_capacity(alloc, flags.len())?;
+    let mut branches = memory.branches.take(alloc, flags.len())?;
     for branch in 0..flags.len() {
         let column = column_of(
             alloc,

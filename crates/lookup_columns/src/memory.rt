@@ -13,6 +13,8 @@ pub struct ColumnMemory<F, EF> {
     pub indices: SpareLists<usize>,
     /// For the denominators of a tuple.
     pub(crate) denominators: SpareLists<EF>,
+    /// For the columns of each tuple of a lookup.
+    pub(crate) branches: SpareLists<BranchColumns<F, EF>>,
 }
 
 impl<F: Drop, EF: Drop> ColumnMemory<F, EF> {
@@ -22,15 +24,19 @@ impl<F: Drop, EF: Drop> ColumnMemory<F, EF> {
             slots: Slots::new(alloc),
             indices: SpareLists::new(alloc),
             denominators: SpareLists::new(alloc),
+            branches: SpareLists::new(alloc),
         }
     }
 
     /// Puts away the columns of a lookup. Fails only when out of memory.
-    pub fn put_branches(&mut self, branches: Vec<BranchColumns<F, EF>>) -> Result<(), AllocError> {
-        for branch in branches {
+    pub fn put_branches(
+        &mut self,
+        mut branches: Vec<BranchColumns<F, EF>>,
+    ) -> Result<(), AllocError> {
+        while let Some(branch) = branches.pop() {
             self.put_branch(branch)?;
         }
-        Ok(())
+        self.branches.put(branches)
     }
 
     /// Puts away the columns of one tuple.

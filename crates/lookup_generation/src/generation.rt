@@ -154,7 +154,7 @@ fn ratios_of<F: Field, EF: ExtensionDomain<F>>(
         → IfOk result (λ v. HaveUnitDenominators EF.ring v.items) }
 {
     let rows = rows_between(alloc, &mut memory.columns.indices, first, end)?;
-    let columns = columns_of_lookups(alloc, &mut memory.columns, inputs, &rows)?;
+    let columns = columns_of_lookups(alloc, memory, inputs, &rows)?;
     let size = rows
         .len()
         .checked_mul(inputs.lookups.len())
