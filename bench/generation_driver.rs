@@ -47,7 +47,7 @@ fn compare(name: &str, shape: u32, rows: usize) {
     assert_eq!(wanted, answer(&numbers, shape, Combine::Horner, 1, 0), "{name}: the models disagree");
     assert_eq!(wanted, proved(1, 0), "{name}: the two sides disagree");
     assert_ne!(wanted, u32::MAX, "{name}: refused");
-    let (runs, rounds) = if rows > 1 << 16 { (3, 1) } else { (7, 4) };
+    let (runs, rounds) = if rows > 1 << 16 { (5, 1) } else { (9, (1 << 16) / rows as u32) };
     let mut least = [f64::MAX; 3];
     for _ in 0..runs {
         let times = [
@@ -70,7 +70,7 @@ fn main() {
         "{:34} {:>8} {:>8} {:>7} {:>8} {:>7}",
         "lookups", "proved", "powers", "ratio", "Horner", "ratio"
     );
-    for rows in [1 << 14, 1 << 18] {
+    for rows in [10, 12, 14, 16, 18].map(|bits| 1 << bits) {
         for (shape, name) in ["one local", "eight on buses", "one exclusive", "products"].iter().enumerate() {
             compare(&format!("{name}, {rows} rows"), shape as u32, rows);
         }

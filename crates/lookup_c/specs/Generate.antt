@@ -66,8 +66,8 @@ module _ (E : Extension BabyBear (Quartic BabyBear)) (traces : AirTraces BabyBea
   IsLookupsRefusal fault = IsMisfit fault ⊎ (HasOtherHeight fault ⊎ (HasFewChallenges fault ⊎ IsFirstFault fault))
 
 -- there is not room for exactly the cells of a trace
-abbrev pub HasOtherRoom : Matrix (Quartic BabyBear) → ℕ → Fault → Type 0
-HasOtherRoom auxiliary room fault = (length auxiliary.values ≢ room) × (fault ≡ Length Auxiliary (length auxiliary.values) room)
+abbrev pub HasOtherLength : Matrix (Quartic BabyBear) → ℕ → Fault → Type 0
+HasOtherLength auxiliary room fault = (length auxiliary.values ≢ room) × (fault ≡ Length Auxiliary (length auxiliary.values) room)
 
 module _ (Makes : Matrix (Quartic BabyBear) → Option (LookupTerminal (Quartic BabyBear)) → Type 0) where
   -- the numbers of an auxiliary trace and a terminal that are made so
@@ -81,7 +81,7 @@ module _ (Makes : Matrix (Quartic BabyBear) → Option (LookupTerminal (Quartic 
   -- there is not room for exactly the cells of what is made so
   abbrev pub LacksRoom : ℕ → Fault → Type 0
   LacksRoom room fault =
-      (auxiliary : Matrix (Quartic BabyBear)) × (terminal : Option (LookupTerminal (Quartic BabyBear))) × Makes auxiliary terminal × HasOtherRoom auxiliary room fault
+      (auxiliary : Matrix (Quartic BabyBear)) × (terminal : Option (LookupTerminal (Quartic BabyBear))) × Makes auxiliary terminal × HasOtherLength auxiliary room fault
 
 module _ (E : Extension BabyBear (Quartic BabyBear)) (tables : Tables) (traces : Traces) (challenges : List (List ℕ)) where
   -- Generation over the one list of lookups that the tables encode, and over the traces and the challenges

@@ -8,9 +8,10 @@ ghost use Rattle.expressions.specs.Window.{Window};
 ghost use Rattle.lookup_model.specs.Denominators.{key_denominator};
 ghost use Rattle.lookup_model.specs.Fault.{trace_faults};
 ghost use Rattle.field.specs.Sums.{sum_in};
+ghost use Rattle.matrix.specs.Matrix.{height};
 ghost use Rattle.lookup_generation.specs.internal.Chunks.{AnswersRatios, HasRowsOf, RefusesFault, all_sent};
 ghost use Rattle.lookup_generation.specs.internal.GenerationInputs.{AreGenerationInputs};
-ghost use Rattle.lookup_generation.specs.internal.Fraction.{AreDefined, HaveUnitDenominators};
+ghost use Rattle.lookup_generation.specs.internal.Fraction.{AreAlike, AreDefined, HaveUnitDenominators, ratios_in};
 ghost use Rattle.lookup_generation.specs.Inverses.{ForExtensions};
 ghost use Rattle.lookup_columns.specs.internal.StoredRows.{StoreAllOnRows, StoreOnRows};
 ghost use Rattle.lookup_columns.specs.LookupSteps.{AreLookupSteps};
@@ -23,7 +24,7 @@ ghost use Rattle.lookup_model.specs.Trace.{sent_rows};
 use crate::columns::{GenerationInputs, columns_of_lookups};
 use crate::fraction::fraction;
 use crate::memory::ChunkMemory;
-use crate::ratio::{Ratio, values_of};
+use crate::ratio::{Ratios, values_of};
 use air::Traces;
 use field::{Domain, ExtensionDomain, ExtensionField, Field, InverseCount, Inverter, Over};
 use lookup_columns::{BranchColumns, rows_between, steps_of_lookups};
@@ -47,12 +48,13 @@ pub(crate) struct RowFault {
 /// Returns the lookup's first fault on these rows, if it has one. What is then appended has no meaning.
 /// Else no denominator of what is appended is zero, and without tuples each is one.
 fn push_column<F: Field, EF: ExtensionDomain<F>>(
-    ratios: &mut Vec<Ratio<EF>>,
+    ratios: &mut Ratios<EF>,
     lookup: &Lookup<F>,
     columns: &[BranchColumns<F, EF>],
     first: usize,
     end: usize,
 ) -> Result<Option<RowFault>, AllocError>
+    requires alike { AreAlike ratios.old }
     requires from { first ≤ end }
     requires columns { (challenges : List EF) × (window : ℕ → Window F)
         × StoreOnRows F.ring EF.ring EF.embed challenges window first end lookup.now columns.now }
@@ -60,12 +62,14 @@ fn push_column<F: Field, EF: ExtensionDomain<F>>(
         IfOk result (λ found. (challenges : List EF) (window : ℕ → Window F)
         → StoreOnRows F.ring EF.ring EF.embed challenges window first end lookup.now columns.now
         → AnswersColumn E (key_denominator E challenges) (sent_on F.ring F.eq window lookup.now)
-        lookup.now.column first end ratios.old.items ratios.new.items found)) }
+        lookup.now.column first end (ratios_in ratios.old) (ratios_in ratios.new) found)) }
     ensures defined { IfOk result (λ found. found ≡ None → (n : ℕ)
-        → AreDefined EF.ring n ratios.old.items
-        → AreDefined EF.ring (n + (end - first)) ratios.new.items) }
-    ensures unit_denominators { lookup.now.elements.items ≡ [] → HaveUnitDenominators EF.ring ratios.old.items
-        → IfOk result (λ _. HaveUnitDenominators EF.ring ratios.new.items) }
+        → AreDefined EF.ring n (ratios_in ratios.old)
+        → AreDefined EF.ring (n + (end - first)) (ratios_in ratios.new)) }
+    ensures alike { IfOk result (λ _. AreAlike ratios.new) }
+    ensures unit_denominators { lookup.now.elements.items ≡ []
+        → HaveUnitDenominators EF.ring (ratios_in ratios.old)
+        → IfOk result (λ _. HaveUnitDenominators EF.ring (ratios_in ratios.new)) }
     ensures there { IfOk result (λ found. IfSome found
         (λ fault. (first ≤ fault.row) × (fault.row < end))) }
 {
@@ -96,26 +100,28 @@ fn rows_before(fault: &Option<RowFault>, end: usize) -> usize
 /// ones are looked at only on the rows before it. Without a fault no denominator is zero, and each is one
 /// where no lookup has tuples.
 fn push_columns<F: Field, EF: ExtensionDomain<F>>(
-    ratios: &mut Vec<Ratio<EF>>,
+    ratios: &mut Ratios<EF>,
     lookups: &[Lookup<F>],
     columns: &[Vec<BranchColumns<F, EF>>],
     first: usize,
     end: usize,
 ) -> Result<Option<RowFault>, AllocError>
     requires records { AreRecords lookups.now }
+    requires alike { AreAlike ratios.old }
     requires from { first ≤ end }
     requires columns { (challenges : List EF) × (window : ℕ → Window F)
         × StoreAllOnRows F.ring EF.ring EF.embed challenges window first end lookups.now columns.now }
-    requires none_yet { ratios.old.items ≡ [] }
+    requires none_yet { ratios_in ratios.old ≡ [] }
     ensures answers { ForExtensions F.ring F.eq EF.ring EF.eq EF.embed (λ E.
         IfOk result (λ found. (challenges : List EF) (window : ℕ → Window F)
         → StoreAllOnRows F.ring EF.ring EF.embed challenges window first end lookups.now columns.now
         → AnswersColumns E (key_denominator E challenges) window lookups.now first end
-        ratios.new.items found)) }
+        (ratios_in ratios.new) found)) }
     ensures defined { IfOk result (λ found. found ≡ None
-        → AreDefined EF.ring (length lookups.now * (end - first)) ratios.new.items) }
+        → AreDefined EF.ring (length lookups.now * (end - first)) (ratios_in ratios.new)) }
+    ensures alike { IfOk result (λ _. AreAlike ratios.new) }
     ensures unit_denominators { HaveNoTuples lookups.now
-        → IfOk result (λ _. HaveUnitDenominators EF.ring ratios.new.items) }
+        → IfOk result (λ _. HaveUnitDenominators EF.ring (ratios_in ratios.new)) }
     ensures there { IfOk result (λ found. IfSome found
         (λ fault. (first ≤ fault.row) × (fault.row < end))) }
 {
@@ -139,7 +145,7 @@ fn ratios_of<F: Field, EF: ExtensionDomain<F>>(
     inputs: &GenerationInputs<'_, F, EF>,
     first: usize,
     end: usize,
-) -> Result<Vec<Ratio<EF>>, LookupError>
+) -> Result<Ratios<EF>, LookupError>
     requires inputs { AreGenerationInputs inputs.now }
     requires from { first ≤ end }
     requires up_to { end ≤ height_of (traces_of inputs.now.traces.now) }
@@ -149,9 +155,10 @@ fn ratios_of<F: Field, EF: ExtensionDomain<F>>(
     ensures answers { ForExtensions F.ring F.eq EF.ring EF.eq EF.embed (λ E.
         AnswersRatios E inputs.now first end result) }
     ensures defined { IfOk result (λ v. AreDefined EF.ring
-        (length inputs.now.lookups.now * (end - first)) v.items) }
+        (length inputs.now.lookups.now * (end - first)) (ratios_in v)) }
+    ensures alike { IfOk result AreAlike }
     ensures unit_denominators { HaveNoTuples inputs.now.lookups.now
-        → IfOk result (λ v. HaveUnitDenominators EF.ring v.items) }
+        → IfOk result (λ v. HaveUnitDenominators EF.ring (ratios_in v)) }
 {
     let rows = rows_between(alloc, &mut memory.columns.indices, first, end)?;
     let columns = columns_of_lookups(alloc, memory, inputs, &rows)?;
@@ -159,7 +166,10 @@ fn ratios_of<F: Field, EF: ExtensionDomain<F>>(
         .len()
         .checked_mul(inputs.lookups.len())
         .ok_or(LookupError::Memory)?;
-    let mut ratios = memory.ratios.take(alloc, size)?;
+    let mut ratios = Ratios {
+        numerators: memory.fractions.take(alloc, size)?,
+        denominators: memory.fractions.take(alloc, size)?,
+    };
     let fault = push_columns(&mut ratios, inputs.lookups, &columns, first, end)?;
     match fault {
         Some(RowFault { row: _, error }) => Err(error),
@@ -181,13 +191,15 @@ struct AuxiliaryRows<K> {
 }
 
 /// Appends a row of the auxiliary trace: the accumulator, and the fraction of each lookup, which stands at
-/// `index` in its row of `by_lookup`.
+/// `index` in its row of `by_lookup`. The caller counts these, `num_lookups`, once for all rows.
 fn push_row<K: Domain>(
     made: &mut AuxiliaryRows<K>,
     by_lookup: &RowMajorMatrix<K>,
+    num_lookups: usize,
     index: usize,
 ) -> Result<(), AllocError>
-    requires { index < by_lookup.now.width }
+    requires lookups { num_lookups ≡ height by_lookup.now }
+    requires row { index < by_lookup.now.width }
     ensures { let fractions = column_cells K.ring.zero by_lookup.now index in
         OnOk result ((made.new.cells.items
         ≡ made.old.cells.items ++ made.old.accumulator ∷ fractions)
@@ -195,7 +207,7 @@ fn push_row<K: Domain>(
 {
     made.cells.push(made.accumulator)?;
     let mut next = made.accumulator;
-    for lookup in 0..by_lookup.height() {
+    for lookup in 0..num_lookups {
         let fraction = by_lookup.row_slice(lookup)[index];
         made.cells.push(fraction)?;
         next = next + fraction;
@@ -234,17 +246,16 @@ fn push_chunk<F: Field, EF: ExtensionDomain<F>, I: Inverter<EF>>(
 {
     let ratios = ratios_of(alloc, memory, inputs, first, end)?;
     let fractions = values_of::<F, EF, I>(
-        alloc,
         &mut memory.fractions,
         &mut memory.division,
-        &ratios,
+        ratios,
         inverter,
     )?;
-    memory.ratios.put(ratios)?;
     let num_rows = end - first;
     let by_lookup = RowMajorMatrix::new(fractions, num_rows);
+    let num_lookups = by_lookup.height();
     for index in 0..num_rows {
-        push_row(made, &by_lookup, index)?;
+        push_row(made, &by_lookup, num_lookups, index)?;
     }
     memory.fractions.put(by_lookup.into_values())?;
     Ok(())

@@ -32,9 +32,9 @@ flag_fault_of R eq row lookup (Some flags) =
 
 -- The messages whose denominators count: without flags those of nonzero multiplicity, with flags all
 -- that are sent.
-abbrev pub dividing : {F : Type 0} → Ring F → (F → F → Bool) → Option (List F) → List (Message F) → List (Message F)
-dividing R eq None messages = counted R eq messages
-dividing R eq (Some _) messages = messages
+abbrev pub dividing_messages : {F : Type 0} → Ring F → (F → F → Bool) → Option (List F) → List (Message F) → List (Message F)
+dividing_messages R eq None messages = counted R eq messages
+dividing_messages R eq (Some _) messages = messages
 
 module _ {F : Type 0} (fault : ℕ → ℕ → Sent F → Option LookupError) where
   -- the faults of one row, in the order of its lookups, if `fault row lookup sent` is that of a lookup
@@ -55,7 +55,7 @@ module _ {F K : Type 0} (E : Extension F K) (denominator : Key F → K) where
   abbrev pub fault_of : ℕ → ℕ → Sent F → Option LookupError
   fault_of row lookup sent =
       option_or (flag_fault_of E.base E.base_eq row lookup sent.flags)
-      (if vanishes (dividing E.base E.base_eq sent.flags sent.messages) then Some (VanishingDenominator row lookup) else None)
+      (if vanishes (dividing_messages E.base E.base_eq sent.flags sent.messages) then Some (VanishingDenominator row lookup) else None)
 
   -- the faults of one row, in the order of its lookups
   abbrev pub row_faults : ℕ → List (Sent F) → List LookupError

@@ -19,7 +19,7 @@ impl BatchFault {
         ensures { IsFaultOf air error result }
     {
         match error {
-            LookupError::Memory => BatchFault::out_of_memory(),
+            LookupError::Memory => BatchFault::memory_fault(),
             other => BatchFault {
                 air: Some(air),
                 error: other,
@@ -27,7 +27,7 @@ impl BatchFault {
         }
     }
 
-    fn out_of_memory() -> Self
+    fn memory_fault() -> Self
         ensures { IsOutOfMemory result }
     {
         BatchFault {
@@ -43,7 +43,7 @@ impl From<AllocError> for BatchFault {
     ghost from_gives = { λ _ fault. IsOutOfMemory fault };
 
     fn from(_error: AllocError) -> BatchFault {
-        BatchFault::out_of_memory()
+        BatchFault::memory_fault()
     }
 }
 
@@ -53,6 +53,6 @@ impl<T: Drop> From<AllocFailed<T>> for BatchFault {
     ghost from_gives = { λ _ fault. IsOutOfMemory fault };
 
     fn from(_error: AllocFailed<T>) -> BatchFault {
-        BatchFault::out_of_memory()
+        BatchFault::memory_fault()
     }
 }

@@ -84,7 +84,7 @@ impl<F: Field> SymbolicLocalInteraction<F> {
     {
         let mut tuples = Vec::new(alloc);
         for tuple in self.tuples.as_slice() {
-            tuples.push(copy_tuple(alloc, tuple)?)?;
+            tuples.push(copy_local_tuple(alloc, tuple)?)?;
         }
         Ok(SymbolicLocalInteraction { tuples })
     }
@@ -125,7 +125,7 @@ impl<F: Field> SymbolicExclusiveBranch<F> {
 }
 
 /// A copy of the tuple.
-fn copy_tuple<F: Field>(alloc: Global, tuple: &LocalTuple<F>) -> Result<LocalTuple<F>, AllocError>
+fn copy_local_tuple<F: Field>(alloc: Global, tuple: &LocalTuple<F>) -> Result<LocalTuple<F>, AllocError>
     ensures { IfOk result (λ t. map_tuple tree_of (tuple_of t)
         ≡ map_tuple tree_of (tuple_of tuple.now)) }
 {

@@ -1,6 +1,6 @@
 -- What was generated as numbers, and what leaves nothing to be written.
 use Rattle.std.specs.Prelude.{◌≡◌, ◌⊎◌, ℕ, List, Result, Ok, Err}
-use Rattle.lookup_c.specs.Generate.{HasOtherRoom}
+use Rattle.lookup_c.specs.Generate.{HasOtherLength}
 use Rattle.lookup_c.specs.Outputs.{cells_of, terminal_numbers}
 use Rattle.lookup_c.specs.declared.fault.Fault.{Fault}
 use Rattle.lookup_c.specs.declared.generate.Generated.{Generated}
@@ -16,4 +16,4 @@ pub record AreNumbersOfGenerated (answer : Result Generated Fault) (cells : List
 -- nothing was generated, or there is not room for exactly its cells
 abbrev pub IsNotWritten : Result Generated Fault → ℕ → Fault → Type 0
 IsNotWritten answer room fault =
-    (answer ≡ Err fault) ⊎ ((made : Generated) × (answer ≡ Ok made) × HasOtherRoom made.auxiliary room fault)
+    (answer ≡ Err fault) ⊎ ((made : Generated) × (answer ≡ Ok made) × HasOtherLength made.auxiliary room fault)

@@ -1,13 +1,12 @@
 -- The auxiliary trace that is generated from some inputs, chunk by chunk.
 use Rattle.std.specs.Prelude.{ℕ, Bool, List, MatchResult, Result}
-use Rattle.std.specs.declared.alloc.Global.{Global}
-use Rattle.std.specs.declared.vec.Vec.{Vec}
 use Rattle.field.specs.Extension.{Extension}
 use Rattle.field.specs.Ring.{Ring}
 use Rattle.air.specs.Traces.{traces_of}
 use Rattle.lookup_generation.specs.declared.columns.GenerationInputs.{GenerationInputs}
 use Rattle.lookup_generation.specs.declared.generation.AuxiliaryRows.{AuxiliaryRows}
-use Rattle.lookup_generation.specs.declared.ratio.Ratio.{Ratio}
+use Rattle.lookup_generation.specs.declared.ratio.Ratios.{Ratios}
+use Rattle.lookup_generation.specs.internal.Fraction.{ratios_in}
 use Rattle.lookup_generation.specs.internal.Progress.{AreRatios, HasRows, IsFirstOf}
 use Rattle.lookup_model.specs.Denominators.{key_denominator}
 use Rattle.lookup_model.specs.Fault.{trace_faults}
@@ -29,6 +28,6 @@ module _ {F K : Type 0} (E : Extension F K) (inputs : GenerationInputs F K) wher
   RefusesFault = IsFirstOf (trace_faults E (key_denominator E inputs.challenges.now) (all_sent E.base E.base_eq inputs))
 
   -- The ratios of the rows from `first` up to `end`, unless there is a fault.
-  abbrev pub AnswersRatios : ℕ → ℕ → Result (Vec (Ratio K) Global) LookupError → Type 0
+  abbrev pub AnswersRatios : ℕ → ℕ → Result (Ratios K) LookupError → Type 0
   AnswersRatios first end result =
-      MatchResult result (λ v. AreRatios E (key_denominator E inputs.challenges.now) (traces_of inputs.traces.now) inputs.lookups.now first end v.items) RefusesFault
+      MatchResult result (λ v. AreRatios E (key_denominator E inputs.challenges.now) (traces_of inputs.traces.now) inputs.lookups.now first end (ratios_in v)) RefusesFault

@@ -11,7 +11,7 @@ use Rattle.std.proofs.lemmas.Slice.Zip.{AllZip-long}
 use Rattle.lists.proofs.Zips.{AllZip-each, AllZip-filter, AllZip-flat, AllZip-same_map, AllZip-weaker}
 use Rattle.field.specs.Sums.{sum_in}
 use Rattle.field.specs.Extension.{Extension, IsLawful}
-use Rattle.lookup_model.specs.Fault.{IsLawfulSelection, dividing, fault_of, flag_fault_of, row_faults, trace_faults, vanishes}
+use Rattle.lookup_model.specs.Fault.{IsLawfulSelection, dividing_messages, fault_of, flag_fault_of, row_faults, trace_faults, vanishes}
 use Rattle.lookup_model.specs.Generated.{plain_matrix, plain_terminal_of}
 use Rattle.lookup_model.specs.Message.{Key, Message}
 use Rattle.lookup_model.specs.Plain.{counted, plain_cells, plain_fraction, plain_row, plain_terminal, quotient_of, trace_messages}
@@ -96,7 +96,7 @@ module _ {F K : Type 0} {E : Extension F K} (laws : IsLawful E) (den den' : Key 
       AllZip-filter IsRekeyed (λ m. not (E.base_eq m.multiplicity E.base.zero)) (λ n. not (E.base_eq n.multiplicity E.base.zero)) (λ m n e. ap (λ x. not (E.base_eq x E.base.zero)) e.0) ms ns same
 
   -- the denominators that count vanish alike
-  same_dividing : (flags : Option (List F)) (ms ns : List (Message F)) → AreRekeyed ms ns → vanishes E den (dividing E.base E.base_eq flags ms) ≡ vanishes E den' (dividing E.base E.base_eq flags ns)
+  same_dividing : (flags : Option (List F)) (ms ns : List (Message F)) → AreRekeyed ms ns → vanishes E den (dividing_messages E.base E.base_eq flags ms) ≡ vanishes E den' (dividing_messages E.base E.base_eq flags ns)
   same_dividing None ms ns keyed = same_vanishing (counted E.base E.base_eq ms) (counted E.base E.base_eq ns) (same_counted ms ns keyed)
   same_dividing (Some _) ms ns keyed = same_vanishing ms ns keyed
 

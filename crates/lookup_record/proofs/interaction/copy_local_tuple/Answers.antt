@@ -1,5 +1,5 @@
 use Rattle.std.proofs.Common.{refl}
-use Rattle.lookup_record.proofs.interaction.copy_tuple.Goals as goal
+use Rattle.lookup_record.proofs.interaction.copy_local_tuple.Goals as goal
 
 pub returns : goal.returns
 returns g c =
