@@ -16,7 +16,7 @@ ghost use Rattle.lookup_generation.specs.Inverses.{ForExtensions};
 ghost use Rattle.lookup_columns.specs.internal.StoredRows.{StoreAllOnRows, StoreOnRows};
 ghost use Rattle.lookup_columns.specs.LookupSteps.{AreLookupSteps};
 ghost use Rattle.lookup_generation.specs.Progress.{HaveNoTuples, started_chunks};
-ghost use Rattle.lookup_generation.specs.internal.Progress.{AnswersColumn, AnswersColumns, AreRatios, HasRows, IsFirstOf, column_cells, sent_on};
+ghost use Rattle.lookup_generation.specs.internal.Progress.{AnswersPushColumn, AnswersPushColumns, AreRatios, HasRows, IsFirstOf, column_cells, sent_on};
 ghost use Rattle.lookup_model.specs.Records.{AreRecords, LookupsFit};
 ghost use Rattle.lookup_model.specs.Generation.{AnswersGeneration};
 ghost use Rattle.lookup_model.specs.Trace.{sent_rows};
@@ -61,7 +61,7 @@ fn push_column<F: Field, EF: ExtensionDomain<F>>(
     ensures answers { ForExtensions F.ring F.eq EF.ring EF.eq EF.embed (λ E.
         IfOk result (λ found. (challenges : List EF) (window : ℕ → Window F)
         → StoreOnRows F.ring EF.ring EF.embed challenges window first end lookup.now columns.now
-        → AnswersColumn E (key_denominator E challenges) (sent_on F.ring F.eq window lookup.now)
+        → AnswersPushColumn E (key_denominator E challenges) (sent_on F.ring F.eq window lookup.now)
         lookup.now.column first end (ratios_in ratios.old) (ratios_in ratios.new) found)) }
     ensures defined { IfOk result (λ found. found ≡ None → (n : ℕ)
         → AreDefined EF.ring n (ratios_in ratios.old)
@@ -115,7 +115,7 @@ fn push_columns<F: Field, EF: ExtensionDomain<F>>(
     ensures answers { ForExtensions F.ring F.eq EF.ring EF.eq EF.embed (λ E.
         IfOk result (λ found. (challenges : List EF) (window : ℕ → Window F)
         → StoreAllOnRows F.ring EF.ring EF.embed challenges window first end lookups.now columns.now
-        → AnswersColumns E (key_denominator E challenges) window lookups.now first end
+        → AnswersPushColumns E (key_denominator E challenges) window lookups.now first end
         (ratios_in ratios.new) found)) }
     ensures defined { IfOk result (λ found. found ≡ None
         → AreDefined EF.ring (length lookups.now * (end - first)) (ratios_in ratios.new)) }

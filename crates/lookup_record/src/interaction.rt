@@ -125,7 +125,10 @@ impl<F: Field> SymbolicExclusiveBranch<F> {
 }
 
 /// A copy of the tuple.
-fn copy_local_tuple<F: Field>(alloc: Global, tuple: &LocalTuple<F>) -> Result<LocalTuple<F>, AllocError>
+fn copy_local_tuple<F: Field>(
+    alloc: Global,
+    tuple: &LocalTuple<F>,
+) -> Result<LocalTuple<F>, AllocError>
     ensures { IfOk result (λ t. map_tuple tree_of (tuple_of t)
         ≡ map_tuple tree_of (tuple_of tuple.now)) }
 {

@@ -52,8 +52,8 @@ module _ {F K : Type 0} (E : Extension F K) (denominator : Key F → K) where
     pub faultless : HasNoFault sends column first fault.row
 
   -- The ratios of a lookup are appended. Otherwise its first fault is found.
-  abbrev pub AnswersColumn : (ℕ → Sent F) → ℕ → ℕ → ℕ → List (Ratio K) → List (Ratio K) → Option RowFault → Type 0
-  AnswersColumn sends column first end before after found =
+  abbrev pub AnswersPushColumn : (ℕ → Sent F) → ℕ → ℕ → ℕ → List (Ratio K) → List (Ratio K) → Option RowFault → Type 0
+  AnswersPushColumn sends column first end before after found =
       MatchOption found (HasColumn sends column first end before after) (IsFirstIn sends column first)
 
   module _ (window : ℕ → Window F) (lookups : List (Lookup F)) where
@@ -79,8 +79,8 @@ module _ {F K : Type 0} (E : Extension F K) (denominator : Key F → K) where
       pub faultless : HaveNoFault first fault.row
 
     -- The ratios are those of all lookups. Otherwise their first fault is found.
-    abbrev pub AnswersColumns : ℕ → ℕ → List (Ratio K) → Option RowFault → Type 0
-    AnswersColumns first end ratios found = MatchOption found (HasColumns first end ratios) (AreFirstIn first)
+    abbrev pub AnswersPushColumns : ℕ → ℕ → List (Ratio K) → Option RowFault → Type 0
+    AnswersPushColumns first end ratios found = MatchOption found (HasColumns first end ratios) (AreFirstIn first)
 
   module _ (traces : AirTraces F) (lookups : List (Lookup F)) where
     -- The ratios are the fractions of the rows from `first` up to `end`, lookup after lookup, and no row
