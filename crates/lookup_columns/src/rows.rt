@@ -26,6 +26,8 @@ pub fn rows_between(
 
 /// Selects the rows whose flag is not zero. Returns, at the index of each of them, its index among the
 /// selected rows, and then the selected rows. What stands at the index of another row has no meaning.
+///
+/// Each row is stored, and kept if its flag is not zero, so that no branch depends on a flag.
 pub(crate) fn selected_rows<F: Field>(
     alloc: Global,
     spare: &mut SpareLists<usize>,
@@ -41,11 +43,15 @@ pub(crate) fn selected_rows<F: Field>(
 {
     let mut indices = spare.take(alloc, rows.len())?;
     let mut selected = spare.take(alloc, rows.len())?;
+    selected.resize(rows.len(), 0)?;
+    let mut count = 0;
     for i in 0..rows.len() {
-        indices.push(selected.len())?;
+        indices.push(count)?;
+        selected[count] = rows[i];
         if !flags[i].is_zero() {
-            selected.push(rows[i])?;
+            count += 1;
         }
     }
+    selected.truncate(count);
     Ok((indices, selected))
 }

@@ -1,11 +1,11 @@
-use Rattle.std.proofs.Common.{◌≡◌, ◌<◌, ◌+◌, ◌∷◌, ◌++◌, [], List, ℕ, All, cond, false, length, take, get_or, sym, ap, subst, ◌∙◌, arith}
+use Rattle.std.proofs.Common.{◌≡◌, ◌<◌, ◌+◌, ◌∷◌, ◌++◌, [], List, ℕ, All, cond, false, length, take, get_or, slice_set, sym, ap, subst, ◌∙◌, arith}
 use Rattle.std.proofs.lemmas.Bool.{false_from_ne_true, true≢false}
-use Rattle.std.proofs.lemmas.List.{append-nil, get_or_default, length-take, length_push}
+use Rattle.std.proofs.lemmas.List.{append-nil, get_or_default, length-set, length-take, length_push, take-set, take_more_set}
 use Rattle.std.proofs.lemmas.List.Elements.{All-push}
 use Rattle.lists.proofs.Items.{take_item}
 use Rattle.lookup_columns.specs.internal.ChunkColumns.{AreSelected, selected_rows}
 use Rattle.lookup_columns.proofs.SelectedRows.{selected_more, selected_skipped, selected_push}
-use Rattle.lookup_columns.proofs.rows.selected_rows.Goals.{then-not-is_zero+in_ok-push-2, else-not-is_zero}
+use Rattle.lookup_columns.proofs.rows.selected_rows.Goals.{then-not-is_zero, else-not-is_zero}
 use Rattle.lookup_columns.proofs.rows.selected_rows.Goals as goal
 
 pub loop-i-preserved : goal.loop-i-preserved
@@ -17,12 +17,13 @@ loop-i-preserved g c =
     let flags = c.args.flags.now in
     let rows = c.args.rows.now in
     let indices = c.loop-i.indices.items in
-    let selected = c.loop-i.selected.items in
+    let list = c.loop-i.selected.items in
+    let n = c.loop-i.count in
     let f = c.index-flags-i.result in
     let r = get_or rows i 0 in
-    let n = c.len.result in
     let so_far = c.loop-i.invariant in
     let lt : i < length rows = omega (arith, c.loop-i-test.true) in
+    let below : n < length list = omega (arith, so_far.5, so_far.4, lt) in
     let flag_more = take_item flags i f (omega (arith, lt, c.requires)) c.index-flags-i.is in
     let row_more = take_item rows i r lt (get_or_default rows i 0 r lt) in
     let indices_are = c.in_ok-push.ensures.items in
@@ -30,24 +31,29 @@ loop-i-preserved g c =
     let indices_long : length indices ≡ length (take i rows) = omega (arith, so_far.0, length-take i rows, lt) in
     let many : length c.push.new.self.items ≡ i + 1 = ap length indices_are ∙ length_push indices n ∙ ap (λ m. m + 1) so_far.0 in
     let more = selected_push R eq (take i flags) (take i rows) f r flags_long in
+    let new = take c.if-not-is_zero.count (slice_set list n r) in
     elim c.if-not-is_zero.branch [
-      | then-not-is_zero+in_ok-push-2 w ↦
-          let selected_are : c.if-not-is_zero.selected.items ≡ selected ++ r ∷ [] = ap (λ v. v.items) w.selected-is ∙ w.in_ok-push-2.ensures.items in
+      | then-not-is_zero w ↦
+          let selected_are : new ≡ take n list ++ r ∷ [] = ap (λ m. take m (slice_set list n r)) w.count-is ∙ take_more_set list n r below in
           let set : eq f R.zero ≡ false =
           false_from_ne_true (eq f R.zero) (λ e. true≢false (sym (c.is_zero.ensures.1 ((met.eq_is f R.zero).0 e)) ∙ w.if-not-is_zero.true)) in (
             many,
             selected_are ∙ (λ k. so_far.1 k ++ cond (sym set k) [] (r ∷ [])) ∙ sym more ∙ (λ k. selected_rows R eq (sym flag_more k) (sym row_more k)),
             subst (λ (X : Type 0). X) (λ k. AreSelected R (sym flag_more k) (sym row_more k) (sym indices_are k) (sym selected_are k))
-                (selected_more R (take i flags) (take i rows) indices selected f r flags_long indices_long so_far.2 n (omega (arith, c.len.ensures))),
-            λ m below. subst (λ (l : List ℕ). All (λ q. q < m) l) (sym selected_are) (All-push (λ q. q < m) selected r (so_far.3 m below) (below i 0 lt)),
+                (selected_more R (take i flags) (take i rows) indices (take n list) f r flags_long indices_long so_far.2 n (omega (arith, length-take n list, below))),
+            λ m bound. subst (λ (l : List ℕ). All (λ q. q < m) l) (sym selected_are) (All-push (λ q. q < m) (take n list) r (so_far.3 m bound) (bound i 0 lt)),
+            length-set list n r ∙ so_far.4,
+            omega (arith, w.count-is, so_far.5),
           )
       | else-not-is_zero w ↦
-          let selected_are : c.if-not-is_zero.selected.items ≡ selected = ap (λ v. v.items) w.selected-is in
+          let selected_are : new ≡ take n list = ap (λ m. take m (slice_set list n r)) w.count-is ∙ take-set list n r in
           let unset : f ≡ R.zero = c.is_zero.ensures.0 w.if-not-is_zero.false in (
             many,
             selected_are ∙ so_far.1 ∙ sym (append-nil (selected_rows R eq (take i flags) (take i rows))) ∙ (λ k. selected_rows R eq (take i flags) (take i rows) ++ cond (sym ((met.eq_is f R.zero).1 unset) k) [] (r ∷ [])) ∙ sym more ∙ (λ k. selected_rows R eq (sym flag_more k) (sym row_more k)),
             subst (λ (X : Type 0). X) (λ k. AreSelected R (sym flag_more k) (sym row_more k) (sym indices_are k) (sym selected_are k))
-                (selected_skipped R (take i flags) (take i rows) indices selected f r flags_long indices_long so_far.2 n unset),
-            λ m below. subst (λ (l : List ℕ). All (λ q. q < m) l) (sym selected_are) (so_far.3 m below),
+                (selected_skipped R (take i flags) (take i rows) indices (take n list) f r flags_long indices_long so_far.2 n unset),
+            λ m bound. subst (λ (l : List ℕ). All (λ q. q < m) l) (sym selected_are) (so_far.3 m bound),
+            length-set list n r ∙ so_far.4,
+            omega (arith, w.count-is, so_far.5),
           )
     ]
