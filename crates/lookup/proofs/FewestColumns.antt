@@ -90,11 +90,7 @@ module _ {E : Type 0} where
   -- what passes through is not counted
   pub none_additive : (os : List (Outline E)) → additive (passing os) ≡ []
   none_additive [] = refl
-  none_additive (o ∷ os) = by_test (is_additive o) refl (none_additive os)
-    where
-      by_test : (b : Bool) → is_additive o ≡ b → additive (passing os) ≡ [] → additive (cond (not b) (o ∷ passing os) (passing os)) ≡ []
-      by_test true e rest = rest
-      by_test false e rest = ap (λ b. cond b (o ∷ additive (passing os)) (additive (passing os))) e ∙ rest
+  none_additive (o ∷ os) = grind (arith, none_additive os)
 
   -- a lookup that may be joined, on the bus of this name
   pub record IsOn (name : List ℕ) (o : Outline E) : Type 0 where
@@ -108,23 +104,15 @@ module _ {E : Type 0} where
   -- the columns of a bus are those that its parts make, and on another bus there are none of them
   own_columns : (name : List ℕ) (cut : List (Outline E × List (Outline E))) → AllByRecursion (IsOn name) (flat_map part_items cut) → on_bus name (additive (map joined cut)) ≡ map joined cut
   own_columns name [] on = refl
-  own_columns name (p ∷ ps) on =
-      let later = own_columns name ps (all_back (IsOn name) (part_items p) (flat_map part_items ps) on) in
-      ap (λ b. filter (λ o. is_named name o.bus) (cond b (joined p ∷ additive (map joined ps)) (additive (map joined ps)))) (on.0).joins
-      ∙ ap (λ b. cond b (joined p ∷ on_bus name (additive (map joined ps))) (on_bus name (additive (map joined ps)))) (on.0).named
-      ∙ ap (λ t. joined p ∷ t) later
+  own_columns name (p ∷ ps) on = grind (arith, own_columns name ps (all_back (IsOn name) (part_items p) (flat_map part_items ps) on), (on.0).joins, (on.0).named)
 
   other_columns : (name other : List ℕ) → same_name name other ≡ false → (cut : List (Outline E × List (Outline E))) → AllByRecursion (IsOn other) (flat_map part_items cut) → on_bus name (additive (map joined cut)) ≡ []
   other_columns name other apart [] on = refl
-  other_columns name other apart (p ∷ ps) on =
-      let later = other_columns name other apart ps (all_back (IsOn other) (part_items p) (flat_map part_items ps) on) in
-      ap (λ b. filter (λ o. is_named name o.bus) (cond b (joined p ∷ additive (map joined ps)) (additive (map joined ps)))) (on.0).joins
-      ∙ ap (λ b. cond b (joined p ∷ on_bus name (additive (map joined ps))) (on_bus name (additive (map joined ps)))) (not_named (p.0).bus (on.0).named)
-      ∙ later
+  other_columns name other apart (p ∷ ps) on = grind (arith, other_columns name other apart ps (all_back (IsOn other) (part_items p) (flat_map part_items ps) on), (on.0).joins, not_named (p.0).bus (on.0).named)
     where
       not_named : (bus : Option (List ℕ)) → is_named other bus ≡ true → is_named name bus ≡ false
       not_named None e = refl
-      not_named (Some b) e = ap (same_name name) (sym ((same_name-Decides other b).0 e)) ∙ apart
+      not_named (Some b) e = grind (arith, e, apart, same_name-Decides other b)
 
 -- the columns of several buses, counted on one of them
 first_append : {E : Type 0} (name : List ℕ) (xs ys : List (Outline E)) → on_bus name (additive (xs ++ ys)) ≡ on_bus name (additive xs) ++ on_bus name (additive ys)
@@ -138,23 +126,19 @@ module _ {F : Type 0} (most : ℕ) (before : List (Outline (SymbolicExpression F
   none_on : (names : List (List ℕ)) (cuts : List (List (Outline (SymbolicExpression F) × List (Outline (SymbolicExpression F))))) → AllByRecursion (λ other. same_name name other ≡ false) names → AreFilled AnswersDegree most (additive before) names cuts
       → on_bus name (additive (flat_map (λ cut. map joined cut) cuts)) ≡ []
   none_on [] [] apart filled = refl
-  none_on [] (cut ∷ cuts) apart filled = absurd filled
-  none_on (n ∷ ns) [] apart filled = absurd filled
+
   none_on (n ∷ ns) (cut ∷ cuts) apart filled =
       first_append name (map joined cut) (flat_map (λ c. map joined c) cuts)
       ∙ (λ i. other_columns name n apart.0 cut (members_cut n cut filled.0) i ++ none_on ns cuts apart.1 filled.1 i)
+  none_on ns cuts apart filled = absurd filled
 
   fewest_in : (names : List (List ℕ)) (cuts : List (List (Outline (SymbolicExpression F) × List (Outline (SymbolicExpression F))))) → IsSeparate same_name names → AreFilled AnswersDegree most (additive before) names cuts
       → AllByRecursion IsPlain (on_bus name (additive before)) → (split : List (Outline (SymbolicExpression F) × List (Outline (SymbolicExpression F)))) → IsCut split (on_bus name (additive before)) → AllByRecursion (λ part. (part.1 ≡ []) ⊎ (outline_degree 0 (joined part) ≤ most)) split
       → length (on_bus name (additive (flat_map (λ cut. map joined cut) cuts))) ≤ length split
   fewest_in [] [] separate filled plain split is_cut within = omega arith
-  fewest_in [] (cut ∷ cuts) separate filled plain split is_cut within = absurd filled
-  fewest_in (n ∷ ns) [] separate filled plain split is_cut within = absurd filled
+
   fewest_in (n ∷ ns) (cut ∷ cuts) separate filled plain split is_cut within = by_test (same_name name n) refl (fewest_in ns cuts separate.1 filled.1 plain split is_cut within)
     where
-      columns : List (Outline (SymbolicExpression F))
-      columns = on_bus name (additive (flat_map (λ c. map joined c) (cut ∷ cuts)))
-
       by_test : (b : Bool) → same_name name n ≡ b → length (on_bus name (additive (flat_map (λ c. map joined c) cuts))) ≤ length split → length (on_bus name (additive (flat_map (λ c. map joined c) (cut ∷ cuts)))) ≤ length split
       by_test true e later =
           let is : name ≡ n = (same_name-Decides name n).0 e in
@@ -165,6 +149,7 @@ module _ {F : Type 0} (most : ℕ) (before : List (Outline (SymbolicExpression F
       by_test false e later =
           let none : on_bus name (additive (map joined cut)) ≡ [] = other_columns name n e cut (members_cut n cut filled.0) in
           subst (λ (t : List (Outline (SymbolicExpression F))). length t ≤ length split) (sym (first_append name (map joined cut) (flat_map (λ c. map joined c) cuts) ∙ ap (λ t. t ++ on_bus name (additive (flat_map (λ c. map joined c) cuts))) none)) later
+  fewest_in ns cuts separate filled plain split is_cut within = absurd filled
 
 -- a packing by the degree of the gadget has the fewest columns
 pub fewest_columns : {F : Type 0} (most : ℕ) (before after : List (Outline (SymbolicExpression F))) → ((name : List ℕ) → AllByRecursion IsPlain (on_bus name (additive before))) → IsPacking AnswersDegree most before after → HasFewestColumns most before after

@@ -1,6 +1,6 @@
 -- A packing keeps lawful flags and the buses of the lookups that pass through: lookups with flags are among
 -- these, and joined ones have none.
-use Rattle.std.proofs.Common.{◌≡◌, ℕ, Bool, true, false, cond, not, ◌&&◌, IfSome, List, [], ◌∷◌, Option, None, Some, Result, map, refl, sym, ap, subst, ◌∙◌}
+use Rattle.std.proofs.Common.{◌≡◌, ℕ, Bool, true, false, cond, not, ◌&&◌, IfSome, List, [], ◌∷◌, Option, None, Some, Result, map, refl, sym, ap, subst, ◌∙◌, arith}
 use Rattle.std.specs.List.{AllByRecursion, filter}
 use Rattle.std.specs.Option.{is_some, option_map}
 use Rattle.std.specs.declared.alloc.Global.{Global}
@@ -53,19 +53,12 @@ module _ {F : Type 0} (R : Ring F) (eq : F → F → Bool) (w : Window F) where
   lawful_sent id [] all = tt
   lawful_sent id (l ∷ ls) all = (unseen l.flags (branches_at R w (id l) l) all.0, lawful_sent id ls all.1)
 
-  without_flags : (b : Bool) (flags : Option (List (SymbolicExpression F))) → (b && not (is_some flags)) ≡ true → AreLawful flags
-  without_flags b None joins = tt
-  without_flags true (Some fs) joins = absurd (cc joins)
-  without_flags false (Some fs) joins = absurd (cc joins)
+
 
   -- those that may be joined have no flags
   of_passing : (os : List (Outline (SymbolicExpression F))) → AllByRecursion HasLawful (passing os) → AllByRecursion HasLawful os
   of_passing [] all = tt
-  of_passing (o ∷ os) all = by_test (is_additive o) refl (λ rest. of_passing os rest) all
-    where
-      by_test : (b : Bool) → is_additive o ≡ b → (AllByRecursion HasLawful (passing os) → AllByRecursion HasLawful os) → AllByRecursion HasLawful (cond (not b) (o ∷ passing os) (passing os)) → AllByRecursion HasLawful (o ∷ os)
-      by_test true joins later rest = (without_flags (is_some o.bus) o.flags joins, later rest)
-      by_test false passes later rest = (rest.0, later rest.1)
+  of_passing (o ∷ os) all = grind (arith, of_passing os, all)
 
 module _ {F : Type 0} (answers : Outline (SymbolicExpression F) → Result ℕ LookupError → Type 0) (most : ℕ) (before after : List (Lookup F)) (packing : IsPacking answers most (map fields_of before) (map fields_of after)) where
   -- lawful flags stay lawful

@@ -86,12 +86,11 @@ module _ {E : Type 0} where
     columns_weight : (names : List (List ℕ)) (cuts : List (List (Outline E × List (Outline E)))) → AreFilled answers most os names cuts
         → weight (flat_map (λ cut. map joined cut) cuts) ≡ weight (flat_map (λ name. flat_map (λ o. o ∷ []) (on_bus name os)) names)
     columns_weight [] [] filled = refl
-    columns_weight [] (c ∷ cs) filled = absurd filled
-    columns_weight (n ∷ ns) [] filled = absurd filled
     columns_weight (n ∷ ns) (c ∷ cs) filled =
         sum_by-append (λ o. o.count_weight) (map joined c) (flat_map (λ cut. map joined cut) cs)
         ∙ (λ i. (cut_weight c ∙ ap weight (filled.0.0 ∙ sym (singles (on_bus n os)))) i + columns_weight ns cs filled.1 i)
         ∙ sym (sum_by-append (λ o. o.count_weight) (flat_map (λ o. o ∷ []) (on_bus n os)) (flat_map (λ name. flat_map (λ o. o ∷ []) (on_bus name os)) ns))
+    columns_weight ns cs filled = absurd filled
 
   packed_weight : (answers : Outline E → Result ℕ LookupError → Type 0) (most : ℕ) (before after : List (Outline E)) → IsPacking answers most before after → weight after ≡ weight before
   packed_weight answers most before after packing =
@@ -122,12 +121,7 @@ module _ {F : Type 0} (R : Ring F) (eq : F → F → Bool) (w : Window F) (bus_i
   additive_sent : (ls : List (Lookup F)) → AllByRecursion (HasIdOfBus bus_id id) ls
       → flat_map sends (filter (λ l. is_additive (fields_of l)) ls) ≡ flat_map (own_messages R eq w bus_id) (additive (map fields_of ls))
   additive_sent [] has = refl
-  additive_sent (l ∷ ls) has = by_test (is_additive (fields_of l)) refl (additive_sent ls has.1)
-    where
-      by_test : (b : Bool) → is_additive (fields_of l) ≡ b → flat_map sends (filter (λ k. is_additive (fields_of k)) ls) ≡ flat_map (own_messages R eq w bus_id) (additive (map fields_of ls))
-          → flat_map sends (cond b (l ∷ filter (λ k. is_additive (fields_of k)) ls) (filter (λ k. is_additive (fields_of k)) ls)) ≡ flat_map (own_messages R eq w bus_id) (cond b (fields_of l ∷ additive (map fields_of ls)) (additive (map fields_of ls)))
-      by_test true e rest = λ i. own_sent l e has.0 i ++ rest i
-      by_test false e rest = rest
+  additive_sent (l ∷ ls) has = grind (arith, additive_sent ls has.1, λ (e : is_additive (fields_of l) ≡ true). own_sent l e has.0)
 
   others_sent : (ls : List (Lookup F)) → flat_map sends ls ≡ flat_map (λ p. messages_of R eq w p.0 p.1) (zip (map id ls) (map unnumbered (map fields_of ls)))
   others_sent [] = refl

@@ -64,9 +64,7 @@ trial_among {F} answers most members seen front rest last next lookup has all is
 }
 
 pub no_flags_of : {A B : Type 0} (f : A → B) (b : Bool) (flags : Option A) → (b && not (is_some (option_map f flags))) ≡ true → flags ≡ None
-no_flags_of f b None e = refl
-no_flags_of f true (Some x) e = absurd (true≢false (sym e))
-no_flags_of f false (Some x) e = absurd (true≢false (sym e))
+no_flags_of f b flags e = grind (arith, e)
 
 -- a well formed lookup that may be joined
 pub additive_member : {F : Type 0} (l : Lookup F) → is_additive (fields_of l) ≡ true → HasEqualLengths l → IsMember l
@@ -166,8 +164,4 @@ plain_on {F} ls name lengths = all_kept IsPlain (λ o. is_named name o.bus) (add
   where
     plain : (xs : List (Lookup F)) → AllByRecursion HasEqualLengths xs → AllByRecursion IsPlain (additive (map fields_of xs))
     plain [] h = tt
-    plain (x ∷ xs) h = by_test (is_additive (fields_of x)) refl (plain xs h.1)
-      where
-        by_test : (b : Bool) → is_additive (fields_of x) ≡ b → AllByRecursion IsPlain (additive (map fields_of xs)) → AllByRecursion IsPlain (cond b (fields_of x ∷ additive (map fields_of xs)) (additive (map fields_of xs)))
-        by_test true e rest = (plain_of x (additive_member x e h.0), rest)
-        by_test false e rest = rest
+    plain (x ∷ xs) h = grind (arith, plain xs h.1, λ (e : is_additive (fields_of x) ≡ true). plain_of x (additive_member x e h.0))

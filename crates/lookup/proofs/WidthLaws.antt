@@ -18,23 +18,15 @@ abbrev pub is_other : ℕ → ℕ → Bool
 is_other width w = not (nat_eq w width)
 
 not_other : (width w : ℕ) → is_other width w ≡ false → w ≡ width
-not_other width w e = by_test (nat_eq w width) refl
-  where
-    by_test : (b : Bool) → nat_eq w width ≡ b → w ≡ width
-    by_test true f = (Decides-eqb w width).0 f
-    by_test false f = absurd (true≢false (sym (ap not f) ∙ e))
+not_other width w e = grind (arith, Decides-eqb w width, e)
 
 other_differs : (width w : ℕ) → is_other width w ≡ true → w ≢ width
-other_differs width w e is = true≢false (sym (sym (ap not ((Decides-eqb w width).1 is)) ∙ e))
+other_differs width w e is = grind (arith, Decides-eqb w width, e, is)
 
 -- where no other width is found all are the same
 pub all_same : (width : ℕ) (ws : List ℕ) → find (is_other width) ws ≡ None → AllByRecursion (λ w. w ≡ width) ws
 all_same width [] e = tt
-all_same width (w ∷ ws) e = by_test (is_other width w) refl e (all_same width ws)
-  where
-    by_test : (b : Bool) → is_other width w ≡ b → cond b (Some w) (find (is_other width) ws) ≡ None → (find (is_other width) ws ≡ None → AllByRecursion (λ v. v ≡ width) ws) → (w ≡ width) × AllByRecursion (λ v. v ≡ width) ws
-    by_test true f h rest = absurd (cc h)
-    by_test false f h rest = (not_other width w f, rest h)
+all_same width (w ∷ ws) e = grind (arith, all_same width ws, Decides-eqb w width, e)
 
 -- the index of the first other width
 pub record IsFirstOther (ws : List ℕ) (width other : ℕ) : Type 0 where
@@ -74,11 +66,7 @@ has_other width other ws first found =
     record { index = at.index; first = first; differs = at.differs; found = at.found; before = at.before }
 
 other_is : (width w : ℕ) → w ≢ width → is_other width w ≡ true
-other_is width w differs = by_test (nat_eq w width) refl
-  where
-    by_test : (b : Bool) → nat_eq w width ≡ b → not b ≡ true
-    by_test true f = absurd (differs ((Decides-eqb w width).0 f))
-    by_test false f = refl
+other_is width w differs = grind (arith, Decides-eqb w width, differs)
 
 same_is : (width w : ℕ) → w ≡ width → is_other width w ≡ false
 same_is width w is = ap not ((Decides-eqb w width).1 is)
