@@ -1,5 +1,5 @@
 -- With the degree of the gadget a greedy filling has the fewest columns.
-use Rattle.std.proofs.Common.{◌≡◌, ◌≤◌, ◌⊎◌, inl, inr, ℕ, Bool, true, false, cond, not, List, [], ◌∷◌, ◌++◌, Option, None, Some, length, map, refl, sym, ap, subst, ◌∙◌, arith}
+use Rattle.std.proofs.Common.{◌≡◌, ◌≤◌, ◌⊎◌, inl, inr, ℕ, Bool, true, false, List, [], ◌∷◌, ◌++◌, Option, None, Some, length, map, refl, sym, ap, subst, ◌∙◌, arith}
 use Rattle.std.proofs.lemmas.List.{append-nil, length-map, map-append}
 use Rattle.std.proofs.lemmas.List.Elements.{filter-append}
 use Rattle.std.specs.List.{AllByRecursion, filter, filter_map, flat_map, zip}
@@ -126,7 +126,6 @@ module _ {F : Type 0} (most : ℕ) (before : List (Outline (SymbolicExpression F
   none_on : (names : List (List ℕ)) (cuts : List (List (Outline (SymbolicExpression F) × List (Outline (SymbolicExpression F))))) → AllByRecursion (λ other. same_name name other ≡ false) names → AreFilled AnswersDegree most (additive before) names cuts
       → on_bus name (additive (flat_map (λ cut. map joined cut) cuts)) ≡ []
   none_on [] [] apart filled = refl
-
   none_on (n ∷ ns) (cut ∷ cuts) apart filled =
       first_append name (map joined cut) (flat_map (λ c. map joined c) cuts)
       ∙ (λ i. other_columns name n apart.0 cut (members_cut n cut filled.0) i ++ none_on ns cuts apart.1 filled.1 i)
@@ -136,7 +135,6 @@ module _ {F : Type 0} (most : ℕ) (before : List (Outline (SymbolicExpression F
       → AllByRecursion IsPlain (on_bus name (additive before)) → (split : List (Outline (SymbolicExpression F) × List (Outline (SymbolicExpression F)))) → IsCut split (on_bus name (additive before)) → AllByRecursion (λ part. (part.1 ≡ []) ⊎ (outline_degree 0 (joined part) ≤ most)) split
       → length (on_bus name (additive (flat_map (λ cut. map joined cut) cuts))) ≤ length split
   fewest_in [] [] separate filled plain split is_cut within = omega arith
-
   fewest_in (n ∷ ns) (cut ∷ cuts) separate filled plain split is_cut within = by_test (same_name name n) refl (fewest_in ns cuts separate.1 filled.1 plain split is_cut within)
     where
       by_test : (b : Bool) → same_name name n ≡ b → length (on_bus name (additive (flat_map (λ c. map joined c) cuts))) ≤ length split → length (on_bus name (additive (flat_map (λ c. map joined c) (cut ∷ cuts)))) ≤ length split

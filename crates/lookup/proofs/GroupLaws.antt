@@ -1,5 +1,5 @@
 -- Groups of lookups, lookup by lookup.
-use Rattle.std.proofs.Common.{◌≡◌, ◌<◌, ◌+◌, ℕ, length, get_or, take, Bool, true, false, cond, ◌||◌, unwrap_or, List, [], ◌∷◌, ◌++◌, Option, None, Some, map, option_map, refl, sym, ap, ◌∙◌, true≢false}
+use Rattle.std.proofs.Common.{◌≡◌, ◌<◌, ◌+◌, ℕ, length, get_or, take, false, cond, unwrap_or, List, [], ◌∷◌, ◌++◌, Option, None, Some, map, option_map, refl, sym, ap, ◌∙◌, arith}
 use Rattle.std.proofs.lemmas.List.{append-nil, map-append}
 use Rattle.std.proofs.lemmas.List.Elements.{filter-append, filter_map-append}
 use Rattle.std.specs.List.{cons_option, filter_map, list_any}
@@ -28,27 +28,14 @@ module _ {E : Type 0} where
   -- a name that no lookup has has no lookups
   on_bus-none : (name : List ℕ) (os : List (Outline E)) → list_any (λ other. same_name other name) (filter_map (λ o. o.bus) os) ≡ false → on_bus name os ≡ []
   on_bus-none name [] e = refl
-  on_bus-none name (o ∷ os) e = by_bus o.bus e (on_bus-none name os)
-    where
-      by_bus : (bus : Option (List ℕ)) → list_any (λ other. same_name other name) (cons_option bus (filter_map (λ o. o.bus) os)) ≡ false
-          → (list_any (λ other. same_name other name) (filter_map (λ o. o.bus) os) ≡ false → on_bus name os ≡ []) → cond (is_named name bus) (o ∷ on_bus name os) (on_bus name os) ≡ []
-      by_bus None h rest = rest h
-      by_bus (Some other) h rest = by_test (same_name other name) refl h
-        where
-          by_test : (p : Bool) → same_name other name ≡ p → (p || list_any (λ m. same_name m name) (filter_map (λ o. o.bus) os)) ≡ false → cond (same_name name other) (o ∷ on_bus name os) (on_bus name os) ≡ []
-          by_test true f g = absurd (true≢false g)
-          by_test false f g = ap (λ b. cond b (o ∷ on_bus name os) (on_bus name os)) (turned same_name same_name-Decides name other ∙ f) ∙ rest g
+  on_bus-none name (o ∷ os) e = grind (arith, on_bus-none name os, e, λ (other : List ℕ). turned same_name same_name-Decides name other)
 
   -- what the groups have at a name, or nothing, are its lookups
   pub groups-lookup : (name : List ℕ) (os : List (Outline E)) → option_map_or (λ t. t) (lookup (same_name name) (bus_groups os)) [] ≡ on_bus name os
   groups-lookup name os =
       ap (λ t. option_map_or (λ s. s) t []) (lookup-valued same_name same_name-Decides (λ n. on_bus n os) name (bus_names os)
       ∙ ap (λ b. cond b (Some (on_bus name os)) None) (any-first_seen same_name same_name-Decides (filter_map (λ o. o.bus) os) name))
-      ∙ by_test (list_any (λ other. same_name other name) (filter_map (λ o. o.bus) os)) refl
-    where
-      by_test : (p : Bool) → list_any (λ other. same_name other name) (filter_map (λ o. o.bus) os) ≡ p → option_map_or (λ t. t) (cond p (Some (on_bus name os)) None) [] ≡ on_bus name os
-      by_test true e = refl
-      by_test false e = sym (on_bus-none name os e)
+      ∙ grind (arith, on_bus-none name os)
 
   on_bus-push : (name : List ℕ) (os : List (Outline E)) (o : Outline E) → on_bus name (os ++ o ∷ []) ≡ on_bus name os ++ cond (is_named name o.bus) (o ∷ []) []
   on_bus-push name os o = filter-append (λ (p : Outline E). is_named name p.bus) os (o ∷ [])
@@ -104,21 +91,11 @@ module _ {K V X : Type 0} (key : K → List ℕ) (items : V → List X) where
 
   pub lookup-viewed : (k : K) (es : List (K × V)) → option_map items (lookup (λ j. same_name (key k) (key j)) es) ≡ lookup (same_name (key k)) (viewed es)
   lookup-viewed k [] = refl
-  lookup-viewed k (e ∷ es) = by_test (same_name (key k) (key e.0)) (lookup-viewed k es)
-    where
-      by_test : (p : Bool) → option_map items (lookup (λ j. same_name (key k) (key j)) es) ≡ lookup (same_name (key k)) (viewed es)
-          → option_map items (cond p (Some e.1) (lookup (λ j. same_name (key k) (key j)) es)) ≡ cond p (Some (items e.1)) (lookup (same_name (key k)) (viewed es))
-      by_test true rest = refl
-      by_test false rest = rest
+  lookup-viewed k (e ∷ es) = grind (arith, lookup-viewed k es)
 
   pub insert-viewed : (es : List (K × V)) (k : K) (v : V) → viewed (insert_entry (λ i j. same_name (key i) (key j)) es k v) ≡ insert_entry same_name (viewed es) (key k) (items v)
   insert-viewed [] k v = refl
-  insert-viewed (e ∷ es) k v = by_test (same_name (key k) (key e.0)) (insert-viewed es k v)
-    where
-      by_test : (p : Bool) → viewed (insert_entry (λ i j. same_name (key i) (key j)) es k v) ≡ insert_entry same_name (viewed es) (key k) (items v)
-          → viewed (cond p ((e.0, v) ∷ es) (e ∷ insert_entry (λ i j. same_name (key i) (key j)) es k v)) ≡ cond p ((key e.0, items v) ∷ viewed es) ((key e.0, items e.1) ∷ insert_entry same_name (viewed es) (key k) (items v))
-      by_test true rest = refl
-      by_test false rest = ap (λ t. (key e.0, items e.1) ∷ t) rest
+  insert-viewed (e ∷ es) k v = grind (arith, insert-viewed es k v)
 
 -- The step of a map of groups, as it is seen: one more lookup under its name.
 one_more_seen : {E : Type 0} (os : List (Outline E)) (o : Outline E) (name : List ℕ) (es after : List (List ℕ × List (Outline E))) (group : List (Outline E))
@@ -136,12 +113,8 @@ module _ {E K V : Type 0} (key : K → List ℕ) (items : V → List (Outline E)
       → viewed key items (insert_entry (λ i j. same_name (key i) (key j)) es k group) ≡ bus_groups (os ++ o ∷ [])
   one_more os o es k group so_far on group_is =
       one_more_seen os o (key k) (viewed key items es) (viewed key items (insert_entry (λ i j. same_name (key i) (key j)) es k group)) (items group) so_far on
-      (group_is ∙ ap (λ t. t ++ o ∷ []) (mapped (lookup (λ j. same_name (key k) (key j)) es) ∙ ap (λ t. option_map_or (λ s. s) t []) (lookup-viewed key items k es)))
+      (group_is ∙ ap (λ t. t ++ o ∷ []) (grind (arith, lookup-viewed key items k es)))
       (insert-viewed key items es k group)
-    where
-      mapped : (t : Option V) → option_map_or items t [] ≡ option_map_or (λ (s : List (Outline E)). s) (option_map items t) []
-      mapped None = refl
-      mapped (Some v) = refl
 
 -- the group that a map has at a key, or an empty one
 pub group_items : {T : Type 0} (found : Option (Vec T Global)) (group empty : Vec T Global) → group ≡ unwrap_or found empty → empty.items ≡ [] → group.items ≡ option_map_or (λ v. v.items) found []

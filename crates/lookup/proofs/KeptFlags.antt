@@ -1,8 +1,8 @@
 -- A packing keeps lawful flags and the buses of the lookups that pass through: lookups with flags are among
 -- these, and joined ones have none.
-use Rattle.std.proofs.Common.{◌≡◌, ℕ, Bool, true, false, cond, not, ◌&&◌, IfSome, List, [], ◌∷◌, Option, None, Some, Result, map, refl, sym, ap, subst, ◌∙◌, arith}
+use Rattle.std.proofs.Common.{◌≡◌, ℕ, Bool, not, IfSome, List, [], ◌∷◌, Option, None, Some, Result, map, sym, ap, subst, ◌∙◌, arith}
 use Rattle.std.specs.List.{AllByRecursion, filter}
-use Rattle.std.specs.Option.{is_some, option_map}
+use Rattle.std.specs.Option.{option_map}
 use Rattle.std.specs.declared.alloc.Global.{Global}
 use Rattle.std.specs.declared.vec.Vec.{Vec}
 use Rattle.std.proofs.lemmas.Simd.{map-map}
@@ -52,8 +52,6 @@ module _ {F : Type 0} (R : Ring F) (eq : F → F → Bool) (w : Window F) where
   lawful_sent : (id : Lookup F → ℕ) (ls : List (Lookup F)) → AllByRecursion HasLawful (map fields_of ls) → AllByRecursion (HasLawfulFlags R eq) (sent_row_under R eq id w ls)
   lawful_sent id [] all = tt
   lawful_sent id (l ∷ ls) all = (unseen l.flags (branches_at R w (id l) l) all.0, lawful_sent id ls all.1)
-
-
 
   -- those that may be joined have no flags
   of_passing : (os : List (Outline (SymbolicExpression F))) → AllByRecursion HasLawful (passing os) → AllByRecursion HasLawful os
