@@ -1,5 +1,5 @@
 -- A greedy filling, lookup by lookup.
-use Rattle.std.proofs.Common.{◌≡◌, ◌<◌, ◌≤◌, ◌+◌, ◌⊎◌, inl, inr, ℕ, List, [], ◌∷◌, ◌++◌, Result, Ok, Err, map, refl, sym, ap, subst, ◌∙◌, arith}
+use Rattle.std.proofs.Common.{◌≡◌, ◌<◌, ◌≤◌, ◌+◌, ◌⊎◌, ℕ, List, [], ◌∷◌, ◌++◌, Result, Ok, Err, map, refl, sym, ap, subst, ◌∙◌, arith}
 use Rattle.std.proofs.lemmas.Grind.{flat_map-append}
 use Rattle.std.proofs.lemmas.List.{append-nil, append_assoc, map-append}
 use Rattle.std.proofs.lemmas.List.Sums.{sum_by-append, sum_by-cons}
@@ -13,7 +13,7 @@ use Rattle.lookup_model.specs.declared.error.LookupError.TheVariants.{CountWeigh
 use Rattle.lookup.specs.Cuts.{AreClosed, IsGrown, part_items}
 use Rattle.lookup.specs.Packing.{IsAbove, IsFilling, IsStuck, Joins, joined, trial}
 use Rattle.lookup.specs.internal.Fillings.{AreGreedyColumns}
-use Rattle.lookup.proofs.ListLaws.{snoc_split}
+use Rattle.lookup.proofs.ListLaws.{none_behind, snoc_split}
 
 module _ {A : Type 0} where
   -- a part with one more member
@@ -22,15 +22,10 @@ module _ {A : Type 0} where
 
   module _ (J : A × List A → A → Type 0) where
     grown_one : (x : A) → IsGrown J (x, [])
-    grown_one x [] next back e = absurd (cc e)
-    grown_one x (f ∷ fs) next back e = absurd (cc e)
+    grown_one x front next back e = absurd (none_behind front next back (sym e))
 
     grown_more : (part : A × List A) (x : A) → IsGrown J part → J part x → IsGrown J (with_next part x)
-    grown_more part x grown joins front next back e = by_index (snoc_split part.1 front back x next e)
-      where
-        by_index : ((part.1 ≡ front) × (x ≡ next)) ⊎ ((rest : List A) × (part.1 ≡ front ++ next ∷ rest)) → J (part.0, front) next
-        by_index (inl h) = subst (λ (fs : List A). J (part.0, fs) next) h.0 (subst (λ (y : A). J part y) h.1 joins)
-        by_index (inr h) = grown front next h.0 h.1
+    grown_more part x grown joins front next back e = grind (arith, snoc_split part.1 front back x next e, grown, joins)
 
     all_grown_more : (parts : List (A × List A)) (part : A × List A) (x : A) → AllByRecursion (IsGrown J) (parts ++ part ∷ []) → J part x → AllByRecursion (IsGrown J) (parts ++ with_next part x ∷ [])
     all_grown_more parts part x all joins =

@@ -15,17 +15,14 @@ use Rattle.lookup.specs.Cuts.{part_items}
 use Rattle.lookup.specs.Packing.{AreFilled, IsFillRefusal, IsPacking, Packs, additive, is_additive, joined, numbered, passing}
 use Rattle.lookup.proofs.FillLaws.{joined_one}
 use Rattle.lookup_model.proofs.Names.{same_name-Decides}
+use Rattle.lookup.proofs.ListLaws.{none_behind}
 use Rattle.lookup.proofs.JoinedMessages.{on_some_bus}
-
-none_behind : {A : Type 0} (xs : List A) (y : A) (ys : List A) → xs ++ y ∷ ys ≡ [] → ⊥
-none_behind [] y ys e = cc e
-none_behind (x ∷ xs) y ys e = cc e
 
 module _ {E : Type 0} (o : Outline E) where
   -- a cut of one lookup makes that lookup
   cut_of_one : (cut : List (Outline E × List (Outline E))) → flat_map part_items cut ≡ o ∷ [] → map joined cut ≡ o ∷ []
   cut_of_one [] e = absurd (cc e)
-  cut_of_one ((first, []) ∷ []) e = let is : first ≡ o = cc e in ap (λ p. p ∷ []) (joined_one first ∙ is)
+  cut_of_one ((first, []) ∷ []) e = cc (e, joined_one first)
   cut_of_one ((first, x ∷ xs) ∷ []) e = absurd (cc e)
   cut_of_one ((first, rest) ∷ q ∷ qs) e = let none : rest ++ q.0 ∷ (q.1 ++ flat_map part_items qs) ≡ [] = cc e in absurd (none_behind rest q.0 (q.1 ++ flat_map part_items qs) none)
 
