@@ -1,18 +1,15 @@
 -- A cut whose parts are as long as they can be has no more parts than any consecutive split.
-use Rattle.std.proofs.Common.{◌≡◌, ℕ, suc, ◌+◌, ◌-◌, ◌<◌, ◌≤◌, ◌⊎◌, inl, inr, List, [], ◌∷◌, ◌++◌, length, take, drop, refl, sym, ap, subst, ◌∙◌, arith, length-append}
-use Rattle.std.proofs.Math.Seq.{drop-append-add, take-append_seam}
+use Rattle.std.proofs.Common.{◌≡◌, ℕ, ◌+◌, ◌-◌, ◌<◌, ◌≤◌, ◌⊎◌, inl, inr, List, [], ◌∷◌, ◌++◌, length, take, drop, refl, sym, ap, subst, ◌∙◌, arith, length-append}
+use Rattle.std.proofs.Math.Seq.{take-append_seam}
 use Rattle.std.proofs.lemmas.Bool.{cases_lt}
-use Rattle.std.proofs.lemmas.List.{drop-drop, drop-take, length-drop, take-take}
+use Rattle.std.proofs.lemmas.List.{drop-drop, drop-take, length-drop, take-take, take_at, drop_at, append_assoc, length_push}
 use Rattle.std.specs.List.{AllByRecursion, flat_map}
 use Rattle.lookup.specs.Cuts.{AreClosed, IsCut, part_items}
 use Rattle.lookup.specs.internal.Cuts.{IsHereditary, IsSplit}
 
 -- a beginning and the next item
 take_into : {A : Type 0} (xs : List A) (y : A) (ys : List A) → take (length xs + 1) (xs ++ y ∷ ys) ≡ xs ++ y ∷ []
-take_into [] y ys = refl
-take_into (x ∷ xs) y ys =
-    let next : suc (length xs) + 1 ≡ suc (length xs + 1) = omega arith in
-    ap (λ n. take n (x ∷ (xs ++ y ∷ ys))) next ∙ ap (λ t. x ∷ t) (take_into xs y ys)
+take_into xs y ys = ap (take (length xs + 1)) (sym (append_assoc xs (y ∷ []) ys)) ∙ take_at (xs ++ y ∷ []) ys (length xs + 1) (length_push xs y)
 
 -- no part fits together with the first member of the next
 abbrev pub AreFull : {A : Type 0} → (List A → Type 0) → List (A × List A) → Type 0
@@ -23,8 +20,7 @@ module _ {A : Type 0} (Fits : List A → Type 0) (hereditary : IsHereditary Fits
   rest_is : (part : A × List A) (parts : List (A × List A)) (a : ℕ) → flat_map part_items (part ∷ parts) ≡ drop a whole → flat_map part_items parts ≡ drop (a + length (part_items part)) whole
   rest_is part parts a e =
       let n = length (part_items part) in
-      let none : n + 0 ≡ n = omega arith in
-      sym (drop-append-add (part_items part) (flat_map part_items parts) 0) ∙ ap (λ k. drop k (part_items part ++ flat_map part_items parts)) none ∙ ap (drop n) e ∙ drop-drop n a whole
+      sym (drop_at (part_items part) (flat_map part_items parts) n refl) ∙ ap (drop n) e ∙ drop-drop n a whole
 
   first_is : (part : A × List A) (parts : List (A × List A)) (a : ℕ) → flat_map part_items (part ∷ parts) ≡ drop a whole → part_items part ≡ take (length (part_items part)) (drop a whole)
   first_is part parts a e = sym (take-append_seam (part_items part) (flat_map part_items parts)) ∙ ap (take (length (part_items part))) e
@@ -39,7 +35,10 @@ module _ {A : Type 0} (Fits : List A → Type 0) (hereditary : IsHereditary Fits
   no_more [] split a b le cut full other fits = omega arith
   no_more (q ∷ qs) [] a b le cut full other fits =
       absurd (omega (arith, ap length cut, ap length other, length-append (part_items q) (flat_map part_items qs), length-drop a whole, length-drop b whole, le))
-  no_more (q ∷ qs) (p ∷ ps) a b le cut full other fits = by_ends (cases_lt (a + length (part_items q)) (b + length (part_items p))) (no_more qs ps (a + length (part_items q)) (b + length (part_items p)))
+  no_more (q ∷ qs) (p ∷ ps) a b le cut full other fits = elim (cases_lt (a + length (part_items q)) (b + length (part_items p))) [
+    | inl lt ↦ absurd (impossible qs cut full lt)
+    | inr end ↦ omega (arith, no_more qs ps (a + length (part_items q)) (b + length (part_items p)) end (rest_is q qs a cut) (later_full q qs full) (rest_is p ps b other) fits.1)
+  ]
     where
       -- A full part that ends earlier would fit with the next member, since both lie within the other part.
       impossible : (rs : List (A × List A)) → flat_map part_items (q ∷ rs) ≡ drop a whole → AreFull Fits (q ∷ rs) → a + length (part_items q) < b + length (part_items p) → ⊥
@@ -62,12 +61,6 @@ module _ {A : Type 0} (Fits : List A → Type 0) (hereditary : IsHereditary Fits
               ∙ take-take k m (drop a whole) few
               ∙ ap (take k) (sym e) ∙ take_into (part_items q) r.0 (r.1 ++ flat_map part_items rs) in
               f.0 (subst Fits here (hereditary (part_items p) gap k (omega arith) (omega (arith, lt, le)) fit))
-
-      by_ends : (a + length (part_items q) < b + length (part_items p)) ⊎ (b + length (part_items p) ≤ a + length (part_items q))
-          → (b + length (part_items p) ≤ a + length (part_items q) → flat_map part_items qs ≡ drop (a + length (part_items q)) whole → AreFull Fits qs → flat_map part_items ps ≡ drop (b + length (part_items p)) whole → AllByRecursion (λ part. (part.1 ≡ []) ⊎ Fits (part_items part)) ps → length qs ≤ length ps)
-          → suc (length qs) ≤ suc (length ps)
-      by_ends (inl lt) rec = absurd (impossible qs cut full lt)
-      by_ends (inr end) rec = omega (arith, rec end (rest_is q qs a cut) (later_full q qs full) (rest_is p ps b other) fits.1)
 
 -- full parts of a list are no more than the parts of any split of it
 pub fewest_parts : {A : Type 0} (Fits : List A → Type 0) → IsHereditary Fits → (xs : List A) (cut split : List (A × List A)) → IsCut cut xs → AreFull Fits cut → IsSplit Fits split xs → length cut ≤ length split

@@ -2,7 +2,7 @@
 use Rattle.std.proofs.Common.{◌≡◌, ◌<◌, ◌+◌, ℕ, length, get_or, take, false, cond, unwrap_or, List, [], ◌∷◌, ◌++◌, Option, None, Some, map, option_map, refl, sym, ap, ◌∙◌, arith}
 use Rattle.std.proofs.lemmas.List.{append-nil, map-append}
 use Rattle.std.proofs.lemmas.List.Elements.{filter-append, filter_map-append}
-use Rattle.std.specs.List.{cons_option, filter_map, list_any}
+use Rattle.std.specs.List.{filter_map, list_any}
 use Rattle.std.specs.Map.{lookup}
 use Rattle.std.specs.Option.{option_map_or}
 use Rattle.std.specs.declared.alloc.Global.{Global}
@@ -22,7 +22,8 @@ use Rattle.lookup.specs.Buses.{bus_groups, bus_names, group_of, on_bus}
 use Rattle.lookup_model.specs.Names.{is_named, same_name}
 
 module _ {E : Type 0} where
-  names : List (Outline E) → List (List ℕ)
+  -- the names of the buses, lookup by lookup
+  abbrev names : List (Outline E) → List (List ℕ)
   names os = filter_map (λ o. o.bus) os
 
   -- a name that no lookup has has no lookups
@@ -42,31 +43,22 @@ module _ {E : Type 0} where
 
   -- a lookup on no bus changes no group
   pub groups-skip : (os : List (Outline E)) (o : Outline E) → o.bus ≡ None → bus_groups (os ++ o ∷ []) ≡ bus_groups os
-  groups-skip os o local = by_names
-    where
-      same_names : filter_map (λ (p : Outline E). p.bus) (os ++ o ∷ []) ≡ filter_map (λ (p : Outline E). p.bus) os
-      same_names = filter_map-append (λ (p : Outline E). p.bus) os (o ∷ []) ∙ ap (λ (b : Option (List ℕ)). filter_map (λ (p : Outline E). p.bus) os ++ cons_option b []) local ∙ append-nil (filter_map (λ (p : Outline E). p.bus) os)
-
-      same_lookups : (name : List ℕ) → on_bus name (os ++ o ∷ []) ≡ on_bus name os
-      same_lookups name = on_bus-push name os o ∙ ap (λ b. on_bus name os ++ cond (is_named name b) (o ∷ []) []) local ∙ append-nil (on_bus name os)
-
-      same_groups : (ns : List (List ℕ)) → map {B = List ℕ × List (Outline E)} (λ n. (n, on_bus n (os ++ o ∷ []))) ns ≡ map (λ n. (n, on_bus n os)) ns
-      same_groups ns = map_same (λ n. (n, on_bus n (os ++ o ∷ []))) (λ n. (n, on_bus n os)) (λ n i. (n, same_lookups n i)) ns
-
-      by_names : bus_groups (os ++ o ∷ []) ≡ bus_groups os
-      by_names = ap (λ ns. map (λ n. (n, on_bus n (os ++ o ∷ []))) (first_seen same_name ns)) same_names ∙ same_groups (bus_names os)
+  groups-skip os o local =
+      let same_names : names (os ++ o ∷ []) ≡ names os = grind (arith, filter_map-append (λ p. p.bus) os (o ∷ []), local, append-nil (names os)) in
+      let same_lookups : (name : List ℕ) → on_bus name (os ++ o ∷ []) ≡ on_bus name os = λ name. grind (arith, on_bus-push name os o, local, append-nil (on_bus name os)) in
+      ap (λ ns. map (λ n. (n, on_bus n (os ++ o ∷ []))) (first_seen same_name ns)) same_names
+      ∙ map_same (λ n. (n, on_bus n (os ++ o ∷ []))) (λ n. (n, on_bus n os)) (λ n i. (n, same_lookups n i)) (bus_names os)
 
   -- a lookup on a bus goes to the end of its lookups
   pub on_bus-own : (os : List (Outline E)) (o : Outline E) (name : List ℕ) → o.bus ≡ Some name → on_bus name (os ++ o ∷ []) ≡ on_bus name os ++ o ∷ []
-  on_bus-own os o name on =
-      on_bus-push name os o
-      ∙ ap (λ b. on_bus name os ++ cond (is_named name b) (o ∷ []) []) on
-      ∙ ap (λ b. on_bus name os ++ cond b (o ∷ []) []) ((same_name-Decides name name).1 refl)
+  on_bus-own os o name on = grind (arith, on_bus-push name os o, on, same_name-Decides name name)
 
   -- so it goes to the end of its group, and a new group goes last
   pub groups-push : (os : List (Outline E)) (o : Outline E) (name : List ℕ) → o.bus ≡ Some name
       → insert_entry same_name (bus_groups os) name (option_map_or (λ t. t) (lookup (same_name name) (bus_groups os)) [] ++ o ∷ []) ≡ bus_groups (os ++ o ∷ [])
   groups-push os o name on =
+      let longer : names (os ++ o ∷ []) ≡ names os ++ name ∷ [] = grind (arith, filter_map-append (λ p. p.bus) os (o ∷ []), on) in
+      let others : (n : List ℕ) → same_name name n ≡ false → on_bus n os ≡ on_bus n (os ++ o ∷ []) = λ n apart. grind (arith, on_bus-push n os o, on, apart, turned same_name same_name-Decides n name, append-nil (on_bus n os)) in
       ap (λ t. insert_entry same_name (bus_groups os) name (t ++ o ∷ [])) (groups-lookup name os)
       ∙ ap (insert_entry same_name (bus_groups os) name) (sym (on_bus-own os o name on))
       ∙ insert-valued same_name same_name-Decides (λ n. on_bus n os) (λ n. on_bus n (os ++ o ∷ [])) name others (bus_names os) (first_seen_separate same_name (filter_map (λ p. p.bus) os))
@@ -74,15 +66,6 @@ module _ {E : Type 0} where
       ap (λ b. cond b (bus_names os) (bus_names os ++ name ∷ [])) (any-first_seen same_name same_name-Decides (filter_map (λ p. p.bus) os) name)
       ∙ sym (first_seen-push same_name same_name-Decides (filter_map (λ p. p.bus) os) name)
       ∙ ap (first_seen same_name) (sym longer))
-    where
-      longer : filter_map (λ (p : Outline E). p.bus) (os ++ o ∷ []) ≡ filter_map (λ (p : Outline E). p.bus) os ++ name ∷ []
-      longer = filter_map-append (λ (p : Outline E). p.bus) os (o ∷ []) ∙ ap (λ (b : Option (List ℕ)). filter_map (λ (p : Outline E). p.bus) os ++ cons_option b []) on
-
-      at : (n : List ℕ) → on_bus n (os ++ o ∷ []) ≡ on_bus n os ++ cond (same_name n name) (o ∷ []) []
-      at n = on_bus-push n os o ∙ ap (λ b. on_bus n os ++ cond (is_named n b) (o ∷ []) []) on
-
-      others : (n : List ℕ) → same_name name n ≡ false → on_bus n os ≡ on_bus n (os ++ o ∷ [])
-      others n apart = sym (at n ∙ ap (λ b. on_bus n os ++ cond b (o ∷ []) []) (turned same_name same_name-Decides n name ∙ apart) ∙ append-nil (on_bus n os))
 
 -- a map whose keys and values are seen through views
 module _ {K V X : Type 0} (key : K → List ℕ) (items : V → List X) where
@@ -97,14 +80,6 @@ module _ {K V X : Type 0} (key : K → List ℕ) (items : V → List X) where
   insert-viewed [] k v = refl
   insert-viewed (e ∷ es) k v = grind (arith, insert-viewed es k v)
 
--- The step of a map of groups, as it is seen: one more lookup under its name.
-one_more_seen : {E : Type 0} (os : List (Outline E)) (o : Outline E) (name : List ℕ) (es after : List (List ℕ × List (Outline E))) (group : List (Outline E))
-    → es ≡ bus_groups os → o.bus ≡ Some name → group ≡ option_map_or (λ t. t) (lookup (same_name name) es) [] ++ o ∷ []
-    → after ≡ insert_entry same_name es name group → after ≡ bus_groups (os ++ o ∷ [])
-one_more_seen os o name es after group so_far on group_is after_is =
-    let grown = group_is ∙ ap (λ t. option_map_or (λ s. s) (lookup (same_name name) t) [] ++ o ∷ []) so_far in
-    after_is ∙ (λ i. insert_entry same_name (so_far i) name (grown i)) ∙ groups-push os o name on
-
 -- The step of a map of groups: one more lookup at its key.
 module _ {E K V : Type 0} (key : K → List ℕ) (items : V → List (Outline E)) where
   pub one_more : (os : List (Outline E)) (o : Outline E) (es : List (K × V)) (k : K) (group : V)
@@ -112,14 +87,13 @@ module _ {E K V : Type 0} (key : K → List ℕ) (items : V → List (Outline E)
       → items group ≡ option_map_or items (lookup (λ j. same_name (key k) (key j)) es) [] ++ o ∷ []
       → viewed key items (insert_entry (λ i j. same_name (key i) (key j)) es k group) ≡ bus_groups (os ++ o ∷ [])
   one_more os o es k group so_far on group_is =
-      one_more_seen os o (key k) (viewed key items es) (viewed key items (insert_entry (λ i j. same_name (key i) (key j)) es k group)) (items group) so_far on
-      (group_is ∙ ap (λ t. t ++ o ∷ []) (grind (arith, lookup-viewed key items k es)))
-      (insert-viewed key items es k group)
+      let had : option_map_or items (lookup (λ j. same_name (key k) (key j)) es) [] ≡ option_map_or (λ s. s) (lookup (same_name (key k)) (viewed key items es)) [] = grind (arith, lookup-viewed key items k es) in
+      let grown = group_is ∙ ap (λ t. t ++ o ∷ []) had ∙ ap (λ t. option_map_or (λ s. s) (lookup (same_name (key k)) t) [] ++ o ∷ []) so_far in
+      insert-viewed key items es k group ∙ (λ i. insert_entry same_name (so_far i) (key k) (grown i)) ∙ groups-push os o (key k) on
 
 -- the group that a map has at a key, or an empty one
 pub group_items : {T : Type 0} (found : Option (Vec T Global)) (group empty : Vec T Global) → group ≡ unwrap_or found empty → empty.items ≡ [] → group.items ≡ option_map_or (λ v. v.items) found []
-group_items None group empty is none = ap (λ v. v.items) is ∙ none
-group_items (Some v) group empty is none = ap (λ v. v.items) is
+group_items found group empty is none = grind (arith, is, none)
 
 -- what is seen of a group with one more item
 seen_items : {T X : Type 0} (see : T → X) (found : Option (Vec T Global)) (item : T) (group : Vec T Global) → group.items ≡ option_map_or (λ v. v.items) found [] ++ item ∷ [] → map see group.items ≡ option_map_or (λ v. map see v.items) found [] ++ see item ∷ []

@@ -1,6 +1,5 @@
 -- What joined lookups send is what their members send.
-use Rattle.std.proofs.Common.{◌≡◌, ℕ, Bool, true, ◌&&◌, not, List, [], ◌∷◌, ◌++◌, Option, None, Some, Result, map, refl, sym, ap, ◌∙◌}
-use Rattle.std.proofs.lemmas.Bool.{false≢true}
+use Rattle.std.proofs.Common.{◌≡◌, ℕ, Bool, true, ◌&&◌, not, List, [], ◌∷◌, ◌++◌, Option, None, Some, Result, map, refl, sym, ap, ◌∙◌, arith}
 use Rattle.std.proofs.lemmas.List.{map-append}
 use Rattle.std.specs.List.{AllByRecursion, flat_map, zip}
 use Rattle.std.specs.Option.{is_some, option_map, option_map_or}
@@ -38,13 +37,11 @@ pub on_some_bus : {E : Type 0} (o : Outline E) → is_additive o ≡ true → (n
 on_some_bus o e = by_fields o.bus o.flags e
   where
     by_fields : {A : Type 0} (bus : Option (List ℕ)) (flags : Option A) → (is_some bus && not (is_some flags)) ≡ true → (name : List ℕ) × (bus ≡ Some name) × (flags ≡ None)
-    by_fields None flags h = absurd (false≢true h)
     by_fields (Some name) None h = (name, refl, refl)
-    by_fields (Some name) (Some x) h = absurd (false≢true h)
+    by_fields bus flags h = grind (arith, h)
 
 own_named : (bus_id : List ℕ → ℕ) (name : List ℕ) (bus : Option (List ℕ)) → is_named name bus ≡ true → option_map_or bus_id bus 0 ≡ bus_id name
-own_named bus_id name None e = absurd (false≢true e)
-own_named bus_id name (Some other) e = ap bus_id (sym ((same_name-Decides name other).0 e))
+own_named bus_id name bus e = grind (arith, e, same_name-Decides name)
 
 module _ {F : Type 0} (R : Ring F) (eq : F → F → Bool) (w : Window F) where
   -- the branches of a lookup by its fields, and the messages that it sends

@@ -1,6 +1,6 @@
 -- A packing keeps lawful flags and the buses of the lookups that pass through: lookups with flags are among
 -- these, and joined ones have none.
-use Rattle.std.proofs.Common.{◌≡◌, ℕ, Bool, not, IfSome, List, [], ◌∷◌, Option, None, Some, Result, map, sym, ap, subst, ◌∙◌, arith}
+use Rattle.std.proofs.Common.{◌≡◌, ℕ, Bool, not, IfSome, List, [], ◌∷◌, Option, Result, map, sym, ap, subst, ◌∙◌, arith}
 use Rattle.std.specs.List.{AllByRecursion, filter}
 use Rattle.std.specs.Option.{option_map}
 use Rattle.std.specs.declared.alloc.Global.{Global}
@@ -13,9 +13,8 @@ use Rattle.expressions.specs.Window.{Window}
 use Rattle.expressions.specs.declared.base_expression.SymbolicExpression.{SymbolicExpression}
 use Rattle.lookup_model.specs.Batches.Messages.{HasLawfulFlags}
 use Rattle.lookup_model.specs.Fault.{IsLawfulSelection}
-use Rattle.lookup_model.specs.Message.{Message}
 use Rattle.lookup_model.specs.Outline.{Outline, fields_of}
-use Rattle.lookup_model.specs.Sent.{branches_at, sent, values}
+use Rattle.lookup_model.specs.Sent.{values}
 use Rattle.lookup_model.specs.Trace.{sent_row_under}
 use Rattle.lookup_model.specs.declared.error.LookupError.{LookupError}
 use Rattle.lookup_model.specs.declared.types.Lookup.{Lookup}
@@ -35,23 +34,13 @@ module _ {F : Type 0} (R : Ring F) (eq : F → F → Bool) (w : Window F) where
   abbrev items : Vec (SymbolicExpression F) Global → List (SymbolicExpression F)
   items flags = flags.items
 
-  seen : (flags : Option (Vec (SymbolicExpression F) Global)) (branches : List (Message F))
-      → HasLawfulFlags R eq (sent R eq (option_map (λ fs. values R w fs.items) flags) branches) → AreLawful (option_map items flags)
-  seen None branches lawful = tt
-  seen (Some fs) branches lawful = lawful
-
-  unseen : (flags : Option (Vec (SymbolicExpression F) Global)) (branches : List (Message F))
-      → AreLawful (option_map items flags) → HasLawfulFlags R eq (sent R eq (option_map (λ fs. values R w fs.items) flags) branches)
-  unseen None branches lawful = tt
-  unseen (Some fs) branches lawful = lawful
-
   lawful_fields : (id : Lookup F → ℕ) (ls : List (Lookup F)) → AllByRecursion (HasLawfulFlags R eq) (sent_row_under R eq id w ls) → AllByRecursion HasLawful (map fields_of ls)
   lawful_fields id [] all = tt
-  lawful_fields id (l ∷ ls) all = (seen l.flags (branches_at R w (id l) l) all.0, lawful_fields id ls all.1)
+  lawful_fields id (l ∷ ls) all = (grind (arith, all.0), lawful_fields id ls all.1)
 
   lawful_sent : (id : Lookup F → ℕ) (ls : List (Lookup F)) → AllByRecursion HasLawful (map fields_of ls) → AllByRecursion (HasLawfulFlags R eq) (sent_row_under R eq id w ls)
   lawful_sent id [] all = tt
-  lawful_sent id (l ∷ ls) all = (unseen l.flags (branches_at R w (id l) l) all.0, lawful_sent id ls all.1)
+  lawful_sent id (l ∷ ls) all = (grind (arith, all.0), lawful_sent id ls all.1)
 
   -- those that may be joined have no flags
   of_passing : (os : List (Outline (SymbolicExpression F))) → AllByRecursion HasLawful (passing os) → AllByRecursion HasLawful os

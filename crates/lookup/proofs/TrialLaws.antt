@@ -1,7 +1,6 @@
 -- Trials: lookups with the tuples of another one behind their own.
 use Rattle.std.proofs.Common.{◌≡◌, ◌<◌, ◌≤◌, ◌+◌, inl, inr, ℕ, List, ◌++◌, None, Some, Result, Ok, Err, length, map, take, drop, refl, sym, ap, subst, ◌∙◌, arith, length-append}
-use Rattle.std.proofs.Math.Seq.{drop-append-add, take-append_seam}
-use Rattle.std.proofs.lemmas.List.{map-append}
+use Rattle.std.proofs.lemmas.List.{map-append, take_at, drop_at}
 use Rattle.std.specs.declared.alloc.Global.{Global}
 use Rattle.std.specs.declared.vec.Vec.{Vec}
 use Rattle.expressions.specs.declared.base_expression.SymbolicExpression.{SymbolicExpression}
@@ -17,12 +16,10 @@ use Rattle.lookup.specs.internal.Trials.{IsTrialRefusal, IsTried}
 module _ {A : Type 0} where
   -- two lists one after the other, cut where the second begins
   front_again : (xs ys zs both : List A) (n : ℕ) → both ≡ xs ++ ys → n ≡ length xs → zs ≡ take n both → zs ≡ xs
-  front_again xs ys zs both n is at taken = taken ∙ (λ i. take (at i) (is i)) ∙ take-append_seam xs ys
+  front_again xs ys zs both n is at taken = taken ∙ ap (take n) is ∙ take_at xs ys n (sym at)
 
   back_again : (xs ys zs both : List A) (n : ℕ) → both ≡ xs ++ ys → n ≡ length xs → zs ≡ drop n both → zs ≡ ys
-  back_again xs ys zs both n is at dropped =
-      let none : length xs + 0 ≡ length xs = omega arith in
-      dropped ∙ (λ i. drop (at i) (is i)) ∙ ap (λ k. drop k (xs ++ ys)) (sym none) ∙ drop-append-add xs ys 0
+  back_again xs ys zs both n is at dropped = dropped ∙ ap (drop n) is ∙ drop_at xs ys n (sym at)
 
 module _ {F : Type 0} where
   -- a lookup with other tuples

@@ -1,5 +1,5 @@
 -- Lookups that are extracted from interactions within a layout.
-use Rattle.std.proofs.Common.{◌≡◌, ℕ, ◌+◌, List, [], ◌∷◌, ◌++◌, map, length, Option, None, Some, IfSome, option_map, All, subst, sym}
+use Rattle.std.proofs.Common.{◌≡◌, ℕ, ◌+◌, List, [], ◌∷◌, ◌++◌, map, length, IfSome, All, subst, sym, arith}
 use Rattle.std.proofs.lemmas.List.Elements.{All-append, All-cons, All-head, All-map, All-nil, All-tail, All-weaker}
 use Rattle.lists.proofs.Each.{All-of_map}
 use Rattle.expressions.specs.Layout.{Fits}
@@ -12,15 +12,6 @@ use Rattle.lookup_model.specs.declared.types.Lookup.{Lookup}
 use Rattle.lookup_record.specs.Interaction.{Tuple, GlobalInteraction, ExclusiveInteraction}
 use Rattle.lookup_record.specs.Within.{BranchWithin, GlobalWithin, TupleWithin}
 use Rattle.lookup.specs.Extraction.{exclusive_at, extraction, global_at, in_columns, local_at}
-
--- what holds of what an option has holds of the image of it
-of_option : {X Y : Type 0} (P : Y → Type 0) (f : X → Y) (o : Option X) → IfSome (option_map f o) P → IfSome o (λ x. P (f x))
-of_option P f None h = tt
-of_option P f (Some x) h = h
-
-to_option : {X Y : Type 0} (P : Y → Type 0) (f : X → Y) (o : Option X) → IfSome o (λ x. P (f x)) → IfSome (option_map f o) P
-to_option P f None h = tt
-to_option P f (Some x) h = h
 
 module _ {F : Type 0} (layout : AirLayout) where
   -- an expression stays within the layout
@@ -75,7 +66,7 @@ module _ {F : Type 0} (layout : AirLayout) where
   lookup_inside lookup o = (
     All-of_map (λ tuple. All IsInside tuple) (λ tuple. tuple.items) lookup.elements.items o.elements,
     o.multiplicities,
-    of_option (λ flags. All IsInside flags) (λ flags. flags.items) lookup.flags o.flags,
+    grind (arith, o.flags),
   )
 
   pub inside_of : (lookup : Lookup F) → IsWithin layout lookup → IsOutlineInside (fields_of lookup)
@@ -83,7 +74,7 @@ module _ {F : Type 0} (layout : AirLayout) where
   inside_of lookup within = record {
     elements = All-map (λ tuple. All IsInside tuple) (λ tuple. tuple.items) lookup.elements.items within.0;
     multiplicities = within.1;
-    flags = to_option (λ flags. All IsInside flags) (λ flags. flags.items) lookup.flags within.2;
+    flags = grind (arith, within.2);
   }
 
   -- lookups that are extracted from interactions within a layout fit it
