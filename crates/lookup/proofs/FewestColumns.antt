@@ -1,6 +1,6 @@
 -- With the degree of the gadget a greedy filling has the fewest columns.
-use Rattle.std.proofs.Common.{◌≡◌, ◌≤◌, ◌⊎◌, inl, inr, ℕ, Bool, true, false, List, [], ◌∷◌, ◌++◌, Option, None, Some, length, map, refl, sym, ap, subst, ◌∙◌, arith}
-use Rattle.std.proofs.lemmas.List.{append-nil, length-map, map-append}
+use Rattle.std.proofs.Common.{◌≡◌, ◌≤◌, ◌⊎◌, inl, inr, ℕ, Bool, true, false, List, [], ◌∷◌, ◌++◌, Option, None, Some, length, map, refl, sym, ap, subst, ◌∙◌, arith, ◌+◌, ◌-◌, ◌<◌, take, drop, length-append, Result, Ok, Err, IfOk}
+use Rattle.std.proofs.lemmas.List.{append-nil, length-map, map-append, drop-drop, drop-take, length-drop, take-take, take_at, drop_at, append_assoc, length_push, take-append-drop}
 use Rattle.std.proofs.lemmas.List.Elements.{filter-append}
 use Rattle.std.specs.List.{AllByRecursion, filter, filter_map, flat_map, zip}
 use Rattle.std.specs.Option.{option_map}
@@ -9,19 +9,95 @@ use Rattle.lists.proofs.Zips.{zip-append}
 use Rattle.lists.proofs.Each.{all_front, all_back, all_both, all_kept, all_with, filter_passes}
 use Rattle.expressions.specs.declared.base_expression.SymbolicExpression.{SymbolicExpression}
 use Rattle.lookup_model.proofs.Lookups.Regrouping.{IsSeparate, first_seen_separate}
-use Rattle.lookup_model.specs.LookupDegree.{branch_degrees, constraint_degree_of, expression_degree, outline_branch_degrees, outline_degree}
+use Rattle.lookup_model.specs.LookupDegree.{branch_degrees, constraint_degree_of, expression_degree, outline_branch_degrees, outline_degree, BranchDegrees}
 use Rattle.lookup_model.specs.Outline.{Outline}
 use Rattle.lookup.specs.Buses.{bus_names, on_bus}
 use Rattle.lookup_model.specs.Names.{is_named, same_name}
 use Rattle.lookup.specs.Cuts.{AreClosed, IsCut, part_items}
 use Rattle.lookup.specs.Fewest.{AnswersDegree, HasFewestColumns}
-use Rattle.lookup.specs.Packing.{AreFilled, IsAbove, IsFilling, IsPacking, additive, is_additive, joined, numbered_from, passing, trial}
+use Rattle.lookup.specs.Packing.{AreFilled, IsAbove, IsFilling, IsPacking, additive, is_additive, joined, numbered_from, passing, trial, Packs}
 use Rattle.lookup.specs.internal.TrialDegrees.{IsPlain}
 use Rattle.lookup.proofs.Columns.{unnumbered, unnumbered_all}
-use Rattle.lookup.proofs.FewestParts.{AreFull, fewest_parts}
 use Rattle.lookup.proofs.FillLaws.{joined_more, with_next}
 use Rattle.lookup_model.proofs.Names.{same_name-Decides}
-use Rattle.lookup.proofs.JoinedDegrees.{degree_hereditary}
+use Rattle.std.proofs.Math.Seq.{take-append_seam}
+use Rattle.std.proofs.lemmas.Bool.{cases_lt}
+use Rattle.lookup.specs.internal.Cuts.{IsHereditary, IsSplit}
+use Rattle.std.proofs.lemmas.Grind.{flat_map-append}
+use Rattle.lookup_model.proofs.SumDegreeLaws.{degree_of_back, degree_of_front}
+use Rattle.lookup_model.specs.declared.error.LookupError.{LookupError}
+
+-- a beginning and the next item
+take_into : {A : Type 0} (xs : List A) (y : A) (ys : List A) → take (length xs + 1) (xs ++ y ∷ ys) ≡ xs ++ y ∷ []
+take_into xs y ys = ap (take (length xs + 1)) (sym (append_assoc xs (y ∷ []) ys)) ∙ take_at (xs ++ y ∷ []) ys (length xs + 1) (length_push xs y)
+
+-- no part fits together with the first member of the next
+abbrev pub AreFull : {A : Type 0} → (List A → Type 0) → List (A × List A) → Type 0
+AreFull Fits parts = AreClosed (λ part x. ¬ Fits (part_items part ++ x ∷ [])) parts
+
+module _ {A : Type 0} (Fits : List A → Type 0) (hereditary : IsHereditary Fits) (whole : List A) where
+  -- what is left after the first part, and that part
+  rest_is : (part : A × List A) (parts : List (A × List A)) (a : ℕ) → flat_map part_items (part ∷ parts) ≡ drop a whole → flat_map part_items parts ≡ drop (a + length (part_items part)) whole
+  rest_is part parts a e =
+      let n = length (part_items part) in
+      sym (drop_at (part_items part) (flat_map part_items parts) n refl) ∙ ap (drop n) e ∙ drop-drop n a whole
+
+  first_is : (part : A × List A) (parts : List (A × List A)) (a : ℕ) → flat_map part_items (part ∷ parts) ≡ drop a whole → part_items part ≡ take (length (part_items part)) (drop a whole)
+  first_is part parts a e = sym (take-append_seam (part_items part) (flat_map part_items parts)) ∙ ap (take (length (part_items part))) e
+
+  later_full : (q : A × List A) (qs : List (A × List A)) → AreFull Fits (q ∷ qs) → AreFull Fits qs
+  later_full q [] full = tt
+  later_full q (r ∷ rs) full = full.1
+
+  -- Full parts from an index on are no more than those of a split from an earlier index on.
+  no_more : (parts split : List (A × List A)) (a b : ℕ) → b ≤ a → flat_map part_items parts ≡ drop a whole → AreFull Fits parts
+      → flat_map part_items split ≡ drop b whole → AllByRecursion (λ part. (part.1 ≡ []) ⊎ Fits (part_items part)) split → length parts ≤ length split
+  no_more [] split a b le cut full other fits = omega arith
+  no_more (q ∷ qs) [] a b le cut full other fits =
+      absurd (omega (arith, ap length cut, ap length other, length-append (part_items q) (flat_map part_items qs), length-drop a whole, length-drop b whole, le))
+  no_more (q ∷ qs) (p ∷ ps) a b le cut full other fits = elim (cases_lt (a + length (part_items q)) (b + length (part_items p))) [
+    | inl lt ↦ absurd (impossible qs cut full lt)
+    | inr end ↦ omega (arith, no_more qs ps (a + length (part_items q)) (b + length (part_items p)) end (rest_is q qs a cut) (later_full q qs full) (rest_is p ps b other) fits.1)
+  ]
+    where
+      -- A full part that ends earlier would fit with the next member, since both lie within the other part.
+      impossible : (rs : List (A × List A)) → flat_map part_items (q ∷ rs) ≡ drop a whole → AreFull Fits (q ∷ rs) → a + length (part_items q) < b + length (part_items p) → ⊥
+      impossible [] e f lt =
+          omega (arith, lt, le, ap length e, ap length other, length-append (part_items q) [], length-append (part_items p) (flat_map part_items ps), length-drop a whole, length-drop b whole)
+      impossible (r ∷ rs) e f lt = by_fit fits.0
+        where
+          by_fit : (p.1 ≡ []) ⊎ Fits (part_items p) → ⊥
+          by_fit (inl one) = omega (arith, lt, le, ap length one)
+          by_fit (inr fit) =
+              let gap = a - b in
+              let k = length (part_items q) + 1 in
+              let m = length (part_items p) - gap in
+              let wide : length (part_items p) ≡ gap + m = omega (arith, lt, le) in
+              let reach : b + gap ≡ a = omega (arith, le) in
+              let few : k ≤ m = omega (arith, lt, le) in
+              let here : take k (drop gap (part_items p)) ≡ part_items q ++ r.0 ∷ [] =
+              ap (λ xs. take k (drop gap xs)) (first_is p ps b other ∙ ap (λ j. take j (drop b whole)) wide)
+              ∙ ap (take k) (drop-take gap m (drop b whole) ∙ ap (take m) (drop-drop gap b whole ∙ ap (λ j. drop j whole) reach))
+              ∙ take-take k m (drop a whole) few
+              ∙ ap (take k) (sym e) ∙ take_into (part_items q) r.0 (r.1 ++ flat_map part_items rs) in
+              f.0 (subst Fits here (hereditary (part_items p) gap k (omega arith) (omega (arith, lt, le)) fit))
+
+-- full parts of a list are no more than the parts of any split of it
+pub fewest_parts : {A : Type 0} (Fits : List A → Type 0) → IsHereditary Fits → (xs : List A) (cut split : List (A × List A)) → IsCut cut xs → AreFull Fits cut → IsSplit Fits split xs → length cut ≤ length split
+fewest_parts Fits hereditary xs cut split is_cut full other =
+    no_more Fits hereditary xs cut split 0 0 (omega arith) is_cut full other.0 other.1
+
+-- so a part of a part that is within a degree is so
+pub degree_hereditary : {A : Type 0} (branches : A → List BranchDegrees) (most : ℕ) → IsHereditary (λ xs. constraint_degree_of None (flat_map branches xs) ≤ most)
+degree_hereditary {A} branches most xs a n positive within fits =
+    let ys = drop a xs in
+    let all : flat_map branches xs ≡ flat_map branches (take a xs) ++ flat_map branches ys = ap (flat_map branches) (sym (take-append-drop a xs)) ∙ flat_map-append branches (take a xs) ys in
+    let some : flat_map branches ys ≡ flat_map branches (take n ys) ++ flat_map branches (drop n ys) = ap (flat_map branches) (sym (take-append-drop n ys)) ∙ flat_map-append branches (take n ys) (drop n ys) in
+    let first : constraint_degree_of None (flat_map branches (take n ys)) ≤ constraint_degree_of None (flat_map branches ys) =
+    subst (λ (t : List BranchDegrees). constraint_degree_of None (flat_map branches (take n ys)) ≤ constraint_degree_of None t) (sym some) (degree_of_front (flat_map branches (take n ys)) (flat_map branches (drop n ys))) in
+    let second : constraint_degree_of None (flat_map branches ys) ≤ constraint_degree_of None (flat_map branches xs) =
+    subst (λ (t : List BranchDegrees). constraint_degree_of None (flat_map branches ys) ≤ constraint_degree_of None t) (sym all) (degree_of_back (flat_map branches (take a xs)) (flat_map branches ys)) in
+    omega (arith, first, second, fits)
 
 module _ {F : Type 0} where
   -- the branches of several lookups in one
@@ -156,3 +232,8 @@ fewest_columns most before after plain packing name split is_cut within =
     let counted : on_bus name (additive (passing before ++ columns)) ≡ on_bus name (additive columns) = first_append name (passing before) columns ∙ ap (λ t. on_bus name t ++ on_bus name (additive columns)) (none_additive before) in
     let number : length (on_bus name (additive after)) ≡ length (on_bus name (additive columns)) = ap (λ os. length (on_bus name (additive os))) packing.columns ∙ on_bus-numbered name 0 (passing before ++ columns) ∙ ap length counted in
     subst (λ n. n ≤ length split) (sym number) (fewest_in most before name (bus_names (additive before)) packing.cuts (first_seen_separate same_name (filter_map (λ o. o.bus) (additive before))) packing.filled (plain name) split is_cut within)
+
+-- by the degree of the gadget a packing has the fewest columns
+pub fewest_packed : {F S : Type 0} (most : ℕ) (seen : S → List (Outline (SymbolicExpression F))) (before : List (Outline (SymbolicExpression F))) (r : Result S LookupError) → ((name : List ℕ) → AllByRecursion IsPlain (on_bus name (additive before))) → Packs AnswersDegree most seen before r → IfOk r (λ set. HasFewestColumns most before (seen set))
+fewest_packed most seen before (Ok set) plain packs = fewest_columns most before (seen set) plain packs.1
+fewest_packed most seen before (Err e) plain packs = tt

@@ -1,16 +1,16 @@
--- A packing keeps the weight, the messages and the nets.
-use Rattle.std.proofs.Common.{◌≡◌, ◌+◌, ℕ, Bool, true, false, cond, not, List, [], ◌∷◌, ◌++◌, None, Result, map, All, refl, sym, ap, subst, ◌∙◌, arith}
+-- A packing keeps the weight, the messages, the nets, lawful flags, the widths of tuples, and the buses of what passes through.
+use Rattle.std.proofs.Common.{◌≡◌, ◌+◌, ℕ, Bool, true, false, cond, not, List, [], ◌∷◌, ◌++◌, None, Result, map, All, refl, sym, ap, subst, ◌∙◌, arith, IfSome, Option, length}
 use Rattle.std.proofs.lemmas.List.{append-nil}
 use Rattle.std.proofs.lemmas.List.Elements.{filter-append}
 use Rattle.std.proofs.lemmas.List.Folds.{flat_map-map}
-use Rattle.std.proofs.lemmas.List.Sorted.{IsPermutation-append, IsPermutation-append_left, IsPermutation-filter_both, IsPermutation-refl, IsPermutation-sym, IsPermutation-trans, sum_by-IsPermutation}
+use Rattle.std.proofs.lemmas.List.Sorted.{IsPermutation-append, IsPermutation-append_left, IsPermutation-filter_both, IsPermutation-refl, IsPermutation-sym, IsPermutation-trans, sum_by-IsPermutation, IsPermutation-append_comm}
 use Rattle.std.proofs.lemmas.List.Sums.{sum_by-append, sum_by-cons}
 use Rattle.std.specs.List.{AllByRecursion, filter, filter_map, flat_map, range_with_len, sum_by, zip}
 use Rattle.std.specs.List.Sorted.{IsPermutation}
-use Rattle.std.specs.Option.{is_some, option_map_or}
-use Rattle.lists.proofs.Parts.{singles}
+use Rattle.std.specs.Option.{is_some, option_map_or, option_map}
+use Rattle.lists.proofs.Parts.{singles, map-flat_map}
 use Rattle.lists.proofs.Images.{filter_again, filter_all, filter_images, filter_none, sum_by-mapped}
-use Rattle.lists.proofs.Each.{all_weaker, filter_passes}
+use Rattle.lists.proofs.Each.{all_weaker, filter_passes, all_of_map, all_kept, each_of}
 use Rattle.field.specs.Ring.{IsCommutativeRing, Ring}
 use Rattle.matrix.specs.Matrix.{height}
 use Rattle.expressions.specs.Window.{Window}
@@ -22,21 +22,28 @@ use Rattle.lookup_model.specs.Net.{net}
 use Rattle.lookup_model.specs.Outline.{Outline, bus_of, fields_of}
 use Rattle.lookup_model.specs.Plain.{trace_messages}
 use Rattle.lookup_model.specs.Records.{HasEqualLengths}
-use Rattle.lookup_model.specs.Sent.{sent_at}
+use Rattle.lookup_model.specs.Sent.{sent_at, values}
 use Rattle.lookup_model.specs.Trace.{sent_row_under, sent_rows_under}
 use Rattle.lookup_model.specs.declared.error.LookupError.{LookupError}
 use Rattle.lookup_model.specs.declared.types.Lookup.{Lookup}
 use Rattle.lookup.specs.Buses.{bus_names, on_bus}
 use Rattle.lookup_model.specs.Names.{same_name}
 use Rattle.lookup.specs.Cuts.{part_items}
-use Rattle.lookup.specs.Kept.{HasIdOfBus, HaveSameIds, KeepsMessages, KeepsNets, KeepsTotalWeight, other_ids, row_messages}
+use Rattle.lookup.specs.Kept.{HasIdOfBus, HaveSameIds, KeepsMessages, KeepsNets, KeepsTotalWeight, other_ids, row_messages, KeepsLawfulFlags, KeepsOtherBuses, other_buses, KeepsWidths, widths_of}
 use Rattle.lookup.specs.Packing.{AreFilled, IsPacking, additive, is_additive, joined, passing}
-use Rattle.lookup.proofs.Columns.{columns_all, unnumbered, unnumbered_all}
+use Rattle.lookup.proofs.Columns.{columns_all, unnumbered, unnumbered_all, columns_give}
 use Rattle.lookup.proofs.FewestColumns.{IsOn, members_on, none_additive}
 use Rattle.lookup.proofs.JoinedMessages.{columns_messages, messages_of, own_messages, seen_messages, on_some_bus}
 use Rattle.lookup.proofs.Rearranged.{among_names, grouped, parted}
 use Rattle.lookup.proofs.RearrangedSums.{sum_in-passing, sum_in-permutation}
 use Rattle.lookup.proofs.StepLaws.{no_flags_of, plain_on}
+use Rattle.std.specs.declared.alloc.Global.{Global}
+use Rattle.std.specs.declared.vec.Vec.{Vec}
+use Rattle.std.proofs.lemmas.Simd.{map-map}
+use Rattle.field.specs.laws.Distinct.{all_map}
+use Rattle.lookup_model.specs.Batches.Messages.{HasLawfulFlags}
+use Rattle.lookup_model.specs.Fault.{IsLawfulSelection}
+use Rattle.std.proofs.lemmas.Grind.{flat_map-append}
 
 -- what is seen of the items that pass a test of what is seen
 pub filter_seen : {A B : Type 0} (see : A → B) (p : B → Bool) (xs : List A) → map see (filter (λ x. p (see x)) xs) ≡ filter p (map see xs)
@@ -190,3 +197,82 @@ trace_kept {F} R eq before after kept id_before id_after same traces = each (ran
 pub kept_nets : {F : Type 0} {R : Ring F} (laws : IsCommutativeRing R) (eq : F → F → Bool) (before after : List (Lookup F)) → KeepsMessages R eq before after → KeepsNets R eq before after
 kept_nets {F} {R} laws eq before after kept id_before id_after same traces key =
     net-permutation laws eq _ _ (trace_kept R eq before after kept id_before id_after same traces) key
+
+module _ {F : Type 0} (R : Ring F) (eq : F → F → Bool) (w : Window F) where
+  -- flags, of which there may be none, are lawful at the window
+  abbrev AreLawful : Option (List (SymbolicExpression F)) → Type 0
+  AreLawful flags = IfSome (option_map (values R w) flags) (IsLawfulSelection R eq)
+
+  abbrev HasLawful : Outline (SymbolicExpression F) → Type 0
+  HasLawful o = AreLawful o.flags
+
+  abbrev items : Vec (SymbolicExpression F) Global → List (SymbolicExpression F)
+  items flags = flags.items
+
+  lawful_fields : (id : Lookup F → ℕ) (ls : List (Lookup F)) → AllByRecursion (HasLawfulFlags R eq) (sent_row_under R eq id w ls) → AllByRecursion HasLawful (map fields_of ls)
+  lawful_fields id [] all = tt
+  lawful_fields id (l ∷ ls) all = (grind (arith, all.0), lawful_fields id ls all.1)
+
+  lawful_sent : (id : Lookup F → ℕ) (ls : List (Lookup F)) → AllByRecursion HasLawful (map fields_of ls) → AllByRecursion (HasLawfulFlags R eq) (sent_row_under R eq id w ls)
+  lawful_sent id [] all = tt
+  lawful_sent id (l ∷ ls) all = (grind (arith, all.0), lawful_sent id ls all.1)
+
+  -- those that may be joined have no flags
+  of_passing : (os : List (Outline (SymbolicExpression F))) → AllByRecursion HasLawful (passing os) → AllByRecursion HasLawful os
+  of_passing [] all = tt
+  of_passing (o ∷ os) all = grind (arith, of_passing os, all)
+
+module _ {F : Type 0} (answers : Outline (SymbolicExpression F) → Result ℕ LookupError → Type 0) (most : ℕ) (before after : List (Lookup F)) (packing : IsPacking answers most (map fields_of before) (map fields_of after)) where
+  -- lawful flags stay lawful
+  pub kept_flags : (R : Ring F) (eq : F → F → Bool) → KeepsLawfulFlags R eq before after
+  kept_flags R eq id_before id_after w lawful =
+      let Lawful = HasLawful R eq w in
+      let os = map fields_of before in
+      let those_before : AllByRecursion Lawful (passing os) = all_kept Lawful (λ o. not (is_additive o)) os (lawful_fields R eq w id_before before lawful) in
+      let those_after : AllByRecursion Lawful (map unnumbered (passing (map fields_of after))) =
+      subst (λ (t : List (Outline (SymbolicExpression F))). AllByRecursion Lawful t) (sym (passing_after answers most os (map fields_of after) packing))
+      (all_map unnumbered Lawful Lawful (λ o h. h) (passing os) those_before) in
+      lawful_sent R eq w id_after after (of_passing R eq w (map fields_of after) (all_of_map Lawful unnumbered (passing (map fields_of after)) those_after))
+
+  -- the others stay on their buses
+  pub kept_other_buses : KeepsOtherBuses before after
+  kept_other_buses = buses after ∙ ap (λ os. map (λ o. o.bus) os) (passing_after answers most (map fields_of before) (map fields_of after) packing) ∙ sym (buses before)
+    where
+      buses : (ls : List (Lookup F)) → other_buses ls ≡ map (λ o. o.bus) (map unnumbered (passing (map fields_of ls)))
+      buses ls =
+          sym (map-map (λ (o : Outline (SymbolicExpression F)). o.bus) fields_of (filter (λ l. not (is_additive (fields_of l))) ls))
+          ∙ ap (λ os. map (λ (o : Outline (SymbolicExpression F)). o.bus) os) (filter_seen fields_of (λ o. not (is_additive o)) ls)
+          ∙ sym (map-map (λ (o : Outline (SymbolicExpression F)). o.bus) unnumbered (passing (map fields_of ls)))
+
+module _ {E : Type 0} where
+  abbrev own : Outline E → List ℕ
+  own o = map length o.elements
+
+  abbrev widths : List (Outline E) → List ℕ
+  widths os = flat_map own os
+
+module _ {F : Type 0} (answers : Outline (SymbolicExpression F) → Result ℕ LookupError → Type 0) (most : ℕ) (before after : List (Lookup F)) (packing : IsPacking answers most (map fields_of before) (map fields_of after)) where
+  seen_widths : (ls : List (Lookup F)) → widths (map fields_of ls) ≡ widths_of ls
+  seen_widths [] = refl
+  seen_widths (l ∷ ls) = λ i. map-map length (λ tuple. tuple.items) l.elements.items i ++ seen_widths ls i
+
+  -- the widths of all tuples stay
+  pub kept_widths : KeepsWidths before after
+  kept_widths =
+      let os = map fields_of before in
+      let names = bus_names (additive os) in
+      let columns = flat_map (λ cut. map joined cut) packing.cuts in
+      let later : widths (map fields_of after) ≡ widths (passing os) ++ widths columns =
+      sym (flat_map-map own unnumbered (map fields_of after))
+      ∙ ap (λ ps. flat_map own (map unnumbered ps)) packing.columns
+      ∙ ap (flat_map own) (unnumbered_all 0 (passing os ++ columns))
+      ∙ flat_map-map own unnumbered (passing os ++ columns)
+      ∙ flat_map-append own (passing os) columns in
+      let on_buses : IsPermutation (widths (additive os)) (widths columns) =
+      subst (λ (t : List ℕ). IsPermutation (widths (additive os)) t) (sym (columns_give answers most (additive os) (λ _ _. Unit {0}) (λ name. each_of (λ _. Unit {0}) (λ _. tt) (on_bus name (additive os))) own (λ name part _. map-flat_map length (λ o. o.elements) (part_items part)) names packing.cuts packing.filled))
+      (grouped own names (additive os) (first_seen_separate same_name (filter_map (λ o. o.bus) (additive os))) (among_names (additive os) (filter_passes is_additive os))) in
+      let in_two : IsPermutation (widths os) (widths (additive os) ++ widths (passing os)) = parted own is_additive os in
+      let both : IsPermutation (widths os) (widths (passing os) ++ widths columns) =
+      IsPermutation-trans _ _ _ in_two (IsPermutation-trans _ _ _ (IsPermutation-append_left (widths (passing os)) _ _ on_buses) (IsPermutation-append_comm (widths columns) (widths (passing os)))) in
+      subst (λ (t : List ℕ). IsPermutation t (widths_of after)) (seen_widths before)
+      (subst (λ (t : List ℕ). IsPermutation (widths os) t) (sym later ∙ seen_widths after) both)
