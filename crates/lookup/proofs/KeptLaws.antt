@@ -1,5 +1,5 @@
 -- A packing keeps the weight, the messages, the nets, lawful flags, the widths of tuples, and the buses of what passes through.
-use Rattle.std.proofs.Common.{◌≡◌, ◌+◌, ℕ, Bool, true, false, cond, not, List, [], ◌∷◌, ◌++◌, None, Result, map, All, refl, sym, ap, subst, ◌∙◌, arith, IfSome, Option, length}
+use Rattle.std.proofs.Common.{◌≡◌, ◌+◌, ℕ, Bool, true, false, cond, not, List, [], ◌∷◌, ◌++◌, None, Result, map, All, refl, sym, ap, subst, ◌∙◌, arith, IfSome, Option, length, subst₂}
 use Rattle.std.proofs.lemmas.List.{append-nil}
 use Rattle.std.proofs.lemmas.List.Elements.{filter-append}
 use Rattle.std.proofs.lemmas.List.Folds.{flat_map-map}
@@ -10,7 +10,7 @@ use Rattle.std.specs.List.Sorted.{IsPermutation}
 use Rattle.std.specs.Option.{is_some, option_map_or, option_map}
 use Rattle.lists.proofs.Parts.{singles, map-flat_map}
 use Rattle.lists.proofs.Images.{filter_again, filter_all, filter_images, filter_none, sum_by-mapped}
-use Rattle.lists.proofs.Each.{all_weaker, filter_passes, all_of_map, all_kept, each_of}
+use Rattle.lists.proofs.Each.{all_weaker, filter_passes, all_of_map, all_kept, each_of, all_images}
 use Rattle.field.specs.Ring.{IsCommutativeRing, Ring}
 use Rattle.matrix.specs.Matrix.{height}
 use Rattle.expressions.specs.Window.{Window}
@@ -37,10 +37,7 @@ use Rattle.lookup.proofs.JoinedMessages.{columns_messages, messages_of, own_mess
 use Rattle.lookup.proofs.Rearranged.{among_names, grouped, parted}
 use Rattle.lookup.proofs.RearrangedSums.{sum_in-passing, sum_in-permutation}
 use Rattle.lookup.proofs.StepLaws.{no_flags_of, plain_on}
-use Rattle.std.specs.declared.alloc.Global.{Global}
-use Rattle.std.specs.declared.vec.Vec.{Vec}
 use Rattle.std.proofs.lemmas.Simd.{map-map}
-use Rattle.field.specs.laws.Distinct.{all_map}
 use Rattle.lookup_model.specs.Batches.Messages.{HasLawfulFlags}
 use Rattle.lookup_model.specs.Fault.{IsLawfulSelection}
 use Rattle.std.proofs.lemmas.Grind.{flat_map-append}
@@ -56,16 +53,21 @@ module _ {E : Type 0} where
       abbrev columns : List (Outline E)
       columns = flat_map (λ cut. map joined cut) packing.cuts
 
+      -- but for the numbers of the columns
+      after_is : map unnumbered after ≡ map unnumbered (passing before ++ columns)
+      after_is = ap (map unnumbered) packing.columns ∙ unnumbered_all 0 (passing before ++ columns)
+
+      -- what the lookups that may be joined give, bus by bus
+      on_buses : {M : Type 0} (f : Outline E → List M) → IsPermutation (flat_map f (additive before)) (flat_map (λ name. flat_map f (on_bus name (additive before))) (bus_names (additive before)))
+      on_buses f = grouped f (bus_names (additive before)) (additive before) (first_seen_separate same_name (filter_map (λ o. o.bus) (additive before))) (among_names (additive before) (filter_passes is_additive before))
+
       all_additive : AllByRecursion (λ o. is_additive o ≡ true) columns
       all_additive = columns_all answers most (additive before) IsOn (λ name. members_on name before) (λ o. is_additive o ≡ true) (λ name part on. (on.0).joins) (bus_names (additive before)) packing.cuts packing.filled
 
       -- the lookups after that pass a test
       tested : (p : Outline E → Bool) → ((o : Outline E) → p (unnumbered o) ≡ p o) → map unnumbered (filter p after) ≡ map unnumbered (filter p (passing before) ++ filter p columns)
       tested p same =
-          sym (filter_images unnumbered p p same after)
-          ∙ ap (λ os. filter p (map unnumbered os)) packing.columns
-          ∙ ap (filter p) (unnumbered_all 0 (passing before ++ columns))
-          ∙ filter_images unnumbered p p same (passing before ++ columns)
+          sym (filter_images unnumbered p p same after) ∙ ap (filter p) after_is ∙ filter_images unnumbered p p same (passing before ++ columns)
           ∙ ap (map unnumbered) (filter-append p (passing before) columns)
 
       -- those that may be joined are the columns of the buses, and the others those that pass through
@@ -101,16 +103,14 @@ module _ {E : Type 0} where
 
   packed_weight : (answers : Outline E → Result ℕ LookupError → Type 0) (most : ℕ) (before after : List (Outline E)) → IsPacking answers most before after → weight after ≡ weight before
   packed_weight answers most before after packing =
-      let columns = flat_map (λ cut. map joined cut) packing.cuts in
-      let names = bus_names (additive before) in
-      let bus_by_bus = sum_by-IsPermutation (λ (o : Outline E). o.count_weight) _ _ (grouped (λ (o : Outline E). o ∷ []) names (additive before) (first_seen_separate same_name (filter_map (λ o. o.bus) (additive before))) (among_names (additive before) (filter_passes is_additive before))) in
-      let all_columns : weight columns ≡ weight (additive before) = columns_weight answers most (additive before) names packing.cuts packing.filled ∙ bus_by_bus ∙ ap weight (singles (additive before)) in
-      let in_two = sum_by-IsPermutation (λ (o : Outline E). o.count_weight) before (additive before ++ passing before) (IsPermutation-filter_both is_additive (λ o. not (is_additive o)) (λ o. refl) before) in
+      let made = columns answers most before after packing in
+      let same_weight = sum_by-IsPermutation (λ (o : Outline E). o.count_weight) in
+      let all_columns : weight made ≡ weight (additive before) = columns_weight answers most (additive before) (bus_names (additive before)) packing.cuts packing.filled ∙ same_weight _ _ (on_buses answers most before after packing (λ o. o ∷ [])) ∙ ap weight (singles (additive before)) in
+      let in_two = same_weight before (additive before ++ passing before) (IsPermutation-filter_both is_additive (λ o. not (is_additive o)) (λ o. refl) before) in
       sym (sum_by-mapped (λ o. o.count_weight) unnumbered after)
-      ∙ ap (λ os. weight (map unnumbered os)) packing.columns
-      ∙ ap weight (unnumbered_all 0 (passing before ++ columns))
-      ∙ sum_by-mapped (λ o. o.count_weight) unnumbered (passing before ++ columns)
-      ∙ sum_by-append (λ o. o.count_weight) (passing before) columns
+      ∙ ap weight (after_is answers most before after packing)
+      ∙ sum_by-mapped (λ o. o.count_weight) unnumbered (passing before ++ made)
+      ∙ sum_by-append (λ o. o.count_weight) (passing before) made
       ∙ omega (arith, all_columns, in_two, sum_by-append (λ o. o.count_weight) (additive before) (passing before))
 
 -- messages
@@ -138,12 +138,8 @@ module _ {F : Type 0} (R : Ring F) (eq : F → F → Bool) (w : Window F) (bus_i
   divided : (ls : List (Lookup F)) → AllByRecursion (HasIdOfBus bus_id id) ls
       → IsPermutation (row_messages R eq id w ls) (flat_map (own_messages R eq w bus_id) (additive (map fields_of ls)) ++ flat_map (λ p. messages_of R eq w p.0 p.1) (zip (other_ids id ls) (map unnumbered (passing (map fields_of ls)))))
   divided ls has =
-      let q = λ (l : Lookup F). not (is_additive (fields_of l)) in
-      let others : flat_map sends (filter q ls) ≡ flat_map (λ p. messages_of R eq w p.0 p.1) (zip (other_ids id ls) (map unnumbered (passing (map fields_of ls)))) =
-      others_sent (filter q ls) ∙ ap (λ os. flat_map (λ p. messages_of R eq w p.0 p.1) (zip (other_ids id ls) (map unnumbered os))) (filter_seen fields_of (λ o. not (is_additive o)) ls) in
-      subst (λ (t : List (Message F)). IsPermutation t (flat_map (own_messages R eq w bus_id) (additive (map fields_of ls)) ++ flat_map (λ p. messages_of R eq w p.0 p.1) (zip (other_ids id ls) (map unnumbered (passing (map fields_of ls))))))
-      (sym (flat_map-map (λ sent. sent.messages) (λ l. sent_at R eq w (id l) l) ls))
-      (subst (λ (t : List (Message F)). IsPermutation (flat_map sends ls) t) (λ i. additive_sent ls has i ++ others i) (parted sends (λ l. is_additive (fields_of l)) ls))
+      let others = others_sent (filter (λ l. not (is_additive (fields_of l))) ls) ∙ ap (λ os. flat_map (λ p. messages_of R eq w p.0 p.1) (zip (other_ids id ls) (map unnumbered os))) (filter_seen fields_of (λ o. not (is_additive o)) ls) in
+      subst₂ IsPermutation (sym (flat_map-map (λ sent. sent.messages) (λ l. sent_at R eq w (id l) l) ls)) (λ i. additive_sent ls has i ++ others i) (parted sends (λ l. is_additive (fields_of l)) ls)
 
 module _ {F : Type 0} (answers : Outline (SymbolicExpression F) → Result ℕ LookupError → Type 0) (most : ℕ) (before after : List (Lookup F)) (packing : IsPacking answers most (map fields_of before) (map fields_of after)) where
   -- the weight of all lookups stays
@@ -159,14 +155,10 @@ module _ {F : Type 0} (answers : Outline (SymbolicExpression F) → Result ℕ L
     kept_messages lengths id_before id_after same w =
         let own = own_messages R eq w same.bus_id in
         let os = map fields_of before in
-        let names = bus_names (additive os) in
-        let columns = flat_map (λ cut. map joined cut) packing.cuts in
-        let on_buses = grouped own names (additive os) (first_seen_separate same_name (filter_map (λ o. o.bus) (additive os))) (among_names (additive os) (filter_passes is_additive os)) in
-        let in_columns : flat_map own columns ≡ flat_map (λ name. flat_map own (on_bus name (additive os))) names = columns_messages R eq w same.bus_id answers most os names packing.cuts (λ name. plain_on before name lengths) packing.filled in
-        let later : flat_map own (additive (map fields_of after)) ≡ flat_map own columns =
-        sym (flat_map-map own unnumbered (additive (map fields_of after))) ∙ ap (flat_map own) (additive_after answers most os (map fields_of after) packing) ∙ flat_map-map own unnumbered columns in
-        let joined_sent : IsPermutation (flat_map own (additive os)) (flat_map own (additive (map fields_of after))) =
-        subst (λ (t : List (Message F)). IsPermutation (flat_map own (additive os)) t) (sym (later ∙ in_columns)) on_buses in
+        let made = columns answers most os (map fields_of after) packing in
+        let in_columns = columns_messages R eq w same.bus_id answers most os (bus_names (additive os)) packing.cuts (λ name. plain_on before name lengths) packing.filled in
+        let later = sym (flat_map-map own unnumbered (additive (map fields_of after))) ∙ ap (flat_map own) (additive_after answers most os (map fields_of after) packing) ∙ flat_map-map own unnumbered made in
+        let joined_sent = subst (IsPermutation (flat_map own (additive os))) (sym (later ∙ in_columns)) (on_buses answers most os (map fields_of after) packing own) in
         let send_others = λ (ids : List ℕ) (ps : List (Outline (SymbolicExpression F))). flat_map (λ p. messages_of R eq w p.0 p.1) (zip ids ps) in
         let others : send_others (other_ids id_before before) (map unnumbered (passing os)) ≡ send_others (other_ids id_after after) (map unnumbered (passing (map fields_of after))) =
         λ i. send_others (same.others i) (sym (passing_after answers most os (map fields_of after) packing) i) in
@@ -206,9 +198,6 @@ module _ {F : Type 0} (R : Ring F) (eq : F → F → Bool) (w : Window F) where
   abbrev HasLawful : Outline (SymbolicExpression F) → Type 0
   HasLawful o = AreLawful o.flags
 
-  abbrev items : Vec (SymbolicExpression F) Global → List (SymbolicExpression F)
-  items flags = flags.items
-
   lawful_fields : (id : Lookup F → ℕ) (ls : List (Lookup F)) → AllByRecursion (HasLawfulFlags R eq) (sent_row_under R eq id w ls) → AllByRecursion HasLawful (map fields_of ls)
   lawful_fields id [] all = tt
   lawful_fields id (l ∷ ls) all = (grind (arith, all.0), lawful_fields id ls all.1)
@@ -228,10 +217,8 @@ module _ {F : Type 0} (answers : Outline (SymbolicExpression F) → Result ℕ L
   kept_flags R eq id_before id_after w lawful =
       let Lawful = HasLawful R eq w in
       let os = map fields_of before in
-      let those_before : AllByRecursion Lawful (passing os) = all_kept Lawful (λ o. not (is_additive o)) os (lawful_fields R eq w id_before before lawful) in
-      let those_after : AllByRecursion Lawful (map unnumbered (passing (map fields_of after))) =
-      subst (λ (t : List (Outline (SymbolicExpression F))). AllByRecursion Lawful t) (sym (passing_after answers most os (map fields_of after) packing))
-      (all_map unnumbered Lawful Lawful (λ o h. h) (passing os) those_before) in
+      let those_before = all_kept Lawful (λ o. not (is_additive o)) os (lawful_fields R eq w id_before before lawful) in
+      let those_after = subst (AllByRecursion Lawful) (sym (passing_after answers most os (map fields_of after) packing)) (all_images Lawful unnumbered (passing os) those_before) in
       lawful_sent R eq w id_after after (of_passing R eq w (map fields_of after) (all_of_map Lawful unnumbered (passing (map fields_of after)) those_after))
 
   -- the others stay on their buses
@@ -244,35 +231,18 @@ module _ {F : Type 0} (answers : Outline (SymbolicExpression F) → Result ℕ L
           ∙ ap (λ os. map (λ (o : Outline (SymbolicExpression F)). o.bus) os) (filter_seen fields_of (λ o. not (is_additive o)) ls)
           ∙ sym (map-map (λ (o : Outline (SymbolicExpression F)). o.bus) unnumbered (passing (map fields_of ls)))
 
-module _ {E : Type 0} where
-  abbrev own : Outline E → List ℕ
-  own o = map length o.elements
-
-  abbrev widths : List (Outline E) → List ℕ
-  widths os = flat_map own os
-
-module _ {F : Type 0} (answers : Outline (SymbolicExpression F) → Result ℕ LookupError → Type 0) (most : ℕ) (before after : List (Lookup F)) (packing : IsPacking answers most (map fields_of before) (map fields_of after)) where
-  seen_widths : (ls : List (Lookup F)) → widths (map fields_of ls) ≡ widths_of ls
-  seen_widths [] = refl
-  seen_widths (l ∷ ls) = λ i. map-map length (λ tuple. tuple.items) l.elements.items i ++ seen_widths ls i
-
   -- the widths of all tuples stay
   pub kept_widths : KeepsWidths before after
   kept_widths =
+      let own = λ (o : Outline (SymbolicExpression F)). map length o.elements in
       let os = map fields_of before in
-      let names = bus_names (additive os) in
-      let columns = flat_map (λ cut. map joined cut) packing.cuts in
-      let later : widths (map fields_of after) ≡ widths (passing os) ++ widths columns =
-      sym (flat_map-map own unnumbered (map fields_of after))
-      ∙ ap (λ ps. flat_map own (map unnumbered ps)) packing.columns
-      ∙ ap (flat_map own) (unnumbered_all 0 (passing os ++ columns))
-      ∙ flat_map-map own unnumbered (passing os ++ columns)
-      ∙ flat_map-append own (passing os) columns in
-      let on_buses : IsPermutation (widths (additive os)) (widths columns) =
-      subst (λ (t : List ℕ). IsPermutation (widths (additive os)) t) (sym (columns_give answers most (additive os) (λ _ _. Unit {0}) (λ name. each_of (λ _. Unit {0}) (λ _. tt) (on_bus name (additive os))) own (λ name part _. map-flat_map length (λ o. o.elements) (part_items part)) names packing.cuts packing.filled))
-      (grouped own names (additive os) (first_seen_separate same_name (filter_map (λ o. o.bus) (additive os))) (among_names (additive os) (filter_passes is_additive os))) in
-      let in_two : IsPermutation (widths os) (widths (additive os) ++ widths (passing os)) = parted own is_additive os in
-      let both : IsPermutation (widths os) (widths (passing os) ++ widths columns) =
-      IsPermutation-trans _ _ _ in_two (IsPermutation-trans _ _ _ (IsPermutation-append_left (widths (passing os)) _ _ on_buses) (IsPermutation-append_comm (widths columns) (widths (passing os)))) in
-      subst (λ (t : List ℕ). IsPermutation t (widths_of after)) (seen_widths before)
-      (subst (λ (t : List ℕ). IsPermutation (widths os) t) (sym later ∙ seen_widths after) both)
+      let made = columns answers most os (map fields_of after) packing in
+      let later = sym (flat_map-map own unnumbered (map fields_of after)) ∙ ap (flat_map own) (after_is answers most os (map fields_of after) packing) ∙ flat_map-map own unnumbered (passing os ++ made) ∙ flat_map-append own (passing os) made in
+      let in_columns = columns_give answers most (additive os) (λ _ _. Unit {0}) (λ name. each_of (λ _. Unit {0}) (λ _. tt) (on_bus name (additive os))) own (λ name part _. map-flat_map length (λ o. o.elements) (part_items part)) (bus_names (additive os)) packing.cuts packing.filled in
+      let joined_widths = subst (IsPermutation (flat_map own (additive os))) (sym in_columns) (on_buses answers most os (map fields_of after) packing own) in
+      let both = IsPermutation-trans _ _ _ (IsPermutation-append_left (flat_map own (passing os)) _ _ joined_widths) (IsPermutation-append_comm (flat_map own made) (flat_map own (passing os))) in
+      subst₂ IsPermutation (seen_widths before) (sym later ∙ seen_widths after) (IsPermutation-trans _ _ _ (parted own is_additive os) both)
+    where
+      seen_widths : (ls : List (Lookup F)) → flat_map (λ o. map length o.elements) (map fields_of ls) ≡ widths_of ls
+      seen_widths [] = refl
+      seen_widths (l ∷ ls) = λ i. map-map length (λ tuple. tuple.items) l.elements.items i ++ seen_widths ls i
