@@ -43,17 +43,14 @@ module _ {A : Type 0} {R : Ring A} (laws : IsCommutativeRing R) where
   -- the sum of two numbers as an element
   pub of_int-add : (a b : ℤ) → of_int R (a +ℤ b) ≡ R.add (of_int R a) (of_int R b)
   of_int-add a b =
-      let s : (p : ℕ) × (n : ℕ) × (pos p ≡ a +ℤ pos n) = parts a in
-      let t : (p : ℕ) × (n : ℕ) × (pos p ≡ b +ℤ pos n) = parts b in
-      let h : pos (s.0 + t.0) ≡ (a +ℤ b) +ℤ pos (s.1 + t.1) = omega (arith, ints, s.2, t.2) in
-      let e : R.add (of_int R (a +ℤ b)) (of_nat R (s.1 + t.1)) ≡ of_nat R (s.0 + t.0) = by_parts (a +ℤ b) (s.0 + t.0) (s.1 + t.1) h in
-      let f : of_nat R (s.1 + t.1) ≡ R.add (of_nat R s.1) (of_nat R t.1) = of_nat-add laws s.1 t.1 in
-      let g : of_nat R (s.0 + t.0) ≡ R.add (of_nat R s.0) (of_nat R t.0) = of_nat-add laws s.0 t.0 in
+      let s = parts a in
+      let t = parts b in
+      let e = by_parts (a +ℤ b) (s.0 + t.0) (s.1 + t.1) (omega (arith, ints, s.2, t.2)) in
       let i = con 1 in
       ring_given laws
       (of_int R (a +ℤ b) ∷ of_int R a ∷ of_int R b ∷ of_nat R s.1 ∷ of_nat R t.1 ∷ of_nat R (s.1 + t.1) ∷ of_nat R s.0 ∷ of_nat R t.0 ∷ of_nat R (s.0 + t.0) ∷ [])
       ((i, var 0 :+ var 5, var 8) ∷ (:neg i, var 5, var 3 :+ var 4) ∷ (i, var 8, var 6 :+ var 7) ∷ (:neg i, var 1 :+ var 3, var 6) ∷ (:neg i, var 2 :+ var 4, var 7) ∷ [])
-      (var 0) (var 1 :+ var 2) (e, (f, (g, (by_parts a s.0 s.1 s.2, (by_parts b t.0 t.1 t.2, tt))))) refl
+      (var 0) (var 1 :+ var 2) (e, (of_nat-add laws s.1 t.1, (of_nat-add laws s.0 t.0, (by_parts a s.0 s.1 s.2, (by_parts b t.0 t.1 t.2, tt))))) refl
 
   small : (p n : ℕ) → HasCharacteristic R p → suc n < p → of_nat R (suc n) ≡ R.zero → ⊥
   small p n char lt e = omega (arith, lt, le_of_dvd {n = suc n} (omega arith) ((char (suc n)).0 e))
@@ -66,17 +63,12 @@ module _ {A : Type 0} {R : Ring A} (laws : IsCommutativeRing R) where
       absurd (small p n char (omega (arith, ints, lt)) (sym (neg_neg laws (of_nat R (suc n))) ∙ ap R.neg e ∙ neg_zero laws))
 
 module _ {F : Type 0} {R : Ring F} (laws : IsCommutativeRing R) (eq : F → F → Bool) (decides : (a b : Key F) → Decides (same_key eq a b) (a ≡ b)) (key : Key F) where
-  -- no provided entry has the key
-  abbrev NoneProvided : List (Message F × Role) → Type 0
-  NoneProvided marked = IsAmong key (provided_keys marked) → ⊥
-
-  -- then the net is the sum of the query numbers
-  net_is : (ms : List (Message F)) (ps : List Role) → AllZip (HasRole R) ms ps → NoneProvided (zip ms ps) → net R eq ms key ≡ of_int R (query_sum eq key (zip ms ps))
+  -- where no provided entry has the key the net is the sum of the query numbers
+  net_is : (ms : List (Message F)) (ps : List Role) → AllZip (HasRole R) ms ps → ¬ IsAmong key (provided_keys (zip ms ps)) → net R eq ms key ≡ of_int R (query_sum eq key (zip ms ps))
   unfolding of_nat
   net_is [] [] each none = refl
   net_is (m ∷ ms) (None ∷ ps) each none =
-      let apart = λ (e : same_key eq key m.key ≡ true). none (inl ((decides key m.key).0 e)) in
-      grind (arith, net_is ms ps each.1 (λ among. none (inr among)), apart)
+      grind (arith, net_is ms ps each.1 (λ among. none (inr among)), λ (e : same_key eq key m.key ≡ true). none (inl ((decides key m.key).0 e)))
   net_is (m ∷ ms) (Some z ∷ ps) each none = grind (arith, net_is ms ps each.1 none, each.0, of_int-add laws z (query_sum eq key (zip ms ps)))
   net_is ms ps each none = absurd each
 
@@ -84,8 +76,7 @@ module _ {F : Type 0} {R : Ring F} (laws : IsCommutativeRing R) (eq : F → F �
   query_sum-small : (ms : List (Message F)) (ps : List Role) → nat_abs (query_sum eq key (zip ms ps)) ≤ sum_by size_of ps
   query_sum-small [] ps = omega (arith, ints)
   query_sum-small (m ∷ ms) [] = omega (arith, ints)
-  query_sum-small (m ∷ ms) (None ∷ ps) = omega (arith, ints, query_sum-small ms ps, sum_by-cons size_of None ps)
-  query_sum-small (m ∷ ms) (Some z ∷ ps) = grind (arith, ints, query_sum-small ms ps, sum_by-cons size_of (Some z) ps)
+  query_sum-small (m ∷ ms) (p ∷ ps) = grind (arith, ints, query_sum-small ms ps, sum_by-cons size_of p ps)
 
   is_among : (ks : List (Key F)) → IsAmong key ks ⊎ (IsAmong key ks → ⊥)
   is_among [] = inr (λ none. none)
