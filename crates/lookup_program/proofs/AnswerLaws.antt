@@ -52,13 +52,9 @@ module _ {F K : Type 0} (fields : Fields F K) (machine : Machine) (alpha_word be
 -- four words, one by one
 pub four_words : (words : List (String Global)) (name field alpha beta : String Global) → 4 ≤ length words → length words < 5 → name ≡ get_or words 0 name → field ≡ get_or words 1 field → alpha ≡ get_or words 2 alpha → beta ≡ get_or words 3 beta
     → map string_bytes words ≡ string_bytes name ∷ string_bytes field ∷ string_bytes alpha ∷ string_bytes beta ∷ []
-four_words [] name field alpha beta low high p q r s = absurd (omega (arith, low))
-four_words (a ∷ []) name field alpha beta low high p q r s = absurd (omega (arith, low))
-four_words (a ∷ b ∷ []) name field alpha beta low high p q r s = absurd (omega (arith, low))
-four_words (a ∷ b ∷ c ∷ []) name field alpha beta low high p q r s = absurd (omega (arith, low))
 four_words (a ∷ b ∷ c ∷ d ∷ []) name field alpha beta low high p q r s =
     λ i. string_bytes (sym p i) ∷ string_bytes (sym q i) ∷ string_bytes (sym r i) ∷ string_bytes (sym s i) ∷ []
-four_words (a ∷ b ∷ c ∷ d ∷ e ∷ rest) name field alpha beta low high p q r s = absurd (omega (arith, high))
+four_words words name field alpha beta low high p q r s = absurd (omega (arith, low, high))
 
 module _ {F K F' K' : Type 0} (f7 : Fields F K) (babybear4 : Fields F' K') (words : List (List ℕ)) where
   -- words that are not four

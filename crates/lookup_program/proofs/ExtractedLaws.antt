@@ -36,10 +36,7 @@ use Rattle.lookup_program.specs.declared.airs.MachineAir.TheVariants.{Entries, G
 
 -- the weight of an AIR's lookup is small
 light : (air : MachineAir) → (air_bus_and_weight air).1 < weight_bound
-light RangeCheck = omega arith
-light Keys = omega arith
-light Entries = omega arith
-light Group = omega arith
+light air = grind arith
 
 module _ (F EF : Type 0) (R : Ring F) (eq : F → F → Bool) (air : MachineAir) where
   -- a builder that records an AIR
@@ -91,11 +88,7 @@ module _ (F EF : Type 0) (R : Ring F) (eq : F → F → Bool) (air : MachineAir)
 
   -- a cell is refused only when out of memory, since no row has fewer columns than the layout
   cell_memory : (before : Builder) (e : AirError) → recorded_air before ≡ no_air_recorded layout → IsCellsRefusal (λ b e. e ≡ AirMemory) (λ b. (recorded b.inner).layout) (width_of air) before e → e ≡ AirMemory
-  cell_memory before e empty (inl memory) = memory
-  cell_memory before e empty (inr (inl memory)) = memory
-  cell_memory before e empty (inr (inr narrow)) =
-      let wide : (recorded before.inner).layout.main_width ≡ width_of air = ap (λ r. r.constraints.layout.main_width) empty in
-      absurd (omega (arith, wide, narrow.0))
+  cell_memory before e empty refused = grind (arith, refused, ap (λ r. r.constraints.layout.main_width) empty)
 
   -- so the AIR is refused only when out of memory
   memory_alone : (e : AirError) → EvaluatesNew {A = MachineAir} (λ _. air_evaluates) air layout (Err e) → e ≡ AirMemory
