@@ -98,12 +98,3 @@ module _ {A E : Type 0} (items : A → List E) where
 pub same_lengths : {A B C T : Type 0} (items : A → B) (f : T → B) (g : T → C) (vs : List A) (ms : List C) (ts : List T) → map items vs ≡ map f ts → ms ≡ map g ts → length ms ≡ length vs
 same_lengths items f g vs ms ts vs_are ms_are =
     ap length ms_are ∙ length-map ts g ∙ sym (length-map ts f) ∙ sym (ap length vs_are) ∙ length-map vs items
-
--- the next item passes from what is left to what is there
-pub passed : {R M B : Type 0} (f : M → B) (seen : R → M) (before after : List B) (left later : List R) (x : R) (ys : List B) → after ≡ before ++ f (seen x) ∷ [] → left ≡ x ∷ later
-    → before ++ map f (map seen left) ≡ ys → after ++ map f (map seen later) ≡ ys
-passed f seen before after left later x ys pushed next e =
-    ap (λ t. t ++ map f (map seen later)) pushed
-    ∙ append_assoc before (f (seen x) ∷ []) (map f (map seen later))
-    ∙ ap (λ t. before ++ map f (map seen t)) (sym next)
-    ∙ e

@@ -1,9 +1,9 @@
 -- Lookups one after another, in the columns 0, 1, 2, …
-use Rattle.std.proofs.Common.{◌≡◌, ◌+◌, ◌-◌, ◌<◌, ◌≤◌, inl, inr, ℕ, All, List, [], ◌∷◌, ◌++◌, Some, length, map, get_or, set, refl, sym, ap, subst, ◌∙◌, arith, length-append}
+use Rattle.std.proofs.Common.{◌≡◌, ◌+◌, ◌-◌, ◌<◌, inl, inr, ℕ, All, List, [], ◌∷◌, ◌++◌, Some, length, map, get_or, set, refl, sym, ap, subst, ◌∙◌, arith, length-append}
 use Rattle.std.proofs.Math.ListN.{get_or-append}
 use Rattle.std.proofs.Math.Seq.{get_or-append_seam}
 use Rattle.std.proofs.lemmas.Bool.{cases_lt}
-use Rattle.std.proofs.lemmas.List.{append-nil, append_assoc, length_push, map_push, set-append_right, nil_from_length}
+use Rattle.std.proofs.lemmas.List.{append_assoc, length_push, map_push, set-append_right}
 use Rattle.std.proofs.lemmas.List.Elements.{All-head, All-tail}
 use Rattle.std.proofs.lemmas.Option.{get_or_from_slice_get, slice_get-get_or}
 use Rattle.lookup_model.specs.Outline.{Outline, fields_of}
@@ -86,9 +86,3 @@ none_numbered lookups lengths = record {
   records = λ i l lt there. absurd (omega (arith, lt));
   left = lengths;
 }
-
-pub all_numbered : {F : Type 0} (lookups items : List (Lookup F)) (n : ℕ) → AreNumbered lookups items n → length items ≤ n → (map fields_of items ≡ numbered (map fields_of lookups)) × AreRecords items
-all_numbered {F} lookups items n done le =
-    let none : done.rest ≡ [] = nil_from_length done.rest (omega (arith, le, done.at, ap length done.items_are, length-append done.front done.rest)) in
-    let whole : items ≡ done.front = done.items_are ∙ ap (λ t. done.front ++ t) none ∙ append-nil done.front in
-    (grind (arith, whole, none, done.fields, append-nil (map fields_of done.front)), subst AreRecords (sym whole) done.records)

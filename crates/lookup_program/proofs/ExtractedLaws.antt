@@ -95,9 +95,7 @@ module _ (F EF : Type 0) (R : Ring F) (eq : F → F → Bool) (air : MachineAir)
   memory_alone e (inl memory) = memory
   memory_alone e (inr (before, after, empty, (inl (inl (memory, kept)), within))) = memory
   memory_alone e (inr (before, after, empty, (inl (inr (m, meant, refused)), within))) = refused.1
-  memory_alone e (inr (before, after, empty, (inr (f, is, kept, refusal), within))) =
-      let same : e ≡ f = cc is in
-      same ∙ cell_memory before f empty refusal
+  memory_alone e (inr (before, after, empty, (inr (f, is, kept, refusal), within))) = cc (is, cell_memory before f empty refusal)
 
   -- the lookups of the AIR
   lookups_are : (b : Builder) (set : Lookups F) → Leaves b → map fields_of (lookups_of set) ≡ extraction (recorded_air b).locals (recorded_air b).globals (recorded_air b).exclusives
@@ -126,16 +124,15 @@ module _ (F EF : Type 0) (R : Ring F) (eq : F → F → Bool) (air : MachineAir)
   -- a local lookup among them has no fault
   locals_faultless : (stands : Window F → Type 0) (m : Interaction (SymbolicExpression F)) (r : RecordedAir F EF) → r ≡ with_interaction (no_air_recorded layout) m
       → SendsLike R eq (λ x w. value R w x) stands (λ w. w.main) air m → All IsFaultless r.locals
-  locals_faultless stands (global m) r is sends = rw (ap (λ r. r.locals) is) (All-nil IsFaultless)
-  locals_faultless stands (exclusive m) r is sends = rw (ap (λ r. r.locals) is) (All-nil IsFaultless)
+  locals_faultless stands (global m) r is sends = rw is (All-nil IsFaultless)
+  locals_faultless stands (exclusive m) r is sends = rw is (All-nil IsFaultless)
   locals_faultless stands (local tuples) r is sends =
-      let weight : sum_by (λ t. t.weight) tuples ≡ (air_bus_and_weight air).1 = ap (λ k. k.1) sends.kind in
       let faultless : IsFaultless tuples = record {
-        weight = omega (arith, weight, light air);
+        weight = omega (arith, ap (λ k. k.1) sends.kind, light air);
         width = 1;
         widths = All-of_map (λ fields. length fields ≡ 1) (λ t. t.fields) tuples sends.widths;
       } in
-      rw (ap (λ r. r.locals) is) (All-cons IsFaultless tuples [] faultless (All-nil IsFaultless))
+      rw is (All-cons IsFaultless tuples [] faultless (All-nil IsFaultless))
 
   -- the answer of the extraction
   pub air_lookups : (answer : Result (Lookups F) LookupError) → Extracts {A = MachineAir} (λ _. air_evaluates) air layout answer
