@@ -54,11 +54,8 @@ module _ {E : Type 0} where
       ++ one_kind exclusive exclusive_at (λ column m. refl) (length locals + length globals) exclusives i)
       ∙ append_assoc (outlines_from 0 (map local locals)) (outlines_from (length locals) (map global globals)) (outlines_from (length locals + length globals) (map exclusive exclusives))
       ∙ ap (λ t. outlines_from 0 (map local locals) ++ t) behind
-      ∙ sym (outlines_append 0 (map local locals) (map global globals ++ map exclusive exclusives) ∙ ap (λ k. outlines_from 0 (map local locals) ++ outlines_from k (map global globals ++ map exclusive exclusives)) counted)
+      ∙ sym (outlines_append 0 (map local locals) (map global globals ++ map exclusive exclusives) ∙ ap (λ k. outlines_from 0 (map local locals) ++ outlines_from k (map global globals ++ map exclusive exclusives)) (omega (arith, length-map locals local)))
     where
-      counted : 0 + length (map local locals) ≡ length locals
-      counted = omega (arith, length-map locals local)
-
       behind : outlines_from (length locals) (map global globals) ++ outlines_from (length locals + length globals) (map exclusive exclusives) ≡ outlines_from (length locals) (map global globals ++ map exclusive exclusives)
       behind =
           sym (outlines_append (length locals) (map global globals) (map exclusive exclusives)
@@ -72,8 +69,7 @@ module _ {F : Type 0} (R : Ring F) (eq : F → F → Bool) (w : Window F) where
 
   -- the values of the flags, which may be absent
   flags_seen : (flags : Option (Vec (SymbolicExpression F) Global)) → option_map (λ flags. values R w flags.items) flags ≡ option_map (values R w) (option_map (λ flags. flags.items) flags)
-  flags_seen None = refl
-  flags_seen (Some flags) = refl
+  flags_seen flags = grind arith
 
   -- a lookup sends what its fields say
   sent_by_fields : (id : ℕ) (l : Lookup F) → sent_at R eq w id l ≡ outline_sends id (fields_of l)

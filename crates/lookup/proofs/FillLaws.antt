@@ -1,7 +1,7 @@
 -- A greedy filling, lookup by lookup.
-use Rattle.std.proofs.Common.{◌≡◌, ◌<◌, ◌≤◌, ◌+◌, ◌⊎◌, ℕ, List, [], ◌∷◌, ◌++◌, Result, Ok, Err, map, refl, sym, ap, subst, ◌∙◌, arith}
+use Rattle.std.proofs.Common.{◌≡◌, ◌<◌, ◌≤◌, ◌+◌, ◌⊎◌, ℕ, List, [], ◌∷◌, ◌++◌, Result, Ok, Err, map, refl, sym, ap, subst, ◌∙◌, arith, length}
 use Rattle.std.proofs.lemmas.Grind.{flat_map-append}
-use Rattle.std.proofs.lemmas.List.{append-nil, append_assoc, map-append}
+use Rattle.std.proofs.lemmas.List.{append-nil, append_assoc, map-append, nil_from_length, length-map}
 use Rattle.std.proofs.lemmas.List.Sums.{sum_by-append, sum_by-cons}
 use Rattle.std.specs.List.{AllByRecursion, flat_map, sum_by}
 use Rattle.lists.proofs.Images.{map_split}
@@ -49,10 +49,8 @@ module _ {A : Type 0} where
   -- the items of parts of which the last has one more member, or of one part more
   items_more : (parts : List (A × List A)) (part : A × List A) (x : A) → flat_map part_items (parts ++ with_next part x ∷ []) ≡ flat_map part_items (parts ++ part ∷ []) ++ x ∷ []
   items_more parts part x =
-      flat_map-append part_items parts (with_next part x ∷ [])
-      ∙ ap (λ t. flat_map part_items parts ++ (part.0 ∷ t)) (append-nil (part.1 ++ x ∷ []))
-      ∙ sym (append_assoc (flat_map part_items parts) (part_items part) (x ∷ []))
-      ∙ ap (λ t. t ++ x ∷ []) (ap (λ t. flat_map part_items parts ++ (part.0 ∷ t)) (sym (append-nil part.1)) ∙ sym (flat_map-append part_items parts (part ∷ [])))
+      rw (flat_map-append part_items parts (with_next part x ∷ []), flat_map-append part_items parts (part ∷ []), append-nil (part.1 ++ x ∷ []), append-nil part.1)
+      (sym (append_assoc (flat_map part_items parts) (part_items part) (x ∷ [])))
 
   items_next : (parts : List (A × List A)) (x : A) → flat_map part_items (parts ++ (x, []) ∷ []) ≡ flat_map part_items parts ++ x ∷ []
   items_next parts x = flat_map-append part_items parts ((x, []) ∷ [])
@@ -97,14 +95,11 @@ module _ {E : Type 0} (answers : Outline E → Result ℕ LookupError → Type 0
   pub last_part : (seen columns front : List (Outline E)) (last : Outline E) → AreGreedyColumns answers most seen columns → columns ≡ front ++ last ∷ [] → HasLast seen front last
   last_part seen columns front last filled is =
       let (parts, part, none, cut_is, front_is, last_is, none_is) = map_split joined filled.cut front last [] (sym filled.columns_are ∙ is) in
-      by_rest none parts part cut_is front_is last_is none_is
-    where
-      by_rest : (none : List (Outline E × List (Outline E))) (parts : List (Outline E × List (Outline E))) (part : Outline E × List (Outline E)) → filled.cut ≡ parts ++ part ∷ none → map joined parts ≡ front → joined part ≡ last → map joined none ≡ [] → HasLast seen front last
-      by_rest (p ∷ ps) parts part cut_is front_is last_is none_is = absurd (cc none_is)
-      by_rest [] parts part cut_is front_is last_is none_is = record {
+      let nothing = nil_from_length none (sym (length-map none joined) ∙ ap length none_is) in
+      record {
         parts = parts;
         part = part;
-        filling = subst (λ (cut : List (Outline E × List (Outline E))). IsFilling answers most cut seen) cut_is filled.filling;
+        filling = subst (λ (cut : List (Outline E × List (Outline E))). IsFilling answers most cut seen) (cut_is ∙ ap (λ t. parts ++ part ∷ t) nothing) filled.filling;
         front_is = front_is;
         last_is = last_is;
       }
