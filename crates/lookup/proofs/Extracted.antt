@@ -63,7 +63,7 @@ module _ {E : Type 0} where
 
 module _ {F : Type 0} (R : Ring F) (eq : F → F → Bool) (w : Window F) where
   -- what the fields of a lookup send under an id
-  abbrev outline_sends : ℕ → Outline (SymbolicExpression F) → Sent F
+  abbrev pub outline_sends : ℕ → Outline (SymbolicExpression F) → Sent F
   outline_sends id o =
       sent R eq (option_map (values R w) o.flags) (map (λ p. branch_at R w id p.0 p.1) (zip o.elements o.multiplicities))
 
@@ -72,7 +72,7 @@ module _ {F : Type 0} (R : Ring F) (eq : F → F → Bool) (w : Window F) where
   flags_seen flags = grind arith
 
   -- a lookup sends what its fields say
-  sent_by_fields : (id : ℕ) (l : Lookup F) → sent_at R eq w id l ≡ outline_sends id (fields_of l)
+  pub sent_by_fields : (id : ℕ) (l : Lookup F) → sent_at R eq w id l ≡ outline_sends id (fields_of l)
   sent_by_fields id l =
       ap₂ (sent R eq) (flags_seen l.flags) (zip_mapped (λ tuple. tuple.items) (branch_at R w id) l.elements.items l.multiplicities.items)
 

@@ -69,12 +69,7 @@ shaped values (suc k) n wide long =
 -- a matrix of some rows is not empty
 some_rows : {T : Type 0} (values : List T) (width n : ℕ) → 0 < width → 0 < n → length values ≡ n * width → 0 < height (record { values = values; width = width })
 some_rows values zero n wide some long = absurd (omega (arith, wide))
-some_rows values (suc k) n wide some long = rw eqb-suc-zero (div_some (length values) n k some long)
-  where
-    div_some : (m n k : ℕ) → 0 < n → m ≡ n * suc k → 0 < m / suc k
-    div_some m n k some long =
-        let least : n ≤ m / suc k = le-div n m (suc k) (omega arith) (omega (arith, long)) in
-        omega (arith, least, some)
+some_rows values (suc k) n wide some long = rw eqb-suc-zero (omega (arith, le-div n (length values) (suc k) (omega arith) (omega (arith, long)), some))
 
 -- two maps over a range are the same where they give the same of each number
 same_over : {X : Type 0} (f g : ℕ → X) (a n : ℕ) → ((r : ℕ) → r < a + n → f r ≡ g r) → map f (range_with_len a n) ≡ map g (range_with_len a n)
