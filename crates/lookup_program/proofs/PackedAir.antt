@@ -26,8 +26,6 @@ use Rattle.lookup_program.specs.Machines.{AreLookupsOf, air_bus_and_weight}
 use Rattle.lookup_program.specs.declared.airs.MachineAir.{MachineAir}
 
 module _ {F : Type 0} (R : Ring F) (eq : F → F → Bool) where
-
-
   -- tuples of one value
   abbrev IsNarrow : Lookup F → Type 0
   IsNarrow l = All (λ tuple. length tuple.items ≡ 1) l.elements.items

@@ -14,11 +14,10 @@ use Rattle.lookup_program.proofs.challenge.BabyBear4ChallengeBabyBear.from_word.
 
 -- a part that is no number writes no coefficient
 no_value : (bound : ℕ) (came rest : List (List ℕ)) (part : List ℕ) (numbers : List ℕ) → number_of bound part ≡ None → map (number_of bound) (came ++ part ∷ rest) ≡ map Some numbers → ⊥
-no_value bound [] rest part numbers none writes = grind (arith, none, writes)
+no_value bound [] rest part [] none writes = cc
+no_value bound [] rest part (n ∷ numbers) none writes = cc
 no_value bound (word ∷ came) rest part [] none writes = cc
 no_value bound (word ∷ came) rest part (n ∷ numbers) none writes = no_value bound came rest part numbers none cc
-
-
 
 -- one more coefficient
 one_more : (bound p : ℕ) (came : List (List ℕ)) (part : List ℕ) (items : List (Residue p)) (i : ℕ) (x : Residue p) → i < length items → map (number_of bound) came ≡ map (λ c. Some c.value) (take i items) → number_of bound part ≡ Some x.value
