@@ -1,6 +1,6 @@
 -- What the AIRs of the machines push sends what the machine says.
 use Rattle.std.proofs.Common.{◌≡◌, ℕ, Bool, List, [], ◌∷◌, codes, length, map, slice_index_or, None, Some, All, OnOk, Result, Ok, Err, MatchResult, inl, inr, max, subst, sym, ap, ap₂, arith, ◌∙◌}
-use Rattle.std.proofs.lemmas.List.Elements.{All-cons, All-nil, All-from_recursion, recursion_from_All}
+use Rattle.std.proofs.lemmas.List.Elements.{All-from_recursion, recursion_from_All}
 use Rattle.std.proofs.lemmas.Option.{get_or_from_slice_get}
 use Rattle.std.specs.declared.alloc.Global.{Global}
 use Rattle.std.specs.declared.vec.Vec.{Vec}
@@ -11,7 +11,7 @@ use Rattle.expressions.specs.declared.error.AirError.{AirError}
 use Rattle.lookup_model.specs.Sent.{sent}
 use Rattle.lookup_record.specs.Interaction.{Branch, Interaction, exclusive, global, local}
 use Rattle.lookup_record.specs.Messages.{IsExclusiveQuery, IsUnitQuery, PushesOne, flag_and_fields}
-use Rattle.lookup.specs.Sends.{bus_and_weight, interaction_sends, interaction_tuples, message_under}
+use Rattle.lookup.specs.Sends.{bus_and_weight, interaction_sends, message_under}
 use Rattle.lookup_program.specs.Machines.{SendsLike, value_message}
 use Rattle.lookup_program.specs.declared.airs.MachineAir.TheVariants.{Entries, Group, Keys, RangeCheck}
 use Rattle.lookup_program.specs.internal.Pushes.{AreTwoKeys, IsCellTuple}

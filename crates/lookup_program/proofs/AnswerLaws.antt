@@ -1,5 +1,5 @@
 -- The answers to the words of a run.
-use Rattle.std.proofs.Common.{◌≡◌, ◌≢◌, ◌⊎◌, ◌<◌, ◌≤◌, ◌++◌, ℕ, List, [], ◌∷◌, codes, get_or, length, map, string_bytes, Option, None, Some, IfSome, Result, Ok, Err, MatchResult, inl, inr, refl, sym, ap, arith, ◌∙◌}
+use Rattle.std.proofs.Common.{◌≡◌, ◌≢◌, ◌⊎◌, ◌<◌, ◌≤◌, ◌++◌, ℕ, List, [], ◌∷◌, codes, get_or, length, map, string_bytes, Option, None, Some, IfSome, Result, Ok, Err, MatchResult, inl, inr, refl, sym, arith}
 use Rattle.std.specs.declared.alloc.Global.{Global}
 use Rattle.std.specs.declared.string.String.{String}
 use Rattle.lookup_program.specs.Fields.{Fields}

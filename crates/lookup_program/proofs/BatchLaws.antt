@@ -1,13 +1,11 @@
 -- What a batch over the rows of a machine is, and what generation gives for it.
-use Rattle.std.proofs.Common.{◌≡◌, ◌<◌, ◌≤◌, ◌+◌, ◌-◌, ◌*◌, ◌/◌, ◌%◌, ℕ, zero, suc, Bool, List, [], ◌∷◌, length, map, slice_get, slice_index_or, drop, None, Some, All, refl, subst, sym, ap, ap₂, arith, ◌∙◌}
+use Rattle.std.proofs.Common.{◌≡◌, ◌<◌, ◌≤◌, ◌+◌, ◌-◌, ◌*◌, ◌/◌, ◌%◌, ℕ, zero, suc, Bool, List, [], ◌∷◌, length, map, slice_get, slice_index_or, drop, None, Some, All, refl, subst, sym, ap, arith, ◌∙◌}
 use Rattle.std.proofs.Math.Dec.{eqb-suc-zero}
 use Rattle.std.proofs.Math.Nat.{div-mul-le_self, mod-lt, mul-le-mul_left}
 use Rattle.std.proofs.lemmas.List.{length-drop, length-take-le}
-use Rattle.std.proofs.lemmas.List.Elements.{All-cons, All-nil, All-from_recursion}
+use Rattle.std.proofs.lemmas.List.Elements.{All-from_recursion}
 use Rattle.std.proofs.lemmas.Nat.{div-mul-add, le-div}
-use Rattle.std.proofs.lemmas.Option.{slice_get-map}
 use Rattle.std.specs.List.{AllZip, range_with_len, slice_range}
-use Rattle.std.specs.Option.{option_map}
 use Rattle.lists.proofs.Parts.{length_rows}
 use Rattle.lists.proofs.Images.{one_item, same_map, map-map, from_map, map_at}
 use Rattle.field.specs.Ring.{Ring}

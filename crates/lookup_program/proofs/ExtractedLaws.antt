@@ -1,7 +1,7 @@
 -- The lookups that are extracted from the AIRs of the machines.
 use Rattle.std.proofs.Common.{◌≡◌, ◌<◌, Bool, [], ◌∷◌, length, map, All, Result, Ok, Err, IfOk, OnOk, MatchResult, inl, inr, subst, sym, ap, arith, ◌∙◌}
 use Rattle.std.proofs.lemmas.List.Elements.{All-cons, All-nil}
-use Rattle.std.specs.List.{enumerate_from, sum_by}
+use Rattle.std.specs.List.{enumerate_from}
 use Rattle.lists.proofs.Each.{All-of_map}
 use Rattle.lists.proofs.Images.{one_item}
 use Rattle.field.specs.Ring.{Ring}
@@ -32,7 +32,6 @@ use Rattle.lookup_program.specs.Machines.{AreLookupsOf, SendsLike, air_bus_and_w
 use Rattle.air.specs.Cell.{IsCellsRefusal}
 use Rattle.lookup_program.specs.Pushes.{EvaluatesOnePush}
 use Rattle.lookup_program.specs.declared.airs.MachineAir.{MachineAir}
-use Rattle.lookup_program.specs.declared.airs.MachineAir.TheVariants.{Entries, Group, Keys, RangeCheck}
 
 -- the weight of an AIR's lookup is small
 light : (air : MachineAir) → (air_bus_and_weight air).1 < weight_bound

@@ -1,7 +1,7 @@
 -- The line of the first tuple of a machine that does not balance.
 use Rattle.std.proofs.Common.{◌≡◌, ◌<◌, ◌+◌, ◌++◌, ℕ, zero, suc, Bool, true, Option, None, Some, IfSome, List, [], ◌∷◌, All, codes, map, nat_eq, slice_get, refl, sym, ap, ap₂, subst, arith, ◌∙◌, Decides}
 use Rattle.std.proofs.lemmas.List.{append-nil}
-use Rattle.std.proofs.lemmas.List.Elements.{All-cons, All-map, All-nil, All-from_recursion}
+use Rattle.std.proofs.lemmas.List.Elements.{All-map, All-from_recursion}
 use Rattle.std.specs.List.{AllByRecursion, AllZip, enumerate_from, filter, filter_map, flat_map, range_with_len}
 use Rattle.std.specs.Cmp.Lexicographic.{pointwise}
 use Rattle.lists.proofs.Each.{All-of_map, all_there, all_of_map}
@@ -22,7 +22,6 @@ use Rattle.lookup_model.specs.declared.types.Lookup.{Lookup}
 use Rattle.lookup_model.specs.Batches.Messages.{HasLawfulFlags}
 use Rattle.lookup_model.proofs.Counting.LawfulFlags.{lawful_rows}
 use Rattle.lookup.specs.Lookups.{lookups_of}
-use Rattle.lookup.specs.Sends.{lookup_bus_and_weight}
 use Rattle.lookup_debug.specs.Contributions.{Contribution, Traced, contributions_of, contributions_on, traced_of}
 use Rattle.lookup_debug.specs.FaultText.{fault_text, mismatch_text}
 use Rattle.lookup_debug.specs.Groups.{Group, LookupAt, bus_label, groups, is_local, is_on, local_group, local_label, lookup_contributions, lookups_in}

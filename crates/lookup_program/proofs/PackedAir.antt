@@ -1,16 +1,13 @@
 -- The one lookup of an AIR, packed.
 use Rattle.std.proofs.Common.{◌≡◌, ℕ, Bool, List, [], ◌∷◌, Result, Ok, Err, IfOk, MatchResult, length, map, All, sym, ap, subst, ◌∙◌}
 use Rattle.std.proofs.lemmas.List.Elements.{All-cons, All-head, All-map, All-nil, recursion_from_All}
-use Rattle.std.specs.List.{AllByRecursion, zip}
-use Rattle.std.specs.Option.{option_map}
+use Rattle.std.specs.List.{AllByRecursion}
 use Rattle.lists.proofs.Each.{All-of_map}
 use Rattle.lists.proofs.Images.{one_item}
-use Rattle.lists.proofs.Zips.{zip_mapped}
 use Rattle.field.specs.Ring.{Ring}
-use Rattle.expressions.specs.Window.{Window}
 use Rattle.expressions.specs.declared.base_expression.SymbolicExpression.{SymbolicExpression}
 use Rattle.lookup_model.specs.Outline.{Outline, fields_of}
-use Rattle.lookup_model.specs.Sent.{Sent, branch_at, sent, sent_at, values}
+use Rattle.lookup_model.specs.Sent.{sent_at}
 use Rattle.lookup_model.specs.declared.error.LookupError.{LookupError}
 use Rattle.lookup_model.specs.declared.error.LookupError.TheVariants.{Memory}
 use Rattle.lookup_model.specs.declared.types.Lookup.{Lookup}

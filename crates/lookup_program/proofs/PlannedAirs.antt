@@ -13,7 +13,6 @@ use Rattle.lookup_model.specs.declared.error.LookupError.{LookupError}
 use Rattle.lookup_model.specs.declared.types.Lookup.{Lookup}
 use Rattle.lookup.specs.Guards.{IsHeightRefusal, weighted_height, weighted_height_sum}
 use Rattle.lookup.specs.Lookups.{lookups_of}
-use Rattle.lookup.specs.Sends.{lookup_bus_and_weight}
 use Rattle.lookup.specs.declared.lookups.Lookups.{Lookups}
 use Rattle.batch.specs.Checks.{IsPlanRefusal}
 use Rattle.batch.specs.Order.{AreInOrder, same_bus}

@@ -1,5 +1,5 @@
 -- Tuples of one value have one width, so no check of widths refuses them.
-use Rattle.std.proofs.Common.{◌≡◌, ◌≤◌, ◌++◌, ℕ, Bool, true, false, cond, List, [], ◌∷◌, Some, All, length, map, refl, sym, ap, subst, arith, ◌∙◌}
+use Rattle.std.proofs.Common.{◌≡◌, ◌≤◌, ◌++◌, ℕ, List, [], ◌∷◌, Some, All, length, map, sym, subst, arith, ◌∙◌}
 use Rattle.std.proofs.lemmas.List.Elements.{All-filter, All-map, recursion_from_All}
 use Rattle.std.specs.List.{AllByRecursion, flat_map}
 use Rattle.lists.proofs.Each.{all_front, all_back, All-there, All-parts}
@@ -8,7 +8,7 @@ use Rattle.lookup_model.specs.Outline.{Outline, fields_of}
 use Rattle.lookup_model.specs.declared.error.LookupError.{LookupError}
 use Rattle.lookup.specs.BusWidths.{widths_of}
 use Rattle.lookup.specs.Buses.{bus_names, bus_groups, on_bus}
-use Rattle.lookup_model.specs.Names.{is_named, same_name}
+use Rattle.lookup_model.specs.Names.{is_named}
 use Rattle.lookup.specs.Lookups.{lookups_of}
 use Rattle.lookup.specs.NamedWidths.{IsFirstWidthMismatch, first_width, named_widths}
 use Rattle.lookup.specs.declared.lookups.Lookups.{Lookups}

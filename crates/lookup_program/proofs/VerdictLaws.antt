@@ -1,5 +1,5 @@
 -- What a report says.
-use Rattle.std.proofs.Common.{◌≡◌, ◌≢◌, ◌↔◌, ◌++◌, ◌<◌, ℕ, Bool, IsTrue, List, [], Option, Result, Ok, Err, MatchResult, is_ok, length, map, string_bytes, refl, subst, sym, ap, ap₂, ◌∙◌, arith}
+use Rattle.std.proofs.Common.{◌≡◌, ◌≢◌, ◌↔◌, ◌++◌, ◌<◌, ℕ, Bool, IsTrue, List, [], Option, Result, MatchResult, is_ok, length, map, string_bytes, subst, sym, ap, ap₂, ◌∙◌, arith}
 use Rattle.std.specs.declared.alloc.Global.{Global}
 use Rattle.std.specs.declared.string.String.{String}
 use Rattle.lists.proofs.Zips.{seconds}

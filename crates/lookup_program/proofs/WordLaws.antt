@@ -1,5 +1,5 @@
 -- Which words write numbers, and which residues.
-use Rattle.std.proofs.Common.{◌≡◌, ◌<◌, ◌≤◌, ◌+◌, ◌*◌, ◌⊎◌, ◌&&◌, ℕ, Bool, true, false, cond, nat_lt, List, Option, Some, None, MatchOption, option_map, length, get_or, take, refl, ap, inl, inr, arith, sym, ◌∙◌, lit≤, ltb-true, lt-ltb}
+use Rattle.std.proofs.Common.{◌≡◌, ◌<◌, ◌≤◌, ◌+◌, ◌*◌, ◌⊎◌, ◌&&◌, ℕ, Bool, true, cond, nat_lt, List, Option, Some, None, MatchOption, option_map, length, get_or, take, ap, inl, inr, arith, sym, ◌∙◌, lit≤, ltb-true, lt-ltb}
 use Rattle.std.specs.Char.{digit_value}
 use Rattle.std.specs.Int.{IsInRange, IsOutOfRange}
 use Rattle.std.specs.Str.{all_ascii_digits}

@@ -1,7 +1,7 @@
-use Rattle.std.proofs.Common.{[], ◌∷◌, ◌++◌, refl, ap, arith, ◌∙◌}
+use Rattle.std.proofs.Common.{arith}
 use Rattle.std.proofs.lemmas.List.{nil_from_length}
 use Rattle.std.specs.Vec.Iter.{into_iter_items}
-use Rattle.lists.proofs.Images.{all_passed, passed}
+use Rattle.lists.proofs.Images.{all_passed}
 use Rattle.matrix.specs.Matrix.{height}
 use Rattle.lookup_program.proofs.traces.air_parts.Goals as goal
 

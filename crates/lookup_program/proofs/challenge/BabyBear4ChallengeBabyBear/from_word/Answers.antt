@@ -1,7 +1,7 @@
 use Rattle.std.proofs.Common.{◌≡◌, ◌<◌, ◌+◌, ◌++◌, ◌∷◌, ◌==◌, [], ℕ, List, None, Some, ap, arith, length, map, refl, of_calls, rules, set, sym, take, take_all, tests, ◌∙◌}
 use Rattle.std.specs.List.{slice_split}
 use Rattle.std.proofs.lemmas.Iterator.Splits.{YieldsList-from_slice_split}
-use Rattle.std.proofs.lemmas.List.{append_assoc, length-append, length-map, length-set, length-take-le, length_push, map_push, take_more_set}
+use Rattle.std.proofs.lemmas.List.{append_assoc, length-append, length-set, length-take-le, length_push, map_push, take_more_set}
 use Rattle.std.proofs.lemmas.Option.{MatchOption-at_none, MatchOption-at_some}
 use Rattle.field.specs.BabyBear.{baby_bear_positive}
 use Rattle.field.specs.Quartic.{coefficients_of}
