@@ -1,5 +1,5 @@
 -- Groups of lookups by bus, beside the entries of a map: one more lookup.
-use Rattle.std.proofs.Common.{◌≡◌, ◌+◌, ℕ, zero, suc, Bool, true, false, cond, is_some, List, [], ◌∷◌, ◌++◌, Option, None, Some, map, nat_lt, not, position, slice_get, refl, sym, ap, subst, ◌∙◌, true≢false}
+use Rattle.std.proofs.Common.{◌≡◌, ◌+◌, ℕ, zero, suc, Bool, false, cond, is_some, List, [], ◌∷◌, ◌++◌, Option, None, Some, map, nat_lt, not, position, slice_get, refl, sym, ap, subst, ◌∙◌, arith}
 use Rattle.std.proofs.lemmas.List.{length-map}
 use Rattle.std.specs.List.{AllZip, prefix_len}
 use Rattle.std.specs.Map.{keys_of, lookup, values_of}
@@ -42,18 +42,16 @@ module _ {E V : Type 0} (Holds : List (Outline E) → V → Type 0) where
   -- the group of the entry at an index
   group_at : (gs : List (List ℕ × List (Outline E))) (es : List (String Global × V)) (i : ℕ) (v : V) → AllZip IsEntry gs es → slice_get (values_of es) i ≡ Some v → (group : List (Outline E)) × (slice_get (values_of gs) i ≡ Some group) × Holds group v
   group_at [] [] i v h is = absurd (cc is)
-  group_at [] (e ∷ es) i v h is = absurd h
-  group_at (g ∷ gs) [] i v h is = absurd h
   group_at (g ∷ gs) (e ∷ es) zero v h is = let same : e.1 ≡ v = cc is in (g.1, refl, subst (Holds g.1) same h.0.1)
   group_at (g ∷ gs) (e ∷ es) (suc i) v h is = group_at gs es i v h.1 is
+  group_at gs es i v h is = absurd h
 
   -- both written at an index
   entries_set : (gs : List (List ℕ × List (Outline E))) (es : List (String Global × V)) (i : ℕ) (group : List (Outline E)) (v : V) → AllZip IsEntry gs es → Holds group v → AllZip IsEntry (set_value_at gs i group) (set_value_at es i v)
   entries_set [] [] i group v h holds = tt
-  entries_set [] (e ∷ es) i group v h holds = absurd h
-  entries_set (g ∷ gs) [] i group v h holds = absurd h
   entries_set (g ∷ gs) (e ∷ es) zero group v h holds = ((h.0.0, holds), h.1)
   entries_set (g ∷ gs) (e ∷ es) (suc i) group v h holds = (h.0, entries_set gs es i group v h.1 holds)
+  entries_set gs es i group v h holds = absurd h
 
   -- both inserted under a name
   module _ (k : String Global) (group : List (Outline E)) (v : V) (holds : Holds group v) where
@@ -62,30 +60,14 @@ module _ {E V : Type 0} (Holds : List (Outline E) → V → Type 0) where
 
     entries_inserted : (gs : List (List ℕ × List (Outline E))) (es : List (String Global × V)) → AllZip IsEntry gs es → AllZip IsEntry (insert_entry same_name gs (string_bytes k) group) (inserted es)
     entries_inserted [] [] h = ((refl, holds), tt)
-    entries_inserted [] (e ∷ es) h = absurd h
-    entries_inserted (g ∷ gs) [] h = absurd h
-    entries_inserted (g ∷ gs) (e ∷ es) h =
-        subst (λ n. AllZip IsEntry (cond (same_name (string_bytes k) n) ((g.0, group) ∷ gs) (g ∷ insert_entry same_name gs (string_bytes k) group)) (inserted (e ∷ es))) h.0.0
-        (by_test (same_name (string_bytes k) (string_bytes e.0)) (entries_inserted gs es h.1))
-      where
-        by_test : (p : Bool) → AllZip IsEntry (insert_entry same_name gs (string_bytes k) group) (inserted es)
-            → AllZip IsEntry (cond p ((g.0, group) ∷ gs) (g ∷ insert_entry same_name gs (string_bytes k) group)) (cond p ((e.0, v) ∷ es) (e ∷ inserted es))
-        by_test true rest = ((h.0.0, holds), h.1)
-        by_test false rest = (h.0, rest)
+    entries_inserted (g ∷ gs) (e ∷ es) h = grind (arith, entries_inserted gs es h.1, h.0.0, h.0.1, h.1, holds)
+    entries_inserted gs es h = absurd h
 
   -- a name that no entry has is that of no group
   no_group : (name : List ℕ) (gs : List (List ℕ × List (Outline E))) (es : List (String Global × V)) → AllZip IsEntry gs es → false ≡ is_some (lookup (λ j. same_name name (string_bytes j)) es) → lookup (same_name name) gs ≡ None
   no_group name [] [] h none = refl
-  no_group name [] (e ∷ es) h none = absurd h
-  no_group name (g ∷ gs) [] h none = absurd h
-  no_group name (g ∷ gs) (e ∷ es) h none =
-      subst (λ n. cond (same_name name n) (Some g.1) (lookup (same_name name) gs) ≡ None) h.0.0
-      (by_test (same_name name (string_bytes e.0)) none (no_group name gs es h.1))
-    where
-      by_test : (p : Bool) → false ≡ is_some (cond p (Some e.1) (lookup (λ j. same_name name (string_bytes j)) es))
-          → (false ≡ is_some (lookup (λ j. same_name name (string_bytes j)) es) → lookup (same_name name) gs ≡ None) → cond p (Some g.1) (lookup (same_name name) gs) ≡ None
-      by_test true there rest = absurd (true≢false (sym there))
-      by_test false there rest = rest there
+  no_group name (g ∷ gs) (e ∷ es) h none = grind (arith, no_group name gs es h.1, h.0.0, none)
+  no_group name gs es h none = absurd h
 
   module _ (os : List (Outline E)) (name : List ℕ) (es : List (String Global × V)) (entries : AllZip IsEntry (bus_groups os) es) where
     module _ (i : ℕ) (at : position (λ j. same_name name (string_bytes j)) (keys_of es) ≡ Some i) (v : V) (had : slice_get (values_of es) i ≡ Some v) where

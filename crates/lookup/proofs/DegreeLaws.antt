@@ -1,5 +1,5 @@
 -- What is kept of lookups for their degrees.
-use Rattle.std.proofs.Common.{◌≡◌, ◌<◌, ◌≤◌, ◌^◌, ℕ, List, ◌++◌, ◌∙◌, None, Some, Option, Result, Ok, Err, IfOk, MatchOption, MatchResult, map, arith, ap, refl, subst, sym, length-append}
+use Rattle.std.proofs.Common.{◌≡◌, ◌<◌, ◌≤◌, ◌^◌, ℕ, List, ◌++◌, ◌∙◌, None, Some, Option, Result, Ok, Err, IfOk, MatchOption, MatchResult, map, arith, ap, subst, sym, length-append}
 use Rattle.std.proofs.lemmas.List.{map-append}
 use Rattle.std.specs.List.{zip}
 use Rattle.std.specs.Option.{option_map}
@@ -11,7 +11,6 @@ use Rattle.lookup_model.specs.LookupDegree.{BranchDegrees, IsDegree, branch_degr
 use Rattle.lookup_model.specs.Outline.{Outline, fields_of}
 use Rattle.lookup_model.specs.SumDegrees.{AreSumDegrees, IsTooGreat}
 use Rattle.lookup_model.specs.declared.error.LookupError.{LookupError}
-use Rattle.lookup_model.specs.declared.error.LookupError.TheVariants.{DegreeOverflow}
 use Rattle.lookup_model.specs.declared.sum_degrees.SumDegrees.{SumDegrees}
 use Rattle.lookup_model.specs.declared.types.Lookup.{Lookup}
 use Rattle.lookup.specs.Fewest.{AnswersDegree}
@@ -74,6 +73,3 @@ module _ {F : Type 0} where
   pub answers_kept : (o : Outline (SymbolicExpression F)) (sum : SumDegrees) (r : Result ℕ LookupError) → ((bs : List BranchDegrees) → AreSumDegrees bs sum → IsDegree r (constraint_degree_of None bs)) → IfOk r (λ n. n < 2 ^ 64)
       → KeepsDegrees (Some sum) o → AnswersDegree o r
   answers_kept o sum r degree small kept = (subst (IsDegree r) (sym (plain_degree o kept.plain)) (degree (outline_branch_degrees 0 o) kept.known), small)
-
-  pub answers_none : (o : Outline (SymbolicExpression F)) → KeepsDegrees None o → AnswersDegree o (Err DegreeOverflow)
-  answers_none o kept = ((refl, omega (arith, kept.known, plain_degree o kept.plain)), tt)

@@ -1,7 +1,7 @@
 -- What the lookups that are extracted from an AIR send.
-use Rattle.std.proofs.Common.{◌≡◌, ℕ, zero, suc, ◌+◌, Bool, List, [], ◌∷◌, ◌++◌, length, map, Option, None, Some, option_map, slice_get, All, inl, inr, refl, sym, ap, ap₂, arith, ◌∙◌}
+use Rattle.std.proofs.Common.{◌≡◌, ℕ, ◌+◌, Bool, List, [], ◌∷◌, ◌++◌, length, map, Option, None, Some, option_map, slice_get, All, inl, inr, refl, sym, ap, ap₂, arith, ◌∙◌, subst}
 use Rattle.std.proofs.lemmas.List.{append_assoc, length-map, map-append}
-use Rattle.std.proofs.lemmas.List.Elements.{All-head, All-tail}
+use Rattle.std.proofs.lemmas.List.Elements.{All-map, recursion_from_All}
 use Rattle.std.specs.List.{enumerate_from, zip}
 use Rattle.std.specs.declared.alloc.Global.{Global}
 use Rattle.std.specs.declared.vec.Vec.{Vec}
@@ -20,6 +20,7 @@ use Rattle.lookup_model.specs.declared.types.Lookup.{Lookup}
 use Rattle.lookup_record.specs.Interaction.{ExclusiveInteraction, GlobalInteraction, Interaction, Tuple, exclusive, global, local}
 use Rattle.lookup_record.specs.RecordedAir.{RecordedAir, no_air_recorded, with_interaction}
 use Rattle.lookup.specs.Extraction.{IsFaultless, IsFirstLocalRefusal, IsLocalRefusal, exclusive_at, extraction, global_at, in_columns, local_at, tuple_widths}
+use Rattle.lists.proofs.Each.{all_back, All-there}
 use Rattle.lookup.specs.Sends.{bus_and_weight, in_order, interaction_sends, interaction_tuples, lookup_bus_and_weight}
 
 module _ {E : Type 0} where
@@ -53,11 +54,8 @@ module _ {E : Type 0} where
       ++ one_kind exclusive exclusive_at (λ column m. refl) (length locals + length globals) exclusives i)
       ∙ append_assoc (outlines_from 0 (map local locals)) (outlines_from (length locals) (map global globals)) (outlines_from (length locals + length globals) (map exclusive exclusives))
       ∙ ap (λ t. outlines_from 0 (map local locals) ++ t) behind
-      ∙ sym (outlines_append 0 (map local locals) (map global globals ++ map exclusive exclusives) ∙ ap (λ k. outlines_from 0 (map local locals) ++ outlines_from k (map global globals ++ map exclusive exclusives)) counted)
+      ∙ sym (outlines_append 0 (map local locals) (map global globals ++ map exclusive exclusives) ∙ ap (λ k. outlines_from 0 (map local locals) ++ outlines_from k (map global globals ++ map exclusive exclusives)) (omega (arith, length-map locals local)))
     where
-      counted : 0 + length (map local locals) ≡ length locals
-      counted = omega (arith, length-map locals local)
-
       behind : outlines_from (length locals) (map global globals) ++ outlines_from (length locals + length globals) (map exclusive exclusives) ≡ outlines_from (length locals) (map global globals ++ map exclusive exclusives)
       behind =
           sym (outlines_append (length locals) (map global globals) (map exclusive exclusives)
@@ -65,17 +63,16 @@ module _ {E : Type 0} where
 
 module _ {F : Type 0} (R : Ring F) (eq : F → F → Bool) (w : Window F) where
   -- what the fields of a lookup send under an id
-  abbrev outline_sends : ℕ → Outline (SymbolicExpression F) → Sent F
+  abbrev pub outline_sends : ℕ → Outline (SymbolicExpression F) → Sent F
   outline_sends id o =
       sent R eq (option_map (values R w) o.flags) (map (λ p. branch_at R w id p.0 p.1) (zip o.elements o.multiplicities))
 
   -- the values of the flags, which may be absent
   flags_seen : (flags : Option (Vec (SymbolicExpression F) Global)) → option_map (λ flags. values R w flags.items) flags ≡ option_map (values R w) (option_map (λ flags. flags.items) flags)
-  flags_seen None = refl
-  flags_seen (Some flags) = refl
+  flags_seen flags = grind arith
 
   -- a lookup sends what its fields say
-  sent_by_fields : (id : ℕ) (l : Lookup F) → sent_at R eq w id l ≡ outline_sends id (fields_of l)
+  pub sent_by_fields : (id : ℕ) (l : Lookup F) → sent_at R eq w id l ≡ outline_sends id (fields_of l)
   sent_by_fields id l =
       ap₂ (sent R eq) (flags_seen l.flags) (zip_mapped (λ tuple. tuple.items) (branch_at R w id) l.elements.items l.multiplicities.items)
 
@@ -92,8 +89,6 @@ module _ {F : Type 0} (R : Ring F) (eq : F → F → Bool) (w : Window F) where
   sent_from : (id : ℕ → ℕ) (n : ℕ) (lookups : List (Lookup F)) (interactions : List (Interaction (SymbolicExpression F))) → map fields_of lookups ≡ outlines_from n interactions
       → sent_row_under R eq (λ l. id l.column) w lookups ≡ map (λ p. interaction_sends R eq (value R w) (id p.0) p.1) (enumerate_from n interactions)
   sent_from id n [] [] same = refl
-  sent_from id n [] (m ∷ ms) same = absurd (cc same)
-  sent_from id n (l ∷ ls) [] same = absurd (cc same)
   sent_from id n (l ∷ ls) (m ∷ ms) same =
       let first : fields_of l ≡ outline_at n m = cc same in
       let rest : map fields_of ls ≡ outlines_from (n + 1) ms = cc same in
@@ -106,6 +101,7 @@ module _ {F : Type 0} (R : Ring F) (eq : F → F → Bool) (w : Window F) where
       column_is k (global m) = refl
       column_is k (local tuples) = refl
       column_is k (exclusive m) = refl
+  sent_from id n ls ms same = absurd (cc same)
 
 -- lookups that are extracted from interactions send, at each window, what the interactions do, in
 -- order, each under the id of its column
@@ -122,9 +118,7 @@ outline_bus_and_weight o = (o.bus, o.count_weight)
 -- those of the lookups of interactions
 kinds_from : {E : Type 0} (n : ℕ) (interactions : List (Interaction E)) → map outline_bus_and_weight (outlines_from n interactions) ≡ map bus_and_weight interactions
 kinds_from n [] = refl
-kinds_from n (global m ∷ ms) = ap (λ t. bus_and_weight (global m) ∷ t) (kinds_from (n + 1) ms)
-kinds_from n (local tuples ∷ ms) = ap (λ t. bus_and_weight (local tuples) ∷ t) (kinds_from (n + 1) ms)
-kinds_from n (exclusive m ∷ ms) = ap (λ t. bus_and_weight (exclusive m) ∷ t) (kinds_from (n + 1) ms)
+kinds_from n (m ∷ ms) = grind (arith, kinds_from (n + 1) ms)
 
 -- lookups that are extracted from interactions have their buses and weights, in order
 pub extracted_kinds : {F : Type 0} (lookups : List (Lookup F)) (locals : List (List (Tuple (SymbolicExpression F)))) (globals : List (GlobalInteraction (SymbolicExpression F))) (exclusives : List (ExclusiveInteraction (SymbolicExpression F)))
@@ -137,9 +131,7 @@ extracted_kinds lookups locals globals exclusives same =
 -- the tuples of the lookups of interactions
 tuples_from : {E : Type 0} (n : ℕ) (interactions : List (Interaction E)) → map (λ o. o.elements) (outlines_from n interactions) ≡ map interaction_tuples interactions
 tuples_from n [] = refl
-tuples_from n (global m ∷ ms) = ap (λ t. interaction_tuples (global m) ∷ t) (tuples_from (n + 1) ms)
-tuples_from n (local tuples ∷ ms) = ap (λ t. interaction_tuples (local tuples) ∷ t) (tuples_from (n + 1) ms)
-tuples_from n (exclusive m ∷ ms) = ap (λ t. interaction_tuples (exclusive m) ∷ t) (tuples_from (n + 1) ms)
+tuples_from n (m ∷ ms) = grind (arith, tuples_from (n + 1) ms)
 
 -- lookups that are extracted from interactions have their tuples, in order
 pub extracted_tuples : {F : Type 0} (lookups : List (Lookup F)) (locals : List (List (Tuple (SymbolicExpression F)))) (globals : List (GlobalInteraction (SymbolicExpression F))) (exclusives : List (ExclusiveInteraction (SymbolicExpression F)))
@@ -151,18 +143,12 @@ extracted_tuples lookups locals globals exclusives same =
 
 -- where one interaction was pushed into a new builder, it is the only one
 pub one_in_order : {F EF : Type 0} (layout : AirLayout) (m : Interaction (SymbolicExpression F)) (r : RecordedAir F EF) → r ≡ with_interaction (no_air_recorded layout) m → in_order r.locals r.globals r.exclusives ≡ m ∷ []
-one_in_order layout (global m) r is = ap (λ r. in_order r.locals r.globals r.exclusives) is
-one_in_order layout (local tuples) r is = ap (λ r. in_order r.locals r.globals r.exclusives) is
-one_in_order layout (exclusive m) r is = ap (λ r. in_order r.locals r.globals r.exclusives) is
+one_in_order layout m r is = grind (arith, is)
 
 module _ {E : Type 0} where
   -- widths of tuples of one width have no other
   one_width : (tuples : List (Tuple E)) (width other k : ℕ) → All (λ t. length t.fields ≡ width) tuples → slice_get (tuple_widths tuples) k ≡ Some other → other ≡ width
-  one_width [] width other k all found = absurd (cc found)
-  one_width (t ∷ ts) width other zero all found =
-      let here : length t.fields ≡ other = cc found in
-      sym here ∙ All-head (λ t. length t.fields ≡ width) t ts all
-  one_width (t ∷ ts) width other (suc k) all found = one_width ts width other k (All-tail (λ t. length t.fields ≡ width) t ts all) found
+  one_width tuples width other k all found = All-there (λ w. w ≡ width) (tuple_widths tuples) k other (All-map (λ w. w ≡ width) (λ t. length t.fields) tuples all) found
 
   -- a local lookup without a fault is not refused
   not_refused : (tuples : List (Tuple E)) (e : LookupError) → IsFaultless tuples → ¬ IsLocalRefusal tuples e
@@ -173,14 +159,6 @@ module _ {E : Type 0} where
 
   -- none of several is
   pub none_refused : (locals : List (List (Tuple E))) (e : LookupError) → All IsFaultless locals → ¬ IsFirstLocalRefusal locals e
-  none_refused locals e all first = by_list locals first.before all first.split
-    where
-      by_list : (locals before : List (List (Tuple E))) → All IsFaultless locals → locals ≡ before ++ first.item ∷ first.after → ⊥
-      by_list [] [] all split = absurd (cc split)
-      by_list [] (b ∷ before) all split = absurd (cc split)
-      by_list (l ∷ ls) [] all split =
-          let same : l ≡ first.item = cc split in
-          not_refused first.item e (rw (sym same) (All-head IsFaultless l ls all)) first.fault
-      by_list (l ∷ ls) (b ∷ before) all split =
-          let rest : ls ≡ before ++ first.item ∷ first.after = cc split in
-          by_list ls before (All-tail IsFaultless l ls all) rest
+  none_refused locals e all first =
+      let each = recursion_from_All IsFaultless _ (subst (All IsFaultless) first.split all) in
+      not_refused first.item e (all_back IsFaultless first.before (first.item ∷ first.after) each).0 first.fault

@@ -1,13 +1,14 @@
 -- Lookups that are extracted one after another.
-use Rattle.std.proofs.Common.{◌≡◌, ℕ, suc, ◌+◌, List, [], ◌∷◌, ◌++◌, length, map, All, arith, refl, ap, sym, ◌∙◌}
+use Rattle.std.proofs.Common.{◌≡◌, ℕ, ◌+◌, List, [], ◌∷◌, ◌++◌, length, map, All, arith, refl, ap, sym, ◌∙◌, subst}
 use Rattle.std.proofs.lemmas.List.{append-nil, append_assoc, length-append, length-map, length_push, map_push}
-use Rattle.std.proofs.lemmas.List.Elements.{All-cons}
+use Rattle.std.proofs.lemmas.List.Elements.{All-cons, All-map}
 use Rattle.std.proofs.lemmas.List.FromFn.{length-enumerate_from}
 use Rattle.std.specs.List.{enumerate_from}
-use Rattle.lists.proofs.Images.{map-map}
+use Rattle.lists.proofs.Images.{map-map, same_length}
 use Rattle.lookup_model.specs.declared.error.LookupError.{LookupError}
 use Rattle.lookup_record.specs.Interaction.{Tuple, GlobalInteraction, ExclusiveInteraction}
 use Rattle.lookup_model.specs.Outline.{Outline}
+use Rattle.lists.proofs.Each.{All-of_map}
 use Rattle.lookup.specs.Extraction.{exclusive_at, extraction, global_at, in_columns, local_at, tuple_widths, IsFaultless, IsFirstLocalRefusal, IsLocalRefusal}
 
 -- one more lookup, in the next column
@@ -81,13 +82,8 @@ all_seen seen lookup_at lookups rest list none e =
 module _ {A E : Type 0} (items : A → List E) where
   -- lists of one width, as the fields of tuples
   pub widths_of_tuples : (vs : List A) (tuples : List (Tuple E)) (width : ℕ) → map items vs ≡ map (λ t. t.fields) tuples → All (λ v. length (items v) ≡ width) vs → All (λ t. length t.fields ≡ width) tuples
-  widths_of_tuples [] [] width e all = λ k d lt. absurd (omega (arith, lt))
-  widths_of_tuples [] (t ∷ ts) width e all = absurd (cc e)
-  widths_of_tuples (v ∷ vs) [] width e all = absurd (cc e)
-  widths_of_tuples (v ∷ vs) (t ∷ ts) width e all =
-      let head : items v ≡ t.fields = cc e in
-      let tail : map items vs ≡ map (λ s. s.fields) ts = cc e in
-      All-cons (λ s. length s.fields ≡ width) t ts (sym (ap length head) ∙ all 0 v (omega arith)) (widths_of_tuples vs ts width tail (λ k d lt. all (suc k) d (omega (arith, lt))))
+  widths_of_tuples vs tuples width e all =
+      All-of_map (λ xs. length xs ≡ width) (λ t. t.fields) tuples (subst (All (λ xs. length xs ≡ width)) e (All-map (λ xs. length xs ≡ width) items vs all))
 
   -- their widths are those of the tuples
   pub same_widths : (vs : List A) (tuples : List (Tuple E)) → map items vs ≡ map (λ t. t.fields) tuples → map (λ v. length (items v)) vs ≡ tuple_widths tuples
@@ -96,14 +92,4 @@ module _ {A E : Type 0} (items : A → List E) where
 
 -- two lists that read off one list are equally long
 pub same_lengths : {A B C T : Type 0} (items : A → B) (f : T → B) (g : T → C) (vs : List A) (ms : List C) (ts : List T) → map items vs ≡ map f ts → ms ≡ map g ts → length ms ≡ length vs
-same_lengths items f g vs ms ts vs_are ms_are =
-    ap length ms_are ∙ length-map ts g ∙ sym (length-map ts f) ∙ sym (ap length vs_are) ∙ length-map vs items
-
--- the next item passes from what is left to what is there
-pub passed : {R M B : Type 0} (f : M → B) (seen : R → M) (before after : List B) (left later : List R) (x : R) (ys : List B) → after ≡ before ++ f (seen x) ∷ [] → left ≡ x ∷ later
-    → before ++ map f (map seen left) ≡ ys → after ++ map f (map seen later) ≡ ys
-passed f seen before after left later x ys pushed next e =
-    ap (λ t. t ++ map f (map seen later)) pushed
-    ∙ append_assoc before (f (seen x) ∷ []) (map f (map seen later))
-    ∙ ap (λ t. before ++ map f (map seen t)) (sym next)
-    ∙ e
+same_lengths items f g vs ms ts vs_are ms_are = ap length ms_are ∙ length-map ts g ∙ sym (same_length items f vs ts vs_are)

@@ -1,6 +1,6 @@
 -- With the degree of the gadget a greedy filling has the fewest columns.
-use Rattle.std.proofs.Common.{◌≡◌, ◌≤◌, ◌⊎◌, inl, inr, ℕ, Bool, true, false, cond, not, List, [], ◌∷◌, ◌++◌, Option, None, Some, length, map, refl, sym, ap, subst, ◌∙◌, arith}
-use Rattle.std.proofs.lemmas.List.{append-nil, length-map, map-append}
+use Rattle.std.proofs.Common.{◌≡◌, ◌≤◌, ◌⊎◌, inl, inr, ℕ, true, false, List, [], ◌∷◌, ◌++◌, Option, None, length, map, refl, sym, ap, subst, ◌∙◌, arith, ◌+◌, ◌-◌, ◌<◌, take, drop, length-append, Result, Ok, Err, IfOk}
+use Rattle.std.proofs.lemmas.List.{append-nil, length-map, map-append, drop-drop, drop-take, length-drop, take-take, take_at, drop_at, append_assoc, length_push, take-append-drop}
 use Rattle.std.proofs.lemmas.List.Elements.{filter-append}
 use Rattle.std.specs.List.{AllByRecursion, filter, filter_map, flat_map, zip}
 use Rattle.std.specs.Option.{option_map}
@@ -9,19 +9,91 @@ use Rattle.lists.proofs.Zips.{zip-append}
 use Rattle.lists.proofs.Each.{all_front, all_back, all_both, all_kept, all_with, filter_passes}
 use Rattle.expressions.specs.declared.base_expression.SymbolicExpression.{SymbolicExpression}
 use Rattle.lookup_model.proofs.Lookups.Regrouping.{IsSeparate, first_seen_separate}
-use Rattle.lookup_model.specs.LookupDegree.{branch_degrees, constraint_degree_of, expression_degree, outline_branch_degrees, outline_degree}
+use Rattle.lookup_model.specs.LookupDegree.{branch_degrees, constraint_degree_of, expression_degree, outline_branch_degrees, outline_degree, BranchDegrees}
 use Rattle.lookup_model.specs.Outline.{Outline}
 use Rattle.lookup.specs.Buses.{bus_names, on_bus}
 use Rattle.lookup_model.specs.Names.{is_named, same_name}
 use Rattle.lookup.specs.Cuts.{AreClosed, IsCut, part_items}
 use Rattle.lookup.specs.Fewest.{AnswersDegree, HasFewestColumns}
-use Rattle.lookup.specs.Packing.{AreFilled, IsAbove, IsFilling, IsPacking, additive, is_additive, joined, numbered_from, passing, trial}
+use Rattle.lookup.specs.Packing.{AreFilled, IsAbove, IsFilling, IsPacking, additive, is_additive, joined, numbered_from, passing, Packs}
 use Rattle.lookup.specs.internal.TrialDegrees.{IsPlain}
 use Rattle.lookup.proofs.Columns.{unnumbered, unnumbered_all}
-use Rattle.lookup.proofs.FewestParts.{AreFull, fewest_parts}
 use Rattle.lookup.proofs.FillLaws.{joined_more, with_next}
 use Rattle.lookup_model.proofs.Names.{same_name-Decides}
-use Rattle.lookup.proofs.JoinedDegrees.{degree_hereditary}
+use Rattle.std.proofs.Math.Seq.{take-append_seam}
+use Rattle.std.proofs.lemmas.Bool.{cases_lt}
+use Rattle.lookup.specs.internal.Cuts.{IsHereditary, IsSplit}
+use Rattle.std.proofs.lemmas.Grind.{flat_map-append}
+use Rattle.lookup_model.proofs.SumDegreeLaws.{degree_of_back, degree_of_front}
+use Rattle.lookup_model.specs.declared.error.LookupError.{LookupError}
+
+-- a beginning and the next item
+take_into : {A : Type 0} (xs : List A) (y : A) (ys : List A) → take (length xs + 1) (xs ++ y ∷ ys) ≡ xs ++ y ∷ []
+take_into xs y ys = ap (take (length xs + 1)) (sym (append_assoc xs (y ∷ []) ys)) ∙ take_at (xs ++ y ∷ []) ys (length xs + 1) (length_push xs y)
+
+-- no part fits together with the first member of the next
+abbrev pub AreFull : {A : Type 0} → (List A → Type 0) → List (A × List A) → Type 0
+AreFull Fits parts = AreClosed (λ part x. ¬ Fits (part_items part ++ x ∷ [])) parts
+
+module _ {A : Type 0} (Fits : List A → Type 0) (hereditary : IsHereditary Fits) (whole : List A) where
+  -- what is left after the first part, and that part
+  rest_is : (part : A × List A) (parts : List (A × List A)) (a : ℕ) → flat_map part_items (part ∷ parts) ≡ drop a whole → flat_map part_items parts ≡ drop (a + length (part_items part)) whole
+  rest_is part parts a e =
+      let n = length (part_items part) in
+      sym (drop_at (part_items part) (flat_map part_items parts) n refl) ∙ ap (drop n) e ∙ drop-drop n a whole
+
+  first_is : (part : A × List A) (parts : List (A × List A)) (a : ℕ) → flat_map part_items (part ∷ parts) ≡ drop a whole → part_items part ≡ take (length (part_items part)) (drop a whole)
+  first_is part parts a e = sym (take-append_seam (part_items part) (flat_map part_items parts)) ∙ ap (take (length (part_items part))) e
+
+  later_full : (q : A × List A) (qs : List (A × List A)) → AreFull Fits (q ∷ qs) → AreFull Fits qs
+  later_full q [] full = tt
+  later_full q (r ∷ rs) full = full.1
+
+  -- Full parts from an index on are no more than those of a split from an earlier index on.
+  no_more : (parts split : List (A × List A)) (a b : ℕ) → b ≤ a → flat_map part_items parts ≡ drop a whole → AreFull Fits parts
+      → flat_map part_items split ≡ drop b whole → AllByRecursion (λ part. (part.1 ≡ []) ⊎ Fits (part_items part)) split → length parts ≤ length split
+  no_more [] split a b le cut full other fits = omega arith
+  no_more (q ∷ qs) [] a b le cut full other fits =
+      absurd (omega (arith, ap length cut, ap length other, length-append (part_items q) (flat_map part_items qs), length-drop a whole, length-drop b whole, le))
+  no_more (q ∷ qs) (p ∷ ps) a b le cut full other fits = elim (cases_lt (a + length (part_items q)) (b + length (part_items p))) [
+    | inl lt ↦ absurd (impossible qs cut full lt)
+    | inr end ↦ omega (arith, no_more qs ps (a + length (part_items q)) (b + length (part_items p)) end (rest_is q qs a cut) (later_full q qs full) (rest_is p ps b other) fits.1)
+  ]
+    where
+      -- A full part that ends earlier would fit with the next member, since both lie within the other part.
+      impossible : (rs : List (A × List A)) → flat_map part_items (q ∷ rs) ≡ drop a whole → AreFull Fits (q ∷ rs) → a + length (part_items q) < b + length (part_items p) → ⊥
+      impossible [] e f lt =
+          omega (arith, lt, le, ap length e, ap length other, length-append (part_items q) [], length-append (part_items p) (flat_map part_items ps), length-drop a whole, length-drop b whole)
+      impossible (r ∷ rs) e f lt = by_fit fits.0
+        where
+          by_fit : (p.1 ≡ []) ⊎ Fits (part_items p) → ⊥
+          by_fit (inl one) = omega (arith, lt, le, ap length one)
+          by_fit (inr fit) =
+              let gap = a - b in
+              let k = length (part_items q) + 1 in
+              let m = length (part_items p) - gap in
+              let wide : length (part_items p) ≡ gap + m = omega (arith, lt, le) in
+              let reach : b + gap ≡ a = omega (arith, le) in
+              let few : k ≤ m = omega (arith, lt, le) in
+              let here : take k (drop gap (part_items p)) ≡ part_items q ++ r.0 ∷ [] =
+              ap (λ xs. take k (drop gap xs)) (first_is p ps b other ∙ ap (λ j. take j (drop b whole)) wide)
+              ∙ ap (take k) (drop-take gap m (drop b whole) ∙ ap (take m) (drop-drop gap b whole ∙ ap (λ j. drop j whole) reach))
+              ∙ take-take k m (drop a whole) few
+              ∙ ap (take k) (sym e) ∙ take_into (part_items q) r.0 (r.1 ++ flat_map part_items rs) in
+              f.0 (subst Fits here (hereditary (part_items p) gap k (omega arith) (omega (arith, lt, le)) fit))
+
+-- full parts of a list are no more than the parts of any split of it
+pub fewest_parts : {A : Type 0} (Fits : List A → Type 0) → IsHereditary Fits → (xs : List A) (cut split : List (A × List A)) → IsCut cut xs → AreFull Fits cut → IsSplit Fits split xs → length cut ≤ length split
+fewest_parts Fits hereditary xs cut split is_cut full other =
+    no_more Fits hereditary xs cut split 0 0 (omega arith) is_cut full other.0 other.1
+
+-- so a part of a part that is within a degree is so
+pub degree_hereditary : {A : Type 0} (branches : A → List BranchDegrees) (most : ℕ) → IsHereditary (λ xs. constraint_degree_of None (flat_map branches xs) ≤ most)
+degree_hereditary {A} branches most xs a n positive within fits =
+    let degree = λ (ys : List A). constraint_degree_of None (flat_map branches ys) in
+    let in_two = λ (k : ℕ) (ys : List A). ap degree (sym (take-append-drop k ys)) ∙ ap (constraint_degree_of None) (flat_map-append branches (take k ys) (drop k ys)) in
+    let ys = drop a xs in
+    omega (arith, fits, in_two a xs, in_two n ys, degree_of_front (flat_map branches (take n ys)) (flat_map branches (drop n ys)), degree_of_back (flat_map branches (take a xs)) (flat_map branches ys))
 
 module _ {F : Type 0} where
   -- the branches of several lookups in one
@@ -50,30 +122,24 @@ module _ {F : Type 0} where
     full (p ∷ q ∷ ps) plain closed =
         let first = all_front IsPlain (part_items p) (flat_map part_items (q ∷ ps)) plain in
         let later = all_back IsPlain (part_items p) (flat_map part_items (q ∷ ps)) plain in
-        (not_fit p q.0 (all_both IsPlain (part_items p) (q.0 ∷ []) first (later.0, tt)) closed.0, full (q ∷ ps) later closed.1)
-      where
-        not_fit : (p : Outline (SymbolicExpression F) × List (Outline (SymbolicExpression F))) (o : Outline (SymbolicExpression F)) → AllByRecursion IsPlain (part_items (with_next p o)) → IsAbove AnswersDegree most p o → Fits (part_items p ++ o ∷ []) → ⊥
-        not_fit p o plain above fits =
-            let degree : outline_degree 0 (trial (joined p) o) ≡ constraint_degree_of None (flat_map (outline_branch_degrees 0) (part_items p ++ o ∷ [])) = sym (ap (outline_degree 0) (joined_more p o)) ∙ joined_degree (with_next p o) plain in
-            omega (arith, above.1.0, above.2, fits, degree)
+        let degree = sym (ap (outline_degree 0) (joined_more p q.0)) ∙ joined_degree (with_next p q.0) (all_both IsPlain (part_items p) (q.0 ∷ []) first (later.0, tt)) in
+        (λ fits. omega (arith, closed.0.1.0, closed.0.2, fits, degree), full (q ∷ ps) later closed.1)
 
     -- what a split asks of its parts is that they fit
     split_fits : (split : List (Outline (SymbolicExpression F) × List (Outline (SymbolicExpression F)))) → AllByRecursion IsPlain (flat_map part_items split)
         → AllByRecursion (λ part. (part.1 ≡ []) ⊎ (outline_degree 0 (joined part) ≤ most)) split → AllByRecursion (λ part. (part.1 ≡ []) ⊎ Fits (part_items part)) split
     split_fits [] plain within = tt
-    split_fits (p ∷ ps) plain within = (here within.0, split_fits ps (all_back IsPlain (part_items p) (flat_map part_items ps) plain) within.1)
-      where
-        here : (p.1 ≡ []) ⊎ (outline_degree 0 (joined p) ≤ most) → (p.1 ≡ []) ⊎ Fits (part_items p)
-        here (inl one) = inl one
-        here (inr le) = inr (subst (λ n. n ≤ most) (joined_degree p (all_front IsPlain (part_items p) (flat_map part_items ps) plain)) le)
+    split_fits (p ∷ ps) plain within = (
+      grind (arith, within.0, joined_degree p (all_front IsPlain (part_items p) (flat_map part_items ps) plain)),
+      split_fits ps (all_back IsPlain (part_items p) (flat_map part_items ps) plain) within.1,
+    )
 
     -- a greedy filling of a bus has no more columns than any split of its lookups has parts
     pub fewest_of_bus : (members : List (Outline (SymbolicExpression F))) (cut split : List (Outline (SymbolicExpression F) × List (Outline (SymbolicExpression F)))) → AllByRecursion IsPlain members → IsFilling AnswersDegree most cut members
         → IsCut split members → AllByRecursion (λ part. (part.1 ≡ []) ⊎ (outline_degree 0 (joined part) ≤ most)) split → length cut ≤ length split
     fewest_of_bus members cut split plain filling is_cut within =
         fewest_parts Fits (degree_hereditary (outline_branch_degrees 0) most) members cut split filling.0
-        (full cut (subst (λ (os : List (Outline (SymbolicExpression F))). AllByRecursion IsPlain os) (sym filling.0) plain) filling.1.1)
-        (is_cut, split_fits split (subst (λ (os : List (Outline (SymbolicExpression F))). AllByRecursion IsPlain os) (sym is_cut) plain) within)
+        (full cut (subst (AllByRecursion IsPlain) (sym filling.0) plain) filling.1.1) (is_cut, split_fits split (subst (AllByRecursion IsPlain) (sym is_cut) plain) within)
 
 module _ {E : Type 0} where
   -- numbers of columns do not matter to what is counted
@@ -90,11 +156,7 @@ module _ {E : Type 0} where
   -- what passes through is not counted
   pub none_additive : (os : List (Outline E)) → additive (passing os) ≡ []
   none_additive [] = refl
-  none_additive (o ∷ os) = by_test (is_additive o) refl (none_additive os)
-    where
-      by_test : (b : Bool) → is_additive o ≡ b → additive (passing os) ≡ [] → additive (cond (not b) (o ∷ passing os) (passing os)) ≡ []
-      by_test true e rest = rest
-      by_test false e rest = ap (λ b. cond b (o ∷ additive (passing os)) (additive (passing os))) e ∙ rest
+  none_additive (o ∷ os) = grind (arith, none_additive os)
 
   -- a lookup that may be joined, on the bus of this name
   pub record IsOn (name : List ℕ) (o : Outline E) : Type 0 where
@@ -108,23 +170,18 @@ module _ {E : Type 0} where
   -- the columns of a bus are those that its parts make, and on another bus there are none of them
   own_columns : (name : List ℕ) (cut : List (Outline E × List (Outline E))) → AllByRecursion (IsOn name) (flat_map part_items cut) → on_bus name (additive (map joined cut)) ≡ map joined cut
   own_columns name [] on = refl
-  own_columns name (p ∷ ps) on =
-      let later = own_columns name ps (all_back (IsOn name) (part_items p) (flat_map part_items ps) on) in
-      ap (λ b. filter (λ o. is_named name o.bus) (cond b (joined p ∷ additive (map joined ps)) (additive (map joined ps)))) (on.0).joins
-      ∙ ap (λ b. cond b (joined p ∷ on_bus name (additive (map joined ps))) (on_bus name (additive (map joined ps)))) (on.0).named
-      ∙ ap (λ t. joined p ∷ t) later
+  own_columns name (p ∷ ps) on = grind (arith, own_columns name ps (all_back (IsOn name) (part_items p) (flat_map part_items ps) on), (on.0).joins, (on.0).named)
 
   other_columns : (name other : List ℕ) → same_name name other ≡ false → (cut : List (Outline E × List (Outline E))) → AllByRecursion (IsOn other) (flat_map part_items cut) → on_bus name (additive (map joined cut)) ≡ []
   other_columns name other apart [] on = refl
-  other_columns name other apart (p ∷ ps) on =
-      let later = other_columns name other apart ps (all_back (IsOn other) (part_items p) (flat_map part_items ps) on) in
-      ap (λ b. filter (λ o. is_named name o.bus) (cond b (joined p ∷ additive (map joined ps)) (additive (map joined ps)))) (on.0).joins
-      ∙ ap (λ b. cond b (joined p ∷ on_bus name (additive (map joined ps))) (on_bus name (additive (map joined ps)))) (not_named (p.0).bus (on.0).named)
-      ∙ later
+  other_columns name other apart (p ∷ ps) on = grind (arith, other_columns name other apart ps (all_back (IsOn other) (part_items p) (flat_map part_items ps) on), (on.0).joins, not_named (p.0).bus (on.0).named)
     where
       not_named : (bus : Option (List ℕ)) → is_named other bus ≡ true → is_named name bus ≡ false
-      not_named None e = refl
-      not_named (Some b) e = ap (same_name name) (sym ((same_name-Decides other b).0 e)) ∙ apart
+      not_named bus e = grind (arith, e, apart, same_name-Decides other)
+
+-- two names are the same, or apart
+name_cases : (name other : List ℕ) → (name ≡ other) ⊎ (same_name name other ≡ false)
+name_cases name other = grind (arith, same_name-Decides name other)
 
 -- the columns of several buses, counted on one of them
 first_append : {E : Type 0} (name : List ℕ) (xs ys : List (Outline E)) → on_bus name (additive (xs ++ ys)) ≡ on_bus name (additive xs) ++ on_bus name (additive ys)
@@ -132,44 +189,41 @@ first_append name xs ys = ap (filter (λ o. is_named name o.bus)) (filter-append
 
 module _ {F : Type 0} (most : ℕ) (before : List (Outline (SymbolicExpression F))) (name : List ℕ) where
   members_cut : (other : List ℕ) (cut : List (Outline (SymbolicExpression F) × List (Outline (SymbolicExpression F)))) → IsFilling AnswersDegree most cut (on_bus other (additive before)) → AllByRecursion (IsOn other) (flat_map part_items cut)
-  members_cut other cut filling = subst (λ (os : List (Outline (SymbolicExpression F))). AllByRecursion (IsOn other) os) (sym filling.0) (members_on other before)
+  members_cut other cut filling = subst (AllByRecursion (IsOn other)) (sym filling.0) (members_on other before)
 
   -- where no name is this one there is no column
   none_on : (names : List (List ℕ)) (cuts : List (List (Outline (SymbolicExpression F) × List (Outline (SymbolicExpression F))))) → AllByRecursion (λ other. same_name name other ≡ false) names → AreFilled AnswersDegree most (additive before) names cuts
       → on_bus name (additive (flat_map (λ cut. map joined cut) cuts)) ≡ []
   none_on [] [] apart filled = refl
-  none_on [] (cut ∷ cuts) apart filled = absurd filled
-  none_on (n ∷ ns) [] apart filled = absurd filled
   none_on (n ∷ ns) (cut ∷ cuts) apart filled =
       first_append name (map joined cut) (flat_map (λ c. map joined c) cuts)
       ∙ (λ i. other_columns name n apart.0 cut (members_cut n cut filled.0) i ++ none_on ns cuts apart.1 filled.1 i)
+  none_on ns cuts apart filled = absurd filled
 
   fewest_in : (names : List (List ℕ)) (cuts : List (List (Outline (SymbolicExpression F) × List (Outline (SymbolicExpression F))))) → IsSeparate same_name names → AreFilled AnswersDegree most (additive before) names cuts
       → AllByRecursion IsPlain (on_bus name (additive before)) → (split : List (Outline (SymbolicExpression F) × List (Outline (SymbolicExpression F)))) → IsCut split (on_bus name (additive before)) → AllByRecursion (λ part. (part.1 ≡ []) ⊎ (outline_degree 0 (joined part) ≤ most)) split
       → length (on_bus name (additive (flat_map (λ cut. map joined cut) cuts))) ≤ length split
   fewest_in [] [] separate filled plain split is_cut within = omega arith
-  fewest_in [] (cut ∷ cuts) separate filled plain split is_cut within = absurd filled
-  fewest_in (n ∷ ns) [] separate filled plain split is_cut within = absurd filled
-  fewest_in (n ∷ ns) (cut ∷ cuts) separate filled plain split is_cut within = by_test (same_name name n) refl (fewest_in ns cuts separate.1 filled.1 plain split is_cut within)
-    where
-      columns : List (Outline (SymbolicExpression F))
-      columns = on_bus name (additive (flat_map (λ c. map joined c) (cut ∷ cuts)))
-
-      by_test : (b : Bool) → same_name name n ≡ b → length (on_bus name (additive (flat_map (λ c. map joined c) cuts))) ≤ length split → length (on_bus name (additive (flat_map (λ c. map joined c) (cut ∷ cuts)))) ≤ length split
-      by_test true e later =
-          let is : name ≡ n = (same_name-Decides name n).0 e in
-          let here : IsFilling AnswersDegree most cut (on_bus name (additive before)) = subst (λ (m : List ℕ). IsFilling AnswersDegree most cut (on_bus m (additive before))) (sym is) filled.0 in
-          let rest : on_bus name (additive (flat_map (λ c. map joined c) cuts)) ≡ [] = none_on ns cuts (subst (λ (m : List ℕ). AllByRecursion (λ other. same_name m other ≡ false) ns) (sym is) separate.0) filled.1 in
-          let all : on_bus name (additive (flat_map (λ c. map joined c) (cut ∷ cuts))) ≡ map joined cut = first_append name (map joined cut) (flat_map (λ c. map joined c) cuts) ∙ (λ i. own_columns name cut (members_cut name cut here) i ++ rest i) ∙ append-nil (map joined cut) in
-          omega (arith, ap length all, length-map cut joined, fewest_of_bus most (on_bus name (additive before)) cut split plain here is_cut within)
-      by_test false e later =
-          let none : on_bus name (additive (map joined cut)) ≡ [] = other_columns name n e cut (members_cut n cut filled.0) in
-          subst (λ (t : List (Outline (SymbolicExpression F))). length t ≤ length split) (sym (first_append name (map joined cut) (flat_map (λ c. map joined c) cuts) ∙ ap (λ t. t ++ on_bus name (additive (flat_map (λ c. map joined c) cuts))) none)) later
+  fewest_in (n ∷ ns) (cut ∷ cuts) separate filled plain split is_cut within =
+      let later = fewest_in ns cuts separate.1 filled.1 plain split is_cut within in
+      let both = ap length (first_append name (map joined cut) (flat_map (λ c. map joined c) cuts)) in
+      elim (name_cases name n) [
+        | inl is ↦
+            let here = subst (λ (m : List ℕ). IsFilling AnswersDegree most cut (on_bus m (additive before))) (sym is) filled.0 in
+            let rest = none_on ns cuts (subst (λ (m : List ℕ). AllByRecursion (λ other. same_name m other ≡ false) ns) (sym is) separate.0) filled.1 in
+            omega (arith, both, ap length ((λ i. own_columns name cut (members_cut name cut here) i ++ rest i) ∙ append-nil (map joined cut)), length-map cut joined, fewest_of_bus most (on_bus name (additive before)) cut split plain here is_cut within)
+        | inr apart ↦ omega (arith, both, later, ap (λ t. length (t ++ on_bus name (additive (flat_map (λ c. map joined c) cuts)))) (other_columns name n apart cut (members_cut n cut filled.0)))
+      ]
+  fewest_in ns cuts separate filled plain split is_cut within = absurd filled
 
 -- a packing by the degree of the gadget has the fewest columns
 pub fewest_columns : {F : Type 0} (most : ℕ) (before after : List (Outline (SymbolicExpression F))) → ((name : List ℕ) → AllByRecursion IsPlain (on_bus name (additive before))) → IsPacking AnswersDegree most before after → HasFewestColumns most before after
 fewest_columns most before after plain packing name split is_cut within =
     let columns = flat_map (λ cut. map joined cut) packing.cuts in
-    let counted : on_bus name (additive (passing before ++ columns)) ≡ on_bus name (additive columns) = first_append name (passing before) columns ∙ ap (λ t. on_bus name t ++ on_bus name (additive columns)) (none_additive before) in
-    let number : length (on_bus name (additive after)) ≡ length (on_bus name (additive columns)) = ap (λ os. length (on_bus name (additive os))) packing.columns ∙ on_bus-numbered name 0 (passing before ++ columns) ∙ ap length counted in
-    subst (λ n. n ≤ length split) (sym number) (fewest_in most before name (bus_names (additive before)) packing.cuts (first_seen_separate same_name (filter_map (λ o. o.bus) (additive before))) packing.filled (plain name) split is_cut within)
+    let counted = first_append name (passing before) columns ∙ ap (λ t. on_bus name t ++ on_bus name (additive columns)) (none_additive before) in
+    subst (λ n. n ≤ length split) (sym (ap (λ os. length (on_bus name (additive os))) packing.columns ∙ on_bus-numbered name 0 (passing before ++ columns) ∙ ap length counted)) (fewest_in most before name (bus_names (additive before)) packing.cuts (first_seen_separate same_name (filter_map (λ o. o.bus) (additive before))) packing.filled (plain name) split is_cut within)
+
+-- by the degree of the gadget a packing has the fewest columns
+pub fewest_packed : {F S : Type 0} (most : ℕ) (seen : S → List (Outline (SymbolicExpression F))) (before : List (Outline (SymbolicExpression F))) (r : Result S LookupError) → ((name : List ℕ) → AllByRecursion IsPlain (on_bus name (additive before))) → Packs AnswersDegree most seen before r → IfOk r (λ set. HasFewestColumns most before (seen set))
+fewest_packed most seen before (Ok set) plain packs = fewest_columns most before (seen set) plain packs.1
+fewest_packed most seen before (Err e) plain packs = tt

@@ -1,7 +1,7 @@
 -- A greedy filling, lookup by lookup.
-use Rattle.std.proofs.Common.{◌≡◌, ◌<◌, ◌≤◌, ◌+◌, ◌⊎◌, inl, inr, ℕ, List, [], ◌∷◌, ◌++◌, Result, Ok, Err, map, refl, sym, ap, subst, ◌∙◌, arith}
+use Rattle.std.proofs.Common.{◌≡◌, ◌<◌, ◌≤◌, ◌+◌, ◌⊎◌, ℕ, List, [], ◌∷◌, ◌++◌, Result, Ok, Err, map, refl, sym, ap, subst, ◌∙◌, arith, length}
 use Rattle.std.proofs.lemmas.Grind.{flat_map-append}
-use Rattle.std.proofs.lemmas.List.{append-nil, append_assoc, map-append}
+use Rattle.std.proofs.lemmas.List.{append-nil, append_assoc, map-append, nil_from_length, length-map}
 use Rattle.std.proofs.lemmas.List.Sums.{sum_by-append, sum_by-cons}
 use Rattle.std.specs.List.{AllByRecursion, flat_map, sum_by}
 use Rattle.lists.proofs.Images.{map_split}
@@ -13,7 +13,7 @@ use Rattle.lookup_model.specs.declared.error.LookupError.TheVariants.{CountWeigh
 use Rattle.lookup.specs.Cuts.{AreClosed, IsGrown, part_items}
 use Rattle.lookup.specs.Packing.{IsAbove, IsFilling, IsStuck, Joins, joined, trial}
 use Rattle.lookup.specs.internal.Fillings.{AreGreedyColumns}
-use Rattle.lookup.proofs.ListLaws.{snoc_split}
+use Rattle.lookup.proofs.ListLaws.{none_behind, snoc_split}
 
 module _ {A : Type 0} where
   -- a part with one more member
@@ -22,15 +22,10 @@ module _ {A : Type 0} where
 
   module _ (J : A × List A → A → Type 0) where
     grown_one : (x : A) → IsGrown J (x, [])
-    grown_one x [] next back e = absurd (cc e)
-    grown_one x (f ∷ fs) next back e = absurd (cc e)
+    grown_one x front next back e = absurd (none_behind front next back (sym e))
 
     grown_more : (part : A × List A) (x : A) → IsGrown J part → J part x → IsGrown J (with_next part x)
-    grown_more part x grown joins front next back e = by_index (snoc_split part.1 front back x next e)
-      where
-        by_index : ((part.1 ≡ front) × (x ≡ next)) ⊎ ((rest : List A) × (part.1 ≡ front ++ next ∷ rest)) → J (part.0, front) next
-        by_index (inl h) = subst (λ (fs : List A). J (part.0, fs) next) h.0 (subst (λ (y : A). J part y) h.1 joins)
-        by_index (inr h) = grown front next h.0 h.1
+    grown_more part x grown joins front next back e = grind (arith, snoc_split part.1 front back x next e, grown, joins)
 
     all_grown_more : (parts : List (A × List A)) (part : A × List A) (x : A) → AllByRecursion (IsGrown J) (parts ++ part ∷ []) → J part x → AllByRecursion (IsGrown J) (parts ++ with_next part x ∷ [])
     all_grown_more parts part x all joins =
@@ -54,10 +49,8 @@ module _ {A : Type 0} where
   -- the items of parts of which the last has one more member, or of one part more
   items_more : (parts : List (A × List A)) (part : A × List A) (x : A) → flat_map part_items (parts ++ with_next part x ∷ []) ≡ flat_map part_items (parts ++ part ∷ []) ++ x ∷ []
   items_more parts part x =
-      flat_map-append part_items parts (with_next part x ∷ [])
-      ∙ ap (λ t. flat_map part_items parts ++ (part.0 ∷ t)) (append-nil (part.1 ++ x ∷ []))
-      ∙ sym (append_assoc (flat_map part_items parts) (part_items part) (x ∷ []))
-      ∙ ap (λ t. t ++ x ∷ []) (ap (λ t. flat_map part_items parts ++ (part.0 ∷ t)) (sym (append-nil part.1)) ∙ sym (flat_map-append part_items parts (part ∷ [])))
+      rw (flat_map-append part_items parts (with_next part x ∷ []), flat_map-append part_items parts (part ∷ []), append-nil (part.1 ++ x ∷ []), append-nil part.1)
+      (sym (append_assoc (flat_map part_items parts) (part_items part) (x ∷ [])))
 
   items_next : (parts : List (A × List A)) (x : A) → flat_map part_items (parts ++ (x, []) ∷ []) ≡ flat_map part_items parts ++ x ∷ []
   items_next parts x = flat_map-append part_items parts ((x, []) ∷ [])
@@ -102,14 +95,11 @@ module _ {E : Type 0} (answers : Outline E → Result ℕ LookupError → Type 0
   pub last_part : (seen columns front : List (Outline E)) (last : Outline E) → AreGreedyColumns answers most seen columns → columns ≡ front ++ last ∷ [] → HasLast seen front last
   last_part seen columns front last filled is =
       let (parts, part, none, cut_is, front_is, last_is, none_is) = map_split joined filled.cut front last [] (sym filled.columns_are ∙ is) in
-      by_rest none parts part cut_is front_is last_is none_is
-    where
-      by_rest : (none : List (Outline E × List (Outline E))) (parts : List (Outline E × List (Outline E))) (part : Outline E × List (Outline E)) → filled.cut ≡ parts ++ part ∷ none → map joined parts ≡ front → joined part ≡ last → map joined none ≡ [] → HasLast seen front last
-      by_rest (p ∷ ps) parts part cut_is front_is last_is none_is = absurd (cc none_is)
-      by_rest [] parts part cut_is front_is last_is none_is = record {
+      let nothing = nil_from_length none (sym (length-map none joined) ∙ ap length none_is) in
+      record {
         parts = parts;
         part = part;
-        filling = subst (λ (cut : List (Outline E × List (Outline E))). IsFilling answers most cut seen) cut_is filled.filling;
+        filling = subst (λ (cut : List (Outline E × List (Outline E))). IsFilling answers most cut seen) (cut_is ∙ ap (λ t. parts ++ part ∷ t) nothing) filled.filling;
         front_is = front_is;
         last_is = last_is;
       }

@@ -1,8 +1,8 @@
 -- Groups of lookups, lookup by lookup.
-use Rattle.std.proofs.Common.{◌≡◌, ◌<◌, ◌+◌, ℕ, length, get_or, take, Bool, true, false, cond, ◌||◌, unwrap_or, List, [], ◌∷◌, ◌++◌, Option, None, Some, map, option_map, refl, sym, ap, ◌∙◌, true≢false}
+use Rattle.std.proofs.Common.{◌≡◌, ◌<◌, ◌+◌, ℕ, length, get_or, take, false, cond, unwrap_or, List, [], ◌∷◌, ◌++◌, Option, None, Some, map, option_map, refl, sym, ap, ◌∙◌, arith}
 use Rattle.std.proofs.lemmas.List.{append-nil, map-append}
 use Rattle.std.proofs.lemmas.List.Elements.{filter-append, filter_map-append}
-use Rattle.std.specs.List.{cons_option, filter_map, list_any}
+use Rattle.std.specs.List.{filter_map, list_any}
 use Rattle.std.specs.Map.{lookup}
 use Rattle.std.specs.Option.{option_map_or}
 use Rattle.std.specs.declared.alloc.Global.{Global}
@@ -22,64 +22,43 @@ use Rattle.lookup.specs.Buses.{bus_groups, bus_names, group_of, on_bus}
 use Rattle.lookup_model.specs.Names.{is_named, same_name}
 
 module _ {E : Type 0} where
-  names : List (Outline E) → List (List ℕ)
+  -- the names of the buses, lookup by lookup
+  abbrev names : List (Outline E) → List (List ℕ)
   names os = filter_map (λ o. o.bus) os
 
   -- a name that no lookup has has no lookups
   on_bus-none : (name : List ℕ) (os : List (Outline E)) → list_any (λ other. same_name other name) (filter_map (λ o. o.bus) os) ≡ false → on_bus name os ≡ []
   on_bus-none name [] e = refl
-  on_bus-none name (o ∷ os) e = by_bus o.bus e (on_bus-none name os)
-    where
-      by_bus : (bus : Option (List ℕ)) → list_any (λ other. same_name other name) (cons_option bus (filter_map (λ o. o.bus) os)) ≡ false
-          → (list_any (λ other. same_name other name) (filter_map (λ o. o.bus) os) ≡ false → on_bus name os ≡ []) → cond (is_named name bus) (o ∷ on_bus name os) (on_bus name os) ≡ []
-      by_bus None h rest = rest h
-      by_bus (Some other) h rest = by_test (same_name other name) refl h
-        where
-          by_test : (p : Bool) → same_name other name ≡ p → (p || list_any (λ m. same_name m name) (filter_map (λ o. o.bus) os)) ≡ false → cond (same_name name other) (o ∷ on_bus name os) (on_bus name os) ≡ []
-          by_test true f g = absurd (true≢false g)
-          by_test false f g = ap (λ b. cond b (o ∷ on_bus name os) (on_bus name os)) (turned same_name same_name-Decides name other ∙ f) ∙ rest g
+  on_bus-none name (o ∷ os) e = grind (arith, on_bus-none name os, e, λ (other : List ℕ). turned same_name same_name-Decides name other)
 
   -- what the groups have at a name, or nothing, are its lookups
   pub groups-lookup : (name : List ℕ) (os : List (Outline E)) → option_map_or (λ t. t) (lookup (same_name name) (bus_groups os)) [] ≡ on_bus name os
   groups-lookup name os =
       ap (λ t. option_map_or (λ s. s) t []) (lookup-valued same_name same_name-Decides (λ n. on_bus n os) name (bus_names os)
       ∙ ap (λ b. cond b (Some (on_bus name os)) None) (any-first_seen same_name same_name-Decides (filter_map (λ o. o.bus) os) name))
-      ∙ by_test (list_any (λ other. same_name other name) (filter_map (λ o. o.bus) os)) refl
-    where
-      by_test : (p : Bool) → list_any (λ other. same_name other name) (filter_map (λ o. o.bus) os) ≡ p → option_map_or (λ t. t) (cond p (Some (on_bus name os)) None) [] ≡ on_bus name os
-      by_test true e = refl
-      by_test false e = sym (on_bus-none name os e)
+      ∙ grind (arith, on_bus-none name os)
 
   on_bus-push : (name : List ℕ) (os : List (Outline E)) (o : Outline E) → on_bus name (os ++ o ∷ []) ≡ on_bus name os ++ cond (is_named name o.bus) (o ∷ []) []
   on_bus-push name os o = filter-append (λ (p : Outline E). is_named name p.bus) os (o ∷ [])
 
   -- a lookup on no bus changes no group
   pub groups-skip : (os : List (Outline E)) (o : Outline E) → o.bus ≡ None → bus_groups (os ++ o ∷ []) ≡ bus_groups os
-  groups-skip os o local = by_names
-    where
-      same_names : filter_map (λ (p : Outline E). p.bus) (os ++ o ∷ []) ≡ filter_map (λ (p : Outline E). p.bus) os
-      same_names = filter_map-append (λ (p : Outline E). p.bus) os (o ∷ []) ∙ ap (λ (b : Option (List ℕ)). filter_map (λ (p : Outline E). p.bus) os ++ cons_option b []) local ∙ append-nil (filter_map (λ (p : Outline E). p.bus) os)
-
-      same_lookups : (name : List ℕ) → on_bus name (os ++ o ∷ []) ≡ on_bus name os
-      same_lookups name = on_bus-push name os o ∙ ap (λ b. on_bus name os ++ cond (is_named name b) (o ∷ []) []) local ∙ append-nil (on_bus name os)
-
-      same_groups : (ns : List (List ℕ)) → map {B = List ℕ × List (Outline E)} (λ n. (n, on_bus n (os ++ o ∷ []))) ns ≡ map (λ n. (n, on_bus n os)) ns
-      same_groups ns = map_same (λ n. (n, on_bus n (os ++ o ∷ []))) (λ n. (n, on_bus n os)) (λ n i. (n, same_lookups n i)) ns
-
-      by_names : bus_groups (os ++ o ∷ []) ≡ bus_groups os
-      by_names = ap (λ ns. map (λ n. (n, on_bus n (os ++ o ∷ []))) (first_seen same_name ns)) same_names ∙ same_groups (bus_names os)
+  groups-skip os o local =
+      let same_names : names (os ++ o ∷ []) ≡ names os = grind (arith, filter_map-append (λ p. p.bus) os (o ∷ []), local, append-nil (names os)) in
+      let same_lookups : (name : List ℕ) → on_bus name (os ++ o ∷ []) ≡ on_bus name os = λ name. grind (arith, on_bus-push name os o, local, append-nil (on_bus name os)) in
+      ap (λ ns. map (λ n. (n, on_bus n (os ++ o ∷ []))) (first_seen same_name ns)) same_names
+      ∙ map_same (λ n. (n, on_bus n (os ++ o ∷ []))) (λ n. (n, on_bus n os)) (λ n i. (n, same_lookups n i)) (bus_names os)
 
   -- a lookup on a bus goes to the end of its lookups
   pub on_bus-own : (os : List (Outline E)) (o : Outline E) (name : List ℕ) → o.bus ≡ Some name → on_bus name (os ++ o ∷ []) ≡ on_bus name os ++ o ∷ []
-  on_bus-own os o name on =
-      on_bus-push name os o
-      ∙ ap (λ b. on_bus name os ++ cond (is_named name b) (o ∷ []) []) on
-      ∙ ap (λ b. on_bus name os ++ cond b (o ∷ []) []) ((same_name-Decides name name).1 refl)
+  on_bus-own os o name on = grind (arith, on_bus-push name os o, on, same_name-Decides name name)
 
   -- so it goes to the end of its group, and a new group goes last
   pub groups-push : (os : List (Outline E)) (o : Outline E) (name : List ℕ) → o.bus ≡ Some name
       → insert_entry same_name (bus_groups os) name (option_map_or (λ t. t) (lookup (same_name name) (bus_groups os)) [] ++ o ∷ []) ≡ bus_groups (os ++ o ∷ [])
   groups-push os o name on =
+      let longer : names (os ++ o ∷ []) ≡ names os ++ name ∷ [] = grind (arith, filter_map-append (λ p. p.bus) os (o ∷ []), on) in
+      let others : (n : List ℕ) → same_name name n ≡ false → on_bus n os ≡ on_bus n (os ++ o ∷ []) = λ n apart. grind (arith, on_bus-push n os o, on, apart, turned same_name same_name-Decides n name, append-nil (on_bus n os)) in
       ap (λ t. insert_entry same_name (bus_groups os) name (t ++ o ∷ [])) (groups-lookup name os)
       ∙ ap (insert_entry same_name (bus_groups os) name) (sym (on_bus-own os o name on))
       ∙ insert-valued same_name same_name-Decides (λ n. on_bus n os) (λ n. on_bus n (os ++ o ∷ [])) name others (bus_names os) (first_seen_separate same_name (filter_map (λ p. p.bus) os))
@@ -87,15 +66,6 @@ module _ {E : Type 0} where
       ap (λ b. cond b (bus_names os) (bus_names os ++ name ∷ [])) (any-first_seen same_name same_name-Decides (filter_map (λ p. p.bus) os) name)
       ∙ sym (first_seen-push same_name same_name-Decides (filter_map (λ p. p.bus) os) name)
       ∙ ap (first_seen same_name) (sym longer))
-    where
-      longer : filter_map (λ (p : Outline E). p.bus) (os ++ o ∷ []) ≡ filter_map (λ (p : Outline E). p.bus) os ++ name ∷ []
-      longer = filter_map-append (λ (p : Outline E). p.bus) os (o ∷ []) ∙ ap (λ (b : Option (List ℕ)). filter_map (λ (p : Outline E). p.bus) os ++ cons_option b []) on
-
-      at : (n : List ℕ) → on_bus n (os ++ o ∷ []) ≡ on_bus n os ++ cond (same_name n name) (o ∷ []) []
-      at n = on_bus-push n os o ∙ ap (λ b. on_bus n os ++ cond (is_named n b) (o ∷ []) []) on
-
-      others : (n : List ℕ) → same_name name n ≡ false → on_bus n os ≡ on_bus n (os ++ o ∷ [])
-      others n apart = sym (at n ∙ ap (λ b. on_bus n os ++ cond b (o ∷ []) []) (turned same_name same_name-Decides n name ∙ apart) ∙ append-nil (on_bus n os))
 
 -- a map whose keys and values are seen through views
 module _ {K V X : Type 0} (key : K → List ℕ) (items : V → List X) where
@@ -104,29 +74,11 @@ module _ {K V X : Type 0} (key : K → List ℕ) (items : V → List X) where
 
   pub lookup-viewed : (k : K) (es : List (K × V)) → option_map items (lookup (λ j. same_name (key k) (key j)) es) ≡ lookup (same_name (key k)) (viewed es)
   lookup-viewed k [] = refl
-  lookup-viewed k (e ∷ es) = by_test (same_name (key k) (key e.0)) (lookup-viewed k es)
-    where
-      by_test : (p : Bool) → option_map items (lookup (λ j. same_name (key k) (key j)) es) ≡ lookup (same_name (key k)) (viewed es)
-          → option_map items (cond p (Some e.1) (lookup (λ j. same_name (key k) (key j)) es)) ≡ cond p (Some (items e.1)) (lookup (same_name (key k)) (viewed es))
-      by_test true rest = refl
-      by_test false rest = rest
+  lookup-viewed k (e ∷ es) = grind (arith, lookup-viewed k es)
 
   pub insert-viewed : (es : List (K × V)) (k : K) (v : V) → viewed (insert_entry (λ i j. same_name (key i) (key j)) es k v) ≡ insert_entry same_name (viewed es) (key k) (items v)
   insert-viewed [] k v = refl
-  insert-viewed (e ∷ es) k v = by_test (same_name (key k) (key e.0)) (insert-viewed es k v)
-    where
-      by_test : (p : Bool) → viewed (insert_entry (λ i j. same_name (key i) (key j)) es k v) ≡ insert_entry same_name (viewed es) (key k) (items v)
-          → viewed (cond p ((e.0, v) ∷ es) (e ∷ insert_entry (λ i j. same_name (key i) (key j)) es k v)) ≡ cond p ((key e.0, items v) ∷ viewed es) ((key e.0, items e.1) ∷ insert_entry same_name (viewed es) (key k) (items v))
-      by_test true rest = refl
-      by_test false rest = ap (λ t. (key e.0, items e.1) ∷ t) rest
-
--- The step of a map of groups, as it is seen: one more lookup under its name.
-one_more_seen : {E : Type 0} (os : List (Outline E)) (o : Outline E) (name : List ℕ) (es after : List (List ℕ × List (Outline E))) (group : List (Outline E))
-    → es ≡ bus_groups os → o.bus ≡ Some name → group ≡ option_map_or (λ t. t) (lookup (same_name name) es) [] ++ o ∷ []
-    → after ≡ insert_entry same_name es name group → after ≡ bus_groups (os ++ o ∷ [])
-one_more_seen os o name es after group so_far on group_is after_is =
-    let grown = group_is ∙ ap (λ t. option_map_or (λ s. s) (lookup (same_name name) t) [] ++ o ∷ []) so_far in
-    after_is ∙ (λ i. insert_entry same_name (so_far i) name (grown i)) ∙ groups-push os o name on
+  insert-viewed (e ∷ es) k v = grind (arith, insert-viewed es k v)
 
 -- The step of a map of groups: one more lookup at its key.
 module _ {E K V : Type 0} (key : K → List ℕ) (items : V → List (Outline E)) where
@@ -135,18 +87,13 @@ module _ {E K V : Type 0} (key : K → List ℕ) (items : V → List (Outline E)
       → items group ≡ option_map_or items (lookup (λ j. same_name (key k) (key j)) es) [] ++ o ∷ []
       → viewed key items (insert_entry (λ i j. same_name (key i) (key j)) es k group) ≡ bus_groups (os ++ o ∷ [])
   one_more os o es k group so_far on group_is =
-      one_more_seen os o (key k) (viewed key items es) (viewed key items (insert_entry (λ i j. same_name (key i) (key j)) es k group)) (items group) so_far on
-      (group_is ∙ ap (λ t. t ++ o ∷ []) (mapped (lookup (λ j. same_name (key k) (key j)) es) ∙ ap (λ t. option_map_or (λ s. s) t []) (lookup-viewed key items k es)))
-      (insert-viewed key items es k group)
-    where
-      mapped : (t : Option V) → option_map_or items t [] ≡ option_map_or (λ (s : List (Outline E)). s) (option_map items t) []
-      mapped None = refl
-      mapped (Some v) = refl
+      let had : option_map_or items (lookup (λ j. same_name (key k) (key j)) es) [] ≡ option_map_or (λ s. s) (lookup (same_name (key k)) (viewed key items es)) [] = grind (arith, lookup-viewed key items k es) in
+      let grown = group_is ∙ ap (λ t. t ++ o ∷ []) had ∙ ap (λ t. option_map_or (λ s. s) (lookup (same_name (key k)) t) [] ++ o ∷ []) so_far in
+      insert-viewed key items es k group ∙ (λ i. insert_entry same_name (so_far i) (key k) (grown i)) ∙ groups-push os o (key k) on
 
 -- the group that a map has at a key, or an empty one
 pub group_items : {T : Type 0} (found : Option (Vec T Global)) (group empty : Vec T Global) → group ≡ unwrap_or found empty → empty.items ≡ [] → group.items ≡ option_map_or (λ v. v.items) found []
-group_items None group empty is none = ap (λ v. v.items) is ∙ none
-group_items (Some v) group empty is none = ap (λ v. v.items) is
+group_items found group empty is none = grind (arith, is, none)
 
 -- what is seen of a group with one more item
 seen_items : {T X : Type 0} (see : T → X) (found : Option (Vec T Global)) (item : T) (group : Vec T Global) → group.items ≡ option_map_or (λ v. v.items) found [] ++ item ∷ [] → map see group.items ≡ option_map_or (λ v. map see v.items) found [] ++ see item ∷ []

@@ -1,10 +1,9 @@
 -- What joined lookups send is what their members send.
-use Rattle.std.proofs.Common.{◌≡◌, ℕ, Bool, true, ◌&&◌, not, List, [], ◌∷◌, ◌++◌, Option, None, Some, Result, map, refl, sym, ap, ◌∙◌}
-use Rattle.std.proofs.lemmas.Bool.{false≢true}
+use Rattle.std.proofs.Common.{◌≡◌, ℕ, Bool, true, ◌&&◌, not, List, [], ◌∷◌, ◌++◌, Option, None, Some, Result, map, refl, sym, ap, ◌∙◌, arith}
 use Rattle.std.proofs.lemmas.List.{map-append}
 use Rattle.std.specs.List.{AllByRecursion, flat_map, zip}
 use Rattle.std.specs.Option.{is_some, option_map, option_map_or}
-use Rattle.lists.proofs.Zips.{zip-append, zip_mapped}
+use Rattle.lists.proofs.Zips.{zip-append}
 use Rattle.lists.proofs.Each.{all_weaker, all_with}
 use Rattle.lists.proofs.Parts.{flat_same}
 use Rattle.field.specs.Ring.{Ring}
@@ -20,14 +19,10 @@ use Rattle.lookup_model.specs.Names.{is_named}
 use Rattle.lookup.specs.Cuts.{part_items}
 use Rattle.lookup.specs.Packing.{AreFilled, additive, is_additive, joined}
 use Rattle.lookup.proofs.Columns.{columns_give}
+use Rattle.lookup.proofs.Extracted.{sent_by_fields}
 use Rattle.lookup.proofs.FewestColumns.{IsOn, members_on}
 use Rattle.lookup.specs.internal.TrialDegrees.{IsPlain}
 use Rattle.lookup_model.proofs.Names.{same_name-Decides}
-
--- a map of a mapped option
-pub option_mapped : {A B C : Type 0} (f : A → B) (g : B → C) (o : Option A) → option_map (λ x. g (f x)) o ≡ option_map g (option_map f o)
-option_mapped f g None = refl
-option_mapped f g (Some x) = refl
 
 -- the id of a bus by its name, and 0 without one
 abbrev pub own_id : {E : Type 0} → (List ℕ → ℕ) → Outline E → ℕ
@@ -38,13 +33,11 @@ pub on_some_bus : {E : Type 0} (o : Outline E) → is_additive o ≡ true → (n
 on_some_bus o e = by_fields o.bus o.flags e
   where
     by_fields : {A : Type 0} (bus : Option (List ℕ)) (flags : Option A) → (is_some bus && not (is_some flags)) ≡ true → (name : List ℕ) × (bus ≡ Some name) × (flags ≡ None)
-    by_fields None flags h = absurd (false≢true h)
     by_fields (Some name) None h = (name, refl, refl)
-    by_fields (Some name) (Some x) h = absurd (false≢true h)
+    by_fields bus flags h = grind (arith, h)
 
 own_named : (bus_id : List ℕ → ℕ) (name : List ℕ) (bus : Option (List ℕ)) → is_named name bus ≡ true → option_map_or bus_id bus 0 ≡ bus_id name
-own_named bus_id name None e = absurd (false≢true e)
-own_named bus_id name (Some other) e = ap bus_id (sym ((same_name-Decides name other).0 e))
+own_named bus_id name bus e = grind (arith, e, same_name-Decides name)
 
 module _ {F : Type 0} (R : Ring F) (eq : F → F → Bool) (w : Window F) where
   -- the branches of a lookup by its fields, and the messages that it sends
@@ -55,7 +48,7 @@ module _ {F : Type 0} (R : Ring F) (eq : F → F → Bool) (w : Window F) where
   messages_of id o = (sent R eq (option_map (values R w) o.flags) (branches_of id o)).messages
 
   pub seen_messages : (id : ℕ) (l : Lookup F) → (sent_at R eq w id l).messages ≡ messages_of id (fields_of l)
-  seen_messages id l = λ i. (sent R eq (option_mapped (λ flags. flags.items) (values R w) l.flags i) (zip_mapped (λ tuple. tuple.items) (branch_at R w id) l.elements.items l.multiplicities.items i)).messages
+  seen_messages id l = ap (λ s. s.messages) (sent_by_fields R eq w id l)
 
   branches_joined : (id : ℕ) (os : List (Outline (SymbolicExpression F))) → AllByRecursion IsPlain os
       → map (λ b. branch_at R w id b.0 b.1) (zip (flat_map (λ o. o.elements) os) (flat_map (λ o. o.multiplicities) os)) ≡ flat_map (branches_of id) os

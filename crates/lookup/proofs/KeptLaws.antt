@@ -1,16 +1,16 @@
--- A packing keeps the weight, the messages and the nets.
-use Rattle.std.proofs.Common.{◌≡◌, ◌+◌, ℕ, Bool, true, false, cond, not, List, [], ◌∷◌, ◌++◌, None, Result, map, All, refl, sym, ap, subst, ◌∙◌, arith}
+-- A packing keeps the weight, the messages, the nets, lawful flags, the widths of tuples, and the buses of what passes through.
+use Rattle.std.proofs.Common.{◌≡◌, ◌+◌, ℕ, Bool, true, false, cond, not, List, [], ◌∷◌, ◌++◌, None, Result, map, All, refl, sym, ap, subst, ◌∙◌, arith, IfSome, Option, length, subst₂}
 use Rattle.std.proofs.lemmas.List.{append-nil}
 use Rattle.std.proofs.lemmas.List.Elements.{filter-append}
 use Rattle.std.proofs.lemmas.List.Folds.{flat_map-map}
-use Rattle.std.proofs.lemmas.List.Sorted.{IsPermutation-append, IsPermutation-append_left, IsPermutation-filter_both, IsPermutation-refl, IsPermutation-sym, IsPermutation-trans, sum_by-IsPermutation}
+use Rattle.std.proofs.lemmas.List.Sorted.{IsPermutation-append, IsPermutation-append_left, IsPermutation-filter_both, IsPermutation-refl, IsPermutation-sym, IsPermutation-trans, sum_by-IsPermutation, IsPermutation-append_comm}
 use Rattle.std.proofs.lemmas.List.Sums.{sum_by-append, sum_by-cons}
 use Rattle.std.specs.List.{AllByRecursion, filter, filter_map, flat_map, range_with_len, sum_by, zip}
 use Rattle.std.specs.List.Sorted.{IsPermutation}
-use Rattle.std.specs.Option.{is_some, option_map_or}
-use Rattle.lists.proofs.Parts.{singles}
+use Rattle.std.specs.Option.{is_some, option_map_or, option_map}
+use Rattle.lists.proofs.Parts.{singles, map-flat_map}
 use Rattle.lists.proofs.Images.{filter_again, filter_all, filter_images, filter_none, sum_by-mapped}
-use Rattle.lists.proofs.Each.{all_weaker, filter_passes}
+use Rattle.lists.proofs.Each.{all_weaker, filter_passes, all_of_map, all_kept, each_of, all_images}
 use Rattle.field.specs.Ring.{IsCommutativeRing, Ring}
 use Rattle.matrix.specs.Matrix.{height}
 use Rattle.expressions.specs.Window.{Window}
@@ -22,21 +22,25 @@ use Rattle.lookup_model.specs.Net.{net}
 use Rattle.lookup_model.specs.Outline.{Outline, bus_of, fields_of}
 use Rattle.lookup_model.specs.Plain.{trace_messages}
 use Rattle.lookup_model.specs.Records.{HasEqualLengths}
-use Rattle.lookup_model.specs.Sent.{sent_at}
+use Rattle.lookup_model.specs.Sent.{sent_at, values}
 use Rattle.lookup_model.specs.Trace.{sent_row_under, sent_rows_under}
 use Rattle.lookup_model.specs.declared.error.LookupError.{LookupError}
 use Rattle.lookup_model.specs.declared.types.Lookup.{Lookup}
 use Rattle.lookup.specs.Buses.{bus_names, on_bus}
 use Rattle.lookup_model.specs.Names.{same_name}
 use Rattle.lookup.specs.Cuts.{part_items}
-use Rattle.lookup.specs.Kept.{HasIdOfBus, HaveSameIds, KeepsMessages, KeepsNets, KeepsTotalWeight, other_ids, row_messages}
+use Rattle.lookup.specs.Kept.{HasIdOfBus, HaveSameIds, KeepsMessages, KeepsNets, KeepsTotalWeight, other_ids, row_messages, KeepsLawfulFlags, KeepsOtherBuses, other_buses, KeepsWidths, widths_of}
 use Rattle.lookup.specs.Packing.{AreFilled, IsPacking, additive, is_additive, joined, passing}
-use Rattle.lookup.proofs.Columns.{columns_all, unnumbered, unnumbered_all}
+use Rattle.lookup.proofs.Columns.{columns_all, unnumbered, unnumbered_all, columns_give}
 use Rattle.lookup.proofs.FewestColumns.{IsOn, members_on, none_additive}
 use Rattle.lookup.proofs.JoinedMessages.{columns_messages, messages_of, own_messages, seen_messages, on_some_bus}
 use Rattle.lookup.proofs.Rearranged.{among_names, grouped, parted}
 use Rattle.lookup.proofs.RearrangedSums.{sum_in-passing, sum_in-permutation}
 use Rattle.lookup.proofs.StepLaws.{no_flags_of, plain_on}
+use Rattle.std.proofs.lemmas.Simd.{map-map}
+use Rattle.lookup_model.specs.Batches.Messages.{HasLawfulFlags}
+use Rattle.lookup_model.specs.Fault.{IsLawfulSelection}
+use Rattle.std.proofs.lemmas.Grind.{flat_map-append}
 
 -- what is seen of the items that pass a test of what is seen
 pub filter_seen : {A B : Type 0} (see : A → B) (p : B → Bool) (xs : List A) → map see (filter (λ x. p (see x)) xs) ≡ filter p (map see xs)
@@ -49,16 +53,21 @@ module _ {E : Type 0} where
       abbrev columns : List (Outline E)
       columns = flat_map (λ cut. map joined cut) packing.cuts
 
+      -- but for the numbers of the columns
+      after_is : map unnumbered after ≡ map unnumbered (passing before ++ columns)
+      after_is = ap (map unnumbered) packing.columns ∙ unnumbered_all 0 (passing before ++ columns)
+
+      -- what the lookups that may be joined give, bus by bus
+      on_buses : {M : Type 0} (f : Outline E → List M) → IsPermutation (flat_map f (additive before)) (flat_map (λ name. flat_map f (on_bus name (additive before))) (bus_names (additive before)))
+      on_buses f = grouped f (bus_names (additive before)) (additive before) (first_seen_separate same_name (filter_map (λ o. o.bus) (additive before))) (among_names (additive before) (filter_passes is_additive before))
+
       all_additive : AllByRecursion (λ o. is_additive o ≡ true) columns
       all_additive = columns_all answers most (additive before) IsOn (λ name. members_on name before) (λ o. is_additive o ≡ true) (λ name part on. (on.0).joins) (bus_names (additive before)) packing.cuts packing.filled
 
       -- the lookups after that pass a test
       tested : (p : Outline E → Bool) → ((o : Outline E) → p (unnumbered o) ≡ p o) → map unnumbered (filter p after) ≡ map unnumbered (filter p (passing before) ++ filter p columns)
       tested p same =
-          sym (filter_images unnumbered p p same after)
-          ∙ ap (λ os. filter p (map unnumbered os)) packing.columns
-          ∙ ap (filter p) (unnumbered_all 0 (passing before ++ columns))
-          ∙ filter_images unnumbered p p same (passing before ++ columns)
+          sym (filter_images unnumbered p p same after) ∙ ap (filter p) after_is ∙ filter_images unnumbered p p same (passing before ++ columns)
           ∙ ap (map unnumbered) (filter-append p (passing before) columns)
 
       -- those that may be joined are the columns of the buses, and the others those that pass through
@@ -86,25 +95,22 @@ module _ {E : Type 0} where
     columns_weight : (names : List (List ℕ)) (cuts : List (List (Outline E × List (Outline E)))) → AreFilled answers most os names cuts
         → weight (flat_map (λ cut. map joined cut) cuts) ≡ weight (flat_map (λ name. flat_map (λ o. o ∷ []) (on_bus name os)) names)
     columns_weight [] [] filled = refl
-    columns_weight [] (c ∷ cs) filled = absurd filled
-    columns_weight (n ∷ ns) [] filled = absurd filled
     columns_weight (n ∷ ns) (c ∷ cs) filled =
         sum_by-append (λ o. o.count_weight) (map joined c) (flat_map (λ cut. map joined cut) cs)
         ∙ (λ i. (cut_weight c ∙ ap weight (filled.0.0 ∙ sym (singles (on_bus n os)))) i + columns_weight ns cs filled.1 i)
         ∙ sym (sum_by-append (λ o. o.count_weight) (flat_map (λ o. o ∷ []) (on_bus n os)) (flat_map (λ name. flat_map (λ o. o ∷ []) (on_bus name os)) ns))
+    columns_weight ns cs filled = absurd filled
 
   packed_weight : (answers : Outline E → Result ℕ LookupError → Type 0) (most : ℕ) (before after : List (Outline E)) → IsPacking answers most before after → weight after ≡ weight before
   packed_weight answers most before after packing =
-      let columns = flat_map (λ cut. map joined cut) packing.cuts in
-      let names = bus_names (additive before) in
-      let bus_by_bus = sum_by-IsPermutation (λ (o : Outline E). o.count_weight) _ _ (grouped (λ (o : Outline E). o ∷ []) names (additive before) (first_seen_separate same_name (filter_map (λ o. o.bus) (additive before))) (among_names (additive before) (filter_passes is_additive before))) in
-      let all_columns : weight columns ≡ weight (additive before) = columns_weight answers most (additive before) names packing.cuts packing.filled ∙ bus_by_bus ∙ ap weight (singles (additive before)) in
-      let in_two = sum_by-IsPermutation (λ (o : Outline E). o.count_weight) before (additive before ++ passing before) (IsPermutation-filter_both is_additive (λ o. not (is_additive o)) (λ o. refl) before) in
+      let made = columns answers most before after packing in
+      let same_weight = sum_by-IsPermutation (λ (o : Outline E). o.count_weight) in
+      let all_columns : weight made ≡ weight (additive before) = columns_weight answers most (additive before) (bus_names (additive before)) packing.cuts packing.filled ∙ same_weight _ _ (on_buses answers most before after packing (λ o. o ∷ [])) ∙ ap weight (singles (additive before)) in
+      let in_two = same_weight before (additive before ++ passing before) (IsPermutation-filter_both is_additive (λ o. not (is_additive o)) (λ o. refl) before) in
       sym (sum_by-mapped (λ o. o.count_weight) unnumbered after)
-      ∙ ap (λ os. weight (map unnumbered os)) packing.columns
-      ∙ ap weight (unnumbered_all 0 (passing before ++ columns))
-      ∙ sum_by-mapped (λ o. o.count_weight) unnumbered (passing before ++ columns)
-      ∙ sum_by-append (λ o. o.count_weight) (passing before) columns
+      ∙ ap weight (after_is answers most before after packing)
+      ∙ sum_by-mapped (λ o. o.count_weight) unnumbered (passing before ++ made)
+      ∙ sum_by-append (λ o. o.count_weight) (passing before) made
       ∙ omega (arith, all_columns, in_two, sum_by-append (λ o. o.count_weight) (additive before) (passing before))
 
 -- messages
@@ -122,12 +128,7 @@ module _ {F : Type 0} (R : Ring F) (eq : F → F → Bool) (w : Window F) (bus_i
   additive_sent : (ls : List (Lookup F)) → AllByRecursion (HasIdOfBus bus_id id) ls
       → flat_map sends (filter (λ l. is_additive (fields_of l)) ls) ≡ flat_map (own_messages R eq w bus_id) (additive (map fields_of ls))
   additive_sent [] has = refl
-  additive_sent (l ∷ ls) has = by_test (is_additive (fields_of l)) refl (additive_sent ls has.1)
-    where
-      by_test : (b : Bool) → is_additive (fields_of l) ≡ b → flat_map sends (filter (λ k. is_additive (fields_of k)) ls) ≡ flat_map (own_messages R eq w bus_id) (additive (map fields_of ls))
-          → flat_map sends (cond b (l ∷ filter (λ k. is_additive (fields_of k)) ls) (filter (λ k. is_additive (fields_of k)) ls)) ≡ flat_map (own_messages R eq w bus_id) (cond b (fields_of l ∷ additive (map fields_of ls)) (additive (map fields_of ls)))
-      by_test true e rest = λ i. own_sent l e has.0 i ++ rest i
-      by_test false e rest = rest
+  additive_sent (l ∷ ls) has = grind (arith, additive_sent ls has.1, λ (e : is_additive (fields_of l) ≡ true). own_sent l e has.0)
 
   others_sent : (ls : List (Lookup F)) → flat_map sends ls ≡ flat_map (λ p. messages_of R eq w p.0 p.1) (zip (map id ls) (map unnumbered (map fields_of ls)))
   others_sent [] = refl
@@ -137,12 +138,8 @@ module _ {F : Type 0} (R : Ring F) (eq : F → F → Bool) (w : Window F) (bus_i
   divided : (ls : List (Lookup F)) → AllByRecursion (HasIdOfBus bus_id id) ls
       → IsPermutation (row_messages R eq id w ls) (flat_map (own_messages R eq w bus_id) (additive (map fields_of ls)) ++ flat_map (λ p. messages_of R eq w p.0 p.1) (zip (other_ids id ls) (map unnumbered (passing (map fields_of ls)))))
   divided ls has =
-      let q = λ (l : Lookup F). not (is_additive (fields_of l)) in
-      let others : flat_map sends (filter q ls) ≡ flat_map (λ p. messages_of R eq w p.0 p.1) (zip (other_ids id ls) (map unnumbered (passing (map fields_of ls)))) =
-      others_sent (filter q ls) ∙ ap (λ os. flat_map (λ p. messages_of R eq w p.0 p.1) (zip (other_ids id ls) (map unnumbered os))) (filter_seen fields_of (λ o. not (is_additive o)) ls) in
-      subst (λ (t : List (Message F)). IsPermutation t (flat_map (own_messages R eq w bus_id) (additive (map fields_of ls)) ++ flat_map (λ p. messages_of R eq w p.0 p.1) (zip (other_ids id ls) (map unnumbered (passing (map fields_of ls))))))
-      (sym (flat_map-map (λ sent. sent.messages) (λ l. sent_at R eq w (id l) l) ls))
-      (subst (λ (t : List (Message F)). IsPermutation (flat_map sends ls) t) (λ i. additive_sent ls has i ++ others i) (parted sends (λ l. is_additive (fields_of l)) ls))
+      let others = others_sent (filter (λ l. not (is_additive (fields_of l))) ls) ∙ ap (λ os. flat_map (λ p. messages_of R eq w p.0 p.1) (zip (other_ids id ls) (map unnumbered os))) (filter_seen fields_of (λ o. not (is_additive o)) ls) in
+      subst₂ IsPermutation (sym (flat_map-map (λ sent. sent.messages) (λ l. sent_at R eq w (id l) l) ls)) (λ i. additive_sent ls has i ++ others i) (parted sends (λ l. is_additive (fields_of l)) ls)
 
 module _ {F : Type 0} (answers : Outline (SymbolicExpression F) → Result ℕ LookupError → Type 0) (most : ℕ) (before after : List (Lookup F)) (packing : IsPacking answers most (map fields_of before) (map fields_of after)) where
   -- the weight of all lookups stays
@@ -158,14 +155,10 @@ module _ {F : Type 0} (answers : Outline (SymbolicExpression F) → Result ℕ L
     kept_messages lengths id_before id_after same w =
         let own = own_messages R eq w same.bus_id in
         let os = map fields_of before in
-        let names = bus_names (additive os) in
-        let columns = flat_map (λ cut. map joined cut) packing.cuts in
-        let on_buses = grouped own names (additive os) (first_seen_separate same_name (filter_map (λ o. o.bus) (additive os))) (among_names (additive os) (filter_passes is_additive os)) in
-        let in_columns : flat_map own columns ≡ flat_map (λ name. flat_map own (on_bus name (additive os))) names = columns_messages R eq w same.bus_id answers most os names packing.cuts (λ name. plain_on before name lengths) packing.filled in
-        let later : flat_map own (additive (map fields_of after)) ≡ flat_map own columns =
-        sym (flat_map-map own unnumbered (additive (map fields_of after))) ∙ ap (flat_map own) (additive_after answers most os (map fields_of after) packing) ∙ flat_map-map own unnumbered columns in
-        let joined_sent : IsPermutation (flat_map own (additive os)) (flat_map own (additive (map fields_of after))) =
-        subst (λ (t : List (Message F)). IsPermutation (flat_map own (additive os)) t) (sym (later ∙ in_columns)) on_buses in
+        let made = columns answers most os (map fields_of after) packing in
+        let in_columns = columns_messages R eq w same.bus_id answers most os (bus_names (additive os)) packing.cuts (λ name. plain_on before name lengths) packing.filled in
+        let later = sym (flat_map-map own unnumbered (additive (map fields_of after))) ∙ ap (flat_map own) (additive_after answers most os (map fields_of after) packing) ∙ flat_map-map own unnumbered made in
+        let joined_sent = subst (IsPermutation (flat_map own (additive os))) (sym (later ∙ in_columns)) (on_buses answers most os (map fields_of after) packing own) in
         let send_others = λ (ids : List ℕ) (ps : List (Outline (SymbolicExpression F))). flat_map (λ p. messages_of R eq w p.0 p.1) (zip ids ps) in
         let others : send_others (other_ids id_before before) (map unnumbered (passing os)) ≡ send_others (other_ids id_after after) (map unnumbered (passing (map fields_of after))) =
         λ i. send_others (same.others i) (sym (passing_after answers most os (map fields_of after) packing) i) in
@@ -196,3 +189,60 @@ trace_kept {F} R eq before after kept id_before id_after same traces = each (ran
 pub kept_nets : {F : Type 0} {R : Ring F} (laws : IsCommutativeRing R) (eq : F → F → Bool) (before after : List (Lookup F)) → KeepsMessages R eq before after → KeepsNets R eq before after
 kept_nets {F} {R} laws eq before after kept id_before id_after same traces key =
     net-permutation laws eq _ _ (trace_kept R eq before after kept id_before id_after same traces) key
+
+module _ {F : Type 0} (R : Ring F) (eq : F → F → Bool) (w : Window F) where
+  -- flags, of which there may be none, are lawful at the window
+  abbrev AreLawful : Option (List (SymbolicExpression F)) → Type 0
+  AreLawful flags = IfSome (option_map (values R w) flags) (IsLawfulSelection R eq)
+
+  abbrev HasLawful : Outline (SymbolicExpression F) → Type 0
+  HasLawful o = AreLawful o.flags
+
+  lawful_fields : (id : Lookup F → ℕ) (ls : List (Lookup F)) → AllByRecursion (HasLawfulFlags R eq) (sent_row_under R eq id w ls) → AllByRecursion HasLawful (map fields_of ls)
+  lawful_fields id [] all = tt
+  lawful_fields id (l ∷ ls) all = (grind (arith, all.0), lawful_fields id ls all.1)
+
+  lawful_sent : (id : Lookup F → ℕ) (ls : List (Lookup F)) → AllByRecursion HasLawful (map fields_of ls) → AllByRecursion (HasLawfulFlags R eq) (sent_row_under R eq id w ls)
+  lawful_sent id [] all = tt
+  lawful_sent id (l ∷ ls) all = (grind (arith, all.0), lawful_sent id ls all.1)
+
+  -- those that may be joined have no flags
+  of_passing : (os : List (Outline (SymbolicExpression F))) → AllByRecursion HasLawful (passing os) → AllByRecursion HasLawful os
+  of_passing [] all = tt
+  of_passing (o ∷ os) all = grind (arith, of_passing os, all)
+
+module _ {F : Type 0} (answers : Outline (SymbolicExpression F) → Result ℕ LookupError → Type 0) (most : ℕ) (before after : List (Lookup F)) (packing : IsPacking answers most (map fields_of before) (map fields_of after)) where
+  -- lawful flags stay lawful
+  pub kept_flags : (R : Ring F) (eq : F → F → Bool) → KeepsLawfulFlags R eq before after
+  kept_flags R eq id_before id_after w lawful =
+      let Lawful = HasLawful R eq w in
+      let os = map fields_of before in
+      let those_before = all_kept Lawful (λ o. not (is_additive o)) os (lawful_fields R eq w id_before before lawful) in
+      let those_after = subst (AllByRecursion Lawful) (sym (passing_after answers most os (map fields_of after) packing)) (all_images Lawful unnumbered (passing os) those_before) in
+      lawful_sent R eq w id_after after (of_passing R eq w (map fields_of after) (all_of_map Lawful unnumbered (passing (map fields_of after)) those_after))
+
+  -- the others stay on their buses
+  pub kept_other_buses : KeepsOtherBuses before after
+  kept_other_buses = buses after ∙ ap (λ os. map (λ o. o.bus) os) (passing_after answers most (map fields_of before) (map fields_of after) packing) ∙ sym (buses before)
+    where
+      buses : (ls : List (Lookup F)) → other_buses ls ≡ map (λ o. o.bus) (map unnumbered (passing (map fields_of ls)))
+      buses ls =
+          sym (map-map (λ (o : Outline (SymbolicExpression F)). o.bus) fields_of (filter (λ l. not (is_additive (fields_of l))) ls))
+          ∙ ap (λ os. map (λ (o : Outline (SymbolicExpression F)). o.bus) os) (filter_seen fields_of (λ o. not (is_additive o)) ls)
+          ∙ sym (map-map (λ (o : Outline (SymbolicExpression F)). o.bus) unnumbered (passing (map fields_of ls)))
+
+  -- the widths of all tuples stay
+  pub kept_widths : KeepsWidths before after
+  kept_widths =
+      let own = λ (o : Outline (SymbolicExpression F)). map length o.elements in
+      let os = map fields_of before in
+      let made = columns answers most os (map fields_of after) packing in
+      let later = sym (flat_map-map own unnumbered (map fields_of after)) ∙ ap (flat_map own) (after_is answers most os (map fields_of after) packing) ∙ flat_map-map own unnumbered (passing os ++ made) ∙ flat_map-append own (passing os) made in
+      let in_columns = columns_give answers most (additive os) (λ _ _. Unit {0}) (λ name. each_of (λ _. Unit {0}) (λ _. tt) (on_bus name (additive os))) own (λ name part _. map-flat_map length (λ o. o.elements) (part_items part)) (bus_names (additive os)) packing.cuts packing.filled in
+      let joined_widths = subst (IsPermutation (flat_map own (additive os))) (sym in_columns) (on_buses answers most os (map fields_of after) packing own) in
+      let both = IsPermutation-trans _ _ _ (IsPermutation-append_left (flat_map own (passing os)) _ _ joined_widths) (IsPermutation-append_comm (flat_map own made) (flat_map own (passing os))) in
+      subst₂ IsPermutation (seen_widths before) (sym later ∙ seen_widths after) (IsPermutation-trans _ _ _ (parted own is_additive os) both)
+    where
+      seen_widths : (ls : List (Lookup F)) → flat_map (λ o. map length o.elements) (map fields_of ls) ≡ widths_of ls
+      seen_widths [] = refl
+      seen_widths (l ∷ ls) = λ i. map-map length (λ tuple. tuple.items) l.elements.items i ++ seen_widths ls i

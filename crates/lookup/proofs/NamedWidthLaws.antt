@@ -1,5 +1,5 @@
 -- Widths on buses, one by one.
-use Rattle.std.proofs.Common.{◌≡◌, ◌≢◌, ◌++◌, ◌∷◌, ◌+◌, ◌<◌, ℕ, Bool, true, false, cond, true≢false, List, [], Option, None, Some, get_or, length, map, max, nat_cmp, rules, slice_get, take, unwrap_or, refl, sym, ap, arith, ◌∙◌}
+use Rattle.std.proofs.Common.{◌≡◌, ◌≢◌, ◌++◌, ◌∷◌, ◌+◌, ◌<◌, ℕ, cond, List, [], Option, None, Some, get_or, length, map, max, nat_cmp, rules, slice_get, take, unwrap_or, refl, sym, ap, arith, ◌∙◌}
 use Rattle.std.proofs.lemmas.List.{map_push}
 use Rattle.std.proofs.lemmas.Option.{slice_get-get_or, slice_get-map}
 use Rattle.std.specs.Borrow.{Bor}
@@ -26,18 +26,12 @@ max_is a b = search rules
 -- a greatest number, with one more
 pub greatest_push : (ns : List ℕ) (n : ℕ) → greatest (ns ++ n ∷ []) ≡ max (greatest ns) n
 greatest_push [] n = omega arith
-greatest_push (m ∷ ms) n =
-    let rest : greatest (ms ++ n ∷ []) ≡ max (greatest ms) n = greatest_push ms n in
-    ap (max m) rest ∙ omega arith
+greatest_push (m ∷ ms) n = omega (arith, greatest_push ms n)
 
 -- the one, or else the other
 abbrev or_else : Option ℕ → Option ℕ → Option ℕ
 or_else None other = other
 or_else (Some x) other = Some x
-
-or_none : (o : Option ℕ) → o ≡ or_else o None
-or_none None = refl
-or_none (Some x) = refl
 
 or_some : (o : Option ℕ) (width : ℕ) → Some (unwrap_or o width) ≡ or_else o (Some width)
 or_some None width = refl
@@ -46,12 +40,7 @@ or_some (Some x) width = refl
 -- the first width under a name, with one more
 first_push : (widths : List (List ℕ × ℕ)) (name : List ℕ) (width : ℕ) (q : List ℕ) → first_width (widths ++ (name, width) ∷ []) q ≡ or_else (first_width widths q) (cond (same_name q name) (Some width) None)
 first_push [] name width q = refl
-first_push (w ∷ ws) name width q = by_test (same_name q w.0) (first_push ws name width q)
-  where
-    by_test : (b : Bool) → first_width (ws ++ (name, width) ∷ []) q ≡ or_else (first_width ws q) (cond (same_name q name) (Some width) None)
-        → cond b (Some w.1) (first_width (ws ++ (name, width) ∷ []) q) ≡ or_else (cond b (Some w.1) (first_width ws q)) (cond (same_name q name) (Some width) None)
-    by_test true rest = refl
-    by_test false rest = rest
+first_push (w ∷ ws) name width q = grind (arith, first_push ws name width q)
 
 module _ {K : Type 0} (name_of : K → List ℕ) where
   -- what a map has under a name
@@ -65,33 +54,7 @@ module _ {K : Type 0} (name_of : K → List ℕ) where
   -- what it has then
   pub at_inserted : (es : List (K × ℕ)) (k : K) (v : ℕ) (q : List ℕ) → at (inserted es k v) q ≡ cond (same_name q (name_of k)) (Some v) (at es q)
   at_inserted [] k v q = refl
-  at_inserted (e ∷ es) k v q = by_test (same_name (name_of k) (name_of e.0)) refl (at_inserted es k v q)
-    where
-      at_k : Bool
-      at_k = same_name q (name_of k)
-
-      at_e : Bool
-      at_e = same_name q (name_of e.0)
-
-      same_key : (b c : Bool) → b ≡ c → cond c (Some v) (at es q) ≡ cond b (Some v) (cond c (Some e.1) (at es q))
-      same_key true true bc = refl
-      same_key false false bc = refl
-      same_key true false bc = absurd (true≢false bc)
-      same_key false true bc = absurd (true≢false (sym bc))
-
-      other_key : (b c : Bool) → at_k ≡ b → at_e ≡ c → same_name (name_of k) (name_of e.0) ≡ false → at (inserted es k v) q ≡ cond b (Some v) (at es q)
-          → cond c (Some e.1) (at (inserted es k v) q) ≡ cond b (Some v) (cond c (Some e.1) (at es q))
-      other_key b false eb ec apart rest = rest
-      other_key false true eb ec apart rest = refl
-      other_key true true eb ec apart rest =
-          let first : q ≡ name_of k = (same_name-Decides q (name_of k)).0 eb in
-          let second : q ≡ name_of e.0 = (same_name-Decides q (name_of e.0)).0 ec in
-          absurd (true≢false (sym ((same_name-Decides (name_of k) (name_of e.0)).1 (sym first ∙ second)) ∙ apart))
-
-      by_test : (a : Bool) → same_name (name_of k) (name_of e.0) ≡ a → at (inserted es k v) q ≡ cond at_k (Some v) (at es q)
-          → at (cond a ((e.0, v) ∷ es) (e ∷ inserted es k v)) q ≡ cond at_k (Some v) (cond at_e (Some e.1) (at es q))
-      by_test true ea rest = same_key at_k at_e (ap (same_name q) ((same_name-Decides (name_of k) (name_of e.0)).0 ea))
-      by_test false ea rest = other_key at_k at_e refl refl ea rest
+  at_inserted (e ∷ es) k v q = grind (arith, at_inserted es k v q, same_name-Decides (name_of k) (name_of e.0), same_name-Decides q (name_of k), same_name-Decides q (name_of e.0))
 
   -- a map has the first width under each name
   abbrev pub HoldsFirst : List (K × ℕ) → List (List ℕ × ℕ) → Type 0
@@ -100,13 +63,7 @@ module _ {K : Type 0} (name_of : K → List ℕ) where
   -- so it is of one more width
   pub holds_more : (es after : List (K × ℕ)) (widths : List (List ℕ × ℕ)) (k : K) (width v : ℕ) → HoldsFirst es widths → v ≡ unwrap_or (at es (name_of k)) width → after ≡ inserted es k v → HoldsFirst after (widths ++ (name_of k, width) ∷ [])
   holds_more es after widths k width v holds v_is after_is q =
-      ap (λ t. at t q) after_is ∙ at_inserted es k v q ∙ by_test (same_name q (name_of k)) refl ∙ sym (first_push widths (name_of k) width q)
-    where
-      by_test : (b : Bool) → same_name q (name_of k) ≡ b → cond b (Some v) (at es q) ≡ or_else (first_width widths q) (cond b (Some width) None)
-      by_test true e =
-          let same : q ≡ name_of k = (same_name-Decides q (name_of k)).0 e in
-          ap Some (v_is ∙ ap (λ n. unwrap_or (at es n) width) (sym same) ∙ ap (λ o. unwrap_or o width) (holds q)) ∙ or_some (first_width widths q) width
-      by_test false e = holds q ∙ or_none (first_width widths q)
+      ap (λ t. at t q) after_is ∙ grind (arith, at_inserted es k v q, first_push widths (name_of k) width q, same_name-Decides q (name_of k), holds q, v_is, or_some (first_width widths q) width)
 
 module _ (widths : List (List ℕ × ℕ)) (name : List ℕ) (width : ℕ) where
   -- the widths with one more
@@ -138,15 +95,11 @@ mismatch_here widths i name width v e there agree is other refusal =
       good = agree;
       fault = record {
         expected = v;
-        first = by_first (first_width (take i widths) name) is;
+        first = grind (arith, is, other);
         differs = λ same. other (sym same);
         refusal = refusal;
       };
     }
-  where
-    by_first : (o : Option ℕ) → v ≡ unwrap_or o width → o ≡ Some v
-    by_first None is = absurd (other is)
-    by_first (Some x) is = ap Some (sym is)
 
 module _ (widths : List NamedWidth) (i : ℕ) (d : NamedWidth) (lt : i < length widths) where
   -- the width at an index
@@ -181,7 +134,5 @@ module _ (widths : List NamedWidth) (i : ℕ) (d : NamedWidth) (lt : i < length 
     pub widest_mismatch : (e : LookupError) → AgreeOnWidths below → v ≢ named.width → IsWidthMismatch named.name.now v named.width e → IsFirstWidthMismatch (seen_widths widths) e
     widest_mismatch e agree other refusal = mismatch_here (seen_widths widths) i named.name.now named.width v e there agree value_is other refusal
 
-module _ {X Y : Type 0} where
-  pub parts_more : (f : X → List Y) (xs : List X) (i : ℕ) (x : X) (old before after : List Y) → i < length xs → x ≡ get_or xs i x → before ≡ old ++ flat_map f (take i xs) → after ≡ before ++ f x → after ≡ old ++ flat_map f (take (i + 1) xs)
-  parts_more f xs i x old before after lt is =
-      parts_next f (take i xs) (take (i + 1) xs) x old before after (take_item xs i x lt is)
+pub parts_more : {X Y : Type 0} (f : X → List Y) (xs : List X) (i : ℕ) (x : X) (old before after : List Y) → i < length xs → x ≡ get_or xs i x → before ≡ old ++ flat_map f (take i xs) → after ≡ before ++ f x → after ≡ old ++ flat_map f (take (i + 1) xs)
+parts_more f xs i x old before after lt is = parts_next f (take i xs) (take (i + 1) xs) x old before after (take_item xs i x lt is)

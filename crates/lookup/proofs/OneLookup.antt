@@ -15,17 +15,14 @@ use Rattle.lookup.specs.Cuts.{part_items}
 use Rattle.lookup.specs.Packing.{AreFilled, IsFillRefusal, IsPacking, Packs, additive, is_additive, joined, numbered, passing}
 use Rattle.lookup.proofs.FillLaws.{joined_one}
 use Rattle.lookup_model.proofs.Names.{same_name-Decides}
+use Rattle.lookup.proofs.ListLaws.{none_behind}
 use Rattle.lookup.proofs.JoinedMessages.{on_some_bus}
-
-none_behind : {A : Type 0} (xs : List A) (y : A) (ys : List A) → xs ++ y ∷ ys ≡ [] → ⊥
-none_behind [] y ys e = cc e
-none_behind (x ∷ xs) y ys e = cc e
 
 module _ {E : Type 0} (o : Outline E) where
   -- a cut of one lookup makes that lookup
   cut_of_one : (cut : List (Outline E × List (Outline E))) → flat_map part_items cut ≡ o ∷ [] → map joined cut ≡ o ∷ []
   cut_of_one [] e = absurd (cc e)
-  cut_of_one ((first, []) ∷ []) e = let is : first ≡ o = cc e in ap (λ p. p ∷ []) (joined_one first ∙ is)
+  cut_of_one ((first, []) ∷ []) e = cc (e, joined_one first)
   cut_of_one ((first, x ∷ xs) ∷ []) e = absurd (cc e)
   cut_of_one ((first, rest) ∷ q ∷ qs) e = let none : rest ++ q.0 ∷ (q.1 ++ flat_map part_items qs) ≡ [] = cc e in absurd (none_behind rest q.0 (q.1 ++ flat_map part_items qs) none)
 
@@ -61,11 +58,7 @@ module _ {E : Type 0} (o : Outline E) where
     -- no trial of it is refused, since there is none
     few : (p : Outline E → Bool) (os : List (Outline E)) → length (filter p os) ≤ length os
     few p [] = omega arith
-    few p (x ∷ xs) = by_test (p x) (few p xs)
-      where
-        by_test : (b : Bool) → length (filter p xs) ≤ length xs → length (cond b (x ∷ filter p xs) (filter p xs)) ≤ suc (length xs)
-        by_test true h = omega (arith, h)
-        by_test false h = omega (arith, h)
+    few p (x ∷ xs) = grind (arith, few p xs)
 
     never_stuck : (e : LookupError) → IsFillRefusal answers most (o ∷ []) e → ⊥
     never_stuck e refusal =
@@ -87,11 +80,7 @@ module _ {E : Type 0} (o : Outline E) where
       differ.differs (second ∙ sym first)
     where
       on_this : (name : List ℕ) → AllByRecursion (λ n. n ≡ width) (flat_map widths_of (on_bus name (o ∷ [])))
-      on_this name = by_test (is_named name o.bus)
-        where
-          by_test : (b : Bool) → AllByRecursion (λ n. n ≡ width) (flat_map widths_of (cond b (o ∷ []) []))
-          by_test true = subst (λ (ns : List ℕ). AllByRecursion (λ n. n ≡ width) ns) (sym (append-nil (widths_of o))) even
-          by_test false = tt
+      on_this name = grind (arith, even, append-nil (widths_of o))
 
 -- Packing one lookup, whose tuples have one width, gives it in column 0, or memory ran out.
 pub packs_one : {E S : Type 0} (answers : Outline E → Result ℕ LookupError → Type 0) (most : ℕ) (seen : S → List (Outline E)) (before : List (Outline E)) (o : Outline E) (width : ℕ) (result : Result S LookupError) → before ≡ o ∷ [] → AllByRecursion (λ n. n ≡ width) (widths_of o)

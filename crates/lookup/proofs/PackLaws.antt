@@ -1,45 +1,37 @@
 -- From the groups of buses to the packing of all lookups.
-use Rattle.std.proofs.Common.{◌≡◌, ◌+◌, ℕ, zero, suc, List, [], ◌∷◌, ◌++◌, Option, None, Some, Result, map, option_map, slice_get, take, refl, sym, ap, subst, ◌∙◌, arith}
-use Rattle.std.proofs.lemmas.Option.{slice_get-map}
+use Rattle.std.proofs.Common.{◌≡◌, ◌+◌, ℕ, List, [], ◌∷◌, ◌++◌, Some, Result, map, slice_get, take, sym, ap, subst, ◌∙◌, drop}
+use Rattle.std.proofs.lemmas.Option.{slice_get_within, get_or_from_slice_get}
 use Rattle.std.specs.Borrow.{Bor}
 use Rattle.std.specs.List.{AllZip, flat_map}
 use Rattle.std.specs.declared.alloc.Global.{Global}
 use Rattle.std.specs.declared.vec.Vec.{Vec}
 use Rattle.lists.proofs.Zips.{AllZip-map_left}
-use Rattle.lists.proofs.Images.{map-map, map_split}
+use Rattle.lists.proofs.Images.{from_map, map-map, map_at, map_split}
 use Rattle.expressions.specs.Faults.{SplitsAtFault}
 use Rattle.expressions.specs.declared.base_expression.SymbolicExpression.{SymbolicExpression}
 use Rattle.lookup_model.specs.Outline.{Outline, fields_of}
 use Rattle.lookup_model.specs.declared.error.LookupError.{LookupError}
 use Rattle.lookup_model.specs.declared.types.Lookup.{Lookup}
 use Rattle.lookup.specs.Buses.{bus_groups, bus_names, group_of, on_bus}
+use Rattle.std.proofs.lemmas.List.{append_assoc}
+use Rattle.lists.proofs.Items.{split_at, take_item}
 use Rattle.lookup.specs.Packing.{IsFillRefusal, IsFilling, IsPacking, IsStuck, additive, joined, numbered, passing}
 
 -- an item at its index
 pub at_index : {A : Type 0} (xs : List A) (i : ℕ) (x : A) → slice_get xs i ≡ Some x → (later : List A) × (xs ≡ take i xs ++ x ∷ later) × (take (i + 1) xs ≡ take i xs ++ x ∷ [])
-at_index [] i x e = absurd (cc e)
-at_index (y ∷ ys) zero x e = let is : y ≡ x = cc e in (ys, ap (λ t. t ∷ ys) is, ap (λ t. t ∷ []) is)
-at_index (y ∷ ys) (suc i) x e =
-    let (later, whole, next) = at_index ys i x e in
-    let more : suc i + 1 ≡ suc (i + 1) = omega arith in
-    (later, ap (λ t. y ∷ t) whole, ap (λ n. take n (y ∷ ys)) more ∙ ap (λ t. y ∷ t) next)
+at_index xs i x e =
+    let lt = slice_get_within xs i x e in
+    let is = sym (get_or_from_slice_get xs i x x e) in
+    (drop (i + 1) xs, split_at xs i x lt is ∙ append_assoc (take i xs) (x ∷ []) (drop (i + 1) xs), take_item xs i x lt is)
 
 module _ {F : Type 0} where
   -- the bus at an index of a map of groups
   pub bus_here : (os : List (Outline (SymbolicExpression F))) (es : List (Bor (List ℕ) × Vec (Bor (Lookup F)) Global)) (i : ℕ) (k : Bor (List ℕ)) (v : Vec (Bor (Lookup F)) Global) → map group_of es ≡ bus_groups os → slice_get es i ≡ Some (k, v)
       → (slice_get (bus_names os) i ≡ Some k.now) × (map (λ r. fields_of r.now) v.items ≡ on_bus k.now os)
-  bus_here os es i k v groups there = by_name (slice_get (bus_names os) i) refl at
-    where
-      at : option_map {U = List ℕ × List (Outline (SymbolicExpression F))} (λ name. (name, on_bus name os)) (slice_get (bus_names os) i) ≡ Some (k.now, map (λ r. fields_of r.now) v.items)
-      at = sym (slice_get-map {B = List ℕ × List (Outline (SymbolicExpression F))} (λ name. (name, on_bus name os)) (bus_names os) i) ∙ ap (λ t. slice_get t i) (sym groups) ∙ slice_get-map group_of es i ∙ ap (option_map group_of) there
-
-      by_name : (o : Option (List ℕ)) → slice_get (bus_names os) i ≡ o → option_map {U = List ℕ × List (Outline (SymbolicExpression F))} (λ name. (name, on_bus name os)) o ≡ Some (k.now, map (λ r. fields_of r.now) v.items)
-          → (slice_get (bus_names os) i ≡ Some k.now) × (map (λ r. fields_of r.now) v.items ≡ on_bus k.now os)
-      by_name None is e = absurd (cc e)
-      by_name (Some name) is e =
-          let pair : ◌≡◌ {A = List ℕ × List (Outline (SymbolicExpression F))} (name, on_bus name os) (k.now, map (λ r. fields_of r.now) v.items) = cc e in
-          let same : name ≡ k.now = ap (λ p. p.0) pair in
-          (is ∙ ap Some same, sym (ap (λ p. p.1) pair) ∙ ap (λ n. on_bus n os) same)
+  bus_here os es i k v groups there =
+      let (name, named, is) = from_map {B = List ℕ × List (Outline (SymbolicExpression F))} (λ name. (name, on_bus name os)) (bus_names os) i (group_of (k, v)) (ap (λ t. slice_get t i) (sym groups) ∙ map_at group_of es i (k, v) there) in
+      let same : name ≡ k.now = ap (λ p. p.0) is in
+      (named ∙ ap Some same, sym (ap (λ p. p.1) is) ∙ ap (λ n. on_bus n os) same)
 
 module _ {E : Type 0} (answers : Outline E → Result ℕ LookupError → Type 0) (most : ℕ) where
   -- columns with those of each bus of a list behind them, each with its greedy cut
@@ -67,8 +59,8 @@ module _ {E : Type 0} (answers : Outline E → Result ℕ LookupError → Type 0
         item = name;
         after = later;
         split = names;
-        good = (stuck.good.0, AllZip-map_left (λ bus cut. IsFilling answers most cut bus) (λ n. on_bus n (additive before)) earlier stuck.good.0 (subst (λ (t : List (List (Outline E))). AllZip (λ bus cut. IsFilling answers most cut bus) t stuck.good.0) (sym earlier_is) stuck.good.1));
-        fault = subst (λ (t : List (Outline E)). IsStuck answers most t e) (sym name_is) stuck.fault;
+        good = (stuck.good.0, AllZip-map_left (λ bus cut. IsFilling answers most cut bus) (λ n. on_bus n (additive before)) earlier stuck.good.0 (rw earlier_is stuck.good.1));
+        fault = rw name_is stuck.fault;
       }
 
   -- what passes through, and the columns of all buses

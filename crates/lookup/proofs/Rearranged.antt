@@ -1,5 +1,5 @@
 -- Lists in another order, and the parts that their items are mapped to.
-use Rattle.std.proofs.Common.{◌≡◌, ℕ, Bool, true, false, cond, not, ◌||◌, ◌&&◌, List, [], ◌∷◌, ◌++◌, Option, None, Some, refl, sym, ap, subst, ◌∙◌}
+use Rattle.std.proofs.Common.{◌≡◌, ℕ, Bool, true, false, not, ◌&&◌, List, [], ◌∷◌, ◌++◌, Option, None, Some, refl, subst, arith}
 use Rattle.std.proofs.lemmas.Bool.{false≢true}
 use Rattle.std.proofs.lemmas.List.{append_assoc}
 use Rattle.std.proofs.lemmas.List.Sorted.{IsPermutation-append_comm, IsPermutation-append_left, IsPermutation-append_right, IsPermutation-refl, IsPermutation-trans}
@@ -24,17 +24,12 @@ module _ {A M : Type 0} (f : A → List M) where
   -- the items that pass a test come first, and the others follow
   pub parted : (p : A → Bool) (xs : List A) → IsPermutation (flat_map f xs) (flat_map f (filter p xs) ++ flat_map f (filter (λ x. not (p x)) xs))
   parted p [] = IsPermutation-refl []
-  parted p (x ∷ xs) = by_test (p x) (IsPermutation-append_right (f x) (flat_map f xs) _ (parted p xs))
-    where
-      kept : List A
-      kept = filter p xs
-
-      others : List A
-      others = filter (λ (y : A). not (p y)) xs
-
-      by_test : (b : Bool) → IsPermutation (f x ++ flat_map f xs) (f x ++ (flat_map f kept ++ flat_map f others)) → IsPermutation (f x ++ flat_map f xs) (flat_map f (cond b (x ∷ kept) kept) ++ flat_map f (cond (not b) (x ∷ others) others))
-      by_test true rest = subst (λ (t : List M). IsPermutation (f x ++ flat_map f xs) t) (sym (append_assoc (f x) (flat_map f kept) (flat_map f others))) rest
-      by_test false rest = IsPermutation-trans _ _ _ rest (moved (f x) (flat_map f kept) (flat_map f others))
+  parted p (x ∷ xs) =
+      let kept = filter p xs in
+      let others = filter (λ y. not (p y)) xs in
+      let first = IsPermutation-append_right (f x) (flat_map f xs) _ (parted p xs) in
+      let second = IsPermutation-trans _ _ _ first (moved (f x) (flat_map f kept) (flat_map f others)) in
+      grind (arith, first, second, append_assoc (f x) (flat_map f kept) (flat_map f others))
 
 -- a lookup is on one of the buses of these names
 abbrev pub IsAmong : {E : Type 0} → List (List ℕ) → Outline E → Type 0
@@ -43,32 +38,18 @@ IsAmong names o = list_any (λ name. is_named name o.bus) names ≡ true
 -- a lookup on one bus is on no other
 not_named : (name other : List ℕ) → same_name name other ≡ false → (bus : Option (List ℕ)) → is_named name bus ≡ true → is_named other bus ≡ false
 not_named name other apart None e = refl
-not_named name other apart (Some b) e = ap (same_name other) (sym ((same_name-Decides name b).0 e)) ∙ turned same_name same_name-Decides other name ∙ apart
+not_named name other apart (Some b) e = grind (arith, e, apart, same_name-Decides name b, same_name-Decides other b, turned same_name same_name-Decides other name)
 
 module _ {E : Type 0} where
   -- without the lookups of one bus another has all of its own
   on_other : (name other : List ℕ) → same_name name other ≡ false → (os : List (Outline E)) → on_bus other (filter (λ o. not (is_named name o.bus)) os) ≡ on_bus other os
   on_other name other apart [] = refl
-  on_other name other apart (o ∷ os) = by_test (is_named name o.bus) refl (on_other name other apart os)
-    where
-      left : List (Outline E)
-      left = filter (λ (p : Outline E). not (is_named name p.bus)) os
-
-      by_test : (b : Bool) → is_named name o.bus ≡ b → on_bus other left ≡ on_bus other os → on_bus other (cond (not b) (o ∷ left) left) ≡ cond (is_named other o.bus) (o ∷ on_bus other os) (on_bus other os)
-      by_test true e rest = rest ∙ ap (λ b. cond b (o ∷ on_bus other os) (on_bus other os)) (sym (not_named name other apart o.bus e))
-      by_test false e rest = ap (λ t. cond (is_named other o.bus) (o ∷ t) t) rest
+  on_other name other apart (o ∷ os) = grind (arith, on_other name other apart os, not_named name other apart o.bus)
 
   -- lookups that are not on the first bus are on one of the others
   among_others : (name : List ℕ) (names : List (List ℕ)) (os : List (Outline E)) → AllByRecursion (IsAmong (name ∷ names)) os → AllByRecursion (IsAmong names) (filter (λ o. not (is_named name o.bus)) os)
   among_others name names [] among = tt
-  among_others name names (o ∷ os) among = by_test (is_named name o.bus) refl (among_others name names os among.1)
-    where
-      left : List (Outline E)
-      left = filter (λ (p : Outline E). not (is_named name p.bus)) os
-
-      by_test : (b : Bool) → is_named name o.bus ≡ b → AllByRecursion (IsAmong names) left → AllByRecursion (IsAmong names) (cond (not b) (o ∷ left) left)
-      by_test true e rest = rest
-      by_test false e rest = (sym (ap (λ b. b || list_any (λ n. is_named n o.bus) names) e) ∙ among.0, rest)
+  among_others name names (o ∷ os) among = grind (arith, among_others name names os among.1, among.0)
 
   module _ {M : Type 0} (f : Outline E → List M) where
     same_groups : (name : List ℕ) (names : List (List ℕ)) (os : List (Outline E)) → AllByRecursion (λ other. same_name name other ≡ false) names

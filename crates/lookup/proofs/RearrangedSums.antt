@@ -1,5 +1,5 @@
 -- Sums of ring elements over lists in another order.
-use Rattle.std.proofs.Common.{◌≡◌, ◌<◌, inl, inr, ℕ, zero, suc, Bool, true, false, cond, List, [], ◌∷◌, map, length, get_or, set, refl, sym, ap, ◌∙◌, arith}
+use Rattle.std.proofs.Common.{◌≡◌, ◌<◌, inl, inr, ℕ, zero, suc, Bool, cond, List, [], ◌∷◌, map, length, get_or, set, refl, sym, ap, ◌∙◌, arith}
 use Rattle.std.proofs.lemmas.Bool.{cases_eq}
 use Rattle.std.proofs.lemmas.List.{get_or-set_other, get_or-set_same, length-set}
 use Rattle.std.proofs.lemmas.List.Sorted.{IsPermutation-keeps}
@@ -14,12 +14,7 @@ module _ {K X : Type 0} {S : Ring K} (laws : IsCommutativeRing S) where
   -- a sum over the items that pass a test
   pub sum_in-passing : (f : X → K) (p : X → Bool) (xs : List X) → sum_in S (map f (filter p xs)) ≡ sum_in S (map (λ x. cond (p x) (f x) S.zero) xs)
   sum_in-passing f p [] = refl
-  sum_in-passing f p (x ∷ xs) = by_test (p x) (sum_in-passing f p xs)
-    where
-      by_test : (b : Bool) → sum_in S (map f (filter p xs)) ≡ sum_in S (map (λ y. cond (p y) (f y) S.zero) xs)
-          → sum_in S (map f (cond b (x ∷ filter p xs) (filter p xs))) ≡ S.add (cond b (f x) S.zero) (sum_in S (map (λ y. cond (p y) (f y) S.zero) xs))
-      by_test true rest = ap (S.add (f x)) rest
-      by_test false rest = rest ∙ sym (zero_add laws (sum_in S (map (λ y. cond (p y) (f y) S.zero) xs)))
+  sum_in-passing f p (x ∷ xs) = grind (arith, sum_in-passing f p xs, zero_add laws (sum_in S (map (λ y. cond (p y) (f y) S.zero) xs)))
 
   module _ (f : X → K) where
     abbrev total : List X → K

@@ -1,9 +1,9 @@
 -- Lookups one after another, in the columns 0, 1, 2, …
-use Rattle.std.proofs.Common.{◌≡◌, ◌+◌, ◌-◌, ◌<◌, ◌≤◌, ◌⊎◌, inl, inr, ℕ, All, List, [], ◌∷◌, ◌++◌, Some, length, map, get_or, set, refl, sym, ap, subst, ◌∙◌, arith, length-append}
+use Rattle.std.proofs.Common.{◌≡◌, ◌+◌, ◌-◌, ◌<◌, inl, inr, ℕ, All, List, [], ◌∷◌, ◌++◌, Some, length, map, get_or, set, refl, sym, ap, subst, ◌∙◌, arith, length-append}
 use Rattle.std.proofs.Math.ListN.{get_or-append}
 use Rattle.std.proofs.Math.Seq.{get_or-append_seam}
 use Rattle.std.proofs.lemmas.Bool.{cases_lt}
-use Rattle.std.proofs.lemmas.List.{append-nil, append_assoc, length_push, map_push, set-append_right}
+use Rattle.std.proofs.lemmas.List.{append_assoc, length_push, map_push, set-append_right}
 use Rattle.std.proofs.lemmas.List.Elements.{All-head, All-tail}
 use Rattle.std.proofs.lemmas.Option.{get_or_from_slice_get, slice_get-get_or}
 use Rattle.lookup_model.specs.Outline.{Outline, fields_of}
@@ -13,18 +13,14 @@ use Rattle.lookup.specs.Packing.{numbered, numbered_from}
 
 -- one more well formed record
 pub AreRecords-push : {F : Type 0} (lookups : List (Lookup F)) (l : Lookup F) → AreRecords lookups → IsRecordAt (length lookups) l → AreRecords (lookups ++ l ∷ [])
-AreRecords-push {F} lookups l records record_at i lookup lt there = by_index (cases_lt i (length lookups))
-  where
-    found : get_or (lookups ++ l ∷ []) i lookup ≡ lookup
-    found = get_or_from_slice_get (lookups ++ l ∷ []) i lookup lookup there
-
-    by_index : (i < length lookups) ⊎ (length lookups ≤ i) → IsRecordAt i lookup
-    by_index (inl below) =
-        records i lookup below (slice_get-get_or lookups i lookup below ∙ ap Some (sym (get_or-append lookups (l ∷ []) lookup i below) ∙ found))
-    by_index (inr above) =
-        let last : i ≡ length lookups = omega (arith, lt, above, length_push lookups l) in
-        let same : l ≡ lookup = sym (get_or-append_seam lookups l [] lookup) ∙ ap (λ n. get_or (lookups ++ l ∷ []) n lookup) (sym last) ∙ found in
-        subst (λ (n : ℕ). IsRecordAt n lookup) (sym last) (subst (λ (x : Lookup F). IsRecordAt (length lookups) x) same record_at)
+AreRecords-push {F} lookups l records record_at i lookup lt there =
+    let found = get_or_from_slice_get (lookups ++ l ∷ []) i lookup lookup there in
+    elim (cases_lt i (length lookups)) [
+      | inl below ↦ records i lookup below (slice_get-get_or lookups i lookup below ∙ ap Some (sym (get_or-append lookups (l ∷ []) lookup i below) ∙ found))
+      | inr above ↦
+          let last : i ≡ length lookups = omega (arith, lt, above, length_push lookups l) in
+          grind (arith, last, found, record_at, get_or-append_seam lookups l [] lookup)
+    ]
 
 -- the lookups with one more are well formed
 pub next_records : {F : Type 0} (before after : List (Lookup F)) (l : Lookup F) (column : ℕ) → after ≡ before ++ l ∷ [] → column ≡ length before → AreRecords before → IsRecordAt column l → AreRecords after
@@ -90,12 +86,3 @@ none_numbered lookups lengths = record {
   records = λ i l lt there. absurd (omega (arith, lt));
   left = lengths;
 }
-
-pub all_numbered : {F : Type 0} (lookups items : List (Lookup F)) (n : ℕ) → AreNumbered lookups items n → length items ≤ n → (map fields_of items ≡ numbered (map fields_of lookups)) × AreRecords items
-all_numbered {F} lookups items n done le = by_rest done.rest done.items_are done.fields
-  where
-    by_rest : (rest : List (Lookup F)) → items ≡ done.front ++ rest → map fields_of done.front ++ numbered_from (length done.front) (map fields_of rest) ≡ numbered (map fields_of lookups) → (map fields_of items ≡ numbered (map fields_of lookups)) × AreRecords items
-    by_rest (x ∷ xs) items_are fields = absurd (omega (arith, le, done.at, ap length items_are, length-append done.front (x ∷ xs)))
-    by_rest [] items_are fields =
-        let whole = items_are ∙ append-nil done.front in
-        (ap (map fields_of) whole ∙ sym (append-nil (map fields_of done.front)) ∙ fields, subst (λ (t : List (Lookup F)). AreRecords t) (sym whole) done.records)

@@ -1,5 +1,5 @@
 -- Messages in another order have the same keys, and the same of them are unbalanced.
-use Rattle.std.proofs.Common.{◌≡◌, Bool, true, false, cond, not, ◌||◌, ◌&&◌, List, [], ◌∷◌, map, refl, sym, ap, subst, ◌∙◌, Decides}
+use Rattle.std.proofs.Common.{◌≡◌, Bool, true, false, cond, not, ◌||◌, ◌&&◌, List, [], ◌∷◌, map, refl, sym, ap, ◌∙◌, Decides, arith}
 use Rattle.std.proofs.lemmas.Bool.{false≢true}
 use Rattle.std.proofs.lemmas.List.Sorted.{IsPermutation-cons, IsPermutation-map, IsPermutation-middle, IsPermutation-refl, IsPermutation-sym, IsPermutation-trans, list_any-IsPermutation}
 use Rattle.std.specs.List.{AllByRecursion, filter, list_any}
@@ -26,44 +26,19 @@ module _ {A : Type 0} (same : A → A → Bool) (decides : (a b : A) → Decides
   -- an item of separate ones comes first, and the others follow
   taken : (x : A) (ys : List A) → IsSeparate same ys → list_any (λ y. same y x) ys ≡ true → IsPermutation ys (x ∷ apart_from x ys)
   taken x [] separate has = absurd (false≢true has)
-  taken x (y ∷ ys) separate has = by_test (same y x) refl (taken x ys separate.1)
-    where
-      by_test : (b : Bool) → same y x ≡ b → (list_any (λ z. same z x) ys ≡ true → IsPermutation ys (x ∷ apart_from x ys)) → IsPermutation (y ∷ ys) (x ∷ cond (not (same x y)) (y ∷ apart_from x ys) (apart_from x ys))
-      by_test true e rest =
-          let is : y ≡ x = (decides y x).0 e in
-          let others : apart_from x ys ≡ ys = ap (λ z. apart_from z ys) (sym is) ∙ all_apart y ys separate.0 in
-          let all : y ∷ ys ≡ x ∷ cond (not (same x y)) (y ∷ apart_from x ys) (apart_from x ys) =
-          (λ i. is i ∷ sym others i) ∙ ap (λ b. x ∷ cond (not b) (y ∷ apart_from x ys) (apart_from x ys)) (sym (turned same decides x y ∙ e)) in
-          subst (λ (t : List A). IsPermutation (y ∷ ys) t) all (IsPermutation-refl (y ∷ ys))
-      by_test false e rest =
-          let there : list_any (λ z. same z x) ys ≡ true = sym (ap (λ b. b || list_any (λ z. same z x) ys) e) ∙ has in
-          subst (λ (b : Bool). IsPermutation (y ∷ ys) (x ∷ cond (not b) (y ∷ apart_from x ys) (apart_from x ys))) (sym (turned same decides x y ∙ e))
-          (IsPermutation-trans _ _ _ (IsPermutation-cons y ys (x ∷ apart_from x ys) (rest there)) (IsPermutation-middle (y ∷ []) x (apart_from x ys)))
+  taken x (y ∷ ys) separate has =
+      let later = λ (there : list_any (λ z. same z x) ys ≡ true). IsPermutation-trans _ _ _ (IsPermutation-cons y ys (x ∷ apart_from x ys) (taken x ys separate.1 there)) (IsPermutation-middle (y ∷ []) x (apart_from x ys)) in
+      grind (arith, has, later, decides y x, turned same decides x y, all_apart y ys separate.0, IsPermutation-refl (y ∷ ys))
 
   -- whether an item is among those that pass a test
   any-filter : (p : A → Bool) (z : A) (ks : List A) → list_any (λ k. same k z) (filter p ks) ≡ (p z && list_any (λ k. same k z) ks)
-  any-filter p z [] = by_case (p z)
-    where
-      by_case : (b : Bool) → false ≡ (b && false)
-      by_case true = refl
-      by_case false = refl
-  any-filter p z (k ∷ ks) = by_tests (p k) refl (same k z) refl (any-filter p z ks)
-    where
-      kept : List A
-      kept = filter p ks
-
-      by_tests : (b : Bool) → p k ≡ b → (d : Bool) → same k z ≡ d → list_any (λ j. same j z) kept ≡ (p z && list_any (λ j. same j z) ks) → list_any (λ j. same j z) (cond b (k ∷ kept) kept) ≡ (p z && (d || list_any (λ j. same j z) ks))
-      by_tests true e true f rest = ap (λ t. t || list_any (λ j. same j z) kept) f ∙ ap (λ t. t && true) (sym e ∙ ap p ((decides k z).0 f))
-      by_tests true e false f rest = ap (λ t. t || list_any (λ j. same j z) kept) f ∙ rest
-      by_tests false e true f rest = let none : p z ≡ false = sym (ap p ((decides k z).0 f)) ∙ e in rest ∙ ap (λ t. t && list_any (λ j. same j z) ks) none ∙ ap (λ t. t && true) (sym none)
-      by_tests false e false f rest = rest
+  any-filter p z [] = grind arith
+  any-filter p z (k ∷ ks) = grind (arith, any-filter p z ks, decides k z)
 
   -- an item that all are apart from is not among them
   none_same : (x z : A) → same x z ≡ true → (ys : List A) → AllByRecursion (λ y. same x y ≡ false) ys → list_any (λ y. same y z) ys ≡ false
   none_same x z e [] all = refl
-  none_same x z e (y ∷ ys) all =
-      let apart : same y z ≡ false = ap (same y) (sym ((decides x z).0 e)) ∙ turned same decides y x ∙ all.0 in
-      ap (λ b. b || list_any (λ w. same w z) ys) apart ∙ none_same x z e ys all.1
+  none_same x z e (y ∷ ys) all = grind (arith, none_same x z e ys all.1, decides x z, turned same decides y x, all.0)
 
   -- separate lists with the same items differ in the order alone
   same_items : (xs ys : List A) → IsSeparate same xs → IsSeparate same ys → ((z : A) → list_any (λ x. same x z) xs ≡ list_any (λ y. same y z) ys) → IsPermutation xs ys
@@ -71,12 +46,11 @@ module _ {A : Type 0} (same : A → A → Bool) (decides : (a b : A) → Decides
   same_items [] (y ∷ ys) first second agree = absurd (false≢true (agree y ∙ ap (λ b. b || list_any (λ z. same z y) ys) (same_self same decides y)))
   same_items (x ∷ xs) ys first second agree =
       let has : list_any (λ y. same y x) ys ≡ true = sym (agree x) ∙ ap (λ b. b || list_any (λ y. same y x) xs) (same_self same decides x) in
-      IsPermutation-trans _ _ _ (IsPermutation-cons x xs (apart_from x ys) (same_items xs (apart_from x ys) first.1 (IsSeparate-filter same (λ y. not (same x y)) ys second) (λ z. others z (same x z) refl)))
+      IsPermutation-trans _ _ _ (IsPermutation-cons x xs (apart_from x ys) (same_items xs (apart_from x ys) first.1 (IsSeparate-filter same (λ y. not (same x y)) ys second) others))
       (IsPermutation-sym _ _ (taken x ys second has))
     where
-      others : (z : A) (b : Bool) → same x z ≡ b → list_any (λ y. same y z) xs ≡ list_any (λ y. same y z) (apart_from x ys)
-      others z true e = none_same x z e xs first.0 ∙ ap (λ b. not b && list_any (λ y. same y z) ys) (sym e) ∙ sym (any-filter (λ y. not (same x y)) z ys)
-      others z false e = sym (ap (λ b. b || list_any (λ y. same y z) xs) e) ∙ agree z ∙ ap (λ b. not b && list_any (λ y. same y z) ys) (sym e) ∙ sym (any-filter (λ y. not (same x y)) z ys)
+      others : (z : A) → list_any (λ y. same y z) xs ≡ list_any (λ y. same y z) (apart_from x ys)
+      others z = grind (arith, agree z, any-filter (λ y. not (same x y)) z ys, λ (e : same x z ≡ true). none_same x z e xs first.0)
 
 -- messages in another order have the same keys
 module _ {F : Type 0} {R : Ring F} (laws : IsCommutativeRing R) (eq : F → F → Bool) (decides : (a b : F) → Decides (eq a b) (a ≡ b)) (xs ys : List (Message F)) (same : IsPermutation xs ys) where

@@ -1,8 +1,8 @@
 -- Steps of a filling, and the lookups that it takes.
-use Rattle.std.proofs.Common.{◌≡◌, ◌⊎◌, inl, inr, ◌&&◌, ℕ, Bool, true, false, cond, not, List, [], ◌∷◌, ◌++◌, Option, None, Some, MatchOption, Result, map, All, refl, sym, ap, subst, ◌∙◌, arith, true≢false}
+use Rattle.std.proofs.Common.{◌≡◌, ◌⊎◌, inl, inr, ◌&&◌, ℕ, Bool, true, not, List, [], ◌∷◌, ◌++◌, Option, None, Some, MatchOption, Result, map, All, refl, sym, ap, subst, ◌∙◌, arith}
 use Rattle.std.proofs.lemmas.Grind.{flat_map-append}
 use Rattle.std.proofs.lemmas.List.{append-nil, append_assoc, length-map, map-append}
-use Rattle.std.proofs.lemmas.List.Elements.{filter-append, All-push, recursion_from_All}
+use Rattle.std.proofs.lemmas.List.Elements.{filter-append, All-push, recursion_from_All, All-nil}
 use Rattle.std.specs.List.{AllByRecursion, flat_map}
 use Rattle.std.specs.declared.alloc.Global.{Global}
 use Rattle.std.specs.declared.vec.Vec.{Vec}
@@ -44,10 +44,8 @@ trial_front front more lookup is = record {
 
 -- and so it is on the bus of a name
 pub among_all : {F : Type 0} (seen more all : List (Outline (SymbolicExpression F))) (name : List ℕ) (lookup : Lookup F) → seen ++ more ≡ all → IsTrialAmong (on_bus name seen) lookup → IsTrialAmong (on_bus name all) lookup
-among_all {F} seen more all name lookup whole is =
-    let on = λ (o : Outline (SymbolicExpression F)). is_named name o.bus in
-    subst (λ (os : List (Outline (SymbolicExpression F))). IsTrialAmong (on_bus name os) lookup) whole
-    (subst (λ (os : List (Outline (SymbolicExpression F))). IsTrialAmong os lookup) (sym (filter-append on seen more)) (trial_front (on_bus name seen) (on_bus name more) lookup is))
+among_all seen more all name lookup whole is =
+    rw (← whole, filter-append (λ o. is_named name o.bus) seen more) (trial_front (on_bus name seen) (on_bus name more) lookup is)
 
 -- the trial of the last column with the next lookup, of lookups that are seen and those that are left
 pub trial_among : {F : Type 0} (answers : Outline (SymbolicExpression F) → Result ℕ LookupError → Type 0) (most : ℕ) (members seen front rest : List (Outline (SymbolicExpression F))) (last next : Outline (SymbolicExpression F)) (lookup : Lookup F)
@@ -58,15 +56,12 @@ trial_among {F} answers most members seen front rest last next lookup has all is
   next = next;
   back = rest;
   members_are =
-      sym all
-      ∙ ap (λ t. t ++ next ∷ rest) (sym has.filling.0 ∙ flat_map-append part_items has.parts (has.part ∷ []) ∙ ap (λ t. flat_map part_items has.parts ++ t) (append-nil (part_items has.part)));
+      grind (arith, all, has.filling.0, flat_map-append part_items has.parts (has.part ∷ []), append-nil (part_items has.part));
   is_trial = subst (λ (o : Outline (SymbolicExpression F)). IsTrial o next lookup) (sym has.last_is) is;
 }
 
 pub no_flags_of : {A B : Type 0} (f : A → B) (b : Bool) (flags : Option A) → (b && not (is_some (option_map f flags))) ≡ true → flags ≡ None
-no_flags_of f b None e = refl
-no_flags_of f true (Some x) e = absurd (true≢false (sym e))
-no_flags_of f false (Some x) e = absurd (true≢false (sym e))
+no_flags_of f b flags e = grind (arith, e)
 
 -- a well formed lookup that may be joined
 pub additive_member : {F : Type 0} (l : Lookup F) → is_additive (fields_of l) ≡ true → HasEqualLengths l → IsMember l
@@ -76,37 +71,34 @@ additive_member l joins lengths = record {
 }
 
 module _ {F K : Type 0} (keeps : K → Outline (SymbolicExpression F) → Type 0) (answers : Outline (SymbolicExpression F) → Result ℕ LookupError → Type 0) (most : ℕ) where
+  -- a filled bus by its refusal
+  abbrev Known : List (Outline (SymbolicExpression F)) → Bus F K → Option LookupError → Type 0
+  Known members bus r = MatchOption r (IsOpen keeps bus × AreGreedyColumns answers most members (columns_of bus)) (λ e. (e ≡ Memory) ⊎ IsStuck answers most members e)
+
   -- a bus with one lookup
   pub filled_one : (bus : Bus F K) → bus.closed.items ≡ [] → bus.refusal ≡ None → IsMember bus.last → keeps bus.kept (fields_of bus.last) → IsFilled keeps answers most (fields_of bus.last ∷ []) bus
   filled_one bus none free member has =
-      subst (λ (r : Option LookupError). MatchOption r (IsOpen keeps bus × AreGreedyColumns answers most (fields_of bus.last ∷ []) (columns_of bus)) (λ e. (e ≡ Memory) ⊎ IsStuck answers most (fields_of bus.last ∷ []) e)) (sym free) (
-        record { closed = subst (λ (t : List (Lookup F)). All IsMember t) (sym none) (λ k d lt. absurd (omega (arith, lt))); member = member; kept = has },
-        subst (λ (t : List (Lookup F)). AreGreedyColumns answers most (fields_of bus.last ∷ []) (map fields_of t ++ fields_of bus.last ∷ [])) (sym none) (one_column answers most (fields_of bus.last)),
+      subst (Known (fields_of bus.last ∷ []) bus) (sym free) (
+        record { closed = rw none (All-nil IsMember); member = member; kept = has },
+        rw none (one_column answers most (fields_of bus.last)),
       )
 
   -- what is known of a bus, by whether it is refused
   pub free_bus : (members : List (Outline (SymbolicExpression F))) (bus : Bus F K) → IsFilled keeps answers most members bus → bus.refusal ≡ None → IsOpen keeps bus × AreGreedyColumns answers most members (columns_of bus)
-  free_bus members bus filled free = subst (λ (r : Option LookupError). MatchOption r (IsOpen keeps bus × AreGreedyColumns answers most members (columns_of bus)) (λ e. (e ≡ Memory) ⊎ IsStuck answers most members e)) free filled
+  free_bus members bus filled free = subst (Known members bus) free filled
 
   pub stuck_bus : (members : List (Outline (SymbolicExpression F))) (bus : Bus F K) (e : LookupError) → IsFilled keeps answers most members bus → bus.refusal ≡ Some e → (e ≡ Memory) ⊎ IsStuck answers most members e
-  stuck_bus members bus e filled stuck = subst (λ (r : Option LookupError). MatchOption r (IsOpen keeps bus × AreGreedyColumns answers most members (columns_of bus)) (λ e. (e ≡ Memory) ⊎ IsStuck answers most members e)) stuck filled
+  stuck_bus members bus e filled stuck = subst (Known members bus) stuck filled
 
   -- a bus that is refused stays so
   pub stuck_on : (members : List (Outline (SymbolicExpression F))) (bus : Bus F K) (next : Outline (SymbolicExpression F)) → IsFilled keeps answers most members bus → is_some bus.refusal ≡ true → IsFilled keeps answers most (members ++ next ∷ []) bus
-  stuck_on members bus next filled test = by_refusal bus.refusal test filled
-    where
-      by_refusal : (r : Option LookupError) → is_some r ≡ true → MatchOption r (IsOpen keeps bus × AreGreedyColumns answers most members (columns_of bus)) (λ e. (e ≡ Memory) ⊎ IsStuck answers most members e)
-          → MatchOption r (IsOpen keeps bus × AreGreedyColumns answers most (members ++ next ∷ []) (columns_of bus)) (λ e. (e ≡ Memory) ⊎ IsStuck answers most (members ++ next ∷ []) e)
-      by_refusal None test h = absurd (true≢false (sym test))
-      by_refusal (Some e) test (inl memory) = inl memory
-      by_refusal (Some e) test (inr stuck) = inr (stuck_more answers most members next e stuck)
+  stuck_on members bus next filled test = grind (arith, filled, test, λ (e : LookupError). stuck_more answers most members next e)
 
   module _ (members : List (Outline (SymbolicExpression F))) (bus : Bus F K) (filled : IsFilled keeps answers most members bus) (free : bus.refusal ≡ None) where
     -- a bus with one more lookup
     pub pushed_on : (next : Outline (SymbolicExpression F)) (after : Bus F K) → IsOpen keeps after → after.refusal ≡ bus.refusal → IsStep answers most (map fields_of bus.closed.items) (fields_of bus.last) next (columns_of after) → IsFilled keeps answers most (members ++ next ∷ []) after
     pushed_on next after open_after same step =
-        subst (λ (r : Option LookupError). MatchOption r (IsOpen keeps after × AreGreedyColumns answers most (members ++ next ∷ []) (columns_of after)) (λ e. (e ≡ Memory) ⊎ IsStuck answers most (members ++ next ∷ []) e)) (sym (same ∙ free))
-        (open_after, stepped answers most members (map fields_of bus.closed.items) (columns_of after) (fields_of bus.last) next (free_bus members bus filled free).1 step)
+        subst (Known (members ++ next ∷ []) after) (sym (same ∙ free)) (open_after, stepped answers most members (map fields_of bus.closed.items) (columns_of after) (fields_of bus.last) next (free_bus members bus filled free).1 step)
 
     -- its open column, as the last part of a greedy cut
     pub open_part : HasLast answers most members (map fields_of bus.closed.items) (fields_of bus.last)
@@ -119,11 +111,7 @@ module _ {F K : Type 0} (keeps : K → Outline (SymbolicExpression F) → Type 0
     -- and what it is refused for is kept
     pub refused_on : (next : Outline (SymbolicExpression F)) (after : Bus F K) (e : LookupError) → after.refusal ≡ Some e → (e ≡ Memory) ⊎ IsTrialRefusal answers most (fields_of bus.last) next e → IsFilled keeps answers most (members ++ next ∷ []) after
     refused_on next after e is refused =
-        subst (λ (r : Option LookupError). MatchOption r (IsOpen keeps after × AreGreedyColumns answers most (members ++ next ∷ []) (columns_of after)) (λ e. (e ≡ Memory) ⊎ IsStuck answers most (members ++ next ∷ []) e)) (sym is) (stuck refused)
-      where
-        stuck : (e ≡ Memory) ⊎ IsTrialRefusal answers most (fields_of bus.last) next e → (e ≡ Memory) ⊎ IsStuck answers most (members ++ next ∷ []) e
-        stuck (inl memory) = inl memory
-        stuck (inr refusal) = inr (stuck_at answers most (members ++ next ∷ []) members (map fields_of bus.closed.items) [] (fields_of bus.last) next e open_part refl refusal)
+        subst (Known (members ++ next ∷ []) after) (sym is) (elim refused [ inl memory ↦ inl memory | inr refusal ↦ inr (stuck_at answers most (members ++ next ∷ []) members (map fields_of bus.closed.items) [] (fields_of bus.last) next e open_part refl refusal) ])
 
   module _ (bus : Bus F K) (is_open : IsOpen keeps bus) where
     -- a step of a filling, and what is kept after it
@@ -145,9 +133,9 @@ module _ {F K : Type 0} (keeps : K → Outline (SymbolicExpression F) → Type 0
     next_step closed next full left kept apart put has =
         let so_far : map fields_of closed.items ≡ map fields_of bus.closed.items ++ fields_of bus.last ∷ [] = ap (map fields_of) put ∙ map-append fields_of bus.closed.items (full ∷ []) ∙ ap (λ o. map fields_of bus.closed.items ++ o ∷ []) apart.3 in (
           record {
-            closed = subst (λ (t : List (Lookup F)). All IsMember t) (sym put) (All-push IsMember bus.closed.items full is_open.closed apart.0);
+            closed = rw put (All-push IsMember bus.closed.items full is_open.closed apart.0);
             member = apart.1;
-            kept = subst (keeps kept) (sym apart.4) has;
+            kept = rw apart.4 has;
           },
           refl,
           inr (apart.2, λ i. so_far i ++ apart.4 i ∷ []),
@@ -166,8 +154,4 @@ plain_on {F} ls name lengths = all_kept IsPlain (λ o. is_named name o.bus) (add
   where
     plain : (xs : List (Lookup F)) → AllByRecursion HasEqualLengths xs → AllByRecursion IsPlain (additive (map fields_of xs))
     plain [] h = tt
-    plain (x ∷ xs) h = by_test (is_additive (fields_of x)) refl (plain xs h.1)
-      where
-        by_test : (b : Bool) → is_additive (fields_of x) ≡ b → AllByRecursion IsPlain (additive (map fields_of xs)) → AllByRecursion IsPlain (cond b (fields_of x ∷ additive (map fields_of xs)) (additive (map fields_of xs)))
-        by_test true e rest = (plain_of x (additive_member x e h.0), rest)
-        by_test false e rest = rest
+    plain (x ∷ xs) h = grind (arith, plain xs h.1, λ (e : is_additive (fields_of x) ≡ true). plain_of x (additive_member x e h.0))

@@ -1,28 +1,24 @@
 -- Trials: lookups with the tuples of another one behind their own.
-use Rattle.std.proofs.Common.{◌≡◌, ◌<◌, ◌≤◌, ◌+◌, inl, inr, ℕ, List, ◌++◌, None, Some, Result, Ok, Err, length, map, take, drop, refl, sym, ap, subst, ◌∙◌, arith, length-append}
-use Rattle.std.proofs.Math.Seq.{drop-append-add, take-append_seam}
-use Rattle.std.proofs.lemmas.List.{map-append}
+use Rattle.std.proofs.Common.{◌≡◌, ◌<◌, ◌≤◌, ◌+◌, ℕ, List, ◌++◌, None, Some, Result, Ok, length, map, take, drop, sym, ap, subst, ◌∙◌, arith, length-append}
+use Rattle.std.proofs.lemmas.List.{map-append, take_at, drop_at}
 use Rattle.std.specs.declared.alloc.Global.{Global}
 use Rattle.std.specs.declared.vec.Vec.{Vec}
 use Rattle.expressions.specs.declared.base_expression.SymbolicExpression.{SymbolicExpression}
 use Rattle.lookup_model.specs.Outline.{Outline, fields_of}
 use Rattle.lookup_model.specs.Weight.{weight_bound}
 use Rattle.lookup_model.specs.declared.error.LookupError.{LookupError}
-use Rattle.lookup_model.specs.declared.error.LookupError.TheVariants.{CountWeightOverflow}
 use Rattle.lookup_model.specs.declared.types.Lookup.{Lookup}
 use Rattle.lookup.specs.Packing.{trial}
-use Rattle.lookup.specs.Trials.{IsMember, IsTrial}
-use Rattle.lookup.specs.internal.Trials.{IsTrialRefusal, IsTried}
+use Rattle.lookup.specs.Trials.{IsMember}
+use Rattle.lookup.specs.internal.Trials.{IsTried}
 
 module _ {A : Type 0} where
   -- two lists one after the other, cut where the second begins
   front_again : (xs ys zs both : List A) (n : ℕ) → both ≡ xs ++ ys → n ≡ length xs → zs ≡ take n both → zs ≡ xs
-  front_again xs ys zs both n is at taken = taken ∙ (λ i. take (at i) (is i)) ∙ take-append_seam xs ys
+  front_again xs ys zs both n is at taken = taken ∙ ap (take n) is ∙ take_at xs ys n (sym at)
 
   back_again : (xs ys zs both : List A) (n : ℕ) → both ≡ xs ++ ys → n ≡ length xs → zs ≡ drop n both → zs ≡ ys
-  back_again xs ys zs both n is at dropped =
-      let none : length xs + 0 ≡ length xs = omega arith in
-      dropped ∙ (λ i. drop (at i) (is i)) ∙ ap (λ k. drop k (xs ++ ys)) (sym none) ∙ drop-append-add xs ys 0
+  back_again xs ys zs both n is at dropped = dropped ∙ ap (drop n) is ∙ drop_at xs ys n (sym at)
 
 module _ {F : Type 0} where
   -- a lookup with other tuples
@@ -52,18 +48,6 @@ module _ {F : Type 0} where
 
     answer_is : (r : Result ℕ LookupError) → answers (fields_of (with_tuples column elements multiplicities)) r → answers (trial (fields_of column) (fields_of next)) r
     answer_is r answered = subst (λ (o : Outline (SymbolicExpression F)). answers o r) trial_is answered
-
-    -- what is asked about is the trial
-    pub asked : IsTrial (fields_of column) (fields_of next) (with_tuples column elements multiplicities)
-    asked = record { member = trial_member; fields_are = trial_is }
-
-    -- what is refused for the degree
-    pub refused : (e : LookupError) → answers (fields_of (with_tuples column elements multiplicities)) (Err e) → IsTrialRefusal answers most (fields_of column) (fields_of next) e
-    refused e answered = inl (answer_is (Err e) answered)
-
-    -- a sum of weights that does not fit
-    pub overflown : (n : ℕ) → answers (fields_of (with_tuples column elements multiplicities)) (Ok n) → n ≤ most → weight_bound ≤ column.count_weight + next.count_weight → IsTrialRefusal answers most (fields_of column) (fields_of next) CountWeightOverflow
-    overflown n answered le wide = inr (refl, (n, answer_is (Ok n) answered, le), wide)
 
     -- both in one
     pub joined_both : (n sum : ℕ) → answers (fields_of (with_tuples column elements multiplicities)) (Ok n) → n ≤ most → sum ≡ column.count_weight + next.count_weight → column.count_weight + next.count_weight < weight_bound

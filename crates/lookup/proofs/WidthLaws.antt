@@ -1,5 +1,5 @@
 -- The first width that differs from the first one.
-use Rattle.std.proofs.Common.{◌≡◌, ◌≢◌, ◌<◌, ◌+◌, ℕ, zero, suc, Bool, true, false, cond, not, List, [], ◌∷◌, ◌++◌, None, Some, find, nat_eq, slice_get, get_or, length, map, take, drop, refl, sym, ap, ◌∙◌, arith, true≢false}
+use Rattle.std.proofs.Common.{◌≡◌, ◌≢◌, ◌<◌, ◌+◌, ℕ, zero, suc, Bool, false, not, List, [], ◌∷◌, ◌++◌, None, Some, find, nat_eq, slice_get, get_or, length, map, take, drop, sym, ap, ◌∙◌, arith, inl, inr}
 use Rattle.std.proofs.lemmas.Bool.Decides.{Decides-eqb}
 use Rattle.std.specs.List.{AllByRecursion, flat_map}
 use Rattle.std.proofs.lemmas.List.Folds.{flat_map-map}
@@ -11,30 +11,17 @@ use Rattle.lookup_model.specs.Names.{is_named}
 use Rattle.lookup_model.specs.Outline.{Outline}
 use Rattle.lookup.specs.Buses.{bus_names, on_bus}
 use Rattle.lookup.specs.BusWidths.{HasOneWidth, HaveBusWidths, bus_widths, widths_of}
+use Rattle.std.proofs.lemmas.Bool.{cases_Bool}
 use Rattle.lookup.specs.TupleWidths.{HasOtherWidth}
 
 -- the test of a width that is not this one
 abbrev pub is_other : ℕ → ℕ → Bool
 is_other width w = not (nat_eq w width)
 
-not_other : (width w : ℕ) → is_other width w ≡ false → w ≡ width
-not_other width w e = by_test (nat_eq w width) refl
-  where
-    by_test : (b : Bool) → nat_eq w width ≡ b → w ≡ width
-    by_test true f = (Decides-eqb w width).0 f
-    by_test false f = absurd (true≢false (sym (ap not f) ∙ e))
-
-other_differs : (width w : ℕ) → is_other width w ≡ true → w ≢ width
-other_differs width w e is = true≢false (sym (sym (ap not ((Decides-eqb w width).1 is)) ∙ e))
-
 -- where no other width is found all are the same
 pub all_same : (width : ℕ) (ws : List ℕ) → find (is_other width) ws ≡ None → AllByRecursion (λ w. w ≡ width) ws
 all_same width [] e = tt
-all_same width (w ∷ ws) e = by_test (is_other width w) refl e (all_same width ws)
-  where
-    by_test : (b : Bool) → is_other width w ≡ b → cond b (Some w) (find (is_other width) ws) ≡ None → (find (is_other width) ws ≡ None → AllByRecursion (λ v. v ≡ width) ws) → (w ≡ width) × AllByRecursion (λ v. v ≡ width) ws
-    by_test true f h rest = absurd (cc h)
-    by_test false f h rest = (not_other width w f, rest h)
+all_same width (w ∷ ws) e = grind (arith, all_same width ws, Decides-eqb w width, e)
 
 -- the index of the first other width
 pub record IsFirstOther (ws : List ℕ) (width other : ℕ) : Type 0 where
@@ -45,43 +32,24 @@ pub record IsFirstOther (ws : List ℕ) (width other : ℕ) : Type 0 where
 
 first_other : (width other : ℕ) (ws : List ℕ) → find (is_other width) ws ≡ Some other → IsFirstOther ws width other
 first_other width other [] e = absurd (cc e)
-first_other width other (w ∷ ws) e = by_test (is_other width w) refl e (first_other width other ws)
+first_other width other (w ∷ ws) e = elim (cases_Bool (is_other width w)) [
+  | inl f ↦
+      let is : w ≡ other = grind (arith, e, f) in
+      record { index = 0; differs = grind (arith, Decides-eqb w width, f, is); found = ap Some is; before = λ i v lt. absurd (omega (arith, lt)) }
+  | inr f ↦
+      let later = first_other width other ws (grind (arith, e, f)) in
+      record { index = suc later.index; differs = later.differs; found = later.found; before = earlier f later }
+]
   where
-    by_test : (b : Bool) → is_other width w ≡ b → cond b (Some w) (find (is_other width) ws) ≡ Some other → (find (is_other width) ws ≡ Some other → IsFirstOther ws width other) → IsFirstOther (w ∷ ws) width other
-    by_test true f h rest =
-        let is : w ≡ other = cc h in record {
-          index = 0;
-          differs = λ same. other_differs width w f (is ∙ same);
-          found = ap Some is;
-          before = λ i v lt. absurd (omega (arith, lt));
-        }
-    by_test false f h rest =
-        let later = rest h in record {
-          index = suc later.index;
-          differs = later.differs;
-          found = later.found;
-          before = earlier later;
-        }
-      where
-        earlier : (later : IsFirstOther ws width other) (i v : ℕ) → i < suc later.index → slice_get (w ∷ ws) i ≡ Some v → v ≡ width
-        earlier later zero v lt there = let is : w ≡ v = cc there in sym is ∙ not_other width w f
-        earlier later (suc i) v lt there = later.before i v (omega (arith, lt)) there
+    earlier : is_other width w ≡ false → (later : IsFirstOther ws width other) (i v : ℕ) → i < suc later.index → slice_get (w ∷ ws) i ≡ Some v → v ≡ width
+    earlier f later zero v lt there = grind (arith, Decides-eqb w width, f, there)
+    earlier f later (suc i) v lt there = later.before i v (omega (arith, lt)) there
 
 -- the first width and the first other one
 pub has_other : (width other : ℕ) (ws : List ℕ) → slice_get ws 0 ≡ Some width → find (is_other width) ws ≡ Some other → HasOtherWidth ws width other
 has_other width other ws first found =
     let at = first_other width other ws found in
     record { index = at.index; first = first; differs = at.differs; found = at.found; before = at.before }
-
-other_is : (width w : ℕ) → w ≢ width → is_other width w ≡ true
-other_is width w differs = by_test (nat_eq w width) refl
-  where
-    by_test : (b : Bool) → nat_eq w width ≡ b → not b ≡ true
-    by_test true f = absurd (differs ((Decides-eqb w width).0 f))
-    by_test false f = refl
-
-same_is : (width w : ℕ) → w ≡ width → is_other width w ≡ false
-same_is width w is = ap not ((Decides-eqb w width).1 is)
 
 module _ {A B C : Type 0} (g : B → List C) (f : A → B) (xs : List A) (i : ℕ) (x : A) (lt : i < length xs) (is : x ≡ get_or xs i x) where
   -- the parts of all items, and those of the items below an index
@@ -119,13 +87,13 @@ module _ {A : Type 0} (f : A → ℕ) (width : ℕ) (xs : List A) (i : ℕ) (x :
   pub other_here : f x ≢ width → find (is_other width) (map f xs) ≡ Some (f x)
   other_here differs =
       ap (find (is_other width)) (sym (singles (map f xs)))
-      ∙ found_in (λ n. n ∷ []) f xs i x lt is (is_other width) (f x) below (ap (λ b. cond b (Some (f x)) None) (other_is width (f x) differs))
+      ∙ found_in (λ n. n ∷ []) f xs i x lt is (is_other width) (f x) below (grind (arith, Decides-eqb (f x) width, differs))
 
   -- or it is not there
   pub not_here : f x ≡ width → find (is_other width) (map f (take (i + 1) xs)) ≡ None
   not_here same =
       ap (find (is_other width)) (sym (singles (map f (take (i + 1) xs))))
-      ∙ passed_in (λ n. n ∷ []) f xs i x lt is (is_other width) below (ap (λ b. cond b (Some (f x)) None) (same_is width (f x) same))
+      ∙ passed_in (λ n. n ∷ []) f xs i x lt is (is_other width) below (grind (arith, Decides-eqb (f x) width, same))
 
 -- where all tuples have one width, those on each bus do
 pub all_buses : {E : Type 0} (os : List (Outline E)) → HasOneWidth (flat_map widths_of os) → HaveBusWidths os

@@ -1,5 +1,5 @@
 -- The names of buses that a set holds, name by name, and the lookups of all AIRs, one after another.
-use Rattle.std.proofs.Common.{◌≡◌, Bool, cond, List, [], ◌∷◌, ◌++◌, ◌||◌, ◌+◌, ◌<◌, None, Option, Some, append_assoc, get_or, length, map, take, ℕ, refl, ap, sym, ◌∙◌, true, false, subst}
+use Rattle.std.proofs.Common.{◌≡◌, Bool, cond, List, [], ◌∷◌, ◌++◌, ◌||◌, ◌+◌, ◌<◌, None, Option, Some, append_assoc, get_or, length, map, take, ℕ, refl, ap, sym, ◌∙◌, true, false, subst, arith}
 use Rattle.std.proofs.lemmas.List.{append-nil, map-append, length-map}
 use Rattle.std.proofs.lemmas.List.Elements.{filter_map-append, filter-append}
 use Rattle.std.specs.Borrow.{Bor}
@@ -33,15 +33,10 @@ pub inserted : (seen : List (List ℕ)) (ks : List (Bor (List ℕ))) (k : Bor (L
     → map (λ (b : Bor (List ℕ)). b.now) ks ≡ first_seen same_name seen
     → map (λ (b : Bor (List ℕ)). b.now) (insert_key (λ (a b : Bor (List ℕ)). same_name a.now b.now) ks k) ≡ first_seen same_name (seen ++ k.now ∷ [])
 inserted seen ks k so_far =
-    by_test (list_any (λ (b : Bor (List ℕ)). same_name k.now b.now) ks)
+    grind (arith, map-append (λ (b : Bor (List ℕ)). b.now) ks (k ∷ []))
     ∙ (λ i. cond (found i) (so_far i) (so_far i ++ k.now ∷ []))
     ∙ sym (first_seen-push same_name same_name-Decides seen k.now)
   where
-    by_test : (p : Bool)
-        → map (λ (b : Bor (List ℕ)). b.now) (cond p ks (ks ++ k ∷ [])) ≡ cond p (map (λ (b : Bor (List ℕ)). b.now) ks) (map (λ (b : Bor (List ℕ)). b.now) ks ++ k.now ∷ [])
-    by_test true = refl
-    by_test false = map-append (λ (b : Bor (List ℕ)). b.now) ks (k ∷ [])
-
     found : list_any (λ (b : Bor (List ℕ)). same_name k.now b.now) ks ≡ list_any (λ n. same_name n k.now) seen
     found =
         any-viewed k.now ks ∙ ap (list_any (λ n. same_name n k.now)) so_far
@@ -77,8 +72,7 @@ chosen-append p f xs ys = ap (flat_map f) (filter-append p xs ys) ∙ flat_map-a
 -- of one item
 chosen-one : {X A : Type 0} (p : X → Bool) (f : X → List A) (x : X) (b : Bool) → p x ≡ b
     → flat_map f (filter p (x ∷ [])) ≡ cond b (f x) []
-chosen-one p f x true is = ap (λ b. flat_map f (cond b (x ∷ []) [])) is ∙ append-nil (f x)
-chosen-one p f x false is = ap (λ b. flat_map f (cond b (x ∷ []) [])) is
+chosen-one p f x b is = grind (arith, is, append-nil (f x))
 
 module _ {F : Type 0} where
   -- the lookups of one AIR with their indices, and one more of them

@@ -1,6 +1,6 @@
 -- The least of the entries of a group, entry by entry, is its first mismatch.
-use Rattle.std.proofs.Common.{◌≡◌, ◌≢◌, ◌<◌, ◌≤◌, ◌+◌, ◌-◌, length-drop, ◌⊎◌, [], ◌∷◌, map, length, drop, ℕ, Bool, true, false, not, List, Option, None, Some, slice_get, refl, sym, ap, ◌∙◌, inl, inr, true≢false, arith, Ordering, Less, Equal, Greater, zero, suc, cond, is_some, Decides, ◌||◌}
-use Rattle.std.proofs.lemmas.Bool.{cases_lt, false_from_ne_true, not-false}
+use Rattle.std.proofs.Common.{◌≡◌, ◌≢◌, ◌<◌, ◌≤◌, ◌+◌, ◌-◌, length-drop, ◌⊎◌, [], ◌∷◌, map, length, drop, ℕ, Bool, true, false, not, List, Option, None, Some, slice_get, refl, sym, ap, ◌∙◌, inl, inr, true≢false, arith, Ordering, Less, Equal, Greater, zero, suc, is_some, Decides}
+use Rattle.std.proofs.lemmas.Bool.{cases_lt, false_from_ne_true, not-false, or_cases}
 use Rattle.std.specs.Borrow.{Bor}
 use Rattle.std.specs.Cmp.{IsTotalOrder, on_total, nat_cmp_is}
 use Rattle.std.specs.Ordering.{nat_cmp, ordering_index, ordering_reverse}
@@ -29,12 +29,7 @@ three_ways j i = elim (cases_lt j i) [
 
 -- by a total order an item is equal to itself
 pub same-equal : {K : Type 0} {order : K → K → Ordering} → IsTotalOrder order → (x : K) → order x x ≡ Equal
-same-equal {order = order} total x = by_reverse (order x x) (total.antisymm x x)
-  where
-    by_reverse : (o : Ordering) → o ≡ ordering_reverse o → o ≡ Equal
-    by_reverse Less e = absurd (cc e)
-    by_reverse Equal e = refl
-    by_reverse Greater e = absurd (cc e)
+same-equal total x = grind (arith, total.antisymm x x)
 
 -- the order of two tuples by their texts, where keys are seen through references, is total
 pub text_total : {F : Type 0} (text : F → List ℕ) → IsTotalOrder (λ (a b : Bor (List F)). text_cmp text a.now b.now)
@@ -124,14 +119,11 @@ module _ {F : Type 0} (text : F → List ℕ) where
       by_ends [] [] p q e = nat_cmp_is (length a) (length b) Equal (omega (arith, p, q, la, lb))
       by_ends [] (y ∷ ys) p q e = nat_cmp_is (length a) (length b) Less (omega (arith, p, q, la, lb))
       by_ends (x ∷ xs) [] p q e = nat_cmp_is (length a) (length b) Greater (omega (arith, p, q, la, lb))
-      by_ends (x ∷ xs) (y ∷ ys) p q (inl l) = absurd (omega (arith, p, l))
-      by_ends (x ∷ xs) (y ∷ ys) p q (inr l) = absurd (omega (arith, q, l))
+      by_ends (x ∷ xs) (y ∷ ys) p q e = absurd (grind (arith, p, q, e))
 
 -- what `== Ordering::Less` says
 pub Less-from_eq : (o : Ordering) → (ordering_index o == 0) ≡ true → o ≡ Less
-Less-from_eq Less e = refl
-Less-from_eq Equal e = absurd (true≢false (sym e))
-Less-from_eq Greater e = absurd (true≢false (sym e))
+Less-from_eq o e = grind (arith, e)
 
 pub Less-from_ne : (o : Ordering) → (ordering_index o == 0) ≡ false → o ≢ Less
 Less-from_ne o e is = true≢false (ap (λ t. ordering_index t == 0) (sym is) ∙ e)
@@ -160,21 +152,11 @@ module _ {A : Type 0} where
 
   in_kept : (p : A → Bool) (ys : List A) (b : A) → IsIn (filter p ys) b → IsIn ys b × (p b ≡ true)
   in_kept p [] b h = absurd (true≢false h)
-  in_kept p (y ∷ ys) b h = by (p y) refl (in_kept p ys b) h
-    where
-      by : (t : Bool) → p y ≡ t → (IsIn (filter p ys) b → IsIn ys b × (p b ≡ true)) → IsIn (cond t (y ∷ filter p ys) (filter p ys)) b → IsIn (y ∷ ys) b × (p b ≡ true)
-      by true e rest (inl is) = (inl is, sym (ap p is) ∙ e)
-      by true e rest (inr more) = (inr (rest more).0, (rest more).1)
-      by false e rest more = (inr (rest more).0, (rest more).1)
+  in_kept p (y ∷ ys) b h = grind (arith, in_kept p ys b, h)
 
   in_order_kept : (p : A → Bool) (ys : List A) (a b : A) → IsInOrder (filter p ys) a b → IsInOrder ys a b × (p b ≡ true)
   in_order_kept p [] a b h = absurd (true≢false h)
-  in_order_kept p (y ∷ ys) a b h = by (p y) (in_order_kept p ys a b) h
-    where
-      by : (t : Bool) → (IsInOrder (filter p ys) a b → IsInOrder ys a b × (p b ≡ true)) → IsInOrder (cond t (y ∷ filter p ys) (filter p ys)) a b → IsInOrder (y ∷ ys) a b × (p b ≡ true)
-      by true rest (inl here) = (inl (here.0, (in_kept p ys b here.1).0), (in_kept p ys b here.1).1)
-      by true rest (inr more) = (inr (rest more).0, (rest more).1)
-      by false rest more = (inr (rest more).0, (rest more).1)
+  in_order_kept p (y ∷ ys) a b h = grind (arith, in_order_kept p ys a b, in_kept p ys b, h)
 
   module _ (same : A → A → Bool) (decides : (a b : A) → Decides (same a b) (a ≡ b)) where
     in_order_seen : (xs : List A) (a b : A) → IsInOrder (first_seen same xs) a b → Precedes xs a b
@@ -191,13 +173,10 @@ module _ {A : Type 0} where
 -- the index of an item that is among some
 any_at : {A : Type 0} (same : A → A → Bool) (decides : (a b : A) → Decides (same a b) (a ≡ b)) (b : A) (ks : List A) → list_any (λ y. same y b) ks ≡ true → (j : ℕ) × (slice_get ks j ≡ Some b)
 any_at same decides b [] e = absurd (true≢false (sym e))
-any_at same decides b (k ∷ ks) e = by_test (same k b) refl (any_at same decides b ks)
-  where
-    by_test : (p : Bool) → same k b ≡ p → (list_any (λ y. same y b) ks ≡ true → (j : ℕ) × (slice_get ks j ≡ Some b)) → (j : ℕ) × (slice_get (k ∷ ks) j ≡ Some b)
-    by_test true f rest = (0, ap Some ((decides k b).0 f))
-    by_test false f rest =
-        let found = rest (sym (ap (λ t. t || list_any (λ y. same y b) ks) f) ∙ e) in
-        (suc found.0, found.1)
+any_at same decides b (k ∷ ks) e = elim (or_cases (same k b) (list_any (λ y. same y b) ks) e) [
+  | inl here ↦ (0, ap Some ((decides k b).0 here))
+  | inr later ↦ let found = any_at same decides b ks later in (suc found.0, found.1)
+]
 
 module _ {F : Type 0} {R : Ring F} (laws : IsCommutativeRing R) (eq : F → F → Bool) (eq_is : (a b : F) → Decides (eq a b) (a ≡ b)) (text : F → List ℕ) where
   decides : (a b : List F) → Decides (pointwise eq a b) (a ≡ b)

@@ -78,15 +78,7 @@ traced_at instances i instance lt is =
 -- images of items that pass a test, item by item
 pub kept_images : {X Y Z : Type 0} (h : X → Y) (p : Y → Bool) (f : Y → Z) (xs : List X) → map f (filter p (map h xs)) ≡ flat_map (λ x. cond (p (h x)) (f (h x) ∷ []) []) xs
 kept_images h p f [] = refl
-kept_images {X} {Y} {Z} h p f (x ∷ xs) = by_test (p (h x)) (kept_images h p f xs)
-  where
-    rest : List Y
-    rest = filter p (map h xs)
-
-    by_test : (b : Bool) → map f rest ≡ flat_map (λ y. cond (p (h y)) (f (h y) ∷ []) []) xs
-        → map f (cond b (h x ∷ rest) rest) ≡ cond b (f (h x) ∷ []) [] ++ flat_map (λ y. cond (p (h y)) (f (h y) ∷ []) []) xs
-    by_test true e = ap (λ t. f (h x) ∷ t) e
-    by_test false e = e
+kept_images h p f (x ∷ xs) = grind (arith, kept_images h p f xs)
 
 -- those of the parts of some items, part by part
 pub kept_parts : {X Y Z : Type 0} (h : X → List Y) (p : Y → Bool) (f : Y → Z) (xs : List X) → map f (filter p (flat_map h xs)) ≡ flat_map (λ x. map f (filter p (h x))) xs

@@ -1,7 +1,7 @@
 -- What is contributed is what is sent, where each flag is zero or one.
-use Rattle.std.proofs.Common.{◌≡◌, Bool, true, false, cond, not, ◌||◌, Option, None, Some, IfSome, List, [], ◌∷◌, map, refl, subst, sym, ap, ◌∙◌, Decides}
+use Rattle.std.proofs.Common.{◌≡◌, Bool, true, not, ◌||◌, Option, None, Some, IfSome, List, [], ◌∷◌, map, refl, subst, ap, ◌∙◌, Decides, arith}
 use Rattle.std.proofs.lemmas.Bool.{and_parts}
-use Rattle.std.specs.List.{filter, list_all, zip}
+use Rattle.std.specs.List.{list_all, zip}
 use Rattle.field.specs.Ring.{Ring, IsCommutativeRing}
 use Rattle.field.specs.laws.RingFacts.{one_mul, zero_mul}
 use Rattle.expressions.specs.Window.{Window}
@@ -34,28 +34,11 @@ module _ {F : Type 0} {R : Ring F} (laws : IsCommutativeRing R) (eq : F → F �
   with_flags [] [] boolean = refl
   with_flags [] (b ∷ bs) boolean = refl
   with_flags (f ∷ fs) [] boolean = refl
-  with_flags (f ∷ fs) (b ∷ bs) boolean = by_test (eq f R.one) refl (with_flags fs bs parts.1)
-    where
-      parts : ((eq f R.zero || eq f R.one) ≡ true) × AreBoolean fs
-      parts = and_parts (eq f R.zero || eq f R.one) (list_all (λ g. eq g R.zero || eq g R.one) fs) boolean
-
-      -- a set flag counts its branch once
-      set : f ≡ R.one → of_branch f b ≡ message_contribution location b
-      set one = ap (λ x. record { tuple = b.key.tuple; amount = x; location = location }) (ap (λ g. R.mul g b.multiplicity) one ∙ one_mul laws b.multiplicity)
-
-      -- another flag counts nothing
-      unset : (p : Bool) → eq f R.zero ≡ p → eq f R.one ≡ false → kept (of_branch f b) ≡ false
-      unset true zero other =
-          ap not ((decides (R.mul f b.multiplicity) R.zero).1 (ap (λ g. R.mul g b.multiplicity) ((decides f R.zero).0 zero) ∙ zero_mul laws b.multiplicity))
-      unset false zero other = absurd (cc (sym parts.0 ∙ (λ i. zero i || other i)))
-
-      by_test : (p : Bool) → eq f R.one ≡ p → flagged fs bs ≡ nonzero R eq (map (message_contribution location) (chosen R eq fs bs))
-          → cond (kept (of_branch f b)) (of_branch f b ∷ flagged fs bs) (flagged fs bs)
-          ≡ nonzero R eq (map (message_contribution location) (map (λ c. c.1) (cond p ((f, b) ∷ filter (λ c. eq c.0 R.one) (zip fs bs)) (filter (λ c. eq c.0 R.one) (zip fs bs)))))
-      by_test true one rest =
-          (λ i. cond (kept (set ((decides f R.one).0 one) i)) (set ((decides f R.one).0 one) i ∷ rest i) (rest i))
-      by_test false other rest =
-          ap (λ t. cond t (of_branch f b ∷ flagged fs bs) (flagged fs bs)) (unset (eq f R.zero) refl other) ∙ rest
+  with_flags (f ∷ fs) (b ∷ bs) boolean =
+      let parts = and_parts (eq f R.zero || eq f R.one) (list_all (λ g. eq g R.zero || eq g R.one) fs) boolean in
+      let set : f ≡ R.one → of_branch f b ≡ message_contribution location b = λ one. ap (λ x. record { tuple = b.key.tuple; amount = x; location = location }) (ap (λ g. R.mul g b.multiplicity) one ∙ one_mul laws b.multiplicity) in
+      let unset : f ≡ R.zero → R.mul f b.multiplicity ≡ R.zero = λ zero. ap (λ g. R.mul g b.multiplicity) zero ∙ zero_mul laws b.multiplicity in
+      grind (arith, with_flags fs bs parts.1, parts.0, set, unset, decides f R.one, decides f R.zero, decides (R.mul f b.multiplicity) R.zero)
 
   by_flags : (flags : Option (List F)) (branches : List (Message F)) → IfSome flags AreBoolean
       → nonzero R eq (contributions_from location branches (amounts R flags branches)) ≡ sent_contributions R eq location (sent R eq flags branches)

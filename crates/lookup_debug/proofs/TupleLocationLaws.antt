@@ -1,5 +1,5 @@
 -- The locations of one tuple.
-use Rattle.std.proofs.Common.{◌≡◌, Bool, true, false, cond, not, List, [], ◌∷◌, ◌++◌, append_assoc, map, refl, sym, ap, ◌∙◌}
+use Rattle.std.proofs.Common.{◌≡◌, Bool, true, false, List, [], ◌∷◌, ◌++◌, append_assoc, map, sym, ap, ◌∙◌, arith}
 use Rattle.std.proofs.lemmas.List.{append-nil}
 use Rattle.std.specs.Cmp.Lexicographic.{pointwise}
 use Rattle.field.specs.Ring.{Ring}
@@ -11,19 +11,11 @@ module _ {F : Type 0} (R : Ring F) (eq : F → F → Bool) (tuple : List F) wher
   module _ (c : Contribution F) where
     -- a contribution of the tuple is one of those of it
     pub tuple_locations-own : pointwise eq tuple c.tuple ≡ true → tuple_locations R eq tuple (nonzero R eq (c ∷ [])) ≡ map (λ d. d.location) (nonzero R eq (c ∷ []))
-    tuple_locations-own is = by_amount (not (eq c.amount R.zero))
-      where
-        by_amount : (b : Bool) → tuple_locations R eq tuple (cond b (c ∷ []) []) ≡ map (λ d. d.location) (cond b (c ∷ []) [])
-        by_amount true = ap (λ t. map (λ (d : Contribution F). d.location) (cond t (c ∷ []) [])) is
-        by_amount false = refl
+    tuple_locations-own is = grind (arith, is)
 
     -- and one of another tuple is not
     pub tuple_locations-other : pointwise eq tuple c.tuple ≡ false → tuple_locations R eq tuple (nonzero R eq (c ∷ [])) ≡ []
-    tuple_locations-other is = by_amount (not (eq c.amount R.zero))
-      where
-        by_amount : (b : Bool) → tuple_locations R eq tuple (cond b (c ∷ []) []) ≡ []
-        by_amount true = ap (λ t. map (λ (d : Contribution F). d.location) (cond t (c ∷ []) [])) is
-        by_amount false = refl
+    tuple_locations-other is = grind (arith, is)
 
     -- the locations with one more contribution, which has the tuple or another one
     module _ (front more : List (Contribution F)) (more_is : more ≡ front ++ nonzero R eq (c ∷ [])) (old now after : List SentLocation) (so_far : now ≡ old ++ tuple_locations R eq tuple front) where

@@ -1,6 +1,6 @@
 -- What the AIRs of the machines push sends what the machine says.
 use Rattle.std.proofs.Common.{◌≡◌, ℕ, Bool, List, [], ◌∷◌, codes, length, map, slice_index_or, None, Some, All, OnOk, Result, Ok, Err, MatchResult, inl, inr, max, subst, sym, ap, ap₂, arith, ◌∙◌}
-use Rattle.std.proofs.lemmas.List.Elements.{All-cons, All-nil}
+use Rattle.std.proofs.lemmas.List.Elements.{All-from_recursion, recursion_from_All}
 use Rattle.std.proofs.lemmas.Option.{get_or_from_slice_get}
 use Rattle.std.specs.declared.alloc.Global.{Global}
 use Rattle.std.specs.declared.vec.Vec.{Vec}
@@ -11,7 +11,7 @@ use Rattle.expressions.specs.declared.error.AirError.{AirError}
 use Rattle.lookup_model.specs.Sent.{sent}
 use Rattle.lookup_record.specs.Interaction.{Branch, Interaction, exclusive, global, local}
 use Rattle.lookup_record.specs.Messages.{IsExclusiveQuery, IsUnitQuery, PushesOne, flag_and_fields}
-use Rattle.lookup.specs.Sends.{bus_and_weight, interaction_sends, interaction_tuples, message_under}
+use Rattle.lookup.specs.Sends.{bus_and_weight, interaction_sends, message_under}
 use Rattle.lookup_program.specs.Machines.{SendsLike, value_message}
 use Rattle.lookup_program.specs.declared.airs.MachineAir.TheVariants.{Entries, Group, Keys, RangeCheck}
 use Rattle.lookup_program.specs.internal.Pushes.{AreTwoKeys, IsCellTuple}
@@ -30,12 +30,14 @@ module _ {B M : Type 0} (pushes : B → M → B → Type 0) (refuses : B → M �
 
 -- what follows from what holds of an accepted answer
 pub on_ok_weaker : (answer : Result (Unit {0}) AirError) (P Q : Type 0) → OnOk answer P → (P → Q) → OnOk answer Q
-on_ok_weaker (Ok u) P Q is so = so is
-on_ok_weaker (Err e) P Q is so = tt
+on_ok_weaker answer P Q is so = grind (arith, is, so)
 
--- tuples of one value
-one_value : {E : Type 0} (tuple : List E) (x : E) → tuple ≡ x ∷ [] → length tuple ≡ 1
-one_value tuple x is = ap length is
+-- one tuple, or two, of one value each
+one_narrow : {E : Type 0} (a : List E) → length a ≡ 1 → All (λ tuple. length tuple ≡ 1) (a ∷ [])
+one_narrow a first = All-from_recursion (λ tuple. length tuple ≡ 1) (a ∷ []) (first, tt)
+
+two_narrow : {E : Type 0} (a b : List E) → length a ≡ 1 → length b ≡ 1 → All (λ tuple. length tuple ≡ 1) (a ∷ b ∷ [])
+two_narrow a b first second = All-from_recursion (λ tuple. length tuple ≡ 1) (a ∷ b ∷ []) (first, (second, tt))
 
 module _ {F E S W : Type 0} (R : Ring F) (eq : F → F → Bool) (value : E → S → F) (seen : W → S) (stands : W → Type 0) (cells : W → List F) where
   -- the value of an expression at a window
@@ -66,9 +68,7 @@ module _ {F E S W : Type 0} (R : Ring F) (eq : F → F → Bool) (value : E → 
         ∙ ap₂ (λ a b. sent R eq None (a ∷ b ∷ [])) (message_is w read once _ _ (tuple_values 0 read w here reads) (is_one (seen w)))
         (message_is w provided times _ _ (tuple_values 1 provided w here provides) (is_negated (seen w) ∙ ap R.neg (cell_value 2 uses w here counts)));
     kind = ap bus_and_weight is;
-    widths = subst (λ (n : Interaction E). All (λ tuple. length tuple ≡ 1) (interaction_tuples n)) (sym is)
-        (All-cons (λ tuple. length tuple ≡ 1) read (provided ∷ []) (one_value read reads.0 reads.1)
-        (All-cons (λ tuple. length tuple ≡ 1) provided [] (one_value provided provides.0 provides.1) (All-nil (λ tuple. length tuple ≡ 1))));
+    widths = rw is (two_narrow read provided (ap length reads.1) (ap length provides.1));
   }
 
   -- the query of a key
@@ -77,8 +77,7 @@ module _ {F E S W : Type 0} (R : Ring F) (eq : F → F → Bool) (value : E → 
   keys_do_send key once m is queries is_one = record {
     sends = λ w here wide. ap (interaction_sends R eq (at w) 0) is ∙ ap (λ a. sent R eq None (a ∷ [])) (message_is w key once _ _ (tuple_values 0 key w here queries) (is_one (seen w)));
     kind = ap bus_and_weight is;
-    widths = subst (λ (n : Interaction E). All (λ tuple. length tuple ≡ 1) (interaction_tuples n)) (sym is)
-        (All-cons (λ tuple. length tuple ≡ 1) key [] (one_value key queries.0 queries.1) (All-nil (λ tuple. length tuple ≡ 1)));
+    widths = rw is (one_narrow key (ap length queries.1));
   }
 
   -- the entry that is provided
@@ -89,8 +88,7 @@ module _ {F E S W : Type 0} (R : Ring F) (eq : F → F → Bool) (value : E → 
         ap (interaction_sends R eq (at w) 0) is
         ∙ ap (λ a. sent R eq None (a ∷ [])) (message_is w entry times _ _ (tuple_values 0 entry w here provides) (is_negated (seen w) ∙ ap R.neg (cell_value 1 uses w here counts)));
     kind = ap bus_and_weight is;
-    widths = subst (λ (n : Interaction E). All (λ tuple. length tuple ≡ 1) (interaction_tuples n)) (sym is)
-        (All-cons (λ tuple. length tuple ≡ 1) entry [] (one_value entry provides.0 provides.1) (All-nil (λ tuple. length tuple ≡ 1)));
+    widths = rw is (one_narrow entry (ap length provides.1));
   }
 
   -- the group of both keys
@@ -98,33 +96,22 @@ module _ {F E S W : Type 0} (R : Ring F) (eq : F → F → Bool) (value : E → 
       → SendsLike R eq (λ x w. at w x) stands cells Group m
   group_does_send degree given m keys query = record {
     sends = λ w here wide.
-        let first_flag : at w two.0.flag ≡ slice_index_or (cells w) 0 R.zero = ap (λ p. at w p.0) two.3 ∙ cell_value 0 keys.first_flag w here keys.first_flag_is in
-        let second_flag : at w two.1.flag ≡ slice_index_or (cells w) 2 R.zero = ap (λ p. at w p.0) two.4 ∙ cell_value 2 keys.second_flag w here keys.second_flag_is in
-        let first_key : map (at w) two.0.fields ≡ slice_index_or (cells w) 1 R.zero ∷ [] = ap (λ p. map (at w) p.1) two.3 ∙ tuple_values 1 keys.first_key w here keys.first_key_is in
-        let second_key : map (at w) two.1.fields ≡ slice_index_or (cells w) 3 R.zero ∷ [] = ap (λ p. map (at w) p.1) two.4 ∙ tuple_values 3 keys.second_key w here keys.second_key_is in
+        let first_flag = ap (λ p. at w p.0) two.3 ∙ cell_value 0 keys.first_flag w here keys.first_flag_is in
+        let second_flag = ap (λ p. at w p.0) two.4 ∙ cell_value 2 keys.second_flag w here keys.second_flag_is in
+        let first_key = ap (λ p. map (at w) p.1) two.3 ∙ tuple_values 1 keys.first_key w here keys.first_key_is in
+        let second_key = ap (λ p. map (at w) p.1) two.4 ∙ tuple_values 3 keys.second_key w here keys.second_key_is in
         ap (interaction_sends R eq (at w) 0) is
         ∙ ap₂ (sent R eq) (λ i. Some (first_flag i ∷ second_flag i ∷ []))
-        (ap₂ (λ a b. a ∷ b ∷ []) (message_is w two.0.fields two.0.count _ _ first_key (first.means (seen w))) (message_is w two.1.fields two.1.count _ _ second_key (second.means (seen w))));
-    kind = ap bus_and_weight is ∙ (λ i. (Some (codes "rc"), max (first.weight_is i) (max (second.weight_is i) 0)));
-    widths = subst (λ (n : Interaction E). All (λ tuple. length tuple ≡ 1) (interaction_tuples n)) (sym is)
-        (All-cons (λ tuple. length tuple ≡ 1) two.0.fields (two.1.fields ∷ []) (one_value two.0.fields keys.first_key_is.0 (ap (λ p. p.1) two.3 ∙ keys.first_key_is.1))
-        (All-cons (λ tuple. length tuple ≡ 1) two.1.fields [] (one_value two.1.fields keys.second_key_is.0 (ap (λ p. p.1) two.4 ∙ keys.second_key_is.1)) (All-nil (λ tuple. length tuple ≡ 1))));
+        (ap₂ (λ a b. a ∷ b ∷ []) (message_is w two.0.fields two.0.count _ _ first_key (queries.0.means (seen w))) (message_is w two.1.fields two.1.count _ _ second_key (queries.1.0.means (seen w))));
+    kind = ap bus_and_weight is ∙ (λ i. (Some (codes "rc"), max (queries.0.weight_is i) (max (queries.1.0.weight_is i) 0)));
+    widths = rw is (two_narrow two.0.fields two.1.fields (ap length (ap (λ p. p.1) two.3 ∙ keys.first_key_is.1)) (ap length (ap (λ p. p.1) two.4 ∙ keys.second_key_is.1)));
   }
     where
-      IsQuery : Branch E → Type 0
-      IsQuery = IsUnitQuery R.one value degree
-
       two : (a : Branch E) × (b : Branch E) × (query.branches ≡ a ∷ b ∷ []) × (flag_and_fields a ≡ (keys.first_flag, keys.first_key)) × (flag_and_fields b ≡ (keys.second_flag, keys.second_key))
       two = two_items flag_and_fields query.branches _ _ (query.flags_and_fields ∙ keys.branches_are)
 
       is : m ≡ exclusive (record { bus_name = codes "rc"; branches = two.0 ∷ two.1 ∷ [] })
       is = query.message ∙ ap (λ bs. exclusive (record { bus_name = codes "rc"; branches = bs })) two.2
 
-      queries : All IsQuery (two.0 ∷ two.1 ∷ [])
-      queries = subst (λ (bs : List (Branch E)). All IsQuery bs) two.2 query.queries
-
-      first : IsQuery two.0
-      first = queries 0 two.0 (omega arith)
-
-      second : IsQuery two.1
-      second = queries 1 two.1 (omega arith)
+      queries : IsUnitQuery R.one value degree two.0 × (IsUnitQuery R.one value degree two.1 × Unit {0})
+      queries = recursion_from_All (IsUnitQuery R.one value degree) (two.0 ∷ two.1 ∷ []) (subst (All (IsUnitQuery R.one value degree)) two.2 query.queries)

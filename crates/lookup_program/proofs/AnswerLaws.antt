@@ -1,5 +1,5 @@
 -- The answers to the words of a run.
-use Rattle.std.proofs.Common.{◌≡◌, ◌≢◌, ◌⊎◌, ◌<◌, ◌≤◌, ◌++◌, ℕ, List, [], ◌∷◌, codes, get_or, length, map, string_bytes, Option, None, Some, IfSome, Result, Ok, Err, MatchResult, inl, inr, refl, sym, ap, arith, ◌∙◌}
+use Rattle.std.proofs.Common.{◌≡◌, ◌≢◌, ◌⊎◌, ◌<◌, ◌≤◌, ◌++◌, ℕ, List, [], ◌∷◌, codes, get_or, length, map, string_bytes, Option, None, Some, IfSome, Result, Ok, Err, MatchResult, inl, inr, refl, sym, arith}
 use Rattle.std.specs.declared.alloc.Global.{Global}
 use Rattle.std.specs.declared.string.String.{String}
 use Rattle.lookup_program.specs.Fields.{Fields}
@@ -17,29 +17,25 @@ given (Some known) = (known, refl)
 
 -- what is read to the end after nothing
 pub read_whole : (o : Option (List ℕ)) (items before : List ℕ) → before ≡ [] → IfSome o (λ known. items ≡ before ++ known) → IfSome o (λ known. items ≡ known)
-read_whole None items before none is = is
-read_whole (Some known) items before none is = is ∙ ap (λ xs. xs ++ known) none
+read_whole o items before none is = grind (arith, none, is)
 
 module _ {F K : Type 0} (fields : Fields F K) (machine : Machine) (alpha_word beta_word input : List ℕ) where
   -- alpha is refused, or memory runs out
   pub alpha_refused : (e : RunError) → (e ≡ Memory) ⊎ IsBadChallenge fields.written alpha_word e → AnswersOver fields machine alpha_word beta_word input (Err e)
   unfolding AnswersOver
-  alpha_refused e (inl memory) = inl memory
-  alpha_refused e (inr bad) = inr (inl bad)
+  alpha_refused e refusal = elim refusal [ inl memory ↦ inl memory | inr bad ↦ inr (inl bad) ]
 
   module _ (alpha : K) (alpha_is : fields.written alpha_word alpha) where
     -- beta is
     pub beta_refused : (e : RunError) → (e ≡ Memory) ⊎ IsBadChallenge fields.written beta_word e → AnswersOver fields machine alpha_word beta_word input (Err e)
     unfolding AnswersOver
-    beta_refused e (inl memory) = inl memory
-    beta_refused e (inr bad) = inr (inr (alpha, alpha_is, inl bad))
+    beta_refused e refusal = elim refusal [ inl memory ↦ inl memory | inr bad ↦ inr (inr (alpha, alpha_is, inl bad)) ]
 
     module _ (beta : K) (beta_is : fields.written beta_word beta) where
       -- the input cannot be read, or memory runs out
       pub input_refused : (e : RunError) → (e ≡ Memory) ⊎ (e ≡ CannotReadInput) → AnswersOver fields machine alpha_word beta_word input (Err e)
       unfolding AnswersOver
-      input_refused e (inl memory) = inl memory
-      input_refused e (inr unread) = inr (inr (alpha, alpha_is, inr (beta, beta_is, inl unread)))
+      input_refused e refusal = elim refusal [ inl memory ↦ inl memory | inr unread ↦ inr (inr (alpha, alpha_is, inr (beta, beta_is, inl unread))) ]
 
       -- the answer is that of the report
       pub report_answers : (answer : Result Report RunError) → MatchResult answer (λ report. IsReport fields machine alpha beta input report) (λ e. (e ≡ Memory) ⊎ IsReportRefusal fields machine alpha beta input e)
@@ -52,13 +48,9 @@ module _ {F K : Type 0} (fields : Fields F K) (machine : Machine) (alpha_word be
 -- four words, one by one
 pub four_words : (words : List (String Global)) (name field alpha beta : String Global) → 4 ≤ length words → length words < 5 → name ≡ get_or words 0 name → field ≡ get_or words 1 field → alpha ≡ get_or words 2 alpha → beta ≡ get_or words 3 beta
     → map string_bytes words ≡ string_bytes name ∷ string_bytes field ∷ string_bytes alpha ∷ string_bytes beta ∷ []
-four_words [] name field alpha beta low high p q r s = absurd (omega (arith, low))
-four_words (a ∷ []) name field alpha beta low high p q r s = absurd (omega (arith, low))
-four_words (a ∷ b ∷ []) name field alpha beta low high p q r s = absurd (omega (arith, low))
-four_words (a ∷ b ∷ c ∷ []) name field alpha beta low high p q r s = absurd (omega (arith, low))
 four_words (a ∷ b ∷ c ∷ d ∷ []) name field alpha beta low high p q r s =
     λ i. string_bytes (sym p i) ∷ string_bytes (sym q i) ∷ string_bytes (sym r i) ∷ string_bytes (sym s i) ∷ []
-four_words (a ∷ b ∷ c ∷ d ∷ e ∷ rest) name field alpha beta low high p q r s = absurd (omega (arith, high))
+four_words words name field alpha beta low high p q r s = absurd (omega (arith, low, high))
 
 module _ {F K F' K' : Type 0} (f7 : Fields F K) (babybear4 : Fields F' K') (words : List (List ℕ)) where
   -- words that are not four

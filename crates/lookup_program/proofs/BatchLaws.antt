@@ -1,15 +1,13 @@
 -- What a batch over the rows of a machine is, and what generation gives for it.
-use Rattle.std.proofs.Common.{◌≡◌, ◌<◌, ◌≤◌, ◌+◌, ◌-◌, ◌*◌, ◌/◌, ◌%◌, ℕ, zero, suc, Bool, List, [], ◌∷◌, length, map, slice_get, slice_index_or, drop, None, Some, All, refl, subst, sym, ap, ap₂, arith, ◌∙◌}
+use Rattle.std.proofs.Common.{◌≡◌, ◌<◌, ◌≤◌, ◌+◌, ◌-◌, ◌*◌, ◌/◌, ◌%◌, ℕ, zero, suc, Bool, List, [], ◌∷◌, length, map, slice_get, slice_index_or, drop, None, Some, All, refl, subst, sym, ap, arith, ◌∙◌}
 use Rattle.std.proofs.Math.Dec.{eqb-suc-zero}
 use Rattle.std.proofs.Math.Nat.{div-mul-le_self, mod-lt, mul-le-mul_left}
 use Rattle.std.proofs.lemmas.List.{length-drop, length-take-le}
-use Rattle.std.proofs.lemmas.List.Elements.{All-cons, All-nil}
+use Rattle.std.proofs.lemmas.List.Elements.{All-from_recursion}
 use Rattle.std.proofs.lemmas.Nat.{div-mul-add, le-div}
-use Rattle.std.proofs.lemmas.Option.{slice_get-map}
 use Rattle.std.specs.List.{AllZip, range_with_len, slice_range}
-use Rattle.std.specs.Option.{option_map}
 use Rattle.lists.proofs.Parts.{length_rows}
-use Rattle.lists.proofs.Images.{one_item}
+use Rattle.lists.proofs.Images.{one_item, same_map, map-map, from_map, map_at}
 use Rattle.field.specs.Ring.{Ring}
 use Rattle.matrix.specs.Matrix.{IsShaped, Matrix, height, row}
 use Rattle.expressions.specs.Layout.{layout_of_widths}
@@ -38,6 +36,8 @@ use Rattle.lookup_program.specs.declared.airs.MachineAir.TheVariants.{Entries, G
 use Rattle.lookup_program.specs.declared.machine.Machine.{Machine}
 use Rattle.lookup_program.specs.declared.machine.Machine.TheVariants.{Bus, Exclusive, Range}
 use Rattle.lookup_program.specs.declared.traces.AirTrace.{AirTrace}
+use Rattle.lists.proofs.Each.{all_range}
+use Rattle.lists.proofs.Zips.{AllZip-same_map}
 use Rattle.lookup_program.specs.internal.Traces.{IsTraceOf, traced_instance}
 
 -- a part of a list
@@ -67,18 +67,11 @@ shaped values (suc k) n wide long =
 -- a matrix of some rows is not empty
 some_rows : {T : Type 0} (values : List T) (width n : ℕ) → 0 < width → 0 < n → length values ≡ n * width → 0 < height (record { values = values; width = width })
 some_rows values zero n wide some long = absurd (omega (arith, wide))
-some_rows values (suc k) n wide some long = rw eqb-suc-zero (div_some (length values) n k some long)
-  where
-    div_some : (m n k : ℕ) → 0 < n → m ≡ n * suc k → 0 < m / suc k
-    div_some m n k some long =
-        let least : n ≤ m / suc k = le-div n m (suc k) (omega arith) (omega (arith, long)) in
-        omega (arith, least, some)
+some_rows values (suc k) n wide some long = rw eqb-suc-zero (omega (arith, le-div n (length values) (suc k) (omega arith) (omega (arith, long)), some))
 
 -- two maps over a range are the same where they give the same of each number
 same_over : {X : Type 0} (f g : ℕ → X) (a n : ℕ) → ((r : ℕ) → r < a + n → f r ≡ g r) → map f (range_with_len a n) ≡ map g (range_with_len a n)
-same_over f g a zero same = refl
-same_over f g a (suc n) same =
-    ap₂ (λ x xs. x ∷ xs) (same a (omega arith)) (same_over f g (a + 1) n (λ r lt. same r (omega (arith, lt))))
+same_over f g a n same = same_map f g (range_with_len a n) (all_range (λ r. f r ≡ g r) a n same)
 
 -- the ids of an AIR's lookups, each of which is 0
 abbrev pub ids : List ℕ
@@ -90,17 +83,13 @@ zero_id (suc column) = refl
 
 -- the AIRs of a machine hold columns of its input
 pub airs_within : (machine : Machine) → All (λ air. first_column_of air + width_of air ≤ input_columns machine) (airs_of machine)
-airs_within Range = All-cons (λ air. first_column_of air + width_of air ≤ 3) RangeCheck [] (omega arith) (All-nil (λ air. first_column_of air + width_of air ≤ 3))
-airs_within Bus = All-cons (λ air. first_column_of air + width_of air ≤ 3) Keys (Entries ∷ []) (omega arith)
-    (All-cons (λ air. first_column_of air + width_of air ≤ 3) Entries [] (omega arith) (All-nil (λ air. first_column_of air + width_of air ≤ 3)))
-airs_within Exclusive = All-cons (λ air. first_column_of air + width_of air ≤ 4) Group [] (omega arith) (All-nil (λ air. first_column_of air + width_of air ≤ 4))
+airs_within Range = All-from_recursion (λ air. first_column_of air + width_of air ≤ 3) (RangeCheck ∷ []) (omega arith, tt)
+airs_within Bus = All-from_recursion (λ air. first_column_of air + width_of air ≤ 3) (Keys ∷ Entries ∷ []) (omega arith, (omega arith, tt))
+airs_within Exclusive = All-from_recursion (λ air. first_column_of air + width_of air ≤ 4) (Group ∷ []) (omega arith, tt)
 
 -- each AIR holds some columns
 pub wide : (air : MachineAir) → 0 < width_of air
-wide RangeCheck = omega arith
-wide Keys = omega arith
-wide Entries = omega arith
-wide Group = omega arith
+wide air = grind arith
 
 -- the parts of the rows that an AIR holds are as long as it is wide
 pub length_cells : {F : Type 0} (air : MachineAir) (input : Matrix F) (r : ℕ) → first_column_of air + width_of air ≤ input.width → r < height input → length (air_cells air (row input r)) ≡ width_of air
@@ -119,10 +108,8 @@ instance trace = traced_instance [] ids trace
 
 module _ {F : Type 0} (R : Ring F) (eq : F → F → Bool) (input : Matrix F) (air : MachineAir) (trace : AirTrace F) (is : IsTraceOf R eq input air trace) where
   -- the AIR has one lookup
-  pub one_lookup : (l : Lookup F) × (lookups_of trace.lookups ≡ l ∷ [])
-  one_lookup =
-      let one = one_item lookup_bus_and_weight (lookups_of trace.lookups) (air_bus_and_weight air) is.lookups.one in
-      (one.0, one.1)
+  pub one_lookup : (l : Lookup F) × (lookups_of trace.lookups ≡ l ∷ []) × (lookup_bus_and_weight l ≡ air_bus_and_weight air)
+  one_lookup = one_item lookup_bus_and_weight (lookups_of trace.lookups) (air_bus_and_weight air) is.lookups.one
 
   -- its instance makes a batch
   pub fitting : first_column_of air + width_of air ≤ input.width → 0 < height input → IsFitting (instance trace)
@@ -176,37 +163,27 @@ module _ {F K : Type 0} (E : Extension F K) (alpha beta : K) (input : Matrix F) 
 
   -- likewise of all
   results_are : (airs : List MachineAir) (traces : List (AirTrace F)) → AllZip (IsTraceOf E.base E.base_eq input) airs traces → plain_witness E table (map instance traces) ≡ map (air_result E alpha beta input) airs
-  results_are [] [] all = refl
-  results_are [] (t ∷ ts) all = absurd all
-  results_are (a ∷ later) [] all = absurd all
-  results_are (a ∷ later) (t ∷ ts) all = λ i. result_is a t all.0 i ∷ results_are later ts all.1 i
+  results_are airs traces all =
+      map-map (plain_result E table) instance traces
+      ∙ sym (AllZip-same_map (IsTraceOf E.base E.base_eq input) (air_result E alpha beta input) (λ t. plain_result E table (instance t)) (λ a t is. sym (result_is a t is)) airs traces all)
 
   all_faults_are : (airs : List MachineAir) (traces : List (AirTrace F)) → AllZip (IsTraceOf E.base E.base_eq input) airs traces → map (instance_faults E table) (map instance traces) ≡ map (air_faults E alpha beta input) airs
-  all_faults_are [] [] all = refl
-  all_faults_are [] (t ∷ ts) all = absurd all
-  all_faults_are (a ∷ later) [] all = absurd all
-  all_faults_are (a ∷ later) (t ∷ ts) all = λ i. faults_are a t all.0 i ∷ all_faults_are later ts all.1 i
-
-  -- an item whose image stands at an index
-  item_at : {A B : Type 0} (f : A → B) (xs : List A) (i : ℕ) (y : B) → slice_get (map f xs) i ≡ Some y → (x : A) × (slice_get xs i ≡ Some x) × (f x ≡ y)
-  item_at f [] i y there = absurd (cc there)
-  item_at f (x ∷ xs) zero y there =
-      let same : f x ≡ y = cc there in
-      (x, refl, same)
-  item_at f (x ∷ xs) (suc i) y there = item_at f xs i y there
+  all_faults_are airs traces all =
+      map-map (instance_faults E table) instance traces
+      ∙ sym (AllZip-same_map (IsTraceOf E.base E.base_eq input) (air_faults E alpha beta input) (λ t. instance_faults E table (instance t)) (λ a t is. sym (faults_are a t is)) airs traces all)
 
   module _ (machine : Machine) (traces : List (AirTrace F)) (all : AllZip (IsTraceOf E.base E.base_eq input) (airs_of machine) traces) where
     -- an AIR's faults are those of an instance at its index
     instance_at : (i : ℕ) (air : MachineAir) → slice_get (airs_of machine) i ≡ Some air → (x : Instance F) × (slice_get (map instance traces) i ≡ Some x) × (instance_faults E table x ≡ air_faults E alpha beta input air)
     instance_at i air there =
-        item_at (instance_faults E table) (map instance traces) i (air_faults E alpha beta input air)
-        (ap (λ l. slice_get l i) (all_faults_are (airs_of machine) traces all) ∙ slice_get-map (air_faults E alpha beta input) (airs_of machine) i ∙ ap (option_map (air_faults E alpha beta input)) there)
+        from_map (instance_faults E table) (map instance traces) i (air_faults E alpha beta input air)
+        (ap (λ l. slice_get l i) (all_faults_are (airs_of machine) traces all) ∙ map_at (air_faults E alpha beta input) (airs_of machine) i air there)
 
     -- and the other way round
     air_at : (i : ℕ) (x : Instance F) → slice_get (map instance traces) i ≡ Some x → (air : MachineAir) × (slice_get (airs_of machine) i ≡ Some air) × (air_faults E alpha beta input air ≡ instance_faults E table x)
     air_at i x there =
-        item_at (air_faults E alpha beta input) (airs_of machine) i (instance_faults E table x)
-        (ap (λ l. slice_get l i) (sym (all_faults_are (airs_of machine) traces all)) ∙ slice_get-map (instance_faults E table) (map instance traces) i ∙ ap (option_map (instance_faults E table)) there)
+        from_map (air_faults E alpha beta input) (airs_of machine) i (instance_faults E table x)
+        (ap (λ l. slice_get l i) (sym (all_faults_are (airs_of machine) traces all)) ∙ map_at (instance_faults E table) (map instance traces) i x there)
 
     -- what generation gives is the machine's witness
     pub witness_is : plain_witness E table (map instance traces) ≡ machine_witness E machine alpha beta input

@@ -1,7 +1,7 @@
 -- The lookups that are extracted from the AIRs of the machines.
 use Rattle.std.proofs.Common.{◌≡◌, ◌<◌, Bool, [], ◌∷◌, length, map, All, Result, Ok, Err, IfOk, OnOk, MatchResult, inl, inr, subst, sym, ap, arith, ◌∙◌}
 use Rattle.std.proofs.lemmas.List.Elements.{All-cons, All-nil}
-use Rattle.std.specs.List.{enumerate_from, sum_by}
+use Rattle.std.specs.List.{enumerate_from}
 use Rattle.lists.proofs.Each.{All-of_map}
 use Rattle.lists.proofs.Images.{one_item}
 use Rattle.field.specs.Ring.{Ring}
@@ -32,14 +32,10 @@ use Rattle.lookup_program.specs.Machines.{AreLookupsOf, SendsLike, air_bus_and_w
 use Rattle.air.specs.Cell.{IsCellsRefusal}
 use Rattle.lookup_program.specs.Pushes.{EvaluatesOnePush}
 use Rattle.lookup_program.specs.declared.airs.MachineAir.{MachineAir}
-use Rattle.lookup_program.specs.declared.airs.MachineAir.TheVariants.{Entries, Group, Keys, RangeCheck}
 
 -- the weight of an AIR's lookup is small
 light : (air : MachineAir) → (air_bus_and_weight air).1 < weight_bound
-light RangeCheck = omega arith
-light Keys = omega arith
-light Entries = omega arith
-light Group = omega arith
+light air = grind arith
 
 module _ (F EF : Type 0) (R : Ring F) (eq : F → F → Bool) (air : MachineAir) where
   -- a builder that records an AIR
@@ -91,20 +87,14 @@ module _ (F EF : Type 0) (R : Ring F) (eq : F → F → Bool) (air : MachineAir)
 
   -- a cell is refused only when out of memory, since no row has fewer columns than the layout
   cell_memory : (before : Builder) (e : AirError) → recorded_air before ≡ no_air_recorded layout → IsCellsRefusal (λ b e. e ≡ AirMemory) (λ b. (recorded b.inner).layout) (width_of air) before e → e ≡ AirMemory
-  cell_memory before e empty (inl memory) = memory
-  cell_memory before e empty (inr (inl memory)) = memory
-  cell_memory before e empty (inr (inr narrow)) =
-      let wide : (recorded before.inner).layout.main_width ≡ width_of air = ap (λ r. r.constraints.layout.main_width) empty in
-      absurd (omega (arith, wide, narrow.0))
+  cell_memory before e empty refused = grind (arith, refused, ap (λ r. r.constraints.layout.main_width) empty)
 
   -- so the AIR is refused only when out of memory
   memory_alone : (e : AirError) → EvaluatesNew {A = MachineAir} (λ _. air_evaluates) air layout (Err e) → e ≡ AirMemory
   memory_alone e (inl memory) = memory
   memory_alone e (inr (before, after, empty, (inl (inl (memory, kept)), within))) = memory
   memory_alone e (inr (before, after, empty, (inl (inr (m, meant, refused)), within))) = refused.1
-  memory_alone e (inr (before, after, empty, (inr (f, is, kept, refusal), within))) =
-      let same : e ≡ f = cc is in
-      same ∙ cell_memory before f empty refusal
+  memory_alone e (inr (before, after, empty, (inr (f, is, kept, refusal), within))) = cc (is, cell_memory before f empty refusal)
 
   -- the lookups of the AIR
   lookups_are : (b : Builder) (set : Lookups F) → Leaves b → map fields_of (lookups_of set) ≡ extraction (recorded_air b).locals (recorded_air b).globals (recorded_air b).exclusives
@@ -133,16 +123,15 @@ module _ (F EF : Type 0) (R : Ring F) (eq : F → F → Bool) (air : MachineAir)
   -- a local lookup among them has no fault
   locals_faultless : (stands : Window F → Type 0) (m : Interaction (SymbolicExpression F)) (r : RecordedAir F EF) → r ≡ with_interaction (no_air_recorded layout) m
       → SendsLike R eq (λ x w. value R w x) stands (λ w. w.main) air m → All IsFaultless r.locals
-  locals_faultless stands (global m) r is sends = rw (ap (λ r. r.locals) is) (All-nil IsFaultless)
-  locals_faultless stands (exclusive m) r is sends = rw (ap (λ r. r.locals) is) (All-nil IsFaultless)
+  locals_faultless stands (global m) r is sends = rw is (All-nil IsFaultless)
+  locals_faultless stands (exclusive m) r is sends = rw is (All-nil IsFaultless)
   locals_faultless stands (local tuples) r is sends =
-      let weight : sum_by (λ t. t.weight) tuples ≡ (air_bus_and_weight air).1 = ap (λ k. k.1) sends.kind in
       let faultless : IsFaultless tuples = record {
-        weight = omega (arith, weight, light air);
+        weight = omega (arith, ap (λ k. k.1) sends.kind, light air);
         width = 1;
         widths = All-of_map (λ fields. length fields ≡ 1) (λ t. t.fields) tuples sends.widths;
       } in
-      rw (ap (λ r. r.locals) is) (All-cons IsFaultless tuples [] faultless (All-nil IsFaultless))
+      rw is (All-cons IsFaultless tuples [] faultless (All-nil IsFaultless))
 
   -- the answer of the extraction
   pub air_lookups : (answer : Result (Lookups F) LookupError) → Extracts {A = MachineAir} (λ _. air_evaluates) air layout answer

@@ -1,5 +1,5 @@
 -- Why a line is refused, and what the words of the others write.
-use Rattle.std.proofs.Common.{◌≡◌, ◌≢◌, ◌≤◌, ◌+◌, ◌⊎◌, ◌==◌, ◌&&◌, ℕ, Bool, true, false, cond, List, [], ◌∷◌, ◌++◌, Option, Some, None, is_some, length, map, refl, ap, inl, inr, arith, sym, ◌∙◌, eq-eqb, ne_eqb, unwrap_or, below_more, slice_get}
+use Rattle.std.proofs.Common.{◌≡◌, ◌≢◌, ◌≤◌, ◌+◌, ◌⊎◌, ◌==◌, ℕ, true, false, cond, List, [], ◌∷◌, ◌++◌, Option, Some, None, length, map, refl, ap, inl, inr, arith, sym, ◌∙◌, eq-eqb, ne_eqb, below_more, slice_get}
 use Rattle.std.specs.List.{flat_map, list_all}
 use Rattle.std.proofs.lemmas.Grind.{flat_map-append}
 use Rattle.std.proofs.lemmas.List.{append-nil, map-append, nil_from_length}
@@ -19,24 +19,10 @@ length-lines_of text =
     let ends = count_by-le-length (λ byte. byte == 10) text in
     omega arith
 
--- what stands is what is taken in its place
-number_or_zero : (o : Option ℕ) → is_some o ≡ true → Some (unwrap_or o 0) ≡ o
-number_or_zero None given = let e : false ≡ true = given in cc
-number_or_zero (Some n) given = refl
-
--- a conjunction is true where both parts are
-both : (a b : Bool) → a && b ≡ true → (a ≡ true) × (b ≡ true)
-both true b given = (refl, given)
-both false b given = let e : false ≡ true = given in cc
-
 -- where all words are numbers, each gives its own
 pub numbers-written : (bound : ℕ) (words : List (List ℕ)) → list_all (is_number bound) words ≡ true → map Some (numbers_or_zeros bound words) ≡ map (number_of bound) words
 numbers-written bound [] all = refl
-numbers-written bound (word ∷ words) all =
-    let parts = both (is_number bound word) (list_all (is_number bound) words) all in
-    let first : Some (unwrap_or (number_of bound word) 0) ≡ number_of bound word = number_or_zero (number_of bound word) parts.0 in
-    let rest = numbers-written bound words parts.1 in
-    cc
+numbers-written bound (word ∷ words) all = grind (arith, all, numbers-written bound words)
 
 -- one more line, whose words write the numbers that came
 pub written-more : (bound : ℕ) (lines : List (List ℕ)) (line : List ℕ) (old new : List ℕ) → map (number_of bound) (flat_map words_of lines) ≡ map Some old → map Some new ≡ map Some old ++ map (number_of bound) (words_of line)

@@ -1,10 +1,10 @@
 -- The line of the first tuple of a machine that does not balance.
 use Rattle.std.proofs.Common.{◌≡◌, ◌<◌, ◌+◌, ◌++◌, ℕ, zero, suc, Bool, true, Option, None, Some, IfSome, List, [], ◌∷◌, All, codes, map, nat_eq, slice_get, refl, sym, ap, ap₂, subst, arith, ◌∙◌, Decides}
 use Rattle.std.proofs.lemmas.List.{append-nil}
-use Rattle.std.proofs.lemmas.List.Elements.{All-cons, All-map, All-nil}
+use Rattle.std.proofs.lemmas.List.Elements.{All-map, All-from_recursion}
 use Rattle.std.specs.List.{AllByRecursion, AllZip, enumerate_from, filter, filter_map, flat_map, range_with_len}
 use Rattle.std.specs.Cmp.Lexicographic.{pointwise}
-use Rattle.lists.proofs.Each.{All-of_map}
+use Rattle.lists.proofs.Each.{All-of_map, all_there, all_of_map}
 use Rattle.lists.proofs.Parts.{same_parts}
 use Rattle.field.specs.Ring.{Ring, IsCommutativeRing}
 use Rattle.matrix.specs.Matrix.{Matrix, height, row}
@@ -22,7 +22,6 @@ use Rattle.lookup_model.specs.declared.types.Lookup.{Lookup}
 use Rattle.lookup_model.specs.Batches.Messages.{HasLawfulFlags}
 use Rattle.lookup_model.proofs.Counting.LawfulFlags.{lawful_rows}
 use Rattle.lookup.specs.Lookups.{lookups_of}
-use Rattle.lookup.specs.Sends.{lookup_bus_and_weight}
 use Rattle.lookup_debug.specs.Contributions.{Contribution, Traced, contributions_of, contributions_on, traced_of}
 use Rattle.lookup_debug.specs.FaultText.{fault_text, mismatch_text}
 use Rattle.lookup_debug.specs.Groups.{Group, LookupAt, bus_label, groups, is_local, is_on, local_group, local_label, lookup_contributions, lookups_in}
@@ -41,17 +40,15 @@ use Rattle.lookup_program.specs.declared.machine.Machine.TheVariants.{Bus, Exclu
 use Rattle.lookup_program.specs.declared.traces.AirTrace.{AirTrace}
 use Rattle.lookup_program.specs.internal.Mismatches.{AreFlagsBoolean, HasBooleanFlags}
 use Rattle.lookup_program.specs.internal.Traces.{IsTraceOf, traced_over}
+use Rattle.lists.proofs.Items.{range_at}
+use Rattle.lists.proofs.Zips.{AllZip-right}
 use Rattle.lookup_program.proofs.BatchLaws.{one_lookup, row_widths}
 
 -- what holds of the one item of each row
 at_row : {S : Type 0} (P : S → Type 0) (f : ℕ → S) (a n : ℕ) → AllByRecursion (AllByRecursion P) (map (λ r. f r ∷ []) (range_with_len a n)) → (k : ℕ) → k < n → P (f (a + k))
-at_row P f a zero all k lt = absurd (omega (arith, lt))
-at_row P f a (suc n) all zero lt =
-    let here : a ≡ a + 0 = omega arith in
-    subst (λ r. P (f r)) here all.0.0
-at_row P f a (suc n) all (suc k) lt =
-    let there : (a + 1) + k ≡ a + suc k = omega arith in
-    subst (λ r. P (f r)) there (at_row P f (a + 1) n all.1 k (omega (arith, lt)))
+at_row P f a n all k lt =
+    let rs = range_with_len a n in
+    (all_there (λ r. AllByRecursion P (f r ∷ [])) rs k (a + k) (all_of_map (AllByRecursion P) (λ r. f r ∷ []) rs all) (range_at a n k rs refl lt)).0
 
 -- without a fault each flag of a machine is zero or one
 pub flags_boolean : {F K : Type 0} (E : Extension F K) (machine : Machine) (alpha beta : K) (input : Matrix F) → AreFaultlessAirs E machine alpha beta input → AreFlagsBoolean E.base E.base_eq machine input
@@ -61,14 +58,10 @@ flags_boolean {F} E machine alpha beta input faultless i air is r lt =
     let lawful = lawful_rows E (table_key_denominator E (run_table E alpha beta)) (air_rows E alpha beta input air) (faultless i air is) in
     let here : HasLawfulFlags E.base E.base_eq (sends (0 + r)) = at_row (HasLawfulFlags E.base E.base_eq) sends 0 (height trace) lawful r lt in
     let same : 0 + r ≡ r = omega arith in
-    boolean (sends r) (subst (λ k. HasLawfulFlags E.base E.base_eq (sends k)) same here)
+    boolean (sends r).flags (subst (λ k. HasLawfulFlags E.base E.base_eq (sends k)) same here)
   where
-    by_flags : (flags : Option (List F)) → IfSome flags (IsLawfulSelection E.base E.base_eq) → IfSome flags (λ fs. are_boolean E.base E.base_eq fs ≡ true)
-    by_flags None lawful = tt
-    by_flags (Some fs) lawful = lawful.0
-
-    boolean : (s : Sent F) → HasLawfulFlags E.base E.base_eq s → HasBooleanFlags E.base E.base_eq s
-    boolean s lawful = by_flags s.flags lawful
+    boolean : (flags : Option (List F)) → IfSome flags (IsLawfulSelection E.base E.base_eq) → IfSome flags (λ fs. are_boolean E.base E.base_eq fs ≡ true)
+    boolean flags lawful = grind (arith, lawful)
 
 module _ {F : Type 0} {R : Ring F} (laws : IsCommutativeRing R) (eq : F → F → Bool) (decides : (a b : F) → Decides (eq a b) (a ≡ b)) (input : Matrix F) where
   -- the flags that an AIR sends are zero or one
@@ -109,10 +102,7 @@ module _ {F : Type 0} {R : Ring F} (laws : IsCommutativeRing R) (eq : F → F �
 
     -- the bus of its lookup
     kind_is : bus_of the_lookup.kind ≡ (air_bus_and_weight air).0
-    kind_is =
-        let both : lookup_bus_and_weight the_lookup ∷ [] ≡ air_bus_and_weight air ∷ [] = ap (map lookup_bus_and_weight) (sym (one_lookup R eq input air trace is).1) ∙ is.lookups.one in
-        let same : lookup_bus_and_weight the_lookup ≡ air_bus_and_weight air = cc both in
-        ap (λ p. p.0) same
+    kind_is = ap (λ p. p.0) (one_lookup R eq input air trace is).2
 
     -- and its index among others
     abbrev the_lookup_at : ℕ → LookupAt F
@@ -144,25 +134,19 @@ module _ {F : Type 0} {R : Ring F} (laws : IsCommutativeRing R) (eq : F → F �
 
   groups_are : (machine : Machine) (traces : List (AirTrace F)) → AllZip (IsTraceOf R eq input) (airs_of machine) traces → AreFlagsBoolean R eq machine input
       → groups R eq (map traced_over traces) ≡ machine_group machine ∷ []
-  groups_are Range [] all boolean = absurd all
   groups_are Range (t ∷ []) all boolean =
       ap groups_over (ap (λ ps. ps ++ []) (lookup_at_is RangeCheck t all.0 0))
       ∙ one_local (the_lookup_at RangeCheck t all.0 0) (kind_is RangeCheck t all.0)
       ∙ ap (λ cs. record { label = local_label 0 0; contributions = cs } ∷ []) (air_is RangeCheck t all.0 0 (boolean 0 RangeCheck refl) ∙ sym (append-nil _))
-  groups_are Range (t ∷ u ∷ ts) all boolean = absurd all.1
-  groups_are Exclusive [] all boolean = absurd all
   groups_are Exclusive (t ∷ []) all boolean =
       ap groups_over (ap (λ ps. ps ++ []) (lookup_at_is GroupAir t all.0 0))
       ∙ on_one_bus (codes "rc") (the_lookup_at GroupAir t all.0 0) (kind_is GroupAir t all.0) refl
       ∙ ap (λ cs. record { label = bus_label (codes "rc"); contributions = cs ++ [] } ∷ []) (air_is GroupAir t all.0 0 (boolean 0 GroupAir refl))
-  groups_are Exclusive (t ∷ u ∷ ts) all boolean = absurd all.1
-  groups_are Bus [] all boolean = absurd all
-  groups_are Bus (t ∷ []) all boolean = absurd all.1
   groups_are Bus (t ∷ u ∷ []) all boolean =
       ap groups_over (ap₂ (λ ps qs. ps ++ (qs ++ [])) (lookup_at_is Keys t all.0 0) (lookup_at_is Entries u all.1.0 1))
       ∙ two_on_one_bus (codes "b") (the_lookup_at Keys t all.0 0) (the_lookup_at Entries u all.1.0 1) (kind_is Keys t all.0) (kind_is Entries u all.1.0) refl
       ∙ ap₂ (λ cs ds. record { label = bus_label (codes "b"); contributions = cs ++ (ds ++ []) } ∷ []) (air_is Keys t all.0 0 (boolean 0 Keys refl)) (air_is Entries u all.1.0 1 (boolean 1 Entries refl))
-  groups_are Bus (t ∷ u ∷ v ∷ ts) all boolean = absurd all.1.1
+  groups_are machine traces all boolean = absurd (grind (arith, all))
 
   module _ (machine : Machine) (traces : List (AirTrace F)) (all : AllZip (IsTraceOf R eq input) (airs_of machine) traces) (boolean : AreFlagsBoolean R eq machine input) where
     -- no mismatch
@@ -195,13 +179,9 @@ module _ {F : Type 0} (R : Ring F) (eq : F → F → Bool) (input : Matrix F) wh
   HasOneHeight t = HaveOneHeight t.traces
 
   all_fit : (airs : List MachineAir) (traces : List (AirTrace F)) → AllZip (IsTraceOf R eq input) airs traces → All Fits (map traced_over traces)
-  all_fit [] [] all = All-nil Fits
-  all_fit [] (t ∷ ts) all = absurd all
-  all_fit (a ∷ later) [] all = absurd all
-  all_fit (a ∷ later) (t ∷ ts) all =
-      All-cons Fits (traced_over t) (map traced_over ts)
-      (subst (λ (width : ℕ). LookupsFit (layout_of_widths width 0 0) (lookups_of t.lookups)) (sym (ap (λ m. m.width) all.0.main)) all.0.lookups.fit)
-      (all_fit later ts all.1)
+  all_fit airs traces all =
+      let fits = λ (a : MachineAir) (t : AirTrace F) (is : IsTraceOf R eq input a t). subst (λ (width : ℕ). LookupsFit (layout_of_widths width 0 0) (lookups_of t.lookups)) (sym (ap (λ m. m.width) is.main)) is.lookups.fit in
+      All-map Fits traced_over traces (All-from_recursion (λ t. Fits (traced_over t)) traces (AllZip-right (IsTraceOf R eq input) (λ t. Fits (traced_over t)) fits airs traces all))
 
   -- as the program holds them
   pub debug_fits : (airs : List MachineAir) (traces : List (AirTrace F)) (instances : List (LookupDebugInstance F)) → AllZip (IsTraceOf R eq input) airs traces → map traced_of instances ≡ map traced_over traces → All (λ i. Fits (traced_of i)) instances

@@ -1,16 +1,13 @@
 -- The one lookup of an AIR, packed.
 use Rattle.std.proofs.Common.{◌≡◌, ℕ, Bool, List, [], ◌∷◌, Result, Ok, Err, IfOk, MatchResult, length, map, All, sym, ap, subst, ◌∙◌}
 use Rattle.std.proofs.lemmas.List.Elements.{All-cons, All-head, All-map, All-nil, recursion_from_All}
-use Rattle.std.specs.List.{AllByRecursion, zip}
-use Rattle.std.specs.Option.{option_map}
+use Rattle.std.specs.List.{AllByRecursion}
 use Rattle.lists.proofs.Each.{All-of_map}
 use Rattle.lists.proofs.Images.{one_item}
-use Rattle.lists.proofs.Zips.{zip_mapped}
 use Rattle.field.specs.Ring.{Ring}
-use Rattle.expressions.specs.Window.{Window}
 use Rattle.expressions.specs.declared.base_expression.SymbolicExpression.{SymbolicExpression}
 use Rattle.lookup_model.specs.Outline.{Outline, fields_of}
-use Rattle.lookup_model.specs.Sent.{Sent, branch_at, sent, sent_at, values}
+use Rattle.lookup_model.specs.Sent.{sent_at}
 use Rattle.lookup_model.specs.declared.error.LookupError.{LookupError}
 use Rattle.lookup_model.specs.declared.error.LookupError.TheVariants.{Memory}
 use Rattle.lookup_model.specs.declared.types.Lookup.{Lookup}
@@ -18,7 +15,7 @@ use Rattle.lookup.proofs.OneLookup.{packs_one}
 use Rattle.lookup.specs.BusWidths.{widths_of}
 use Rattle.lookup.specs.Fewest.{AnswersDegree}
 use Rattle.lookup.specs.Packing.{Packs}
-use Rattle.lookup.proofs.JoinedMessages.{option_mapped}
+use Rattle.lookup.proofs.Extracted.{outline_sends, sent_by_fields}
 use Rattle.lookup.specs.Lookups.{StillFit, lookups_of}
 use Rattle.lookup.specs.Sends.{lookup_bus_and_weight}
 use Rattle.lookup.specs.declared.lookups.Lookups.{Lookups}
@@ -26,13 +23,6 @@ use Rattle.lookup_program.specs.Machines.{AreLookupsOf, air_bus_and_weight}
 use Rattle.lookup_program.specs.declared.airs.MachineAir.{MachineAir}
 
 module _ {F : Type 0} (R : Ring F) (eq : F → F → Bool) where
-  -- what a lookup with these fields sends
-  abbrev sent_by : Window F → Outline (SymbolicExpression F) → Sent F
-  sent_by w o = sent R eq (option_map (values R w) o.flags) (map (λ b. branch_at R w 0 b.0 b.1) (zip o.elements o.multiplicities))
-
-  seen_sent : (w : Window F) (l : Lookup F) → sent_at R eq w 0 l ≡ sent_by w (fields_of l)
-  seen_sent w l = λ i. sent R eq (option_mapped (λ flags. flags.items) (values R w) l.flags i) (zip_mapped (λ tuple. tuple.items) (branch_at R w 0) l.elements.items l.multiplicities.items i)
-
   -- tuples of one value
   abbrev IsNarrow : Lookup F → Type 0
   IsNarrow l = All (λ tuple. length tuple.items ≡ 1) l.elements.items
@@ -60,7 +50,7 @@ module _ {F : Type 0} (R : Ring F) (eq : F → F → Bool) where
           widths = subst (λ (t : List (Lookup F)). All IsNarrow t) (sym only) (All-cons IsNarrow k [] (All-of_map (λ tuple. length tuple ≡ 1) (λ tuple. tuple.items) k.elements.items tuples) (All-nil IsNarrow));
           sends = λ w widths.
               ap (map (λ m. sent_at R eq w 0 m)) only
-              ∙ ap (λ s. s ∷ []) (seen_sent w k ∙ ap (sent_by w) fields ∙ sym (seen_sent w l))
+              ∙ ap (λ s. s ∷ []) (sent_by_fields R eq w 0 k ∙ ap (outline_sends R eq w 0) fields ∙ sym (sent_by_fields R eq w 0 l))
               ∙ sym (ap (map (λ m. sent_at R eq w 0 m)) is)
               ∙ are.sends w widths;
         }

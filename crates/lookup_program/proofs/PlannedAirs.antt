@@ -1,7 +1,7 @@
 -- The plan of a machine's AIRs over the rows of its input: its ids, its batch, and why it is refused.
 use Rattle.std.proofs.Common.{◌≡◌, ◌<◌, ◌≤◌, ◌+◌, ◌*◌, ◌++◌, ℕ, suc, Bool, IsTrue, List, [], ◌∷◌, All, inl, inr, length, get_or, map, refl, sym, ap, ap₂, subst, subst₂, arith, ◌∙◌}
 use Rattle.std.proofs.lemmas.List.{length-map}
-use Rattle.std.proofs.lemmas.List.Elements.{All-cons, All-nil}
+use Rattle.std.proofs.lemmas.List.Elements.{All-cons, All-nil, All-from_recursion, All-map}
 use Rattle.std.proofs.lemmas.List.Sums.{sum_by-cons}
 use Rattle.std.specs.List.{AllZip, sum_by, zip}
 use Rattle.lists.proofs.Items.{one_of}
@@ -13,7 +13,6 @@ use Rattle.lookup_model.specs.declared.error.LookupError.{LookupError}
 use Rattle.lookup_model.specs.declared.types.Lookup.{Lookup}
 use Rattle.lookup.specs.Guards.{IsHeightRefusal, weighted_height, weighted_height_sum}
 use Rattle.lookup.specs.Lookups.{lookups_of}
-use Rattle.lookup.specs.Sends.{lookup_bus_and_weight}
 use Rattle.lookup.specs.declared.lookups.Lookups.{Lookups}
 use Rattle.batch.specs.Checks.{IsPlanRefusal}
 use Rattle.batch.specs.Order.{AreInOrder, same_bus}
@@ -31,7 +30,8 @@ use Rattle.lookup_program.specs.declared.machine.Machine.{Machine}
 use Rattle.lookup_program.specs.declared.machine.Machine.TheVariants.{Bus, Exclusive, Range}
 use Rattle.lookup_program.specs.declared.traces.AirTrace.{AirTrace}
 use Rattle.lookup_program.specs.internal.Traces.{IsTraceOf}
-use Rattle.lookup_program.proofs.BatchLaws.{airs_within, fitting, ids, instance}
+use Rattle.lookup_program.proofs.BatchLaws.{airs_within, fitting, ids, instance, one_lookup}
+use Rattle.lists.proofs.Zips.{AllZip-right}
 use Rattle.lookup_program.proofs.PlannedWidths.{AreOnes, no_bus_mismatch, no_local_mismatch}
 
 module _ {F : Type 0} where
@@ -57,29 +57,24 @@ module _ {F : Type 0} where
   -- the batch of AIRs, all of whose lookups have id 0
   pub batch_is : (traces : List (AirTrace F)) (shown : List (BatchTrace F)) → map view_of shown ≡ map (λ t. traces_of_main t.main) traces → batch_over (map (λ t. ids) traces) (sets traces) shown ≡ map instance traces
   batch_is [] [] same = refl
-  batch_is [] (b ∷ bs) same = absurd (cc same)
-  batch_is (t ∷ ts) [] same = absurd (cc same)
   batch_is (t ∷ ts) (b ∷ bs) same =
       let head : view_of b ≡ traces_of_main t.main = ap (λ all. get_or all 0 (view_of b)) same in
       let rest : map view_of bs ≡ map (λ u. traces_of_main u.main) ts = cc same in
       ap₂ (λ x xs. x ∷ xs) (λ i. record { lookups = lookups_of t.lookups; traces = head i; ids = ids }) (batch_is ts bs rest)
+  batch_is ts bs same = absurd (cc same)
 
 module _ {F : Type 0} (R : Ring F) (eq : F → F → Bool) (input : Matrix F) where
   -- the tuples of these AIRs have one value
   pub sets_ones : (airs : List MachineAir) (traces : List (AirTrace F)) → AllZip (IsTraceOf R eq input) airs traces → All AreOnes (sets traces)
-  sets_ones [] [] all = All-nil AreOnes
-  sets_ones [] (t ∷ ts) all = absurd all
-  sets_ones (a ∷ later) [] all = absurd all
-  sets_ones (a ∷ later) (t ∷ ts) all = All-cons AreOnes t.lookups (sets ts) all.0.lookups.widths (sets_ones later ts all.1)
+  sets_ones airs traces all =
+      All-map AreOnes (λ t. t.lookups) traces (All-from_recursion (λ t. AreOnes t.lookups) traces (AllZip-right (IsTraceOf R eq input) (λ t. AreOnes t.lookups) (λ a t is. is.lookups.widths) airs traces all))
 
   -- each weight times its height is that of the AIR
   weights_are : (airs : List MachineAir) (traces : List (AirTrace F)) → AllZip (IsTraceOf R eq input) airs traces
       → weighted_height_sum (map lookups_of (sets traces)) (heights traces) ≡ sum_by (λ air. (air_bus_and_weight air).1 * height (air_trace air input)) airs
   weights_are [] [] all = refl
-  weights_are [] (t ∷ ts) all = absurd all
-  weights_are (a ∷ later) [] all = absurd all
   weights_are (a ∷ later) (t ∷ ts) all =
-      let one = one_item lookup_bus_and_weight (lookups_of t.lookups) (air_bus_and_weight a) all.0.lookups.one in
+      let one = one_lookup R eq input a t all.0 in
       let weight : sum_by (λ (l : Lookup F). l.count_weight) (lookups_of t.lookups) ≡ (air_bus_and_weight a).1 = ap (sum_by (λ (l : Lookup F). l.count_weight)) one.1 ∙ alone one.0 ∙ ap (λ p. p.1) one.2 in
       let tall : height t.main ≡ height (air_trace a input) = ap height all.0.main in
       sum_by-cons weighted_height (lookups_of t.lookups, height t.main) (zip (map lookups_of (sets ts)) (heights ts))
@@ -88,22 +83,22 @@ module _ {F : Type 0} (R : Ring F) (eq : F → F → Bool) (input : Matrix F) wh
     where
       alone : (l : Lookup F) → sum_by (λ (k : Lookup F). k.count_weight) (l ∷ []) ≡ l.count_weight
       alone l = sum_by-cons (λ (k : Lookup F). k.count_weight) l [] ∙ omega arith
+  weights_are airs traces all = absurd all
 
   -- all of them fit, at their heights
   pub fitted : (airs : List MachineAir) (traces : List (AirTrace F)) → All (λ air. first_column_of air + width_of air ≤ input.width) airs → 0 < height input → AllZip (IsTraceOf R eq input) airs traces
       → All FitsAt (zip (map instance traces) (heights traces))
   fitted [] [] holds some all = All-nil FitsAt
-  fitted [] (t ∷ ts) holds some all = absurd all
-  fitted (a ∷ later) [] holds some all = absurd all
   fitted (a ∷ later) (t ∷ ts) holds some all =
       All-cons FitsAt (instance t, height t.main) (zip (map instance ts) (heights ts))
       (refl, fitting R eq input a t all.0 (holds 0 a (omega arith)) some)
       (fitted later ts (λ n d lt. holds (suc n) d (omega (arith, lt))) some all.1)
+  fitted airs traces holds some all = absurd all
 
   -- the id of one AIR
   alone_ids : (air : MachineAir) (t : AirTrace F) → IsTraceOf R eq input air t → (given : List (List ℕ)) (m : ℕ) → AreNumbered given (t.lookups ∷ []) m → (given ≡ ids ∷ []) × (m ≡ 1)
   alone_ids air t is given m numbered =
-      let l = one_item lookup_bus_and_weight (lookups_of t.lookups) (air_bus_and_weight air) is.lookups.one in
+      let l = one_lookup R eq input air t is in
       let part = one_item length given (length (lookups_of t.lookups)) numbered.as_many in
       let id = one_of part.0 (part.2 ∙ ap length l.1) in
       let given_is : given ≡ (id.0 ∷ []) ∷ [] = part.1 ∙ ap (λ xs. xs ∷ []) id.1 in
@@ -114,8 +109,8 @@ module _ {F : Type 0} (R : Ring F) (eq : F → F → Bool) (input : Matrix F) wh
   -- the ids of two AIRs on one bus
   bus_ids : (t u : AirTrace F) → IsTraceOf R eq input Keys t → IsTraceOf R eq input Entries u → (given : List (List ℕ)) (m : ℕ) → AreNumbered given (t.lookups ∷ u.lookups ∷ []) m → (given ≡ ids ∷ ids ∷ []) × (m ≡ 1)
   bus_ids t u keys entries given m numbered =
-      let l = one_item lookup_bus_and_weight (lookups_of t.lookups) (air_bus_and_weight Keys) keys.lookups.one in
-      let k = one_item lookup_bus_and_weight (lookups_of u.lookups) (air_bus_and_weight Entries) entries.lookups.one in
+      let l = one_lookup R eq input Keys t keys in
+      let k = one_lookup R eq input Entries u entries in
       let parts = two_items length given (length (lookups_of t.lookups)) (length (lookups_of u.lookups)) numbered.as_many in
       let i = one_of parts.0 (parts.3 ∙ ap length l.1) in
       let j = one_of parts.1 (parts.4 ∙ ap length k.1) in
@@ -129,16 +124,10 @@ module _ {F : Type 0} (R : Ring F) (eq : F → F → Bool) (input : Matrix F) wh
   -- the ids of a machine: 0 for each lookup
   pub machine_ids : (machine : Machine) (traces : List (AirTrace F)) → AllZip (IsTraceOf R eq input) (airs_of machine) traces → (given : List (List ℕ)) (m : ℕ) → AreNumbered given (sets traces) m
       → (given ≡ map (λ t. ids) traces) × (m ≡ 1)
-  machine_ids Range [] all given m numbered = absurd all
   machine_ids Range (t ∷ []) all given m numbered = alone_ids RangeCheck t all.0 given m numbered
-  machine_ids Range (t ∷ u ∷ ts) all given m numbered = absurd all.1
-  machine_ids Exclusive [] all given m numbered = absurd all
   machine_ids Exclusive (t ∷ []) all given m numbered = alone_ids Group t all.0 given m numbered
-  machine_ids Exclusive (t ∷ u ∷ ts) all given m numbered = absurd all.1
-  machine_ids Bus [] all given m numbered = absurd all
-  machine_ids Bus (t ∷ []) all given m numbered = absurd all.1
   machine_ids Bus (t ∷ u ∷ []) all given m numbered = bus_ids t u all.0 all.1.0 given m numbered
-  machine_ids Bus (t ∷ u ∷ v ∷ ts) all given m numbered = absurd all.1.1
+  machine_ids machine traces all given m numbered = absurd (grind (arith, all))
 
   module _ (machine : Machine) (traces : List (AirTrace F)) (all : AllZip (IsTraceOf R eq input) (airs_of machine) traces) where
     -- the height sum of a plan is that of the machine

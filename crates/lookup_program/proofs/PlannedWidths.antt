@@ -1,5 +1,5 @@
 -- Tuples of one value have one width, so no check of widths refuses them.
-use Rattle.std.proofs.Common.{◌≡◌, ◌≤◌, ◌++◌, ℕ, Bool, true, false, cond, List, [], ◌∷◌, Some, All, length, map, refl, sym, ap, subst, arith, ◌∙◌}
+use Rattle.std.proofs.Common.{◌≡◌, ◌≤◌, ◌++◌, ℕ, List, [], ◌∷◌, Some, All, length, map, sym, subst, arith, ◌∙◌}
 use Rattle.std.proofs.lemmas.List.Elements.{All-filter, All-map, recursion_from_All}
 use Rattle.std.specs.List.{AllByRecursion, flat_map}
 use Rattle.lists.proofs.Each.{all_front, all_back, All-there, All-parts}
@@ -8,7 +8,7 @@ use Rattle.lookup_model.specs.Outline.{Outline, fields_of}
 use Rattle.lookup_model.specs.declared.error.LookupError.{LookupError}
 use Rattle.lookup.specs.BusWidths.{widths_of}
 use Rattle.lookup.specs.Buses.{bus_names, bus_groups, on_bus}
-use Rattle.lookup_model.specs.Names.{is_named, same_name}
+use Rattle.lookup_model.specs.Names.{is_named}
 use Rattle.lookup.specs.Lookups.{lookups_of}
 use Rattle.lookup.specs.NamedWidths.{IsFirstWidthMismatch, first_width, named_widths}
 use Rattle.lookup.specs.declared.lookups.Lookups.{Lookups}
@@ -22,14 +22,7 @@ IsOne w = w.1 ≡ 1
 -- so is the first one under a name
 found_one : (name : List ℕ) (ws : List (List ℕ × ℕ)) (v : ℕ) → AllByRecursion IsOne ws → first_width ws name ≡ Some v → v ≡ 1
 found_one name [] v all found = absurd (cc found)
-found_one name (w ∷ ws) v all found = by_test (same_name name w.0) refl (found_one name ws v all.1)
-  where
-    by_test : (b : Bool) → same_name name w.0 ≡ b → (first_width ws name ≡ Some v → v ≡ 1) → v ≡ 1
-    by_test true e later =
-        let is : Some w.1 ≡ Some v = sym (ap (λ t. cond t (Some w.1) (first_width ws name)) e) ∙ found in
-        let same : w.1 ≡ v = cc is in
-        sym same ∙ all.0
-    by_test false e later = later (sym (ap (λ t. cond t (Some w.1) (first_width ws name)) e) ∙ found)
+found_one name (w ∷ ws) v all found = grind (arith, found, all.0, found_one name ws v all.1)
 
 module _ {E : Type 0} where
   -- the tuples of a lookup have one value

@@ -1,5 +1,5 @@
 -- What a report says.
-use Rattle.std.proofs.Common.{◌≡◌, ◌≢◌, ◌↔◌, ◌++◌, ◌<◌, ℕ, Bool, IsTrue, List, [], Option, Result, Ok, Err, MatchResult, is_ok, length, map, string_bytes, refl, subst, sym, ap, ap₂, ◌∙◌}
+use Rattle.std.proofs.Common.{◌≡◌, ◌≢◌, ◌↔◌, ◌++◌, ◌<◌, ℕ, Bool, IsTrue, List, [], Option, Result, MatchResult, is_ok, length, map, string_bytes, subst, sym, ap, ap₂, ◌∙◌, arith}
 use Rattle.std.specs.declared.alloc.Global.{Global}
 use Rattle.std.specs.declared.string.String.{String}
 use Rattle.lists.proofs.Zips.{seconds}
@@ -24,8 +24,7 @@ after_nothing all before more is none = is ∙ ap (λ xs. xs ++ more) none
 
 -- whether the check of a sum passes is whether it is zero
 cancels : {K : Type 0} (sum zero : K) (result : Result (Unit {0}) LookupError) → MatchResult result (λ _. sum ≡ zero) (λ e. (e ≡ TerminalSumNonZero) × (sum ≢ zero)) → IsTrue (is_ok result) ↔ (sum ≡ zero)
-cancels sum zero (Ok u) is = (λ _. is, λ _. refl)
-cancels sum zero (Err e) (is, other) = (λ none. absurd (cc none), λ same. absurd (other same))
+cancels sum zero result is = grind (arith, is)
 
 module _ {F K : Type 0} (fields : Fields F K) (machine : Machine) (alpha beta : K) (input : List ℕ) (rows : Matrix F) where
   -- the report of rows without a fault

@@ -1,5 +1,5 @@
 -- Which words write numbers, and which residues.
-use Rattle.std.proofs.Common.{◌≡◌, ◌<◌, ◌≤◌, ◌+◌, ◌*◌, ◌⊎◌, ◌&&◌, ℕ, Bool, true, false, cond, nat_lt, List, Option, Some, None, MatchOption, option_map, length, get_or, take, refl, ap, inl, inr, arith, sym, ◌∙◌, lit≤, ltb-true, lt-ltb}
+use Rattle.std.proofs.Common.{◌≡◌, ◌<◌, ◌≤◌, ◌+◌, ◌*◌, ◌⊎◌, ◌&&◌, ℕ, Bool, true, cond, nat_lt, List, Option, Some, None, MatchOption, option_map, length, get_or, take, ap, inl, inr, arith, sym, ◌∙◌, lit≤, ltb-true, lt-ltb}
 use Rattle.std.specs.Char.{digit_value}
 use Rattle.std.specs.Int.{IsInRange, IsOutOfRange}
 use Rattle.std.specs.Str.{all_ascii_digits}
@@ -21,10 +21,7 @@ pub record IsNumber (bound : ℕ) (word : List ℕ) : Type 0 where
 
 -- a value stands exactly where three tests pass
 three_tests : {A : Type 0} (a b c : Bool) (x : A) → ((cond (a && b && c) (Some x) None ≡ Some x) × (a ≡ true) × (b ≡ true) × (c ≡ true)) ⊎ ((cond (a && b && c) (Some x) None ≡ None) × (a ≡ true → b ≡ true → c ≡ true → ⊥))
-three_tests true true true x = inl (refl, refl, refl, refl)
-three_tests true true false x = inr (refl, λ p q r. let e : false ≡ true = r in cc)
-three_tests true false c x = inr (refl, λ p q r. let e : false ≡ true = q in cc)
-three_tests false b c x = inr (refl, λ p q r. let e : false ≡ true = p in cc)
+three_tests a b c x = grind arith
 
 -- a word that is a number writes its value, and another writes none
 pub number_of-cases : (bound : ℕ) (word : List ℕ) → ((number_of bound word ≡ Some (digits_value 10 word)) × IsNumber bound word) ⊎ ((number_of bound word ≡ None) × ¬ (IsNumber bound word))
@@ -49,8 +46,7 @@ ascii_digits = numerals_by_value (λ ds. all_ascii_digits ds ≡ true) tells_all
 
 -- nothing is in a range and out of it
 not_both : (low high c : ℕ) → IsInRange low high c → IsOutOfRange low high c → ⊥
-not_both low high c inside (inl below) = omega (arith, inside.0)
-not_both low high c inside (inr above) = omega (arith, inside.1)
+not_both low high c inside outside = grind (arith, inside, outside)
 
 -- a word with a byte that is no digit writes no number
 pub number_of-other : (bound : ℕ) (word : List ℕ) (i : ℕ) → i < length word → IsOutOfRange 48 57 (get_or word i 0) → number_of bound word ≡ None

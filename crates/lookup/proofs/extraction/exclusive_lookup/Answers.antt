@@ -1,12 +1,12 @@
-use Rattle.std.proofs.Common.{length, subst, ◌≡◌, ◌∙◌, map, ap, refl, arith, Some}
-use Rattle.std.proofs.lemmas.List.{map_push, nil_from_length}
+use Rattle.std.proofs.Common.{length, subst, ◌≡◌, map, ap, refl, arith, Some}
+use Rattle.std.proofs.lemmas.List.{nil_from_length}
 use Rattle.std.specs.declared.alloc.Global.{Global}
 use Rattle.std.specs.declared.vec.Vec.{Vec}
 use Rattle.std.specs.Vec.Iter.{into_iter_items}
 use Rattle.lists.proofs.Images.{all_passed}
 use Rattle.lookup_model.specs.LookupDegree.{greatest}
 use Rattle.lookup_record.specs.Records.{branch_of, exclusive_of}
-use Rattle.lookup.proofs.ExtractionLaws.{passed, same_lengths}
+use Rattle.lookup.proofs.ExtractionLaws.{same_lengths}
 use Rattle.lookup.proofs.extraction.exclusive_lookup.Goals as goal
 
 pub returns : goal.returns
@@ -36,17 +36,3 @@ returns g c =
         },
       ),
     )
-
-pub loop-branch-preserved : goal.loop-branch-preserved
-loop-branch-preserved g c =
-    let next = c.in-Some.ensures.steps.0 in
-    let invariant = c.loop-branch.invariant in (
-      passed (λ b. b.fields) branch_of _ _ _ _ _ _ (ap (map (λ tuple. tuple.items)) c.in_ok-push.ensures.items ∙ map_push (λ tuple. tuple.items) c.loop-branch.elements.items c.in-Some.branch.fields) next invariant.0,
-      passed (λ b. b.count) branch_of _ _ _ _ c.in-Some.branch _ c.in_ok-push-2.ensures.items next invariant.1,
-      passed (λ b. b.flag) branch_of _ _ _ _ c.in-Some.branch _ c.in_ok-push-3.ensures.items next invariant.2,
-      omega (arith, invariant.3, c.max-count_weight.ensures, ap (λ bs. greatest (map (λ b. b.weight) (map branch_of bs))) next),
-    )
-
-pub loop-branch-init : goal.loop-branch-init
-loop-branch-init g c = rw (c.new-elements.ensures.items, c.new-multiplicities.ensures.items, c.new-flags.ensures.items, c.into_iter-branch-iterator.ensures.into_iter_gives.0)
-    (refl, refl, refl, omega arith)

@@ -1,6 +1,5 @@
-use Rattle.std.proofs.lemmas.List.Sums.{sum_by-cons}
-use Rattle.std.proofs.Common.{[], ◌∷◌, ◌++◌, ◌+◌, length, ◌≡◌, ◌<◌, ℕ, List, map, All, ap, inl, inr, refl, subst, ◌∙◌, arith, None}
-use Rattle.std.proofs.lemmas.List.{map_push, nil_from_length}
+use Rattle.std.proofs.Common.{length, ◌≡◌, ◌<◌, ℕ, List, map, All, ap, inl, inr, refl, subst, ◌∙◌, arith, None}
+use Rattle.std.proofs.lemmas.List.{nil_from_length}
 use Rattle.std.proofs.lemmas.Result.{err_from_is_err_and}
 use Rattle.std.specs.List.{sum_by}
 use Rattle.std.specs.Vec.Iter.{into_iter_items}
@@ -9,7 +8,7 @@ use Rattle.lookup_record.specs.Pushed.{tuple_of}
 use Rattle.lookup_record.specs.Records.{local_of}
 use Rattle.lookup_model.specs.Weight.{weight_bound}
 use Rattle.lookup.specs.TupleWidths.{HasOtherWidth}
-use Rattle.lookup.proofs.ExtractionLaws.{passed, same_lengths, same_widths, widths_of_tuples}
+use Rattle.lookup.proofs.ExtractionLaws.{same_lengths, same_widths, widths_of_tuples}
 use Rattle.lookup.proofs.extraction.local_lookup.Goals as goal
 
 pub loop-fields-init : goal.loop-fields-init
@@ -70,16 +69,4 @@ returns g c =
           flags = λ x e. absurd (cc e);
         },
       ),
-    )
-
-pub loop-fields-preserved : goal.loop-fields-preserved
-loop-fields-preserved g c =
-    let next = c.in-Some.ensures.steps.0 in
-    let invariant = c.loop-fields.invariant in
-    let parts : c.into_parts-expression.result.1 ≡ c.in-Some.count.weight = ap (λ p. p.1) c.into_parts-expression.ensures in
-    let sums : sum_by (λ t. t.weight) (map tuple_of (into_iter_items c.loop-fields.fields-iterator)) ≡ c.in-Some.count.weight + sum_by (λ t. t.weight) (map tuple_of (into_iter_items c.next.new.self)) = ap (λ ts. sum_by (λ t. t.weight) (map tuple_of ts)) next ∙ sum_by-cons (λ t. t.weight) (tuple_of (c.in-Some.fields, c.in-Some.count)) (map tuple_of (into_iter_items c.next.new.self)) in (
-      passed (λ t. t.fields) tuple_of _ _ _ _ _ _ (ap (map (λ tuple. tuple.items)) c.in_ok-push.ensures.items ∙ map_push (λ tuple. tuple.items) c.loop-fields.elements.items c.in-Some.fields) next invariant.0,
-      passed (λ t. t.count) tuple_of _ _ _ _ (c.in-Some.fields, c.in-Some.count) _ (c.in_ok-push-2.ensures.items ∙ ap (λ p. c.loop-fields.multiplicities.items ++ p.0 ∷ []) c.into_parts-expression.ensures) next invariant.1,
-      omega (arith, c.in-Some-checked_add.ensures),
-      omega (arith, invariant.3, c.in-Some-checked_add.ensures, parts, sums),
     )

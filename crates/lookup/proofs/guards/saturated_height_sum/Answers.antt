@@ -1,11 +1,26 @@
-use Rattle.std.proofs.Common.{◌+◌, ◌-◌, ◌^◌, ap, map, min, ◌∙◌, arith}
-use Rattle.std.proofs.lemmas.List.{length-map, take_all}
+use Rattle.std.proofs.Common.{◌≡◌, ℕ, ◌+◌, ◌-◌, ◌*◌, ◌^◌, ◌<◌, List, length, map, min, take, get_or, ap, ◌∙◌, arith}
+use Rattle.std.proofs.lemmas.List.{get_or_default, length-map, take_all}
+use Rattle.std.proofs.lemmas.List.Sums.{sum_by_push}
 use Rattle.std.proofs.lemmas.Slice.Zip.{length-zip}
 use Rattle.std.specs.List.{sum_by, zip}
+use Rattle.lists.proofs.Images.{mapped_at}
+use Rattle.lists.proofs.Items.{take_item}
+use Rattle.lists.proofs.Zips.{zip_at}
+use Rattle.lookup_model.specs.declared.types.Lookup.{Lookup}
 use Rattle.lookup.specs.Guards.{weighted_height}
 use Rattle.lookup.specs.Lookups.{lookups_of}
-use Rattle.lookup.proofs.HeightSums.{sum_more}
 use Rattle.lookup.proofs.guards.saturated_height_sum.Goals as goal
+
+-- the sum of weighted heights, cut off at a greatest number, with one AIR more
+sum_more : {F A : Type 0} (view : A → List (Lookup F)) (airs : List A) (heights : List ℕ) → length heights ≡ length airs → (most i : ℕ) (air : A) (d weight sum next : ℕ) → i < length airs → air ≡ get_or airs i air → weight ≡ sum_by (λ lookup. lookup.count_weight) (view air)
+    → sum ≡ min (sum_by weighted_height (take i (zip (map view airs) heights))) most → next ≡ min (sum + min (weight * get_or heights i d) most) most → next ≡ min (sum_by weighted_height (take (i + 1) (zip (map view airs) heights))) most
+sum_more view airs heights as_many most i air d weight sum next lt is weight_is so_far next_is =
+    let pairs = zip (map view airs) heights in
+    let tall = get_or heights i d in
+    let below : i < length (map view airs) = omega (arith, length-map airs view, lt) in
+    let here = zip_at (map view airs) heights i (view air) tall (omega (arith, length-map airs view, as_many)) below (mapped_at view airs i air lt is) (get_or_default heights i d tall (omega (arith, as_many, lt))) in
+    let longer = take_item pairs i (view air, tall) (omega (arith, length-zip (map view airs) heights, below, as_many, lt)) here in
+    omega (arith, next_is, so_far, ap (sum_by weighted_height) longer ∙ sum_by_push weighted_height (take i pairs) (view air, tall), ap (λ w. w * tall) weight_is)
 
 pub loop-air-preserved : goal.loop-air-preserved
 loop-air-preserved g c =

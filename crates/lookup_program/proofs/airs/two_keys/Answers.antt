@@ -1,5 +1,5 @@
 use Rattle.std.proofs.Common.{◌++◌, ◌∷◌, [], List, map, ap, ◌∙◌}
-use Rattle.std.proofs.lemmas.List.Elements.{All-cons, All-nil}
+use Rattle.std.proofs.lemmas.List.Elements.{All-from_recursion}
 use Rattle.lookup_record.specs.Messages.{flag_and_key}
 use Rattle.lookup_record.specs.Within.{KeyWithin}
 use Rattle.lookup_program.proofs.airs.two_keys.Goals as goal
@@ -23,5 +23,4 @@ pub returns-clause-within : goal.returns-clause-within
 returns-clause-within g c =
     let items = c.in_ok-push-2.ensures.items ∙ ap (λ (l : List _). l ++ (c.in_ok-current_cell-2.field-0, c.in_ok-tuple-2.field-0) ∷ []) (c.in_ok-push.ensures.items ∙ ap (λ (l : List _). l ++ (c.in_ok-current_cell.field-0, c.in_ok-tuple.field-0) ∷ []) c.new-branches.ensures.items) in
     let Inside = KeyWithin g.AB.Expr.Expression.within (g.AB.AirBuilder.layout c.args.builder.now) in
-    rw items (All-cons Inside (c.in_ok-current_cell.field-0, c.in_ok-tuple.field-0) ((c.in_ok-current_cell-2.field-0, c.in_ok-tuple-2.field-0) ∷ []) (c.in_ok-current_cell.ensures.within, c.in_ok-tuple.ensures.within)
-    (All-cons Inside (c.in_ok-current_cell-2.field-0, c.in_ok-tuple-2.field-0) [] (c.in_ok-current_cell-2.ensures.within, c.in_ok-tuple-2.ensures.within) (All-nil Inside)))
+    rw items (All-from_recursion Inside ((c.in_ok-current_cell.field-0, c.in_ok-tuple.field-0) ∷ (c.in_ok-current_cell-2.field-0, c.in_ok-tuple-2.field-0) ∷ []) ((c.in_ok-current_cell.ensures.within, c.in_ok-tuple.ensures.within), ((c.in_ok-current_cell-2.ensures.within, c.in_ok-tuple-2.ensures.within), tt)))

@@ -1,7 +1,8 @@
-use Rattle.std.proofs.Common.{◌≡◌, ◌++◌, ap, arith, length, string_bytes, take_all, ◌∙◌}
+use Rattle.std.proofs.Common.{◌≡◌, ◌++◌, ap, arith, length, string_bytes, sym, take_all, ◌∙◌}
 use Rattle.std.specs.List.{zip}
+use Rattle.lists.proofs.Zips.{length_zip}
 use Rattle.lookup_program.specs.Report.{witness_lines}
-use Rattle.lookup_program.proofs.ReportLaws.{length_zip, more_airs}
+use Rattle.lookup_program.proofs.ReportLaws.{more_airs}
 use Rattle.lookup_program.proofs.report.push_witness.Goals as goal
 
 pub loop-air-preserved : goal.loop-air-preserved
@@ -12,5 +13,5 @@ loop-air-preserved g c =
 pub returns : goal.returns
 returns g c =
     let results = zip c.args.witness.now.aux.items c.args.witness.now.terminals.items in
-    let long : length results ≡ length c.args.witness.now.aux.items = length_zip c.args.witness.now.aux.items c.args.witness.now.terminals.items c.requires in
+    let long : length results ≡ length c.args.witness.now.aux.items = length_zip c.args.witness.now.aux.items c.args.witness.now.terminals.items (sym c.requires) in
     c.loop-air.invariant ∙ ap (λ l. string_bytes c.args.text.now ++ witness_lines g.EF.Field.text l) (take_all c.loop-air.air results (omega (arith, long)))

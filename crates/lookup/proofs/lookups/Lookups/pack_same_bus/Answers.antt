@@ -2,8 +2,8 @@ use Rattle.std.proofs.Common.{get_or, map, Ok}
 use Rattle.std.proofs.lemmas.Option.{slice_get-get_or}
 use Rattle.lookup_model.specs.Outline.{fields_of}
 use Rattle.lookup.proofs.StepLaws.{plain_on}
-use Rattle.lookup.proofs.PackedDegrees.{fewest_packed}
-use Rattle.lookup.proofs.PackedWithin.{packed_fit}
+use Rattle.lookup.proofs.FewestColumns.{fewest_packed}
+use Rattle.lookup.proofs.Within.{packed_fit}
 use Rattle.lookup.proofs.lookups.Lookups.pack_same_bus.Goals as goal
 
 pub returns-clause-fewest : goal.returns-clause-fewest

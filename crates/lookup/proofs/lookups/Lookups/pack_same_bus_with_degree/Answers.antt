@@ -1,4 +1,4 @@
-use Rattle.lookup.proofs.PackedWithin.{packed_fit}
+use Rattle.lookup.proofs.Within.{packed_fit}
 use Rattle.lookup.proofs.lookups.Lookups.pack_same_bus_with_degree.Goals as goal
 
 pub returns-clause-fits : goal.returns-clause-fits

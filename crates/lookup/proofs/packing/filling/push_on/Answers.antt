@@ -21,9 +21,3 @@ returns-in-Ok-clause-filled g c = λ members filled.
 pub returns-in-Err-clause-filled : goal.returns-in-Err-clause-filled
 returns-in-Err-clause-filled g c = λ members filled.
     refused_on (g.T.TrialDegrees.keeps c.args.degrees.now) (g.T.TrialDegrees.answers c.args.degrees.now) c.args.max_degree members c.args.bus.now filled (none_of c.args.bus.now.refusal (sym c.is_some.ensures ∙ c.if-is_some.false)) (fields_of c.args.next) (record c.push_next.new.bus { refusal = Some c.in-Err.refusal }) c.in-Err.refusal refl c.in-Err.ensures
-
-pub returns-in-Ok-clause-stays : goal.returns-in-Ok-clause-stays
-returns-in-Ok-clause-stays g c = λ e is. c.in-Ok.ensures.1 ∙ is
-
-pub returns-in-Err-clause-stays : goal.returns-in-Err-clause-stays
-returns-in-Err-clause-stays g c = λ e is. absurd (cc (sym (none_of c.args.bus.now.refusal (sym c.is_some.ensures ∙ c.if-is_some.false)) ∙ is))

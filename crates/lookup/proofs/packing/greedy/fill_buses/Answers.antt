@@ -10,7 +10,7 @@ use Rattle.lookup_model.specs.Records.{HasEqualLengths}
 use Rattle.lookup_model.specs.declared.types.Lookup.{Lookup}
 use Rattle.lookup.specs.Buses.{bus_groups}
 use Rattle.lookup.specs.Packing.{additive, is_additive, passing}
-use Rattle.lookup.specs.internal.Fillings.{AreFilledBuses, IsFilled}
+use Rattle.lookup.specs.internal.Fillings.{IsFilled}
 use Rattle.lookup.proofs.BusLaws.{values_hold}
 use Rattle.lookup.proofs.ListLaws.{kept_more, kept_pushed, left_out}
 use Rattle.lookup.proofs.StepLaws.{additive_member, among_all}
@@ -52,18 +52,6 @@ loop-lookup-preserved g c =
       seen = inv.seen;
       all = left_out fields_of is_additive _ _ _ _ c.in-Some.lookup c.in-Some.ensures.steps.0 test inv.all;
       buses = inv.buses;
-    }
-
-pub loop-lookup-init : goal.loop-lookup-init
-loop-lookup-init g c =
-    let given = c.into_iter-lookup-iterator.ensures.into_iter_gives.0 in
-    let no_columns = c.new-columns.ensures.items in record {
-      left = subst (λ (t : List (Lookup g.row.F.Denot)). All HasEqualLengths t) (sym given) c.requires.lengths;
-      pass = λ i. map fields_of (no_columns i) ++ passing (map fields_of (given i));
-      lengths = subst (λ (t : List (Lookup g.row.F.Denot)). All HasEqualLengths t) (sym no_columns) (λ k d lt. absurd (omega (arith, lt)));
-      seen = [];
-      all = ap (λ t. additive (map fields_of t)) given;
-      buses = subst (λ t. AreFilledBuses (g.T.TrialDegrees.keeps c.args.degrees.now) (g.T.TrialDegrees.answers c.args.degrees.now) c.args.max_degree [] t) (sym c.new-buses.ensures.empty) tt;
     }
 
 pub returns : goal.returns

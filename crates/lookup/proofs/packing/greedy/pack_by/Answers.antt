@@ -15,9 +15,7 @@ use Rattle.lookup.specs.BusWidths.{HaveBusWidths}
 use Rattle.lookup.specs.internal.Fillings.{IsFilled}
 use Rattle.lookup.specs.Packing.{IsFilling, IsStuck, additive, joined, passing}
 use Rattle.lookup.specs.Trials.{IsMember}
-use Rattle.lookup.proofs.KeptFlags.{kept_flags, kept_other_buses}
-use Rattle.lookup.proofs.KeptLaws.{kept_messages, kept_nets, kept_weight}
-use Rattle.lookup.proofs.KeptWidths.{kept_widths}
+use Rattle.lookup.proofs.KeptLaws.{kept_flags, kept_messages, kept_nets, kept_other_buses, kept_weight, kept_widths}
 use Rattle.lookup.proofs.ListLaws.{columns_behind}
 use Rattle.lookup.proofs.PackLaws.{AreColumnsAdded, all_packed, fill_refusal, groups_of}
 use Rattle.lookup.proofs.SameKeys.{kept_keys}

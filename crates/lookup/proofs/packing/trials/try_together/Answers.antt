@@ -1,13 +1,7 @@
-use Rattle.std.proofs.Common.{◌≡◌, ◌<◌, ◌+◌, inl, inr, refl, length, arith}
-use Rattle.std.proofs.lemmas.Result.{err_from_is_err_and}
+use Rattle.std.proofs.Common.{◌≡◌, ◌<◌, ◌+◌, length, arith}
 use Rattle.lookup_model.specs.Weight.{weight_bound}
-use Rattle.lookup.proofs.TrialLaws.{joined_both, refused, set_apart}
+use Rattle.lookup.proofs.TrialLaws.{joined_both, set_apart}
 use Rattle.lookup.proofs.packing.trials.try_together.Goals as goal
-
-pub returns-in_err-answer : goal.returns-in_err-answer
-returns-in_err-answer g c =
-    let p = err_from_is_err_and c.from_residual-in_err-answer.result c.from_residual-in_err-answer.ensures.1 in
-    rw (p.1, p.2) (inr (refused (g.T.TrialDegrees.answers c.args.degrees.now) c.args.max_degree c.args.column.now c.args.next c.requires.column c.requires.next c.append.new.self c.append-2.new.self c.in_ok-append.ensures.items c.in_ok-append-2.ensures.items c.in_err-answer.field-0.0 c.in_err-answer.ensures))
 
 pub returns-in-Some : goal.returns-in-Some
 returns-in-Some g c =
@@ -21,23 +15,3 @@ returns g c =
     set_apart (g.T.TrialDegrees.answers c.args.degrees.now) c.args.max_degree c.args.column.now c.args.next c.requires.column c.requires.next c.append.new.self c.append-2.new.self c.in_ok-append.ensures.items c.in_ok-append-2.ensures.items c.in_ok-answer.answer c.len-pivot.result
     c.split_off.new.self c.split_off-else-answer-max_degree.new.self c.in_ok-next.field-0 c.in_ok-next-2.field-0 c.in_ok-answer.ensures (omega (arith, c.if-answer-max_degree.false)) at
     c.in_ok-next.ensures.items c.in_ok-next.ensures.tail c.in_ok-next-2.ensures.items c.in_ok-next-2.ensures.tail
-
-pub returns-in_err-append : goal.returns-in_err-append
-returns-in_err-append g c =
-    let p = err_from_is_err_and c.from_residual.result c.from_residual.ensures.1 in
-    rw (p.1, p.2) (inl refl)
-
-pub returns-in_err-append-2 : goal.returns-in_err-append-2
-returns-in_err-append-2 g c =
-    let p = err_from_is_err_and c.from_residual-in_err-append-2.result c.from_residual-in_err-append-2.ensures.1 in
-    rw (p.1, p.2) (inl refl)
-
-pub returns-in_err-next : goal.returns-in_err-next
-returns-in_err-next g c =
-    let p = err_from_is_err_and c.from_residual-in_err-next.result c.from_residual-in_err-next.ensures.1 in
-    rw (p.1, p.2) (inl refl)
-
-pub returns-in_err-next-2 : goal.returns-in_err-next-2
-returns-in_err-next-2 g c =
-    let p = err_from_is_err_and c.from_residual-in_err-next-2.result c.from_residual-in_err-next-2.ensures.1 in
-    rw (p.1, p.2) (inl refl)

@@ -1,7 +1,7 @@
 use Rattle.std.proofs.Common.{◌≡◌, ◌<◌, ◌+◌, ◌++◌, ◌∷◌, ◌==◌, [], ℕ, List, None, Some, ap, arith, length, map, refl, of_calls, rules, set, sym, take, take_all, tests, ◌∙◌}
 use Rattle.std.specs.List.{slice_split}
 use Rattle.std.proofs.lemmas.Iterator.Splits.{YieldsList-from_slice_split}
-use Rattle.std.proofs.lemmas.List.{append_assoc, length-append, length-map, length-set, length-take-le, length_push, map_push, take_more_set}
+use Rattle.std.proofs.lemmas.List.{append_assoc, length-append, length-set, length-take-le, length_push, map_push, take_more_set}
 use Rattle.std.proofs.lemmas.Option.{MatchOption-at_none, MatchOption-at_some}
 use Rattle.field.specs.BabyBear.{baby_bear_positive}
 use Rattle.field.specs.Quartic.{coefficients_of}
@@ -9,6 +9,7 @@ use Rattle.field.specs.Residue.{Residue}
 use Rattle.lookup_program.specs.Words.{number_of}
 use Rattle.lookup_program.proofs.PartLaws.{Gives-end, Gives-more, Gives-start}
 use Rattle.lookup_program.proofs.WordLaws.{residue-cases}
+use Rattle.lists.proofs.Images.{same_length}
 use Rattle.lookup_program.proofs.challenge.BabyBear4ChallengeBabyBear.from_word.Goals as goal
 
 -- a part that is no number writes no coefficient
@@ -17,10 +18,6 @@ no_value bound [] rest part [] none writes = cc
 no_value bound [] rest part (n ∷ numbers) none writes = cc
 no_value bound (word ∷ came) rest part [] none writes = cc
 no_value bound (word ∷ came) rest part (n ∷ numbers) none writes = no_value bound came rest part numbers none cc
-
--- as many numbers are written as there are coefficients
-lengths : {A B C : Type 0} (f : A → C) (g : B → C) (xs : List A) (ys : List B) → map f xs ≡ map g ys → length xs ≡ length ys
-lengths f g xs ys same = sym (length-map xs f) ∙ ap length same ∙ length-map ys g
 
 -- one more coefficient
 one_more : (bound p : ℕ) (came : List (List ℕ)) (part : List ℕ) (items : List (Residue p)) (i : ℕ) (x : Residue p) → i < length items → map (number_of bound) came ≡ map (λ c. Some c.value) (take i items) → number_of bound part ≡ Some x.value
@@ -39,8 +36,8 @@ returns-in_err-next c =
     rw c.from_residual.ensures
     (λ x writes.
     let all = Gives-end _ _ _ _ _ _ given.3 c.in_err-next.ensures.steps in
-    let few : length given.2 ≡ c.loop-coefficient.coefficient-index = lengths _ _ _ _ given.4 ∙ length-take-le c.loop-coefficient.coefficient-index c.loop-coefficient.coefficient-items (omega (arith, given.5)) in
-    let four : length (slice_split (λ byte. byte == 44) c.args.word.now) ≡ 4 = lengths _ (λ c'. Some c'.value) _ (coefficients_of x) writes in
+    let few : length given.2 ≡ c.loop-coefficient.coefficient-index = same_length _ _ _ _ given.4 ∙ length-take-le c.loop-coefficient.coefficient-index c.loop-coefficient.coefficient-items (omega (arith, given.5)) in
+    let four : length (slice_split (λ byte. byte == 44) c.args.word.now) ≡ 4 = same_length _ (λ c'. Some c'.value) _ (coefficients_of x) writes in
     omega (arith, ap length all))
 
 pub returns-in_err-coefficient : goal.returns-in_err-coefficient
@@ -76,6 +73,6 @@ returns-in-Some c =
     λ x writes.
     let given = c.loop-coefficient.invariant in
     let more = Gives-more _ _ _ c.next-2.new.self c.in-Some.field-0 given.2 _ given.3 c.in-Some.ensures.steps in
-    let many : length given.2 ≡ c.loop-coefficient.coefficient-index = lengths _ _ _ _ given.4 ∙ length-take-le c.loop-coefficient.coefficient-index c.loop-coefficient.coefficient-items (omega (arith, given.5)) in
-    let four : length (slice_split (λ byte. byte == 44) c.args.word.now) ≡ 4 = lengths _ (λ c'. Some c'.value) _ (coefficients_of x) writes in
+    let many : length given.2 ≡ c.loop-coefficient.coefficient-index = same_length _ _ _ _ given.4 ∙ length-take-le c.loop-coefficient.coefficient-index c.loop-coefficient.coefficient-items (omega (arith, given.5)) in
+    let four : length (slice_split (λ byte. byte == 44) c.args.word.now) ≡ 4 = same_length _ (λ c'. Some c'.value) _ (coefficients_of x) writes in
     omega (arith, given.5, ap length more.whole, length-append (given.2 ++ c.in-Some.field-0.now ∷ []) more.rest, length_push given.2 c.in-Some.field-0.now)
