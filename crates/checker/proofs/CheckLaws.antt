@@ -1,5 +1,5 @@
 -- The check of one AIR's result: from its shape and its rows to satisfied constraints.
-use Rattle.std.proofs.Common.{◌≡◌, ℕ, ◌+◌, ◌%◌, ◌<◌, inl, inr, Option, None, Some, List, MatchOption, Result, Ok, Err, sym, subst, subst₂}
+use Rattle.std.proofs.Common.{◌≡◌, ℕ, ◌+◌, ◌%◌, ◌<◌, inl, inr, Option, List, Result, Ok, Err, sym, subst₂}
 use Rattle.std.specs.List.{AllByRecursion}
 use Rattle.matrix.specs.Matrix.{Matrix, height, row}
 use Rattle.air.specs.Traces.{window_of}

@@ -1,6 +1,7 @@
 -- A batch whose ids are renamed, different ones to different ones, has as many messages as before, and as many
 -- of them do not balance.
-use Rattle.std.proofs.Common.{◌≡◌, ◌<◌, ◌++◌, ℕ, zero, suc, Bool, true, false, cond, not, Decides, List, [], ◌∷◌, Option, None, Some, length, map, slice_index_or, refl, sym, ap, ◌∙◌, arith}
+use Rattle.std.proofs.Common.{◌≡◌, ◌<◌, ◌++◌, ℕ, Bool, true, false, cond, not, Decides, List, [], ◌∷◌, Option, None, Some, length, map, refl, sym, ap, ◌∙◌, arith}
+use Rattle.std.proofs.lemmas.Bool.Decides.{same_from_decides}
 use Rattle.std.proofs.lemmas.List.{get_or-map, length-map, map-append}
 use Rattle.std.proofs.lemmas.Option.{slice_get-get_or}
 use Rattle.std.proofs.lemmas.Simd.{map-map}
@@ -23,12 +24,6 @@ use Rattle.lookup_model.specs.Batches.Messages.{batch_messages, id_of, sent_rows
 use Rattle.lookup_model.proofs.Lookups.KeyLaws.{same_key-Decides}
 use Rattle.checker.specs.Packed.{KeepsCounts}
 use Rattle.checker.specs.Renamed.{IsInjective, renamed}
-
--- tests that pass together are one
-alike : (p q : Bool) → (p ≡ true → q ≡ true) → (q ≡ true → p ≡ true) → q ≡ p
-alike true q there back = there refl
-alike false true there back = sym (back refl)
-alike false false there back = refl
 
 -- the images that are seen first
 first_seen_images : {A B : Type 0} (f : A → B) (same : A → A → Bool) (same_image : B → B → Bool) → ((x y : A) → same_image (f x) (f y) ≡ same x y) → (xs : List A) → first_seen same_image (map f xs) ≡ map f (first_seen same xs)
@@ -103,9 +98,8 @@ module _ {F : Type 0} (R : Ring F) (eq : F → F → Bool) (decides : (a b : F) 
 
   same_keys : (a b : Key F) → same_key eq (renamed_key rename a) (renamed_key rename b) ≡ same_key eq a b
   same_keys a b =
-      let before = same_key-Decides eq decides a b in
       let after = same_key-Decides eq decides (renamed_key rename a) (renamed_key rename b) in
-      alike (same_key eq a b) (same_key eq (renamed_key rename a) (renamed_key rename b)) (λ e. after.1 (ap (renamed_key rename) (before.0 e))) (λ e. before.1 (key_back a b (after.0 e)))
+      same_from_decides (same_key eq (renamed_key rename a) (renamed_key rename b)) (same_key eq a b) (λ e. key_back a b (after.0 e), λ same. after.1 (ap (renamed_key rename) same)) (same_key-Decides eq decides a b)
 
   keys_renamed : (ms : List (Message F)) → keys eq (map (renamed_message rename) ms) ≡ map (renamed_key rename) (keys eq ms)
   keys_renamed ms =

@@ -7,9 +7,6 @@ loop-row-preserved g c = below_more _ _ c.loop-row.invariant c.in-Ok.ensures
 pub returns : goal.returns
 returns g c = λ r lt. c.loop-row.invariant r (omega (arith, lt, c.loop-row-test.false, c.height-row-end.ensures.height))
 
-pub check_row-requires-clause-checked : goal.check_row-requires-clause-checked
-check_row-requires-clause-checked g c = c.requires
-
 pub returns-in-Err : goal.returns-in-Err
 returns-in-Err g c = record {
   within = omega (arith, c.loop-row-test.true, c.height-row-end.ensures.height);

@@ -1,3 +1,4 @@
+use Rattle.std.proofs.lemmas.Option.{MatchOption-at_none, MatchOption-at_some}
 use Rattle.std.proofs.Common.{ap, inr, length, refl, ◌∙◌, arith}
 use Rattle.air.specs.Traces.{layout_of}
 use Rattle.lookup_model.specs.Challenges.{table_of}
