@@ -2,7 +2,7 @@
 use Rattle.std.proofs.Common.{◌≡◌, ◌≢◌, ◌<◌, ◌≤◌, ◌+◌, ◌++◌, ◌∷◌, ℕ, zero, suc, Bool, true, false, cond, true≢false, inl, inr, List, [], Option, None, Some, IsTrue, get_or, length, map, max, take, unwrap_or, refl, sym, ap, subst, subst₂, ◌∙◌, arith}
 use Rattle.std.proofs.lemmas.Bool.{cases_lt}
 use Rattle.std.proofs.lemmas.Grind.{flat_map-append}
-use Rattle.std.proofs.lemmas.List.{append-nil, append_assoc, get_or_append_left, get_or_push, length-map, length-take-le, length_push, map_push, take-append-le, take_all}
+use Rattle.std.proofs.lemmas.List.{append-nil, append_assoc, get_or_append_left, get_or_push, length-take-le, length_push, map_push, take-append-le, take_all}
 use Rattle.std.proofs.lemmas.List.Elements.{All-push, Contains-get_or}
 use Rattle.std.proofs.lemmas.List.Quantifiers.{all_pairs_push}
 use Rattle.std.specs.Borrow.{Bor}
@@ -127,17 +127,6 @@ module _ {F : Type 0} (all : List (Entry F)) (before after : GivenIds) (given : 
         by_name : (q : List ℕ) (b : Bool) → same_name q name.now ≡ b → IsKnown (all ++ a ∷ []) q (cond b (Some a.0) (id_in q before.names.entries))
         by_name q true e = now_known all a q (on ∙ ap Some (sym ((same_name-Decides q name.now).0 e)))
         by_name q false e = still_known all a q (id_in q before.names.entries) (λ is. absurd (true≢false (sym ((same_name-Decides q name.now).1 (cc (sym is ∙ on))) ∙ e))) (given.names q)
-
--- before the first lookup
-pub none_given : {F : Type 0} (given : GivenIds) → given.next ≡ 0 → given.names.entries ≡ [] → AreGivenInOrder {F = F} [] given
-none_given {F} given next none = record {
-  in_order = record {
-    buses = λ i j d before within. absurd (omega (arith, within));
-    steps = λ i d lt. absurd (omega (arith, lt));
-    count = next;
-  };
-  names = λ name. subst (λ (es : List (Bor (List ℕ) × ℕ)). IsKnown {F = F} [] name (lookup (λ k. same_name name k.now) es)) (sym none) (λ k d lt. absurd (omega (arith, lt)));
-}
 
 -- the ids of an AIR, with one more
 pub given_more : {F : Type 0} (all : List (Entry F)) (ids : List ℕ) (lookups : List (Lookup F)) (i id : ℕ) (l : Lookup F) (more : List ℕ) (after : GivenIds) → i < length lookups → l ≡ get_or lookups i l → length ids ≡ i → more ≡ ids ++ id ∷ []

@@ -1,5 +1,5 @@
 -- The ids of a plan are lawful.
-use Rattle.std.proofs.Common.{◌≡◌, ◌↔◌, ◌<◌, ◌≤◌, ◌++◌, ◌∷◌, ℕ, List, [], All, get_or, length, map, refl, sym, ap, subst, arith}
+use Rattle.std.proofs.Common.{◌≡◌, ◌↔◌, ◌<◌, ◌≤◌, ◌++◌, ◌∷◌, ℕ, List, [], All, get_or, length, refl, sym, ap, subst, arith}
 use Rattle.std.proofs.lemmas.List.Elements.{All-from_recursion}
 use Rattle.std.specs.List.{AllByRecursion, AllPairs, flat_map, zip}
 use Rattle.lists.proofs.Each.{all_of_map, all_parts, all_weaker}
@@ -27,10 +27,9 @@ module _ {F : Type 0} (most : ℕ) where
   airs_narrow : (airs : List (Lookups F)) → greatest (all_tuple_widths airs) ≤ most → All (λ air. All IsNarrow (lookups_of air)) airs
   airs_narrow airs le =
       let Small = λ (n : ℕ). n ≤ most in
-      let Narrow = λ (l : Lookup F). AllByRecursion Small (lookup_widths l) in
       All-from_recursion (λ air. All IsNarrow (lookups_of air)) airs
       (all_weaker (λ air. AllByRecursion Small (flat_map lookup_widths (lookups_of air))) (λ air. All IsNarrow (lookups_of air))
-      (λ air is. All-from_recursion IsNarrow (lookups_of air) (all_weaker Narrow IsNarrow
+      (λ air is. All-from_recursion IsNarrow (lookups_of air) (all_weaker (λ (l : Lookup F). AllByRecursion Small (lookup_widths l)) IsNarrow
       (λ l narrow. All-from_recursion (λ tuple. length tuple.items ≤ most) l.elements.items (all_of_map Small (λ tuple. length tuple.items) l.elements.items narrow))
       (lookups_of air) (all_parts Small lookup_widths (lookups_of air) is)))
       airs (all_parts Small (λ air. flat_map lookup_widths (lookups_of air)) airs (each_below most (all_tuple_widths airs) le)))

@@ -1,5 +1,4 @@
 pub mod CountLaws
-pub mod DistinctLaws
 pub mod GivenLaws
 pub mod Greatest
 pub mod HeightCounts

@@ -1,10 +1,9 @@
--- The items of a list: those of images and of parts, and the entry that a look-up finds.
-use Rattle.std.proofs.Common.{◌≡◌, ◌⊎◌, ◌++◌, ◌+◌, ◌<◌, ℕ, zero, suc, Bool, true, false, cond, inl, inr, Option, None, Some, List, [], ◌∷◌, length, map, take, drop, get_or, refl, sym, ap, subst, subst₂, ◌∙◌, arith}
+-- The items of a list: those of images, of parts and of what is kept.
+use Rattle.std.proofs.Common.{◌≡◌, ◌⊎◌, ◌+◌, ◌<◌, Bool, true, false, cond, inl, inr, Option, None, Some, List, [], ◌∷◌, length, map, take, drop, get_or, sym, ap, subst, subst₂, ◌∙◌, arith}
 use Rattle.std.proofs.lemmas.Bool.{cases_order}
 use Rattle.std.proofs.lemmas.List.{get_or-map, get_or_default, length-map}
 use Rattle.std.proofs.lemmas.List.Elements.{Contains-append_left, Contains-append_right}
 use Rattle.std.specs.List.{AllByRecursion, AllPairs, AllZip, Contains, cons_option, filter, filter_map, flat_map}
-use Rattle.std.specs.Map.{lookup}
 use Rattle.lists.proofs.Items.{item_at}
 use Rattle.lists.proofs.Parts.{flat_split}
 
@@ -29,10 +28,7 @@ module _ {A : Type 0} where
       ]) all
 
 module _ {A B : Type 0} where
-  -- the image of an item, and the item of an image
-  pub in_image : (f : A → B) (xs : List A) (x : A) → Contains xs x → Contains (map f xs) (f x)
-  in_image f xs x (k, lt, is) = (k, omega (arith, lt, length-map xs f), get_or-map f xs k x (f x) lt ∙ ap f is)
-
+  -- the item of an image
   pub from_image : (f : A → B) (xs : List A) (y : B) → Contains (map f xs) y → (x : A) × Contains xs x × (f x ≡ y)
   from_image f xs y (k, lt, is) =
       let within : k < length xs = omega (arith, lt, length-map xs f) in
@@ -59,13 +55,3 @@ module _ {A B : Type 0} where
   same_images f g [] [] e = tt
   same_images f g (x ∷ xs) (y ∷ ys) e = (cc, same_images f g xs ys cc)
   same_images f g xs ys e = absurd cc
-
-  -- a look-up finds an entry whose key passes
-  pub some_found : (test : A → Bool) (es : List (A × B)) (k : A) (v : B) → Contains es (k, v) → test k ≡ true → (w : B) × (lookup test es ≡ Some w)
-  some_found test [] k v (i, lt, is) passes = absurd (omega (arith, lt))
-  some_found test (e ∷ es) k v (zero, lt, is) passes = (e.1, ap (λ b. cond b (Some e.1) (lookup test es)) (ap (λ (p : A × B). test p.0) is ∙ passes))
-  some_found test (e ∷ es) k v (suc i, lt, is) passes =
-      elim (test e.0) as (λ b. (w : B) × (cond b (Some e.1) (lookup test es) ≡ Some w)) [
-        | true ↦ (e.1, refl)
-        | false ↦ some_found test es k v (i, omega (arith, lt), is) passes
-      ]

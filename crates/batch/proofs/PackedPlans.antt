@@ -19,14 +19,13 @@ use Rattle.expressions.specs.Window.{Window}
 use Rattle.lookup_model.specs.Batches.Instances.{Instance}
 use Rattle.lookup_model.specs.Batches.Messages.{HasLawfulFlags, id_of}
 use Rattle.lookup_model.specs.LookupDegree.{greatest}
-use Rattle.lookup_model.specs.Message.{Message}
 use Rattle.lookup_model.specs.Outline.{bus_of, fields_of}
 use Rattle.lookup_model.specs.Sent.{branches_at, flags_at, sent, sent_at}
 use Rattle.lookup_model.specs.Trace.{sent_row_under}
 use Rattle.lookup_model.specs.declared.types.Lookup.{Lookup}
 use Rattle.lookup.proofs.JoinedMessages.{on_some_bus}
 use Rattle.lookup.proofs.StepLaws.{no_flags_of}
-use Rattle.lookup.specs.Kept.{HasIdOfBus, HaveSameIds, KeepsLawfulFlags, KeepsMessages, KeepsOtherBuses, KeepsSent, KeepsWidths, other_buses, other_ids, row_messages, widths_of}
+use Rattle.lookup.specs.Kept.{HasIdOfBus, KeepsLawfulFlags, KeepsMessages, KeepsOtherBuses, KeepsSent, KeepsWidths, other_ids, row_messages, widths_of}
 use Rattle.lookup.specs.Lookups.{lookups_of}
 use Rattle.lookup.specs.Packing.{is_additive}
 use Rattle.lookup.specs.declared.lookups.Lookups.{Lookups}
@@ -65,9 +64,8 @@ module _ {F : Type 0} where
       each k d lt =
           let k_ids : k < length ids = omega (arith, lt, length-zip ids ls) in
           let k_ls : k < length ls = omega (arith, lt, length-zip ids ls) in
-          let column = (air.records k (get_or ls k d.1) k_ls (slice_get-get_or ls k d.1 k_ls)).0 in
           get_or-zip ids ls k d k_ids k_ls
-          ∙ (λ j. ((get_or_default ids k d.0 0 k_ids ∙ ap (λ c. get_or ids c 0) (sym column)) j, get_or ls k d.1))
+          ∙ (λ j. ((get_or_default ids k d.0 0 k_ids ∙ ap (λ c. get_or ids c 0) (sym ((air.records k (get_or ls k d.1) k_ls (slice_get-get_or ls k d.1 k_ls)).0))) j, get_or ls k d.1))
           ∙ sym (get_or-map (under ids) ls k d.1 d k_ls)
 
   -- what passes through packing
@@ -235,12 +233,11 @@ module _ {F : Type 0} (R : Ring F) (eq : F → F → Bool) where
         let many = map-map length (map renaming) ids ∙ map_same (λ i. length (map renaming i)) length (λ i. length-map i renaming) ids ∙ numbered.as_many in
         let Has = HasBusId (bus_id xs ys numbered.in_order.buses numbered_after.in_order.buses same n below) in
         let before = recursion_from_All (λ a. Has (renaming a.0, a.1)) xs (λ k d lt. before_has_id xs ys numbered.in_order.buses numbered_after.in_order.buses same n below (get_or xs k d) (Contains-get_or xs k d lt)) in
-        let after = recursion_from_All Has ys (λ k d lt. after_has_id xs ys numbered.in_order.buses numbered_after.in_order.buses same n below (get_or ys k d) (Contains-get_or ys k d lt)) in
         let id = λ (c : Entry F). c.0 in
         subst (λ (batch : List (Instance F)). ArePacked R eq batch (batch_over more later traces)) (sym (batch_renamed renaming ids airs traces))
         (plans_packed _ (zip ids_renamed airs) (zip more later) traces (all_kept airs later ids_renamed more many numbered_after.as_many (all_keep airs later packed))
         (all_parts Has entries (zip ids_renamed airs) (subst (AllByRecursion Has) (sym (assigned_renamed renaming ids airs)) (all_images Has (renamed_entry renaming ids airs) xs before)))
-        (all_parts Has entries (zip more later) after)
+        (all_parts Has entries (zip more later) (recursion_from_All Has ys (λ k d lt. after_has_id xs ys numbered.in_order.buses numbered_after.in_order.buses same n below (get_or ys k d) (Contains-get_or ys k d lt))))
         (sym (passing_parts id (zip ids_renamed airs))
         ∙ ap (λ t. map id (filter passes t)) (assigned_renamed renaming ids airs)
         ∙ ap (map id) (filter_images (renamed_entry renaming ids airs) passes passes (λ a. refl) xs)

@@ -1,19 +1,18 @@
 -- Lookups with their ids before and after packing, paired by their buses: two pairs have one id before exactly if
 -- they have one after. So there is a renaming of ids between them.
 use Rattle.std.proofs.Common.{◌≡◌, ◌<◌, ◌++◌, ℕ, Bool, true, false, cond, not, inl, inr, All, IsTrue, Option, None, Some, List, [], ◌∷◌, length, map, get_or, unwrap_or, refl, sym, ap, subst, subst₂, ◌∙◌, arith}
-use Rattle.std.proofs.lemmas.List.Elements.{All-append, All-contains, All-contains_itself, All-cons, All-filter, All-nil, All-weaker, AllZip-get_or, Contains-append_cases, Contains-append_left, Contains-append_right, Contains-get_or, length_all_zip, recursion_from_All}
+use Rattle.std.proofs.lemmas.List.Elements.{All-append, All-contains, All-contains_itself, All-cons, All-filter, All-map, All-nil, All-weaker, AllZip-get_or, Contains-append_cases, Contains-append_left, Contains-append_right, Contains-get_or, recursion_from_All}
 use Rattle.std.proofs.lemmas.List.Kept.{AllPairs-filter}
 use Rattle.std.proofs.lemmas.Map.Views.{Contains-from_lookup}
 use Rattle.std.proofs.lemmas.Slice.Zip.{get_or-zip, length-zip}
 use Rattle.std.specs.List.{AllByRecursion, AllPairs, AllZip, Contains, filter, flat_map, zip}
 use Rattle.std.specs.Map.{lookup}
 use Rattle.lists.proofs.Each.{All-parts}
-use Rattle.lookup_model.specs.Names.{is_named}
 use Rattle.lookup_model.specs.Outline.{fields_of}
-use Rattle.lookup_model.proofs.Names.{same_name-Decides}
 use Rattle.lookup.specs.Packing.{is_additive}
+use Rattle.checker.proofs.Members.{in_image, lookup_found}
 use Rattle.checker.specs.Renamed.{IsInjective}
-use Rattle.batch.proofs.Members.{from_image, in_image, in_part, members, same_images, some_found}
+use Rattle.batch.proofs.Members.{from_image, in_part, members, same_images}
 use Rattle.batch.proofs.Renaming.{Agree, AllAgree, rename_by, renames, renames_apart}
 use Rattle.batch.proofs.SharedBuses.{Entry, IsByBus, same_id, same_label, share, shared}
 use Rattle.batch.specs.Order.{bus_at, same_bus}
@@ -43,9 +42,11 @@ module _ {F : Type 0} (zs : List (Entry F)) where
   -- all lookups on the bus have it
   has_id_on : AllPairs IsByBus zs → (a : Entry F) → Contains zs a → (name : List ℕ) → bus_at a ≡ Some name → id_on name ≡ Some a.0
   has_id_on buses a there name on =
-      let (id, is) = some_found (same_bus (Some name)) (map labelled zs) (bus_at a) a.0 (in_image labelled zs a there) (share (Some name) (bus_at a) name refl on) in
-      let (b, b_there, b_on, b_id) = on_is name id is in
-      is ∙ ap Some (sym b_id ∙ same_id zs buses b a b_there there name b_on on)
+      let Same = λ (e : Option (List ℕ) × ℕ). same_bus (Some name) e.0 ≡ true → e.1 ≡ a.0 in
+      lookup_found (same_bus (Some name)) (map labelled zs) (bus_at a) a.0 (in_image labelled zs a there) (share (Some name) (bus_at a) name refl on)
+      (recursion_from_All Same (map labelled zs) (All-map Same labelled zs (λ i d lt t.
+      let (other, one, on_too) = shared (Some name) (bus_at (get_or zs i d)) t in
+      same_id zs buses (get_or zs i d) a (Contains-get_or zs i d lt) there name (on_too ∙ sym one) on)))
 
 module _ {F : Type 0} (xs ys : List (Entry F)) (buses : AllPairs IsByBus xs) (buses_after : AllPairs IsByBus ys) (same : map bus_at (filter passes xs) ≡ map bus_at (filter passes ys)) where
   -- what a pair of a lookup before and one after has to be
@@ -136,24 +137,22 @@ module _ {F : Type 0} (xs ys : List (Entry F)) (buses : AllPairs IsByBus xs) (bu
   on_bus_agrees : (p q : Entry F × Entry F) → IsOnBus p → IsPaired q → Agree (numbers p) (numbers q)
   on_bus_agrees p q (one, (name, on)) other = (
     (λ e.
-        let label = same_label xs buses p.0 q.0 one.before other.before e in
-        same_id ys buses_after p.1 q.1 one.after other.after name (sym one.one_bus ∙ on) (sym other.one_bus ∙ sym label ∙ on)),
+        same_id ys buses_after p.1 q.1 one.after other.after name (sym one.one_bus ∙ on) (sym other.one_bus ∙ sym (same_label xs buses p.0 q.0 one.before other.before e) ∙ on)),
     (λ e.
-        let label = same_label ys buses_after p.1 q.1 one.after other.after e in
-        same_id xs buses p.0 q.0 one.before other.before name on (other.one_bus ∙ sym label ∙ sym one.one_bus ∙ on)),
+        same_id xs buses p.0 q.0 one.before other.before name on (other.one_bus ∙ sym (same_label ys buses_after p.1 q.1 one.after other.after e) ∙ sym one.one_bus ∙ on)),
   )
 
   all_agree : (p q : Entry F × Entry F) → Contains all_pairs p → Contains all_pairs q → Agree (numbers p) (numbers q)
   all_agree p q one other = elim (Contains-append_cases passing_pairs bus_pairs p one) [
     | inr bus ↦ on_bus_agrees p q (All-contains IsOnBus bus_pairs p bus_paired bus) (All-contains IsPaired all_pairs q paired other)
     | inl passing ↦ elim (Contains-append_cases passing_pairs bus_pairs q other) [
-        | inr bus ↦ turned (numbers q) (numbers p) (on_bus_agrees q p (All-contains IsOnBus bus_pairs q bus_paired bus) (All-contains IsPaired all_pairs p paired one))
-        | inl passing_too ↦ elim (members (λ a b. Agree (numbers a) (numbers b)) passing_pairs pairs_agree p q passing passing_too) [
-            | inl e ↦ (λ _. ap (λ (r : Entry F × Entry F). r.1.0) e, λ _. ap (λ (r : Entry F × Entry F). r.0.0) e)
-            | inr (inl agree) ↦ agree
-            | inr (inr agree) ↦ turned (numbers q) (numbers p) agree
-          ]
+      | inr bus ↦ turned (numbers q) (numbers p) (on_bus_agrees q p (All-contains IsOnBus bus_pairs q bus_paired bus) (All-contains IsPaired all_pairs p paired one))
+      | inl passing_too ↦ elim (members (λ a b. Agree (numbers a) (numbers b)) passing_pairs pairs_agree p q passing passing_too) [
+        | inl e ↦ (λ _. ap (λ (r : Entry F × Entry F). r.1.0) e, λ _. ap (λ (r : Entry F × Entry F). r.0.0) e)
+        | inr (inl agree) ↦ agree
+        | inr (inr agree) ↦ turned (numbers q) (numbers p) agree
       ]
+    ]
   ]
 
   -- so do the numbers of all pairs

@@ -1,8 +1,5 @@
 -- The checks of a plan, and how refusals are passed on.
-use Rattle.std.proofs.Common.{◌≡◌, ◌<◌, ◌≤◌, ◌+◌, ◌++◌, ◌∷◌, ℕ, inl, inr, List, [], get_or, length, map, max, take, sym, ap, ◌∙◌, arith}
-use Rattle.std.proofs.lemmas.Grind.{flat_map-append}
-use Rattle.std.proofs.lemmas.List.{append-nil, map_push, take_more}
-use Rattle.std.specs.List.{flat_map}
+use Rattle.std.proofs.Common.{◌≡◌, ◌<◌, ◌≤◌, ℕ, inl, inr, List, length, map, sym, ap, ◌∙◌}
 use Rattle.lookup_model.specs.Batches.Faults.{IsOutOfMemory}
 use Rattle.lookup_model.specs.Batches.Instances.{Instance}
 use Rattle.lookup_model.specs.Batches.Refusals.{IsAirRefusal, IsWitnessRefusal}
@@ -10,12 +7,11 @@ use Rattle.lookup_model.specs.Batches.Witnesses.{AirResult}
 use Rattle.lookup_model.specs.declared.fault.BatchFault.{BatchFault}
 use Rattle.lookup_model.specs.Challenges.{ChallengeTable}
 use Rattle.field.specs.Extension.{Extension}
-use Rattle.lookup_model.specs.LookupDegree.{greatest}
 use Rattle.lookup_model.specs.declared.error.LookupError.{LookupError}
 use Rattle.lookup.specs.TupleWidths.{IsTupleWidths}
 use Rattle.lookup.specs.Guards.{IsHeightRefusal, weighted_height_sum}
 use Rattle.lookup.specs.Lookups.{lookups_of}
-use Rattle.lookup.specs.NamedWidths.{AgreeOnWidths, IsFirstWidthMismatch}
+use Rattle.lookup.specs.NamedWidths.{AgreeOnWidths}
 use Rattle.lookup.specs.declared.lookups.Lookups.{Lookups}
 use Rattle.batch.proofs.OneWidths.{one_widths}
 use Rattle.batch.specs.Checks.{AreLocallyEven, IsFirstLocalMismatch, bus_widths_of}
@@ -37,10 +33,7 @@ plan_is p plan heights_are agree even numbered few light width = record {
 }
 
 -- refusals that keep their names
-pub bus_passed : (widths : List (List ℕ × ℕ)) (e : LookupError) → IsFirstWidthMismatch widths e → of_lookup e ≡ OfLookup e
-bus_passed widths e first = ap of_lookup first.fault.refusal.error_is ∙ ap OfLookup (sym first.fault.refusal.error_is)
-
-pub widths_passed : (context : List ℕ) (width other : ℕ) (e : LookupError) → IsTupleWidths context width other e → of_lookup e ≡ OfLookup e
+widths_passed : (context : List ℕ) (width other : ℕ) (e : LookupError) → IsTupleWidths context width other e → of_lookup e ≡ OfLookup e
 widths_passed context width other e is = ap of_lookup is.error_is ∙ ap OfLookup (sym is.error_is)
 
 pub local_passed : {F : Type 0} (airs : List (Lookups F)) (e : LookupError) → IsFirstLocalMismatch airs e → of_lookup e ≡ OfLookup e

@@ -1,11 +1,12 @@
 -- A renaming of ids from pairs of an old and a new one: it keeps different ids apart, and takes each old one to
 -- the new one beside it.
-use Rattle.std.proofs.Common.{◌≡◌, ◌↔◌, ◌<◌, ◌+◌, ℕ, nat_eq, Option, None, Some, List, unwrap_or, refl, ap, ◌∙◌, arith}
+use Rattle.std.proofs.Common.{◌≡◌, ◌↔◌, ◌<◌, ◌+◌, ℕ, true, get_or, nat_eq, Option, None, Some, List, unwrap_or, refl, sym, ap, arith}
 use Rattle.std.proofs.lemmas.Bool.Decides.{Decides-eqb}
+use Rattle.std.proofs.lemmas.List.Elements.{Contains-get_or, recursion_from_All}
 use Rattle.std.proofs.lemmas.Map.Views.{Contains-from_lookup, exact_unsigned_eq}
 use Rattle.std.specs.List.{Contains}
 use Rattle.std.specs.Map.{lookup}
-use Rattle.batch.proofs.Members.{some_found}
+use Rattle.checker.proofs.Members.{lookup_found}
 
 -- the renaming, to the new number beside the first pair that has the old one: a number that no pair has goes past the first m
 abbrev pub rename_by : List (ℕ × ℕ) → ℕ → ℕ → ℕ
@@ -24,9 +25,8 @@ module _ (pairs : List (ℕ × ℕ)) (m : ℕ) (agree : AllAgree pairs) where
 
   -- each old number goes to the new one beside it
   pub renames : (p : ℕ × ℕ) → Contains pairs p → rename_by pairs m p.0 ≡ p.1
-  renames p there =
-      let (v, is) = some_found (nat_eq p.0) pairs p.0 p.1 there ((Decides-eqb p.0 p.0).1 refl) in
-      ap (λ o. unwrap_or o (p.0 + m)) is ∙ (agree (p.0, v) p (found p.0 v is) there).0 refl
+  renames p there = ap (λ o. unwrap_or o (p.0 + m)) (lookup_found (nat_eq p.0) pairs p.0 p.1 there ((Decides-eqb p.0 p.0).1 refl)
+      (recursion_from_All (λ e. nat_eq p.0 e.0 ≡ true → e.1 ≡ p.1) pairs (λ i d lt t. (agree (get_or pairs i d) p (Contains-get_or pairs i d lt) there).0 (sym ((Decides-eqb p.0 (get_or pairs i d).0).0 t)))))
 
   -- different numbers stay apart, if the new ones are among the first m
   pub renames_apart : ((p : ℕ × ℕ) → Contains pairs p → p.1 < m) → (i j : ℕ) → rename_by pairs m i ≡ rename_by pairs m j → i ≡ j

@@ -1,5 +1,5 @@
 -- Lookups with their ids: two of them have one id exactly if they share a bus.
-use Rattle.std.proofs.Common.{◌≡◌, ◌↔◌, ◌⊎◌, ℕ, inl, inr, IsTrue, List, Option, None, Some, refl, sym, ap, subst₂, ◌∙◌}
+use Rattle.std.proofs.Common.{◌≡◌, ◌↔◌, ◌⊎◌, ℕ, inl, inr, IsTrue, List, Option, Some, refl, sym, ap, subst₂, ◌∙◌}
 use Rattle.std.specs.List.{AllPairs, Contains}
 use Rattle.lookup_model.specs.declared.types.Lookup.{Lookup}
 use Rattle.lookup_model.proofs.Names.{same_name-Decides}

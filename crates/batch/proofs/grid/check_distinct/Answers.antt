@@ -1,11 +1,42 @@
-use Rattle.std.proofs.Common.{◌≡◌, ◌+◌, inr, true, false, take, refl, sym, ap, subst, ◌∙◌}
+use Rattle.std.proofs.Common.{◌≡◌, ◌+◌, inr, true, false, take, refl, sym, ap, subst, ◌∙◌, ◌≢◌, ◌↔◌, ℕ, zero, suc, Bool, IsTrue, if◌then◌else◌, List, [], ◌∷◌, ◌++◌}
 use Rattle.std.proofs.lemmas.Bool.{not-false, not-true}
-use Rattle.std.specs.List.{list_any}
+use Rattle.std.specs.List.{list_any, AllByRecursion}
 use Rattle.lists.proofs.Items.{take_item}
 use Rattle.field.specs.Distinct.{IsDistinct}
 use Rattle.indexmap.specs.IndexSet.{insert_key}
-use Rattle.batch.proofs.DistinctLaws.{distinct_push, distinct_take, new_goes_last, repeated_push}
+use Rattle.std.proofs.lemmas.List.Elements.{All-contains, All-from_recursion}
+use Rattle.std.proofs.lemmas.Map.Views.{Contains-from_any}
+use Rattle.lists.proofs.Each.{all_back, all_both, all_take, all_weaker, none_any}
 use Rattle.batch.proofs.grid.check_distinct.Goals as goal
+
+module _ {A : Type 0} where
+  -- the first n elements
+  distinct_take : (n : ℕ) (xs : List A) → IsDistinct xs → IsDistinct (take n xs)
+  distinct_take (suc n) (x ∷ xs) distinct = (all_take (λ y. x ≢ y) n xs distinct.0, distinct_take n xs distinct.1)
+  distinct_take zero xs distinct = tt
+  distinct_take n [] distinct = tt
+
+  module _ (same : A → A → Bool) (decides : (a b : A) → IsTrue (same a b) ↔ (a ≡ b)) (x : A) where
+    pushed : (ys : List A) → AllByRecursion (λ y. y ≢ x) ys → IsDistinct ys → IsDistinct (ys ++ x ∷ [])
+    pushed [] none distinct = (tt, tt)
+    pushed (y ∷ ys) none distinct = (all_both (λ z. y ≢ z) ys (x ∷ []) distinct.0 (none.0, tt), pushed ys none.1 distinct.1)
+
+    apart : (ys : List A) → IsDistinct (ys ++ x ∷ []) → AllByRecursion (λ y. y ≢ x) ys
+    apart [] distinct = tt
+    apart (y ∷ ys) distinct = ((all_back (λ z. y ≢ z) ys (x ∷ []) distinct.0).0, apart ys distinct.1)
+
+    -- a new element leaves the list without repeats
+    distinct_push : (ys : List A) → list_any (same x) ys ≡ false → IsDistinct ys → IsDistinct (ys ++ x ∷ [])
+    distinct_push ys unfound = pushed ys (all_weaker (λ y. same x y ≡ false) (λ y. y ≢ x) (λ y e is. cc (e, (decides x y).1 (sym is))) ys (none_any (same x) ys unfound))
+
+    -- an element that is there is a repeat
+    repeated_push : (ys : List A) → list_any (same x) ys ≡ true → ¬ IsDistinct (ys ++ x ∷ [])
+    repeated_push ys found distinct =
+        All-contains (λ y. y ≢ x) ys x (All-from_recursion (λ y. y ≢ x) ys (apart ys distinct)) (Contains-from_any (λ a b. (decides a b).0) x ys found) refl
+
+-- a new element goes last
+new_goes_last : {A : Type 0} (same : A → A → Bool) (x : A) (ys : List A) → list_any (same x) ys ≡ false → insert_key same ys x ≡ ys ++ x ∷ []
+new_goes_last same x ys unfound i = if unfound i then ys else ys ++ x ∷ []
 
 pub returns-then-not-branch : goal.returns-then-not-branch
 returns-then-not-branch g c =
