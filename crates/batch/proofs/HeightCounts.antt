@@ -1,6 +1,6 @@
 -- The most messages of a plan, AIR by AIR, and of its batch over traces that fit.
-use Rattle.std.proofs.Common.{◌≡◌, ◌<◌, ◌≤◌, ◌+◌, ◌*◌, ◌∷◌, ℕ, suc, List, [], All, get_or, length, take, refl, sym, ap, ◌∙◌, arith}
-use Rattle.std.proofs.lemmas.List.Sums.{sum_by-cons, sum_by-take-le, sum_by_more}
+use Rattle.std.proofs.Common.{◌≡◌, ◌<◌, ◌+◌, ◌*◌, ◌∷◌, ℕ, suc, List, [], All, get_or, length, take, refl, sym, ap, ◌∙◌, arith}
+use Rattle.std.proofs.lemmas.List.Sums.{sum_by-cons, sum_by_more}
 use Rattle.std.proofs.lemmas.Slice.Zip.{get_or-zip, length-zip}
 use Rattle.std.specs.List.{sum_by, zip}
 use Rattle.air.specs.Traces.{height_of}
@@ -19,32 +19,18 @@ module _ {F : Type 0} where
   abbrev pub most_of_air : Lookups F × ℕ → ℕ
   most_of_air t = t.1 * most_of_row (lookups_of t.0)
 
-  -- the AIR and the height at an index
-  pub air_there : (airs : List (Lookups F)) (heights : List ℕ) (i : ℕ) (air : Lookups F) (height : ℕ) → length heights ≡ length airs → i < length airs
-      → air ≡ get_or airs i air → height ≡ get_or heights i 0 → get_or (zip airs heights) i (air, 0) ≡ (air, height)
-  air_there airs heights i air height same lt air_is height_is =
-      get_or-zip airs heights i (air, 0) lt (omega (arith, lt, same)) ∙ (λ j. (sym air_is j, sym height_is j))
-
   -- one more AIR
   pub most_more : (airs : List (Lookups F)) (heights : List ℕ) (i : ℕ) (air : Lookups F) (height : ℕ) → length heights ≡ length airs → i < length airs
       → air ≡ get_or airs i air → height ≡ get_or heights i 0
       → sum_by most_of_air (take (i + 1) (zip airs heights)) ≡ sum_by most_of_air (take i (zip airs heights)) + height * most_of_row (lookups_of air)
   most_more airs heights i air height same lt air_is height_is =
       sum_by_more most_of_air (zip airs heights) i (air, 0) (omega (arith, length-zip airs heights, lt, same))
-      ∙ ap (λ t. sum_by most_of_air (take i (zip airs heights)) + most_of_air t) (air_there airs heights i air height same lt air_is height_is)
-
-  -- the first AIRs have no more than all
-  pub most_within : (airs : List (Lookups F)) (heights : List ℕ) (n : ℕ) → sum_by most_of_air (take n (zip airs heights)) ≤ most_planned airs heights
-  most_within airs heights n = sum_by-take-le most_of_air (zip airs heights) n
+      ∙ ap (λ t. sum_by most_of_air (take i (zip airs heights)) + most_of_air t) (get_or-zip airs heights i (air, 0) lt (omega (arith, lt, same)) ∙ (λ j. (sym air_is j, sym height_is j)))
 
   -- the batch has the most messages of its lookups and heights
   batch_most : (ids : List (List ℕ)) (airs : List (Lookups F)) (traces : List (BatchTrace F)) (heights : List ℕ) → length ids ≡ length airs → length traces ≡ length airs → length heights ≡ length airs
       → All FitsAt (zip (batch_over ids airs traces) heights) → most_messages (batch_over ids airs traces) ≡ most_planned airs heights
-  batch_most [] [] traces heights same many high fit = refl
-  batch_most [] (air ∷ airs) traces heights same many high fit = absurd (omega (arith, same))
-  batch_most (id ∷ ids) [] traces heights same many high fit = absurd (omega (arith, same))
-  batch_most (id ∷ ids) (air ∷ airs) [] heights same many high fit = absurd (omega (arith, many))
-  batch_most (id ∷ ids) (air ∷ airs) (t ∷ ts) [] same many high fit = absurd (omega (arith, high))
+  batch_most [] [] [] [] same many high fit = refl
   batch_most (id ∷ ids) (air ∷ airs) (t ∷ ts) (h ∷ hs) same many high fit =
       let here : height_of (instance_over (id, air) t).traces ≡ h = (fit 0 (instance_over (id, air) t, h) (omega arith)).0 in
       let rest : most_messages (batch_over ids airs ts) ≡ most_planned airs hs =
@@ -52,6 +38,7 @@ module _ {F : Type 0} where
       sum_by-cons most_of (instance_over (id, air) t) (batch_over ids airs ts)
       ∙ (λ j. here j * most_of_row (lookups_of air) + rest j)
       ∙ sym (sum_by-cons most_of_air (air, h) (zip airs hs))
+  batch_most ids airs traces heights same many high fit = absurd (omega arith)
 
   pub most_of_batch : (p : ℕ) (plan : Plan F) → IsPlan p plan → (traces : List (BatchTrace F)) → FitPlan plan traces → most_messages (plan_batch plan traces) ≡ most_planned plan.airs plan.heights
   most_of_batch p plan facts traces fit =

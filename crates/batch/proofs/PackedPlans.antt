@@ -1,271 +1,262 @@
 -- A plan of packed AIRs has the ids of the plan of the AIRs before, under a renaming; and its tuples are as wide.
-use Rattle.std.proofs.Common.{◌≡◌, ◌⊎◌, ◌<◌, ◌≤◌, ◌++◌, ℕ, Bool, true, false, cond, not, inr, Some, List, [], ◌∷◌, length, map, get_or, slice_index_or, refl, sym, ap, subst, ◌∙◌, arith, None, Option, inl}
-use Rattle.std.proofs.lemmas.List.{get_or_default, length-map, map-append}
-use Rattle.std.proofs.lemmas.List.Elements.{All-from_recursion, filter-append, recursion_from_All}
+use Rattle.std.proofs.Common.{◌≡◌, ◌⊎◌, ◌<◌, ◌≤◌, ◌++◌, ℕ, All, Bool, true, false, cond, not, inl, inr, None, Option, Some, List, [], ◌∷◌, length, map, get_or, refl, sym, ap, subst, ◌∙◌, arith}
+use Rattle.std.proofs.lemmas.List.{get_or-map, get_or_default, length-map, map-append, same_lists}
+use Rattle.std.proofs.lemmas.List.Elements.{All-from_recursion, Contains-get_or, filter-append, recursion_from_All}
+use Rattle.std.proofs.lemmas.List.Folds.{flat_map-map}
 use Rattle.std.proofs.lemmas.List.Sorted.{All-permutation, IsPermutation-append, IsPermutation-refl, IsPermutation-sym}
 use Rattle.std.proofs.lemmas.Option.{slice_get-get_or}
 use Rattle.std.proofs.lemmas.Slice.Zip.{get_or-zip, length-zip}
-use Rattle.std.specs.List.{AllByRecursion, AllZip, filter, zip}
+use Rattle.std.specs.List.{AllByRecursion, AllZip, filter, flat_map, zip}
 use Rattle.std.specs.List.Sorted.{IsPermutation}
-use Rattle.lists.proofs.Images.{filter_images, map-map, same_map}
-use Rattle.lists.proofs.Zips.{AllZip-weaker, seconds, zip-map_left}
+use Rattle.std.specs.Option.{is_some}
+use Rattle.lists.proofs.Each.{all_images, all_of_map, all_parts, all_weaker, each_of}
+use Rattle.lists.proofs.Images.{filter_images, map-map, map_same, same_length}
+use Rattle.lists.proofs.Items.{same_front, same_back}
+use Rattle.lists.proofs.Parts.{flat_same, map-flat_map}
+use Rattle.lists.proofs.Zips.{AllZip-same_parts, AllZip-weaker, zip-map_left, zip_mapped}
 use Rattle.field.specs.Ring.{Ring}
 use Rattle.expressions.specs.Window.{Window}
-use Rattle.std.specs.Option.{is_some}
-use Rattle.lists.proofs.Items.{same_front, same_back}
-use Rattle.lists.proofs.Each.{all_front, all_back, all_indexed, all_images, all_kept, all_weaker, all_with}
-use Rattle.lookup_model.specs.Message.{Message}
-use Rattle.lookup_model.specs.Sent.{branches_at, flags_at, sent, sent_at}
-use Rattle.lookup_model.specs.Trace.{sent_row_under}
-use Rattle.lookup.proofs.JoinedMessages.{on_some_bus}
-use Rattle.lookup.proofs.StepLaws.{no_flags_of}
-use Rattle.batch.specs.Packing.{ArePackedAirs}
+use Rattle.lookup_model.specs.Batches.Instances.{Instance}
 use Rattle.lookup_model.specs.Batches.Messages.{HasLawfulFlags, id_of}
 use Rattle.lookup_model.specs.LookupDegree.{greatest}
 use Rattle.lookup_model.specs.Outline.{bus_of, fields_of}
-use Rattle.lookup_model.specs.Records.{AreRecords}
+use Rattle.lookup_model.specs.Sent.{branches_at, flags_at, sent, sent_at}
+use Rattle.lookup_model.specs.Trace.{sent_row_under}
 use Rattle.lookup_model.specs.declared.types.Lookup.{Lookup}
-use Rattle.lookup.specs.Kept.{HasIdOfBus, HaveSameIds, KeepsLawfulFlags, KeepsMessages, KeepsOtherBuses, KeepsSent, KeepsWidths, other_buses, other_ids, row_messages, widths_of}
+use Rattle.lookup.proofs.JoinedMessages.{on_some_bus}
+use Rattle.lookup.proofs.StepLaws.{no_flags_of}
+use Rattle.lookup.specs.Kept.{HasIdOfBus, KeepsLawfulFlags, KeepsMessages, KeepsOtherBuses, KeepsSent, KeepsWidths, other_ids, row_messages, widths_of}
 use Rattle.lookup.specs.Lookups.{lookups_of}
 use Rattle.lookup.specs.Packing.{is_additive}
 use Rattle.lookup.specs.declared.lookups.Lookups.{Lookups}
 use Rattle.checker.specs.Packed.{ArePacked}
-use Rattle.checker.specs.Renamed.{renamed}
+use Rattle.checker.specs.Renamed.{IsInjective, renamed}
+use Rattle.batch.proofs.GivenLaws.{below_next}
+use Rattle.batch.proofs.Greatest.{each_below, least}
+use Rattle.batch.proofs.PairedLookups.{HasBusId, after_has_id, before_has_id, bus_id, passes, passing_renamed, rename, rename_apart}
+use Rattle.batch.proofs.SharedBuses.{Entry}
 use Rattle.batch.specs.Order.{bus_at}
-use Rattle.batch.specs.PlanFacts.{all_tuple_widths, assigned}
-use Rattle.batch.specs.Traces.{batch_over}
+use Rattle.batch.specs.Packing.{ArePackedAirs}
+use Rattle.batch.specs.PlanFacts.{AreNumbered, all_tuple_widths, assigned}
+use Rattle.batch.specs.Traces.{batch_over, instance_over}
 use Rattle.batch.specs.declared.trace.BatchTrace.{BatchTrace}
-use Rattle.batch.proofs.PairedLookups.{Entry, passes}
+
+module _ {F : Type 0} where
+  -- an AIR with its ids has one for each lookup
+  abbrev HasIds : List ℕ × Lookups F → Type 0
+  HasIds p = length p.0 ≡ length (lookups_of p.1)
+
+  abbrev entries : List ℕ × Lookups F → List (Entry F)
+  entries p = zip p.0 (lookups_of p.1)
+
+  -- a lookup under the id at its column
+  abbrev under : List ℕ → Lookup F → Entry F
+  under ids l = (id_of ids l, l)
+
+  -- which is its own
+  with_ids : (p : List ℕ × Lookups F) → HasIds p → entries p ≡ map (under p.0) (lookups_of p.1)
+  with_ids (ids, air) many = same_lists (zip ids ls) (map (under ids) ls) (omega (arith, length-zip ids ls, length-map ls (under ids), many)) each
+    where
+      ls : List (Lookup F)
+      ls = lookups_of air
+
+      each : (k : ℕ) (d : Entry F) → k < length (zip ids ls) → get_or (zip ids ls) k d ≡ get_or (map (under ids) ls) k d
+      each k d lt =
+          let k_ids : k < length ids = omega (arith, lt, length-zip ids ls) in
+          let k_ls : k < length ls = omega (arith, lt, length-zip ids ls) in
+          get_or-zip ids ls k d k_ids k_ls
+          ∙ (λ j. ((get_or_default ids k d.0 0 k_ids ∙ ap (λ c. get_or ids c 0) (sym ((air.records k (get_or ls k d.1) k_ls (slice_get-get_or ls k d.1 k_ls)).0))) j, get_or ls k d.1))
+          ∙ sym (get_or-map (under ids) ls k d.1 d k_ls)
+
+  -- what passes through packing
+  abbrev passing : Lookup F → Bool
+  passing l = not (is_additive (fields_of l))
+
+  module _ {B : Type 0} (f : Entry F → B) where
+    abbrev of_passing : List ℕ × Lookups F → List B
+    of_passing p = map f (filter passes (entries p))
+
+    passing_is : (p : List ℕ × Lookups F) → HasIds p → of_passing p ≡ map (λ l. f (under p.0 l)) (filter passing (lookups_of p.1))
+    passing_is p many =
+        ap (λ t. map f (filter passes t)) (with_ids p many)
+        ∙ ap (map f) (filter_images (under p.0) passing passes (λ l. refl) (lookups_of p.1))
+        ∙ map-map f (under p.0) (filter passing (lookups_of p.1))
+
+    -- AIR by AIR
+    passing_parts : (ps : List (List ℕ × Lookups F)) → map f (filter passes (flat_map entries ps)) ≡ flat_map of_passing ps
+    passing_parts [] = refl
+    passing_parts (p ∷ ps) =
+        ap (map f) (filter-append passes (entries p) (flat_map entries ps)) ∙ map-append f (filter passes (entries p)) (filter passes (flat_map entries ps))
+        ∙ ap (λ t. of_passing p ++ t) (passing_parts ps)
+
+  -- the lookups of an AIR have the ids of their buses
+  by_bus : (bus_id : List ℕ → ℕ) (p : List ℕ × Lookups F) → HasIds p → AllByRecursion (HasBusId bus_id) (entries p) → AllByRecursion (HasIdOfBus bus_id (id_of p.0)) (lookups_of p.1)
+  by_bus bus_id p many all =
+      all_weaker (λ l. HasBusId bus_id (under p.0 l)) (HasIdOfBus bus_id (id_of p.0)) (λ l has name on none. has name on) (lookups_of p.1)
+      (all_of_map (HasBusId bus_id) (under p.0) (lookups_of p.1) (subst (AllByRecursion (HasBusId bus_id)) (with_ids p many) all))
+
+  -- a plan under renamed ids
+  module _ (rename : ℕ → ℕ) (ids : List (List ℕ)) (airs : List (Lookups F)) where
+    abbrev renamed_ids : List (List ℕ)
+    renamed_ids = map (map rename) ids
+
+    abbrev renamed_entry : Entry F → Entry F
+    renamed_entry a = (rename a.0, a.1)
+
+    assigned_renamed : assigned renamed_ids airs ≡ map renamed_entry (assigned ids airs)
+    assigned_renamed =
+        ap (flat_map entries) (zip-map_left (map rename) ids airs)
+        ∙ flat_map-map entries (λ p. (map rename p.0, p.1)) (zip ids airs)
+        ∙ flat_same (λ p. zip (map rename p.0) (lookups_of p.1)) (λ p. map renamed_entry (entries p)) (zip ids airs) (each_of _ (λ p. zip-map_left rename p.0 (lookups_of p.1)) (zip ids airs))
+        ∙ sym (map-flat_map renamed_entry entries (zip ids airs))
+
+    batch_renamed : (traces : List (BatchTrace F)) → map (renamed rename) (batch_over ids airs traces) ≡ batch_over renamed_ids airs traces
+    batch_renamed traces =
+        map-map (renamed rename) (λ t. instance_over t.0 t.1) (zip (zip ids airs) traces)
+        ∙ zip_mapped (λ p. (map rename p.0, p.1)) instance_over (zip ids airs) traces
+        ∙ ap (λ ps. map (λ t. instance_over t.0 t.1) (zip ps traces)) (sym (zip-map_left (map rename) ids airs))
 
 module _ {F : Type 0} (R : Ring F) (eq : F → F → Bool) where
   -- what a plan needs of lookups that are packed or as they were
-  pub record Keeps (before after : List (Lookup F)) : Type 0 where
+  record Keeps (before after : List (Lookup F)) : Type 0 where
     pub messages : KeepsMessages R eq before after
     pub flags : KeepsLawfulFlags R eq before after
     pub other_buses_are : KeepsOtherBuses before after
     pub widths : KeepsWidths before after
 
-  -- under the same ids lookups send the same
+  -- the same lookups send the same under the same ids
   rows_same : (id other : Lookup F → ℕ) (bus_id : List ℕ → ℕ) (w : Window F) (ls : List (Lookup F)) → AllByRecursion (HasIdOfBus bus_id id) ls → AllByRecursion (HasIdOfBus bus_id other) ls
       → other_ids id ls ≡ other_ids other ls → row_messages R eq id w ls ≡ row_messages R eq other w ls
   rows_same id other bus_id w [] one two same = refl
-  rows_same id other bus_id w (l ∷ ls) one two same = by_test (is_additive (fields_of l)) refl same (λ rest. rows_same id other bus_id w ls one.1 two.1 rest)
-    where
-      by_test : (b : Bool) → is_additive (fields_of l) ≡ b
-          → map id (cond (not b) (l ∷ filter (λ k. not (is_additive (fields_of k))) ls) (filter (λ k. not (is_additive (fields_of k))) ls))
-          ≡ map other (cond (not b) (l ∷ filter (λ k. not (is_additive (fields_of k))) ls) (filter (λ k. not (is_additive (fields_of k))) ls))
-          → (other_ids id ls ≡ other_ids other ls → row_messages R eq id w ls ≡ row_messages R eq other w ls) → row_messages R eq id w (l ∷ ls) ≡ row_messages R eq other w (l ∷ ls)
-      by_test true joins rest later =
-          let (name, on, none) = on_some_bus (fields_of l) joins in
-          let flags : l.flags ≡ None = no_flags_of (λ fs. fs.items) (is_some (bus_of l.kind)) l.flags joins in
-          let id_is : id l ≡ other l = one.0 name on flags ∙ sym (two.0 name on flags) in
-          λ i. (sent_at R eq w (id_is i) l).messages ++ later rest i
-      by_test false passing rest later =
-          let id_is : id l ≡ other l = cc rest in
-          let ids : other_ids id ls ≡ other_ids other ls = cc rest in
-          λ i. (sent_at R eq w (id_is i) l).messages ++ later ids i
-
-  same_flags : (flags : Option (List F)) (some other : List (Message F)) → HasLawfulFlags R eq (sent R eq flags some) → HasLawfulFlags R eq (sent R eq flags other)
-  same_flags None some other lawful = tt
-  same_flags (Some fs) some other lawful = lawful
+  rows_same id other bus_id w (l ∷ ls) one two same =
+      let rest = filter passing ls in
+      let next : id l ≡ other l → map id rest ≡ map other rest → row_messages R eq id w (l ∷ ls) ≡ row_messages R eq other w (l ∷ ls) = λ is ids i. (sent_at R eq w (is i) l).messages ++ rows_same id other bus_id w ls one.1 two.1 ids i in
+      (elim (is_additive (fields_of l)) as (λ b. is_additive (fields_of l) ≡ b → map id (cond (not b) (l ∷ rest) rest) ≡ map other (cond (not b) (l ∷ rest) rest) → row_messages R eq id w (l ∷ ls) ≡ row_messages R eq other w (l ∷ ls)) [
+        | true ↦ λ joins ids.
+            let (name, on, none) = on_some_bus (fields_of l) joins in
+            let flags : l.flags ≡ None = no_flags_of (λ fs. fs.items) (is_some (bus_of l.kind)) l.flags joins in
+            next (one.0 name on flags ∙ sym (two.0 name on flags)) ids
+        | false ↦ λ passes ids. next (cc ids) (cc ids)
+      ]) refl same
 
   flags_same : (id other : Lookup F → ℕ) (w : Window F) (ls : List (Lookup F)) → AllByRecursion (HasLawfulFlags R eq) (sent_row_under R eq id w ls) → AllByRecursion (HasLawfulFlags R eq) (sent_row_under R eq other w ls)
   flags_same id other w [] lawful = tt
-  flags_same id other w (l ∷ ls) lawful = (same_flags (flags_at R w l) (branches_at R w (id l) l) (branches_at R w (other l) l) lawful.0, flags_same id other w ls lawful.1)
+  flags_same id other w (l ∷ ls) lawful =
+      let at = λ (n : ℕ) (flags : Option (List F)). HasLawfulFlags R eq (sent R eq flags (branches_at R w n l)) in
+      ((elim (flags_at R w l) as (λ flags. at (id l) flags → at (other l) flags) [ None ↦ λ h. tt | Some fs ↦ λ h. h ]) lawful.0, flags_same id other w ls lawful.1)
 
   kept_itself : (ls : List (Lookup F)) → Keeps ls ls
   kept_itself ls = record {
-    messages = λ id other same w. subst (λ (ms : List (Message F)). IsPermutation (row_messages R eq id w ls) ms) (rows_same id other same.bus_id w ls same.by_bus_before same.by_bus_after same.others) (IsPermutation-refl (row_messages R eq id w ls));
+    messages = λ id other same w. subst (IsPermutation (row_messages R eq id w ls)) (rows_same id other same.bus_id w ls same.by_bus_before same.by_bus_after same.others) (IsPermutation-refl (row_messages R eq id w ls));
     flags = λ id other w lawful. flags_same id other w ls lawful;
     other_buses_are = refl;
     widths = IsPermutation-refl (widths_of ls);
   }
 
-  pub all_keep : (airs later : List (Lookups F)) → ArePackedAirs R eq airs later → AllZip (λ b a. Keeps (lookups_of b) (lookups_of a)) airs later
-  all_keep airs later packed = AllZip-weaker (λ b a. (lookups_of a ≡ lookups_of b) ⊎ KeepsSent R eq (lookups_of b) (lookups_of a)) (λ b a. Keeps (lookups_of b) (lookups_of a)) by_case airs later packed
+  -- AIRs with their ids before and after
+  record AreKept (p q : List ℕ × Lookups F) : Type 0 where
+    pub many : HasIds p
+    pub many_after : HasIds q
+    pub keep : Keeps (lookups_of p.1) (lookups_of q.1)
+
+  abbrev AllKeep : List (Lookups F) → List (Lookups F) → Type 0
+  AllKeep airs later = AllZip (λ b a. Keeps (lookups_of b) (lookups_of a)) airs later
+
+  all_keep : (airs later : List (Lookups F)) → ArePackedAirs R eq airs later → AllKeep airs later
+  all_keep airs later packed = AllZip-weaker _ (λ b a. Keeps (lookups_of b) (lookups_of a)) by_case airs later packed
     where
       by_case : (b a : Lookups F) → (lookups_of a ≡ lookups_of b) ⊎ KeepsSent R eq (lookups_of b) (lookups_of a) → Keeps (lookups_of b) (lookups_of a)
-      by_case b a (inl same) = subst (λ (ls : List (Lookup F)). Keeps (lookups_of b) ls) (sym same) (kept_itself (lookups_of b))
-      by_case b a (inr sent_alike) = record { messages = sent_alike.messages; flags = sent_alike.flags; other_buses_are = sent_alike.other_buses_are; widths = sent_alike.widths }
+      by_case b a (inl same) = subst (Keeps (lookups_of b)) (sym same) (kept_itself (lookups_of b))
+      by_case b a (inr kept) = record { messages = kept.messages; flags = kept.flags; other_buses_are = kept.other_buses_are; widths = kept.widths }
 
-module _ {F : Type 0} where
-  abbrev lookup_in : Entry F → Lookup F
-  lookup_in a = a.1
+  all_kept : (airs later : List (Lookups F)) (ids more : List (List ℕ)) → map length ids ≡ map (λ air. length (lookups_of air)) airs → map length more ≡ map (λ air. length (lookups_of air)) later
+      → AllKeep airs later → AllZip AreKept (zip ids airs) (zip more later)
+  all_kept [] [] [] [] many many_after keep = tt
+  all_kept (b ∷ bs) (a ∷ rest) (i ∷ is) (j ∷ js) many many_after keep = (record { many = cc many; many_after = cc many_after; keep = keep.0 }, all_kept bs rest is js (cc many) (cc many_after) keep.1)
+  all_kept airs later ids more many many_after keep = absurd (first_of (assumption keep, cc))
 
-  abbrev passes_through : Lookup F → Bool
-  passes_through l = not (is_additive (fields_of l))
+  same_buses : (p q : List ℕ × Lookups F) → AreKept p q → of_passing bus_at p ≡ of_passing bus_at q
+  same_buses p q kept = passing_is bus_at p kept.many ∙ sym kept.keep.other_buses_are ∙ sym (passing_is bus_at q kept.many_after)
 
-  -- what passes through, with ids and without
-  passing_in : (ids : List ℕ) (ls : List (Lookup F)) → length ids ≡ length ls → map lookup_in (filter passes (zip ids ls)) ≡ filter passes_through ls
-  passing_in ids ls same = sym (filter_images lookup_in passes passes_through (λ a. refl) (zip ids ls)) ∙ ap (filter passes_through) (seconds ids ls same)
-
-  -- its buses
-  buses_of : (ids : List ℕ) (ls : List (Lookup F)) → length ids ≡ length ls → map bus_at (filter passes (zip ids ls)) ≡ other_buses ls
-  buses_of ids ls same =
-      let bus = λ (l : Lookup F). bus_of l.kind in
-      sym (map-map bus lookup_in (filter passes (zip ids ls))) ∙ ap (map bus) (passing_in ids ls same)
-
-  -- its ids, where each lookup has that of its column
-  ids_of : (id : Lookup F → ℕ) (ids : List ℕ) (ls : List (Lookup F)) → length ids ≡ length ls → AllByRecursion (λ a. id a.1 ≡ a.0) (zip ids ls) → other_ids id ls ≡ map (λ (a : Entry F). a.0) (filter passes (zip ids ls))
-  ids_of id ids ls same all =
-      ap (map id) (sym (passing_in ids ls same))
-      ∙ map-map id lookup_in (filter passes (zip ids ls))
-      ∙ same_map (λ a. id a.1) (λ a. a.0) (filter passes (zip ids ls)) (all_kept (λ a. id a.1 ≡ a.0) passes (zip ids ls) all)
-
-  -- a lookup at its place has the id at its column
-  column_ids : (ids : List ℕ) (ls : List (Lookup F)) → length ids ≡ length ls → AreRecords ls → AllByRecursion (λ a. id_of ids a.1 ≡ a.0) (zip ids ls)
-  column_ids ids ls same records = all_indexed (λ a. id_of ids a.1 ≡ a.0) (zip ids ls) each
-    where
-      each : (k : ℕ) (a : Entry F) → k < length (zip ids ls) → a ≡ get_or (zip ids ls) k a → id_of ids a.1 ≡ a.0
-      each k a lt is =
-          let k_ids : k < length ids = omega (arith, lt, length-zip ids ls, same) in
-          let k_ls : k < length ls = omega (arith, lt, length-zip ids ls, same) in
-          let parts : a ≡ (get_or ids k a.0, get_or ls k a.1) = is ∙ get_or-zip ids ls k a k_ids k_ls in
-          let there : a.1 ≡ get_or ls k a.1 = ap (λ (b : Entry F). b.1) parts in
-          let column : a.1.column ≡ k = (records k a.1 k_ls (slice_get-get_or ls k a.1 k_ls ∙ ap Some (sym there))).0 in
-          ap (λ c. slice_index_or ids c 0) column ∙ get_or_default ids k 0 a.0 k_ids ∙ sym (ap (λ (b : Entry F). b.0) parts)
-
-  -- what holds of each lookup with its id holds of it with the id at its column
-  by_columns : (P : ℕ → Lookup F → Type 0) (ids : List ℕ) (ls : List (Lookup F)) → length ids ≡ length ls → (id : Lookup F → ℕ) → AllByRecursion (λ a. id a.1 ≡ a.0) (zip ids ls) → AllByRecursion (λ a. P a.0 a.1) (zip ids ls) → AllByRecursion (λ l. P (id l) l) ls
-  by_columns P ids ls same id columns all =
-      subst (AllByRecursion (λ l. P (id l) l)) (seconds ids ls same)
-      (all_images (λ l. P (id l) l) lookup_in (zip ids ls)
-      (all_with (λ a. id a.1 ≡ a.0) (λ a. P a.0 a.1) (λ a. P (id a.1) a.1) (λ a e holds. subst (λ n. P n a.1) (sym e) holds) (zip ids ls) columns all))
-
-  module _ (rename : ℕ → ℕ) where
-    abbrev renamed_in : Entry F → Entry F
-    renamed_in a = (rename a.0, a.1)
-
-    -- what holds under renamed ids, and which of them pass through
-    renamed_columns : (P : ℕ → Lookup F → Type 0) (ids : List ℕ) (ls : List (Lookup F)) → AllByRecursion (λ a. P (rename a.0) a.1) (zip ids ls) → AllByRecursion (λ a. P a.0 a.1) (zip (map rename ids) ls)
-    renamed_columns P ids ls all =
-        subst (AllByRecursion (λ a. P a.0 a.1)) (sym (zip-map_left rename ids ls)) (all_images (λ a. P a.0 a.1) renamed_in (zip ids ls) all)
-
-    renamed_passing : (ids : List ℕ) (ls : List (Lookup F)) → map (λ (a : Entry F). a.0) (filter passes (zip (map rename ids) ls)) ≡ map (λ (a : Entry F). rename a.0) (filter passes (zip ids ls))
-    renamed_passing ids ls =
-        let id = λ (a : Entry F). a.0 in
-        ap (λ t. map id (filter passes t)) (zip-map_left rename ids ls)
-        ∙ ap (map id) (filter_images renamed_in passes passes (λ a. refl) (zip ids ls))
-        ∙ map-map id renamed_in (filter passes (zip ids ls))
-
-    module _ (bus_id : List ℕ → ℕ) where
-      -- the id of a lookup is that of its bus, renamed before and as it is after
-      abbrev pub IsBefore : Entry F → Type 0
-      IsBefore a = (name : List ℕ) → bus_at a ≡ Some name → rename a.0 ≡ bus_id name
-
-      abbrev pub IsAfter : Entry F → Type 0
-      IsAfter b = (name : List ℕ) → bus_at b ≡ Some name → b.0 ≡ bus_id name
-
-      -- the ids of one AIR
-      same_ids : (ids more : List ℕ) (b a : Lookups F) → length ids ≡ length (lookups_of b) → length more ≡ length (lookups_of a)
-          → AllByRecursion IsBefore (zip ids (lookups_of b)) → AllByRecursion IsAfter (zip more (lookups_of a))
-          → map (λ c. rename c.0) (filter passes (zip ids (lookups_of b))) ≡ map (λ c. c.0) (filter passes (zip more (lookups_of a)))
-          → HaveSameIds (id_of (map rename ids)) (lookups_of b) (id_of more) (lookups_of a)
-      same_ids ids more b a long long_after before after passing =
-          let many : length (map rename ids) ≡ length (lookups_of b) = length-map ids rename ∙ long in
-          let columns = column_ids (map rename ids) (lookups_of b) many b.records in
-          let columns_after = column_ids more (lookups_of a) long_after a.records in
-          let Named = λ (n : ℕ) (l : Lookup F). (name : List ℕ) → bus_of l.kind ≡ Some name → n ≡ bus_id name in
-          record {
+  -- the batch of a plan is packed into that of the plan after, where what passes through has the same ids
+  plans_packed : (bus_id : List ℕ → ℕ) (ps qs : List (List ℕ × Lookups F)) (traces : List (BatchTrace F)) → AllZip AreKept ps qs
+      → AllByRecursion (λ p. AllByRecursion (HasBusId bus_id) (entries p)) ps → AllByRecursion (λ q. AllByRecursion (HasBusId bus_id) (entries q)) qs → flat_map (of_passing (λ c. c.0)) ps ≡ flat_map (of_passing (λ c. c.0)) qs
+      → ArePacked R eq (map (λ t. instance_over t.0 t.1) (zip ps traces)) (map (λ t. instance_over t.0 t.1) (zip qs traces))
+  plans_packed bus_id [] [] traces kept before after alike = tt
+  plans_packed bus_id (p ∷ ps) (q ∷ qs) [] kept before after alike = tt
+  plans_packed bus_id (p ∷ ps) (q ∷ qs) (t ∷ ts) kept before after alike =
+      let id = λ (c : Entry F). c.0 in
+      let as_many : length (of_passing id p) ≡ length (of_passing id q) =
+      length-map (filter passes (entries p)) id ∙ same_length bus_at bus_at (filter passes (entries p)) (filter passes (entries q)) (same_buses p q kept.0) ∙ sym (length-map (filter passes (entries q)) id) in (
+        inr (record {
+          traces = refl;
+          messages = kept.0.keep.messages;
+          flags = kept.0.keep.flags;
+          ids = record {
             bus_id = bus_id;
-            by_bus_before =
-                without_flags (id_of (map rename ids)) (lookups_of b)
-                (by_columns Named (map rename ids) (lookups_of b) many (id_of (map rename ids)) columns (renamed_columns Named ids (lookups_of b) before));
-            by_bus_after =
-                without_flags (id_of more) (lookups_of a) (by_columns Named more (lookups_of a) long_after (id_of more) columns_after after);
-            others =
-                ids_of (id_of (map rename ids)) (map rename ids) (lookups_of b) many columns
-                ∙ renamed_passing ids (lookups_of b)
-                ∙ passing
-                ∙ sym (ids_of (id_of more) more (lookups_of a) long_after columns_after);
-          }
-        where
-          without_flags : (id : Lookup F → ℕ) (ls : List (Lookup F)) → AllByRecursion (λ l. (name : List ℕ) → bus_of l.kind ≡ Some name → id l ≡ bus_id name) ls → AllByRecursion (HasIdOfBus bus_id id) ls
-          without_flags id ls all = all_weaker (λ l. (name : List ℕ) → bus_of l.kind ≡ Some name → id l ≡ bus_id name) (HasIdOfBus bus_id id) (λ l named name on none. named name on) ls all
+            by_bus_before = by_bus bus_id p kept.0.many before.0;
+            by_bus_after = by_bus bus_id q kept.0.many_after after.0;
+            others = sym (passing_is id p kept.0.many) ∙ same_front _ _ _ _ as_many alike ∙ passing_is id q kept.0.many_after;
+          };
+        }),
+        plans_packed bus_id ps qs ts kept.1 before.1 after.1 (same_back _ _ _ _ as_many alike),
+      )
+  plans_packed bus_id ps qs traces kept before after alike = absurd kept
 
-      module _ (R : Ring F) (eq : F → F → Bool) where
-        -- the batch of a plan before, renamed, is packed into that of the plan after
-        pub plans_packed : (ids : List (List ℕ)) (airs : List (Lookups F)) (more : List (List ℕ)) (later : List (Lookups F)) (traces : List (BatchTrace F))
-            → map length ids ≡ map (λ air. length (lookups_of air)) airs → map length more ≡ map (λ air. length (lookups_of air)) later
-            → AllZip (λ b a. Keeps R eq (lookups_of b) (lookups_of a)) airs later
-            → AllByRecursion IsBefore (assigned ids airs) → AllByRecursion IsAfter (assigned more later)
-            → map (λ c. rename c.0) (filter passes (assigned ids airs)) ≡ map (λ c. c.0) (filter passes (assigned more later))
-            → ArePacked R eq (map (renamed rename) (batch_over ids airs traces)) (batch_over more later traces)
-        plans_packed [] airs [] later traces many many_after keep before after passing = tt
-        plans_packed [] [] (j ∷ js) (a ∷ as_after) traces many many_after keep before after passing = absurd keep
-        plans_packed [] [] (j ∷ js) [] traces many many_after keep before after passing = absurd (cc many_after)
-        plans_packed [] (b ∷ bs) (j ∷ js) later traces many many_after keep before after passing = absurd (cc many)
-        plans_packed (i ∷ is) [] more later traces many many_after keep before after passing = absurd (cc many)
-        plans_packed (i ∷ is) (b ∷ bs) [] [] traces many many_after keep before after passing = absurd keep
-        plans_packed (i ∷ is) (b ∷ bs) [] (a ∷ as_after) traces many many_after keep before after passing = absurd (cc many_after)
-        plans_packed (i ∷ is) (b ∷ bs) (j ∷ js) [] traces many many_after keep before after passing = absurd keep
-        plans_packed (i ∷ is) (b ∷ bs) (j ∷ js) (a ∷ as_after) [] many many_after keep before after passing = tt
-        plans_packed (i ∷ is) (b ∷ bs) (j ∷ js) (a ∷ as_after) (t ∷ ts) many many_after keep before after passing =
-            let long : length i ≡ length (lookups_of b) = cc many in
-            let rest_long : map length is ≡ map (λ air. length (lookups_of air)) bs = cc many in
-            let long_after : length j ≡ length (lookups_of a) = cc many_after in
-            let rest_long_after : map length js ≡ map (λ air. length (lookups_of air)) as_after = cc many_after in
-            let first = filter passes (zip i (lookups_of b)) in
-            let first_after = filter passes (zip j (lookups_of a)) in
-            let parts : map (λ c. rename c.0) first ++ map (λ c. rename c.0) (filter passes (assigned is bs)) ≡ map (λ c. c.0) first_after ++ map (λ c. c.0) (filter passes (assigned js as_after)) =
-            sym (map-append (λ (c : Entry F). rename c.0) first (filter passes (assigned is bs))) ∙ ap (map (λ (c : Entry F). rename c.0)) (sym (filter-append passes (zip i (lookups_of b)) (assigned is bs)))
-            ∙ passing
-            ∙ ap (map (λ (c : Entry F). c.0)) (filter-append passes (zip j (lookups_of a)) (assigned js as_after)) ∙ map-append (λ (c : Entry F). c.0) first_after (filter passes (assigned js as_after)) in
-            let buses : map bus_at first ≡ map bus_at first_after = buses_of i (lookups_of b) long ∙ sym keep.0.other_buses_are ∙ sym (buses_of j (lookups_of a) long_after) in
-            let as_many : length (map (λ (c : Entry F). rename c.0) first) ≡ length (map (λ (c : Entry F). c.0) first_after) =
-            length-map first (λ c. rename c.0) ∙ sym (length-map first bus_at) ∙ ap length buses ∙ length-map first_after bus_at ∙ sym (length-map first_after (λ c. c.0)) in (
-              inr (record {
-                traces = refl;
-                messages = keep.0.messages;
-                flags = keep.0.flags;
-                ids = same_ids i j b a long long_after (all_front IsBefore (zip i (lookups_of b)) (assigned is bs) before) (all_front IsAfter (zip j (lookups_of a)) (assigned js as_after) after) (same_front _ _ _ _ as_many parts);
-              }),
-              plans_packed is bs js as_after ts rest_long rest_long_after keep.1 (all_back IsBefore (zip i (lookups_of b)) (assigned is bs) before) (all_back IsAfter (zip j (lookups_of a)) (assigned js as_after) after) (same_back _ _ _ _ as_many parts),
-            )
+  -- the renaming between a plan and that of its packed AIRs
+  module _ (ids : List (List ℕ)) (airs : List (Lookups F)) (m : ℕ) (more : List (List ℕ)) (later : List (Lookups F)) (n : ℕ)
+      (numbered : AreNumbered ids airs m) (numbered_after : AreNumbered more later n) (packed : ArePackedAirs R eq airs later) where
+    abbrev xs : List (Entry F)
+    xs = assigned ids airs
 
-  module _ (R : Ring F) (eq : F → F → Bool) where
-    -- the buses of all that passes through
-    pub all_buses : (ids : List (List ℕ)) (airs : List (Lookups F)) (more : List (List ℕ)) (later : List (Lookups F))
-        → map length ids ≡ map (λ air. length (lookups_of air)) airs → map length more ≡ map (λ air. length (lookups_of air)) later
-        → AllZip (λ b a. Keeps R eq (lookups_of b) (lookups_of a)) airs later → map bus_at (filter passes (assigned ids airs)) ≡ map bus_at (filter passes (assigned more later))
-    all_buses [] airs [] later many many_after keep = refl
-    all_buses [] [] (j ∷ js) [] many many_after keep = absurd (cc many_after)
-    all_buses [] [] (j ∷ js) (a ∷ as_after) many many_after keep = absurd keep
-    all_buses [] (b ∷ bs) (j ∷ js) later many many_after keep = absurd (cc many)
-    all_buses (i ∷ is) [] more later many many_after keep = absurd (cc many)
-    all_buses (i ∷ is) (b ∷ bs) [] [] many many_after keep = absurd keep
-    all_buses (i ∷ is) (b ∷ bs) [] (a ∷ as_after) many many_after keep = absurd (cc many_after)
-    all_buses (i ∷ is) (b ∷ bs) (j ∷ js) [] many many_after keep = absurd keep
-    all_buses (i ∷ is) (b ∷ bs) (j ∷ js) (a ∷ as_after) many many_after keep =
-        let long : length i ≡ length (lookups_of b) = cc many in
-        let rest_long : map length is ≡ map (λ air. length (lookups_of air)) bs = cc many in
-        let long_after : length j ≡ length (lookups_of a) = cc many_after in
-        let rest_long_after : map length js ≡ map (λ air. length (lookups_of air)) as_after = cc many_after in
-        ap (map bus_at) (filter-append passes (zip i (lookups_of b)) (assigned is bs)) ∙ map-append bus_at (filter passes (zip i (lookups_of b))) (filter passes (assigned is bs))
-        ∙ (λ k. (buses_of i (lookups_of b) long ∙ sym keep.0.other_buses_are ∙ sym (buses_of j (lookups_of a) long_after)) k ++ all_buses is bs js as_after rest_long rest_long_after keep.1 k)
-        ∙ sym (ap (map bus_at) (filter-append passes (zip j (lookups_of a)) (assigned js as_after)) ∙ map-append bus_at (filter passes (zip j (lookups_of a))) (filter passes (assigned js as_after)))
+    abbrev ys : List (Entry F)
+    ys = assigned more later
 
-    -- the widths of all tuples
-    widths_permuted : (airs later : List (Lookups F)) → AllZip (λ b a. Keeps R eq (lookups_of b) (lookups_of a)) airs later → IsPermutation (all_tuple_widths airs) (all_tuple_widths later)
-    widths_permuted [] [] keep = IsPermutation-refl []
-    widths_permuted [] (a ∷ later) keep = absurd keep
-    widths_permuted (b ∷ bs) [] keep = absurd keep
-    widths_permuted (b ∷ bs) (a ∷ later) keep = IsPermutation-append _ _ _ _ keep.0.widths (widths_permuted bs later keep.1)
+    pub same : map bus_at (filter passes xs) ≡ map bus_at (filter passes ys)
+    same =
+        passing_parts bus_at (zip ids airs)
+        ∙ AllZip-same_parts AreKept (of_passing bus_at) (of_passing bus_at) same_buses (zip ids airs) (zip more later) (all_kept airs later ids more numbered.as_many numbered_after.as_many (all_keep airs later packed))
+        ∙ sym (passing_parts bus_at (zip more later))
 
-    pub greatest_stays : (airs later : List (Lookups F)) → AllZip (λ b a. Keeps R eq (lookups_of b) (lookups_of a)) airs later → greatest (all_tuple_widths later) ≡ greatest (all_tuple_widths airs)
-    greatest_stays airs later keep =
-        let same = widths_permuted airs later keep in
-        omega (arith, within (all_tuple_widths airs) (all_tuple_widths later) same, within (all_tuple_widths later) (all_tuple_widths airs) (IsPermutation-sym _ _ same))
-      where
-        below : (n : ℕ) (ns : List ℕ) → greatest ns ≤ n → AllByRecursion (λ m. m ≤ n) ns
-        below n [] le = tt
-        below n (m ∷ ms) le = (omega (arith, le), below n ms (omega (arith, le)))
+    pub below : All (λ b. b.0 < n) ys
+    below k d lt = omega (arith, below_next ys k d lt, numbered_after.in_order.count)
 
-        least : (n : ℕ) (ns : List ℕ) → AllByRecursion (λ m. m ≤ n) ns → greatest ns ≤ n
-        least n [] all = omega arith
-        least n (m ∷ ms) all = omega (arith, all.0, least n ms all.1)
+    abbrev pub renaming : ℕ → ℕ
+    renaming = rename xs ys numbered.in_order.buses numbered_after.in_order.buses same n below
 
-        within : (ms ns : List ℕ) → IsPermutation ms ns → greatest ns ≤ greatest ms
-        within ms ns same =
-            let Below = λ (n : ℕ). n ≤ greatest ms in
-            least (greatest ms) ns (recursion_from_All Below ns (All-permutation Below ms ns same (All-from_recursion Below ms (below (greatest ms) ms (omega arith)))))
+    pub renaming_apart : IsInjective renaming
+    renaming_apart = rename_apart xs ys numbered.in_order.buses numbered_after.in_order.buses same n below
+
+    pub plan_packed : (traces : List (BatchTrace F)) → ArePacked R eq (map (renamed renaming) (batch_over ids airs traces)) (batch_over more later traces)
+    plan_packed traces =
+        let ids_renamed = renamed_ids renaming ids airs in
+        let many = map-map length (map renaming) ids ∙ map_same (λ i. length (map renaming i)) length (λ i. length-map i renaming) ids ∙ numbered.as_many in
+        let Has = HasBusId (bus_id xs ys numbered.in_order.buses numbered_after.in_order.buses same n below) in
+        let before = recursion_from_All (λ a. Has (renaming a.0, a.1)) xs (λ k d lt. before_has_id xs ys numbered.in_order.buses numbered_after.in_order.buses same n below (get_or xs k d) (Contains-get_or xs k d lt)) in
+        let id = λ (c : Entry F). c.0 in
+        subst (λ (batch : List (Instance F)). ArePacked R eq batch (batch_over more later traces)) (sym (batch_renamed renaming ids airs traces))
+        (plans_packed _ (zip ids_renamed airs) (zip more later) traces (all_kept airs later ids_renamed more many numbered_after.as_many (all_keep airs later packed))
+        (all_parts Has entries (zip ids_renamed airs) (subst (AllByRecursion Has) (sym (assigned_renamed renaming ids airs)) (all_images Has (renamed_entry renaming ids airs) xs before)))
+        (all_parts Has entries (zip more later) (recursion_from_All Has ys (λ k d lt. after_has_id xs ys numbered.in_order.buses numbered_after.in_order.buses same n below (get_or ys k d) (Contains-get_or ys k d lt))))
+        (sym (passing_parts id (zip ids_renamed airs))
+        ∙ ap (λ t. map id (filter passes t)) (assigned_renamed renaming ids airs)
+        ∙ ap (map id) (filter_images (renamed_entry renaming ids airs) passes passes (λ a. refl) xs)
+        ∙ map-map id (renamed_entry renaming ids airs) (filter passes xs)
+        ∙ passing_renamed xs ys numbered.in_order.buses numbered_after.in_order.buses same n below
+        ∙ passing_parts id (zip more later)))
+
+  -- the widths of all tuples
+  widths_permuted : (airs later : List (Lookups F)) → AllKeep airs later → IsPermutation (all_tuple_widths airs) (all_tuple_widths later)
+  widths_permuted [] [] keep = IsPermutation-refl []
+  widths_permuted (b ∷ bs) (a ∷ later) keep = IsPermutation-append _ _ _ _ keep.0.widths (widths_permuted bs later keep.1)
+  widths_permuted airs later keep = absurd keep
+
+  pub greatest_stays : (airs later : List (Lookups F)) → ArePackedAirs R eq airs later → greatest (all_tuple_widths later) ≡ greatest (all_tuple_widths airs)
+  greatest_stays airs later packed =
+      let same = widths_permuted airs later (all_keep airs later packed) in
+      omega (arith, within (all_tuple_widths airs) (all_tuple_widths later) same, within (all_tuple_widths later) (all_tuple_widths airs) (IsPermutation-sym _ _ same))
+    where
+      within : (ms ns : List ℕ) → IsPermutation ms ns → greatest ns ≤ greatest ms
+      within ms ns same =
+          let Below = λ (n : ℕ). n ≤ greatest ms in
+          least (greatest ms) ns (recursion_from_All Below ns (All-permutation Below ms ns same (All-from_recursion Below ms (each_below (greatest ms) ms (omega arith)))))

@@ -1,8 +1,5 @@
 -- The checks of a plan, and how refusals are passed on.
-use Rattle.std.proofs.Common.{◌≡◌, ◌<◌, ◌≤◌, ◌+◌, ◌++◌, ◌∷◌, ℕ, inl, inr, List, [], get_or, length, map, max, take, sym, ap, ◌∙◌, arith}
-use Rattle.std.proofs.lemmas.Grind.{flat_map-append}
-use Rattle.std.proofs.lemmas.List.{append-nil, map_push, take_more}
-use Rattle.std.specs.List.{flat_map}
+use Rattle.std.proofs.Common.{◌≡◌, ◌<◌, ◌≤◌, ℕ, inl, inr, List, length, map, sym, ap, ◌∙◌}
 use Rattle.lookup_model.specs.Batches.Faults.{IsOutOfMemory}
 use Rattle.lookup_model.specs.Batches.Instances.{Instance}
 use Rattle.lookup_model.specs.Batches.Refusals.{IsAirRefusal, IsWitnessRefusal}
@@ -10,15 +7,12 @@ use Rattle.lookup_model.specs.Batches.Witnesses.{AirResult}
 use Rattle.lookup_model.specs.declared.fault.BatchFault.{BatchFault}
 use Rattle.lookup_model.specs.Challenges.{ChallengeTable}
 use Rattle.field.specs.Extension.{Extension}
-use Rattle.lookup_model.specs.LookupDegree.{greatest}
 use Rattle.lookup_model.specs.declared.error.LookupError.{LookupError}
 use Rattle.lookup.specs.TupleWidths.{IsTupleWidths}
-use Rattle.lookup.proofs.NamedWidthLaws.{greatest_push}
 use Rattle.lookup.specs.Guards.{IsHeightRefusal, weighted_height_sum}
 use Rattle.lookup.specs.Lookups.{lookups_of}
-use Rattle.lookup.specs.NamedWidths.{AgreeOnWidths, IsFirstWidthMismatch}
+use Rattle.lookup.specs.NamedWidths.{AgreeOnWidths}
 use Rattle.lookup.specs.declared.lookups.Lookups.{Lookups}
-use Rattle.batch.proofs.LawfulPlans.{greatest_append}
 use Rattle.batch.proofs.OneWidths.{one_widths}
 use Rattle.batch.specs.Checks.{AreLocallyEven, IsFirstLocalMismatch, bus_widths_of}
 use Rattle.batch.specs.PlanFacts.{AreNumbered, IsPlan, message_width}
@@ -39,10 +33,7 @@ plan_is p plan heights_are agree even numbered few light width = record {
 }
 
 -- refusals that keep their names
-pub bus_passed : (widths : List (List ℕ × ℕ)) (e : LookupError) → IsFirstWidthMismatch widths e → of_lookup e ≡ OfLookup e
-bus_passed widths e first = ap of_lookup first.fault.refusal.error_is ∙ ap OfLookup (sym first.fault.refusal.error_is)
-
-pub widths_passed : (context : List ℕ) (width other : ℕ) (e : LookupError) → IsTupleWidths context width other e → of_lookup e ≡ OfLookup e
+widths_passed : (context : List ℕ) (width other : ℕ) (e : LookupError) → IsTupleWidths context width other e → of_lookup e ≡ OfLookup e
 widths_passed context width other e is = ap of_lookup is.error_is ∙ ap OfLookup (sym is.error_is)
 
 pub local_passed : {F : Type 0} (airs : List (Lookups F)) (e : LookupError) → IsFirstLocalMismatch airs e → of_lookup e ≡ OfLookup e
@@ -65,17 +56,3 @@ module _ {F K : Type 0} (E : Extension F K) (table : ChallengeTable K) where
 -- the fault of no AIR
 pub fault_of_none : (fault : BatchFault) → IsOutOfMemory fault → of_fault fault ≡ Memory
 fault_of_none fault memory i = refusal_at (memory.air i) (memory.error i)
-
--- the widest of one more part
-pub widest_more : {X : Type 0} (f : X → List ℕ) (xs : List X) (i : ℕ) (x : X) (start now next : ℕ) → i < length xs → x ≡ get_or xs i x → now ≡ max start (greatest (flat_map f (take i xs))) → next ≡ max now (greatest (f x)) → next ≡ max start (greatest (flat_map f (take (i + 1) xs)))
-widest_more f xs i x start now next lt is so_far next_is =
-    let longer : flat_map f (take (i + 1) xs) ≡ flat_map f (take i xs) ++ f x = ap (flat_map f) (take_more xs i x lt ∙ ap (λ y. take i xs ++ y ∷ []) (sym is)) ∙ flat_map-append f (take i xs) (x ∷ []) ∙ ap (λ t. flat_map f (take i xs) ++ t) (append-nil (f x)) in
-    let whole : greatest (flat_map f (take (i + 1) xs)) ≡ max (greatest (flat_map f (take i xs))) (greatest (f x)) = ap greatest longer ∙ greatest_append (flat_map f (take i xs)) (f x) in
-    omega (arith, next_is, so_far, whole)
-
--- of one more number
-pub widest_next : {X : Type 0} (f : X → ℕ) (xs : List X) (i : ℕ) (x : X) (start now next : ℕ) → i < length xs → x ≡ get_or xs i x → now ≡ max start (greatest (map f (take i xs))) → next ≡ max now (f x) → next ≡ max start (greatest (map f (take (i + 1) xs)))
-widest_next f xs i x start now next lt is so_far next_is =
-    let longer : map f (take (i + 1) xs) ≡ map f (take i xs) ++ f x ∷ [] = ap (map f) (take_more xs i x lt ∙ ap (λ y. take i xs ++ y ∷ []) (sym is)) ∙ map_push f (take i xs) x in
-    let whole : greatest (map f (take (i + 1) xs)) ≡ max (greatest (map f (take i xs))) (f x) = ap greatest longer ∙ greatest_push (map f (take i xs)) (f x) in
-    omega (arith, next_is, so_far, whole)

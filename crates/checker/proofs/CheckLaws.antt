@@ -1,5 +1,5 @@
 -- The check of one AIR's result: from its shape and its rows to satisfied constraints.
-use Rattle.std.proofs.Common.{◌≡◌, ℕ, ◌+◌, ◌%◌, ◌<◌, inl, inr, Option, None, Some, List, MatchOption, Result, Ok, Err, sym, subst, subst₂}
+use Rattle.std.proofs.Common.{◌≡◌, ℕ, ◌+◌, ◌%◌, ◌<◌, inl, inr, Option, List, Result, Ok, Err, sym, subst₂}
 use Rattle.std.specs.List.{AllByRecursion}
 use Rattle.matrix.specs.Matrix.{Matrix, height, row}
 use Rattle.air.specs.Traces.{window_of}
@@ -14,17 +14,6 @@ use Rattle.lookup_model.specs.Batches.Instances.{Instance}
 use Rattle.lookup_model.specs.Batches.Refusals.{HasShapeAt, HoldsAt, IsFirstFailing}
 use Rattle.lookup_model.specs.Batches.Witnesses.{AirResult}
 use Rattle.checker.specs.internal.Checks.{ChecksResult, ChecksRows}
-
--- what is said of what is found, where something is found and where nothing is
-pub found_some : {X : Type 0} (A : Type 0) (B : X → Type 0) (found : Option X) (x : X) → found ≡ Some x → MatchOption found A B → B x
-found_some A B None x e said = absurd (cc e)
-found_some A B (Some y) x e said =
-    let same : y ≡ x = cc e in
-    subst B same said
-
-pub found_none : {X : Type 0} (A : Type 0) (B : X → Type 0) (found : Option X) → found ≡ None → MatchOption found A B → A
-found_none A B None e said = said
-found_none A B (Some y) e said = absurd (cc e)
 
 module _ {F K : Type 0} (E : Extension F K) (table : ChallengeTable K) (i : Instance F) where
   -- every constraint is zero on a row, over these challenges and permutation values

@@ -1,12 +1,13 @@
 -- A batch whose ids are renamed, different ones to different ones, has as many messages as before, and as many
 -- of them do not balance.
-use Rattle.std.proofs.Common.{◌≡◌, ◌<◌, ◌++◌, ℕ, zero, suc, Bool, true, false, cond, not, Decides, List, [], ◌∷◌, Option, None, Some, length, map, slice_index_or, refl, sym, ap, ◌∙◌, arith}
-use Rattle.std.proofs.lemmas.List.{length-map, map-append}
+use Rattle.std.proofs.Common.{◌≡◌, ◌<◌, ◌++◌, ℕ, Bool, true, false, cond, not, Decides, List, [], ◌∷◌, Option, None, Some, length, map, refl, sym, ap, ◌∙◌, arith}
+use Rattle.std.proofs.lemmas.Bool.Decides.{same_from_decides}
+use Rattle.std.proofs.lemmas.List.{get_or-map, length-map, map-append}
 use Rattle.std.proofs.lemmas.Option.{slice_get-get_or}
 use Rattle.std.proofs.lemmas.Simd.{map-map}
 use Rattle.std.specs.List.{AllByRecursion, filter, flat_map, range_with_len, zip}
 use Rattle.lists.proofs.Images.{filter_images}
-use Rattle.lists.proofs.Each.{all_indexed}
+use Rattle.lists.proofs.Each.{all_indexed, all_weaker, each_of}
 use Rattle.field.specs.Ring.{Ring}
 use Rattle.field.specs.Sums.{sum_in}
 use Rattle.field.specs.Extension.{Extension, IsLawful}
@@ -24,12 +25,6 @@ use Rattle.lookup_model.proofs.Lookups.KeyLaws.{same_key-Decides}
 use Rattle.checker.specs.Packed.{KeepsCounts}
 use Rattle.checker.specs.Renamed.{IsInjective, renamed}
 
--- tests that pass together are one
-alike : (p q : Bool) → (p ≡ true → q ≡ true) → (q ≡ true → p ≡ true) → q ≡ p
-alike true q there back = there refl
-alike false true there back = sym (back refl)
-alike false false there back = refl
-
 -- the images that are seen first
 first_seen_images : {A B : Type 0} (f : A → B) (same : A → A → Bool) (same_image : B → B → Bool) → ((x y : A) → same_image (f x) (f y) ≡ same x y) → (xs : List A) → first_seen same_image (map f xs) ≡ map f (first_seen same xs)
 first_seen_images f same same_image agree [] = refl
@@ -37,11 +32,11 @@ first_seen_images f same same_image agree (x ∷ xs) =
     ap (λ t. f x ∷ filter (λ y. not (same_image (f x) y)) t) (first_seen_images f same same_image agree xs)
     ∙ ap (λ t. f x ∷ t) (filter_images f (λ y. not (same x y)) (λ y. not (same_image (f x) y)) (λ y. ap not (agree x y)) (first_seen same xs))
 
--- the id at an index is renamed
-index_renamed : (rename : ℕ → ℕ) (ids : List ℕ) (c : ℕ) → c < length ids → slice_index_or (map rename ids) c 0 ≡ rename (slice_index_or ids c 0)
-index_renamed rename [] c lt = absurd (omega (arith, lt))
-index_renamed rename (id ∷ ids) zero lt = refl
-index_renamed rename (id ∷ ids) (suc c) lt = index_renamed rename ids c (omega (arith, lt))
+-- parts whose items are renamed
+parts_renamed : {A B C : Type 0} (of : B → List C) (rename : C → C) (after before : A → B) (xs : List A) → AllByRecursion (λ x. of (after x) ≡ map rename (of (before x))) xs → flat_map of (map after xs) ≡ map rename (flat_map of (map before xs))
+parts_renamed of rename after before [] each = refl
+parts_renamed of rename after before (x ∷ xs) each =
+    (λ i. each.0 i ++ parts_renamed of rename after before xs each.1 i) ∙ sym (map-append rename (of (before x)) (flat_map of (map before xs)))
 
 module _ {F : Type 0} (rename : ℕ → ℕ) where
   abbrev renamed_key : Key F → Key F
@@ -52,15 +47,15 @@ module _ {F : Type 0} (rename : ℕ → ℕ) where
 
   module _ (R : Ring F) (eq : F → F → Bool) where
     chosen_renamed : (flags : List F) (branches : List (Message F)) → chosen R eq flags (map renamed_message branches) ≡ map renamed_message (chosen R eq flags branches)
+    chosen_renamed (f ∷ fs) (b ∷ bs) =
+        let seconds = λ (zs : List (F × Message F)). map (λ c. c.1) zs in
+        let left = λ (ms : List (Message F)). filter (λ c. eq c.0 R.one) (zip fs ms) in
+        elim (eq f R.one) as (λ set. seconds (cond set ((f, renamed_message b) ∷ left (map renamed_message bs)) (left (map renamed_message bs))) ≡ map renamed_message (seconds (cond set ((f, b) ∷ left bs) (left bs)))) [
+          | true ↦ ap (λ t. renamed_message b ∷ t) (chosen_renamed fs bs)
+          | false ↦ chosen_renamed fs bs
+        ]
     chosen_renamed [] branches = refl
-    chosen_renamed (f ∷ fs) [] = refl
-    chosen_renamed (f ∷ fs) (b ∷ bs) = by_test (eq f R.one) (chosen_renamed fs bs)
-      where
-        by_test : (set : Bool) → chosen R eq fs (map renamed_message bs) ≡ map renamed_message (chosen R eq fs bs)
-            → map (λ c. c.1) (cond set ((f, renamed_message b) ∷ filter (λ c. eq c.0 R.one) (zip fs (map renamed_message bs))) (filter (λ c. eq c.0 R.one) (zip fs (map renamed_message bs))))
-            ≡ map renamed_message (map (λ c. c.1) (cond set ((f, b) ∷ filter (λ c. eq c.0 R.one) (zip fs bs)) (filter (λ c. eq c.0 R.one) (zip fs bs))))
-        by_test true rest = ap (λ t. renamed_message b ∷ t) rest
-        by_test false rest = rest
+    chosen_renamed flags [] = refl
 
     sent_renamed : (flags : Option (List F)) (branches : List (Message F)) → (sent R eq flags (map renamed_message branches)).messages ≡ map renamed_message (sent R eq flags branches).messages
     sent_renamed None branches = refl
@@ -72,25 +67,14 @@ module _ {F : Type 0} (rename : ℕ → ℕ) where
         ap (λ bs. (sent R eq (flags_at R w l) bs).messages) (sym (map-map renamed_message (λ b. branch_at R w id b.0.items b.1) (zip l.elements.items l.multiplicities.items)))
         ∙ sent_renamed (flags_at R w l) (branches_at R w id l)
 
-    module _ (ids : List ℕ) where
-      -- what the lookups of an AIR send at a window
-      row_renamed : (w : Window F) (ls : List (Lookup F)) → AllByRecursion (λ l. l.column < length ids) ls
-          → flat_map (λ s. s.messages) (sent_row_under R eq (id_of (map rename ids)) w ls) ≡ map renamed_message (flat_map (λ s. s.messages) (sent_row_under R eq (id_of ids) w ls))
-      row_renamed w [] within = refl
-      row_renamed w (l ∷ ls) within =
-          let first : (sent_at R eq w (id_of (map rename ids) l) l).messages ≡ map renamed_message (sent_at R eq w (id_of ids l) l).messages =
-          ap (λ n. (sent_at R eq w n l).messages) (index_renamed rename ids l.column within.0) ∙ lookup_renamed w (id_of ids l) l in
-          (λ i. first i ++ row_renamed w ls within.1 i)
-          ∙ sym (map-append renamed_message (sent_at R eq w (id_of ids l) l).messages (flat_map (λ s. s.messages) (sent_row_under R eq (id_of ids) w ls)))
-
-      -- on all rows
-      rows_renamed : (traces : AirTraces F) (ls : List (Lookup F)) → AllByRecursion (λ l. l.column < length ids) ls → (rows : List ℕ)
-          → trace_messages (map (λ r. sent_row_under R eq (id_of (map rename ids)) (window_of traces r) ls) rows)
-          ≡ map renamed_message (trace_messages (map (λ r. sent_row_under R eq (id_of ids) (window_of traces r) ls) rows))
-      rows_renamed traces ls within [] = refl
-      rows_renamed traces ls within (r ∷ rs) =
-          (λ i. row_renamed (window_of traces r) ls within i ++ rows_renamed traces ls within rs i)
-          ∙ sym (map-append renamed_message (flat_map (λ s. s.messages) (sent_row_under R eq (id_of ids) (window_of traces r) ls)) (trace_messages (map (λ q. sent_row_under R eq (id_of ids) (window_of traces q) ls) rs)))
+    -- what the lookups of an AIR send on all rows
+    rows_renamed : (ids : List ℕ) (traces : AirTraces F) (ls : List (Lookup F)) → AllByRecursion (λ l. l.column < length ids) ls → (rows : List ℕ)
+        → trace_messages (map (λ r. sent_row_under R eq (id_of (map rename ids)) (window_of traces r) ls) rows)
+        ≡ map renamed_message (trace_messages (map (λ r. sent_row_under R eq (id_of ids) (window_of traces r) ls) rows))
+    rows_renamed ids traces ls within rows = parts_renamed (flat_map (λ s. s.messages)) renamed_message _ _ rows (each_of _ (λ r.
+        parts_renamed (λ s. s.messages) renamed_message (λ l. sent_at R eq (window_of traces r) (id_of (map rename ids) l) l) (λ l. sent_at R eq (window_of traces r) (id_of ids l) l) ls
+        (all_weaker (λ l. l.column < length ids) _ (λ l lt.
+        ap (λ n. (sent_at R eq (window_of traces r) n l).messages) (get_or-map rename ids l.column 0 0 lt) ∙ lookup_renamed (window_of traces r) (id_of ids l) l) ls within)) rows)
 
     -- the columns of an AIR that fits have ids
     have_ids : (instance : Instance F) → IsFitting instance → AllByRecursion (λ l. l.column < length instance.ids) instance.lookups
@@ -114,9 +98,8 @@ module _ {F : Type 0} (R : Ring F) (eq : F → F → Bool) (decides : (a b : F) 
 
   same_keys : (a b : Key F) → same_key eq (renamed_key rename a) (renamed_key rename b) ≡ same_key eq a b
   same_keys a b =
-      let before = same_key-Decides eq decides a b in
       let after = same_key-Decides eq decides (renamed_key rename a) (renamed_key rename b) in
-      alike (same_key eq a b) (same_key eq (renamed_key rename a) (renamed_key rename b)) (λ e. after.1 (ap (renamed_key rename) (before.0 e))) (λ e. before.1 (key_back a b (after.0 e)))
+      same_from_decides (same_key eq (renamed_key rename a) (renamed_key rename b)) (same_key eq a b) (λ e. key_back a b (after.0 e), λ same. after.1 (ap (renamed_key rename) same)) (same_key-Decides eq decides a b)
 
   keys_renamed : (ms : List (Message F)) → keys eq (map (renamed_message rename) ms) ≡ map (renamed_key rename) (keys eq ms)
   keys_renamed ms =

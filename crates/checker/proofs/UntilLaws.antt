@@ -1,17 +1,15 @@
 -- Rows on which properties hold until one fails.
-use Rattle.std.proofs.Common.{◌≡◌, ◌⊎◌, ℕ, ◌+◌, ◌<◌, ◌≤◌, inl, inr, subst, arith}
+use Rattle.std.proofs.Common.{◌≡◌, ℕ, ◌+◌, ◌<◌, ◌≤◌, inl, inr, subst, arith}
 use Rattle.std.proofs.lemmas.Bool.{cases_lt}
 use Rattle.checker.specs.internal.Rows.{HoldsUntil}
 
 module _ (P : ℕ → Type 0) (first : ℕ) where
   -- a property that holds on the rows so far, and on this one
   pub holds_on_next : (row : ℕ) → ((s : ℕ) → first ≤ s → s < row → P s) → P row → (s : ℕ) → first ≤ s → s < row + 1 → P s
-  holds_on_next row so_far here s low high = by_index (cases_lt s row)
-    where
-      by_index : (s < row) ⊎ (row ≤ s) → P s
-      by_index (inl earlier) = so_far s low earlier
-      by_index (inr late) =
-          let at : row ≡ s = omega (arith, late, high) in subst P at here
+  holds_on_next row so_far here s low high = elim (cases_lt s row) [
+    | inl earlier ↦ so_far s low earlier
+    | inr late ↦ let at : row ≡ s = omega (arith, late, high) in subst P at here
+  ]
 
 module _ {P Q : ℕ → Type 0} {first end : ℕ} where
   -- a property that holds on the same rows
@@ -29,10 +27,8 @@ module _ {P Q : ℕ → Type 0} {first end : ℕ} where
     from = other.from;
     up_to = omega (arith, one.up_to, other.up_to);
     holds = λ s low high. (one.holds s low (omega (arith, high, other.up_to)), other.holds s low high);
-    fails = λ lt pq. by_index lt pq (cases_lt r u);
+    fails = λ lt pq. elim (cases_lt r u) [
+      | inl earlier ↦ other.fails earlier pq.1
+      | inr late ↦ let same : r ≡ u = omega (arith, late, other.up_to) in one.fails (omega (arith, lt, same)) (subst P same pq.0)
+    ];
   }
-    where
-      by_index : r < end → P r × Q r → (r < u) ⊎ (u ≤ r) → ⊥
-      by_index lt pq (inl earlier) = other.fails earlier pq.1
-      by_index lt pq (inr late) =
-          let same : r ≡ u = omega (arith, late, other.up_to) in one.fails (omega (arith, lt, same)) (subst P same pq.0)

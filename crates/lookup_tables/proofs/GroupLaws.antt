@@ -28,20 +28,15 @@ quartic_with xs = record {
 -- the items of a list of four
 four_items : (g : List ℕ) → length g ≡ 4 → (a : ℕ) × (b : ℕ) × (c : ℕ) × (d : ℕ) × (g ≡ a ∷ b ∷ c ∷ d ∷ [])
 four_items (a ∷ b ∷ c ∷ d ∷ []) four = (a, b, c, d, refl)
-four_items [] four = absurd (omega (arith, four))
-four_items (a ∷ []) four = absurd (omega (arith, four))
-four_items (a ∷ b ∷ []) four = absurd (omega (arith, four))
-four_items (a ∷ b ∷ c ∷ []) four = absurd (omega (arith, four))
-four_items (a ∷ b ∷ c ∷ d ∷ e ∷ more) four = absurd (omega (arith, four))
+four_items g four = absurd (omega (arith, four))
 
 -- the residues of all numbers, four each
 pub regrouped : (groups : List (List ℕ)) → AreFours groups → map quartic_with (first_chunks 4 (length groups) (map baby_bear_of (flat_map (λ g. g) groups))) ≡ map quartic_of groups
 regrouped [] fours = refl
 regrouped (g ∷ gs) fours =
     let (a, b, c, d, is) = four_items g (All-head (λ group. length group ≡ 4) g gs fours) in
-    let rest = regrouped gs (All-tail (λ group. length group ≡ 4) g gs fours) in
     subst (λ (h : List ℕ). map quartic_with (first_chunks 4 (suc (length gs)) (map baby_bear_of (h ++ flat_map (λ g. g) gs))) ≡ quartic_of h ∷ map quartic_of gs) (sym is)
-    (ap (λ qs. quartic_of (a ∷ b ∷ c ∷ d ∷ []) ∷ qs) rest)
+    (ap (λ qs. quartic_of (a ∷ b ∷ c ∷ d ∷ []) ∷ qs) (regrouped gs (All-tail (λ group. length group ≡ 4) g gs fours)))
 
 -- all numbers are at most this one, four each
 pub groups_up_to : (most : ℕ) (groups : List (List ℕ)) → AreFours groups → AreNumbersUpTo most (length (flat_map (λ g. g) groups)) (flat_map (λ g. g) groups) → All (IsGroupUpTo most) groups
@@ -57,8 +52,7 @@ groups_up_to most (g ∷ gs) fours flat =
 pub chunk_appended : (groups : List (List ℕ)) (flat : List ℕ) (values : List BabyBear) (fours : List (List BabyBear)) (n : ℕ) (before after : List (Quartic BabyBear)) → AreFours groups → flat ≡ flat_map (λ g. g) groups
     → values ≡ map baby_bear_of flat → fours ≡ first_chunks 4 n values → n ≡ length groups → after ≡ before ++ map quartic_with fours → after ≡ before ++ map quartic_of groups
 chunk_appended groups flat values fours n before after four flat_is values_is fours_is n_is after_is =
-    let chunks : fours ≡ first_chunks 4 (length groups) (map baby_bear_of (flat_map (λ g. g) groups)) = fours_is ∙ (λ k. first_chunks 4 (n_is k) ((values_is ∙ ap (map baby_bear_of) flat_is) k)) in
-    after_is ∙ ap (λ xs. before ++ xs) (ap (map quartic_with) chunks ∙ regrouped groups four)
+    after_is ∙ ap (λ xs. before ++ xs) (ap (map quartic_with) (fours_is ∙ (λ k. first_chunks 4 (n_is k) ((values_is ∙ ap (map baby_bear_of) flat_is) k))) ∙ regrouped groups four)
 
 -- one chunk more
 pub take_to : {A : Type 0} (xs : List A) (first end : ℕ) → first ≤ end → take end xs ≡ take first xs ++ slice_range xs first end

@@ -1,6 +1,6 @@
 -- What the nodes of trees do on a stack, of which only the depths are kept.
-use Rattle.std.proofs.Common.{◌≡◌, ◌++◌, ◌∷◌, ◌+◌, ◌≤◌, ℕ, ◌&&◌, suc, List, [], All, Bool, true, false, if◌then◌else◌, nat_lt, max, ap, sym, refl, subst, ◌∙◌, append_assoc, arith}
-use Rattle.std.proofs.lemmas.Bool.{lt-ltb}
+use Rattle.std.proofs.Common.{◌≡◌, ◌++◌, ◌∷◌, ◌+◌, ◌≤◌, ℕ, ◌&&◌, suc, List, [], All, Bool, true, false, if◌then◌else◌, nat_lt, max, ap, sym, refl, ◌∙◌, append_assoc, arith}
+use Rattle.std.proofs.lemmas.Bool.{lt-ltb, true≢false}
 use Rattle.std.proofs.lemmas.List.{append-nil}
 use Rattle.std.specs.List.{flat_map}
 use Rattle.expressions.specs.Depth.{depth_of}
@@ -13,13 +13,6 @@ use Rattle.lookup_tables.specs.Nodes.{BabyBear, IsShallow, entry_node, leaf_node
 use Rattle.lookup_tables.specs.declared.nodes.Node.{Node}
 use Rattle.lookup_tables.specs.internal.Nodes.{is_leaf, is_negation}
 use Rattle.lookup_tables.specs.internal.Stack.{has_room}
-
-abbrev OnTrue : Bool → Type 0
-OnTrue true = Unit {0}
-OnTrue false = ⊥
-
-true_false : true ≡ false → ⊥
-true_false e = subst OnTrue e tt
 
 abbrev next_one : List ℕ → List ℕ
 next_one [] = []
@@ -98,7 +91,6 @@ trees_run (t ∷ ts) low rest ds =
 -- No trees have nodes that begin with those of `ts` and a node for which their depths have no room.
 pub none_begins : (ts others : List (Tree BabyBear)) (n : Node) (rest : List Node) → All IsShallow ts → All IsShallow others → has_room (depths_on [] ts) n ≡ false → flat_map nodes_of others ≡ (flat_map nodes_of ts ++ n ∷ []) ++ rest → ⊥
 none_begins ts others n rest low lows none same =
-    let runs : run (flat_map nodes_of others) [] ≡ true = ap (λ ns. run ns []) (sym (append-nil (flat_map nodes_of others))) ∙ trees_run others lows [] [] in
     let stops : run (n ∷ rest) (depths_on [] ts) ≡ false = ap (λ b. if b then run rest (next (depths_on [] ts) n) else false) none in
     let stuck : run (flat_map nodes_of others) [] ≡ false = ap (λ ns. run ns []) (same ∙ append_assoc (flat_map nodes_of ts) (n ∷ []) rest) ∙ (trees_run ts low (n ∷ rest) [] ∙ stops) in
-    true_false (sym runs ∙ stuck)
+    true≢false (sym (ap (λ ns. run ns []) (sym (append-nil (flat_map nodes_of others))) ∙ trees_run others lows [] []) ∙ stuck)

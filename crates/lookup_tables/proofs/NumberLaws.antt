@@ -33,10 +33,7 @@ groups_next groups i group is_there here so_far k other below there = by_place (
     by_place : (k < i) ⊎ (i ≤ k) → IsGroup other
     by_place (inl earlier) = so_far k other earlier there
     by_place (inr late) =
-        let same : k ≡ i = omega (arith, late, below) in
-        let also : slice_get groups i ≡ Some other = subst (λ (n : ℕ). slice_get groups n ≡ Some other) same there in
-        let group_is : group ≡ other = cc (sym is_there ∙ also) in
-        subst IsGroup group_is here
+        subst IsGroup (cc (sym is_there ∙ (subst (λ (n : ℕ). slice_get groups n ≡ Some other) (omega (arith, late, below)) there))) here
 
 -- A group that is none is the first one, if those before it are.
 pub first_large_group : (groups : List (List ℕ)) (i : ℕ) (d : List ℕ) → i < length groups → ¬ IsGroup (get_or groups i d) → AreGroupsBelow i groups → IsFirstLargeGroup groups i

@@ -98,8 +98,7 @@ columns_next before after lookup n pushed is so_far =
 pub all_lookups : (tables : Tables) (n : ℕ) (lookups : List (Lookup BabyBear)) → length tables.records.now ≤ n → AllZip (IsLookup tables) (take n tables.records.now) lookups
     → map (λ l. l.column) lookups ≡ range_with_len 0 n → AreLookups tables lookups
 all_lookups tables n lookups all are columns =
-    let many : n ≡ length lookups = sym (length-range_with_len 0 n) ∙ (ap length (sym columns) ∙ length-map lookups (λ l. l.column)) in
     record {
       are = subst (λ rs. AllZip (IsLookup tables) rs lookups) (take_all n tables.records.now all) are;
-      columns = columns ∙ ap (range_with_len 0) many;
+      columns = columns ∙ ap (range_with_len 0) (sym (length-range_with_len 0 n) ∙ (ap length (sym columns) ∙ length-map lookups (λ l. l.column)));
     }

@@ -25,26 +25,21 @@ written_once nodes span a b p q = same_trees (map tree_of a) (map tree_of b) (p.
 tuples_once : (nodes : List Node) (spans : List Span) (a b : List (Vec (SymbolicExpression BabyBear) Global)) → AreTuples nodes spans a → AreTuples nodes spans b
     → map (λ tuple. map tree_of tuple.items) a ≡ map (λ tuple. map tree_of tuple.items) b
 tuples_once nodes [] [] [] p q = refl
-tuples_once nodes [] [] (y ∷ ys) p q = absurd q
-tuples_once nodes [] (x ∷ xs) b p q = absurd p
-tuples_once nodes (s ∷ ss) [] b p q = absurd p
-tuples_once nodes (s ∷ ss) (x ∷ xs) [] p q = absurd q
 tuples_once nodes (s ∷ ss) (x ∷ xs) (y ∷ ys) p q =
     ap₂ (λ t ts. t ∷ ts) (written_once nodes s x.items y.items p.0 q.0) (tuples_once nodes ss xs ys p.1 q.1)
+tuples_once nodes spans a b p q = absurd (first_of (assumption p, assumption q))
 
 -- a record has one bus, and one list of flags
 bus_once : (names : List ℕ) (r : Record) (a b : Option (List ℕ)) → IsBus names r a → IsBus names r b → a ≡ b
 bus_once names r None None p q = refl
-bus_once names r None (Some y) p q = absurd (omega (arith, p, q.0))
-bus_once names r (Some x) None p q = absurd (omega (arith, p.0, q))
 bus_once names r (Some x) (Some y) p q = ap Some (p.2 ∙ sym q.2)
+bus_once names r a b p q = absurd (omega arith)
 
 flags_once : (nodes : List Node) (r : Record) (a b : Option (Vec (SymbolicExpression BabyBear) Global)) → AreFlags nodes r (option_map (λ v. v.items) a) → AreFlags nodes r (option_map (λ v. v.items) b)
     → option_map (λ v. map tree_of v.items) a ≡ option_map (λ v. map tree_of v.items) b
 flags_once nodes r None None p q = refl
-flags_once nodes r None (Some y) p q = absurd (omega (arith, p, q.0))
-flags_once nodes r (Some x) None p q = absurd (omega (arith, p.0, q))
 flags_once nodes r (Some x) (Some y) p q = ap Some (written_once nodes r.flags x.items y.items p.1 q.1)
+flags_once nodes r a b p q = absurd (omega arith)
 
 -- a record is one lookup, in each column
 lookup_once : (tables : Tables) (r : Record) (a b : Lookup BabyBear) → IsLookup tables r a → IsLookup tables r b → a.column ≡ b.column → outline_of a ≡ outline_of b
@@ -60,14 +55,9 @@ lookup_once tables r a b p q columns = λ i. record {
 -- all records are one list of lookups, in each list of columns
 all_once : (tables : Tables) (rs : List Record) (a b : List (Lookup BabyBear)) → AllZip (IsLookup tables) rs a → AllZip (IsLookup tables) rs b → map (λ l. l.column) a ≡ map (λ l. l.column) b → map outline_of a ≡ map outline_of b
 all_once tables [] [] [] p q columns = refl
-all_once tables [] [] (y ∷ ys) p q columns = absurd q
-all_once tables [] (x ∷ xs) b p q columns = absurd p
-all_once tables (r ∷ rs) [] b p q columns = absurd p
-all_once tables (r ∷ rs) (x ∷ xs) [] p q columns = absurd q
 all_once tables (r ∷ rs) (x ∷ xs) (y ∷ ys) p q columns =
-    let first : x.column ≡ y.column = cc columns in
-    let others : map (λ l. l.column) xs ≡ map (λ l. l.column) ys = cc columns in
-    ap₂ (λ l ls. l ∷ ls) (lookup_once tables r x y p.0 q.0 first) (all_once tables rs xs ys p.1 q.1 others)
+    ap₂ (λ l ls. l ∷ ls) (lookup_once tables r x y p.0 q.0 (cc columns)) (all_once tables rs xs ys p.1 q.1 (cc columns))
+all_once tables rs a b p q columns = absurd (first_of (assumption p, assumption q))
 
 pub lookups_once : (tables : Tables) (a b : List (Lookup BabyBear)) → AreLookups tables a → AreLookups tables b → map outline_of a ≡ map outline_of b
 lookups_once tables a b p q =

@@ -9,8 +9,7 @@ use Rattle.lookup_tables.specs.Traces.{makes_rows}
 rows_are : (n w : ℕ) → makes_rows n w ≡ true → n ≡ (if w == 0 then 0 else (n / w)) * w
 rows_are n zero rows = eqb-true n 0 rows
 rows_are n (suc k) rows =
-    let none : n % suc k ≡ 0 = eqb-true (n % suc k) 0 (rw eqb-suc-zero at rows) in
-    rw eqb-suc-zero (omega (arith, div-add-mod' n (suc k), none))
+    rw eqb-suc-zero (omega (arith, div-add-mod' n (suc k), eqb-true (n % suc k) 0 (rw eqb-suc-zero at rows)))
 
 -- they are a matrix
 pub shaped : {A : Type 0} (values : List A) (n w : ℕ) (b : Bool) → length values ≡ n → b ≡ makes_rows n w → b ≡ true → IsShaped (record { values = values; width = w })

@@ -1,16 +1,16 @@
 -- Tables that are written part by part.
-use Rattle.std.proofs.Common.{◌≡◌, ◌≢◌, ◌++◌, ◌∷◌, ◌+◌, ◌-◌, ◌<◌, ◌≤◌, ℕ, List, [], All, Option, None, Some, ap, append_assoc, arith, drop, get_or, length, length-append, map, subst, sym, take, ◌∙◌}
+use Rattle.std.proofs.Common.{◌≡◌, ◌≢◌, ◌++◌, ◌∷◌, ◌+◌, ◌-◌, ◌<◌, ◌≤◌, ℕ, List, [], All, Option, None, Some, ap, append_assoc, arith, drop, get_or, length, length-append, map, refl, subst, sym, take, ◌∙◌}
 use Rattle.std.proofs.Math.Seq.{drop-append_seam, take-append_seam}
-use Rattle.std.proofs.lemmas.List.{append-nil, map_push, take_all, take_more}
-use Rattle.std.proofs.lemmas.List.Concat.{flat_map-append}
+use Rattle.std.proofs.lemmas.List.{append-nil, take_all}
 use Rattle.std.proofs.lemmas.List.Elements.{All-map}
 use Rattle.std.proofs.lemmas.Option.{slice_get-get_or}
-use Rattle.std.proofs.lemmas.Slice.Zip.{all_zipped_more}
 use Rattle.std.specs.List.{AllZip, flat_map, range_with_len, slice_get}
 use Rattle.std.specs.Option.{option_map}
 use Rattle.std.specs.declared.alloc.Global.{Global}
 use Rattle.std.specs.declared.vec.Vec.{Vec}
-use Rattle.lists.proofs.Items.{take_item}
+use Rattle.lists.proofs.Images.{images_more}
+use Rattle.lists.proofs.Parts.{parts_next}
+use Rattle.lists.proofs.Zips.{AllZip-more_right}
 use Rattle.expressions.specs.Depth.{depth_of}
 use Rattle.expressions.specs.Tree.{Tree, leaf, add, sub, mul, neg, tree_of}
 use Rattle.expressions.specs.declared.base_expression.BaseLeaf.{BaseLeaf}
@@ -31,10 +31,7 @@ use Rattle.lookup_tables.specs.internal.Written.{HoldsFrom, IsLonger, EncodesBus
 -- a tree has a node at least
 positive : (t : Tree BabyBear) → 1 ≤ depth_of t
 positive (leaf l) = omega arith
-positive (add a b) = omega arith
-positive (sub a b) = omega arith
-positive (mul a b) = omega arith
-positive (neg a) = omega arith
+positive t = omega arith
 
 pub none_within : (t : Tree BabyBear) (depth : ℕ) → depth ≡ 0 → IsTreeFault depth t TooDeep
 none_within t depth none = omega (arith, positive t, none)
@@ -125,12 +122,7 @@ pub list_next : (expressions : List (SymbolicExpression BabyBear)) (i : ℕ) (e 
     → now ≡ old ++ flat_map nodes_of (map tree_of (take i expressions)) → after ≡ now ++ nodes_of (tree_of e)
     → after ≡ old ++ flat_map nodes_of (map tree_of (take (i + 1) expressions))
 list_next expressions i e old now after there is so_far pushed =
-    let f : List (SymbolicExpression BabyBear) → List Node = λ es. flat_map nodes_of (map tree_of es) in
-    let whole : f (take (i + 1) expressions) ≡ f (take i expressions) ++ nodes_of (tree_of e) =
-    ap f (take_more expressions i e there ∙ ap (λ x. take i expressions ++ x ∷ []) (sym is))
-    ∙ (ap (flat_map nodes_of) (map_push tree_of (take i expressions) e)
-    ∙ (flat_map-append nodes_of (map tree_of (take i expressions)) (tree_of e ∷ []) ∙ ap (λ t. f (take i expressions) ++ t) (append-nil (nodes_of (tree_of e))))) in
-    pushed ∙ (ap (λ t. t ++ nodes_of (tree_of e)) so_far ∙ (append_assoc old (f (take i expressions)) (nodes_of (tree_of e)) ∙ ap (λ t. old ++ t) (sym whole)))
+    parts_next nodes_of (map tree_of (take i expressions)) (map tree_of (take (i + 1) expressions)) (tree_of e) old now after (images_more tree_of expressions i e there is) so_far pushed
 
 -- the nodes of a list are as many as were appended
 pub list_long : (old now : List Node) (expressions : List (SymbolicExpression BabyBear)) (start end' : ℕ) → now ≡ old ++ flat_map nodes_of (map tree_of expressions) → start ≡ length old → end' ≡ length now
@@ -144,9 +136,7 @@ pub tuples_next : (tuples : List (Vec (SymbolicExpression BabyBear) Global)) (i 
     → HoldsFrom now (λ all. AreTuples all made (take i tuples)) → HoldsFrom after (λ all. IsWritten all span tuple.items)
     → HoldsFrom after (λ all. AreTuples all (made ++ span ∷ []) (take (i + 1) tuples))
 tuples_next tuples i tuple made span now after there is longer so_far holds all further =
-    subst (λ (ts : List (Vec (SymbolicExpression BabyBear) Global)). AreTuples all (made ++ span ∷ []) ts)
-    (sym (take_item tuples i tuple there is))
-    (all_zipped_more (λ s t. IsWritten all s t.items) made (take i tuples) span tuple (so_far all (longer_then now after all longer further)) (holds all further))
+    AllZip-more_right (λ s t. IsWritten all s t.items) made (made ++ span ∷ []) tuples i span tuple there is refl (holds all further) (so_far all (longer_then now after all longer further))
 
 -- all tuples are written, and their ranges stand there
 pub tuples_written : (tuples : List (Vec (SymbolicExpression BabyBear) Global)) (n : ℕ) (old made now : List Span) (nodes : List Node) (span : Span) → length tuples ≤ n → now ≡ old ++ made → span.start ≡ length old → span.end ≡ length now
@@ -197,8 +187,7 @@ module _ (lookup : Lookup BabyBear) (r : Record) (nodes_1 nodes_2 nodes_3 : List
 pub records_next : (lookups : List (Lookup BabyBear)) (i : ℕ) (lookup : Lookup BabyBear) (records : List Record) (r : Record) (t : Tables) → i < length lookups → lookup ≡ get_or lookups i lookup
     → AllZip (IsLookup t) records (take i lookups) → IsLookup t r lookup → AllZip (IsLookup t) (records ++ r ∷ []) (take (i + 1) lookups)
 records_next lookups i lookup records r t there is so_far here =
-    subst (λ (ls : List (Lookup BabyBear)). AllZip (IsLookup t) (records ++ r ∷ []) ls) (sym (take_item lookups i lookup there is))
-    (all_zipped_more (IsLookup t) records (take i lookups) r lookup so_far here)
+    AllZip-more_right (IsLookup t) records (records ++ r ∷ []) lookups i r lookup there is refl here so_far
 
 -- a lookup that tables can't encode, behind those that they can
 pub unencodable_at : (lookups : List (Lookup BabyBear)) (i : ℕ) (lookup : Lookup BabyBear) (e : TableFault) → i < length lookups → lookup ≡ get_or lookups i lookup → IsLookupFault lookup e

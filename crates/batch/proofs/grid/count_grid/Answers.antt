@@ -5,9 +5,8 @@ use Rattle.field.specs.laws.Extension.{of_laws}
 use Rattle.lookup_model.specs.Batches.Instances.{IsFitting, instance_of, instances_of}
 use Rattle.lookup_model.specs.Batches.Ids.{identified}
 use Rattle.batch.proofs.TraceLaws.{have_below}
-use Rattle.batch.proofs.GridLaws.{bound_holds, bound_overflows, counts_refused, stays_within}
+use Rattle.batch.proofs.CountLaws.{bound_holds, bound_overflows, count_refused, grid_refused, stays_within}
 use Rattle.batch.specs.Grids.{HaveNoRepeat}
-use Rattle.batch.specs.Refusals.{of_lookup}
 use Rattle.batch.proofs.grid.count_grid.Goals as goal
 
 pub returns-in_err-check_distinct-clause-answer : goal.returns-in_err-check_distinct-clause-answer
@@ -26,9 +25,6 @@ returns-in_err-check_distinct-2-clause-answer g c =
       | inr (repeat, is) ↦ inr (inl ((λ distinct. repeat distinct.1), is))
     ])
 
-pub soundness_count-requires-clause-ids : goal.soundness_count-requires-clause-ids
-soundness_count-requires-clause-ids g c = (c.args.num_ids, c.requires.lawful)
-
 pub count_accepted_pairs-requires-clause-ids : goal.count_accepted_pairs-requires-clause-ids
 count_accepted_pairs-requires-clause-ids g c =
     let bs = c.args.batch.now in
@@ -39,21 +35,17 @@ returns-in_err-counts-clause-answer g c =
     let E = of_laws g.met.EF.ExtensionField.lawful_fields in
     let distinct : HaveNoRepeat c.args.alphas.now c.args.betas.now = (c.in_ok-check_distinct.ensures, c.in_ok-check_distinct-2.ensures) in
     let p = err_from_is_err_and c.from_residual-in_err-counts.result c.from_residual-in_err-counts.ensures.1 in
-    rw (p.1, p.2) (counts_refused E (instances_of c.args.batch.now) c.args.max_message_width c.args.alphas.now c.args.betas.now c.in_err-counts.field-0.0 distinct c.in_err-counts.ensures.answer)
+    let instances = instances_of c.args.batch.now in
+    let W = c.args.max_message_width in
+    rw (p.1, p.2) (grid_refused E instances W c.args.alphas.now c.args.betas.now _ distinct (count_refused E instances W c.in_err-counts.field-0.0 c.in_err-counts.ensures.answer))
 
 pub returns-in_err-bound-clause-answer : goal.returns-in_err-bound-clause-answer
 returns-in_err-bound-clause-answer g c =
     let E = of_laws g.met.EF.ExtensionField.lawful_fields in
-    let distinct : HaveNoRepeat c.args.alphas.now c.args.betas.now = (c.in_ok-check_distinct.ensures, c.in_ok-check_distinct-2.ensures) in
     let answer = c.in_ok-counts.ensures.answer in
     let p = err_from_is_err_and c.from_residual-in_err-bound.result c.from_residual-in_err-bound.ensures.1 in
-    let overflow = bound_overflows E (instances_of c.args.batch.now) c.args.max_message_width c.args.alphas.now c.args.betas.now c.in_ok-counts.counts c.in_err-bound.field-0.0 answer.1 c.in_err-bound.ensures.answer in
-    rw (p.1, p.2) (inr (inr (inr (distinct, answer.0, overflow.0, overflow.1))))
-
-pub returns-in_err-accepted-clause-answer : goal.returns-in_err-accepted-clause-answer
-returns-in_err-accepted-clause-answer g c =
-    let p = err_from_is_err_and c.from_residual-in_err-accepted.result c.from_residual-in_err-accepted.ensures.1 in
-    rw (p.1, p.2) (inl (λ i. of_lookup (c.in_err-accepted.ensures i)))
+    let overflow = bound_overflows E (instances_of c.args.batch.now) c.args.max_message_width c.args.alphas.now c.args.betas.now c.in_ok-counts.counts answer.1 c.in_err-bound.field-0.0 c.in_err-bound.ensures.answer in
+    rw (p.1, p.2) (inr (inr (inr ((c.in_ok-check_distinct.ensures, c.in_ok-check_distinct-2.ensures), answer.0, overflow.0, overflow.1))))
 
 pub returns-clause-answer : goal.returns-clause-answer
 returns-clause-answer g c =
@@ -63,7 +55,7 @@ returns-clause-answer g c =
       answer.0,
       record {
         accepted = c.in_ok-accepted.ensures;
-        bound = bound_holds E (instances_of c.args.batch.now) c.args.max_message_width c.args.alphas.now c.args.betas.now c.in_ok-counts.counts c.in_ok-bound.bound answer.1 c.in_ok-bound.ensures.answer;
+        bound = bound_holds E (instances_of c.args.batch.now) c.args.max_message_width c.args.alphas.now c.args.betas.now c.in_ok-counts.counts answer.1 c.in_ok-bound.bound c.in_ok-bound.ensures.answer;
         fits = subst (λ (n : ℕ). n < 2 ^ 128) answer.1.bad_betas c.in_ok-bound.ensures.fits;
       },
     )
@@ -73,9 +65,8 @@ returns-clause-within g c =
     let E = of_laws g.met.EF.ExtensionField.lawful_fields in
     let instances = instances_of c.args.batch.now in
     let W = c.args.max_message_width in
-    let bound = bound_holds E instances W c.args.alphas.now c.args.betas.now c.in_ok-counts.counts c.in_ok-bound.bound c.in_ok-counts.ensures.answer.1 c.in_ok-bound.ensures.answer in
-    let fitting : All IsFitting instances = All-map IsFitting instance_of c.args.batch.now c.requires.fit in
-    let few = c.joint_soundness.ensures.counts W c.args.num_ids instances fitting c.requires.lawful c.in_ok-counts.ensures.answer.0 in
+    let bound = bound_holds E instances W c.args.alphas.now c.args.betas.now c.in_ok-counts.counts c.in_ok-counts.ensures.answer.1 c.in_ok-bound.bound c.in_ok-bound.ensures.answer in
+    let few = c.joint_soundness.ensures.counts W c.args.num_ids instances (All-map IsFitting instance_of c.args.batch.now c.requires.fit) c.requires.lawful c.in_ok-counts.ensures.answer.0 in
     stays_within E instances W c.args.alphas.now c.args.betas.now few (c.in_ok-check_distinct.ensures, c.in_ok-check_distinct-2.ensures) c.in_ok-accepted.accepted c.in_ok-accepted.ensures c.in_ok-bound.bound bound
 
 pub returns-clause-linear : goal.returns-clause-linear

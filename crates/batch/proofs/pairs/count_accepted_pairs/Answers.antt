@@ -1,6 +1,6 @@
-use Rattle.std.proofs.Common.{◌≡◌, ◌+◌, ◌≤◌, ◌*◌, ◌^◌, ◌++◌, ◌∷◌, [], List, map, take, sym, ap, subst, ◌∙◌, arith}
-use Rattle.std.proofs.lemmas.Grind.{flat_map-append}
-use Rattle.std.proofs.lemmas.List.{append-nil, take_all, take_more}
+use Rattle.std.proofs.Common.{◌+◌, ◌≤◌, ◌*◌, ◌^◌, List, map, take, sym, subst, arith}
+use Rattle.std.proofs.lemmas.List.{take_all}
+use Rattle.lists.proofs.Parts.{flat_next}
 use Rattle.field.specs.laws.Extension.{of_laws}
 use Rattle.lookup_model.specs.Batches.Instances.{instances_of}
 use Rattle.lookup_model.specs.Batches.Grid.{AcceptsPair, IsNumberOf, grid}
@@ -12,16 +12,12 @@ overflow_add-accepted g c = omega (arith, c.loop-index.invariant.0, c.loop-index
 
 pub loop-index-preserved : goal.loop-index-preserved
 loop-index-preserved g c =
-    let E = of_laws g.met.EF.ExtensionField.lawful_fields in
-    let P = AcceptsPair E (instances_of c.args.instances.now) c.args.max_message_width in
+    let P = AcceptsPair (of_laws g.met.EF.ExtensionField.lawful_fields) (instances_of c.args.instances.now) c.args.max_message_width in
     let alphas = c.args.alphas.now in
     let betas = c.args.betas.now in
     let index = c.loop-index.index in
     let beta = c.index-betas-index.result in
-    let longer : grid alphas (take (index + 1) betas) ≡ grid alphas (take index betas) ++ map (λ alpha. (alpha, beta)) alphas =
-    ap (grid alphas) (take_more betas index beta c.loop-index-test.true ∙ ap (λ t. take index betas ++ t ∷ []) (sym c.index-betas-index.is))
-    ∙ flat_map-append (λ b. map (λ alpha. (alpha, b)) alphas) (take index betas) (beta ∷ [])
-    ∙ ap (λ t. grid alphas (take index betas) ++ t) (append-nil (map (λ alpha. (alpha, beta)) alphas)) in
+    let longer = flat_next (λ b. map (λ alpha. (alpha, b)) alphas) betas index beta c.loop-index-test.true c.index-betas-index.is in
     let most : c.loop-index.accepted + c.in_ok-accepting.accepting ≤ (index + 1) * 2 ^ 64 = omega (arith, c.loop-index.invariant.0) in (
       most,
       subst (λ (ps : List _). IsNumberOf P ps (c.loop-index.accepted + c.in_ok-accepting.accepting)) (sym longer)
@@ -30,6 +26,5 @@ loop-index-preserved g c =
 
 pub returns : goal.returns
 returns g c =
-    let E = of_laws g.met.EF.ExtensionField.lawful_fields in
-    let P = AcceptsPair E (instances_of c.args.instances.now) c.args.max_message_width in
+    let P = AcceptsPair (of_laws g.met.EF.ExtensionField.lawful_fields) (instances_of c.args.instances.now) c.args.max_message_width in
     subst (λ (bs : List _). IsNumberOf P (grid c.args.alphas.now bs) c.loop-index.accepted) (take_all c.loop-index.index c.args.betas.now (omega (arith, c.loop-index-test.false))) c.loop-index.invariant.1

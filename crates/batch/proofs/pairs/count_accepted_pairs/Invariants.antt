@@ -6,5 +6,4 @@ use Rattle.batch.proofs.pairs.count_accepted_pairs.Given as goal
 
 abbrev pub invariant-loop-index : goal.invariant-loop-index
 invariant-loop-index g l =
-    let E = of_laws g.met.EF.ExtensionField.lawful_fields in
-    (l.accepted ≤ l.index * 2 ^ 64) × IsNumberOf (AcceptsPair E (instances_of l.instances) l.max_message_width) (grid l.alphas (take l.index l.betas)) l.accepted
+    (l.accepted ≤ l.index * 2 ^ 64) × IsNumberOf (AcceptsPair (of_laws g.met.EF.ExtensionField.lawful_fields) (instances_of l.instances) l.max_message_width) (grid l.alphas (take l.index l.betas)) l.accepted

@@ -1,5 +1,6 @@
-use Rattle.std.proofs.Common.{◌≡◌, ◌+◌, ◌≤◌, ◌++◌, ◌∷◌, [], List, length, take, sym, ap, subst, ◌∙◌, arith}
-use Rattle.std.proofs.lemmas.List.{length-take, take_more}
+use Rattle.std.proofs.Common.{◌+◌, ◌≤◌, List, length, take, sym, subst, arith}
+use Rattle.std.proofs.lemmas.List.{length-take}
+use Rattle.lists.proofs.Items.{take_item}
 use Rattle.field.specs.laws.Extension.{of_laws}
 use Rattle.lookup_model.specs.Batches.Counts.{IsAccepting}
 use Rattle.lookup_model.specs.Batches.Instances.{instances_of}
@@ -16,13 +17,11 @@ overflow_add-accepting g c =
 
 pub loop-index-preserved : goal.loop-index-preserved
 loop-index-preserved g c =
-    let E = of_laws g.met.EF.ExtensionField.lawful_fields in
-    let P = IsAccepting E (instances_of c.args.instances.now) c.args.max_message_width c.args.beta in
+    let P = IsAccepting (of_laws g.met.EF.ExtensionField.lawful_fields) (instances_of c.args.instances.now) c.args.max_message_width c.args.beta in
     let alphas = c.args.alphas.now in
     let index = c.loop-index.index in
     let alpha = c.index-alphas-index.result in
-    let longer : take (index + 1) alphas ≡ take index alphas ++ alpha ∷ [] =
-    take_more alphas index alpha c.loop-index-test.true ∙ ap (λ t. take index alphas ++ t ∷ []) (sym c.index-alphas-index.is) in
+    let longer = take_item alphas index alpha c.loop-index-test.true c.index-alphas-index.is in
     let says = c.in_ok-accepts_pair.ensures in
     elim c.if-branch.branch [
       | then-branch w ↦ subst (IsNumberOf P (take (index + 1) alphas)) (sym w.accepting-is)

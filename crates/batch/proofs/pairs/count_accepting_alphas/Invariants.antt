@@ -7,5 +7,4 @@ use Rattle.batch.proofs.pairs.count_accepting_alphas.Given as goal
 
 abbrev pub invariant-loop-index : goal.invariant-loop-index
 invariant-loop-index g l =
-    let E = of_laws g.met.EF.ExtensionField.lawful_fields in
-    IsNumberOf (IsAccepting E (instances_of l.instances) l.max_message_width l.beta) (take l.index l.alphas) l.accepting
+    IsNumberOf (IsAccepting (of_laws g.met.EF.ExtensionField.lawful_fields) (instances_of l.instances) l.max_message_width l.beta) (take l.index l.alphas) l.accepting

@@ -1,4 +1,4 @@
-use Rattle.std.proofs.Common.{◌<◌, ◌≤◌, ◌⊎◌, ℕ, inl, inr, arith}
+use Rattle.std.proofs.Common.{◌<◌, ℕ, inl, inr, arith}
 use Rattle.std.proofs.lemmas.Bool.{cases_lt}
 use Rattle.checker.specs.internal.Rows.{HoldsUntil}
 use Rattle.checker.proofs.chunks.first_failing_in_chunks.Goals as goal
@@ -6,11 +6,7 @@ use Rattle.checker.proofs.chunks.first_failing_in_chunks.Goals as goal
 -- what holds on all rows before a first one, and from there on until some row, holds on all rows before
 -- that one
 joined : (P : ℕ → Type 0) (first end r : ℕ) → ((s : ℕ) → s < first → P s) → HoldsUntil P first end r → (s : ℕ) → s < r → P s
-joined P first end r before until s lt = by_index (cases_lt s first)
-  where
-    by_index : (s < first) ⊎ (first ≤ s) → P s
-    by_index (inl earlier) = before s earlier
-    by_index (inr late) = until.holds s late lt
+joined P first end r before until s lt = elim (cases_lt s first) [ inl earlier ↦ before s earlier | inr late ↦ until.holds s late lt ]
 
 pub returns-then-until-end : goal.returns-then-until-end
 returns-then-until-end g c = record {

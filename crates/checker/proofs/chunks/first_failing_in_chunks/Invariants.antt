@@ -6,8 +6,7 @@ use Rattle.checker.proofs.chunks.first_failing_in_chunks.Given as goal
 
 abbrev pub invariant-loop-first : goal.invariant-loop-first
 invariant-loop-first g l =
-    let E = of_laws g.met.EF.ExtensionField.lawful_fields in
-    (l.first ≤ height l.inputs.main.now) × ((s : ℕ) → s < l.first → HoldsOn E l.inputs l.lookups s)
+    (l.first ≤ height l.inputs.main.now) × ((s : ℕ) → s < l.first → HoldsOn (of_laws g.met.EF.ExtensionField.lawful_fields) l.inputs l.lookups s)
 
 abbrev pub decreases-loop-first : goal.decreases-loop-first
 decreases-loop-first g l = height l.inputs.main.now - l.first

@@ -5,5 +5,4 @@ use Rattle.checker.proofs.rows.first_failing_of_few.Given as goal
 
 abbrev pub invariant-loop-row : goal.invariant-loop-row
 invariant-loop-row g l =
-    let E = of_laws g.met.EF.ExtensionField.lawful_fields in
-    (s : ℕ) → s < l.row → HoldsOn E l.inputs l.lookups s
+    (s : ℕ) → s < l.row → HoldsOn (of_laws g.met.EF.ExtensionField.lawful_fields) l.inputs l.lookups s

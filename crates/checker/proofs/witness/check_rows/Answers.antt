@@ -1,3 +1,4 @@
+use Rattle.std.proofs.lemmas.Option.{MatchOption-at_none, MatchOption-at_some}
 use Rattle.std.proofs.Common.{ap, inr, length, refl, ◌∙◌, arith}
 use Rattle.air.specs.Traces.{layout_of}
 use Rattle.lookup_model.specs.Challenges.{table_of}
@@ -5,7 +6,7 @@ use Rattle.field.specs.laws.Extension.{of_laws}
 use Rattle.lookup_model.specs.Batches.Instances.{instance_of}
 use Rattle.matrix.specs.Matrix.{height}
 use Rattle.checker.proofs.CheckedInputs.{shaped}
-use Rattle.checker.proofs.CheckLaws.{fails_from, found_none, found_some, holds_from}
+use Rattle.checker.proofs.CheckLaws.{fails_from, holds_from}
 use Rattle.lookup_model.proofs.Layouts.{LookupsFit-with_auxiliary}
 use Rattle.checker.proofs.witness.check_rows.Goals as goal
 
@@ -26,10 +27,10 @@ first_failing_row-requires g c = λ some.
 pub returns-in-Some : goal.returns-in-Some
 returns-in-Some g c =
     let E = of_laws g.met.EF.ExtensionField.lawful_fields in
-    let failing = found_some _ _ c.in_ok-row.field-0 c.in-Some.row c.in-Some.is c.in_ok-row.ensures in
+    let failing = MatchOption-at_some _ _ c.in-Some.row c.in-Some.is c.in_ok-row.ensures in
     inr (c.in-Some.row, fails_from E (table_of c.args.challenges.now) (instance_of c.args.instance.now) c.args.aux.now c.args.terminal.now c.as_slice.result.now c.as_slice-2.result.now (c.as_slice.ensures.value ∙ c.in_ok-columns.ensures.challenges) (c.as_slice-2.ensures.value ∙ c.in_ok-values.ensures) c.in-Some.row failing.within failing.fails failing.before, refl)
 
 pub returns : goal.returns
 returns g c = λ r lt.
     let E = of_laws g.met.EF.ExtensionField.lawful_fields in
-    holds_from E (table_of c.args.challenges.now) (instance_of c.args.instance.now) c.args.aux.now c.args.terminal.now c.as_slice.result.now c.as_slice-2.result.now (c.as_slice.ensures.value ∙ c.in_ok-columns.ensures.challenges) (c.as_slice-2.ensures.value ∙ c.in_ok-values.ensures) r (found_none _ _ c.in_ok-row.field-0 c.in-None.is c.in_ok-row.ensures r lt)
+    holds_from E (table_of c.args.challenges.now) (instance_of c.args.instance.now) c.args.aux.now c.args.terminal.now c.as_slice.result.now c.as_slice-2.result.now (c.as_slice.ensures.value ∙ c.in_ok-columns.ensures.challenges) (c.as_slice-2.ensures.value ∙ c.in_ok-values.ensures) r (MatchOption-at_none _ _ c.in-None.is c.in_ok-row.ensures r lt)

@@ -1,7 +1,6 @@
 use Rattle.std.proofs.Common.{◌≡◌, ◌≤◌, ◌<◌, ◌+◌, ◌-◌, ℕ, List, length, slice_range, drop, length-take, length-drop, ap, inl, inr, arith}
 use Rattle.lookup_tables.specs.declared.nodes.Node.{Node}
 use Rattle.lookup_tables.proofs.TableLaws.{none_written}
-use Rattle.lookup_tables.specs.Tables.{IsInside}
 use Rattle.lookup_tables.proofs.tables.expressions_at.Goals as goal
 
 in_range : (nodes : List Node) (a b i : ℕ) → a ≤ b → b ≤ length nodes → i < length (slice_range nodes a b) → a + i < b
@@ -12,15 +11,12 @@ overflow_add-result c = elim c.in-Err-Bad.ensures.reads [
   | inl memory ↦ absurd (grind (arith, memory))
   | inr first ↦
       let same : c.in-Err-Bad.index ≡ first.0 = cc first.1 in
-      let within = in_range c.args.nodes.now c.args.span.start c.args.span.end first.0 c.if-span.false c.if-span-nodes.false first.2.within in
-      omega (arith, same, within)
+      omega (arith, same, in_range c.args.nodes.now c.args.span.start c.args.span.end first.0 c.if-span.false c.if-span-nodes.false first.2.within)
 ]
 
 pub returns-in-Err-Bad : goal.returns-in-Err-Bad
 returns-in-Err-Bad c = elim c.in-Err-Bad.ensures.reads [
   | inl memory ↦ absurd (grind (arith, memory))
   | inr first ↦
-      let same : c.in-Err-Bad.index ≡ first.0 = cc first.1 in
-      let inside : IsInside c.args.nodes.now c.args.span = record { ordered = c.if-span.false; ends = c.if-span-nodes.false } in
-      inr (none_written c.args.nodes.now c.args.span first.0 first.2, (inside, omega arith, (first.0, ap (λ i. c.args.span.start + i) same, first.2)))
+      inr (none_written c.args.nodes.now c.args.span first.0 first.2, (record { ordered = c.if-span.false; ends = c.if-span-nodes.false }, omega arith, (first.0, ap (λ i. c.args.span.start + i) (cc first.1), first.2)))
 ]

@@ -37,9 +37,8 @@ loop-expression-preserved c = record {
 pub returns-then-end-start-gt-MAX_NODES : goal.returns-then-end-start-gt-MAX_NODES
 returns-then-end-start-gt-MAX_NODES c =
     let expressions = c.args.expressions.now in
-    let whole : take c.loop-expression.expression-index expressions ≡ expressions = take_all c.loop-expression.expression-index expressions (omega (arith, c.loop-expression-test.false)) in
     let nodes_are : c.loop-expression.nodes.items ≡ c.args.nodes.now.items ++ flat_map nodes_of (map tree_of expressions) =
-    c.loop-expression.invariant.nodes ∙ ap (λ es. c.args.nodes.now.items ++ flat_map nodes_of (map tree_of es)) whole in
+    c.loop-expression.invariant.nodes ∙ ap (λ es. c.args.nodes.now.items ++ flat_map nodes_of (map tree_of es)) (take_all c.loop-expression.expression-index expressions (omega (arith, c.loop-expression-test.false))) in
     let long : length (flat_map nodes_of (map tree_of expressions)) ≡ c.len-end.result - c.len-start.result =
     list_long c.args.nodes.now.items c.loop-expression.nodes.items expressions c.len-start.result c.len-end.result nodes_are (omega (arith, c.len-start.ensures)) (omega (arith, c.len-end.ensures)) in
     inr (inl (refl, omega (arith, long, c.if-end-start-gt-MAX_NODES.true)))

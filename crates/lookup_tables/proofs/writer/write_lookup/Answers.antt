@@ -18,7 +18,6 @@ returns c =
     let nodes_2 = c.write_list.new.nodes.items in
     let nodes_3 = c.write_flags.new.nodes.items in
     let spans = c.write_tuples.new.spans.items in
-    let names = c.write_bus.new.names.items in
     let made : Record = record {
       kind = c.in_ok-bus.bus.mark;
       exclusive = c.in_ok-flags.flags.mark;
@@ -36,7 +35,7 @@ returns c =
       longer_then c.args.nodes.now.items nodes_2 nodes_3 (longer_then c.args.nodes.now.items nodes_1 nodes_2 c.in_ok-tuples.ensures.0 c.in_ok-multiplicities.ensures.0) c.in_ok-flags.ensures.0,
       c.in_ok-tuples.ensures.1,
       c.in_ok-bus.ensures.0,
-      record_says lookup made nodes_1 nodes_2 nodes_3 spans names c.in_ok-multiplicities.ensures.0 c.in_ok-flags.ensures.0 c.in_ok-bus.ensures.1 tuples multiplicities c.in_ok-flags.ensures.1 refl,
+      record_says lookup made nodes_1 nodes_2 nodes_3 spans c.write_bus.new.names.items c.in_ok-multiplicities.ensures.0 c.in_ok-flags.ensures.0 c.in_ok-bus.ensures.1 tuples multiplicities c.in_ok-flags.ensures.1 refl,
       record {
         elements = subst (λ (ts : List (Vec (SymbolicExpression BabyBear) Global)). All (λ tuple. AreSayable tuple.items) ts) c.deref.ensures.value c.in_ok-tuples.ensures.3;
         multiplicities = subst AreSayable c.deref-2.ensures.value c.in_ok-multiplicities.ensures.2;

@@ -7,8 +7,3 @@ returns-clause-fit g c = batch_fits g.F.PrimeCharacteristicRing.CHARACTERISTIC (
 
 pub returns-clause-ids : goal.returns-clause-ids
 returns-clause-ids g c = batch_lawful g.F.PrimeCharacteristicRing.CHARACTERISTIC (plan_of c.args.self.now) c.args.self.now.facts
-
-pub returns-clause-heights : goal.returns-clause-heights
-returns-clause-heights g c =
-    let self = c.args.self.now in
-    c.height_law.ensures _ self.heights.items self.facts.light

@@ -1,6 +1,5 @@
 use Rattle.std.proofs.Common.{max, sym, ap, ◌∙◌}
-use Rattle.batch.proofs.PackedPlans.{all_keep, greatest_stays}
-use Rattle.batch.proofs.PackedCounts.{plan_packed, renaming, renaming_apart}
+use Rattle.batch.proofs.PackedPlans.{greatest_stays, plan_packed, renaming, renaming_apart}
 use Rattle.batch.proofs.PlanCalls.{batch_fits}
 use Rattle.batch.specs.Runs.{plan_of}
 use Rattle.batch.proofs.plan.BatchPlan.packing_keeps_counts.Goals as goal
@@ -21,8 +20,4 @@ returns-clause-counts g c = λ packed traces fit.
 
 pub returns-clause-width : goal.returns-clause-width
 returns-clause-width g c = λ packed.
-    let before = c.args.self.now in
-    let after = c.args.packed.now in
-    let R = g.F.PrimeCharacteristicRing.ring in
-    let eq = g.F.PartialEq.eq in
-    after.facts.width ∙ ap (λ n. max n 1) (greatest_stays R eq before.airs.items after.airs.items (all_keep R eq before.airs.items after.airs.items packed)) ∙ sym before.facts.width
+    c.args.packed.now.facts.width ∙ ap (λ n. max n 1) (greatest_stays g.F.PrimeCharacteristicRing.ring g.F.PartialEq.eq c.args.self.now.airs.items c.args.packed.now.airs.items packed) ∙ sym c.args.self.now.facts.width

@@ -1,0 +1,47 @@
+-- Lookups with their ids: two of them have one id exactly if they share a bus.
+use Rattle.std.proofs.Common.{◌≡◌, ◌↔◌, ◌⊎◌, ℕ, inl, inr, IsTrue, List, Option, Some, refl, sym, ap, subst₂, ◌∙◌}
+use Rattle.std.specs.List.{AllPairs, Contains}
+use Rattle.lookup_model.specs.declared.types.Lookup.{Lookup}
+use Rattle.lookup_model.proofs.Names.{same_name-Decides}
+use Rattle.batch.proofs.Members.{members}
+use Rattle.batch.specs.Order.{bus_at, same_bus}
+
+-- the test of buses passes exactly if both are one name
+pub shared : (o p : Option (List ℕ)) → IsTrue (same_bus o p) → (name : List ℕ) × (o ≡ Some name) × (p ≡ Some name)
+shared (Some n) (Some m) t = (n, refl, ap Some (sym ((same_name-Decides n m).0 t)))
+shared o p t = absurd (cc t)
+
+pub share : (o p : Option (List ℕ)) (name : List ℕ) → o ≡ Some name → p ≡ Some name → IsTrue (same_bus o p)
+share o p name one other = subst₂ (λ a b. IsTrue (same_bus a b)) (sym one) (sym other) ((same_name-Decides name name).1 refl)
+
+-- an id with its lookup
+abbrev pub Entry : Type 0 → Type 0
+Entry F = ℕ × Lookup F
+
+-- ids are the same exactly if a bus is shared
+abbrev pub IsByBus : {F : Type 0} → Entry F → Entry F → Type 0
+IsByBus a b = (a.0 ≡ b.0) ↔ IsTrue (same_bus (bus_at a) (bus_at b))
+
+module _ {F : Type 0} (xs : List (Entry F)) (buses : AllPairs IsByBus xs) (a b : Entry F) (one : Contains xs a) (other : Contains xs b) where
+  -- lookups with one id are one, or on one bus
+  pub one_or_shared : a.0 ≡ b.0 → (a ≡ b) ⊎ ((name : List ℕ) × (bus_at a ≡ Some name) × (bus_at b ≡ Some name))
+  one_or_shared same = elim (members IsByBus xs buses a b one other) [
+    | inl e ↦ inl e
+    | inr (inl r) ↦ inr (shared (bus_at a) (bus_at b) (r.0 same))
+    | inr (inr r) ↦ let (name, of_b, of_a) = shared (bus_at b) (bus_at a) (r.0 (sym same)) in inr (name, of_a, of_b)
+  ]
+
+  -- so they have one label
+  pub same_label : a.0 ≡ b.0 → bus_at a ≡ bus_at b
+  same_label same = elim (one_or_shared same) [
+    | inl e ↦ ap bus_at e
+    | inr (name, of_a, of_b) ↦ of_a ∙ sym of_b
+  ]
+
+  -- lookups on one bus have one id
+  pub same_id : (name : List ℕ) → bus_at a ≡ Some name → bus_at b ≡ Some name → a.0 ≡ b.0
+  same_id name of_a of_b = elim (members IsByBus xs buses a b one other) [
+    | inl e ↦ ap (λ (c : Entry F). c.0) e
+    | inr (inl r) ↦ r.1 (share (bus_at a) (bus_at b) name of_a of_b)
+    | inr (inr r) ↦ sym (r.1 (share (bus_at b) (bus_at a) name of_b of_a))
+  ]
