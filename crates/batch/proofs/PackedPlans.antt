@@ -25,7 +25,7 @@ use Rattle.lookup_model.specs.Trace.{sent_row_under}
 use Rattle.lookup_model.specs.declared.types.Lookup.{Lookup}
 use Rattle.lookup.proofs.JoinedMessages.{on_some_bus}
 use Rattle.lookup.proofs.StepLaws.{no_flags_of}
-use Rattle.lookup.specs.Kept.{HasIdOfBus, KeepsLawfulFlags, KeepsMessages, KeepsOtherBuses, KeepsSent, KeepsWidths, other_ids, row_messages, widths_of}
+use Rattle.lookup.specs.KeptByPacking.{HasIdOfBus, KeepsLawfulFlags, KeepsMessages, KeepsUnjoinedBuses, KeepsSent, KeepsWidths, unjoined_ids, row_messages, widths_of}
 use Rattle.lookup.specs.Lookups.{lookups_of}
 use Rattle.lookup.specs.Packing.{is_additive}
 use Rattle.lookup.specs.declared.lookups.Lookups.{Lookups}
@@ -121,12 +121,12 @@ module _ {F : Type 0} (R : Ring F) (eq : F → F → Bool) where
   record Keeps (before after : List (Lookup F)) : Type 0 where
     pub messages : KeepsMessages R eq before after
     pub flags : KeepsLawfulFlags R eq before after
-    pub other_buses_are : KeepsOtherBuses before after
+    pub other_buses_are : KeepsUnjoinedBuses before after
     pub widths : KeepsWidths before after
 
   -- the same lookups send the same under the same ids
   rows_same : (id other : Lookup F → ℕ) (bus_id : List ℕ → ℕ) (w : Window F) (ls : List (Lookup F)) → AllByRecursion (HasIdOfBus bus_id id) ls → AllByRecursion (HasIdOfBus bus_id other) ls
-      → other_ids id ls ≡ other_ids other ls → row_messages R eq id w ls ≡ row_messages R eq other w ls
+      → unjoined_ids id ls ≡ unjoined_ids other ls → row_messages R eq id w ls ≡ row_messages R eq other w ls
   rows_same id other bus_id w [] one two same = refl
   rows_same id other bus_id w (l ∷ ls) one two same =
       let rest = filter passing ls in

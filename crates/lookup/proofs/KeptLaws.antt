@@ -29,7 +29,7 @@ use Rattle.lookup_model.specs.declared.types.Lookup.{Lookup}
 use Rattle.lookup.specs.Buses.{bus_names, on_bus}
 use Rattle.lookup_model.specs.Names.{same_name}
 use Rattle.lookup.specs.Cuts.{part_items}
-use Rattle.lookup.specs.Kept.{HasIdOfBus, HaveSameIds, KeepsMessages, KeepsNets, KeepsTotalWeight, other_ids, row_messages, KeepsLawfulFlags, KeepsOtherBuses, other_buses, KeepsWidths, widths_of}
+use Rattle.lookup.specs.KeptByPacking.{HasIdOfBus, HaveSameIds, KeepsMessages, KeepsNets, KeepsTotalWeight, unjoined_ids, row_messages, KeepsLawfulFlags, KeepsUnjoinedBuses, unjoined_buses, KeepsWidths, widths_of}
 use Rattle.lookup.specs.Packing.{AreFilled, IsPacking, additive, is_additive, joined, passing}
 use Rattle.lookup.proofs.Columns.{columns_all, unnumbered, unnumbered_all, columns_give}
 use Rattle.lookup.proofs.FewestColumns.{IsOn, members_on, none_additive}
@@ -136,9 +136,9 @@ module _ {F : Type 0} (R : Ring F) (eq : F → F → Bool) (w : Window F) (bus_i
 
   -- the messages of a row: those of the lookups that may be joined, and those of the others
   divided : (ls : List (Lookup F)) → AllByRecursion (HasIdOfBus bus_id id) ls
-      → IsPermutation (row_messages R eq id w ls) (flat_map (own_messages R eq w bus_id) (additive (map fields_of ls)) ++ flat_map (λ p. messages_of R eq w p.0 p.1) (zip (other_ids id ls) (map unnumbered (passing (map fields_of ls)))))
+      → IsPermutation (row_messages R eq id w ls) (flat_map (own_messages R eq w bus_id) (additive (map fields_of ls)) ++ flat_map (λ p. messages_of R eq w p.0 p.1) (zip (unjoined_ids id ls) (map unnumbered (passing (map fields_of ls)))))
   divided ls has =
-      let others = others_sent (filter (λ l. not (is_additive (fields_of l))) ls) ∙ ap (λ os. flat_map (λ p. messages_of R eq w p.0 p.1) (zip (other_ids id ls) (map unnumbered os))) (filter_seen fields_of (λ o. not (is_additive o)) ls) in
+      let others = others_sent (filter (λ l. not (is_additive (fields_of l))) ls) ∙ ap (λ os. flat_map (λ p. messages_of R eq w p.0 p.1) (zip (unjoined_ids id ls) (map unnumbered os))) (filter_seen fields_of (λ o. not (is_additive o)) ls) in
       subst₂ IsPermutation (sym (flat_map-map (λ sent. sent.messages) (λ l. sent_at R eq w (id l) l) ls)) (λ i. additive_sent ls has i ++ others i) (parted sends (λ l. is_additive (fields_of l)) ls)
 
 module _ {F : Type 0} (answers : Outline (SymbolicExpression F) → Result ℕ LookupError → Type 0) (most : ℕ) (before after : List (Lookup F)) (packing : IsPacking answers most (map fields_of before) (map fields_of after)) where
@@ -160,11 +160,11 @@ module _ {F : Type 0} (answers : Outline (SymbolicExpression F) → Result ℕ L
         let later = sym (flat_map-map own unnumbered (additive (map fields_of after))) ∙ ap (flat_map own) (additive_after answers most os (map fields_of after) packing) ∙ flat_map-map own unnumbered made in
         let joined_sent = subst (IsPermutation (flat_map own (additive os))) (sym (later ∙ in_columns)) (on_buses answers most os (map fields_of after) packing own) in
         let send_others = λ (ids : List ℕ) (ps : List (Outline (SymbolicExpression F))). flat_map (λ p. messages_of R eq w p.0 p.1) (zip ids ps) in
-        let others : send_others (other_ids id_before before) (map unnumbered (passing os)) ≡ send_others (other_ids id_after after) (map unnumbered (passing (map fields_of after))) =
+        let others : send_others (unjoined_ids id_before before) (map unnumbered (passing os)) ≡ send_others (unjoined_ids id_after after) (map unnumbered (passing (map fields_of after))) =
         λ i. send_others (same.others i) (sym (passing_after answers most os (map fields_of after) packing) i) in
         IsPermutation-trans _ _ _ (divided R eq w same.bus_id id_before before same.by_bus_before)
         (IsPermutation-trans _ _ _
-        (subst (λ (t : List (Message F)). IsPermutation (flat_map own (additive os) ++ send_others (other_ids id_before before) (map unnumbered (passing os))) (flat_map own (additive (map fields_of after)) ++ t)) others (IsPermutation-append_left _ _ _ joined_sent))
+        (subst (λ (t : List (Message F)). IsPermutation (flat_map own (additive os) ++ send_others (unjoined_ids id_before before) (map unnumbered (passing os))) (flat_map own (additive (map fields_of after)) ++ t)) others (IsPermutation-append_left _ _ _ joined_sent))
         (IsPermutation-sym _ _ (divided R eq w same.bus_id id_after after same.by_bus_after)))
 
 -- nets
@@ -222,10 +222,10 @@ module _ {F : Type 0} (answers : Outline (SymbolicExpression F) → Result ℕ L
       lawful_sent R eq w id_after after (of_passing R eq w (map fields_of after) (all_of_map Lawful unnumbered (passing (map fields_of after)) those_after))
 
   -- the others stay on their buses
-  pub kept_other_buses : KeepsOtherBuses before after
+  pub kept_other_buses : KeepsUnjoinedBuses before after
   kept_other_buses = buses after ∙ ap (λ os. map (λ o. o.bus) os) (passing_after answers most (map fields_of before) (map fields_of after) packing) ∙ sym (buses before)
     where
-      buses : (ls : List (Lookup F)) → other_buses ls ≡ map (λ o. o.bus) (map unnumbered (passing (map fields_of ls)))
+      buses : (ls : List (Lookup F)) → unjoined_buses ls ≡ map (λ o. o.bus) (map unnumbered (passing (map fields_of ls)))
       buses ls =
           sym (map-map (λ (o : Outline (SymbolicExpression F)). o.bus) fields_of (filter (λ l. not (is_additive (fields_of l))) ls))
           ∙ ap (λ os. map (λ (o : Outline (SymbolicExpression F)). o.bus) os) (filter_seen fields_of (λ o. not (is_additive o)) ls)

@@ -11,7 +11,7 @@ use Rattle.lookup_model.specs.Message.{Key, Message, same_key}
 use Rattle.lookup_model.specs.Net.{keys, net, unbalanced_keys}
 use Rattle.lookup_rows.proofs.NetEntries.{any-first_seen, turned}
 use Rattle.lookup_model.specs.declared.types.Lookup.{Lookup}
-use Rattle.lookup.specs.Kept.{HaveSameKeys, KeepsKeys, KeepsMessages}
+use Rattle.lookup.specs.KeptByPacking.{HaveSameKeys, KeepsKeys, KeepsMessages}
 use Rattle.lookup.proofs.KeptLaws.{net-permutation, trace_kept}
 
 module _ {A : Type 0} (same : A → A → Bool) (decides : (a b : A) → Decides (same a b) (a ≡ b)) where

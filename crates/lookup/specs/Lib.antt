@@ -4,7 +4,7 @@ pub mod Cuts
 pub mod Extraction
 pub mod Fewest
 pub mod Guards
-pub mod Kept
+pub mod KeptByPacking
 pub mod Lookups
 pub mod NamedWidths
 pub mod Packing

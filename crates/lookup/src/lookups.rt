@@ -30,7 +30,7 @@ impl<F: Field> Lookups<F> {
     ghost use Rattle.std.specs.Fn.{FnReturnsAt};
     ghost use Rattle.lookup_model.specs.Outline.{fields_of};
     ghost use Rattle.lookup.specs.Fewest.{AnswersDegree, HasFewestColumns};
-    ghost use Rattle.lookup.specs.Kept.{KeepsSent};
+    ghost use Rattle.lookup.specs.KeptByPacking.{KeepsSent};
     ghost use Rattle.lookup.specs.Packing.{Packs};
     ghost use Rattle.lookup.specs.Trials.{AnswersTrial, IsBusTrial};
 

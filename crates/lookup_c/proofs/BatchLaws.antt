@@ -1,6 +1,6 @@
 -- The batch that tables encode, as calls read it.
-use Rattle.std.proofs.Common.{◌≡◌, ◌∙◌, ◌∷◌, [], List, ap, ap₂, map, refl}
-use Rattle.lists.proofs.Zips.{AllZip-paired}
+use Rattle.std.proofs.Common.{◌≡◌, ◌∙◌, List, ap, map, sym}
+use Rattle.lists.proofs.Zips.{AllZip-paired, AllZip-same_map}
 use Rattle.air.specs.Traces.{air_traces}
 use Rattle.batch.specs.Plans.{Plan}
 use Rattle.batch.specs.Traces.{view_of}
@@ -17,18 +17,11 @@ use Rattle.lookup_c.specs.declared.batch_tables.Air.{Air}
 pub decoded : (numbers : Traces) (traces : ReadTraces) → AreTracesOf numbers traces → view_of_read traces ≡ decoded_traces numbers
 decoded numbers traces are i = air_traces (are.main i) (are.preprocessed i) (are.public_values i)
 
-decoded_all : (traces : List Traces) (all : List ReadTraces) → AreBatchTraces traces all → map view_of_read all ≡ map decoded_traces traces
-decoded_all [] [] are = refl
-decoded_all [] (a ∷ rest) are = absurd are
-decoded_all (t ∷ ts) [] are = absurd are
-decoded_all (t ∷ ts) (a ∷ rest) are =
-    ap₂ (λ s ss. s ∷ ss) (decoded t a are.0) (decoded_all ts rest are.1)
-
 -- a plan and traces that are read are the batch
 pub batch_read : {airs : List Air} {plan : Plan BabyBear} {all read : List ReadTraces} {given made : List (BatchTrace BabyBear)} (traces : List Traces)
     → IsPlanOf airs plan → AreBatchTraces traces all → read ≡ all → given ≡ made → map view_of made ≡ map view_of_read read → IsBatch airs traces plan given
 batch_read {all = all} traces plan_is are read_is given_is views = record {
   plan_is = plan_is;
   below = λ k t there. (AllZip-paired AreTracesOf traces all are k t there).1.canonical;
-  views = ap (map view_of) given_is ∙ (views ∙ (ap (map view_of_read) read_is ∙ decoded_all traces all are));
+  views = ap (map view_of) given_is ∙ (views ∙ (ap (map view_of_read) read_is ∙ sym (AllZip-same_map AreTracesOf decoded_traces view_of_read (λ t read_t is. sym (decoded t read_t is)) traces all are)));
 }

@@ -4,7 +4,7 @@ use Rattle.field.specs.Extension.{Extension}
 use Rattle.field.specs.Quartic.{Quartic}
 use Rattle.lookup.specs.BusWidths.{HaveBusWidths, IsWidthRefusal}
 use Rattle.lookup.specs.Fewest.{AnswersDegree, HasFewestColumns}
-use Rattle.lookup.specs.Kept.{KeepsSent}
+use Rattle.lookup.specs.KeptByPacking.{KeepsSent}
 use Rattle.lookup.specs.Lookups.{StillFit, lookups_of}
 use Rattle.lookup.specs.Packing.{IsFillRefusal, IsPacking}
 use Rattle.lookup.specs.declared.lookups.Lookups.{Lookups}

@@ -8,7 +8,7 @@ ghost use Rattle.lookup_model.specs.Outline.{Outline, bus_of, fields_of};
 ghost use Rattle.lookup_model.specs.Records.{AreRecords, HasEqualLengths};
 ghost use Rattle.lookup.specs.Buses.{bus_groups, on_bus};
 ghost use Rattle.lookup.specs.Fewest.{AnswersDegree};
-ghost use Rattle.lookup.specs.Kept.{KeepsSent};
+ghost use Rattle.lookup.specs.KeptByPacking.{KeepsSent};
 ghost use Rattle.lookup.specs.Packing.{Packs, additive, is_additive, numbered, passing};
 ghost use Rattle.lookup.specs.Trials.{AnswersTrial, IsBusTrial, IsMember, IsTrialAmong};
 ghost use Rattle.lookup.specs.internal.Fillings.{AreFilledBuses, IsFilled};

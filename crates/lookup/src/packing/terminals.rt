@@ -1,7 +1,7 @@
 //! Terminals of packed lookups.
 ghost use Rattle.std.specs.Prelude.{List};
 ghost use Rattle.lookup_model.specs.declared.types.Lookup.{Lookup};
-ghost use Rattle.lookup.specs.Kept.{KeepsMessages, KeepsTerminal};
+ghost use Rattle.lookup.specs.KeptByPacking.{KeepsMessages, KeepsTerminal};
 
 use field::{ExtensionField, Field, Over};
 

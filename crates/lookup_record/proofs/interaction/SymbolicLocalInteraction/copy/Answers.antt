@@ -9,7 +9,7 @@ use Rattle.lookup_record.proofs.interaction.SymbolicLocalInteraction.copy.Goals 
 
 pub loop-tuple-preserved : goal.loop-tuple-preserved
 loop-tuple-preserved g c = rw c.in_ok-push.ensures.items
-    (copied_more (λ t. map_tuple tree_of (tuple_of t)) c.loop-tuple.tuples.items c.as_slice-tuple-items.result.now c.loop-tuple.tuple-index c.in_ok-copy_tuple.field-0 c.tuple-item.result c.loop-tuple.invariant c.loop-tuple-test.true c.tuple-item.is c.in_ok-copy_tuple.ensures)
+    (copied_more (λ t. map_tuple tree_of (tuple_of t)) c.loop-tuple.tuples.items c.as_slice-tuple-items.result.now c.loop-tuple.tuple-index c.in_ok-copy_local_tuple.field-0 c.tuple-item.result c.loop-tuple.invariant c.loop-tuple-test.true c.tuple-item.is c.in_ok-copy_local_tuple.ensures)
 
 pub returns : goal.returns
 returns g c =

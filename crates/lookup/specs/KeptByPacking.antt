@@ -30,20 +30,20 @@ module _ {F : Type 0} where
   KeepsWidths before after = IsPermutation (widths_of before) (widths_of after)
 
   -- the buses of the lookups that may not be joined, in their order; none of a local one
-  abbrev pub other_buses : List (Lookup F) → List (Option (List ℕ))
-  other_buses lookups = map (λ l. bus_of l.kind) (filter (λ l. not (is_additive (fields_of l))) lookups)
+  abbrev pub unjoined_buses : List (Lookup F) → List (Option (List ℕ))
+  unjoined_buses lookups = map (λ l. bus_of l.kind) (filter (λ l. not (is_additive (fields_of l))) lookups)
 
   -- these are on the buses of before
-  abbrev pub KeepsOtherBuses : List (Lookup F) → List (Lookup F) → Type 0
-  KeepsOtherBuses before after = other_buses after ≡ other_buses before
+  abbrev pub KeepsUnjoinedBuses : List (Lookup F) → List (Lookup F) → Type 0
+  KeepsUnjoinedBuses before after = unjoined_buses after ≡ unjoined_buses before
 
   -- a lookup that may be joined has the id of its bus
   abbrev pub HasIdOfBus : (List ℕ → ℕ) → (Lookup F → ℕ) → Lookup F → Type 0
   HasIdOfBus bus_id id l = (name : List ℕ) → bus_of l.kind ≡ Some name → l.flags ≡ None → id l ≡ bus_id name
 
   -- the ids of the other lookups, in their order
-  abbrev pub other_ids : (Lookup F → ℕ) → List (Lookup F) → List ℕ
-  other_ids id lookups = map id (filter (λ l. not (is_additive (fields_of l))) lookups)
+  abbrev pub unjoined_ids : (Lookup F → ℕ) → List (Lookup F) → List ℕ
+  unjoined_ids id lookups = map id (filter (λ l. not (is_additive (fields_of l))) lookups)
 
   -- The lookups after have the ids of those before: one id for each bus, which is that of all lookups
   -- on it that may be joined, and the same ids for the others, in the same order.
@@ -51,7 +51,7 @@ module _ {F : Type 0} where
     pub bus_id : List ℕ → ℕ
     pub by_bus_before : AllByRecursion (HasIdOfBus bus_id id_before) before
     pub by_bus_after : AllByRecursion (HasIdOfBus bus_id id_after) after
-    pub others : other_ids id_before before ≡ other_ids id_after after
+    pub others : unjoined_ids id_before before ≡ unjoined_ids id_after after
 
   module _ (R : Ring F) (eq : F → F → Bool) where
     -- the messages that lookups send at a window
@@ -99,7 +99,7 @@ module _ {F : Type 0} where
     pub record KeepsSent (before after : List (Lookup F)) : Type 0 where
       pub weight : KeepsTotalWeight before after
       pub widths : KeepsWidths before after
-      pub other_buses_are : KeepsOtherBuses before after
+      pub other_buses_are : KeepsUnjoinedBuses before after
       pub flags : KeepsLawfulFlags before after
       pub messages : KeepsMessages before after
       pub nets : KeepsNets before after
