@@ -17,7 +17,7 @@ use std::alloc::Global;
 /// Whether all ids are below a number.
 ///
 /// Refuses the first one that is not.
-fn check_ids(ids: &[usize], num_ids: usize) -> Result<(), Fault>
+fn check_given_ids(ids: &[usize], num_ids: usize) -> Result<(), Fault>
     ensures { MatchResult result (λ _. All (λ id. id < num_ids) ids.now)
         (IsFirstLargeId ids.now num_ids) }
 {
@@ -45,7 +45,7 @@ fn challenges_of_ids(
     if width == 0 {
         return Err(Fault::Width);
     }
-    check_ids(ids, sizes.num_ids)?;
+    check_given_ids(ids, sizes.num_ids)?;
     let challenges = Challenges::new(alloc, alpha, beta, width, sizes.num_ids)?;
     Ok(challenges.for_columns(alloc, ids)?)
 }

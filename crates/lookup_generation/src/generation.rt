@@ -139,7 +139,7 @@ fn push_columns<F: Field, EF: ExtensionDomain<F>>(
 /// denominator is zero, and each is one where no lookup has tuples.
 ///
 /// Refuses the first fault in the order row, lookup.
-fn ratios_of<F: Field, EF: ExtensionDomain<F>>(
+fn chunk_ratios<F: Field, EF: ExtensionDomain<F>>(
     alloc: Global,
     memory: &mut ChunkMemory<F, EF>,
     inputs: &GenerationInputs<'_, F, EF>,
@@ -244,7 +244,7 @@ fn push_chunk<F: Field, EF: ExtensionDomain<F>, I: Inverter<EF>>(
     ensures nothing_sent { HaveNoTuples inputs.now.lookups.now
         → I.count inverter.new ≡ I.count inverter.old }
 {
-    let ratios = ratios_of(alloc, memory, inputs, first, end)?;
+    let ratios = chunk_ratios(alloc, memory, inputs, first, end)?;
     let fractions = values_of::<F, EF, I>(
         &mut memory.fractions,
         &mut memory.division,

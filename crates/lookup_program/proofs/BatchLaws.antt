@@ -28,8 +28,8 @@ use Rattle.lookup_model.specs.Trace.{sent_row_under}
 use Rattle.lookup_model.specs.declared.types.Lookup.{Lookup}
 use Rattle.lookup.specs.Lookups.{lookups_of}
 use Rattle.lookup.specs.Sends.{lookup_bus_and_weight}
-use Rattle.lookup_program.specs.Machines.{air_bus_and_weight, air_cells, air_sends, air_trace, airs_of, input_columns, first_column_of, width_of}
-use Rattle.lookup_program.specs.Program.{AreFaultlessAirs, IsFirstAirFault, air_faults, air_result, machine_witness, run_table}
+use Rattle.lookup_program.specs.Machines.{air_bus_and_weight, machine_air_cells, air_sends, machine_air_trace, airs_of, input_columns, first_column_of, width_of}
+use Rattle.lookup_program.specs.Program.{AreFaultlessMachineAirs, IsFirstAirFault, air_faults, air_result, machine_witness, run_table}
 use Rattle.lookup_program.specs.Refusal.{of_batch}
 use Rattle.lookup_program.specs.declared.airs.MachineAir.{MachineAir}
 use Rattle.lookup_program.specs.declared.airs.MachineAir.TheVariants.{Entries, Group, Keys, RangeCheck}
@@ -92,15 +92,15 @@ pub wide : (air : MachineAir) → 0 < width_of air
 wide air = grind arith
 
 -- the parts of the rows that an AIR holds are as long as it is wide
-pub length_cells : {F : Type 0} (air : MachineAir) (input : Matrix F) (r : ℕ) → first_column_of air + width_of air ≤ input.width → r < height input → length (air_cells air (row input r)) ≡ width_of air
+pub length_cells : {F : Type 0} (air : MachineAir) (input : Matrix F) (r : ℕ) → first_column_of air + width_of air ≤ input.width → r < height input → length (machine_air_cells air (row input r)) ≡ width_of air
 length_cells air input r holds lt =
     length_part (row input r) (first_column_of air) (width_of air) (omega (arith, holds, length_row input.values input.width r lt))
 
 -- the trace of an AIR has a row where the input has one
-trace_rows : {F : Type 0} (air : MachineAir) (input : Matrix F) → first_column_of air + width_of air ≤ input.width → 0 < height input → 0 < height (air_trace air input)
+trace_rows : {F : Type 0} (air : MachineAir) (input : Matrix F) → first_column_of air + width_of air ≤ input.width → 0 < height input → 0 < height (machine_air_trace air input)
 trace_rows air input holds some =
-    some_rows (air_trace air input).values (width_of air) (height input) (wide air) some
-    (length_rows (λ r. air_cells air (row input r)) (width_of air) 0 (height input) (λ r lt. length_cells air input r holds (omega (arith, lt))))
+    some_rows (machine_air_trace air input).values (width_of air) (height input) (wide air) some
+    (length_rows (λ r. machine_air_cells air (row input r)) (width_of air) 0 (height input) (λ r lt. length_cells air input r holds (omega (arith, lt))))
 
 -- the batch's instance of an AIR: public values and ids are the same for all
 abbrev pub instance : {F : Type 0} → AirTrace F → Instance F
@@ -140,7 +140,7 @@ module _ {F : Type 0} (R : Ring F) (eq : F → F → Bool) (input : Matrix F) (a
       ∙ is.lookups.sends (window_at main None [] (height main) r) (row_widths main same r lt)
 
   -- so it is of the whole trace
-  sent_by_air : sent_rows_of R eq (instance trace) ≡ map (λ r. air_sends R eq air (row (air_trace air input) r) ∷ []) (range_with_len 0 (height (air_trace air input)))
+  sent_by_air : sent_rows_of R eq (instance trace) ≡ map (λ r. air_sends R eq air (row (machine_air_trace air input) r) ∷ []) (range_with_len 0 (height (machine_air_trace air input)))
   sent_by_air =
       same_over _ _ 0 (height trace.main) (λ r lt. sent_on_row trace.main (ap (λ m. m.width) is.main) r (omega (arith, lt)))
       ∙ ap (λ (m : Matrix F). map (λ r. air_sends R eq air (row m r) ∷ []) (range_with_len 0 (height m))) is.main
@@ -190,7 +190,7 @@ module _ {F K : Type 0} (E : Extension F K) (alpha beta : K) (input : Matrix F) 
     witness_is = results_are (airs_of machine) traces all
 
     -- no AIR has a fault
-    pub faultless_is : AreInstancesFaultless E table (map instance traces) → AreFaultlessAirs E machine alpha beta input
+    pub faultless_is : AreInstancesFaultless E table (map instance traces) → AreFaultlessMachineAirs E machine alpha beta input
     faultless_is none i air there =
         let x = instance_at i air there in
         sym x.2 ∙ none i x.0 x.1

@@ -6,7 +6,7 @@ use Rattle.std.proofs.lemmas.List.{append-nil, map-append, nil_from_length}
 use Rattle.std.proofs.lemmas.List.Splits.{length-slice_split}
 use Rattle.std.proofs.lemmas.List.Sums.{count_by-le-length}
 use Rattle.std.proofs.lemmas.Option.{same_Some}
-use Rattle.lookup_program.specs.Input.{NoneRefusedOf, line_refusal}
+use Rattle.lookup_program.specs.Input.{NoLineRefusedBefore, line_refusal}
 use Rattle.lookup_program.specs.Words.{is_number, lines_of, number_of, words_of}
 use Rattle.lookup_program.specs.declared.error.RunError.TheVariants.{WrongCount, BadNumber}
 use Rattle.lookup_program.specs.internal.Words.{numbers_or_zeros}
@@ -32,8 +32,8 @@ written-more bound lines line old new before added =
     ap (map (number_of bound)) words ∙ map-append (number_of bound) (flat_map words_of lines) (words_of line) ∙ ap (λ (l : List (Option ℕ)). l ++ map (number_of bound) (words_of line)) before ∙ sym added
 
 -- one more line that is not refused
-pub NoneRefusedOf-more : (columns bound : ℕ) (text : List ℕ) (n : ℕ) (line : List ℕ) → NoneRefusedOf columns bound text n → slice_get (lines_of text) n ≡ Some line → line_refusal columns bound (n + 1) line ≡ None → NoneRefusedOf columns bound text (n + 1)
-NoneRefusedOf-more columns bound text n line before stands good =
+pub NoLineRefusedBefore-more : (columns bound : ℕ) (text : List ℕ) (n : ℕ) (line : List ℕ) → NoLineRefusedBefore columns bound text n → slice_get (lines_of text) n ≡ Some line → line_refusal columns bound (n + 1) line ≡ None → NoLineRefusedBefore columns bound text (n + 1)
+NoLineRefusedBefore-more columns bound text n line before stands good =
     below_more (λ i. (l : List ℕ) → slice_get (lines_of text) i ≡ Some l → line_refusal columns bound (i + 1) l ≡ None) n before
     (λ l found. ap (line_refusal columns bound (n + 1)) (same_Some l line (sym found ∙ stands)) ∙ good)
 

@@ -30,9 +30,9 @@ use Rattle.lookup_debug.specs.declared.fault.LookupFault.{LookupFault}
 use Rattle.lookup_debug.specs.declared.instance.LookupDebugInstance.{LookupDebugInstance}
 use Rattle.lookup_debug.specs.SentContributions.{sent_contributions}
 use Rattle.lookup_debug.proofs.SentContributionLaws.{contributions_sent}
-use Rattle.lookup_program.specs.Machines.{air_bus_and_weight, air_sends, air_trace, airs_of}
+use Rattle.lookup_program.specs.Machines.{air_bus_and_weight, air_sends, machine_air_trace, airs_of}
 use Rattle.lookup_program.specs.Mismatches.{air_contributions, label_of, machine_contributions, mismatch_line}
-use Rattle.lookup_program.specs.Program.{AreFaultlessAirs, air_rows, run_table}
+use Rattle.lookup_program.specs.Program.{AreFaultlessMachineAirs, air_rows, run_table}
 use Rattle.lookup_program.specs.declared.airs.MachineAir.{MachineAir}
 use Rattle.lookup_program.specs.declared.airs.MachineAir.TheVariants.{Entries, Group as GroupAir, Keys, RangeCheck}
 use Rattle.lookup_program.specs.declared.machine.Machine.{Machine}
@@ -51,9 +51,9 @@ at_row P f a n all k lt =
     (all_there (λ r. AllByRecursion P (f r ∷ [])) rs k (a + k) (all_of_map (AllByRecursion P) (λ r. f r ∷ []) rs all) (range_at a n k rs refl lt)).0
 
 -- without a fault each flag of a machine is zero or one
-pub flags_boolean : {F K : Type 0} (E : Extension F K) (machine : Machine) (alpha beta : K) (input : Matrix F) → AreFaultlessAirs E machine alpha beta input → AreFlagsBoolean E.base E.base_eq machine input
+pub flags_boolean : {F K : Type 0} (E : Extension F K) (machine : Machine) (alpha beta : K) (input : Matrix F) → AreFaultlessMachineAirs E machine alpha beta input → AreFlagsBoolean E.base E.base_eq machine input
 flags_boolean {F} E machine alpha beta input faultless i air is r lt =
-    let trace = air_trace air input in
+    let trace = machine_air_trace air input in
     let sends : ℕ → Sent F = λ k. air_sends E.base E.base_eq air (row trace k) in
     let lawful = lawful_rows E (table_key_denominator E (run_table E alpha beta)) (air_rows E alpha beta input air) (faultless i air is) in
     let here : HasLawfulFlags E.base E.base_eq (sends (0 + r)) = at_row (HasLawfulFlags E.base E.base_eq) sends 0 (height trace) lawful r lt in
@@ -66,7 +66,7 @@ flags_boolean {F} E machine alpha beta input faultless i air is r lt =
 module _ {F : Type 0} {R : Ring F} (laws : IsCommutativeRing R) (eq : F → F → Bool) (decides : (a b : F) → Decides (eq a b) (a ≡ b)) (input : Matrix F) where
   -- the flags that an AIR sends are zero or one
   abbrev AreAirFlagsBoolean : MachineAir → Type 0
-  AreAirFlagsBoolean air = (r : ℕ) → r < height (air_trace air input) → HasBooleanFlags R eq (air_sends R eq air (row (air_trace air input) r))
+  AreAirFlagsBoolean air = (r : ℕ) → r < height (machine_air_trace air input) → HasBooleanFlags R eq (air_sends R eq air (row (machine_air_trace air input) r))
 
   module _ (air : MachineAir) (trace : AirTrace F) (is : IsTraceOf R eq input air trace) where
     -- the one lookup of an AIR
@@ -83,7 +83,7 @@ module _ {F : Type 0} {R : Ring F} (laws : IsCommutativeRing R) (eq : F → F �
         cc one
 
     -- contributes what the AIR does
-    air_is : (index : ℕ) → AreAirFlagsBoolean air → contributions_of R eq index 0 (traced_over trace) the_lookup ≡ air_contributions R eq index air (air_trace air input)
+    air_is : (index : ℕ) → AreAirFlagsBoolean air → contributions_of R eq index 0 (traced_over trace) the_lookup ≡ air_contributions R eq index air (machine_air_trace air input)
     air_is index boolean =
         same_parts (contributions_on R eq index 0 (traced_over trace) the_lookup) part 0 (height trace.main) (λ r lt. on_row r (omega (arith, lt)))
         ∙ ap (λ (m : Matrix F). flat_map (λ r. sent_contributions R eq (record { instance = index; lookup = 0; row = r }) (air_sends R eq air (row m r))) (range_with_len 0 (height m))) is.main

@@ -21,7 +21,7 @@ use Rattle.batch.specs.Traces.{FitsAt, batch_over}
 use Rattle.batch.specs.declared.error.BatchError.{BatchError}
 use Rattle.batch.specs.declared.error.BatchError.TheVariants.{Lookup as OfLookup}
 use Rattle.batch.specs.declared.trace.BatchTrace.{BatchTrace}
-use Rattle.lookup_program.specs.Machines.{air_bus_and_weight, air_trace, airs_of, input_columns, first_column_of, width_of}
+use Rattle.lookup_program.specs.Machines.{air_bus_and_weight, machine_air_trace, airs_of, input_columns, first_column_of, width_of}
 use Rattle.lookup_program.specs.Program.{height_sum}
 use Rattle.batch.specs.Traces.{traces_of_main, view_of}
 use Rattle.lookup_program.specs.declared.airs.MachineAir.{MachineAir}
@@ -71,15 +71,15 @@ module _ {F : Type 0} (R : Ring F) (eq : F → F → Bool) (input : Matrix F) wh
 
   -- each weight times its height is that of the AIR
   weights_are : (airs : List MachineAir) (traces : List (AirTrace F)) → AllZip (IsTraceOf R eq input) airs traces
-      → weighted_height_sum (map lookups_of (sets traces)) (heights traces) ≡ sum_by (λ air. (air_bus_and_weight air).1 * height (air_trace air input)) airs
+      → weighted_height_sum (map lookups_of (sets traces)) (heights traces) ≡ sum_by (λ air. (air_bus_and_weight air).1 * height (machine_air_trace air input)) airs
   weights_are [] [] all = refl
   weights_are (a ∷ later) (t ∷ ts) all =
       let one = one_lookup R eq input a t all.0 in
       let weight : sum_by (λ (l : Lookup F). l.count_weight) (lookups_of t.lookups) ≡ (air_bus_and_weight a).1 = ap (sum_by (λ (l : Lookup F). l.count_weight)) one.1 ∙ alone one.0 ∙ ap (λ p. p.1) one.2 in
-      let tall : height t.main ≡ height (air_trace a input) = ap height all.0.main in
+      let tall : height t.main ≡ height (machine_air_trace a input) = ap height all.0.main in
       sum_by-cons weighted_height (lookups_of t.lookups, height t.main) (zip (map lookups_of (sets ts)) (heights ts))
       ∙ ap₂ (λ x y. x + y) (ap₂ (λ x y. x * y) weight tall) (weights_are later ts all.1)
-      ∙ sym (sum_by-cons (λ air. (air_bus_and_weight air).1 * height (air_trace air input)) a later)
+      ∙ sym (sum_by-cons (λ air. (air_bus_and_weight air).1 * height (machine_air_trace air input)) a later)
     where
       alone : (l : Lookup F) → sum_by (λ (k : Lookup F). k.count_weight) (l ∷ []) ≡ l.count_weight
       alone l = sum_by-cons (λ (k : Lookup F). k.count_weight) l [] ∙ omega arith

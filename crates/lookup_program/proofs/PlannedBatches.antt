@@ -28,7 +28,7 @@ use Rattle.batch.specs.declared.error.BatchError.{BatchError}
 use Rattle.batch.specs.declared.error.BatchError.TheVariants.{Memory as BatchMemory}
 use Rattle.batch.specs.declared.trace.BatchTrace.{BatchTrace}
 use Rattle.lookup_program.specs.Machines.{airs_of, input_columns}
-use Rattle.lookup_program.specs.Program.{AreFaultlessAirs, IsFirstAirFault, IsHeavyInput, height_sum, machine_witness, run_table}
+use Rattle.lookup_program.specs.Program.{AreFaultlessMachineAirs, IsFirstAirFault, IsHeavyInput, height_sum, machine_witness, run_table}
 use Rattle.lookup_program.specs.Refusal.{of_batch}
 use Rattle.batch.specs.Traces.{traces_of_main, view_of}
 use Rattle.lookup_program.specs.declared.error.RunError.TheVariants.{Memory}
@@ -86,7 +86,7 @@ module _ {F K : Type 0} (E : Extension F K) (machine : Machine) (alpha beta : K)
 
     -- what it proves is the machine's witness
     pub proved : (w : Witness K) → FitPlan plan shown × IsPlainWitness E (made_table E.ring alpha beta plan.width plan.num_ids) (plan_batch plan shown) w
-        → (results_of w ≡ machine_witness E machine alpha beta input) × (length w.aux.items ≡ length w.terminals.items) × AreFaultlessAirs E machine alpha beta input × (height_sum machine input < p)
+        → (results_of w ≡ machine_witness E machine alpha beta input) × (length w.aux.items ≡ length w.terminals.items) × AreFaultlessMachineAirs E machine alpha beta input × (height_sum machine input < p)
     proved w (fit, made) = (
       made.0 ∙ (λ i. plain_witness E (made_is i) (batch_same i)) ∙ witness_is E alpha beta input machine traces all,
       made.1.0 ∙ sym made.1.1,

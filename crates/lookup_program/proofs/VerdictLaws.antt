@@ -14,7 +14,7 @@ use Rattle.lookup_program.specs.Fields.{Fields}
 use Rattle.lookup_program.specs.Input.{IsInput}
 use Rattle.lookup_program.specs.Machines.{input_columns}
 use Rattle.lookup_program.specs.Mismatches.{IsMismatchLine}
-use Rattle.lookup_program.specs.Program.{AreFaultlessAirs, IsReport, height_sum, machine_witness}
+use Rattle.lookup_program.specs.Program.{AreFaultlessMachineAirs, IsReport, height_sum, machine_witness}
 use Rattle.lookup_program.specs.Report.{verdict_line, witness_lines}
 use Rattle.lookup_program.specs.declared.machine.Machine.{Machine}
 
@@ -30,7 +30,7 @@ module _ {F K : Type 0} (fields : Fields F K) (machine : Machine) (alpha beta : 
   -- the report of rows without a fault
   pub report_is : (w : Witness K) (terminals : List (Option (LookupTerminal K))) (cancel : Result (Unit {0}) LookupError) (balanced : Bool) (lines verdict : List ℕ) (text : String Global) (mismatch : Option (String Global))
       → IsInput fields.extension.base (input_columns machine) fields.bound input rows
-      → (results_of w ≡ machine_witness fields.extension machine alpha beta rows) × (length w.aux.items ≡ length w.terminals.items) × AreFaultlessAirs fields.extension machine alpha beta rows × (height_sum machine rows < fields.characteristic)
+      → (results_of w ≡ machine_witness fields.extension machine alpha beta rows) × (length w.aux.items ≡ length w.terminals.items) × AreFaultlessMachineAirs fields.extension machine alpha beta rows × (height_sum machine rows < fields.characteristic)
       → terminals ≡ w.terminals.items → MatchResult cancel (λ _. terminal_sum fields.extension.ring terminals ≡ fields.extension.ring.zero) (λ e. (e ≡ TerminalSumNonZero) × (terminal_sum fields.extension.ring terminals ≢ fields.extension.ring.zero))
       → balanced ≡ is_ok cancel → lines ≡ witness_lines fields.text (results_of w) → verdict ≡ verdict_line balanced → string_bytes text ≡ lines ++ verdict
       → IsMismatchLine fields.extension.base fields.extension.base_eq fields.base_text machine rows mismatch

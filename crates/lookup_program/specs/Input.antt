@@ -23,13 +23,13 @@ all_words text = flat_map words_of (lines_of text)
 
 module _ (columns bound : ℕ) (text : List ℕ) where
   -- none of the first n lines is refused
-  abbrev pub NoneRefusedOf : ℕ → Type 0
-  NoneRefusedOf n =
+  abbrev pub NoLineRefusedBefore : ℕ → Type 0
+  NoLineRefusedBefore n =
       (i : ℕ) → i < n → (line : List ℕ) → slice_get (lines_of text) i ≡ Some line → line_refusal columns bound (i + 1) line ≡ None
 
   -- no line is refused
-  abbrev pub NoneRefused : Type 0
-  NoneRefused = NoneRefusedOf (length (lines_of text))
+  abbrev pub NoLineRefused : Type 0
+  NoLineRefused = NoLineRefusedBefore (length (lines_of text))
 
   -- this is why the first refused line, which has `before` lines in front of it, is refused
   pub record IsFirstLineRefusal (e : RunError) : Type 0 where
@@ -37,15 +37,15 @@ module _ (columns bound : ℕ) (text : List ℕ) where
     pub line : List ℕ
     pub stands : slice_get (lines_of text) before ≡ Some line
     pub refused : line_refusal columns bound (before + 1) line ≡ Some e
-    pub first : NoneRefusedOf before
+    pub first : NoLineRefusedBefore before
 
   -- this is why the text is refused: because of its first refused line, or because it has no words
   abbrev pub IsInputRefusal : RunError → Type 0
-  IsInputRefusal e = IsFirstLineRefusal e ⊎ (NoneRefused × (all_words text ≡ []) × (e ≡ NoRows))
+  IsInputRefusal e = IsFirstLineRefusal e ⊎ (NoLineRefused × (all_words text ≡ []) × (e ≡ NoRows))
 
   -- no line is refused, and these are the numbers that the words write, line after line
   pub record AreNumbers (numbers : List ℕ) : Type 0 where
-    pub none_refused : NoneRefused
+    pub none_refused : NoLineRefused
     pub written : map (number_of bound) (all_words text) ≡ map Some numbers
 
 -- the matrix of the numbers of a text that has words and no refused line: each number as an

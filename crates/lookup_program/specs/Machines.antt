@@ -50,13 +50,13 @@ width_of Entries = 2
 width_of Group = 4
 
 -- the cells of a row of the input that an AIR holds
-abbrev pub air_cells : {F : Type 0} → MachineAir → List F → List F
-air_cells air cells = slice_range cells (first_column_of air) (first_column_of air + width_of air)
+abbrev pub machine_air_cells : {F : Type 0} → MachineAir → List F → List F
+machine_air_cells air cells = slice_range cells (first_column_of air) (first_column_of air + width_of air)
 
 -- the trace of an AIR: those cells of each row of the input
-abbrev pub air_trace : {F : Type 0} → MachineAir → Matrix F → Matrix F
-air_trace air input = record {
-  values = flat_map (λ r. air_cells air (row input r)) (range_with_len 0 (height input));
+abbrev pub machine_air_trace : {F : Type 0} → MachineAir → Matrix F → Matrix F
+machine_air_trace air input = record {
+  values = flat_map (λ r. machine_air_cells air (row input r)) (range_with_len 0 (height input));
   width = width_of air;
 }
 

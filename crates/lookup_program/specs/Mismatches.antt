@@ -10,7 +10,7 @@ use Rattle.lookup_debug.specs.FaultText.{mismatch_text}
 use Rattle.lookup_debug.specs.Groups.{bus_label, local_label}
 use Rattle.lookup_debug.specs.Mismatch.{Balances, IsFirst, net_amount, of_tuple}
 use Rattle.lookup_debug.specs.SentContributions.{sent_contributions}
-use Rattle.lookup_program.specs.Machines.{air_sends, air_trace, airs_of}
+use Rattle.lookup_program.specs.Machines.{air_sends, machine_air_trace, airs_of}
 use Rattle.lookup_program.specs.declared.airs.MachineAir.{MachineAir}
 use Rattle.lookup_program.specs.declared.machine.Machine.{Machine}
 use Rattle.lookup_program.specs.declared.machine.Machine.TheVariants.{Bus, Exclusive, Range}
@@ -29,7 +29,7 @@ module _ {F : Type 0} (R : Ring F) (eq : F → F → Bool) where
 
   -- what all AIRs of a machine contribute, over the rows of an input
   abbrev pub machine_contributions : Machine → Matrix F → List (Contribution F)
-  machine_contributions machine input = flat_map (λ p. air_contributions p.0 p.1 (air_trace p.1 input)) (enumerate_from 0 (airs_of machine))
+  machine_contributions machine input = flat_map (λ p. air_contributions p.0 p.1 (machine_air_trace p.1 input)) (enumerate_from 0 (airs_of machine))
 
   module _ (text : F → List ℕ) where
     -- the line of a tuple that does not balance

@@ -18,7 +18,7 @@ use Rattle.lookup_model.specs.Terminals.{terminal_sum}
 use Rattle.lookup_model.specs.declared.error.LookupError.{LookupError}
 use Rattle.lookup_program.specs.Fields.{Fields}
 use Rattle.lookup_program.specs.Input.{IsInput, IsInputRefusal}
-use Rattle.lookup_program.specs.Machines.{air_bus_and_weight, air_sends, air_trace, airs_of, input_columns, name_of}
+use Rattle.lookup_program.specs.Machines.{air_bus_and_weight, air_sends, machine_air_trace, airs_of, input_columns, name_of}
 use Rattle.lookup_program.specs.Mismatches.{IsMismatchLine}
 use Rattle.lookup_program.specs.Refusal.{ShowsWord}
 use Rattle.lookup_program.specs.Report.{verdict_line, witness_lines}
@@ -30,7 +30,7 @@ use Rattle.lookup_program.specs.declared.report.Report.{Report}
 
 -- the weights of a machine's AIRs, each times the height of its trace, added up
 abbrev pub height_sum : {F : Type 0} → Machine → Matrix F → ℕ
-height_sum machine input = sum_by (λ air. (air_bus_and_weight air).1 * height (air_trace air input)) (airs_of machine)
+height_sum machine input = sum_by (λ air. (air_bus_and_weight air).1 * height (machine_air_trace air input)) (airs_of machine)
 
 -- the refusal of an input whose height sum reaches the characteristic
 abbrev pub IsHeavyInput : {F : Type 0} → ℕ → Machine → Matrix F → RunError → Type 0
@@ -44,7 +44,7 @@ module _ {F K : Type 0} (E : Extension F K) (alpha beta : K) (input : Matrix F) 
   -- what an AIR sends on each row of its trace
   abbrev pub air_rows : MachineAir → List (List (Sent F))
   air_rows air =
-      let trace = air_trace air input in
+      let trace = machine_air_trace air input in
       map (λ r. air_sends E.base E.base_eq air (row trace r) ∷ []) (range_with_len 0 (height trace))
 
   -- the plain result of an AIR: an accumulator and the fractions of its one lookup, and its terminal
@@ -63,8 +63,8 @@ module _ {F K : Type 0} (E : Extension F K) (machine : Machine) (alpha beta : K)
   machine_witness = map (air_result E alpha beta input) (airs_of machine)
 
   -- no AIR has a fault
-  abbrev pub AreFaultlessAirs : Type 0
-  AreFaultlessAirs = (i : ℕ) (air : MachineAir) → slice_get (airs_of machine) i ≡ Some air → air_faults E alpha beta input air ≡ []
+  abbrev pub AreFaultlessMachineAirs : Type 0
+  AreFaultlessMachineAirs = (i : ℕ) (air : MachineAir) → slice_get (airs_of machine) i ≡ Some air → air_faults E alpha beta input air ≡ []
 
   -- why there is no witness: the first fault of the first AIR that has one
   abbrev pub IsFirstAirFault : RunError → Type 0
@@ -85,7 +85,7 @@ module _ {F K : Type 0} (fields : Fields F K) (machine : Machine) where
     pub rows : Matrix F
     pub read : IsInput fields.extension.base (input_columns machine) fields.bound input rows
     pub light : height_sum machine rows < fields.characteristic
-    pub faultless : AreFaultlessAirs fields.extension machine alpha beta rows
+    pub faultless : AreFaultlessMachineAirs fields.extension machine alpha beta rows
     pub balanced : IsTrue report.balanced
         ↔ (terminal_sum fields.extension.ring (map (λ r. r.1) (machine_witness fields.extension machine alpha beta rows)) ≡ fields.extension.ring.zero)
     pub text : string_bytes report.text

@@ -4,7 +4,7 @@ ghost use Rattle.std.specs.List.{AllZip, flat_map};
 ghost use Rattle.matrix.specs.Matrix.{height};
 ghost use Rattle.lookup_model.specs.Batches.Witnesses.{results_of};
 ghost use Rattle.lookup_program.specs.Machines.{airs_of, input_columns};
-ghost use Rattle.lookup_program.specs.Program.{AreFaultlessAirs, IsFirstAirFault, IsHeavyInput, IsReport, IsReportRefusal, height_sum, machine_witness};
+ghost use Rattle.lookup_program.specs.Program.{AreFaultlessMachineAirs, IsFirstAirFault, IsHeavyInput, IsReport, IsReportRefusal, height_sum, machine_witness};
 ghost use Rattle.lookup_program.specs.Report.{air_lines, row_line, witness_lines};
 ghost use Rattle.lookup_program.specs.internal.Fields.{run_fields};
 ghost use Rattle.lookup_program.specs.internal.Traces.{IsTraceOf};
@@ -85,7 +85,7 @@ fn prove_machine<F: Field, EF: ExtensionField<F>>(
         let alpha = challenges.0 in let beta = challenges.1 in MatchResult result
         (λ w. (results_of w ≡ machine_witness E machine alpha beta input.now)
         × (length w.aux.items ≡ length w.terminals.items)
-        × AreFaultlessAirs E machine alpha beta input.now
+        × AreFaultlessMachineAirs E machine alpha beta input.now
         × (height_sum machine input.now < F.CHARACTERISTIC))
         (λ e. (e ≡ RunError.Memory) ⊎ (IsHeavyInput F.CHARACTERISTIC machine input.now e
         ⊎ ((height_sum machine input.now < F.CHARACTERISTIC)

@@ -3,7 +3,7 @@ ghost use Rattle.std.specs.Prelude.{◌≡◌, ◌≤◌, ◌+◌, IfOk, MatchRe
 ghost use Rattle.std.specs.List.{AllZip};
 ghost use Rattle.lookup.specs.Lookups.{lookups_of};
 ghost use Rattle.lookup_debug.specs.Contributions.{traced_of};
-ghost use Rattle.lookup_program.specs.Machines.{AreLookupsOf, air_trace, airs_of, input_columns, first_column_of, width_of};
+ghost use Rattle.lookup_program.specs.Machines.{AreLookupsOf, machine_air_trace, airs_of, input_columns, first_column_of, width_of};
 ghost use Rattle.batch.specs.Traces.{traces_of_main, view_of};
 ghost use Rattle.lookup_program.specs.internal.Traces.{IsTraceOf, traced_over};
 ghost use Rattle.matrix.specs.Matrix.{height};
@@ -64,14 +64,14 @@ fn lookups_for<F: Field, EF: ExtensionField<F>>(
         (λ lookups. AreLookupsOf F.ring F.eq air (lookups_of lookups))
         (λ e. e ≡ LookupError.Memory) }
 {
-    let lookups = recorded_for::<F, EF>(alloc, air)?;
+    let lookups = machine_air_lookups::<F, EF>(alloc, air)?;
     lookups.pack_same_bus(alloc, &LogUpGadget::new(), MAX_DEGREE)
 }
 
 /// The lookups that an AIR records.
 ///
 /// Fails only when out of memory.
-fn recorded_for<F: Field, EF: ExtensionField<F>>(
+fn machine_air_lookups<F: Field, EF: ExtensionField<F>>(
     alloc: Global,
     air: MachineAir,
 ) -> Result<Lookups<F>, LookupError>
@@ -89,7 +89,7 @@ fn trace_for<F: Field>(
     input: &RowMajorMatrix<F>,
 ) -> Result<RowMajorMatrix<F>, AllocError>
     requires { first_column_of air + width_of air ≤ input.now.width }
-    ensures { IfOk result (λ trace. trace ≡ air_trace air input.now) }
+    ensures { IfOk result (λ trace. trace ≡ machine_air_trace air input.now) }
 {
     let first = air.first_column();
     let last = first + air.columns();

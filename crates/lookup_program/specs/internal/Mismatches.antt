@@ -4,7 +4,7 @@ use Rattle.std.specs.List.{list_all}
 use Rattle.field.specs.Ring.{Ring}
 use Rattle.matrix.specs.Matrix.{Matrix, height, row}
 use Rattle.lookup_model.specs.Sent.{Sent}
-use Rattle.lookup_program.specs.Machines.{air_sends, air_trace, airs_of}
+use Rattle.lookup_program.specs.Machines.{air_sends, machine_air_trace, airs_of}
 use Rattle.lookup_program.specs.declared.airs.MachineAir.{MachineAir}
 use Rattle.lookup_program.specs.declared.machine.Machine.{Machine}
 
@@ -16,4 +16,4 @@ module _ {F : Type 0} (R : Ring F) (eq : F → F → Bool) where
   abbrev pub AreFlagsBoolean : Machine → Matrix F → Type 0
   AreFlagsBoolean machine input =
       (i : ℕ) (air : MachineAir) → slice_get (airs_of machine) i ≡ Some air
-      → (r : ℕ) → r < height (air_trace air input) → HasBooleanFlags (air_sends R eq air (row (air_trace air input) r))
+      → (r : ℕ) → r < height (machine_air_trace air input) → HasBooleanFlags (air_sends R eq air (row (machine_air_trace air input) r))

@@ -8,7 +8,7 @@ use Rattle.lookup_model.specs.Batches.Instances.{Instance}
 use Rattle.lookup.specs.Lookups.{lookups_of}
 use Rattle.lookup_debug.specs.Contributions.{Traced}
 use Rattle.batch.specs.Traces.{traces_of_main}
-use Rattle.lookup_program.specs.Machines.{AreLookupsOf, air_trace, airs_of}
+use Rattle.lookup_program.specs.Machines.{AreLookupsOf, machine_air_trace, airs_of}
 use Rattle.lookup_program.specs.declared.airs.MachineAir.{MachineAir}
 use Rattle.lookup_program.specs.declared.machine.Machine.{Machine}
 use Rattle.lookup_program.specs.declared.traces.AirTrace.{AirTrace}
@@ -16,7 +16,7 @@ use Rattle.lookup_program.specs.declared.traces.AirTrace.{AirTrace}
 -- the lookups of an AIR, and its trace over an input
 pub record IsTraceOf {F : Type 0} (R : Ring F) (eq : F → F → Bool) (input : Matrix F) (air : MachineAir) (trace : AirTrace F) : Type 0 where
   pub lookups : AreLookupsOf R eq air (lookups_of trace.lookups)
-  pub main : trace.main ≡ air_trace air input
+  pub main : trace.main ≡ machine_air_trace air input
 
 -- the instance of an AIR in a batch, with these public values and ids
 abbrev pub traced_instance : {F : Type 0} → List F → List ℕ → AirTrace F → Instance F

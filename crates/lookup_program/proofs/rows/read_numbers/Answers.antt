@@ -5,10 +5,10 @@ use Rattle.std.proofs.lemmas.Iterator.Consumers.{YieldsList-end, YieldsList-turn
 use Rattle.std.proofs.lemmas.List.{length-map, length_push, map_push}
 use Rattle.std.proofs.lemmas.Option.{slice_get_read}
 use Rattle.std.proofs.lemmas.Result.{err_from_is_err_and}
-use Rattle.lookup_program.specs.Input.{NoneRefusedOf, line_refusal}
+use Rattle.lookup_program.specs.Input.{NoLineRefusedBefore, line_refusal}
 use Rattle.lookup_program.specs.Words.{lines_of, number_of, words_of}
 use Rattle.lookup_program.specs.internal.Words.{number_bound}
-use Rattle.lookup_program.proofs.InputLaws.{NoneRefusedOf-more, length-lines_of, written-more}
+use Rattle.lookup_program.proofs.InputLaws.{NoLineRefusedBefore-more, length-lines_of, written-more}
 use Rattle.lookup_program.proofs.PartLaws.{split-parts}
 use Rattle.lookup_program.proofs.rows.read_numbers.Goals as goal
 
@@ -51,7 +51,7 @@ loop-words-preserved c =
       lines = c.loop-words.invariant.lines;
       whole_rows = kept _ _ c.args.columns c.in_ok-push_line.ensures.whole_row c.loop-words.invariant.whole_rows;
       counted = omega (arith, length_push lines c.in-Some.words);
-      none_refused = subst (NoneRefusedOf c.args.columns bound c.args.text.now) (sym (length_push lines c.in-Some.words)) (NoneRefusedOf-more c.args.columns bound c.args.text.now (length lines) c.in-Some.words.now c.loop-words.invariant.none_refused turn good);
+      none_refused = subst (NoLineRefusedBefore c.args.columns bound c.args.text.now) (sym (length_push lines c.in-Some.words)) (NoLineRefusedBefore-more c.args.columns bound c.args.text.now (length lines) c.in-Some.words.now c.loop-words.invariant.none_refused turn good);
       written = ap (λ (ls : List (List ℕ)). map (number_of bound) (flat_map words_of ls)) (map_push (λ line. line.now) lines c.in-Some.words) ∙ written-more bound (map (λ line. line.now) lines) c.in-Some.words.now c.loop-words.numbers.items c.push_line.new.numbers.items c.loop-words.invariant.written added.1;
     }
 
@@ -77,6 +77,6 @@ returns-clause-cases c =
     let bound : ℕ = number_bound c.args.bound in
     let all = (YieldsList-end c.loop-words.invariant.lines c.loop-words.yielded _ c.loop-words.yielded_by _ _ c.in-None.is c.next.ensures.steps).0 in
     record {
-      none_refused = subst (NoneRefusedOf c.args.columns bound c.args.text.now) (sym (length-map c.loop-words.yielded (λ line. line.now)) ∙ ap length all) c.loop-words.invariant.none_refused;
+      none_refused = subst (NoLineRefusedBefore c.args.columns bound c.args.text.now) (sym (length-map c.loop-words.yielded (λ line. line.now)) ∙ ap length all) c.loop-words.invariant.none_refused;
       written = ap (λ (ls : List (List ℕ)). map (number_of bound) (flat_map words_of ls)) (sym all) ∙ c.loop-words.invariant.written;
     }

@@ -1,7 +1,7 @@
 use Rattle.std.proofs.Common.{◌≡◌, ◌%◌, length, map, vec_len, Some}
 use Rattle.std.specs.List.{flat_map}
 use Rattle.std.proofs.lemmas.Iterator.{YieldsList}
-use Rattle.lookup_program.specs.Input.{NoneRefusedOf}
+use Rattle.lookup_program.specs.Input.{NoLineRefusedBefore}
 use Rattle.lookup_program.specs.Words.{lines_of, number_of, words_of}
 use Rattle.lookup_program.specs.internal.Words.{number_bound}
 use Rattle.lookup_program.proofs.rows.read_numbers.Given as goal
@@ -11,6 +11,6 @@ invariant-loop-words l = record {
   lines : YieldsList (goal.iterator-loop-words).next_gives (λ line. line.now) l.initial.words-iterator (lines_of l.text);
   whole_rows : vec_len l.numbers % l.columns ≡ 0;
   counted : l.line ≡ length l.yielded;
-  none_refused : NoneRefusedOf l.columns (number_bound l.bound) l.text (length l.yielded);
+  none_refused : NoLineRefusedBefore l.columns (number_bound l.bound) l.text (length l.yielded);
   written : map (number_of (number_bound l.bound)) (flat_map words_of (map (λ line. line.now) l.yielded)) ≡ map Some l.numbers.items;
 }

@@ -1,5 +1,5 @@
 use Rattle.lookup_program.proofs.ExtractedLaws.{air_lookups}
-use Rattle.lookup_program.proofs.traces.recorded_for.Goals as goal
+use Rattle.lookup_program.proofs.traces.machine_air_lookups.Goals as goal
 
 pub returns : goal.returns
 returns g c =
