@@ -1,7 +1,7 @@
 //! The first row on which a constraint is not zero, in chunks of rows.
 ghost use Rattle.std.specs.Prelude.{◌<◌, ◌≤◌, IfOk};
 ghost use Rattle.std.specs.List.{AllZip};
-ghost use Rattle.checker.specs.internal.Rows.{AreChecked, FindsFailing, HoldsOn, HoldsUntil};
+ghost use Rattle.checker.specs.internal.Rows.{AreRowInputs, FindsFailing, HoldsOn, HoldsUntil};
 ghost use Rattle.lookup_columns.specs.LookupSteps.{AreLookupSteps};
 ghost use Rattle.matrix.specs.Matrix.{height};
 
@@ -24,7 +24,7 @@ pub(crate) fn first_failing_in_chunks<'a, F: Field, EF: ExtensionField<F>>(
     inputs: &'a RowInputs<'a, F, EF>,
     lookups: &[Lookup<F>],
 ) -> Result<Option<usize>, AllocError>
-    requires { AreChecked inputs.now lookups.now }
+    requires { AreRowInputs inputs.now lookups.now }
     ensures { FindsFailing ⟦<EF as Over<F>>⟧.fields inputs.now lookups.now result }
 {
     let steps = steps_of_lookups(alloc, lookups)?;
@@ -56,7 +56,7 @@ fn chunk_holds_until<'a, F: Field, EF: ExtensionField<F>>(
     first: usize,
     end: usize,
 ) -> Result<usize, AllocError>
-    requires checked { AreChecked inputs.now lookups.now }
+    requires checked { AreRowInputs inputs.now lookups.now }
     requires steps { AllZip AreLookupSteps steps.now lookups.now }
     requires from { first ≤ end }
     requires up_to { end ≤ height inputs.now.main.now }

@@ -1,7 +1,7 @@
 //! The constraints of lookups on the rows of given traces.
 ghost use Rattle.std.specs.Prelude.{◌<◌, length};
 ghost use Rattle.matrix.specs.Matrix.{height};
-ghost use Rattle.checker.specs.internal.Rows.{AreChecked, ChecksRow, FindsFailing};
+ghost use Rattle.checker.specs.internal.Rows.{AreRowInputs, ChecksRow, FindsFailing};
 
 use crate::chunks::first_failing_in_chunks;
 use air::{AirError, DebugConstraintBuilder, RowInputs};
@@ -23,7 +23,7 @@ pub(crate) fn first_failing_row<'a, F: Field, EF: ExtensionField<F>>(
     inputs: &'a RowInputs<'a, F, EF>,
     lookups: &[Lookup<F>],
 ) -> Result<Option<usize>, AllocError>
-    requires { 0 < length lookups.now → AreChecked inputs.now lookups.now }
+    requires { 0 < length lookups.now → AreRowInputs inputs.now lookups.now }
     ensures { FindsFailing ⟦<EF as Over<F>>⟧.fields inputs.now lookups.now result }
 {
     if lookups.is_empty() {
@@ -41,7 +41,7 @@ fn first_failing_of_few<'a, F: Field, EF: ExtensionField<F>>(
     inputs: &'a RowInputs<'a, F, EF>,
     lookups: &[Lookup<F>],
 ) -> Result<Option<usize>, AllocError>
-    requires { AreChecked inputs.now lookups.now }
+    requires { AreRowInputs inputs.now lookups.now }
     ensures { FindsFailing ⟦<EF as Over<F>>⟧.fields inputs.now lookups.now result }
 {
     for row in 0..inputs.main.height() {
@@ -62,7 +62,7 @@ fn check_row<'a, F: Field, EF: ExtensionField<F>>(
     row: usize,
 ) -> Result<(), AirError>
     requires row { row < height inputs.now.main.now }
-    requires checked { AreChecked inputs.now lookups.now }
+    requires checked { AreRowInputs inputs.now lookups.now }
     ensures { ChecksRow ⟦<EF as Over<F>>⟧.fields inputs.now lookups.now row result }
 {
     let mut builder = DebugConstraintBuilder::new(inputs, row);

@@ -14,7 +14,7 @@ use Rattle.lookup_tables.specs.declared.tables.Tables.{Tables}
 use Rattle.lookup_tables.specs.declared.traces.ReadTraces.{ReadTraces}
 use Rattle.lookup_tables.specs.declared.traces.Traces.{Traces}
 use Rattle.lookup_c.specs.BatchTables.{AreBatchTraces}
-use Rattle.lookup_c.specs.DebugCheck.{AreTableSets, ChecksTables, ChecksTraced, IsCallRefusal, IsMisfitAt, IsMismatchRefusal, IsUnfitAmong, all_traced, traced_tables}
+use Rattle.lookup_c.specs.DebugCheck.{AreTableSets, DebugChecksTables, ChecksTraced, IsCallRefusal, IsMisfitAt, IsMismatchRefusal, IsUnfitAmong, all_traced, traced_tables}
 use Rattle.lookup_c.specs.declared.fault.Fault.{Fault}
 use Rattle.expressions.proofs.FirstFaults.{first_fault}
 
@@ -40,7 +40,7 @@ module _ (sets : List (Lookups BabyBear)) (traces : List ReadTraces) (i : ℕ) (
 pub checks_tables : (E : Extension BabyBear (Quartic BabyBear)) (airs : List Tables) (traces : List Traces) (sets : List (Lookups BabyBear)) (all : List ReadTraces) (ts : List (Traced BabyBear))
     (answer : Result (Unit {0}) Fault) → AreTableSets airs sets → AreBatchTraces traces all → length traces ≡ length airs → ts ≡ all_traced sets all
     → MatchResult answer (λ _. ChecksTraced E ts) (IsMismatchRefusal E ts)
-    → MatchResult answer (λ _. ChecksTables E airs traces) (IsCallRefusal E airs traces)
+    → MatchResult answer (λ _. DebugChecksTables E airs traces) (IsCallRefusal E airs traces)
 checks_tables E airs traces sets all ts answer sets_are all_are as_many ts_are over =
     let whole = subst (λ (us : List (Traced BabyBear)). MatchResult answer (λ _. ChecksTraced E us) (IsMismatchRefusal E us)) ts_are over in
     MatchResult-weaker answer whole

@@ -68,7 +68,7 @@ module _ (E : Extension BabyBear (Quartic BabyBear)) where
   ChecksTraced ts = AllBalance E.base E.base_eq ts
 
   -- all tuples balance that the tables encode
-  pub record ChecksTables (airs : List Tables) (traces : List Traces) : Type 0 where
+  pub record DebugChecksTables (airs : List Tables) (traces : List Traces) : Type 0 where
     pub sets : List (Lookups BabyBear)
     pub sets_are : AreTableSets airs sets
     pub all : List ReadTraces

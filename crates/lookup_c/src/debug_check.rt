@@ -1,7 +1,7 @@
 //! The call that finds the first tuple that does not balance.
 ghost use Rattle.std.specs.Prelude.{◌≡◌, ◌≢◌, ◌⊎◌, MatchResult, length, map};
 ghost use Rattle.lookup_debug.specs.Contributions.{AreFitting, IsTracedFitting, traced_of};
-ghost use Rattle.lookup_c.specs.DebugCheck.{AreDebugInstances, AreTableSets, ChecksTables, ChecksTraced, IsCallRefusal, IsMisfitAt, IsMismatchRefusal, IsTableSetsRefusal, IsUnfitAmong, all_traced, traced_tables};
+ghost use Rattle.lookup_c.specs.DebugCheck.{AreDebugInstances, AreTableSets, DebugChecksTables, ChecksTraced, IsCallRefusal, IsMisfitAt, IsMismatchRefusal, IsTableSetsRefusal, IsUnfitAmong, all_traced, traced_tables};
 ghost use Rattle.lookup_c.specs.Answers.{Answers};
 
 use crate::batch_tables::{all_traces, set_of};
@@ -102,7 +102,7 @@ fn check_instances(
 /// Checks what tables encode.
 fn check_tables(alloc: Global, airs: &[Tables<'_>], traces: &[Traces<'_>]) -> Result<(), Fault>
     ensures { let E = ⟦<BabyBear4 as Over<BabyBear>>⟧.fields in
-        MatchResult result (λ _. ChecksTables E airs.now traces.now)
+        MatchResult result (λ _. DebugChecksTables E airs.now traces.now)
         (IsCallRefusal E airs.now traces.now) }
 {
     if traces.len() != airs.len() {
@@ -131,7 +131,7 @@ pub extern "C" fn volgwain_debug_check(
     text: &mut [u8],
 ) -> u32
     ensures answers { let E = ⟦<BabyBear4 as Over<BabyBear>>⟧.fields in
-        Answers result refusal.new (ChecksTables E airs.now traces.now)
+        Answers result refusal.new (DebugChecksTables E airs.now traces.now)
         (IsCallRefusal E airs.now traces.now) }
 {
     match check_tables(alloc, airs, traces) {

@@ -24,7 +24,7 @@ pub record HoldsUntil (Holds : ℕ → Type 0) (first end r : ℕ) : Type 0 wher
 
 -- For at least one lookup, inputs with all that their constraints read: traces of one height that the
 -- lookups fit, for each lookup two challenges and a cell beside the accumulator, and a terminal.
-pub record AreChecked {F K : Type 0} (inputs : RowInputs F K) (lookups : List (Lookup F)) : Type 0 where
+pub record AreRowInputs {F K : Type 0} (inputs : RowInputs F K) (lookups : List (Lookup F)) : Type 0 where
   pub preprocessed : ForSome (option_copied inputs.preprocessed) (λ m. height m ≡ height inputs.main.now)
   pub permutation : height inputs.permutation.now ≡ height inputs.main.now
   pub fit : LookupsFit (input_layout inputs) lookups
