@@ -1,5 +1,5 @@
 -- The check of one AIR's result: from its shape and its rows to satisfied constraints.
-use Rattle.std.proofs.Common.{◌≡◌, ℕ, ◌+◌, ◌%◌, ◌<◌, inl, inr, Option, List, Result, Ok, Err, sym, subst₂}
+use Rattle.std.proofs.Common.{◌≡◌, ℕ, ◌+◌, ◌%◌, ◌<◌, ◌≤◌, inl, inr, Option, List, Result, Ok, Err, sym, subst₂, arith}
 use Rattle.std.specs.List.{AllByRecursion}
 use Rattle.matrix.specs.Matrix.{Matrix, height, row}
 use Rattle.air.specs.Traces.{window_of}
@@ -13,7 +13,9 @@ use Rattle.lookup_model.specs.declared.types.LookupTerminal.{LookupTerminal}
 use Rattle.lookup_model.specs.Batches.Instances.{Instance}
 use Rattle.lookup_model.specs.Batches.Refusals.{HasShapeAt, HoldsAt, IsFirstFailing}
 use Rattle.lookup_model.specs.Batches.Witnesses.{AirResult}
-use Rattle.checker.specs.internal.Checks.{ChecksResult, ChecksRows}
+use Rattle.checker.specs.Ranges.{ChecksResult, RowsHoldUntil}
+use Rattle.checker.specs.internal.Checks.{ChecksRows}
+use Rattle.checker.proofs.UntilLaws.{joined}
 
 module _ {F K : Type 0} (E : Extension F K) (table : ChallengeTable K) (i : Instance F) where
   -- every constraint is zero on a row, over these challenges and permutation values
@@ -33,12 +35,16 @@ module _ {F K : Type 0} (E : Extension F K) (table : ChallengeTable K) (i : Inst
     pub holds_from : (r : ℕ) → IsZeroOn auxiliary r challenges values → HoldsAt E table i (auxiliary, terminal) r
     holds_from r zeros = subst₂ (IsZeroOn auxiliary r) challenges_are values_are zeros
 
-    pub fails_from : (r : ℕ) → r < height i.traces.main → ¬ IsZeroOn auxiliary r challenges values → ((s : ℕ) → s < r → IsZeroOn auxiliary s challenges values) → IsFirstFailing E table i (auxiliary, terminal) r
-    fails_from r lt fails before = record {
-      within = lt;
-      fails = λ holds. fails (subst₂ (IsZeroOn auxiliary r) (sym challenges_are) (sym values_are) holds);
-      before = λ s earlier. holds_from s (before s earlier);
-    }
+    pub zeros_from : (r : ℕ) → HoldsAt E table i (auxiliary, terminal) r → IsZeroOn auxiliary r challenges values
+    zeros_from r holds = subst₂ (IsZeroOn auxiliary r) (sym challenges_are) (sym values_are) holds
+
+  -- the first row that fails in a range, after rows that hold, is the first of all
+  pub first_failing : (result : AirResult K) (first end r : ℕ) → ((s : ℕ) → s < first → HoldsAt E table i result s) → end ≤ height i.traces.main → RowsHoldUntil E table i result first end r → r < end → IsFirstFailing E table i result r
+  first_failing result first end r so_far within until lt = record {
+    within = omega (arith, lt, within);
+    fails = until.fails lt;
+    before = λ s earlier. joined (HoldsAt E table i result) 0 first end r (λ t low high. so_far t high) until s (omega arith) earlier;
+  }
 
   -- the answer for the rows of a result that has the shape is the answer for the result
   pub result_from : (air : ℕ) (result : AirResult K) (answer : Result (Unit {0}) LookupError) → HasShapeAt i result → ChecksRows E table air i result answer → ChecksResult E table air i result answer

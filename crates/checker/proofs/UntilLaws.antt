@@ -1,7 +1,7 @@
 -- Rows on which properties hold until one fails.
 use Rattle.std.proofs.Common.{◌≡◌, ℕ, ◌+◌, ◌<◌, ◌≤◌, inl, inr, subst, arith}
 use Rattle.std.proofs.lemmas.Bool.{cases_lt}
-use Rattle.checker.specs.internal.Rows.{HoldsUntil}
+use Rattle.checker.specs.Ranges.{HoldsUntil}
 
 module _ (P : ℕ → Type 0) (first : ℕ) where
   -- a property that holds on the rows so far, and on this one
@@ -32,3 +32,27 @@ module _ {P Q : ℕ → Type 0} {first end : ℕ} where
       | inr late ↦ let same : r ≡ u = omega (arith, late, other.up_to) in one.fails (omega (arith, lt, same)) (subst P same pq.0)
     ];
   }
+
+module _ (P : ℕ → Type 0) where
+  -- what holds on all rows up to an end
+  pub until_end : (first end r : ℕ) → first ≤ end → r ≡ end → ((s : ℕ) → first ≤ s → s < end → P s) → HoldsUntil P first end r
+  until_end first end r from is all = record {
+    from = omega (arith, from, is);
+    up_to = omega (arith, is);
+    holds = λ s low high. all s low (omega (arith, high, is));
+    fails = λ lt p. absurd (omega (arith, lt, is));
+  }
+
+  module _ (first next last r : ℕ) (so_far : (s : ℕ) → first ≤ s → s < next → P s) (until : HoldsUntil P next last r) where
+    -- what holds up to a row, and from there on until another one, holds on all rows before that one
+    pub joined : (s : ℕ) → first ≤ s → s < r → P s
+    joined s low high = elim (cases_lt s next) [ inl earlier ↦ so_far s low earlier | inr late ↦ until.holds s late high ]
+
+    -- so the first failing row of a later range is that of the whole
+    pub fails_joined : (end : ℕ) → first ≤ next → last ≤ end → r < last → HoldsUntil P first end r
+    fails_joined end from within lt = record {
+      from = omega (arith, from, until.from);
+      up_to = omega (arith, lt, within);
+      holds = joined;
+      fails = λ before p. until.fails lt p;
+    }

@@ -1,7 +1,8 @@
-//! The first row on which a constraint is not zero, in chunks of rows.
+//! Up to which row all constraints are zero, in chunks of rows.
 ghost use Rattle.std.specs.Prelude.{◌<◌, ◌≤◌, IfOk};
 ghost use Rattle.std.specs.List.{AllZip};
-ghost use Rattle.checker.specs.internal.Rows.{AreRowInputs, FindsFailing, HoldsOn, HoldsUntil};
+ghost use Rattle.checker.specs.Ranges.{HoldsUntil};
+ghost use Rattle.checker.specs.internal.Rows.{AreRowInputs, HoldsOn};
 ghost use Rattle.lookup_columns.specs.LookupSteps.{AreLookupSteps};
 ghost use Rattle.matrix.specs.Matrix.{height};
 
@@ -16,30 +17,35 @@ use lookup_columns::{
 use lookup_generation::chunk_end;
 use std::alloc::{AllocError, Global};
 
-/// The first row on which a constraint is not zero. The first chunk that has one ends the check.
+/// Up to which of the rows from `first` up to `end` all constraints are zero: the first row on which one
+/// is not, or `end`. The first chunk that has such a row ends the check.
 ///
 /// All expressions are flattened once, and the lists of a chunk are filled again for the next one.
-pub(crate) fn first_failing_in_chunks<'a, F: Field, EF: ExtensionField<F>>(
+pub(crate) fn chunks_hold_until<'a, F: Field, EF: ExtensionField<F>>(
     alloc: Global,
     inputs: &'a RowInputs<'a, F, EF>,
     lookups: &[Lookup<F>],
-) -> Result<Option<usize>, AllocError>
-    requires { AreRowInputs inputs.now lookups.now }
-    ensures { FindsFailing ⟦<EF as Over<F>>⟧.fields inputs.now lookups.now result }
+    first: usize,
+    end: usize,
+) -> Result<usize, AllocError>
+    requires checked { AreRowInputs inputs.now lookups.now }
+    requires from { first ≤ end }
+    requires up_to { end ≤ height inputs.now.main.now }
+    ensures { IfOk result (HoldsUntil
+        (HoldsOn ⟦<EF as Over<F>>⟧.fields inputs.now lookups.now) first end) }
 {
     let steps = steps_of_lookups(alloc, lookups)?;
     let mut memory = ColumnMemory::new(alloc);
-    let height = inputs.main.height();
-    let mut first = 0;
-    while first < height {
-        let end = chunk_end(first, height);
-        let until = chunk_holds_until(alloc, &mut memory, inputs, lookups, &steps, first, end)?;
-        if until < end {
-            return Ok(Some(until));
+    let mut next = first;
+    while next < end {
+        let last = chunk_end(next, end);
+        let until = chunk_holds_until(alloc, &mut memory, inputs, lookups, &steps, next, last)?;
+        if until < last {
+            return Ok(until);
         }
-        first = end;
+        next = last;
     }
-    Ok(None)
+    Ok(end)
 }
 
 /// Up to which of the rows from `first` up to `end` all constraints are zero: the first row on which one

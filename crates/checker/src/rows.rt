@@ -1,9 +1,10 @@
 //! The constraints of lookups on the rows of given traces.
-ghost use Rattle.std.specs.Prelude.{◌<◌, length};
+ghost use Rattle.std.specs.Prelude.{◌<◌, ◌≤◌, IfOk, length};
 ghost use Rattle.matrix.specs.Matrix.{height};
-ghost use Rattle.checker.specs.internal.Rows.{AreRowInputs, ChecksRow, FindsFailing};
+ghost use Rattle.checker.specs.Ranges.{HoldsUntil};
+ghost use Rattle.checker.specs.internal.Rows.{AreRowInputs, ChecksRow, HoldsOn};
 
-use crate::chunks::first_failing_in_chunks;
+use crate::chunks::chunks_hold_until;
 use air::{AirError, DebugConstraintBuilder, RowInputs};
 use field::{ExtensionField, Field, Over};
 use lookup::{LogUpGadget, Lookup, LookupProtocol};
@@ -12,46 +13,57 @@ use std::alloc::{AllocError, Global};
 /// From how many rows on they are checked in chunks.
 const MANY_ROWS: usize = 8;
 
-/// The first row on which a constraint of the lookups is not zero.
+/// Up to which of the rows from `first` up to `end` all constraints of the lookups are zero: the first row
+/// on which one is not, or `end`.
 ///
 /// The rows are checked in chunks. Fewer than 8 rows are checked one by one: for so few, making the
 /// columns of a chunk takes longer than walking the expressions on each row.
 ///
 /// Fails only when out of memory.
-pub(crate) fn first_failing_row<'a, F: Field, EF: ExtensionField<F>>(
+pub(crate) fn all_hold_until<'a, F: Field, EF: ExtensionField<F>>(
     alloc: Global,
     inputs: &'a RowInputs<'a, F, EF>,
     lookups: &[Lookup<F>],
-) -> Result<Option<usize>, AllocError>
-    requires { 0 < length lookups.now → AreRowInputs inputs.now lookups.now }
-    ensures { FindsFailing ⟦<EF as Over<F>>⟧.fields inputs.now lookups.now result }
+    first: usize,
+    end: usize,
+) -> Result<usize, AllocError>
+    requires checked { 0 < length lookups.now → AreRowInputs inputs.now lookups.now }
+    requires from { first ≤ end }
+    requires up_to { end ≤ height inputs.now.main.now }
+    ensures { IfOk result (HoldsUntil
+        (HoldsOn ⟦<EF as Over<F>>⟧.fields inputs.now lookups.now) first end) }
 {
     if lookups.is_empty() {
-        Ok(None)
-    } else if inputs.main.height() < MANY_ROWS {
-        first_failing_of_few(alloc, inputs, lookups)
+        Ok(end)
+    } else if end - first < MANY_ROWS {
+        few_hold_until(alloc, inputs, lookups, first, end)
     } else {
-        first_failing_in_chunks(alloc, inputs, lookups)
+        chunks_hold_until(alloc, inputs, lookups, first, end)
     }
 }
 
-/// The first row on which a constraint is not zero, by walking the expressions on each row.
-fn first_failing_of_few<'a, F: Field, EF: ExtensionField<F>>(
+/// The same by walking the expressions on each row.
+fn few_hold_until<'a, F: Field, EF: ExtensionField<F>>(
     alloc: Global,
     inputs: &'a RowInputs<'a, F, EF>,
     lookups: &[Lookup<F>],
-) -> Result<Option<usize>, AllocError>
-    requires { AreRowInputs inputs.now lookups.now }
-    ensures { FindsFailing ⟦<EF as Over<F>>⟧.fields inputs.now lookups.now result }
+    first: usize,
+    end: usize,
+) -> Result<usize, AllocError>
+    requires checked { AreRowInputs inputs.now lookups.now }
+    requires from { first ≤ end }
+    requires up_to { end ≤ height inputs.now.main.now }
+    ensures { IfOk result (HoldsUntil
+        (HoldsOn ⟦<EF as Over<F>>⟧.fields inputs.now lookups.now) first end) }
 {
-    for row in 0..inputs.main.height() {
+    for row in first..end {
         match check_row(alloc, inputs, lookups, row) {
             Ok(()) => {}
             Err(AirError::Memory) => return Err(AllocError),
-            Err(_) => return Ok(Some(row)),
+            Err(_) => return Ok(row),
         }
     }
-    Ok(None)
+    Ok(end)
 }
 
 /// Whether every constraint of the lookups is zero on a row.

@@ -1,14 +1,17 @@
 //! Whether a witness of a batch is accepted.
-ghost use Rattle.std.specs.Prelude.{◌≡◌, IfOk, length};
+ghost use Rattle.std.specs.Prelude.{◌≡◌, ◌≤◌, IfOk, length};
 ghost use Rattle.std.specs.List.{zip};
 ghost use Rattle.lookup_model.specs.Challenges.{table_of};
 ghost use Rattle.lookup_model.specs.Witness.{values_of_terminal};
 ghost use Rattle.checker.specs.Answers.{AreReady, ChecksWitness, PassesOnlyPlain, RefusesUnaccepted};
 ghost use Rattle.lookup_model.specs.Batches.Instances.{HasPrefixes, IsFitting, instance_of, instances_of};
 ghost use Rattle.lookup_model.specs.Batches.Refusals.{HasShapeAt};
-ghost use Rattle.checker.specs.internal.Checks.{ChecksResult, ChecksRows, ChecksShape};
+ghost use Rattle.air.specs.Traces.{height_of};
+ghost use Rattle.checker.specs.Ranges.{ChecksResult, ChecksShape, RowsHoldUntil};
+ghost use Rattle.checker.specs.internal.Checks.{ChecksRows};
+ghost use Rattle.lookup_generation.specs.Ranges.{AreEnds};
 
-use crate::rows::first_failing_row;
+use crate::rows::all_hold_until;
 use air::RowInputs;
 use field::{ExtensionField, Field, Over};
 use lookup::{Challenges, LogUpGadget, LookupError, LookupProtocol, LookupTerminal};
@@ -81,8 +84,12 @@ fn check_result<F: Field, EF: ExtensionField<F>>(
     check_rows(alloc, air, instance, challenges, aux, terminal)
 }
 
-/// Whether there is a terminal, and an auxiliary trace of the right width and height.
-fn check_shape<F, EF>(
+/// Whether the result of an AIR, number `air` of its batch, has a terminal and an auxiliary trace of the
+/// right width and height.
+///
+/// Refuses, in this order, `TerminalPresenceMismatch`, `PermutationWidthMismatch` and
+/// `PermutationHeightMismatch`, as [`check_witness`] does.
+pub fn check_shape<F, EF>(
     air: usize,
     instance: &BatchInstance<'_, F>,
     aux: &RowMajorMatrix<EF>,
@@ -128,6 +135,36 @@ fn check_rows<F: Field, EF: ExtensionField<F>>(
     ensures { ChecksRows ⟦<EF as Over<F>>⟧.fields (table_of challenges.now) air
         (instance_of instance.now) (aux.now, terminal.now) result }
 {
+    let height = instance.main.height();
+    let row = rows_hold_until(alloc, instance, challenges, aux, terminal, 0, height)?;
+    if row < height {
+        return Err(LookupError::ConstraintFailed { air, row });
+    }
+    Ok(())
+}
+
+/// Up to which of the rows from `first` up to `end` every constraint of one AIR is zero: the first row on
+/// which one is not, or `end`.
+///
+/// So the rows of an AIR can be checked apart in ranges, as [`check_in_ranges`] shows. Requires an
+/// auxiliary trace and a terminal of the right shape ([`check_shape`]). Fails only when out of memory.
+pub fn rows_hold_until<F: Field, EF: ExtensionField<F>>(
+    alloc: Global,
+    instance: &BatchInstance<'_, F>,
+    challenges: &Challenges<EF>,
+    aux: &RowMajorMatrix<EF>,
+    terminal: &Option<LookupTerminal<EF>>,
+    first: usize,
+    end: usize,
+) -> Result<usize, AllocError>
+    requires fit { IsFitting (instance_of instance.now) }
+    requires ids { HasPrefixes challenges.now instance.now }
+    requires shape { HasShapeAt (instance_of instance.now) (aux.now, terminal.now) }
+    requires from { first ≤ end }
+    requires up_to { end ≤ height_of (instance_of instance.now).traces }
+    ensures { IfOk result (RowsHoldUntil ⟦<EF as Over<F>>⟧.fields (table_of challenges.now)
+        (instance_of instance.now) (aux.now, terminal.now) first end) }
+{
     let columns = challenges.for_columns(alloc, instance.ids)?;
     let values = terminal_values(alloc, terminal)?;
     let inputs = RowInputs {
@@ -138,10 +175,41 @@ fn check_rows<F: Field, EF: ExtensionField<F>>(
         challenges: columns.as_slice(),
         permutation_values: values.as_slice(),
     };
-    match first_failing_row(alloc, &inputs, instance.lookups)? {
-        Some(row) => Err(LookupError::ConstraintFailed { air, row }),
-        None => Ok(()),
+    all_hold_until(alloc, &inputs, instance.lookups, first, end)
+}
+
+/// Whether the result of one AIR, number `air` of its batch, satisfies its constraints, where its rows are
+/// checked in ranges: the first range ends at the first of `ends`, and each further one follows on the one
+/// before.
+///
+/// Whatever the ranges, the answer is that of [`check_witness`] for this AIR: the shape is checked once, by
+/// [`check_shape`], each range by [`rows_hold_until`], and the first row with a failing constraint is that
+/// of the first range that has one. Also fails when out of memory.
+pub fn check_in_ranges<F: Field, EF: ExtensionField<F>>(
+    alloc: Global,
+    air: usize,
+    instance: &BatchInstance<'_, F>,
+    challenges: &Challenges<EF>,
+    aux: &RowMajorMatrix<EF>,
+    terminal: &Option<LookupTerminal<EF>>,
+    ends: &[usize],
+) -> Result<(), LookupError>
+    requires fit { IsFitting (instance_of instance.now) }
+    requires ids { HasPrefixes challenges.now instance.now }
+    requires ends { AreEnds 0 ends.now (height_of (instance_of instance.now).traces) }
+    ensures { ChecksResult ⟦<EF as Over<F>>⟧.fields (table_of challenges.now) air
+        (instance_of instance.now) (aux.now, terminal.now) result }
+{
+    check_shape(air, instance, aux, terminal)?;
+    let mut first = 0;
+    for end in ends {
+        let row = rows_hold_until(alloc, instance, challenges, aux, terminal, first, *end)?;
+        if row < *end {
+            return Err(LookupError::ConstraintFailed { air, row });
+        }
+        first = *end;
     }
+    Ok(())
 }
 
 /// The permutation values of an AIR: its terminal, if it has one.

@@ -1,320 +1,18 @@
-//! Generation of the auxiliary trace, in chunks of rows: a chunk's fractions are found as ratios, a
-//! column at a time, and divided by at most one inverse.
-ghost use Rattle.std.specs.Prelude.{◌≡◌, ◌+◌, ◌-◌, ◌*◌, ◌%◌, ℕ, ◌<◌, ◌≤◌, ◌⊎◌, ◌++◌, ◌∷◌, [], List, None, IfErr, IfOk, IfSome, MatchResult, OnOk, length, take};
-ghost use Rattle.std.specs.List.{AllZip};
-ghost use Rattle.std.specs.Option.{option_map_or};
+//! Generation of a whole auxiliary trace, at once or from ranges of rows.
+ghost use Rattle.std.specs.Prelude.{◌≡◌, ◌+◌, ◌*◌, ◌<◌, ◌≤◌, ◌⊎◌, IfErr, length};
 ghost use Rattle.air.specs.Traces.{height_of, layout_of, traces_of};
-ghost use Rattle.expressions.specs.Window.{Window};
-ghost use Rattle.lookup_model.specs.Denominators.{key_denominator};
-ghost use Rattle.lookup_model.specs.Fault.{trace_faults};
-ghost use Rattle.field.specs.Sums.{sum_in};
-ghost use Rattle.matrix.specs.Matrix.{height};
-ghost use Rattle.lookup_generation.specs.internal.Chunks.{AnswersRatios, HasRowsOf, RefusesFault, all_sent};
-ghost use Rattle.lookup_generation.specs.internal.GenerationInputs.{AreGenerationInputs};
-ghost use Rattle.lookup_generation.specs.internal.Fraction.{AreAlike, AreDefined, HaveUnitDenominators, ratios_in};
 ghost use Rattle.lookup_generation.specs.Inverses.{ForExtensions};
-ghost use Rattle.lookup_columns.specs.internal.StoredRows.{StoreAllOnRows, StoreOnRows};
-ghost use Rattle.lookup_columns.specs.LookupSteps.{AreLookupSteps};
 ghost use Rattle.lookup_generation.specs.Progress.{HaveNoTuples, started_chunks};
-ghost use Rattle.lookup_generation.specs.internal.Progress.{AnswersPushColumn, AnswersPushColumns, AreRatios, HasRows, IsFirstOf, column_cells, sent_on};
-ghost use Rattle.lookup_model.specs.Records.{AreRecords, LookupsFit};
+ghost use Rattle.lookup_generation.specs.Ranges.{AreEnds};
+ghost use Rattle.lookup_model.specs.Records.{LookupsFit};
 ghost use Rattle.lookup_model.specs.Generation.{AnswersGeneration};
-ghost use Rattle.lookup_model.specs.Trace.{sent_rows};
 
-use crate::columns::{GenerationInputs, columns_of_lookups};
-use crate::fraction::fraction;
-use crate::memory::ChunkMemory;
-use crate::ratio::{Ratios, values_of};
+use crate::ranges::{generate_rows, shift};
 use air::Traces;
 use field::{Domain, ExtensionDomain, ExtensionField, Field, InverseCount, Inverter, Over};
-use lookup_columns::{BranchColumns, rows_between, steps_of_lookups};
 use lookup_model::{Lookup, LookupError, LookupTerminal};
 use matrix::RowMajorMatrix;
-use std::alloc::{AllocError, Global};
-
-/// How many rows make a chunk. All fractions of a chunk are divided by at most one inverse.
-const CHUNK_ROWS: usize = 1024;
-
-/// A fault of a lookup, and the row where it is.
-#[derive(Drop)]
-pub(crate) struct RowFault {
-    row: usize,
-    error: LookupError,
-}
-
-/// Appends the fractions of a lookup on the rows from `first` up to `end`, row after row, as ratios.
-/// `columns` are those of the lookup, from row `first` on.
-///
-/// Returns the lookup's first fault on these rows, if it has one. What is then appended has no meaning.
-/// Else no denominator of what is appended is zero, and without tuples each is one.
-fn push_column<F: Field, EF: ExtensionDomain<F>>(
-    ratios: &mut Ratios<EF>,
-    lookup: &Lookup<F>,
-    columns: &[BranchColumns<F, EF>],
-    first: usize,
-    end: usize,
-) -> Result<Option<RowFault>, AllocError>
-    requires alike { AreAlike ratios.old }
-    requires from { first ≤ end }
-    requires columns { (challenges : List EF) × (window : ℕ → Window F)
-        × StoreOnRows F.ring EF.ring EF.embed challenges window first end lookup.now columns.now }
-    ensures answers { ForExtensions F.ring F.eq EF.ring EF.eq EF.embed (λ E.
-        IfOk result (λ found. (challenges : List EF) (window : ℕ → Window F)
-        → StoreOnRows F.ring EF.ring EF.embed challenges window first end lookup.now columns.now
-        → AnswersPushColumn E (key_denominator E challenges) (sent_on F.ring F.eq window lookup.now)
-        lookup.now.column first end (ratios_in ratios.old) (ratios_in ratios.new) found)) }
-    ensures defined { IfOk result (λ found. found ≡ None → (n : ℕ)
-        → AreDefined EF.ring n (ratios_in ratios.old)
-        → AreDefined EF.ring (n + (end - first)) (ratios_in ratios.new)) }
-    ensures alike { IfOk result (λ _. AreAlike ratios.new) }
-    ensures unit_denominators { lookup.now.elements.items ≡ []
-        → HaveUnitDenominators EF.ring (ratios_in ratios.old)
-        → IfOk result (λ _. HaveUnitDenominators EF.ring (ratios_in ratios.new)) }
-    ensures there { IfOk result (λ found. IfSome found
-        (λ fault. (first ≤ fault.row) × (fault.row < end))) }
-{
-    for row in first..end {
-        match fraction(lookup, columns, row - first, row) {
-            Ok(ratio) => ratios.push(ratio)?,
-            Err(error) => return Ok(Some(RowFault { row, error })),
-        }
-    }
-    Ok(None)
-}
-
-/// Where the rows end on which the fault of a further lookup would come first: at this fault's row, or
-/// at `end` if there is none.
-fn rows_before(fault: &Option<RowFault>, end: usize) -> usize
-    ensures { result ≡ option_map_or (λ f. f.row) fault.now end }
-{
-    match fault {
-        Some(fault) => fault.row,
-        None => end,
-    }
-}
-
-/// Fills `ratios`, which are empty so far, with the fractions of each lookup on the rows from `first` up
-/// to `end`, one column after the other. `columns` are those of each lookup, from row `first` on.
-///
-/// Returns the first fault in the order row, lookup, if there is one. Once a lookup has a fault, further
-/// ones are looked at only on the rows before it. Without a fault no denominator is zero, and each is one
-/// where no lookup has tuples.
-fn push_columns<F: Field, EF: ExtensionDomain<F>>(
-    ratios: &mut Ratios<EF>,
-    lookups: &[Lookup<F>],
-    columns: &[Vec<BranchColumns<F, EF>>],
-    first: usize,
-    end: usize,
-) -> Result<Option<RowFault>, AllocError>
-    requires records { AreRecords lookups.now }
-    requires alike { AreAlike ratios.old }
-    requires from { first ≤ end }
-    requires columns { (challenges : List EF) × (window : ℕ → Window F)
-        × StoreAllOnRows F.ring EF.ring EF.embed challenges window first end lookups.now columns.now }
-    requires none_yet { ratios_in ratios.old ≡ [] }
-    ensures answers { ForExtensions F.ring F.eq EF.ring EF.eq EF.embed (λ E.
-        IfOk result (λ found. (challenges : List EF) (window : ℕ → Window F)
-        → StoreAllOnRows F.ring EF.ring EF.embed challenges window first end lookups.now columns.now
-        → AnswersPushColumns E (key_denominator E challenges) window lookups.now first end
-        (ratios_in ratios.new) found)) }
-    ensures defined { IfOk result (λ found. found ≡ None
-        → AreDefined EF.ring (length lookups.now * (end - first)) (ratios_in ratios.new)) }
-    ensures alike { IfOk result (λ _. AreAlike ratios.new) }
-    ensures unit_denominators { HaveNoTuples lookups.now
-        → IfOk result (λ _. HaveUnitDenominators EF.ring (ratios_in ratios.new)) }
-    ensures there { IfOk result (λ found. IfSome found
-        (λ fault. (first ≤ fault.row) × (fault.row < end))) }
-{
-    let mut fault: Option<RowFault> = None;
-    for lookup in lookups {
-        let until = rows_before(&fault, end);
-        let branches = &columns[lookup.column];
-        let found = push_column(ratios, lookup, branches, first, until)?;
-        fault = found.or(fault);
-    }
-    Ok(fault)
-}
-
-/// The fractions of all lookups on the rows from `first` up to `end`, lookup after lookup, as ratios. No
-/// denominator is zero, and each is one where no lookup has tuples.
-///
-/// Refuses the first fault in the order row, lookup.
-fn chunk_ratios<F: Field, EF: ExtensionDomain<F>>(
-    alloc: Global,
-    memory: &mut ChunkMemory<F, EF>,
-    inputs: &GenerationInputs<'_, F, EF>,
-    first: usize,
-    end: usize,
-) -> Result<Ratios<EF>, LookupError>
-    requires inputs { AreGenerationInputs inputs.now }
-    requires from { first ≤ end }
-    requires up_to { end ≤ height_of (traces_of inputs.now.traces.now) }
-    requires faultless { ForExtensions F.ring F.eq EF.ring EF.eq EF.embed (λ E.
-        trace_faults E (key_denominator E inputs.now.challenges.now)
-        (take first (all_sent F.ring F.eq inputs.now)) ≡ []) }
-    ensures answers { ForExtensions F.ring F.eq EF.ring EF.eq EF.embed (λ E.
-        AnswersRatios E inputs.now first end result) }
-    ensures defined { IfOk result (λ v. AreDefined EF.ring
-        (length inputs.now.lookups.now * (end - first)) (ratios_in v)) }
-    ensures alike { IfOk result AreAlike }
-    ensures unit_denominators { HaveNoTuples inputs.now.lookups.now
-        → IfOk result (λ v. HaveUnitDenominators EF.ring (ratios_in v)) }
-{
-    let rows = rows_between(alloc, &mut memory.columns.indices, first, end)?;
-    let columns = columns_of_lookups(alloc, memory, inputs, &rows)?;
-    let size = rows
-        .len()
-        .checked_mul(inputs.lookups.len())
-        .ok_or(LookupError::Memory)?;
-    let mut ratios = Ratios {
-        numerators: memory.fractions.take(alloc, size)?,
-        denominators: memory.fractions.take(alloc, size)?,
-    };
-    let fault = push_columns(&mut ratios, inputs.lookups, &columns, first, end)?;
-    match fault {
-        Some(RowFault { row: _, error }) => Err(error),
-        None => {
-            memory.columns.indices.put(rows)?;
-            memory.put_columns(columns)?;
-            Ok(ratios)
-        }
-    }
-}
-
-/// The rows of an auxiliary trace that are made so far.
-#[derive(Drop)]
-struct AuxiliaryRows<K> {
-    /// Their cells, row after row.
-    cells: Vec<K>,
-    /// The accumulator of the next row.
-    accumulator: K,
-}
-
-/// Appends a row of the auxiliary trace: the accumulator, and the fraction of each lookup, which stands at
-/// `index` in its row of `by_lookup`. The caller counts these, `num_lookups`, once for all rows.
-fn push_row<K: Domain>(
-    made: &mut AuxiliaryRows<K>,
-    by_lookup: &RowMajorMatrix<K>,
-    num_lookups: usize,
-    index: usize,
-) -> Result<(), AllocError>
-    requires lookups { num_lookups ≡ height by_lookup.now }
-    requires row { index < by_lookup.now.width }
-    ensures { let fractions = column_cells K.ring.zero by_lookup.now index in
-        OnOk result ((made.new.cells.items
-        ≡ made.old.cells.items ++ made.old.accumulator ∷ fractions)
-        × (made.new.accumulator ≡ K.ring.add made.old.accumulator (sum_in K.ring fractions))) }
-{
-    made.cells.push(made.accumulator)?;
-    let mut next = made.accumulator;
-    for lookup in 0..num_lookups {
-        let fraction = by_lookup.row_slice(lookup)[index];
-        made.cells.push(fraction)?;
-        next = next + fraction;
-    }
-    made.accumulator = next;
-    Ok(())
-}
-
-/// Appends the rows from `first` up to `end` of the auxiliary trace, by at most one inverse.
-///
-/// Refuses the first fault in the order row, lookup. A fault is found before anything is inverted, and
-/// nothing is inverted where no lookup has tuples.
-fn push_chunk<F: Field, EF: ExtensionDomain<F>, I: Inverter<EF>>(
-    alloc: Global,
-    memory: &mut ChunkMemory<F, EF>,
-    inputs: &GenerationInputs<'_, F, EF>,
-    made: &mut AuxiliaryRows<EF>,
-    first: usize,
-    end: usize,
-    inverter: &mut I,
-) -> Result<(), LookupError>
-    requires inputs { AreGenerationInputs inputs.now }
-    requires from { first < end }
-    requires up_to { end ≤ height_of (traces_of inputs.now.traces.now) }
-    requires so_far { ForExtensions F.ring F.eq EF.ring EF.eq EF.embed (λ E.
-        HasRowsOf E inputs.now first made.now) }
-    ensures rows { ForExtensions F.ring F.eq EF.ring EF.eq EF.embed (λ E.
-        MatchResult result (λ _. HasRowsOf E inputs.now end made.new) (RefusesFault E inputs.now)) }
-    ensures many { OnOk result (length made.new.cells.items
-        ≡ length made.old.cells.items + (end - first) * (length inputs.now.lookups.now + 1)) }
-    ensures counted { I.count inverter.new ≤ I.count inverter.old + 1 }
-    ensures one_fewer_if_refused { IfErr result (λ e. (e ≡ LookupError.Memory)
-        ⊎ (I.count inverter.new ≡ I.count inverter.old)) }
-    ensures nothing_sent { HaveNoTuples inputs.now.lookups.now
-        → I.count inverter.new ≡ I.count inverter.old }
-{
-    let ratios = chunk_ratios(alloc, memory, inputs, first, end)?;
-    let fractions = values_of::<F, EF, I>(
-        &mut memory.fractions,
-        &mut memory.division,
-        ratios,
-        inverter,
-    )?;
-    let num_rows = end - first;
-    let by_lookup = RowMajorMatrix::new(fractions, num_rows);
-    let num_lookups = by_lookup.height();
-    for index in 0..num_rows {
-        push_row(made, &by_lookup, num_lookups, index)?;
-    }
-    memory.fractions.put(by_lookup.into_values())?;
-    Ok(())
-}
-
-/// Where the chunk ends that starts at `first`, in a trace of this height.
-pub fn chunk_end(first: usize, height: usize) -> usize
-    requires { first < height }
-    ensures further { first < result }
-    ensures up_to { result ≤ height }
-    ensures full_or_last { first % 1024 ≡ 0 → (result % 1024 ≡ 0) ⊎ (result ≡ height) }
-    ensures one { first % 1024 ≡ 0 → started_chunks result ≡ started_chunks first + 1 }
-{
-    if height - first > CHUNK_ROWS {
-        first + CHUNK_ROWS
-    } else {
-        height
-    }
-}
-
-/// All rows of the auxiliary trace; the accumulator behind them is the sum of all fractions.
-///
-/// Refuses the first fault in the order row, lookup. `inverter` is asked as [`generate_counted`] says.
-fn generate<F: Field, EF: ExtensionDomain<F>, I: Inverter<EF>>(
-    alloc: Global,
-    inputs: &GenerationInputs<'_, F, EF>,
-    inverter: &mut I,
-) -> Result<AuxiliaryRows<EF>, LookupError>
-    requires { AreGenerationInputs inputs.now }
-    ensures rows { ForExtensions F.ring F.eq EF.ring EF.eq EF.embed (λ E. MatchResult result
-        (HasRowsOf E inputs.now (height_of (traces_of inputs.now.traces.now)))
-        (RefusesFault E inputs.now)) }
-    ensures many { IfOk result (λ made. length made.cells.items
-        ≡ height_of (traces_of inputs.now.traces.now) * (length inputs.now.lookups.now + 1)) }
-    ensures counted { I.count inverter.new ≤ I.count inverter.old + started_chunks
-        (height_of (traces_of inputs.now.traces.now)) }
-    ensures one_fewer_if_refused { IfErr result (λ e. (e ≡ LookupError.Memory)
-        ⊎ (I.count inverter.new < I.count inverter.old + started_chunks
-        (height_of (traces_of inputs.now.traces.now)))) }
-    ensures nothing_sent { HaveNoTuples inputs.now.lookups.now
-        → I.count inverter.new ≡ I.count inverter.old }
-{
-    let height = inputs.traces.main.height();
-    let size = height
-        .checked_mul(inputs.lookups.len() + 1)
-        .ok_or(LookupError::Memory)?;
-    let mut made = AuxiliaryRows {
-        cells: Vec::with_capacity(alloc, size)?,
-        accumulator: EF::ZERO,
-    };
-    let mut memory = ChunkMemory::new(alloc);
-    let mut first = 0;
-    while first < height {
-        let end = chunk_end(first, height);
-        push_chunk(alloc, &mut memory, inputs, &mut made, first, end, inverter)?;
-        first = end;
-    }
-    Ok(made)
-}
+use std::alloc::Global;
 
 /// The auxiliary trace of one AIR and its terminal, by at most one inverse for each chunk of 1024 rows.
 ///
@@ -338,20 +36,14 @@ pub fn generate_counted<'a, F: Field, EF: ExtensionDomain<F>, I: Inverter<EF>>(
         (height_of (traces_of traces.now)))) }
     ensures nothing_sent { HaveNoTuples lookups.now → I.count inverter.new ≡ I.count inverter.old }
 {
-    if lookups.is_empty() {
-        return Ok((RowMajorMatrix::new(Vec::new(alloc), 0), None));
-    }
-    let inputs = GenerationInputs {
-        traces,
-        lookups,
-        challenges,
-        steps: steps_of_lookups(alloc, lookups)?,
+    let height = traces.main.height();
+    let (cells, sum) = generate_rows(alloc, traces, lookups, challenges, 0, height, inverter)?;
+    let terminal = if lookups.is_empty() {
+        None
+    } else {
+        Some(LookupTerminal(sum))
     };
-    let made = generate(alloc, &inputs, inverter)?;
-    Ok((
-        RowMajorMatrix::new(made.cells, lookups.len() + 1),
-        Some(LookupTerminal(made.accumulator)),
-    ))
+    Ok((cells, terminal))
 }
 
 /// The auxiliary trace of one AIR and its terminal.
@@ -378,4 +70,44 @@ pub fn generate_permutation<F: Field, EF: ExtensionField<F>>(
 {
     let mut count = InverseCount::new();
     generate_counted(alloc, traces, lookups, challenges, &mut count)
+}
+
+/// The auxiliary trace of one AIR and its terminal, made of ranges of rows: the first range ends at the
+/// first of `ends`, and each further one follows on the one before.
+///
+/// Whatever the ranges, the answer is that of [`generate_permutation`]: each
+/// range is made apart by [`generate_rows`], shifted by the sum of the ranges before it, and the terminal
+/// is the sum of all. The first fault is that of the first range that has one.
+pub fn generate_in_ranges<'a, F: Field, EF: ExtensionField<F>>(
+    alloc: Global,
+    traces: &'a Traces<'a, F>,
+    lookups: &'a [Lookup<F>],
+    challenges: &'a [EF],
+    ends: &[usize],
+) -> Result<(RowMajorMatrix<EF>, Option<LookupTerminal<EF>>), LookupError>
+    requires fit { LookupsFit (layout_of (traces_of traces.now)) lookups.now }
+    requires challenges { 2 * length lookups.now ≤ length challenges.now }
+    requires ends { AreEnds 0 ends.now (height_of (traces_of traces.now)) }
+    ensures { AnswersGeneration ⟦<EF as Over<F>>⟧.fields (traces_of traces.now) lookups.now
+        challenges.now result }
+{
+    if lookups.is_empty() {
+        return generate_permutation(alloc, traces, lookups, challenges);
+    }
+    let mut count = InverseCount::new();
+    let mut cells = Vec::new(alloc);
+    let mut sum = EF::ZERO;
+    let mut first = 0;
+    for end in ends {
+        let (rows, more) = generate_rows(
+            alloc, traces, lookups, challenges, first, *end, &mut count,
+        )?;
+        cells.append(&mut shift(rows, sum).into_values())?;
+        sum = sum + more;
+        first = *end;
+    }
+    Ok((
+        RowMajorMatrix::new(cells, lookups.len() + 1),
+        Some(LookupTerminal(sum)),
+    ))
 }

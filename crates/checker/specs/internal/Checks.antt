@@ -1,4 +1,4 @@
--- The check of one AIR's result.
+-- The check of the rows of one AIR's result.
 use Rattle.std.specs.Prelude.{◌≡◌, ◌<◌, ◌⊎◌, ℕ, Result, MatchResult}
 use Rattle.air.specs.Traces.{height_of}
 use Rattle.lookup_model.specs.Challenges.{ChallengeTable}
@@ -6,23 +6,11 @@ use Rattle.field.specs.Extension.{Extension}
 use Rattle.lookup_model.specs.declared.error.LookupError.{LookupError}
 use Rattle.lookup_model.specs.declared.error.LookupError.TheVariants.{ConstraintFailed, Memory}
 use Rattle.lookup_model.specs.Batches.Instances.{Instance}
-use Rattle.lookup_model.specs.Batches.Refusals.{HasShapeAt, HoldsAt, IsAirRefusal, IsFirstFailing, IsShapeRefusal}
-use Rattle.lookup_model.specs.Batches.Witnesses.{AirResult, IsSatisfiedAt}
+use Rattle.lookup_model.specs.Batches.Refusals.{HoldsAt, IsFirstFailing}
+use Rattle.lookup_model.specs.Batches.Witnesses.{AirResult}
 
-module _ {F K : Type 0} (air : ℕ) (i : Instance F) (result : AirResult K) where
-  -- a result of the shape that the lookups ask for, or the refusal of its shape
-  abbrev pub ChecksShape : Result (Unit {0}) LookupError → Type 0
-  ChecksShape answer = MatchResult answer (λ _. HasShapeAt i result) (IsShapeRefusal air i result)
-
-module _ {F K : Type 0} (E : Extension F K) (table : ChallengeTable K) (air : ℕ) (i : Instance F) (result : AirResult K) where
-  -- the constraints hold on all rows, or the first row where one fails; or memory runs out
-  abbrev pub ChecksRows : Result (Unit {0}) LookupError → Type 0
-  ChecksRows answer = MatchResult answer
-      (λ _. (r : ℕ) → r < height_of i.traces → HoldsAt E table i result r)
-      (λ e. (e ≡ Memory) ⊎ ((r : ℕ) × IsFirstFailing E table i result r × (e ≡ ConstraintFailed air r)))
-
-  -- a satisfied result, or its refusal; or memory runs out
-  abbrev pub ChecksResult : Result (Unit {0}) LookupError → Type 0
-  ChecksResult answer = MatchResult answer
-      (λ _. IsSatisfiedAt E table i result)
-      (λ e. (e ≡ Memory) ⊎ IsAirRefusal E table air i result e)
+-- the constraints hold on all rows, or the first row where one fails; or memory runs out
+abbrev pub ChecksRows : {F K : Type 0} → Extension F K → ChallengeTable K → ℕ → Instance F → AirResult K → Result (Unit {0}) LookupError → Type 0
+ChecksRows E table air i result answer = MatchResult answer
+    (λ _. (r : ℕ) → r < height_of i.traces → HoldsAt E table i result r)
+    (λ e. (e ≡ Memory) ⊎ ((r : ℕ) × IsFirstFailing E table i result r × (e ≡ ConstraintFailed air r)))

@@ -14,14 +14,6 @@ use Rattle.field.specs.Extension.{Extension}
 use Rattle.lookup_model.specs.Records.{LookupsFit}
 use Rattle.lookup_model.specs.declared.types.Lookup.{Lookup}
 
--- On row `first` and all further ones before row r a property holds. It fails on row r, unless that is
--- the end.
-pub record HoldsUntil (Holds : ℕ → Type 0) (first end r : ℕ) : Type 0 where
-  pub from : first ≤ r
-  pub up_to : r ≤ end
-  pub holds : (s : ℕ) → first ≤ s → s < r → Holds s
-  pub fails : r < end → ¬ Holds r
-
 -- For at least one lookup, inputs with all that their constraints read: traces of one height that the
 -- lookups fit, for each lookup two challenges and a cell beside the accumulator, and a terminal.
 pub record AreRowInputs {F K : Type 0} (inputs : RowInputs F K) (lookups : List (Lookup F)) : Type 0 where
@@ -56,14 +48,3 @@ module _ {F K : Type 0} (E : Extension F K) (inputs : RowInputs F K) where
     ChecksRow r answer = MatchResult answer
         (λ _. HoldsOn r)
         (λ e. (e ≡ OutOfMemory) ⊎ ((e ≡ Assertion r) × (¬ HoldsOn r)))
-
-    -- row r is the first on which one is not
-    abbrev pub IsFirstFailingOn : ℕ → Type 0
-    IsFirstFailingOn r = FailsFirstAt HoldsOn (height inputs.main.now) r
-
-    -- the first row on which a constraint is not zero, or all are zero on every row; or memory runs out
-    abbrev pub FindsFailing : Result (Option ℕ) AllocError → Type 0
-    FindsFailing result =
-        MatchResult result
-        (λ found. MatchOption found ((r : ℕ) → r < height inputs.main.now → HoldsOn r) IsFirstFailingOn)
-        (λ _. ⊤)

@@ -2,7 +2,6 @@
 use Rattle.std.specs.Prelude.{◌≡◌, ◌⊎◌, ◌<◌, ◌≤◌, ◌+◌, ◌-◌, ℕ, Bool, List, [], ◌++◌, map, take, slice_get, slice_index_or, None, Option, Some, MatchOption}
 use Rattle.std.specs.List.{AllZip, flat_map, range_with_len}
 use Rattle.field.specs.Ring.{Ring}
-use Rattle.air.specs.Traces.{AirTraces, window_of}
 use Rattle.expressions.specs.Window.{Window}
 use Rattle.matrix.specs.Matrix.{Matrix, height, row}
 use Rattle.field.specs.Extension.{Extension}
@@ -10,9 +9,9 @@ use Rattle.lookup_model.specs.Fault.{fault_of, row_faults, trace_faults}
 use Rattle.lookup_model.specs.Message.{Key}
 use Rattle.lookup_model.specs.Plain.{plain_accumulator, plain_fraction, plain_row}
 use Rattle.lookup_model.specs.Sent.{Sent, sent_at}
-use Rattle.lookup_model.specs.Trace.{sent_row, sent_rows}
+use Rattle.lookup_model.specs.Trace.{sent_row}
 use Rattle.lookup_model.specs.declared.types.Lookup.{Lookup}
-use Rattle.lookup_generation.specs.declared.generation.RowFault.{RowFault}
+use Rattle.lookup_generation.specs.declared.chunk.RowFault.{RowFault}
 use Rattle.lookup_generation.specs.declared.ratio.Ratio.{Ratio}
 use Rattle.lookup_generation.specs.internal.Fraction.{IsRatio}
 use Rattle.lookup_model.specs.declared.error.LookupError.{LookupError}
@@ -82,12 +81,17 @@ module _ {F K : Type 0} (E : Extension F K) (denominator : Key F → K) where
     abbrev pub AnswersPushColumns : ℕ → ℕ → List (Ratio K) → Option RowFault → Type 0
     AnswersPushColumns first end ratios found = MatchOption found (HasColumns first end ratios) (AreFirstIn first)
 
-  module _ (traces : AirTraces F) (lookups : List (Lookup F)) where
-    -- The ratios are the fractions of the rows from `first` up to `end`, lookup after lookup, and no row
-    -- before `end` has a fault.
-    pub record AreRatios (first end : ℕ) (ratios : List (Ratio K)) : Type 0 where
-      pub ratios_are : AllZip (IsRatio E.ring) ratios (all_fractions (window_of traces) lookups first (end - first))
-      pub faultless : trace_faults E denominator (take end (sent_rows E.base E.base_eq traces lookups)) ≡ []
+    -- The first fault on the rows from `first` up to `end`, in the order of the rows and their lookups.
+    pub record IsFirstFaultOn (first end : ℕ) (e : LookupError) : Type 0 where
+      pub row : ℕ
+      pub from : first ≤ row
+      pub before : row < end
+      pub fault_is : slice_get (row_faults E denominator row (sent_row E.base E.base_eq (window row) lookups)) 0 ≡ Some e
+      pub faultless : HaveNoFault first row
+
+    -- out of memory, or the first fault on these rows
+    abbrev pub RefusesFirstFault : ℕ → ℕ → LookupError → Type 0
+    RefusesFirstFault first end e = (e ≡ Memory) ⊎ IsFirstFaultOn first end e
 
   -- the cells are those of the first r rows, and the accumulator is that of row r
   pub record HasCells (rows : List (List (Sent F))) (r : ℕ) (cells : List K) (accumulator : K) : Type 0 where

@@ -1,0 +1,32 @@
+-- The check of one AIR's result: its shape, and its constraints on a range of rows.
+use Rattle.std.specs.Prelude.{◌≡◌, ◌⊎◌, ◌<◌, ◌≤◌, ℕ, Result, MatchResult}
+use Rattle.field.specs.Extension.{Extension}
+use Rattle.lookup_model.specs.Challenges.{ChallengeTable}
+use Rattle.lookup_model.specs.declared.error.LookupError.{LookupError}
+use Rattle.lookup_model.specs.declared.error.LookupError.TheVariants.{Memory}
+use Rattle.lookup_model.specs.Batches.Instances.{Instance}
+use Rattle.lookup_model.specs.Batches.Refusals.{HasShapeAt, HoldsAt, IsAirRefusal, IsShapeRefusal}
+use Rattle.lookup_model.specs.Batches.Witnesses.{AirResult, IsSatisfiedAt}
+
+-- On row `first` and all further ones before row r a property holds. It fails on row r, unless that is
+-- the end.
+pub record HoldsUntil (Holds : ℕ → Type 0) (first end r : ℕ) : Type 0 where
+  pub from : first ≤ r
+  pub up_to : r ≤ end
+  pub holds : (s : ℕ) → first ≤ s → s < r → Holds s
+  pub fails : r < end → ¬ Holds r
+
+-- a result of the shape that the lookups ask for, or the refusal of its shape
+abbrev pub ChecksShape : {F K : Type 0} → ℕ → Instance F → AirResult K → Result (Unit {0}) LookupError → Type 0
+ChecksShape air i result answer = MatchResult answer (λ _. HasShapeAt i result) (IsShapeRefusal air i result)
+
+module _ {F K : Type 0} (E : Extension F K) (table : ChallengeTable K) where
+  -- every constraint of an AIR is zero on the rows of a range, up to this one
+  abbrev pub RowsHoldUntil : Instance F → AirResult K → ℕ → ℕ → ℕ → Type 0
+  RowsHoldUntil i result = HoldsUntil (HoldsAt E table i result)
+
+  -- a satisfied result, or its refusal; or memory runs out
+  abbrev pub ChecksResult : ℕ → Instance F → AirResult K → Result (Unit {0}) LookupError → Type 0
+  ChecksResult air i result answer = MatchResult answer
+      (λ _. IsSatisfiedAt E table i result)
+      (λ e. (e ≡ Memory) ⊎ IsAirRefusal E table air i result e)
