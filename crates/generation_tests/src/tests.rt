@@ -6,6 +6,7 @@ mod domains;
 mod evaluation;
 mod exclusive;
 mod generation;
+mod ranges;
 mod rows;
 mod shapes;
 mod windows;

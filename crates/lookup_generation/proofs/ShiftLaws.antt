@@ -1,14 +1,14 @@
 -- Rows are shifted one by one, in place.
-use Rattle.std.proofs.Common.{◌≡◌, ℕ, zero, suc, ◌+◌, ◌-◌, ◌*◌, ◌/◌, ◌<◌, ◌==◌, List, [], ◌∷◌, ◌++◌, append_assoc, cond, length, take, drop, get_or, set, refl, sym, ap, subst, ◌∙◌, arith}
+use Rattle.std.proofs.Common.{◌≡◌, ℕ, zero, suc, ◌+◌, ◌-◌, ◌*◌, ◌<◌, List, ◌∷◌, ◌++◌, append_assoc, length, take, drop, get_or, set, refl, sym, ap, ◌∙◌, arith}
 use native.Mathlib.Nat.{mul_comm}
-use Rattle.std.proofs.Math.Seq.{drop-length, get_or-append_seam}
-use Rattle.std.proofs.lemmas.List.{append-nil, drop-drop, drop_more, length-append, length-drop, length-take, set_at, take-append-drop}
+use Rattle.std.proofs.Math.Seq.{get_or-append_seam}
+use Rattle.std.proofs.lemmas.List.{drop-drop, drop_more, length-append, length-drop, length-take, set_at, take-append-drop}
 use Rattle.std.proofs.lemmas.Nat.{mul-add-lt}
 use Rattle.std.specs.List.{flat_map, range_with_len}
 use Rattle.field.specs.Ring.{Ring}
 use Rattle.lists.proofs.Parts.{flat_more}
 use Rattle.lookup_generation.proofs.ProgressLaws.{product_more}
-use Rattle.lookup_generation.specs.Ranges.{shifted, shifted_row}
+use Rattle.lookup_generation.specs.Ranges.{shifted_row}
 use Rattle.matrix.specs.Matrix.{IsShaped, Matrix, height, row}
 
 module _ {K : Type 0} (S : Ring K) (offset : K) (xs : List K) (width : ℕ) where
@@ -23,16 +23,7 @@ module _ {K : Type 0} (S : Ring K) (offset : K) (xs : List K) (width : ℕ) wher
     pub cells_are : cells ≡ flat_map row_at (range_with_len 0 i) ++ drop (i * width) xs
     pub long : length (flat_map row_at (range_with_len 0 i)) ≡ i * width
 
-  -- none so far
-  pub shifted_none : (n : ℕ) → n ≡ 0 → AreShifted n xs
-  shifted_none n none =
-      let start : n * width ≡ 0 = ap (λ k. k * width) none ∙ omega arith in
-      record {
-        cells_are = (λ i. flat_map row_at (range_with_len 0 (sym none i)) ++ drop (sym start i) xs);
-        long = ap (λ k. length (flat_map row_at (range_with_len 0 k))) none ∙ sym start;
-      }
-
-  -- and one more
+  -- one more is shifted
   pub shifted_more : (cells : List K) (i : ℕ) (x y : K) → IsShaped matrix → i < height matrix → x ≡ get_or cells (i * width) x → y ≡ S.add offset x → AreShifted i cells → AreShifted (i + 1) (set cells (i * width) y)
   shifted_more cells i x y shape lt is sum before = by_width width refl
     where
@@ -65,19 +56,3 @@ module _ {K : Type 0} (S : Ring K) (offset : K) (xs : List K) (width : ℕ) wher
                 ∙ (λ k. before.long k + length (this k))
                 ∙ omega (arith, step, wide, others);
           }
-
-  -- once all are, no others are left
-  pub shifted_all : (cells : List K) (i : ℕ) → IsShaped matrix → i ≡ height matrix → AreShifted i cells → cells ≡ (shifted S offset matrix).values
-  shifted_all cells i shape all has =
-      let none : drop (i * width) xs ≡ [] = ap (λ k. drop (k * width) xs) all ∙ ap (λ k. drop k xs) (sym shape) ∙ drop-length xs in
-      has.cells_are ∙ ap (λ t. flat_map row_at (range_with_len 0 i) ++ t) none ∙ append-nil (flat_map row_at (range_with_len 0 i))
-      ∙ ap (λ k. flat_map row_at (range_with_len 0 k)) all
-
-  -- and the rows are a matrix
-  pub shifted_shaped : (cells : List K) (i : ℕ) → IsShaped matrix → i ≡ height matrix → AreShifted i cells → IsShaped (record { values = cells; width = width })
-  shifted_shaped cells i shape all has =
-      let none : drop (i * width) xs ≡ [] = ap (λ k. drop (k * width) xs) all ∙ ap (λ k. drop k xs) (sym shape) ∙ drop-length xs in
-      let same : length cells ≡ length xs =
-      ap length (has.cells_are ∙ ap (λ t. flat_map row_at (range_with_len 0 i) ++ t) none ∙ append-nil (flat_map row_at (range_with_len 0 i)))
-      ∙ has.long ∙ ap (λ k. k * width) all ∙ sym shape in
-      subst (λ n. n ≡ cond (width == 0) 0 (n / width) * width) (sym same) shape

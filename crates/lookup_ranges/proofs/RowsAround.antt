@@ -4,11 +4,10 @@ use native.Mathlib.Nat.{add-mul}
 use Rattle.std.proofs.Math.Nat.{mod-eq_of_lt, mod_self}
 use Rattle.std.proofs.Math.Seq.{drop-append-add, take-append_seam}
 use Rattle.std.proofs.lemmas.Bool.{cases_lt, eqb-false, eqb-true, ne_eqb}
-use Rattle.std.proofs.lemmas.List.{append-nil, drop-append-le, drop-drop, drop-take, length-append, length-drop, length-take, take-append-le}
+use Rattle.std.proofs.lemmas.List.{append-nil, drop-append-le, drop-drop, drop-take, length-append, length-drop, length-take, take-append-le, take-take}
 use Rattle.std.specs.List.{slice_range}
-use Rattle.lookup_generation.proofs.RangeLists.{take-take}
 use Rattle.matrix.specs.Matrix.{Matrix, height, row}
-use Rattle.lookup_ranges.specs.Around.{around, matrix_around, place_of}
+use Rattle.lookup_ranges.specs.Around.{around, place_of, rows_around}
 
 -- a number of rows further on, and their width
 more_rows : (a b w : ℕ) → (a + b) * w ≡ a * w + b * w
@@ -52,7 +51,7 @@ module _ {T : Type 0} (w : ℕ) where
       let split : end * w - first * w ≡ k * w + rest = omega (arith, here, next, upto) in
       ap (λ n. take w (drop (k * w) (take n (drop (first * w) xs)))) split
       ∙ ap (take w) (drop-take (k * w) rest (drop (first * w) xs))
-      ∙ take-take (drop (k * w) (drop (first * w) xs)) w rest (omega (arith, here, next, upto)) (omega (arith, length-drop (k * w) (drop (first * w) xs), length-drop (first * w) xs, long, here, next, upto))
+      ∙ take-take w rest (drop (k * w) (drop (first * w) xs)) (omega (arith, here, next, upto))
       ∙ ap (take w) (drop-drop (k * w) (first * w) xs ∙ ap (λ n. drop n xs) (sym here))
 
   module _ (h first end : ℕ) (xs : List T) (from : first ≤ end) (up_to : end ≤ h) (long : length xs ≡ h * w) where
@@ -118,7 +117,7 @@ module _ {T : Type 0} (w : ℕ) where
               let all : w ≤ length xs = omega (arith, fewer_rows 1 h w (omega (arith, some, up_to)), long) in
               ap (λ b. row_in (cond b [] (take w xs) ++ (middle ++ tail)) 0) e
               ∙ row_before (take w xs) (middle ++ tail) 0 1 head (omega arith)
-              ∙ zero_row (take w xs) ∙ take-take xs w w (omega arith) all ∙ sym (zero_row xs)
+              ∙ zero_row (take w xs) ∙ take-take w w xs (omega arith) ∙ sym (zero_row xs)
             where
               zero_row : (ys : List T) → row_in ys 0 ≡ take w ys
               zero_row ys = ap (λ n. take w (drop n ys)) none_before
@@ -126,11 +125,7 @@ module _ {T : Type 0} (w : ℕ) where
                   none_before : 0 * w ≡ 0
                   none_before = omega arith
 
--- how many rows there are around a range
-abbrev pub rows_around : ℕ → ℕ → ℕ → ℕ
-rows_around h first end = place_of first + (end - first) + cond (end == h) 0 1
-
--- which are those of the range, and those before
+-- the rows around a range are those of the range, and those before
 pub rows_within : (h first end : ℕ) → place_of first + (end - first) ≤ rows_around h first end
 rows_within h first end = omega arith
 

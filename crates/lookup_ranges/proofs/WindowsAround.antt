@@ -16,8 +16,8 @@ use Rattle.lookup_model.specs.Sent.{Sent}
 use Rattle.lookup_model.specs.Trace.{sent_row, sent_rows}
 use Rattle.lookup_model.specs.declared.types.Lookup.{Lookup}
 use Rattle.matrix.specs.Matrix.{Matrix, height, row}
-use Rattle.lookup_ranges.proofs.RowsAround.{length-around, next_there, row_in, row_is, row_there, rows_around, rows_within}
-use Rattle.lookup_ranges.specs.Around.{around, matrix_around, option_around, place_of, traces_around}
+use Rattle.lookup_ranges.proofs.RowsAround.{length-around, next_there, row_in, row_is, row_there, rows_within}
+use Rattle.lookup_ranges.specs.Around.{around, matrix_around, option_around, place_of, rows_around, traces_around}
 
 -- two tests of equality that say the same
 same_test : (a b c d : ℕ) → (a ≡ b → c ≡ d) → (c ≡ d → a ≡ b) → (a == b) ≡ (c == d)
@@ -30,8 +30,8 @@ same_test a b c d to from = by_tests (a == b) refl (c == d) refl
     by_tests false e true f = absurd (eqb-false a b e (from (eqb-true c d f)))
 
 -- where a row stands
-place_of_is : (first : ℕ) (b : Bool) → ◌≡◌ {A = Bool} (first == 0) b → place_of first ≡ cond b 0 1
-place_of_is first b e = ap (λ c. cond c 0 1) e
+place_by : (first : ℕ) (b : Bool) → ◌≡◌ {A = Bool} (first == 0) b → place_of first ≡ cond b 0 1
+place_by first b e = ap (λ c. cond c 0 1) e
 
 -- the parts of a range from its list
 pub range_part : {X : Type 0} (f : ℕ → X) (h a b : ℕ) → a ≤ b → b ≤ h → slice_range (map f (range_with_len 0 h)) a b ≡ map f (range_with_len a (b - a))
@@ -112,8 +112,8 @@ module _ {F : Type 0} (traces : AirTraces F) (first end : ℕ) (from : first < e
     is_first = by_test (first == 0) refl
       where
         by_test : (b : Bool) → ◌≡◌ {A = Bool} (first == 0) b → (place_of first + k == 0) ≡ (first + k == 0)
-        by_test true e = let none : first ≡ 0 = eqb-true first 0 e in same_test (place_of first + k) 0 (first + k) 0 (λ z. omega (arith, z, none)) (λ z. omega (arith, z, place_of_is first true e))
-        by_test false e = let some = eqb-false first 0 e in same_test (place_of first + k) 0 (first + k) 0 (λ z. absurd (omega (arith, z, place_of_is first false e))) (λ z. absurd (some (omega (arith, z))))
+        by_test true e = let none : first ≡ 0 = eqb-true first 0 e in same_test (place_of first + k) 0 (first + k) 0 (λ z. omega (arith, z, none)) (λ z. omega (arith, z, place_by first true e))
+        by_test false e = let some = eqb-false first 0 e in same_test (place_of first + k) 0 (first + k) 0 (λ z. absurd (omega (arith, z, place_by first false e))) (λ z. absurd (some (omega (arith, z))))
 
     is_last : (place_of first + k + 1 == rows_around (height_of traces) first end) ≡ (first + k + 1 == height_of traces)
     is_last = by_test (end == height_of traces) refl

@@ -1,0 +1,3 @@
+pub mod Renumbering
+pub mod RowsAround
+pub mod WindowsAround
