@@ -1,3 +1,4 @@
 pub mod Renumbering
 pub mod RowsAround
+pub mod WholeAnswers
 pub mod WindowsAround

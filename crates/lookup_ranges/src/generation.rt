@@ -42,7 +42,7 @@ pub fn generate_around<F: Field, EF: ExtensionField<F>>(
 {
     let mut count = InverseCount::new();
     let first = range.place();
-    let end = first + (range.end - range.first);
+    let end = first + range.rows();
     match generate_rows(alloc, around, lookups, challenges, first, end, &mut count) {
         Ok(made) => Ok(made),
         Err(error) => Err(in_whole(error, first, range.first)),

@@ -1,6 +1,6 @@
 //! Ranges of rows.
-ghost use Rattle.std.specs.Prelude.{◌≡◌};
-ghost use Rattle.lookup_ranges.specs.Around.{place_of, rows_around, IsRange};
+ghost use Rattle.std.specs.Prelude.{◌≡◌, ◌-◌, ◌<◌, ◌≤◌, ◌^◌};
+ghost use Rattle.lookup_ranges.specs.Around.{IsRange, place_of, rows_around};
 
 /// The rows from `first` up to `end` of a trace that has `height` rows.
 #[derive(Clone, Copy, Debug)]
@@ -21,13 +21,22 @@ impl RowRange {
         if self.first == 0 { 0 } else { 1 }
     }
 
+    /// How many rows the range has.
+    pub(crate) fn rows(self) -> usize
+        requires { self.first ≤ self.end }
+        ensures many { result ≡ self.end - self.first }
+        ensures fits { self.end < 2 ^ 64 }
+    {
+        self.end - self.first
+    }
+
     /// How many rows stand around the range: row 0, unless the range begins with it; the rows of the range;
     /// and the row after them, unless the range ends with the trace.
     pub fn rows_around(self) -> usize
         requires { IsRange self }
         ensures { result ≡ rows_around self.height self.first self.end }
     {
-        let rows = self.end - self.first + self.place();
+        let rows = self.rows() + self.place();
         if self.end == self.height {
             rows
         } else {
