@@ -1,4 +1,5 @@
 pub mod Renumbering
 pub mod RowsAround
 pub mod WholeAnswers
+pub mod WholeChecks
 pub mod WindowsAround

@@ -1,14 +1,13 @@
 -- The same rows have the same faults elsewhere, but for the numbers of the rows.
-use Rattle.std.proofs.Common.{◌≡◌, ℕ, ◌+◌, ◌-◌, ◌^◌, ◌<◌, ◌≤◌, Bool, true, false, not, cond, min, Option, None, Some, List, [], ◌∷◌, ◌++◌, length, map, refl, sym, ap, ◌∙◌, arith}
+use Rattle.std.proofs.Common.{◌≡◌, ℕ, ◌+◌, ◌-◌, ◌^◌, ◌≤◌, Bool, true, false, not, cond, Option, None, Some, List, [], ◌∷◌, ◌++◌, length, map, refl, sym, ap, ◌∙◌, arith}
 use Rattle.std.proofs.lemmas.List.{map-append}
 use Rattle.std.specs.List.{cons_option, enumerate_from, filter_map, flat_map, slice_get, slice_range}
 use Rattle.std.specs.Option.{option_map, option_or}
 use Rattle.field.specs.Extension.{Extension}
 use Rattle.lookup_generation.specs.Ranges.{faults_between}
-use Rattle.lookup_model.specs.Fault.{are_boolean, dividing_messages, fault_of, flag_fault_of, row_faults, set_indices, vanishes}
+use Rattle.lookup_model.specs.Fault.{are_boolean, dividing_messages, fault_of, flag_fault_of, row_faults, vanishes}
 use Rattle.lookup_model.specs.Message.{Key}
 use Rattle.lookup_model.specs.Sent.{Sent}
-use Rattle.lookup_model.specs.declared.error.LookupError.{LookupError}
 use Rattle.lookup_model.specs.declared.error.LookupError.TheVariants.{VanishingDenominator, FlagNotBoolean, FlagsNotExclusive}
 use Rattle.lookup_ranges.specs.internal.Renumbered.{renumbered, row_in_whole}
 

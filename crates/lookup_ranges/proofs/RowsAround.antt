@@ -1,12 +1,12 @@
 -- The windows of the rows of a range are the same in the traces of the rows around it.
-use Rattle.std.proofs.Common.{◌≡◌, ◌⊎◌, ℕ, zero, suc, ◌+◌, ◌-◌, ◌*◌, ◌%◌, ◌<◌, ◌≤◌, ◌==◌, not, cond, true, false, Bool, List, [], ◌∷◌, ◌++◌, Option, None, Some, length, map, take, drop, inl, inr, refl, sym, ap, subst, ◌∙◌, arith}
+use Rattle.std.proofs.Common.{◌≡◌, ◌⊎◌, ℕ, ◌+◌, ◌-◌, ◌*◌, ◌%◌, ◌<◌, ◌≤◌, ◌==◌, cond, true, false, Bool, List, [], ◌++◌, length, take, drop, inl, inr, refl, sym, ap, ◌∙◌, arith}
 use native.Mathlib.Nat.{add-mul}
 use Rattle.std.proofs.Math.Nat.{mod-eq_of_lt, mod_self}
-use Rattle.std.proofs.Math.Seq.{drop-append-add, take-append_seam}
+use Rattle.std.proofs.Math.Seq.{drop-append-add}
 use Rattle.std.proofs.lemmas.Bool.{cases_lt, eqb-false, eqb-true, ne_eqb}
-use Rattle.std.proofs.lemmas.List.{append-nil, drop-append-le, drop-drop, drop-take, length-append, length-drop, length-take, take-append-le, take-take}
+use Rattle.std.proofs.lemmas.List.{drop-append-le, drop-drop, drop-take, length-append, length-drop, length-take, take-append-le, take-take}
 use Rattle.std.specs.List.{slice_range}
-use Rattle.matrix.specs.Matrix.{Matrix, height, row}
+use Rattle.matrix.specs.Matrix.{row}
 use Rattle.lookup_ranges.specs.Around.{around, place_of, rows_around}
 
 -- a number of rows further on, and their width

@@ -1,5 +1,5 @@
 -- What is answered for the rows around a range is the answer for the whole trace.
-use Rattle.std.proofs.Common.{◌≡◌, ◌⊎◌, ◌+◌, ◌-◌, ◌^◌, ◌/◌, ◌<◌, ◌≤◌, ◌==◌, ℕ, true, zero, suc, cond, inl, inr, List, [], Ok, Some, drop, length, map, slice_get, slice_range, refl, sym, ap, subst, ◌∙◌, arith}
+use Rattle.std.proofs.Common.{◌≡◌, ◌⊎◌, ◌+◌, ◌-◌, ◌^◌, ◌/◌, ◌<◌, ◌≤◌, ◌==◌, ℕ, true, zero, suc, cond, inl, inr, List, [], Ok, Some, drop, length, map, slice_get, slice_range, refl, ap, ◌∙◌, arith}
 use Rattle.std.proofs.lemmas.List.{length-drop, length-take}
 use Rattle.air.specs.Traces.{AirTraces, height_of}
 use Rattle.field.specs.Extension.{Extension}
@@ -13,14 +13,14 @@ use Rattle.lookup_model.specs.declared.error.LookupError.{LookupError}
 use Rattle.lookup_model.specs.declared.error.LookupError.TheVariants.{Memory}
 use Rattle.lookup_model.specs.declared.types.Lookup.{Lookup}
 use Rattle.lookup_ranges.proofs.Renumbering.{faults_there, first_mapped}
-use Rattle.lookup_ranges.proofs.WindowsAround.{height_around, sent_there}
+use Rattle.lookup_ranges.proofs.WindowsAround.{sent_there}
 use Rattle.lookup_ranges.specs.Around.{AreAround, IsRange, place_of}
 use Rattle.lookup_ranges.specs.declared.range.RowRange.{RowRange}
 use Rattle.lookup_ranges.specs.internal.Renumbered.{renumbered}
 use Rattle.matrix.specs.Matrix.{Matrix, height}
 
 -- a trace with rows has columns
-has_columns : {T : Type 0} (m : Matrix T) (n : ℕ) → n < height m → 0 < m.width
+pub has_columns : {T : Type 0} (m : Matrix T) (n : ℕ) → n < height m → 0 < m.width
 has_columns m n lt = by_width m.width (λ e. omega (arith, lt, ap (λ b. cond b 0 (length m.values / m.width)) e))
   where
     by_width : (w : ℕ) → ((w == 0) ≡ true → ⊥) → 0 < w

@@ -1,22 +1,21 @@
 -- What lookups send on the rows of a range is the same over the traces of the rows around it.
-use Rattle.std.proofs.Common.{◌≡◌, ℕ, zero, suc, ◌+◌, ◌-◌, ◌*◌, ◌/◌, ◌%◌, ◌<◌, ◌≤◌, ◌==◌, not, cond, true, false, Bool, List, [], ◌∷◌, Option, None, Some, length, map, take, drop, refl, sym, ap, subst, ◌∙◌, arith}
-use Rattle.std.proofs.lemmas.Bool.{eqb-false, eqb-true, ne_eqb, true≢false}
+use Rattle.std.proofs.Common.{◌≡◌, ℕ, zero, suc, ◌+◌, ◌-◌, ◌*◌, ◌/◌, ◌%◌, ◌<◌, ◌≤◌, ◌==◌, not, cond, true, false, Bool, List, ◌∷◌, Option, None, Some, length, map, take, drop, refl, sym, ap, subst, ◌∙◌, arith}
+use Rattle.std.proofs.lemmas.Bool.{eqb-false, eqb-true, ne_eqb}
 use Rattle.std.proofs.lemmas.Nat.{div-mul-add}
 use Rattle.std.proofs.lemmas.List.FromFn.{take-map-range_with_len}
 use Rattle.std.specs.List.{AllByRecursion, range_with_len, slice_range}
 use Rattle.std.specs.Option.{ForSome}
 use Rattle.air.specs.Traces.{AirTraces, height_of, window_of}
-use Rattle.expressions.specs.Window.{Window, row_of_option, window_at}
+use Rattle.expressions.specs.Window.{row_of_option, window_at}
 use Rattle.field.specs.Extension.{Extension}
 use Rattle.field.specs.Ring.{Ring}
 use Rattle.lookup_model.specs.Constraints.{lookup_constraints}
 use Rattle.lookup_model.specs.Witness.{HoldsOnRow, values_of_terminal, witness_window}
 use Rattle.lookup_model.specs.declared.types.LookupTerminal.{LookupTerminal}
-use Rattle.lookup_model.specs.Sent.{Sent}
 use Rattle.lookup_model.specs.Trace.{sent_row, sent_rows}
 use Rattle.lookup_model.specs.declared.types.Lookup.{Lookup}
 use Rattle.matrix.specs.Matrix.{Matrix, height, row}
-use Rattle.lookup_ranges.proofs.RowsAround.{length-around, next_there, row_in, row_is, row_there, rows_within}
+use Rattle.lookup_ranges.proofs.RowsAround.{length-around, next_there, row_is, row_there, rows_within}
 use Rattle.lookup_ranges.specs.Around.{around, matrix_around, option_around, place_of, rows_around, traces_around}
 
 -- two tests of equality that say the same

@@ -2,6 +2,7 @@
 use Rattle.std.specs.Prelude.{◌≡◌, ◌<◌, ◌≤◌, ◌+◌, ◌-◌, ◌*◌, ◌==◌, ℕ, List, [], ◌++◌, Option, None, Some, if◌then◌else◌, length, slice_range, take}
 use Rattle.std.specs.Option.{ForSome}
 use Rattle.air.specs.Traces.{AirTraces, air_traces, height_of}
+use Rattle.lookup_model.specs.Batches.Instances.{Instance}
 use Rattle.lookup_ranges.specs.declared.range.RowRange.{RowRange}
 use Rattle.matrix.specs.Matrix.{IsShaped, Matrix}
 
@@ -47,3 +48,12 @@ pub record AreAround {F : Type 0} (range : RowRange) (whole part : AirTraces F) 
   pub part_is : part ≡ traces_around range.first range.end whole
   pub main : IsShaped whole.main
   pub preprocessed : ForSome whole.preprocessed (λ m. length m.values ≡ height_of whole * m.width)
+
+-- These are the rows around a range of a whole matrix, which is as high as the range says.
+pub record IsMatrixAround {T : Type 0} (range : RowRange) (whole part : Matrix T) : Type 0 where
+  pub full : length whole.values ≡ range.height * whole.width
+  pub part_is : part ≡ matrix_around range.height range.first range.end whole
+
+-- an AIR over other traces
+abbrev pub over_traces : {F : Type 0} → AirTraces F → Instance F → Instance F
+over_traces traces instance = record instance { traces = traces }

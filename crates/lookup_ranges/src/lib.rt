@@ -6,8 +6,10 @@
 //! they see no other row.
 #![tactic(auto)]
 
+mod check;
 mod generation;
 mod range;
 
+pub use check::rows_hold_around;
 pub use generation::generate_around;
 pub use range::RowRange;

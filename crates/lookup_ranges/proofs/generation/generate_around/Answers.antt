@@ -1,7 +1,7 @@
-use Rattle.std.proofs.Common.{◌≡◌, ◌+◌, ◌-◌, ◌^◌, ◌≤◌, Err, Ok, ap, sym, subst, subst₂, ◌∙◌, arith}
+use Rattle.std.proofs.Common.{◌≡◌, ◌+◌, ◌^◌, ◌≤◌, Err, Ok, ap, sym, subst, subst₂, ◌∙◌, arith}
 use Rattle.air.specs.Traces.{traces_of}
 use Rattle.field.specs.laws.Extension.{of_laws}
-use Rattle.lookup_generation.specs.Ranges.{AnswersRows, faults_between}
+use Rattle.lookup_generation.specs.Ranges.{AnswersRows}
 use Rattle.lookup_ranges.proofs.WholeAnswers.{made_there, refused_there}
 use Rattle.lookup_ranges.specs.Around.{place_of}
 use Rattle.lookup_ranges.specs.internal.Renumbered.{renumbered}
