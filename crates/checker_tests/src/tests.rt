@@ -10,6 +10,7 @@ mod ids;
 mod memory;
 mod pairs;
 mod program;
+mod ranges;
 mod single;
 mod witnesses;
 
