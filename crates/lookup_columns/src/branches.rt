@@ -105,7 +105,7 @@ fn additive_columns<F: Field, EF: ExtensionDomain<F>>(
         v.items (branches_at F.ring (window_of (traces_of inputs.now.traces.now) r)
         lookup.now.column lookup.now)) }
 {
-    let mut branches = memory.branches.take(alloc, lookup.elements.len())?;
+    let mut branches = memory.take_branches(alloc, lookup.elements.len())?;
     for branch in 0..lookup.elements.len() {
         let columns = branch_columns(alloc, memory, inputs, inputs.rows, lookup, steps, branch)?;
         branches.push(columns)?;
@@ -133,7 +133,7 @@ fn exclusive_columns<F: Field, EF: ExtensionDomain<F>>(
         index v.items (values F.ring w flags.now)
         (branches_at F.ring w lookup.now.column lookup.now)) }
 {
-    let mut branches = memory.branches.take(alloc, flags.len())?;
+    let mut branches = memory.take_branches(alloc, flags.len())?;
     for branch in 0..flags.len() {
         let column = column_of(
             alloc,
