@@ -49,7 +49,8 @@ fn next_cell<F: Field>(values: &[F], width: usize, num_rows: usize, r: usize, in
     cell_of(values, width, next_row(r, num_rows), index)
 }
 
-/// Appends the cells of a column on these rows.
+/// Appends the cells of a column on these rows. The list has its new length before that, so that no cell is
+/// appended alone.
 fn push_cells<F: Field>(
     to: &mut Vec<F>,
     trace: &RowMajorMatrix<F>,
@@ -62,10 +63,15 @@ fn push_cells<F: Field>(
         (λ r. slice_index_or (row trace.now r) index F.ring.zero) rows.now) }
 {
     let (values, width) = (trace.values(), trace.width());
-    to.extend(rows.iter().map(|r| cell_of(values, width, *r, index)))
+    let first = to.len();
+    to.resize(first + rows.len(), F::ZERO)?;
+    for i in 0..rows.len() {
+        to[first + i] = cell_of(values, width, rows[i], index);
+    }
+    Ok(())
 }
 
-/// Appends the cells of a column on the rows after these.
+/// Appends the cells of a column on the rows after these, in the same way.
 fn push_next_cells<F: Field>(
     to: &mut Vec<F>,
     trace: &RowMajorMatrix<F>,
@@ -80,10 +86,12 @@ fn push_next_cells<F: Field>(
 {
     let num_rows = trace.height();
     let (values, width) = (trace.values(), trace.width());
-    to.extend(
-        rows.iter()
-            .map(|r| next_cell(values, width, num_rows, *r, index)),
-    )
+    let first = to.len();
+    to.resize(first + rows.len(), F::ZERO)?;
+    for i in 0..rows.len() {
+        to[first + i] = next_cell(values, width, num_rows, rows[i], index);
+    }
+    Ok(())
 }
 
 /// Appends the cells of a column on these rows if `offset` is 0, and on the rows after them if it is 1.
