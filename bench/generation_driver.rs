@@ -3,7 +3,8 @@
 //!
 //! The plain side combines a tuple with powers of beta, as the Rust crate does today, or by Horner's
 //! rule. A line for each shape and height has the nanoseconds for a row of the proved and of both
-//! plain bodies, the least of several runs, and both ratios.
+//! plain bodies, and both ratios: the least time of several runs less that of calls that only make
+//! the trace from its numbers.
 mod plain;
 mod plain_lookups;
 
@@ -32,10 +33,10 @@ fn answer(numbers: &[u32], shape: u32, combine: Combine, rounds: u32, skip: u32)
     number_of(sum)
 }
 
-fn nanoseconds(rows: usize, rounds: u32, work: impl FnOnce() -> u32) -> f64 {
+fn nanoseconds(work: impl FnOnce() -> u32) -> f64 {
     let start = Instant::now();
     black_box(work());
-    start.elapsed().as_secs_f64() * 1e9 / (rows as f64 * rounds as f64)
+    start.elapsed().as_secs_f64() * 1e9
 }
 
 fn compare(name: &str, shape: u32, rows: usize) {
@@ -48,16 +49,20 @@ fn compare(name: &str, shape: u32, rows: usize) {
     assert_eq!(wanted, proved(1, 0), "{name}: the two sides disagree");
     assert_ne!(wanted, u32::MAX, "{name}: refused");
     let (runs, rounds) = if rows > 1 << 16 { (5, 1) } else { (9, (1 << 16) / rows as u32) };
-    let mut least = [f64::MAX; 3];
+    let times = |rounds: u32| {
+        [
+            nanoseconds(|| proved(rounds, 1)),
+            nanoseconds(|| answer(&numbers, shape, Combine::Powers, rounds, 1)),
+            nanoseconds(|| answer(&numbers, shape, Combine::Horner, rounds, 1)),
+        ]
+    };
+    let (mut least, mut made) = ([f64::MAX; 3], [f64::MAX; 3]);
     for _ in 0..runs {
-        let times = [
-            nanoseconds(rows, rounds, || proved(rounds, 1)),
-            nanoseconds(rows, rounds, || answer(&numbers, shape, Combine::Powers, rounds, 1)),
-            nanoseconds(rows, rounds, || answer(&numbers, shape, Combine::Horner, rounds, 1)),
-        ];
-        least.iter_mut().zip(times).for_each(|(least, time)| *least = least.min(time));
+        least.iter_mut().zip(times(rounds)).for_each(|(least, time)| *least = least.min(time));
+        made.iter_mut().zip(times(0)).for_each(|(least, time)| *least = least.min(time));
     }
-    let [proved, powers, horner] = least;
+    let of_row = |i: usize| (least[i] - made[i]) / (rows as f64 * rounds as f64);
+    let [proved, powers, horner] = [0, 1, 2].map(of_row);
     println!(
         "{name:34} {proved:8.0} {powers:8.0} {:7.2} {horner:8.0} {:7.2}",
         proved / powers,

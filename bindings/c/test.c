@@ -52,9 +52,10 @@ static void check_sizes(void)
     SIZE(grid, 40);
 }
 
-/* ---- memory: how many blocks are live, and which requests are refused ---- */
+/* ---- memory: how many blocks are live, how many were asked for, and which requests are refused ---- */
 
 static long live = 0;
+static long asked = 0;           /* how many requests there were */
 static long before_refusal = -1; /* how many requests are granted yet; -1: all */
 static int refuses_all = 0;      /* whether later requests are refused too */
 
@@ -67,6 +68,7 @@ void __wrap_free(void *block);
 
 static int is_refused(void)
 {
+    __atomic_add_fetch(&asked, 1, __ATOMIC_SEQ_CST);
     if (before_refusal < 0)
         return 0;
     if (before_refusal == 0) {
@@ -1397,6 +1399,75 @@ static void check_memory(const char *name, uint32_t (*call)(void))
     }
 }
 
+/* ---- memory of chunks: four lookups over rows of five columns ----
+
+   One without tuples; an exclusive one of two flags, whose first flag is set on few rows of the first chunk
+   and on all rows after it; one of two tuples of two elements; and one of products. */
+
+#define CHUNK 1024
+#define MOST_ROWS 3000
+
+static const struct volgwain_node chunk_nodes[15] = {
+    {VOLGWAIN_MAIN, 0, 0}, {VOLGWAIN_MAIN, 0, 1}, {VOLGWAIN_MAIN, 0, 2}, {VOLGWAIN_MAIN, 0, 3},
+    {VOLGWAIN_MAIN, 0, 2}, {VOLGWAIN_CONSTANT, 1, 0}, {VOLGWAIN_CONSTANT, 1, 0}, {VOLGWAIN_MAIN, 0, 4},
+    {VOLGWAIN_MAIN, 0, 4}, {VOLGWAIN_NEGATION, 0, 0}, {VOLGWAIN_MAIN, 0, 2}, {VOLGWAIN_MAIN, 0, 3},
+    {VOLGWAIN_PRODUCT, 0, 0}, {VOLGWAIN_MAIN, 0, 4}, {VOLGWAIN_SUM, 0, 0}};
+static const struct volgwain_span chunk_tuples[5] = {{2, 3}, {3, 4}, {2, 4}, {3, 5}, {10, 15}};
+static const struct volgwain_record chunk_records[4] = {
+    {0, 0, 1, {0, 0}, {0, 0}, {0, 0}, {0, 0}},
+    {0, 1, 1, {0, 0}, {0, 2}, {5, 7}, {0, 2}},
+    {0, 0, 1, {0, 0}, {2, 4}, {7, 10}, {0, 0}},
+    {0, 0, 1, {0, 0}, {4, 5}, {10, 13}, {0, 0}}};
+/* no alpha is in the base field, so no denominator vanishes */
+static const struct volgwain_element chunk_challenges[8] = {
+    {{5, 1, 0, 0}}, {{2, 0, 0, 0}}, {{6, 1, 0, 0}}, {{2, 0, 0, 0}}, {{7, 1, 0, 0}}, {{2, 0, 0, 0}},
+    {{8, 1, 0, 0}}, {{2, 0, 0, 0}}};
+static uint32_t chunk_cells[5 * MOST_ROWS];
+static struct volgwain_element chunk_auxiliary[5 * MOST_ROWS];
+
+static void make_chunks(void)
+{
+    size_t row;
+    for (row = 0; row < MOST_ROWS; row++) {
+        uint32_t *cells = &chunk_cells[5 * row];
+        cells[0] = row >= CHUNK || row % 128 == 0;
+        cells[1] = cells[0] == 0 && row % 2 == 1;
+        cells[2] = (uint32_t)(7 * row + 1);
+        cells[3] = (uint32_t)(11 * row + 2);
+        cells[4] = (uint32_t)(row % 5);
+    }
+}
+
+/* How many requests for memory a generation over so many rows makes. */
+static long asked_for(size_t rows)
+{
+    struct volgwain_tables tables = {chunk_nodes, COUNT(chunk_nodes), chunk_tuples, COUNT(chunk_tuples),
+        NULL, 0, chunk_records, COUNT(chunk_records)};
+    struct volgwain_traces traces = {chunk_cells, 0, 5, NULL, 0, 0, NULL, 0};
+    struct volgwain_terminal terminal;
+    struct volgwain_refusal refusal;
+    char text[200];
+    long before = asked;
+    traces.main_length = 5 * rows;
+    check(volgwain_generate(&tables, &traces, chunk_challenges, COUNT(chunk_challenges), chunk_auxiliary,
+              5 * rows, &terminal, &refusal, text, sizeof text) == VOLGWAIN_OK,
+        "chunks are generated");
+    return asked - before;
+}
+
+static void check_chunks(void)
+{
+    long one;
+    make_chunks();
+    one = asked_for(CHUNK);
+    check(one > 0, "a chunk asks for memory");
+    check(asked_for(CHUNK + 1) == one, "a chunk of one row asks for no more");
+    check(asked_for(2 * CHUNK) == one, "a second chunk asks for no more");
+    check(asked_for(2 * CHUNK + 1) == one, "a third one of one row asks for no more");
+    check(asked_for(MOST_ROWS) == one, "a third chunk asks for no more");
+    printf("chunks: %ld requests for memory, over one chunk as over three\n", one);
+}
+
 /* ---- threads ---- */
 
 static void *run_calls(void *unused)
@@ -1659,6 +1730,7 @@ int main(void)
     check_packing();
     check_json();
     check_debugging();
+    check_chunks();
     check(live == 0, "nothing is leaked");
     check_memory("generate", try_generate);
     check_memory("prove", try_prove);

@@ -12,6 +12,7 @@ use Rattle.expressions.specs.declared.base_expression.SymbolicExpression.{Symbol
 use Rattle.lookup_model.proofs.Coefficients.{value_at-push}
 use Rattle.lookup_model.specs.Sent.{value, values}
 use Rattle.lookup_columns.specs.Columns.{tuple_denominator_at, tuple_denominators}
+use Rattle.lists.proofs.Images.{map-map}
 use Rattle.lookup_columns.proofs.ColumnLaws.{map_of_two}
 
 module _ {F K : Type 0} (R : Ring F) {S : Ring K} (laws : IsCommutativeRing S) (embed : F → K) (alpha beta : K) where
@@ -29,6 +30,10 @@ module _ {F K : Type 0} (R : Ring F) {S : Ring K} (laws : IsCommutativeRing S) (
       ∙ ap (sub_in S alpha) (sym (value_at-push laws (reverse ys) y beta))
       ∙ ap (λ cs. sub_in S alpha (value_at S cs beta)) (sym (reverse_onto ys y []))
 
+  -- the last element alone
+  denominator_of_last : (w : Window F) (e : SymbolicExpression F) → sub_in S alpha (embed (value R w e)) ≡ tuple_denominator_at R S embed alpha beta w (e ∷ [])
+  denominator_of_last w e = ring_law laws (alpha ∷ beta ∷ embed (value R w e) ∷ []) (var 0 :- var 2) (var 0 :- (var 2 :+ var 1 :* con 0)) refl
+
   module _ (window : ℕ → Window F) (rows : List ℕ) where
     -- the same on some rows
     pub column_front : (e : SymbolicExpression F) (es : List (SymbolicExpression F)) {ds v : List K} {xs : List F}
@@ -43,12 +48,19 @@ module _ {F K : Type 0} (R : Ring F) {S : Ring K} (laws : IsCommutativeRing S) (
     pub column_of_none : {ds : List K} → ds ≡ map (λ _. alpha) rows → ds ≡ tuple_denominators R S embed window alpha beta rows []
     column_of_none d = d ∙ ap (λ a. map (λ _. a) rows) (ring_law laws (alpha ∷ []) (var 0) (var 0 :- con 0) refl)
 
+    -- the last element alone
+    pub column_of_last : (e : SymbolicExpression F) {v : List K} {xs : List F} → xs ≡ map (λ r. value R (window r) e) rows → v ≡ map (λ x. sub_in S alpha (embed x)) xs
+        → v ≡ tuple_denominators R S embed window alpha beta rows (e ∷ [])
+    column_of_last e x w =
+        w ∙ ap (map (λ x. sub_in S alpha (embed x))) x ∙ map-map (λ x. sub_in S alpha (embed x)) (λ r. value R (window r) e) rows
+        ∙ (λ i. map (λ r. denominator_of_last (window r) e i) rows)
+
   -- the next power of beta
   pub power_more : {p : K} (n : ℕ) → p ≡ power S beta n → S.mul p beta ≡ power S beta (suc n)
   unfolding power
   power_more n e = ap (λ q. S.mul q beta) e ∙ ring_law laws (power S beta n ∷ beta ∷ []) (var 0 :* var 1) (var 1 :* var 0) refl
 
--- the power 0 is one
-pub no_power : {K : Type 0} (S : Ring K) (x : K) → S.one ≡ power S x 0
+-- the power 1 is the element itself
+pub first_power : {K : Type 0} {S : Ring K} → IsCommutativeRing S → (x : K) → x ≡ power S x 1
 unfolding power
-no_power S x = refl
+first_power {S = S} laws x = sym (laws.mul_one x)

@@ -1,10 +1,10 @@
 //! The values of lookups on some rows, a column at a time.
-ghost use Rattle.std.specs.Prelude.{◌≡◌, ◌<◌, ℕ, IfOk, Some, length, slice_get};
+ghost use Rattle.std.specs.Prelude.{◌≡◌, ◌<◌, ℕ, All, IfOk, Some, length, slice_get};
 ghost use Rattle.std.specs.List.{AllZip};
 ghost use Rattle.lookup_columns.specs.ChunkColumns.{AreColumns, IsStored, StoreSelected, key_denominator_over};
 ghost use Rattle.lookup_columns.specs.ColumnInputs.{AreColumnInputs};
 ghost use Rattle.lookup_columns.specs.Steps.{AreStepsOf};
-ghost use Rattle.air.specs.Traces.{layout_of, traces_of, window_of};
+ghost use Rattle.air.specs.Traces.{height_of, layout_of, traces_of, window_of};
 ghost use Rattle.lookup_model.specs.Message.{Message};
 ghost use Rattle.lookup_model.specs.Records.{AllFit};
 ghost use Rattle.lookup_model.specs.Sent.{branches_at, values};
@@ -44,19 +44,22 @@ pub struct BranchColumns<F, EF> {
     pub denominators: Vec<EF>,
 }
 
-/// The multiplicities and denominators of a tuple of a lookup on these rows, without flags.
+/// The multiplicities and denominators of a tuple of a lookup on these rows, without flags. The lists
+/// have room for all rows of `inputs`.
 fn branch_columns<F: Field, EF: ExtensionDomain<F>>(
     alloc: Global,
     memory: &mut ColumnMemory<F, EF>,
     inputs: &ColumnInputs<'_, F, EF>,
+    rows: &[usize],
     lookup: &Lookup<F>,
     steps: &LookupSteps<F>,
     branch: usize,
 ) -> Result<BranchColumns<F, EF>, AllocError>
     requires inputs { AreColumnInputs inputs.now lookup.now steps.now }
+    requires rows_exist { All (λ r. r < height_of (traces_of inputs.now.traces.now)) rows.now }
     requires branch_exists { branch < length lookup.now.elements.items }
     ensures { IfOk result (λ v. (index r : ℕ) (m : Message F)
-        → slice_get inputs.now.rows.now index ≡ Some r
+        → slice_get rows.now index ≡ Some r
         → slice_get (branches_at F.ring (window_of (traces_of inputs.now.traces.now) r)
         lookup.now.column lookup.now) branch ≡ Some m
         → IsStored (key_denominator_over EF.ring EF.embed inputs.now.challenges.now) index v m) }
@@ -68,14 +71,15 @@ fn branch_columns<F: Field, EF: ExtensionDomain<F>>(
         &mut memory.slots,
         &steps.multiplicities[branch],
         inputs.traces,
-        inputs.rows,
+        rows,
+        inputs.rows.len(),
     )?;
     let denominators = denominators_of(
         alloc,
         memory,
         &steps.elements[branch],
-        inputs.traces,
-        inputs.rows,
+        inputs,
+        rows,
         alpha,
         beta,
     )?;
@@ -101,9 +105,10 @@ fn additive_columns<F: Field, EF: ExtensionDomain<F>>(
         v.items (branches_at F.ring (window_of (traces_of inputs.now.traces.now) r)
         lookup.now.column lookup.now)) }
 {
-    let mut branches = memory.branches.take(alloc, lookup.elements.len())?;
+    let mut branches = memory.take_branches(alloc, lookup.elements.len())?;
     for branch in 0..lookup.elements.len() {
-        branches.push(branch_columns(alloc, memory, inputs, lookup, steps, branch)?)?;
+        let columns = branch_columns(alloc, memory, inputs, inputs.rows, lookup, steps, branch)?;
+        branches.push(columns)?;
     }
     Ok(branches)
 }
@@ -128,7 +133,7 @@ fn exclusive_columns<F: Field, EF: ExtensionDomain<F>>(
         index v.items (values F.ring w flags.now)
         (branches_at F.ring w lookup.now.column lookup.now)) }
 {
-    let mut branches = memory.branches.take(alloc, flags.len())?;
+    let mut branches = memory.take_branches(alloc, flags.len())?;
     for branch in 0..flags.len() {
         let column = column_of(
             alloc,
@@ -136,14 +141,10 @@ fn exclusive_columns<F: Field, EF: ExtensionDomain<F>>(
             &steps.flags[branch],
             inputs.traces,
             inputs.rows,
+            inputs.rows.len(),
         )?;
         let (indices, selected) = selected_rows(alloc, &mut memory.indices, &column, inputs.rows)?;
-        let on_selected = ColumnInputs {
-            traces: inputs.traces,
-            challenges: inputs.challenges,
-            rows: &selected,
-        };
-        let mut columns = branch_columns(alloc, memory, &on_selected, lookup, steps, branch)?;
+        let mut columns = branch_columns(alloc, memory, inputs, &selected, lookup, steps, branch)?;
         columns.flags = column;
         columns.indices = indices;
         memory.indices.put(selected)?;

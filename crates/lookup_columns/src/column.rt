@@ -19,13 +19,14 @@ use field::{Domain, Field};
 use matrix::RowMajorMatrix;
 use std::alloc::{AllocError, Global};
 
-/// A cell of a row.
-fn cell_of<F: Field>(trace: &RowMajorMatrix<F>, r: usize, index: usize) -> F
-    requires row_exists { r < height trace.now }
-    requires column_exists { index < trace.now.width }
-    ensures { result ≡ slice_index_or (row trace.now r) index F.ring.zero }
+/// A cell of a row of the trace of this width that has these values.
+fn cell_of<F: Field>(values: &[F], width: usize, r: usize, index: usize) -> F
+    requires row_exists { r < height (record { values = values.now; width = width }) }
+    requires column_exists { index < width }
+    ensures { result ≡ slice_index_or
+        (row (record { values = values.now; width = width }) r) index F.ring.zero }
 {
-    trace.row_slice(r)[index]
+    values[r * width + index]
 }
 
 /// The row after a row of a trace that has this many rows; the first one comes after the last.
@@ -37,18 +38,19 @@ pub fn next_row(row: usize, num_rows: usize) -> usize
     if row + 1 == num_rows { 0 } else { row + 1 }
 }
 
-/// A cell of the row after a row, in a trace that has this many rows.
-fn next_cell<F: Field>(trace: &RowMajorMatrix<F>, num_rows: usize, r: usize, index: usize) -> F
-    requires rows { num_rows ≡ height trace.now }
+/// A cell of the row after a row of the trace of this width that has these values, and so many rows.
+fn next_cell<F: Field>(values: &[F], width: usize, num_rows: usize, r: usize, index: usize) -> F
+    requires rows { num_rows ≡ height (record { values = values.now; width = width }) }
     requires row_exists { r < num_rows }
-    requires column_exists { index < trace.now.width }
-    ensures { result ≡ slice_index_or (row trace.now ((r + 1) % height trace.now)) index
-        F.ring.zero }
+    requires column_exists { index < width }
+    ensures { result ≡ slice_index_or (row (record { values = values.now; width = width })
+        ((r + 1) % num_rows)) index F.ring.zero }
 {
-    cell_of(trace, next_row(r, num_rows), index)
+    cell_of(values, width, next_row(r, num_rows), index)
 }
 
-/// Appends the cells of a column on these rows.
+/// Appends the cells of a column on these rows. The list has its new length before that, so that no cell is
+/// appended alone.
 fn push_cells<F: Field>(
     to: &mut Vec<F>,
     trace: &RowMajorMatrix<F>,
@@ -60,10 +62,16 @@ fn push_cells<F: Field>(
     ensures { OnOk result (to.new.items ≡ to.old.items ++ map
         (λ r. slice_index_or (row trace.now r) index F.ring.zero) rows.now) }
 {
-    to.extend(rows.iter().map(|r| cell_of(trace, *r, index)))
+    let (values, width) = (trace.values(), trace.width());
+    let first = to.len();
+    to.resize(first + rows.len(), F::ZERO)?;
+    for i in 0..rows.len() {
+        to[first + i] = cell_of(values, width, rows[i], index);
+    }
+    Ok(())
 }
 
-/// Appends the cells of a column on the rows after these.
+/// Appends the cells of a column on the rows after these, in the same way.
 fn push_next_cells<F: Field>(
     to: &mut Vec<F>,
     trace: &RowMajorMatrix<F>,
@@ -77,7 +85,13 @@ fn push_next_cells<F: Field>(
         rows.now) }
 {
     let num_rows = trace.height();
-    to.extend(rows.iter().map(|r| next_cell(trace, num_rows, *r, index)))
+    let (values, width) = (trace.values(), trace.width());
+    let first = to.len();
+    to.resize(first + rows.len(), F::ZERO)?;
+    for i in 0..rows.len() {
+        to[first + i] = next_cell(values, width, num_rows, rows[i], index);
+    }
+    Ok(())
 }
 
 /// Appends the cells of a column on these rows if `offset` is 0, and on the rows after them if it is 1.
@@ -215,20 +229,21 @@ fn push_made<F: Field>(
     slots.push(values)
 }
 
-/// Works out one step on these rows.
+/// Works out one step on these rows, in a list with room for this many.
 fn work_out<F: Field>(
     alloc: Global,
     slots: &mut Slots<F>,
     step: Step<F>,
     traces: &Traces<'_, F>,
     rows: &[usize],
+    room: usize,
 ) -> Result<(), AllocError>
     requires fits { StepFits (layout_of (traces_of traces.now)) step }
     requires rows_exist { All (λ r. r < height_of (traces_of traces.now)) rows.now }
     ensures { OnOk result (filled slots.new ≡ after F.ring (window_of (traces_of traces.now))
         rows.now step (filled slots.old)) }
 {
-    let mut values = slots.take(alloc, rows.len())?;
+    let mut values = slots.take(alloc, room)?;
     match step {
         Step::Leaf(leaf) => {
             push_leaf(&mut values, leaf, traces, rows)?;
@@ -261,14 +276,16 @@ fn work_out<F: Field>(
 /// The values of the expression of these steps on rows of the traces of an AIR, in the order of
 /// `rows`. The next row of the last one is the first one.
 ///
-/// Each step is computed once, as a list over all rows. The list that is returned can be put away
-/// in `slots` after use. Fails only when out of memory.
+/// Each step is computed once, as a list over all rows. These lists have room for `room` items, so that
+/// as many rows need no more memory later. The list that is returned can be put away in `slots` after
+/// use. Fails only when out of memory.
 pub fn column_of<F: Field>(
     alloc: Global,
     slots: &mut Slots<F>,
     steps: &[Step<F>],
     traces: &Traces<'_, F>,
     rows: &[usize],
+    room: usize,
 ) -> Result<Vec<F>, AllocError>
     requires fits { All (StepFits (layout_of (traces_of traces.now))) steps.now }
     requires rows_exist { All (λ r. r < height_of (traces_of traces.now)) rows.now }
@@ -277,7 +294,7 @@ pub fn column_of<F: Field>(
 {
     slots.clear()?;
     for step in steps {
-        work_out(alloc, slots, *step, traces, rows)?;
+        work_out(alloc, slots, *step, traces, rows, room)?;
     }
     Ok(slots.pop(alloc))
 }

@@ -1,5 +1,5 @@
 //! The denominators of a tuple on some rows.
-ghost use Rattle.std.specs.Prelude.{◌≡◌, ◌<◌, ◌++◌, All, IfOk, List, OnOk, map};
+ghost use Rattle.std.specs.Prelude.{◌≡◌, ◌<◌, ◌-◌, ◌++◌, All, IfOk, List, OnOk, drop, length, map};
 ghost use Rattle.std.specs.List.{AllZip, zip};
 ghost use Rattle.field.specs.Ring.{sub_in};
 ghost use Rattle.expressions.specs.declared.base_expression.SymbolicExpression.{SymbolicExpression};
@@ -7,10 +7,10 @@ ghost use Rattle.lookup_columns.specs.Columns.{tuple_denominators};
 ghost use Rattle.lookup_columns.specs.Steps.{AreStepsOf, StepsFit};
 ghost use Rattle.air.specs.Traces.{height_of, layout_of, traces_of, window_of};
 
+use crate::branches::ColumnInputs;
 use crate::column::{column_of, push_alike};
 use crate::memory::ColumnMemory;
 use crate::step::Step;
-use air::Traces;
 use field::{Domain, ExtensionDomain, Field};
 use std::alloc::{AllocError, Global};
 
@@ -33,39 +33,83 @@ fn push_minus_scaled<F: Field, EF: ExtensionDomain<F>>(
     )
 }
 
+/// Appends `alpha - x` for each `x`.
+fn push_less<F: Field, EF: ExtensionDomain<F>>(
+    to: &mut Vec<EF>,
+    alpha: EF,
+    column: &[F],
+) -> Result<(), AllocError>
+    ensures { OnOk result (to.new.items ≡ to.old.items ++ map
+        (λ x. sub_in EF.ring alpha (EF.embed x)) column.now) }
+{
+    to.extend(column.iter().map(|x| alpha - EF::embed(*x)))
+}
+
+/// The denominators of the last element of a tuple alone, or of no element if it has none.
+fn last_denominators<F: Field, EF: ExtensionDomain<F>>(
+    alloc: Global,
+    memory: &mut ColumnMemory<F, EF>,
+    tuple: &[Vec<Step<F>>],
+    inputs: &ColumnInputs<'_, F, EF>,
+    rows: &[usize],
+    alpha: EF,
+) -> Result<Vec<EF>, AllocError>
+    requires fits { All (StepsFit (layout_of (traces_of inputs.now.traces.now))) tuple.now }
+    requires rows_exist { All (λ r. r < height_of (traces_of inputs.now.traces.now)) rows.now }
+    ensures { (expressions : List (SymbolicExpression F)) → AllZip AreStepsOf tuple.now expressions
+        → (beta : EF) → IfOk result (λ v. v.items ≡ tuple_denominators F.ring EF.ring EF.embed
+        (window_of (traces_of inputs.now.traces.now)) alpha beta rows.now
+        (drop (length tuple.now - 1) expressions)) }
+{
+    let room = inputs.rows.len();
+    let mut denominators = memory.denominators.take(alloc, room)?;
+    let many = tuple.len();
+    if many == 0 {
+        push_alike(&mut denominators, rows, alpha)?;
+        Ok(denominators)
+    } else {
+        let steps = &tuple[many - 1];
+        let column = column_of(alloc, &mut memory.slots, steps, inputs.traces, rows, room)?;
+        push_less(&mut denominators, alpha, &column)?;
+        memory.slots.put(column)?;
+        Ok(denominators)
+    }
+}
+
 /// The denominators of the tuple of these steps on rows of the traces of an AIR, in the order of
 /// `rows`: `alpha - t`, where `t` is the tuple combined by `beta`, as in LogUp
 /// (<https://eprint.iacr.org/2022/1530>).
 ///
 /// The last element of a tuple has the factor 1, each one before it a power of `beta` more. The next
-/// row of the last one is the first one. The list that is returned can be put away in `memory` after
-/// use. Fails only when out of memory.
+/// row of the last one is the first one. The lists that are filled have room for all rows of `inputs`.
+/// The one that is returned can be put away in `memory` after use. Fails only when out of memory.
 ///
 /// Constraints combine tuples as expressions of a builder, in `lookup_evaluation`.
 pub fn denominators_of<F: Field, EF: ExtensionDomain<F>>(
     alloc: Global,
     memory: &mut ColumnMemory<F, EF>,
     tuple: &[Vec<Step<F>>],
-    traces: &Traces<'_, F>,
+    inputs: &ColumnInputs<'_, F, EF>,
     rows: &[usize],
     alpha: EF,
     beta: EF,
 ) -> Result<Vec<EF>, AllocError>
-    requires fits { All (StepsFit (layout_of (traces_of traces.now))) tuple.now }
-    requires rows_exist { All (λ r. r < height_of (traces_of traces.now)) rows.now }
+    requires fits { All (StepsFit (layout_of (traces_of inputs.now.traces.now))) tuple.now }
+    requires rows_exist { All (λ r. r < height_of (traces_of inputs.now.traces.now)) rows.now }
     ensures { (expressions : List (SymbolicExpression F)) → AllZip AreStepsOf tuple.now expressions
         → IfOk result (λ v. v.items ≡ tuple_denominators F.ring EF.ring EF.embed
-        (window_of (traces_of traces.now)) alpha beta
+        (window_of (traces_of inputs.now.traces.now)) alpha beta
         rows.now expressions) }
 {
-    let mut denominators = memory.denominators.take(alloc, rows.len())?;
-    push_alike(&mut denominators, rows, alpha)?;
-    let mut power = EF::ONE;
-    let mut left = tuple.len();
+    let room = inputs.rows.len();
+    let mut denominators = last_denominators(alloc, memory, tuple, inputs, rows, alpha)?;
+    let mut power = beta;
+    let mut left = tuple.len().saturating_sub(1);
     while left > 0 {
         left -= 1;
-        let column = column_of(alloc, &mut memory.slots, &tuple[left], traces, rows)?;
-        let mut lessened = memory.denominators.take(alloc, rows.len())?;
+        let steps = &tuple[left];
+        let column = column_of(alloc, &mut memory.slots, steps, inputs.traces, rows, room)?;
+        let mut lessened = memory.denominators.take(alloc, room)?;
         push_minus_scaled(&mut lessened, &denominators, power, &column)?;
         memory.slots.put(column)?;
         memory.denominators.put(denominators)?;

@@ -1,4 +1,6 @@
 //! The lists of columns, whose memory is used again for the next ones.
+ghost use Rattle.std.specs.Prelude.{◌≡◌, [], IfOk};
+
 use crate::branches::BranchColumns;
 use crate::slots::Slots;
 use crate::spare::SpareLists;
@@ -25,6 +27,22 @@ impl<F: Drop, EF: Drop> ColumnMemory<F, EF> {
             indices: SpareLists::new(alloc),
             denominators: SpareLists::new(alloc),
             branches: SpareLists::new(alloc),
+        }
+    }
+
+    /// An empty list for the columns of so many tuples. For none it takes no list, so that each lookup
+    /// finds the one that it had before.
+    pub(crate) fn take_branches(
+        &mut self,
+        alloc: Global,
+        many: usize,
+    ) -> Result<Vec<BranchColumns<F, EF>>, AllocError>
+        ensures { IfOk result (λ branches. branches.items ≡ []) }
+    {
+        if many == 0 {
+            Ok(Vec::new(alloc))
+        } else {
+            self.branches.take(alloc, many)
         }
     }
 

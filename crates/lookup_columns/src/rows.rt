@@ -27,7 +27,9 @@ pub fn rows_between(
 /// Selects the rows whose flag is not zero. Returns, at the index of each of them, its index among the
 /// selected rows, and then the selected rows. What stands at the index of another row has no meaning.
 ///
-/// Each row is stored, and kept if its flag is not zero, so that no branch depends on a flag.
+/// Each row is stored, and kept if its flag is not zero, so that no branch depends on a flag. Both lists
+/// have their length before that, so that nothing is appended.
+#[inline(never)]
 pub(crate) fn selected_rows<F: Field>(
     alloc: Global,
     spare: &mut SpareLists<usize>,
@@ -43,10 +45,11 @@ pub(crate) fn selected_rows<F: Field>(
 {
     let mut indices = spare.take(alloc, rows.len())?;
     let mut selected = spare.take(alloc, rows.len())?;
+    indices.resize(rows.len(), 0)?;
     selected.resize(rows.len(), 0)?;
     let mut count = 0;
     for i in 0..rows.len() {
-        indices.push(count)?;
+        indices[i] = count;
         selected[count] = rows[i];
         if !flags[i].is_zero() {
             count += 1;

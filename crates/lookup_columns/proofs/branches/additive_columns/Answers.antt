@@ -16,7 +16,7 @@ loop-branch-preserved g c = λ index r there.
     let ms = branches_at g.F.PrimeCharacteristicRing.ring (window_of (traces_of inputs.traces.now) r) lookup.column lookup in
     let lt : i < length ms = omega (arith, length-branches_at g.F.PrimeCharacteristicRing.ring (window_of (traces_of inputs.traces.now) r) lookup.column lookup c.requires.lengths) in
     let (m, m_is) = item_at ms i lt in
-    AllZip-more_right stored _ _ ms i _ m lt m_is c.in_ok-push.ensures.items (c.in_ok-branch_columns.ensures index r m there (item_there ms i m lt m_is)) (c.loop-branch.invariant index r there)
+    AllZip-more_right stored _ _ ms i _ m lt m_is c.in_ok-push.ensures.items (c.in_ok-columns.ensures index r m there (item_there ms i m lt m_is)) (c.loop-branch.invariant index r there)
 
 pub returns : goal.returns
 returns g c = λ index r there.

@@ -76,10 +76,10 @@ returns g c = λ index r m there m_there.
     let alpha_is = get_or_default challenges (2 * column) c.index-inputs-lookup.result S.zero (omega (arith, c.requires.inputs.challenges)) in
     let beta_is = get_or_default challenges (2 * column + 1) c.index-inputs-lookup-2.result S.zero c.requires.inputs.challenges in
     let at = tuple_denominator_at R S embed (get_or challenges (2 * column) c.index-inputs-lookup.result) (get_or challenges (2 * column + 1) c.index-inputs-lookup-2.result) in
-    let over = mapped_there (λ row. at (windows row) tuple.items) c.args.inputs.now.rows.now c.in_ok-denominators.denominators.items index r (c.in_ok-denominators.ensures tuple.items (subst (λ (l : List _). AllZip AreStepsOf l tuple.items) (sym c.deref-2.ensures.value) tuple_beside.holds)) there in
+    let over = mapped_there (λ row. at (windows row) tuple.items) c.args.rows.now c.in_ok-denominators.denominators.items index r (c.in_ok-denominators.ensures tuple.items (subst (λ (l : List _). AllZip AreStepsOf l tuple.items) (sym c.deref-2.ensures.value) tuple_beside.holds)) there in
     let is : branch_at R w column tuple.items multiplicity ≡ m =
     zipped_at (λ b. branch_at R w column b.0.items b.1) lookup.elements.items lookup.multiplicities.items c.requires.inputs.lengths.multiplicities i tuple multiplicity lt tuple_beside.there multiplicity_beside.there
     ∙ get_or_from_slice_get ms i m (branch_at R w column tuple.items multiplicity) m_there in (
-      mapped_there (λ row. value R (windows row) multiplicity) c.args.inputs.now.rows.now c.in_ok-multiplicities.multiplicities.items index r (c.in_ok-multiplicities.ensures (tree_of multiplicity) (c.deref.ensures.value ∙ multiplicity_beside.holds)) there ∙ ap (λ (n : Message _). Some n.multiplicity) is,
+      mapped_there (λ row. value R (windows row) multiplicity) c.args.rows.now c.in_ok-multiplicities.multiplicities.items index r (c.in_ok-multiplicities.ensures (tree_of multiplicity) (c.deref.ensures.value ∙ multiplicity_beside.holds)) there ∙ ap (λ (n : Message _). Some n.multiplicity) is,
       over ∙ (λ k. Some (sub_in S (alpha_is k) (combined S (map embed (values R w tuple.items)) (beta_is k)))) ∙ ap (λ (n : Message _). Some (D n.key)) is,
     )

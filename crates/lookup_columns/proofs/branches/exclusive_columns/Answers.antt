@@ -38,17 +38,10 @@ selected_rows-requires g c =
     let windows = window_of (traces_of c.args.inputs.now.traces.now) in
     ap length c.deref-in-loop-branch.ensures.value ∙ ap length (c.in_ok-column.ensures (tree_of e) (c.deref.ensures.value ∙ flag_beside.holds)) ∙ length-map c.args.inputs.now.rows.now (λ row. value g.F.PrimeCharacteristicRing.ring (windows row) e)
 
-pub branch_columns-requires-clause-inputs : goal.branch_columns-requires-clause-inputs
-branch_columns-requires-clause-inputs g c =
+pub branch_columns-requires-clause-rows_exist : goal.branch_columns-requires-clause-rows_exist
+branch_columns-requires-clause-rows_exist g c =
     let height = height_of (traces_of c.args.inputs.now.traces.now) in
-    let inputs = c.requires.inputs in
-    record {
-      steps = inputs.steps;
-      lengths = inputs.lengths;
-      within = inputs.within;
-      challenges = inputs.challenges;
-      rows_exist = subst (λ (l : List _). All (λ r. r < height) l) (sym c.deref-in-loop-branch-2.ensures.value) (c.in_ok-indices.ensures.rows_exist height inputs.rows_exist);
-    }
+    subst (λ (l : List _). All (λ r. r < height) l) (sym c.deref-in-loop-branch-2.ensures.value) (c.in_ok-indices.ensures.rows_exist height c.requires.inputs.rows_exist)
 
 pub loop-branch-preserved : goal.loop-branch-preserved
 loop-branch-preserved g c = λ index r there.

@@ -1,12 +1,11 @@
 use Rattle.std.proofs.Common.{◌≡◌, ◌<◌, ◌+◌, map, ◌-◌, ◌∷◌, ◌++◌, List, All, arith, ap, sym, subst, ◌∙◌, drop, length}
 use Rattle.std.proofs.lemmas.List.{length-drop}
-use Rattle.std.proofs.Math.Seq.{drop-length}
 use Rattle.std.specs.List.{zip}
 use Rattle.field.proofs.DotProduct.{drop_read}
 use Rattle.field.specs.Ring.{power, sub_in}
 use Rattle.lookup_columns.specs.Columns.{tuple_denominators}
 use Rattle.air.specs.Traces.{layout_of, traces_of, window_of}
-use Rattle.lookup_columns.proofs.LessenedLaws.{column_front, column_of_none, no_power, power_more}
+use Rattle.lookup_columns.proofs.LessenedLaws.{column_front, first_power, power_more}
 use Rattle.std.proofs.lemmas.Slice.Zip.{AllZip-long}
 use Rattle.lists.proofs.Each.{All-at}
 use Rattle.lookup_columns.proofs.ZipLaws.{beside}
@@ -18,22 +17,22 @@ pub loop-left-init : goal.loop-left-init
 loop-left-init g c =
     let R = g.F.PrimeCharacteristicRing.ring in
     let S = g.EF.PrimeCharacteristicRing.ring in
-    let met = g.met.EF.PrimeCharacteristicRing in
     let steps = c.args.tuple.now in
-    let ws = window_of (traces_of c.args.traces.now) in
-    let none = sym (drop-length steps) in (
+    let ws = window_of (traces_of c.args.inputs.now.traces.now) in
+    let left = c.saturating_sub-left.result in
+    let left_is : left ≡ length steps - 1 = c.saturating_sub-left.ensures in (
       omega arith,
-      c.ONE-power.ensures ∙ met.one_is ∙ no_power S c.args.beta ∙ ap (λ l. power S c.args.beta (length l)) none,
+      λ more.
+          let one : 1 ≡ length (drop left steps) = omega (arith, more, left_is, length-drop left steps) in
+          first_power g.EF.PrimeCharacteristicRing.lawful c.args.beta ∙ ap (power S c.args.beta) one,
       λ es are.
-          let nothing = sym (drop-length es) ∙ ap (λ n. drop n es) (AllZip-long AreStepsOf steps es are) in
-          column_of_none R g.EF.PrimeCharacteristicRing.lawful g.EF.ExtensionDomain.embed c.args.alpha c.args.beta ws c.args.rows.now
-          (c.in_ok-push_alike.ensures ∙ ap (λ v. v ++ map (λ _. c.args.alpha) c.args.rows.now) c.in_ok-denominators.ensures.empty)
-          ∙ ap (tuple_denominators R S g.EF.ExtensionDomain.embed ws c.args.alpha c.args.beta c.args.rows.now) nothing,
+          c.in_ok-denominators.ensures es are c.args.beta
+          ∙ ap (λ n. tuple_denominators R S g.EF.ExtensionDomain.embed ws c.args.alpha c.args.beta c.args.rows.now (drop n es)) (sym left_is),
     )
 
 pub column_of-requires-clause-fits : goal.column_of-requires-clause-fits
 column_of-requires-clause-fits g c =
-    let fits = StepFits (layout_of (traces_of c.args.traces.now)) in
+    let fits = StepFits (layout_of (traces_of c.args.inputs.now.traces.now)) in
     subst (λ (l : List _). All fits l) (sym c.deref.ensures.value)
     (All-at (λ v. All fits v.items) c.args.tuple.now (c.loop-left.left - 1) c.index-tuple-left.result c.requires.fits (omega (arith, c.loop-left.invariant.0, c.loop-left-test.true)) c.index-tuple-left.is)
 
@@ -45,15 +44,16 @@ loop-left-preserved g c =
     let embed = g.EF.ExtensionDomain.embed in
     let beta = c.args.beta in
     let steps = c.args.tuple.now in
-    let ws = window_of (traces_of c.args.traces.now) in
+    let ws = window_of (traces_of c.args.inputs.now.traces.now) in
     let left = c.loop-left.left in
     let step = c.index-tuple-left.result in
     let so_far = c.loop-left.invariant in
+    let power_is = so_far.1 c.loop-left-test.true in
     let below : left - 1 < length steps = omega (arith, so_far.0, c.loop-left-test.true) in
     let one_more : left - 1 + 1 ≡ left = omega (arith, c.loop-left-test.true) in
     let split = drop_read steps (left - 1) step below c.index-tuple-left.is ∙ ap (λ n. step ∷ drop n steps) one_more in (
       omega (arith, so_far.0),
-      met.mul_is _ _ _ c.mul-power.ensures ∙ power_more R g.EF.PrimeCharacteristicRing.lawful embed c.args.alpha beta (length (drop left steps)) so_far.1 ∙ ap (λ l. power S beta (length l)) (sym split),
+      λ _. met.mul_is _ _ _ c.mul-power.ensures ∙ power_more R g.EF.PrimeCharacteristicRing.lawful embed c.args.alpha beta (length (drop left steps)) power_is ∙ ap (λ l. power S beta (length l)) (sym split),
       λ es are.
           let other = beside AreStepsOf steps es (left - 1) step are below c.index-tuple-left.is in
           let e = other.item in
@@ -64,14 +64,14 @@ loop-left-preserved g c =
           (c.deref-in-loop-left-2.ensures.value ∙ c.in_ok-column.ensures (tree_of e) (c.deref.ensures.value ∙ other.holds))
           (c.in_ok-push_minus_scaled.ensures
           ∙ ap (λ v. v ++ map (λ p. sub_in S p.0 (S.mul c.loop-left.power (embed p.1))) (zip c.deref-in-loop-left.result.now c.deref-in-loop-left-2.result.now)) c.in_ok-lessened.ensures.empty
-          ∙ ap (λ q. map (λ p. sub_in S p.0 (S.mul q (embed p.1))) (zip c.deref-in-loop-left.result.now c.deref-in-loop-left-2.result.now)) (so_far.1 ∙ ap (power S beta) many))
+          ∙ ap (λ q. map (λ p. sub_in S p.0 (S.mul q (embed p.1))) (zip c.deref-in-loop-left.result.now c.deref-in-loop-left-2.result.now)) (power_is ∙ ap (power S beta) many))
           ∙ ap (tuple_denominators R S embed ws c.args.alpha beta c.args.rows.now) (sym (drop_read es (left - 1) e other.within other.there ∙ ap (λ n. e ∷ drop n es) one_more)),
     )
 
 pub returns : goal.returns
 returns g c = λ es are.
     let S = g.EF.PrimeCharacteristicRing.ring in
-    let ws = window_of (traces_of c.args.traces.now) in
+    let ws = window_of (traces_of c.args.inputs.now.traces.now) in
     let none_left : c.loop-left.left ≡ 0 = omega (arith, c.loop-left-test.false) in
     c.loop-left.invariant.2 es are
     ∙ ap (λ n. tuple_denominators g.F.PrimeCharacteristicRing.ring S g.EF.ExtensionDomain.embed ws c.args.alpha c.args.beta c.args.rows.now (drop n es)) none_left

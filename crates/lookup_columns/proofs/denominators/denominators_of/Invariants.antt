@@ -1,4 +1,4 @@
-use Rattle.std.proofs.Common.{◌≡◌, ◌≤◌, List, drop, length}
+use Rattle.std.proofs.Common.{◌≡◌, ◌<◌, ◌≤◌, List, drop, length}
 use Rattle.std.specs.List.{AllZip}
 use Rattle.expressions.specs.declared.base_expression.SymbolicExpression.{SymbolicExpression}
 use Rattle.field.specs.Ring.{power}
@@ -11,9 +11,9 @@ abbrev pub invariant-loop-left : goal.invariant-loop-left
 invariant-loop-left g l =
     let S = g.EF.PrimeCharacteristicRing.ring in
     (l.left ≤ length l.tuple)
-    × (l.power ≡ power S l.beta (length (drop l.left l.tuple)))
+    × (0 < l.left → l.power ≡ power S l.beta (length (drop l.left l.tuple)))
     × ((es : List (SymbolicExpression _)) → AllZip AreStepsOf l.tuple es
-    → l.denominators.items ≡ tuple_denominators g.F.PrimeCharacteristicRing.ring S g.EF.ExtensionDomain.embed (window_of (traces_of l.traces)) l.fn.alpha l.beta l.rows (drop l.left es))
+    → l.denominators.items ≡ tuple_denominators g.F.PrimeCharacteristicRing.ring S g.EF.ExtensionDomain.embed (window_of (traces_of l.inputs.traces.now)) l.fn.alpha l.beta l.rows (drop l.left es))
 
 abbrev pub decreases-loop-left : goal.decreases-loop-left
 decreases-loop-left g l = l.left
