@@ -1,70 +1,86 @@
-//! The constraints of lookups on the rows of given traces.
-ghost use Rattle.std.specs.Prelude.{◌<◌, length};
-ghost use Rattle.matrix.specs.Matrix.{height};
-ghost use Rattle.checker.specs.internal.Rows.{AreRowInputs, ChecksRow, FindsFailing};
+//! The first row of an AIR on which a constraint of its lookups is not zero.
+ghost use Rattle.std.specs.Prelude.{◌≡◌, ◌<◌, IfOk, length};
+ghost use Rattle.checker.specs.internal.Checks.{FindsFailingOf};
+ghost use Rattle.lookup_model.specs.Batches.Instances.{HasPrefixes, IsFitting, instance_of};
+ghost use Rattle.lookup_model.specs.Batches.Refusals.{HasShapeAt};
+ghost use Rattle.lookup_model.specs.Challenges.{table_of};
+ghost use Rattle.lookup_model.specs.Witness.{values_of_terminal};
 
 use crate::chunks::first_failing_in_chunks;
-use air::{AirError, DebugConstraintBuilder, RowInputs};
+use crate::few_rows::first_failing_of_few;
+use air::RowInputs;
 use field::{ExtensionField, Field, Over};
-use lookup::{LogUpGadget, Lookup, LookupProtocol};
+use lookup::{Challenges, LookupTerminal};
+use lookup_model::BatchInstance;
+use matrix::RowMajorMatrix;
 use std::alloc::{AllocError, Global};
+use std::slice;
 
 /// From how many rows on they are checked in chunks.
-const MANY_ROWS: usize = 8;
+const MANY_ROWS: usize = 32;
 
-/// The first row on which a constraint of the lookups is not zero.
+/// The first row of an AIR on which a constraint of its lookups is not zero.
 ///
-/// The rows are checked in chunks. Fewer than 8 rows are checked one by one: for so few, making the
+/// The rows are checked in chunks. Fewer than 32 rows are checked one by one: for so few, making the
 /// columns of a chunk takes longer than walking the expressions on each row.
 ///
 /// Fails only when out of memory.
-pub(crate) fn first_failing_row<'a, F: Field, EF: ExtensionField<F>>(
+pub(crate) fn first_failing_row<F: Field, EF: ExtensionField<F>>(
     alloc: Global,
-    inputs: &'a RowInputs<'a, F, EF>,
-    lookups: &[Lookup<F>],
+    instance: &BatchInstance<'_, F>,
+    challenges: &Challenges<EF>,
+    aux: &RowMajorMatrix<EF>,
+    terminal: &Option<LookupTerminal<EF>>,
 ) -> Result<Option<usize>, AllocError>
-    requires { 0 < length lookups.now → AreRowInputs inputs.now lookups.now }
-    ensures { FindsFailing ⟦<EF as Over<F>>⟧.fields inputs.now lookups.now result }
+    requires fit { IsFitting (instance_of instance.now) }
+    requires ids { HasPrefixes challenges.now instance.now }
+    requires shape { HasShapeAt (instance_of instance.now) (aux.now, terminal.now) }
+    ensures { IfOk result (FindsFailingOf ⟦<EF as Over<F>>⟧.fields (table_of challenges.now)
+        (instance_of instance.now) (aux.now, terminal.now)) }
 {
-    if lookups.is_empty() {
+    if instance.lookups.is_empty() {
         Ok(None)
-    } else if inputs.main.height() < MANY_ROWS {
-        first_failing_of_few(alloc, inputs, lookups)
+    } else if instance.main.height() < MANY_ROWS {
+        Ok(first_failing_of_few(instance, challenges, aux, terminal))
     } else {
-        first_failing_in_chunks(alloc, inputs, lookups)
+        first_failing_of_many(alloc, instance, challenges, aux, terminal)
     }
 }
 
-/// The first row on which a constraint is not zero, by walking the expressions on each row.
-fn first_failing_of_few<'a, F: Field, EF: ExtensionField<F>>(
+/// The first row of an AIR on which a constraint is not zero, in chunks of rows. There has to be at least
+/// one lookup.
+fn first_failing_of_many<F: Field, EF: ExtensionField<F>>(
     alloc: Global,
-    inputs: &'a RowInputs<'a, F, EF>,
-    lookups: &[Lookup<F>],
+    instance: &BatchInstance<'_, F>,
+    challenges: &Challenges<EF>,
+    aux: &RowMajorMatrix<EF>,
+    terminal: &Option<LookupTerminal<EF>>,
 ) -> Result<Option<usize>, AllocError>
-    requires { AreRowInputs inputs.now lookups.now }
-    ensures { FindsFailing ⟦<EF as Over<F>>⟧.fields inputs.now lookups.now result }
+    requires fit { IsFitting (instance_of instance.now) }
+    requires ids { HasPrefixes challenges.now instance.now }
+    requires shape { HasShapeAt (instance_of instance.now) (aux.now, terminal.now) }
+    requires some { 0 < length instance.now.lookups.now }
+    ensures { IfOk result (FindsFailingOf ⟦<EF as Over<F>>⟧.fields (table_of challenges.now)
+        (instance_of instance.now) (aux.now, terminal.now)) }
 {
-    for row in 0..inputs.main.height() {
-        match check_row(alloc, inputs, lookups, row) {
-            Ok(()) => {}
-            Err(AirError::Memory) => return Err(AllocError),
-            Err(_) => return Ok(Some(row)),
-        }
-    }
-    Ok(None)
+    let columns = challenges.for_columns(alloc, instance.ids)?;
+    let inputs = RowInputs {
+        main: instance.main,
+        preprocessed: instance.preprocessed,
+        public_values: instance.public_values,
+        permutation: aux,
+        challenges: columns.as_slice(),
+        permutation_values: values_of(terminal),
+    };
+    first_failing_in_chunks(alloc, &inputs, instance.lookups)
 }
 
-/// Whether every constraint of the lookups is zero on a row.
-fn check_row<'a, F: Field, EF: ExtensionField<F>>(
-    alloc: Global,
-    inputs: &'a RowInputs<'a, F, EF>,
-    lookups: &[Lookup<F>],
-    row: usize,
-) -> Result<(), AirError>
-    requires row { row < height inputs.now.main.now }
-    requires checked { AreRowInputs inputs.now lookups.now }
-    ensures { ChecksRow ⟦<EF as Over<F>>⟧.fields inputs.now lookups.now row result }
+/// The permutation values of an AIR: its terminal, if it has one.
+pub(crate) fn values_of<EF>(terminal: &Option<LookupTerminal<EF>>) -> &[EF]
+    ensures { result.now ≡ values_of_terminal terminal.now }
 {
-    let mut builder = DebugConstraintBuilder::new(inputs, row);
-    LogUpGadget::new().eval_all(alloc, &mut builder, lookups)
+    match terminal {
+        Some(terminal) => slice::from_ref(&terminal.0),
+        None => &[],
+    }
 }

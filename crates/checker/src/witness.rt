@@ -1,20 +1,18 @@
 //! Whether a witness of a batch is accepted.
-ghost use Rattle.std.specs.Prelude.{◌≡◌, IfOk, length};
+ghost use Rattle.std.specs.Prelude.{◌≡◌, length};
 ghost use Rattle.std.specs.List.{zip};
 ghost use Rattle.lookup_model.specs.Challenges.{table_of};
-ghost use Rattle.lookup_model.specs.Witness.{values_of_terminal};
 ghost use Rattle.checker.specs.Answers.{AreReady, ChecksWitness, PassesOnlyPlain, RefusesUnaccepted};
 ghost use Rattle.lookup_model.specs.Batches.Instances.{HasPrefixes, IsFitting, instance_of, instances_of};
 ghost use Rattle.lookup_model.specs.Batches.Refusals.{HasShapeAt};
 ghost use Rattle.checker.specs.internal.Checks.{ChecksResult, ChecksRows, ChecksShape};
 
 use crate::rows::first_failing_row;
-use air::RowInputs;
 use field::{ExtensionField, Field, Over};
 use lookup::{Challenges, LogUpGadget, LookupError, LookupProtocol, LookupTerminal};
 use lookup_model::BatchInstance;
 use matrix::RowMajorMatrix;
-use std::alloc::{AllocError, Global};
+use std::alloc::Global;
 
 /// Whether a witness is accepted: it satisfies the constraints of all lookups on every row, and its
 /// terminals sum to zero. If all flags are lawful and no denominator vanishes, only the witness of
@@ -128,32 +126,8 @@ fn check_rows<F: Field, EF: ExtensionField<F>>(
     ensures { ChecksRows ⟦<EF as Over<F>>⟧.fields (table_of challenges.now) air
         (instance_of instance.now) (aux.now, terminal.now) result }
 {
-    let columns = challenges.for_columns(alloc, instance.ids)?;
-    let values = terminal_values(alloc, terminal)?;
-    let inputs = RowInputs {
-        main: instance.main,
-        preprocessed: instance.preprocessed,
-        public_values: instance.public_values,
-        permutation: aux,
-        challenges: columns.as_slice(),
-        permutation_values: values.as_slice(),
-    };
-    match first_failing_row(alloc, &inputs, instance.lookups)? {
+    match first_failing_row(alloc, instance, challenges, aux, terminal)? {
         Some(row) => Err(LookupError::ConstraintFailed { air, row }),
         None => Ok(()),
     }
-}
-
-/// The permutation values of an AIR: its terminal, if it has one.
-fn terminal_values<EF: Field>(
-    alloc: Global,
-    terminal: &Option<LookupTerminal<EF>>,
-) -> Result<Vec<EF>, AllocError>
-    ensures { IfOk result (λ values. values.items ≡ values_of_terminal terminal.now) }
-{
-    let mut values = Vec::new(alloc);
-    if let Some(terminal) = terminal {
-        values.push(terminal.0)?;
-    }
-    Ok(values)
 }
