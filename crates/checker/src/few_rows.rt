@@ -5,7 +5,7 @@ ghost use Rattle.std.specs.List.{AllByRecursion};
 ghost use Rattle.checker.specs.internal.Checks.{FindsFailingOf};
 ghost use Rattle.checker.specs.internal.Quotients.{IsQuotientOf};
 ghost use Rattle.checker.specs.internal.Rows.{FractionHoldsAt};
-ghost use Rattle.checker.specs.internal.TraceRows.{FractionFits, trace_layout, trace_window, window_with};
+ghost use Rattle.checker.specs.internal.TraceRows.{FractionFits, trace_layout, trace_window, window_over};
 ghost use Rattle.lookup_model.specs.Batches.Instances.{HasPrefixes, IsFitting, instance_of};
 ghost use Rattle.lookup_model.specs.Batches.Refusals.{HasShapeAt};
 ghost use Rattle.lookup_model.specs.Challenges.{column_challenges, table_of};
@@ -15,30 +15,28 @@ ghost use Rattle.lookup_model.specs.Sent.{branches_at, values};
 
 use crate::accumulator::accumulator_holds;
 use crate::fractions::{is_satisfied, with_branch};
-use crate::rows::values_of;
 use crate::trace_row::TraceRow;
-use air::{RowInputs, SymbolicExpression, Traces};
+use air::{SymbolicExpression, Traces};
 use field::{Domain, ExtensionDomain, ExtensionField, Field, Over, PrimeCharacteristicRing};
 use lookup::{Challenges, Lookup, LookupTerminal};
 use lookup_evaluation::Quotient;
 use lookup_model::BatchInstance;
 use matrix::RowMajorMatrix;
 
-/// The first row of an AIR on which a constraint is not zero. There has to be at least one lookup.
+/// The first row of an AIR with lookups on which a constraint is not zero.
 ///
 /// The expressions are walked on each row, and the prefixes are read where they stand: no list is made.
 pub(crate) fn first_failing_of_few<F: Field, EF: ExtensionField<F>>(
     instance: &BatchInstance<'_, F>,
     challenges: &Challenges<EF>,
     aux: &RowMajorMatrix<EF>,
-    terminal: &Option<LookupTerminal<EF>>,
+    terminal: LookupTerminal<EF>,
 ) -> Option<usize>
     requires fit { IsFitting (instance_of instance.now) }
     requires ids { HasPrefixes challenges.now instance.now }
-    requires shape { HasShapeAt (instance_of instance.now) (aux.now, terminal.now) }
-    requires some { 0 < length instance.now.lookups.now }
+    requires shape { HasShapeAt (instance_of instance.now) (aux.now, Some terminal) }
     ensures { FindsFailingOf ⟦<EF as Over<F>>⟧.fields (table_of challenges.now)
-        (instance_of instance.now) (aux.now, terminal.now) result }
+        (instance_of instance.now) (aux.now, Some terminal) result }
 {
     let (lookups, num_rows) = (instance.lookups, instance.main.height());
     let traces = Traces {
@@ -46,16 +44,8 @@ pub(crate) fn first_failing_of_few<F: Field, EF: ExtensionField<F>>(
         preprocessed: instance.preprocessed,
         public_values: instance.public_values,
     };
-    let inputs = RowInputs {
-        main: instance.main,
-        preprocessed: instance.preprocessed,
-        public_values: instance.public_values,
-        permutation: aux,
-        challenges: &[],
-        permutation_values: values_of(terminal),
-    };
     for row in 0..num_rows {
-        if !accumulator_holds(&inputs, lookups, num_rows, row) {
+        if !accumulator_holds(aux, terminal.0, lookups, num_rows, row) {
             return Some(row);
         }
         let trace_row = TraceRow::new(&traces, num_rows, row);
@@ -81,8 +71,8 @@ fn fractions_hold<F: Field, EF: ExtensionField<F>>(
     requires ids { length ids.now ≡ length lookups.now }
     requires prefixes { All (λ id. id < length (boxed_slice_items challenges.now.bus_prefix)) ids.now }
     ensures { IsTrue result ↔ AllByRecursion (FractionHoldsAt ⟦<EF as Over<F>>⟧.fields
-        (window_with row.now cells.now (column_challenges (table_of challenges.now) ids.now)))
-        lookups.now }
+        (window_over (trace_window row.now) cells.now
+        (column_challenges (table_of challenges.now) ids.now))) lookups.now }
 {
     for lookup in lookups {
         let prefix = challenges.bus_prefix[ids[lookup.column]];
@@ -167,7 +157,7 @@ fn exclusive_quotient_on<F: Field, EF: ExtensionField<F>>(
     requires flag_number { length flags.now ≡ length lookup.now.elements.items }
     requires within { IsWithin (trace_layout row.now) lookup.now }
     requires flags_fit { AllFit (trace_layout row.now) flags.now }
-    ensures { let (E, w) = (⟦<EF as Over<F>>⟧.fields, trace_window row.now) in
+    ensures { let E = ⟦<EF as Over<F>>⟧.fields in let w = trace_window row.now in
         IsQuotientOf E (tuple_denominator E alpha beta) (Some (values F.ring w flags.now))
         (branches_at F.ring w lookup.now.column lookup.now) result }
 {

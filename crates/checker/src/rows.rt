@@ -1,10 +1,9 @@
 //! The first row of an AIR on which a constraint of its lookups is not zero.
-ghost use Rattle.std.specs.Prelude.{◌≡◌, ◌<◌, IfOk, length};
+ghost use Rattle.std.specs.Prelude.{IfOk, Some};
 ghost use Rattle.checker.specs.internal.Checks.{FindsFailingOf};
 ghost use Rattle.lookup_model.specs.Batches.Instances.{HasPrefixes, IsFitting, instance_of};
 ghost use Rattle.lookup_model.specs.Batches.Refusals.{HasShapeAt};
 ghost use Rattle.lookup_model.specs.Challenges.{table_of};
-ghost use Rattle.lookup_model.specs.Witness.{values_of_terminal};
 
 use crate::chunks::first_failing_in_chunks;
 use crate::few_rows::first_failing_of_few;
@@ -14,7 +13,6 @@ use lookup::{Challenges, LookupTerminal};
 use lookup_model::BatchInstance;
 use matrix::RowMajorMatrix;
 use std::alloc::{AllocError, Global};
-use std::slice;
 
 /// From how many rows on they are checked in chunks.
 const MANY_ROWS: usize = 32;
@@ -38,49 +36,40 @@ pub(crate) fn first_failing_row<F: Field, EF: ExtensionField<F>>(
     ensures { IfOk result (FindsFailingOf ⟦<EF as Over<F>>⟧.fields (table_of challenges.now)
         (instance_of instance.now) (aux.now, terminal.now)) }
 {
-    if instance.lookups.is_empty() {
-        Ok(None)
-    } else if instance.main.height() < MANY_ROWS {
-        Ok(first_failing_of_few(instance, challenges, aux, terminal))
+    let Some(terminal) = terminal else {
+        return Ok(None);
+    };
+    if instance.main.height() < MANY_ROWS {
+        Ok(first_failing_of_few(instance, challenges, aux, *terminal))
     } else {
-        first_failing_of_many(alloc, instance, challenges, aux, terminal)
+        first_failing_of_many(alloc, instance, challenges, aux, *terminal)
     }
 }
 
-/// The first row of an AIR on which a constraint is not zero, in chunks of rows. There has to be at least
-/// one lookup.
+/// The first row of an AIR on which a constraint is not zero, in chunks of rows.
 fn first_failing_of_many<F: Field, EF: ExtensionField<F>>(
     alloc: Global,
     instance: &BatchInstance<'_, F>,
     challenges: &Challenges<EF>,
     aux: &RowMajorMatrix<EF>,
-    terminal: &Option<LookupTerminal<EF>>,
+    terminal: LookupTerminal<EF>,
 ) -> Result<Option<usize>, AllocError>
     requires fit { IsFitting (instance_of instance.now) }
     requires ids { HasPrefixes challenges.now instance.now }
-    requires shape { HasShapeAt (instance_of instance.now) (aux.now, terminal.now) }
-    requires some { 0 < length instance.now.lookups.now }
+    requires shape { HasShapeAt (instance_of instance.now) (aux.now, Some terminal) }
     ensures { IfOk result (FindsFailingOf ⟦<EF as Over<F>>⟧.fields (table_of challenges.now)
-        (instance_of instance.now) (aux.now, terminal.now)) }
+        (instance_of instance.now) (aux.now, Some terminal)) }
 {
     let columns = challenges.for_columns(alloc, instance.ids)?;
+    let mut values = Vec::new(alloc);
+    values.push(terminal.0)?;
     let inputs = RowInputs {
         main: instance.main,
         preprocessed: instance.preprocessed,
         public_values: instance.public_values,
         permutation: aux,
         challenges: columns.as_slice(),
-        permutation_values: values_of(terminal),
+        permutation_values: values.as_slice(),
     };
     first_failing_in_chunks(alloc, &inputs, instance.lookups)
-}
-
-/// The permutation values of an AIR: its terminal, if it has one.
-pub(crate) fn values_of<EF>(terminal: &Option<LookupTerminal<EF>>) -> &[EF]
-    ensures { result.now ≡ values_of_terminal terminal.now }
-{
-    match terminal {
-        Some(terminal) => slice::from_ref(&terminal.0),
-        None => &[],
-    }
 }

@@ -1,16 +1,16 @@
 -- Constraints of lookups on the rows of given inputs.
-use Rattle.std.specs.Prelude.{◌≡◌, ◌<◌, ◌≤◌, ◌*◌, ℕ, List, Option, Result, MatchOption, MatchResult, length, ⊤}
+use Rattle.std.specs.Prelude.{◌≡◌, ◌<◌, ◌≤◌, ◌+◌, ◌*◌, ◌%◌, ◌==◌, not, ℕ, List, [], ◌∷◌, Option, Result, MatchOption, MatchResult, length, ⊤}
 use Rattle.std.specs.List.{AllByRecursion}
 use Rattle.std.specs.Option.{ForSome, option_copied}
 use Rattle.std.specs.declared.alloc.AllocError.{AllocError}
-use Rattle.matrix.specs.Matrix.{height}
+use Rattle.matrix.specs.Matrix.{Matrix, height, row}
 use Rattle.expressions.specs.Faults.{FailsFirstAt}
-use Rattle.expressions.specs.Window.{ExtWindow}
+use Rattle.expressions.specs.Window.{ExtWindow, empty_window}
 use Rattle.air.specs.Row.{input_layout, input_window}
 use Rattle.air.specs.declared.debug.inputs.RowInputs.{RowInputs}
 use Rattle.lookup_model.specs.Constraints.{Constraint, accumulator_constraints, fraction_constraint, lookup_constraints, terminal_at}
 use Rattle.field.specs.Extension.{Extension}
-use Rattle.lookup_model.specs.Records.{AreRecords, LookupsFit}
+use Rattle.lookup_model.specs.Records.{LookupsFit}
 use Rattle.lookup_model.specs.declared.types.Lookup.{Lookup}
 
 -- On row `first` and all further ones before row r a property holds. It fails on row r, unless that is
@@ -21,22 +21,30 @@ pub record HoldsUntil (Holds : ℕ → Type 0) (first end r : ℕ) : Type 0 wher
   pub holds : (s : ℕ) → first ≤ s → s < r → Holds s
   pub fails : r < end → ¬ Holds r
 
--- For at least one lookup, inputs with all that the accumulator's constraints read: an auxiliary trace as
--- high as the main trace, a cell for each lookup beside the accumulator, and a terminal.
-pub record HaveAccumulator {F K : Type 0} (inputs : RowInputs F K) (lookups : List (Lookup F)) : Type 0 where
+-- For at least one lookup, inputs with all that their constraints read: traces of one height that the
+-- lookups fit, for each lookup two challenges and a cell beside the accumulator, and a terminal.
+pub record AreRowInputs {F K : Type 0} (inputs : RowInputs F K) (lookups : List (Lookup F)) : Type 0 where
+  pub preprocessed : ForSome (option_copied inputs.preprocessed) (λ m. height m ≡ height inputs.main.now)
   pub permutation : height inputs.permutation.now ≡ height inputs.main.now
-  pub records : AreRecords lookups
+  pub fit : LookupsFit (input_layout inputs) lookups
+  pub challenges : 2 * length lookups ≤ length inputs.challenges.now
   pub some : 0 < length lookups
   pub cells : length lookups < inputs.permutation.now.width
   pub terminal : 0 < length inputs.permutation_values.now
 
--- And with all that the other constraints read: traces of one height that the lookups fit, and two
--- challenges for each lookup.
-pub record AreRowInputs {F K : Type 0} (inputs : RowInputs F K) (lookups : List (Lookup F)) : Type 0 where
-  pub accumulator : HaveAccumulator inputs lookups
-  pub preprocessed : ForSome (option_copied inputs.preprocessed) (λ m. height m ≡ height inputs.main.now)
-  pub fit : LookupsFit (input_layout inputs) lookups
-  pub challenges : 2 * length lookups ≤ length inputs.challenges.now
+-- the window of row r of an auxiliary trace, with all that the accumulator's constraints read
+abbrev pub accumulator_window : {F K : Type 0} → Matrix K → K → ℕ → ExtWindow F K
+accumulator_window aux terminal r = record {
+  base = record empty_window {
+    is_first = r == 0;
+    is_last = r + 1 == height aux;
+    is_transition = not (r + 1 == height aux);
+  };
+  permutation = row aux r;
+  permutation_next = row aux ((r + 1) % height aux);
+  challenges = [];
+  permutation_values = terminal ∷ [];
+}
 
 module _ {F K : Type 0} (E : Extension F K) (w : ExtWindow F K) where
   -- a constraint is zero at a window

@@ -10,6 +10,17 @@ use Rattle.lookup_model.specs.Sent.{branches_at, flags_at}
 use Rattle.lookup_model.specs.declared.types.Lookup.{Lookup}
 use Rattle.checker.specs.declared.trace_row.TraceRow.{TraceRow}
 
+-- a window with the cells of the auxiliary trace on its row and with challenges: all that the fractions'
+-- constraints read
+abbrev pub window_over : {F K : Type 0} → Window F → List K → List K → ExtWindow F K
+window_over base cells challenges = record {
+  base = base;
+  permutation = cells;
+  permutation_next = [];
+  challenges = challenges;
+  permutation_values = [];
+}
+
 module _ {F : Type 0} (row : TraceRow F) where
   -- its window
   abbrev pub trace_window : Window F
@@ -27,16 +38,6 @@ module _ {F : Type 0} (row : TraceRow F) where
   -- its widths
   abbrev pub trace_layout : AirLayout
   trace_layout = layout_of_widths (length row.main.current.now) (length row.preprocessed.current.now) (length row.public_values.now)
-
-  -- its window with cells of the auxiliary trace and with challenges
-  abbrev pub window_with : {K : Type 0} → List K → List K → ExtWindow F K
-  window_with cells challenges = record {
-    base = trace_window;
-    permutation = cells;
-    permutation_next = [];
-    challenges = challenges;
-    permutation_values = [];
-  }
 
   -- with this alpha and beta, the constraint of the lookup's fraction is zero
   abbrev pub FractionFits : {K : Type 0} → Extension F K → K → K → Lookup F → K → Type 0

@@ -11,7 +11,7 @@ invariant-loop-left g l =
     let E = of_laws g.met.EF.ExtensionField.lawful_fields in
     (l.left < length l.tuple)
     × (0 < l.left → l.power ≡ power E.ring l.beta (length (drop l.left l.tuple)))
-    × (l.denominator ≡ tuple_denominator E l.alpha l.beta (values E.base (trace_window l.row) (drop l.left l.tuple)))
+    × (l.denominator ≡ tuple_denominator E l.fn.alpha l.beta (values E.base (trace_window l.row) (drop l.left l.tuple)))
 
 abbrev pub decreases-loop-left : goal.decreases-loop-left
 decreases-loop-left g l = l.left

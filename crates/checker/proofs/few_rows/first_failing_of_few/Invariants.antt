@@ -1,4 +1,4 @@
-use Rattle.std.proofs.Common.{ℕ, ◌<◌}
+use Rattle.std.proofs.Common.{ℕ, ◌<◌, Some}
 use Rattle.field.specs.laws.Extension.{of_laws}
 use Rattle.lookup_model.specs.Batches.Instances.{instance_of}
 use Rattle.lookup_model.specs.Batches.Refusals.{HoldsAt}
@@ -7,4 +7,4 @@ use Rattle.checker.proofs.few_rows.first_failing_of_few.Given as goal
 
 abbrev pub invariant-loop-row : goal.invariant-loop-row
 invariant-loop-row g l =
-    (s : ℕ) → s < l.row → HoldsAt (of_laws g.met.EF.ExtensionField.lawful_fields) (table_of l.challenges) (instance_of l.instance) (l.aux, l.terminal) s
+    (s : ℕ) → s < l.row → HoldsAt (of_laws g.met.EF.ExtensionField.lawful_fields) (table_of l.challenges) (instance_of l.instance) (l.aux, Some l.fn.terminal) s

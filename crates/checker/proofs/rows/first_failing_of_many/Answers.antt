@@ -1,0 +1,39 @@
+use Rattle.std.proofs.Common.{Some, ap, length, ◌∙◌, arith}
+use Rattle.air.specs.Traces.{layout_of}
+use Rattle.field.specs.laws.Extension.{of_laws}
+use Rattle.lookup_model.proofs.Layouts.{LookupsFit-with_auxiliary}
+use Rattle.lookup_model.specs.Batches.Instances.{instance_of}
+use Rattle.lookup_model.specs.Challenges.{table_of}
+use Rattle.matrix.specs.Matrix.{height}
+use Rattle.checker.proofs.CheckedInputs.{shaped, some_lookups}
+use Rattle.checker.proofs.CheckLaws.{finds_alike, holds_from, zeros_from}
+use Rattle.checker.proofs.rows.first_failing_of_many.Goals as goal
+
+pub first_failing_in_chunks-requires : goal.first_failing_in_chunks-requires
+first_failing_in_chunks-requires g c =
+    let i = c.args.instance.now in
+    let some = some_lookups i.lookups.now (height i.main.now) c.args.aux.now c.args.terminal c.requires.shape in
+    let shape = shaped i.lookups.now (height i.main.now) c.args.aux.now (Some c.args.terminal) c.requires.shape some in
+    record {
+      preprocessed = c.requires.fit.heights;
+      permutation = shape.0;
+      fit = LookupsFit-with_auxiliary (layout_of (instance_of i).traces) c.args.aux.now.width (length c.as_slice.result.now) (length c.as_slice-2.result.now) i.lookups.now c.requires.fit.fit;
+      challenges = omega (arith, ap length c.as_slice.ensures.value, c.in_ok-columns.ensures.len, c.requires.fit.ids);
+      some = some;
+      cells = shape.1;
+      terminal = omega (arith, ap length (c.as_slice-2.ensures.value ∙ c.in_ok-push.ensures.items));
+    }
+
+pub returns : goal.returns
+returns g c =
+    let E = of_laws g.met.EF.ExtensionField.lawful_fields in
+    let table = table_of c.args.challenges.now in
+    let i = instance_of c.args.instance.now in
+    let aux = c.args.aux.now in
+    let terminal = Some c.args.terminal in
+    let challenges_are = c.as_slice.ensures.value ∙ c.in_ok-columns.ensures.challenges in
+    let values_are = c.as_slice-2.ensures.value ∙ c.in_ok-push.ensures.items in
+    finds_alike (height c.args.instance.now.main.now)
+    (holds_from E table i aux terminal c.as_slice.result.now c.as_slice-2.result.now challenges_are values_are)
+    (zeros_from E table i aux terminal c.as_slice.result.now c.as_slice-2.result.now challenges_are values_are)
+    c.first_failing_in_chunks.result c.first_failing_in_chunks.ensures
