@@ -1,5 +1,6 @@
 -- The check of one AIR's result: from its shape and its rows to satisfied constraints.
-use Rattle.std.proofs.Common.{◌≡◌, ℕ, ◌+◌, ◌%◌, ◌<◌, inl, inr, Option, None, Some, MatchOption, List, Result, Ok, Err, IfOk, MatchResult, ⊤, sym, subst₂}
+use Rattle.std.proofs.Common.{◌≡◌, ℕ, ◌+◌, ◌%◌, ◌<◌, inl, inr, Option, None, Some, MatchOption, List, Result, Ok, Err, IfOk, MatchResult, sym, subst₂}
+use Rattle.std.specs.Bool.{⊤}
 use Rattle.std.specs.declared.alloc.AllocError.{AllocError}
 use Rattle.std.specs.List.{AllByRecursion}
 use Rattle.matrix.specs.Matrix.{Matrix, height, row}

@@ -1,10 +1,9 @@
 -- The quotient of an additive lookup, tuple by tuple.
-use Rattle.std.proofs.Common.{◌≡◌, ◌+◌, ◌<◌, ◌∷◌, [], ◌++◌, ℕ, List, None, take, sym, ap, ◌∙◌}
+use Rattle.std.proofs.Common.{◌≡◌, ◌∷◌, [], ◌++◌, List, None, sym, ◌∙◌}
 use Rattle.field.specs.Extension.{Extension}
 use Rattle.field.specs.Ring.{IsCommutativeRing}
 use Rattle.lookup_evaluation.specs.declared.quotient.Quotient.{Quotient}
 use Rattle.lookup_model.proofs.TakenOut.{product_of-push, sum_of-push}
-use Rattle.lookup_model.specs.Constraints.{additive_denominator, additive_numerator}
 use Rattle.lookup_model.specs.Message.{Message}
 use Rattle.checker.specs.internal.Quotients.{IsQuotientOf}
 

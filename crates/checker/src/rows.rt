@@ -36,13 +36,15 @@ pub(crate) fn first_failing_row<F: Field, EF: ExtensionField<F>>(
     ensures { IfOk result (FindsFailingOf ⟦<EF as Over<F>>⟧.fields (table_of challenges.now)
         (instance_of instance.now) (aux.now, terminal.now)) }
 {
-    let Some(terminal) = terminal else {
-        return Ok(None);
-    };
-    if instance.main.height() < MANY_ROWS {
-        Ok(first_failing_of_few(instance, challenges, aux, *terminal))
-    } else {
-        first_failing_of_many(alloc, instance, challenges, aux, *terminal)
+    match terminal {
+        None => Ok(None),
+        Some(terminal) => {
+            if instance.main.height() < MANY_ROWS {
+                Ok(first_failing_of_few(instance, challenges, aux, *terminal))
+            } else {
+                first_failing_of_many(alloc, instance, challenges, aux, *terminal)
+            }
+        }
     }
 }
 

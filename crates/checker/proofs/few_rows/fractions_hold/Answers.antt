@@ -1,6 +1,6 @@
 use Rattle.std.proofs.Common.{◌≡◌, ◌<◌, ◌+◌, ◌∷◌, [], get_or, length, take, subst, sym, ◌∙◌, arith}
 use Rattle.std.proofs.lemmas.Bool.{iff_false, true≢false}
-use Rattle.std.proofs.lemmas.List.{get_or_read, take_all}
+use Rattle.std.proofs.lemmas.List.{get_or_read}
 use Rattle.std.specs.Box.{boxed_slice_items}
 use Rattle.std.specs.List.{AllByRecursion}
 use Rattle.lists.proofs.Each.{all_both, all_there}

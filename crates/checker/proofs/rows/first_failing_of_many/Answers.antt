@@ -1,4 +1,4 @@
-use Rattle.std.proofs.Common.{Some, ap, length, ◌∙◌, arith}
+use Rattle.std.proofs.Common.{◌≡◌, ◌∷◌, [], Some, ap, length, ◌∙◌, arith, rules}
 use Rattle.air.specs.Traces.{layout_of}
 use Rattle.field.specs.laws.Extension.{of_laws}
 use Rattle.lookup_model.proofs.Layouts.{LookupsFit-with_auxiliary}
@@ -13,6 +13,7 @@ pub first_failing_in_chunks-requires : goal.first_failing_in_chunks-requires
 first_failing_in_chunks-requires g c =
     let i = c.args.instance.now in
     let some = some_lookups i.lookups.now (height i.main.now) c.args.aux.now c.args.terminal c.requires.shape in
+    let values_are : c.as_slice-2.result.now ≡ c.args.terminal.0 ∷ [] = search rules in
     let shape = shaped i.lookups.now (height i.main.now) c.args.aux.now (Some c.args.terminal) c.requires.shape some in
     record {
       preprocessed = c.requires.fit.heights;
@@ -21,7 +22,7 @@ first_failing_in_chunks-requires g c =
       challenges = omega (arith, ap length c.as_slice.ensures.value, c.in_ok-columns.ensures.len, c.requires.fit.ids);
       some = some;
       cells = shape.1;
-      terminal = omega (arith, ap length (c.as_slice-2.ensures.value ∙ c.in_ok-push.ensures.items));
+      terminal = omega (arith, ap length values_are);
     }
 
 pub returns : goal.returns
@@ -32,7 +33,7 @@ returns g c =
     let aux = c.args.aux.now in
     let terminal = Some c.args.terminal in
     let challenges_are = c.as_slice.ensures.value ∙ c.in_ok-columns.ensures.challenges in
-    let values_are = c.as_slice-2.ensures.value ∙ c.in_ok-push.ensures.items in
+    let values_are : c.as_slice-2.result.now ≡ c.args.terminal.0 ∷ [] = search rules in
     finds_alike (height c.args.instance.now.main.now)
     (holds_from E table i aux terminal c.as_slice.result.now c.as_slice-2.result.now challenges_are values_are)
     (zeros_from E table i aux terminal c.as_slice.result.now c.as_slice-2.result.now challenges_are values_are)
