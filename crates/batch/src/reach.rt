@@ -1,5 +1,5 @@
 //! Which layouts the lookups of an AIR are within.
-ghost use Rattle.std.specs.Prelude.{◌<◌, ◌↔◌, ℕ, All, IfOk, IsTrue};
+ghost use Rattle.std.specs.Prelude.{◌<◌, ◌≤◌, ◌↔◌, ℕ, All, IfOk, IsTrue};
 ghost use Rattle.std.specs.List.{AllZip};
 ghost use Rattle.batch.specs.internal.Reaches.{IsBelow, IsReachOf, StaysWithin};
 ghost use Rattle.expressions.specs.Layout.{EntryFits, Fits, LeafFits};
@@ -112,7 +112,7 @@ impl Reach {
             ↔ (StaysWithin self layout × Fits layout (tree_of expression.now)) }
     {
         match expression {
-            SymbolicExpression::Leaf(leaf) => self.with_leaf(*leaf),
+            SymbolicExpression::Leaf(leaf) => self.with_leaf(leaf),
             SymbolicExpression::Add(a, b)
             | SymbolicExpression::Sub(a, b)
             | SymbolicExpression::Mul(a, b) => self.with_expression(a).with_expression(b),
@@ -121,9 +121,9 @@ impl Reach {
     }
 
     /// With that of a leaf, if it is a variable.
-    fn with_leaf<F>(self, leaf: BaseLeaf<F>) -> Self
+    fn with_leaf<F>(self, leaf: &BaseLeaf<F>) -> Self
         ensures { (layout : AirLayout) → StaysWithin result layout
-            ↔ (StaysWithin self layout × LeafFits layout leaf) }
+            ↔ (StaysWithin self layout × LeafFits layout leaf.now) }
     {
         match leaf {
             BaseLeaf::Variable(variable) => self.with_variable(variable),
@@ -135,19 +135,19 @@ impl Reach {
     }
 
     /// With a variable.
-    fn with_variable<F>(self, variable: SymbolicVariable<F>) -> Self
+    fn with_variable<F>(self, variable: &SymbolicVariable<F>) -> Self
         ensures { (layout : AirLayout) → StaysWithin result layout
-            ↔ (StaysWithin self layout × EntryFits layout variable.entry variable.index) }
+            ↔ (StaysWithin self layout × EntryFits layout variable.now.entry variable.now.index) }
     {
         match variable.entry {
             BaseEntry::Main { offset } => Reach {
                 main: Some(greatest(self.main, variable.index)),
-                has_valid_offsets: self.has_valid_offsets && offset <= 1,
+                has_valid_offsets: are_valid(self.has_valid_offsets, offset),
                 ..self
             },
             BaseEntry::Preprocessed { offset } => Reach {
                 preprocessed: Some(greatest(self.preprocessed, variable.index)),
-                has_valid_offsets: self.has_valid_offsets && offset <= 1,
+                has_valid_offsets: are_valid(self.has_valid_offsets, offset),
                 ..self
             },
             BaseEntry::Public => Reach {
@@ -156,6 +156,13 @@ impl Reach {
             },
         }
     }
+}
+
+/// Whether the offsets so far are 0 or 1, and one more.
+fn are_valid(so_far: bool, offset: usize) -> bool
+    ensures { IsTrue result ↔ (IsTrue so_far × (offset ≤ 1)) }
+{
+    so_far && offset <= 1
 }
 
 /// The greatest index so far and another one.
