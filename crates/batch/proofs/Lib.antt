@@ -9,6 +9,7 @@ pub mod PackedPlans
 pub mod PairedLookups
 pub mod PlanCalls
 pub mod PlanLaws
+pub mod ReachLaws
 pub mod Renaming
 pub mod SharedBuses
 pub mod TraceLaws

@@ -3,3 +3,4 @@ pub mod Grids
 pub mod Numbering
 pub mod Pairs
 pub mod PlanBatches
+pub mod Reaches

@@ -1,14 +1,18 @@
 //! Plans of batches.
 ghost use Rattle.std.specs.Prelude.{◌≡◌, ◌⊎◌, MatchResult, length, map};
+ghost use Rattle.std.specs.List.{AllZip};
 ghost use Rattle.batch.specs.PlanFacts.{IsPlan};
 ghost use Rattle.batch.specs.Plans.{plan_with};
 ghost use Rattle.batch.specs.WitnessCounts.{IsCountRefusal};
+ghost use Rattle.batch.specs.internal.Reaches.{IsReachOf};
+ghost use Rattle.lookup.specs.Lookups.{lookups_of};
 
 use crate::error::BatchError;
 use crate::grid::{GridCount, count_grid};
 use crate::heights::{HeightSoundness, soundness_by_heights};
 use crate::ids::{PlanIds, plan_ids};
 use crate::instances::make_batch;
+use crate::reach::{Reach, reaches_of};
 use crate::trace::BatchTrace;
 use crate::widths::{check_local_widths, widest_tuple};
 use checker::{
@@ -34,7 +38,9 @@ pub struct BatchPlan<F: Field> {
     ids: Vec<Vec<usize>>,
     max_message_width: usize,
     num_ids: usize,
+    reaches: Vec<Reach>,
     pub ghost facts: { IsPlan F.CHARACTERISTIC (plan_with airs.items heights.items ids.items max_message_width num_ids) },
+    pub ghost are_reaches: { AllZip (λ reach air. IsReachOf reach (lookups_of air)) reaches.items airs.items },
 }
 
 impl<F: Field> BatchPlan<F> {
@@ -46,7 +52,6 @@ impl<F: Field> BatchPlan<F> {
     ghost use Rattle.batch.specs.internal.PlanBatches.{MakesPlanBatch};
     ghost use Rattle.batch.specs.Runs.{PassIsCounted, Proves, ProvesBalanced, ProvesRegular, ProvesSatisfied, RefusesOnlyUnaccepted, Verifies, VerifiesOnlyPlain, plan_of, run_of};
     ghost use Rattle.batch.specs.SoundnessCounts.{CountsLinearly, CountsPlan, CountsSoundly};
-    ghost use Rattle.lookup.specs.Lookups.{lookups_of};
     ghost use Rattle.lookup.specs.Weights.{HeightLaws};
 
     /// The plan of these AIRs, whose traces have these heights.
@@ -83,6 +88,7 @@ impl<F: Field> BatchPlan<F> {
             return Err(BatchError::TooManyIds { ids: count });
         }
         check_multiplicity_height_bound(airs.as_slice(), heights.as_slice())?;
+        let reaches = reaches_of(alloc, airs.as_slice())?;
         let max_message_width = widest_tuple(airs.as_slice()).max(1);
         Ok(BatchPlan {
             airs,
@@ -90,6 +96,7 @@ impl<F: Field> BatchPlan<F> {
             ids,
             max_message_width,
             num_ids: count,
+            reaches,
         })
     }
 
@@ -298,6 +305,7 @@ impl<F: Field> BatchPlan<F> {
             self.airs.as_slice(),
             self.ids.as_slice(),
             self.heights.as_slice(),
+            self.reaches.as_slice(),
             traces,
         )
     }

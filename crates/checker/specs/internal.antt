@@ -7,3 +7,4 @@ pub mod Results
 pub mod Rows
 pub mod SameIds
 pub mod Sums
+pub mod TraceRows

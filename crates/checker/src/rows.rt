@@ -1,82 +1,88 @@
-//! The constraints of lookups on the rows of given traces.
-ghost use Rattle.std.specs.Prelude.{◌<◌, ◌≤◌, IfOk, length};
-ghost use Rattle.matrix.specs.Matrix.{height};
-ghost use Rattle.checker.specs.Ranges.{HoldsUntil};
-ghost use Rattle.checker.specs.internal.Rows.{AreRowInputs, ChecksRow, HoldsOn};
+//! Up to which row the constraints of an AIR's lookups are zero.
+ghost use Rattle.std.specs.Prelude.{◌≤◌, IfOk, Some};
+ghost use Rattle.air.specs.Traces.{height_of};
+ghost use Rattle.checker.specs.Ranges.{RowsHoldUntil};
+ghost use Rattle.lookup_model.specs.Batches.Instances.{HasPrefixes, IsFitting, instance_of};
+ghost use Rattle.lookup_model.specs.Batches.Refusals.{HasShapeAt};
+ghost use Rattle.lookup_model.specs.Challenges.{table_of};
 
 use crate::chunks::chunks_hold_until;
-use air::{AirError, DebugConstraintBuilder, RowInputs};
+use crate::few_rows::few_hold_until;
+use air::RowInputs;
 use field::{ExtensionField, Field, Over};
-use lookup::{LogUpGadget, Lookup, LookupProtocol};
+use lookup::{Challenges, LookupTerminal};
+use lookup_model::BatchInstance;
+use matrix::RowMajorMatrix;
 use std::alloc::{AllocError, Global};
 
 /// From how many rows on they are checked in chunks.
-const MANY_ROWS: usize = 8;
+const MANY_ROWS: usize = 32;
 
-/// Up to which of the rows from `first` up to `end` all constraints of the lookups are zero: the first row
-/// on which one is not, or `end`.
+/// Up to which of the rows from `first` up to `end` every constraint of one AIR is zero: the first row on
+/// which one is not, or `end`.
 ///
-/// The rows are checked in chunks. Fewer than 8 rows are checked one by one: for so few, making the
-/// columns of a chunk takes longer than walking the expressions on each row.
+/// The rows are checked in chunks. Fewer than 32 rows are checked one by one: for so few, making the columns
+/// of a chunk takes longer than walking the expressions on each row.
 ///
-/// Fails only when out of memory.
-pub(crate) fn all_hold_until<'a, F: Field, EF: ExtensionField<F>>(
+/// So the rows of an AIR can be checked apart in ranges, as [`check_in_ranges`](crate::check_in_ranges) shows. Requires an
+/// auxiliary trace and a terminal of the right shape ([`check_shape`](crate::check_shape)). Fails only when out of memory.
+pub fn rows_hold_until<F: Field, EF: ExtensionField<F>>(
     alloc: Global,
-    inputs: &'a RowInputs<'a, F, EF>,
-    lookups: &[Lookup<F>],
+    instance: &BatchInstance<'_, F>,
+    challenges: &Challenges<EF>,
+    aux: &RowMajorMatrix<EF>,
+    terminal: &Option<LookupTerminal<EF>>,
     first: usize,
     end: usize,
 ) -> Result<usize, AllocError>
-    requires checked { 0 < length lookups.now → AreRowInputs inputs.now lookups.now }
+    requires fit { IsFitting (instance_of instance.now) }
+    requires ids { HasPrefixes challenges.now instance.now }
+    requires shape { HasShapeAt (instance_of instance.now) (aux.now, terminal.now) }
     requires from { first ≤ end }
-    requires up_to { end ≤ height inputs.now.main.now }
-    ensures { IfOk result (HoldsUntil
-        (HoldsOn ⟦<EF as Over<F>>⟧.fields inputs.now lookups.now) first end) }
+    requires up_to { end ≤ height_of (instance_of instance.now).traces }
+    ensures { IfOk result (RowsHoldUntil ⟦<EF as Over<F>>⟧.fields (table_of challenges.now)
+        (instance_of instance.now) (aux.now, terminal.now) first end) }
 {
-    if lookups.is_empty() {
-        Ok(end)
-    } else if end - first < MANY_ROWS {
-        few_hold_until(alloc, inputs, lookups, first, end)
-    } else {
-        chunks_hold_until(alloc, inputs, lookups, first, end)
-    }
-}
-
-/// The same by walking the expressions on each row.
-fn few_hold_until<'a, F: Field, EF: ExtensionField<F>>(
-    alloc: Global,
-    inputs: &'a RowInputs<'a, F, EF>,
-    lookups: &[Lookup<F>],
-    first: usize,
-    end: usize,
-) -> Result<usize, AllocError>
-    requires checked { AreRowInputs inputs.now lookups.now }
-    requires from { first ≤ end }
-    requires up_to { end ≤ height inputs.now.main.now }
-    ensures { IfOk result (HoldsUntil
-        (HoldsOn ⟦<EF as Over<F>>⟧.fields inputs.now lookups.now) first end) }
-{
-    for row in first..end {
-        match check_row(alloc, inputs, lookups, row) {
-            Ok(()) => {}
-            Err(AirError::Memory) => return Err(AllocError),
-            Err(_) => return Ok(row),
+    match terminal {
+        None => Ok(end),
+        Some(terminal) => {
+            if end - first < MANY_ROWS {
+                Ok(few_hold_until(instance, challenges, aux, *terminal, first, end))
+            } else {
+                many_hold_until(alloc, instance, challenges, aux, *terminal, first, end)
+            }
         }
     }
-    Ok(end)
 }
 
-/// Whether every constraint of the lookups is zero on a row.
-fn check_row<'a, F: Field, EF: ExtensionField<F>>(
+/// The same for an AIR with lookups, in chunks of rows.
+fn many_hold_until<F: Field, EF: ExtensionField<F>>(
     alloc: Global,
-    inputs: &'a RowInputs<'a, F, EF>,
-    lookups: &[Lookup<F>],
-    row: usize,
-) -> Result<(), AirError>
-    requires row { row < height inputs.now.main.now }
-    requires checked { AreRowInputs inputs.now lookups.now }
-    ensures { ChecksRow ⟦<EF as Over<F>>⟧.fields inputs.now lookups.now row result }
+    instance: &BatchInstance<'_, F>,
+    challenges: &Challenges<EF>,
+    aux: &RowMajorMatrix<EF>,
+    terminal: LookupTerminal<EF>,
+    first: usize,
+    end: usize,
+) -> Result<usize, AllocError>
+    requires fit { IsFitting (instance_of instance.now) }
+    requires ids { HasPrefixes challenges.now instance.now }
+    requires shape { HasShapeAt (instance_of instance.now) (aux.now, Some terminal) }
+    requires from { first ≤ end }
+    requires up_to { end ≤ height_of (instance_of instance.now).traces }
+    ensures { IfOk result (RowsHoldUntil ⟦<EF as Over<F>>⟧.fields (table_of challenges.now)
+        (instance_of instance.now) (aux.now, Some terminal) first end) }
 {
-    let mut builder = DebugConstraintBuilder::new(inputs, row);
-    LogUpGadget::new().eval_all(alloc, &mut builder, lookups)
+    let columns = challenges.for_columns(alloc, instance.ids)?;
+    let mut values = Vec::new(alloc);
+    values.push(terminal.0)?;
+    let inputs = RowInputs {
+        main: instance.main,
+        preprocessed: instance.preprocessed,
+        public_values: instance.public_values,
+        permutation: aux,
+        challenges: columns.as_slice(),
+        permutation_values: values.as_slice(),
+    };
+    chunks_hold_until(alloc, &inputs, instance.lookups, first, end)
 }

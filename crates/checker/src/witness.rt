@@ -1,23 +1,21 @@
 //! Whether a witness of a batch is accepted.
-ghost use Rattle.std.specs.Prelude.{◌≡◌, ◌≤◌, IfOk, length};
+ghost use Rattle.std.specs.Prelude.{◌≡◌, length};
 ghost use Rattle.std.specs.List.{zip};
 ghost use Rattle.lookup_model.specs.Challenges.{table_of};
-ghost use Rattle.lookup_model.specs.Witness.{values_of_terminal};
 ghost use Rattle.checker.specs.Answers.{AreReady, ChecksWitness, PassesOnlyPlain, RefusesUnaccepted};
 ghost use Rattle.lookup_model.specs.Batches.Instances.{HasPrefixes, IsFitting, instance_of, instances_of};
 ghost use Rattle.lookup_model.specs.Batches.Refusals.{HasShapeAt};
 ghost use Rattle.air.specs.Traces.{height_of};
-ghost use Rattle.checker.specs.Ranges.{ChecksResult, ChecksShape, RowsHoldUntil};
+ghost use Rattle.checker.specs.Ranges.{ChecksResult, ChecksShape};
 ghost use Rattle.checker.specs.internal.Checks.{ChecksRows};
 ghost use Rattle.lookup_generation.specs.Ranges.{AreEnds};
 
-use crate::rows::all_hold_until;
-use air::RowInputs;
+use crate::rows::rows_hold_until;
 use field::{ExtensionField, Field, Over};
 use lookup::{Challenges, LogUpGadget, LookupError, LookupProtocol, LookupTerminal};
 use lookup_model::BatchInstance;
 use matrix::RowMajorMatrix;
-use std::alloc::{AllocError, Global};
+use std::alloc::Global;
 
 /// Whether a witness is accepted: it satisfies the constraints of all lookups on every row, and its
 /// terminals sum to zero. If all flags are lawful and no denominator vanishes, only the witness of
@@ -143,41 +141,6 @@ fn check_rows<F: Field, EF: ExtensionField<F>>(
     Ok(())
 }
 
-/// Up to which of the rows from `first` up to `end` every constraint of one AIR is zero: the first row on
-/// which one is not, or `end`.
-///
-/// So the rows of an AIR can be checked apart in ranges, as [`check_in_ranges`] shows. Requires an
-/// auxiliary trace and a terminal of the right shape ([`check_shape`]). Fails only when out of memory.
-pub fn rows_hold_until<F: Field, EF: ExtensionField<F>>(
-    alloc: Global,
-    instance: &BatchInstance<'_, F>,
-    challenges: &Challenges<EF>,
-    aux: &RowMajorMatrix<EF>,
-    terminal: &Option<LookupTerminal<EF>>,
-    first: usize,
-    end: usize,
-) -> Result<usize, AllocError>
-    requires fit { IsFitting (instance_of instance.now) }
-    requires ids { HasPrefixes challenges.now instance.now }
-    requires shape { HasShapeAt (instance_of instance.now) (aux.now, terminal.now) }
-    requires from { first ≤ end }
-    requires up_to { end ≤ height_of (instance_of instance.now).traces }
-    ensures { IfOk result (RowsHoldUntil ⟦<EF as Over<F>>⟧.fields (table_of challenges.now)
-        (instance_of instance.now) (aux.now, terminal.now) first end) }
-{
-    let columns = challenges.for_columns(alloc, instance.ids)?;
-    let values = terminal_values(alloc, terminal)?;
-    let inputs = RowInputs {
-        main: instance.main,
-        preprocessed: instance.preprocessed,
-        public_values: instance.public_values,
-        permutation: aux,
-        challenges: columns.as_slice(),
-        permutation_values: values.as_slice(),
-    };
-    all_hold_until(alloc, &inputs, instance.lookups, first, end)
-}
-
 /// Whether the result of one AIR, number `air` of its batch, satisfies its constraints, where its rows are
 /// checked in ranges: the first range ends at the first of `ends`, and each further one follows on the one
 /// before.
@@ -210,18 +173,4 @@ pub fn check_in_ranges<F: Field, EF: ExtensionField<F>>(
         first = *end;
     }
     Ok(())
-}
-
-/// The permutation values of an AIR: its terminal, if it has one.
-fn terminal_values<EF: Field>(
-    alloc: Global,
-    terminal: &Option<LookupTerminal<EF>>,
-) -> Result<Vec<EF>, AllocError>
-    ensures { IfOk result (λ values. values.items ≡ values_of_terminal terminal.now) }
-{
-    let mut values = Vec::new(alloc);
-    if let Some(terminal) = terminal {
-        values.push(terminal.0)?;
-    }
-    Ok(values)
 }

@@ -1,12 +1,9 @@
 -- Constraints of lookups on the rows of given inputs.
-use Rattle.std.specs.Prelude.{◌≡◌, ◌⊎◌, ◌<◌, ◌≤◌, ◌*◌, ℕ, List, Option, Result, MatchOption, MatchResult, length, ⊤}
+use Rattle.std.specs.Prelude.{◌≡◌, ◌<◌, ◌≤◌, ◌+◌, ◌*◌, ◌%◌, ◌==◌, not, ℕ, List, [], ◌∷◌, length}
 use Rattle.std.specs.List.{AllByRecursion}
 use Rattle.std.specs.Option.{ForSome, option_copied}
-use Rattle.std.specs.declared.alloc.AllocError.{AllocError}
-use Rattle.matrix.specs.Matrix.{height}
-use Rattle.expressions.specs.Faults.{FailsFirstAt}
-use Rattle.expressions.specs.declared.error.AirError.{AirError}
-use Rattle.expressions.specs.declared.error.AirError.TheVariants.{Assertion, Memory as OutOfMemory}
+use Rattle.matrix.specs.Matrix.{Matrix, height, row}
+use Rattle.expressions.specs.Window.{ExtWindow, empty_window}
 use Rattle.air.specs.Row.{input_layout, input_window}
 use Rattle.air.specs.declared.debug.inputs.RowInputs.{RowInputs}
 use Rattle.lookup_model.specs.Constraints.{Constraint, accumulator_constraints, fraction_constraint, lookup_constraints, terminal_at}
@@ -25,26 +22,47 @@ pub record AreRowInputs {F K : Type 0} (inputs : RowInputs F K) (lookups : List 
   pub cells : length lookups < inputs.permutation.now.width
   pub terminal : 0 < length inputs.permutation_values.now
 
-module _ {F K : Type 0} (E : Extension F K) (inputs : RowInputs F K) where
-  -- a constraint is zero on a row
-  abbrev pub IsZeroOn : ℕ → Constraint F K → Type 0
-  IsZeroOn r constraint = constraint.meaning (input_window inputs r) ≡ E.ring.zero
+-- the window of row r of an auxiliary trace, with all that the accumulator's constraints read
+abbrev pub accumulator_window : {F K : Type 0} → Matrix K → K → ℕ → ExtWindow F K
+accumulator_window aux terminal r = record {
+  base = record empty_window {
+    is_first = r == 0;
+    is_last = r + 1 == height aux;
+    is_transition = not (r + 1 == height aux);
+  };
+  permutation = row aux r;
+  permutation_next = row aux ((r + 1) % height aux);
+  challenges = [];
+  permutation_values = terminal ∷ [];
+}
 
+module _ {F K : Type 0} (E : Extension F K) (w : ExtWindow F K) where
+  -- a constraint is zero at a window
+  abbrev pub IsZeroAt : Constraint F K → Type 0
+  IsZeroAt constraint = constraint.meaning w ≡ E.ring.zero
+
+  -- the constraint of a lookup's fraction is zero at a window
+  abbrev pub FractionHoldsAt : Lookup F → Type 0
+  FractionHoldsAt lookup = IsZeroAt (fraction_constraint E lookup)
+
+  -- the accumulator's constraints are zero at a window
+  abbrev pub AccumulatorHoldsAt : List (Lookup F) → Type 0
+  AccumulatorHoldsAt lookups = AllByRecursion IsZeroAt (accumulator_constraints E lookups (terminal_at E) (λ t. 0))
+
+  -- every constraint of the lookups is zero at a window
+  abbrev pub AllHoldAt : List (Lookup F) → Type 0
+  AllHoldAt lookups = AllByRecursion IsZeroAt (lookup_constraints E lookups)
+
+module _ {F K : Type 0} (E : Extension F K) (inputs : RowInputs F K) where
   -- the constraint of a lookup's fraction is zero on a row
   abbrev pub FractionHolds : Lookup F → ℕ → Type 0
-  FractionHolds lookup r = IsZeroOn r (fraction_constraint E lookup)
+  FractionHolds lookup r = FractionHoldsAt E (input_window inputs r) lookup
 
   module _ (lookups : List (Lookup F)) where
     -- the accumulator's constraints are zero on a row
     abbrev pub AccumulatorHolds : ℕ → Type 0
-    AccumulatorHolds r = AllByRecursion (IsZeroOn r) (accumulator_constraints E lookups (terminal_at E) (λ t. 0))
+    AccumulatorHolds r = AccumulatorHoldsAt E (input_window inputs r) lookups
 
     -- every constraint of the lookups is zero on a row
     abbrev pub HoldsOn : ℕ → Type 0
-    HoldsOn r = AllByRecursion (IsZeroOn r) (lookup_constraints E lookups)
-
-    -- whether every constraint is zero on a row, or memory runs out
-    abbrev pub ChecksRow : ℕ → Result (Unit {0}) AirError → Type 0
-    ChecksRow r answer = MatchResult answer
-        (λ _. HoldsOn r)
-        (λ e. (e ≡ OutOfMemory) ⊎ ((e ≡ Assertion r) × (¬ HoldsOn r)))
+    HoldsOn r = AllHoldAt E (input_window inputs r) lookups

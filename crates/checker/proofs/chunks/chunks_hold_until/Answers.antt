@@ -1,4 +1,4 @@
-use Rattle.std.proofs.Common.{◌<◌, ◌≤◌, ℕ, refl, arith}
+use Rattle.std.proofs.Common.{refl, arith}
 use Rattle.field.specs.laws.Extension.{of_laws}
 use Rattle.checker.specs.internal.Rows.{HoldsOn}
 use Rattle.checker.proofs.UntilLaws.{fails_joined, joined, until_end}

@@ -1,4 +1,4 @@
-use Rattle.std.proofs.Common.{◌≤◌, get_or, inr, refl, arith}
+use Rattle.std.proofs.Common.{get_or, inr, refl, arith}
 use Rattle.air.specs.Traces.{height_of}
 use Rattle.lookup_generation.proofs.MadeRows.{all_ends, next_end}
 use Rattle.lookup_model.specs.Challenges.{table_of}
