@@ -3,12 +3,12 @@ use Rattle.std.proofs.Common.{◌≡◌, ◌<◌, ◌+◌, ◌++◌, ◌∷◌, 
 use Rattle.std.proofs.lemmas.List.{get_or_default, length-map, map_push}
 use Rattle.std.proofs.lemmas.List.Elements.{All-cons, All-nil}
 use Rattle.std.proofs.lemmas.Slice.Zip.{get_or-zip, length-zip}
-use Rattle.std.specs.List.{AllByRecursion, slice_get, zip}
+use Rattle.std.specs.List.{AllByRecursion, AllZip, slice_get, zip}
 use Rattle.std.specs.declared.alloc.Global.{Global}
 use Rattle.std.specs.declared.vec.Vec.{Vec}
 use Rattle.lists.proofs.Each.{all_here, all_of_map, all_parts}
-use Rattle.lists.proofs.Images.{images_more, mapped_at}
-use Rattle.lists.proofs.Zips.{pair_at, zip_at}
+use Rattle.lists.proofs.Images.{images_more, map-map, mapped_at}
+use Rattle.lists.proofs.Zips.{AllZip-images, AllZip-map, pair_at, zip_at}
 use Rattle.matrix.specs.Matrix.{Matrix}
 use Rattle.lookup_model.specs.Batches.Ids.{identified}
 use Rattle.lookup_model.specs.Batches.Instances.{Instance, InstancesFit, IsFitting, instance_of, instances_of}
@@ -19,7 +19,9 @@ use Rattle.lookup.specs.declared.lookups.Lookups.{Lookups}
 use Rattle.batch.specs.Lists.{lists_of}
 use Rattle.batch.specs.Traces.{FitsAt, batch_over, instance_of_main, instance_over, traces_of_main, view_of}
 use Rattle.batch.specs.declared.trace.BatchTrace.{BatchTrace}
+use Rattle.batch.specs.declared.reach.Reach.{Reach}
 use Rattle.batch.specs.internal.Pairs.{HaveIdsBelow}
+use Rattle.batch.specs.internal.Reaches.{IsReachOf}
 
 module _ {F : Type 0} where
   -- AIRs that fit their heights fit
@@ -71,6 +73,25 @@ module _ {F : Type 0} where
   trace_there bs heights i b same lt is =
       let h = get_or heights i 0 in
       pair_at (instances_of bs) heights i (instance_of b) h (omega (arith, length-map bs instance_of, lt)) (omega (arith, lt, same)) (mapped_at instance_of bs i b lt is) (get_or_default heights i 0 h (omega (arith, lt, same)))
+
+module _ {F : Type 0} where
+  lookups_over : (ids : List (List ℕ)) (airs : List (Lookups F)) (traces : List (BatchTrace F)) → length ids ≡ length airs → length traces ≡ length airs → map (λ i. i.lookups) (batch_over ids airs traces) ≡ map lookups_of airs
+  lookups_over [] [] [] ids_are traces_are = refl
+  lookups_over (i ∷ is) (a ∷ more) (t ∷ ts) ids_are traces_are =
+      ap (λ ls. lookups_of a ∷ ls) (lookups_over is more ts (omega (arith, ids_are)) (omega (arith, traces_are)))
+  lookups_over [] (a ∷ more) traces ids_are traces_are = absurd (omega (arith, ids_are))
+  lookups_over (i ∷ is) [] traces ids_are traces_are = absurd (omega (arith, ids_are))
+  lookups_over [] [] (t ∷ ts) ids_are traces_are = absurd (omega (arith, traces_are))
+  lookups_over (i ∷ is) (a ∷ more) [] ids_are traces_are = absurd (omega (arith, traces_are))
+
+  -- the reaches of AIRs are those of the instances of a batch
+  pub reaches_over : (ids : List (List ℕ)) (airs : List (Lookups F)) (traces : List (BatchTrace F)) (reaches : List Reach) (bs : List (BatchInstance F)) → length ids ≡ length airs → length traces ≡ length airs
+      → AllZip (λ reach air. IsReachOf reach (lookups_of air)) reaches airs → instances_of bs ≡ batch_over ids airs traces → AllZip (λ reach one. IsReachOf reach one.lookups.now) reaches bs
+  reaches_over ids airs traces reaches bs ids_are traces_are all is =
+      let same : map lookups_of airs ≡ map (λ b. b.lookups.now) bs =
+      sym (lookups_over ids airs traces ids_are traces_are) ∙ ap (map (λ i. i.lookups)) (sym is) ∙ map-map (λ i. i.lookups) instance_of bs in
+      AllZip-map IsReachOf (λ r. r) (λ b. b.lookups.now) reaches bs
+      (subst (λ (ls : List (List (Lookup F))). AllZip IsReachOf (map (λ r. r) reaches) ls) same (AllZip-images IsReachOf (λ r. r) lookups_of reaches airs all))
 
 -- over main traces alone, the batch of a plan is that of these
 pub alone_is : {F : Type 0} (airs : List (List ℕ × Lookups F)) (traces : List (BatchTrace F)) (mains : List (Matrix F)) → map view_of traces ≡ map traces_of_main mains

@@ -3,4 +3,5 @@ pub mod Grids
 pub mod Numbering
 pub mod Pairs
 pub mod PlanBatches
+pub mod ReachProps
 pub mod Reaches

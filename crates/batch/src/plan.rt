@@ -4,6 +4,7 @@ ghost use Rattle.std.specs.List.{AllZip};
 ghost use Rattle.batch.specs.PlanFacts.{IsPlan};
 ghost use Rattle.batch.specs.Plans.{plan_with};
 ghost use Rattle.batch.specs.WitnessCounts.{IsCountRefusal};
+ghost use Rattle.batch.specs.internal.ReachProps.{reaches_prop};
 ghost use Rattle.batch.specs.internal.Reaches.{IsReachOf};
 ghost use Rattle.lookup.specs.Lookups.{lookups_of};
 
@@ -40,7 +41,7 @@ pub struct BatchPlan<F: Field> {
     num_ids: usize,
     reaches: Vec<Reach>,
     pub ghost facts: { IsPlan F.CHARACTERISTIC (plan_with airs.items heights.items ids.items max_message_width num_ids) },
-    pub ghost are_reaches: { AllZip (λ reach air. IsReachOf reach (lookups_of air)) reaches.items airs.items },
+    pub ghost are_reaches: { AllZip (λ reach air. IsReachOf reach (lookups_of air)) reaches.items airs.items } by { reaches_prop reaches.items airs.items },
 }
 
 impl<F: Field> BatchPlan<F> {

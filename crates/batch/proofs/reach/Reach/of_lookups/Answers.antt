@@ -1,4 +1,4 @@
-use Rattle.std.proofs.Common.{◌↔◌, All, List, subst, take, arith}
+use Rattle.std.proofs.Common.{◌↔◌, All, List, subst, arith}
 use Rattle.std.proofs.lemmas.List.{take_all}
 use Rattle.lookup_model.specs.Records.{IsWithin}
 use Rattle.batch.proofs.ReachLaws.{all_more, one_more_alone}

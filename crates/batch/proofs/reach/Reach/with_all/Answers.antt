@@ -1,4 +1,4 @@
-use Rattle.std.proofs.Common.{◌↔◌, List, subst, take, arith}
+use Rattle.std.proofs.Common.{◌↔◌, List, subst, arith}
 use Rattle.std.proofs.lemmas.List.{take_all}
 use Rattle.std.proofs.lemmas.List.Elements.{All-nil}
 use Rattle.expressions.specs.Layout.{Fits}
