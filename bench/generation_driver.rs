@@ -48,7 +48,7 @@ fn compare(name: &str, shape: u32, rows: usize) {
     assert_eq!(wanted, answer(&numbers, shape, Combine::Horner, 1, 0), "{name}: the models disagree");
     assert_eq!(wanted, proved(1, 0), "{name}: the two sides disagree");
     assert_ne!(wanted, u32::MAX, "{name}: refused");
-    let (runs, rounds) = if rows > 1 << 16 { (5, 1) } else { (9, (1 << 16) / rows as u32) };
+    let (runs, rounds) = if rows > 1 << 16 { (5, 4) } else { (9, ((1 << 16) / rows as u32).max(4)) };
     let times = |rounds: u32| {
         [
             nanoseconds(|| proved(rounds, 1)),

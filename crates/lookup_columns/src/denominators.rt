@@ -14,23 +14,16 @@ use crate::step::Step;
 use field::{Domain, ExtensionDomain, Field};
 use std::alloc::{AllocError, Global};
 
-/// Appends `e - power * x` for each element `e`, where `x` stands beside it in `column`.
-fn push_minus_scaled<F: Field, EF: ExtensionDomain<F>>(
-    to: &mut Vec<EF>,
-    elements: &[EF],
-    power: EF,
-    column: &[F],
-) -> Result<(), AllocError>
-    ensures { OnOk result (to.new.items ≡ to.old.items ++ map
+/// Takes `power * x` off each element, where `x` stands beside it in `column`.
+fn lessen<F: Field, EF: ExtensionDomain<F>>(elements: &mut [EF], power: EF, column: &[F])
+    ensures { length elements.old ≡ length column.now → elements.new ≡ map
         (λ p. sub_in EF.ring p.0 (EF.ring.mul power (EF.embed p.1)))
-        (zip elements.now column.now)) }
+        (zip elements.old column.now) }
 {
-    to.extend(
-        elements
-            .iter()
-            .zip(column)
-            .map(|(element, x)| element.minus_scaled(power, *x)),
-    )
+    let many = elements.len().min(column.len());
+    for i in 0..many {
+        elements[i] = elements[i].minus_scaled(power, column[i]);
+    }
 }
 
 /// Appends `alpha - x` for each `x`.
@@ -109,11 +102,8 @@ pub fn denominators_of<F: Field, EF: ExtensionDomain<F>>(
         left -= 1;
         let steps = &tuple[left];
         let column = column_of(alloc, &mut memory.slots, steps, inputs.traces, rows, room)?;
-        let mut lessened = memory.denominators.take(alloc, room)?;
-        push_minus_scaled(&mut lessened, &denominators, power, &column)?;
+        lessen(&mut denominators, power, &column);
         memory.slots.put(column)?;
-        memory.denominators.put(denominators)?;
-        denominators = lessened;
         power = power * beta;
     }
     Ok(denominators)

@@ -1,9 +1,12 @@
-use Rattle.std.proofs.Common.{◌≡◌, ◌<◌, ◌+◌, map, ◌-◌, ◌∷◌, ◌++◌, List, All, arith, ap, sym, subst, ◌∙◌, drop, length}
-use Rattle.std.proofs.lemmas.List.{length-drop}
+use Rattle.std.proofs.Common.{◌≡◌, ◌<◌, ◌+◌, map, ◌-◌, ◌∷◌, ◌++◌, List, All, arith, ap, sym, subst, ◌∙◌, drop, length, take}
+use Rattle.std.proofs.lemmas.List.{length-drop, length-map}
+use Rattle.std.proofs.Math.Seq.{take-append_seam}
+use Rattle.lists.proofs.Zips.{length-zipped}
+use Rattle.lookup_model.specs.Sent.{value}
 use Rattle.std.specs.List.{zip}
 use Rattle.field.proofs.DotProduct.{drop_read}
 use Rattle.field.specs.Ring.{power, sub_in}
-use Rattle.lookup_columns.specs.Columns.{tuple_denominators}
+use Rattle.lookup_columns.specs.Columns.{tuple_denominator_at, tuple_denominators}
 use Rattle.air.specs.Traces.{layout_of, traces_of, window_of}
 use Rattle.lookup_columns.proofs.LessenedLaws.{column_front, first_power, power_more}
 use Rattle.std.proofs.lemmas.Slice.Zip.{AllZip-long}
@@ -59,12 +62,20 @@ loop-left-preserved g c =
           let e = other.item in
           let rest = drop left es in
           let many : length (drop left steps) ≡ length rest = omega (arith, length-drop left steps, length-drop left es, AllZip-long AreStepsOf steps es are) in
-          column_front R g.EF.PrimeCharacteristicRing.lawful embed c.args.alpha beta ws c.args.rows.now e rest
-          (c.deref-in-loop-left.ensures.value ∙ so_far.2 es are)
-          (c.deref-in-loop-left-2.ensures.value ∙ c.in_ok-column.ensures (tree_of e) (c.deref.ensures.value ∙ other.holds))
-          (c.in_ok-push_minus_scaled.ensures
-          ∙ ap (λ v. v ++ map (λ p. sub_in S p.0 (S.mul c.loop-left.power (embed p.1))) (zip c.deref-in-loop-left.result.now c.deref-in-loop-left-2.result.now)) c.in_ok-lessened.ensures.empty
-          ∙ ap (λ q. map (λ p. sub_in S p.0 (S.mul q (embed p.1))) (zip c.deref-in-loop-left.result.now c.deref-in-loop-left-2.result.now)) (power_is ∙ ap (power S beta) many))
+          let before = c.deref_mut.result.now in
+          let column = c.deref-in-loop-left.result.now in
+          let new = c.lessen.new.elements in
+          let items = c.loop-left.denominators.items in
+          let before_is = c.deref_mut.ensures.value ∙ so_far.2 es are in
+          let column_is = c.deref-in-loop-left.ensures.value ∙ c.in_ok-column.ensures (tree_of e) (c.deref.ensures.value ∙ other.holds) in
+          let same : length before ≡ length column =
+          ap length before_is ∙ length-map c.args.rows.now (λ r. tuple_denominator_at R S embed c.args.alpha beta (ws r) rest) ∙ sym (ap length column_is ∙ length-map c.args.rows.now (λ r. value R (ws r) e)) in
+          let lessened = c.lessen.ensures same in
+          let long : length new ≡ length items = ap length lessened ∙ length-zipped (λ p. sub_in S p.0 (S.mul c.loop-left.power (embed p.1))) before column (sym same) ∙ ap length c.deref_mut.ensures.value in
+          let len : c.loop-left.denominators.len ≡ length new = sym c.deref_mut.ensures.len ∙ ap length c.deref_mut.ensures.value ∙ sym long in
+          ap (λ n. take n (new ++ drop (length new) items)) len ∙ take-append_seam new (drop (length new) items)
+          ∙ column_front R g.EF.PrimeCharacteristicRing.lawful embed c.args.alpha beta ws c.args.rows.now e rest before_is column_is
+          (lessened ∙ ap (λ q. map (λ p. sub_in S p.0 (S.mul q (embed p.1))) (zip before column)) (power_is ∙ ap (power S beta) many))
           ∙ ap (tuple_denominators R S embed ws c.args.alpha beta c.args.rows.now) (sym (drop_read es (left - 1) e other.within other.there ∙ ap (λ n. e ∷ drop n es) one_more)),
     )
 
