@@ -1,7 +1,7 @@
 //! Which layouts the lookups of an AIR are within.
 ghost use Rattle.std.specs.Prelude.{◌<◌, ◌≤◌, ◌↔◌, ℕ, All, IfOk, IsTrue};
 ghost use Rattle.std.specs.List.{AllZip};
-ghost use Rattle.batch.specs.internal.Reaches.{IsBelow, IsReachOf, StaysWithin};
+ghost use Rattle.batch.specs.Reaches.{IsBelow, IsReachOf, StaysWithin};
 ghost use Rattle.expressions.specs.Layout.{EntryFits, Fits, LeafFits};
 ghost use Rattle.expressions.specs.Tree.{tree_of};
 ghost use Rattle.expressions.specs.declared.layout.AirLayout.{AirLayout};

@@ -15,11 +15,11 @@ use matrix::RowMajorMatrix;
 use std::alloc::{AllocError, Global};
 
 /// From how many rows on they are checked in chunks.
-const MANY_ROWS: usize = 32;
+const MANY_ROWS: usize = 24;
 
 /// The first row of an AIR on which a constraint of its lookups is not zero.
 ///
-/// The rows are checked in chunks. Fewer than 32 rows are checked one by one: for so few, making the
+/// The rows are checked in chunks. Fewer than 24 rows are checked one by one: for so few, making the
 /// columns of a chunk takes longer than walking the expressions on each row.
 ///
 /// Fails only when out of memory.

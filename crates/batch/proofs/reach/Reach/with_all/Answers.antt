@@ -5,7 +5,7 @@ use Rattle.expressions.specs.Layout.{Fits}
 use Rattle.expressions.specs.Tree.{tree_of}
 use Rattle.lookup_model.specs.Records.{AllFit}
 use Rattle.batch.proofs.ReachLaws.{all_more, one_more}
-use Rattle.batch.specs.internal.Reaches.{StaysWithin}
+use Rattle.batch.specs.Reaches.{StaysWithin}
 use Rattle.batch.proofs.reach.Reach.with_all.Goals as goal
 
 pub loop-expression-init : goal.loop-expression-init
