@@ -21,7 +21,7 @@ use Rattle.batch.specs.Traces.{FitsAt, batch_over, instance_of_main, instance_ov
 use Rattle.batch.specs.declared.trace.BatchTrace.{BatchTrace}
 use Rattle.batch.specs.declared.reach.Reach.{Reach}
 use Rattle.batch.specs.internal.Pairs.{HaveIdsBelow}
-use Rattle.batch.specs.internal.Reaches.{IsReachOf}
+use Rattle.batch.specs.Reaches.{IsReachOf}
 
 module _ {F : Type 0} where
   -- AIRs that fit their heights fit

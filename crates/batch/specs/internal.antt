@@ -4,4 +4,3 @@ pub mod Numbering
 pub mod Pairs
 pub mod PlanBatches
 pub mod ReachProps
-pub mod Reaches

@@ -5,7 +5,7 @@ ghost use Rattle.batch.specs.PlanFacts.{IsPlan};
 ghost use Rattle.batch.specs.Plans.{plan_with};
 ghost use Rattle.batch.specs.WitnessCounts.{IsCountRefusal};
 ghost use Rattle.batch.specs.internal.ReachProps.{reaches_prop};
-ghost use Rattle.batch.specs.internal.Reaches.{IsReachOf};
+ghost use Rattle.batch.specs.Reaches.{IsReachOf};
 ghost use Rattle.lookup.specs.Lookups.{lookups_of};
 
 use crate::error::BatchError;

@@ -1,7 +1,7 @@
 //! Which layouts the lookups of an AIR are within.
 ghost use Rattle.std.specs.Prelude.{◌<◌, ◌≤◌, ◌↔◌, ℕ, All, IfOk, IsTrue};
 ghost use Rattle.std.specs.List.{AllZip};
-ghost use Rattle.batch.specs.internal.Reaches.{IsBelow, IsReachOf, StaysWithin};
+ghost use Rattle.batch.specs.Reaches.{IsBelow, IsReachOf, StaysWithin};
 ghost use Rattle.expressions.specs.Layout.{EntryFits, Fits, LeafFits};
 ghost use Rattle.expressions.specs.Tree.{tree_of};
 ghost use Rattle.expressions.specs.declared.layout.AirLayout.{AirLayout};
@@ -101,23 +101,35 @@ impl Reach {
     {
         let mut reach = self;
         for expression in expressions {
-            reach = reach.with_expression(expression);
+            reach.add_expression(expression);
         }
         reach
     }
 
-    /// With those of an expression.
-    fn with_expression<F>(self, expression: &SymbolicExpression<F>) -> Self
-        ensures { (layout : AirLayout) → StaysWithin result layout
-            ↔ (StaysWithin self layout × Fits layout (tree_of expression.now)) }
+    /// Adds those of an expression. It works in place, so that a layer of an expression takes little of
+    /// the stack.
+    fn add_expression<F>(&mut self, expression: &SymbolicExpression<F>)
+        ensures { (layout : AirLayout) → StaysWithin self.new layout
+            ↔ (StaysWithin self.old layout × Fits layout (tree_of expression.now)) }
     {
         match expression {
-            SymbolicExpression::Leaf(leaf) => self.with_leaf(leaf),
+            SymbolicExpression::Leaf(leaf) => self.add_leaf(leaf),
             SymbolicExpression::Add(a, b)
             | SymbolicExpression::Sub(a, b)
-            | SymbolicExpression::Mul(a, b) => self.with_expression(a).with_expression(b),
-            SymbolicExpression::Neg(a) => self.with_expression(a),
+            | SymbolicExpression::Mul(a, b) => {
+                self.add_expression(a);
+                self.add_expression(b);
+            }
+            SymbolicExpression::Neg(a) => self.add_expression(a),
         }
+    }
+
+    /// Adds that of a leaf, if it is a variable.
+    fn add_leaf<F>(&mut self, leaf: &BaseLeaf<F>)
+        ensures { (layout : AirLayout) → StaysWithin self.new layout
+            ↔ (StaysWithin self.old layout × LeafFits layout leaf.now) }
+    {
+        *self = self.with_leaf(leaf);
     }
 
     /// With that of a leaf, if it is a variable.

@@ -16,16 +16,17 @@ use matrix::RowMajorMatrix;
 use std::alloc::{AllocError, Global};
 
 /// From how many rows on they are checked in chunks.
-const MANY_ROWS: usize = 32;
+const MANY_ROWS: usize = 24;
 
 /// Up to which of the rows from `first` up to `end` every constraint of one AIR is zero: the first row on
 /// which one is not, or `end`.
 ///
-/// The rows are checked in chunks. Fewer than 32 rows are checked one by one: for so few, making the columns
-/// of a chunk takes longer than walking the expressions on each row.
+/// The rows are checked in chunks. Fewer than 24 rows are checked one by one: for so few, making the
+/// columns of a chunk takes longer than walking the expressions on each row.
 ///
-/// So the rows of an AIR can be checked apart in ranges, as [`check_in_ranges`](crate::check_in_ranges) shows. Requires an
-/// auxiliary trace and a terminal of the right shape ([`check_shape`](crate::check_shape)). Fails only when out of memory.
+/// So the rows of an AIR can be checked apart in ranges, as [`check_in_ranges`](crate::check_in_ranges)
+/// shows. Requires an auxiliary trace and a terminal of the right shape
+/// ([`check_shape`](crate::check_shape)). Fails only when out of memory.
 pub fn rows_hold_until<F: Field, EF: ExtensionField<F>>(
     alloc: Global,
     instance: &BatchInstance<'_, F>,

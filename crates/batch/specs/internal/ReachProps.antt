@@ -14,7 +14,7 @@ use Rattle.lookup.specs.declared.lookups.Lookups.{Lookups}
 use Rattle.lookup_model.specs.Records.{AllFit, IsWithin}
 use Rattle.lookup_model.specs.declared.types.Lookup.{Lookup}
 use Rattle.batch.specs.declared.reach.Reach.{Reach}
-use Rattle.batch.specs.internal.Reaches.{IsReachOf}
+use Rattle.batch.specs.Reaches.{IsReachOf}
 
 entry_prop : (layout : AirLayout) (entry : BaseEntry) (index : ℕ) → IsProp (EntryFits layout entry index)
 entry_prop layout (Preprocessed offset) index = hlevel props

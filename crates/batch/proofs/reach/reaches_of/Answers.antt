@@ -1,7 +1,7 @@
 use Rattle.std.proofs.Common.{List, subst}
 use Rattle.lists.proofs.Zips.{AllZip-more_right}
 use Rattle.lookup.specs.Lookups.{lookups_of}
-use Rattle.batch.specs.internal.Reaches.{IsReachOf}
+use Rattle.batch.specs.Reaches.{IsReachOf}
 use Rattle.batch.proofs.reach.reaches_of.Goals as goal
 
 pub loop-air-preserved : goal.loop-air-preserved

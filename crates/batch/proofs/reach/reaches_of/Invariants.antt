@@ -1,7 +1,7 @@
 use Rattle.std.proofs.Common.{take}
 use Rattle.std.specs.List.{AllZip}
 use Rattle.lookup.specs.Lookups.{lookups_of}
-use Rattle.batch.specs.internal.Reaches.{IsReachOf}
+use Rattle.batch.specs.Reaches.{IsReachOf}
 use Rattle.batch.proofs.reach.reaches_of.Given as goal
 
 abbrev pub invariant-loop-air : goal.invariant-loop-air

@@ -2,7 +2,7 @@ use Rattle.std.proofs.Common.{◌↔◌, All, List, subst, arith}
 use Rattle.std.proofs.lemmas.List.{take_all}
 use Rattle.lookup_model.specs.Records.{IsWithin}
 use Rattle.batch.proofs.ReachLaws.{all_more, one_more_alone}
-use Rattle.batch.specs.internal.Reaches.{StaysWithin}
+use Rattle.batch.specs.Reaches.{StaysWithin}
 use Rattle.batch.proofs.reach.Reach.of_lookups.Goals as goal
 
 pub loop-lookup-preserved : goal.loop-lookup-preserved

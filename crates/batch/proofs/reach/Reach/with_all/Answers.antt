@@ -5,7 +5,7 @@ use Rattle.expressions.specs.Layout.{Fits}
 use Rattle.expressions.specs.Tree.{tree_of}
 use Rattle.lookup_model.specs.Records.{AllFit}
 use Rattle.batch.proofs.ReachLaws.{all_more, one_more}
-use Rattle.batch.specs.internal.Reaches.{StaysWithin}
+use Rattle.batch.specs.Reaches.{StaysWithin}
 use Rattle.batch.proofs.reach.Reach.with_all.Goals as goal
 
 pub loop-expression-init : goal.loop-expression-init
@@ -15,7 +15,7 @@ loop-expression-init g c = λ layout. (λ s. (s, All-nil (λ e. Fits layout (tre
 pub loop-expression-preserved : goal.loop-expression-preserved
 unfolding AllFit
 loop-expression-preserved g c = λ layout.
-    one_more (c.with_expression-reach.ensures layout)
+    one_more (c.add_expression.ensures layout)
     (all_more (λ e. Fits layout (tree_of e)) c.args.expressions.now c.loop-expression.expression-index c.expression-item.result c.loop-expression-test.true c.expression-item.is)
     (c.loop-expression.invariant layout)
 

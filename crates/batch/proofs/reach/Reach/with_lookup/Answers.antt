@@ -1,7 +1,7 @@
 use Rattle.std.proofs.Common.{◌↔◌, All, Option, IfSome, List, subst, sym}
 use Rattle.lookup_model.specs.Records.{AllFit, IsWithin}
 use Rattle.batch.proofs.ReachLaws.{three_more}
-use Rattle.batch.specs.internal.Reaches.{StaysWithin}
+use Rattle.batch.specs.Reaches.{StaysWithin}
 use Rattle.batch.proofs.reach.Reach.with_lookup.Goals as goal
 
 pub returns-in-Some : goal.returns-in-Some

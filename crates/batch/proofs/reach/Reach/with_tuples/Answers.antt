@@ -2,7 +2,7 @@ use Rattle.std.proofs.Common.{◌↔◌, All, List, subst, arith}
 use Rattle.std.proofs.lemmas.List.{take_all}
 use Rattle.lookup_model.specs.Records.{AllFit}
 use Rattle.batch.proofs.ReachLaws.{all_more, one_more}
-use Rattle.batch.specs.internal.Reaches.{StaysWithin}
+use Rattle.batch.specs.Reaches.{StaysWithin}
 use Rattle.batch.proofs.reach.Reach.with_tuples.Goals as goal
 
 pub loop-tuple-preserved : goal.loop-tuple-preserved

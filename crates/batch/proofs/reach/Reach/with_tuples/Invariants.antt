@@ -1,7 +1,7 @@
 use Rattle.std.proofs.Common.{◌↔◌, All, take}
 use Rattle.expressions.specs.declared.layout.AirLayout.{AirLayout}
 use Rattle.lookup_model.specs.Records.{AllFit}
-use Rattle.batch.specs.internal.Reaches.{StaysWithin}
+use Rattle.batch.specs.Reaches.{StaysWithin}
 use Rattle.batch.proofs.reach.Reach.with_tuples.Given as goal
 
 abbrev pub invariant-loop-tuple : goal.invariant-loop-tuple
