@@ -13,7 +13,7 @@ use Rattle.lookup_model.specs.declared.types.LookupTerminal.{LookupTerminal}
 use Rattle.lookup_model.specs.Batches.Instances.{Instance}
 use Rattle.lookup_model.specs.Batches.Refusals.{HasShapeAt, HoldsAt, IsFirstFailing}
 use Rattle.lookup_model.specs.Batches.Witnesses.{AirResult}
-use Rattle.checker.specs.Ranges.{ChecksResult, RowsHoldUntil}
+use Rattle.checker.specs.Ranges.{ChecksJoin, ChecksResult, RowsHoldUntil}
 use Rattle.checker.specs.internal.Checks.{ChecksRows}
 use Rattle.checker.proofs.UntilLaws.{joined}
 
@@ -51,3 +51,22 @@ module _ {F K : Type 0} (E : Extension F K) (table : ChallengeTable K) (i : Inst
   result_from air result (Ok u) shape rows = record { shape = shape; equations = rows }
   result_from air result (Err e) shape (inl memory) = inl memory
   result_from air result (Err e) shape (inr failing) = inr (inr (shape, failing))
+
+  -- checks of ranges join
+  pub checks_join_of : (result : AirResult K) → ChecksJoin E table i result
+  checks_join_of result = record {
+    holds = λ first middle end r from to one other. record {
+      from = omega (arith, from, other.from);
+      up_to = other.up_to;
+      holds = joined (HoldsAt E table i result) first middle end r one.holds other;
+      fails = other.fails;
+    };
+    fails = λ first middle end r to lt one. record {
+      from = one.from;
+      up_to = omega (arith, lt, to);
+      holds = one.holds;
+      fails = λ before. one.fails lt;
+    };
+    all_rows = λ shape until. record { shape = shape; equations = λ r lt. until.holds r (omega arith) lt };
+    refused = λ r lt until. first_failing result 0 (height i.traces.main) r (λ s none. absurd (omega (arith, none))) (omega arith) until lt;
+  }

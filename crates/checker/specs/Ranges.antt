@@ -1,11 +1,12 @@
 -- The check of one AIR's result: its shape, and its constraints on a range of rows.
 use Rattle.std.specs.Prelude.{◌≡◌, ◌⊎◌, ◌<◌, ◌≤◌, ℕ, Result, MatchResult}
+use Rattle.air.specs.Traces.{height_of}
 use Rattle.field.specs.Extension.{Extension}
 use Rattle.lookup_model.specs.Challenges.{ChallengeTable}
 use Rattle.lookup_model.specs.declared.error.LookupError.{LookupError}
 use Rattle.lookup_model.specs.declared.error.LookupError.TheVariants.{Memory}
 use Rattle.lookup_model.specs.Batches.Instances.{Instance}
-use Rattle.lookup_model.specs.Batches.Refusals.{HasShapeAt, HoldsAt, IsAirRefusal, IsShapeRefusal}
+use Rattle.lookup_model.specs.Batches.Refusals.{HasShapeAt, HoldsAt, IsAirRefusal, IsFirstFailing, IsShapeRefusal}
 use Rattle.lookup_model.specs.Batches.Witnesses.{AirResult, IsSatisfiedAt}
 
 -- On row `first` and all further ones before row r a property holds. It fails on row r, unless that is
@@ -21,7 +22,8 @@ abbrev pub ChecksShape : {F K : Type 0} → ℕ → Instance F → AirResult K �
 ChecksShape air i result answer = MatchResult answer (λ _. HasShapeAt i result) (IsShapeRefusal air i result)
 
 module _ {F K : Type 0} (E : Extension F K) (table : ChallengeTable K) where
-  -- every constraint of an AIR is zero on the rows of a range, up to this one
+  -- every constraint of an AIR is zero on the rows of a range up to this one, and one is not on this row,
+  -- unless it is the end
   abbrev pub RowsHoldUntil : Instance F → AirResult K → ℕ → ℕ → ℕ → Type 0
   RowsHoldUntil i result = HoldsUntil (HoldsAt E table i result)
 
@@ -30,3 +32,12 @@ module _ {F K : Type 0} (E : Extension F K) (table : ChallengeTable K) where
   ChecksResult air i result answer = MatchResult answer
       (λ _. IsSatisfiedAt E table i result)
       (λ e. (e ≡ Memory) ⊎ IsAirRefusal E table air i result e)
+
+  -- Ranges that follow one another: where all constraints hold on the first, the answer for the second is
+  -- that for both, and a row of the first where one fails is the first of both. Where they hold on all
+  -- rows of a result of the right shape, it is satisfied.
+  pub record ChecksJoin (i : Instance F) (result : AirResult K) : Type 0 where
+    pub holds : (first middle end r : ℕ) → first ≤ middle → middle ≤ end → RowsHoldUntil i result first middle middle → RowsHoldUntil i result middle end r → RowsHoldUntil i result first end r
+    pub fails : (first middle end r : ℕ) → middle ≤ end → r < middle → RowsHoldUntil i result first middle r → RowsHoldUntil i result first end r
+    pub all_rows : HasShapeAt i result → RowsHoldUntil i result 0 (height_of i.traces) (height_of i.traces) → IsSatisfiedAt E table i result
+    pub refused : (r : ℕ) → r < height_of i.traces → RowsHoldUntil i result 0 (height_of i.traces) r → IsFirstFailing E table i result r

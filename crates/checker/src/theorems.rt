@@ -1,12 +1,15 @@
 //! Theorems on batches, each as the contract of a function that does nothing: at how few challenges a batch
-//! that does not balance can be accepted, and what packing keeps.
+//! that does not balance can be accepted, what packing keeps, and how checks of ranges of rows join.
 ghost use Rattle.std.specs.Prelude.{◌<◌, ℕ, List, All, map};
 ghost use Rattle.lookup_model.specs.Batches.Alphas.{FewBadAlphas};
 ghost use Rattle.lookup_model.specs.Batches.Counts.{IsCountedSound};
 ghost use Rattle.lookup_model.specs.Batches.Grid.{FewAcceptedPairs, IsJointlySound};
 ghost use Rattle.lookup_model.specs.Batches.Linear.{IsLinearlyJointlySound, IsLinearlySound, LinearlyFewAcceptedPairs};
 ghost use Rattle.lookup_model.specs.Batches.Instances.{Instance, IsFitting};
+ghost use Rattle.lookup_model.specs.Batches.Witnesses.{AirResult};
+ghost use Rattle.lookup_model.specs.Challenges.{ChallengeTable};
 ghost use Rattle.checker.specs.Packed.{ArePacked, KeepsCounts, KeepsTerminals};
+ghost use Rattle.checker.specs.Ranges.{ChecksJoin};
 ghost use Rattle.checker.specs.Renamed.{IsInjective, renamed};
 ghost use Rattle.checker.specs.Soundness.{AcceptedIsAccepting, HoldsOfLawful};
 
@@ -100,4 +103,12 @@ pub fn packing_keeps_batch<F: Field, EF: ExtensionField<F>>()
     ensures terminals { (before after : List (Instance F)) → All IsFitting before
         → All IsFitting after → ArePacked F.ring F.eq before after
         → KeepsTerminals ⟦<EF as Over<F>>⟧.fields before after }
+{}
+
+/// How checks of ranges of rows join, wherever they are made: where every constraint is zero on a range, the
+/// answer for the next one is that for both, and the first failing row of a range is that of a longer one
+/// that begins with it. A result of the right shape whose constraints are zero on all rows is satisfied.
+pub fn checks_join<F: Field, EF: ExtensionField<F>>()
+    ensures { (table : ChallengeTable EF) (instance : Instance F) (result : AirResult EF)
+        → ChecksJoin ⟦<EF as Over<F>>⟧.fields table instance result }
 {}

@@ -145,9 +145,10 @@ fn check_rows<F: Field, EF: ExtensionField<F>>(
 /// checked in ranges: the first range ends at the first of `ends`, and each further one follows on the one
 /// before.
 ///
-/// Whatever the ranges, the answer is that of [`check_witness`] for this AIR: the shape is checked once, by
-/// [`check_shape`], each range by [`rows_hold_until`], and the first row with a failing constraint is that
-/// of the first range that has one. Also fails when out of memory.
+/// `ends` do not decrease, and the last of them is the height. Whatever they are, the answer is that of
+/// [`check_witness`] for this AIR. The shape is checked once, by [`check_shape`], and each range by
+/// [`rows_hold_until`](crate::rows_hold_until), as others may do elsewhere: that this is enough is the
+/// contract of [`checks_join`](crate::checks_join). Also fails when out of memory.
 pub fn check_in_ranges<F: Field, EF: ExtensionField<F>>(
     alloc: Global,
     air: usize,

@@ -90,18 +90,16 @@ length-made E denominator rows m wide n cells accumulator within has =
     ∙ length_rows (plain_row E denominator rows) (m + 1) 0 n (λ r lt. omega (arith, length-map (get_or rows r []) (plain_fraction E denominator), wide r (omega (arith, lt, within))))
 
 module _ {F K : Type 0} {E : Extension F K} (laws : IsLawful E) (denominator : Key F → K) (rows : List (List (Sent F))) (m : ℕ) (wide : (r : ℕ) → r < length rows → length (get_or rows r []) ≡ m) (first end : ℕ) (from : first ≤ end) (up_to : end ≤ length rows) where
-  n : ℕ
+  abbrev pub n : ℕ
   n = end - first
 
-  part : List (List (Sent F))
+  abbrev pub part : List (List (Sent F))
   part = take (end - first) (drop first rows)
 
   many_rows : length part ≡ n
-  unfolding n part
   many_rows = length-take (end - first) (drop first rows) ∙ omega (arith, length-drop first rows, from, up_to)
 
   wide_row : (k : ℕ) → k < n → length (plain_row E denominator part k) ≡ m + 1
-  unfolding n part
   wide_row k lt =
       let here : length (get_or part k []) ≡ m =
       ap length (get_or-take (end - first) (drop first rows) k [] lt ∙ get_or-drop first rows k [])
@@ -109,8 +107,7 @@ module _ {F K : Type 0} {E : Extension F K} (laws : IsLawful E) (denominator : K
       omega (arith, length-map (get_or part k []) (plain_fraction E denominator), here)
 
   -- the rows of a range are those of the range alone, shifted by the accumulator of the first one
-  range_shifted : flat_map (plain_row E denominator rows) (range_with_len first n) ≡ (shifted E.ring (plain_accumulator E denominator rows first) (record { values = plain_cells E denominator part; width = m + 1 })).values
-  unfolding n part
+  pub range_shifted : flat_map (plain_row E denominator rows) (range_with_len first n) ≡ (shifted E.ring (plain_accumulator E denominator rows first) (record { values = plain_cells E denominator part; width = m + 1 })).values
   range_shifted =
       let offset = plain_accumulator E denominator rows first in
       ap (λ a. flat_map (plain_row E denominator rows) (range_with_len a n)) (omega arith)
@@ -123,7 +120,6 @@ module _ {F K : Type 0} {E : Extension F K} (laws : IsLawful E) (denominator : K
   -- Rows that were made go on by a range that was made alone, shifted by the accumulator so far.
   pub joined : (cells : List K) (accumulator next : K) → HasRows E denominator rows first cells accumulator → faults_between E denominator rows first end ≡ [] → next ≡ E.ring.add accumulator (plain_terminal E denominator (slice_range rows first end))
       → HasRows E denominator rows end (cells ++ (shifted E.ring accumulator (record { values = plain_cells E denominator (slice_range rows first end); width = m + 1 })).values) next
-  unfolding n part
   joined cells accumulator next has none next_is =
       let whole : first + (end - first) ≡ end = omega (arith, from) in
       let all = plain_row E denominator rows in

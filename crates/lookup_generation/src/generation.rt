@@ -75,9 +75,10 @@ pub fn generate_permutation<F: Field, EF: ExtensionField<F>>(
 /// The auxiliary trace of one AIR and its terminal, made of ranges of rows: the first range ends at the
 /// first of `ends`, and each further one follows on the one before.
 ///
-/// Whatever the ranges, the answer is that of [`generate_permutation`]: each
-/// range is made apart by [`generate_rows`], shifted by the sum of the ranges before it, and the terminal
-/// is the sum of all. The first fault is that of the first range that has one.
+/// `ends` do not decrease, and the last of them is the height. Whatever they are, the answer is that of
+/// [`generate_permutation`]. Each range is made apart by [`generate_rows`] and shifted by the sum of those
+/// before it, as others may do elsewhere: that this gives the whole is the contract of
+/// [`ranges_join`](crate::ranges_join).
 pub fn generate_in_ranges<'a, F: Field, EF: ExtensionField<F>>(
     alloc: Global,
     traces: &'a Traces<'a, F>,

@@ -61,13 +61,13 @@ fn chunks_between<F: Field, EF: ExtensionDomain<F>, I: Inverter<EF>>(
     Ok(made)
 }
 
-/// The rows from `first` up to `end` of the auxiliary trace of one AIR, and the sum of their fractions, as
-/// if the trace had no other rows: the accumulator is zero on row `first`.
+/// The rows from `first` up to `end` of the auxiliary trace of one AIR, with an accumulator that is zero on
+/// row `first`, and the sum of their fractions.
 ///
-/// So ranges of rows can be generated apart. [`shift`] by the sum of all fractions on the rows before
-/// turns them into rows of the whole trace, as
-/// [`generate_in_ranges`](crate::generate_in_ranges) shows. Without lookups they have
-/// width 0. `challenges` are an alpha and a beta for each lookup, in the order of their columns.
+/// What a row sends is as in the whole trace: the last row of the range sees the row after it, and
+/// selectors are those of the whole trace. So ranges of rows can be generated apart: [`shift`] by the sum
+/// of all fractions on the rows before turns them into rows of the whole trace
+/// ([`ranges_join`](crate::ranges_join)). Without lookups they have width 0. `challenges` are an alpha and a beta for each lookup, in the order of their columns.
 ///
 /// Refuses the first fault on these rows, in the order row, lookup, as
 /// [`generate_permutation`](crate::generate_permutation) does. `inverter` is called at most once for each

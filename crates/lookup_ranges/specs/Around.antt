@@ -6,7 +6,7 @@ use Rattle.lookup_model.specs.Batches.Instances.{Instance}
 use Rattle.lookup_ranges.specs.declared.range.RowRange.{RowRange}
 use Rattle.matrix.specs.Matrix.{IsShaped, Matrix}
 
--- some rows of a trace
+-- at least one row, all within the trace
 pub record IsRange (range : RowRange) : Type 0 where
   pub some : range.first < range.end
   pub within : range.end ≤ range.height
@@ -21,8 +21,8 @@ abbrev pub rows_around : ℕ → ℕ → ℕ → ℕ
 rows_around h first end = place_of first + (end - first) + (if end == h then 0 else 1)
 
 -- Of values in rows of a width, h of them: the first row, if the range does not begin with it; the rows
--- from `first` up to `end`; and the row after them, if there is one. So the first row comes after the
--- last one here too, where the range ends with that.
+-- from `first` up to `end`; and the row after them, if there is one. Where the range ends with the
+-- trace, the first row comes after the last one here too.
 abbrev pub around : {T : Type 0} → ℕ → ℕ → ℕ → ℕ → List T → List T
 around width h first end xs =
     (if first == 0 then [] else take width xs)

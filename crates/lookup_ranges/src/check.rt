@@ -21,8 +21,9 @@ use std::alloc::{AllocError, Global};
 ///
 /// The traces of `around` and the auxiliary trace `aux` have the rows around the range alone: row 0, unless
 /// the range begins with it; the rows of the range; and the row after them, unless the range ends with the
-/// trace. The answer is that for the whole traces, whatever their other rows are. Fails only when out of
-/// memory.
+/// trace. The answer is that for the whole traces, whatever their other rows are. Requires at least one row,
+/// a range within the height, traces of [`rows_around`](RowRange::rows_around) rows, and a result of the
+/// right shape over these (`check_shape` of `checker`). Fails only when out of memory.
 pub fn rows_hold_around<F: Field, EF: ExtensionField<F>>(
     alloc: Global,
     around: &BatchInstance<'_, F>,

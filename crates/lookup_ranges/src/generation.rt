@@ -19,8 +19,9 @@ use std::alloc::Global;
 ///
 /// `around` has the rows around the range alone: row 0, unless the range begins with it; the rows of the
 /// range; and the row after them, unless the range ends with the trace. The answer is that for the whole
-/// trace, whatever its other rows are. `challenges` are an alpha and a beta for each lookup, in the order
-/// of their columns.
+/// trace, whatever its other rows are. Requires at least one row, a range within the height, and traces of
+/// [`rows_around`](RowRange::rows_around) rows. `challenges` are an alpha and a beta for each lookup, in the
+/// order of their columns.
 ///
 /// Refuses the first fault on the rows of the range, in the order row, lookup, under its row in the whole
 /// trace. Also fails when out of memory, with `Memory`.

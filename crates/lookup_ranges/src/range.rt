@@ -25,7 +25,7 @@ impl RowRange {
     pub(crate) fn rows(self) -> usize
         requires { self.first ≤ self.end }
         ensures many { result ≡ self.end - self.first }
-        ensures fits { self.end < 2 ^ 64 }
+        ensures end_is_usize { self.end < 2 ^ 64 }
     {
         self.end - self.first
     }

@@ -11,7 +11,7 @@ pub returns-in-Ok : goal.returns-in-Ok
 returns-in-Ok g c = λ whole is.
     let E = of_laws g.met.EF.ExtensionField.lawful_fields in
     let part = traces_of c.args.around.now in
-    let fits : c.args.range.end ≤ 2 ^ 64 = omega (arith, c.rows.ensures.fits) in
+    let fits : c.args.range.end ≤ 2 ^ 64 = omega (arith, c.rows.ensures.end_is_usize) in
     made_there E whole part c.args.lookups.now c.args.challenges.now c.args.range is c.requires.range c.in-Ok.made.0 c.in-Ok.made.1 fits
     (subst₂ (λ first n. AnswersRows E part c.args.lookups.now c.args.challenges.now first (first + n) (Ok c.in-Ok.made)) c.place-first.ensures c.rows.ensures.many
     (c.in-Ok.ensures.answers g.EF.Field.inverse g.met.EF.Field.inverse_is))
@@ -20,7 +20,7 @@ pub returns-in-Err : goal.returns-in-Err
 returns-in-Err g c = λ whole is.
     let E = of_laws g.met.EF.ExtensionField.lawful_fields in
     let part = traces_of c.args.around.now in
-    let fits : c.args.range.end ≤ 2 ^ 64 = omega (arith, c.rows.ensures.fits) in
+    let fits : c.args.range.end ≤ 2 ^ 64 = omega (arith, c.rows.ensures.end_is_usize) in
     let range = c.args.range in
     let answer = subst₂ (λ first n. AnswersRows E part c.args.lookups.now c.args.challenges.now first (first + n) (Err c.in-Err.error)) c.place-first.ensures c.rows.ensures.many
     (c.in-Err.ensures.answers g.EF.Field.inverse g.met.EF.Field.inverse_is) in
