@@ -3,6 +3,7 @@
 //! A cell is spoiled by one more. A spoiled fraction breaks the constraint of its lookup on its own row,
 //! whose denominator is not zero. A spoiled accumulator breaks the step that leads to it, on the row
 //! before; on the first row it breaks the start.
+use super::ranges::until;
 use super::{alone, cell, checked, generate, group, holds, instance, list, range, trace};
 use air::{Expression, SymbolicExpression};
 use checker::Witness;
@@ -300,47 +301,90 @@ fn spoiled_cells_of_products(rt: HostRuntime) {
     names_the_rows(&rt, rt.alloc(), &air, SPOILED.as_slice(), LAST);
 }
 
-/// Seven rows are checked one by one, and eight in a chunk: both name the same rows, as one row does.
+/// Twenty-three rows are checked one by one, and twenty-four in a chunk: both name the rows alike. So does a
+/// trace of one row.
 #[test]
 fn spoiled_cells_of_few_rows(rt: HostRuntime) {
     let alloc = rt.alloc();
     let one: [(&[(usize, usize)], usize); 2] = [(&[(0, 0)], 0), (&[(0, 2)], 0)];
     names_the_rows(&rt, alloc, &locals(&rt, alloc, 0), one.as_slice(), 0);
-    let few: [(&[(usize, usize)], usize); 4] = [
+    let few: [(&[(usize, usize)], usize); 5] = [
         (&[(0, 0)], 0),
         (&[(3, 0)], 2),
-        (&[(6, 1)], 6),
-        (&[(6, 0), (6, 1)], 5),
+        (&[(22, 1)], 22),
+        (&[(22, 0), (22, 1)], 21),
+        (&[(22, 1), (20, 2)], 20),
     ];
-    names_the_rows(&rt, alloc, &locals(&rt, alloc, 6), few.as_slice(), 6);
-    names_the_rows(&rt, alloc, &locals(&rt, alloc, 7), few.as_slice(), 7);
+    names_the_rows(&rt, alloc, &locals(&rt, alloc, 22), few.as_slice(), 22);
+    names_the_rows(&rt, alloc, &locals(&rt, alloc, 23), few.as_slice(), 23);
 }
 
-/// On each of fourteen rows the flag is 2 and the key 2. At alpha 5 and beta 2 the prefix is 7, which is 0,
-/// and the denominator -2, which is 5. So the fraction f has to be such that `(1 + 2 * (5 - 1)) * f` is
-/// 2: `2 * f = 2`, and f is 1. Fourteen of them add up to 0.
-#[test]
-fn a_flag_of_two_counts_twice(rt: HostRuntime) {
-    let alloc = rt.alloc();
+/// The answer where on each of so many rows the flag is 2, the key 2 and the fraction 1, at alpha 5 and beta 2.
+fn answer_to_flags_of_two(rt: &impl Abort, alloc: Global, height: u32) -> Result<(), LookupError> {
     let (mut numbers, mut cells) = (Vec::new(alloc), Vec::new(alloc));
-    for row in 0..14u32 {
-        numbers.extend_from_slice(&[2, 2]).expect(&rt, "memory");
-        cells.extend_from_slice(&[row, 1]).expect(&rt, "memory");
+    for row in 0..height {
+        numbers.extend_from_slice(&[2, 2]).expect(rt, "memory");
+        cells.extend_from_slice(&[row, 1]).expect(rt, "memory");
     }
-    let main = trace(&rt, alloc, numbers.as_slice(), 2);
-    let lookups = [group(&rt, alloc, [(0, 1)], F7::ONE)];
+    let main = trace(rt, alloc, numbers.as_slice(), 2);
+    let lookups = [group(rt, alloc, [(0, 1)], F7::ONE)];
     let instances = [instance(lookups.as_slice(), &main, &[0])];
-    let aux = [trace(&rt, alloc, cells.as_slice(), 2)];
-    let challenges = super::table(&rt, alloc, 5, 2, 1);
+    let aux = [trace(rt, alloc, cells.as_slice(), 2)];
+    let challenges = super::table(rt, alloc, 5, 2, 1);
     let terminals = [super::terminal(0)];
     let (aux, terminals) = (aux.as_slice(), terminals.as_slice());
-    let answer = checked(
-        &rt,
-        alloc,
-        instances.as_slice(),
-        &challenges,
-        aux,
-        terminals,
-    );
-    holds(&rt, "accepted", answer.is_ok());
+    checked(rt, alloc, instances.as_slice(), &challenges, aux, terminals)
+}
+
+/// The prefix is 7, which is 0, and the denominator -2, which is 5. So the fraction f has to be such that
+/// `(1 + 2 * (5 - 1)) * f` is 2: `2 * f = 2`, and f is 1. Fourteen of them add up to 0, and so do
+/// thirty-five. Fourteen rows are checked one by one, and thirty-five in a chunk.
+#[test]
+fn a_flag_of_two_counts_twice(rt: HostRuntime) {
+    for height in [14u32, 35] {
+        let answer = answer_to_flags_of_two(&rt, rt.alloc(), height);
+        holds(&rt, "accepted", answer.is_ok());
+    }
+}
+
+/// Ranges of 1030 rows. The first one is one chunk, the second one two, and the last one is checked row by row.
+const RANGES: [(usize, usize); 4] = [(1, 1025), (1, 1030), (1000, 1030), (1023, 1026)];
+
+/// Spoiled cells, and up to which row the constraints hold in each of `RANGES`: up to its first row of those
+/// that fail, or to its end. A spoiled fraction fails on its row alone. A spoiled accumulator fails on the row
+/// before, and on its own, which it leads from.
+const SPOILED_IN_RANGES: [(&[(usize, usize)], [usize; 4]); 16] = [
+    (&[], [1025, 1030, 1030, 1026]),
+    (&[(0, 0)], [1025, 1030, 1030, 1026]),
+    (&[(0, 1)], [1025, 1030, 1030, 1026]),
+    (&[(1, 0)], [1, 1, 1030, 1026]),
+    (&[(1, 2)], [1, 1, 1030, 1026]),
+    (&[(1000, 0)], [999, 999, 1000, 1026]),
+    (&[(1023, 0)], [1022, 1022, 1022, 1023]),
+    (&[(1024, 1)], [1024, 1024, 1024, 1024]),
+    (&[(1025, 0)], [1024, 1024, 1024, 1024]),
+    (&[(1025, 2)], [1025, 1025, 1025, 1025]),
+    (&[(1026, 0)], [1025, 1025, 1025, 1025]),
+    (&[(1026, 1)], [1025, 1026, 1026, 1026]),
+    (&[(LAST, 0)], [1025, 1028, 1028, 1026]),
+    (&[(LAST, 2)], [1025, LAST, LAST, 1026]),
+    (&[(1025, 1), (1000, 2)], [1000, 1000, 1000, 1025]),
+    (&[(0, 2), (1026, 1), (1025, 2)], [1025, 1025, 1025, 1025]),
+];
+
+#[test]
+fn spoiled_cells_in_ranges(rt: HostRuntime) {
+    let alloc = rt.alloc();
+    let air = locals(&rt, alloc, LAST);
+    let challenges = table(&rt, alloc);
+    let witness = made(&rt, alloc, &air, &challenges);
+    let zero = terminal(&rt, &witness, BabyBear4::ZERO);
+    let instance = instance(air.lookups.as_slice(), &air.main, air.ids.as_slice());
+    for (cells, wanted) in SPOILED_IN_RANGES.as_slice() {
+        let aux = spoiled(&rt, alloc, &witness, cells);
+        for (rows, row) in RANGES.iter().zip(wanted) {
+            let found = until(&rt, alloc, &instance, &challenges, &aux, &zero, *rows);
+            holds(&rt, "up to which row", found == *row);
+        }
+    }
 }

@@ -4,22 +4,22 @@ use air::{
     AirLayout, BaseEntry, BaseLeaf, Expression, SymbolicExpression, SymbolicVariable, Traces,
 };
 use checker::{BatchInstance, check_in_ranges, check_shape, instance_fits, rows_hold_until};
-use field::{F7, InverseCount, PrimeCharacteristicRing};
+use field::{ExtensionField, F7, Field, PrimeCharacteristicRing};
 use lookup::{Challenges, Kind, Lookup, LookupError, LookupTerminal, fits};
-use lookup_generation::generate_rows;
+use lookup_generation::shift;
 use lookup_ranges::{RowRange, generate_around, rows_hold_around};
 use matrix::RowMajorMatrix;
 use std::alloc::Global;
 use std::process::Abort;
 
 /// Up to which of the rows from `first` up to `end` the constraints hold over a result of an AIR.
-fn until(
+pub(super) fn until<F: Field, EF: ExtensionField<F>>(
     rt: &impl Abort,
     alloc: Global,
-    instance: &BatchInstance<'_, F7>,
-    challenges: &Challenges<F7>,
-    aux: &RowMajorMatrix<F7>,
-    terminal: &Option<LookupTerminal<F7>>,
+    instance: &BatchInstance<'_, F>,
+    challenges: &Challenges<EF>,
+    aux: &RowMajorMatrix<EF>,
+    terminal: &Option<LookupTerminal<EF>>,
     (first, end): (usize, usize),
 ) -> usize {
     assert!(rt; instance_fits(instance) && are_below(instance.ids, challenges.bus_prefix.len()));
@@ -60,6 +60,8 @@ fn ranges_of_two_rows(rt: HostRuntime) {
     }
 }
 
+/// The same rows, checked one after the other: a changed fraction is refused at its row, and of two the first
+/// one is named.
 #[test]
 fn an_air_checked_in_ranges(rt: HostRuntime) {
     let alloc = rt.alloc();
@@ -70,13 +72,17 @@ fn an_air_checked_in_ranges(rt: HostRuntime) {
     assert!(rt; instance_fits(&air) && are_below(air.ids, challenges.bus_prefix.len()));
     assert!(rt; main.height() == 2);
     let last = terminal(0);
-    let good = trace(&rt, alloc, &[0, 4, 4, 3], 2);
-    let accepted = check_in_ranges(alloc, 3, &air, &challenges, &good, &last, &[1, 2]);
-    holds(&rt, "accepted", accepted.is_ok());
-    let changed = trace(&rt, alloc, &[0, 4, 4, 4], 2);
-    let refused = check_in_ranges(alloc, 3, &air, &challenges, &changed, &last, &[1, 2]);
-    let failed = LookupError::ConstraintFailed { air: 3, row: 1 };
-    holds(&rt, "refused", refused == Err(failed));
+    for (cells, failing) in [
+        ([0u32, 4, 4, 3], None),
+        ([0, 4, 4, 4], Some(1usize)),
+        ([0, 5, 4, 3], Some(0)),
+        ([0, 5, 4, 4], Some(0)),
+    ] {
+        let aux = trace(&rt, alloc, cells.as_slice(), 2);
+        let answer = check_in_ranges(alloc, 3, &air, &challenges, &aux, &last, &[1, 2]);
+        let failed = failing.map(|row| LookupError::ConstraintFailed { air: 3, row });
+        holds(&rt, "the answer", answer.err() == failed);
+    }
     let narrow = trace(&rt, alloc, &[0, 4], 1);
     let refused = check_in_ranges(alloc, 3, &air, &challenges, &narrow, &last, &[2]);
     let width = LookupError::PermutationWidthMismatch {
@@ -86,16 +92,16 @@ fn an_air_checked_in_ranges(rt: HostRuntime) {
     holds(&rt, "the shape first", refused == Err(width));
 }
 
-/// The rows around a range, of values in rows of this width.
+/// The rows of a matrix around a range.
 fn around(
     rt: &impl Abort,
     alloc: Global,
     whole: &RowMajorMatrix<F7>,
-    range: RowRange,
+    rows: RowRange,
 ) -> RowMajorMatrix<F7> {
     let mut values = Vec::new(alloc);
     for row in 0..whole.height() {
-        if row == 0 || (range.first <= row && row <= range.end) {
+        if row == 0 || (rows.first <= row && row <= rows.end) {
             for value in whole.row_slice(row) {
                 values.push(*value).expect(rt, "memory");
             }
@@ -106,19 +112,89 @@ fn around(
     RowMajorMatrix::new(values, width)
 }
 
-/// A lookup that sees the next row and each selector: the tuple of the next row's cell 0, plus one on the
-/// first row; its count is cell 1, plus one on the last row, less one before it.
-fn seeing(rt: &impl Abort, alloc: Global) -> Lookup<F7> {
-    let next = SymbolicExpression::Leaf(BaseLeaf::Variable(SymbolicVariable::new(
-        BaseEntry::Main { offset: 1 },
-        0,
-    )));
-    let first = SymbolicExpression::Leaf(BaseLeaf::IsFirstRow);
-    let last = SymbolicExpression::Leaf(BaseLeaf::IsLastRow);
-    let transition = SymbolicExpression::Leaf(BaseLeaf::IsTransition);
-    let element = next.add(alloc, first).expect(rt, "memory");
-    let count = cell::<F7>(1).add(alloc, last).expect(rt, "memory");
-    let count = count.sub(alloc, transition).expect(rt, "memory");
+/// The rows of the preprocessed trace around a range, where there is one.
+fn preprocessed_around(
+    rt: &impl Abort,
+    alloc: Global,
+    whole: &BatchInstance<'_, F7>,
+    rows: RowRange,
+) -> Option<RowMajorMatrix<F7>> {
+    match whole.preprocessed {
+        Some(trace) => Some(around(rt, alloc, trace, rows)),
+        None => None,
+    }
+}
+
+/// What is made of a range of rows, from the rows around it.
+fn made_around(
+    rt: &impl Abort,
+    alloc: Global,
+    whole: &BatchInstance<'_, F7>,
+    challenges: &Challenges<F7>,
+    rows: RowRange,
+) -> Result<(RowMajorMatrix<F7>, F7), LookupError> {
+    let main = around(rt, alloc, whole.main, rows);
+    let preprocessed = preprocessed_around(rt, alloc, whole, rows);
+    let traces = Traces {
+        main: &main,
+        preprocessed: preprocessed.as_ref(),
+        public_values: whole.public_values,
+    };
+    if let Some(trace) = traces.preprocessed {
+        assert!(rt; trace.height() == main.height());
+    }
+    let layout = AirLayout::of_traces(traces.main, traces.preprocessed, traces.public_values);
+    assert!(rt; fits(whole.lookups, &layout) && whole.lookups.len() == 1);
+    assert!(rt; rows.first < rows.end && rows.end <= rows.height);
+    assert!(rt; main.height() == rows.rows_around());
+    assert!(rt; challenges.bus_prefix.len() > 0);
+    let columns = [challenges.bus_prefix[0], challenges.beta];
+    generate_around(alloc, &traces, whole.lookups, &columns, rows)
+}
+
+/// Up to which row of a range the constraints hold, from the rows around it.
+fn until_around(
+    rt: &impl Abort,
+    alloc: Global,
+    whole: &BatchInstance<'_, F7>,
+    challenges: &Challenges<F7>,
+    aux: &RowMajorMatrix<F7>,
+    terminal: &Option<LookupTerminal<F7>>,
+    rows: RowRange,
+) -> usize {
+    let main = around(rt, alloc, whole.main, rows);
+    let preprocessed = preprocessed_around(rt, alloc, whole, rows);
+    let aux = around(rt, alloc, aux, rows);
+    let around = BatchInstance {
+        lookups: whole.lookups,
+        main: &main,
+        preprocessed: preprocessed.as_ref(),
+        public_values: whole.public_values,
+        ids: whole.ids,
+    };
+    assert!(rt; instance_fits(&around) && are_below(around.ids, challenges.bus_prefix.len()));
+    assert!(rt; rows.first < rows.end && rows.end <= rows.height);
+    assert!(rt; around.main.height() == rows.rows_around());
+    match check_shape(0, &around, &aux, terminal) {
+        Ok(()) => rows_hold_around(alloc, &around, challenges, &aux, terminal, rows).expect(
+            rt, "memory",
+        ),
+        Err(_) => panic!(rt; "another shape"),
+    }
+}
+
+/// An entry in column 0, or the public value 0.
+fn entry(entry: BaseEntry) -> SymbolicExpression<F7> {
+    SymbolicExpression::Leaf(BaseLeaf::Variable(SymbolicVariable::new(entry, 0)))
+}
+
+/// A local lookup of the tuple of one element, with this count.
+fn one_tuple(
+    rt: &impl Abort,
+    alloc: Global,
+    element: SymbolicExpression<F7>,
+    count: SymbolicExpression<F7>,
+) -> Lookup<F7> {
     Lookup {
         kind: Kind::Local,
         elements: alone(rt, alloc, alone(rt, alloc, element)),
@@ -129,141 +205,189 @@ fn seeing(rt: &impl Abort, alloc: Global) -> Lookup<F7> {
     }
 }
 
+/// A lookup that sees the next row and each selector: the tuple of the next row's cell 0, plus one on the
+/// first row; its count is cell 1, plus one on the last row, less one before it.
+fn seeing(rt: &impl Abort, alloc: Global) -> Lookup<F7> {
+    let first = SymbolicExpression::Leaf(BaseLeaf::IsFirstRow);
+    let last = SymbolicExpression::Leaf(BaseLeaf::IsLastRow);
+    let transition = SymbolicExpression::Leaf(BaseLeaf::IsTransition);
+    let element = entry(BaseEntry::Main { offset: 1 })
+        .add(alloc, first)
+        .expect(rt, "memory");
+    let count = cell::<F7>(1).add(alloc, last).expect(rt, "memory");
+    let count = count.sub(alloc, transition).expect(rt, "memory");
+    one_tuple(rt, alloc, element, count)
+}
+
+/// A lookup that sees the next preprocessed row and the public values: the tuple of their sum, with cell 1 as
+/// its count.
+fn seeing_fixed(rt: &impl Abort, alloc: Global) -> Lookup<F7> {
+    let element = entry(BaseEntry::Preprocessed { offset: 1 })
+        .add(alloc, entry(BaseEntry::Public))
+        .expect(rt, "memory");
+    one_tuple(rt, alloc, element, cell(1))
+}
+
 /// Five rows whose first cells are below 4, so that no tuple of `seeing` reaches 6.
 const FIVE_ROWS: [u32; 10] = [1, 2, 3, 4, 0, 3, 2, 5, 3, 4];
 
-/// The rows from `first` up to `end` at this prefix and beta 2: of the whole trace, and of the rows around
-/// them alone.
-fn both_made(
+/// Five preprocessed cells, none of which is 4, so that with the public value 2 no tuple is 6.
+const FIVE_CELLS: [u32; 5] = [1, 3, 0, 2, 5];
+
+/// Fails unless what is made of a range from the rows around it are the rows of the whole trace, once they are
+/// shifted by its accumulator on the first of them, and the sum is the difference of the accumulators.
+fn expect_part(
     rt: &impl Abort,
     alloc: Global,
-    lookups: &[Lookup<F7>],
-    prefix: u32,
-    range: RowRange,
-) -> [Result<(RowMajorMatrix<F7>, F7), LookupError>; 2] {
-    let main = trace(rt, alloc, FIVE_ROWS.as_slice(), 2);
-    let part = around(rt, alloc, &main, range);
-    let challenges = [F7::from_u32(prefix), F7::from_u32(2)];
-    assert!(rt; lookups.len() == 1);
-    assert!(rt; range.first < range.end && range.end <= range.height);
-    assert!(rt; main.height() == range.height && part.height() == range.rows_around());
-    assert!(rt; fits(lookups, &AirLayout::of_traces(&main, None, &[])));
-    assert!(rt; fits(lookups, &AirLayout::of_traces(&part, None, &[])));
-    let whole_traces = Traces {
-        main: &main,
-        preprocessed: None,
-        public_values: &[],
+    air: &BatchInstance<'_, F7>,
+    challenges: &Challenges<F7>,
+    whole: &RowMajorMatrix<F7>,
+    terminal: &Option<LookupTerminal<F7>>,
+    rows: RowRange,
+) {
+    let made = made_around(rt, alloc, air, challenges, rows);
+    let (part, sum) = made.expect(rt, "no fault");
+    let cells = whole.values();
+    let (from, to) = (rows.first.saturating_mul(2), rows.end.saturating_mul(2));
+    assert!(rt; from < to && to <= cells.len());
+    let start = cells[from];
+    let stop = match terminal {
+        _ if to < cells.len() => cells[to],
+        Some(LookupTerminal(last)) => *last,
+        None => panic!(rt; "no terminal"),
     };
-    let traces = Traces {
-        main: &part,
-        preprocessed: None,
-        public_values: &[],
-    };
-    let mut count = InverseCount::new();
-    let whole = generate_rows(
-        alloc,
-        &whole_traces,
-        lookups,
-        &challenges,
-        range.first,
-        range.end,
-        &mut count,
-    );
-    let alone = generate_around(alloc, &traces, lookups, &challenges, range);
-    [whole, alone]
+    holds(rt, "the sum", start + sum == stop);
+    let moved = shift(part, start);
+    holds(rt, "the cells", moved.values() == &cells[from..to]);
 }
 
-/// Every range of five rows. At the prefix 6 no denominator is zero. At the prefix 0 that of row 1 is, whose
-/// next row has 0, and of no other: on row 4 the next row is row 0, which has 1.
-#[test]
-fn each_range_from_the_rows_around_it(rt: HostRuntime) {
-    let alloc = rt.alloc();
-    let lookups = [seeing(&rt, alloc)];
+/// Up to which of the rows from `first` up to `end` the constraints hold where this cell of five rows is
+/// changed; index 10 stands for the terminal, and 11 for nothing. A fraction fails on its row, and an
+/// accumulator on the row before it and on its own.
+fn wanted_until(changed: usize, first: usize, end: usize) -> usize {
+    let (row, column) = (changed / 2, changed % 2);
+    for r in first..end {
+        if r == row || (column == 0 && r + 1 == row) {
+            return r;
+        }
+    }
+    end
+}
+
+/// The cells of an auxiliary trace of five rows, where this one is greater by one.
+fn changed_at(
+    rt: &impl Abort,
+    alloc: Global,
+    aux: &RowMajorMatrix<F7>,
+    changed: usize,
+) -> RowMajorMatrix<F7> {
+    let mut values = Vec::new(alloc);
+    for (index, value) in aux.values().iter().enumerate() {
+        let more = F7::from_bool(index == changed);
+        values.push(*value + more).expect(rt, "memory");
+    }
+    assert!(rt; values.len() == 10);
+    RowMajorMatrix::new(values, 2)
+}
+
+/// Every range of the five rows of one AIR, from the rows around it: the rows that are made are those of the
+/// whole trace, and where a cell is changed, the same row fails.
+fn expect_parts(rt: &impl Abort, alloc: Global, airs: &[BatchInstance<'_, F7>]) {
+    let challenges = table(rt, alloc, 4, 2, 1);
+    let made = super::generate(rt, alloc, airs, &challenges).expect(rt, "no fault");
+    assert!(rt; airs.len() == 1 && made.aux.len() == 1 && made.terminals.len() == 1);
+    let (air, whole, last) = (&airs[0], &made.aux[0], &made.terminals[0]);
     for first in 0..5usize {
         for end in first + 1..6 {
-            let range = RowRange {
+            let rows = RowRange {
                 first,
                 end,
                 height: 5,
             };
-            let [whole, part] = both_made(&rt, alloc, lookups.as_slice(), 6, range);
-            let (rows, sum) = whole.expect(&rt, "no fault");
-            let (own_rows, own_sum) = part.expect(&rt, "no fault");
-            holds(&rt, "the cells", rows.values() == own_rows.values());
-            holds(&rt, "the sum", sum == own_sum);
-            let [whole, part] = both_made(&rt, alloc, lookups.as_slice(), 0, range);
+            expect_part(rt, alloc, air, &challenges, whole, last, rows);
+            expect_checks(rt, alloc, air, &challenges, whole, last, rows);
+        }
+    }
+}
+
+/// Fails unless the checks of a range tell the failing row where a cell is changed, from the whole traces and
+/// from the rows around it.
+fn expect_checks(
+    rt: &impl Abort,
+    alloc: Global,
+    air: &BatchInstance<'_, F7>,
+    challenges: &Challenges<F7>,
+    whole: &RowMajorMatrix<F7>,
+    terminal: &Option<LookupTerminal<F7>>,
+    rows: RowRange,
+) {
+    for changed in 0..12usize {
+        let aux = changed_at(rt, alloc, whole, changed);
+        let more = F7::from_bool(changed == 10);
+        let last = match terminal {
+            Some(LookupTerminal(last)) => Some(LookupTerminal(*last + more)),
+            None => None,
+        };
+        let wanted = wanted_until(changed, rows.first, rows.end);
+        let in_whole = (rows.first, rows.end);
+        let found = until(rt, alloc, air, challenges, &aux, &last, in_whole);
+        holds(rt, "of the whole", found == wanted);
+        let found = until_around(rt, alloc, air, challenges, &aux, &last, rows);
+        holds(rt, "of the rows around", found == wanted);
+    }
+}
+
+/// At the prefix 6 no denominator is zero.
+#[test]
+fn each_range_from_the_rows_around_it(rt: HostRuntime) {
+    let alloc = rt.alloc();
+    let lookups = [seeing(&rt, alloc)];
+    let main = trace(&rt, alloc, FIVE_ROWS.as_slice(), 2);
+    let airs = [instance(lookups.as_slice(), &main, &[0])];
+    expect_parts(&rt, alloc, airs.as_slice());
+}
+
+#[test]
+fn each_range_with_a_preprocessed_trace(rt: HostRuntime) {
+    let alloc = rt.alloc();
+    let lookups = [seeing_fixed(&rt, alloc)];
+    let main = trace(&rt, alloc, FIVE_ROWS.as_slice(), 2);
+    let preprocessed = trace(&rt, alloc, FIVE_CELLS.as_slice(), 1);
+    let public_values = [F7::from_u32(2)];
+    let airs = [BatchInstance {
+        lookups: lookups.as_slice(),
+        main: &main,
+        preprocessed: Some(&preprocessed),
+        public_values: public_values.as_slice(),
+        ids: &[0],
+    }];
+    expect_parts(&rt, alloc, airs.as_slice());
+}
+
+/// At the prefix 0 the denominator of row 1 is zero, whose next row has 0, and no other: on row 4 the next row
+/// is row 0, which has 1. The fault is named by its row in the whole trace.
+#[test]
+fn the_fault_of_each_range_from_the_rows_around_it(rt: HostRuntime) {
+    let alloc = rt.alloc();
+    let lookups = [seeing(&rt, alloc)];
+    let main = trace(&rt, alloc, FIVE_ROWS.as_slice(), 2);
+    let air = instance(lookups.as_slice(), &main, &[0]);
+    let challenges = table(&rt, alloc, 5, 2, 1);
+    for first in 0..5usize {
+        for end in first + 1..6 {
+            let rows = RowRange {
+                first,
+                end,
+                height: 5,
+            };
+            let made = made_around(&rt, alloc, &air, &challenges, rows);
             let fault = LookupError::VanishingDenominator { row: 1, lookup: 0 };
             let wanted = if first <= 1 && 1 < end {
                 Some(fault)
             } else {
                 None
             };
-            holds(&rt, "the fault", part.err() == wanted);
-            holds(
-                &rt,
-                "of the whole",
-                whole.is_err() == (first <= 1 && 1 < end),
-            );
+            holds(&rt, "the fault", made.err() == wanted);
         }
-    }
-}
-
-/// Each cell of the witness of the five rows changed, and each range: the rows around it tell the same row
-/// as the whole.
-#[test]
-fn each_check_from_the_rows_around_it(rt: HostRuntime) {
-    let alloc = rt.alloc();
-    let lookups = [seeing(&rt, alloc)];
-    let main = trace(&rt, alloc, FIVE_ROWS.as_slice(), 2);
-    let challenges = table(&rt, alloc, 4, 2, 1);
-    let air = instance(lookups.as_slice(), &main, &[0]);
-    let made = super::generate(&rt, alloc, &[air], &challenges).expect(&rt, "no fault");
-    assert!(&rt; made.aux.len() == 1 && made.terminals.len() == 1);
-    let last = &made.terminals[0];
-    for changed in 0..11usize {
-        let mut values = Vec::new(alloc);
-        for (index, value) in made.aux[0].values().iter().enumerate() {
-            let more = F7::from_bool(index == changed);
-            values.push(*value + more).expect(&rt, "memory");
-        }
-        assert!(&rt; values.len() == 10);
-        let aux = RowMajorMatrix::new(values, 2);
-        for first in 0..5usize {
-            for end in first + 1..6 {
-                let range = RowRange {
-                    first,
-                    end,
-                    height: 5,
-                };
-                let air = instance(lookups.as_slice(), &main, &[0]);
-                let whole = until(&rt, alloc, &air, &challenges, &aux, last, (first, end));
-                let part = around(&rt, alloc, &main, range);
-                let part_aux = around(&rt, alloc, &aux, range);
-                let air = instance(lookups.as_slice(), &part, &[0]);
-                let own = until_around(&rt, alloc, &air, &challenges, &part_aux, last, range);
-                holds(&rt, "the same row", own == whole);
-            }
-        }
-    }
-}
-
-/// Up to which row of a range the constraints hold, over the rows around it.
-fn until_around(
-    rt: &impl Abort,
-    alloc: Global,
-    around: &BatchInstance<'_, F7>,
-    challenges: &Challenges<F7>,
-    aux: &RowMajorMatrix<F7>,
-    terminal: &Option<LookupTerminal<F7>>,
-    range: RowRange,
-) -> usize {
-    assert!(rt; instance_fits(around) && are_below(around.ids, challenges.bus_prefix.len()));
-    assert!(rt; range.first < range.end && range.end <= range.height);
-    assert!(rt; around.main.height() == range.rows_around());
-    match check_shape(0, around, aux, terminal) {
-        Ok(()) => rows_hold_around(alloc, around, challenges, aux, terminal, range).expect(
-            rt, "memory",
-        ),
-        Err(_) => panic!(rt; "another shape"),
     }
 }

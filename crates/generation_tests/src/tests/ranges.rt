@@ -43,8 +43,8 @@ fn rows_of(
     (made, count.get())
 }
 
-/// The rows `3 4 1` and `4 3 1` at alpha 5 and beta 2: the whole trace has the rows `0 4` and `4 3`, and the
-/// terminal 0. So row 0 alone sums to 4, and row 1 to 3; each starts at 0, and row 1 comes to its place by
+/// The rows `3 4 1` and `4 3 1` at the prefix 0 and beta 2: the whole trace has the rows `0 4` and `4 3`, and
+/// the terminal 0. So row 0 alone sums to 4, and row 1 to 3; each starts at 0, and row 1 comes to its place by
 /// a shift of 4.
 #[test]
 fn each_row_of_two_alone(rt: HostRuntime) {
@@ -113,12 +113,14 @@ fn expect_part(
     holds(rt, "the count", usize::try_from(count) == Ok(chunks));
 }
 
-/// Every range of four rows, with one lookup and with two. No denominator is zero at the prefixes 6 and 5,
-/// since all elements are below 5.
+/// Four rows of `range`. No denominator is zero at the prefixes 6 and 5, since all elements are below 5.
+const FOUR_ROWS: [u32; 12] = [3, 4, 1, 4, 3, 1, 0, 2, 5, 1, 1, 6];
+
+/// Every range of four rows, with one lookup and with two.
 #[test]
 fn each_range_of_four_rows(rt: HostRuntime) {
     let alloc = rt.alloc();
-    let main = trace(&rt, alloc, &[3, 4, 1, 4, 3, 1, 0, 2, 5, 1, 1, 6], 3);
+    let main = trace(&rt, alloc, FOUR_ROWS.as_slice(), 3);
     let two = [range(&rt, alloc, 0), range(&rt, alloc, 1)];
     let challenges = [F7::new(6), F7::new(2), F7::new(5), F7::new(2)];
     for count in 1..3usize {
@@ -169,17 +171,15 @@ fn ranges_that_cut_chunks(rt: HostRuntime) {
     }
 }
 
-/// At the prefix 3 the read tuple 3 of rows 1 and 3 has the denominator zero, and no other row has a fault.
-/// A range is refused for its first row of them, and nothing is inverted.
+/// Five rows of `range`. At the prefix 3 the read tuple 3 of rows 1 and 3 has the denominator zero, and no
+/// other row has a fault.
+const TWO_FAULTS: [u32; 15] = [4, 4, 1, 3, 4, 1, 4, 4, 1, 3, 4, 1, 4, 4, 1];
+
+/// A range is refused for its first row of those with a fault, and nothing is inverted.
 #[test]
 fn the_first_fault_of_a_range(rt: HostRuntime) {
     let alloc = rt.alloc();
-    let main = trace(
-        &rt,
-        alloc,
-        &[4, 4, 1, 3, 4, 1, 4, 4, 1, 3, 4, 1, 4, 4, 1],
-        3,
-    );
+    let main = trace(&rt, alloc, TWO_FAULTS.as_slice(), 3);
     let lookups = [range(&rt, alloc, 0)];
     let challenges = [F7::new(3), F7::new(2)];
     let inputs = Inputs {
@@ -252,4 +252,135 @@ fn two_rows_from_ranges(rt: HostRuntime) {
             terminal.is_some_and(|t| t.0 == F7::ZERO),
         );
     }
+}
+
+/// What is made of four ranges with these ends.
+fn made_in_ranges(
+    rt: &impl Abort,
+    alloc: Global,
+    inputs: Inputs<'_>,
+    [first, second, third, last]: [usize; 4],
+) -> Result<Made<F7>, LookupError> {
+    let Inputs {
+        main,
+        lookups,
+        challenges,
+    } = inputs;
+    let no_values: Vec<F7> = Vec::new(alloc);
+    let traces = Traces {
+        main,
+        preprocessed: None,
+        public_values: no_values.as_slice(),
+    };
+    let layout = AirLayout::of_traces(main, None, no_values.as_slice());
+    assert!(rt; fits(lookups, &layout) && lookups.len() <= challenges.len() / 2);
+    assert!(rt; first <= second && second <= third && third <= last);
+    assert!(rt; last == main.height());
+    let ends = [first, second, third, last];
+    let (auxiliary, terminal) = generate_in_ranges(
+        alloc,
+        &traces,
+        lookups,
+        challenges,
+        ends.as_slice(),
+    )?;
+    Ok(Made::new(auxiliary, terminal))
+}
+
+/// Whether the same is made, or refused.
+fn are_same(made: &Result<Made<F7>, LookupError>, wanted: &Result<Made<F7>, LookupError>) -> bool {
+    match (made, wanted) {
+        (Ok(made), Ok(wanted)) => {
+            made.auxiliary.values() == wanted.auxiliary.values()
+                && made.auxiliary.width() == wanted.auxiliary.width()
+                && made.terminal == wanted.terminal
+        }
+        (Err(made), Err(wanted)) => made == wanted,
+        _ => false,
+    }
+}
+
+/// Fails unless this is made of every four ranges of the rows. Some of them are empty, so the trace is cut at
+/// every row, at none, and at all together.
+fn expect_in_ranges(
+    rt: &impl Abort,
+    alloc: Global,
+    inputs: Inputs<'_>,
+    last: usize,
+    wanted: &Result<Made<F7>, LookupError>,
+) {
+    assert!(rt; last < 10);
+    for third in 0..last + 1 {
+        for second in 0..third + 1 {
+            for first in 0..second + 1 {
+                let made = made_in_ranges(rt, alloc, inputs, [first, second, third, last]);
+                holds(rt, "the same", are_same(&made, wanted));
+            }
+        }
+    }
+}
+
+#[test]
+fn four_rows_from_ranges(rt: HostRuntime) {
+    let alloc = rt.alloc();
+    let main = trace(&rt, alloc, FOUR_ROWS.as_slice(), 3);
+    let two = [range(&rt, alloc, 0), range(&rt, alloc, 1)];
+    let challenges = [F7::new(6), F7::new(2), F7::new(5), F7::new(2)];
+    for count in 0..3usize {
+        let lookups = &two[..count];
+        let whole = generate(&rt, alloc, &main, lookups, &challenges);
+        holds(&rt, "no fault", whole.is_ok());
+        let inputs = Inputs {
+            main: &main,
+            lookups,
+            challenges: &challenges,
+        };
+        expect_in_ranges(&rt, alloc, inputs, 4, &whole);
+    }
+}
+
+/// However the five rows are cut, the fault of row 1 comes before that of row 3.
+#[test]
+fn the_first_fault_from_ranges(rt: HostRuntime) {
+    let alloc = rt.alloc();
+    let main = trace(&rt, alloc, TWO_FAULTS.as_slice(), 3);
+    let lookups = [range(&rt, alloc, 0)];
+    let challenges = [F7::new(3), F7::new(2)];
+    let inputs = Inputs {
+        main: &main,
+        lookups: lookups.as_slice(),
+        challenges: &challenges,
+    };
+    let fault = LookupError::VanishingDenominator { row: 1, lookup: 0 };
+    expect_in_ranges(&rt, alloc, inputs, 5, &Err(fault));
+}
+
+/// Without rows no range is needed: there are no cells, and the terminal is 0.
+#[test]
+fn no_rows_from_ranges(rt: HostRuntime) {
+    let alloc = rt.alloc();
+    let main = trace(&rt, alloc, &[], 3);
+    let lookups = [range(&rt, alloc, 0)];
+    let lookups = lookups.as_slice();
+    let challenges = [F7::new(6), F7::new(2)];
+    let no_values: Vec<F7> = Vec::new(alloc);
+    let traces = Traces {
+        main: &main,
+        preprocessed: None,
+        public_values: no_values.as_slice(),
+    };
+    let layout = AirLayout::of_traces(&main, None, no_values.as_slice());
+    assert!(rt; fits(lookups, &layout) && main.height() == 0);
+    let made = generate_in_ranges(alloc, &traces, lookups, &challenges, &[]);
+    let (rows, terminal) = made.expect(&rt, "no fault");
+    holds(
+        &rt,
+        "no cells",
+        rows.values().is_empty() && rows.width() == 2,
+    );
+    holds(
+        &rt,
+        "the terminal",
+        terminal.is_some_and(|t| t.0 == F7::ZERO),
+    );
 }
