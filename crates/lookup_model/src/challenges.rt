@@ -3,11 +3,31 @@ ghost use Rattle.std.specs.Prelude.{◌≡◌, ◌*◌, ◌<◌, All, IfOk, leng
 ghost use Rattle.std.specs.Box.{boxed_slice_items};
 ghost use Rattle.std.specs.List.{range_with_len};
 ghost use Rattle.lookup_model.specs.Challenges.{column_challenges, prefix_of_bus, table_of};
+ghost use Rattle.field.specs.Ring.{power};
 ghost use Rattle.lookup_model.specs.Points.{HasPoints};
 
 use field::Field;
 use std::alloc::{AllocError, Global};
 use std::boxed::BoxedSlice;
+
+/// The product of `n` factors `base`, of which there has to be one. Widths are small, so it takes no product
+/// by one, and squares nothing that is not used.
+fn positive_power<EF: Field>(base: EF, n: usize) -> EF
+    requires { 0 < n }
+    ensures { result ≡ power EF.ring base n }
+{
+    let mut product = base;
+    let mut square = base;
+    let mut left = n - 1;
+    while left > 1 {
+        if left % 2 == 1 {
+            product = product * square;
+        }
+        square = square * square;
+        left /= 2;
+    }
+    if left == 1 { product * square } else { product }
+}
 
 /// The challenges of a batch: one pair `(alpha, beta)` and, for each bus id, the prefix of its
 /// denominators.
@@ -48,7 +68,7 @@ impl<EF: Field> Challenges<EF> {
         ensures points { IfOk result (λ c. HasPoints EF.ring max_message_width alpha beta
             num_bus_ids (table_of c)) }
     {
-        let gamma = beta.exp_u64(max_message_width as u64);
+        let gamma = positive_power(beta, max_message_width);
         let mut prefixes = Vec::with_capacity(alloc, num_bus_ids)?;
         let mut prefix = alpha;
         for _ in 0..num_bus_ids {
