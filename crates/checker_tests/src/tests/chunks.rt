@@ -379,11 +379,11 @@ fn spoiled_cells_in_ranges(rt: HostRuntime) {
     let challenges = table(&rt, alloc);
     let witness = made(&rt, alloc, &air, &challenges);
     let zero = terminal(&rt, &witness, BabyBear4::ZERO);
-    let instance = instance(air.lookups.as_slice(), &air.main, air.ids.as_slice());
+    let whole = instance(air.lookups.as_slice(), &air.main, air.ids.as_slice());
     for (cells, wanted) in SPOILED_IN_RANGES.as_slice() {
         let aux = spoiled(&rt, alloc, &witness, cells);
         for (rows, row) in RANGES.iter().zip(wanted) {
-            let found = until(&rt, alloc, &instance, &challenges, &aux, &zero, *rows);
+            let found = until(&rt, alloc, &whole, &challenges, &aux, &zero, *rows);
             holds(&rt, "up to which row", found == *row);
         }
     }

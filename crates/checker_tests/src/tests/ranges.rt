@@ -165,18 +165,18 @@ fn until_around(
     let main = around(rt, alloc, whole.main, rows);
     let preprocessed = preprocessed_around(rt, alloc, whole, rows);
     let aux = around(rt, alloc, aux, rows);
-    let around = BatchInstance {
+    let part = BatchInstance {
         lookups: whole.lookups,
         main: &main,
         preprocessed: preprocessed.as_ref(),
         public_values: whole.public_values,
         ids: whole.ids,
     };
-    assert!(rt; instance_fits(&around) && are_below(around.ids, challenges.bus_prefix.len()));
+    assert!(rt; instance_fits(&part) && are_below(part.ids, challenges.bus_prefix.len()));
     assert!(rt; rows.first < rows.end && rows.end <= rows.height);
-    assert!(rt; around.main.height() == rows.rows_around());
-    match check_shape(0, &around, &aux, terminal) {
-        Ok(()) => rows_hold_around(alloc, &around, challenges, &aux, terminal, rows).expect(
+    assert!(rt; part.main.height() == rows.rows_around());
+    match check_shape(0, &part, &aux, terminal) {
+        Ok(()) => rows_hold_around(alloc, &part, challenges, &aux, terminal, rows).expect(
             rt, "memory",
         ),
         Err(_) => panic!(rt; "another shape"),
@@ -251,10 +251,10 @@ fn expect_part(
     let (from, to) = (rows.first.saturating_mul(2), rows.end.saturating_mul(2));
     assert!(rt; from < to && to <= cells.len());
     let start = cells[from];
-    let stop = match terminal {
-        _ if to < cells.len() => cells[to],
-        Some(LookupTerminal(last)) => *last,
-        None => panic!(rt; "no terminal"),
+    let stop = match (cells.get(to), terminal) {
+        (Some(next), _) => *next,
+        (None, Some(LookupTerminal(last))) => *last,
+        (None, None) => panic!(rt; "no terminal"),
     };
     holds(rt, "the sum", start + sum == stop);
     let moved = shift(part, start);
