@@ -134,10 +134,11 @@ fn made_around(
     rows: RowRange,
 ) -> Result<(RowMajorMatrix<F7>, F7), LookupError> {
     let main = around(rt, alloc, whole.main, rows);
-    let preprocessed = preprocessed_around(rt, alloc, whole, rows);
+    let own = preprocessed_around(rt, alloc, whole, rows);
+    let preprocessed = own.as_ref();
     let traces = Traces {
         main: &main,
-        preprocessed: preprocessed.as_ref(),
+        preprocessed,
         public_values: whole.public_values,
     };
     if let Some(trace) = traces.preprocessed {
@@ -163,12 +164,13 @@ fn until_around(
     rows: RowRange,
 ) -> usize {
     let main = around(rt, alloc, whole.main, rows);
-    let preprocessed = preprocessed_around(rt, alloc, whole, rows);
+    let own = preprocessed_around(rt, alloc, whole, rows);
+    let preprocessed = own.as_ref();
     let aux = around(rt, alloc, aux, rows);
     let part = BatchInstance {
         lookups: whole.lookups,
         main: &main,
-        preprocessed: preprocessed.as_ref(),
+        preprocessed,
         public_values: whole.public_values,
         ids: whole.ids,
     };
@@ -352,12 +354,13 @@ fn each_range_with_a_preprocessed_trace(rt: HostRuntime) {
     let alloc = rt.alloc();
     let lookups = [seeing_fixed(&rt, alloc)];
     let main = trace(&rt, alloc, FIVE_ROWS.as_slice(), 2);
-    let preprocessed = trace(&rt, alloc, FIVE_CELLS.as_slice(), 1);
+    let cells = trace(&rt, alloc, FIVE_CELLS.as_slice(), 1);
+    let preprocessed = Some(&cells);
     let public_values = [F7::from_u32(2)];
     let airs = [BatchInstance {
         lookups: lookups.as_slice(),
         main: &main,
-        preprocessed: Some(&preprocessed),
+        preprocessed,
         public_values: public_values.as_slice(),
         ids: &[0],
     }];

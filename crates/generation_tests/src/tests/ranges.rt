@@ -29,13 +29,12 @@ fn rows_of(
         lookups,
         challenges,
     } = inputs;
-    let no_values: Vec<F7> = Vec::new(alloc);
     let traces = Traces {
         main,
         preprocessed: None,
-        public_values: no_values.as_slice(),
+        public_values: &[],
     };
-    let layout = AirLayout::of_traces(main, None, no_values.as_slice());
+    let layout = AirLayout::of_traces(main, None, &[]);
     assert!(rt; fits(lookups, &layout) && lookups.len() <= challenges.len() / 2);
     assert!(rt; first <= end && end <= main.height());
     let mut count = InverseCount::new();
@@ -232,13 +231,12 @@ fn two_rows_from_ranges(rt: HostRuntime) {
     let lookups = [range(&rt, alloc, 0)];
     let lookups = lookups.as_slice();
     let challenges = [F7::new(0), F7::new(2)];
-    let no_values: Vec<F7> = Vec::new(alloc);
     let traces = Traces {
         main: &main,
         preprocessed: None,
-        public_values: no_values.as_slice(),
+        public_values: &[],
     };
-    let layout = AirLayout::of_traces(&main, None, no_values.as_slice());
+    let layout = AirLayout::of_traces(&main, None, &[]);
     assert!(rt; fits(lookups, &layout) && main.height() == 2);
     let one = generate_in_ranges(alloc, &traces, lookups, &challenges, &[2]);
     let two = generate_in_ranges(alloc, &traces, lookups, &challenges, &[1, 2]);
@@ -266,13 +264,12 @@ fn made_in_ranges(
         lookups,
         challenges,
     } = inputs;
-    let no_values: Vec<F7> = Vec::new(alloc);
     let traces = Traces {
         main,
         preprocessed: None,
-        public_values: no_values.as_slice(),
+        public_values: &[],
     };
-    let layout = AirLayout::of_traces(main, None, no_values.as_slice());
+    let layout = AirLayout::of_traces(main, None, &[]);
     assert!(rt; fits(lookups, &layout) && lookups.len() <= challenges.len() / 2);
     assert!(rt; first <= second && second <= third && third <= last);
     assert!(rt; last == main.height());
@@ -363,13 +360,12 @@ fn no_rows_from_ranges(rt: HostRuntime) {
     let lookups = [range(&rt, alloc, 0)];
     let lookups = lookups.as_slice();
     let challenges = [F7::new(6), F7::new(2)];
-    let no_values: Vec<F7> = Vec::new(alloc);
     let traces = Traces {
         main: &main,
         preprocessed: None,
-        public_values: no_values.as_slice(),
+        public_values: &[],
     };
-    let layout = AirLayout::of_traces(&main, None, no_values.as_slice());
+    let layout = AirLayout::of_traces(&main, None, &[]);
     assert!(rt; fits(lookups, &layout) && main.height() == 0);
     let made = generate_in_ranges(alloc, &traces, lookups, &challenges, &[]);
     let (rows, terminal) = made.expect(&rt, "no fault");
