@@ -3,7 +3,9 @@ use super::{alone, are_below, cell, holds, instance, range, table, terminal, tra
 use air::{
     AirLayout, BaseEntry, BaseLeaf, Expression, SymbolicExpression, SymbolicVariable, Traces,
 };
-use checker::{BatchInstance, check_in_ranges, check_shape, instance_fits, rows_hold_until};
+use checker::{
+    BatchInstance, check_in_ranges, check_shape, checks_join, instance_fits, rows_hold_until,
+};
 use field::{ExtensionField, F7, Field, PrimeCharacteristicRing};
 use lookup::{Challenges, Kind, Lookup, LookupError, LookupTerminal, fits};
 use lookup_generation::shift;
@@ -64,6 +66,7 @@ fn ranges_of_two_rows(rt: HostRuntime) {
 /// one is named.
 #[test]
 fn an_air_checked_in_ranges(rt: HostRuntime) {
+    checks_join::<F7, F7>();
     let alloc = rt.alloc();
     let main = trace(&rt, alloc, &[3, 4, 1, 4, 3, 1], 3);
     let lookups = [range(&rt, alloc)];

@@ -3,7 +3,7 @@ use super::{Made, are_numbers, generate, holds, range, trace};
 use air::{AirLayout, Traces};
 use field::{F7, InverseCount, PrimeCharacteristicRing};
 use lookup::{Lookup, LookupError, LookupTerminal, fits};
-use lookup_generation::{generate_in_ranges, generate_rows, shift};
+use lookup_generation::{generate_in_ranges, generate_rows, ranges_join, shift};
 use matrix::RowMajorMatrix;
 use std::alloc::Global;
 use std::process::Abort;
@@ -226,6 +226,7 @@ fn a_range_without_lookups(rt: HostRuntime) {
 /// The two rows from one range, from two, and with empty ranges between.
 #[test]
 fn two_rows_from_ranges(rt: HostRuntime) {
+    ranges_join::<F7, F7>();
     let alloc = rt.alloc();
     let main = trace(&rt, alloc, &[3, 4, 1, 4, 3, 1], 3);
     let lookups = [range(&rt, alloc, 0)];
