@@ -128,60 +128,62 @@ fn preprocessed_around(
     }
 }
 
+/// One AIR whose lookup has the id 0.
+fn one_air<'a>(
+    lookups: &'a [Lookup<F7>],
+    main: &'a RowMajorMatrix<F7>,
+    preprocessed: Option<&'a RowMajorMatrix<F7>>,
+    public_values: &'a [F7],
+) -> BatchInstance<'a, F7> {
+    BatchInstance {
+        lookups,
+        main,
+        preprocessed,
+        public_values,
+        ids: &[0],
+    }
+}
+
 /// What is made of a range of rows, from the rows around it.
 fn made_around(
     rt: &impl Abort,
     alloc: Global,
-    whole: &BatchInstance<'_, F7>,
+    part: &BatchInstance<'_, F7>,
     challenges: &Challenges<F7>,
     rows: RowRange,
 ) -> Result<(RowMajorMatrix<F7>, F7), LookupError> {
-    let main = around(rt, alloc, whole.main, rows);
-    let own = preprocessed_around(rt, alloc, whole, rows);
-    let preprocessed = own.as_ref();
-    let traces = Traces {
-        main: &main,
-        preprocessed,
-        public_values: whole.public_values,
-    };
-    if let Some(trace) = traces.preprocessed {
-        assert!(rt; trace.height() == main.height());
+    if let Some(trace) = part.preprocessed {
+        assert!(rt; trace.height() == part.main.height());
     }
-    let layout = AirLayout::of_traces(traces.main, traces.preprocessed, traces.public_values);
-    assert!(rt; fits(whole.lookups, &layout) && whole.lookups.len() == 1);
+    let traces = Traces {
+        main: part.main,
+        preprocessed: part.preprocessed,
+        public_values: part.public_values,
+    };
+    let layout = AirLayout::of_traces(part.main, part.preprocessed, part.public_values);
+    assert!(rt; fits(part.lookups, &layout) && part.lookups.len() == 1);
     assert!(rt; rows.first < rows.end && rows.end <= rows.height);
-    assert!(rt; main.height() == rows.rows_around());
+    assert!(rt; part.main.height() == rows.rows_around());
     assert!(rt; challenges.bus_prefix.len() > 0);
     let columns = [challenges.bus_prefix[0], challenges.beta];
-    generate_around(alloc, &traces, whole.lookups, &columns, rows)
+    generate_around(alloc, &traces, part.lookups, &columns, rows)
 }
 
 /// Up to which row of a range the constraints hold, from the rows around it.
 fn until_around(
     rt: &impl Abort,
     alloc: Global,
-    whole: &BatchInstance<'_, F7>,
+    part: &BatchInstance<'_, F7>,
     challenges: &Challenges<F7>,
     aux: &RowMajorMatrix<F7>,
     terminal: &Option<LookupTerminal<F7>>,
     rows: RowRange,
 ) -> usize {
-    let main = around(rt, alloc, whole.main, rows);
-    let own = preprocessed_around(rt, alloc, whole, rows);
-    let preprocessed = own.as_ref();
-    let aux = around(rt, alloc, aux, rows);
-    let part = BatchInstance {
-        lookups: whole.lookups,
-        main: &main,
-        preprocessed,
-        public_values: whole.public_values,
-        ids: whole.ids,
-    };
-    assert!(rt; instance_fits(&part) && are_below(part.ids, challenges.bus_prefix.len()));
+    assert!(rt; instance_fits(part) && are_below(part.ids, challenges.bus_prefix.len()));
     assert!(rt; rows.first < rows.end && rows.end <= rows.height);
     assert!(rt; part.main.height() == rows.rows_around());
-    match check_shape(0, &part, &aux, terminal) {
-        Ok(()) => rows_hold_around(alloc, &part, challenges, &aux, terminal, rows).expect(
+    match check_shape(0, part, aux, terminal) {
+        Ok(()) => rows_hold_around(alloc, part, challenges, aux, terminal, rows).expect(
             rt, "memory",
         ),
         Err(_) => panic!(rt; "another shape"),
@@ -250,7 +252,11 @@ fn expect_part(
     terminal: &Option<LookupTerminal<F7>>,
     rows: RowRange,
 ) {
-    let made = made_around(rt, alloc, air, challenges, rows);
+    let main = around(rt, alloc, air.main, rows);
+    let preprocessed = preprocessed_around(rt, alloc, air, rows);
+    let values = air.public_values;
+    let part = one_air(air.lookups, &main, preprocessed.as_ref(), values);
+    let made = made_around(rt, alloc, &part, challenges, rows);
     let (part, sum) = made.expect(rt, "no fault");
     let cells = whole.values();
     let (from, to) = (rows.first.saturating_mul(2), rows.end.saturating_mul(2));
@@ -326,6 +332,10 @@ fn expect_checks(
     terminal: &Option<LookupTerminal<F7>>,
     rows: RowRange,
 ) {
+    let main = around(rt, alloc, air.main, rows);
+    let preprocessed = preprocessed_around(rt, alloc, air, rows);
+    let values = air.public_values;
+    let part = one_air(air.lookups, &main, preprocessed.as_ref(), values);
     for changed in 0..12usize {
         let aux = changed_at(rt, alloc, whole, changed);
         let more = F7::from_bool(changed == 10);
@@ -337,7 +347,8 @@ fn expect_checks(
         let in_whole = (rows.first, rows.end);
         let found = until(rt, alloc, air, challenges, &aux, &last, in_whole);
         holds(rt, "of the whole", found == wanted);
-        let found = until_around(rt, alloc, air, challenges, &aux, &last, rows);
+        let own = around(rt, alloc, &aux, rows);
+        let found = until_around(rt, alloc, &part, challenges, &own, &last, rows);
         holds(rt, "of the rows around", found == wanted);
     }
 }
@@ -357,16 +368,14 @@ fn each_range_with_a_preprocessed_trace(rt: HostRuntime) {
     let alloc = rt.alloc();
     let lookups = [seeing_fixed(&rt, alloc)];
     let main = trace(&rt, alloc, FIVE_ROWS.as_slice(), 2);
-    let cells = trace(&rt, alloc, FIVE_CELLS.as_slice(), 1);
-    let preprocessed = Some(&cells);
-    let public_values = [F7::from_u32(2)];
-    let airs = [BatchInstance {
-        lookups: lookups.as_slice(),
-        main: &main,
-        preprocessed,
-        public_values: public_values.as_slice(),
-        ids: &[0],
-    }];
+    let preprocessed = trace(&rt, alloc, FIVE_CELLS.as_slice(), 1);
+    let values = [F7::from_u32(2)];
+    let airs = [one_air(
+        lookups.as_slice(),
+        &main,
+        Some(&preprocessed),
+        values.as_slice(),
+    )];
     expect_parts(&rt, alloc, airs.as_slice());
 }
 
@@ -377,7 +386,6 @@ fn the_fault_of_each_range_from_the_rows_around_it(rt: HostRuntime) {
     let alloc = rt.alloc();
     let lookups = [seeing(&rt, alloc)];
     let main = trace(&rt, alloc, FIVE_ROWS.as_slice(), 2);
-    let air = instance(lookups.as_slice(), &main, &[0]);
     let challenges = table(&rt, alloc, 5, 2, 1);
     for first in 0..5usize {
         for end in first + 1..6 {
@@ -386,6 +394,8 @@ fn the_fault_of_each_range_from_the_rows_around_it(rt: HostRuntime) {
                 end,
                 height: 5,
             };
+            let part = around(&rt, alloc, &main, rows);
+            let air = instance(lookups.as_slice(), &part, &[0]);
             let made = made_around(&rt, alloc, &air, &challenges, rows);
             let fault = LookupError::VanishingDenominator { row: 1, lookup: 0 };
             let wanted = if first <= 1 && 1 < end {
