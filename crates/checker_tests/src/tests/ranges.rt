@@ -62,6 +62,23 @@ fn ranges_of_two_rows(rt: HostRuntime) {
     }
 }
 
+/// What the check of AIR 3 says in two ranges of rows, of which the first ends at `middle`.
+fn checked_in_two(
+    rt: &impl Abort,
+    alloc: Global,
+    air: &BatchInstance<'_, F7>,
+    challenges: &Challenges<F7>,
+    aux: &RowMajorMatrix<F7>,
+    terminal: &Option<LookupTerminal<F7>>,
+    middle: usize,
+) -> Result<(), LookupError> {
+    let height = air.main.height();
+    assert!(rt; instance_fits(air) && are_below(air.ids, challenges.bus_prefix.len()));
+    assert!(rt; middle <= height);
+    let ends = [middle, height];
+    check_in_ranges(alloc, 3, air, challenges, aux, terminal, ends.as_slice())
+}
+
 /// The same rows, checked one after the other: a changed fraction is refused at its row, and of two the first
 /// one is named.
 #[test]
@@ -72,8 +89,6 @@ fn an_air_checked_in_ranges(rt: HostRuntime) {
     let lookups = [range(&rt, alloc)];
     let air = instance(lookups.as_slice(), &main, &[0]);
     let challenges = table(&rt, alloc, 5, 2, 1);
-    assert!(rt; instance_fits(&air) && are_below(air.ids, challenges.bus_prefix.len()));
-    assert!(rt; main.height() == 2);
     let last = terminal(0);
     for (cells, failing) in [
         ([0u32, 4, 4, 3], None),
@@ -82,12 +97,12 @@ fn an_air_checked_in_ranges(rt: HostRuntime) {
         ([0, 5, 4, 4], Some(0)),
     ] {
         let aux = trace(&rt, alloc, cells.as_slice(), 2);
-        let answer = check_in_ranges(alloc, 3, &air, &challenges, &aux, &last, &[1, 2]);
+        let answer = checked_in_two(&rt, alloc, &air, &challenges, &aux, &last, 1);
         let failed = failing.map(|row| LookupError::ConstraintFailed { air: 3, row });
         holds(&rt, "the answer", answer.err() == failed);
     }
     let narrow = trace(&rt, alloc, &[0, 4], 1);
-    let refused = check_in_ranges(alloc, 3, &air, &challenges, &narrow, &last, &[2]);
+    let refused = checked_in_two(&rt, alloc, &air, &challenges, &narrow, &last, 2);
     let width = LookupError::PermutationWidthMismatch {
         air: 3,
         expected: 2,
