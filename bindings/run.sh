@@ -19,12 +19,22 @@ is_missing() {
     echo "bindings/run.sh: $1 is missing, so $2" >&2
 }
 
-# The first block of a language in a file.
+# A block of a language in a file, the first one unless it is said which.
 block() {
-    awk -v start="\`\`\`$2" '$0 == "```" { on = 0 } on { print } $0 == start && !n++ { on = 1 }' "$1"
+    awk -v start="\`\`\`$2" -v which="${3:-1}" \
+        '$0 == "```" { on = 0 } on { print } $0 == start && ++n == which { on = 1 }' "$1"
 }
 
-# The header alone, as C99 and as C++17, then the test, and then the program of docs/C.md.
+# Builds a program of docs/C.md, and compares what it writes with what is shown there.
+run_program() {
+    block docs/C.md c "$1" >"$work/program.c"
+    block docs/C.md text "$1" >"$work/expected"
+    gcc $flags -std=c99 -Ibindings/c "$work/program.c" -o "$work/program" "$library" "$heap" -lpthread
+    "$work/program" >"$work/output"
+    diff "$work/expected" "$work/output"
+}
+
+# The header alone, as C99 and as C++17, then the test, and then the programs of docs/C.md.
 test_c() {
     flags="-Wall -Wextra -Werror -pedantic -O1"
     printf '#include "volgwain.h"\n' >"$work/header.c"
@@ -37,12 +47,9 @@ test_c() {
     gcc $flags -std=c99 -Ibindings/c bindings/c/test.c -o "$work/test" "$library" "$heap" -lpthread \
         -Wl,--wrap=malloc,--wrap=realloc,--wrap=free
     "$work/test"
-    block docs/C.md c >"$work/program.c"
-    block docs/C.md text >"$work/expected"
-    gcc $flags -std=c99 -Ibindings/c "$work/program.c" -o "$work/program" "$library" "$heap"
-    "$work/program" >"$work/output"
-    diff "$work/expected" "$work/output"
-    echo "the program of docs/C.md writes what is shown there"
+    run_program 1
+    run_program 2
+    echo "the programs of docs/C.md write what is shown there"
 }
 
 # The tests of the crate, and of its documentation.

@@ -50,6 +50,7 @@ static void check_sizes(void)
     SIZE(counts, 88);
     SIZE(height_counts, 56);
     SIZE(grid, 40);
+    SIZE(rows, 24);
 }
 
 /* ---- memory: how many blocks are live, how many were asked for, and which requests are refused ---- */
@@ -1220,6 +1221,531 @@ static void check_debugging(void)
     check(debug_check(&it, 1) == VOLGWAIN_DOES_NOT_FIT, "a column past the trace");
 }
 
+/* ---- ranges of rows: three lookups that see the next row, all selectors, and both traces ----
+
+   On a bus, column 0 and the preprocessed trace on the next row, counted by column 1; locally, column 0 once and
+   the public value as the selectors say; and the preprocessed trace thrice where the flag in column 2 is set. */
+
+#define MOST_HEIGHT 6
+#define WIDTH 4
+
+static const struct volgwain_node cut_nodes[14] = {
+    {VOLGWAIN_MAIN, 1, 0}, {VOLGWAIN_PREPROCESSED, 1, 0}, {VOLGWAIN_MAIN, 0, 0}, {VOLGWAIN_PUBLIC, 0, 0},
+    {VOLGWAIN_MAIN, 0, 1}, {VOLGWAIN_CONSTANT, 1, 0}, {VOLGWAIN_FIRST_ROW, 0, 0},
+    {VOLGWAIN_LAST_ROW, 0, 0}, {VOLGWAIN_DIFFERENCE, 0, 0}, {VOLGWAIN_TRANSITION, 0, 0},
+    {VOLGWAIN_SUM, 0, 0}, {VOLGWAIN_PREPROCESSED, 0, 0}, {VOLGWAIN_MAIN, 0, 2},
+    {VOLGWAIN_CONSTANT, 3, 0}};
+static const struct volgwain_span cut_tuples[4] = {{0, 2}, {2, 3}, {3, 4}, {11, 12}};
+static const uint8_t cut_names[1] = {'k'};
+static const struct volgwain_record cut_records[3] = {
+    {1, 0, 1, {0, 1}, {0, 1}, {4, 5}, {0, 0}},
+    {0, 0, 1, {0, 0}, {1, 3}, {5, 11}, {0, 0}},
+    {0, 1, 1, {0, 0}, {3, 4}, {13, 14}, {12, 13}}};
+
+struct cut {
+    struct volgwain_node nodes[14];
+    struct volgwain_record records[3];
+    struct volgwain_air air;
+    uint32_t main[3 * MOST_HEIGHT], preprocessed[MOST_HEIGHT], public_values[1];
+    struct volgwain_traces traces; /* the whole trace */
+    struct volgwain_element whole[WIDTH * MOST_HEIGHT];
+    struct volgwain_terminal terminal;
+    size_t ids[4], ids_length;
+    struct volgwain_plan_sizes sizes;
+    struct volgwain_element alpha, beta;
+    struct volgwain_rows rows; /* a range, and what is around it */
+    uint32_t main_around[3 * MOST_HEIGHT], preprocessed_around[MOST_HEIGHT];
+    struct volgwain_traces around;
+    struct volgwain_element auxiliary[WIDTH * MOST_HEIGHT];
+    size_t auxiliary_length;
+    struct volgwain_element sum;
+    struct volgwain_element cells_around[WIDTH * MOST_HEIGHT];
+    struct volgwain_air_witness witness;
+    struct volgwain_refusal refusal;
+    char text[300];
+};
+
+/* an AIR that is so high, with numbers that the plan of this AIR alone gives */
+static void make_cut(struct cut *it, size_t height)
+{
+    static const struct volgwain_element alpha = {{5, 1, 0, 0}}, beta = {{2, 0, 3, 0}};
+    size_t row;
+    memset(it, 9, sizeof *it);
+    memcpy(it->nodes, cut_nodes, sizeof cut_nodes);
+    memcpy(it->records, cut_records, sizeof cut_records);
+    it->air.tables.nodes = it->nodes;
+    it->air.tables.nodes_length = COUNT(cut_nodes);
+    it->air.tables.tuples = cut_tuples;
+    it->air.tables.tuples_length = COUNT(cut_tuples);
+    it->air.tables.names = cut_names;
+    it->air.tables.names_length = 1;
+    it->air.tables.records = it->records;
+    it->air.tables.records_length = 3;
+    it->air.height = height;
+    for (row = 0; row < MOST_HEIGHT; row++) {
+        it->main[3 * row] = (uint32_t)(3 + row * row);
+        it->main[3 * row + 1] = (uint32_t)(row + 1);
+        it->main[3 * row + 2] = row % 2;
+        it->preprocessed[row] = (uint32_t)(11 + 5 * row);
+    }
+    it->public_values[0] = 17;
+    it->traces.main = it->main;
+    it->traces.main_length = 3 * height;
+    it->traces.main_width = 3;
+    it->traces.preprocessed = it->preprocessed;
+    it->traces.preprocessed_length = height;
+    it->traces.preprocessed_width = 1;
+    it->traces.public_values = it->public_values;
+    it->traces.public_values_length = 1;
+    for (row = 0; row < 3; row++)
+        it->ids[row] = row;
+    it->ids_length = 3;
+    it->sizes.max_message_width = 2;
+    it->sizes.num_ids = 3;
+    it->alpha = alpha;
+    it->beta = beta;
+}
+
+static uint32_t generate_whole(struct cut *it)
+{
+    return volgwain_generate_by_ids(&it->air.tables, &it->traces, it->ids, it->ids_length, &it->sizes,
+        &it->alpha, &it->beta, it->whole, WIDTH * it->air.height, &it->terminal, &it->refusal, it->text,
+        sizeof it->text);
+}
+
+static uint32_t verify_whole(struct cut *it)
+{
+    struct volgwain_air_witness witness;
+    witness.auxiliary = it->whole;
+    witness.auxiliary_length = WIDTH * it->air.height;
+    witness.width = WIDTH;
+    witness.terminal = it->terminal;
+    return volgwain_verify(&it->air, 1, &it->traces, 1, &it->alpha, &it->beta, &witness, 1, &it->refusal,
+        it->text, sizeof it->text);
+}
+
+/* one row more around a range */
+static void put_around(struct cut *it, size_t *count, size_t row)
+{
+    memcpy(&it->main_around[3 * *count], &it->main[3 * row], 3 * sizeof *it->main);
+    it->preprocessed_around[*count] = it->preprocessed[row];
+    memcpy(&it->cells_around[WIDTH * *count], &it->whole[WIDTH * row], WIDTH * sizeof *it->whole);
+    (*count)++;
+}
+
+/* what is around the rows from first up to end, and room for these rows */
+static void take_rows(struct cut *it, size_t first, size_t end)
+{
+    size_t height = it->air.height;
+    size_t count = 0, row;
+    memset(it->main_around, 9, sizeof it->main_around);
+    memset(it->preprocessed_around, 9, sizeof it->preprocessed_around);
+    memset(it->cells_around, 9, sizeof it->cells_around);
+    memset(it->auxiliary, 9, sizeof it->auxiliary);
+    memset(&it->sum, 9, sizeof it->sum);
+    if (first != 0)
+        put_around(it, &count, 0);
+    for (row = first; row < end; row++)
+        put_around(it, &count, row);
+    if (end != height)
+        put_around(it, &count, end);
+    it->rows.first = first;
+    it->rows.end = end;
+    it->rows.height = height;
+    it->around.main = it->main_around;
+    it->around.main_length = 3 * count;
+    it->around.main_width = 3;
+    it->around.preprocessed = it->preprocessed_around;
+    it->around.preprocessed_length = count;
+    it->around.preprocessed_width = 1;
+    it->around.public_values = it->public_values;
+    it->around.public_values_length = 1;
+    it->auxiliary_length = WIDTH * (end - first);
+    it->witness.auxiliary = it->cells_around;
+    it->witness.auxiliary_length = WIDTH * count;
+    it->witness.width = WIDTH;
+    it->witness.terminal = it->terminal;
+}
+
+static uint32_t generate_rows(struct cut *it)
+{
+    return volgwain_generate_rows(&it->air.tables, &it->around, &it->rows, it->ids, it->ids_length,
+        &it->sizes, &it->alpha, &it->beta, it->auxiliary, it->auxiliary_length, &it->sum, &it->refusal,
+        it->text, sizeof it->text);
+}
+
+static uint32_t verify_rows(struct cut *it)
+{
+    return volgwain_verify_rows(&it->air.tables, &it->around, &it->rows, it->ids, it->ids_length,
+        &it->sizes, &it->alpha, &it->beta, &it->witness, &it->refusal, it->text, sizeof it->text);
+}
+
+static uint32_t shift(struct cut *it, struct volgwain_element *cells, size_t length, size_t width,
+    const struct volgwain_element *offset)
+{
+    return volgwain_shift(cells, length, width, offset, &it->refusal, it->text, sizeof it->text);
+}
+
+static int has_kept_rows(const struct cut *it)
+{
+    struct volgwain_element cells[WIDTH * MOST_HEIGHT], sum;
+    memset(cells, 9, sizeof cells);
+    memset(&sum, 9, sizeof sum);
+    return memcmp(it->auxiliary, cells, sizeof cells) == 0 && memcmp(&it->sum, &sum, sizeof sum) == 0;
+}
+
+/* The end of the range that begins at a row: bit r of a cut is set where a range ends after row r. */
+static size_t end_of(size_t first, size_t height, unsigned cut)
+{
+    while (first + 1 < height && (cut >> first & 1) == 0)
+        first++;
+    return first + 1;
+}
+
+/* the ranges of a cut, each generated alone, shifted, and joined: they are what is generated at once */
+static void check_cut(size_t height, unsigned cut)
+{
+    struct volgwain_element joined[WIDTH * MOST_HEIGHT], sum = {{0, 0, 0, 0}};
+    struct volgwain_terminal terminal;
+    struct cut it;
+    size_t first, end;
+    make_cut(&it, height);
+    check(generate_whole(&it) == VOLGWAIN_OK, "the trace is generated at once");
+    for (first = 0; first < height; first = end) {
+        end = end_of(first, height, cut);
+        take_rows(&it, first, end);
+        check(generate_rows(&it) == VOLGWAIN_OK && it.refusal.code == 0 && is_base(&it.auxiliary[0], 0),
+            "a range is generated");
+        check(shift(&it, it.auxiliary, it.auxiliary_length, WIDTH, &sum) == VOLGWAIN_OK, "and shifted");
+        memcpy(&joined[WIDTH * first], it.auxiliary, it.auxiliary_length * sizeof *joined);
+        check(shift(&it, &sum, 1, 1, &it.sum) == VOLGWAIN_OK, "sums are added");
+        check(verify_rows(&it) == VOLGWAIN_OK && it.refusal.code == 0, "a range is accepted");
+    }
+    terminal.present = 1;
+    terminal.value = sum;
+    check(memcmp(joined, it.whole, WIDTH * height * sizeof *joined) == 0
+            && memcmp(&terminal, &it.terminal, sizeof terminal) == 0,
+        "the ranges of a cut join");
+}
+
+/* the first row that a check of the ranges of a cut refuses, or the height */
+static size_t first_refused(struct cut *it, unsigned cut)
+{
+    size_t height = it->air.height;
+    size_t first, end;
+    for (first = 0; first < height; first = end) {
+        uint32_t code;
+        end = end_of(first, height, cut);
+        take_rows(it, first, end);
+        code = verify_rows(it);
+        if (code == VOLGWAIN_CONSTRAINT_FAILED && it->refusal.air == 0 && it->refusal.row >= first
+            && it->refusal.row < end)
+            return it->refusal.row;
+        check(code == VOLGWAIN_OK, "a range with no changed cell is accepted");
+    }
+    return height;
+}
+
+/* a witness in which something is changed: every cut refuses the row that the whole check refuses */
+static void check_changed(struct cut *it)
+{
+    size_t height = it->air.height;
+    unsigned cut;
+    size_t row;
+    check(verify_whole(it) == VOLGWAIN_CONSTRAINT_FAILED, "a changed witness is refused at once");
+    row = it->refusal.row;
+    for (cut = 0; cut < 1u << (height - 1); cut++)
+        check(first_refused(it, cut) == row, "and in ranges, at the same row");
+}
+
+static void check_cuts(void)
+{
+    size_t height;
+    for (height = 1; height <= MOST_HEIGHT; height++) {
+        struct cut it;
+        unsigned cut;
+        size_t cell;
+        for (cut = 0; cut < 1u << (height - 1); cut++)
+            check_cut(height, cut);
+        make_cut(&it, height);
+        generate_whole(&it);
+        check(verify_whole(&it) == VOLGWAIN_TERMINAL_SUM, "each constraint is zero");
+        for (cell = 0; cell < WIDTH * height; cell++) {
+            struct volgwain_element before = it.whole[cell];
+            it.whole[cell].c[cell % 4] ^= 1;
+            check_changed(&it);
+            it.whole[cell] = before;
+        }
+        it.terminal.value.c[2] ^= 1;
+        check_changed(&it);
+        check(it.refusal.row == height - 1, "the terminal is seen on the last row");
+    }
+}
+
+/* Each range of a trace of six rows, with faults on some rows: the first of them that is in the range. */
+static void check_faults(const struct cut *faulty, const char *what, const size_t *rows, const uint32_t *codes,
+    const size_t *lookups, size_t count)
+{
+    size_t first, end, i;
+    for (first = 0; first < MOST_HEIGHT; first++)
+        for (end = first + 1; end <= MOST_HEIGHT; end++) {
+            struct cut it = *faulty;
+            uint32_t code;
+            it.air.tables.nodes = it.nodes;
+            it.air.tables.records = it.records;
+            take_rows(&it, first, end);
+            code = generate_rows(&it);
+            for (i = 0; i < count && (rows[i] < first || rows[i] >= end); i++)
+                ;
+            if (i == count) {
+                check(code == VOLGWAIN_OK && is_base(&it.auxiliary[0], 0), what);
+                continue;
+            }
+            check(code == codes[i] && it.refusal.code == code && it.refusal.air == 0
+                    && it.refusal.row == rows[i] && it.refusal.lookup == lookups[i]
+                    && it.refusal.text_length > 0,
+                what);
+            check(has_kept_rows(&it), what);
+        }
+}
+
+static void check_faults_of_rows(void)
+{
+    static const uint32_t codes[2] = {VOLGWAIN_VANISHING_DENOMINATOR, VOLGWAIN_VANISHING_DENOMINATOR};
+    static const uint32_t no_flag[1] = {VOLGWAIN_FLAG_NOT_BOOLEAN};
+    static const size_t rows[2] = {1, 3}, lookups[2] = {2, 1};
+    static const size_t third[1] = {2};
+    struct cut it;
+    size_t row;
+    /* The prefixes of the ids 1 and 2 are 4 + 2 * 4 and 4 + 3 * 4: column 0 is 12 on row 3, and the preprocessed
+       trace is 16 on row 1, where its flag is set. */
+    make_cut(&it, MOST_HEIGHT);
+    it.alpha.c[0] = 4;
+    it.alpha.c[1] = 0;
+    it.beta.c[2] = 0;
+    check_faults(&it, "denominators that vanish", rows, codes, lookups, 2);
+    for (row = 0; row < MOST_HEIGHT; row++) {
+        make_cut(&it, MOST_HEIGHT);
+        it.main[3 * row + 2] = 2;
+        check_faults(&it, "a flag of two", &row, no_flag, third, 1);
+    }
+    take_rows(&it, 5, 6);
+    check(generate_rows(&it) == VOLGWAIN_FLAG_NOT_BOOLEAN
+            && has_text(&it.refusal, it.text, "air 0: row 5, lookup 2: exclusive flag must be boolean"),
+        "the text of a fault in a range");
+    /* two flags of one lookup */
+    make_cut(&it, MOST_HEIGHT);
+    it.records[1].exclusive = 1;
+    it.nodes[2].index = 2;
+    it.nodes[3].kind = VOLGWAIN_MAIN;
+    it.nodes[3].index = 2;
+    it.records[1].flags.start = 2;
+    it.records[1].flags.end = 4;
+    take_rows(&it, 2, 5);
+    check(generate_rows(&it) == VOLGWAIN_FLAGS_NOT_EXCLUSIVE && it.refusal.row == 3
+            && it.refusal.lookup == 1 && has_kept_rows(&it),
+        "two flags in a range");
+}
+
+/* a call on a range is refused with these places, and has written nothing else */
+static void check_rows_refused(struct cut *it, const char *what, uint32_t answer, uint32_t code, uint32_t part,
+    size_t row, size_t expected, size_t actual)
+{
+    const struct volgwain_refusal *r = &it->refusal;
+    check(answer == code && r->code == code && r->part == part && r->air == 0 && r->row == row
+            && r->lookup == 0 && r->expected == expected && r->actual == actual && r->text_length > 0,
+        what);
+    check(has_kept_rows(it), what);
+}
+
+/* both calls on a range are refused so */
+static void check_both_refused(struct cut *it, const char *what, uint32_t code, uint32_t part, size_t row,
+    size_t expected, size_t actual)
+{
+    check_rows_refused(it, what, generate_rows(it), code, part, row, expected, actual);
+    check_rows_refused(it, what, verify_rows(it), code, part, row, expected, actual);
+}
+
+/* the rows 2 and 3 of five, with a whole witness */
+static void make_middle(struct cut *it)
+{
+    make_cut(it, 5);
+    generate_whole(it);
+    take_rows(it, 2, 4);
+}
+
+static void check_refused_rows(void)
+{
+    struct cut it;
+    make_middle(&it);
+    it.records[0].multiplicities.end = 15;
+    check_both_refused(&it, "a range past the nodes", VOLGWAIN_BAD_TABLE, 2, 0, 0, 0);
+    make_middle(&it);
+    it.around.main_length = 11;
+    check_both_refused(&it, "ragged", VOLGWAIN_NO_WHOLE_ROWS, VOLGWAIN_PART_MAIN, 0, 0, 0);
+    make_middle(&it);
+    it.main_around[7] = VOLGWAIN_MODULUS;
+    check_both_refused(&it, "a cell", VOLGWAIN_BAD_NUMBER, VOLGWAIN_PART_MAIN, 7, 0, 0);
+    make_middle(&it);
+    it.preprocessed_around[3] = VOLGWAIN_MODULUS;
+    check_both_refused(&it, "a preprocessed cell", VOLGWAIN_BAD_NUMBER, VOLGWAIN_PART_PREPROCESSED, 3, 0, 0);
+    make_middle(&it);
+    it.public_values[0] = VOLGWAIN_MODULUS;
+    check_both_refused(&it, "a public value", VOLGWAIN_BAD_NUMBER, VOLGWAIN_PART_PUBLIC_VALUES, 0, 0, 0);
+    make_middle(&it);
+    it.alpha.c[3] = VOLGWAIN_MODULUS;
+    check_both_refused(&it, "alpha", VOLGWAIN_BAD_NUMBER, VOLGWAIN_PART_ALPHAS, 0, 0, 0);
+    make_middle(&it);
+    it.beta.c[1] = VOLGWAIN_MODULUS;
+    check_both_refused(&it, "beta", VOLGWAIN_BAD_NUMBER, VOLGWAIN_PART_BETAS, 0, 0, 0);
+    make_middle(&it);
+    it.ids_length = 4;
+    check_both_refused(&it, "four ids", VOLGWAIN_BAD_LENGTH, VOLGWAIN_PART_IDS, 0, 3, 4);
+    make_middle(&it);
+    it.sizes.max_message_width = 0;
+    check_both_refused(&it, "width 0", VOLGWAIN_BAD_NUMBER, VOLGWAIN_PART_SIZES, 0, 0, 0);
+    make_middle(&it);
+    it.ids[2] = 3;
+    check_both_refused(&it, "id 3 of 3", VOLGWAIN_BAD_NUMBER, VOLGWAIN_PART_IDS, 2, 0, 0);
+    make_middle(&it);
+    it.nodes[4].index = 3;
+    check_both_refused(&it, "a column past the trace", VOLGWAIN_DOES_NOT_FIT, 0, 0, 0, 0);
+    make_middle(&it);
+    it.around.preprocessed_length = 3;
+    check_both_refused(
+        &it, "three rows beside four", VOLGWAIN_OTHER_HEIGHT, VOLGWAIN_PART_PREPROCESSED, 0, 0, 0);
+    make_middle(&it);
+    it.rows.end = 2;
+    check_both_refused(&it, "no rows", VOLGWAIN_BAD_NUMBER, VOLGWAIN_PART_ROWS, 0, 0, 0);
+    check(has_text(&it.refusal, it.text, "the range has no rows, or ends past the height"),
+        "the text of a range");
+    it.rows.end = 1;
+    check_both_refused(&it, "a range that ends before it starts", VOLGWAIN_BAD_NUMBER, VOLGWAIN_PART_ROWS, 0, 0, 0);
+    it.rows.end = 6;
+    check_both_refused(&it, "past the height", VOLGWAIN_BAD_NUMBER, VOLGWAIN_PART_ROWS, 0, 0, 0);
+    it.rows.end = SIZE_MAX;
+    check_both_refused(&it, "far past the height", VOLGWAIN_BAD_NUMBER, VOLGWAIN_PART_ROWS, 0, 0, 0);
+    it.rows.height = SIZE_MAX;
+    check_both_refused(&it, "the most rows", VOLGWAIN_BAD_LENGTH, VOLGWAIN_PART_ROWS, 0, SIZE_MAX - 1, 4);
+    it.rows.first = 0;
+    check_both_refused(&it, "all of the most rows", VOLGWAIN_BAD_LENGTH, VOLGWAIN_PART_ROWS, 0, SIZE_MAX, 4);
+    it.rows.end = 1;
+    check_both_refused(&it, "the first of the most rows", VOLGWAIN_BAD_LENGTH, VOLGWAIN_PART_ROWS, 0, 2, 4);
+    make_middle(&it);
+    it.around.main_length -= 3;
+    it.around.preprocessed_length--;
+    check_both_refused(&it, "no row after", VOLGWAIN_BAD_LENGTH, VOLGWAIN_PART_ROWS, 0, 4, 3);
+    check(has_text(&it.refusal, it.text, "rows: expected 4, got 3"), "the text of the rows around");
+    make_middle(&it);
+    it.rows.height = 4;
+    check_both_refused(&it, "a row after the last one", VOLGWAIN_BAD_LENGTH, VOLGWAIN_PART_ROWS, 0, 3, 4);
+    make_middle(&it);
+    it.rows.first = 0;
+    it.rows.end = 2;
+    check_both_refused(&it, "a row before the first one", VOLGWAIN_BAD_LENGTH, VOLGWAIN_PART_ROWS, 0, 3, 4);
+    make_middle(&it);
+    it.auxiliary_length = 7;
+    check_rows_refused(&it, "room for seven cells", generate_rows(&it), VOLGWAIN_BAD_LENGTH,
+        VOLGWAIN_PART_AUXILIARY, 0, 8, 7);
+    it.auxiliary_length = 9;
+    check_rows_refused(&it, "room for nine cells", generate_rows(&it), VOLGWAIN_BAD_LENGTH,
+        VOLGWAIN_PART_AUXILIARY, 0, 8, 9);
+}
+
+static void check_refused_witness_rows(void)
+{
+    struct cut it;
+    make_middle(&it);
+    check(verify_rows(&it) == VOLGWAIN_OK, "the rows in the middle");
+    it.witness.auxiliary_length = 15;
+    check_rows_refused(&it, "ragged", verify_rows(&it), VOLGWAIN_NO_WHOLE_ROWS, VOLGWAIN_PART_AUXILIARY, 0, 0, 0);
+    it.witness.width = 0;
+    check_rows_refused(&it, "cells without a width", verify_rows(&it), VOLGWAIN_NO_WHOLE_ROWS,
+        VOLGWAIN_PART_AUXILIARY, 0, 0, 0);
+    make_middle(&it);
+    it.cells_around[13].c[2] = VOLGWAIN_MODULUS;
+    check_rows_refused(
+        &it, "a cell", verify_rows(&it), VOLGWAIN_BAD_NUMBER, VOLGWAIN_PART_AUXILIARY, 13, 0, 0);
+    make_middle(&it);
+    it.witness.terminal.value.c[2] = VOLGWAIN_MODULUS;
+    check_rows_refused(
+        &it, "a terminal", verify_rows(&it), VOLGWAIN_BAD_NUMBER, VOLGWAIN_PART_TERMINALS, 0, 0, 0);
+    it.witness.terminal.present = 0;
+    check_rows_refused(&it, "no terminal", verify_rows(&it), VOLGWAIN_TERMINAL_PRESENCE, 0, 0, 1, 0);
+    make_middle(&it);
+    it.witness.width = 2;
+    check_rows_refused(&it, "width 2", verify_rows(&it), VOLGWAIN_AUXILIARY_WIDTH, 0, 0, 4, 0);
+    make_middle(&it);
+    it.witness.auxiliary_length = 12;
+    check_rows_refused(&it, "three rows", verify_rows(&it), VOLGWAIN_AUXILIARY_HEIGHT, 0, 0, 0, 0);
+    make_middle(&it);
+    it.cells_around[9].c[2] ^= 1;
+    check_rows_refused(&it, "a fraction", verify_rows(&it), VOLGWAIN_CONSTRAINT_FAILED, 0, 3, 0, 0);
+    check(has_text(&it.refusal, it.text, "air 0: constraint failed at row 3"), "the text of a row of a range");
+    /* the row after the range is seen by its accumulator alone, and row 0 not at all */
+    make_middle(&it);
+    it.cells_around[1].c[0] ^= 1;
+    it.cells_around[13].c[0] ^= 1;
+    check(verify_rows(&it) == VOLGWAIN_OK, "fractions on other rows");
+    it.cells_around[12].c[0] ^= 1;
+    check_rows_refused(&it, "the next row", verify_rows(&it), VOLGWAIN_CONSTRAINT_FAILED, 0, 3, 0, 0);
+
+    make_cut(&it, 5);
+    it.air.tables.records_length = 0;
+    it.ids_length = 0;
+    take_rows(&it, 1, 3);
+    it.auxiliary_length = 0;
+    check(generate_rows(&it) == VOLGWAIN_OK && is_base(&it.sum, 0), "no lookups, no cells");
+    it.witness.auxiliary_length = 0;
+    it.witness.width = 0;
+    it.witness.terminal.present = 0;
+    check(verify_rows(&it) == VOLGWAIN_OK, "and no constraints");
+    it.witness.terminal.present = 1;
+    memset(&it.witness.terminal.value, 0, sizeof it.witness.terminal.value);
+    check(verify_rows(&it) == VOLGWAIN_TERMINAL_PRESENCE && it.refusal.expected == 0 && it.refusal.actual == 1,
+        "a terminal without lookups");
+}
+
+static void check_shifts(void)
+{
+    static const struct volgwain_element cells[4] = {
+        {{1, 2, 3, 4}}, {{5, 6, 7, 8}}, {{2013265920, 0, 0, 2013265919}}, {{9, 10, 11, 12}}};
+    static const struct volgwain_element offset = {{1, 0, 10, 3}};
+    static const struct volgwain_element shifted[4] = {
+        {{2, 2, 13, 7}}, {{5, 6, 7, 8}}, {{0, 0, 10, 1}}, {{9, 10, 11, 12}}};
+    long before = asked;
+    struct cut it;
+    make_cut(&it, 1);
+    memcpy(it.auxiliary, cells, sizeof cells);
+    check(shift(&it, it.auxiliary, 4, 2, &offset) == VOLGWAIN_OK && it.refusal.code == 0
+            && memcmp(it.auxiliary, shifted, sizeof shifted) == 0 && it.auxiliary[4].c[0] == 0x09090909,
+        "two rows are shifted");
+    check(shift(&it, it.auxiliary, 0, 0, &offset) == VOLGWAIN_OK
+            && shift(&it, it.auxiliary, 0, 3, &offset) == VOLGWAIN_OK
+            && memcmp(it.auxiliary, shifted, sizeof shifted) == 0,
+        "no rows are shifted");
+
+    make_cut(&it, 1);
+    it.sum = offset;
+    it.sum.c[1] = VOLGWAIN_MODULUS;
+    check(shift(&it, it.auxiliary, 4, 3, &it.sum) == VOLGWAIN_BAD_NUMBER
+            && it.refusal.part == VOLGWAIN_PART_OFFSET && it.refusal.row == 0
+            && has_text(&it.refusal, it.text, "air 0, offset: number 0 is not below the modulus"),
+        "an offset past the modulus");
+    memset(&it.sum, 9, sizeof it.sum);
+    it.auxiliary[2].c[0] = VOLGWAIN_MODULUS;
+    check(shift(&it, it.auxiliary, 4, 3, &offset) == VOLGWAIN_NO_WHOLE_ROWS
+            && it.refusal.part == VOLGWAIN_PART_AUXILIARY,
+        "cells that make no rows");
+    check(shift(&it, it.auxiliary, 4, 0, &offset) == VOLGWAIN_NO_WHOLE_ROWS, "cells without a width");
+    check(shift(&it, it.auxiliary, 4, 2, &offset) == VOLGWAIN_BAD_NUMBER
+            && it.refusal.part == VOLGWAIN_PART_AUXILIARY && it.refusal.row == 2,
+        "a cell past the modulus");
+    memset(&it.auxiliary[2], 9, sizeof it.auxiliary[2]);
+    check(has_kept_rows(&it), "refused rows are not shifted");
+    check(asked == before, "a shift asks for no memory");
+}
+
 /* ---- memory that runs out ---- */
 
 static uint32_t try_generate(void)
@@ -1362,6 +1888,26 @@ static uint32_t try_read_json(void)
     return code;
 }
 
+static uint32_t try_generate_rows(void)
+{
+    struct cut it;
+    uint32_t code;
+    make_cut(&it, 5);
+    take_rows(&it, 2, 4);
+    code = generate_rows(&it);
+    check(code == VOLGWAIN_OK ? is_base(&it.auxiliary[0], 0) && !has_kept_rows(&it) : has_kept_rows(&it),
+        "generation of rows without memory");
+    return code;
+}
+
+/* a witness of a range, made once */
+static struct cut accepted;
+
+static uint32_t try_verify_rows(void)
+{
+    return verify_rows(&accepted);
+}
+
 /* a mismatch, whose text needs memory */
 static uint32_t try_mismatch(void)
 {
@@ -1455,6 +2001,28 @@ static long asked_for(size_t rows)
     return asked - before;
 }
 
+/* How many a generation of so many rows, from the first one on, makes. */
+static long asked_for_rows(size_t count)
+{
+    static const struct volgwain_plan_sizes sizes = {2, COUNT(chunk_records)};
+    static const size_t ids[COUNT(chunk_records)] = {0, 1, 2, 3};
+    struct volgwain_tables tables = {chunk_nodes, COUNT(chunk_nodes), chunk_tuples, COUNT(chunk_tuples),
+        NULL, 0, chunk_records, COUNT(chunk_records)};
+    struct volgwain_traces around = {chunk_cells, 0, 5, NULL, 0, 0, NULL, 0};
+    struct volgwain_rows rows = {0, 0, MOST_ROWS};
+    struct volgwain_element sum;
+    struct volgwain_refusal refusal;
+    char text[200];
+    long before = asked;
+    rows.end = count;
+    around.main_length = 5 * (count == MOST_ROWS ? count : count + 1);
+    check(volgwain_generate_rows(&tables, &around, &rows, ids, COUNT(ids), &sizes, &chunk_challenges[0],
+              &chunk_challenges[1], chunk_auxiliary, 5 * count, &sum, &refusal, text, sizeof text)
+            == VOLGWAIN_OK,
+        "chunks of a range are generated");
+    return asked - before;
+}
+
 static void check_chunks(void)
 {
     long one;
@@ -1466,6 +2034,10 @@ static void check_chunks(void)
     check(asked_for(2 * CHUNK + 1) == one, "a third one of one row asks for no more");
     check(asked_for(MOST_ROWS) == one, "a third chunk asks for no more");
     printf("chunks: %ld requests for memory, over one chunk as over three\n", one);
+    one = asked_for_rows(CHUNK);
+    check(one > 0 && asked_for_rows(CHUNK + 1) == one && asked_for_rows(2 * CHUNK + 1) == one
+            && asked_for_rows(MOST_ROWS) == one,
+        "a range of more chunks asks for no more");
 }
 
 /* ---- threads ---- */
@@ -1479,15 +2051,21 @@ static void *run_calls(void *unused)
         struct range one;
         struct bus two;
         struct pack three;
+        struct cut four;
         make_range(&one);
         make_bus(&two);
         make_pack(&three);
+        make_middle(&four);
         if (generate(&one) != VOLGWAIN_OK || !is_generated(&one))
             wrong++;
         if (prove(&two) != VOLGWAIN_OK || !is_proved(&two) || verify(&two) != VOLGWAIN_OK)
             wrong++;
         if (pack(&three, 3) != VOLGWAIN_OK || !is_packed(&three)
             || read_json(&three, whole_json, strlen(whole_json)) != VOLGWAIN_OK || !is_read(&three))
+            wrong++;
+        if (verify_rows(&four) != VOLGWAIN_OK || generate_rows(&four) != VOLGWAIN_OK
+            || shift(&four, four.auxiliary, four.auxiliary_length, WIDTH, &four.whole[2 * WIDTH]) != VOLGWAIN_OK
+            || memcmp(four.auxiliary, &four.whole[2 * WIDTH], 2 * WIDTH * sizeof *four.whole) != 0)
             wrong++;
     }
     return (void *)wrong;
@@ -1562,6 +2140,8 @@ static uint32_t go_deep(struct volgwain_refusal *refusal)
     struct volgwain_terminal terminal = {0, {{0, 0, 0, 0}}};
     struct volgwain_air_witness witness;
     struct volgwain_plan_sizes sizes = {0, 0};
+    struct volgwain_rows rows = {0, 1, 1};
+    struct volgwain_element sum = {{0, 0, 0, 0}};
     struct volgwain_table_sizes table_sizes = {0, 0, 0, 0};
     struct volgwain_span packed_tuples[2] = {{0, 0}, {0, 0}};
     struct volgwain_record packed_records[2];
@@ -1604,6 +2184,13 @@ static uint32_t go_deep(struct volgwain_refusal *refusal)
         auxiliary, 2, &terminal, refusal, text, 0);
     if (code != VOLGWAIN_OK)
         return code;
+    code = volgwain_generate_rows(&air.tables, &traces, &rows, id, 1, &sizes, &challenges[0], &challenges[1],
+        auxiliary, 2, &sum, refusal, text, 0);
+    if (code != VOLGWAIN_OK)
+        return code;
+    code = volgwain_shift(auxiliary, 2, 2, &sum, refusal, text, 0);
+    if (code != VOLGWAIN_OK)
+        return code;
     code = volgwain_soundness_count(&air, 1, &traces, 1, &counts, refusal, text, 0);
     if (code != VOLGWAIN_OK)
         return code;
@@ -1631,6 +2218,10 @@ static uint32_t go_deep(struct volgwain_refusal *refusal)
     witness.auxiliary_length = 2;
     witness.width = 2;
     witness.terminal = terminal;
+    code = volgwain_verify_rows(&air.tables, &traces, &rows, id, 1, &sizes, &challenges[0], &challenges[1],
+        &witness, refusal, text, 0);
+    if (code != VOLGWAIN_OK)
+        return code;
     return volgwain_verify(&air, 1, &traces, 1, &challenges[0], &challenges[1], &witness, 1, refusal, text, 0);
 }
 
@@ -1730,14 +2321,22 @@ int main(void)
     check_packing();
     check_json();
     check_debugging();
+    check_cuts();
+    check_faults_of_rows();
+    check_refused_rows();
+    check_refused_witness_rows();
+    check_shifts();
     check_chunks();
     check(live == 0, "nothing is leaked");
+    make_middle(&accepted);
     check_memory("generate", try_generate);
     check_memory("prove", try_prove);
     check_memory("verify", try_verify);
     check_memory("degrees", try_degrees);
     check_memory("plan", try_plan);
     check_memory("generate_by_ids", try_generate_by_ids);
+    check_memory("generate_rows", try_generate_rows);
+    check_memory("verify_rows", try_verify_rows);
     check_memory("grid_count", try_count);
     check_memory("soundness_count", try_soundness_count);
     check_memory("soundness_of_heights", try_soundness_of_heights);

@@ -135,9 +135,11 @@ enum {
                                    list of too many nodes */
     VOLGWAIN_BAD_NUMBER = 3,    /* part, air, row: the index of a number, or of a group of four, that is not
                                    below the modulus; of an id, that is not below num_ids; of the sizes of a
-                                   plan, 0: max_message_width is 0 */
+                                   plan, 0: max_message_width is 0; of a range of rows, 0: it has no rows, or
+                                   ends past the height */
     VOLGWAIN_BAD_LENGTH = 4,    /* part, expected, actual: the length of an array; where the call says so, it
-                                   may be greater than expected */
+                                   may be greater than expected. Of rows: the height of the traces around a
+                                   range */
     VOLGWAIN_NO_WHOLE_ROWS = 5, /* part, air: the width of a trace does not divide its length, or is 0
                                    where there are cells */
     VOLGWAIN_DOES_NOT_FIT = 6,  /* air: a lookup has lists of different lengths, or reads past the traces, or a
@@ -185,7 +187,9 @@ enum {
     VOLGWAIN_PART_NODES = 13, /* the tables that a call writes */
     VOLGWAIN_PART_TUPLES = 14,
     VOLGWAIN_PART_NAMES = 15,
-    VOLGWAIN_PART_RECORDS = 16
+    VOLGWAIN_PART_RECORDS = 16,
+    VOLGWAIN_PART_ROWS = 17,  /* a range of rows, or the rows around it */
+    VOLGWAIN_PART_OFFSET = 18 /* what rows are shifted by */
 };
 
 /* What was refused, and where: each code names the fields that it fills, and the others are 0. */
@@ -452,6 +456,69 @@ uint32_t volgwain_grid_count(const struct volgwain_air *airs, size_t airs_length
    tuple, by how much it does not, and each place where it is sent. Or 1. */
 uint32_t volgwain_debug_check(const struct volgwain_tables *airs, size_t airs_length,
     const struct volgwain_traces *traces, size_t traces_length,
+    struct volgwain_refusal *refusal, char *text, size_t text_size);
+
+/* ---- ranges of rows ---- */
+
+/* The rows from first up to, but not including, end of a trace that has height rows. */
+struct volgwain_rows {
+    size_t first;
+    size_t end;
+    size_t height;
+};
+
+/* Generates the rows of a range of the auxiliary trace of one AIR of a planned batch, and the sum of their
+   fractions. So no call needs the whole trace, and ranges can be generated on threads of the caller's own.
+
+   around: the rows around the range alone, in this order: row 0, unless first is 0; the rows from first up to
+   end; and row end, unless end is the height. Both traces have just these rows.
+   ids, sizes, alpha, beta: as for volgwain_generate_by_ids.
+   auxiliary: exactly (end - first) * (lookups + 1) elements, row after row; none without lookups.
+   sum: the sum of all fractions on the rows of the range; 0 without lookups.
+
+   What is written is that of the whole trace, whatever its other rows are, but for its accumulator, which is
+   zero on the row first. volgwain_shift by the sum of the sums of all ranges before makes of it what
+   volgwain_generate_by_ids writes on these rows. The sum of the sums of all ranges is the terminal.
+
+   Refuses, in this order: what volgwain_generate_by_ids does up to 7; 3 of the rows, which must have first below
+   end, and end not above the height; 4 of the rows, where around has another height than there are rows around
+   the range; the first of 8, 9 and 10 on the rows of the range, in the order row, lookup, where row is that of
+   the whole trace; and 4 of the auxiliary trace. Or 1. */
+uint32_t volgwain_generate_rows(const struct volgwain_tables *tables, const struct volgwain_traces *around,
+    const struct volgwain_rows *rows,
+    const size_t *ids, size_t ids_length, const struct volgwain_plan_sizes *sizes,
+    const struct volgwain_element *alpha, const struct volgwain_element *beta,
+    struct volgwain_element *auxiliary, size_t auxiliary_length,
+    struct volgwain_element *sum,
+    struct volgwain_refusal *refusal, char *text, size_t text_size);
+
+/* Adds offset to the accumulator of each row of an auxiliary trace, its first cell, in place.
+
+   cells: rows of `width` cells each. With one cell and a width of 1 the call adds two elements.
+
+   Refuses, in this order: 3 of the offset, 5 of the auxiliary trace, and 3 of it. It asks for no memory. */
+uint32_t volgwain_shift(struct volgwain_element *cells, size_t cells_length, size_t width,
+    const struct volgwain_element *offset,
+    struct volgwain_refusal *refusal, char *text, size_t text_size);
+
+/* Whether every constraint of one AIR of a planned batch is zero on the rows of a range.
+
+   around, rows, ids, sizes, alpha, beta: as for volgwain_generate_rows.
+   witness: the cells of the auxiliary trace on the rows around the range alone, in the same order; and the
+   terminal of the whole trace.
+
+   Each row is in one of some ranges that cover the trace. If each of these is accepted, by the same terminal,
+   then every constraint of the AIR is zero on every row of the whole trace. That the terminals of a batch sum to
+   zero is not tested here.
+
+   Returns 0 exactly if they are zero, unless memory runs out. Refuses, in this order: what
+   volgwain_generate_rows does up to 4 of the rows; 5 and 3 of what the witness has; 17, 18 and 19; and 20, at
+   the first row of the range on which a constraint is not zero, under its number in the whole trace. Or 1. */
+uint32_t volgwain_verify_rows(const struct volgwain_tables *tables, const struct volgwain_traces *around,
+    const struct volgwain_rows *rows,
+    const size_t *ids, size_t ids_length, const struct volgwain_plan_sizes *sizes,
+    const struct volgwain_element *alpha, const struct volgwain_element *beta,
+    const struct volgwain_air_witness *witness,
     struct volgwain_refusal *refusal, char *text, size_t text_size);
 
 #ifdef __cplusplus

@@ -1,7 +1,10 @@
 pub mod AnswerLaws
 pub mod BatchLaws
+pub mod CellLaws
 pub mod DebugLaws
 pub mod GenerateLaws
 pub mod RefusalLaws
+pub mod RowChecks
+pub mod RowLaws
 pub mod TableWriting
 pub mod WrittenLaws

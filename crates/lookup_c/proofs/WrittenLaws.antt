@@ -83,6 +83,10 @@ over_all values start after i below all written =
     let full : i ≡ length values = omega (arith, below, all) in
     written ∙ (λ k. take_all i values all k ++ drop (full k) start)
 
+-- as many are written as there is room for
+pub all_over : {A B : Type 0} (f : A → B) (values : List A) (before after : List B) → take (0 + length values) after ≡ take 0 before ++ map f values → length values ≡ length before → length after ≡ length before → after ≡ map f values
+all_over f values before after written many same = sym (take_all (0 + length values) after (omega (arith, many, same))) ∙ written
+
 -- one more item is appended, of the next item of a list
 pub map_next : {A B : Type 0} (f : A → B) (xs : List A) (i : ℕ) (d : A) (before after : List B) (y : B) → i < length xs → after ≡ before ++ y ∷ [] → y ≡ f (get_or xs i d) → before ≡ map f (take i xs) → after ≡ map f (take (i + 1) xs)
 map_next f xs i d before after y there pushed is so_far = pushed ∙ ((λ k. so_far k ++ is k ∷ []) ∙ sym (map_more f xs i d there))

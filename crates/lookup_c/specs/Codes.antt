@@ -70,6 +70,8 @@ part_number part.Nodes = 13
 part_number part.Tuples = 14
 part_number part.Names = 15
 part_number part.Records = 16
+part_number part.Rows = 17
+part_number part.Offset = 18
 
 -- the part of a call that a part of the traces is
 abbrev pub part_of : TracePart → Part

@@ -26,6 +26,24 @@ use Rattle.lookup_c.specs.declared.codes.Part.TheVariants.{Auxiliary, Challenges
 use Rattle.lookup_c.specs.declared.generate.Generated.{Generated}
 use Rattle.lookup_c.specs.declared.outputs.Terminal.{Terminal}
 
+module _ (traces : AirTraces BabyBear) (lookups : List (Lookup BabyBear)) where
+  -- the lookups fit the traces, which have one height
+  pub record AreFitting : Type 0 where
+    pub fit : LookupsFit (layout_of traces) lookups
+    pub heights : HaveOneHeight traces
+
+  -- the lookups do not fit the traces
+  abbrev pub IsMisfit : Fault → Type 0
+  IsMisfit fault = (fault ≡ Misfit 0) × (¬ LookupsFit (layout_of traces) lookups)
+
+  -- the preprocessed trace has another height
+  abbrev pub HasOtherHeight : Fault → Type 0
+  HasOtherHeight fault = (fault ≡ Heights 0) × (¬ HaveOneHeight traces)
+
+  -- either of these
+  abbrev pub IsUnfit : Fault → Type 0
+  IsUnfit fault = IsMisfit fault ⊎ HasOtherHeight fault
+
 module _ (E : Extension BabyBear (Quartic BabyBear)) (traces : AirTraces BabyBear) (challenges : List (Quartic BabyBear)) (lookups : List (Lookup BabyBear)) where
   -- The plain result over these lookups, which fit the traces and have no fault; it satisfies the
   -- constraints.
@@ -39,14 +57,6 @@ module _ (E : Extension BabyBear (Quartic BabyBear)) (traces : AirTraces BabyBea
   -- and what is generated, in one value
   abbrev pub GeneratesLookups : Generated → Type 0
   GeneratesLookups g = GeneratesOver g.auxiliary g.terminal
-
-  -- the lookups do not fit the traces
-  abbrev pub IsMisfit : Fault → Type 0
-  IsMisfit fault = (fault ≡ Misfit 0) × (¬ LookupsFit (layout_of traces) lookups)
-
-  -- the preprocessed trace has another height
-  abbrev pub HasOtherHeight : Fault → Type 0
-  HasOtherHeight fault = (fault ≡ Heights 0) × (¬ HaveOneHeight traces)
 
   -- there are fewer than two challenges for each lookup
   abbrev pub HasFewChallenges : Fault → Type 0
@@ -63,7 +73,7 @@ module _ (E : Extension BabyBear (Quartic BabyBear)) (traces : AirTraces BabyBea
 
   -- the refusal of generation over these lookups
   abbrev pub IsLookupsRefusal : Fault → Type 0
-  IsLookupsRefusal fault = IsMisfit fault ⊎ (HasOtherHeight fault ⊎ (HasFewChallenges fault ⊎ IsFirstFault fault))
+  IsLookupsRefusal fault = IsUnfit traces lookups fault ⊎ (HasFewChallenges fault ⊎ IsFirstFault fault)
 
 -- there is not room for exactly the cells of a trace
 abbrev pub HasOtherLength : Matrix (Quartic BabyBear) → ℕ → Fault → Type 0

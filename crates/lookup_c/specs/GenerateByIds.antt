@@ -1,5 +1,6 @@
 -- What generation under the ids of a plan answers from tables of numbers.
-use Rattle.std.specs.Prelude.{◌≡◌, ◌≢◌, ◌⊎◌, ◌<◌, ◌≤◌, ℕ, List, Option, length}
+use Rattle.std.specs.Prelude.{◌≡◌, ◌≢◌, ◌⊎◌, ◌<◌, ◌≤◌, ℕ, All, List, Option, length}
+use Rattle.std.specs.Box.{boxed_slice_items}
 use Rattle.std.specs.declared.alloc.Global.{Global}
 use Rattle.std.specs.declared.vec.Vec.{Vec}
 use Rattle.field.specs.Extension.{Extension}
@@ -7,7 +8,8 @@ use Rattle.field.specs.Quartic.{Quartic}
 use Rattle.field.specs.Ring.{Ring}
 use Rattle.matrix.specs.Matrix.{Matrix}
 use Rattle.expressions.specs.Faults.{HasFirstFault}
-use Rattle.lookup_model.specs.Challenges.{column_challenges}
+use Rattle.lookup_model.specs.Challenges.{column_challenges, table_of}
+use Rattle.lookup_model.specs.declared.challenges.Challenges.{Challenges}
 use Rattle.lookup_model.specs.declared.types.Lookup.{Lookup}
 use Rattle.lookup_model.specs.declared.types.LookupTerminal.{LookupTerminal}
 use Rattle.batch.specs.Tables.{made_table}
@@ -26,6 +28,11 @@ use Rattle.lookup_c.specs.declared.generate.Generated.{Generated}
 use Rattle.lookup_c.specs.declared.outputs.Terminal.{Terminal}
 use Rattle.lookup_c.specs.declared.plan.PlanSizes.{PlanSizes}
 use Rattle.lookup_c.specs.declared.refusal.Refusal.{Refusal}
+
+-- the challenges of a plan of these sizes, which has these ids
+pub record ArePlanChallenges (R : Ring (Quartic BabyBear)) (ids : List ℕ) (sizes : PlanSizes) (alpha beta : Quartic BabyBear) (challenges : Challenges (Quartic BabyBear)) : Type 0 where
+  pub table_is : table_of challenges ≡ made_table R alpha beta sizes.max_message_width sizes.num_ids
+  pub has_prefixes : All (λ id. id < length (boxed_slice_items challenges.bus_prefix)) ids
 
 -- the challenges that columns with these ids have under a plan of these sizes
 abbrev pub AreIdChallenges : Ring (Quartic BabyBear) → List ℕ → PlanSizes → Quartic BabyBear → Quartic BabyBear → Vec (Quartic BabyBear) Global → Type 0

@@ -16,7 +16,7 @@ use Rattle.lookup_c.specs.declared.codes.Part.TheVariants as part
 use Rattle.lookup_c.specs.declared.codes.RecordFault.{RecordFault}
 use Rattle.lookup_c.specs.declared.codes.RecordFault.TheVariants as record_fault
 use Rattle.lookup_c.specs.declared.fault.Fault.{Fault}
-use Rattle.lookup_c.specs.declared.fault.Fault.TheVariants.{Memory, Table, Traces, Large, Id, Width, Text, Length, Ragged, Misfit, Heights, Lookup, Mismatch, Batch}
+use Rattle.lookup_c.specs.declared.fault.Fault.TheVariants.{Memory, Table, Traces, Large, Id, Width, Rows, Text, Length, Ragged, Misfit, Heights, Lookup, Mismatch, Batch}
 use Rattle.lookup_c.specs.declared.refusal.Refusal.{Refusal}
 
 -- a refusal with its code by name
@@ -129,6 +129,7 @@ refusal_of (Traces air fault) = trace_refusal air fault
 refusal_of (Large p air i) = record (of_code code.BadNumber) { part = part_number p; air = air; row = i }
 refusal_of (Id i) = record (of_code code.BadNumber) { part = part_number part.Ids; row = i }
 refusal_of Width = record (of_code code.BadNumber) { part = part_number part.Sizes }
+refusal_of Rows = record (of_code code.BadNumber) { part = part_number part.Rows }
 refusal_of (Text e) = of_code code.BadText
 refusal_of (Length p e a) = record (of_code code.BadLength) { part = part_number p; expected = e; actual = a }
 refusal_of (Ragged air) = record (of_code code.NoWholeRows) { part = part_number part.Auxiliary; air = air }

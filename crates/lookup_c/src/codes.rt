@@ -86,6 +86,10 @@ pub enum Part {
     Names = 15,
     /// The records that a call writes.
     Records = 16,
+    /// A range of rows, or the rows around it.
+    Rows = 17,
+    /// What rows are shifted by.
+    Offset = 18,
 }
 
 impl fmt::Display for Part {
@@ -107,6 +111,8 @@ impl fmt::Display for Part {
             Part::Tuples => write!(f, "tuples"),
             Part::Names => write!(f, "names"),
             Part::Records => write!(f, "records"),
+            Part::Rows => write!(f, "rows"),
+            Part::Offset => write!(f, "offset"),
         }
     }
 }

@@ -43,6 +43,9 @@ pub enum Fault {
     /// The width of a plan is zero.
     #[error("the width of the plan is 0")]
     Width,
+    /// A range has no rows, or ends past the height.
+    #[error("the range has no rows, or ends past the height")]
+    Rows,
     /// A text is no JSON, or not that of lookups.
     #[error("{0}")]
     Text(serde_json::Error),

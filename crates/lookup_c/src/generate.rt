@@ -1,7 +1,7 @@
 //! The call that generates the auxiliary trace of one AIR.
 ghost use Rattle.std.specs.Prelude.{◌≡◌, ◌≢◌, MatchResult, length};
 ghost use Rattle.lookup_c.specs.Answers.{Answers};
-ghost use Rattle.lookup_c.specs.Generate.{GeneratesLookups, GeneratesNumbers, GeneratesTables, IsCallRefusal, IsLookupsRefusal, IsRefusal};
+ghost use Rattle.lookup_c.specs.Generate.{AreFitting, GeneratesLookups, GeneratesNumbers, GeneratesTables, IsCallRefusal, IsLookupsRefusal, IsRefusal, IsUnfit};
 ghost use Rattle.lookup_c.specs.Inputs.{view_of_read};
 ghost use Rattle.lookup_c.specs.internal.Generate.{AreNumbersOfGenerated, IsNotWritten};
 
@@ -25,6 +25,25 @@ pub(crate) struct Generated {
     pub(crate) terminal: Option<LookupTerminal<BabyBear4>>,
 }
 
+/// Whether lookups fit the traces of their AIR, and these have one height.
+pub(crate) fn check_fit(traces: &ReadTraces, lookups: &[Lookup<BabyBear>]) -> Result<(), Fault>
+    ensures { MatchResult result (λ _. AreFitting (view_of_read traces.now) lookups.now)
+        (IsUnfit (view_of_read traces.now) lookups.now) }
+{
+    let main = &traces.main;
+    let preprocessed = traces.preprocessed.as_ref();
+    let layout = AirLayout::of_traces(main, preprocessed, traces.public_values.as_slice());
+    if !fits(lookups, &layout) {
+        return Err(Fault::Misfit { air: 0 });
+    }
+    if let Some(trace) = preprocessed {
+        if trace.height() != main.height() {
+            return Err(Fault::Heights { air: 0 });
+        }
+    }
+    Ok(())
+}
+
 /// Generates over lookups.
 pub(crate) fn generate_lookups(
     alloc: Global,
@@ -36,18 +55,7 @@ pub(crate) fn generate_lookups(
         (GeneratesLookups E (view_of_read traces.now) challenges.now lookups.now)
         (IsLookupsRefusal E (view_of_read traces.now) challenges.now lookups.now) }
 {
-    let main = &traces.main;
-    let preprocessed = traces.preprocessed.as_ref();
-    let public_values = traces.public_values.as_slice();
-    let layout = AirLayout::of_traces(main, preprocessed, public_values);
-    if !fits(lookups, &layout) {
-        return Err(Fault::Misfit { air: 0 });
-    }
-    if let Some(trace) = preprocessed {
-        if trace.height() != main.height() {
-            return Err(Fault::Heights { air: 0 });
-        }
-    }
+    check_fit(traces, lookups)?;
     if challenges.len() / 2 < lookups.len() {
         return Err(Fault::Length {
             part: Part::Challenges,
@@ -56,9 +64,9 @@ pub(crate) fn generate_lookups(
         });
     }
     let traces = air::Traces {
-        main,
-        preprocessed,
-        public_values,
+        main: &traces.main,
+        preprocessed: traces.preprocessed.as_ref(),
+        public_values: traces.public_values.as_slice(),
     };
     match generate_permutation(alloc, &traces, lookups, challenges) {
         Ok((auxiliary, terminal)) => Ok(Generated {

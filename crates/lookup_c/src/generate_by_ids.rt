@@ -1,6 +1,6 @@
 //! The call that generates the auxiliary trace of one AIR of a planned batch.
 ghost use Rattle.std.specs.Prelude.{◌≡◌, ◌≢◌, ◌<◌, All, MatchResult, length};
-ghost use Rattle.lookup_c.specs.GenerateByIds.{AnswersByIds, AreIdChallenges, Generates, IsFirstLargeId, IsIdsRefusal, IsRefusal};
+ghost use Rattle.lookup_c.specs.GenerateByIds.{AnswersByIds, AreIdChallenges, ArePlanChallenges, Generates, IsFirstLargeId, IsIdsRefusal, IsRefusal};
 
 use crate::codes::Part;
 use crate::fault::Fault;
@@ -29,6 +29,26 @@ fn check_given_ids(ids: &[usize], num_ids: usize) -> Result<(), Fault>
     Ok(())
 }
 
+/// The challenges of the plan of these sizes, which has these ids.
+pub(crate) fn challenges_of_plan(
+    alloc: Global,
+    ids: &[usize],
+    sizes: &PlanSizes,
+    alpha: BabyBear4,
+    beta: BabyBear4,
+) -> Result<Challenges<BabyBear4>, Fault>
+    ensures { MatchResult result
+        (ArePlanChallenges ⟦<BabyBear4 as PrimeCharacteristicRing>⟧.ring ids.now sizes.now alpha beta)
+        (IsIdsRefusal ids.now sizes.now) }
+{
+    let width = sizes.max_message_width;
+    if width == 0 {
+        return Err(Fault::Width);
+    }
+    check_given_ids(ids, sizes.num_ids)?;
+    Ok(Challenges::new(alloc, alpha, beta, width, sizes.num_ids)?)
+}
+
 /// The challenges of lookups with these ids, under the plan of these sizes.
 fn challenges_of_ids(
     alloc: Global,
@@ -41,12 +61,7 @@ fn challenges_of_ids(
         (AreIdChallenges ⟦<BabyBear4 as PrimeCharacteristicRing>⟧.ring ids.now sizes.now alpha beta)
         (IsIdsRefusal ids.now sizes.now) }
 {
-    let width = sizes.max_message_width;
-    if width == 0 {
-        return Err(Fault::Width);
-    }
-    check_given_ids(ids, sizes.num_ids)?;
-    let challenges = Challenges::new(alloc, alpha, beta, width, sizes.num_ids)?;
+    let challenges = challenges_of_plan(alloc, ids, sizes, alpha, beta)?;
     Ok(challenges.for_columns(alloc, ids)?)
 }
 

@@ -245,6 +245,10 @@ fn refusal_of(fault: &Fault) -> Refusal
             part: Part::Sizes as u32,
             ..Refusal::of(Code::BadNumber)
         },
+        Fault::Rows => Refusal {
+            part: Part::Rows as u32,
+            ..Refusal::of(Code::BadNumber)
+        },
         Fault::Text(_) => Refusal::of(Code::BadText),
         Fault::Length {
             part,

@@ -28,7 +28,7 @@ pub struct AirWitness<'a> {
 /// The auxiliary trace of an AIR.
 ///
 /// Refuses cells that make no whole rows, and then the first one that is no element.
-fn read_auxiliary(
+pub(crate) fn read_auxiliary(
     alloc: Global,
     air: usize,
     witness: &AirWitness<'_>,
@@ -47,7 +47,10 @@ fn read_auxiliary(
 /// The terminal of an AIR.
 ///
 /// Refuses one that is present and no element.
-fn read_terminal(air: usize, terminal: Terminal) -> Result<Option<LookupTerminal<BabyBear4>>, Fault>
+pub(crate) fn read_terminal(
+    air: usize,
+    terminal: Terminal,
+) -> Result<Option<LookupTerminal<BabyBear4>>, Fault>
     ensures { MatchResult result (λ t. (t ≡ terminal_of terminal) × IsTerminal terminal)
         (IsTerminalRefusal air terminal) }
 {

@@ -1,0 +1,11 @@
+use Rattle.std.proofs.lemmas.Option.{slice_get-get_or}
+use Rattle.lookup_tables.proofs.NumberLaws.{first_large_group, groups_next}
+use Rattle.lookup_c.proofs.shift.first_large_cell.Goals as goal
+
+pub returns-in-None : goal.returns-in-None
+returns-in-None c =
+    first_large_group c.args.cells.now c.loop-index.index _ c.loop-index-test.true c.in-None.ensures c.loop-index.invariant
+
+pub loop-index-preserved : goal.loop-index-preserved
+loop-index-preserved c =
+    groups_next c.args.cells.now c.loop-index.index _ (slice_get-get_or c.args.cells.now c.loop-index.index _ c.loop-index-test.true) c.in-Some.ensures.1 c.loop-index.invariant

@@ -1,0 +1,28 @@
+-- Ranges of the rows of an AIR, and the traces around them.
+use Rattle.std.specs.Prelude.{◌≡◌, ◌≢◌, ◌⊎◌}
+use Rattle.air.specs.Traces.{AirTraces, height_of}
+use Rattle.lookup_ranges.specs.Around.{IsRange, rows_around}
+use Rattle.lookup_ranges.specs.declared.range.RowRange.{RowRange}
+use Rattle.lookup_tables.specs.Nodes.{BabyBear}
+use Rattle.lookup_c.specs.declared.codes.Part.TheVariants.{Rows as OfRows}
+use Rattle.lookup_c.specs.declared.fault.Fault.{Fault}
+use Rattle.lookup_c.specs.declared.fault.Fault.TheVariants.{Length, Rows as NoRange}
+use Rattle.lookup_c.specs.declared.rows.Rows.{Rows}
+
+-- the range that numbers say
+abbrev pub range_of : Rows → RowRange
+range_of rows = record { first = rows.first; end = rows.end; height = rows.height }
+
+module _ (rows : Rows) (around : AirTraces BabyBear) where
+  -- The range has rows, and ends within the height. The traces have as many rows as stand around it.
+  pub record HasRowsAround : Type 0 where
+    pub range : IsRange (range_of rows)
+    pub many : height_of around ≡ rows_around rows.height rows.first rows.end
+
+  -- the refusal of the range, or of the height of the traces
+  abbrev pub IsRangeRefusal : Fault → Type 0
+  IsRangeRefusal fault =
+      ((fault ≡ NoRange) × (¬ IsRange (range_of rows)))
+      ⊎ (IsRange (range_of rows)
+      × (height_of around ≢ rows_around rows.height rows.first rows.end)
+      × (fault ≡ Length OfRows (rows_around rows.height rows.first rows.end) (height_of around)))

@@ -1,0 +1,103 @@
+//! The call that generates a range of rows of the auxiliary trace of one AIR of a planned batch.
+ghost use Rattle.std.specs.Prelude.{◌≡◌, ◌≢◌, MatchResult, length};
+ghost use Rattle.lookup_c.specs.GenerateRows.{AnswersRowsCall};
+ghost use Rattle.lookup_c.specs.internal.PlannedAirs.{GeneratesInPlan, IsGenerationRefusal};
+
+use crate::codes::Part;
+use crate::fault::Fault;
+use crate::outputs::write_elements;
+use crate::plan::PlanSizes;
+use crate::planned_air::{InPlan, read_air};
+use crate::refusal::{Refusal, accept, refuse};
+use crate::rows::{Rows, range_of};
+use field::{BabyBear, BabyBear4, Over};
+use lookup::LookupError;
+use lookup_ranges::generate_around;
+use lookup_tables::{Tables, Traces, element_numbers};
+use matrix::RowMajorMatrix;
+use std::alloc::Global;
+
+/// Generates a range of rows over what tables encode, and the sum of their fractions.
+///
+/// Refuses the first of these with a fault: the AIR, as `read_air` does, the range, the height of the traces,
+/// and the generation.
+fn generate_tables(
+    alloc: Global,
+    tables: &Tables<'_>,
+    around: &Traces<'_>,
+    rows: &Rows,
+    plan: &InPlan<'_>,
+) -> Result<(RowMajorMatrix<BabyBear4>, BabyBear4), Fault>
+    ensures { let E = ⟦<BabyBear4 as Over<BabyBear>>⟧.fields in MatchResult result
+        (GeneratesInPlan E tables.now around.now rows.now plan.now)
+        (IsGenerationRefusal E tables.now around.now rows.now plan.now) }
+{
+    let air = read_air(alloc, tables, around, plan)?;
+    let range = range_of(rows, &air.traces)?;
+    let challenges = air.challenges.for_columns(alloc, plan.ids)?;
+    let traces = air::Traces {
+        main: &air.traces.main,
+        preprocessed: air.traces.preprocessed.as_ref(),
+        public_values: air.traces.public_values.as_slice(),
+    };
+    match generate_around(alloc, &traces, &air.lookups, &challenges, range) {
+        Ok(made) => Ok(made),
+        Err(LookupError::Memory) => Err(Fault::Memory),
+        Err(error) => Err(Fault::Lookup { air: 0, error }),
+    }
+}
+
+/// Generates the rows of a range of the auxiliary trace of one AIR of a planned batch, and the sum of their
+/// fractions.
+///
+/// `around` has the rows around the range alone: row 0, unless the range begins with it; the rows of the
+/// range; and the row after them, unless the range ends with the trace. What is written is that of the whole
+/// trace, but for an accumulator that is zero on the first row of the range; `volgwain_shift` by the sums of
+/// all ranges before turns it into that of the whole. The ids and the sizes are as for
+/// `volgwain_generate_by_ids`, and a fault is named by its row in the whole trace.
+///
+/// Answers 0, or the code of a refusal. A refused call leaves the auxiliary trace and the sum as they were.
+#[unsafe(no_mangle)]
+pub extern "C" fn volgwain_generate_rows(
+    alloc: Global,
+    tables: &Tables<'_>,
+    around: &Traces<'_>,
+    rows: &Rows,
+    ids: &[usize],
+    sizes: &PlanSizes,
+    alpha: &[u32; 4],
+    beta: &[u32; 4],
+    auxiliary: &mut [[u32; 4]],
+    sum: &mut [u32; 4],
+    refusal: &mut Refusal,
+    text: &mut [u8],
+) -> u32
+    ensures answers { AnswersRowsCall ⟦<BabyBear4 as Over<BabyBear>>⟧.fields tables.now around.now
+        rows.now ids.now sizes.now alpha.now beta.now (length auxiliary.old) auxiliary.new sum.new
+        result refusal.new }
+    ensures kept { result ≢ 0 → (auxiliary.new ≡ auxiliary.old) × (sum.new ≡ sum.old) }
+{
+    let plan = InPlan {
+        ids,
+        sizes,
+        alpha,
+        beta,
+    };
+    match generate_tables(alloc, tables, around, rows, &plan) {
+        Ok((made, total)) => {
+            let values = made.values();
+            if values.len() != auxiliary.len() {
+                let fault = Fault::Length {
+                    part: Part::Auxiliary,
+                    expected: values.len(),
+                    actual: auxiliary.len(),
+                };
+                return refuse(&fault, refusal, text);
+            }
+            write_elements(auxiliary, 0, values);
+            *sum = element_numbers(total);
+            accept(refusal)
+        }
+        Err(fault) => refuse(&fault, refusal, text),
+    }
+}
