@@ -101,14 +101,16 @@ fn challenge(id: u32) -> [Element; 2] {
     [Element::new(prefix.0.map(Base::number)), Element::new(BETA)]
 }
 
-/// The AIRs of the batch, with the height of their traces.
+/// The AIRs of the batch, with the height of their traces. One thread works on it, as in the library's own
+/// calls.
 fn batch_of(rows: usize) -> Batch {
     let air = |is_asked| {
         let lookup =
             |bus| Lookup::on_bus(format!("bus {bus}"), [message(4 * bus, WIDTH - 1, is_asked)]);
         Air::new((0..LOOKUPS).map(lookup)).expect("the lookups make an AIR")
     };
-    Batch::new([(&air(true), rows), (&air(false), rows)]).expect("the AIRs make a batch")
+    let batch = Batch::new([(&air(true), rows), (&air(false), rows)]);
+    batch.expect("the AIRs make a batch").with_threads(1)
 }
 
 /// The numbers of the traces of the batch. The second AIR has the rows of the first in another

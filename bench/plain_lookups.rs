@@ -8,6 +8,7 @@
 #![allow(dead_code)]
 
 use crate::plain::{Base, Quartic, inverses};
+use std::ops::Range;
 
 const CHUNK: usize = 1024;
 
@@ -234,11 +235,24 @@ pub fn first_failing_row(
     main_width: usize,
     lookups: &[Lookup],
     challenges: &[Challenge],
+    witness: &(Vec<Quartic>, Quartic),
+) -> Option<usize> {
+    let rows = 0..main.len() / main_width;
+    first_failing_row_of(rows, main, main_width, lookups, challenges, witness)
+}
+
+/// The first one of some rows.
+pub fn first_failing_row_of(
+    mut rows: Range<usize>,
+    main: &[Base],
+    main_width: usize,
+    lookups: &[Lookup],
+    challenges: &[Challenge],
     (cells, terminal): &(Vec<Quartic>, Quartic),
 ) -> Option<usize> {
     let (height, width) = (main.len() / main_width, lookups.len() + 1);
     let cells_of = |row: usize| &cells[row * width..(row + 1) * width];
-    (0..height).find(|row| {
+    rows.find(|row| {
         let (current, next) = (cells_of(*row), cells_of((row + 1) % height));
         let main = &main[row * main_width..(row + 1) * main_width];
         let mut fractions = lookups.iter().zip(challenges).zip(&current[1..]);

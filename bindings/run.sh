@@ -1,6 +1,6 @@
 #!/bin/sh
 # Builds the static library and runs the tests of its calls: in C, with gcc, and of the crate for Rust,
-# with cargo; and the programs of docs/C.md and docs/RUST.md. Otherwise it needs the kit's command rt alone.
+# with cargo; and the programs of docs/C.md, docs/SCALE.md and docs/RUST.md. Otherwise it needs the kit's command rt alone.
 #
 # Where gcc or cargo is missing it says so, runs the rest, and ends with status 3.
 set -eu
@@ -25,16 +25,16 @@ block() {
         '$0 == "```" { on = 0 } on { print } $0 == start && ++n == which { on = 1 }' "$1"
 }
 
-# Builds a program of docs/C.md, and compares what it writes with what is shown there.
+# Builds a program of a document, and compares what it writes with what is shown there.
 run_program() {
-    block docs/C.md c "$1" >"$work/program.c"
-    block docs/C.md text "$1" >"$work/expected"
+    block "$1" c "$2" >"$work/program.c"
+    block "$1" text "$2" >"$work/expected"
     gcc $flags -std=c99 -Ibindings/c "$work/program.c" -o "$work/program" "$library" "$heap" -lpthread
     "$work/program" >"$work/output"
     diff "$work/expected" "$work/output"
 }
 
-# The header alone, as C99 and as C++17, then the test, and then the programs of docs/C.md.
+# The header alone, as C99 and as C++17, then the test, and then the programs of docs/C.md and docs/SCALE.md.
 test_c() {
     flags="-Wall -Wextra -Werror -pedantic -O1"
     printf '#include "volgwain.h"\n' >"$work/header.c"
@@ -47,9 +47,10 @@ test_c() {
     gcc $flags -std=c99 -Ibindings/c bindings/c/test.c -o "$work/test" "$library" "$heap" -lpthread \
         -Wl,--wrap=malloc,--wrap=realloc,--wrap=free
     "$work/test"
-    run_program 1
-    run_program 2
-    echo "the programs of docs/C.md write what is shown there"
+    run_program docs/C.md 1
+    run_program docs/C.md 2
+    run_program docs/SCALE.md 1
+    echo "the programs of docs/C.md and docs/SCALE.md write what is shown there"
 }
 
 # The tests of the crate, and of its documentation.

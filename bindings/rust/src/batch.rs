@@ -3,9 +3,11 @@
 use crate::air::{self, Air};
 use crate::element::Element;
 use crate::error::Error;
-use crate::ffi::{self, PlanSizes, Planned};
+use crate::ffi::{self, PlanSizes, Planned, PlannedIds};
+use crate::ranges::{SharedWork, TracedAir};
 use crate::traces::Traces;
 use crate::witness::{Shape, Witness};
+use std::iter::{self, zip};
 
 /// AIRs with the heights of their traces, and the plan that they make before any trace is seen.
 ///
@@ -21,6 +23,7 @@ pub struct Batch {
     heights: Vec<usize>,
     ids: Vec<Vec<usize>>,
     sizes: PlanSizes,
+    threads: Option<usize>,
 }
 
 /// At how many pairs of challenges a batch is accepted.
@@ -77,7 +80,19 @@ impl Batch {
         let sizes = ffi::plan(&planned, &mut ids)?;
         let mut left = ids.into_iter();
         let of_air = |air: &Air| left.by_ref().take(air.len()).collect();
-        Ok(Batch { ids: airs.iter().map(of_air).collect(), airs, heights, sizes })
+        let ids = airs.iter().map(of_air).collect();
+        Ok(Batch { airs, heights, ids, sizes, threads: None })
+    }
+
+    /// The same batch, which is proved, generated and verified by so many threads at most; 0 counts
+    /// as 1. Without this they are as many as the machine has processors. A small batch is worked on
+    /// by the calling thread alone.
+    ///
+    /// No witness, verdict or refusal depends on the number of threads. Where a call on several
+    /// threads is refused, the whole of it is made once more on one, which finds out why.
+    #[must_use]
+    pub fn with_threads(self, threads: usize) -> Self {
+        Batch { threads: Some(threads), ..self }
     }
 
     /// The AIRs.
@@ -137,7 +152,11 @@ impl Batch {
         witness: &mut Witness,
     ) -> Result<(), Error> {
         let shapes = self.shapes(traces);
+        let shared = self.shared(traces, alpha, beta);
         witness.refill(&shapes, |cells, terminals| {
+            if shared.is_some_and(|work| work.prove(cells, terminals)) {
+                return Ok(());
+            }
             ffi::prove(&self.planned(), traces, alpha, beta, cells, terminals)
         })
     }
@@ -173,14 +192,19 @@ impl Batch {
         beta: Element,
         witness: &mut Witness,
     ) -> Result<(), Error> {
-        let planned = self.airs.get(air).zip(self.ids.get(air));
-        let shapes: Vec<Shape> = planned.iter().map(|(air, _)| air.shape(traces)).collect();
+        let planned = self.planned_ids().nth(air).ok_or_else(|| Error::no_such_air(air));
+        let shapes: Vec<Shape> =
+            self.airs.get(air).map(|air| air.shape(traces)).into_iter().collect();
+        let challenges = [alpha, beta];
         witness.refill(&shapes, |cells, terminals| {
-            let (planned_air, ids) = planned.ok_or_else(|| Error::no_such_air(air))?;
+            let planned = planned?;
+            let traced = iter::once(TracedAir { planned, traces: *traces });
+            let shared = SharedWork::of(traced, challenges, self.threads);
+            if shared.is_some_and(|work| work.prove(cells, terminals)) {
+                return Ok(());
+            }
             // an AIR that is there has one shape, so one terminal
-            let (tables, terminal) = (planned_air.tables(), &mut terminals[0]);
-            let challenges = [alpha, beta];
-            ffi::generate_by_ids(tables, traces, ids, &self.sizes, challenges, cells, terminal)
+            ffi::generate_by_ids(&planned, traces, challenges, cells, &mut terminals[0])
         })
     }
 
@@ -196,6 +220,9 @@ impl Batch {
         beta: Element,
         witness: &Witness,
     ) -> Result<(), Error> {
+        if self.shared(traces, alpha, beta).is_some_and(|work| work.verify(witness)) {
+            return Ok(());
+        }
         let parts: Vec<_> = witness.airs().collect();
         ffi::verify(&self.planned(), traces, alpha, beta, &parts)
     }
@@ -243,11 +270,41 @@ impl Batch {
         planned(&self.airs, &self.heights)
     }
 
+    fn planned_ids(&self) -> impl Iterator<Item = PlannedIds<'_>> + Clone {
+        let sizes = &self.sizes;
+        zip(&self.airs, &self.ids).map(move |(air, ids)| PlannedIds {
+            tables: air.tables(),
+            ids,
+            sizes,
+        })
+    }
+
+    /// The work on several threads, if these traces are those of the batch and it is worth it. What it
+    /// refuses is left to the call on the whole batch.
+    pub(crate) fn shared<'a>(
+        &'a self,
+        traces: &[Traces<'a>],
+        alpha: Element,
+        beta: Element,
+    ) -> Option<SharedWork<'a>> {
+        if !self.are_heights_of(traces) {
+            return None;
+        }
+        let traced = |(planned, traces): (_, &_)| TracedAir { planned, traces: *traces };
+        let airs = zip(self.planned_ids(), traces).map(traced);
+        SharedWork::of(airs, [alpha, beta], self.threads)
+    }
+
+    /// Whether the heights of the batch are those of these traces.
+    fn are_heights_of(&self, traces: &[Traces<'_>]) -> bool {
+        let heights = traces.iter().map(|traces| traces.main.height());
+        heights.eq(self.heights.iter().copied())
+    }
+
     /// The shapes of the witness over these traces. For traces of another height there is none, and
     /// the call is refused whatever room it has: it gets no room, which otherwise could be immense.
     fn shapes(&self, traces: &[Traces<'_>]) -> Vec<Shape> {
-        let heights = traces.iter().map(|traces| traces.main.height());
-        let fit = heights.eq(self.heights.iter().copied());
+        let fit = self.are_heights_of(traces);
         let shape = |(air, height): (&Air, &usize)| Shape {
             height: if fit { *height } else { 0 },
             lookups: air.len(),

@@ -41,7 +41,8 @@
 //! ```
 //!
 //! All types are plain data, so they are [`Send`] and [`Sync`], and any number of threads may work
-//! on the same AIRs and batches at once. A call needs at most 256 KB of stack, and one that
+//! on the same AIRs and batches at once. A large batch is worked on by as many threads as there are
+//! processors, or as [`Batch::with_threads`] says. A call needs at most 256 KB of stack, and one that
 //! reads JSON 384 KB. Where the library can get no memory, a call answers [`Code::OutOfMemory`].
 #![deny(missing_docs, unsafe_code, clippy::undocumented_unsafe_blocks)]
 
@@ -52,6 +53,7 @@ mod error;
 mod expr;
 mod ffi;
 mod lookup;
+mod ranges;
 mod symbolic;
 mod tables;
 mod traces;

@@ -134,12 +134,13 @@ pub(crate) struct Shape {
 }
 
 impl Shape {
-    fn width(self) -> usize {
+    /// How many cells make a row of the auxiliary trace.
+    pub(crate) fn width(self) -> usize {
         if self.lookups == 0 { 0 } else { self.lookups + 1 }
     }
 
     /// How many cells the auxiliary trace has, if they can be counted.
-    fn cells(self) -> Option<usize> {
+    pub(crate) fn cells(self) -> Option<usize> {
         self.height.checked_mul(self.width())
     }
 }

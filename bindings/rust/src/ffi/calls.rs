@@ -2,7 +2,7 @@
 //! asks for, as the module above says.
 
 use super::declared::{
-    self, Counts, Grid, HeightCounts, PlanSizes, Refusal, TableSizes, Terminal, Wide,
+    self, Counts, Grid, HeightCounts, PlanSizes, Refusal, Rows, TableSizes, Terminal, Wide,
 };
 use crate::batch::{GridCount, HeightSoundness, SoundnessCount};
 use crate::element::Element;
@@ -147,16 +147,23 @@ pub(crate) fn plan(airs: &[Planned<'_>], ids: &mut [usize]) -> Result<PlanSizes,
     Ok(sizes)
 }
 
+/// An AIR of a batch with what the plan says of it: the ids of its lookups, and the sizes.
+#[derive(Clone, Copy)]
+pub(crate) struct PlannedIds<'a> {
+    pub(crate) tables: &'a Tables,
+    pub(crate) ids: &'a [usize],
+    pub(crate) sizes: &'a PlanSizes,
+}
+
 /// Generates the auxiliary trace and the terminal of one AIR of a planned batch.
 pub(crate) fn generate_by_ids(
-    tables: &Tables,
+    planned: &PlannedIds<'_>,
     traces: &Traces<'_>,
-    ids: &[usize],
-    sizes: &PlanSizes,
     [alpha, beta]: [Element; 2],
     auxiliary: &mut [Element],
     terminal: &mut Terminal,
 ) -> Result<(), Error> {
+    let PlannedIds { tables, ids, sizes } = planned;
     let (tables, traces) = (raw_tables(tables), raw_traces(traces));
     answer(|refusal, text, size| {
         // SAFETY: `tables`, `traces`, `ids`, the sizes, alpha and beta are borrowed for the whole
@@ -167,7 +174,7 @@ pub(crate) fn generate_by_ids(
                 &traces,
                 ids.as_ptr(),
                 ids.len(),
-                sizes,
+                *sizes,
                 &alpha,
                 &beta,
                 auxiliary.as_mut_ptr(),
@@ -356,6 +363,95 @@ pub(crate) fn debug_check(airs: &[&Tables], traces: &[Traces<'_>]) -> Result<(),
     })
 }
 
+/// Generates some rows of the auxiliary trace of one AIR of a planned batch, with accumulators that start
+/// at zero, and the sum of the fractions on them. The traces have the rows around these alone.
+pub(crate) fn generate_rows(
+    planned: &PlannedIds<'_>,
+    around: &Traces<'_>,
+    rows: &Rows,
+    [alpha, beta]: [Element; 2],
+    auxiliary: &mut [Element],
+    sum: &mut Element,
+) -> Result<(), Error> {
+    let PlannedIds { tables, ids, sizes } = planned;
+    let (tables, around) = (raw_tables(tables), raw_traces(around));
+    answer(|refusal, text, size| {
+        // SAFETY: `tables`, `around`, the rows, `ids`, the sizes, alpha and beta are borrowed for
+        // the whole call, and `auxiliary` and `sum` as mutable; each length is that of its slice.
+        unsafe {
+            declared::volgwain_generate_rows(
+                &tables,
+                &around,
+                rows,
+                ids.as_ptr(),
+                ids.len(),
+                *sizes,
+                &alpha,
+                &beta,
+                auxiliary.as_mut_ptr(),
+                auxiliary.len(),
+                sum,
+                refusal,
+                text,
+                size,
+            )
+        }
+    })
+}
+
+/// Adds an element to the first cell of each row.
+pub(crate) fn shift(cells: &mut [Element], width: usize, offset: &Element) -> Result<(), Error> {
+    answer(|refusal, text, size| {
+        // SAFETY: `offset` is borrowed for the whole call, and `cells`, whose length is given, as
+        // mutable.
+        unsafe {
+            declared::volgwain_shift(
+                cells.as_mut_ptr(),
+                cells.len(),
+                width,
+                offset,
+                refusal,
+                text,
+                size,
+            )
+        }
+    })
+}
+
+/// Whether every constraint of one AIR of a planned batch holds on some rows. The traces, and the auxiliary
+/// trace of the witness, have the rows around these alone.
+pub(crate) fn verify_rows(
+    planned: &PlannedIds<'_>,
+    around: &Traces<'_>,
+    rows: &Rows,
+    [alpha, beta]: [Element; 2],
+    witness: &AirWitness<'_>,
+) -> Result<(), Error> {
+    let PlannedIds { tables, ids, sizes } = planned;
+    let (tables, around, witness) = (raw_tables(tables), raw_traces(around), raw_witness(witness));
+    answer(|refusal, text, size| {
+        // SAFETY: `tables`, `around`, the rows, `ids`, the sizes, alpha, beta and what `witness`
+        // points to are borrowed for the whole call; each length is that of its slice. It writes the
+        // refusal and its text alone.
+        unsafe {
+            declared::volgwain_verify_rows(
+                &tables,
+                &around,
+                rows,
+                ids.as_ptr(),
+                ids.len(),
+                *sizes,
+                &alpha,
+                &beta,
+                &witness,
+                refusal,
+                text,
+                size,
+            )
+        }
+    })
+}
+
 /// Makes a call, which gets a refusal and room for its text to be written, and returns a code. Both
 /// are initialised, and borrowed by the call alone.
 ///
@@ -451,7 +547,7 @@ fn number(wide: Wide) -> u128 {
 }
 
 impl Terminal {
-    fn of(terminal: Option<Element>) -> Self {
+    pub(crate) fn of(terminal: Option<Element>) -> Self {
         Terminal { present: u32::from(terminal.is_some()), value: terminal.unwrap_or_default() }
     }
 

@@ -191,6 +191,15 @@ pub(super) struct Grid {
     pub(super) bound: Wide,
 }
 
+/// The rows of a range of a trace, and the height of all of it.
+#[derive(Clone, Copy, Debug)]
+#[repr(C)]
+pub(crate) struct Rows {
+    pub(crate) first: usize,
+    pub(crate) end: usize,
+    pub(crate) height: usize,
+}
+
 unsafe extern "C" {
     pub(super) fn volgwain_generate(
         tables: *const Tables,
@@ -345,6 +354,48 @@ unsafe extern "C" {
         airs_length: usize,
         traces: *const Traces,
         traces_length: usize,
+        refusal: *mut Refusal,
+        text: *mut c_char,
+        text_size: usize,
+    ) -> u32;
+
+    pub(super) fn volgwain_generate_rows(
+        tables: *const Tables,
+        around: *const Traces,
+        rows: *const Rows,
+        ids: *const usize,
+        ids_length: usize,
+        sizes: *const PlanSizes,
+        alpha: *const Element,
+        beta: *const Element,
+        auxiliary: *mut Element,
+        auxiliary_length: usize,
+        sum: *mut Element,
+        refusal: *mut Refusal,
+        text: *mut c_char,
+        text_size: usize,
+    ) -> u32;
+
+    pub(super) fn volgwain_shift(
+        cells: *mut Element,
+        cells_length: usize,
+        width: usize,
+        offset: *const Element,
+        refusal: *mut Refusal,
+        text: *mut c_char,
+        text_size: usize,
+    ) -> u32;
+
+    pub(super) fn volgwain_verify_rows(
+        tables: *const Tables,
+        around: *const Traces,
+        rows: *const Rows,
+        ids: *const usize,
+        ids_length: usize,
+        sizes: *const PlanSizes,
+        alpha: *const Element,
+        beta: *const Element,
+        witness: *const AirWitness,
         refusal: *mut Refusal,
         text: *mut c_char,
         text_size: usize,

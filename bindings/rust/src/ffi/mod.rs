@@ -16,10 +16,11 @@ mod calls;
 mod declared;
 
 pub(crate) use calls::{
-    Planned, debug_check, degrees, generate, generate_by_ids, grid_count, pack, plan, prove,
-    read_json, soundness_count, soundness_of_heights, verify,
+    Planned, PlannedIds, debug_check, degrees, generate, generate_by_ids, generate_rows,
+    grid_count, pack, plan, prove, read_json, shift, soundness_count, soundness_of_heights, verify,
+    verify_rows,
 };
-pub(crate) use declared::{Node, PlanSizes, Record, Refusal, Span, Terminal, kind};
+pub(crate) use declared::{Node, PlanSizes, Record, Refusal, Rows, Span, Terminal, kind};
 
 #[cfg(all(test, target_pointer_width = "64"))]
 mod tests {
@@ -50,5 +51,6 @@ mod tests {
         assert_eq!(layout::<Counts>(), (88, 8));
         assert_eq!(layout::<HeightCounts>(), (56, 8));
         assert_eq!(layout::<Grid>(), (40, 8));
+        assert_eq!(layout::<Rows>(), (24, 8));
     }
 }

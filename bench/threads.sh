@@ -1,0 +1,15 @@
+#!/bin/sh
+# Builds the static library, the crate for Rust and the driver of threads, and prints the times: where freed
+# memory is kept for the next call, and where glibc gives it back.
+set -eu
+cd "$(dirname "$0")/.."
+kit=$(dirname "$(rt doc)")
+tools/archive lookup_c >/dev/null
+work=$(mktemp -d)
+trap 'rm -rf "$work"' EXIT
+export VOLGWAIN_LIBRARY="$PWD/crates/lookup_c/out/liblookup_c.a" VOLGWAIN_HEAP="$kit/c/liblibc_c.a"
+cargo build --quiet --release --offline --manifest-path bindings/rust/Cargo.toml --target-dir "$work"
+rustc -O --edition 2024 bench/threads_driver.rs -o "$work/driver" \
+    --extern "volgwain=$work/release/libvolgwain.rlib"
+MALLOC_MMAP_MAX_=0 MALLOC_TRIM_THRESHOLD_=68719476736 MALLOC_TOP_PAD_=268435456 "$work/driver"
+"$work/driver"
