@@ -65,6 +65,6 @@ pub use element::{Element, MODULUS};
 pub use error::{Code, Error, Part};
 pub use expr::{Expr, MOST_DEPTH, MOST_NODES};
 pub use lookup::{Branch, Count, Lookup, Message};
-pub use symbolic::{Symbolic, Term};
+pub use symbolic::{Shape, Symbolic, Term};
 pub use traces::{Trace, Traces};
 pub use witness::{AirWitness, Witness};
