@@ -59,6 +59,8 @@ static long live = 0;
 static long asked = 0;           /* how many requests there were */
 static long before_refusal = -1; /* how many requests are granted yet; -1: all */
 static int refuses_all = 0;      /* whether later requests are refused too */
+static int spares_others = 0;    /* whether those of one thread alone are refused: of this one */
+static pthread_t refused_thread;
 
 void *__real_malloc(size_t size);
 void *__real_realloc(void *block, size_t size);
@@ -70,7 +72,7 @@ void __wrap_free(void *block);
 static int is_refused(void)
 {
     __atomic_add_fetch(&asked, 1, __ATOMIC_SEQ_CST);
-    if (before_refusal < 0)
+    if (before_refusal < 0 || (spares_others && !pthread_equal(pthread_self(), refused_thread)))
         return 0;
     if (before_refusal == 0) {
         if (!refuses_all)
@@ -2085,6 +2087,47 @@ static void check_threads(void)
     }
 }
 
+/* Three threads work, while in this one each request of the calls on ranges of rows is refused in turn: they go on,
+   and the refused call made again gives the same rows. */
+static void check_memory_of_one_thread(void)
+{
+    pthread_t threads[3];
+    long granted;
+    int i, is_last = 0;
+    refused_thread = pthread_self();
+    spares_others = 1;
+    for (i = 0; i < 3; i++)
+        if (pthread_create(&threads[i], NULL, run_calls, NULL) != 0)
+            exit(3);
+    for (granted = 0; !is_last; granted++) {
+        struct cut it;
+        uint32_t verdict, code;
+        make_middle(&it);
+        before_refusal = granted;
+        code = generate_rows(&it);
+        check(code == VOLGWAIN_OK || (code == VOLGWAIN_OUT_OF_MEMORY && has_kept_rows(&it)),
+            "a range is generated, or refused and kept, beside other threads");
+        is_last = code == VOLGWAIN_OK && before_refusal >= 0;
+        before_refusal = granted;
+        verdict = verify_rows(&it);
+        check(verdict == VOLGWAIN_OK || verdict == VOLGWAIN_OUT_OF_MEMORY,
+            "a range is accepted, or refused for memory, beside other threads");
+        is_last = is_last && verdict == VOLGWAIN_OK && before_refusal >= 0;
+        before_refusal = -1;
+        check(generate_rows(&it) == VOLGWAIN_OK && verify_rows(&it) == VOLGWAIN_OK
+                && shift(&it, it.auxiliary, it.auxiliary_length, WIDTH, &it.whole[2 * WIDTH]) == VOLGWAIN_OK
+                && memcmp(it.auxiliary, &it.whole[2 * WIDTH], 2 * WIDTH * sizeof *it.whole) == 0,
+            "and with memory it is the same");
+    }
+    check(granted > 5, "some requests of one thread are refused");
+    for (i = 0; i < 3; i++) {
+        void *wrong = NULL;
+        pthread_join(threads[i], &wrong);
+        check(wrong == NULL, "threads beside one that is refused memory");
+    }
+    spares_others = 0;
+}
+
 /* ---- a small stack: the deepest expressions that are read ---- */
 
 #define DEEPEST VOLGWAIN_MOST_DEPTH
@@ -2345,6 +2388,7 @@ int main(void)
     check_memory("debug_check", try_debug_check);
     check_memory("debug_check of a mismatch", try_mismatch);
     check_threads();
+    check_memory_of_one_thread();
     check_stack(256, run_deep);
     check_stack(384, run_deep_json);
     if (failures == 0)
