@@ -3,12 +3,13 @@ use Rattle.std.proofs.Common.{◌≡◌, ◌<◌, ◌+◌, ◌++◌, ◌∷◌, 
 use Rattle.std.proofs.lemmas.List.{get_or_default, length-map, map_push}
 use Rattle.std.proofs.lemmas.List.Elements.{All-cons, All-nil}
 use Rattle.std.proofs.lemmas.Slice.Zip.{get_or-zip, length-zip}
-use Rattle.std.specs.List.{AllByRecursion, AllZip, slice_get, zip}
+use Rattle.std.specs.List.{AllByRecursion, slice_get, zip}
 use Rattle.std.specs.declared.alloc.Global.{Global}
 use Rattle.std.specs.declared.vec.Vec.{Vec}
 use Rattle.lists.proofs.Each.{all_here, all_of_map, all_parts}
-use Rattle.lists.proofs.Images.{images_more, map-map, mapped_at}
-use Rattle.lists.proofs.Zips.{AllZip-images, AllZip-map, pair_at, zip_at}
+use Rattle.lists.proofs.Images.{images_more, mapped_at}
+use Rattle.lists.proofs.Items.{item_there}
+use Rattle.lists.proofs.Zips.{pair_at, zip_at}
 use Rattle.matrix.specs.Matrix.{Matrix}
 use Rattle.lookup_model.specs.Batches.Ids.{identified}
 use Rattle.lookup_model.specs.Batches.Instances.{Instance, InstancesFit, IsFitting, instance_of, instances_of}
@@ -19,9 +20,7 @@ use Rattle.lookup.specs.declared.lookups.Lookups.{Lookups}
 use Rattle.batch.specs.Lists.{lists_of}
 use Rattle.batch.specs.Traces.{FitsAt, batch_over, instance_of_main, instance_over, traces_of_main, view_of}
 use Rattle.batch.specs.declared.trace.BatchTrace.{BatchTrace}
-use Rattle.batch.specs.declared.reach.Reach.{Reach}
 use Rattle.batch.specs.internal.Pairs.{HaveIdsBelow}
-use Rattle.batch.specs.Reaches.{IsReachOf}
 
 module _ {F : Type 0} where
   -- AIRs that fit their heights fit
@@ -33,6 +32,12 @@ module _ {F : Type 0} where
   ids_below m [] lookups same all = All-nil (λ id. id < m)
   ids_below m (id ∷ ids) [] same all = absurd (omega (arith, same))
   ids_below m (id ∷ ids) (l ∷ ls) same all = All-cons (λ i. i < m) id ids all.0 (ids_below m ids ls (omega (arith, same)) all.1)
+
+  -- the ids of AIRs are below m if those of their lookups are
+  pub airs_below : (m : ℕ) (is : List (Instance F)) → All IsFitting is → AllByRecursion (λ a. a.0 < m) (identified is) → All (λ i. All (λ id. id < m) i.ids) is
+  airs_below m is fit all k i lt =
+      let one = get_or is k i in
+      ids_below m one.ids one.lookups (fit k i lt).ids (all_here (λ j. AllByRecursion (λ a. a.0 < m) (zip j.ids j.lookups)) is k i lt (all_parts (λ a. a.0 < m) (λ j. zip j.ids j.lookups) is all))
 
   -- the ids of a batch are below m if those of its lookups are
   pub have_below : (m : ℕ) (bs : List (BatchInstance F)) → InstancesFit bs → AllByRecursion (λ a. a.0 < m) (identified (instances_of bs)) → HaveIdsBelow m bs
@@ -52,13 +57,33 @@ module _ {F : Type 0} where
     pub length_parts : length parts ≡ length airs
     length_parts = omega (arith, length-zip (zip (lists_of ids) airs) traces, length-zip (lists_of ids) airs, lists_are, traces_are)
 
+    -- the AIR at an index, with its id list and its trace
+    module _ (i : ℕ) (list : Vec ℕ Global) (air : Lookups F) (trace : BatchTrace F) (lt : i < length airs) (list_is : list ≡ get_or ids i list) (air_is : air ≡ get_or airs i air) (trace_is : trace ≡ get_or traces i trace) where
+      part_there : ((list.items, air), trace) ≡ get_or parts i ((list.items, air), trace)
+      part_there =
+          let air_there = zip_at (lists_of ids) airs i list.items air lists_are (omega (arith, lists_are, lt)) (mapped_at (λ l. l.items) ids i list (omega (arith, ids_are, lt)) list_is) air_is in
+          zip_at (zip (lists_of ids) airs) traces i (list.items, air) trace (omega (arith, length-zip (lists_of ids) airs, lists_are, traces_are)) (omega (arith, length-zip (lists_of ids) airs, lists_are, lt)) air_there trace_is
+
+      -- is the AIR of the batch over the traces
+      pub air_read : instance_over (list.items, air) trace ≡ get_or (batch_over (lists_of ids) airs traces) i (instance_over (list.items, air) trace)
+      air_read = mapped_at (λ t. instance_over t.0 t.1) parts i ((list.items, air), trace) (omega (arith, length_parts, lt)) part_there
+
+      pub air_there : slice_get (batch_over (lists_of ids) airs traces) i ≡ Some (instance_over (list.items, air) trace)
+      air_there =
+          item_there (batch_over (lists_of ids) airs traces) i (instance_over (list.items, air) trace) (omega (arith, length-map parts (λ t. instance_over t.0 t.1), length_parts, lt)) air_read
+
+      -- and stands there with its height
+      pub trace_there : (heights : List ℕ) → length heights ≡ length airs → slice_get (zip (batch_over (lists_of ids) airs traces) heights) i ≡ Some (instance_over (list.items, air) trace, get_or heights i 0)
+      trace_there heights same =
+          pair_at (batch_over (lists_of ids) airs traces) heights i (instance_over (list.items, air) trace) (get_or heights i 0) (omega (arith, length-map parts (λ t. instance_over t.0 t.1), length_parts, lt)) (omega (arith, lt, same))
+          air_read (get_or_default heights i 0 (get_or heights i 0) (omega (arith, lt, same)))
+
     -- one AIR more
     pub batch_more : (bs : List (BatchInstance F)) (b : BatchInstance F) (i : ℕ) (list : Vec ℕ Global) (air : Lookups F) (trace : BatchTrace F) → i < length airs
         → list ≡ get_or ids i list → air ≡ get_or airs i air → trace ≡ get_or traces i trace → instance_of b ≡ instance_over (list.items, air) trace
         → instances_of bs ≡ map (λ t. instance_over t.0 t.1) (take i parts) → instances_of (bs ++ b ∷ []) ≡ map (λ t. instance_over t.0 t.1) (take (i + 1) parts)
     batch_more bs b i list air trace lt list_is air_is trace_is b_is so_far =
-        let air_there = zip_at (lists_of ids) airs i list.items air lists_are (omega (arith, lists_are, lt)) (mapped_at (λ l. l.items) ids i list (omega (arith, ids_are, lt)) list_is) air_is in
-        let there = zip_at (zip (lists_of ids) airs) traces i (list.items, air) trace (omega (arith, length-zip (lists_of ids) airs, lists_are, traces_are)) (omega (arith, length-zip (lists_of ids) airs, lists_are, lt)) air_there trace_is in
+        let there = part_there i list air trace lt list_is air_is trace_is in
         map_push instance_of bs b
         ∙ (λ j. so_far j ++ b_is j ∷ [])
         ∙ sym (images_more (λ t. instance_over t.0 t.1) parts i ((list.items, air), trace) (omega (arith, length_parts, lt)) there)
@@ -67,31 +92,6 @@ module _ {F : Type 0} where
   pub length_batch : (airs : List (Lookups F)) (ids : List (List ℕ)) (traces : List (BatchTrace F)) → length ids ≡ length airs → length traces ≡ length airs → length (batch_over ids airs traces) ≡ length airs
   length_batch airs ids traces ids_are traces_are =
       omega (arith, length-map (zip (zip ids airs) traces) (λ t. instance_over t.0 t.1), length-zip (zip ids airs) traces, length-zip ids airs, ids_are, traces_are)
-
-  -- an AIR of a batch with its height
-  pub trace_there : (bs : List (BatchInstance F)) (heights : List ℕ) (i : ℕ) (b : BatchInstance F) → length heights ≡ length bs → i < length bs → b ≡ get_or bs i b → slice_get (zip (instances_of bs) heights) i ≡ Some (instance_of b, get_or heights i 0)
-  trace_there bs heights i b same lt is =
-      let h = get_or heights i 0 in
-      pair_at (instances_of bs) heights i (instance_of b) h (omega (arith, length-map bs instance_of, lt)) (omega (arith, lt, same)) (mapped_at instance_of bs i b lt is) (get_or_default heights i 0 h (omega (arith, lt, same)))
-
-module _ {F : Type 0} where
-  lookups_over : (ids : List (List ℕ)) (airs : List (Lookups F)) (traces : List (BatchTrace F)) → length ids ≡ length airs → length traces ≡ length airs → map (λ i. i.lookups) (batch_over ids airs traces) ≡ map lookups_of airs
-  lookups_over [] [] [] ids_are traces_are = refl
-  lookups_over (i ∷ is) (a ∷ more) (t ∷ ts) ids_are traces_are =
-      ap (λ ls. lookups_of a ∷ ls) (lookups_over is more ts (omega (arith, ids_are)) (omega (arith, traces_are)))
-  lookups_over [] (a ∷ more) traces ids_are traces_are = absurd (omega (arith, ids_are))
-  lookups_over (i ∷ is) [] traces ids_are traces_are = absurd (omega (arith, ids_are))
-  lookups_over [] [] (t ∷ ts) ids_are traces_are = absurd (omega (arith, traces_are))
-  lookups_over (i ∷ is) (a ∷ more) [] ids_are traces_are = absurd (omega (arith, traces_are))
-
-  -- the reaches of AIRs are those of the instances of a batch
-  pub reaches_over : (ids : List (List ℕ)) (airs : List (Lookups F)) (traces : List (BatchTrace F)) (reaches : List Reach) (bs : List (BatchInstance F)) → length ids ≡ length airs → length traces ≡ length airs
-      → AllZip (λ reach air. IsReachOf reach (lookups_of air)) reaches airs → instances_of bs ≡ batch_over ids airs traces → AllZip (λ reach one. IsReachOf reach one.lookups.now) reaches bs
-  reaches_over ids airs traces reaches bs ids_are traces_are all is =
-      let same : map lookups_of airs ≡ map (λ b. b.lookups.now) bs =
-      sym (lookups_over ids airs traces ids_are traces_are) ∙ ap (map (λ i. i.lookups)) (sym is) ∙ map-map (λ i. i.lookups) instance_of bs in
-      AllZip-map IsReachOf (λ r. r) (λ b. b.lookups.now) reaches bs
-      (subst (λ (ls : List (List (Lookup F))). AllZip IsReachOf (map (λ r. r) reaches) ls) same (AllZip-images IsReachOf (λ r. r) lookups_of reaches airs all))
 
 -- over main traces alone, the batch of a plan is that of these
 pub alone_is : {F : Type 0} (airs : List (List ℕ × Lookups F)) (traces : List (BatchTrace F)) (mains : List (Matrix F)) → map view_of traces ≡ map traces_of_main mains

@@ -1,5 +1,5 @@
 //! Plans of batches.
-ghost use Rattle.std.specs.Prelude.{◌≡◌, ◌⊎◌, MatchResult, length, map};
+ghost use Rattle.std.specs.Prelude.{◌≡◌, ◌⊎◌, ◌≤◌, MatchResult, length, map};
 ghost use Rattle.std.specs.List.{AllZip};
 ghost use Rattle.batch.specs.PlanFacts.{IsPlan};
 ghost use Rattle.batch.specs.Plans.{plan_with};
@@ -12,16 +12,19 @@ use crate::error::BatchError;
 use crate::grid::{GridCount, count_grid};
 use crate::heights::{HeightSoundness, soundness_by_heights};
 use crate::ids::{PlanIds, plan_ids};
-use crate::instances::make_batch;
+use crate::instances::{air_over, check_traces, make_batch};
 use crate::reach::{Reach, reaches_of};
 use crate::trace::BatchTrace;
 use crate::widths::{check_local_widths, widest_tuple};
 use checker::{
-    BatchInstance, SoundnessCount, Witness, accepted_is_accepting, check_witness,
-    counted_soundness, generate_batch, linear_soundness, packing_keeps_batch, soundness_count,
+    BatchInstance, SoundnessCount, Witness, accepted_is_accepting, check_result, counted_soundness,
+    generate_batch, linear_soundness, packing_keeps_batch, results_join, soundness_count,
 };
 use field::{ExtensionField, Field, Over};
-use lookup::{Challenges, Lookups, check_bus_widths, check_multiplicity_height_bound, height_law};
+use lookup::{
+    Challenges, LogUpGadget, LookupError, LookupProtocol, Lookups, check_bus_widths,
+    check_multiplicity_height_bound, height_law,
+};
 use std::alloc::{AllocError, Global};
 
 /// The lookups of the AIRs of a batch with their ids, and the heights of the traces.
@@ -50,6 +53,11 @@ impl<F: Field> BatchPlan<F> {
     ghost use Rattle.batch.specs.Grids.{CountsPlanGrid, PlanStaysWithinLinearBound, StaysWithinBound};
     ghost use Rattle.batch.specs.Heights.{BoundsAllTraces, CountsHeights, most_planned};
     ghost use Rattle.batch.specs.PlanBatches.{HasLawfulIds, InstancesFitPlan};
+    ghost use Rattle.batch.specs.Plans.{FitPlan, IsMisfit, plan_batch};
+    ghost use Rattle.checker.specs.Answers.{ChecksWitness};
+    ghost use Rattle.lookup_model.specs.Batches.Witnesses.{HasOneOfEach, results_of};
+    ghost use Rattle.lookup_model.specs.Challenges.{table_of};
+    ghost use Rattle.std.specs.Box.{boxed_slice_items};
     ghost use Rattle.batch.specs.internal.PlanBatches.{MakesPlanBatch};
     ghost use Rattle.batch.specs.Runs.{PassIsCounted, Proves, ProvesBalanced, ProvesRegular, ProvesSatisfied, RefusesOnlyUnaccepted, Verifies, VerifiesOnlyPlain, plan_of, run_of};
     ghost use Rattle.batch.specs.SoundnessCounts.{CountsLinearly, CountsPlan, CountsSoundly};
@@ -180,16 +188,11 @@ impl<F: Field> BatchPlan<F> {
         ensures counted { PassIsCounted
             (run_of ⟦<EF as Over<F>>⟧.fields (plan_of self.now) traces.now alpha beta) result }
     {
-        let batch = self.batch_over(alloc, traces)?;
+        self.check_traces(traces)?;
         check_counts(self.airs.len(), witness)?;
         let challenges = Challenges::new(alloc, alpha, beta, self.max_message_width, self.num_ids)?;
-        check_witness(
-            alloc,
-            batch.as_slice(),
-            &challenges,
-            witness.aux.as_slice(),
-            witness.terminals.as_slice(),
-        )?;
+        results_join::<F, EF>();
+        self.check_results(alloc, traces, &challenges, witness)?;
         accepted_is_accepting::<F, EF>();
         counted_soundness::<F, EF>();
         linear_soundness::<F, EF>();
@@ -289,6 +292,46 @@ impl<F: Field> BatchPlan<F> {
         let batch = self.batch_over(alloc, traces)?;
         let (width, num_ids) = (self.max_message_width, self.num_ids);
         count_grid(alloc, batch.as_slice(), width, num_ids, alphas, betas)
+    }
+
+    /// Whether there are traces for each AIR that fit. Refuses traces as `batch_over` does, but allocates
+    /// nothing.
+    fn check_traces<'a>(&'a self, traces: &'a [BatchTrace<'a, F>]) -> Result<(), BatchError>
+        ensures { MatchResult result (λ _. FitPlan (plan_of self.now) traces.now)
+            (IsMisfit (plan_of self.now) traces.now) }
+    {
+        check_traces(
+            self.airs.as_slice(),
+            self.ids.as_slice(),
+            self.heights.as_slice(),
+            self.reaches.as_slice(),
+            traces,
+        )
+    }
+
+    /// Whether a witness of the batch over these traces is accepted, as
+    /// [`check_witness`](checker::check_witness) says it. Each AIR is checked alone: no list of instances is
+    /// made.
+    fn check_results<EF: ExtensionField<F>>(
+        &self,
+        alloc: Global,
+        traces: &[BatchTrace<'_, F>],
+        challenges: &Challenges<EF>,
+        witness: &Witness<EF>,
+    ) -> Result<(), LookupError>
+        requires traces { FitPlan (plan_of self.now) traces.now }
+        requires parts { HasOneOfEach (plan_batch (plan_of self.now) traces.now) witness.now }
+        requires prefixes { self.now.num_ids ≤ length (boxed_slice_items challenges.now.bus_prefix) }
+        ensures { ChecksWitness ⟦<EF as Over<F>>⟧.fields (table_of challenges.now)
+            (plan_batch (plan_of self.now) traces.now) (results_of witness.now) result }
+    {
+        results_join::<F, EF>();
+        for air in 0..self.airs.len() {
+            let instance = air_over(&self.airs[air], &self.ids[air], &traces[air]);
+            let (aux, terminal) = (&witness.aux[air], &witness.terminals[air]);
+            check_result(alloc, air, &instance, challenges, aux, terminal)?;
+        }
+        LogUpGadget::new().verify_terminal_sum(witness.terminals.as_slice())
     }
 
     /// The batch of the AIRs over these traces, under their ids.

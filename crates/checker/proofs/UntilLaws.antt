@@ -21,6 +21,15 @@ module _ {P Q : ℕ → Type 0} {first end : ℕ} where
     fails = λ lt q. h.fails lt (from r q);
   }
 
+  -- or on the same rows of the range
+  pub same_within : ((s : ℕ) → first ≤ s → s < end → P s → Q s) → ((s : ℕ) → first ≤ s → s < end → Q s → P s) → (r : ℕ) → HoldsUntil P first end r → HoldsUntil Q first end r
+  same_within to from r h = record {
+    from = h.from;
+    up_to = h.up_to;
+    holds = λ s low high. to s low (omega (arith, high, h.up_to)) (h.holds s low high);
+    fails = λ lt q. h.fails lt (from r h.from lt q);
+  }
+
   -- a property that is looked at only up to where another one fails: both hold until then
   pub both_until : (u r : ℕ) → HoldsUntil P first end u → HoldsUntil Q first u r → HoldsUntil (λ s. P s × Q s) first end r
   both_until u r one other = record {

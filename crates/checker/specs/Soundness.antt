@@ -1,5 +1,5 @@
 -- Theorems on batches.
-use Rattle.std.specs.Prelude.{◌≡◌, ◌↔◌, ℕ, Bool, List, All, map}
+use Rattle.std.specs.Prelude.{◌≡◌, ◌↔◌, ◌<◌, ℕ, Bool, List, All, map}
 use Rattle.std.specs.Box.{boxed_slice_items}
 use Rattle.std.specs.List.{range_with_len}
 use Rattle.field.specs.Extension.{Extension}
@@ -31,3 +31,9 @@ abbrev pub AcceptedIsAccepting : {F K : Type 0} → Extension F K → Type 0
 AcceptedIsAccepting {F} {K} E =
     (W m : ℕ) (alpha beta : K) (challenges : Challenges K) (instances : List (BatchInstance F)) → AreMadeOf E.ring W m alpha beta challenges → HavePrefixes challenges instances
     → HasAccepted E (table_of challenges) (instances_of instances) ↔ IsAccepting E (instances_of instances) W beta alpha
+
+-- The same of any instances whose ids are below m.
+abbrev pub AcceptedIsAcceptingBelow : {F K : Type 0} → Extension F K → Type 0
+AcceptedIsAcceptingBelow {F} {K} E =
+    (W m : ℕ) (alpha beta : K) (challenges : Challenges K) (instances : List (Instance F)) → AreMadeOf E.ring W m alpha beta challenges → All (λ i. All (λ id. id < m) i.ids) instances
+    → HasAccepted E (table_of challenges) instances ↔ IsAccepting E instances W beta alpha

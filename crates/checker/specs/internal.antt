@@ -2,6 +2,7 @@
 pub mod Checks
 pub mod Collected
 pub mod Identified
+pub mod Products
 pub mod Quotients
 pub mod Results
 pub mod Rows

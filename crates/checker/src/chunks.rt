@@ -7,7 +7,7 @@ ghost use Rattle.lookup_columns.specs.LookupSteps.{AreLookupSteps};
 ghost use Rattle.matrix.specs.Matrix.{height};
 
 use crate::accumulator::accumulator_holds_until;
-use crate::fractions::fraction_holds_until;
+use crate::products::lookup_holds_until;
 use air::{RowInputs, Traces};
 use field::{ExtensionField, Field, Over};
 use lookup::Lookup;
@@ -16,6 +16,15 @@ use lookup_columns::{
 };
 use lookup_generation::chunk_end;
 use std::alloc::{AllocError, Global};
+
+/// The lists of a chunk, which the next one fills again.
+#[derive(Drop)]
+struct CheckMemory<F, EF> {
+    /// For the columns of lookups.
+    columns: ColumnMemory<F, EF>,
+    /// For the products of denominators and fractions.
+    products: Vec<EF>,
+}
 
 /// Up to which of the rows from `first` up to `end` all constraints are zero: the first row on which one
 /// is not, or `end`. The first chunk that has such a row ends the check.
@@ -35,7 +44,10 @@ pub(crate) fn chunks_hold_until<'a, F: Field, EF: ExtensionField<F>>(
         (HoldsOn ⟦<EF as Over<F>>⟧.fields inputs.now lookups.now) first end) }
 {
     let steps = steps_of_lookups(alloc, lookups)?;
-    let mut memory = ColumnMemory::new(alloc);
+    let mut memory = CheckMemory {
+        columns: ColumnMemory::new(alloc),
+        products: Vec::new(alloc),
+    };
     let mut next = first;
     while next < end {
         let last = chunk_end(next, end);
@@ -55,7 +67,7 @@ pub(crate) fn chunks_hold_until<'a, F: Field, EF: ExtensionField<F>>(
 /// and its columns are put away before those of the next one are made.
 fn chunk_holds_until<'a, F: Field, EF: ExtensionField<F>>(
     alloc: Global,
-    memory: &mut ColumnMemory<F, EF>,
+    memory: &mut CheckMemory<F, EF>,
     inputs: &'a RowInputs<'a, F, EF>,
     lookups: &[Lookup<F>],
     steps: &[LookupSteps<F>],
@@ -74,7 +86,7 @@ fn chunk_holds_until<'a, F: Field, EF: ExtensionField<F>>(
         preprocessed: inputs.preprocessed,
         public_values: inputs.public_values,
     };
-    let rows = rows_between(alloc, &mut memory.indices, first, end)?;
+    let rows = rows_between(alloc, &mut memory.columns.indices, first, end)?;
     let on_rows = ColumnInputs {
         traces: &traces,
         challenges: inputs.challenges,
@@ -83,10 +95,11 @@ fn chunk_holds_until<'a, F: Field, EF: ExtensionField<F>>(
     let mut until = accumulator_holds_until(inputs, lookups, first, end);
     for i in 0..lookups.len() {
         let lookup = &lookups[i];
-        let columns = columns_of_lookup(alloc, memory, &on_rows, lookup, &steps[i])?;
-        until = fraction_holds_until(inputs, lookup, &columns, first, until);
-        memory.put_branches(columns)?;
+        let columns = columns_of_lookup(alloc, &mut memory.columns, &on_rows, lookup, &steps[i])?;
+        let products = &mut memory.products;
+        until = lookup_holds_until(products, inputs, lookup, &columns, first, until)?;
+        memory.columns.put_branches(columns)?;
     }
-    memory.indices.put(rows)?;
+    memory.columns.indices.put(rows)?;
     Ok(until)
 }

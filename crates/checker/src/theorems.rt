@@ -1,5 +1,5 @@
 //! Theorems on batches, each as the contract of a function that does nothing: at how few challenges a batch
-//! that does not balance can be accepted, what packing keeps, and how checks of ranges of rows join.
+//! that does not balance can be accepted, what packing keeps, and how checks of AIRs and of ranges of rows join.
 ghost use Rattle.std.specs.Prelude.{◌<◌, ℕ, List, All, map};
 ghost use Rattle.lookup_model.specs.Batches.Alphas.{FewBadAlphas};
 ghost use Rattle.lookup_model.specs.Batches.Counts.{IsCountedSound};
@@ -11,7 +11,8 @@ ghost use Rattle.lookup_model.specs.Challenges.{ChallengeTable};
 ghost use Rattle.checker.specs.Packed.{ArePacked, KeepsCounts, KeepsTerminals};
 ghost use Rattle.checker.specs.Ranges.{ChecksJoin};
 ghost use Rattle.checker.specs.Renamed.{IsInjective, renamed};
-ghost use Rattle.checker.specs.Soundness.{AcceptedIsAccepting, HoldsOfLawful};
+ghost use Rattle.checker.specs.Results.{ResultsJoin};
+ghost use Rattle.checker.specs.Soundness.{AcceptedIsAccepting, AcceptedIsAcceptingBelow, HoldsOfLawful};
 
 use field::{ExtensionField, Field, Over};
 
@@ -79,9 +80,11 @@ pub fn linear_soundness<F: Field, EF: ExtensionField<F>>()
 /// What joins `check_witness` and `some_witness` to `counted_soundness`.
 ///
 /// Let challenges have the beta and the prefixes that `Challenges::new` makes of an alpha and a beta.
-/// Some witness is accepted over them exactly if alpha is accepting at beta.
+/// Some witness is accepted over them exactly if alpha is accepting at beta. `below` says the same of
+/// instances that are no values of the program, as those of a plan.
 pub fn accepted_is_accepting<F: Field, EF: ExtensionField<F>>()
-    ensures { AcceptedIsAccepting ⟦<EF as Over<F>>⟧.fields }
+    ensures values { AcceptedIsAccepting ⟦<EF as Over<F>>⟧.fields }
+    ensures below { AcceptedIsAcceptingBelow ⟦<EF as Over<F>>⟧.fields }
 {}
 
 /// Packing AIRs of a batch keeps its counts and its terminals.
@@ -111,4 +114,13 @@ pub fn packing_keeps_batch<F: Field, EF: ExtensionField<F>>()
 pub fn checks_join<F: Field, EF: ExtensionField<F>>()
     ensures { (table : ChallengeTable EF) (instance : Instance F) (result : AirResult EF)
         → ChecksJoin ⟦<EF as Over<F>>⟧.fields table instance result }
+{}
+
+/// How checks of the AIRs of a batch join, wherever they are made: where the results before an AIR are
+/// satisfied, its refusal by [`check_result`](crate::check_result) is the answer for the witness; where all
+/// are, the answer for the sum of the terminals is. So [`check_witness`](crate::check_witness) answers, and
+/// what it promises of its answers follows from these alone.
+pub fn results_join<F: Field, EF: ExtensionField<F>>()
+    ensures { (table : ChallengeTable EF) (instances : List (Instance F)) (witness : List (AirResult EF))
+        → ResultsJoin ⟦<EF as Over<F>>⟧.fields table instances witness }
 {}

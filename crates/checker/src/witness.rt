@@ -64,8 +64,13 @@ pub fn check_witness<F: Field, EF: ExtensionField<F>>(
     LogUpGadget::new().verify_terminal_sum(terminals)
 }
 
-/// Whether the result of one AIR satisfies its constraints.
-fn check_result<F: Field, EF: ExtensionField<F>>(
+/// Whether the result of one AIR, number `air` of its batch, satisfies its constraints: the part of
+/// [`check_witness`] for this AIR, with its refusals.
+///
+/// So a batch can be checked AIR by AIR, without a list of its instances:
+/// [`results_join`](crate::results_join) says how the answers join. Requires an instance that fits
+/// (`instance_fits`), with ids below the number of prefixes. Also fails when out of memory.
+pub fn check_result<F: Field, EF: ExtensionField<F>>(
     alloc: Global,
     air: usize,
     instance: &BatchInstance<'_, F>,

@@ -12,7 +12,7 @@ returns g c =
     let challenges = c.in_ok-challenges.challenges in
     let made = c.in_ok-challenges.ensures in
     let have = have_prefixes g.EF.PrimeCharacteristicRing.ring a.max_message_width a.num_ids a.alpha a.beta challenges a.instances.now made.prefixes c.requires.ids in
-    let same = c.accepted_is_accepting.ensures a.max_message_width a.num_ids a.alpha a.beta challenges a.instances.now (made.beta, made.prefixes) have in
+    let same = c.accepted_is_accepting.ensures.values a.max_message_width a.num_ids a.alpha a.beta challenges a.instances.now (made.beta, made.prefixes) have in
     MatchResult-weaker c.some_witness.result c.some_witness.ensures
     (λ found says. ((λ held. same.0 (says.0 held)), (λ has. says.1 (same.1 has))))
     (λ e is. is)
