@@ -215,6 +215,43 @@ fn spoiled_cells_of_lookups_on_buses(rt: HostRuntime) {
     names_the_rows(&rt, rt.alloc(), &air, SPOILED.as_slice(), LAST);
 }
 
+/// The auxiliary trace with the fractions of the first two lookups exchanged on a row.
+fn exchanged<EF: Field>(
+    rt: &impl Abort,
+    alloc: Global,
+    made: &Witness<EF>,
+    row: usize,
+) -> RowMajorMatrix<EF> {
+    let Some(aux) = made.aux.first() else {
+        panic!(rt; "no auxiliary trace")
+    };
+    let width = aux.width();
+    let mut values = Vec::new(alloc);
+    values.extend_from_slice(aux.values()).expect(rt, "memory");
+    let first = row.saturating_mul(width).saturating_add(1);
+    assert!(rt; first < usize::MAX && first + 1 < values.len());
+    values.swap(first, first + 1);
+    assert!(rt; width > 0 && values.len() % width == 0);
+    RowMajorMatrix::new(values, width)
+}
+
+/// Where two fractions are exchanged on a row, the accumulator still goes on by their sum, and only their own
+/// constraints fail.
+#[test]
+fn exchanged_fractions_of_lookups_on_buses(rt: HostRuntime) {
+    let alloc = rt.alloc();
+    let air = buses(&rt, alloc);
+    let challenges = table(&rt, alloc);
+    let witness = made(&rt, alloc, &air, &challenges);
+    for row in [0, 3, 1022, 1023, 1024, 1026, LAST] {
+        let aux = exchanged(&rt, alloc, &witness, row);
+        let zero = terminal(&rt, &witness, BabyBear4::ZERO);
+        let refused = answer(&rt, alloc, &air, &challenges, aux, zero);
+        let failed = LookupError::ConstraintFailed { air: 0, row };
+        holds(&rt, "exchanged fractions", refused == Err(failed));
+    }
+}
+
 /// Two groups of four branches, which take back each other's keys. Of five rows the first four select a
 /// branch each, and the fifth none.
 fn groups(rt: &impl Abort, alloc: Global) -> Air {

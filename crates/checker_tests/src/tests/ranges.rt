@@ -4,7 +4,8 @@ use air::{
     AirLayout, BaseEntry, BaseLeaf, Expression, SymbolicExpression, SymbolicVariable, Traces,
 };
 use checker::{
-    BatchInstance, check_in_ranges, check_shape, checks_join, instance_fits, rows_hold_until,
+    BatchInstance, check_in_ranges, check_result, check_shape, checks_join, instance_fits,
+    results_join, rows_hold_until,
 };
 use field::{ExtensionField, F7, Field, PrimeCharacteristicRing};
 use lookup::{Challenges, Kind, Lookup, LookupError, LookupTerminal, fits};
@@ -79,11 +80,25 @@ fn checked_in_two(
     check_in_ranges(alloc, 3, air, challenges, aux, terminal, ends.as_slice())
 }
 
+/// What the check of AIR 3 says of all rows at once.
+fn checked_alone(
+    rt: &impl Abort,
+    alloc: Global,
+    air: &BatchInstance<'_, F7>,
+    challenges: &Challenges<F7>,
+    aux: &RowMajorMatrix<F7>,
+    terminal: &Option<LookupTerminal<F7>>,
+) -> Result<(), LookupError> {
+    assert!(rt; instance_fits(air) && are_below(air.ids, challenges.bus_prefix.len()));
+    check_result(alloc, 3, air, challenges, aux, terminal)
+}
+
 /// The same rows, checked one after the other: a changed fraction is refused at its row, and of two the first
 /// one is named.
 #[test]
 fn an_air_checked_in_ranges(rt: HostRuntime) {
     checks_join::<F7, F7>();
+    results_join::<F7, F7>();
     let alloc = rt.alloc();
     let main = trace(&rt, alloc, &[3, 4, 1, 4, 3, 1], 3);
     let lookups = [range(&rt, alloc)];
@@ -100,6 +115,13 @@ fn an_air_checked_in_ranges(rt: HostRuntime) {
         let answer = checked_in_two(&rt, alloc, &air, &challenges, &aux, &last, 1);
         let failed = failing.map(|row| LookupError::ConstraintFailed { air: 3, row });
         holds(&rt, "the answer", answer.err() == failed);
+        let failed = failing.map(|row| LookupError::ConstraintFailed { air: 3, row });
+        let answer = checked_alone(&rt, alloc, &air, &challenges, &aux, &last);
+        holds(
+            &rt,
+            "the answer for all rows at once",
+            answer.err() == failed,
+        );
     }
     let narrow = trace(&rt, alloc, &[0, 4], 1);
     let refused = checked_in_two(&rt, alloc, &air, &challenges, &narrow, &last, 2);
@@ -108,6 +130,17 @@ fn an_air_checked_in_ranges(rt: HostRuntime) {
         expected: 2,
     };
     holds(&rt, "the shape first", refused == Err(width));
+    let refused = checked_alone(&rt, alloc, &air, &challenges, &narrow, &None);
+    let presence = LookupError::TerminalPresenceMismatch {
+        air: 3,
+        expected_present: true,
+        got_present: false,
+    };
+    holds(
+        &rt,
+        "the terminal before the width",
+        refused == Err(presence),
+    );
 }
 
 /// The rows of a matrix around a range.
