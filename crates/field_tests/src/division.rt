@@ -1,10 +1,11 @@
 ghost use Rattle.std.specs.Prelude.{◌≡◌, ◌≢◌, IfOk, All, length};
 
-use crate::cases::holds_at;
+use crate::cases::{holds, holds_at};
 use field::{
     BabyBear, BabyBear4, DivisionLists, Domain, ExtensionField, F2, F7, Field, InverseCount,
     PrimeCharacteristicRing,
 };
+use goldilocks::{Goldilocks, Goldilocks2};
 use std::alloc::{AllocError, Global};
 
 /// Those of these elements that are not zero.
@@ -140,4 +141,20 @@ fn over_itself<K: Field>(alloc: Global) -> bool {
 fn lists_over_small_fields_divide(rt: HostRuntime) {
     holds_at(&rt, "modulo", 2, over_itself::<F2>(rt.alloc()));
     holds_at(&rt, "modulo", 7, over_itself::<F7>(rt.alloc()));
+}
+
+#[test]
+fn quadratic_lists_divide(rt: HostRuntime) {
+    let alloc = rt.alloc();
+    let first = Goldilocks2::new([Goldilocks::new(5), Goldilocks::new(1)]);
+    let held = match (
+        elements(alloc, first, 1025),
+        elements(alloc, first * first, 1025),
+    ) {
+        (Ok(numerators), Ok(denominators)) => {
+            all_divide::<Goldilocks, Goldilocks2>(alloc, &numerators, &denominators, &LENGTHS)
+        }
+        _ => false,
+    };
+    holds(&rt, "quadratic lists", held);
 }

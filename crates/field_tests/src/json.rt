@@ -1,5 +1,6 @@
 use crate::cases::{holds, holds_for};
 use field::{BabyBear, BabyBear4, F2, F7};
+use goldilocks::{Goldilocks, Goldilocks2};
 use serde::{Deserialize, DeserializeOwned, Serialize};
 use serde_json::Value;
 use std::alloc::Global;
@@ -51,6 +52,10 @@ const OF_BABY_BEAR: [&str; 4] = ["0", "1", "123", "2013265920"];
 
 const OF_BABY_BEAR4: [&str; 1] = ["[1,2013265920,0,4]"];
 
+const OF_GOLDILOCKS: [&str; 4] = ["0", "1", "4294967296", "18446744069414584320"];
+
+const OF_GOLDILOCKS2: [&str; 2] = ["[0,0]", "[1,18446744069414584320]"];
+
 #[test]
 fn each_value_goes_round(rt: HostRuntime) {
     let alloc = rt.alloc();
@@ -58,6 +63,8 @@ fn each_value_goes_round(rt: HostRuntime) {
     all_go_round::<F7>(&rt, alloc, "F7", &OF_F7);
     all_go_round::<BabyBear>(&rt, alloc, "BabyBear", &OF_BABY_BEAR);
     all_go_round::<BabyBear4>(&rt, alloc, "BabyBear4", &OF_BABY_BEAR4);
+    all_go_round::<Goldilocks>(&rt, alloc, "Goldilocks", &OF_GOLDILOCKS);
+    all_go_round::<Goldilocks2>(&rt, alloc, "Goldilocks2", &OF_GOLDILOCKS2);
 }
 
 /// Whether the text is read as this value.
@@ -81,6 +88,10 @@ fn the_number_is_the_value(rt: HostRuntime) {
         BabyBear::new(4),
     ]);
     holds(&rt, "BabyBear4", reads(alloc, "[1,2,3,4]", wanted));
+    let large = Goldilocks::new(5_000_000_000);
+    holds(&rt, "Goldilocks", reads(alloc, "5000000000", large));
+    let wanted = Goldilocks2::new([large, Goldilocks::new(2)]);
+    holds(&rt, "Goldilocks2", reads(alloc, "[5000000000,2]", wanted));
 }
 
 /// Whether the text is refused for what it holds.
@@ -117,6 +128,16 @@ const NOT_OF_BABY_BEAR4: [&str; 5] = [
     "1",
 ];
 
+const NOT_OF_GOLDILOCKS: [&str; 5] = [
+    "18446744069414584321",
+    "18446744073709551616",
+    "-1",
+    "1.5",
+    "\"1\"",
+];
+
+const NOT_OF_GOLDILOCKS2: [&str; 5] = ["[1]", "[1,2,3]", "[1,18446744069414584321]", "[-1,0]", "1"];
+
 #[test]
 fn other_values_are_refused(rt: HostRuntime) {
     let alloc = rt.alloc();
@@ -124,4 +145,6 @@ fn other_values_are_refused(rt: HostRuntime) {
     all_are_refused::<F7>(&rt, alloc, "F7", &NOT_OF_F7);
     all_are_refused::<BabyBear>(&rt, alloc, "BabyBear", &NOT_OF_BABY_BEAR);
     all_are_refused::<BabyBear4>(&rt, alloc, "BabyBear4", &NOT_OF_BABY_BEAR4);
+    all_are_refused::<Goldilocks>(&rt, alloc, "Goldilocks", &NOT_OF_GOLDILOCKS);
+    all_are_refused::<Goldilocks2>(&rt, alloc, "Goldilocks2", &NOT_OF_GOLDILOCKS2);
 }

@@ -1,4 +1,4 @@
-//! The tests of `field` and `matrix`: values calculated by hand, texts, and JSON.
+//! The tests of `field`, `goldilocks` and `matrix`: values calculated by hand, texts, and JSON.
 //!
 //! They have a crate of their own, so that the crates that they test are proved once and not twice.
 #![tactic(auto)]
@@ -13,6 +13,8 @@ mod batch_inverse;
 mod cases;
 #[cfg(test)]
 mod division;
+#[cfg(test)]
+mod goldilocks_fields;
 #[cfg(test)]
 mod integers_modulo_2;
 #[cfg(test)]

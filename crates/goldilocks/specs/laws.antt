@@ -1,0 +1,5 @@
+pub mod NonResidue
+pub mod Proth
+pub mod QuadraticField
+pub mod Goldilocks
+pub mod Goldilocks2
