@@ -1,5 +1,5 @@
 -- Which words write numbers, and which residues.
-use Rattle.std.proofs.Common.{◌≡◌, ◌<◌, ◌≤◌, ◌+◌, ◌*◌, ◌⊎◌, ◌&&◌, ℕ, Bool, true, cond, nat_lt, List, Option, Some, None, MatchOption, option_map, length, get_or, take, ap, inl, inr, arith, sym, ◌∙◌, lit≤, ltb-true, lt-ltb}
+use Rattle.std.proofs.Common.{◌≡◌, ◌<◌, ◌≤◌, ◌+◌, ◌*◌, ◌⊎◌, ◌&&◌, ℕ, zero, suc, Bool, true, cond, nat_lt, List, [], ◌∷◌, Option, Some, None, MatchOption, option_map, length, map, get_or, take, ap, inl, inr, arith, refl, sym, ◌∙◌, lit≤, ltb-true, lt-ltb}
 use Rattle.std.specs.Char.{digit_value}
 use Rattle.std.specs.Int.{IsInRange, IsOutOfRange}
 use Rattle.std.specs.Str.{all_ascii_digits}
@@ -62,6 +62,29 @@ number_of-large bound word i within large =
     let less : digits_value 10 (take (i + 1) word) ≤ digits_value 10 word = digits_value-take-le 10 word (i + 1) (lit≤ tt) in
     omega arith)
 
+-- numbers that words write are below the bound
+pub numbers_below : (bound : ℕ) (words : List (List ℕ)) (numbers : List ℕ) → map (number_of bound) words ≡ map Some numbers → (i : ℕ) → i < length numbers → get_or numbers i 0 < bound
+numbers_below bound [] [] writes i within = absurd (omega (arith, within))
+numbers_below bound [] (n ∷ numbers) writes i within = cc
+numbers_below bound (word ∷ words) [] writes i within = absurd (omega (arith, within))
+numbers_below bound (word ∷ words) (n ∷ numbers) writes zero within =
+    elim (number_of-cases bound word) [
+      | inl w ↦ (let same : ◌≡◌ {A = Option ℕ} (Some (digits_value 10 word)) (Some n) = sym w.0 ∙ cc in let below = w.1.below in grind (arith, same, below))
+      | inr w ↦ (let same : ◌≡◌ {A = Option ℕ} None (Some n) = sym w.0 ∙ cc in absurd cc)
+    ]
+numbers_below bound (word ∷ words) (n ∷ numbers) writes (suc i) within =
+    let rest : map (number_of bound) words ≡ map Some numbers = cc in
+    numbers_below bound words numbers rest i (omega (arith, within))
+
+-- a list of two or four items is that of its items
+pub two_again : (xs : List ℕ) → length xs ≡ 2 → xs ≡ get_or xs 0 0 ∷ get_or xs 1 0 ∷ []
+two_again (a ∷ b ∷ []) long = refl
+two_again xs long = absurd (omega (arith, long))
+
+pub four_again : (xs : List ℕ) → length xs ≡ 4 → xs ≡ get_or xs 0 0 ∷ get_or xs 1 0 ∷ get_or xs 2 0 ∷ get_or xs 3 0 ∷ []
+four_again (a ∷ b ∷ c ∷ d ∷ []) long = refl
+four_again xs long = absurd (omega (arith, long))
+
 module _ (p : ℕ) (positive : 0 < p) where
   -- the element that a word's number gives, as a residue
   pub residue-cases : (word : List ℕ) (answer : Option (Residue p)) → answer ≡ option_map (of_nat (residue_ring p positive)) (number_of p word) → MatchOption answer (number_of p word ≡ None) (λ x. number_of p word ≡ Some x.value)
@@ -80,3 +103,12 @@ module _ (p : ℕ) (positive : 0 < p) where
   pub residue-written : (word : List ℕ) (answer : Option (Residue p)) → answer ≡ option_map (of_nat (residue_ring p positive)) (number_of p word) → MatchOption answer ((x : Residue p) → ¬ (WritesResidue word x)) (λ x. WritesResidue word x)
   residue-written word None given = λ x writes. let e : ◌≡◌ {A = Option ℕ} None (Some x.value) = sym (residue-cases word None given) ∙ writes in cc
   residue-written word (Some x) given = residue-cases word (Some x) given
+
+  -- the residue of a number below p is that number
+  value_again : (n : ℕ) → n < p → (of_nat (residue_ring p positive) n).value ≡ n
+  value_again n below = ap (λ (x : Residue p). x.value) (of_nat_is p positive n) ∙ mod-eq_of_lt below
+
+  -- a number that a word writes is that of its residue
+  pub written_again : (words : List (List ℕ)) (numbers : List ℕ) → map (number_of p) words ≡ map Some numbers → (i : ℕ) → i < length numbers → (x : Residue p) → x ≡ of_nat (residue_ring p positive) (get_or numbers i 0) → x.value ≡ get_or numbers i 0
+  written_again words numbers writes i within x is =
+      ap (λ (x : Residue p). x.value) is ∙ value_again (get_or numbers i 0) (numbers_below p words numbers writes i within)

@@ -5,6 +5,7 @@ use Rattle.std.specs.Str.{all_ascii_digits}
 use Rattle.std.specs.Str.Parse.{digits_value}
 use Rattle.field.specs.Residue.{Residue}
 use Rattle.field.specs.Quartic.{Quartic, coefficients_of}
+use Rattle.goldilocks.specs.Quadratic.{Quadratic, coefficients_of as linear_coefficients_of}
 
 -- the lines of a text: its parts between LFs, one more than there are LFs
 unfoldable pub lines_of : List ℕ → List (List ℕ)
@@ -35,7 +36,14 @@ is_number bound word = is_some (number_of bound word)
 abbrev pub WritesResidue : {p : ℕ} → List ℕ → Residue p → Type 0
 WritesResidue {p} word x = number_of p word ≡ Some x.value
 
--- the word is four numbers below p separated by commas: these four coefficients, lowest power first
+-- the word is numbers below the bound separated by commas: these ones
+abbrev pub WritesNumbers : ℕ → List ℕ → List ℕ → Type 0
+WritesNumbers bound word numbers = map (number_of bound) (slice_split (λ byte. byte == 44) word) ≡ map Some numbers
+
+-- the word is four numbers below p: these four coefficients, lowest power first
 abbrev pub WritesQuartic : {p : ℕ} → List ℕ → Quartic (Residue p) → Type 0
-WritesQuartic {p} word x =
-    map (number_of p) (slice_split (λ byte. byte == 44) word) ≡ map (λ c. Some c.value) (coefficients_of x)
+WritesQuartic {p} word x = WritesNumbers p word (map (λ c. c.value) (coefficients_of x))
+
+-- the word is two numbers below p: these two coefficients, lowest power first
+abbrev pub WritesQuadratic : {p : ℕ} → List ℕ → Quadratic (Residue p) → Type 0
+WritesQuadratic {p} word x = WritesNumbers p word (map (λ c. c.value) (linear_coefficients_of x))

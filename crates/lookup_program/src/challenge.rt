@@ -1,14 +1,15 @@
 //! Reading numbers and challenges from words.
-ghost use Rattle.std.specs.Prelude.{◌≡◌, ℕ, List, MatchOption, option_map};
+ghost use Rattle.std.specs.Prelude.{◌≡◌, ℕ, List, MatchOption, false, length, option_map, true};
 ghost use Rattle.field.specs.Ring.{of_nat};
 ghost use Rattle.lookup_program.specs.Fields.{Fields};
-ghost use Rattle.lookup_program.specs.Words.{number_of, WritesQuartic, WritesResidue};
+ghost use Rattle.lookup_program.specs.Words.{WritesNumbers, WritesQuadratic, WritesQuartic, WritesResidue, number_of};
 ghost use Rattle.lookup_program.specs.internal.Fields.{run_fields};
 ghost use Rattle.lookup_program.specs.internal.Words.{number_bound};
 
 use field::{
     BabyBear, BabyBear4, ExtensionDomain, ExtensionField, F7, Field, PrimeCharacteristicRing,
 };
+use goldilocks::{Goldilocks, Goldilocks2};
 
 /// A field whose elements can be given as challenges for rows over the field `F`. `written` says
 /// which element a word gives, and `fields` what a run over the two fields works with.
@@ -49,15 +50,57 @@ impl Challenge<BabyBear> for BabyBear4 {
         (λ word x. WritesQuartic word x) ⟦<BabyBear4 as Field>⟧.text ⟦<BabyBear as Field>⟧.text };
 
     fn from_word(word: &[u8]) -> Option<BabyBear4> {
-        let mut parts = word.split(|byte| *byte == b',');
-        let mut coefficients = [BabyBear::ZERO; 4];
-        for coefficient in &mut coefficients {
-            *coefficient = element(parts.next()?)?;
+        let mut numbers = [0; 4];
+        if !read_numbers(word, BabyBear::CHARACTERISTIC, &mut numbers) {
+            return None;
         }
-        match parts.next() {
-            None => Some(BabyBear4::new(coefficients)),
-            Some(_) => None,
+        let [c0, c1, c2, c3] = numbers;
+        Some(BabyBear4::new([times_one(c0), times_one(c1), times_one(c2), times_one(c3)]))
+    }
+}
+
+/// Two numbers below the characteristic, separated by a comma: the coefficients of `1, X`.
+impl Challenge<Goldilocks> for Goldilocks2 {
+    ghost written = { λ word x. WritesQuadratic word x };
+
+    ghost fields = { run_fields ⟦<Goldilocks as PrimeCharacteristicRing>⟧.ring
+        ⟦<Goldilocks as PartialEq>⟧.eq 18446744069414584321
+        ⟦<Goldilocks2 as PrimeCharacteristicRing>⟧.ring ⟦<Goldilocks2 as PartialEq>⟧.eq
+        ⟦<Goldilocks2 as ExtensionDomain<Goldilocks>>⟧.embed ⟦<Goldilocks2 as Field>⟧.inverse
+        (λ word x. WritesQuadratic word x) ⟦<Goldilocks2 as Field>⟧.text
+        ⟦<Goldilocks as Field>⟧.text };
+
+    fn from_word(word: &[u8]) -> Option<Goldilocks2> {
+        let mut numbers = [0; 2];
+        if !read_numbers(word, Goldilocks::CHARACTERISTIC, &mut numbers) {
+            return None;
         }
+        let [c0, c1] = numbers;
+        Some(Goldilocks2::new([times_one(c0), times_one(c1)]))
+    }
+}
+
+/// Reads numbers that are separated by commas. Returns whether they are as many as there is room for,
+/// and each is below `bound`.
+fn read_numbers(word: &[u8], bound: u128, numbers: &mut [u64]) -> bool
+    ensures long { length numbers.new ≡ length numbers.old }
+    ensures read { result ≡ true → WritesNumbers (number_bound bound) word.now numbers.new }
+    ensures refused { result ≡ false → (others : List ℕ) → length others ≡ length numbers.old
+        → ¬ WritesNumbers (number_bound bound) word.now others }
+{
+    let mut parts = word.split(|byte| *byte == b',');
+    for place in numbers.iter_mut() {
+        let Some(part) = parts.next() else {
+            return false;
+        };
+        let Some(value) = number(part, bound) else {
+            return false;
+        };
+        *place = value;
+    }
+    match parts.next() {
+        None => true,
+        Some(_) => false,
     }
 }
 
@@ -66,23 +109,36 @@ fn element<F: PrimeCharacteristicRing>(word: &[u8]) -> Option<F>
     ensures { result ≡ option_map (of_nat F.ring)
         (number_of (number_bound F.CHARACTERISTIC) word.now) }
 {
-    number(word, F::CHARACTERISTIC).map(|value| F::from_u32(value))
+    number(word, F::CHARACTERISTIC).map(|value| times_one(value))
 }
 
-/// The value of one or more decimal digits, if it is below `bound` and fits 32 bits. Leading zeros
+/// `n` times one.
+pub fn times_one<F: PrimeCharacteristicRing>(n: u64) -> F
+    ensures { result ≡ of_nat F.ring n }
+{
+    let low = F::from_u32((n % 4_294_967_296) as u32);
+    if n < 4_294_967_296 {
+        return low;
+    }
+    let high = F::from_u32((n / 4_294_967_296) as u32);
+    let half = F::from_u32(65_536);
+    high * (half * half) + low
+}
+
+/// The value of one or more decimal digits, if it is below `bound` and fits 64 bits. Leading zeros
 /// are allowed.
-pub fn number(word: &[u8], bound: u128) -> Option<u32>
+pub fn number(word: &[u8], bound: u128) -> Option<u64>
     ensures { result ≡ number_of (number_bound bound) word.now }
 {
     if word.is_empty() {
         return None;
     }
-    let mut value = 0u32;
+    let mut value = 0u64;
     for byte in word {
         if !byte.is_ascii_digit() {
             return None;
         }
-        value = value.checked_mul(10)?.checked_add(u32::from(*byte - b'0'))?;
+        value = value.checked_mul(10)?.checked_add(u64::from(*byte - b'0'))?;
     }
     if u128::from(value) < bound {
         Some(value)

@@ -7,7 +7,7 @@ ghost use Rattle.lookup_program.specs.Input.{AreNumbers, IsFirstLineRefusal, IsI
 ghost use Rattle.lookup_program.specs.Words.{is_number, number_of, words_of};
 ghost use Rattle.lookup_program.specs.internal.Words.{number_bound, numbers_or_zeros};
 
-use crate::challenge::number;
+use crate::challenge::{number, times_one};
 use crate::error::RunError;
 use field::Field;
 use matrix::RowMajorMatrix;
@@ -19,7 +19,7 @@ use std::alloc::{AllocError, Global};
 /// without words is skipped.
 ///
 /// Refuses the first faulty line: one that has words, but not `columns` of them or, checked next,
-/// one with a word that is not a number below the characteristic and 2^32. Then refuses an input
+/// one with a word that is not a number below the characteristic and 2^64. Then refuses an input
 /// without rows.
 pub fn read_rows<F: Field>(
     alloc: Global,
@@ -40,12 +40,12 @@ pub fn read_rows<F: Field>(
 }
 
 /// The elements that the numbers give.
-fn elements<F: Field>(alloc: Global, numbers: &[u32]) -> Result<Vec<F>, AllocError>
+fn elements<F: Field>(alloc: Global, numbers: &[u64]) -> Result<Vec<F>, AllocError>
     ensures { IfOk result (λ v. v.items ≡ map (of_nat F.ring) numbers.now) }
 {
     let mut values = Vec::new(alloc);
     for number in numbers {
-        values.push(F::from_u32(*number))?;
+        values.push(times_one(*number))?;
     }
     Ok(values)
 }
@@ -56,7 +56,7 @@ fn read_numbers(
     text: &[u8],
     columns: usize,
     bound: u128,
-) -> Result<Vec<u32>, RunError>
+) -> Result<Vec<u64>, RunError>
     requires { 0 < columns }
     ensures whole_rows { IfOk result (λ v. vec_len v % columns ≡ 0) }
     ensures cases { let bound = number_bound bound in MatchResult result
@@ -74,7 +74,7 @@ fn read_numbers(
 
 /// Appends the numbers of the line with this number: `columns` numbers or none.
 fn push_line(
-    numbers: &mut Vec<u32>,
+    numbers: &mut Vec<u64>,
     words: &[u8],
     line: usize,
     columns: usize,
@@ -103,7 +103,7 @@ fn push_line(
 
 /// Appends a number for each word, 0 for a word that is not a number below `bound`. Returns whether
 /// every word is one.
-fn push_words(numbers: &mut Vec<u32>, words: &[u8], bound: u128) -> Result<bool, AllocError>
+fn push_words(numbers: &mut Vec<u64>, words: &[u8], bound: u128) -> Result<bool, AllocError>
     ensures numbers { OnOk result (numbers.new.items ≡ numbers.old.items
         ++ numbers_or_zeros (number_bound bound) (words_of words.now)) }
     ensures good { IfOk result (λ good. good ≡ list_all (is_number (number_bound bound))

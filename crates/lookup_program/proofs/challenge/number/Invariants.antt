@@ -5,6 +5,6 @@ use Rattle.lookup_program.proofs.challenge.number.Given as goal
 abbrev pub invariant-loop-byte : goal.invariant-loop-byte
 invariant-loop-byte l = record {
   digits : AllDigits 10 (take l.byte-index l.word);
-  fits : l.value < 4294967296;
+  fits : l.value < 18446744073709551616;
   value : l.value ≡ digits_value 10 (take l.byte-index l.word);
 }

@@ -1,0 +1,19 @@
+use Rattle.std.proofs.Common.{◌≡◌, ◌==◌, [], ◌∷◌, ℕ, List, Some, ap, arith, get_or, length, map, refl, sym, ◌∙◌}
+use Rattle.std.specs.List.{slice_split}
+use Rattle.goldilocks.specs.Goldilocks.{goldilocks_positive}
+use Rattle.goldilocks.specs.Quadratic.{coefficients_of}
+use Rattle.lookup_program.proofs.WordLaws.{two_again, written_again}
+use Rattle.lookup_program.proofs.challenge.Goldilocks2ChallengeGoldilocks.from_word.Goals as goal
+
+pub returns-then-not-read_numbers : goal.returns-then-not-read_numbers
+returns-then-not-read_numbers c = λ x writes. c.read_numbers.ensures.refused c.if-not-read_numbers.true (map (λ c'. c'.value) (coefficients_of x)) refl writes
+
+pub returns : goal.returns
+returns c =
+    let parts : List (List ℕ) = slice_split (λ byte. byte == 44) c.args.word.now in
+    let numbers : List ℕ = c.read_numbers.new.numbers in
+    let long : length numbers ≡ 2 = c.read_numbers.ensures.long in
+    let writes = c.read_numbers.ensures.read c.if-not-read_numbers.false in
+    let first = written_again 18446744069414584321 goldilocks_positive parts numbers writes 0 (omega (arith, long)) c.times_one.result c.times_one.ensures in
+    let second = written_again 18446744069414584321 goldilocks_positive parts numbers writes 1 (omega (arith, long)) c.times_one-2.result c.times_one-2.ensures in
+    writes ∙ ap (map Some) (two_again numbers long ∙ (λ i. sym first i ∷ sym second i ∷ []) ∙ ap (map (λ c'. c'.value)) (sym c.new.ensures))
