@@ -10,6 +10,7 @@ mod debug;
 mod debug_shapes;
 mod fields;
 mod generation;
+mod goldilocks_fields;
 mod packing;
 mod plans;
 mod shapes;
@@ -39,6 +40,34 @@ pub extern "C" fn field_extension_inverse(alloc: Global, numbers: &[u32], rounds
 #[unsafe(no_mangle)]
 pub extern "C" fn field_batch_inversion(alloc: Global, numbers: &[u32], rounds: u32) -> u32 {
     fields::batch_inversion(alloc, numbers, rounds).unwrap_or(REFUSED)
+}
+
+/// As `field_base_multiply_add`, over `Goldilocks`, with elements that fill 64 bits.
+#[unsafe(no_mangle)]
+pub extern "C" fn goldilocks_base_multiply_add(alloc: Global, numbers: &[u32], rounds: u32) -> u32 {
+    goldilocks_fields::base_multiply_add(alloc, numbers, rounds).unwrap_or(REFUSED)
+}
+
+/// The same over the quadratic extension, with an element for each number.
+#[unsafe(no_mangle)]
+pub extern "C" fn goldilocks_extension_multiply_add(
+    alloc: Global,
+    numbers: &[u32],
+    rounds: u32,
+) -> u32 {
+    goldilocks_fields::extension_multiply_add(alloc, numbers, rounds).unwrap_or(REFUSED)
+}
+
+/// Sets each nonzero element of that extension to its inverse, `rounds` times.
+#[unsafe(no_mangle)]
+pub extern "C" fn goldilocks_extension_inverse(alloc: Global, numbers: &[u32], rounds: u32) -> u32 {
+    goldilocks_fields::extension_inverse(alloc, numbers, rounds).unwrap_or(REFUSED)
+}
+
+/// Sets all nonzero elements of it to their inverses at once, `rounds` times.
+#[unsafe(no_mangle)]
+pub extern "C" fn goldilocks_batch_inversion(alloc: Global, numbers: &[u32], rounds: u32) -> u32 {
+    goldilocks_fields::batch_inversion(alloc, numbers, rounds).unwrap_or(REFUSED)
 }
 
 /// Generates the auxiliary trace of a shape over `BabyBear` and `BabyBear4`, `rounds` times. The main

@@ -52,3 +52,10 @@ subtracted (suc a) b d fits borrowing plain = elim (cases_lt (suc a) b) [
     | inr none ↦ same_residue d _ 0 0 (omega arith)
   ])
 ]
+
+-- A negative, as the difference from zero.
+pub negated : (b d : ℕ) → (0 < b → d + b ≡ 0 + 18446744069414584321) → (b ≤ 0 → d + b ≡ 0) → b < 18446744069414584321 → goldilocks_of d ≡ goldilocks_of (18446744069414584321 - b)
+negated b d borrowing plain fits = elim (cases_lt 0 b) [
+  | inl h ↦ (let given = borrowing h in same_residue d _ 0 0 (omega arith))
+  | inr h ↦ (let given = plain h in same_residue d _ 1 0 (omega arith))
+]

@@ -70,7 +70,12 @@ fn difference(a: u64, b: u64) -> u64
     ensures borrowing { a < b → result + b ≡ a + 18446744069414584321 }
     ensures plain { b ≤ a → result + b ≡ a }
 {
-    if a < b { a + (MODULUS - b) } else { a - b }
+    let (wrapped, borrows) = a.overflowing_sub(b);
+    if borrows {
+        wrapped.wrapping_add(MODULUS)
+    } else {
+        wrapped
+    }
 }
 
 /// `a + b`, minus the modulus if that does not fit.
@@ -80,12 +85,8 @@ fn sum(a: u64, b: u64) -> u64
     ensures carrying { 18446744073709551616 ≤ a + b → result + 18446744069414584321 ≡ a + b }
     ensures plain { a + b < 18446744073709551616 → result ≡ a + b }
 {
-    let wrapped = a.wrapping_add(b);
-    if wrapped < a {
-        wrapped + EPSILON
-    } else {
-        wrapped
-    }
+    let (wrapped, carries) = a.overflowing_add(b);
+    if carries { wrapped + EPSILON } else { wrapped }
 }
 
 /// A number in three parts, of 64, 32 and 32 bits: 2^64 is 2^32 - 1, and 2^96 is -1.
@@ -121,6 +122,15 @@ impl Goldilocks {
         }
     }
 
+    /// The element that is stored as this number, which is below the modulus.
+    #[inline]
+    fn stored(value: u64) -> Self
+        requires { value < 18446744069414584321 }
+        ensures { result ≡ goldilocks_of value }
+    {
+        Goldilocks { value }
+    }
+
     /// The whole number below the modulus whose residue the element is.
     pub fn as_canonical_u64(self) -> u64
         ensures value { result ≡ self.value }
@@ -138,7 +148,7 @@ impl Add for Goldilocks {
     #[inline]
     fn add(self, rhs: Goldilocks) -> Goldilocks {
         let (a, b) = (self.as_canonical_u64(), rhs.as_canonical_u64());
-        Goldilocks::new(difference(a, MODULUS - b))
+        Goldilocks::stored(difference(a, MODULUS - b))
     }
 }
 
@@ -150,7 +160,7 @@ impl Sub for Goldilocks {
     #[inline]
     fn sub(self, rhs: Goldilocks) -> Goldilocks {
         let (a, b) = (self.as_canonical_u64(), rhs.as_canonical_u64());
-        Goldilocks::new(difference(a, b))
+        Goldilocks::stored(difference(a, b))
     }
 }
 
@@ -162,7 +172,7 @@ impl Mul for Goldilocks {
     #[inline]
     fn mul(self, rhs: Goldilocks) -> Goldilocks {
         let product = self.as_canonical_u64() as u128 * rhs.as_canonical_u64() as u128;
-        Goldilocks::new(reduce(product))
+        Goldilocks::stored(reduce(product))
     }
 }
 
@@ -173,7 +183,7 @@ impl Neg for Goldilocks {
 
     #[inline]
     fn neg(self) -> Goldilocks {
-        Goldilocks::new(MODULUS - self.as_canonical_u64())
+        Goldilocks::stored(difference(0, self.as_canonical_u64()))
     }
 }
 

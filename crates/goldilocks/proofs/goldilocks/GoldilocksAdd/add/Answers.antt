@@ -6,6 +6,6 @@ use Rattle.goldilocks.proofs.goldilocks.GoldilocksAdd.add.Goals as goal
 pub returns : goal.returns
 returns c =
     let below = c.as_canonical_u64-b.ensures.below in
-    c.new.ensures
+    c.stored.ensures
     ∙ (added c.as_canonical_u64-a.result c.as_canonical_u64-b.result c.difference.result (omega arith) c.difference.ensures.borrowing c.difference.ensures.plain
     ∙ ap₂ (λ x y. goldilocks_of (x + y)) c.as_canonical_u64-a.ensures.value c.as_canonical_u64-b.ensures.value)
