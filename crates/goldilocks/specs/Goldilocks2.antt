@@ -1,7 +1,6 @@
 -- The quadratic extension of Goldilocks: polynomials of degree at most 1 modulo X^2 - 7.
 use Rattle.std.specs.Prelude.{◌++◌, codes, decimal, ℕ, List}
 use Rattle.field.specs.Residue.{Residue}
-use Rattle.field.specs.ResidueRing.{residue_inverse}
 use Rattle.field.specs.Ring.{Ring}
 use Rattle.goldilocks.specs.Goldilocks.{goldilocks_inverse, goldilocks_of, goldilocks_ring}
 use Rattle.goldilocks.specs.Quadratic.{Quadratic, quadratic_inverse, quadratic_ring}

@@ -1,5 +1,5 @@
-use Rattle.std.proofs.Common.{◌+◌, ◌*◌, ◌/◌, ◌%◌, ◌≡◌, ℕ, ap, ap₂, arith, sym, ◌∙◌}
-use Rattle.field.specs.Ring.{Ring, of_nat}
+use Rattle.std.proofs.Common.{◌+◌, ◌*◌, ◌/◌, ◌%◌, ◌≡◌, ℕ, ap, arith, sym, ◌∙◌}
+use Rattle.field.specs.Ring.{of_nat}
 use Rattle.field.specs.laws.RingFacts.{of_nat-add, of_nat-mul}
 use Rattle.lookup_program.proofs.challenge.times_one.Goals as goal
 

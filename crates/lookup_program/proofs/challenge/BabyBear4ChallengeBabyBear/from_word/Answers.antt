@@ -1,10 +1,7 @@
-use Rattle.std.proofs.Common.{◌≡◌, ◌==◌, [], ◌∷◌, ℕ, List, Some, ap, arith, get_or, length, map, refl, sym, ◌∙◌}
+use Rattle.std.proofs.Common.{◌≡◌, ◌==◌, [], ◌∷◌, ℕ, List, Some, ap, arith, length, map, refl, sym, ◌∙◌}
 use Rattle.std.specs.List.{slice_split}
 use Rattle.field.specs.BabyBear.{baby_bear_positive}
 use Rattle.field.specs.Quartic.{coefficients_of}
-use Rattle.field.specs.Residue.{Residue}
-use Rattle.field.specs.ResidueRing.{residue_ring}
-use Rattle.field.specs.Ring.{of_nat}
 use Rattle.lookup_program.proofs.WordLaws.{four_again, written_again}
 use Rattle.lookup_program.proofs.challenge.BabyBear4ChallengeBabyBear.from_word.Goals as goal
 

@@ -1,4 +1,4 @@
-use Rattle.std.proofs.Common.{◌≡◌, ◌==◌, [], ◌∷◌, ℕ, List, Some, ap, arith, get_or, length, map, refl, sym, ◌∙◌}
+use Rattle.std.proofs.Common.{◌≡◌, ◌==◌, [], ◌∷◌, ℕ, List, Some, ap, arith, length, map, refl, sym, ◌∙◌}
 use Rattle.std.specs.List.{slice_split}
 use Rattle.goldilocks.specs.Goldilocks.{goldilocks_positive}
 use Rattle.goldilocks.specs.Quadratic.{coefficients_of}
