@@ -165,11 +165,23 @@ pub fn generate(
     challenges: &[Challenge],
     combine: Combine,
 ) -> (Vec<Quartic>, Quartic) {
-    let height = main.len() / main_width;
+    let mut auxiliary = vec![Quartic::ZERO; main.len() / main_width * (lookups.len() + 1)];
+    let terminal = generate_into(&mut auxiliary, main, main_width, lookups, challenges, combine);
+    (auxiliary, terminal)
+}
+
+/// The same into cells that are there.
+pub fn generate_into(
+    auxiliary: &mut [Quartic],
+    main: &[Base],
+    main_width: usize,
+    lookups: &[Lookup],
+    challenges: &[Challenge],
+    combine: Combine,
+) -> Quartic {
     let width = lookups.len() + 1;
     let fractions: usize = lookups.iter().map(fractions_of).sum();
-    let mut auxiliary = vec![Quartic::ZERO; height * width];
-    let mut totals = vec![Quartic::ZERO; height];
+    let mut totals = vec![Quartic::ZERO; main.len() / main_width];
     let chunks = auxiliary.chunks_mut(CHUNK * width).zip(totals.chunks_mut(CHUNK));
     for ((auxiliary, totals), main) in chunks.zip(main.chunks(CHUNK * main_width)) {
         let size = main.len() / main_width * fractions;
@@ -184,6 +196,7 @@ pub fn generate(
         let mut place = 0;
         for (cells, total) in auxiliary.chunks_mut(width).zip(totals.iter_mut()) {
             for (cell, lookup) in cells[1..].iter_mut().zip(lookups) {
+                *cell = Quartic::ZERO;
                 for _ in 0..fractions_of(lookup) {
                     *cell = *cell + inverses[place] * multiplicities[place];
                     place += 1;
@@ -197,7 +210,7 @@ pub fn generate(
         cells[0] = accumulator;
         accumulator = accumulator + *total;
     }
-    (auxiliary, accumulator)
+    accumulator
 }
 
 /// Whether the constraint of a lookup's fraction holds on a row. Without flags it is `U * f = V`: `U` is

@@ -9,7 +9,7 @@ mod plain_lookups;
 
 use plain::{Base, Quartic};
 use plain_lookups::{
-    Challenge, Combine, Lookup, first_failing_row_of, generate, numbers_of, shape_of,
+    Challenge, Combine, Lookup, first_failing_row_of, generate_into, numbers_of, shape_of,
 };
 use std::hint::black_box;
 use std::ops::Range;
@@ -77,46 +77,52 @@ impl Plain {
         ends.windows(2).map(|pair| pair[0]..pair[1]).collect()
     }
 
-    /// Generates each range on a thread, and adds to its accumulators the sums of those before it.
-    fn prove(&self, threads: usize) -> (Vec<Quartic>, Quartic) {
-        let generated = |rows: &Range<usize>| {
+    /// Generates each range on a thread, adds to its accumulators the sums of those before it, and
+    /// returns the sum of all.
+    fn prove(&self, threads: usize, cells: &mut [Quartic]) -> Quartic {
+        let generate = |rows: Range<usize>, part: &mut [Quartic]| {
             let main = &self.main[rows.start * WIDTH..rows.end * WIDTH];
-            generate(main, WIDTH, &self.lookups, &self.challenges, Combine::Powers)
+            let (lookups, challenges) = (&self.lookups, &self.challenges);
+            generate_into(part, main, WIDTH, lookups, challenges, Combine::Powers)
         };
-        if threads == 1 {
-            return generated(&(0..self.height()));
-        }
-        let (ranges, columns) = (self.ranges(threads), self.lookups.len() + 1);
-        let mut cells = vec![Quartic::ZERO; self.height() * columns];
+        let ranges = self.ranges(threads);
         let sums: Vec<Quartic> = thread::scope(|scope| {
-            let mut rest = &mut cells[..];
-            let begin = |rows: &Range<usize>| {
-                let (part, after) = std::mem::take(&mut rest).split_at_mut(rows.len() * columns);
-                rest = after;
-                let rows = rows.clone();
-                scope.spawn(move || {
-                    let (made, sum) = generated(&rows);
-                    part.copy_from_slice(&made);
-                    sum
-                })
+            let parts = ranges.iter().zip(self.parts(&ranges, cells));
+            let begin = |(rows, part)| {
+                let rows = Range::clone(rows);
+                scope.spawn(move || generate(rows, part))
             };
-            let begun: Vec<_> = ranges.iter().map(begin).collect();
+            let begun: Vec<_> = parts.map(begin).collect();
             begun.into_iter().map(|thread| thread.join().expect("no thread panics")).collect()
         });
-        let terminal = thread::scope(|scope| {
-            let (mut rest, mut offset) = (&mut cells[..], Quartic::ZERO);
-            for (rows, sum) in ranges.iter().zip(sums) {
-                let (part, after) = std::mem::take(&mut rest).split_at_mut(rows.len() * columns);
-                rest = after;
+        thread::scope(|scope| {
+            let mut offset = Quartic::ZERO;
+            for (part, sum) in self.parts(&ranges, cells).into_iter().zip(sums) {
                 let added = offset;
-                scope.spawn(move || {
-                    part.chunks_mut(columns).for_each(|row| row[0] = row[0] + added);
-                });
+                if added != Quartic::ZERO {
+                    let rows = part.chunks_mut(self.columns());
+                    scope.spawn(move || rows.for_each(|row| row[0] = row[0] + added));
+                }
                 offset = offset + sum;
             }
             offset
-        });
-        (cells, terminal)
+        })
+    }
+
+    /// How many cells make a row of the auxiliary trace.
+    fn columns(&self) -> usize {
+        self.lookups.len() + 1
+    }
+
+    /// The cells of each range.
+    fn parts<'a>(&self, ranges: &[Range<usize>], cells: &'a mut [Quartic]) -> Vec<&'a mut [Quartic]> {
+        let mut rest = cells;
+        let part = |rows: &Range<usize>| {
+            let (part, after) = std::mem::take(&mut rest).split_at_mut(rows.len() * self.columns());
+            rest = after;
+            part
+        };
+        ranges.iter().map(part).collect()
     }
 
     /// Whether every range is accepted, and the terminal is zero.
@@ -170,7 +176,8 @@ fn compare(rows: usize) {
     let threads = [1, 2, 4];
     let batches = threads.map(|threads| batch.clone().with_threads(threads));
     let witness = batches[0].prove(&traces, alpha, beta).expect("there is no fault");
-    let plainly = plain.prove(1);
+    let mut plainly = (vec![Quartic::ZERO; rows * plain.columns()], Quartic::ZERO);
+    plainly.1 = plain.prove(1, &mut plainly.0);
     let cells = |cells: &[Quartic]| cells.iter().map(|x| x.0.map(Base::number)).collect::<Vec<_>>();
     let part = witness.air(0).expect("there is an AIR");
     let same = part.auxiliary.iter().map(|x| x.coefficients()).eq(cells(&plainly.0));
@@ -178,16 +185,21 @@ fn compare(rows: usize) {
     for (batch, threads) in batches.iter().zip(threads) {
         assert_eq!(batch.prove(&traces, alpha, beta).as_ref(), Ok(&witness), "{threads} threads");
         assert_eq!(batch.verify(&traces, alpha, beta, &witness), Ok(()), "{threads} threads");
-        assert!(plain.prove(threads) == plainly && plain.verify(&plainly, threads));
+        let mut cells = vec![Quartic::ONE; plainly.0.len()];
+        assert!(plain.prove(threads, &mut cells) == plainly.1 && cells == plainly.0);
+        assert!(plain.verify(&plainly, threads));
     }
     let mut again: Vec<Witness> = batches.iter().map(|_| witness.clone()).collect();
+    let mut plain_cells = threads.map(|_| plainly.0.clone());
     let mut works: Vec<Box<dyn FnMut() + '_>> = Vec::new();
     for (batch, witness) in batches.iter().zip(&mut again) {
         works.push(Box::new(|| batch.prove_into(&traces, alpha, beta, witness).expect("no fault")));
     }
-    for threads in threads {
+    for (threads, cells) in threads.into_iter().zip(&mut plain_cells) {
         let plain = &plain;
-        works.push(Box::new(move || drop(black_box(plain.prove(threads)))));
+        works.push(Box::new(move || {
+            black_box(plain.prove(threads, cells));
+        }));
     }
     let times = least(&mut works);
     print("prove", rows, &threads, &times[..3], &times[3..]);

@@ -88,8 +88,9 @@ impl Batch {
     /// as 1. Without this they are as many as the machine has processors. A small batch is worked on
     /// by the calling thread alone.
     ///
-    /// No witness, verdict or refusal depends on the number of threads. Where a call on several
-    /// threads is refused, the whole of it is made once more on one, which finds out why.
+    /// No witness, verdict or refusal depends on the number of threads, but where memory runs out:
+    /// several threads need less of it for a large trace. Where a call on several threads is
+    /// refused, the whole of it is made once more on one, which finds out why.
     #[must_use]
     pub fn with_threads(self, threads: usize) -> Self {
         Batch { threads: Some(threads), ..self }

@@ -2,7 +2,7 @@
 //!
 //! A range needs row 0 of the traces, its own rows, and the row after them. Its accumulators start at zero,
 //! and the sums of the ranges before it are added afterwards. What a range refuses is left to the call on
-//! the whole batch, which says why: so no answer depends on the number of threads.
+//! the whole batch, which says why: so no answer depends on the number of threads, but where memory runs out.
 
 use crate::element::{Element, MODULUS};
 use crate::ffi::{self, PlannedIds, Rows, Terminal};
@@ -19,6 +19,9 @@ const RANGE_ROWS: usize = 1 << 12;
 
 /// How many cells of auxiliary traces are worth a thread.
 const CELLS_OF_A_THREAD: usize = 1 << 14;
+
+/// The stack of a thread: a call needs 256 KB.
+const STACK: usize = 1 << 20;
 
 /// On how many threads work on so many cells of auxiliary traces is done, with so many at most. Without
 /// that number they are as many as there are processors.
@@ -178,8 +181,8 @@ impl<'a> SharedWork<'a> {
         self.ranges.iter().map(share).collect()
     }
 
-    /// Does some work on each item, and tells whether all of it was done. Once some could not be, no
-    /// further item is begun. Each thread has a room of its own.
+    /// Does some work on each item, and tells whether all of it was done. Once some could not be, each
+    /// thread ends after the item that it has. Each thread has a room of its own.
     fn on_threads<T: Send>(
         &self,
         items: Vec<T>,
@@ -201,7 +204,7 @@ impl<'a> SharedWork<'a> {
         thread::scope(|scope| {
             for _ in 1..threads {
                 // where no thread can be had, the others do its work
-                let _ = thread::Builder::new().spawn_scoped(scope, run);
+                let _ = thread::Builder::new().stack_size(STACK).spawn_scoped(scope, run);
             }
             run();
         });

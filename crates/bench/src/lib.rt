@@ -36,7 +36,7 @@ pub extern "C" fn field_extension_inverse(alloc: Global, numbers: &[u32], rounds
     fields::extension_inverse(alloc, numbers, rounds).unwrap_or(REFUSED)
 }
 
-/// Sets all nonzero elements to their inverses at once, `rounds` times.
+/// Inverts all nonzero elements at once, `rounds` times, and adds up all inverses.
 #[unsafe(no_mangle)]
 pub extern "C" fn field_batch_inversion(alloc: Global, numbers: &[u32], rounds: u32) -> u32 {
     fields::batch_inversion(alloc, numbers, rounds).unwrap_or(REFUSED)
@@ -64,7 +64,7 @@ pub extern "C" fn goldilocks_extension_inverse(alloc: Global, numbers: &[u32], r
     goldilocks_fields::extension_inverse(alloc, numbers, rounds).unwrap_or(REFUSED)
 }
 
-/// Sets all nonzero elements of it to their inverses at once, `rounds` times.
+/// Inverts all nonzero elements of it at once, `rounds` times, and adds up all inverses.
 #[unsafe(no_mangle)]
 pub extern "C" fn goldilocks_batch_inversion(alloc: Global, numbers: &[u32], rounds: u32) -> u32 {
     goldilocks_fields::batch_inversion(alloc, numbers, rounds).unwrap_or(REFUSED)

@@ -79,7 +79,7 @@ fn tuple_holds_until<F: Field, EF: ExtensionField<F>>(
 /// Sets each place of a list to the product of the denominator at this place and the fraction of a lookup's
 /// column, on the rows from `first` on.
 ///
-/// No product waits for another one or for a test, so that the compiler makes four at a time.
+/// No product waits for another one or for a test, so over `BabyBear4` the compiler makes four at a time.
 #[inline(never)]
 fn fill_products<EF: Domain>(
     products: &mut [EF],

@@ -81,7 +81,7 @@ pub fn linear_soundness<F: Field, EF: ExtensionField<F>>()
 ///
 /// Let challenges have the beta and the prefixes that `Challenges::new` makes of an alpha and a beta.
 /// Some witness is accepted over them exactly if alpha is accepting at beta. `below` says the same of
-/// instances that are no values of the program, as those of a plan.
+/// instances of the specification, such as a plan's.
 pub fn accepted_is_accepting<F: Field, EF: ExtensionField<F>>()
     ensures values { AcceptedIsAccepting ⟦<EF as Over<F>>⟧.fields }
     ensures below { AcceptedIsAcceptingBelow ⟦<EF as Over<F>>⟧.fields }
@@ -118,8 +118,8 @@ pub fn checks_join<F: Field, EF: ExtensionField<F>>()
 
 /// How checks of the AIRs of a batch join, wherever they are made: where the results before an AIR are
 /// satisfied, its refusal by [`check_result`](crate::check_result) is the answer for the witness; where all
-/// are, the answer for the sum of the terminals is. So [`check_witness`](crate::check_witness) answers, and
-/// what it promises of its answers follows from these alone.
+/// are, the answer for the sum of the terminals is. So [`check_witness`](crate::check_witness) answers; where
+/// the instances fit, what else it promises follows.
 pub fn results_join<F: Field, EF: ExtensionField<F>>()
     ensures { (table : ChallengeTable EF) (instances : List (Instance F)) (witness : List (AirResult EF))
         → ResultsJoin ⟦<EF as Over<F>>⟧.fields table instances witness }

@@ -101,7 +101,7 @@ fn reduce_parts(low: u64, middle: u64, high: u64) -> u64
     reduce_once(sum(difference(low, high), middle * EPSILON))
 }
 
-/// The residue of a product.
+/// The residue of a number of 128 bits.
 #[inline]
 fn reduce(x: u128) -> u64
     ensures below { result < 18446744069414584321 }

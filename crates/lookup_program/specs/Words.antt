@@ -5,7 +5,7 @@ use Rattle.std.specs.Str.{all_ascii_digits}
 use Rattle.std.specs.Str.Parse.{digits_value}
 use Rattle.field.specs.Residue.{Residue}
 use Rattle.field.specs.Quartic.{Quartic, coefficients_of}
-use Rattle.goldilocks.specs.Quadratic.{Quadratic, coefficients_of as linear_coefficients_of}
+use Rattle.goldilocks.specs.Quadratic.{Quadratic, coefficients_of as quadratic_coefficients_of}
 
 -- the lines of a text: its parts between LFs, one more than there are LFs
 unfoldable pub lines_of : List ℕ → List (List ℕ)
@@ -36,7 +36,7 @@ is_number bound word = is_some (number_of bound word)
 abbrev pub WritesResidue : {p : ℕ} → List ℕ → Residue p → Type 0
 WritesResidue {p} word x = number_of p word ≡ Some x.value
 
--- the word is numbers below the bound separated by commas: these ones
+-- the word is these numbers, separated by commas, each below the bound
 abbrev pub WritesNumbers : ℕ → List ℕ → List ℕ → Type 0
 WritesNumbers bound word numbers = map (number_of bound) (slice_split (λ byte. byte == 44) word) ≡ map Some numbers
 
@@ -46,4 +46,4 @@ WritesQuartic {p} word x = WritesNumbers p word (map (λ c. c.value) (coefficien
 
 -- the word is two numbers below p: these two coefficients, lowest power first
 abbrev pub WritesQuadratic : {p : ℕ} → List ℕ → Quadratic (Residue p) → Type 0
-WritesQuadratic {p} word x = WritesNumbers p word (map (λ c. c.value) (linear_coefficients_of x))
+WritesQuadratic {p} word x = WritesNumbers p word (map (λ c. c.value) (quadratic_coefficients_of x))

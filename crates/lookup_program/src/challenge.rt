@@ -51,7 +51,7 @@ impl Challenge<BabyBear> for BabyBear4 {
 
     fn from_word(word: &[u8]) -> Option<BabyBear4> {
         let mut numbers = [0; 4];
-        if !read_numbers(word, BabyBear::CHARACTERISTIC, &mut numbers) {
+        if !read_coefficients(word, BabyBear::CHARACTERISTIC, &mut numbers) {
             return None;
         }
         let [c0, c1, c2, c3] = numbers;
@@ -72,7 +72,7 @@ impl Challenge<Goldilocks> for Goldilocks2 {
 
     fn from_word(word: &[u8]) -> Option<Goldilocks2> {
         let mut numbers = [0; 2];
-        if !read_numbers(word, Goldilocks::CHARACTERISTIC, &mut numbers) {
+        if !read_coefficients(word, Goldilocks::CHARACTERISTIC, &mut numbers) {
             return None;
         }
         let [c0, c1] = numbers;
@@ -81,8 +81,8 @@ impl Challenge<Goldilocks> for Goldilocks2 {
 }
 
 /// Reads numbers that are separated by commas. Returns whether they are as many as there is room for,
-/// and each is below `bound`.
-fn read_numbers(word: &[u8], bound: u128, numbers: &mut [u64]) -> bool
+/// and each is below `bound` and fits 64 bits.
+fn read_coefficients(word: &[u8], bound: u128, numbers: &mut [u64]) -> bool
     ensures long { length numbers.new ≡ length numbers.old }
     ensures read { result ≡ true → WritesNumbers (number_bound bound) word.now numbers.new }
     ensures refused { result ≡ false → (others : List ℕ) → length others ≡ length numbers.old

@@ -1,4 +1,4 @@
--- The modulus of Goldilocks is a prime, and 7 is not a square modulo it. So the integers modulo it are a field.
+-- The modulus of Goldilocks is a prime, so the integers modulo it are a field; and 7 is not a square in it.
 use Rattle.std.specs.Prelude.{◌≡◌, ◌≢◌, refl}
 use Rattle.std.proofs.Common.{ap, ◌∙◌, inl, inr, arith}
 use Rattle.field.specs.Characteristic.{HasCharacteristic, IsPrime}
@@ -62,7 +62,7 @@ seven_nonzero e =
 seven_no_square : (u v : Residue 18446744069414584321) → goldilocks_ring.mul u u ≡ goldilocks_ring.mul (goldilocks_of 7) (goldilocks_ring.mul v v) → v ≢ goldilocks_ring.zero → ⊥
 seven_no_square = no_square 18446744069414584321 goldilocks_positive goldilocks_prime (omega arith) 9223372034707292160 refl (goldilocks_of 7) seven_nonzero seven_to_half
 
--- 7 is not a square.
+-- A square that is 7 times another one is zero, as that one is.
 pub goldilocks_no_root : (u v : Residue 18446744069414584321) → goldilocks_ring.mul u u ≡ goldilocks_ring.mul (goldilocks_of 7) (goldilocks_ring.mul v v) → v ≡ goldilocks_ring.zero
 goldilocks_no_root u v e = elim (residue_decide 18446744069414584321 goldilocks_positive v) [
   | inl z ↦ z

@@ -5,15 +5,15 @@ use Rattle.field.specs.Quartic.{coefficients_of}
 use Rattle.lookup_program.proofs.WordLaws.{four_again, written_again}
 use Rattle.lookup_program.proofs.challenge.BabyBear4ChallengeBabyBear.from_word.Goals as goal
 
-pub returns-then-not-read_numbers : goal.returns-then-not-read_numbers
-returns-then-not-read_numbers c = λ x writes. c.read_numbers.ensures.refused c.if-not-read_numbers.true (map (λ c'. c'.value) (coefficients_of x)) refl writes
+pub returns-then-not-read_coefficients : goal.returns-then-not-read_coefficients
+returns-then-not-read_coefficients c = λ x writes. c.read_coefficients.ensures.refused c.if-not-read_coefficients.true (map (λ c'. c'.value) (coefficients_of x)) refl writes
 
 pub returns : goal.returns
 returns c =
     let parts : List (List ℕ) = slice_split (λ byte. byte == 44) c.args.word.now in
-    let numbers : List ℕ = c.read_numbers.new.numbers in
-    let long : length numbers ≡ 4 = c.read_numbers.ensures.long in
-    let writes = c.read_numbers.ensures.read c.if-not-read_numbers.false in
+    let numbers : List ℕ = c.read_coefficients.new.numbers in
+    let long : length numbers ≡ 4 = c.read_coefficients.ensures.long in
+    let writes = c.read_coefficients.ensures.read c.if-not-read_coefficients.false in
     let c0 = written_again 2013265921 baby_bear_positive parts numbers writes 0 (omega (arith, long)) c.times_one.result c.times_one.ensures in
     let c1 = written_again 2013265921 baby_bear_positive parts numbers writes 1 (omega (arith, long)) c.times_one-2.result c.times_one-2.ensures in
     let c2 = written_again 2013265921 baby_bear_positive parts numbers writes 2 (omega (arith, long)) c.times_one-3.result c.times_one-3.ensures in

@@ -3,7 +3,7 @@ use Rattle.std.specs.List.{slice_split}
 use Rattle.lookup_program.specs.Words.{number_of}
 use Rattle.lookup_program.specs.internal.Words.{number_bound}
 use Rattle.lookup_program.proofs.PartLaws.{Gives}
-use Rattle.lookup_program.proofs.challenge.read_numbers.Given as goal
+use Rattle.lookup_program.proofs.challenge.read_coefficients.Given as goal
 
 abbrev pub invariant-loop-place : goal.invariant-loop-place
 invariant-loop-place l =

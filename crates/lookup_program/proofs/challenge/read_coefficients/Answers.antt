@@ -6,7 +6,7 @@ use Rattle.lists.proofs.Images.{same_length}
 use Rattle.lookup_program.specs.Words.{number_of}
 use Rattle.lookup_program.specs.internal.Words.{number_bound}
 use Rattle.lookup_program.proofs.PartLaws.{Gives-end, Gives-more, Gives-start}
-use Rattle.lookup_program.proofs.challenge.read_numbers.Goals as goal
+use Rattle.lookup_program.proofs.challenge.read_coefficients.Goals as goal
 
 -- a part that is no number is none of these
 no_number : (bound : ℕ) (came rest : List (List ℕ)) (part : List ℕ) (numbers : List ℕ) → number_of bound part ≡ None → map (number_of bound) (came ++ part ∷ rest) ≡ map Some numbers → ⊥
