@@ -72,7 +72,7 @@ void __wrap_free(void *block);
 static int is_refused(void)
 {
     __atomic_add_fetch(&asked, 1, __ATOMIC_SEQ_CST);
-    if (before_refusal < 0 || (spares_others && !pthread_equal(pthread_self(), refused_thread)))
+    if ((spares_others && !pthread_equal(pthread_self(), refused_thread)) || before_refusal < 0)
         return 0;
     if (before_refusal == 0) {
         if (!refuses_all)
@@ -2044,6 +2044,13 @@ static void check_chunks(void)
 
 /* ---- threads ---- */
 
+/* the rows of the middle range, shifted, are those of the whole */
+static int has_middle_rows(struct cut *it)
+{
+    return shift(it, it->auxiliary, it->auxiliary_length, WIDTH, &it->whole[2 * WIDTH]) == VOLGWAIN_OK
+        && memcmp(it->auxiliary, &it->whole[2 * WIDTH], 2 * WIDTH * sizeof *it->whole) == 0;
+}
+
 static void *run_calls(void *unused)
 {
     long wrong = 0;
@@ -2065,9 +2072,7 @@ static void *run_calls(void *unused)
         if (pack(&three, 3) != VOLGWAIN_OK || !is_packed(&three)
             || read_json(&three, whole_json, strlen(whole_json)) != VOLGWAIN_OK || !is_read(&three))
             wrong++;
-        if (verify_rows(&four) != VOLGWAIN_OK || generate_rows(&four) != VOLGWAIN_OK
-            || shift(&four, four.auxiliary, four.auxiliary_length, WIDTH, &four.whole[2 * WIDTH]) != VOLGWAIN_OK
-            || memcmp(four.auxiliary, &four.whole[2 * WIDTH], 2 * WIDTH * sizeof *four.whole) != 0)
+        if (verify_rows(&four) != VOLGWAIN_OK || generate_rows(&four) != VOLGWAIN_OK || !has_middle_rows(&four))
             wrong++;
     }
     return (void *)wrong;
@@ -2092,10 +2097,11 @@ static void check_threads(void)
 static void check_memory_of_one_thread(void)
 {
     pthread_t threads[3];
-    long granted;
+    long granted, before = live;
     int i, is_last = 0;
     refused_thread = pthread_self();
     spares_others = 1;
+    refuses_all = 0;
     for (i = 0; i < 3; i++)
         if (pthread_create(&threads[i], NULL, run_calls, NULL) != 0)
             exit(3);
@@ -2105,18 +2111,17 @@ static void check_memory_of_one_thread(void)
         make_middle(&it);
         before_refusal = granted;
         code = generate_rows(&it);
-        check(code == VOLGWAIN_OK || (code == VOLGWAIN_OUT_OF_MEMORY && has_kept_rows(&it)),
+        is_last = before_refusal >= 0;
+        before_refusal = -1;
+        check(code == VOLGWAIN_OK ? has_middle_rows(&it) : code == VOLGWAIN_OUT_OF_MEMORY && has_kept_rows(&it),
             "a range is generated, or refused and kept, beside other threads");
-        is_last = code == VOLGWAIN_OK && before_refusal >= 0;
         before_refusal = granted;
         verdict = verify_rows(&it);
         check(verdict == VOLGWAIN_OK || verdict == VOLGWAIN_OUT_OF_MEMORY,
             "a range is accepted, or refused for memory, beside other threads");
-        is_last = is_last && verdict == VOLGWAIN_OK && before_refusal >= 0;
+        is_last = is_last && before_refusal >= 0;
         before_refusal = -1;
-        check(generate_rows(&it) == VOLGWAIN_OK && verify_rows(&it) == VOLGWAIN_OK
-                && shift(&it, it.auxiliary, it.auxiliary_length, WIDTH, &it.whole[2 * WIDTH]) == VOLGWAIN_OK
-                && memcmp(it.auxiliary, &it.whole[2 * WIDTH], 2 * WIDTH * sizeof *it.whole) == 0,
+        check(verify_rows(&it) == VOLGWAIN_OK && generate_rows(&it) == VOLGWAIN_OK && has_middle_rows(&it),
             "and with memory it is the same");
     }
     check(granted > 5, "some requests of one thread are refused");
@@ -2126,6 +2131,7 @@ static void check_memory_of_one_thread(void)
         check(wrong == NULL, "threads beside one that is refused memory");
     }
     spares_others = 0;
+    check(live == before, "and no thread keeps memory");
 }
 
 /* ---- a small stack: the deepest expressions that are read ---- */

@@ -280,17 +280,19 @@ fn cells_around<'r, T: Copy>(
 mod tests {
     use super::*;
     use crate::ffi::PlanSizes;
-    use crate::{Air, Batch, Code, Expr, Lookup, Message};
+    use crate::{Air, Batch, Expr, Lookup, Message};
     use std::iter;
     use std::sync::atomic::AtomicUsize;
 
     const HEIGHT: usize = 2 * RANGE_ROWS + 3;
 
-    /// Three lookups of column 0.
-    fn air() -> Air {
-        let lookup =
-            |bus: &str, count| Lookup::on_bus(bus, [Message::query([Expr::main(0)], count)]);
-        Air::new([lookup("a", 1), lookup("b", -1), lookup("b", 2)]).unwrap()
+    /// A lookup of column 0, with what else a row can read: the next row, the preprocessed trace, a public
+    /// value, and selectors.
+    fn lookup(bus: &str, count: i32) -> Lookup {
+        let first = Expr::main(0) + Expr::main_next(0) * Expr::is_transition();
+        let second = Expr::preprocessed_next(1) * Expr::public(0) + Expr::is_first_row();
+        let third = Expr::preprocessed(0) - Expr::is_last_row();
+        Lookup::on_bus(bus, [Message::query([first, second, third], count)])
     }
 
     #[test]
@@ -346,35 +348,33 @@ mod tests {
     /// Without this, a range that is always refused would not be noticed: the whole call answers then.
     #[test]
     fn ranges_make_and_accept_the_witness_of_one_thread() {
-        let air = air();
+        let asks = Air::new([lookup("a", 1), lookup("b", -1), lookup("b", 2)]).unwrap();
+        let provides = Air::new([lookup("a", -1), lookup("b", -1)]).unwrap();
         let cells: Vec<u32> = (0..HEIGHT as u32).map(|row| row % 89).collect();
-        let traces = Traces::new(&cells, 1);
+        let fixed: Vec<u32> = (0..2 * HEIGHT as u32).map(|cell| cell % 97).collect();
+        let traces = Traces::new(&cells, 1).with_preprocessed(&fixed, 2).with_public_values(&[13]);
         let (alpha, beta) = (Element::new([1, 2, 3, 4]), Element::new([5, 6, 7, 8]));
-        let batch = Batch::new([(&air, HEIGHT)]).unwrap().with_threads(1);
-        let alone = batch.prove(&[traces], alpha, beta).unwrap();
-        let sizes = PlanSizes { max_message_width: 1, num_ids: 2 };
-        let planned = PlannedIds { tables: air.tables(), ids: &batch.ids()[0], sizes: &sizes };
-        let traced = TracedAir { planned, traces };
-        let work = SharedWork::of(iter::once(traced), [alpha, beta], Some(2)).unwrap();
-        assert_eq!((work.ranges.len(), work.threads), (3, 2));
-        let part = alone.air(0).unwrap();
-        let mut made = vec![Element::default(); part.auxiliary.len()];
-        let mut terminals = [Terminal::default()];
+        let batch = Batch::new([(&asks, HEIGHT), (&provides, HEIGHT)]).unwrap();
+        let alone = batch.clone().with_threads(1).prove(&[traces; 2], alpha, beta).unwrap();
+        let batch = batch.with_threads(2);
+        let work = batch.shared(&[traces; 2], alpha, beta).unwrap();
+        assert_eq!((work.ranges.len(), work.threads), (6, 2));
+        let parts: Vec<AirWitness<'_>> = alone.airs().collect();
+        let whole = [parts[0].auxiliary, parts[1].auxiliary].concat();
+        let mut made = vec![Element::default(); whole.len()];
+        let mut terminals = [Terminal::default(); 2];
         assert!(work.prove(&mut made, &mut terminals));
-        assert_eq!((&made[..], terminals[0].element()), (part.auxiliary, part.terminal));
-        // the counts do not balance, so the sum is refused, and nothing else
-        let verdict = batch.verify(&[traces], alpha, beta, &alone);
-        assert_eq!(verdict.map_err(|it| it.code()), Err(Code::TerminalSum));
-        assert!(!work.verify(&alone));
-        let back = Air::new([
-            Lookup::on_bus("a", [Message::query([Expr::main(0)], -1)]),
-            Lookup::on_bus("b", [Message::query([Expr::main(0)], -1)]),
-        ]);
-        let back = back.unwrap();
-        let batch = Batch::new([(&air, HEIGHT), (&back, HEIGHT)]).unwrap().with_threads(1);
-        let alone = batch.prove(&[traces; 2], alpha, beta).unwrap();
-        assert_eq!(batch.verify(&[traces; 2], alpha, beta, &alone), Ok(()));
-        let work = batch.with_threads(3);
-        assert!(work.shared(&[traces; 2], alpha, beta).unwrap().verify(&alone));
+        assert_eq!(made, whole);
+        assert_eq!(terminals.map(Terminal::element), [parts[0].terminal, parts[1].terminal]);
+        assert!(work.verify(&alone));
+        // a single AIR does not balance: it is generated, and its sum is refused
+        let sizes = PlanSizes { max_message_width: 3, num_ids: 2 };
+        let planned = PlannedIds { tables: asks.tables(), ids: &batch.ids()[0], sizes: &sizes };
+        let traced = iter::once(TracedAir { planned, traces });
+        let work = SharedWork::of(traced, [alpha, beta], Some(2)).unwrap();
+        let mut made = vec![Element::default(); parts[0].auxiliary.len()];
+        assert!(work.prove(&mut made, &mut terminals[..1]));
+        assert_eq!((&made[..], terminals[0].element()), (parts[0].auxiliary, parts[0].terminal));
+        assert!(!work.verify(&Witness::new([parts[0]])));
     }
 }
