@@ -79,9 +79,21 @@ impl<'a, F: Field> TraceRow<'a, F> {
         }
     }
 
-    /// The value of a leaf.
+    /// The value of a leaf. A variable, which most leaves are, is told from the others by one test.
     #[inline(always)]
     fn leaf(&self, leaf: BaseLeaf<F>) -> F
+        requires { LeafFits (trace_layout self.now) leaf }
+        ensures { result ≡ leaf_value F.ring (trace_window self.now) leaf }
+    {
+        match leaf {
+            BaseLeaf::Variable(variable) => self.variable(variable),
+            _ => self.other_leaf(leaf),
+        }
+    }
+
+    /// The value of a leaf, which is called where it is no variable.
+    #[inline(never)]
+    fn other_leaf(&self, leaf: BaseLeaf<F>) -> F
         requires { LeafFits (trace_layout self.now) leaf }
         ensures { result ≡ leaf_value F.ring (trace_window self.now) leaf }
     {
