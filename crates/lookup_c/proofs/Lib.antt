@@ -3,8 +3,10 @@ pub mod BatchLaws
 pub mod CellLaws
 pub mod DebugLaws
 pub mod GenerateLaws
+pub mod JoinedLaws
 pub mod RefusalLaws
 pub mod RowChecks
 pub mod RowLaws
+pub mod SameLookups
 pub mod TableWriting
 pub mod WrittenLaws

@@ -8,6 +8,7 @@ pub mod GenerateByIds
 pub mod GenerateRows
 pub mod GridCount
 pub mod Inputs
+pub mod JoinedRows
 pub mod Outputs
 pub mod Pack
 pub mod Plan

@@ -1,0 +1,14 @@
+//! What holds of the numbers that calls write, on whatever threads they run.
+ghost use Rattle.lookup_c.specs.JoinedRows.{RowsJoin};
+
+use field::{BabyBear, BabyBear4, Over};
+use lookup_generation::ranges_join;
+
+/// Does nothing. Its contract says that ranges of rows join, wherever the calls run: what
+/// `volgwain_generate_rows` writes for ranges that follow one another, shifted by `volgwain_shift` and put one
+/// after the other, is what `volgwain_generate_by_ids` writes for the whole trace, and no other numbers are.
+pub fn rows_join()
+    ensures { RowsJoin ⟦<BabyBear4 as Over<BabyBear>>⟧.fields }
+{
+    ranges_join::<BabyBear, BabyBear4>();
+}
