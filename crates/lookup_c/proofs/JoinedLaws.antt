@@ -27,6 +27,7 @@ use Rattle.lookup_c.specs.declared.outputs.Terminal.{Terminal}
 use Rattle.lookup_c.specs.declared.plan.PlanSizes.{PlanSizes}
 use Rattle.lookup_c.specs.declared.rows.Rows.{Rows}
 use Rattle.lookup_c.proofs.CellLaws.{same_quartic}
+use Rattle.lookup_c.proofs.JoinedChecks.{rows_checked}
 use Rattle.lookup_c.proofs.SameLookups.{matrix_same, range_same, terminal_same}
 
 -- elements are those of their numbers
@@ -143,4 +144,5 @@ module _ (E : Extension BabyBear (Quartic BabyBear)) where
       neighbours = neighbours_join;
       all_rows = all_rows_are_whole;
       only = writes_only;
+      checked = rows_checked E;
     }

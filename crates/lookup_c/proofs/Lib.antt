@@ -3,10 +3,12 @@ pub mod BatchLaws
 pub mod CellLaws
 pub mod DebugLaws
 pub mod GenerateLaws
+pub mod JoinedChecks
 pub mod JoinedLaws
 pub mod RefusalLaws
 pub mod RowChecks
 pub mod RowLaws
+pub mod SameConstraints
 pub mod SameLookups
 pub mod TableWriting
 pub mod WrittenLaws

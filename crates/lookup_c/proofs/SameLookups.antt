@@ -24,26 +24,26 @@ use Rattle.lookup_model.specs.Trace.{sent_row, sent_rows}
 use Rattle.lookup_model.specs.declared.types.Lookup.{Lookup}
 
 -- images of images
-same_images : {A B C : Type 0} (f : A → C) (g : B → C) (h : A → B) (xs : List A) → ((x : A) → f x ≡ g (h x)) → map f xs ≡ map g (map h xs)
+pub same_images : {A B C : Type 0} (f : A → C) (g : B → C) (h : A → B) (xs : List A) → ((x : A) → f x ≡ g (h x)) → map f xs ≡ map g (map h xs)
 same_images f g h [] each = refl
 same_images f g h (x ∷ xs) each = λ i. each x i ∷ same_images f g h xs each i
 
 module _ {F : Type 0} (R : Ring F) (eq : F → F → Bool) (w : Window F) where
   -- a tuple with its multiplicity, of their trees
-  abbrev branch_of : ℕ → List (Tree F) × Tree F → Message F
+  abbrev pub branch_of : ℕ → List (Tree F) × Tree F → Message F
   branch_of id b = record { key = record { id = id; tuple = map (value_of R w) b.0 }; multiplicity = value_of R w b.1 }
 
   -- what a lookup with this outline sends
   abbrev sent_of : Outline (Tree F) → Sent F
   sent_of o = sent R eq (option_map (map (value_of R w)) o.flags) (map (branch_of o.column) (zip o.elements o.multiplicities))
 
-  same_branches : (id : ℕ) (ts : List (Vec (SymbolicExpression F) Global)) (ms : List (SymbolicExpression F))
+  pub same_branches : (id : ℕ) (ts : List (Vec (SymbolicExpression F) Global)) (ms : List (SymbolicExpression F))
       → map (λ b. branch_at R w id b.0.items b.1) (zip ts ms) ≡ map (branch_of id) (zip (map (λ t. map tree_of t.items) ts) (map tree_of ms))
   same_branches id [] ms = refl
   same_branches id (t ∷ ts) [] = refl
   same_branches id (t ∷ ts) (m ∷ ms) = λ i. record { key = record { id = id; tuple = same_images (value R w) (value_of R w) tree_of t.items (λ e. refl) i }; multiplicity = value R w m } ∷ same_branches id ts ms i
 
-  same_flags : (flags : Option (Vec (SymbolicExpression F) Global)) → option_map (λ fs. map (value R w) fs.items) flags ≡ option_map (map (value_of R w)) (option_map (λ fs. map tree_of fs.items) flags)
+  pub same_flags : (flags : Option (Vec (SymbolicExpression F) Global)) → option_map (λ fs. map (value R w) fs.items) flags ≡ option_map (map (value_of R w)) (option_map (λ fs. map tree_of fs.items) flags)
   same_flags None = refl
   same_flags (Some fs) = ap Some (same_images (value R w) (value_of R w) tree_of fs.items (λ e. refl))
 
@@ -55,7 +55,7 @@ module _ {F : Type 0} (R : Ring F) (eq : F → F → Bool) (w : Window F) where
       same_images (λ l. sent_at R eq w l.column l) sent_of outline_of others same_sent ∙ ap (map sent_of) same ∙ sym (same_images (λ l. sent_at R eq w l.column l) sent_of outline_of lookups same_sent)
 
 -- they are as many
-same_many : {F : Type 0} (others lookups : List (Lookup F)) → map outline_of others ≡ map outline_of lookups → length others ≡ length lookups
+pub same_many : {F : Type 0} (others lookups : List (Lookup F)) → map outline_of others ≡ map outline_of lookups → length others ≡ length lookups
 same_many others lookups same = sym (length-map others outline_of) ∙ ap length same ∙ length-map lookups outline_of
 
 module _ {F K : Type 0} (E : Extension F K) (denominator : Key F → K) (rows : List (List (Sent F))) where

@@ -1,14 +1,16 @@
 -- Ranges of rows that calls write, joined to the whole trace.
 use Rattle.std.specs.Prelude.{◌≡◌, ◌≤◌, ◌++◌, ◌∷◌, [], ℕ, List, Ok}
 use Rattle.air.specs.Traces.{AirTraces, height_of}
+use Rattle.checker.specs.Ranges.{RowsHoldUntil}
 use Rattle.field.specs.Extension.{Extension}
 use Rattle.field.specs.Quartic.{Quartic}
 use Rattle.matrix.specs.Matrix.{Matrix}
 use Rattle.lookup_generation.specs.Ranges.{AnswersRows}
+use Rattle.lookup_model.specs.Batches.Refusals.{HasShapeAt}
 use Rattle.lookup_model.specs.Challenges.{column_challenges}
 use Rattle.lookup_model.specs.Witness.{auxiliary_width}
 use Rattle.lookup_model.specs.declared.types.Lookup.{Lookup}
-use Rattle.lookup_ranges.specs.Around.{AreAround}
+use Rattle.lookup_ranges.specs.Around.{AreAround, IsMatrixAround}
 use Rattle.lookup_tables.specs.Nodes.{BabyBear}
 use Rattle.lookup_tables.specs.Numbers.{numbers_of, quartic_of}
 use Rattle.lookup_tables.specs.Tables.{EncodeLookups}
@@ -21,9 +23,12 @@ use Rattle.lookup_c.specs.Outputs.{cells_of}
 use Rattle.lookup_c.specs.PlannedAirs.{IsPlannedAir, plan_table}
 use Rattle.lookup_c.specs.Rows.{range_of}
 use Rattle.lookup_c.specs.Shift.{ShiftsTo}
+use Rattle.lookup_c.specs.VerifyRows.{VerifiesRows, instance_over}
+use Rattle.lookup_c.specs.Witnesses.{auxiliary_of, terminal_of}
 use Rattle.lookup_c.specs.declared.outputs.Terminal.{Terminal}
 use Rattle.lookup_c.specs.declared.plan.PlanSizes.{PlanSizes}
 use Rattle.lookup_c.specs.declared.rows.Rows.{Rows}
+use Rattle.lookup_c.specs.declared.witness.AirWitness.{AirWitness}
 
 -- the terminal of an AIR whose fractions have this sum: there is none without lookups
 abbrev pub ending_of : List (Lookup BabyBear) → List ℕ → Terminal
@@ -75,10 +80,22 @@ module _ (E : Extension BabyBear (Quartic BabyBear)) (tables : Tables) (ids : Li
       (others : List (List ℕ)) (other : Terminal) → by_ids.GeneratesNumbers E tables traces ids sizes alpha beta cells ending
       → by_ids.GeneratesNumbers E tables traces ids sizes alpha beta others other → (cells ≡ others) × (ending ≡ other)
 
+  -- What volgwain_verify_rows accepts for the rows around a range is true of every whole trace and every whole
+  -- auxiliary trace that have these rows around it: the auxiliary trace has the right shape, and all constraints are
+  -- zero on the rows of the range.
+  abbrev pub ChecksRows : Traces → Rows → AirWitness → Type 0
+  ChecksRows around rows numbers =
+      (whole : AirTraces BabyBear) (auxiliary : Matrix (Quartic BabyBear)) (lookups : List (Lookup BabyBear)) → VerifiesRows E tables around rows ids sizes alpha beta numbers
+      → AreAround (range_of rows) whole (decoded_traces around) → IsMatrixAround (range_of rows) auxiliary (auxiliary_of numbers) → EncodeLookups tables lookups
+      → HasShapeAt (instance_over lookups ids whole) (auxiliary, terminal_of numbers.terminal)
+      × RowsHoldUntil E (plan_table E.ring sizes (quartic_of alpha) (quartic_of beta)) (instance_over lookups ids whole) (auxiliary, terminal_of numbers.terminal) rows.first rows.end rows.end
+
 -- So whatever ranges a trace is cut into, and wherever they are generated, what is written for them joins to what
--- volgwain_generate_by_ids writes for the whole.
+-- volgwain_generate_by_ids writes for the whole; and where all of them are accepted, all constraints are zero on every
+-- row of the whole.
 pub record RowsJoin (E : Extension BabyBear (Quartic BabyBear)) : Type 0 where
   pub rows : (tables : Tables) (ids : List ℕ) (sizes : PlanSizes) (alpha beta : List ℕ) (around : Traces) (rows : Rows) (cells : List (List ℕ)) (total : List ℕ) → WritesRows E tables ids sizes alpha beta around rows cells total
   pub neighbours : (whole : AirTraces BabyBear) (lookups : List (Lookup BabyBear)) (challenges : List (Quartic BabyBear)) (first middle end : ℕ) → first ≤ middle → middle ≤ end → end ≤ height_of whole → NeighboursJoin E whole lookups challenges first middle end
   pub all_rows : (tables : Tables) (ids : List ℕ) (sizes : PlanSizes) (alpha beta : List ℕ) (traces : Traces) (cells : List (List ℕ)) (total : List ℕ) → AllRowsAreWhole E tables ids sizes alpha beta traces cells total
   pub only : (tables : Tables) (ids : List ℕ) (sizes : PlanSizes) (alpha beta : List ℕ) (traces : Traces) (cells : List (List ℕ)) (ending : Terminal) → WritesOnly E tables ids sizes alpha beta traces cells ending
+  pub checked : (tables : Tables) (ids : List ℕ) (sizes : PlanSizes) (alpha beta : List ℕ) (around : Traces) (rows : Rows) (numbers : AirWitness) → ChecksRows E tables ids sizes alpha beta around rows numbers

@@ -7,6 +7,7 @@ use lookup_generation::ranges_join;
 /// Does nothing. Its contract says that ranges of rows join, wherever the calls run: what
 /// `volgwain_generate_rows` writes for ranges that follow one another, shifted by `volgwain_shift` and put one
 /// after the other, is what `volgwain_generate_by_ids` writes for the whole trace, and no other numbers are.
+/// And what `volgwain_verify_rows` accepts for a range is true of the rows of the whole trace.
 pub fn rows_join()
     ensures { RowsJoin ⟦<BabyBear4 as Over<BabyBear>>⟧.fields }
 {
