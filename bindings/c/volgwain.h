@@ -507,9 +507,9 @@ uint32_t volgwain_shift(struct volgwain_element *cells, size_t cells_length, siz
    witness: the cells of the auxiliary trace on the rows around the range alone, in the same order; and the
    terminal of the whole trace.
 
-   Each row is in one of some ranges that cover the trace. If each of these is accepted, by the same terminal,
-   then every constraint of the AIR is zero on every row of the whole trace. That the terminals of a batch sum to
-   zero is not tested here.
+   Where ranges of one trace and one auxiliary trace cover all rows, and each is accepted with the same terminal,
+   every constraint of the AIR is zero on every row of the whole trace. The caller sees to it that height is that
+   of the plan, and that the terminals of a batch sum to zero.
 
    Returns 0 exactly if they are zero, unless memory runs out. Refuses, in this order: what
    volgwain_generate_rows does up to 4 of the rows; 5 and 3 of what the witness has; 17, 18 and 19; and 20, at

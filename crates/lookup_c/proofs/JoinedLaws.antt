@@ -130,8 +130,8 @@ module _ (E : Extension BabyBear (Quartic BabyBear)) where
             traces_below = air.traces_below;
             as_many = air.as_many;
             challenges = challenges;
-            challenges_are = record { a = quartic_of alpha; b = quartic_of beta; alpha_is = air.alpha_is; beta_is = air.beta_is; are = refl };
-            generates = record { fit = air.fitting.fit; auxiliary_is = generated.0; terminal_is = generated.1; faultless = generated.2; satisfied = generated.3 };
+            challenges_are = record { a = quartic_of alpha; b = quartic_of beta; alpha_is = air.alpha_is; beta_is = air.beta_is; ids_are = air.ids_are; are = refl };
+            generates = record { fitting = air.fitting; auxiliary_is = generated.0; terminal_is = generated.1; faultless = generated.2; satisfied = generated.3 };
           };
           cells_are = numbers.cells_are;
           ending_is = ending_is lookups total numbers.sum numbers.total_is;

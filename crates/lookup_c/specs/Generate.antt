@@ -48,7 +48,7 @@ module _ (E : Extension BabyBear (Quartic BabyBear)) (traces : AirTraces BabyBea
   -- The plain result over these lookups, which fit the traces and have no fault; it satisfies the
   -- constraints.
   pub record GeneratesOver (auxiliary : Matrix (Quartic BabyBear)) (terminal : Option (LookupTerminal (Quartic BabyBear))) : Type 0 where
-    pub fit : LookupsFit (layout_of traces) lookups
+    pub fitting : AreFitting traces lookups
     pub auxiliary_is : auxiliary ≡ plain_matrix E (key_denominator E challenges) lookups (sent_rows E.base E.base_eq traces lookups)
     pub terminal_is : terminal ≡ plain_terminal_of E (key_denominator E challenges) lookups (sent_rows E.base E.base_eq traces lookups)
     pub faultless : trace_faults E (key_denominator E challenges) (sent_rows E.base E.base_eq traces lookups) ≡ []

@@ -29,14 +29,21 @@ use Rattle.lookup_c.specs.declared.outputs.Terminal.{Terminal}
 use Rattle.lookup_c.specs.declared.plan.PlanSizes.{PlanSizes}
 use Rattle.lookup_c.specs.declared.refusal.Refusal.{Refusal}
 
+-- the ids are those of a plan of these sizes, whose tuples have a width
+pub record AreIdsOfPlan (ids : List ℕ) (sizes : PlanSizes) : Type 0 where
+  pub wide : 0 < sizes.max_message_width
+  pub below : All (λ id. id < sizes.num_ids) ids
+
 -- the challenges of a plan of these sizes, which has these ids
 pub record ArePlanChallenges (R : Ring (Quartic BabyBear)) (ids : List ℕ) (sizes : PlanSizes) (alpha beta : Quartic BabyBear) (challenges : Challenges (Quartic BabyBear)) : Type 0 where
+  pub ids_are : AreIdsOfPlan ids sizes
   pub table_is : table_of challenges ≡ made_table R alpha beta sizes.max_message_width sizes.num_ids
   pub has_prefixes : All (λ id. id < length (boxed_slice_items challenges.bus_prefix)) ids
 
 -- the challenges that columns with these ids have under a plan of these sizes
 abbrev pub AreIdChallenges : Ring (Quartic BabyBear) → List ℕ → PlanSizes → Quartic BabyBear → Quartic BabyBear → Vec (Quartic BabyBear) Global → Type 0
-AreIdChallenges R ids sizes alpha beta v = v.items ≡ column_challenges (made_table R alpha beta sizes.max_message_width sizes.num_ids) ids
+AreIdChallenges R ids sizes alpha beta v =
+    AreIdsOfPlan ids sizes × (v.items ≡ column_challenges (made_table R alpha beta sizes.max_message_width sizes.num_ids) ids)
 
 -- the refusal of the first id that is not below the number of ids
 abbrev pub IsFirstLargeId : List ℕ → ℕ → Fault → Type 0
@@ -55,6 +62,7 @@ module _ (E : Extension BabyBear (Quartic BabyBear)) (tables : Tables) (traces :
     pub b : Quartic BabyBear
     pub alpha_is : IsChallenge alpha a
     pub beta_is : IsChallenge beta b
+    pub ids_are : AreIdsOfPlan ids sizes
     pub are : challenges ≡ column_challenges (made_table E.ring a b sizes.max_message_width sizes.num_ids) ids
 
   -- Generation over the one list of lookups that the tables encode, over the traces of these numbers, and

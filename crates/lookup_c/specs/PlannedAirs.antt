@@ -11,7 +11,7 @@ use Rattle.lookup_tables.specs.Traces.{AreCanonical}
 use Rattle.lookup_tables.specs.declared.tables.Tables.{Tables}
 use Rattle.lookup_tables.specs.declared.traces.Traces.{Traces}
 use Rattle.lookup_c.specs.Generate.{AreFitting, IsUnfit}
-use Rattle.lookup_c.specs.GenerateByIds.{IsIdsRefusal}
+use Rattle.lookup_c.specs.GenerateByIds.{AreIdsOfPlan, IsIdsRefusal}
 use Rattle.lookup_c.specs.Inputs.{IsChallenge, IsChallengeRefusal, IsTableRefusal, IsTracesRefusal, decoded_traces}
 use Rattle.lookup_c.specs.declared.fault.Fault.{Fault}
 use Rattle.lookup_c.specs.declared.fault.Fault.TheVariants.{Length}
@@ -23,13 +23,14 @@ abbrev pub plan_table : Ring (Quartic BabyBear) → PlanSizes → Quartic BabyBe
 plan_table R sizes alpha beta = made_table R alpha beta sizes.max_message_width sizes.num_ids
 
 module _ (tables : Tables) (traces : Traces) (ids : List ℕ) (sizes : PlanSizes) (alpha beta : List ℕ) where
-  -- The one list of lookups that the tables encode, one for each id, over the traces of these numbers, which
-  -- they fit, and under alpha and beta; all numbers are below the modulus.
+  -- The one list of lookups that the tables encode, one for each id of the plan, over the traces of these
+  -- numbers, which they fit, and under alpha and beta; all numbers are below the modulus.
   pub record IsPlannedAir (lookups : List (Lookup BabyBear)) (a b : Quartic BabyBear) : Type 0 where
     pub encoded : EncodeLookups tables lookups
     pub traces_below : AreCanonical traces
     pub alpha_is : IsChallenge alpha a
     pub beta_is : IsChallenge beta b
+    pub ids_are : AreIdsOfPlan ids sizes
     pub as_many : length ids ≡ length lookups
     pub fitting : AreFitting (decoded_traces traces) lookups
 

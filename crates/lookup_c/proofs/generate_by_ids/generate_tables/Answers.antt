@@ -19,5 +19,6 @@ returns c =
       b = c.in_ok-beta.beta;
       alpha_is = c.in_ok-alpha.ensures;
       beta_is = c.in_ok-beta.ensures;
-      are = c.deref-2.ensures.value ∙ c.in_ok-challenges.ensures;
+      ids_are = c.in_ok-challenges.ensures.0;
+      are = c.deref-2.ensures.value ∙ c.in_ok-challenges.ensures.1;
     }) c.generate_lookups.ensures

@@ -23,6 +23,7 @@ returns c = record {
     traces_below = c.in_ok-traces.ensures.canonical;
     alpha_is = c.in_ok-alpha.ensures;
     beta_is = c.in_ok-beta.ensures;
+    ids_are = c.in_ok-challenges.ensures.ids_are;
     as_many = omega (arith, c.if-plan-len.false, c.len.ensures);
     fitting = subst₂ AreFitting (decoded c.args.traces.now c.in_ok-traces.traces c.in_ok-traces.ensures) c.deref.ensures.value c.in_ok-check_fit.ensures;
   };
