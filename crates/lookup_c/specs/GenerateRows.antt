@@ -28,14 +28,14 @@ use Rattle.lookup_c.specs.declared.refusal.Refusal.{Refusal}
 use Rattle.lookup_c.specs.declared.rows.Rows.{Rows}
 
 module _ (E : Extension BabyBear (Quartic BabyBear)) (around : Traces) (rows : Rows) (lookups : List (Lookup BabyBear)) (challenges : List (Quartic BabyBear)) where
-  -- Of each whole trace that these are the rows around the range of, these are the rows of the range of the
-  -- plain result, with an accumulator that is zero on the first of them, and the sum of their fractions; none of
-  -- them has a fault.
+  -- In every whole trace that has these rows around the range, these are the rows of the range of its plain
+  -- result, with an accumulator that is zero on the first of them, and the sum of their fractions. None of them
+  -- has a fault.
   abbrev pub AreRowsOfAll : Matrix (Quartic BabyBear) → Quartic BabyBear → Type 0
   AreRowsOfAll auxiliary sum =
       (whole : AirTraces BabyBear) → AreAround (range_of rows) whole (decoded_traces around) → AnswersRows E whole lookups challenges rows.first rows.end (Ok (auxiliary, sum))
 
-  -- Of each such trace this is the first fault on the rows of the range.
+  -- In every such trace this is the first fault on the rows of the range.
   abbrev pub IsFirstOfAll : LookupError → Type 0
   IsFirstOfAll error =
       (whole : AirTraces BabyBear) → AreAround (range_of rows) whole (decoded_traces around)

@@ -36,8 +36,8 @@ abbrev pub instance_over : List (Lookup BabyBear) → List ℕ → AirTraces Bab
 instance_over lookups ids traces = record { lookups = lookups; traces = traces; ids = ids }
 
 module _ (E : Extension BabyBear (Quartic BabyBear)) (around : Traces) (rows : Rows) (ids : List ℕ) (numbers : AirWitness) where
-  -- Of each whole trace and each whole auxiliary trace that these are the rows around the range of: on the rows of
-  -- the range up to this one all constraints are zero; on this one, if it is in the range, one is not.
+  -- In every whole trace with a whole auxiliary trace that have these rows around the range, all constraints are
+  -- zero on the rows of the range before this one; and on this one, if it is in the range, one is not.
   abbrev pub HoldUntilOfAll : List (Lookup BabyBear) → ChallengeTable (Quartic BabyBear) → ℕ → Type 0
   HoldUntilOfAll lookups table row =
       (whole : AirTraces BabyBear) (auxiliary : Matrix (Quartic BabyBear))
