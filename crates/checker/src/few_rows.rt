@@ -39,8 +39,7 @@ pub(crate) fn few_hold_until<F: Field, EF: ExtensionField<F>>(
     requires fit { IsFitting (instance_of instance.now) }
     requires ids { HasPrefixes challenges.now instance.now }
     requires shape { HasShapeAt (instance_of instance.now) (aux.now, Some terminal) }
-    requires from { first ≤ end }
-    requires up_to { end ≤ height_of (instance_of instance.now).traces }
+    requires range { (first ≤ end) × (end ≤ height_of (instance_of instance.now).traces) }
     ensures { RowsHoldUntil ⟦<EF as Over<F>>⟧.fields (table_of challenges.now)
         (instance_of instance.now) (aux.now, Some terminal) first end result }
 {

@@ -56,8 +56,7 @@ fn tuple_holds_until<F: Field, EF: ExtensionField<F>>(
     first: usize,
     end: usize,
 ) -> Result<usize, AllocError>
-    requires from { first ≤ end }
-    requires up_to { end ≤ height aux.now }
+    requires range { (first ≤ end) × (end ≤ height aux.now) }
     requires cell { column + 1 < aux.now.width }
     requires multiplicities { end - first ≤ length branch.now.multiplicities.items }
     requires denominators { end - first ≤ length branch.now.denominators.items }

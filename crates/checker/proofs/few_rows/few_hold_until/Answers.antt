@@ -19,8 +19,7 @@ accumulator_holds-requires g c =
     let some = some_lookups i.lookups.now (height i.main.now) c.args.aux.now c.args.terminal c.requires.shape in
     let shape = shaped i.lookups.now (height i.main.now) c.args.aux.now (Some c.args.terminal) c.requires.shape some in
     record {
-      rows = c.height-num_rows.ensures.height ∙ sym shape.0;
-      row_exists = omega (arith, c.loop-row-test.true, c.requires.up_to, c.height-num_rows.ensures.height);
+      rows = (c.height-num_rows.ensures.height ∙ sym shape.0, omega (arith, c.loop-row-test.true, c.requires.range.1, c.height-num_rows.ensures.height));
       some = some;
       records = c.requires.fit.fit.records;
       cells = shape.1;
@@ -29,7 +28,7 @@ accumulator_holds-requires g c =
 pub new-trace_row-requires : goal.new-trace_row-requires
 new-trace_row-requires g c = record {
   rows = c.height-num_rows.ensures.height;
-  row_exists = omega (arith, c.loop-row-test.true, c.requires.up_to, c.height-num_rows.ensures.height);
+  row_exists = omega (arith, c.loop-row-test.true, c.requires.range.1, c.height-num_rows.ensures.height);
 }
 
 pub fractions_hold-requires : goal.fractions_hold-requires
@@ -83,5 +82,5 @@ loop-row-preserved g c =
 pub returns : goal.returns
 returns g c =
     let E = of_laws g.met.EF.ExtensionField.lawful_fields in
-    until_end (HoldsAt E (table_of c.args.challenges.now) (instance_of c.args.instance.now) (c.args.aux.now, Some c.args.terminal)) c.args.first c.args.end c.args.end c.requires.from refl
+    until_end (HoldsAt E (table_of c.args.challenges.now) (instance_of c.args.instance.now) (c.args.aux.now, Some c.args.terminal)) c.args.first c.args.end c.args.end c.requires.range.0 refl
     (λ s low high. c.loop-row.invariant s low (omega (arith, high, c.loop-row-test.false)))

@@ -16,6 +16,6 @@ returns-in-None g c =
     let table = table_of c.args.challenges.now in
     let i = instance_of c.args.instance.now in
     let h = height c.args.instance.now.main.now in
-    until_end (HoldsAt E table i (c.args.aux.now, c.args.terminal.now)) c.args.first c.args.end c.args.end c.requires.from refl
+    until_end (HoldsAt E table i (c.args.aux.now, c.args.terminal.now)) c.args.first c.args.end c.args.end c.requires.range.0 refl
     (λ r low high. none_hold E (witness_window i.traces (column_challenges table i.ids) c.args.aux.now c.args.terminal.now r) i.lookups h c.args.aux.now
     (subst (λ (t : Option (LookupTerminal _)). HasShape i.lookups h c.args.aux.now t) c.in-None.is c.requires.shape))

@@ -15,11 +15,10 @@ rows_hold_until-requires-clause-fit g c = c.requires.fit
 pub rows_hold_until-requires-clause-ids : goal.rows_hold_until-requires-clause-ids
 rows_hold_until-requires-clause-ids g c = c.requires.ids
 
-pub rows_hold_until-requires-clause-from : goal.rows_hold_until-requires-clause-from
-rows_hold_until-requires-clause-from g c = (next_end c.loop-end.first c.args.ends.now (height_of (instance_of c.args.instance.now).traces) c.loop-end.end-index c.loop-end-test.true c.loop-end.invariant.0).0
-
-pub rows_hold_until-requires-clause-up_to : goal.rows_hold_until-requires-clause-up_to
-rows_hold_until-requires-clause-up_to g c = (next_end c.loop-end.first c.args.ends.now (height_of (instance_of c.args.instance.now).traces) c.loop-end.end-index c.loop-end-test.true c.loop-end.invariant.0).2
+pub rows_hold_until-requires-clause-range : goal.rows_hold_until-requires-clause-range
+rows_hold_until-requires-clause-range g c =
+    let next = next_end c.loop-end.first c.args.ends.now (height_of (instance_of c.args.instance.now).traces) c.loop-end.end-index c.loop-end-test.true c.loop-end.invariant.0 in
+    (next.0, next.2)
 
 pub returns-then-row-end : goal.returns-then-row-end
 returns-then-row-end g c =
