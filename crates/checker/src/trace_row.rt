@@ -106,7 +106,7 @@ impl<'a, F: Field> TraceRow<'a, F> {
         }
     }
 
-    /// The value of an expression. A leaf is read in place, without a call.
+    /// The value of an expression. A variable is read in place, without a call.
     #[cycle(value)]
     #[inline(always)]
     pub(crate) fn value_of(&self, expression: &SymbolicExpression<F>) -> F
