@@ -6,7 +6,7 @@ use crate::error::Error;
 use crate::ffi::{self, PlanSizes, Planned, PlannedIds};
 use crate::ranges::{SharedWork, TracedAir};
 use crate::traces::Traces;
-use crate::witness::{Shape, Witness};
+use crate::witness::{AuxiliaryShape, Witness};
 use std::iter::{self, zip};
 
 /// AIRs with the heights of their traces, and the plan that they make before any trace is seen.
@@ -194,7 +194,7 @@ impl Batch {
         witness: &mut Witness,
     ) -> Result<(), Error> {
         let planned = self.planned_ids().nth(air).ok_or_else(|| Error::no_such_air(air));
-        let shapes: Vec<Shape> =
+        let shapes: Vec<AuxiliaryShape> =
             self.airs.get(air).map(|air| air.shape(traces)).into_iter().collect();
         let challenges = [alpha, beta];
         witness.refill(&shapes, |cells, terminals| {
@@ -304,11 +304,10 @@ impl Batch {
 
     /// The shapes of the witness over these traces. For traces of another height there is none, and
     /// the call is refused whatever room it has: it gets no room, which otherwise could be immense.
-    fn shapes(&self, traces: &[Traces<'_>]) -> Vec<Shape> {
+    fn shapes(&self, traces: &[Traces<'_>]) -> Vec<AuxiliaryShape> {
         let fit = self.are_heights_of(traces);
-        let shape = |(air, height): (&Air, &usize)| Shape {
-            height: if fit { *height } else { 0 },
-            lookups: air.len(),
+        let shape = |(air, height): (&Air, &usize)| {
+            AuxiliaryShape::of(air.tables(), if fit { *height } else { 0 })
         };
         self.airs.iter().zip(&self.heights).map(shape).collect()
     }

@@ -7,7 +7,7 @@
 use crate::element::{Element, MODULUS};
 use crate::ffi::{self, PlannedIds, Rows, Terminal};
 use crate::traces::{Trace, Traces};
-use crate::witness::{AirWitness, Shape, Witness};
+use crate::witness::{AirWitness, AuxiliaryShape, Witness};
 use std::iter::zip;
 use std::num::NonZero;
 use std::sync::atomic::{AtomicBool, Ordering};
@@ -43,8 +43,8 @@ pub(crate) struct TracedAir<'a> {
 
 impl TracedAir<'_> {
     /// The shape of the auxiliary trace.
-    fn shape(&self) -> Shape {
-        Shape { height: self.traces.main.height(), lookups: self.planned.tables.records.len() }
+    fn shape(&self) -> AuxiliaryShape {
+        AuxiliaryShape::of(self.planned.tables, self.traces.main.height())
     }
 
     /// Whether ranges see all that the call on the whole batch looks at. The rows of both traces are whole
@@ -52,7 +52,7 @@ impl TracedAir<'_> {
     /// where there are lookups, there has to be a row.
     fn is_plain(&self) -> bool {
         let Traces { main, preprocessed, public_values } = self.traces;
-        let Shape { height, lookups } = self.shape();
+        let AuxiliaryShape { height, lookups } = self.shape();
         let is_whole = |trace: Trace<'_>| {
             trace.height() == height && trace.cells.len().checked_rem(trace.width) == Some(0)
         };

@@ -3,6 +3,7 @@
 use crate::element::Element;
 use crate::error::Error;
 use crate::ffi::Terminal;
+use crate::tables::Tables;
 use std::ops::Range;
 
 /// What a witness has for one AIR.
@@ -80,7 +81,7 @@ impl Witness {
     /// refused, the witness is left without parts.
     pub(crate) fn refill(
         &mut self,
-        shapes: &[Shape],
+        shapes: &[AuxiliaryShape],
         fill: impl FnOnce(&mut [Element], &mut [Terminal]) -> Result<(), Error>,
     ) -> Result<(), Error> {
         self.airs.clear();
@@ -100,7 +101,7 @@ impl Witness {
     }
 
     /// Makes a part for each of these shapes, with cells of any value and no terminals.
-    fn share_out(&mut self, shapes: &[Shape]) -> Result<(), Error> {
+    fn share_out(&mut self, shapes: &[AuxiliaryShape]) -> Result<(), Error> {
         let mut end: usize = 0;
         for shape in shapes {
             let start = end;
@@ -126,14 +127,19 @@ impl Share {
     }
 }
 
-/// The height of an AIR's traces, and how many lookups it has.
+/// The shape of an AIR's auxiliary trace: by the height of its traces, and how many lookups it has.
 #[derive(Clone, Copy, Debug)]
-pub(crate) struct Shape {
+pub(crate) struct AuxiliaryShape {
     pub(crate) height: usize,
     pub(crate) lookups: usize,
 }
 
-impl Shape {
+impl AuxiliaryShape {
+    /// The shape for the lookups of these tables, over traces of this height.
+    pub(crate) fn of(tables: &Tables, height: usize) -> Self {
+        AuxiliaryShape { height, lookups: tables.records.len() }
+    }
+
     /// How many cells make a row of the auxiliary trace.
     pub(crate) fn width(self) -> usize {
         if self.lookups == 0 { 0 } else { self.lookups + 1 }
